@@ -1,0 +1,8 @@
+//! The translations that a TLB keeps, in the order in which they were filled, and the mappings of virtual pages.
+#![tactic(auto)]
+
+mod entry;
+mod mapping;
+
+pub use entry::Entry;
+pub use mapping::Mapping;
