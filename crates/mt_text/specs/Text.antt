@@ -1,0 +1,77 @@
+-- The lines of a text, and the words of a line.
+--     lines_of text      the lines, each without its LF; a line ends with LF or at the end of the text
+--     content line       what words stand in: the line without a CR at its end, up to the first `#`
+--     words_of line      the words, each with its offset in the line; a word is a longest run of bytes that are no blanks
+--     words_at offset line      the same words, each with its offset in a source in which the line stands at this offset
+use Rattle.std.specs.Prelude.{ℕ, ◌+◌, ◌≡◌, ◌≤◌, ⊤, drop, Bool, false, ◌==◌, ◌||◌, not, List, [], ◌∷◌, if◌then◌else◌, length, take}
+use Rattle.std.specs.List.{onto_first, position_or_len}
+use Rattle.mt_text.specs.declared.place.Place.{Place}
+
+abbrev pub is_line_end : ℕ → Bool
+is_line_end byte = byte == 10
+
+abbrev pub is_blank : ℕ → Bool
+is_blank byte = byte == 32 || byte == 9
+
+abbrev pub is_word_byte : ℕ → Bool
+is_word_byte byte = not (is_blank byte)
+
+abbrev pub is_comment_start : ℕ → Bool
+is_comment_start byte = byte == 35
+
+abbrev pub lines_of : List ℕ → List (List ℕ)
+lines_of [] = []
+lines_of (byte ∷ bytes) = if is_line_end byte then [] ∷ lines_of bytes else onto_first byte (lines_of bytes)
+
+-- a text without one such byte at its end
+abbrev pub without_ending : ℕ → List ℕ → List ℕ
+without_ending ending [] = []
+without_ending ending (byte ∷ []) = if byte == ending then [] else byte ∷ []
+without_ending ending (byte ∷ next ∷ bytes) = byte ∷ without_ending ending (next ∷ bytes)
+
+-- a line without a CR at its end
+abbrev pub without_return : List ℕ → List ℕ
+without_return line = without_ending 13 line
+
+abbrev pub content : List ℕ → List ℕ
+content line = take (position_or_len is_comment_start (without_return line)) (without_return line)
+
+-- whether a word goes on with these bytes
+abbrev pub goes_on : List ℕ → Bool
+goes_on [] = false
+goes_on (byte ∷ bytes) = is_word_byte byte
+
+-- the words, the first of which begins one byte earlier, with this byte
+abbrev pub lengthened : ℕ → ℕ → List (ℕ × List ℕ) → List (ℕ × List ℕ)
+lengthened start byte [] = []
+lengthened start byte (word ∷ words) = (start, byte ∷ word.1) ∷ words
+
+-- the words of bytes that stand at an offset
+abbrev pub words_from : ℕ → List ℕ → List (ℕ × List ℕ)
+words_from offset [] = []
+words_from offset (byte ∷ bytes) =
+    if is_blank byte then words_from (offset + 1) bytes
+    else if goes_on bytes then lengthened offset byte (words_from (offset + 1) bytes)
+    else (offset, byte ∷ []) ∷ words_from (offset + 1) bytes
+
+abbrev pub words_at : ℕ → List ℕ → List (ℕ × List ℕ)
+words_at offset line = words_from offset (content line)
+
+abbrev pub words_of : List ℕ → List (ℕ × List ℕ)
+words_of line = words_at 0 line
+
+-- the place after the last byte: one more than the lines that are ended, and than the bytes after the last LF
+abbrev pub end_from : Place → List ℕ → Place
+end_from place [] = place
+end_from place (byte ∷ bytes) =
+    if is_line_end byte then end_from (record { line = place.line + 1; column = 1 }) bytes
+    else end_from (record { line = place.line; column = place.column + 1 }) bytes
+
+abbrev pub end_of : List ℕ → Place
+end_of text = end_from (record { line = 1; column = 1 }) text
+
+-- Each word is what stands at its offset in the line, has a byte, and begins at or after the end of the one before it.
+abbrev pub StandInOrder : List ℕ → ℕ → List (ℕ × List ℕ) → Type 0
+StandInOrder line from [] = ⊤
+StandInOrder line from (word ∷ words) =
+    (from ≤ word.0) × (1 ≤ length word.1) × (word.1 ≡ take (length word.1) (drop word.0 line)) × StandInOrder line (word.0 + length word.1) words

@@ -1,0 +1,88 @@
+ghost use Rattle.std.specs.Prelude.{◌≡◌, ◌≤◌, ◌<◌, ◌+◌, ◌↔◌, ◌∷◌, length, drop, take, min, IsNone, IfSome, IsTrue, position};
+ghost use Rattle.std.specs.List.{before_first, position_or_len};
+
+use crate::Place;
+
+/// One line of a source, without its LF.
+#[derive(Clone, Copy)]
+pub struct Line<'a> {
+    pub bytes: &'a [u8],
+    pub offset: usize,
+    pub number: u64,
+    pub next: usize,
+    pub ghost within: { offset + length bytes.now ≤ next },
+}
+
+ghost use Rattle.mt_text.specs.Text.{is_line_end, lines_of, end_of, words_at, StandInOrder};
+
+const LONGEST: usize = 4096;
+
+fn line_end(text: &[u8]) -> Option<usize>
+    ensures { result ≡ position is_line_end text.now }
+{
+    text.iter().position(|b| *b == b'\n')
+}
+
+/// The line that begins at an offset. There is none exactly at the end.
+pub fn next_line<'a>(source: &'a [u8], from: usize, number: u64) -> Option<Line<'a>>
+    requires { from ≤ length source.now }
+    ensures none { IsNone result ↔ (from ≡ length source.now) }
+    ensures bytes { IfSome result (λ line. line.bytes.now ≡ before_first is_line_end (drop from source.now)) }
+    ensures slice { IfSome result (λ line. line.bytes.now ≡ take (length line.bytes.now) (drop from source.now)) }
+    ensures next { IfSome result (λ line. line.next ≡ min (from + length line.bytes.now + 1) (length source.now)) }
+    ensures lines { IfSome result (λ line. lines_of (drop from source.now) ≡ line.bytes.now ∷ lines_of (drop line.next source.now)) }
+    ensures words { IfSome result (λ line. StandInOrder source.now from (words_at from line.bytes.now)) }
+    ensures rest { IfSome result (λ line. (line.offset ≡ from) × (line.number ≡ number) × (from < line.next) × (line.next ≤ length source.now)) }
+{
+    let (_, text) = source.split_at(from);
+    if text.is_empty() {
+        return None;
+    }
+    match line_end(text) {
+        Some(at) => {
+            let (bytes, _) = text.split_at(at);
+            Some(Line {
+                bytes,
+                offset: from,
+                number,
+                next: from + at + 1,
+            })
+        }
+        None => Some(Line {
+            bytes: text,
+            offset: from,
+            number,
+            next: source.len(),
+        }),
+    }
+}
+
+/// The place after the last byte.
+pub fn end_place(source: &[u8]) -> Place
+    ensures { result ≡ end_of source.now }
+{
+    let mut place = Place { line: 1, column: 1 };
+    for byte in source {
+        place = if *byte == b'\n' {
+            Place {
+                line: place.line + 1,
+                column: 1,
+            }
+        } else {
+            Place {
+                line: place.line,
+                column: place.column + 1,
+            }
+        };
+    }
+    place
+}
+
+impl<'a> Line<'a> {
+    /// Whether the line has more bytes than a line may have.
+    pub fn too_long(&self) -> bool
+        ensures { IsTrue result ↔ (4096 < length self.now.bytes.now) }
+    {
+        self.bytes.len() > LONGEST
+    }
+}
