@@ -1,6 +1,12 @@
 //! The lines of one cache and the write-combining buffers of one processor, in the order in which they were filled.
 #![tactic(auto)]
 
+mod buffers;
+mod cache;
 mod line;
+mod places;
+mod words;
 
+pub use buffers::Buffers;
+pub use cache::Cache;
 pub use line::CacheLine;

@@ -3,6 +3,10 @@
 
 mod entry;
 mod mapping;
+mod maps;
+mod tlb;
 
 pub use entry::Entry;
 pub use mapping::Mapping;
+pub use maps::{Full, Maps};
+pub use tlb::Tlb;

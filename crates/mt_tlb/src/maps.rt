@@ -1,0 +1,82 @@
+ghost use Rattle.std.specs.Prelude.{◌≡◌, ℕ, ◌<◌, ◌≤◌, List, [], length, slice_get, None, IfSome, IfNone, is_err, OnOk, OnErr};
+ghost use Rattle.std.specs.List.{position};
+ghost use Rattle.mt_tlb.specs.declared.mapping.Mapping.{Mapping};
+ghost use Rattle.mt_tlb.specs.Entries.{AreMappingsApart, find_mapping, is_full_for, maps_page, set_mapping};
+
+use crate::mapping::Mapping;
+use arrayvec::ArrayVec;
+use std::marker::Model;
+
+/// The page has no mapping, and no other can be added.
+#[derive(Clone, Copy, Debug, PartialEq, Eq)]
+pub struct Full;
+
+/// The mappings of virtual pages, in the order in which their pages were first mapped. No two
+/// have one virtual page.
+#[derive(Drop)]
+pub struct Maps {
+    pub list: ArrayVec<Mapping, 64>,
+}
+
+impl Model for Maps {
+    ghost Value = { List Mapping };
+
+    ghost view = { λ m. m.list.items };
+
+    ghost invariant = { λ m. AreMappingsApart m.list.items };
+}
+
+// The place of the mapping of this page.
+fn place_of(list: &[Mapping], vpage: u64) -> Option<usize>
+    ensures { result ≡ position (maps_page vpage) list.now }
+{
+    list.iter().position(|m| m.vpage == vpage)
+}
+
+impl Maps {
+    /// No mapping.
+    pub fn new() -> Self
+        ensures { result ≡ [] }
+    {
+        Maps {
+            list: ArrayVec::new(),
+        }
+    }
+
+    /// The mappings, in the order in which their pages were first mapped.
+    pub fn list(&self) -> &[Mapping]
+        ensures value { result.now ≡ self.now }
+        ensures apart { AreMappingsApart self.now }
+        ensures room { length self.now ≤ 64 }
+    {
+        self.list.as_slice()
+    }
+
+    /// The place of the mapping of this page.
+    pub fn find(&self, vpage: u64) -> Option<usize>
+        ensures value { result ≡ position (maps_page vpage) self.now }
+        ensures place { IfSome result (λ i. i < length self.now) }
+        ensures mapping { IfSome result (λ i. slice_get self.now i ≡ find_mapping vpage self.now) }
+        ensures absent { IfNone result (find_mapping vpage self.now ≡ None) }
+    {
+        place_of(self.list.as_slice(), vpage)
+    }
+
+    /// Replaces the mapping of a page in its place, or adds it at the end. The error comes where
+    /// the page has no mapping and 64 others stand; nothing then changes.
+    pub fn set(&mut self, x: Mapping) -> Result<(), Full>
+        ensures full { is_err result ≡ is_full_for x self.old }
+        ensures done { OnOk result (self.new ≡ set_mapping x self.old) }
+        ensures kept { OnErr result (self.new ≡ self.old) }
+    {
+        let Some(i) = place_of(self.list.as_slice(), x.vpage) else {
+            if self.list.is_full() {
+                return Err(Full);
+            }
+            self.list.push(x);
+            return Ok(());
+        };
+        self.list.as_mut_slice()[i] = x;
+        Ok(())
+    }
+}
