@@ -86,7 +86,8 @@ impl RegFile {
         ensures { result ≡ has_broken_mask self.now register value }
     {
         match register {
-            Register::PhysMask(_) => is_bit_set(value, 11) && block_of(0, value, self.maxphy).is_none(),
+            Register::PhysMask(_) => is_bit_set(value, 11)
+                && block_of(0, value, self.maxphy).is_none(),
             _ => false,
         }
     }

@@ -1,59 +1,20 @@
-ghost use Rattle.std.specs.Prelude.{◌≡◌, ℕ, Option, Some, None};
-ghost use Rattle.mt_kinds.specs.declared.mem_type.MemType.TheVariants.{UC, WC, WP, WB};
+ghost use Rattle.std.specs.Prelude.{◌≡◌, ℕ, Option, Some};
 ghost use Rattle.mt_regs.specs.declared.fault.Fault.{Fault};
-ghost use Rattle.mt_regs.specs.declared.fault.Reason.TheVariants.{BrokenMask, ReservedBit, UndefinedOverlap, UnsupportedType};
-ghost use Rattle.mt_regs.specs.declared.page_type.PageType.TheVariants.{Kind, Undefined};
-ghost use Rattle.mt_regs.specs.declared.registers.Register.TheVariants.{PhysBase, PhysMask, FixedRange, Pat, DefaultType};
-ghost use Rattle.mt_regs.specs.RegisterFile.{IsRegisterFile, RegisterFile, blank_file};
-ghost use Rattle.mt_regs.specs.Registers.{ChangesOnly, with_value, written};
-ghost use Rattle.mt_regs.specs.PageTypes.{page_type};
-ghost use Rattle.mt_regs.specs.Faults.{register_fault, IsFirstFault};
-ghost use Rattle.mt_regs.specs.WorkedRows.{clash, covered_clash, four_gigabytes, ordinary, plain, video_memory, with_pair};
+ghost use Rattle.mt_regs.specs.RegisterFile.{IsRegisterFile, RegisterFile};
+ghost use Rattle.mt_regs.specs.Registers.{ChangesOnly, written};
+ghost use Rattle.mt_regs.specs.Faults.{IsFirstFault};
 
 /// A file has one first fault, or none.
 pub fn one_first_fault()
     ensures { (f : RegisterFile) (a b : Option Fault) → IsFirstFault f a → IsFirstFault f b → a ≡ b }
 {}
 
+/// Each file has a first fault or is accepted.
+pub fn a_first_fault_or_none()
+    ensures { (f : RegisterFile) → (answer : Option Fault) × IsFirstFault f answer }
+{}
+
 /// A write changes the value of one register.
 pub fn a_write_changes_one_register()
     ensures { (old new : RegisterFile) (number v : ℕ) → IsRegisterFile old → written old number v ≡ Some new → ChangesOnly old new number v }
-{}
-
-/// Worked examples of page types.
-pub fn worked_page_types()
-    ensures below { page_type covered_clash 0xbffff ≡ Kind WB }
-    ensures hole { page_type covered_clash 0xc0000 ≡ Kind UC }
-    ensures above { page_type covered_clash 0xd0000 ≡ Kind WB }
-    ensures default { page_type covered_clash 0x100000 ≡ Kind UC }
-    ensures clash { page_type clash 0xc0000 ≡ Undefined }
-    ensures off { page_type (with_value clash DefaultType 0) 0xc0000 ≡ Kind UC }
-    ensures everywhere { page_type (with_value (with_pair plain 0 6 0x800) DefaultType 0x800) 0xffffff ≡ Kind WB }
-    ensures low { page_type video_memory 0x9f ≡ Kind UC }
-    ensures video { page_type video_memory 0xa0 ≡ Kind WC }
-    ensures high { page_type video_memory 0x100 ≡ Kind WB }
-    ensures ram { page_type ordinary 0x9f ≡ Kind WB }
-    ensures legacy { page_type ordinary 0xa0 ≡ Kind UC }
-    ensures rom { page_type ordinary 0xff ≡ Kind WP }
-    ensures extended { page_type ordinary 0x100 ≡ Kind WB }
-    ensures devices { page_type ordinary 0xe0000 ≡ Kind UC }
-    ensures moved { page_type ordinary 0x21ffff ≡ Kind WB }
-    ensures free { page_type ordinary 0x220000 ≡ Kind UC }
-{}
-
-/// Worked examples of faults of registers.
-pub fn worked_faults()
-    ensures good { register_fault ordinary ≡ None }
-    ensures reserved { register_fault (with_value plain DefaultType 0x1c06) ≡ Some (record { msr = 0x2ff; reason = ReservedBit }) }
-    ensures not_listed { register_fault (with_value plain DefaultType 0x807) ≡ Some (record { msr = 0x2ff; reason = UnsupportedType }) }
-    ensures no_fixed { register_fault (with_value (blank_file 36 0x400) DefaultType 0xc00) ≡ Some (record { msr = 0x2ff; reason = ReservedBit }) }
-    ensures no_combining { register_fault (with_value (blank_file 36 0x108) (PhysBase 0) 1) ≡ Some (record { msr = 0x200; reason = UnsupportedType }) }
-    ensures fixed { register_fault (with_value plain (FixedRange 2) 0x0202020202020202) ≡ Some (record { msr = 0x259; reason = UnsupportedType }) }
-    ensures run { register_fault (with_value plain (PhysMask 0) 0xf80000800) ≡ None }
-    ensures gap { register_fault (with_value plain (PhysMask 0) 0xfa0000800) ≡ Some (record { msr = 0x201; reason = BrokenMask }) }
-    ensures wide { register_fault (with_value plain (PhysMask 0) 0x7f80000800) ≡ Some (record { msr = 0x201; reason = ReservedBit }) }
-    ensures width { register_fault (record (with_value plain (PhysMask 0) 0x7f80000800) { width = 39 }) ≡ None }
-    ensures pat_type { register_fault (with_value four_gigabytes Pat 0x0007040600070402) ≡ Some (record { msr = 0x277; reason = UnsupportedType }) }
-    ensures pat_bit { register_fault (with_value four_gigabytes Pat 0x0007040600070408) ≡ Some (record { msr = 0x277; reason = ReservedBit }) }
-    ensures overlap { IsFirstFault clash (Some (record { msr = 0x200; reason = UndefinedOverlap })) }
 {}
