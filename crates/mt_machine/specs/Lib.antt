@@ -1,0 +1,9 @@
+pub mod Memory
+pub mod System
+pub mod Bus
+pub mod Access
+pub mod Control
+pub mod Machine
+pub mod Start
+pub mod Update
+pub mod WorkedRuns

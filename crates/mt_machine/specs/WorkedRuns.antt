@@ -1,0 +1,200 @@
+-- Machines of worked examples, and what is seen of them.
+use Rattle.std.specs.Prelude.{ℕ, zero, suc, ◌+◌, nat_lt, Bool, true, false, List, [], ◌∷◌, length, map, if◌then◌else◌, replicate, slice_get, None}
+use Rattle.std.specs.Option.{option_map_or}
+use Rattle.std.specs.List.{count_by}
+use Rattle.mt_kinds.specs.declared.mem_type.MemType.TheVariants.{WB}
+use Rattle.mt_regs.specs.declared.registers.Register.TheVariants.{DefaultType, PhysBase, Pat}
+use Rattle.mt_regs.specs.RegisterFile.{RegisterFile, blank_file}
+use Rattle.mt_regs.specs.Registers.{with_value}
+use Rattle.mt_regs.specs.WorkedRows.{four_gigabytes}
+use Rattle.mt_cache.specs.declared.line.CacheLine.{CacheLine}
+use Rattle.mt_tlb.specs.declared.entry.Entry.{Entry}
+use Rattle.mt_tlb.specs.declared.mapping.Mapping.{Mapping}
+use Rattle.mt_machine.specs.declared.control.Control.TheVariants.{Map, Cd}
+use Rattle.mt_machine.specs.declared.event.Event.{Event}
+use Rattle.mt_machine.specs.declared.op.Op.{Op}
+use Rattle.mt_machine.specs.declared.op.Op.TheVariants.{Load, Store}
+use Rattle.mt_machine.specs.declared.done.Done.{Done}
+use Rattle.mt_machine.specs.Memory.{Window, word_at}
+use Rattle.mt_machine.specs.System.{Processor, start_processor, lines_of, buffers_of}
+use Rattle.mt_machine.specs.Access.{access}
+use Rattle.mt_machine.specs.Machine.{Machine, MachineEvent, Accesses, Controls, Calls, Goes, Steps, due_at, next, run}
+use Rattle.mt_machine.specs.Start.{start_machine, zero_memory}
+use Rattle.mt_machine.specs.Update.{dirty_count}
+
+-- ---- events
+
+abbrev pub load : ℕ → ℕ → MachineEvent
+load k address = Accesses k (Load address)
+
+abbrev pub store : ℕ → ℕ → ℕ → MachineEvent
+store k address value = Accesses k (Store address value)
+
+abbrev pub mapping : ℕ → ℕ → ℕ → Mapping
+mapping page physical index = record { vpage = page; ppage = physical; index = index; global = false }
+
+abbrev pub global_mapping : ℕ → Mapping
+global_mapping page = record (mapping page 0x100 0) { global = true }
+
+abbrev pub maps : ℕ → Mapping → MachineEvent
+maps k m = Controls k (Map m)
+
+abbrev pub no_fill : ℕ → MachineEvent
+no_fill k = Controls k (Cd true)
+
+-- the next step of a processor, where one is due, and several
+abbrev pub step_at : Machine → ℕ → Machine
+step_at m k = option_map_or (λ e. next m (Steps k e)) (due_at m k) m
+
+abbrev pub walk : ℕ → ℕ → Machine → Machine
+walk zero k m = m
+walk (suc n) k m = walk n k (step_at m k)
+
+-- the events of so many steps, while one is due
+abbrev pub steps_of : ℕ → ℕ → Machine → List Event
+steps_of zero k m = []
+steps_of (suc n) k m = option_map_or (λ e. e ∷ steps_of n k (next m (Steps k e))) (due_at m k) []
+
+-- steps of two processors in turn
+abbrev pub rounds : ℕ → Machine → Machine
+rounds zero m = m
+rounds (suc n) m = rounds n (step_at (step_at m 0) 1)
+
+-- ---- what is seen
+
+abbrev pub own : Machine → ℕ → Processor
+own m k = option_map_or (λ p. p) (slice_get m.system.processors k) (start_processor four_gigabytes)
+
+abbrev pub answer_of : Machine → ℕ → Op → Done
+answer_of m k op = (access m.system k op).answer
+
+abbrev pub memory_at : Machine → ℕ → ℕ
+memory_at m address = word_at m.system.memory address
+
+-- the numbers and dirty bits of lines or buffers
+abbrev pub seen : List CacheLine → List (ℕ × ℕ)
+seen ls = map (λ l. (l.number, l.dirty)) ls
+
+abbrev pub cached : Machine → ℕ → List (ℕ × ℕ)
+cached m k = seen (lines_of m.system k)
+
+abbrev pub pending : Machine → ℕ → List (ℕ × ℕ)
+pending m k = seen (buffers_of m.system k)
+
+abbrev pub older_count : Processor → ℕ
+older_count p =
+    count_by (λ l. nat_lt l.era p.era) p.lines + count_by (λ l. nat_lt l.era p.era) p.buffers
+    + count_by (λ e. nat_lt e.era p.era) p.entries
+
+abbrev pub flag : Bool → ℕ
+flag b = if b then 1 else 0
+
+-- era, lines, dirty words, buffers, entries, older ones, CD, PGE
+abbrev pub report : Processor → List ℕ
+report p =
+    p.era ∷ length p.lines ∷ dirty_count p.lines ∷ length p.buffers ∷ length p.entries ∷ older_count p
+    ∷ flag p.cache_disabled ∷ flag p.page_global ∷ []
+
+abbrev pub reports : Machine → List (List ℕ)
+reports m = map report m.system.processors
+
+-- ---- machines
+
+-- 64 lines at 1 MB
+abbrev pub one_window : List Window
+one_window = record { base = 0x100000; lines = 64 } ∷ []
+
+abbrev pub machine_of : List Processor → Machine
+machine_of ps = record { system = record { processors = ps; memory = zero_memory one_window }; order = None }
+
+abbrev pub mapped : RegisterFile → Processor
+mapped f = record (start_processor f) { mappings = mapping 1 0x100 0 ∷ [] }
+
+-- the same over one line of memory
+abbrev pub small : Machine → Machine
+small m = record { system = record { processors = m.system.processors; memory = zero_memory (record { base = 0x100000; lines = 1 } ∷ []) }; order = None }
+
+-- so many processors with one file, each with page 1 mapped to the window
+abbrev pub setup : ℕ → RegisterFile → Machine
+setup count f = machine_of (replicate count (mapped f))
+
+-- the first 4 GB as UC, and as WC
+abbrev pub uncached_goal : RegisterFile
+uncached_goal = with_value four_gigabytes (PhysBase 0) 0
+
+abbrev pub combining : RegisterFile
+combining = with_value four_gigabytes (PhysBase 0) 1
+
+-- WB from 0 to 4 GB and the same above
+abbrev pub goal_of : RegisterFile
+goal_of = with_value four_gigabytes DefaultType 0x806
+
+-- no pair and no fixed range
+abbrev pub bare_file : ℕ → RegisterFile
+bare_file default_type = with_value (blank_file 36 0x400) DefaultType default_type
+
+abbrev pub bare : Machine
+bare = start_machine 1 (bare_file 0x800) []
+
+-- two processors, and one page mapped five times: WB at 1000H, WT at 2000H, WC at 3000H, UC at 4000H, WP at 5000H
+abbrev pub painter : Processor
+painter = record (start_processor (with_value four_gigabytes Pat 0x0606060500010406)) {
+  mappings = mapping 1 0x100 0 ∷ mapping 2 0x100 1 ∷ mapping 3 0x100 2 ∷ mapping 4 0x100 3 ∷ mapping 5 0x100 4 ∷ [];
+}
+
+abbrev pub palette : Machine
+palette = machine_of (painter ∷ painter ∷ [])
+
+-- an update that was called, and one whose go was given
+abbrev pub begun : RegisterFile → Machine → Machine
+begun goal m = run m (Calls goal ∷ [])
+
+abbrev pub called : Machine → Machine
+called m = run m (Calls goal_of ∷ Goes ∷ [])
+
+-- both of two processors have taken and arrived
+abbrev pub both_arrived : Machine → Machine
+both_arrived m = walk 2 1 (walk 2 0 (called m))
+
+abbrev pub alone : Processor → Machine
+alone p = machine_of (p ∷ [])
+
+-- a processor with a global entry and one that is not, and a line with two dirty words
+abbrev pub entry : ℕ → Bool → Entry
+entry page global = record { vpage = page; ppage = 0x100; kind = WB; global = global; era = 0 }
+
+abbrev pub holder : Bool → Processor
+holder on = record (mapped four_gigabytes) {
+  page_global = on;
+  entries = entry 1 on ∷ entry 2 false ∷ [];
+  lines = record { number = 0x4000; words = 5 ∷ 6 ∷ 7 ∷ 0 ∷ 0 ∷ 0 ∷ 0 ∷ 0 ∷ []; dirty = 6; era = 0 } ∷ [];
+}
+
+-- so many lines from a number on, each with word 0 dirty
+abbrev pub dirty_lines : ℕ → ℕ → List CacheLine
+dirty_lines first zero = []
+dirty_lines first (suc count) =
+    record { number = first; words = first ∷ 0 ∷ 0 ∷ 0 ∷ 0 ∷ 0 ∷ 0 ∷ 0 ∷ []; dirty = 1; era = 0 } ∷ dirty_lines (first + 1) count
+
+abbrev pub entries_from : ℕ → ℕ → List Entry
+entries_from page zero = []
+entries_from page (suc count) = entry page false ∷ entries_from (page + 1) count
+
+abbrev pub mappings_from : ℕ → ℕ → List Mapping
+mappings_from page zero = []
+mappings_from page (suc count) = mapping page 0x100 0 ∷ mappings_from (page + 1) count
+
+-- 64 lines, 64 entries and 64 mappings
+abbrev pub crowded : Processor
+crowded = record (start_processor four_gigabytes) {
+  lines = dirty_lines 0x4001 64;
+  entries = entries_from 2 64;
+  mappings = mapping 1 0x100 0 ∷ mappings_from 2 63;
+}
+
+-- 65 lines of memory
+abbrev pub wide_alone : Processor → Machine
+wide_alone p = record {
+  system = record { processors = p ∷ []; memory = zero_memory (record { base = 0x100000; lines = 65 } ∷ []) };
+  order = None;
+}

@@ -1,0 +1,27 @@
+//! The machine: processors with caches, write-combining buffers and TLBs over shared memory, their
+//! accesses and control instructions, and the update of their range registers, event by event.
+//!
+//! These are definitions, in `specs/`, with the enums that they speak of and worked runs of them.
+#![tactic(auto)]
+
+mod control;
+mod done;
+mod event;
+mod go;
+mod op;
+mod phase;
+mod ruled;
+mod worked;
+
+pub use control::Control;
+pub use done::Done;
+pub use event::Event;
+pub use go::Go;
+pub use op::Op;
+pub use phase::Phase;
+pub use ruled::Ruled;
+pub use worked::{
+    worked_barrier, worked_buffers, worked_cancel, worked_combining, worked_controls, worked_loads,
+    worked_phases, worked_refusals, worked_snoops, worked_steps, worked_stores,
+    worked_translations, worked_updates,
+};

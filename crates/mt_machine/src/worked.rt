@@ -1,0 +1,11 @@
+mod controls;
+mod loads;
+mod scripts;
+mod steps;
+mod stores;
+
+pub use controls::{worked_controls, worked_refusals};
+pub use loads::{worked_loads, worked_translations};
+pub use scripts::{worked_barrier, worked_buffers, worked_cancel, worked_snoops, worked_updates};
+pub use steps::{worked_phases, worked_steps};
+pub use stores::{worked_combining, worked_stores};

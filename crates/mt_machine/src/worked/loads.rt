@@ -1,0 +1,56 @@
+ghost use Rattle.std.specs.Prelude.{◌≡◌, ◌∷◌, [], Some, false, length, map, slice_get, true};
+ghost use Rattle.mt_kinds.specs.declared.mem_type.MemType.TheVariants.{UC, WB, WC, WT};
+ghost use Rattle.mt_machine.specs.declared.control.Control.TheVariants.{Invlpg, Pge};
+ghost use Rattle.mt_machine.specs.declared.done.Done.TheVariants.{Value};
+ghost use Rattle.mt_machine.specs.declared.op.Op.TheVariants.{Load};
+ghost use Rattle.mt_machine.specs.Machine.{Controls, run};
+ghost use Rattle.mt_machine.specs.WorkedRuns.{alone, answer_of, cached, crowded, entry, global_mapping, holder, load, mapping, maps, memory_at, no_fill, own, palette, pending, setup, store, uncached_goal, wide_alone};
+
+/// Rows of the table of loads.
+pub fn worked_loads()
+    ensures uc_empties_all { memory_at (run palette (store 0 0x3000 7 ∷ store 0 0x3040 8 ∷ load 0 0x4080 ∷ [])) 0x100040 ≡ 8 }
+    ensures uc_leaves_no_buffer { pending (run palette (store 0 0x3000 7 ∷ store 0 0x3040 8 ∷ load 0 0x4080 ∷ [])) 0 ≡ [] }
+    ensures uc_fills_nothing { cached (run palette (load 0 0x4000 ∷ [])) 0 ≡ [] }
+    ensures uc_value { answer_of (run palette (store 0 0x1000 5 ∷ [])) 0 (Load 0x4000) ≡ Value 5 UC }
+    ensures uc_hit_as_miss { cached (run palette (store 0 0x1000 5 ∷ load 0 0x4000 ∷ [])) 0 ≡ (0x4000, 0) ∷ [] }
+    ensures uc_reads_the_bus { memory_at (run palette (store 1 0x1008 9 ∷ load 0 0x4000 ∷ [])) 0x100008 ≡ 9 }
+    ensures uc_leaves_copies { cached (run palette (store 1 0x1008 9 ∷ load 0 0x4000 ∷ [])) 1 ≡ (0x4000, 0) ∷ [] }
+    ensures wc_empties_its_line { pending (run palette (store 0 0x3000 7 ∷ store 0 0x3040 8 ∷ load 0 0x3000 ∷ [])) 0 ≡ (0x4001, 1) ∷ [] }
+    ensures wc_value { answer_of (run palette (store 0 0x3000 7 ∷ [])) 0 (Load 0x3000) ≡ Value 7 WC }
+    ensures wc_fills_nothing { cached (run palette (load 0 0x3000 ∷ [])) 0 ≡ [] }
+    ensures wc_hit_as_miss { cached (run palette (store 0 0x1000 5 ∷ load 0 0x3000 ∷ [])) 0 ≡ (0x4000, 0) ∷ [] }
+    ensures wt_empties_its_line { answer_of (run palette (store 0 0x3000 7 ∷ [])) 0 (Load 0x2000) ≡ Value 7 WT }
+    ensures wt_leaves_other_buffers { pending (run palette (store 0 0x3000 7 ∷ store 0 0x3040 8 ∷ load 0 0x2000 ∷ [])) 0 ≡ (0x4001, 1) ∷ [] }
+    ensures wt_fills { cached (run palette (load 0 0x2000 ∷ [])) 0 ≡ (0x4000, 0) ∷ [] }
+    ensures wp_fills { cached (run palette (load 0 0x5000 ∷ [])) 0 ≡ (0x4000, 0) ∷ [] }
+    ensures wb_fills { cached (run palette (load 0 0x1000 ∷ [])) 0 ≡ (0x4000, 0) ∷ [] }
+    ensures wb_reads_the_bus { memory_at (run palette (store 1 0x1008 9 ∷ load 0 0x1000 ∷ [])) 0x100008 ≡ 9 }
+    ensures wb_leaves_copies { cached (run palette (store 1 0x1008 9 ∷ load 0 0x1000 ∷ [])) 1 ≡ (0x4000, 0) ∷ [] }
+    ensures hit_reads_the_cache { answer_of (run palette (store 0 0x1000 5 ∷ [])) 0 (Load 0x2000) ≡ Value 5 WT }
+    ensures hit_writes_nothing { memory_at (run palette (store 0 0x1000 5 ∷ load 0 0x1000 ∷ [])) 0x100000 ≡ 0 }
+    ensures no_fill { cached (run palette (no_fill 0 ∷ load 0 0x1000 ∷ [])) 0 ≡ [] }
+    ensures no_fill_hit { answer_of (run palette (store 0 0x1000 5 ∷ no_fill 0 ∷ [])) 0 (Load 0x1000) ≡ Value 5 WB }
+    ensures no_fill_hit_stays { cached (run palette (store 0 0x1000 5 ∷ no_fill 0 ∷ load 0 0x1000 ∷ [])) 0 ≡ (0x4000, 1) ∷ [] }
+    ensures era { (own (run (alone (record (holder true) { era = 3; lines = [] })) (load 0 0x1000 ∷ [])) 0).lines ≡ record { number = 0x4000; words = 0 ∷ 0 ∷ 0 ∷ 0 ∷ 0 ∷ 0 ∷ 0 ∷ 0 ∷ []; dirty = 0; era = 3 } ∷ [] }
+    ensures full_cache { length (cached (run (wide_alone crowded) (load 0 0x1000 ∷ [])) 0) ≡ 64 }
+    ensures oldest_goes { slice_get (cached (run (wide_alone crowded) (load 0 0x1000 ∷ [])) 0) 0 ≡ Some (0x4002, 1) }
+    ensures newest_comes_last { slice_get (cached (run (wide_alone crowded) (load 0 0x1000 ∷ [])) 0) 63 ≡ Some (0x4000, 0) }
+    ensures oldest_in_memory { memory_at (run (wide_alone crowded) (load 0 0x1000 ∷ [])) 0x100040 ≡ 0x4001 }
+    ensures others_not_in_memory { memory_at (run (wide_alone crowded) (load 0 0x1000 ∷ [])) 0x100080 ≡ 0 }
+{}
+
+/// Translations: the entry that stands, or the mapping, and the entry that is filled.
+pub fn worked_translations()
+    ensures filled { (own (run palette (load 0 0x1000 ∷ [])) 0).entries ≡ entry 1 false ∷ [] }
+    ensures filled_once { (own (run palette (load 0 0x1000 ∷ load 0 0x1008 ∷ [])) 0).entries ≡ entry 1 false ∷ [] }
+    ensures by_the_registers { answer_of (setup 1 uncached_goal) 0 (Load 0x1000) ≡ Value 0 UC }
+    ensures kept_past_the_mapping { answer_of (run palette (load 0 0x1000 ∷ maps 0 (mapping 1 0x100 3) ∷ [])) 0 (Load 0x1000) ≡ Value 0 WB }
+    ensures dropped { answer_of (run palette (load 0 0x1000 ∷ maps 0 (mapping 1 0x100 3) ∷ Controls 0 (Invlpg 0x1000) ∷ [])) 0 (Load 0x1000) ≡ Value 0 UC }
+    ensures kept_past_the_registers { answer_of (alone (record (holder false) { file = uncached_goal })) 0 (Load 0x1000) ≡ Value 5 WB }
+    ensures not_global { (own (run palette (maps 0 (global_mapping 1) ∷ load 0 0x1000 ∷ [])) 0).entries ≡ entry 1 false ∷ [] }
+    ensures global { (own (run palette (maps 0 (global_mapping 1) ∷ Controls 0 (Pge true) ∷ load 0 0x1000 ∷ [])) 0).entries ≡ entry 1 true ∷ [] }
+    ensures era { map (λ e. e.era) (own (run (alone (record (holder true) { era = 3; entries = [] })) (load 0 0x1000 ∷ [])) 0).entries ≡ 3 ∷ [] }
+    ensures full { length (own (run (wide_alone crowded) (load 0 0x1000 ∷ [])) 0).entries ≡ 64 }
+    ensures oldest_goes { slice_get (own (run (wide_alone crowded) (load 0 0x1000 ∷ [])) 0).entries 0 ≡ Some (entry 3 false) }
+    ensures newest_comes_last { slice_get (own (run (wide_alone crowded) (load 0 0x1000 ∷ [])) 0).entries 63 ≡ Some (entry 1 false) }
+{}
