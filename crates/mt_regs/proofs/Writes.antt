@@ -11,7 +11,7 @@ use Rattle.mt_regs.specs.declared.registers.Register.TheVariants.{PhysBase, Phys
 use Rattle.mt_regs.specs.RegisterFile.{IsRegisterFile, RegisterFile, has_fixed, pair_at, pair_count}
 use Rattle.mt_regs.specs.Registers.{ChangesOnly, IsWithin, fixed_part_of, fixed_registers, number_of, pair_registers, register_of, value_of, with_value, writable, written}
 
-Each : (Register → Type 0) → List Register → Type 0
+pub Each : (Register → Type 0) → List Register → Type 0
 Each P [] = Unit {0}
 Each P (r ∷ rs) = P r × Each P rs
 
@@ -20,7 +20,7 @@ unfolding Each
 each_append P [] ss left right = right
 each_append P (r ∷ rs) ss left right = (left.0, each_append P rs ss left.1 right)
 
-each_found : (P : Register → Type 0) (p : Register → Bool) (rs : List Register) (r : Register) → Each P rs → find p rs ≡ Some r → P r × (p r ≡ true)
+pub each_found : (P : Register → Type 0) (p : Register → Bool) (rs : List Register) (r : Register) → Each P rs → find p rs ≡ Some r → P r × (p r ≡ true)
 unfolding Each
 each_found P p [] r each is = absurd (cc)
 each_found P p (s ∷ ss) r each is = elim (cases_Bool (p s)) [
@@ -32,7 +32,7 @@ each_found P p (s ∷ ss) r each is = elim (cases_Bool (p s)) [
 ]
 
 -- the file has the register, and its number is none of a capability register
-abbrev IsKnown : RegisterFile → Register → Type 0
+abbrev pub IsKnown : RegisterFile → Register → Type 0
 IsKnown f r = IsWithin f r × (0x200 ≤ number_of r)
 
 known_pairs : (f : RegisterFile) (first count : ℕ) → first + count ≤ length f.pairs → Each (IsKnown f) (pair_registers first count)
@@ -47,7 +47,7 @@ known_fixed f true has =
     (((lit< tt, has), lit≤ tt), (((lit< tt, has), lit≤ tt), (((lit< tt, has), lit≤ tt), (((lit< tt, has), lit≤ tt), (((lit< tt, has), lit≤ tt), (((lit< tt, has), lit≤ tt), (((lit< tt, has), lit≤ tt), (((lit< tt, has), lit≤ tt), (((lit< tt, has), lit≤ tt), (((lit< tt, has), lit≤ tt), (((lit< tt, has), lit≤ tt), tt)))))))))))
 known_fixed f false has = tt
 
-known : (f : RegisterFile) → length f.pairs ≡ pair_count f → Each (IsKnown f) (writable f)
+pub known : (f : RegisterFile) → length f.pairs ≡ pair_count f → Each (IsKnown f) (writable f)
 unfolding Each
 known f all =
     each_append (IsKnown f) (pair_registers 0 (pair_count f) ++ fixed_part_of f) (Pat ∷ DefaultType ∷ [])

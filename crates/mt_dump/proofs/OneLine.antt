@@ -1,0 +1,93 @@
+-- What is said of one line.
+use Rattle.std.proofs.Common.{◌≡◌, ℕ, ◌+◌, ◌-◌, ◌≤◌, List, [], ◌∷◌, length, Some, None, nat_lt, Bool, true, false, ◌==◌, ◌&&◌, not, Ok, Err, Result, refl, arith}
+use Rattle.std.specs.List.{slice_get}
+use Rattle.std.proofs.lemmas.Bool.Decides.{nat_tests}
+use Rattle.std.specs.Prelude.{◌||◌, if◌then◌else◌}
+use Rattle.std.proofs.lemmas.Bool.{eqb-false}
+use Rattle.mt_text.specs.Number.{hex_number, decimal_number, decimal_value, are_digits, is_decimal_digit}
+use Rattle.mt_text.specs.declared.fault.NumberFault.{NumberFault}
+use Rattle.mt_text.specs.declared.fault.NumberFault.TheVariants.{NotDigit, TooLarge}
+use Rattle.mt_text.specs.Text.{words_of, without_ending}
+use Rattle.mt_text.specs.declared.place.Place.{Place}
+use Rattle.mt_regs.specs.RegisterFile.{low_byte}
+use Rattle.mt_dump.specs.Line.{said_of, said_words, said_pair, said_width, said_register, is_width_name, fault_at, place_of}
+use Rattle.mt_dump.specs.Reader.{IsSane}
+use Rattle.mt_dump.specs.declared.fault.DumpReason.TheVariants.{BadLine, BadWidth, TooManyPairs}
+use Rattle.mt_dump.specs.declared.said.Said.TheVariants.{Width, Register}
+
+pub place_is : (place : Place) (number offset start : ℕ) (text : List ℕ) → place.line ≡ number → place.column + start ≡ offset + 1 → start ≤ offset → place ≡ place_of number (offset - start, text)
+place_is place number offset start text line_is column_is below =
+    let column_of : place.column ≡ offset - start + 1 = omega arith in
+    same line_is column_of
+  where
+    same : {a b c d : ℕ} → a ≡ c → b ≡ d → ◌≡◌ {A = Place} (record { line = a; column = b }) (record { line = c; column = d })
+    same p q = cc
+
+by_words : (number : ℕ) (words : List (ℕ × List ℕ)) (first second : ℕ × List ℕ) → slice_get words 0 ≡ Some first → slice_get words 1 ≡ Some second → slice_get words 2 ≡ None
+    → said_words number words ≡ said_pair (place_of number first) (place_of number second) (without_ending 58 first.1) second.1
+by_words number [] first second is_first is_second is_none = cc is_first
+by_words number (a ∷ []) first second is_first is_second is_none = cc is_second
+by_words number (a ∷ b ∷ []) first second is_first is_second is_none =
+    let p : a ≡ first = cc is_first in
+    let q : b ≡ second = cc is_second in
+    rw (p, q) refl
+by_words number (a ∷ b ∷ c ∷ more) first second is_first is_second is_none = cc is_none
+
+pub two_words : (number : ℕ) (line : List ℕ) (first second : ℕ × List ℕ) → length line ≤ 4096 → slice_get (words_of line) 0 ≡ Some first → slice_get (words_of line) 1 ≡ Some second → slice_get (words_of line) 2 ≡ None
+    → said_of number line ≡ said_pair (place_of number first) (place_of number second) (without_ending 58 first.1) second.1
+two_words number line first second short is_first is_second is_none =
+    let test : nat_lt 4096 (length line) ≡ false = grind (arith, nat_tests) in
+    rw test (by_words number (words_of line) first second is_first is_second is_none)
+
+-- a decimal number is at most its limit
+decimal_within : (word : List ℕ) (max number : ℕ) → decimal_number word max ≡ Ok number → number ≤ max
+decimal_within word max number is = by (are_digits is_decimal_digit word) (nat_lt 20 (length word)) (nat_lt max (decimal_value word)) refl is
+  where
+    by : (digits long large : Bool) → nat_lt max (decimal_value word) ≡ large → (if not digits then Err NotDigit else if long || large then Err TooLarge else Ok (decimal_value word)) ≡ Ok number → number ≤ max
+    by false long large test is = cc is
+    by true true large test is = cc is
+    by true false true test is = cc is
+    by true false false test is = let e : decimal_value word ≡ number = cc is in let le : decimal_value word ≤ max = grind (arith, nat_tests, test) in omega arith
+
+-- what is said of a line keeps to its bounds
+sane_width : (first second : Place) (word : List ℕ) → IsSane (said_width first second (decimal_number word 52))
+sane_width first second word = by (decimal_number word 52) refl
+  where
+    at_least : (width : ℕ) → width ≤ 52 → (small : Bool) → nat_lt width 32 ≡ small → IsSane (if small then Err (fault_at BadWidth second) else Ok (Width width first))
+    at_least width narrow true test = tt
+    at_least width narrow false test = (grind (arith, nat_tests, test), narrow)
+
+    by : (answer : Result ℕ NumberFault) → decimal_number word 52 ≡ answer → IsSane (said_width first second answer)
+    by (Err NotDigit) is = tt
+    by (Err TooLarge) is = tt
+    by (Ok width) is = at_least width (decimal_within word 52 width is) (nat_lt width 32) refl
+
+sane_register : (first second : Place) (number value : Result ℕ NumberFault) → IsSane (said_register first second number value)
+sane_register first second (Err fault) value = tt
+sane_register first second (Ok number) (Err fault) = tt
+sane_register first second (Ok number) (Ok value) = by (number == 0xfe) (nat_lt 32 (low_byte value)) refl refl
+  where
+    by : (cap many : Bool) → (number == 0xfe) ≡ cap → nat_lt 32 (low_byte value) ≡ many → IsSane (if cap && many then Err (fault_at TooManyPairs second) else Ok (Register number value first))
+    by true true is test = tt
+    by true false is test = λ same. grind (arith, nat_tests, test)
+    by false many is test = λ same. absurd (eqb-false _ _ is same)
+
+sane_pair : (first second : Place) (name value : List ℕ) → IsSane (said_pair first second name value)
+sane_pair first second name value = by (is_width_name name)
+  where
+    by : (width : Bool) → IsSane (if width then said_width first second (decimal_number value 52) else said_register first second (hex_number name) (hex_number value))
+    by true = sane_width first second value
+    by false = sane_register first second (hex_number name) (hex_number value)
+
+sane_words : (number : ℕ) (words : List (ℕ × List ℕ)) → IsSane (said_words number words)
+sane_words number [] = tt
+sane_words number (first ∷ []) = tt
+sane_words number (first ∷ second ∷ []) = sane_pair (place_of number first) (place_of number second) (without_ending 58 first.1) second.1
+sane_words number (first ∷ second ∷ third ∷ more) = tt
+
+pub is_sane : (number : ℕ) (line : List ℕ) → IsSane (said_of number line)
+is_sane number line = by (nat_lt 4096 (length line))
+  where
+    by : (long : Bool) → IsSane (if long then Err (fault_at BadLine (record { line = number; column = 4097 })) else said_words number (words_of line))
+    by true = tt
+    by false = sane_words number (words_of line)

@@ -1,0 +1,58 @@
+-- What one line of a dump says, whatever the other lines say.
+--     said_of number line      what the line of this number says, or its offence
+use Rattle.std.specs.Prelude.{ℕ, ◌+◌, ◌==◌, ◌&&◌, nat_lt, nat_eq, Bool, List, length, [], ◌∷◌, if◌then◌else◌, Result, Ok, Err}
+use Rattle.std.specs.Cmp.Lexicographic.{pointwise}
+use Rattle.mt_text.specs.Text.{words_of, without_ending}
+use Rattle.mt_text.specs.Number.{hex_number, decimal_number}
+use Rattle.mt_text.specs.declared.fault.NumberFault.{NumberFault}
+use Rattle.mt_text.specs.declared.fault.NumberFault.TheVariants.{NotDigit, TooLarge}
+use Rattle.mt_text.specs.declared.place.Place.{Place}
+use Rattle.mt_regs.specs.RegisterFile.{low_byte}
+use Rattle.mt_dump.specs.declared.fault.DumpReason.{DumpReason}
+use Rattle.mt_dump.specs.declared.fault.DumpReason.TheVariants.{BadLine, BadNumber, BadWidth, TooManyPairs}
+use Rattle.mt_dump.specs.declared.fault.DumpFault.{DumpFault}
+use Rattle.mt_dump.specs.declared.said.Said.{Said}
+use Rattle.mt_dump.specs.declared.said.Said.TheVariants.{Nothing, Width, Register}
+
+abbrev pub Reading : Type 0
+Reading = Result Said DumpFault
+
+abbrev pub fault_at : DumpReason → Place → DumpFault
+fault_at reason place = record { reason = reason; place = place }
+
+-- the place of a word of the line of this number
+abbrev pub place_of : ℕ → ℕ × List ℕ → Place
+place_of number word = record { line = number; column = word.0 + 1 }
+
+-- the word `maxphyaddr`
+abbrev pub is_width_name : List ℕ → Bool
+is_width_name word = pointwise nat_eq word (109 ∷ 97 ∷ 120 ∷ 112 ∷ 104 ∷ 121 ∷ 97 ∷ 100 ∷ 100 ∷ 114 ∷ [])
+
+abbrev pub said_width : Place → Place → Result ℕ NumberFault → Reading
+said_width first second (Err NotDigit) = Err (fault_at BadNumber second)
+said_width first second (Err TooLarge) = Err (fault_at BadWidth second)
+said_width first second (Ok width) = if nat_lt width 32 then Err (fault_at BadWidth second) else Ok (Width width first)
+
+abbrev pub said_register : Place → Place → Result ℕ NumberFault → Result ℕ NumberFault → Reading
+said_register first second (Err fault) value = Err (fault_at BadNumber first)
+said_register first second (Ok number) (Err fault) = Err (fault_at BadNumber second)
+said_register first second (Ok number) (Ok value) =
+    if number == 0xfe && nat_lt 32 (low_byte value) then Err (fault_at TooManyPairs second)
+    else Ok (Register number value first)
+
+abbrev pub said_pair : Place → Place → List ℕ → List ℕ → Reading
+said_pair first second name value =
+    if is_width_name name then said_width first second (decimal_number value 52)
+    else said_register first second (hex_number name) (hex_number value)
+
+-- One `:` at the end of the first word is no part of it.
+abbrev pub said_words : ℕ → List (ℕ × List ℕ) → Reading
+said_words number [] = Ok Nothing
+said_words number (first ∷ []) = Err (fault_at BadLine (place_of number first))
+said_words number (first ∷ second ∷ []) = said_pair (place_of number first) (place_of number second) (without_ending 58 first.1) second.1
+said_words number (first ∷ second ∷ third ∷ more) = Err (fault_at BadLine (place_of number third))
+
+abbrev pub said_of : ℕ → List ℕ → Reading
+said_of number line =
+    if nat_lt 4096 (length line) then Err (fault_at BadLine (record { line = number; column = 4097 }))
+    else said_words number (words_of line)

@@ -1,0 +1,87 @@
+ghost use Rattle.std.specs.Prelude.{◌≡◌, ◌≤◌, ◌<◌, ◌+◌, ◌++◌, ◌∷◌, [], length, take, slice_index, slice_get, MatchOption};
+ghost use Rattle.hex.specs.Hex.{lower_digits};
+ghost use Rattle.mt_dump.specs.Canon.{width_line, number_text, value_text, register_line, canon_lines};
+
+use arrayvec::ArrayVec;
+use mt_regs::RegFile;
+
+const CAP: u32 = 0xfe;
+
+const DIGITS: [u8; 16] = *b"0123456789abcdef";
+
+fn digit(n: u32) -> u8
+    requires { n < 16 }
+    ensures { result ≡ slice_index lower_digits n }
+{
+    DIGITS[n as usize]
+}
+
+fn value_text(value: u64) -> [u8; 16]
+    ensures { result ≡ value_text value }
+{
+    let mut digits = [0; 16];
+    match hex::encode_to_slice(value.to_be_bytes(), &mut digits) {
+        Ok(()) => digits,
+        Err(_) => unreachable!(),
+    }
+}
+
+fn put(text: &mut ArrayVec<u8, 24>, bytes: &[u8])
+    requires { length text.old.items + length bytes.now ≤ 24 }
+    ensures { text.new.items ≡ text.old.items ++ bytes.now }
+{
+    match text.try_extend_from_slice(bytes) {
+        Ok(()) => {}
+        Err(_) => unreachable!(),
+    }
+}
+
+fn width_line(width: u8) -> ArrayVec<u8, 24>
+    requires { width < 100 }
+    ensures { result.items ≡ width_line width ++ 10 ∷ [] }
+{
+    let mut text = ArrayVec::new();
+    put(&mut text, b"maxphyaddr ");
+    text.push(b'0' + width / 10);
+    text.push(b'0' + width % 10);
+    text.push(b'\n');
+    text
+}
+
+fn register_line(number: u32, value: u64) -> ArrayVec<u8, 24>
+    requires { number < 0x1000 }
+    ensures { result.items ≡ register_line number value ++ 10 ∷ [] }
+{
+    let mut text = ArrayVec::new();
+    text.push(digit(number / 256));
+    text.push(digit(number / 16 % 16));
+    text.push(digit(number % 16));
+    text.push(b' ');
+    put(&mut text, &value_text(value));
+    text.push(b'\n');
+    text
+}
+
+// The line of this number with its LF, or nothing past the last.
+fn canon_line(f: &RegFile, line: u32) -> ArrayVec<u8, 24>
+    ensures { MatchOption (slice_get (canon_lines f.now) line) (result.items ≡ []) (λ text. result.items ≡ text ++ 10 ∷ []) }
+{
+    match line {
+        0 => width_line(f.maxphy),
+        1 => register_line(CAP, f.cap),
+        _ => match f.register_at(line - 2) {
+            Some(register) => register_line(register.number(), f.value_of(register)),
+            None => ArrayVec::new(),
+        },
+    }
+}
+
+/// Puts one line of the canonical text into the front and answers its length, which is 0 past the last line.
+pub fn write_dump(f: &RegFile, line: u32, into: &mut [u8; 24]) -> usize
+    ensures { MatchOption (slice_get (canon_lines f.now) line) (result ≡ 0) (λ text. (result ≡ length text + 1) × (take result into.new ≡ text ++ 10 ∷ [])) }
+{
+    let text = canon_line(f, line);
+    let count = text.len();
+    into[..count].copy_from_slice(text.as_slice());
+    count
+}

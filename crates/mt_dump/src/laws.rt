@@ -1,0 +1,37 @@
+ghost use Rattle.std.specs.Prelude.{◌≡◌, ◌⊎◌, ◌↔◌, ℕ, List, Some, None};
+ghost use Rattle.mt_regs.specs.RegisterFile.{RegisterFile, IsRegisterFile};
+ghost use Rattle.mt_regs.specs.Words.{HasWords};
+ghost use Rattle.mt_dump.specs.Canon.{canon};
+ghost use Rattle.mt_dump.specs.Dump.{Shown, dump_offence};
+ghost use Rattle.mt_dump.specs.declared.fault.DumpFault.{DumpFault};
+
+use mt_regs::RegFile;
+
+/// A text shows one file at most.
+pub fn a_text_shows_one_file()
+    ensures { (text : List ℕ) (file other : RegisterFile) → Shown text file → Shown text other → file ≡ other }
+{}
+
+/// A text shows a file exactly where it has no offence.
+pub fn a_text_shows_a_file_or_has_an_offence()
+    ensures shown { (text : List ℕ) (file : RegisterFile) → Shown text file → dump_offence text ≡ None }
+    ensures decided { (text : List ℕ) → ((file : RegisterFile) × Shown text file) ⊎ ((fault : DumpFault) × (dump_offence text ≡ Some fault)) }
+{}
+
+/// The canonical text of a file shows the file.
+pub fn the_canonical_text_shows_its_file()
+    ensures { (file : RegisterFile) → IsRegisterFile file → HasWords file → Shown (canon file) file }
+{}
+
+/// Canonical texts are equal exactly where the files are.
+pub fn canonical_texts_are_equal_where_files_are()
+    ensures { (file other : RegisterFile) → IsRegisterFile file → IsRegisterFile other → HasWords file → HasWords other → ((canon file ≡ canon other) ↔ (file ≡ other)) }
+{}
+
+/// The canonical text of any register file shows it.
+pub fn a_register_file_is_shown_by_its_text(f: &RegFile)
+    ensures { Shown (canon f.now) f.now }
+{
+    f.has_words();
+    let _ = &f.maxphy;
+}

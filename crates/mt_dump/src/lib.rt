@@ -1,0 +1,18 @@
+//! The text of a dump.
+#![tactic(auto)]
+
+mod canon;
+mod fault;
+mod laws;
+mod line;
+mod reader;
+mod said;
+
+pub use canon::write_dump;
+pub use fault::{DumpFault, DumpReason};
+pub use laws::{
+    a_register_file_is_shown_by_its_text, a_text_shows_a_file_or_has_an_offence,
+    a_text_shows_one_file, canonical_texts_are_equal_where_files_are,
+    the_canonical_text_shows_its_file,
+};
+pub use reader::{DumpReader, read_dump};
