@@ -10,6 +10,9 @@ use crate::words::first_written;
 use arrayvec::ArrayVec;
 use std::marker::Model;
 
+// The dirty bits of a buffer of which all eight words are written.
+const ALL_WRITTEN: u8 = 0xff;
+
 /// The write-combining buffers of a processor, the oldest first. No two have one number, and a
 /// dirty bit says that the word was written.
 #[derive(Drop)]
@@ -57,7 +60,7 @@ impl Buffers {
             return add(&mut self.lines, first_written(number, word, v, era));
         };
         put_at(&mut self.lines, i, word, v, true);
-        if self.lines.as_slice()[i].dirty == 0xff {
+        if self.lines.as_slice()[i].dirty == ALL_WRITTEN {
             Some(take_at(&mut self.lines, i))
         } else {
             None

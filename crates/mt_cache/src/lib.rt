@@ -6,7 +6,12 @@ mod cache;
 mod line;
 mod places;
 mod words;
+mod worked;
+
+#[cfg(test)]
+mod tests;
 
 pub use buffers::Buffers;
 pub use cache::Cache;
 pub use line::CacheLine;
+pub use worked::{worked_buffers, worked_dirty_words, worked_fills, worked_writes};

@@ -7,6 +7,15 @@ ghost use Rattle.mt_cache.specs.Calls.{clean_line_of, write_word};
 
 use crate::line::CacheLine;
 
+/// Clears the dirty bit of a word.
+pub(crate) fn clean(line: &mut CacheLine, word: u8)
+    requires { word < 8 }
+    ensures line { line.new ≡ clean_word word line.old }
+    ensures whole { IsLine line.new }
+{
+    line.dirty &= 255 - (1 << word);
+}
+
 /// Writes a word and its dirty bit.
 pub(crate) fn put(line: &mut CacheLine, word: u8, v: u64, dirty: bool)
     requires { word < 8 }
@@ -17,17 +26,8 @@ pub(crate) fn put(line: &mut CacheLine, word: u8, v: u64, dirty: bool)
     if dirty {
         line.dirty |= 1 << word;
     } else {
-        line.dirty &= 255 - (1 << word);
+        clean(line, word);
     }
-}
-
-/// Clears the dirty bit of a word.
-pub(crate) fn clean(line: &mut CacheLine, word: u8)
-    requires { word < 8 }
-    ensures line { line.new ≡ clean_word word line.old }
-    ensures whole { IsLine line.new }
-{
-    line.dirty &= 255 - (1 << word);
 }
 
 /// A buffer with one written word.

@@ -5,8 +5,13 @@ mod entry;
 mod mapping;
 mod maps;
 mod tlb;
+mod worked;
+
+#[cfg(test)]
+mod tests;
 
 pub use entry::Entry;
 pub use mapping::Mapping;
 pub use maps::{Full, Maps};
 pub use tlb::Tlb;
+pub use worked::{worked_entries, worked_mappings};
