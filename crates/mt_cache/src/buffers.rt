@@ -6,12 +6,9 @@ ghost use Rattle.mt_cache.specs.Calls.{AreLines, handed_back, left_by_combine};
 
 use crate::line::CacheLine;
 use crate::places::{add, place_of, put_at, take_at};
-use crate::words::first_written;
+use crate::words::{first_written, has_all_words};
 use arrayvec::ArrayVec;
 use std::marker::Model;
-
-// The dirty bits of a buffer of which all eight words are written.
-const ALL_WRITTEN: u8 = 0xff;
 
 /// The write-combining buffers of a processor, the oldest first. No two have one number, and a
 /// dirty bit says that the word was written.
@@ -60,7 +57,7 @@ impl Buffers {
             return add(&mut self.lines, first_written(number, word, v, era));
         };
         put_at(&mut self.lines, i, word, v, true);
-        if self.lines.as_slice()[i].dirty == ALL_WRITTEN {
+        if has_all_words(self.lines.as_slice()[i].dirty) {
             Some(take_at(&mut self.lines, i))
         } else {
             None

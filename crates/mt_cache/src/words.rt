@@ -1,4 +1,4 @@
-ghost use Rattle.std.specs.Prelude.{◌≡◌, ℕ, ◌<◌, replicate};
+ghost use Rattle.std.specs.Prelude.{◌≡◌, ℕ, ◌<◌, ◌==◌, replicate};
 ghost use Rattle.std.specs.List.{find};
 ghost use Rattle.mt_kinds.specs.Bits.{is_bit_set};
 ghost use Rattle.mt_cache.specs.declared.line.CacheLine.{CacheLine};
@@ -44,6 +44,13 @@ pub(crate) fn first_written(number: u64, word: u8, v: u64, era: u64) -> CacheLin
     };
     put(&mut line, word, v, true);
     line
+}
+
+/// Whether these dirty bits say that all eight words are written.
+pub(crate) fn has_all_words(dirty: u8) -> bool
+    ensures { result ≡ (dirty == 0xff) }
+{
+    dirty == 0xff
 }
 
 /// The first dirty word of a line with these dirty bits.

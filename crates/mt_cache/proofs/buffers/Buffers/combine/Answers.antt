@@ -1,5 +1,4 @@
 use Rattle.std.proofs.Common.{◌≡◌, ◌∙◌, ◌++◌, ◌∷◌, [], sym, ap, Some, None, true, List, arith}
-use Rattle.std.proofs.lemmas.Bool.{eq-eqb, ne_eqb}
 use Rattle.std.specs.List.{position}
 use Rattle.mt_cache.specs.declared.line.CacheLine.{CacheLine}
 use Rattle.mt_cache.specs.Lines.{has_number, find_line}
@@ -30,34 +29,34 @@ returns-in_default-clause-lines c =
     ∙ ap (λ (l : CacheLine). with_room 4 c.args.self.now ++ l ∷ []) c.first_written.ensures.line
     ∙ absent_left c.args.number c.args.word c.args.v c.args.era c.args.self.now c.requires absent
 
-pub returns-then-as_slice-i-clause-out : goal.returns-then-as_slice-i-clause-out
-returns-then-as_slice-i-clause-out c =
+pub returns-then-has_all_words-clause-out : goal.returns-then-has_all_words-clause-out
+returns-then-has_all_words-clause-out c =
     let at : position (has_number c.args.number) c.args.self.now ≡ Some c.in-Some.i =
     sym (c.place_of.ensures ∙ ap (position (has_number c.args.number)) (c.as_slice.ensures.value ∙ c.self.view_is)) ∙ c.in-Some.is in
     full_out c.args.number c.args.word c.args.v c.args.era c.in-Some.i c.args.self.now c.put_at.new.lines.items c.as_slice-2.result.now _ c.take_at.result at
     (c.put_at.ensures.lines ∙ ap (change_at c.in-Some.i (write_word c.args.word c.args.v true)) c.self.view_is)
-    c.as_slice-2.ensures.value (eq-eqb _ 255 c.if-as_slice-i.true) c.take_at.ensures.line
+    c.as_slice-2.ensures.value (sym c.has_all_words.ensures ∙ c.if-has_all_words.true) c.take_at.ensures.line
 
-pub returns-then-as_slice-i-clause-lines : goal.returns-then-as_slice-i-clause-lines
-returns-then-as_slice-i-clause-lines c =
+pub returns-then-has_all_words-clause-lines : goal.returns-then-has_all_words-clause-lines
+returns-then-has_all_words-clause-lines c =
     let at : position (has_number c.args.number) c.args.self.now ≡ Some c.in-Some.i =
     sym (c.place_of.ensures ∙ ap (position (has_number c.args.number)) (c.as_slice.ensures.value ∙ c.self.view_is)) ∙ c.in-Some.is in
     c.take_at.ensures.lines ∙ full_left c.args.number c.args.word c.args.v c.args.era c.in-Some.i c.args.self.now c.put_at.new.lines.items c.as_slice-2.result.now _ c.take_at.result at
     (c.put_at.ensures.lines ∙ ap (change_at c.in-Some.i (write_word c.args.word c.args.v true)) c.self.view_is)
-    c.as_slice-2.ensures.value (eq-eqb _ 255 c.if-as_slice-i.true) c.take_at.ensures.line
+    c.as_slice-2.ensures.value (sym c.has_all_words.ensures ∙ c.if-has_all_words.true) c.take_at.ensures.line
 
-pub returns-else-as_slice-i-clause-out : goal.returns-else-as_slice-i-clause-out
-returns-else-as_slice-i-clause-out c =
+pub returns-else-has_all_words-clause-out : goal.returns-else-has_all_words-clause-out
+returns-else-has_all_words-clause-out c =
     let at : position (has_number c.args.number) c.args.self.now ≡ Some c.in-Some.i =
     sym (c.place_of.ensures ∙ ap (position (has_number c.args.number)) (c.as_slice.ensures.value ∙ c.self.view_is)) ∙ c.in-Some.is in
     part_out c.args.number c.args.word c.args.v c.args.era c.in-Some.i c.args.self.now c.put_at.new.lines.items c.as_slice-2.result.now _ at
     (c.put_at.ensures.lines ∙ ap (change_at c.in-Some.i (write_word c.args.word c.args.v true)) c.self.view_is)
-    c.as_slice-2.ensures.value (ne_eqb _ 255 c.if-as_slice-i.false)
+    c.as_slice-2.ensures.value (sym c.has_all_words.ensures ∙ c.if-has_all_words.false)
 
-pub returns-else-as_slice-i-clause-lines : goal.returns-else-as_slice-i-clause-lines
-returns-else-as_slice-i-clause-lines c =
+pub returns-else-has_all_words-clause-lines : goal.returns-else-has_all_words-clause-lines
+returns-else-has_all_words-clause-lines c =
     let at : position (has_number c.args.number) c.args.self.now ≡ Some c.in-Some.i =
     sym (c.place_of.ensures ∙ ap (position (has_number c.args.number)) (c.as_slice.ensures.value ∙ c.self.view_is)) ∙ c.in-Some.is in
     part_left c.args.number c.args.word c.args.v c.args.era c.in-Some.i c.args.self.now c.put_at.new.lines.items c.as_slice-2.result.now _ at
     (c.put_at.ensures.lines ∙ ap (change_at c.in-Some.i (write_word c.args.word c.args.v true)) c.self.view_is)
-    c.as_slice-2.ensures.value (ne_eqb _ 255 c.if-as_slice-i.false)
+    c.as_slice-2.ensures.value (sym c.has_all_words.ensures ∙ c.if-has_all_words.false)
