@@ -1,0 +1,8 @@
+use Rattle.mt_laws.proofs.Claims.{barriers_hold_of, none_runs_of}
+use Rattle.mt_laws.proofs.laws.barriers.barriers_hold.Goals as goal
+
+pub returns-clause-barriers : goal.returns-clause-barriers
+returns-clause-barriers c = barriers_hold_of
+
+pub returns-clause-exclusive : goal.returns-clause-exclusive
+returns-clause-exclusive c = none_runs_of

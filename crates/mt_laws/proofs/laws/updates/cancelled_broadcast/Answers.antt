@@ -1,0 +1,5 @@
+use Rattle.mt_laws.proofs.Broadcast.{cancelled_broadcast}
+use Rattle.mt_laws.proofs.laws.updates.cancelled_broadcast.Goals as goal
+
+pub returns : goal.returns
+returns c = cancelled_broadcast

@@ -1,0 +1,13 @@
+//! What holds of the machine over every list of events.
+//!
+//! Each law is the contract of a function with an empty body. It ranges over every sound start, quiet
+//! or just broadcast, and over every list of events that are enabled in their turn.
+#![tactic(auto)]
+
+mod laws;
+
+pub use laws::{
+    barriers_hold, broadcast_update, cancelled_broadcast, cancelled_update, count_of_steps,
+    events_keep, held_after_release, led_is_reached, led_update, nothing_older_after_release,
+    settled_after_each_release, stays_coherent, stays_sound, steps_keep_now, whole_update,
+};
