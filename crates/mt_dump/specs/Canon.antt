@@ -1,7 +1,7 @@
 -- The canonical text of a file.
 --     canon_lines file      its lines without their LF: the width, 0FEH, and each writable register in ascending order
 --     canon file      the whole text
-use Rattle.std.specs.Prelude.{ℕ, ◌+◌, ◌/◌, ◌%◌, List, [], ◌∷◌, ◌++◌, map, slice_index}
+use Rattle.std.specs.Prelude.{ℕ, ◌+◌, ◌/◌, ◌%◌, List, [], ◌∷◌, ◌++◌, codes, map, slice_index}
 use Rattle.std.specs.Int.{to_be_bytes, w64}
 use Rattle.hex.specs.Hex.{encode_lower, lower_digits}
 use Rattle.mt_regs.specs.RegisterFile.{RegisterFile}
@@ -9,7 +9,7 @@ use Rattle.mt_regs.specs.Registers.{number_of, value_of, writable}
 
 -- `maxphyaddr` and the width in two decimal digits
 abbrev pub width_line : ℕ → List ℕ
-width_line width = 109 ∷ 97 ∷ 120 ∷ 112 ∷ 104 ∷ 121 ∷ 97 ∷ 100 ∷ 100 ∷ 114 ∷ 32 ∷ (48 + width / 10) ∷ (48 + width % 10) ∷ []
+width_line width = codes "maxphyaddr " ++ (48 + width / 10) ∷ (48 + width % 10) ∷ []
 
 -- a register's number in three lower-case digits
 abbrev pub number_text : ℕ → List ℕ

@@ -1,6 +1,6 @@
 -- What one line of a dump says, whatever the other lines say.
 --     said_of number line      what the line of this number says, or its offence
-use Rattle.std.specs.Prelude.{ℕ, ◌+◌, ◌==◌, ◌&&◌, nat_lt, nat_eq, Bool, List, length, [], ◌∷◌, if◌then◌else◌, Result, Ok, Err}
+use Rattle.std.specs.Prelude.{ℕ, ◌+◌, ◌==◌, ◌&&◌, codes, nat_lt, nat_eq, Bool, List, length, [], ◌∷◌, if◌then◌else◌, Result, Ok, Err}
 use Rattle.std.specs.Cmp.Lexicographic.{pointwise}
 use Rattle.mt_text.specs.Text.{words_of, without_ending}
 use Rattle.mt_text.specs.Number.{hex_number, decimal_number}
@@ -26,7 +26,7 @@ place_of number word = record { line = number; column = word.0 + 1 }
 
 -- the word `maxphyaddr`
 abbrev pub is_width_name : List ℕ → Bool
-is_width_name word = pointwise nat_eq word (109 ∷ 97 ∷ 120 ∷ 112 ∷ 104 ∷ 121 ∷ 97 ∷ 100 ∷ 100 ∷ 114 ∷ [])
+is_width_name word = pointwise nat_eq word (codes "maxphyaddr")
 
 abbrev pub said_width : Place → Place → Result ℕ NumberFault → Reading
 said_width first second (Err NotDigit) = Err (fault_at BadNumber second)

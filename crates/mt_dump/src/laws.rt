@@ -1,8 +1,11 @@
-ghost use Rattle.std.specs.Prelude.{◌≡◌, ◌⊎◌, ◌↔◌, ℕ, List, Some, None};
+ghost use Rattle.std.specs.Prelude.{◌≡◌, ◌≤◌, ◌⊎◌, ◌↔◌, ℕ, List, length, Some, None};
+ghost use Rattle.std.specs.List.{AllByRecursion};
+ghost use Rattle.mt_text.specs.Text.{lines_of};
 ghost use Rattle.mt_regs.specs.RegisterFile.{RegisterFile, IsRegisterFile};
 ghost use Rattle.mt_regs.specs.Words.{HasWords};
 ghost use Rattle.mt_dump.specs.Canon.{canon};
 ghost use Rattle.mt_dump.specs.Dump.{Shown, dump_offence};
+ghost use Rattle.mt_dump.specs.Plain.{PlainlyShown};
 ghost use Rattle.mt_dump.specs.declared.fault.DumpFault.{DumpFault};
 
 use mt_regs::RegFile;
@@ -35,3 +38,8 @@ pub fn a_register_file_is_shown_by_its_text(f: &RegFile)
     f.has_words();
     let _ = &f.maxphy;
 }
+
+/// What a text shows in the plain form it shows, where each line keeps to the limit.
+pub fn what_is_plainly_shown_is_shown()
+    ensures { (text : List ℕ) (file : RegisterFile) → PlainlyShown text file → AllByRecursion (λ line. length line ≤ 4096) (lines_of text) → Shown text file }
+{}

@@ -3,8 +3,8 @@
 --     content line       what words stand in: the line without a CR at its end, up to the first `#`
 --     words_of line      the words, each with its offset in the line; a word is a longest run of bytes that are no blanks
 --     words_at offset line      the same words, each with its offset in a source in which the line stands at this offset
-use Rattle.std.specs.Prelude.{ℕ, ◌+◌, ◌≡◌, ◌≤◌, ⊤, drop, Bool, false, ◌==◌, ◌||◌, not, List, [], ◌∷◌, if◌then◌else◌, length, take}
-use Rattle.std.specs.List.{onto_first, position_or_len}
+use Rattle.std.specs.Prelude.{ℕ, ◌+◌, ◌≡◌, ◌≤◌, ⊤, drop, Bool, false, ◌==◌, ◌||◌, not, List, [], ◌∷◌, if◌then◌else◌, length, take, Some}
+use Rattle.std.specs.List.{onto_first, before_first, slice_get}
 use Rattle.mt_text.specs.declared.place.Place.{Place}
 
 abbrev pub is_line_end : ℕ → Bool
@@ -18,6 +18,10 @@ is_word_byte byte = not (is_blank byte)
 
 abbrev pub is_comment_start : ℕ → Bool
 is_comment_start byte = byte == 35
+
+-- a byte before which a word ends
+abbrev pub ends_word : ℕ → Bool
+ends_word byte = is_blank byte || is_comment_start byte
 
 abbrev pub lines_of : List ℕ → List (List ℕ)
 lines_of [] = []
@@ -33,8 +37,11 @@ without_ending ending (byte ∷ next ∷ bytes) = byte ∷ without_ending ending
 abbrev pub without_return : List ℕ → List ℕ
 without_return line = without_ending 13 line
 
+abbrev pub before_comment : List ℕ → List ℕ
+before_comment line = before_first is_comment_start line
+
 abbrev pub content : List ℕ → List ℕ
-content line = take (position_or_len is_comment_start (without_return line)) (without_return line)
+content line = before_comment (without_return line)
 
 -- whether a word goes on with these bytes
 abbrev pub goes_on : List ℕ → Bool
@@ -59,6 +66,10 @@ words_at offset line = words_from offset (content line)
 
 abbrev pub words_of : List ℕ → List (ℕ × List ℕ)
 words_of line = words_at 0 line
+
+-- a word that a line has, by its offset in the line
+abbrev pub HasWord : List ℕ → ℕ × List ℕ → Type 0
+HasWord line word = (i : ℕ) × (slice_get (words_of line) i ≡ Some word)
 
 -- the place after the last byte: one more than the lines that are ended, and than the bytes after the last LF
 abbrev pub end_from : Place → List ℕ → Place

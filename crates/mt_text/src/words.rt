@@ -1,6 +1,6 @@
-ghost use Rattle.std.specs.Prelude.{◌≡◌, ◌≤◌, ◌<◌, ◌+◌, ◌-◌, [], ◌∷◌, length, drop, take, MatchOption, IfSome, position, Some, None, slice_get};
+ghost use Rattle.std.specs.Prelude.{◌≡◌, ℕ, ◌≤◌, ◌<◌, ◌+◌, ◌-◌, [], ◌∷◌, length, drop, take, MatchOption, IfSome, position, Some, None, slice_get};
 ghost use Rattle.std.specs.List.{position_or_len};
-ghost use Rattle.mt_text.specs.Text.{is_blank, is_word_byte, is_comment_start, without_ending, content, words_at, words_from, words_of};
+ghost use Rattle.mt_text.specs.Text.{is_blank, is_word_byte, ends_word, before_comment, without_ending, without_return, words_at, words_from, words_of, HasWord};
 
 use crate::{Line, Place};
 
@@ -18,6 +18,12 @@ fn is_blank(byte: u8) -> bool
     byte == b' ' || byte == b'\t'
 }
 
+fn ends_word(byte: u8) -> bool
+    ensures { result ≡ ends_word byte }
+{
+    is_blank(byte) || byte == b'#'
+}
+
 fn word_start(text: &[u8]) -> Option<usize>
     ensures { result ≡ position is_word_byte text.now }
 {
@@ -25,15 +31,9 @@ fn word_start(text: &[u8]) -> Option<usize>
 }
 
 fn word_end(text: &[u8]) -> Option<usize>
-    ensures { result ≡ position is_blank text.now }
+    ensures { result ≡ position ends_word text.now }
 {
-    text.iter().position(|b| is_blank(*b))
-}
-
-fn comment_start(text: &[u8]) -> Option<usize>
-    ensures { result ≡ position is_comment_start text.now }
-{
-    text.iter().position(|b| *b == b'#')
+    text.iter().position(|b| ends_word(*b))
 }
 
 // How many blanks stand at the front.
@@ -44,20 +44,12 @@ fn blanks_length(text: &[u8]) -> usize
     word_start(text).unwrap_or(text.len())
 }
 
-// How many bytes stand at the front before a blank.
+// How many bytes stand at the front before a blank or a comment.
 #[tactic(auto, using(crate::proofs::Places::position_within))]
 fn word_length(text: &[u8]) -> usize
-    ensures { result ≡ position_or_len is_blank text.now }
+    ensures { result ≡ position_or_len ends_word text.now }
 {
     word_end(text).unwrap_or(text.len())
-}
-
-// How many bytes stand at the front before a comment.
-#[tactic(auto, using(crate::proofs::Places::position_within))]
-fn content_length(text: &[u8]) -> usize
-    ensures { result ≡ position_or_len is_comment_start text.now }
-{
-    comment_start(text).unwrap_or(text.len())
 }
 
 /// A text without one such byte at its end.
@@ -71,31 +63,19 @@ pub fn without_ending(text: &[u8], ending: u8) -> &[u8]
     if last[0] == ending { front } else { text }
 }
 
-// What words stand in.
+// Where the first word from an offset on begins and ends, in a line without CR.
 #[tactic(auto, using(crate::proofs::Places::position_within))]
-fn content(line: &[u8]) -> &[u8]
-    ensures content { result.now ≡ content line.now }
-    ensures front { result.now ≡ take (length result.now) line.now }
-    ensures size { length result.now ≤ length line.now }
-{
-    let line = without_ending(line, b'\r');
-    let (content, _) = line.split_at(content_length(line));
-    content
-}
-
-// Where the first word from an offset on begins and ends.
-#[tactic(auto, using(crate::proofs::Places::position_within))]
-fn next_word(content: &[u8], from: usize) -> Option<(usize, usize)>
-    requires { from ≤ length content.now }
-    ensures bounds { IfSome result (λ x. (from ≤ x.0) × (x.0 < x.1) × (x.1 ≤ length content.now)) }
+fn next_word(text: &[u8], from: usize) -> Option<(usize, usize)>
+    requires { from ≤ length text.now }
+    ensures bounds { IfSome result (λ x. (from ≤ x.0) × (x.0 < x.1) × (x.1 ≤ length text.now)) }
     ensures word { MatchOption result
-        (words_from from (drop from content.now) ≡ [])
-        (λ x. words_from from (drop from content.now) ≡ (x.0, take (x.1 - x.0) (drop x.0 content.now)) ∷ words_from x.1 (drop x.1 content.now)) }
+        (words_from from (before_comment (drop from text.now)) ≡ [])
+        (λ x. words_from from (before_comment (drop from text.now)) ≡ (x.0, take (x.1 - x.0) (drop x.0 text.now)) ∷ words_from x.1 (before_comment (drop x.1 text.now))) }
 {
-    let (_, rest) = content.split_at(from);
+    let (_, rest) = text.split_at(from);
     let start = from + blanks_length(rest);
-    let (_, text) = content.split_at(start);
-    let end = start + word_length(text);
+    let (_, rest) = text.split_at(start);
+    let end = start + word_length(rest);
     if end == start {
         None
     } else {
@@ -104,28 +84,28 @@ fn next_word(content: &[u8], from: usize) -> Option<(usize, usize)>
 }
 
 // Where the word of this number begins and ends.
-fn word_at(content: &[u8], i: usize) -> Option<(usize, usize)>
-    ensures bounds { IfSome result (λ x. (x.0 < x.1) × (x.1 ≤ length content.now)) }
+fn word_at(text: &[u8], i: usize) -> Option<(usize, usize)>
+    ensures bounds { IfSome result (λ x. (x.0 < x.1) × (x.1 ≤ length text.now)) }
     ensures word { MatchOption result
-        (slice_get (words_from 0 content.now) i ≡ None)
-        (λ x. slice_get (words_from 0 content.now) i ≡ Some (x.0, take (x.1 - x.0) (drop x.0 content.now))) }
+        (slice_get (words_from 0 (before_comment text.now)) i ≡ None)
+        (λ x. slice_get (words_from 0 (before_comment text.now)) i ≡ Some (x.0, take (x.1 - x.0) (drop x.0 text.now))) }
 {
     let mut at = 0;
     'words: for _ in 0..i {
-        let Some((_, end)) = next_word(content, at) else {
+        let Some((_, end)) = next_word(text, at) else {
             return None;
         };
         at = end;
     }
-    next_word(content, at)
+    next_word(text, at)
 }
 
-fn count(content: &[u8]) -> usize
-    ensures { result ≡ length (words_from 0 content.now) }
+fn count(text: &[u8]) -> usize
+    ensures { result ≡ length (words_from 0 (before_comment text.now)) }
 {
     let mut at = 0;
     let mut count = 0;
-    'words: while let Some((_, end)) = next_word(content, at) {
+    'words: while let Some((_, end)) = next_word(text, at) {
         at = end;
         count += 1;
     }
@@ -137,7 +117,28 @@ impl<'a> Line<'a> {
     pub fn words(&self) -> usize
         ensures { result ≡ length (words_of self.now.bytes.now) }
     {
-        count(content(self.bytes))
+        count(without_ending(self.bytes, b'\r'))
+    }
+
+    // The word between two offsets of the line.
+    fn word_between(&self, start: usize, end: usize) -> Word<'a>
+        requires some { start < end }
+        requires within { end ≤ length (without_return self.now.bytes.now) }
+        ensures text { result.text.now ≡ take (end - start) (drop start (without_return self.now.bytes.now)) }
+        ensures slice { result.text.now ≡ take (length result.text.now) (drop start self.now.bytes.now) }
+        ensures offset { result.offset ≡ self.now.offset + start }
+        ensures line { result.place.line ≡ self.now.number }
+        ensures column { result.place.column ≡ start + 1 }
+    {
+        let text = without_ending(self.bytes, b'\r');
+        Word {
+            text: &text[start..end],
+            offset: self.offset + start,
+            place: Place {
+                line: self.number,
+                column: start as u64 + 1,
+            },
+        }
     }
 
     /// The i-th word, as it stands in the source.
@@ -151,17 +152,26 @@ impl<'a> Line<'a> {
             (slice_get (words_at self.now.offset self.now.bytes.now) i ≡ None)
             (λ word. slice_get (words_at self.now.offset self.now.bytes.now) i ≡ Some (word.offset, word.text.now)) }
     {
-        let content = content(self.bytes);
-        let Some((start, end)) = word_at(content, i) else {
+        let Some((start, end)) = word_at(without_ending(self.bytes, b'\r'), i) else {
             return None;
         };
-        Some(Word {
-            text: &content[start..end],
-            offset: self.offset + start,
-            place: Place {
-                line: self.number,
-                column: start as u64 + 1,
-            },
-        })
+        Some(self.word_between(start, end))
+    }
+
+    /// The word after a word of this line, found from that word's end on.
+    pub fn word_after(&self, word: &Word<'_>) -> Option<Word<'a>>
+        requires begins { self.now.offset ≤ word.now.offset }
+        requires has { HasWord self.now.bytes.now (word.now.offset - self.now.offset, word.now.text.now) }
+        ensures slice { IfSome result (λ next. next.text.now ≡ take (length next.text.now) (drop (next.offset - self.now.offset) self.now.bytes.now)) }
+        ensures offset { IfSome result (λ next. (self.now.offset ≤ next.offset) × (next.place.line ≡ self.now.number) × (next.place.column + self.now.offset ≡ next.offset + 1)) }
+        ensures word { (i : ℕ) → slice_get (words_of self.now.bytes.now) i ≡ Some (word.now.offset - self.now.offset, word.now.text.now) → MatchOption result
+            (slice_get (words_of self.now.bytes.now) (i + 1) ≡ None)
+            (λ next. slice_get (words_of self.now.bytes.now) (i + 1) ≡ Some (next.offset - self.now.offset, next.text.now)) }
+    {
+        let end = word.offset - self.offset + word.text.len();
+        let Some((start, end)) = next_word(without_ending(self.bytes, b'\r'), end) else {
+            return None;
+        };
+        Some(self.word_between(start, end))
     }
 }
