@@ -1,0 +1,10 @@
+//! One processor: its range registers, controls, mappings, TLB, cache and write-combining buffers.
+#![tactic(auto)]
+
+mod cpu;
+#[cfg(test)]
+mod tests;
+mod translation;
+
+pub use cpu::Cpu;
+pub use mt_machine::{Event, Phase};

@@ -1,0 +1,87 @@
+use crate::cpu::Cpu;
+use mt_kinds::MemType;
+use mt_machine::Phase;
+use mt_regs::RegFile;
+use mt_tlb::Mapping;
+
+/// A processor with these default types, of an address width of 36 bits.
+fn processor(deftype: u64) -> Option<Cpu> {
+    let Ok(mut file) = RegFile::blank(36, 0x508) else {
+        return None;
+    };
+    if file.set(0x2ff, deftype).is_err() || file.first_fault().is_some() {
+        return None;
+    }
+    Some(Cpu::new(file))
+}
+
+fn map(cpu: &mut Cpu, vpage: u64, ppage: u64, global: bool) -> bool {
+    let mapping = Mapping {
+        vpage,
+        ppage,
+        index: 0,
+        global,
+    };
+    mapping.vpage < 1 << 36 && mapping.ppage < cpu.regs().pages() && cpu.map(mapping).is_ok()
+}
+
+fn translate(cpu: &mut Cpu, va: u64) -> Option<(u64, MemType)> {
+    match cpu.phase() {
+        Phase::Running => cpu.translate(va),
+        _ => None,
+    }
+}
+
+#[test]
+fn global_entries_stay_until_pge_is_cleared(rt: HostRuntime) {
+    let Some(mut cpu) = processor(0x806) else {
+        panic!(rt; "the file is accepted");
+    };
+    cpu.set_pge(true);
+    assert!(rt; map(&mut cpu, 1, 0x100, true));
+    assert!(rt; map(&mut cpu, 2, 0x200, false));
+    assert!(rt; translate(&mut cpu, 0x1008) == Some((0x100008, MemType::WB)));
+    assert!(rt; translate(&mut cpu, 0x2000) == Some((0x200000, MemType::WB)));
+    assert!(rt; translate(&mut cpu, 0x3000).is_none());
+    assert_eq!(rt; cpu.tlb().entries().len(), 2);
+    cpu.reload_cr3();
+    assert_eq!(rt; cpu.tlb().entries().len(), 1);
+    assert!(rt;
+        matches!(cpu.tlb().entries().first(), Some(entry) if entry.vpage == 1 && entry.global)
+    );
+    cpu.set_pge(true);
+    assert_eq!(rt; cpu.tlb().entries().len(), 1);
+    cpu.set_pge(false);
+    assert!(rt; cpu.tlb().entries().is_empty());
+}
+
+#[test]
+fn an_entry_stands_until_it_is_dropped(rt: HostRuntime) {
+    let Some(mut cpu) = processor(0x804) else {
+        panic!(rt; "the file is accepted");
+    };
+    assert!(rt; map(&mut cpu, 1, 0x100, true));
+    assert!(rt; translate(&mut cpu, 0x1000) == Some((0x100000, MemType::WT)));
+    assert!(rt; matches!(cpu.tlb().entries().first(), Some(entry) if !entry.global));
+    assert!(rt; map(&mut cpu, 1, 0x300, false));
+    assert!(rt; translate(&mut cpu, 0x1000) == Some((0x100000, MemType::WT)));
+    cpu.invlpg(1);
+    assert!(rt; translate(&mut cpu, 0x1000) == Some((0x300000, MemType::WT)));
+}
+
+#[test]
+fn the_cache_and_the_buffers_are_lent(rt: HostRuntime) {
+    let Some(mut cpu) = processor(0x806) else {
+        panic!(rt; "the file is accepted");
+    };
+    cpu.set_cd(true);
+    assert!(rt; cpu.cd() && !cpu.pge() && !cpu.had_pge() && cpu.era() == 0);
+    assert!(rt; cpu.buffers_mut().combine(5, 1, 7, 0).is_none());
+    assert_eq!(rt; cpu.buffers().lines().len(), 1);
+    assert!(rt; cpu.buffers_mut().take_oldest().is_some());
+    if cpu.cache().find(5).is_none() {
+        cpu.cache_mut().fill(5, [0; 8], 0);
+    }
+    assert_eq!(rt; cpu.cache().lines().len(), 1);
+    assert_eq!(rt; cpu.maps().list().len(), 0);
+}
