@@ -56,7 +56,7 @@ changing_rank Arrived ahead h = absurd (cc)
 changing_rank Arrived2 ahead h = absurd (cc)
 changing_rank other ahead h = refl
 
-running_rank : (ph : Phase) (ahead : Bool) → is_running ph ≡ true → 2 ≤ rank_of ph ahead → rank_of ph ahead ≡ 5
+pub running_rank : (ph : Phase) (ahead : Bool) → is_running ph ≡ true → 2 ≤ rank_of ph ahead → rank_of ph ahead ≡ 5
 running_rank Running true runs h = refl
 running_rank Running false runs h = absurd (omega arith)
 running_rank other ahead runs h = absurd (cc)

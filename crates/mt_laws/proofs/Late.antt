@@ -17,7 +17,7 @@ use Rattle.mt_machine.specs.Access.{is_running}
 use Rattle.mt_machine.specs.Machine.{Machine, Order, MachineEvent, Accesses, Controls, Calls, Goes, Cancels, Steps, IsEnabled, next, Reached, at_start, after, run, AreEnabled, due, own_step, step, is_over, remaining_order, is_given, has_released}
 use Rattle.mt_machine.specs.Update.{is_call}
 use Rattle.mt_machine.specs.Start.{IsQuiet, IsBroadcast, IsStart}
-use Rattle.mt_laws.specs.Claims.{IsAt, HoldsOnly, NothingOlderAfterRelease}
+use Rattle.mt_laws.specs.Claims.{IsAt}
 use Rattle.mt_laws.proofs.Stages.{Stage, stage_of, stages_of, stages, access_stages, control_stages}
 use Rattle.mt_laws.proofs.Ranks.{rank, rank_of, is_ahead, At, Guarded, not_both, stage_at, and_left, and_right}
 use Rattle.mt_laws.proofs.Barriers.{Kept, Invariant, keeps, step_moves, step_stages, step_guarded}
@@ -248,6 +248,17 @@ all_lines era ls h k d within = eqb-true _ era (AllPass-from_list_all (λ (l : C
 
 pub all_entries : (era : ℕ) (es : List Entry) → passes_entries (λ x. x == era) es ≡ true → All (λ (e : Entry). e.era ≡ era) es
 all_entries era es h k d within = eqb-true _ era (AllPass-from_list_all (λ (e : Entry). e.era == era) es h k d within)
+
+pub record HoldsOnly (era : ℕ) (p : Processor) : Type 0 where
+  pub lines : All (λ l. l.era ≡ era) p.lines
+  pub buffers : All (λ l. l.era ≡ era) p.buffers
+  pub entries : All (λ e. e.era ≡ era) p.entries
+
+abbrev NothingOlderAfterRelease : Type 0
+NothingOlderAfterRelease =
+    (s m : Machine) (o : Order) (k : ℕ) (since : List MachineEvent) → IsStart s → Reached s m → m.order ≡ Some o
+    → IsEnabled m (Steps k Release) → AreEnabled (next m (Steps k Release)) since → list_all (λ e. not (is_call e)) since ≡ true
+    → (i : ℕ) (p : Processor) → IsAt (run (next m (Steps k Release)) since) i p → HoldsOnly (o.from_era + 1) p
 
 nothing_older_in : (m : Machine) (o : Order) (k : ℕ) (since : List MachineEvent) (x : Option Order) → m.order ≡ x → x ≡ Some o → IsKept (record { system = m.system; order = x }) → IsEnabled (record { system = m.system; order = x }) (Steps k Release)
     → AreEnabled (next (record { system = m.system; order = x }) (Steps k Release)) since → list_all (λ e. not (is_call e)) since ≡ true

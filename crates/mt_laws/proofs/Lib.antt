@@ -42,3 +42,7 @@ pub mod Addresses
 pub mod Fates
 pub mod Whole
 pub mod Broadcast
+pub mod Takes
+pub mod Acting
+pub mod Starts
+pub mod Eras

@@ -263,7 +263,7 @@ module _ (ws : List Window) (aligned : AllAligned ws) (o : Order) (ps : List Pro
 abbrev Ends : RegisterFile → List Processor → System → System → Type 0
 Ends goal ps s t = (s.processors ≡ map (settled_processor goal) ps) × ((a : ℕ) → a % 8 ≡ 0 → word_at s.memory a ≡ now t a)
 
-released_two : (ph : Phase) (ahead : Bool) → (is_running ph ≡ false → ahead ≡ false) → ahead ≡ true → 2 ≤ rank_of ph ahead
+pub released_two : (ph : Phase) (ahead : Bool) → (is_running ph ≡ false → ahead ≡ false) → ahead ≡ true → 2 ≤ rank_of ph ahead
 released_two Running true in_step h = lit≤ tt
 released_two Running false in_step h = absurd (cc)
 released_two other true in_step h = absurd (let e : true ≡ false = in_step refl in cc)
@@ -286,7 +286,7 @@ finish ws o ps s t g agrees course all =
     processors : s.processors ≡ map (settled_processor o.goal) ps
     processors = fates_settled o ps s.processors all past.fates
 
-over_released : (o : Order) (ps : List Processor) → is_cancelled o.go ≡ false → is_over o ps ≡ true → list_all (has_released o) ps ≡ true
+pub over_released : (o : Order) (ps : List Processor) → is_cancelled o.go ≡ false → is_over o ps ≡ true → list_all (has_released o) ps ≡ true
 over_released o ps off h = one (list_all (has_released o) ps) (is_cancelled o.go) (not (list_any (λ p. is_waiting_to_pass p.phase) ps)) off h
   where
     one : (a b c : Bool) → b ≡ false → (a || (b && c)) ≡ true → a ≡ true
@@ -295,7 +295,7 @@ over_released o ps off h = one (list_all (has_released o) ps) (is_cancelled o.go
     one false false c not_on g = absurd (cc)
 
 -- with no order nothing more is led
-ended : (es : List MachineEvent) (s : System) → AreEnabled (record { system = s; order = None }) es → list_all (λ e. is_led e && not (is_cancel e)) es ≡ true → es ≡ []
+pub ended : (es : List MachineEvent) (s : System) → AreEnabled (record { system = s; order = None }) es → list_all (λ e. is_led e && not (is_cancel e)) es ≡ true → es ≡ []
 ended [] s enabled led = refl
 ended (Accesses k op ∷ es) s enabled led = absurd (cc)
 ended (Controls k c ∷ es) s enabled led = absurd (cc)

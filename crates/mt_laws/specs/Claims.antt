@@ -1,20 +1,26 @@
--- What holds in each state that is reached from a quiet start.
-use Rattle.std.specs.Prelude.{◌≡◌, ◌≢◌, ℕ, ◌+◌, ◌%◌, Bool, true, false, not, ◌&&◌, List, [], ◌∷◌, slice_get, None, Some, length, map, ◌++◌}
-use Rattle.std.specs.List.{list_all, All, count_by}
+-- What the laws say of each state that is reached from a start, and of each list of enabled events.
+use Rattle.std.specs.Prelude.{◌≡◌, ℕ, ◌+◌, ◌%◌, Bool, true, false, not, ◌&&◌, List, [], ◌∷◌, slice_get, None, Some, length, map, ◌++◌, ◌||◌, ◌==◌, ◌≤◌, nat_lt, if◌then◌else◌, ◌<◌, ◌-◌, ◌^◌}
+use Rattle.std.specs.List.{list_all, All, count_by, AllPairs}
 use Rattle.mt_machine.specs.System.{Processor, System, IsCoherent, IsSound, now, change}
-use Rattle.mt_machine.specs.Machine.{Machine, Order, is_changing, has_passed, has_arrived, has_arrived_again, has_released, Reached, MachineEvent, Calls, Goes, Cancels, Steps, IsEnabled, next, run, AreEnabled, own_step}
-use Rattle.mt_machine.specs.Access.{is_running}
-use Rattle.mt_regs.specs.RegisterFile.{RegisterFile}
-use Rattle.mt_machine.specs.declared.phase.Phase.TheVariants.{Running}
+use Rattle.mt_machine.specs.Machine.{Machine, Order, is_changing, has_passed, has_arrived, has_arrived_again, has_released, Reached, MachineEvent, Calls, Goes, Cancels, Steps, IsEnabled, next, run, AreEnabled, Accesses, Controls}
+use Rattle.mt_machine.specs.Access.{is_running, access}
+use Rattle.mt_regs.specs.RegisterFile.{RegisterFile, IsRegisterFile}
+use Rattle.mt_machine.specs.declared.phase.Phase.TheVariants.{Running, Taken, Passed}
 use Rattle.mt_machine.specs.declared.go.Go.TheVariants.{Given}
 use Rattle.mt_regs.specs.Registers.{writable}
 use Rattle.mt_cache.specs.declared.line.CacheLine.{CacheLine}
 use Rattle.mt_tlb.specs.declared.entry.Entry.{Entry}
-use Rattle.mt_machine.specs.declared.event.Event.{Event}
 use Rattle.mt_machine.specs.declared.event.Event.TheVariants.{Take, Arrive, Leave, Pass, Release}
-use Rattle.mt_machine.specs.Bus.{drain}
-use Rattle.mt_machine.specs.Update.{IsSettled, IsHeld, is_pass, is_release, is_call, is_led, is_go, emptied, Led, is_cancel, takes_of, updated, is_step_of, dirty_count}
-use Rattle.mt_machine.specs.Start.{IsQuiet, IsBroadcast, IsStart}
+use Rattle.mt_machine.specs.Update.{IsSettled, IsHeld, is_release, is_call, is_led, is_go, emptied, Led, is_cancel, takes_of, updated, is_step_of, dirty_count}
+use Rattle.mt_machine.specs.Start.{IsQuiet, IsBroadcast, IsStart, HasEraRoom, start_machine}
+use Rattle.mt_machine.specs.declared.op.Op.{Op}
+use Rattle.mt_machine.specs.declared.op.Op.TheVariants.{Fence}
+use Rattle.mt_machine.specs.declared.done.Done.TheVariants.{Busy}
+use Rattle.mt_machine.specs.declared.control.Control.{Control}
+use Rattle.mt_machine.specs.declared.ruled.Ruled.TheVariants.{Busy as RuledBusy}
+use Rattle.mt_machine.specs.Control.{control}
+use Rattle.mt_regs.specs.Faults.{IsAccepted}
+use Rattle.mt_machine.specs.Memory.{Window, window_end, AreApart}
 
 abbrev pub IsAt : Machine → ℕ → Processor → Type 0
 IsAt m i p = slice_get m.system.processors i ≡ Some p
@@ -37,6 +43,12 @@ abbrev pub NoneRunsInChange : Machine → Type 0
 NoneRunsInChange m =
     (i j : ℕ) (p q : Processor) → IsAt m i p → IsAt m j q → is_changing p.phase ≡ true → is_running q.phase ≡ false
 
+-- and then no processor accesses memory, and none does a control instruction
+abbrev pub NoneActsInChange : Machine → Type 0
+NoneActsInChange m =
+    (i k : ℕ) (p : Processor) (op : Op) (c : Control) → IsAt m i p → is_changing p.phase ≡ true
+    → (access m.system k op ≡ record { answer = Busy; after = m.system }) × (control m.system k c ≡ record { answer = RuledBusy; after = m.system })
+
 -- ---- held, from the first release of an update on
 
 -- p stands before the first pass of its update, and the first release leads to r
@@ -56,6 +68,39 @@ HeldAfterRelease =
     (s p r : Machine) (o : Order) (since : List MachineEvent) → IsStart s → Reached s p → IsFirstRelease p r o → AreEnabled r since
     → IsHeld p.system r since
 
+-- where some processor may pass the first barrier, none has a buffer
+abbrev pub NoBuffersAtPass : Type 0
+NoBuffersAtPass =
+    (s p : Machine) (k : ℕ) → IsStart s → Reached s p → IsEnabled p (Steps k Pass) → All (λ q. q.buffers ≡ []) p.system.processors
+
+-- ---- the start, and the eras
+
+-- processors with one accepted file, over windows of zero words, are a quiet start
+abbrev pub StartIsQuiet : Type 0
+StartIsQuiet =
+    (count : ℕ) (f : RegisterFile) (ws : List Window) → IsRegisterFile f → IsAccepted f
+    → All (λ w. w.base % 64 ≡ 0) ws → All (λ w. window_end w ≤ 2 ^ 52) ws → AllPairs AreApart ws
+    → IsQuiet (start_machine count f ws)
+
+-- the eras fit 64 bits, also once the update under way has ended
+pub record HasEras (m : Machine) : Type 0 where
+  pub each : All (λ p. p.era < 2 ^ 64) m.system.processors
+  pub order : (o : Order) → m.order ≡ Some o → o.from_era < 2 ^ 64 - 1
+
+-- no event leads out of 64 bits, where an update is called only while the eras have room
+abbrev pub ErasFit : Type 0
+ErasFit =
+    (s m : Machine) (e : MachineEvent) → IsStart s → Reached s m → HasEras m → IsEnabled m e → (is_call e ≡ true → HasEraRoom m)
+    → HasEras (next m e)
+
+-- ---- lists of events
+
+-- a reached state is the state after a list of enabled events, and the other way round
+abbrev pub ReachedIsRun : Type 0
+ReachedIsRun =
+    (s t : Machine) → (Reached s t → (es : List MachineEvent) × AreEnabled s es × (run s es ≡ t))
+    × ((es : List MachineEvent) → AreEnabled s es → run s es ≡ t → Reached s t)
+
 abbrev pub LedIsReached : Type 0
 LedIsReached = (s t : Machine) → Led s t → Reached s t
 
@@ -71,10 +116,11 @@ pub record SameHoldings (s t : System) : Type 0 where
   pub processors : map holdings_of t.processors ≡ map holdings_of s.processors
   pub memory : t.memory ≡ s.memory
 
+-- Take is a fence of its processor, which is in the phase Taken then
 abbrev pub TakeFences : Type 0
 TakeFences =
-    (m : Machine) (o : Order) (k : ℕ) → m.order ≡ Some o
-    → (next m (Steps k Take)).system ≡ change (own_step o.goal Take) k (drain k m.system)
+    (m : Machine) (k : ℕ) → IsEnabled m (Steps k Take)
+    → next m (Steps k Take) ≡ record m { system = change (λ p. record p { phase = Taken }) k (access m.system k Fence).after }
 
 abbrev pub is_still : MachineEvent → Bool
 is_still (Calls goal) = true
@@ -88,21 +134,65 @@ abbrev pub StillEventsKeep : Type 0
 StillEventsKeep =
     (m : Machine) (e : MachineEvent) → IsEnabled m e → is_still e ≡ true → SameHoldings m.system (next m e).system
 
+-- the events of an update but Take
+abbrev pub is_take_step : MachineEvent → Bool
+is_take_step (Steps k Take) = true
+is_take_step other = false
+
+abbrev pub is_of_update : MachineEvent → Bool
+is_of_update (Accesses k op) = false
+is_of_update (Controls k c) = false
+is_of_update other = true
+
+-- no event of an update but Take changes a word's value
 abbrev pub StepsKeepNow : Type 0
 StepsKeepNow =
-    (s m : Machine) (k : ℕ) (e : Event) (address : ℕ) → IsStart s → Reached s m → IsEnabled m (Steps k e) → e ≢ Take
-    → address % 8 ≡ 0 → now (next m (Steps k e)).system address ≡ now m.system address
+    (s m : Machine) (e : MachineEvent) (address : ℕ) → IsStart s → Reached s m → IsEnabled m e → is_of_update e ≡ true → is_take_step e ≡ false
+    → address % 8 ≡ 0 → now (next m e).system address ≡ now m.system address
 
--- from its take to its first pass and on to its first release a processor does as many events as it has writable registers and dirty words at the pass, and 13 more
+-- ---- the number of a processor's events
+
+-- between its take and its release processor k passes the first barrier once; it does as many events as it has writable registers and dirty words then, and 13 more
+pub record IsCounted (m : Machine) (k : ℕ) (between : List MachineEvent) : Type 0 where
+  pub before : List MachineEvent
+  pub rest : List MachineEvent
+  pub passes : between ≡ before ++ Steps k Pass ∷ rest
+  pub passed : Processor
+  pub at_pass : IsAt (run m (Steps k Take ∷ (before ++ Steps k Pass ∷ []))) k passed
+  pub phase : passed.phase ≡ Passed
+  pub count : count_by (is_step_of k) (Steps k Take ∷ (between ++ Steps k Release ∷ [])) ≡ length (writable passed.file) + dirty_count passed.lines + 13
+
+-- from a take to the release that follows it
 abbrev pub CountOfSteps : Type 0
 CountOfSteps =
-    (s m : Machine) (k : ℕ) (before rest : List MachineEvent) (p : Processor) → IsStart s → Reached s m
-    → AreEnabled m (Steps k Take ∷ (before ++ (Steps k Pass ∷ (rest ++ Steps k Release ∷ []))))
-    → list_all (λ e. not (is_cancel e) && not (is_step_of k e && is_pass e)) before ≡ true
-    → list_all (λ e. not (is_step_of k e && is_release e)) rest ≡ true
-    → IsAt (run m (Steps k Take ∷ before)) k p
-    → count_by (is_step_of k) (Steps k Take ∷ (before ++ (Steps k Pass ∷ (rest ++ Steps k Release ∷ []))))
-    ≡ length (writable p.file) + dirty_count p.lines + 13
+    (s m : Machine) (k : ℕ) (between : List MachineEvent) → IsStart s → Reached s m
+    → AreEnabled m (Steps k Take ∷ (between ++ Steps k Release ∷ []))
+    → list_all (λ e. not (is_step_of k e && (is_take_step e || is_release e))) between ≡ true
+    → IsCounted m k between
+
+-- ---- whole updates
+
+-- each number below a count stands once in the list, and no other stands in it
+abbrev pub IsEachOnce : ℕ → List ℕ → Type 0
+IsEachOnce count ks = (k : ℕ) → count_by (λ j. j == k) ks ≡ (if nat_lt k count then 1 else 0)
+
+-- each stands at most once
+abbrev pub IsEachAtMostOnce : ℕ → List ℕ → Type 0
+IsEachAtMostOnce count ks = (k : ℕ) → count_by (λ j. j == k) ks ≤ (if nat_lt k count then 1 else 0)
+
+-- in an update each processor takes at most once; where it ends without a cancel each takes once
+abbrev pub TakesAtMostOnce : Type 0
+TakesAtMostOnce =
+    (s : Machine) (goal : RegisterFile) (es : List MachineEvent) → IsQuiet s → AreEnabled s (Calls goal ∷ es)
+    → list_all is_led es ≡ true
+    → IsEachAtMostOnce (length s.system.processors) (takes_of es)
+
+abbrev pub TakesOnce : Type 0
+TakesOnce =
+    (s : Machine) (goal : RegisterFile) (es : List MachineEvent) → IsQuiet s → AreEnabled s (Calls goal ∷ es)
+    → list_all (λ e. is_led e && not (is_cancel e)) es ≡ true
+    → (run s (Calls goal ∷ es)).order ≡ None
+    → IsEachOnce (length s.system.processors) (takes_of es)
 
 -- a whole update without accesses or controls
 abbrev pub WholeUpdate : Type 0
@@ -143,22 +233,11 @@ CancelledUpdate =
     → (run s (Calls goal ∷ es)).order ≡ None
     → run s (Calls goal ∷ es) ≡ record { system = emptied s.system (takes_of es); order = None }
 
--- ---- after a release nothing older than the update is held
+-- ---- from a release on, and up to the next call
 
-pub record HoldsOnly (era : ℕ) (p : Processor) : Type 0 where
-  pub lines : All (λ l. l.era ≡ era) p.lines
-  pub buffers : All (λ l. l.era ≡ era) p.buffers
-  pub entries : All (λ e. e.era ≡ era) p.entries
-
--- and each processor's file is the goal
+-- each processor's file is the goal, and nothing is held that is older than the update
 abbrev pub SettledAfterEachRelease : Type 0
 SettledAfterEachRelease =
     (s m : Machine) (o : Order) (k : ℕ) (since : List MachineEvent) → IsStart s → Reached s m → m.order ≡ Some o
     → IsEnabled m (Steps k Release) → AreEnabled (next m (Steps k Release)) since → list_all (λ e. not (is_call e)) since ≡ true
     → IsSettled (run (next m (Steps k Release)) since).system (o.from_era + 1) o.goal
-
-abbrev pub NothingOlderAfterRelease : Type 0
-NothingOlderAfterRelease =
-    (s m : Machine) (o : Order) (k : ℕ) (since : List MachineEvent) → IsStart s → Reached s m → m.order ≡ Some o
-    → IsEnabled m (Steps k Release) → AreEnabled (next m (Steps k Release)) since → list_all (λ e. not (is_call e)) since ≡ true
-    → (i : ℕ) (p : Processor) → IsAt (run (next m (Steps k Release)) since) i p → HoldsOnly (o.from_era + 1) p

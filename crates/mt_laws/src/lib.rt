@@ -8,6 +8,7 @@ mod laws;
 
 pub use laws::{
     barriers_hold, broadcast_update, cancelled_broadcast, cancelled_update, count_of_steps,
-    events_keep, held_after_release, led_is_reached, led_update, nothing_older_after_release,
-    settled_after_each_release, stays_coherent, stays_sound, steps_keep_now, whole_update,
+    eras_fit, events_keep, held_after_release, led_is_reached, led_update, no_buffers_at_pass,
+    reached_is_run, settled_after_each_release, start_is_quiet, stays_coherent, stays_sound,
+    steps_keep_now, whole_update,
 };

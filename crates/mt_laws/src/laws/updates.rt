@@ -1,13 +1,10 @@
-ghost use Rattle.mt_laws.specs.Claims.{BroadcastUpdate, CancelledBroadcast, CancelledUpdate, CountOfSteps, LedIsReached, LedUpdate, WholeUpdate};
+ghost use Rattle.mt_laws.specs.Claims.{BroadcastUpdate, CancelledBroadcast, CancelledUpdate, CountOfSteps, LedUpdate, TakesAtMostOnce, TakesOnce, WholeUpdate};
 
-/// What go, cancel and steps alone lead to, is reached.
-pub fn led_is_reached()
-    ensures { LedIsReached }
-{}
-
-/// A whole update without accesses or controls ends in the state that is given outright.
+/// A whole update without accesses or controls ends in the state that is given outright, and each
+/// processor takes once in it.
 pub fn whole_update()
-    ensures { WholeUpdate }
+    ensures outright { WholeUpdate }
+    ensures takes { TakesOnce }
 {}
 
 /// From a broadcast state an update that isn't cancelled ends in the state that is given outright.
@@ -25,12 +22,15 @@ pub fn cancelled_broadcast()
     ensures { CancelledBroadcast }
 {}
 
-/// A whole cancelled update leaves what fences leave, in the order of the takes.
+/// A whole cancelled update leaves what fences leave, in the order of the takes, and no processor
+/// takes twice in an update.
 pub fn cancelled_update()
-    ensures { CancelledUpdate }
+    ensures fences { CancelledUpdate }
+    ensures takes { TakesAtMostOnce }
 {}
 
-/// From its take to its release a processor does a fixed number of events.
+/// From its take to its release a processor does as many events as it has writable registers and dirty
+/// words, and 13 more.
 pub fn count_of_steps()
     ensures { CountOfSteps }
 {}

@@ -65,6 +65,7 @@ pub fn worked_cancel()
     ensures no_second_word { go_of (walk 1 0 (run (walk 1 0 (begun uncached_goal (setup 2 four_gigabytes))) (Cancels ∷ []))) ≡ None }
     ensures as_before { value_of (own (walk 1 0 (run (walk 1 0 (begun uncached_goal (setup 2 four_gigabytes))) (Cancels ∷ []))) 0).file (PhysBase 0) ≡ 6 }
     ensures whole { walk 1 0 (run (walk 1 0 (begun uncached_goal (setup 2 four_gigabytes))) (Cancels ∷ [])) ≡ setup 2 four_gigabytes }
+    ensures whole_after_arrive { walk 1 0 (run (walk 2 0 (begun uncached_goal (setup 2 four_gigabytes))) (Cancels ∷ [])) ≡ setup 2 four_gigabytes }
     ensures at_once { run (begun uncached_goal (setup 2 four_gigabytes)) (Cancels ∷ []) ≡ setup 2 four_gigabytes }
     ensures waiting_is_snooped { answer_of (walk 2 0 (begun uncached_goal (run (setup 2 four_gigabytes) (store 0 0x1000 0x2a ∷ [])))) 1 (Load 0x1000) ≡ Value 0x2a WB }
     ensures in_memory { memory_at (run (walk 2 0 (begun uncached_goal (run (setup 2 four_gigabytes) (store 0 0x1000 0x2a ∷ [])))) (load 1 0x1000 ∷ [])) 0x100000 ≡ 0x2a }

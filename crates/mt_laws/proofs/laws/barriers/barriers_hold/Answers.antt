@@ -1,4 +1,5 @@
 use Rattle.mt_laws.proofs.Claims.{barriers_hold_of, none_runs_of}
+use Rattle.mt_laws.proofs.Acting.{none_acts_of}
 use Rattle.mt_laws.proofs.laws.barriers.barriers_hold.Goals as goal
 
 pub returns-clause-barriers : goal.returns-clause-barriers
@@ -6,3 +7,6 @@ returns-clause-barriers c = barriers_hold_of
 
 pub returns-clause-exclusive : goal.returns-clause-exclusive
 returns-clause-exclusive c = none_runs_of
+
+pub returns-clause-busy : goal.returns-clause-busy
+returns-clause-busy c = none_acts_of

@@ -1,5 +1,9 @@
+use Rattle.mt_laws.proofs.Takes.{take_fences}
 use Rattle.mt_laws.proofs.Still.{still_keeps}
 use Rattle.mt_laws.proofs.laws.kept.events_keep.Goals as goal
+
+pub returns-clause-take : goal.returns-clause-take
+returns-clause-take c = take_fences
 
 pub returns-clause-still : goal.returns-clause-still
 returns-clause-still c = λ m e enabled is. still_keeps m e is

@@ -1,5 +1,9 @@
 use Rattle.mt_laws.proofs.Cancelled.{cancelled_update}
+use Rattle.mt_laws.proofs.Takes.{takes_at_most_once}
 use Rattle.mt_laws.proofs.laws.updates.cancelled_update.Goals as goal
 
-pub returns : goal.returns
-returns c = cancelled_update
+pub returns-clause-fences : goal.returns-clause-fences
+returns-clause-fences c = cancelled_update
+
+pub returns-clause-takes : goal.returns-clause-takes
+returns-clause-takes c = takes_at_most_once

@@ -1,5 +1,9 @@
 use Rattle.mt_laws.proofs.Whole.{whole_update}
+use Rattle.mt_laws.proofs.Takes.{takes_once}
 use Rattle.mt_laws.proofs.laws.updates.whole_update.Goals as goal
 
-pub returns : goal.returns
-returns c = whole_update
+pub returns-clause-outright : goal.returns-clause-outright
+returns-clause-outright c = whole_update
+
+pub returns-clause-takes : goal.returns-clause-takes
+returns-clause-takes c = takes_once

@@ -1,0 +1,11 @@
+ghost use Rattle.mt_laws.specs.Claims.{LedIsReached, ReachedIsRun};
+
+/// A reached state is the state after a list of enabled events, and the other way round.
+pub fn reached_is_run()
+    ensures { ReachedIsRun }
+{}
+
+/// What go, cancel and steps alone lead to, is reached.
+pub fn led_is_reached()
+    ensures { LedIsReached }
+{}
