@@ -16,7 +16,8 @@ fn digit(n: u32) -> u8
     DIGITS[n as usize]
 }
 
-fn value_text(value: u64) -> [u8; 16]
+/// A value in sixteen lower-case hexadecimal digits.
+pub fn value_text(value: u64) -> [u8; 16]
     ensures { result ≡ value_text value }
 {
     let mut digits = [0; 16];
@@ -24,6 +25,18 @@ fn value_text(value: u64) -> [u8; 16]
         Ok(()) => digits,
         Err(_) => unreachable!(),
     }
+}
+
+/// A register's number in three lower-case hexadecimal digits.
+pub fn number_text(number: u32) -> [u8; 3]
+    requires { number < 0x1000 }
+    ensures { result ≡ number_text number }
+{
+    [
+        digit(number / 256),
+        digit(number / 16 % 16),
+        digit(number % 16),
+    ]
 }
 
 fn put(text: &mut ArrayVec<u8, 24>, bytes: &[u8])
@@ -53,9 +66,7 @@ fn register_line(number: u32, value: u64) -> ArrayVec<u8, 24>
     ensures { result.items ≡ register_line number value ++ 10 ∷ [] }
 {
     let mut text = ArrayVec::new();
-    text.push(digit(number / 256));
-    text.push(digit(number / 16 % 16));
-    text.push(digit(number % 16));
+    put(&mut text, &number_text(number));
     text.push(b' ');
     put(&mut text, &value_text(value));
     text.push(b'\n');

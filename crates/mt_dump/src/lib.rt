@@ -8,7 +8,7 @@ mod line;
 mod reader;
 mod said;
 
-pub use canon::write_dump;
+pub use canon::{number_text, value_text, write_dump};
 pub use fault::{DumpFault, DumpReason};
 pub use laws::{
     a_register_file_is_shown_by_its_text, a_text_shows_a_file_or_has_an_offence,

@@ -1,0 +1,94 @@
+-- The command lines: what their words ask for. All other lists of words are wrong usage.
+--     command_of words      the command of these words, the program's name left out
+use Rattle.std.specs.Prelude.{ℕ, ◌-◌, ◌^◌, ◌<◌, ◌&&◌, nat_eq, nat_le, nat_lt, Bool, List, [], ◌∷◌, length, drop, take, codes, if◌then◌else◌, Option, Some, None, Result, Ok, Err}
+use Rattle.std.specs.Cmp.Lexicographic.{pointwise}
+use Rattle.mt_text.specs.Number.{hex_number, decimal_number}
+use Rattle.mt_text.specs.declared.fault.NumberFault.{NumberFault}
+use Rattle.mt_cli.specs.declared.command.Command.{Command}
+use Rattle.mt_cli.specs.declared.command.Command.TheVariants.{Check, Show, Types, Page, Tidy}
+use Rattle.mt_cli.specs.declared.command.TidyOption.{TidyOption}
+use Rattle.mt_cli.specs.declared.command.TidyOption.TheVariants.{Spare, Chunk}
+
+abbrev pub is_text : List ℕ → List ℕ → Bool
+is_text word text = pointwise nat_eq word text
+
+-- one pair is spared, and ranges of up to 256 MB may share pages (own)
+abbrev pub usual_spare : ℕ
+usual_spare = 1
+
+abbrev pub usual_chunk : ℕ
+usual_chunk = 0x10000000
+
+abbrev pub command_of_one : List ℕ → Option Command
+command_of_one name =
+    if is_text name (codes "check") then Some Check
+    else if is_text name (codes "show") then Some Show
+    else if is_text name (codes "types") then Some Types
+    else if is_text name (codes "tidy") then Some (Tidy usual_spare usual_chunk)
+    else None
+
+-- what stands behind a text at the front of a word
+abbrev pub behind : List ℕ → List ℕ → Option (List ℕ)
+behind text word = if is_text (take (length text) word) text then Some (drop (length text) word) else None
+
+abbrev pub spare_option : Result ℕ NumberFault → Option TidyOption
+spare_option (Ok spare) = Some (Spare spare)
+spare_option (Err fault) = None
+
+abbrev pub chunk_option : Result ℕ NumberFault → Option TidyOption
+chunk_option (Ok chunk) = Some (Chunk chunk)
+chunk_option (Err fault) = None
+
+abbrev pub chunk_behind : Option (List ℕ) → Option TidyOption
+chunk_behind (Some digits) = chunk_option (hex_number digits)
+chunk_behind None = None
+
+-- `spare=` with a decimal number of 0 to 32, or `chunk=` with a hexadecimal number
+abbrev pub spare_behind : Option (List ℕ) → List ℕ → Option TidyOption
+spare_behind (Some digits) word = spare_option (decimal_number digits 32)
+spare_behind None word = chunk_behind (behind (codes "chunk=") word)
+
+abbrev pub option_of : List ℕ → Option TidyOption
+option_of word = spare_behind (behind (codes "spare=") word) word
+
+abbrev pub tidy_with : Option TidyOption → Option Command
+tidy_with (Some (Spare spare)) = Some (Tidy spare usual_chunk)
+tidy_with (Some (Chunk chunk)) = Some (Tidy usual_spare chunk)
+tidy_with None = None
+
+-- each option stands at most once
+abbrev pub tidy_with_both : Option TidyOption → Option TidyOption → Option Command
+tidy_with_both (Some (Spare spare)) (Some (Chunk chunk)) = Some (Tidy spare chunk)
+tidy_with_both (Some (Chunk chunk)) (Some (Spare spare)) = Some (Tidy spare chunk)
+tidy_with_both (Some (Spare spare)) (Some (Spare other)) = None
+tidy_with_both (Some (Chunk chunk)) (Some (Chunk other)) = None
+tidy_with_both (Some option) None = None
+tidy_with_both None second = None
+
+abbrev pub command_of_two : List ℕ → List ℕ → Option Command
+command_of_two name option = if is_text name (codes "tidy") then tidy_with (option_of option) else None
+
+-- one decimal digit from 0 to 7
+abbrev pub index_of : List ℕ → Option ℕ
+index_of [] = None
+index_of (digit ∷ []) = if nat_le 48 digit && nat_lt digit 56 then Some (digit - 48) else None
+index_of (digit ∷ more ∷ word) = None
+
+-- a hexadecimal address below 2 ^ 52 and an index
+abbrev pub page_at : Result ℕ NumberFault → Option ℕ → Option Command
+page_at (Ok address) (Some index) = if nat_lt address (2 ^ 52) then Some (Page address index) else None
+page_at (Ok address) None = None
+page_at (Err fault) index = None
+
+abbrev pub command_of_three : List ℕ → List ℕ → List ℕ → Option Command
+command_of_three name first second =
+    if is_text name (codes "page") then page_at (hex_number first) (index_of second)
+    else if is_text name (codes "tidy") then tidy_with_both (option_of first) (option_of second)
+    else None
+
+abbrev pub command_of : List (List ℕ) → Option Command
+command_of [] = None
+command_of (name ∷ []) = command_of_one name
+command_of (name ∷ option ∷ []) = command_of_two name option
+command_of (name ∷ first ∷ second ∷ []) = command_of_three name first second
+command_of (name ∷ first ∷ second ∷ third ∷ more) = None

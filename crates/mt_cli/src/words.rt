@@ -1,0 +1,143 @@
+ghost use Rattle.std.specs.Prelude.{◌≡◌, ◌<◌, map, string_bytes, IfSome, MatchOption};
+ghost use Rattle.mt_cli.specs.CommandLine.{behind, command_of, command_of_one, command_of_three, command_of_two, index_of, option_of, tidy_with, tidy_with_both};
+
+use crate::{Command, TidyOption};
+use mt_text::{decimal, hex64};
+
+const USUAL_SPARE: u8 = 1;
+
+const USUAL_CHUNK: u64 = 0x1000_0000;
+
+const MOST_SPARE: u64 = 32;
+
+const ADDRESSES: u64 = 1 << 52;
+
+fn command_of_one(name: &[u8]) -> Option<Command>
+    ensures { result ≡ command_of_one name.now }
+{
+    if name == b"check".as_slice() {
+        Some(Command::Check)
+    } else if name == b"show".as_slice() {
+        Some(Command::Show)
+    } else if name == b"types".as_slice() {
+        Some(Command::Types)
+    } else if name == b"tidy".as_slice() {
+        Some(Command::Tidy {
+            spare: USUAL_SPARE,
+            chunk: USUAL_CHUNK,
+        })
+    } else {
+        None
+    }
+}
+
+// What stands behind a text at the front of a word.
+fn behind<'a>(text: &[u8], word: &'a [u8]) -> Option<&'a [u8]>
+    ensures { MatchOption result (behind text.now word.now ≡ None) (λ x. behind text.now word.now ≡ Some x.now) }
+{
+    word.strip_prefix(text)
+}
+
+// An option of `tidy`.
+fn option_of(word: &[u8]) -> Option<TidyOption>
+    ensures { result ≡ option_of word.now }
+{
+    if let Some(digits) = behind(b"spare=", word) {
+        return match decimal(digits, MOST_SPARE) {
+            Ok(spare) => Some(TidyOption::Spare(spare as u8)),
+            Err(_) => None,
+        };
+    }
+    match behind(b"chunk=", word) {
+        Some(digits) => match hex64(digits) {
+            Ok(chunk) => Some(TidyOption::Chunk(chunk)),
+            Err(_) => None,
+        },
+        None => None,
+    }
+}
+
+fn tidy_with(option: Option<TidyOption>) -> Option<Command>
+    ensures { result ≡ tidy_with option }
+{
+    match option {
+        Some(TidyOption::Spare(spare)) => Some(Command::Tidy {
+            spare,
+            chunk: USUAL_CHUNK,
+        }),
+        Some(TidyOption::Chunk(chunk)) => Some(Command::Tidy {
+            spare: USUAL_SPARE,
+            chunk,
+        }),
+        None => None,
+    }
+}
+
+fn tidy_with_both(first: Option<TidyOption>, second: Option<TidyOption>) -> Option<Command>
+    ensures { result ≡ tidy_with_both first second }
+{
+    match (first, second) {
+        (Some(TidyOption::Spare(spare)), Some(TidyOption::Chunk(chunk))) => {
+            Some(Command::Tidy { spare, chunk })
+        }
+        (Some(TidyOption::Chunk(chunk)), Some(TidyOption::Spare(spare))) => {
+            Some(Command::Tidy { spare, chunk })
+        }
+        _ => None,
+    }
+}
+
+fn command_of_two(name: &[u8], option: &[u8]) -> Option<Command>
+    ensures { result ≡ command_of_two name.now option.now }
+{
+    if name == b"tidy".as_slice() {
+        tidy_with(option_of(option))
+    } else {
+        None
+    }
+}
+
+// One decimal digit from 0 to 7.
+fn index_of(word: &[u8]) -> Option<u8>
+    ensures { result ≡ index_of word.now }
+{
+    match word {
+        [digit] if *digit >= b'0' && *digit < b'8' => Some(*digit - b'0'),
+        _ => None,
+    }
+}
+
+fn command_of_three(name: &[u8], first: &[u8], second: &[u8]) -> Option<Command>
+    ensures { result ≡ command_of_three name.now first.now second.now }
+{
+    if name == b"page".as_slice() {
+        return match (hex64(first), index_of(second)) {
+            (Ok(address), Some(index)) if address < ADDRESSES => {
+                Some(Command::Page { address, index })
+            }
+            _ => None,
+        };
+    }
+    if name == b"tidy".as_slice() {
+        tidy_with_both(option_of(first), option_of(second))
+    } else {
+        None
+    }
+}
+
+/// The command of a command line, the program's name left out. There is none exactly where the
+/// words are in no row of the grammar.
+pub fn command_of(words: &[String]) -> Option<Command>
+    ensures { result ≡ command_of (map string_bytes words.now) }
+{
+    match words {
+        [name] => command_of_one(name.as_str().as_bytes()),
+        [name, option] => command_of_two(name.as_str().as_bytes(), option.as_str().as_bytes()),
+        [name, first, second] => command_of_three(
+            name.as_str().as_bytes(),
+            first.as_str().as_bytes(),
+            second.as_str().as_bytes(),
+        ),
+        _ => None,
+    }
+}
