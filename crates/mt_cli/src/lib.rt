@@ -2,9 +2,14 @@
 #![tactic(auto)]
 
 mod command;
+mod lines;
 mod reading;
 mod words;
 
 pub use command::{Command, TidyOption};
+pub use lines::{
+    LineBuffer, bad_text_line, disabled_line, page_text, refused_line, run_line, too_few_line,
+    used_line,
+};
 pub use reading::read_all;
 pub use words::command_of;
