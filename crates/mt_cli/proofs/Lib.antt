@@ -1,1 +1,5 @@
+mod Answering
+mod CanonicalLines
+mod Leaving
 mod LongLines
+mod SoundCommands

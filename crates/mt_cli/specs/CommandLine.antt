@@ -1,6 +1,6 @@
 -- The command lines: what their words ask for. All other lists of words are wrong usage.
 --     command_of words      the command of these words, the program's name left out
-use Rattle.std.specs.Prelude.{ℕ, ◌-◌, ◌^◌, ◌<◌, ◌&&◌, nat_eq, nat_le, nat_lt, Bool, List, [], ◌∷◌, length, drop, take, codes, if◌then◌else◌, Option, Some, None, Result, Ok, Err}
+use Rattle.std.specs.Prelude.{ℕ, ◌-◌, ◌^◌, ◌<◌, ◌&&◌, nat_eq, nat_le, nat_lt, Bool, List, [], ◌∷◌, length, drop, take, codes, if◌then◌else◌, Option, Some, None, Result, Ok, Err, ⊤}
 use Rattle.std.specs.Cmp.Lexicographic.{pointwise}
 use Rattle.mt_text.specs.Number.{hex_number, decimal_number}
 use Rattle.mt_text.specs.declared.fault.NumberFault.{NumberFault}
@@ -92,3 +92,11 @@ command_of (name ∷ []) = command_of_one name
 command_of (name ∷ option ∷ []) = command_of_two name option
 command_of (name ∷ first ∷ second ∷ []) = command_of_three name first second
 command_of (name ∷ first ∷ second ∷ third ∷ more) = None
+
+-- a page's address has 52 bits, and an index is one of eight
+abbrev pub IsSound : Command → Type 0
+IsSound Check = ⊤
+IsSound Show = ⊤
+IsSound Types = ⊤
+IsSound (Page address index) = (address < 2 ^ 52) × (index < 8)
+IsSound (Tidy spare chunk) = ⊤

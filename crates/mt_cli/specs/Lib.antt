@@ -1,3 +1,6 @@
 pub mod CommandLine
 pub mod Lines
+pub mod Output
 pub mod Reading
+pub mod Tool
+pub mod Written

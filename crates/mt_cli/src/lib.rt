@@ -1,15 +1,21 @@
 //! The program's top call: a command line and an input in, a text and a status out.
 #![tactic(auto)]
 
+mod answers;
 mod command;
 mod lines;
 mod reading;
+mod texts;
+mod top;
 mod words;
 
+pub use answers::answer;
 pub use command::{Command, TidyOption};
 pub use lines::{
     LineBuffer, bad_text_line, disabled_line, page_text, refused_line, run_line, too_few_line,
     used_line,
 };
 pub use reading::read_all;
+pub use texts::{canonical_text, tidied_text, types_text};
+pub use top::tool;
 pub use words::command_of;

@@ -1,4 +1,4 @@
-ghost use Rattle.std.specs.Prelude.{◌≡◌, ℕ, Option, Some};
+ghost use Rattle.std.specs.Prelude.{◌≡◌, ◌<◌, ℕ, Option, Some};
 ghost use Rattle.mt_regs.specs.declared.fault.Fault.{Fault};
 ghost use Rattle.mt_regs.specs.RegisterFile.{IsRegisterFile, RegisterFile};
 ghost use Rattle.mt_regs.specs.Registers.{ChangesOnly, written};
@@ -12,6 +12,11 @@ pub fn one_first_fault()
 /// Each file has a first fault or is accepted.
 pub fn a_first_fault_or_none()
     ensures { (f : RegisterFile) → (answer : Option Fault) × IsFirstFault f answer }
+{}
+
+/// The register at fault has a number of three hexadecimal digits.
+pub fn a_fault_has_a_short_number()
+    ensures { (f : RegisterFile) (fault : Fault) → IsRegisterFile f → IsFirstFault f (Some fault) → fault.msr < 0x1000 }
 {}
 
 /// A write changes the value of one register.

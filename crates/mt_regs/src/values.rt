@@ -57,7 +57,8 @@ impl RegFile {
 
     /// The number of writable registers.
     pub fn count(&self) -> u32
-        ensures { result ≡ length (writable self.now) }
+        ensures count { result ≡ length (writable self.now) }
+        ensures few { result ≤ 77 }
     {
         self.pair_register_count() + self.fixed_count() + 2
     }

@@ -7,4 +7,4 @@ pub returns : goal.returns
 returns c =
     let is : IsRegisterFile c.args.self.now = rw (← c.self.view_is) c.self.invariant in
     let read : c.unwrap_or.result ≡ c.args.self.now.capabilities = c.unwrap_or.ensures ∙ ap (λ o. unwrap_or o 0) c.get.ensures in
-    all_fit c.args.self.now c.registers.i is (omega (arith, c.count-i-end.ensures)) c.registers.invariant (omega (arith, read, c.unwrap_or.type_inv))
+    all_fit c.args.self.now c.registers.i is (omega (arith, c.count-i-end.ensures.count)) c.registers.invariant (omega (arith, read, c.unwrap_or.type_inv))

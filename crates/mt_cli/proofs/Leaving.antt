@@ -1,0 +1,82 @@
+-- From what the calls say of the bytes to what a run leaves.
+use Rattle.std.proofs.Common.{◌≡◌, ◌≢◌, ◌⊎◌, ℕ, List, [], ◌++◌, Option, Some, None, refl, sym, subst, ◌∙◌, ap, inl, inr}
+use Rattle.std.specs.Io.KnownBytes.{Appends, Consumes, IsAtEnd}
+use Rattle.std.proofs.lemmas.List.{append-nil}
+use Rattle.mt_ports.specs.Puts.{AppendsFront}
+use Rattle.mt_ports.specs.declared.status.Status.{Status}
+use Rattle.mt_ports.specs.declared.status.Status.TheVariants.{Done, Refused, Usage, WriteFault, TooFew, Disabled}
+use Rattle.mt_regs.specs.RegisterFile.{RegisterFile}
+use Rattle.mt_dump.specs.Dump.{Shown}
+use Rattle.mt_cli.specs.declared.command.Command.{Command}
+use Rattle.mt_cli.specs.CommandLine.{command_of}
+use Rattle.mt_cli.specs.Output.{Answer, Output, usage, bad_text, answered, refused, accepted, shown, typed, paged, tidied, too_few, disabled}
+use Rattle.mt_cli.specs.Reading.{EndsReading}
+use Rattle.mt_cli.specs.Tool.{Finished, Leaves}
+use Rattle.mt_cli.specs.Written.{Answers, Writes, writes, no_memory}
+
+-- what stands after the bytes that the sink had
+appended : (before text : List ℕ) (old new : Option (List ℕ)) → old ≡ Some before → Appends old new text → new ≡ Some (before ++ text)
+appended before text None new is takes = cc is
+appended before text (Some xs) None is takes = absurd takes
+appended before text (Some xs) (Some ys) is takes = let e : xs ≡ before = cc is in ap Some (takes ∙ ap (λ (l : List ℕ). l ++ text) e)
+
+-- a source that is read to its end
+pub read_to_end : (old new : Option (List ℕ)) (bytes text : List ℕ) → old ≡ Some bytes → Consumes old new text → IsAtEnd new → (bytes ≡ text) × (new ≡ Some [])
+read_to_end None new bytes text is takes end = cc is
+read_to_end (Some xs) None bytes text is takes end = absurd takes
+read_to_end (Some xs) (Some ys) bytes text is takes end = let e : xs ≡ bytes = cc is in (sym e ∙ takes ∙ ap (λ (l : List ℕ). text ++ l) end ∙ append-nil text, ap Some end)
+
+-- the statuses with which a command answers about a file
+IsFinal : Status → Type 0
+IsFinal status = (status ≡ Done) ⊎ (status ≡ Refused) ⊎ (status ≡ TooFew) ⊎ (status ≡ Disabled)
+
+final : (file : RegisterFile) (command : Command) (text : List ℕ) (status : Status) → Answer file command text status → IsFinal status
+unfolding IsFinal
+final file command text status (refused other fault tests first) = inr (inl refl)
+final file command text status (accepted good) = inl refl
+final file command text status shown = inl refl
+final file command text status (typed runs good are) = inl refl
+final file command text status (paged address index good) = inl refl
+final file command text status (tidied spare chunk used new is) = inl refl
+final file command text status (too_few spare chunk needs has is) = inr (inr (inl refl))
+final file command text status (disabled spare chunk good off) = inr (inr (inr refl))
+
+finished_leaves : (words : List (List ℕ)) (bytes : List ℕ) (left : Option (List ℕ)) (before : List ℕ) (after : Option (List ℕ)) (status : Status)
+    → IsFinal status → Finished words bytes left before after status → Leaves words bytes left before after status
+unfolding IsFinal
+finished_leaves words bytes left before after status (inl is) done = rw is (subst (λ (s : Status). Finished words bytes left before after s) is done)
+finished_leaves words bytes left before after status (inr (inl is)) done = rw is (subst (λ (s : Status). Finished words bytes left before after s) is done)
+finished_leaves words bytes left before after status (inr (inr (inl is))) done = rw is (subst (λ (s : Status). Finished words bytes left before after s) is done)
+finished_leaves words bytes left before after status (inr (inr (inr is))) done = rw is (subst (λ (s : Status). Finished words bytes left before after s) is done)
+
+-- a run that has written its whole output
+whole : (words : List (List ℕ)) (bytes text : List ℕ) (status : Status) (left : Option (List ℕ)) (before : List ℕ) (after : Option (List ℕ))
+    → Output words bytes text status → (status ≢ Usage → left ≡ Some []) → after ≡ Some (before ++ text) → Leaves words bytes left before after status
+whole words bytes text status left before after (usage other) = λ read taken. record { text = _; output = usage other; taken = taken; read = read }
+whole words bytes text status left before after (bad_text command fault says is) = λ read taken. record { text = _; output = bad_text command fault says is; taken = taken; read = read }
+whole words bytes text status left before after (answered command file t s says shows answer) = λ read taken.
+    let fin : IsFinal s = final file command t s answer in
+    finished_leaves words bytes left before after s fin
+    (record { text = t; output = answered command file t s says shows answer; taken = taken; read = read })
+
+-- a run whose last write is done or has failed
+pub written_leaves : (words : List (List ℕ)) (bytes text : List ℕ) (status result : Status) (left : Option (List ℕ)) (before : List ℕ) (old new : Option (List ℕ))
+    → Output words bytes text status → (status ≢ Usage → left ≡ Some []) → old ≡ Some before → Writes text status old new result → Leaves words bytes left before new result
+written_leaves words bytes text status result left before old new output read told (inl (is, takes)) =
+    rw is (whole words bytes text status left before new output read (appended before text old new told takes))
+written_leaves words bytes text status result left before old new output read told (inr (is, cut)) =
+    rw is (record { text = text; status = status; output = output; front = cut.0; back = cut.1; cut = cut.2; taken = appended before cut.0 old new told cut.3 })
+
+-- a run that has written an answer, a front of one, or nothing
+pub answers_leave : (words : List (List ℕ)) (bytes : List ℕ) (file : RegisterFile) (command : Command) (result : Status) (left : Option (List ℕ)) (before : List ℕ) (old new : Option (List ℕ))
+    → command_of words ≡ Some command → Shown bytes file → left ≡ Some [] → old ≡ Some before → Answers file command old new result → Leaves words bytes left before new result
+answers_leave words bytes file command result left before old new says shows read told (writes text status answer wrote) =
+    written_leaves words bytes text status result left before old new (answered command file text status says shows answer) (λ _. read) told wrote
+answers_leave words bytes file command result left before old new says shows read told (no_memory is same) = rw is (same ∙ told)
+
+-- a run that has written nothing, since the reading ended
+pub unwritten_leaves : (words : List (List ℕ)) (bytes : List ℕ) (left : Option (List ℕ)) (before : List ℕ) (after : Option (List ℕ)) (status : Status)
+    → after ≡ Some before → EndsReading status → Leaves words bytes left before after status
+unwritten_leaves words bytes left before after status told (inl is) = rw is told
+unwritten_leaves words bytes left before after status told (inr (inl is)) = rw is told
+unwritten_leaves words bytes left before after status told (inr (inr is)) = rw is told

@@ -1,0 +1,73 @@
+-- A page's address that a command line names has 52 bits, and its index is one of eight.
+use Rattle.std.proofs.Common.{◌≡◌, ℕ, ◌-◌, ◌^◌, ◌<◌, ◌∙◌, sym, Bool, true, false, List, [], ◌∷◌, Option, Some, None, inl, inr, refl, arith}
+use Rattle.std.specs.Prelude.{◌&&◌, nat_le, nat_lt, codes, if◌then◌else◌, IfSome, Result, Ok, Err}
+use Rattle.std.proofs.lemmas.Bool.{and_parts, cases_Bool, ltb-true}
+use Rattle.mt_text.specs.Number.{hex_number}
+use Rattle.mt_text.specs.declared.fault.NumberFault.{NumberFault}
+use Rattle.mt_cli.specs.declared.command.Command.{Command}
+use Rattle.mt_cli.specs.declared.command.Command.TheVariants.{Check, Show, Types, Page, Tidy}
+use Rattle.mt_cli.specs.declared.command.TidyOption.{TidyOption}
+use Rattle.mt_cli.specs.declared.command.TidyOption.TheVariants.{Spare, Chunk}
+use Rattle.mt_cli.specs.CommandLine.{IsSound, command_of, command_of_one, command_of_three, command_of_two, index_of, is_text, option_of, page_at, tidy_with, tidy_with_both, usual_chunk, usual_spare}
+
+choice : (b : Bool) (x y : Option Command) → IfSome x IsSound → IfSome y IsSound → IfSome (if b then x else y) IsSound
+choice true x y first second = first
+choice false x y first second = second
+
+index_below : (word : List ℕ) (index : ℕ) → index_of word ≡ Some index → index < 8
+index_below [] index = λ is. absurd (cc is)
+index_below (digit ∷ more ∷ word) index = λ is. absurd (cc is)
+index_below (digit ∷ []) index = by_digit (nat_le 48 digit && nat_lt digit 56) refl
+  where
+    by_digit : (b : Bool) → (nat_le 48 digit && nat_lt digit 56) ≡ b → (if b then Some (digit - 48) else None) ≡ Some index → index < 8
+    by_digit true test is =
+        let below : digit < 56 = ltb-true _ _ (and_parts _ _ test).1 in
+        let same : digit - 48 ≡ index = cc is in
+        omega arith
+    by_digit false test is = absurd (cc is)
+
+sound_page : (address : Result ℕ NumberFault) (index : Option ℕ) → ((i : ℕ) → index ≡ Some i → i < 8) → IfSome (page_at address index) IsSound
+sound_page (Err fault) index small = tt
+sound_page (Ok address) None small = tt
+sound_page (Ok address) (Some index) small = by_address (nat_lt address (2 ^ 52)) refl
+  where
+    by_address : (b : Bool) → nat_lt address (2 ^ 52) ≡ b → IfSome (if b then Some (Page address index) else None) IsSound
+    by_address true test = (ltb-true _ _ test, small index refl)
+    by_address false test = tt
+
+sound_with : (option : Option TidyOption) → IfSome (tidy_with option) IsSound
+sound_with None = tt
+sound_with (Some (Spare spare)) = tt
+sound_with (Some (Chunk chunk)) = tt
+
+sound_with_both : (first second : Option TidyOption) → IfSome (tidy_with_both first second) IsSound
+sound_with_both None second = tt
+sound_with_both (Some option) None = of_one option
+  where
+    of_one : (o : TidyOption) → IfSome (tidy_with_both (Some o) None) IsSound
+    of_one (Spare spare) = tt
+    of_one (Chunk chunk) = tt
+sound_with_both (Some (Spare spare)) (Some (Spare other)) = tt
+sound_with_both (Some (Spare spare)) (Some (Chunk chunk)) = tt
+sound_with_both (Some (Chunk chunk)) (Some (Spare spare)) = tt
+sound_with_both (Some (Chunk chunk)) (Some (Chunk other)) = tt
+
+sound_one : (name : List ℕ) → IfSome (command_of_one name) IsSound
+sound_one name =
+    choice (is_text name (codes "check")) _ _ tt
+    (choice (is_text name (codes "show")) _ _ tt (choice (is_text name (codes "types")) _ _ tt (choice (is_text name (codes "tidy")) (Some (Tidy usual_spare usual_chunk)) None tt tt)))
+
+sound_three : (name first second : List ℕ) → IfSome (command_of_three name first second) IsSound
+sound_three name first second =
+    choice (is_text name (codes "page")) _ _ (sound_page (hex_number first) (index_of second) (index_below second))
+    (choice (is_text name (codes "tidy")) _ None (sound_with_both (option_of first) (option_of second)) tt)
+
+sound : (words : List (List ℕ)) → IfSome (command_of words) IsSound
+sound [] = tt
+sound (name ∷ []) = sound_one name
+sound (name ∷ option ∷ []) = choice (is_text name (codes "tidy")) _ None (sound_with (option_of option)) tt
+sound (name ∷ first ∷ second ∷ []) = sound_three name first second
+sound (name ∷ first ∷ second ∷ third ∷ more) = tt
+
+pub sound_command : (words : List (List ℕ)) (command : Command) → command_of words ≡ Some command → IsSound command
+sound_command words command is = let h = sound words in rw is at h

@@ -1,0 +1,8 @@
+use Rattle.std.proofs.Common.{◌∙◌}
+use Rattle.mt_cli.specs.declared.command.Command.TheVariants.{Show}
+use Rattle.mt_cli.specs.Output.{shown}
+use Rattle.mt_cli.proofs.Answering.{answers_with}
+use Rattle.mt_cli.proofs.answers.show.Goals as goal
+
+pub returns-clause-bytes : goal.returns-clause-bytes
+returns-clause-bytes g c = answers_with c.args.f.now Show _ _ _ _ _ _ shown (c.as_slice.ensures.value ∙ c.canonical_text.ensures) c.written.ensures.bytes

@@ -1,0 +1,29 @@
+use Rattle.std.proofs.Common.{◌≡◌, ◌∙◌, List, ℕ, Some, map, refl, subst, sym, string_bytes}
+use Rattle.mt_ports.specs.declared.status.Status.TheVariants.{BadText, Usage}
+use Rattle.mt_dump.specs.Dump.{Shown, dump_offence}
+use Rattle.mt_cli.specs.Output.{usage, bad_text}
+use Rattle.mt_cli.specs.Written.{Writes}
+use Rattle.mt_cli.proofs.Leaving.{answers_leave, read_to_end, written_leaves}
+use Rattle.mt_cli.proofs.SoundCommands.{sound_command}
+use Rattle.mt_cli.proofs.top.tool.Goals as goal
+
+pub returns-in_default-clause-leaves : goal.returns-in_default-clause-leaves
+returns-in_default-clause-leaves g c bytes before left taken =
+    written_leaves _ bytes _ Usage _ _ before _ _ (usage (sym c.in_default.ensures)) (λ is_usage. absurd (is_usage refl)) taken c.written.ensures.bytes
+
+pub returns-in-Err-read_dump-clause-leaves : goal.returns-in-Err-read_dump-clause-leaves
+returns-in-Err-read_dump-clause-leaves g c bytes before left taken =
+    let read = read_to_end _ _ bytes _ left c.in-Ok.ensures.bytes c.in-Ok.ensures.end in
+    let offence = subst (λ (b : List ℕ). dump_offence b ≡ Some c.in-Err-read_dump.fault) (c.deref.ensures.value ∙ sym read.0) c.in-Err-read_dump.ensures.answer in
+    let wrote = subst (λ (t : List ℕ). Writes t BadText (g.K.Sink.taken c.args.sink.now) (g.K.Sink.taken c.written-in-Err-read_dump.new.sink) c.written-in-Err-read_dump.result)
+    (c.as_slice.ensures.value ∙ c.bad_text_line.ensures) c.written-in-Err-read_dump.ensures.bytes in
+    written_leaves _ bytes _ BadText _ _ before _ _ (bad_text c.in-Some.command c.in-Err-read_dump.fault (sym c.in-Some.ensures) offence) (λ _. read.1) taken wrote
+
+pub answer-requires : goal.answer-requires
+answer-requires g c = sound_command (map string_bytes c.args.words.now) c.in-Some.command (sym c.in-Some.ensures)
+
+pub returns-clause-leaves : goal.returns-clause-leaves
+returns-clause-leaves g c bytes before left taken =
+    let read = read_to_end _ _ bytes _ left c.in-Ok.ensures.bytes c.in-Ok.ensures.end in
+    let shows = subst (λ (b : List ℕ). Shown b c.in-Ok-read_dump.file) (c.deref.ensures.value ∙ sym read.0) c.in-Ok-read_dump.ensures.answer in
+    answers_leave _ bytes c.in-Ok-read_dump.file c.in-Some.command _ _ before _ _ (sym c.in-Some.ensures) shows read.1 taken c.answer.ensures.bytes

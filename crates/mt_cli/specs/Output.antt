@@ -1,0 +1,45 @@
+-- What the program writes for a command line and an input, and the status that it ends with.
+--     Answer command file text status      what a command answers about a register file
+--     Output words bytes text status      what the program writes for these words and these bytes
+use Rattle.std.specs.Prelude.{ℕ, ◌≡◌, ◌++◌, false, List, Option, Some, None, ⊤}
+use Rattle.mt_ports.specs.declared.status.Status.{Status}
+use Rattle.mt_ports.specs.declared.status.Status.TheVariants.{Done, Refused, Usage, BadText, TooFew, Disabled}
+use Rattle.mt_regs.specs.RegisterFile.{RegisterFile, is_enabled}
+use Rattle.mt_regs.specs.Faults.{IsAccepted, IsFirstFault}
+use Rattle.mt_regs.specs.declared.fault.Fault.{Fault}
+use Rattle.mt_types.specs.declared.run.Run.{Run}
+use Rattle.mt_types.specs.Runs.{IsRunsOf}
+use Rattle.mt_dump.specs.Canon.{canon}
+use Rattle.mt_dump.specs.Dump.{Shown, dump_offence}
+use Rattle.mt_dump.specs.declared.fault.DumpFault.{DumpFault}
+use Rattle.mt_tidy.specs.Kept.{IsTidy, NeedsMore}
+use Rattle.mt_cli.specs.declared.command.Command.{Command}
+use Rattle.mt_cli.specs.declared.command.Command.TheVariants.{Check, Show, Types, Page, Tidy}
+use Rattle.mt_cli.specs.CommandLine.{command_of}
+use Rattle.mt_cli.specs.Lines.{accepted_line, bad_text_line, disabled_line, page_text, refused_line, too_few_line, types_text, usage_line, used_line}
+
+-- the commands that refuse a file that isn't accepted: all but `show`
+abbrev pub IsTesting : Command → Type 0
+IsTesting Check = ⊤
+IsTesting Show = ⊥
+IsTesting Types = ⊤
+IsTesting (Page address index) = ⊤
+IsTesting (Tidy spare chunk) = ⊤
+
+-- What a command answers about the file that the dump shows. Where several lists of ranges have the least length,
+-- `tidy` may answer with any of them; every other answer is one text.
+pub data Answer (file : RegisterFile) : Command → List ℕ → Status → Type 0 where
+  refused : (command : Command) (fault : Fault) → IsTesting command → IsFirstFault file (Some fault) → Answer file command (refused_line fault) Refused
+  accepted : IsAccepted file → Answer file Check accepted_line Done
+  shown : Answer file Show (canon file) Done
+  typed : (runs : List Run) → IsAccepted file → IsRunsOf file runs → Answer file Types (types_text runs) Done
+  paged : (address index : ℕ) → IsAccepted file → Answer file (Page address index) (page_text file address index) Done
+  tidied : (spare chunk used : ℕ) (new : RegisterFile) → IsTidy file chunk spare new used → Answer file (Tidy spare chunk) (used_line used ++ canon new) Done
+  too_few : (spare chunk needs has : ℕ) → NeedsMore file chunk spare needs has → Answer file (Tidy spare chunk) (too_few_line needs has) TooFew
+  disabled : (spare chunk : ℕ) → IsAccepted file → is_enabled file ≡ false → Answer file (Tidy spare chunk) (disabled_line file.default_type) Disabled
+
+-- The text and the status for a command line and an input.
+pub data Output (words : List (List ℕ)) (bytes : List ℕ) : List ℕ → Status → Type 0 where
+  usage : command_of words ≡ None → Output words bytes usage_line Usage
+  bad_text : (command : Command) (fault : DumpFault) → command_of words ≡ Some command → dump_offence bytes ≡ Some fault → Output words bytes (bad_text_line fault) BadText
+  answered : (command : Command) (file : RegisterFile) (text : List ℕ) (status : Status) → command_of words ≡ Some command → Shown bytes file → Answer file command text status → Output words bytes text status

@@ -1,0 +1,41 @@
+-- What a run of the program leaves in the source and the sink.
+use Rattle.std.specs.Prelude.{ℕ, ◌≡◌, ◌≢◌, ◌⊎◌, List, [], ◌++◌, Option, Some}
+use Rattle.std.specs.Io.KnownBytes.{Appends}
+use Rattle.mt_ports.specs.Puts.{AppendsFront}
+use Rattle.mt_ports.specs.declared.status.Status.{Status}
+use Rattle.mt_ports.specs.declared.status.Status.TheVariants.{Done, Refused, Usage, BadText, ReadFault, WriteFault, NoMemory, TooLong, TooFew, Disabled}
+use Rattle.mt_cli.specs.Output.{Output}
+
+-- The sink took the whole output, and nothing of the input is left, unless it wasn't to be read.
+pub record Finished (words : List (List ℕ)) (bytes : List ℕ) (left : Option (List ℕ)) (before : List ℕ) (after : Option (List ℕ)) (status : Status) : Type 0 where
+  pub text : List ℕ
+  pub output : Output words bytes text status
+  pub taken : after ≡ Some (before ++ text)
+  pub read : status ≢ Usage → left ≡ Some []
+
+-- The sink took a front of an output for all bytes that the source held.
+pub record CutShort (words : List (List ℕ)) (bytes : List ℕ) (before : List ℕ) (after : Option (List ℕ)) : Type 0 where
+  pub text : List ℕ
+  pub status : Status
+  pub output : Output words bytes text status
+  pub front : List ℕ
+  pub back : List ℕ
+  pub cut : text ≡ front ++ back
+  pub taken : after ≡ Some (before ++ front)
+
+-- The sink took nothing, which is a front of every output.
+abbrev pub Untouched : List ℕ → Option (List ℕ) → Type 0
+Untouched before after = after ≡ Some before
+
+-- what each status says of the bytes: those that the source held and has left, and those that the sink had before and has after
+abbrev pub Leaves : List (List ℕ) → List ℕ → Option (List ℕ) → List ℕ → Option (List ℕ) → Status → Type 0
+Leaves words bytes left before after Done = Finished words bytes left before after Done
+Leaves words bytes left before after Refused = Finished words bytes left before after Refused
+Leaves words bytes left before after Usage = Finished words bytes left before after Usage
+Leaves words bytes left before after BadText = Finished words bytes left before after BadText
+Leaves words bytes left before after ReadFault = Untouched before after
+Leaves words bytes left before after WriteFault = CutShort words bytes before after
+Leaves words bytes left before after NoMemory = Untouched before after
+Leaves words bytes left before after TooLong = Untouched before after
+Leaves words bytes left before after TooFew = Finished words bytes left before after TooFew
+Leaves words bytes left before after Disabled = Finished words bytes left before after Disabled

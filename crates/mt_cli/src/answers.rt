@@ -1,0 +1,124 @@
+ghost use Rattle.std.specs.Prelude.{◌≡◌, ◌≢◌, ◌<◌, ◌^◌, None, Some};
+ghost use Rattle.mt_ports.specs.Causes.{Rose};
+ghost use Rattle.mt_regs.specs.Faults.{IsAccepted, IsFirstFault};
+ghost use Rattle.mt_cli.specs.declared.command.Command.TheVariants.{Check, Show, Types, Page, Tidy};
+ghost use Rattle.mt_cli.specs.Output.{IsTesting};
+ghost use Rattle.mt_cli.specs.CommandLine.{IsSound};
+ghost use Rattle.mt_cli.specs.Written.{Answers, Writes};
+
+use crate::Command;
+use crate::lines::{disabled_line, page_text, refused_line, too_few_line};
+use crate::texts::{canonical_text, tidied_text, types_text};
+use mt_ports::{Sink, Status, put};
+use mt_regs::{Fault, RegFile};
+use mt_tidy::{TidyFault, tidy};
+use mt_types::page_runs;
+use std::alloc::Global;
+
+/// Writes a text, and answers this status unless the sink fails.
+pub fn written<K: Sink>(sink: &mut K, text: &[u8], status: Status) -> Status
+    requires { status ≢ Status.WriteFault }
+    ensures bytes { Writes text.now status (K.taken sink.old) (K.taken sink.new) result }
+    ensures failed { result ≡ Status.WriteFault → Rose (K.faults sink.old) (K.faults sink.new) }
+{
+    match put(sink, text) {
+        Ok(()) => status,
+        Err(_) => Status::WriteFault,
+    }
+}
+
+// Names the register at fault.
+fn refuse<K: Sink>(f: &RegFile, fault: &Fault, sink: &mut K, command: Command) -> Status
+    requires fault { IsFirstFault f.now (Some fault.now) }
+    requires command { IsTesting command }
+    ensures bytes { Answers f.now command (K.taken sink.old) (K.taken sink.new) result }
+    ensures failed { result ≡ Status.WriteFault → Rose (K.faults sink.old) (K.faults sink.new) }
+{
+    f.is_register_file();
+    written(sink, refused_line(fault).as_slice(), Status::Refused)
+}
+
+fn show<K: Sink>(f: &RegFile, sink: &mut K) -> Status
+    ensures bytes { Answers f.now Show (K.taken sink.old) (K.taken sink.new) result }
+    ensures failed { result ≡ Status.WriteFault → Rose (K.faults sink.old) (K.faults sink.new) }
+{
+    written(sink, canonical_text(f).as_slice(), Status::Done)
+}
+
+fn types<K: Sink>(alloc: Global, f: &RegFile, sink: &mut K) -> Status
+    requires { IsAccepted f.now }
+    ensures bytes { Answers f.now Types (K.taken sink.old) (K.taken sink.new) result }
+    ensures failed { result ≡ Status.WriteFault → Rose (K.faults sink.old) (K.faults sink.new) }
+{
+    let Ok(runs) = page_runs(alloc, f) else {
+        return Status::NoMemory;
+    };
+    match types_text(alloc, runs.all()) {
+        Ok(text) => written(sink, text.as_slice(), Status::Done),
+        Err(_) => Status::NoMemory,
+    }
+}
+
+fn page<K: Sink>(f: &RegFile, address: u64, index: u8, sink: &mut K) -> Status
+    requires accepted { IsAccepted f.now }
+    requires address { address < 2 ^ 52 }
+    requires index { index < 8 }
+    ensures bytes { Answers f.now (Page address index) (K.taken sink.old) (K.taken sink.new) result }
+    ensures failed { result ≡ Status.WriteFault → Rose (K.faults sink.old) (K.faults sink.new) }
+{
+    written(sink, page_text(f, address, index).as_slice(), Status::Done)
+}
+
+// Writes a file of the same types with the fewest pairs, or why there is none.
+fn tidied<K: Sink>(alloc: Global, f: &RegFile, spare: u8, chunk: u64, sink: &mut K) -> Status
+    ensures bytes { Answers f.now (Tidy spare chunk) (K.taken sink.old) (K.taken sink.new) result }
+    ensures failed { result ≡ Status.WriteFault → Rose (K.faults sink.old) (K.faults sink.new) }
+{
+    match tidy(alloc, f, spare, chunk) {
+        Ok(tidied) => {
+            let text = tidied_text(tidied.used, &tidied.file);
+            written(sink, text.as_slice(), Status::Done)
+        }
+        Err(TidyFault::Refused(fault)) => {
+            refuse(f, &fault, sink, Command::Tidy { spare, chunk })
+        }
+        Err(TidyFault::Disabled) => {
+            written(sink, disabled_line(f.deftype).as_slice(), Status::Disabled)
+        }
+        Err(TidyFault::TooFew { needs, has }) => {
+            written(sink, too_few_line(needs, has).as_slice(), Status::TooFew)
+        }
+        Err(TidyFault::NoMemory) => Status::NoMemory,
+    }
+}
+
+// Answers a command about an accepted file.
+fn answer_accepted<K: Sink>(alloc: Global, command: Command, f: &RegFile, sink: &mut K) -> Status
+    requires accepted { IsAccepted f.now }
+    requires command { IsSound command }
+    ensures bytes { Answers f.now command (K.taken sink.old) (K.taken sink.new) result }
+    ensures failed { result ≡ Status.WriteFault → Rose (K.faults sink.old) (K.faults sink.new) }
+{
+    match command {
+        Command::Check => written(sink, b"accepted\n", Status::Done),
+        Command::Show => show(f, sink),
+        Command::Types => types(alloc, f, sink),
+        Command::Page { address, index } => page(f, address, index, sink),
+        Command::Tidy { spare, chunk } => tidied(alloc, f, spare, chunk, sink),
+    }
+}
+
+/// Writes what a command answers about a file, and answers the status.
+pub fn answer<K: Sink>(alloc: Global, command: Command, f: &RegFile, sink: &mut K) -> Status
+    requires { IsSound command }
+    ensures bytes { Answers f.now command (K.taken sink.old) (K.taken sink.new) result }
+    ensures failed { result ≡ Status.WriteFault → Rose (K.faults sink.old) (K.faults sink.new) }
+{
+    if let Command::Show = command {
+        return show(f, sink);
+    }
+    match f.first_fault() {
+        None => answer_accepted(alloc, command, f, sink),
+        Some(fault) => refuse(f, &fault, sink, command),
+    }
+}

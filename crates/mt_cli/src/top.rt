@@ -1,0 +1,51 @@
+ghost use Rattle.std.specs.Prelude.{◌≡◌, ◌⊎◌, ◌↔◌, List, ℕ, None, Some, map, string_bytes};
+ghost use Rattle.mt_ports.specs.Causes.{Rose};
+ghost use Rattle.mt_cli.specs.CommandLine.{command_of};
+ghost use Rattle.mt_cli.specs.Reading.{GaveTooMuch};
+ghost use Rattle.mt_cli.specs.Tool.{Leaves};
+
+use crate::answers::{answer, written};
+use crate::command_of;
+use crate::lines::bad_text_line;
+use crate::reading::read_all;
+use mt_dump::read_dump;
+use mt_ports::{Gate, Sink, Source, Status};
+
+/// Does all that the program does, and answers its status. The words are the command line without
+/// the program's name. Nothing is read where they are no command line; otherwise the input is read
+/// to its end, unless the source fails, memory is refused or there are more than 16,777,216 bytes.
+/// Nothing is written after a failed write.
+pub fn tool<R: AllocGlobal, S: Source, K: Sink, G: Gate>(
+    rt: &R,
+    words: &[String],
+    source: &mut S,
+    sink: &mut K,
+    _gate: &G,
+) -> Status
+    // Where the source and the sink tell their bytes, the sink took the output for the words and
+    // the bytes, or after a failure a front of it.
+    ensures leaves { (bytes before : List ℕ) → S.left source.old ≡ Some bytes → K.taken sink.old ≡ Some before →
+        Leaves (map string_bytes words.now) bytes (S.left source.new) before (K.taken sink.new) result }
+
+    // Usage comes exactly where the words are no command line, and then nothing is read.
+    ensures usage { result ≡ Status.Usage → command_of (map string_bytes words.now) ≡ None }
+    ensures no_command { command_of (map string_bytes words.now) ≡ None → (result ≡ Status.Usage) ⊎ (result ≡ Status.WriteFault) }
+    ensures unread { command_of (map string_bytes words.now) ≡ None → source.new ≡ source.old }
+
+    // Each fault of a port has its cause.
+    ensures read_fault { result ≡ Status.ReadFault → Rose (S.faults source.old) (S.faults source.new) }
+    ensures write_fault { result ≡ Status.WriteFault → Rose (K.faults sink.old) (K.faults sink.new) }
+    ensures too_long { (result ≡ Status.TooLong) ↔ GaveTooMuch (S.given source.old) (S.given source.new) }
+{
+    let Some(command) = command_of(words) else {
+        return written(sink, b"usage\n", Status::Usage);
+    };
+    let text = match read_all(rt.alloc(), source) {
+        Ok(text) => text,
+        Err(status) => return status,
+    };
+    match read_dump(&text) {
+        Err(fault) => written(sink, bad_text_line(&fault).as_slice(), Status::BadText),
+        Ok(file) => answer(rt.alloc(), command, &file, sink),
+    }
+}
