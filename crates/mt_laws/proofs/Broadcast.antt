@@ -118,15 +118,15 @@ both_true : (a b : Bool) → a ≡ true → b ≡ true → (a && b) ≡ true
 both_true true b h g = g
 both_true false b h g = absurd (cc)
 
-led_alone : (test : MachineEvent → Bool) (es : List MachineEvent) → list_all (λ e. is_led e && test e) es ≡ true → list_all is_led es ≡ true
+pub led_alone : (test : MachineEvent → Bool) (es : List MachineEvent) → list_all (λ e. is_led e && test e) es ≡ true → list_all is_led es ≡ true
 led_alone test [] h = refl
 led_alone test (e ∷ es) h = both_true (is_led e) (list_all is_led es) (and_left _ _ (and_left (is_led e && test e) _ h)) (led_alone test es (and_right (is_led e && test e) _ h))
 
 module _ (s : Machine) (o : Order) (b : IsBroadcast s o) where
-  is_known : s ≡ record { system = s.system; order = Some o }
+  pub is_known : s ≡ record { system = s.system; order = Some o }
   is_known = λ i. record { system = s.system; order = b.order i }
 
-  broadcast_takes : (es : List MachineEvent) → AreEnabled s es → list_all is_led es ≡ true → takes_of es ≡ []
+  pub broadcast_takes : (es : List MachineEvent) → AreEnabled s es → list_all is_led es ≡ true → takes_of es ≡ []
   broadcast_takes es enabled led =
       takes_nothing es s.system (Some o) (inr (ap is_cancelled b.pending, λ i x at. let r = broadcast_rank s o b i x at in omega arith)) (broadcast_guarded s o b)
       (subst (λ (m : Machine). AreEnabled m es) is_known enabled) led
@@ -177,7 +177,7 @@ went_before (Steps k w) s (Some o) last enabled led is off = (o, refl, one (is_o
     one true h = absurd (cc)
     one false h = let same : o ≡ last = cc in ap (λ (v : Order). is_cancelled v.go) same ∙ off
 
-led_list : {s m : Machine} → Led s m → (last : Order) → m.order ≡ Some last → is_cancelled last.go ≡ false
+pub led_list : {s m : Machine} → Led s m → (last : Order) → m.order ≡ Some last → is_cancelled last.go ≡ false
     → (es : List MachineEvent) × AreEnabled s es × (run s es ≡ m) × (list_all (λ e. is_led e && not (is_cancel e)) es ≡ true)
 led_list led_start last is off = ([], tt, refl, refl)
 led_list {s} (led_on {t = t} e l enabled led) last is off =

@@ -46,3 +46,5 @@ pub mod Takes
 pub mod Acting
 pub mod Starts
 pub mod Eras
+pub mod UnderWay
+pub mod SecondBarrier

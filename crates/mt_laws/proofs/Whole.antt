@@ -119,19 +119,19 @@ now_erased a s = ap (λ o. option_map_or (λ v. v) o (word_at s.memory a)) (dirt
 -- ---- how far the update has come
 
 -- none has passed: but for phases it is the drained start
-abbrev Early : Order → System → System → Type 0
+abbrev pub Early : Order → System → System → Type 0
 Early o s t = ((i : ℕ) (x : Stage) → At (stages s) i x → 3 ≤ rank o x → ⊥) × (erase s ≡ erase t)
 
 -- none takes any more: what was is known of each processor, and the words are those of the drained start
-record Past (o : Order) (ps : List Processor) (s t : System) : Type 0 where
-  on : (i : ℕ) (x : Stage) → At (stages s) i x → 2 ≤ rank o x
-  fates : Fates o ps s.processors
-  words : (a : ℕ) → a % 8 ≡ 0 → Word true a (now t a) s
+pub record Past (o : Order) (ps : List Processor) (s t : System) : Type 0 where
+  pub on : (i : ℕ) (x : Stage) → At (stages s) i x → 2 ≤ rank o x
+  pub fates : Fates o ps s.processors
+  pub words : (a : ℕ) → a % 8 ≡ 0 → Word true a (now t a) s
 
-abbrev Course : Order → List Processor → System → System → Type 0
+abbrev pub Course : Order → List Processor → System → System → Type 0
 Course o ps s t = (map view t.processors ≡ map view ps) × (Early o s t ⊎ Past o ps s t)
 
-to_past : (ws : List Window) (o : Order) (ps : List Processor) (s t : System) → Guarded o (stages s) → Agrees ws (record { system = s; order = Some o }) → map view t.processors ≡ map view ps → Early o s t → ((i : ℕ) (x : Stage) → At (stages s) i x → 2 ≤ rank o x) → Past o ps s t
+pub to_past : (ws : List Window) (o : Order) (ps : List Processor) (s t : System) → Guarded o (stages s) → Agrees ws (record { system = s; order = Some o }) → map view t.processors ≡ map view ps → Early o s t → ((i : ℕ) (x : Stage) → At (stages s) i x → 2 ≤ rank o x) → Past o ps s t
 to_past ws o ps s t g agrees views early on = record {
   on = on;
   fates = fates_arrived o ps s.processors same arrived;
@@ -159,7 +159,7 @@ step_sets goal Take k s p quiet at = absurd (cc)
 step_sets goal (WriteBack a v) k s p quiet at = ap (λ (o : Option Processor). (option_map_or (λ q. record (before_own (WriteBack a v) k s) { processors = set s.processors k (own_step goal (WriteBack a v) q) }) o (before_own (WriteBack a v) k s)).processors) at
 step_sets goal other k s p quiet at = ap (λ (o : Option Processor). (option_map_or (λ q. record s { processors = set s.processors k (own_step goal other q) }) o s).processors) at
 
-abbrev Standing' : List Window → System → Order → Type 0
+abbrev pub Standing' : List Window → System → Order → Type 0
 Standing' ws s o = Standing ws (record { system = s; order = Some o })
 
 module _ (ws : List Window) (aligned : AllAligned ws) (o : Order) (ps : List Processor) (s : System) (k : ℕ) (p : Processor) (at : slice_get s.processors k ≡ Some p) (off : is_cancelled o.go ≡ false) (st : Standing' ws s o) where
@@ -254,7 +254,7 @@ module _ (ws : List Window) (aligned : AllAligned ws) (o : Order) (ps : List Pro
           (to_past ws o ps s t guarded st.agrees views early (all_second o s.processors guarded is))
   early_goal t views early other w same h = absurd (early.0 k (stage_of p) here (subst (λ (v : Phase). 3 ≤ rank o (v, p.era)) (sym same) (lit≤ tt)))
 
-  course_step : (t : System) (w : Event) → due o s.processors p p.phase ≡ Some w → Course o ps s t → Goal t w
+  pub course_step : (t : System) (w : Event) → due o s.processors p p.phase ≡ Some w → Course o ps s t → Goal t w
   course_step t w h course =
       ⊎_elim (λ (early : Early o s t). early_goal t course.0 early p.phase w refl h) (λ (past : Past o ps s t). past_goal t w course.0 h past) course.1
 
@@ -312,7 +312,7 @@ fates_go o go (p ∷ ps) (q ∷ qs) h =
     let f = h.0 in
     (record { mappings = f.mappings; plain = f.plain; stripped = f.stripped; caching = f.caching; forgotten = f.forgotten; era = f.era; settled = f.settled }, fates_go o go ps qs h.1)
 
-course_go : (o : Order) (go : Go) (ps : List Processor) (s t : System) → Course o ps s t → Course (record o { go = go }) ps s t
+pub course_go : (o : Order) (go : Go) (ps : List Processor) (s t : System) → Course o ps s t → Course (record o { go = go }) ps s t
 course_go o go ps s t course =
     (course.0, ⊎_elim (λ (early : Early o s t). inl early) (λ (past : Past o ps s t). inr (record { on = past.on; fates = fates_go o go ps s.processors past.fates; words = past.words })) course.1)
 

@@ -1,13 +1,13 @@
 -- What the laws say of each state that is reached from a start, and of each list of enabled events.
-use Rattle.std.specs.Prelude.{◌≡◌, ℕ, ◌+◌, ◌%◌, Bool, true, false, not, ◌&&◌, List, [], ◌∷◌, slice_get, None, Some, length, map, ◌++◌, ◌||◌, ◌==◌, ◌≤◌, nat_lt, if◌then◌else◌, ◌<◌, ◌-◌, ◌^◌}
+use Rattle.std.specs.Prelude.{◌≡◌, ℕ, ◌+◌, ◌%◌, Bool, true, false, not, ◌&&◌, List, [], ◌∷◌, slice_get, None, Some, length, map, ◌++◌, ◌||◌, ◌==◌, ◌≤◌, nat_lt, if◌then◌else◌, ◌<◌, ◌-◌, ◌^◌, take}
 use Rattle.std.specs.List.{list_all, All, count_by, AllPairs}
-use Rattle.mt_machine.specs.System.{Processor, System, IsCoherent, IsSound, now, change}
-use Rattle.mt_machine.specs.Machine.{Machine, Order, is_changing, has_passed, has_arrived, has_arrived_again, has_released, Reached, MachineEvent, Calls, Goes, Cancels, Steps, IsEnabled, next, run, AreEnabled, Accesses, Controls}
+use Rattle.mt_machine.specs.System.{Processor, System, IsCoherent, IsSound, now, change, is_writing}
+use Rattle.mt_machine.specs.Machine.{Machine, Order, is_changing, has_passed, has_arrived, has_arrived_again, has_released, Reached, MachineEvent, Calls, Goes, Cancels, Steps, IsEnabled, next, run, AreEnabled, Accesses, Controls, FitsGoal, second_barrier_open}
 use Rattle.mt_machine.specs.Access.{is_running, access}
 use Rattle.mt_regs.specs.RegisterFile.{RegisterFile, IsRegisterFile}
 use Rattle.mt_machine.specs.declared.phase.Phase.TheVariants.{Running, Taken, Passed}
 use Rattle.mt_machine.specs.declared.go.Go.TheVariants.{Given}
-use Rattle.mt_regs.specs.Registers.{writable}
+use Rattle.mt_regs.specs.Registers.{writable, value_of}
 use Rattle.mt_cache.specs.declared.line.CacheLine.{CacheLine}
 use Rattle.mt_tlb.specs.declared.entry.Entry.{Entry}
 use Rattle.mt_machine.specs.declared.event.Event.TheVariants.{Take, Arrive, Leave, Pass, Release}
@@ -20,7 +20,7 @@ use Rattle.mt_machine.specs.declared.control.Control.{Control}
 use Rattle.mt_machine.specs.declared.ruled.Ruled.TheVariants.{Busy as RuledBusy}
 use Rattle.mt_machine.specs.Control.{control}
 use Rattle.mt_regs.specs.Faults.{IsAccepted}
-use Rattle.mt_machine.specs.Memory.{Window, window_end, AreApart}
+use Rattle.mt_machine.specs.Memory.{Window, window_end, AreApart, word_at}
 
 abbrev pub IsAt : Machine → ℕ → Processor → Type 0
 IsAt m i p = slice_get m.system.processors i ≡ Some p
@@ -92,6 +92,23 @@ abbrev pub ErasFit : Type 0
 ErasFit =
     (s m : Machine) (e : MachineEvent) → IsStart s → Reached s m → HasEras m → IsEnabled m e → (is_call e ≡ true → HasEraRoom m)
     → HasEras (next m e)
+
+-- what the order of an update says of each processor: its registers are of the goal's kind, and those before the place where it is writing have the goal's values
+pub record IsUnderWay (o : Order) (p : Processor) : Type 0 where
+  pub fits : FitsGoal o.goal p
+  pub written : (i : ℕ) → is_writing p.phase ≡ Some i → All (λ r. value_of p.file r ≡ value_of o.goal r) (take i (writable o.goal))
+
+pub record OrderHolds (m : Machine) (o : Order) : Type 0 where
+  pub goal_file : IsRegisterFile o.goal
+  pub goal_accepted : IsAccepted o.goal
+  pub each : All (IsUnderWay o) m.system.processors
+
+abbrev pub OrdersHold : Type 0
+OrdersHold = (s m : Machine) (o : Order) → IsStart s → Reached s m → m.order ≡ Some o → OrderHolds m o
+
+-- the lines of a sound system lie below 2^52
+abbrev pub LinesAreLow : Type 0
+LinesAreLow = (s : System) → IsSound s → All (λ p. All (λ l. l.number < 2 ^ 46) p.lines × All (λ l. l.number < 2 ^ 46) p.buffers) s.processors
 
 -- ---- lists of events
 
@@ -209,6 +226,19 @@ BroadcastUpdate =
     → list_all (λ e. is_led e && not (is_cancel e)) es ≡ true
     → (run s es).order ≡ None
     → run s es ≡ updated s.system [] o.goal
+
+-- by go, cancel and steps alone: where all have arrived again, or gone on from there, each processor has the goal's registers and holds nothing, and each word is in memory
+pub record HoldsNothing (goal : RegisterFile) (p : Processor) : Type 0 where
+  pub file : p.file ≡ goal
+  pub lines : p.lines ≡ []
+  pub buffers : p.buffers ≡ []
+  pub entries : p.entries ≡ []
+
+abbrev pub LedToSecondBarrier : Type 0
+LedToSecondBarrier =
+    (s m : Machine) (o last : Order) → IsBroadcast s o → Led s m → m.order ≡ Some last → last.go ≡ Given → second_barrier_open last m.system.processors ≡ true
+    → All (HoldsNothing o.goal) m.system.processors
+    × ((address : ℕ) → address % 8 ≡ 0 → word_at m.system.memory address ≡ now s.system address)
 
 -- by go, cancel and steps alone: the event that ends an update whose go was given leads there
 abbrev pub LedUpdate : Type 0

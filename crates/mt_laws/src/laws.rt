@@ -6,11 +6,13 @@ mod starts;
 mod updates;
 
 pub use barriers::barriers_hold;
-pub use kept::{events_keep, stays_coherent, stays_sound, steps_keep_now};
+pub use kept::{
+    events_keep, lines_are_low, orders_hold, stays_coherent, stays_sound, steps_keep_now,
+};
 pub use runs::{led_is_reached, reached_is_run};
 pub use settled::{held_after_release, no_buffers_at_pass, settled_after_each_release};
 pub use starts::{eras_fit, start_is_quiet};
 pub use updates::{
-    broadcast_update, cancelled_broadcast, cancelled_update, count_of_steps, led_update,
-    whole_update,
+    broadcast_update, cancelled_broadcast, cancelled_update, count_of_steps, led_to_second_barrier,
+    led_update, whole_update,
 };

@@ -1,4 +1,4 @@
-ghost use Rattle.mt_laws.specs.Claims.{StaysCoherent, StaysSound, StepsKeepNow, StillEventsKeep, TakeFences};
+ghost use Rattle.mt_laws.specs.Claims.{LinesAreLow, OrdersHold, StaysCoherent, StaysSound, StepsKeepNow, StillEventsKeep, TakeFences};
 
 /// Take is a fence, and the events of the coordinator, Arrive and Leave keep all that is held.
 pub fn events_keep()
@@ -14,6 +14,17 @@ pub fn stays_coherent()
 /// Each reached state is sound.
 pub fn stays_sound()
     ensures { StaysSound }
+{}
+
+/// While an update is under way each processor has registers of the goal's kind, and the goal's values
+/// before the place where it is writing.
+pub fn orders_hold()
+    ensures { OrdersHold }
+{}
+
+/// The numbers of the lines and buffers of a sound system are below 2^46.
+pub fn lines_are_low()
+    ensures { LinesAreLow }
 {}
 
 /// No step of the update but Take changes a word's value.

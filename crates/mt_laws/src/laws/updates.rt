@@ -1,4 +1,4 @@
-ghost use Rattle.mt_laws.specs.Claims.{BroadcastUpdate, CancelledBroadcast, CancelledUpdate, CountOfSteps, LedUpdate, TakesAtMostOnce, TakesOnce, WholeUpdate};
+ghost use Rattle.mt_laws.specs.Claims.{BroadcastUpdate, CancelledBroadcast, CancelledUpdate, CountOfSteps, LedToSecondBarrier, LedUpdate, TakesAtMostOnce, TakesOnce, WholeUpdate};
 
 /// A whole update without accesses or controls ends in the state that is given outright, and each
 /// processor takes once in it.
@@ -10,6 +10,12 @@ pub fn whole_update()
 /// From a broadcast state an update that isn't cancelled ends in the state that is given outright.
 pub fn broadcast_update()
     ensures { BroadcastUpdate }
+{}
+
+/// Where all have arrived at the second barrier each processor has the goal's registers and holds nothing,
+/// and each word is in memory.
+pub fn led_to_second_barrier()
+    ensures { LedToSecondBarrier }
 {}
 
 /// The event that ends an update whose go was given leads to that state.
