@@ -19,3 +19,6 @@ pub use reading::read_all;
 pub use texts::{canonical_text, tidied_text, types_text};
 pub use top::tool;
 pub use words::command_of;
+
+#[cfg(test)]
+mod tests;

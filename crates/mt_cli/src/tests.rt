@@ -1,0 +1,122 @@
+use crate::tool;
+use mt_ports::{MemSink, MemSource, OpenGate, Status};
+use mt_vectors::{Row, dump_tables};
+use std::process::Abort;
+use std::test::Fail;
+
+const ROOM: usize = 8192;
+
+const LIMIT: usize = 16_777_216;
+
+// What a run ended with, and what the sink took.
+#[derive(Drop)]
+struct Ran {
+    status: Status,
+    sink: MemSink,
+}
+
+// A run over memory: its input in pieces, and the calls at which the source and the sink fail.
+#[derive(Clone, Copy)]
+struct Ports<'a> {
+    input: &'a [u8],
+    piece: usize,
+    failing_reads: &'a [u64],
+    failing_writes: &'a [u64],
+}
+
+fn run<R: AllocGlobal + Abort>(rt: &R, words: &[&str], ports: &Ports<'_>) -> Result<Ran, Fail> {
+    let alloc = rt.alloc();
+    let mut owned = Vec::new(alloc);
+    for word in words {
+        owned.push(String::from_str(alloc, word)?)?;
+    }
+    assert!(rt; ports.piece > 0);
+    let input = ports.input.to_vec(alloc)?;
+    let mut source = MemSource::new(input, ports.piece, ports.failing_reads.to_vec(alloc)?);
+    let Ok(mut sink) = MemSink::new(alloc, ROOM, ports.failing_writes.to_vec(alloc)?) else {
+        return Err(Fail::from("no memory"));
+    };
+    let status = tool(rt, &owned, &mut source, &mut sink, &OpenGate);
+    Ok(Ran { status, sink })
+}
+
+// Each row of a table gives its output and its status.
+fn expect_rows<R: AllocGlobal + Abort>(rt: &R, rows: &[Row], piece: usize) -> Result<(), Fail> {
+    for row in rows {
+        let ports = Ports {
+            input: row.input,
+            piece,
+            failing_reads: &[],
+            failing_writes: &[],
+        };
+        let ran = run(rt, row.words, &ports)?;
+        assert_eq!(rt; ran.status, row.status, "{}", row.name);
+        assert!(rt; ran.sink.bytes() == row.output, "{}", row.name);
+    }
+    Ok(())
+}
+
+#[test]
+fn the_worked_runs(rt: HostRuntime) -> Result<(), Fail> {
+    for piece in [1, 7, 4096] {
+        for rows in dump_tables() {
+            expect_rows(&rt, rows, piece)?;
+        }
+    }
+    Ok(())
+}
+
+// The first dump in pieces of one byte: 15 bytes and the end make 16 reads, and there is one write.
+#[test]
+fn each_read_and_write_may_fail(rt: HostRuntime) -> Result<(), Fail> {
+    for call in 0..18 {
+        let failing = [call];
+        let mut ports = Ports {
+            input: b"fe 508\n2ff c06\n",
+            piece: 1,
+            failing_reads: &failing,
+            failing_writes: &[],
+        };
+        let ran = run(&rt, &["check"], &ports)?;
+        if call < 16 {
+            assert_eq!(rt; ran.status, Status::ReadFault, "at {call}");
+            assert_eq!(rt; ran.sink.bytes().len(), 0);
+        } else {
+            assert_eq!(rt; ran.status, Status::Done, "at {call}");
+        }
+        ports.failing_reads = &[];
+        ports.failing_writes = &failing;
+        let ran = run(&rt, &["check"], &ports)?;
+        if call == 0 {
+            assert_eq!(rt; ran.status, Status::WriteFault);
+            assert_eq!(rt; ran.sink.bytes().len(), 0);
+        } else {
+            assert_eq!(rt; ran.status, Status::Done, "at {call}");
+        }
+    }
+    Ok(())
+}
+
+// As many bytes as an input may have, and one more.
+#[test]
+fn an_input_has_a_limit(rt: HostRuntime) -> Result<(), Fail> {
+    let alloc = rt.alloc();
+    let mut input = vec![in alloc; b'\n'; LIMIT - 7]?;
+    input.extend_from_slice(b"\nfe 508")?;
+    assert_eq!(rt; input.len(), LIMIT);
+    let mut ports = Ports {
+        input: &input,
+        piece: 65536,
+        failing_reads: &[],
+        failing_writes: &[],
+    };
+    let ran = run(&rt, &["check"], &ports)?;
+    assert_eq!(rt; ran.status, Status::Done);
+    let mut longer = ports.input.to_vec(alloc)?;
+    longer.push(b'\n')?;
+    ports.input = &longer;
+    let ran = run(&rt, &["check"], &ports)?;
+    assert_eq!(rt; ran.status, Status::TooLong);
+    assert_eq!(rt; ran.sink.bytes().len(), 0);
+    Ok(())
+}
