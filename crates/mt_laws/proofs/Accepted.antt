@@ -31,7 +31,7 @@ GoalAccepted (Some o) = IsAccepted o.goal
 accepted_as : (p q : Processor) → q.file ≡ p.file → q.phase ≡ p.phase → FileAccepted p → FileAccepted q
 accepted_as p q file phase h off = subst IsAccepted (sym file) (h (ap is_writing (sym phase) ∙ off))
 
-accepted_follows : (k : ℕ) (ps qs : List Processor) → FollowsIn k ps qs → EachAccepted ps → EachAccepted qs
+pub accepted_follows : (k : ℕ) (ps qs : List Processor) → FollowsIn k ps qs → EachAccepted ps → EachAccepted qs
 accepted_follows k ps qs f all j q at = let from = f j q at in accepted_as from.0 q from.2.file from.2.phase (all j from.0 from.1)
 
 -- ---- one step

@@ -48,3 +48,5 @@ pub mod Starts
 pub mod Eras
 pub mod UnderWay
 pub mod SecondBarrier
+pub mod Parts
+pub mod SoundSteps

@@ -171,7 +171,7 @@ control_at_tidy s k p Cr3 at fits all = tidy_change reload_cr3 k (drain k s) (λ
 control_at_tidy s k p (Pge on) at fits all = tidy_change (set_page_global on) k (drain k s) (λ q at_q t. paged_tidy on q t) (tidy_drain k s all)
 control_at_tidy s k p (Cd on) at fits all = tidy_change (λ q. record q { cache_disabled = on }) k (drain k s) (λ q at_q t. t) (tidy_drain k s all)
 
-tidy_control : (s : System) (k : ℕ) (c : Control) → ((p : Processor) → slice_get s.processors k ≡ Some p → FitsControl p c) → AllTidy s.processors → AllTidy (control s k c).after.processors
+pub tidy_control : (s : System) (k : ℕ) (c : Control) → ((p : Processor) → slice_get s.processors k ≡ Some p → FitsControl p c) → AllTidy s.processors → AllTidy (control s k c).after.processors
 tidy_control s k c fits all = one (slice_get s.processors k) refl
   where
     two : (p : Processor) (b : Bool) → slice_get s.processors k ≡ Some p → AllTidy (ruled b (control_at s k p c) (record { answer = Busy; after = s })).after.processors

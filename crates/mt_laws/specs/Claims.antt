@@ -2,7 +2,7 @@
 use Rattle.std.specs.Prelude.{◌≡◌, ℕ, ◌+◌, ◌%◌, Bool, true, false, not, ◌&&◌, List, [], ◌∷◌, slice_get, None, Some, length, map, ◌++◌, ◌||◌, ◌==◌, ◌≤◌, nat_lt, if◌then◌else◌, ◌<◌, ◌-◌, ◌^◌, take}
 use Rattle.std.specs.List.{list_all, All, count_by, AllPairs}
 use Rattle.mt_machine.specs.System.{Processor, System, IsCoherent, IsSound, now, change, is_writing}
-use Rattle.mt_machine.specs.Machine.{Machine, Order, is_changing, has_passed, has_arrived, has_arrived_again, has_released, Reached, MachineEvent, Calls, Goes, Cancels, Steps, IsEnabled, next, run, AreEnabled, Accesses, Controls, FitsGoal, second_barrier_open}
+use Rattle.mt_machine.specs.Machine.{Machine, Order, is_changing, has_passed, has_arrived, has_arrived_again, has_released, Reached, MachineEvent, Calls, Goes, Cancels, Steps, IsEnabled, next, run, AreEnabled, Accesses, Controls, FitsGoal, second_barrier_open, FitsControl}
 use Rattle.mt_machine.specs.Access.{is_running, access}
 use Rattle.mt_regs.specs.RegisterFile.{RegisterFile, IsRegisterFile}
 use Rattle.mt_machine.specs.declared.phase.Phase.TheVariants.{Running, Taken, Passed}
@@ -21,6 +21,7 @@ use Rattle.mt_machine.specs.declared.ruled.Ruled.TheVariants.{Busy as RuledBusy}
 use Rattle.mt_machine.specs.Control.{control}
 use Rattle.mt_regs.specs.Faults.{IsAccepted}
 use Rattle.mt_machine.specs.Memory.{Window, window_end, AreApart, word_at}
+use Rattle.mt_machine.specs.Bus.{drain}
 
 abbrev pub IsAt : Machine → ℕ → Processor → Type 0
 IsAt m i p = slice_get m.system.processors i ≡ Some p
@@ -32,6 +33,18 @@ StaysCoherent = (s m : Machine) → IsStart s → Reached s m → IsCoherent m.s
 -- and all else that a system keeps
 abbrev pub StaysSound : Type 0
 StaysSound = (s m : Machine) → IsStart s → Reached s m → IsSound m.system
+
+-- an access, a control instruction and a drain keep every sound system sound, whatever its phases are
+abbrev pub AccessKeepsSound : Type 0
+AccessKeepsSound = (s : System) (k : ℕ) (op : Op) → IsSound s → IsSound (access s k op).after
+
+abbrev pub ControlKeepsSound : Type 0
+ControlKeepsSound =
+    (s : System) (k : ℕ) (c : Control) → IsSound s → ((p : Processor) → slice_get s.processors k ≡ Some p → FitsControl p c)
+    → IsSound (control s k c).after
+
+abbrev pub DrainKeepsSound : Type 0
+DrainKeepsSound = (s : System) (k : ℕ) → IsSound s → IsSound (drain k s)
 
 -- where some processor has passed the first barrier, each has arrived at it; where some has released, each has arrived at the second
 pub record BarriersHold (m : Machine) : Type 0 where

@@ -7,7 +7,8 @@ mod updates;
 
 pub use barriers::barriers_hold;
 pub use kept::{
-    events_keep, lines_are_low, orders_hold, stays_coherent, stays_sound, steps_keep_now,
+    accesses_keep_sound, events_keep, lines_are_low, orders_hold, stays_coherent, stays_sound,
+    steps_keep_now,
 };
 pub use runs::{led_is_reached, reached_is_run};
 pub use settled::{held_after_release, no_buffers_at_pass, settled_after_each_release};

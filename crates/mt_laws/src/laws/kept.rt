@@ -1,4 +1,4 @@
-ghost use Rattle.mt_laws.specs.Claims.{LinesAreLow, OrdersHold, StaysCoherent, StaysSound, StepsKeepNow, StillEventsKeep, TakeFences};
+ghost use Rattle.mt_laws.specs.Claims.{AccessKeepsSound, ControlKeepsSound, DrainKeepsSound, LinesAreLow, OrdersHold, StaysCoherent, StaysSound, StepsKeepNow, StillEventsKeep, TakeFences};
 
 /// Take is a fence, and the events of the coordinator, Arrive and Leave keep all that is held.
 pub fn events_keep()
@@ -14,6 +14,13 @@ pub fn stays_coherent()
 /// Each reached state is sound.
 pub fn stays_sound()
     ensures { StaysSound }
+{}
+
+/// An access, a control instruction and a drain keep every sound system sound.
+pub fn accesses_keep_sound()
+    ensures access { AccessKeepsSound }
+    ensures control { ControlKeepsSound }
+    ensures drain { DrainKeepsSound }
 {}
 
 /// While an update is under way each processor has registers of the goal's kind, and the goal's values
