@@ -8,8 +8,9 @@ use Rattle.mt_regs.specs.RegisterFile.{page_count}
 use Rattle.mt_tlb.specs.declared.entry.Entry.{Entry}
 use Rattle.mt_tlb.specs.declared.mapping.Mapping.{Mapping}
 use Rattle.mt_tlb.specs.Entries.{add_entry, is_mapped, set_mapping}
+use Rattle.mt_machine.specs.declared.phase.Phase.TheVariants.{Running}
 use Rattle.mt_machine.specs.System.{Processor}
-use Rattle.mt_cpu.specs.Facts.{KeepsFacts}
+use Rattle.mt_cpu.specs.Facts.{KeepsFacts, is_tlb_flushed}
 
 all_tail : {X : Type 0} (P : X → Type 0) (x : X) (xs : List X) → All P (x ∷ xs) → All P xs
 all_tail P x xs all k d within = all (suc k) d (omega arith)
@@ -33,6 +34,7 @@ filtered test p h = record {
   indexes = h.indexes;
   mapped_pages = h.mapped_pages;
   entry_pages = All-filter test (λ (e : Entry). e.ppage < page_count p.file) p.entries h.entry_pages;
+  flushed = λ on. ap (filter test) (h.flushed on);
 }
 
 -- ---- an entry is filled
@@ -48,8 +50,8 @@ all_add P e es all h = All-append P _ (e ∷ []) (one (length es == 64)) (all_on
     one true = dropped es all
     one false = all
 
-pub filled : (e : Entry) (p : Processor) → (p.page_global ≡ false → e.global ≡ false) → IsTrue (is_mapped e.vpage p.mappings) → e.ppage < page_count p.file → KeepsFacts p → KeepsFacts (record p { entries = add_entry e p.entries })
-filled e p local mapped page h = record {
+pub filled : (e : Entry) (p : Processor) → p.phase ≡ Running → (p.page_global ≡ false → e.global ≡ false) → IsTrue (is_mapped e.vpage p.mappings) → e.ppage < page_count p.file → KeepsFacts p → KeepsFacts (record p { entries = add_entry e p.entries })
+filled e p running local mapped page h = record {
   local_entries = λ off. all_add (λ (x : Entry). x.global ≡ false) e p.entries (h.local_entries off) (local off);
   mapped = all_add (λ (x : Entry). IsTrue (is_mapped x.vpage p.mappings)) e p.entries h.mapped mapped;
   accepted = h.accepted;
@@ -57,6 +59,7 @@ filled e p local mapped page h = record {
   indexes = h.indexes;
   mapped_pages = h.mapped_pages;
   entry_pages = all_add (λ (x : Entry). x.ppage < page_count p.file) e p.entries h.entry_pages page;
+  flushed = λ on. let q : is_tlb_flushed Running ≡ true = ap is_tlb_flushed (sym running) ∙ on in absurd (cc);
 }
 
 -- ---- a mapping is set
@@ -108,6 +111,7 @@ set m p index page h = record {
   indexes = all_set (λ (x : Mapping). x.index < 8) m p.mappings h.indexes index;
   mapped_pages = all_set (λ (x : Mapping). x.ppage < page_count p.file) m p.mappings h.mapped_pages page;
   entry_pages = h.entry_pages;
+  flushed = h.flushed;
 }
 
 pub answered : {A B : Type 0} (r : Result A B) (m : Mapping) (p : Processor) (after : List Mapping) → OnOk r (after ≡ set_mapping m p.mappings) → OnErr r (after ≡ p.mappings) → m.index < 8 → m.ppage < page_count p.file → KeepsFacts p → KeepsFacts (record p { mappings = after })

@@ -1,2 +1,3 @@
 pub mod Facts
 pub mod Translations
+pub mod Stepping

@@ -2,6 +2,7 @@
 #![tactic(auto)]
 
 mod cpu;
+mod steps;
 #[cfg(test)]
 mod tests;
 mod translation;

@@ -44,7 +44,8 @@ const PAGE_BYTES: u64 = 4096;
 impl Cpu {
     // Fills the entry that the mapping of a page makes, where the page has a mapping.
     fn fill(&mut self, vpage: u64) -> Option<Entry>
-        requires { find_entry vpage self.old.entries ≡ None }
+        requires running { self.old.phase ≡ Phase.Running }
+        requires absent { find_entry vpage self.old.entries ≡ None }
         ensures entry { result ≡ option_map (new_entry self.old) (find_mapping vpage self.old.mappings) }
         ensures filled { IfSome result (λ e. self.new ≡ record self.old { entries = add_entry e self.old.entries }) }
         ensures kept { IfNone result (self.new ≡ self.old) }
@@ -59,6 +60,7 @@ impl Cpu {
 
     // The entry of a page: the one that stands, or else the one that its mapping makes, which is filled.
     fn entry(&mut self, vpage: u64) -> Option<Entry>
+        requires { self.old.phase ≡ Phase.Running }
         ensures entry { result ≡ entry_of self.old vpage }
         ensures after { self.new ≡ option_map_or (λ e. keep_entry e self.old) (entry_of self.old vpage) self.old }
         ensures unmapped { IsNone result ↔ (find_mapping vpage self.old.mappings ≡ None) }

@@ -26,7 +26,7 @@ use Rattle.mt_laws.proofs.Ranks.{is_ahead, stage_at}
 use Rattle.mt_laws.proofs.Barriers.{Rest, Kept, Invariant}
 use Rattle.mt_laws.proofs.Follows.{FollowsIn, follows_drain, follows_access, follows_control}
 use Rattle.mt_laws.proofs.Renewed.{at_change}
-use Rattle.mt_laws.proofs.Files.{Alike, AgreeAll, alike_files, file_alike, alike_writes, alike_disabled, agree_more, last_written}
+use Rattle.mt_machine.proofs.Files.{Alike, AgreeAll, alike_files, file_alike, alike_writes, alike_disabled, agree_more, last_written}
 use Rattle.mt_laws.proofs.Claims.{all_get}
 
 abbrev pub is_done : Phase → Bool

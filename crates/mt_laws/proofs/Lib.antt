@@ -7,7 +7,6 @@ pub mod Follows
 pub mod Cleared
 pub mod Renewed
 pub mod Late
-pub mod Files
 pub mod Filed
 pub mod Settled
 pub mod MemoryLaws

@@ -18,7 +18,7 @@ use Rattle.mt_laws.proofs.Claims.{all_get}
 use Rattle.mt_laws.proofs.Follows.{IsLocal}
 use Rattle.mt_laws.proofs.Renewed.{AllClear}
 use Rattle.mt_laws.proofs.Late.{IsKept, kept_next, start_kept}
-use Rattle.mt_laws.proofs.Files.{file_alike}
+use Rattle.mt_machine.proofs.Files.{file_alike}
 use Rattle.mt_laws.proofs.Filed.{AllFiled, filed_next}
 use Rattle.mt_laws.proofs.Settled.{start_filed}
 use Rattle.mt_laws.proofs.MemoryLaws.{AllAligned}

@@ -140,8 +140,8 @@ impl RegFile {
         }
     }
 
-    // Changes a register that the file has.
-    fn put(&mut self, register: Register, v: u64)
+    /// Changes a register that the file has.
+    pub fn put(&mut self, register: Register, v: u64)
         requires { IsWithin self.old register }
         ensures { self.new ≡ with_value self.old register v }
     {

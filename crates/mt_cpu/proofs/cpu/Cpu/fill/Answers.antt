@@ -11,12 +11,12 @@ pub fill-requires : goal.fill-requires
 fill-requires c =
     let m = made_now _ _ c.args.vpage _ _ _ _ c.self.view_is c.self.invariant c.in_ok-i.ensures.place c.in_ok-i.ensures.mapping c.list.ensures.value c.new_entry-entry.ensures in
     ap (λ n. find_entry n c.self.inside.tlb) m.page_is
-    ∙ ap (λ (q : Processor). find_entry c.args.vpage q.entries) c.self.view_is ∙ c.requires
+    ∙ ap (λ (q : Processor). find_entry c.args.vpage q.entries) c.self.view_is ∙ c.requires.absent
 
 pub invariant_of-self : goal.invariant_of-self
 invariant_of-self c =
     let m = made_now _ _ c.args.vpage _ _ _ _ c.self.view_is c.self.invariant c.in_ok-i.ensures.place c.in_ok-i.ensures.mapping c.list.ensures.value c.new_entry-entry.ensures in
-    rw c.fill.ensures (filled c.new_entry-entry.result _ m.local m.mapped m.physical c.self.invariant)
+    rw c.fill.ensures (filled c.new_entry-entry.result _ (ap (λ (q : Processor). q.phase) c.self.view_is ∙ c.requires.running) m.local m.mapped m.physical c.self.invariant)
 
 pub returns-clause-entry : goal.returns-clause-entry
 returns-clause-entry c =

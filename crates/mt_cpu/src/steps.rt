@@ -1,0 +1,245 @@
+ghost use Rattle.std.specs.Prelude.{◌≡◌, ◌<◌, ◌≤◌, ◌+◌, ◌-◌, ◌^◌, List, [], None, Some, IsTrue, length, if◌then◌else◌};
+ghost use Rattle.std.specs.List.{All};
+ghost use Rattle.mt_kinds.specs.Bits.{is_bit_set};
+ghost use Rattle.mt_regs.specs.RegisterFile.{IsRegisterFile, RegisterFile};
+ghost use Rattle.mt_regs.specs.Registers.{writable};
+ghost use Rattle.mt_regs.specs.Faults.{IsAccepted};
+ghost use Rattle.mt_cache.specs.Lines.{first_dirty_line};
+ghost use Rattle.mt_machine.specs.System.{Processor};
+ghost use Rattle.mt_machine.specs.Machine.{FitsGoal, Order, due, own_step, write_back_or_drop, write_or_enable};
+ghost use Rattle.mt_cpu.specs.Steps.{HasFirst, HasWritten, is_local, is_shift, is_writing_back};
+
+use crate::cpu::Cpu;
+use mt_kinds::is_bit_set;
+use mt_machine::{Event, Phase};
+use mt_regs::{RegFile, Register};
+
+const LINE_BYTES: u64 = 64;
+
+const WORD_BYTES: u64 = 8;
+
+// The bit E of the default-type register.
+const ENABLE: u8 = 11;
+
+// What the type of a register file keeps, for the proof alone.
+fn width_of(f: &RegFile) -> u8
+    ensures { IsRegisterFile f.now }
+{
+    f.maxphy
+}
+
+// A value of the default-type register with E clear.
+fn without_enable(deftype: u64) -> u64
+    ensures { result ≡ (if is_bit_set deftype 11 then deftype - 2 ^ 11 else deftype) }
+{
+    if is_bit_set(deftype, ENABLE) {
+        deftype - (1 << ENABLE)
+    } else {
+        deftype
+    }
+}
+
+impl Cpu {
+    fn set_no_fill(&mut self)
+        requires { self.old.phase ≡ Phase.Passed }
+        ensures { (goal : RegisterFile) → self.new ≡ own_step goal Event.SetNoFill self.old }
+    {
+        self.cd = true;
+        self.phase = Phase::NoFill;
+    }
+
+    // All lines are dropped. None has a dirty word.
+    fn drop_lines(&mut self)
+        requires clean { first_dirty_line self.old.lines ≡ None }
+        requires phase { IsTrue (is_writing_back self.old.phase) }
+        ensures { (goal : RegisterFile) → self.new ≡ own_step goal Event.DropLines self.old }
+    {
+        self.cache.empty();
+        self.phase = match self.phase {
+            Phase::Enabled => Phase::Flushed2,
+            _ => Phase::Flushed,
+        };
+    }
+
+    // The first dirty word is marked clean, or else all lines are dropped.
+    fn write_back_or_drop(&mut self) -> Event
+        requires phase { IsTrue (is_writing_back self.old.phase) }
+        requires numbers { All (λ l. l.number < 2 ^ 46) self.old.lines }
+        ensures event { result ≡ write_back_or_drop self.old }
+        ensures step { (goal : RegisterFile) → self.new ≡ own_step goal result self.old }
+    {
+        let Some((i, word)) = self.cache.first_dirty() else {
+            self.drop_lines();
+            return Event::DropLines;
+        };
+        let line = self.cache.lines()[i];
+        self.cache.clean_word(i, word);
+        Event::WriteBack {
+            address: LINE_BYTES * line.number + WORD_BYTES * word as u64,
+            value: line.words[word as usize],
+        }
+    }
+
+    // PGE is remembered and cleared, and all entries go. With PGE clear a reload of CR3 drops all.
+    fn flush_tlb(&mut self)
+        requires { self.old.phase ≡ Phase.Flushed }
+        ensures { (goal : RegisterFile) → self.new ≡ own_step goal Event.FlushTlb self.old }
+    {
+        self.had_pge = self.pge;
+        self.pge = false;
+        self.tlb.drop_all();
+        self.phase = Phase::TlbFlushed;
+    }
+
+    fn flush_tlb_again(&mut self)
+        requires { self.old.phase ≡ Phase.Flushed2 }
+        ensures { (goal : RegisterFile) → self.new ≡ own_step goal Event.FlushTlb self.old }
+    {
+        self.tlb.drop_local();
+        self.phase = Phase::TlbFlushed2;
+    }
+
+    fn disable(&mut self)
+        requires { self.old.phase ≡ Phase.TlbFlushed }
+        ensures { (goal : RegisterFile) → self.new ≡ own_step goal Event.Disable self.old }
+    {
+        let deftype = without_enable(self.regs.deftype);
+        self.regs.put(Register::DefaultType, deftype);
+        self.phase = Phase::Writing(0);
+    }
+
+    // The register at a place gets the goal's value.
+    fn write_register(&mut self, i: u32, goal: &RegFile)
+        requires phase { self.old.phase ≡ Phase.Writing i }
+        requires fits { FitsGoal goal.now self.old }
+        requires word { i + 1 < 2 ^ 32 }
+        requires more { i + 1 < length (writable self.old.file) }
+        ensures { self.new ≡ own_step goal.now (Event.Write i) self.old }
+    {
+        let _ = width_of(goal);
+        let _ = width_of(&self.regs);
+        let Some(register) = goal.register_at(i) else {
+            unreachable!()
+        };
+        self.regs.put(register, goal.value_of(register));
+        self.phase = Phase::Writing(i + 1);
+    }
+
+    // The last register gets the goal's value, which turns the ranges on.
+    fn enable(&mut self, i: u32, goal: &RegFile)
+        requires phase { self.old.phase ≡ Phase.Writing i }
+        requires accepted { IsAccepted goal.now }
+        requires fits { FitsGoal goal.now self.old }
+        requires last { length (writable self.old.file) ≤ i + 1 }
+        requires written { HasFirst i goal.now self.old.file }
+        ensures { self.new ≡ own_step goal.now Event.Enable self.old }
+    {
+        let _ = width_of(goal);
+        let _ = width_of(&self.regs);
+        self.regs.put(Register::DefaultType, goal.deftype);
+        self.phase = Phase::Enabled;
+    }
+
+    fn set_normal(&mut self)
+        requires { self.old.phase ≡ Phase.TlbFlushed2 }
+        ensures { (goal : RegisterFile) → self.new ≡ own_step goal Event.SetNormal self.old }
+    {
+        self.cd = false;
+        self.phase = Phase::Normal;
+    }
+
+    fn restore_pge(&mut self)
+        requires { self.old.phase ≡ Phase.Normal }
+        ensures { (goal : RegisterFile) → self.new ≡ own_step goal Event.RestorePge self.old }
+    {
+        self.pge = self.had_pge;
+        self.had_pge = false;
+        self.phase = Phase::Restored;
+    }
+
+    // The next register gets the goal's value, or the last one, which turns the ranges on.
+    fn write_or_enable(&mut self, i: u32, goal: &RegFile) -> Event
+        requires phase { self.old.phase ≡ Phase.Writing i }
+        requires accepted { IsAccepted goal.now }
+        requires fits { FitsGoal goal.now self.old }
+        requires written { HasFirst i goal.now self.old.file }
+        ensures event { result ≡ write_or_enable self.old i }
+        ensures step { self.new ≡ own_step goal.now result self.old }
+    {
+        let count = self.regs.count();
+        if i + 1 < count {
+            self.write_register(i, goal);
+            return Event::Write(i);
+        }
+        self.enable(i, goal);
+        Event::Enable
+    }
+
+    /// Does the processor's next event, from the first barrier up to the return of PGE, and says
+    /// which one it was. Where it is a write-back the word is marked clean, and the caller writes
+    /// its value to memory.
+    pub fn local(&mut self, goal: &RegFile) -> Event
+        requires phase { IsTrue (is_local self.old.phase) }
+        requires accepted { IsAccepted goal.now }
+        requires fits { FitsGoal goal.now self.old }
+        requires written { HasWritten goal.now self.old }
+        requires numbers { All (λ l. l.number < 2 ^ 46) self.old.lines }
+        ensures event { (o : Order) (ps : List Processor) → due o ps self.old self.old.phase ≡ Some result }
+        ensures step { self.new ≡ own_step goal.now result self.old }
+    {
+        match self.phase {
+            Phase::Passed => {
+                self.set_no_fill();
+                Event::SetNoFill
+            }
+            Phase::NoFill | Phase::Enabled => self.write_back_or_drop(),
+            Phase::Flushed => {
+                self.flush_tlb();
+                Event::FlushTlb
+            }
+            Phase::TlbFlushed => {
+                self.disable();
+                Event::Disable
+            }
+            Phase::Writing(i) => self.write_or_enable(i, goal),
+            Phase::Flushed2 => {
+                self.flush_tlb_again();
+                Event::FlushTlb
+            }
+            Phase::TlbFlushed2 => {
+                self.set_normal();
+                Event::SetNormal
+            }
+            Phase::Normal => {
+                self.restore_pge();
+                Event::RestorePge
+            }
+            Phase::Running
+            | Phase::Taken
+            | Phase::Arrived
+            | Phase::Restored
+            | Phase::Arrived2 => unreachable!(),
+        }
+    }
+
+    /// Moves the phase by an event of the barriers. A release raises the era.
+    pub fn shift(&mut self, e: Event)
+        requires enabled { IsTrue (is_shift e self.old.phase) }
+        requires room { e ≡ Event.Release → self.old.era < 2 ^ 64 - 1 }
+        requires empty { e ≡ Event.Take → self.old.buffers ≡ [] }
+        ensures { (goal : RegisterFile) → self.new ≡ own_step goal e self.old }
+    {
+        match e {
+            Event::Take => self.phase = Phase::Taken,
+            Event::Arrive => self.phase = Phase::Arrived,
+            Event::Leave => self.phase = Phase::Running,
+            Event::Pass => self.phase = Phase::Passed,
+            Event::ArriveAgain => self.phase = Phase::Arrived2,
+            Event::Release => {
+                self.phase = Phase::Running;
+                self.era += 1;
+            }
+            _ => unreachable!(),
+        }
+    }
+}
