@@ -2,4 +2,5 @@ mod Answering
 mod CanonicalLines
 mod Leaving
 mod LongLines
+mod OneOutput
 mod SoundCommands

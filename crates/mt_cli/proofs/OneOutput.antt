@@ -1,0 +1,172 @@
+-- Words and bytes have one status, and one text but where several lists of ranges are least.
+use Rattle.std.proofs.Common.{◌≡◌, ◌≢◌, ℕ, ◌-◌, ◌<◌, ◌≤◌, ◌++◌, true, false, List, length, Option, Some, None, refl, sym, subst, ap, ◌∙◌, inl, inr, arith}
+use Rattle.std.specs.Prelude.{◌⊎◌}
+use Rattle.mt_ports.specs.declared.status.Status.{Status}
+use Rattle.mt_ports.specs.declared.status.Status.TheVariants.{Done, Refused, Usage, BadText, TooFew, Disabled}
+use Rattle.mt_regs.specs.RegisterFile.{RegisterFile, is_enabled}
+use Rattle.mt_regs.specs.Faults.{IsAccepted, IsFirstFault}
+use Rattle.mt_regs.specs.declared.fault.Fault.{Fault}
+use Rattle.mt_regs.proofs.First.{one_first_fault_lem}
+use Rattle.mt_types.specs.declared.run.Run.{Run}
+use Rattle.mt_types.specs.Runs.{IsRunsOf}
+use Rattle.mt_types.proofs.OneMap.{one_type_map}
+use Rattle.mt_dump.specs.Canon.{canon}
+use Rattle.mt_dump.specs.Dump.{Shown, dump_offence}
+use Rattle.mt_dump.specs.declared.fault.DumpFault.{DumpFault}
+use Rattle.mt_dump.proofs.Ends.{one_file, shown_no_offence}
+use Rattle.mt_tidy.specs.Keeps.{IsLeast}
+use Rattle.mt_tidy.specs.Kept.{IsTidy, NeedsMore}
+use Rattle.mt_cli.specs.declared.command.Command.{Command}
+use Rattle.mt_cli.specs.declared.command.Command.TheVariants.{Check, Show, Types, Page, Tidy}
+use Rattle.mt_cli.specs.CommandLine.{command_of}
+use Rattle.mt_cli.specs.Lines.{accepted_line, bad_text_line, disabled_line, page_text, refused_line, too_few_line, types_text, usage_line, used_line}
+use Rattle.mt_cli.specs.Output.{Answer, IsTesting, Output, refused, accepted, shown, typed, paged, tidied, too_few, disabled, usage, bad_text, answered}
+
+-- the answer names the file's first fault
+record Refusal (file : RegisterFile) (command : Command) (text : List ℕ) (status : Status) : Type 0 where
+  pub fault : Fault
+  pub tests : IsTesting command
+  pub first : IsFirstFault file (Some fault)
+  pub is_text : text ≡ refused_line fault
+  pub is_status : status ≡ Refused
+
+record Tidied (file : RegisterFile) (spare chunk : ℕ) (text : List ℕ) (status : Status) : Type 0 where
+  pub used : ℕ
+  pub new : RegisterFile
+  pub tidy : IsTidy file chunk spare new used
+  pub is_text : text ≡ used_line used ++ canon new
+  pub is_status : status ≡ Done
+
+record Lacking (file : RegisterFile) (spare chunk : ℕ) (text : List ℕ) (status : Status) : Type 0 where
+  pub needs : ℕ
+  pub has : ℕ
+  pub more : NeedsMore file chunk spare needs has
+  pub is_text : text ≡ too_few_line needs has
+  pub is_status : status ≡ TooFew
+
+record Off (file : RegisterFile) (text : List ℕ) (status : Status) : Type 0 where
+  pub good : IsAccepted file
+  pub off : is_enabled file ≡ false
+  pub is_text : text ≡ disabled_line file.default_type
+  pub is_status : status ≡ Disabled
+
+record Mapped (file : RegisterFile) (text : List ℕ) (status : Status) : Type 0 where
+  pub runs : List Run
+  pub good : IsAccepted file
+  pub are : IsRunsOf file runs
+  pub is_text : text ≡ types_text runs
+  pub is_status : status ≡ Done
+
+record Plain (premise : Type 0) (line text : List ℕ) (status : Status) : Type 0 where
+  pub good : premise
+  pub is_text : text ≡ line
+  pub is_status : status ≡ Done
+
+-- the other answers of each command
+abbrev Own : RegisterFile → Command → List ℕ → Status → Type 0
+Own file Check text status = Plain (IsAccepted file) accepted_line text status
+Own file Show text status = Plain (Unit {0}) (canon file) text status
+Own file Types text status = Mapped file text status
+Own file (Page address index) text status = Plain (IsAccepted file) (page_text file address index) text status
+Own file (Tidy spare chunk) text status = Tidied file spare chunk text status ⊎ Lacking file spare chunk text status ⊎ Off file text status
+
+taken_apart : (file : RegisterFile) (command : Command) (text : List ℕ) (status : Status) → Answer file command text status → Refusal file command text status ⊎ Own file command text status
+taken_apart file command text status (refused other fault tests first) = inl (record { fault = fault; tests = tests; first = first; is_text = refl; is_status = refl })
+taken_apart file command text status (accepted good) = inr (record { good = good; is_text = refl; is_status = refl })
+taken_apart file command text status shown = inr (record { good = tt; is_text = refl; is_status = refl })
+taken_apart file command text status (typed runs good are) = inr (record { runs = runs; good = good; are = are; is_text = refl; is_status = refl })
+taken_apart file command text status (paged address index good) = inr (record { good = good; is_text = refl; is_status = refl })
+taken_apart file command text status (tidied spare chunk used new is) = inr (inl (record { used = used; new = new; tidy = is; is_text = refl; is_status = refl }))
+taken_apart file command text status (too_few spare chunk needs has is) = inr (inr (inl (record { needs = needs; has = has; more = is; is_text = refl; is_status = refl })))
+taken_apart file command text status (disabled spare chunk good off) = inr (inr (inr (record { good = good; off = off; is_text = refl; is_status = refl })))
+
+-- what both answers have in common: the status, and the text unless a tidied file was written
+abbrev Agree : Command → List ℕ → List ℕ → Status → Status → Type 0
+Agree command text other s t = (s ≡ t) × (((spare chunk : ℕ) → command ≡ Tidy spare chunk → s ≢ Done) → text ≡ other)
+
+own_good : (file : RegisterFile) (command : Command) (text : List ℕ) (status : Status) → IsTesting command → Own file command text status → IsAccepted file
+own_good file Check text status tests own = own.good
+own_good file Show text status tests own = absurd tests
+own_good file Types text status tests own = own.good
+own_good file (Page address index) text status tests own = own.good
+own_good file (Tidy spare chunk) text status tests (inl own) = own.tidy.old_accepted
+own_good file (Tidy spare chunk) text status tests (inr (inl own)) = own.more.accepted
+own_good file (Tidy spare chunk) text status tests (inr (inr own)) = own.good
+
+no_fault : (file : RegisterFile) (fault : Fault) → IsFirstFault file (Some fault) → IsAccepted file → ⊥
+no_fault file fault first good = let e : Some fault ≡ None = one_first_fault_lem file (Some fault) None first good in cc e
+
+one_least : (file : RegisterFile) (chunk a b : ℕ) → IsLeast file chunk a → IsLeast file chunk b → a ≡ b
+one_least file chunk a b first second =
+    let below = second.none_shorter first.some.0 first.some.1 first.some.2 in
+    let above = first.none_shorter second.some.0 second.some.1 second.some.2 in
+    omega (arith, below, above, first.some.3, second.some.3)
+
+agree_tidy : (file : RegisterFile) (spare chunk : ℕ) (text other : List ℕ) (s t : Status)
+    → Tidied file spare chunk text s ⊎ Lacking file spare chunk text s ⊎ Off file text s → Tidied file spare chunk other t ⊎ Lacking file spare chunk other t ⊎ Off file other t
+    → Agree (Tidy spare chunk) text other s t
+agree_tidy file spare chunk text other s t (inl a) (inl b) = (a.is_status ∙ sym b.is_status, λ not_done. absurd (not_done spare chunk refl a.is_status))
+agree_tidy file spare chunk text other s t (inl a) (inr (inl b)) = absurd (omega (arith, one_least file chunk a.used b.needs a.tidy.least b.more.least, a.tidy.enough, b.more.has_is, b.more.above))
+agree_tidy file spare chunk text other s t (inl a) (inr (inr b)) = absurd (cc (sym a.tidy.enabled ∙ b.off))
+agree_tidy file spare chunk text other s t (inr (inl a)) (inl b) = absurd (omega (arith, one_least file chunk b.used a.needs b.tidy.least a.more.least, b.tidy.enough, a.more.has_is, a.more.above))
+agree_tidy file spare chunk text other s t (inr (inl a)) (inr (inl b)) =
+    let needs : a.needs ≡ b.needs = one_least file chunk a.needs b.needs a.more.least b.more.least in
+    let has : a.has ≡ b.has = a.more.has_is ∙ sym b.more.has_is in
+    (a.is_status ∙ sym b.is_status, λ not_done. a.is_text ∙ ap (λ (n : ℕ). too_few_line n a.has) needs ∙ ap (λ (n : ℕ). too_few_line b.needs n) has ∙ sym b.is_text)
+agree_tidy file spare chunk text other s t (inr (inl a)) (inr (inr b)) = absurd (cc (sym a.more.enabled ∙ b.off))
+agree_tidy file spare chunk text other s t (inr (inr a)) (inl b) = absurd (cc (sym b.tidy.enabled ∙ a.off))
+agree_tidy file spare chunk text other s t (inr (inr a)) (inr (inl b)) = absurd (cc (sym b.more.enabled ∙ a.off))
+agree_tidy file spare chunk text other s t (inr (inr a)) (inr (inr b)) = (a.is_status ∙ sym b.is_status, λ not_done. a.is_text ∙ sym b.is_text)
+
+agree_own : (file : RegisterFile) (command : Command) (text other : List ℕ) (s t : Status) → Own file command text s → Own file command other t → Agree command text other s t
+agree_own file Check text other s t a b = (a.is_status ∙ sym b.is_status, λ not_done. a.is_text ∙ sym b.is_text)
+agree_own file Show text other s t a b = (a.is_status ∙ sym b.is_status, λ not_done. a.is_text ∙ sym b.is_text)
+agree_own file Types text other s t a b = (a.is_status ∙ sym b.is_status, λ not_done. a.is_text ∙ ap types_text (one_type_map file a.runs b.runs a.are b.are) ∙ sym b.is_text)
+agree_own file (Page address index) text other s t a b = (a.is_status ∙ sym b.is_status, λ not_done. a.is_text ∙ sym b.is_text)
+agree_own file (Tidy spare chunk) text other s t a b = agree_tidy file spare chunk text other s t a b
+
+agree_parts : (file : RegisterFile) (command : Command) (text other : List ℕ) (s t : Status)
+    → Refusal file command text s ⊎ Own file command text s → Refusal file command other t ⊎ Own file command other t → Agree command text other s t
+agree_parts file command text other s t (inl a) (inl b) =
+    let same : Some a.fault ≡ Some b.fault = one_first_fault_lem file (Some a.fault) (Some b.fault) a.first b.first in
+    let fault : a.fault ≡ b.fault = cc same in
+    (a.is_status ∙ sym b.is_status, λ not_done. a.is_text ∙ ap refused_line fault ∙ sym b.is_text)
+agree_parts file command text other s t (inl a) (inr b) = absurd (no_fault file a.fault a.first (own_good file command other t a.tests b))
+agree_parts file command text other s t (inr a) (inl b) = absurd (no_fault file b.fault b.first (own_good file command text s b.tests a))
+agree_parts file command text other s t (inr a) (inr b) = agree_own file command text other s t a b
+
+pub agree_answers : (file : RegisterFile) (command : Command) (text other : List ℕ) (s t : Status) → Answer file command text s → Answer file command other t → Agree command text other s t
+agree_answers file command text other s t a b = agree_parts file command text other s t (taken_apart file command text s a) (taken_apart file command other t b)
+
+-- one status, and one text unless a tidied file was written
+abbrev pub AgreeFor : List (List ℕ) → List ℕ → List ℕ → Status → Status → Type 0
+AgreeFor words text other s t = (s ≡ t) × (((spare chunk : ℕ) → command_of words ≡ Some (Tidy spare chunk) → s ≢ Done) → text ≡ other)
+
+some_command : (words : List (List ℕ)) (a b : Command) → command_of words ≡ Some a → command_of words ≡ Some b → a ≡ b
+some_command words a b first second = let e : Some a ≡ Some b = sym first ∙ second in cc e
+
+agree_answered : (words : List (List ℕ)) (bytes text other : List ℕ) (s t : Status) (a b : Command) (f g : RegisterFile)
+    → command_of words ≡ Some a → command_of words ≡ Some b → Shown bytes f → Shown bytes g → Answer f a text s → Answer g b other t → AgreeFor words text other s t
+agree_answered words bytes text other s t a b f g says also shows too left right =
+    let command : b ≡ a = some_command words b a also says in
+    let file : g ≡ f = one_file bytes g f too shows in
+    let same : Answer f a other t = subst (λ (c : Command). Answer f c other t) command (subst (λ (h : RegisterFile). Answer h b other t) file right) in
+    let agree = agree_answers f a text other s t left same in
+    (agree.0, λ not_done. agree.1 (λ spare chunk is. not_done spare chunk (says ∙ ap Some is)))
+
+pub one_output : (words : List (List ℕ)) (bytes text other : List ℕ) (s t : Status) → Output words bytes text s → Output words bytes other t → AgreeFor words text other s t
+one_output words bytes text other s t (usage none_is) (usage also) = (refl, λ not_done. refl)
+one_output words bytes text other s t (usage none_is) (bad_text command fault says is) = absurd (cc (none_is, says))
+one_output words bytes text other s t (usage none_is) (answered command file u v says shows answer) = absurd (cc (none_is, says))
+one_output words bytes text other s t (bad_text command fault says is) (usage none_is) = absurd (cc (none_is, says))
+one_output words bytes text other s t (bad_text command fault says is) (bad_text again offence also too) =
+    let e : Some fault ≡ Some offence = sym is ∙ too in
+    let same : fault ≡ offence = cc e in
+    (refl, λ not_done. ap bad_text_line same)
+one_output words bytes text other s t (bad_text command fault says is) (answered again file u v also shows answer) =
+    let e : Some fault ≡ None = sym is ∙ shown_no_offence bytes file shows in absurd (cc e)
+one_output words bytes text other s t (answered command file u v says shows answer) (usage none_is) = absurd (cc (none_is, says))
+one_output words bytes text other s t (answered command file u v says shows answer) (bad_text again fault also is) =
+    let e : Some fault ≡ None = sym is ∙ shown_no_offence bytes file shows in absurd (cc e)
+one_output words bytes text other s t (answered command file u v says shows answer) (answered again other_file w x also too reply) =
+    agree_answered words bytes u w v x command again file other_file says also shows too answer reply
