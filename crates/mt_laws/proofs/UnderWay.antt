@@ -14,7 +14,7 @@ use Rattle.mt_machine.specs.System.{Processor, System, IsSound}
 use Rattle.mt_machine.specs.Machine.{Machine, Order}
 use Rattle.mt_laws.specs.Claims.{IsUnderWay, OrderHolds, OrdersHold, LinesAreLow}
 use Rattle.mt_laws.proofs.Ranks.{and_right}
-use Rattle.mt_laws.proofs.Files.{AgreeAll}
+use Rattle.mt_machine.proofs.Files.{AgreeAll}
 use Rattle.mt_laws.proofs.Filed.{AllFiled}
 use Rattle.mt_laws.proofs.Accepted.{GoalAccepted}
 use Rattle.mt_laws.proofs.Claims.{all_get}
