@@ -7,6 +7,7 @@ mod laws;
 mod line;
 mod reader;
 mod said;
+mod worked;
 
 pub use canon::{number_text, value_text, write_dump};
 pub use fault::{DumpFault, DumpReason};
@@ -16,3 +17,9 @@ pub use laws::{
     the_canonical_text_shows_its_file, what_is_plainly_shown_is_shown,
 };
 pub use reader::{DumpReader, read_dump};
+pub use worked::{
+    worked_bad_lines, worked_bad_numbers, worked_file, worked_registers, worked_shapes,
+};
+
+#[cfg(test)]
+mod tests;

@@ -1,0 +1,23 @@
+-- Worked dumps.
+use Rattle.std.specs.Prelude.{ℕ, List, codes, Option, Some}
+use Rattle.mt_regs.specs.RegisterFile.{RegisterFile, blank_file}
+use Rattle.mt_dump.specs.Line.{fault_at}
+use Rattle.mt_dump.specs.Dump.{dump_offence}
+use Rattle.mt_dump.specs.Canon.{ended}
+use Rattle.mt_dump.specs.declared.fault.DumpReason.{DumpReason}
+use Rattle.mt_dump.specs.declared.fault.DumpFault.{DumpFault}
+
+-- a fault of this reason at a line and a column
+abbrev pub fault_in : DumpReason → ℕ → ℕ → Option DumpFault
+fault_in reason line column = Some (fault_at reason (record { line = line; column = column }))
+
+-- the first offence of lines that end with LF
+abbrev pub offence_in : List (List ℕ) → Option DumpFault
+offence_in lines = dump_offence (ended lines)
+
+-- two registers, with all that a line may have
+abbrev pub two_registers : List ℕ
+two_registers = codes "0xFE: 400\r\n0x2FF: 0X0000000000000C00 # x\r\n"
+
+abbrev pub two_registers_file : RegisterFile
+two_registers_file = record (blank_file 36 0x400) { default_type = 0xc00 }

@@ -1,0 +1,275 @@
+use crate::{DumpFault, DumpReader, DumpReason, read_dump, write_dump};
+use mt_regs::RegFile;
+use mt_text::{Place, next_line};
+use std::process::Abort;
+
+// What a plain and slow reader finds: the width and up to four registers, the last of them first.
+#[derive(Clone, Copy)]
+struct Plain {
+    width: Option<u64>,
+    given: [Option<(u64, u64)>; 4],
+}
+
+const FIXED: [u64; 11] = [
+    0x250, 0x258, 0x259, 0x268, 0x269, 0x26a, 0x26b, 0x26c, 0x26d, 0x26e, 0x26f,
+];
+
+fn plain_number(word: &[u8], base: u64) -> Option<u64> {
+    let mut value: u64 = 0;
+    for byte in word {
+        let digit = match *byte {
+            b'0'..=b'9' => *byte as u64 - 48,
+            b'a'..=b'f' => *byte as u64 - 87,
+            b'A'..=b'F' => *byte as u64 - 55,
+            _ => return None,
+        };
+        if digit >= base {
+            return None;
+        }
+        value = value.wrapping_mul(base).wrapping_add(digit);
+    }
+    if word.is_empty() { None } else { Some(value) }
+}
+
+fn plain_hexadecimal(word: &[u8]) -> Option<u64> {
+    let digits = match word {
+        [b'0', b'x', digits @ ..] => digits,
+        [b'0', b'X', digits @ ..] => digits,
+        _ => word,
+    };
+    if digits.len() > 16 {
+        None
+    } else {
+        plain_number(digits, 16)
+    }
+}
+
+impl Plain {
+    fn value(&self, number: u64) -> Option<u64> {
+        for register in self.given {
+            if let Some((given, value)) = register {
+                if given == number {
+                    return Some(value);
+                }
+            }
+        }
+        None
+    }
+
+    fn is_writable(&self, capabilities: u64, number: u64) -> bool {
+        let pairs = capabilities % 256;
+        (number >= 0x200 && number - 0x200 < 2 * pairs)
+            || (capabilities / 256 % 2 == 1 && FIXED.contains(&number))
+            || number == 0x277
+            || number == 0x2ff
+    }
+
+    // Takes two words, which begin at these columns.
+    fn take(&mut self, name: &[u8], value: &[u8], at: u64, then: u64) -> Option<(DumpReason, u64)> {
+        let name = match name {
+            [front @ .., b':'] => front,
+            _ => name,
+        };
+        if name == b"maxphyaddr".as_slice() {
+            let Some(width) = plain_number(value, 10) else {
+                return Some((DumpReason::BadNumber, then));
+            };
+            if value.len() > 20 || width < 32 || width > 52 {
+                return Some((DumpReason::BadWidth, then));
+            }
+            if self.width.is_some() {
+                return Some((DumpReason::Repeated, at));
+            }
+            self.width = Some(width);
+            return None;
+        }
+        let Some(number) = plain_hexadecimal(name) else {
+            return Some((DumpReason::BadNumber, at));
+        };
+        let Some(value) = plain_hexadecimal(value) else {
+            return Some((DumpReason::BadNumber, then));
+        };
+        if number == 0xfe && value % 256 > 32 {
+            return Some((DumpReason::TooManyPairs, then));
+        }
+        if number != 0xfe {
+            let Some(capabilities) = self.value(0xfe) else {
+                return Some((DumpReason::NoCap, at));
+            };
+            if !self.is_writable(capabilities, number) {
+                return Some((DumpReason::UnknownRegister, at));
+            }
+        }
+        if self.value(number).is_some() {
+            return Some((DumpReason::Repeated, at));
+        }
+        let [first, second, third, _] = self.given;
+        self.given = [Some((number, value)), first, second, third];
+        None
+    }
+
+    fn take_line(&mut self, line: &[u8]) -> Option<(DumpReason, u64)> {
+        if line.len() > 4096 {
+            return Some((DumpReason::BadLine, 4097));
+        }
+        let line = match line {
+            [front @ .., b'\r'] => front,
+            _ => line,
+        };
+        let text = line.split(|b| *b == b'#').next().unwrap_or(line);
+        let mut column: u64 = 1;
+        let mut first: Option<(&[u8], u64)> = None;
+        let mut second: Option<(&[u8], u64)> = None;
+        for piece in text.split(|b| *b == b' ' || *b == b'\t') {
+            if !piece.is_empty() {
+                if second.is_some() {
+                    return Some((DumpReason::BadLine, column));
+                } else if first.is_some() {
+                    second = Some((piece, column));
+                } else {
+                    first = Some((piece, column));
+                }
+            }
+            column = column.wrapping_add(piece.len() as u64).wrapping_add(1);
+        }
+        let (name, at) = first?;
+        let Some((value, then)) = second else {
+            return Some((DumpReason::BadLine, at));
+        };
+        self.take(name, value, at, then)
+    }
+}
+
+// The plain reader's answer.
+fn plain_reading(text: &[u8]) -> Result<Plain, DumpFault> {
+    let mut plain = Plain {
+        width: None,
+        given: [None; 4],
+    };
+    let mut line: u64 = 0;
+    let mut column: u64 = 1;
+    for bytes in text.split(|b| *b == b'\n') {
+        line = line.wrapping_add(1);
+        column = (bytes.len() as u64).wrapping_add(1);
+        if let Some((reason, column)) = plain.take_line(bytes) {
+            return Err(DumpFault {
+                reason,
+                place: Place { line, column },
+            });
+        }
+    }
+    if plain.value(0xfe).is_some() {
+        Ok(plain)
+    } else {
+        Err(DumpFault {
+            reason: DumpReason::NoCap,
+            place: Place { line, column },
+        })
+    }
+}
+
+// Both readers agree on a text.
+fn expect_agreement<R: Abort>(rt: &R, text: &[u8]) {
+    match (read_dump(text), plain_reading(text)) {
+        (Ok(file), Ok(plain)) => {
+            assert_eq!(rt; file.maxphy as u64, plain.width.unwrap_or(36));
+            for register in plain.given {
+                if let Some((number, value)) = register {
+                    match u32::try_from(number) {
+                        Ok(number) => assert_eq!(rt; file.get(number), Some(value)),
+                        Err(_) => panic!(rt; "no register has this number"),
+                    }
+                }
+            }
+        }
+        (Err(fault), Err(plain)) => assert_eq!(rt; fault, plain),
+        _ => panic!(rt; "one reader refuses what the other takes"),
+    }
+}
+
+#[test]
+fn any_byte_at_any_place(rt: HostRuntime) {
+    let mut text = *b"maxphyaddr 40\n0fe: 101\r\n 200 1#2\n0x250 8";
+    for place in 0..text.len() {
+        let kept = text[place];
+        for byte in 0..=255 {
+            text[place] = byte;
+            expect_agreement(&rt, &text);
+        }
+        text[place] = kept;
+    }
+}
+
+#[test]
+fn lines_of_any_length(rt: HostRuntime) {
+    let mut text = [b' '; 4110];
+    text[4100..4107].copy_from_slice(b"0fe 500");
+    for (end, byte) in [
+        (4095, b'\n'),
+        (4096, b'\n'),
+        (4097, b'\n'),
+        (4096, b'\r'),
+        (4096, b'#'),
+    ] {
+        let kept = text[end];
+        text[end] = byte;
+        expect_agreement(&rt, &text);
+        text[end] = kept;
+    }
+    for text in [
+        b"".as_slice(),
+        b"\n",
+        b"0fe 500",
+        b"0fe 500\n",
+        b"0fe 500\r\n\r\n2ff c06\r\n",
+        b"0fe 500\r\r\n",
+        b"# 0fe 500\r\n",
+        b"0fe 0x",
+        b"0fe 00000000000000500",
+        b"maxphyaddr 000000000000000000036\n0fe 500",
+        b"maxphyaddr 00000000000000000036\n0fe 500",
+        b"0fe 500\nmaxphyaddr 36\nmaxphyaddr: 36",
+    ] {
+        expect_agreement(&rt, text);
+    }
+}
+
+// A line of the canonical text is this, which ends with LF, or nothing.
+fn expect_line<R: Abort>(rt: &R, file: &RegFile, line: u32, text: &[u8]) {
+    let mut into = [0; 24];
+    let count = write_dump(file, line, &mut into);
+    assert_eq!(rt; count, text.len());
+    assert!(rt; count <= 24);
+    assert_eq!(rt; &into[..count], text);
+}
+
+#[test]
+fn the_canonical_text(rt: HostRuntime) {
+    let source = b"0fe 520\nmaxphyaddr 52\n26f 0123456789abcdef\n23f 800";
+    let mut reader = DumpReader::new();
+    let mut at = 0;
+    for number in 1..=4 {
+        assert!(rt; at <= source.len());
+        match next_line(source, at, number) {
+            Some(line) => {
+                assert_eq!(rt; reader.take(&line), Ok(()));
+                at = line.next;
+            }
+            None => panic!(rt; "no line"),
+        }
+    }
+    match reader.finish(Place { line: 4, column: 8 }) {
+        Ok(file) => {
+            assert_eq!(rt; file.count(), 77);
+            expect_line(&rt, &file, 0, b"maxphyaddr 52\n");
+            expect_line(&rt, &file, 1, b"0fe 0000000000000520\n");
+            expect_line(&rt, &file, 65, b"23f 0000000000000800\n");
+            expect_line(&rt, &file, 66, b"250 0000000000000000\n");
+            expect_line(&rt, &file, 76, b"26f 0123456789abcdef\n");
+            expect_line(&rt, &file, 77, b"277 0007040600070406\n");
+            expect_line(&rt, &file, 78, b"2ff 0000000000000000\n");
+            expect_line(&rt, &file, 79, b"");
+        }
+        Err(_) => panic!(rt; "the dump was refused"),
+    }
+}

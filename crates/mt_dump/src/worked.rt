@@ -1,0 +1,58 @@
+ghost use Rattle.std.specs.Prelude.{◌≡◌, ◌∷◌, [], codes};
+ghost use Rattle.mt_dump.specs.Canon.{canon, ended};
+ghost use Rattle.mt_dump.specs.Dump.{Shown, dump_offence};
+ghost use Rattle.mt_dump.specs.Worked.{fault_in, offence_in, two_registers, two_registers_file};
+ghost use Rattle.mt_dump.specs.declared.fault.DumpReason.TheVariants.{BadLine, BadNumber, UnknownRegister, Repeated, NoCap, BadWidth, TooManyPairs};
+
+/// Worked examples of lines with too few or too many words, or too many bytes.
+pub fn worked_bad_lines()
+    ensures one_word { offence_in (codes "0fe" ∷ []) ≡ fault_in BadLine 1 1 }
+    ensures one_word_later { offence_in (codes "# x" ∷ codes "\t\t200: # 6" ∷ []) ≡ fault_in BadLine 2 3 }
+    ensures three_words { offence_in (codes "0fe 508 9" ∷ []) ≡ fault_in BadLine 1 9 }
+    ensures four_words { offence_in (codes "zz\tzz  zz zz" ∷ []) ≡ fault_in BadLine 1 8 }
+{}
+
+/// Worked examples of words that are no numbers.
+pub fn worked_bad_numbers()
+    ensures value { offence_in (codes "0fe 50g" ∷ []) ≡ fault_in BadNumber 1 5 }
+    ensures number { offence_in (codes "0fg 508" ∷ []) ≡ fault_in BadNumber 1 1 }
+    ensures first_before_second { offence_in (codes "0fg 50g" ∷ []) ≡ fault_in BadNumber 1 1 }
+    ensures prefix_alone { offence_in (codes "0fe 0x" ∷ []) ≡ fault_in BadNumber 1 5 }
+    ensures colon_alone { offence_in (codes ": 508" ∷ []) ≡ fault_in BadNumber 1 1 }
+    ensures two_colons { offence_in (codes "0fe:: 508" ∷ []) ≡ fault_in BadNumber 1 1 }
+    ensures colon_of_value { offence_in (codes "0fe 508:" ∷ []) ≡ fault_in BadNumber 1 5 }
+    ensures width_in_hexadecimal { offence_in (codes "maxphyaddr 2a" ∷ []) ≡ fault_in BadNumber 1 12 }
+    ensures seventeen_digits { offence_in (codes "0fe 00000000000000508" ∷ []) ≡ fault_in BadNumber 1 5 }
+{}
+
+/// Worked examples of widths and of too many pairs.
+pub fn worked_shapes()
+    ensures wide { offence_in (codes "maxphyaddr 53" ∷ []) ≡ fault_in BadWidth 1 12 }
+    ensures narrow { offence_in (codes "maxphyaddr 31" ∷ []) ≡ fault_in BadWidth 1 12 }
+    ensures many_digits { offence_in (codes "maxphyaddr 000000000000000000036" ∷ []) ≡ fault_in BadWidth 1 12 }
+    ensures pairs { offence_in (codes "0fe 21" ∷ []) ≡ fault_in TooManyPairs 1 5 }
+    ensures pairs_before_repeated { offence_in (codes "0fe 20" ∷ codes "0fe 21" ∷ []) ≡ fault_in TooManyPairs 2 5 }
+{}
+
+/// Worked examples of registers that can't stand where they do.
+pub fn worked_registers()
+    ensures empty { dump_offence [] ≡ fault_in NoCap 1 1 }
+    ensures no_line_end { dump_offence (codes "# nothing") ≡ fault_in NoCap 1 10 }
+    ensures no_capabilities { offence_in (codes "maxphyaddr 40" ∷ codes "" ∷ []) ≡ fault_in NoCap 3 1 }
+    ensures too_early { offence_in (codes "200 6" ∷ codes "0fe 508" ∷ []) ≡ fault_in NoCap 1 1 }
+    ensures too_early_though_unknown { offence_in (codes "  210 6" ∷ []) ≡ fault_in NoCap 1 3 }
+    ensures unknown { offence_in (codes "0fe 508" ∷ codes "210 6" ∷ []) ≡ fault_in UnknownRegister 2 1 }
+    ensures no_fixed { offence_in (codes "0fe 408" ∷ codes "250 0" ∷ []) ≡ fault_in UnknownRegister 2 1 }
+    ensures high_number { offence_in (codes "0fe 508" ∷ codes "1000000fe 508" ∷ []) ≡ fault_in UnknownRegister 2 1 }
+    ensures repeated { offence_in (codes "0fe 508" ∷ codes "2ff c06" ∷ codes "02FF 0" ∷ []) ≡ fault_in Repeated 3 1 }
+    ensures repeated_capabilities { offence_in (codes "0fe 508" ∷ codes " \t0FE: 508" ∷ []) ≡ fault_in Repeated 2 3 }
+    ensures repeated_width { offence_in (codes "maxphyaddr: 40" ∷ codes "maxphyaddr 40" ∷ []) ≡ fault_in Repeated 2 1 }
+    ensures unknown_before_repeated { offence_in (codes "0fe 0" ∷ codes "200 0" ∷ codes "200 0" ∷ []) ≡ fault_in UnknownRegister 2 1 }
+    ensures first_line { offence_in (codes "0fe 508" ∷ codes "201" ∷ codes "0fe" ∷ []) ≡ fault_in BadLine 2 1 }
+{}
+
+/// A worked example of a text, the file that it shows, and the file's canonical text.
+pub fn worked_file()
+    ensures shown { Shown two_registers two_registers_file }
+    ensures canonical { canon two_registers_file ≡ ended (codes "maxphyaddr 36" ∷ codes "0fe 0000000000000400" ∷ codes "277 0007040600070406" ∷ codes "2ff 0000000000000c00" ∷ []) }
+{}

@@ -1,0 +1,54 @@
+ghost use Rattle.std.specs.Prelude.{◌≡◌, ◌∷◌, [], codes, Ok, Err};
+ghost use Rattle.mt_text.specs.Number.{hex_number, decimal_number};
+ghost use Rattle.mt_text.specs.Text.{end_of, lines_of, words_at, words_of};
+ghost use Rattle.mt_text.specs.declared.fault.NumberFault.TheVariants.{NotDigit, TooLarge};
+
+/// Worked examples of lines and of the place after them.
+pub fn worked_lines()
+    ensures two { lines_of (codes "0fe 508\n2ff c06") ≡ codes "0fe 508" ∷ codes "2ff c06" ∷ [] }
+    ensures ended { lines_of (codes "\nx\r\n") ≡ [] ∷ codes "x\r" ∷ [] }
+    ensures empty { end_of [] ≡ record { line = 1; column = 1 } }
+    ensures after_line_end { end_of (codes "x\n\n") ≡ record { line = 3; column = 1 } }
+    ensures after_byte { end_of (codes "x\n\tyz") ≡ record { line = 2; column = 4 } }
+{}
+
+/// Worked examples of words, each with its offset.
+pub fn worked_words()
+    ensures two { words_of (codes " 0fe:\t\t508 ") ≡ (1, codes "0fe:") ∷ (7, codes "508") ∷ [] }
+    ensures none { words_of (codes " \t ") ≡ [] }
+    ensures comment { words_of (codes "200#6 # 7") ≡ (0, codes "200") ∷ [] }
+    ensures only_comment { words_of (codes "# 200 6") ≡ [] }
+    ensures return_at_the_end { words_of (codes "200 6\r") ≡ (0, codes "200") ∷ (4, codes "6") ∷ [] }
+    ensures return_within { words_of (codes "200\r 6") ≡ (0, codes "200\r") ∷ (5, codes "6") ∷ [] }
+    ensures two_returns { words_of (codes "6\r\r") ≡ (0, codes "6\r") ∷ [] }
+    ensures return_in_a_comment { words_of (codes "6#\r") ≡ (0, codes "6") ∷ [] }
+    ensures in_a_source { words_at 100 (codes " 200 6") ≡ (101, codes "200") ∷ (105, codes "6") ∷ [] }
+{}
+
+/// Worked examples of hexadecimal words.
+pub fn worked_hexadecimal()
+    ensures plain { hex_number (codes "2fF") ≡ Ok 0x2ff }
+    ensures small_prefix { hex_number (codes "0xfe") ≡ Ok 0xfe }
+    ensures great_prefix { hex_number (codes "0X0000000000000C00") ≡ Ok 0xc00 }
+    ensures greatest { hex_number (codes "ffffffffffffffff") ≡ Ok 0xffffffffffffffff }
+    ensures zero { hex_number (codes "0") ≡ Ok 0 }
+    ensures empty { hex_number [] ≡ Err NotDigit }
+    ensures prefix_alone { hex_number (codes "0x") ≡ Err NotDigit }
+    ensures prefix_twice { hex_number (codes "0x0x1") ≡ Err NotDigit }
+    ensures other_byte { hex_number (codes "50g") ≡ Err NotDigit }
+    ensures other_byte_far_out { hex_number (codes "0000000000000000000g") ≡ Err NotDigit }
+    ensures long { hex_number (codes "00000000000000001") ≡ Err TooLarge }
+{}
+
+/// Worked examples of decimal words.
+pub fn worked_decimal()
+    ensures plain { decimal_number (codes "40") 52 ≡ Ok 40 }
+    ensures at_most { decimal_number (codes "052") 52 ≡ Ok 52 }
+    ensures past { decimal_number (codes "53") 52 ≡ Err TooLarge }
+    ensures twenty_digits { decimal_number (codes "00000000000000000036") 52 ≡ Ok 36 }
+    ensures long { decimal_number (codes "000000000000000000036") 52 ≡ Err TooLarge }
+    ensures greatest { decimal_number (codes "18446744073709551615") 0xffffffffffffffff ≡ Ok 0xffffffffffffffff }
+    ensures too_large { decimal_number (codes "18446744073709551616") 0xffffffffffffffff ≡ Err TooLarge }
+    ensures empty { decimal_number [] 52 ≡ Err NotDigit }
+    ensures hexadecimal { decimal_number (codes "4a") 52 ≡ Err NotDigit }
+{}
