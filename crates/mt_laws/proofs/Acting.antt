@@ -19,7 +19,8 @@ use Rattle.mt_machine.specs.Access.{access, access_at, is_running, Answered}
 use Rattle.mt_machine.specs.Control.{control, control_at, RuledAfter}
 use Rattle.mt_machine.specs.Machine.{Machine, Order, Steps, IsEnabled, Reached, due, is_cancelled, first_barrier_open, second_barrier_open, write_back_event, write_back_or_drop}
 use Rattle.mt_machine.specs.Start.{IsStart}
-use Rattle.mt_laws.specs.Claims.{NoneActsInChange, NoBuffersAtPass}
+use Rattle.mt_laws.specs.Barriers.{NoneActsInChange}
+use Rattle.mt_laws.specs.Settled.{NoBuffersAtPass}
 use Rattle.mt_laws.proofs.Stages.{stage_of, stages}
 use Rattle.mt_laws.proofs.Ranks.{rank, rank_of, is_ahead, Guarded, stage_at, all_second}
 use Rattle.mt_laws.proofs.Renewed.{AllClear}

@@ -14,7 +14,7 @@ use Rattle.mt_machine.specs.Access.{is_running}
 use Rattle.mt_machine.specs.Machine.{Machine, Order, MachineEvent, Accesses, Controls, Calls, Goes, Cancels, Steps, due, own_step, step, is_cancelled, is_given, remaining_order, is_over, run, AreEnabled, at_start, go_of, IsEnabled, next}
 use Rattle.mt_machine.specs.Update.{is_led, is_cancel, is_go, taker, takes_of, emptied, updated, Led, led_start, led_on}
 use Rattle.mt_machine.specs.Start.{IsStart, IsBroadcast}
-use Rattle.mt_laws.specs.Claims.{BroadcastUpdate, CancelledBroadcast, LedUpdate}
+use Rattle.mt_laws.specs.Updates.{BroadcastUpdate, CancelledBroadcast, LedUpdate}
 use Rattle.mt_machine.specs.declared.go.Go.{Go}
 use Rattle.mt_laws.proofs.Stages.{Stage, stage_of, stages}
 use Rattle.mt_laws.proofs.Ranks.{rank, rank_of, At, Guarded, at_set, stage_at, and_left, and_right}

@@ -14,7 +14,7 @@ use Rattle.mt_machine.specs.Bus.{drain}
 use Rattle.mt_machine.specs.Access.{is_running}
 use Rattle.mt_machine.specs.Machine.{Machine, Order, MachineEvent, Accesses, Controls, Calls, Goes, Cancels, Steps, next, due, own_step, step, is_given, is_cancelled, first_barrier_open, remaining_order, is_over, run, AreEnabled}
 use Rattle.mt_machine.specs.Update.{is_led, is_go, taker, takes_of, emptied}
-use Rattle.mt_laws.specs.Claims.{CancelledUpdate}
+use Rattle.mt_laws.specs.Updates.{CancelledUpdate}
 use Rattle.mt_laws.proofs.Stages.{stage_of, stages, drain_stages}
 use Rattle.mt_laws.proofs.Ranks.{rank, rank_of, is_ahead, Guarded, stage_at, and_right}
 use Rattle.mt_laws.proofs.Barriers.{Rest, Kept, keeps}

@@ -10,7 +10,7 @@ use Rattle.mt_machine.specs.System.{Processor, System}
 use Rattle.mt_machine.specs.Access.{is_running}
 use Rattle.mt_machine.specs.Machine.{Machine, Order, Reached, is_changing, is_arrived, is_arrived_again, has_passed, has_arrived, has_arrived_again, has_released, common_era}
 use Rattle.mt_machine.specs.Start.{IsQuiet, IsBroadcast, IsStart}
-use Rattle.mt_laws.specs.Claims.{IsAt, BarriersHold, NoneRunsInChange}
+use Rattle.mt_laws.specs.Barriers.{IsAt, BarriersHold, NoneRunsInChange}
 use Rattle.mt_laws.proofs.Stages.{Stage, stage_of, stages}
 use Rattle.mt_laws.proofs.Ranks.{rank, rank_of, is_ahead, At, Guarded, processor_at, stage_at}
 use Rattle.mt_laws.proofs.Barriers.{Rest, Kept, Invariant, reached_keeps}

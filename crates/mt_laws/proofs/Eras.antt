@@ -10,7 +10,7 @@ use Rattle.mt_machine.specs.Access.{access}
 use Rattle.mt_machine.specs.Control.{control}
 use Rattle.mt_machine.specs.Machine.{Order, MachineEvent, Accesses, Controls, Calls, Goes, Cancels, Steps, IsEnabled, next, due, step, common_era, is_over, remaining_order}
 use Rattle.mt_machine.specs.Update.{is_call}
-use Rattle.mt_laws.specs.Claims.{HasEras, ErasFit}
+use Rattle.mt_laws.specs.Starts.{HasEras, ErasFit}
 use Rattle.mt_laws.proofs.Stages.{Stage, stage_of, stages, access_stages, control_stages}
 use Rattle.mt_laws.proofs.Ranks.{At, Guarded, stage_at, processor_at}
 use Rattle.mt_laws.proofs.Barriers.{Kept, step_guarded, reached_keeps}

@@ -16,7 +16,7 @@ use Rattle.mt_machine.specs.System.{Processor, System}
 use Rattle.mt_machine.specs.Access.{is_running}
 use Rattle.mt_machine.specs.Machine.{Machine, Order, MachineEvent, Accesses, Controls, Calls, Goes, Cancels, Steps, IsEnabled, next, due, own_step, step, remaining_order, is_given, is_cancelled, is_waiting_to_pass, has_released, has_passed, is_changing, is_arrived_again, second_barrier_open, run, AreEnabled}
 use Rattle.mt_machine.specs.Update.{stored_word, stored_words, is_release}
-use Rattle.mt_laws.specs.Claims.{HeldAfterRelease}
+use Rattle.mt_laws.specs.Settled.{HeldAfterRelease}
 use Rattle.mt_laws.proofs.Stages.{Stage, stage_of, stages}
 use Rattle.mt_laws.proofs.Ranks.{rank, rank_of, is_ahead, At, Guarded, not_both, processor_at, stage_at, all_at, all_fourth, and_left, and_right}
 use Rattle.mt_laws.proofs.Barriers.{Kept, step_moves, step_stages, step_guarded, flush_era}

@@ -6,7 +6,8 @@ use Rattle.mt_machine.specs.Memory.{Window}
 use Rattle.mt_machine.specs.System.{IsSound, System, now}
 use Rattle.mt_machine.specs.Machine.{Machine, Order, Steps, next, Reached, at_start, after, MachineEvent, Accesses, Controls, Calls, Goes, Cancels, IsEnabled}
 use Rattle.mt_machine.specs.Start.{IsQuiet, IsBroadcast, IsStart}
-use Rattle.mt_laws.specs.Claims.{StaysCoherent, StepsKeepNow, is_of_update, is_take_step}
+use Rattle.mt_laws.specs.Sound.{StaysCoherent}
+use Rattle.mt_laws.specs.Kept.{StepsKeepNow, is_of_update, is_take_step}
 use Rattle.mt_laws.proofs.MemoryLaws.{AllAligned}
 use Rattle.mt_laws.proofs.Renewed.{is_take}
 use Rattle.mt_laws.proofs.Agreement.{Agrees, agrees_next, stands_next, step_keeps_word}

@@ -17,7 +17,7 @@ use Rattle.mt_machine.specs.Access.{is_running}
 use Rattle.mt_machine.specs.Machine.{Machine, Order, MachineEvent, Accesses, Controls, Calls, Goes, Cancels, Steps, IsEnabled, next, Reached, at_start, after, run, AreEnabled, due, own_step, step, is_over, remaining_order, is_given, has_released}
 use Rattle.mt_machine.specs.Update.{is_call}
 use Rattle.mt_machine.specs.Start.{IsQuiet, IsBroadcast, IsStart}
-use Rattle.mt_laws.specs.Claims.{IsAt}
+use Rattle.mt_laws.specs.Barriers.{IsAt}
 use Rattle.mt_laws.proofs.Stages.{Stage, stage_of, stages_of, stages, access_stages, control_stages}
 use Rattle.mt_laws.proofs.Ranks.{rank, rank_of, is_ahead, At, Guarded, not_both, stage_at, and_left, and_right}
 use Rattle.mt_laws.proofs.Barriers.{Kept, Invariant, keeps, step_moves, step_stages, step_guarded}

@@ -14,7 +14,7 @@ use Rattle.mt_machine.specs.Bus.{drain}
 use Rattle.mt_machine.specs.Machine.{Machine, Order, MachineEvent, Accesses, Controls, Calls, Goes, Cancels, Steps, run, AreEnabled, due, step, is_cancelled, is_over, remaining_order, second_barrier_open}
 use Rattle.mt_machine.specs.Start.{IsStart}
 use Rattle.mt_machine.specs.Update.{is_led, is_cancel, emptied, taker, takes_of, settled_processor}
-use Rattle.mt_laws.specs.Claims.{HoldsNothing, LedToSecondBarrier}
+use Rattle.mt_laws.specs.Updates.{HoldsNothing, LedToSecondBarrier}
 use Rattle.mt_laws.proofs.Stages.{Stage, stage_of, stages}
 use Rattle.mt_laws.proofs.Ranks.{rank, rank_of, is_ahead, At, stage_at, all_fourth}
 use Rattle.mt_laws.proofs.MemoryLaws.{AllAligned}

@@ -14,7 +14,8 @@ use Rattle.mt_machine.specs.System.{Processor, System, IsProcessor, is_writing}
 use Rattle.mt_machine.specs.Machine.{Machine, Order, MachineEvent, Accesses, Controls, Calls, Goes, Cancels, Steps, IsEnabled, next, Reached, at_start, after, run, AreEnabled, due, step, is_over, remaining_order, FitsGoal}
 use Rattle.mt_machine.specs.Update.{is_call}
 use Rattle.mt_machine.specs.Start.{IsQuiet, IsBroadcast, IsStart}
-use Rattle.mt_laws.specs.Claims.{IsAt, SettledAfterEachRelease}
+use Rattle.mt_laws.specs.Barriers.{IsAt}
+use Rattle.mt_laws.specs.Settled.{SettledAfterEachRelease}
 use Rattle.mt_laws.proofs.Stages.{stage_of, stages_of, stages}
 use Rattle.mt_laws.proofs.Ranks.{rank, rank_of, is_ahead, Guarded, stage_at, and_left, and_right}
 use Rattle.mt_laws.proofs.Barriers.{Kept, step_guarded}

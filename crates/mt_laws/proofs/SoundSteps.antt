@@ -8,7 +8,7 @@ use Rattle.mt_machine.specs.Bus.{drain}
 use Rattle.mt_machine.specs.Access.{access}
 use Rattle.mt_machine.specs.Control.{control}
 use Rattle.mt_machine.specs.Machine.{Machine}
-use Rattle.mt_laws.specs.Claims.{AccessKeepsSound, ControlKeepsSound, DrainKeepsSound}
+use Rattle.mt_laws.specs.Sound.{AccessKeepsSound, ControlKeepsSound, DrainKeepsSound}
 use Rattle.mt_laws.proofs.MemoryLaws.{AllAligned}
 use Rattle.mt_laws.proofs.Follows.{Follows, follows_access, follows_control, follows_drain}
 use Rattle.mt_laws.proofs.Accepted.{accepted_follows}

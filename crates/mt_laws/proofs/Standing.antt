@@ -10,7 +10,7 @@ use Rattle.mt_machine.specs.System.{Processor, IsProcessor, IsSound, is_writing}
 use Rattle.mt_machine.specs.Access.{is_running}
 use Rattle.mt_machine.specs.Machine.{Machine, Order, MachineEvent, IsEnabled, next, Reached, at_start, after}
 use Rattle.mt_machine.specs.Start.{IsQuiet, IsBroadcast, IsStart}
-use Rattle.mt_laws.specs.Claims.{StaysSound}
+use Rattle.mt_laws.specs.Sound.{StaysSound}
 use Rattle.mt_laws.proofs.Ranks.{stage_at}
 use Rattle.mt_laws.proofs.Stages.{stage_of, stages}
 use Rattle.mt_laws.proofs.Barriers.{Kept}

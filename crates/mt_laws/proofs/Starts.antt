@@ -13,7 +13,7 @@ use Rattle.mt_machine.specs.System.{Processor, IsCoherent, IsProcessor, IsSound,
 use Rattle.mt_machine.specs.Access.{is_running}
 use Rattle.mt_machine.specs.Machine.{FitsGoal, common_era}
 use Rattle.mt_machine.specs.Start.{start_machine}
-use Rattle.mt_laws.specs.Claims.{StartIsQuiet}
+use Rattle.mt_laws.specs.Starts.{StartIsQuiet}
 use Rattle.mt_laws.proofs.Claims.{all_get}
 
 nothing : {X : Type 0} (P : X → Type 0) → All P []

@@ -15,7 +15,9 @@ use Rattle.mt_machine.specs.Access.{access, is_running}
 use Rattle.mt_machine.specs.Control.{control}
 use Rattle.mt_machine.specs.Machine.{Machine, Order, MachineEvent, Accesses, Controls, Calls, Goes, Cancels, Steps, IsEnabled, next, due, own_step, before_own, step, is_cancelled, is_waiting_to_pass, first_barrier_open, remaining_order, run, AreEnabled}
 use Rattle.mt_machine.specs.Update.{dirty_count, is_step_of, is_release}
-use Rattle.mt_laws.specs.Claims.{IsAt, CountOfSteps, is_take_step, IsCounted}
+use Rattle.mt_laws.specs.Barriers.{IsAt}
+use Rattle.mt_laws.specs.Counts.{CountOfSteps, IsCounted}
+use Rattle.mt_laws.specs.Kept.{is_take_step}
 use Rattle.mt_laws.proofs.Stages.{Stage, stage_of, stages, access_stages, control_stages}
 use Rattle.mt_laws.proofs.Ranks.{At, processor_at, stage_at, and_left, and_right}
 use Rattle.mt_laws.proofs.Barriers.{step_stages}

@@ -5,7 +5,7 @@ use Rattle.std.specs.Option.{option_map_or}
 use Rattle.mt_machine.specs.declared.event.Event.TheVariants.{Arrive, Leave}
 use Rattle.mt_machine.specs.System.{Processor, System, change}
 use Rattle.mt_machine.specs.Machine.{Machine, Order, MachineEvent, Calls, Goes, Cancels, Steps, next, own_step}
-use Rattle.mt_laws.specs.Claims.{SameHoldings, is_still, holdings_of}
+use Rattle.mt_laws.specs.Kept.{SameHoldings, is_still, holdings_of}
 
 module _ {X : Type 0} (view : Processor → X) where
   set_view : (ps : List Processor) (k : ℕ) (p q : Processor) → slice_get ps k ≡ Some p → view q ≡ view p → map view (slice_set ps k q) ≡ map view ps

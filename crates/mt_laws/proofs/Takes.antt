@@ -16,7 +16,8 @@ use Rattle.mt_machine.specs.Access.{access, is_running, access_at, Answered}
 use Rattle.mt_machine.specs.Machine.{Machine, Order, MachineEvent, Accesses, Controls, Calls, Goes, Cancels, Steps, IsEnabled, next, run, AreEnabled, due, own_step, step, has_released, is_cancelled, is_over, remaining_order, common_era}
 use Rattle.mt_machine.specs.Start.{IsQuiet}
 use Rattle.mt_machine.specs.Update.{is_led, is_cancel, taker, takes_of}
-use Rattle.mt_laws.specs.Claims.{TakesAtMostOnce, TakesOnce, TakeFences}
+use Rattle.mt_laws.specs.Counts.{TakesAtMostOnce, TakesOnce}
+use Rattle.mt_laws.specs.Kept.{TakeFences}
 use Rattle.mt_laws.proofs.Stages.{Stage, stage_of, stages}
 use Rattle.mt_laws.proofs.Ranks.{rank, rank_of, is_ahead, At, Guarded, stage_at, processor_at, all_at}
 use Rattle.mt_laws.proofs.Barriers.{Kept, keeps, step_moves, step_stages, step_guarded}

@@ -12,7 +12,8 @@ use Rattle.mt_cache.specs.declared.line.CacheLine.{CacheLine}
 use Rattle.mt_machine.specs.Memory.{Memory, Window, window_end, place, place_in, word_address}
 use Rattle.mt_machine.specs.System.{Processor, System, IsSound}
 use Rattle.mt_machine.specs.Machine.{Machine, Order}
-use Rattle.mt_laws.specs.Claims.{IsUnderWay, OrderHolds, OrdersHold, LinesAreLow}
+use Rattle.mt_laws.specs.Kept.{IsUnderWay, OrderHolds, OrdersHold}
+use Rattle.mt_laws.specs.Sound.{LinesAreLow}
 use Rattle.mt_laws.proofs.Ranks.{and_right}
 use Rattle.mt_machine.proofs.Files.{AgreeAll}
 use Rattle.mt_laws.proofs.Filed.{AllFiled}

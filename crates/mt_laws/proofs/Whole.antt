@@ -19,7 +19,7 @@ use Rattle.mt_machine.specs.Access.{is_running}
 use Rattle.mt_machine.specs.Machine.{Machine, Order, MachineEvent, Accesses, Controls, Calls, Goes, Cancels, Steps, next, due, own_step, before_own, step, is_cancelled, is_waiting_to_pass, has_released, first_barrier_open, common_era, remaining_order, is_over, run, AreEnabled, at_start, after, Reached}
 use Rattle.mt_machine.specs.Update.{is_led, is_cancel, taker, takes_of, emptied, settled_processor, updated, addresses}
 use Rattle.mt_machine.specs.Start.{IsStart}
-use Rattle.mt_laws.specs.Claims.{WholeUpdate}
+use Rattle.mt_laws.specs.Updates.{WholeUpdate}
 use Rattle.mt_laws.proofs.Stages.{Stage, stage_of, stages}
 use Rattle.mt_laws.proofs.Ranks.{rank, rank_of, is_ahead, At, Guarded, at_set, processor_at, stage_at, all_at, all_second, and_left, and_right}
 use Rattle.mt_laws.proofs.Barriers.{step_moves, step_stages, step_guarded}

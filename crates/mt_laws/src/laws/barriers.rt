@@ -1,4 +1,4 @@
-ghost use Rattle.mt_laws.specs.Claims.{BarriersHold, NoneActsInChange, NoneRunsInChange};
+ghost use Rattle.mt_laws.specs.Barriers.{BarriersHold, NoneActsInChange, NoneRunsInChange};
 ghost use Rattle.mt_machine.specs.Machine.{Machine, Reached};
 ghost use Rattle.mt_machine.specs.Start.{IsStart};
 

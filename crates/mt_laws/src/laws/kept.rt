@@ -1,4 +1,5 @@
-ghost use Rattle.mt_laws.specs.Claims.{AccessKeepsSound, ControlKeepsSound, DrainKeepsSound, LinesAreLow, OrdersHold, StaysCoherent, StaysSound, StepsKeepNow, StillEventsKeep, TakeFences};
+ghost use Rattle.mt_laws.specs.Sound.{AccessKeepsSound, ControlKeepsSound, DrainKeepsSound, LinesAreLow, StaysCoherent, StaysSound};
+ghost use Rattle.mt_laws.specs.Kept.{OrdersHold, StepsKeepNow, StillEventsKeep, TakeFences};
 
 /// Take is a fence, and the events of the coordinator, Arrive and Leave keep all that is held.
 pub fn events_keep()

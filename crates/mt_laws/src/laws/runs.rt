@@ -1,4 +1,4 @@
-ghost use Rattle.mt_laws.specs.Claims.{LedIsReached, ReachedIsRun};
+ghost use Rattle.mt_laws.specs.Runs.{LedIsReached, ReachedIsRun};
 
 /// A reached state is the state after a list of enabled events, and the other way round.
 pub fn reached_is_run()

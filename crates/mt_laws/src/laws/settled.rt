@@ -1,4 +1,4 @@
-ghost use Rattle.mt_laws.specs.Claims.{HeldAfterRelease, NoBuffersAtPass, SettledAfterEachRelease};
+ghost use Rattle.mt_laws.specs.Settled.{HeldAfterRelease, NoBuffersAtPass, SettledAfterEachRelease};
 
 /// From a release on, and up to the next call, each processor has the goal's registers and holds nothing older than the update.
 pub fn settled_after_each_release()

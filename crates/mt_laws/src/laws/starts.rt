@@ -1,4 +1,4 @@
-ghost use Rattle.mt_laws.specs.Claims.{ErasFit, StartIsQuiet};
+ghost use Rattle.mt_laws.specs.Starts.{ErasFit, StartIsQuiet};
 
 /// A system at its start is one from which the laws hold, whatever accepted file its processors have.
 pub fn start_is_quiet()

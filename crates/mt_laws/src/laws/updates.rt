@@ -1,4 +1,5 @@
-ghost use Rattle.mt_laws.specs.Claims.{BroadcastUpdate, CancelledBroadcast, CancelledUpdate, CountOfSteps, LedToSecondBarrier, LedUpdate, TakesAtMostOnce, TakesOnce, WholeUpdate};
+ghost use Rattle.mt_laws.specs.Updates.{BroadcastUpdate, CancelledBroadcast, CancelledUpdate, LedToSecondBarrier, LedUpdate, WholeUpdate};
+ghost use Rattle.mt_laws.specs.Counts.{CountOfSteps, TakesAtMostOnce, TakesOnce};
 
 /// A whole update without accesses or controls ends in the state that is given outright, and each
 /// processor takes once in it.

@@ -1,0 +1,29 @@
+-- What the two barriers keep in each reached state.
+use Rattle.std.specs.Prelude.{◌≡◌, ℕ, true, false, slice_get, Some}
+use Rattle.mt_machine.specs.System.{Processor}
+use Rattle.mt_machine.specs.Machine.{Machine, Order, is_changing, has_passed, has_arrived, has_arrived_again, has_released}
+use Rattle.mt_machine.specs.Access.{is_running, access}
+use Rattle.mt_machine.specs.declared.op.Op.{Op}
+use Rattle.mt_machine.specs.declared.done.Done.TheVariants.{Busy}
+use Rattle.mt_machine.specs.declared.control.Control.{Control}
+use Rattle.mt_machine.specs.declared.ruled.Ruled.TheVariants.{Busy as RuledBusy}
+use Rattle.mt_machine.specs.Control.{control}
+
+abbrev pub IsAt : Machine → ℕ → Processor → Type 0
+IsAt m i p = slice_get m.system.processors i ≡ Some p
+
+-- where some processor has passed the first barrier, each has arrived at it; where some has released, each has arrived at the second
+pub record BarriersHold (m : Machine) : Type 0 where
+  pub first : (o : Order) (i j : ℕ) (p q : Processor) → m.order ≡ Some o → IsAt m i p → IsAt m j q → has_passed o p ≡ true → has_arrived o q ≡ true
+  pub second : (o : Order) (i j : ℕ) (p q : Processor) → m.order ≡ Some o → IsAt m i p → IsAt m j q → has_released o p ≡ true → has_arrived_again o q ≡ true
+
+-- while some processor changes its registers, none runs
+abbrev pub NoneRunsInChange : Machine → Type 0
+NoneRunsInChange m =
+    (i j : ℕ) (p q : Processor) → IsAt m i p → IsAt m j q → is_changing p.phase ≡ true → is_running q.phase ≡ false
+
+-- and then no processor accesses memory, and none does a control instruction
+abbrev pub NoneActsInChange : Machine → Type 0
+NoneActsInChange m =
+    (i k : ℕ) (p : Processor) (op : Op) (c : Control) → IsAt m i p → is_changing p.phase ≡ true
+    → (access m.system k op ≡ record { answer = Busy; after = m.system }) × (control m.system k c ≡ record { answer = RuledBusy; after = m.system })

@@ -1,0 +1,36 @@
+-- What holds from the first release of an update on.
+use Rattle.std.specs.Prelude.{◌≡◌, ℕ, ◌+◌, true, false, not, List, [], ◌∷◌, Some, ◌++◌}
+use Rattle.std.specs.List.{list_all, All}
+use Rattle.mt_machine.specs.Machine.{Machine, Order, has_passed, Reached, MachineEvent, Steps, IsEnabled, next, run, AreEnabled}
+use Rattle.mt_machine.specs.declared.event.Event.TheVariants.{Pass, Release}
+use Rattle.mt_machine.specs.Update.{IsSettled, IsHeld, is_release, is_call}
+use Rattle.mt_machine.specs.Start.{IsStart}
+
+-- p stands before the first pass of its update, and the first release leads to r
+pub record IsFirstRelease (p r : Machine) (o : Order) : Type 0 where
+  pub order : p.order ≡ Some o
+  pub none_passed : All (λ q. has_passed o q ≡ false) p.system.processors
+  pub first : ℕ
+  pub last : ℕ
+  pub between : List MachineEvent
+  pub no_release : list_all (λ e. not (is_release e)) between ≡ true
+  pub enabled : AreEnabled p (Steps first Pass ∷ between ++ Steps last Release ∷ [])
+  pub leads : r ≡ run p (Steps first Pass ∷ between ++ Steps last Release ∷ [])
+
+-- each word that no access stored since the first release is in memory as it was before the first pass
+abbrev pub HeldAfterRelease : Type 0
+HeldAfterRelease =
+    (s p r : Machine) (o : Order) (since : List MachineEvent) → IsStart s → Reached s p → IsFirstRelease p r o → AreEnabled r since
+    → IsHeld p.system r since
+
+-- where some processor may pass the first barrier, none has a buffer
+abbrev pub NoBuffersAtPass : Type 0
+NoBuffersAtPass =
+    (s p : Machine) (k : ℕ) → IsStart s → Reached s p → IsEnabled p (Steps k Pass) → All (λ q. q.buffers ≡ []) p.system.processors
+
+-- each processor's file is the goal, and nothing is held that is older than the update
+abbrev pub SettledAfterEachRelease : Type 0
+SettledAfterEachRelease =
+    (s m : Machine) (o : Order) (k : ℕ) (since : List MachineEvent) → IsStart s → Reached s m → m.order ≡ Some o
+    → IsEnabled m (Steps k Release) → AreEnabled (next m (Steps k Release)) since → list_all (λ e. not (is_call e)) since ≡ true
+    → IsSettled (run (next m (Steps k Release)) since).system (o.from_era + 1) o.goal

@@ -1,0 +1,27 @@
+-- The start, and the eras.
+use Rattle.std.specs.Prelude.{◌≡◌, ℕ, ◌%◌, true, List, Some, ◌≤◌, ◌<◌, ◌-◌, ◌^◌}
+use Rattle.std.specs.List.{All, AllPairs}
+use Rattle.mt_machine.specs.Machine.{Machine, Order, Reached, MachineEvent, IsEnabled, next}
+use Rattle.mt_regs.specs.RegisterFile.{RegisterFile, IsRegisterFile}
+use Rattle.mt_machine.specs.Update.{is_call}
+use Rattle.mt_machine.specs.Start.{IsQuiet, IsStart, HasEraRoom, start_machine}
+use Rattle.mt_regs.specs.Faults.{IsAccepted}
+use Rattle.mt_machine.specs.Memory.{Window, window_end, AreApart}
+
+-- processors with one accepted file, over windows of zero words, are a quiet start
+abbrev pub StartIsQuiet : Type 0
+StartIsQuiet =
+    (count : ℕ) (f : RegisterFile) (ws : List Window) → IsRegisterFile f → IsAccepted f
+    → All (λ w. w.base % 64 ≡ 0) ws → All (λ w. window_end w ≤ 2 ^ 52) ws → AllPairs AreApart ws
+    → IsQuiet (start_machine count f ws)
+
+-- the eras fit 64 bits, also once the update under way has ended
+pub record HasEras (m : Machine) : Type 0 where
+  pub each : All (λ p. p.era < 2 ^ 64) m.system.processors
+  pub order : (o : Order) → m.order ≡ Some o → o.from_era < 2 ^ 64 - 1
+
+-- no event leads out of 64 bits, where an update is called only while the eras have room
+abbrev pub ErasFit : Type 0
+ErasFit =
+    (s m : Machine) (e : MachineEvent) → IsStart s → Reached s m → HasEras m → IsEnabled m e → (is_call e ≡ true → HasEraRoom m)
+    → HasEras (next m e)
