@@ -14,7 +14,7 @@ use Rattle.mt_machine.specs.Access.{is_running}
 use Rattle.mt_machine.specs.Machine.{Machine, Order, MachineEvent, Accesses, Controls, Calls, Goes, Cancels, Steps, due, own_step, step, is_cancelled, is_given, remaining_order, is_over, run, AreEnabled, at_start, go_of, IsEnabled, next}
 use Rattle.mt_machine.specs.Update.{is_led, is_cancel, is_go, taker, takes_of, emptied, updated, Led, led_start, led_on}
 use Rattle.mt_machine.specs.Start.{IsStart, IsBroadcast}
-use Rattle.mt_laws.specs.Updates.{BroadcastUpdate, CancelledBroadcast, LedUpdate}
+use Rattle.mt_laws.specs.Updates.{BroadcastUpdate, CancelledBroadcast, LedUpdate, LedNotGiven, LedCancelled}
 use Rattle.mt_machine.specs.declared.go.Go.{Go}
 use Rattle.mt_laws.proofs.Stages.{Stage, stage_of, stages}
 use Rattle.mt_laws.proofs.Ranks.{rank, rank_of, At, Guarded, at_set, stage_at, and_left, and_right}
@@ -203,4 +203,63 @@ led_update s m o last e b l is go enabled led over =
     ∙ broadcast_update s o es b
     (enabled_join s rest.0 (e ∷ []) rest.1 (subst (λ (x : Machine). IsEnabled x e) (sym rest.2) enabled, tt))
     (all_append (λ e. is_led e && not (is_cancel e)) rest.0 (e ∷ []) rest.3 (both_true _ true (both_true _ _ led (not_cancel e m last is go enabled)) refl))
+    (ap (λ (x : Machine). x.order) whole ∙ over)
+
+-- ---- while the go isn't given
+
+not_given_before : (e : MachineEvent) (s : System) (v : Option Order) (last : Order) → IsEnabled (record { system = s; order = v }) e → is_led e ≡ true → (next (record { system = s; order = v }) e).order ≡ Some last → is_given last.go ≡ false
+    → (o : Order) × (v ≡ Some o) × (is_given o.go ≡ false) × (not (is_go e) ≡ true)
+not_given_before (Accesses k op) s v last enabled led is off = absurd (cc)
+not_given_before (Controls k c) s v last enabled led is off = absurd (cc)
+not_given_before (Calls goal) s v last enabled led is off = absurd (cc)
+not_given_before Goes s None last enabled led is off = absurd (cc)
+not_given_before Goes s (Some o) last enabled led is off = absurd (one (is_over (record o { go = Given }) s.processors) is)
+  where
+    one : (b : Bool) → (if b then None else Some (record o { go = Given })) ≡ Some last → ⊥
+    one true h = absurd (cc)
+    one false h =
+        let same : record o { go = Given } ≡ last = cc in
+        let on : is_given last.go ≡ true = ap (λ (v : Order). is_given v.go) (sym same) in
+        absurd (cc)
+not_given_before Cancels s None last enabled led is off = absurd (cc)
+not_given_before Cancels s (Some o) last enabled led is off = let go : o.go ≡ Pending = let h : Some o.go ≡ Some Pending = enabled in cc in (o, refl, ap is_given go, refl)
+not_given_before (Steps k w) s None last enabled led is off = absurd (cc)
+not_given_before (Steps k w) s (Some o) last enabled led is off = (o, refl, one (is_over o (step o.goal w k s).processors) is, refl)
+  where
+    one : (b : Bool) → (if b then None else Some o) ≡ Some last → is_given o.go ≡ false
+    one true h = absurd (cc)
+    one false h = let same : o ≡ last = cc in ap (λ (v : Order). is_given v.go) same ∙ off
+
+not_given_list : {s m : Machine} → Led s m → (last : Order) → m.order ≡ Some last → is_given last.go ≡ false
+    → (es : List MachineEvent) × AreEnabled s es × (run s es ≡ m) × (list_all (λ e. is_led e && not (is_go e)) es ≡ true)
+not_given_list led_start last is off = ([], tt, refl, refl)
+not_given_list {s} (led_on {t = t} e l enabled led) last is off =
+    let was = not_given_before e t.system t.order last enabled led is off in
+    let rest = not_given_list l was.0 was.1 was.2 in (
+      rest.0 ++ e ∷ [],
+      enabled_join s rest.0 (e ∷ []) rest.1 (subst (λ (m : Machine). IsEnabled m e) (sym rest.2) enabled, tt),
+      run_join s rest.0 (e ∷ []) ∙ ap (λ (m : Machine). next m e) rest.2,
+      all_append (λ e. is_led e && not (is_go e)) rest.0 (e ∷ []) rest.3 (both_true _ true (both_true _ _ led was.3) refl),
+    )
+
+pub led_not_given : LedNotGiven
+led_not_given s m o last b l is off =
+    let rest = not_given_list l last is off in
+    let es : List MachineEvent = rest.0 in
+    let known = is_known s o b in
+    let first : Machine = record { system = s.system; order = Some o } in
+    let enabled : AreEnabled first es = subst (λ (x : Machine). AreEnabled x es) known rest.1 in
+    ap (λ (x : Machine). erase x.system) (sym rest.2 ∙ ap (λ (x : Machine). run x es) known)
+    ∙ cancelled_run es s.system (Some o) s.system (ap is_given b.pending) (broadcast_guarded s o b) refl enabled rest.3
+    ∙ ap (λ (ks : List ℕ). erase (emptied s.system ks)) (broadcast_takes s o b es rest.1 (led_alone (λ e. not (is_go e)) es rest.3))
+
+pub led_cancelled : LedCancelled
+led_cancelled s m o last e b l is off enabled led quiet over =
+    let rest = not_given_list l last is off in
+    let es : List MachineEvent = rest.0 ++ e ∷ [] in
+    let whole : run s es ≡ next m e = run_join s rest.0 (e ∷ []) ∙ ap (λ (x : Machine). next x e) rest.2 in
+    sym whole
+    ∙ cancelled_broadcast s o es b
+    (enabled_join s rest.0 (e ∷ []) rest.1 (subst (λ (x : Machine). IsEnabled x e) (sym rest.2) enabled, tt))
+    (all_append (λ e. is_led e && not (is_go e)) rest.0 (e ∷ []) rest.3 (both_true _ true (both_true _ _ led (ap not quiet)) refl))
     (ap (λ (x : Machine). x.order) whole ∙ over)

@@ -35,7 +35,7 @@ rank_arrived Arrived ahead h = refl
 rank_arrived Arrived2 ahead h = refl
 rank_arrived other ahead h = refl
 
-released_rank : (ph : Phase) (ahead : Bool) → (is_running ph ≡ false → ahead ≡ false) → ahead ≡ true → 5 ≤ rank_of ph ahead
+pub released_rank : (ph : Phase) (ahead : Bool) → (is_running ph ≡ false → ahead ≡ false) → ahead ≡ true → 5 ≤ rank_of ph ahead
 released_rank Running true in_step h = lit≤ tt
 released_rank Running false in_step h = absurd (cc)
 released_rank other true in_step h = absurd (let e : true ≡ false = in_step refl in cc)

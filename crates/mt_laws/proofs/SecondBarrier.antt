@@ -11,23 +11,24 @@ use Rattle.mt_machine.specs.declared.go.Go.TheVariants.{Given}
 use Rattle.mt_machine.specs.Memory.{Window, word_at}
 use Rattle.mt_machine.specs.System.{Processor, System, now}
 use Rattle.mt_machine.specs.Bus.{drain}
-use Rattle.mt_machine.specs.Machine.{Machine, Order, MachineEvent, Accesses, Controls, Calls, Goes, Cancels, Steps, run, AreEnabled, due, step, is_cancelled, is_over, remaining_order, second_barrier_open}
-use Rattle.mt_machine.specs.Start.{IsStart}
-use Rattle.mt_machine.specs.Update.{is_led, is_cancel, emptied, taker, takes_of, settled_processor}
-use Rattle.mt_laws.specs.Updates.{HoldsNothing, LedToSecondBarrier}
+use Rattle.mt_machine.specs.Machine.{Machine, Order, MachineEvent, Accesses, Controls, Calls, Goes, Cancels, Steps, run, AreEnabled, due, step, is_cancelled, is_over, remaining_order, second_barrier_open, has_released}
+use Rattle.mt_machine.specs.Start.{IsStart, IsBroadcast}
+use Rattle.mt_machine.specs.Update.{is_led, is_cancel, emptied, taker, takes_of, settled_processor, Led}
+use Rattle.mt_laws.specs.Updates.{HoldsNothing, LedToSecondBarrier, LedReleased}
 use Rattle.mt_laws.proofs.Stages.{Stage, stage_of, stages}
-use Rattle.mt_laws.proofs.Ranks.{rank, rank_of, is_ahead, At, stage_at, all_fourth}
+use Rattle.mt_laws.proofs.Ranks.{rank, rank_of, is_ahead, At, stage_at, all_fourth, Guarded}
 use Rattle.mt_laws.proofs.MemoryLaws.{AllAligned}
 use Rattle.mt_laws.proofs.Cancelled.{takes_more}
 use Rattle.mt_laws.proofs.Standing.{Standing, standing_next, start_standing}
 use Rattle.mt_laws.proofs.Fates.{Fate}
 use Rattle.mt_laws.proofs.Whole.{Course, Early, Past, Fates, Standing', course_go, course_step, ended, to_past}
 use Rattle.mt_laws.proofs.Broadcast.{is_known, led_list, broadcast_takes, led_alone}
-use Rattle.mt_laws.proofs.Claims.{broadcast_rank}
+use Rattle.mt_laws.proofs.Claims.{broadcast_rank, released_rank}
 use Rattle.mt_laws.proofs.Held.{settled_word}
 use Rattle.mt_laws.proofs.Kept.{start_aligned}
 use Rattle.mt_laws.proofs.Cleared.{lines_gone, buffers_gone, entries_gone}
 use Rattle.mt_laws.proofs.Filed.{is_done}
+use Rattle.mt_laws.specs.Barriers.{IsAt}
 
 -- the course of a list that ends in an order
 record OnCourse (ws : List Window) (ps : List Processor) (t : System) (goal : RegisterFile) (last : Order) (m : Machine) : Type 0 where
@@ -76,12 +77,12 @@ module _ (ws : List Window) (aligned : AllAligned ws) (ps : List Processor) (las
 
 -- ---- at the second barrier
 
-fate_at : (o : Order) (ps qs : List Processor) (j : ℕ) (q : Processor) → Fates o ps qs → slice_get qs j ≡ Some q → (p : Processor) × Fate o p q
-fate_at o [] [] j q h at = absurd (cc)
-fate_at o [] (r ∷ qs) j q h at = absurd h
-fate_at o (p ∷ ps) [] j q h at = absurd h
-fate_at o (p ∷ ps) (r ∷ qs) zero q h at = let e : r ≡ q = cc in (p, subst (Fate o p) e h.0)
-fate_at o (p ∷ ps) (r ∷ qs) (suc j) q h at = fate_at o ps qs j q h.1 at
+fates_at : (o : Order) (ps qs : List Processor) (j : ℕ) (q : Processor) → Fates o ps qs → slice_get qs j ≡ Some q → (p : Processor) × (slice_get ps j ≡ Some p) × Fate o p q
+fates_at o [] [] j q h at = absurd (cc)
+fates_at o [] (r ∷ qs) j q h at = absurd h
+fates_at o (p ∷ ps) [] j q h at = absurd h
+fates_at o (p ∷ ps) (r ∷ qs) zero q h at = let e : r ≡ q = cc in (p, refl, subst (Fate o p) e h.0)
+fates_at o (p ∷ ps) (r ∷ qs) (suc j) q h at = fates_at o ps qs j q h.1 at
 
 -- a processor there has arrived again or released
 there_of : (ph : Phase) (ahead : Bool) → 4 ≤ rank_of ph ahead → (ph ≡ Arrived2) ⊎ (ahead ≡ true)
@@ -92,10 +93,7 @@ there_of Arrived ahead h = absurd (omega arith)
 there_of Arrived2 ahead h = inl refl
 there_of other ahead h = absurd (omega arith)
 
-module _ (ws : List Window) (ps : List Processor) (s t : System) (o : Order) (st : Standing' ws s o) (course : Course o ps s t) (opened : second_barrier_open o s.processors ≡ true) where
-  high : (i : ℕ) (x : Stage) → At (stages s) i x → 4 ≤ rank o x
-  high i x at = all_fourth o s.processors st.kept.0 opened i x at
-
+module _ (ws : List Window) (ps : List Processor) (s t : System) (o : Order) (st : Standing' ws s o) (course : Course o ps s t) (high : (i : ℕ) (x : Stage) → At (stages s) i x → 4 ≤ rank o x) where
   past : Past o ps s t
   past = ⊎_elim (λ (early : Early o s t). to_past ws o ps s t st.kept.0 st.agrees course.0 early (λ i x at. let h = high i x at in omega arith)) (λ (h : Past o ps s t). h) course.1
 
@@ -111,31 +109,71 @@ module _ (ws : List Window) (ps : List Processor) (s t : System) (o : Order) (st
         entries = clear.no_entries (ap entries_gone c);
       })
       (λ (c : is_ahead o (stage_of q) ≡ true).
-      let f = fate_at o ps s.processors i q past.fates at in
-      let same : q ≡ settled_processor o.goal f.0 = f.1.settled c in
+      let f = fates_at o ps s.processors i q past.fates at in
+      let same : q ≡ settled_processor o.goal f.0 = f.2.settled c in
       subst (HoldsNothing o.goal) (sym same) (record { file = refl; lines = refl; buffers = refl; entries = refl }))
       (there_of q.phase (is_ahead o (stage_of q)) (high i (stage_of q) (stage_at s.processors i q at)))
+
+  released_is : (i : ℕ) (p q : Processor) → slice_get ps i ≡ Some p → slice_get s.processors i ≡ Some q → has_released o q ≡ true → q ≡ settled_processor o.goal p
+  released_is i p q at_p at released =
+      let f = fates_at o ps s.processors i q past.fates at in
+      let same : Some f.0 ≡ Some p = sym f.1 ∙ at_p in
+      let e : f.0 ≡ p = cc in
+      f.2.settled released ∙ ap (settled_processor o.goal) e
 
   words_stand : (a : ℕ) → a % 8 ≡ 0 → word_at s.memory a ≡ now t a
   words_stand a whole = (settled_word a (now t a) s (λ i q at. let h = holds_nothing i q at in (h.lines, h.buffers)) (past.words a whole)).shows.0
 
+-- what is led to while the go is given, from a broadcast state
+module _ (s m : Machine) (o last : Order) (b : IsBroadcast s o) (l : Led s m) (is : m.order ≡ Some last) (go : last.go ≡ Given) where
+  course_list : (es : List MachineEvent) × AreEnabled s es × (run s es ≡ m) × (list_all (λ e. is_led e && not (is_cancel e)) es ≡ true)
+  course_list = led_list l last is (ap is_cancelled go)
+
+  drained : System
+  drained = emptied s.system (takes_of course_list.0)
+
+  nothing_drained : drained ≡ s.system
+  unfolding drained
+  nothing_drained = ap (emptied s.system) (broadcast_takes s o b course_list.0 course_list.1 (led_alone (λ e. not (is_cancel e)) course_list.0 course_list.3))
+
+  on_m : OnCourse s.system.memory.windows s.system.processors drained o.goal last m
+  unfolding drained
+  on_m =
+      let start : IsStart s = inr (o, b) in
+      let ws : List Window = s.system.memory.windows in
+      let known = is_known s o b in
+      let first : Machine = record { system = s.system; order = Some o } in
+      let es : List MachineEvent = course_list.0 in
+      let same : run first es ≡ m = ap (λ (x : Machine). run x es) (sym known) ∙ course_list.2 in
+      subst (OnCourse ws s.system.processors (emptied s.system (takes_of es)) o.goal last) same
+      (on_course ws (start_aligned s start) s.system.processors last es s.system o s.system (ap is_cancelled b.pending) (subst (Standing ws) known (start_standing s start))
+      (refl, inl ((λ i x at h. let r = broadcast_rank s o b i x at in let no_rank : ⊥ = omega arith in no_rank), refl))
+      (subst (λ (x : Machine). AreEnabled x es) known course_list.1) course_list.3 (ap (λ (x : Machine). x.order) same ∙ is))
+
+  guard : Guarded last (stages m.system)
+  guard = on_m.stands.kept.0
+
+  open_high : second_barrier_open last m.system.processors ≡ true → (i : ℕ) (x : Stage) → At (stages m.system) i x → 4 ≤ rank last x
+  open_high opened i x at = all_fourth last m.system.processors guard opened i x at
+
+  second : second_barrier_open last m.system.processors ≡ true → All (HoldsNothing o.goal) m.system.processors × ((a : ℕ) → a % 8 ≡ 0 → word_at m.system.memory a ≡ now s.system a)
+  second opened =
+      let ws : List Window = s.system.memory.windows in
+      let ps : List Processor = s.system.processors in (
+        subst (λ (f : RegisterFile). All (HoldsNothing f) m.system.processors) on_m.goal_stays
+            (λ k d within. holds_nothing ws ps m.system drained last on_m.stands on_m.course (open_high opened) k (get_or m.system.processors k d) (slice_get-get_or m.system.processors k d within)),
+        λ a whole. words_stand ws ps m.system drained last on_m.stands on_m.course (open_high opened) a whole ∙ ap (λ (x : System). now x a) nothing_drained,
+      )
+
+  released : (k : ℕ) (p q : Processor) → IsAt s k p → IsAt m k q → has_released last q ≡ true → q ≡ settled_processor o.goal p
+  released k p q at_p at_q ahead =
+      let here = stage_at m.system.processors k q at_q in
+      let top : 5 ≤ rank last (stage_of q) = released_rank q.phase (is_ahead last (stage_of q)) (guard.in_step k (stage_of q) here) ahead in
+      subst (λ (f : RegisterFile). q ≡ settled_processor f p) on_m.goal_stays
+      (released_is s.system.memory.windows s.system.processors m.system drained last on_m.stands on_m.course (λ i x at. guard.second k i (stage_of q) x here at top) k p q at_p at_q ahead)
+
 pub led_to_second_barrier : LedToSecondBarrier
-led_to_second_barrier s m o last b l is go opened =
-    let start : IsStart s = inr (o, b) in
-    let ws : List Window = s.system.memory.windows in
-    let ps : List Processor = s.system.processors in
-    let known = is_known s o b in
-    let first : Machine = record { system = s.system; order = Some o } in
-    let rest = led_list l last is (ap is_cancelled go) in
-    let es : List MachineEvent = rest.0 in
-    let same : run first es ≡ m = ap (λ (x : Machine). run x es) (sym known) ∙ rest.2 in
-    let on = on_course ws (start_aligned s start) ps last es s.system o s.system (ap is_cancelled b.pending) (subst (Standing ws) known (start_standing s start))
-    (refl, inl ((λ i x at h. let r = broadcast_rank s o b i x at in let no_rank : ⊥ = omega arith in no_rank), refl))
-    (subst (λ (x : Machine). AreEnabled x es) known rest.1) rest.3 (ap (λ (x : Machine). x.order) same ∙ is) in
-    let t : System = emptied s.system (takes_of es) in
-    let none : t ≡ s.system = ap (emptied s.system) (broadcast_takes s o b es rest.1 (led_alone (λ e. not (is_cancel e)) es rest.3)) in
-    let on_m : OnCourse ws ps t o.goal last m = subst (OnCourse ws ps t o.goal last) same on in (
-      subst (λ (f : RegisterFile). All (HoldsNothing f) m.system.processors) on_m.goal_stays
-          (λ k d within. holds_nothing ws ps m.system t last on_m.stands on_m.course opened k (get_or m.system.processors k d) (slice_get-get_or m.system.processors k d within)),
-      λ a whole. words_stand ws ps m.system t last on_m.stands on_m.course opened a whole ∙ ap (λ (x : System). now x a) none,
-    )
+led_to_second_barrier s m o last b l is go opened = second s m o last b l is go opened
+
+pub led_released : LedReleased
+led_released s m o last k p q b l is go at_p at_q ahead = released s m o last b l is go k p q at_p at_q ahead

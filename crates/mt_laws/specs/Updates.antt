@@ -1,14 +1,15 @@
 -- Where whole updates end.
-use Rattle.std.specs.Prelude.{◌≡◌, ℕ, ◌%◌, true, not, ◌&&◌, List, [], ◌∷◌, None, Some, map}
+use Rattle.std.specs.Prelude.{◌≡◌, ℕ, ◌%◌, true, not, ◌&&◌, List, [], ◌∷◌, None, Some, map, false}
 use Rattle.std.specs.List.{list_all, All}
-use Rattle.mt_machine.specs.System.{Processor, now}
-use Rattle.mt_machine.specs.Machine.{Machine, Order, MachineEvent, Calls, IsEnabled, next, run, AreEnabled, second_barrier_open}
+use Rattle.mt_machine.specs.System.{Processor, now, System}
+use Rattle.mt_machine.specs.Machine.{Machine, Order, MachineEvent, Calls, IsEnabled, next, run, AreEnabled, second_barrier_open, has_released, is_given}
 use Rattle.mt_regs.specs.RegisterFile.{RegisterFile}
 use Rattle.mt_machine.specs.declared.phase.Phase.TheVariants.{Running}
 use Rattle.mt_machine.specs.declared.go.Go.TheVariants.{Given}
-use Rattle.mt_machine.specs.Update.{is_led, is_go, emptied, Led, is_cancel, takes_of, updated}
+use Rattle.mt_machine.specs.Update.{is_led, is_go, emptied, Led, is_cancel, takes_of, updated, settled_processor}
 use Rattle.mt_machine.specs.Start.{IsQuiet, IsBroadcast}
 use Rattle.mt_machine.specs.Memory.{word_at}
+use Rattle.mt_laws.specs.Barriers.{IsAt}
 
 -- a whole update without accesses or controls
 abbrev pub WholeUpdate : Type 0
@@ -46,13 +47,37 @@ LedUpdate =
     → IsEnabled m e → is_led e ≡ true → (next m e).order ≡ None
     → next m e ≡ updated s.system [] o.goal
 
--- and where it is cancelled, all run again and nothing else has changed
+-- a processor that has released is the one that the update leaves
+abbrev pub LedReleased : Type 0
+LedReleased =
+    (s m : Machine) (o last : Order) (k : ℕ) (p q : Processor) → IsBroadcast s o → Led s m → m.order ≡ Some last → last.go ≡ Given
+    → IsAt s k p → IsAt m k q → has_released last q ≡ true → q ≡ settled_processor o.goal p
+
+-- ---- cancelled updates
+
+-- the system, with all processors running
+abbrev pub all_running : System → System
+all_running s = record s { processors = map (λ (p : Processor). record p { phase = Running }) s.processors }
+
+-- from a broadcast state: where it is cancelled, all run again and nothing else has changed
 abbrev pub CancelledBroadcast : Type 0
 CancelledBroadcast =
     (s : Machine) (o : Order) (es : List MachineEvent) → IsBroadcast s o → AreEnabled s es
     → list_all (λ e. is_led e && not (is_go e)) es ≡ true
     → (run s es).order ≡ None
-    → run s es ≡ record { system = record s.system { processors = map (λ (p : Processor). record p { phase = Running }) s.system.processors }; order = None }
+    → run s es ≡ record { system = all_running s.system; order = None }
+
+-- by go, cancel and steps alone: as long as the go isn't given nothing but phases changes, and the event that ends a cancelled update leaves all running
+abbrev pub LedNotGiven : Type 0
+LedNotGiven =
+    (s m : Machine) (o last : Order) → IsBroadcast s o → Led s m → m.order ≡ Some last → is_given last.go ≡ false
+    → all_running m.system ≡ all_running s.system
+
+abbrev pub LedCancelled : Type 0
+LedCancelled =
+    (s m : Machine) (o last : Order) (e : MachineEvent) → IsBroadcast s o → Led s m → m.order ≡ Some last → is_given last.go ≡ false
+    → IsEnabled m e → is_led e ≡ true → is_go e ≡ false → (next m e).order ≡ None
+    → next m e ≡ record { system = all_running s.system; order = None }
 
 -- a whole cancelled update without accesses or controls leaves what a fence of each processor that took leaves
 abbrev pub CancelledUpdate : Type 0

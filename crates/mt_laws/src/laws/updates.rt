@@ -1,4 +1,4 @@
-ghost use Rattle.mt_laws.specs.Updates.{BroadcastUpdate, CancelledBroadcast, CancelledUpdate, LedToSecondBarrier, LedUpdate, WholeUpdate};
+ghost use Rattle.mt_laws.specs.Updates.{BroadcastUpdate, CancelledBroadcast, CancelledUpdate, LedCancelled, LedNotGiven, LedReleased, LedToSecondBarrier, LedUpdate, WholeUpdate};
 ghost use Rattle.mt_laws.specs.Counts.{CountOfSteps, TakesAtMostOnce, TakesOnce};
 
 /// A whole update without accesses or controls ends in the state that is given outright, and each
@@ -27,6 +27,18 @@ pub fn led_update()
 /// From a broadcast state a cancelled update changes nothing but the phases.
 pub fn cancelled_broadcast()
     ensures { CancelledBroadcast }
+{}
+
+/// A processor that has released is the one that the update leaves.
+pub fn led_released()
+    ensures { LedReleased }
+{}
+
+/// As long as the go isn't given nothing but phases changes, and the event that ends a cancelled update
+/// leaves all processors running.
+pub fn led_cancelled()
+    ensures before { LedNotGiven }
+    ensures end { LedCancelled }
 {}
 
 /// A whole cancelled update leaves what fences leave, in the order of the takes, and no processor

@@ -1,0 +1,5 @@
+use Rattle.mt_laws.proofs.SecondBarrier.{led_released}
+use Rattle.mt_laws.proofs.laws.updates.led_released.Goals as goal
+
+pub returns : goal.returns
+returns c = led_released
