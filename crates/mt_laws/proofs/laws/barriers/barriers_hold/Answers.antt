@@ -1,5 +1,5 @@
-use Rattle.mt_laws.proofs.Claims.{barriers_hold_of, none_runs_of}
-use Rattle.mt_laws.proofs.Acting.{none_acts_of}
+use Rattle.mt_laws.proofs.Barrier.Claims.{barriers_hold_of, none_runs_of}
+use Rattle.mt_laws.proofs.Barrier.Acting.{none_acts_of}
 use Rattle.mt_laws.proofs.laws.barriers.barriers_hold.Goals as goal
 
 pub returns-clause-barriers : goal.returns-clause-barriers

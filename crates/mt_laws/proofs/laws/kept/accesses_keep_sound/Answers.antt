@@ -1,4 +1,4 @@
-use Rattle.mt_laws.proofs.SoundSteps.{access_keeps_sound, control_keeps_sound, drain_keeps_sound}
+use Rattle.mt_laws.proofs.Invariant.SoundSteps.{access_keeps_sound, control_keeps_sound, drain_keeps_sound}
 use Rattle.mt_laws.proofs.laws.kept.accesses_keep_sound.Goals as goal
 
 pub returns-clause-access : goal.returns-clause-access

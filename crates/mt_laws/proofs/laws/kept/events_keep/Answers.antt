@@ -1,5 +1,5 @@
-use Rattle.mt_laws.proofs.Takes.{take_fences}
-use Rattle.mt_laws.proofs.Still.{still_keeps}
+use Rattle.mt_laws.proofs.Barrier.Takes.{take_fences}
+use Rattle.mt_laws.proofs.Barrier.Still.{still_keeps}
 use Rattle.mt_laws.proofs.laws.kept.events_keep.Goals as goal
 
 pub returns-clause-take : goal.returns-clause-take

@@ -1,4 +1,4 @@
-use Rattle.mt_laws.proofs.Runs.{led_reached}
+use Rattle.mt_laws.proofs.Invariant.Runs.{led_reached}
 use Rattle.mt_laws.proofs.laws.runs.led_is_reached.Goals as goal
 
 pub returns : goal.returns

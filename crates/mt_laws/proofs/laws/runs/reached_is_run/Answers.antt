@@ -1,4 +1,4 @@
-use Rattle.mt_laws.proofs.Runs.{reached_is_run}
+use Rattle.mt_laws.proofs.Invariant.Runs.{reached_is_run}
 use Rattle.mt_laws.proofs.laws.runs.reached_is_run.Goals as goal
 
 pub returns : goal.returns

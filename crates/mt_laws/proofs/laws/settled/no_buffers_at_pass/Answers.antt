@@ -1,4 +1,4 @@
-use Rattle.mt_laws.proofs.Acting.{no_buffers_at_pass}
+use Rattle.mt_laws.proofs.Barrier.Acting.{no_buffers_at_pass}
 use Rattle.mt_laws.proofs.laws.settled.no_buffers_at_pass.Goals as goal
 
 pub returns : goal.returns

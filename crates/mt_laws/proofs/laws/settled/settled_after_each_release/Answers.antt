@@ -1,4 +1,4 @@
-use Rattle.mt_laws.proofs.Settled.{settled}
+use Rattle.mt_laws.proofs.Registers.Settled.{settled}
 use Rattle.mt_laws.proofs.laws.settled.settled_after_each_release.Goals as goal
 
 pub returns : goal.returns

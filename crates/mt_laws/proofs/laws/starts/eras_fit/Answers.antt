@@ -1,4 +1,4 @@
-use Rattle.mt_laws.proofs.Eras.{eras_fit}
+use Rattle.mt_laws.proofs.Barrier.Eras.{eras_fit}
 use Rattle.mt_laws.proofs.laws.starts.eras_fit.Goals as goal
 
 pub returns : goal.returns

@@ -1,4 +1,4 @@
-use Rattle.mt_laws.proofs.Starts.{start_is_quiet}
+use Rattle.mt_laws.proofs.Invariant.Starts.{start_is_quiet}
 use Rattle.mt_laws.proofs.laws.starts.start_is_quiet.Goals as goal
 
 pub returns : goal.returns

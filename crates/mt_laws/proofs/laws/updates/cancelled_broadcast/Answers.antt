@@ -1,4 +1,4 @@
-use Rattle.mt_laws.proofs.Broadcast.{cancelled_broadcast}
+use Rattle.mt_laws.proofs.Updates.Broadcast.{cancelled_broadcast}
 use Rattle.mt_laws.proofs.laws.updates.cancelled_broadcast.Goals as goal
 
 pub returns : goal.returns

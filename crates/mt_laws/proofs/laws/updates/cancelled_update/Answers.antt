@@ -1,5 +1,5 @@
-use Rattle.mt_laws.proofs.Cancelled.{cancelled_update}
-use Rattle.mt_laws.proofs.Takes.{takes_at_most_once}
+use Rattle.mt_laws.proofs.Updates.Cancelled.{cancelled_update}
+use Rattle.mt_laws.proofs.Barrier.Takes.{takes_at_most_once}
 use Rattle.mt_laws.proofs.laws.updates.cancelled_update.Goals as goal
 
 pub returns-clause-fences : goal.returns-clause-fences

@@ -1,4 +1,4 @@
-use Rattle.mt_laws.proofs.StepTotals.{count_of_steps}
+use Rattle.mt_laws.proofs.Steps.StepTotals.{count_of_steps}
 use Rattle.mt_laws.proofs.laws.updates.count_of_steps.Goals as goal
 
 pub returns : goal.returns

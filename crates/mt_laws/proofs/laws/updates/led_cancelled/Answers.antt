@@ -1,4 +1,4 @@
-use Rattle.mt_laws.proofs.Broadcast.{led_not_given, led_cancelled}
+use Rattle.mt_laws.proofs.Updates.Broadcast.{led_not_given, led_cancelled}
 use Rattle.mt_laws.proofs.laws.updates.led_cancelled.Goals as goal
 
 pub returns-clause-before : goal.returns-clause-before

@@ -1,4 +1,4 @@
-use Rattle.mt_laws.proofs.SecondBarrier.{led_released}
+use Rattle.mt_laws.proofs.Updates.SecondBarrier.{led_released}
 use Rattle.mt_laws.proofs.laws.updates.led_released.Goals as goal
 
 pub returns : goal.returns

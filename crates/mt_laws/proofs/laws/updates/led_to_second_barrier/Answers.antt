@@ -1,4 +1,4 @@
-use Rattle.mt_laws.proofs.SecondBarrier.{led_to_second_barrier}
+use Rattle.mt_laws.proofs.Updates.SecondBarrier.{led_to_second_barrier}
 use Rattle.mt_laws.proofs.laws.updates.led_to_second_barrier.Goals as goal
 
 pub returns : goal.returns

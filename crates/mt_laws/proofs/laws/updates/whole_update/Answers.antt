@@ -1,5 +1,5 @@
-use Rattle.mt_laws.proofs.Whole.{whole_update}
-use Rattle.mt_laws.proofs.Takes.{takes_once}
+use Rattle.mt_laws.proofs.Updates.Whole.{whole_update}
+use Rattle.mt_laws.proofs.Barrier.Takes.{takes_once}
 use Rattle.mt_laws.proofs.laws.updates.whole_update.Goals as goal
 
 pub returns-clause-outright : goal.returns-clause-outright

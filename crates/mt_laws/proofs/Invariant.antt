@@ -1,0 +1,7 @@
+-- One invariant that each event keeps, and that makes a system sound.
+pub mod Parts
+pub mod Kept
+pub mod Standing
+pub mod SoundSteps
+pub mod Starts
+pub mod Runs

@@ -1,0 +1,5 @@
+-- Register files on the way to the goal.
+pub mod Filed
+pub mod Settled
+pub mod Accepted
+pub mod UnderWay

@@ -1,0 +1,4 @@
+-- Mappings and TLB entries.
+pub mod Views
+pub mod Tidy
+pub mod TidySteps

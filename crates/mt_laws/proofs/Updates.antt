@@ -1,0 +1,9 @@
+-- Whole updates, cancelled ones, and what is held after the first release.
+pub mod Held
+pub mod Erased
+pub mod Cancelled
+pub mod Addresses
+pub mod Fates
+pub mod Whole
+pub mod Broadcast
+pub mod SecondBarrier
