@@ -1,0 +1,25 @@
+ghost use Rattle.std.specs.Prelude.{◌≡◌, ℕ, List, Option};
+ghost use Rattle.mt_kinds.specs.declared.mem_type.MemType.{MemType};
+ghost use Rattle.mt_ranges.specs.declared.block.Block.{Block};
+ghost use Rattle.mt_regs.specs.PageTypes.{combined};
+ghost use Rattle.mt_trie.specs.declared.context.Context.{Context};
+ghost use Rattle.mt_trie.specs.declared.wish.Wish.{Wish};
+ghost use Rattle.mt_trie.specs.Contexts.{join, joined, type_left};
+ghost use Rattle.mt_trie.specs.Wishes.{InBlock, IsWish};
+
+/// The join of contexts is commutative, associative and idempotent.
+pub fn joins_are_free_of_order()
+    ensures commutes { (x y : Context) → join x y ≡ join y x }
+    ensures associates { (x y z : Context) → join x (join y z) ≡ join (join x y) z }
+    ensures absorbs { (x : Context) → join x x ≡ x }
+{}
+
+/// The type of a page whose type ranges give is what the join of their types leaves.
+pub fn a_page_type_is_a_join()
+    ensures { (default : MemType) (types : List MemType) → combined default types ≡ type_left default (joined types) }
+{}
+
+/// The pages of a block have no two wishes.
+pub fn a_block_has_one_wish()
+    ensures { (wanted : ℕ → Option MemType) (b : Block) (v w : Wish) → IsWish wanted (InBlock b) v → IsWish wanted (InBlock b) w → v ≡ w }
+{}
