@@ -16,7 +16,7 @@ use Rattle.mt_types.proofs.PartRuns.{CoversBlock, covers_block}
 use Rattle.mt_trie.specs.declared.wish.Wish.{Wish}
 use Rattle.mt_trie.specs.declared.wish.Wish.TheVariants.{Any, Only}
 use Rattle.mt_trie.specs.RunWishes.{EndsInTime, first_page, wish_in, wish_over}
-use Rattle.mt_trie.specs.Wishes.{InBlock, IsPart, IsWish, both, is_free, type_of_kind, wanted_type}
+use Rattle.mt_trie.specs.Wishes.{InBlock, IsPart, IsWish, both, is_free_page, type_of_kind, wanted_type}
 use Rattle.mt_trie.proofs.WishLaws.{MakeUp, both_mean, same_pages}
 
 ends_in_time : (runs : List Run) → IsChain 0 runs → pages_end 0 runs ≤ 2 ^ 40 → All EndsInTime runs
@@ -56,11 +56,11 @@ module _ (fixed : Bool) (runs : List Run) (first end : ℕ) where
   same : (t u : MemType) → Some t ≡ Some u → u ≡ t
   same t u e = cc
 
-  free_below : (page : ℕ) → first ≤ page → page < start → is_free fixed page ≡ true
+  free_below : (page : ℕ) → first ≤ page → page < start → is_free_page fixed page ≡ true
   unfolding start
-  free_below page above below = split (cases_Bool (is_free fixed first))
+  free_below page above below = split (cases_Bool (is_free_page fixed first))
     where
-      split : (is_free fixed first ≡ true) ⊎ (is_free fixed first ≡ false) → is_free fixed page ≡ true
+      split : (is_free_page fixed first ≡ true) ⊎ (is_free_page fixed first ≡ false) → is_free_page fixed page ≡ true
       split (inl e) =
           let low : page < 256 = rw e at below in
           and_from fixed (nat_lt page 256) (and_parts fixed (nat_lt first 256) e).0 (lt-ltb page 256 low)
@@ -68,11 +68,11 @@ module _ (fixed : Bool) (runs : List Run) (first end : ℕ) where
           let low : page < first = rw e at below in
           absurd (omega (arith, low, above))
 
-  not_free_from : (page : ℕ) → start ≤ page → is_free fixed page ≡ false
+  not_free_from : (page : ℕ) → start ≤ page → is_free_page fixed page ≡ false
   unfolding start
-  not_free_from page above = split (cases_Bool (is_free fixed page)) (cases_Bool (is_free fixed first))
+  not_free_from page above = split (cases_Bool (is_free_page fixed page)) (cases_Bool (is_free_page fixed first))
     where
-      split : (is_free fixed page ≡ true) ⊎ (is_free fixed page ≡ false) → (is_free fixed first ≡ true) ⊎ (is_free fixed first ≡ false) → is_free fixed page ≡ false
+      split : (is_free_page fixed page ≡ true) ⊎ (is_free_page fixed page ≡ false) → (is_free_page fixed first ≡ true) ⊎ (is_free_page fixed first ≡ false) → is_free_page fixed page ≡ false
       split (inr e) low = e
       split (inl e) (inl low) =
           let late : 256 ≤ page = rw low at above in
@@ -80,22 +80,22 @@ module _ (fixed : Bool) (runs : List Run) (first end : ℕ) where
       split (inl e) (inr high) =
           let late : first ≤ page = rw high at above in
           let parts = and_parts fixed (nat_lt page 256) e in
-          absurd (both_ways (is_free fixed first) high
+          absurd (both_ways (is_free_page fixed first) high
           (and_from fixed (nat_lt first 256) parts.0 (lt-ltb first 256 (omega (arith, late, ltb-true page 256 parts.1)))))
 
   start_above : first ≤ start
   unfolding start
-  start_above = split (cases_Bool (is_free fixed first))
+  start_above = split (cases_Bool (is_free_page fixed first))
     where
-      split : (is_free fixed first ≡ true) ⊎ (is_free fixed first ≡ false) → first ≤ first_page fixed first
+      split : (is_free_page fixed first ≡ true) ⊎ (is_free_page fixed first ≡ false) → first ≤ first_page fixed first
       split (inl e) = rw e (omega (arith, ltb-true first 256 (and_parts fixed (nat_lt first 256) e).1))
       split (inr e) = rw e (omega arith)
 
-  free_wants : (page : ℕ) → is_free fixed page ≡ true → wanted page ≡ None
+  free_wants : (page : ℕ) → is_free_page fixed page ≡ true → wanted page ≡ None
   unfolding wanted
   free_wants page e = rw e refl
 
-  other_wants : (page : ℕ) (t : MemType) → is_free fixed page ≡ false → kind_at runs page ≡ Kind t → wanted page ≡ Some t
+  other_wants : (page : ℕ) (t : MemType) → is_free_page fixed page ≡ false → kind_at runs page ≡ Kind t → wanted page ≡ Some t
   unfolding wanted
   other_wants page t e at = rw e (ap type_of_kind at)
 

@@ -87,3 +87,19 @@ module _ (wanted : ℕ → Option MemType) (Q : ℕ → Type 0) where
   one_wish Mixed Any a b = absurd (any_has a.one b a.has_one)
   one_wish Mixed (Only t) a b = absurd (only_two t b.0 a)
   one_wish Mixed Mixed a b = refl
+
+-- where the pages of a set want the same, their wish is the same
+module _ (v w : ℕ → Option MemType) (Q : ℕ → Type 0) (same : (page : ℕ) → Q page → v page ≡ w page) where
+  same_has : (t : MemType) → HasWish v Q t → HasWish w Q t
+  same_has t h = record { page = h.page; within = h.within; wants = sym (same h.page h.within) ∙ h.wants }
+
+  pub same_wants : (x : Wish) → IsWish v Q x → IsWish w Q x
+  same_wants Any m = λ page q. sym (same page q) ∙ m page q
+  same_wants (Only t) m = (λ page q u e. m.0 page q u (same page q ∙ e), same_has t m.1)
+  same_wants Mixed m = record {
+    one = m.one;
+    other = m.other;
+    differ = m.differ;
+    has_one = same_has m.one m.has_one;
+    has_other = same_has m.other m.has_other;
+  }

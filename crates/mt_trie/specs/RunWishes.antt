@@ -6,7 +6,7 @@ use Rattle.mt_types.specs.declared.run.Run.{Run}
 use Rattle.mt_types.specs.Runs.{run_end}
 use Rattle.mt_trie.specs.declared.wish.Wish.{Wish}
 use Rattle.mt_trie.specs.declared.wish.Wish.TheVariants.{Any, Only}
-use Rattle.mt_trie.specs.Wishes.{both, is_free}
+use Rattle.mt_trie.specs.Wishes.{both, is_free_page}
 
 abbrev pub EndsInTime : Run → Type 0
 EndsInTime r = run_end r ≤ 2 ^ 40
@@ -17,7 +17,7 @@ wish_of_kind Undefined = Any
 
 -- the first page of a block that may not be free
 abbrev pub first_page : Bool → ℕ → ℕ
-first_page fixed first = if is_free fixed first then 256 else first
+first_page fixed first = if is_free_page fixed first then 256 else first
 
 -- what the pages of a run want that lie from one page up to another
 abbrev pub wish_in : ℕ → ℕ → Run → Wish

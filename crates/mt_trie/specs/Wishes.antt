@@ -13,8 +13,8 @@ use Rattle.mt_trie.specs.declared.wish.Wish.{Wish}
 use Rattle.mt_trie.specs.declared.wish.Wish.TheVariants.{Any, Only, Mixed}
 
 -- ranges don't act on the page, because a fixed-range register gives its type
-abbrev pub is_free : Bool → ℕ → Bool
-is_free fixed page = fixed && nat_lt page 256
+abbrev pub is_free_page : Bool → ℕ → Bool
+is_free_page fixed page = fixed && nat_lt page 256
 
 abbrev pub type_of_kind : PageType → Option MemType
 type_of_kind (Kind t) = Some t
@@ -22,7 +22,7 @@ type_of_kind Undefined = None
 
 -- the type that a page wants where it is to have the kind that runs give it: none where the page is free
 abbrev pub wanted_type : Bool → List Run → ℕ → Option MemType
-wanted_type fixed runs page = if is_free fixed page then None else type_of_kind (kind_at runs page)
+wanted_type fixed runs page = if is_free_page fixed page then None else type_of_kind (kind_at runs page)
 
 -- some page of a set wants the type
 pub record HasWish (wanted : ℕ → Option MemType) (Q : ℕ → Type 0) (t : MemType) : Type 0 where
@@ -57,6 +57,9 @@ both Mixed w = Mixed
 
 abbrev pub InBlock : Block → ℕ → Type 0
 InBlock b page = IsTrue (has_page b page)
+
+abbrev pub IsDefined : Run → Type 0
+IsDefined r = r.kind ≢ Undefined
 
 -- the runs are those that a type map lends for the block
 pub record IsPart (runs : List Run) (b : Block) : Type 0 where
