@@ -1,5 +1,5 @@
 -- The steps of a block by its wish, and the block whose step comes last.
-use Rattle.std.proofs.Common.{◌≡◌, ℕ, zero, suc, ◌+◌, ◌-◌, ◌%◌, ◌^◌, ◌<◌, true, false, length, length-append, List, [], ◌∷◌, ◌++◌, refl, sym, ap, ◌∙◌, arith, subst, append_assoc}
+use Rattle.std.proofs.Common.{◌≡◌, ℕ, zero, suc, ◌+◌, ◌-◌, ◌%◌, ◌^◌, ◌<◌, length, length-append, List, [], ◌∷◌, ◌++◌, refl, sym, ap, ◌∙◌, arith, subst, append_assoc}
 use Rattle.std.specs.Prelude.{nat_le, nat_lt, Option, None, Some, IsTrue, if◌then◌else◌}
 use Rattle.std.specs.List.{All, filter}
 use Rattle.std.proofs.lemmas.Bool.{and_from, and_parts, leb-true, ltb-true, lt-ltb, le-leb}
@@ -27,7 +27,7 @@ use Rattle.mt_tidy.specs.Fits.{Begun, IsFinite, Laid, Within}
 use Rattle.mt_tidy.specs.declared.range.Range.{Range}
 use Rattle.mt_tidy.proofs.Laying.{AreHalves, finite_for, laid_for}
 use Rattle.mt_tidy.proofs.Sizes.{Halves, halves_from}
-use Rattle.mt_tidy.specs.Steps.{CanLay, Priced, costs_of, halves_cost, if_mixed, step_by, steps_of}
+use Rattle.mt_tidy.specs.Steps.{CanLay, Priced, costs_of, halves_cost, steps_of}
 use Rattle.mt_tidy.proofs.Wishes.{wish_means}
 
 abbrev costs : (a b c d e f g : Option ℕ) → Costs

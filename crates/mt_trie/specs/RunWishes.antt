@@ -1,5 +1,5 @@
 -- What the pages of a block want, run by run.
-use Rattle.std.specs.Prelude.{ℕ, ◌+◌, ◌^◌, ◌≤◌, nat_lt, max, min, Bool, if◌then◌else◌, List, fold}
+use Rattle.std.specs.Prelude.{ℕ, ◌^◌, ◌≤◌, nat_lt, max, min, Bool, if◌then◌else◌, List, fold}
 use Rattle.mt_regs.specs.declared.page_type.PageType.{PageType}
 use Rattle.mt_regs.specs.declared.page_type.PageType.TheVariants.{Kind, Undefined}
 use Rattle.mt_types.specs.declared.run.Run.{Run}
