@@ -5,11 +5,10 @@ mod buffers;
 mod cache;
 mod line;
 mod places;
-mod words;
-mod worked;
-
 #[cfg(test)]
 mod tests;
+mod words;
+mod worked;
 
 pub use buffers::Buffers;
 pub use cache::Cache;

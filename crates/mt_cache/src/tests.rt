@@ -31,7 +31,9 @@ fn the_first_dirty_word_is_found(rt: HostRuntime) {
     }
     assert!(rt; cache.first_dirty().is_none());
     for (number, word) in [(2, 0), (1, 5), (1, 3)] {
-        if let Some(i) = cache.find(number) && word < 8 {
+        if let Some(i) = cache.find(number)
+            && word < 8
+        {
             cache.write(i, word, 7, true);
         }
     }
@@ -52,7 +54,10 @@ fn a_full_buffer_is_handed_back(rt: HostRuntime) {
         matches!(buffers.combine(1, 7, 7, 0), Some(line) if line.number == 1 && line.dirty == 0xff)
     );
     for (i, number) in [(0, 2), (1, 3), (2, 4)] {
-        assert!(rt; matches!(buffers.lines().get(i), Some(line) if line.number == number), "at {i}");
+        assert!(rt;
+            matches!(buffers.lines().get(i), Some(line) if line.number == number),
+            "at {i}"
+        );
     }
     assert_eq!(rt; buffers.lines().len(), 3);
     assert!(rt; matches!(buffers.take(3), Some(line) if line.number == 3));

@@ -1,10 +1,10 @@
 -- What the events of a processor make of its lines, its entries and its registers.
-use Rattle.std.proofs.Common.{◌≡◌, ℕ, zero, suc, ◌+◌, ◌-◌, ◌*◌, ◌/◌, ◌%◌, ◌<◌, ◌≤◌, ◌^◌, List, [], ◌∷◌, length, get_or, take, Some, None, Option, Bool, true, false, refl, sym, ap, subst, ◌∙◌, arith}
-use Rattle.std.specs.Prelude.{if◌then◌else◌, slice_get, slice_index_or}
+use Rattle.std.proofs.Common.{◌≡◌, ℕ, suc, ◌+◌, ◌-◌, ◌*◌, ◌/◌, ◌<◌, ◌≤◌, ◌^◌, List, [], ◌∷◌, length, get_or, take, Some, Option, Bool, true, false, refl, sym, ap, subst, ◌∙◌, arith}
+use Rattle.std.specs.Prelude.{if◌then◌else◌, slice_get}
 use Rattle.std.specs.List.{All}
 use Rattle.std.specs.Option.{option_map, option_map_or}
 use Rattle.std.proofs.lemmas.Option.{slice_get-get_or}
-use Rattle.mt_regs.specs.RegisterFile.{IsRegisterFile, RegisterFile, page_count}
+use Rattle.mt_regs.specs.RegisterFile.{IsRegisterFile, RegisterFile}
 use Rattle.mt_regs.specs.declared.registers.Register.{Register}
 use Rattle.mt_regs.specs.declared.registers.Register.TheVariants.{DefaultType}
 use Rattle.mt_regs.specs.Registers.{value_of, writable}
@@ -14,12 +14,10 @@ use Rattle.mt_cache.specs.Lines.{change_line, clean_word, first_dirty_line, firs
 use Rattle.mt_cache.specs.Calls.{change_at}
 use Rattle.mt_tlb.specs.declared.entry.Entry.{Entry}
 use Rattle.mt_tlb.specs.Entries.{global_entries}
-use Rattle.mt_machine.specs.declared.event.Event.{Event}
 use Rattle.mt_machine.specs.declared.event.Event.TheVariants.{WriteBack, DropLines, FlushTlb}
-use Rattle.mt_machine.specs.declared.phase.Phase.{Phase}
-use Rattle.mt_machine.specs.declared.phase.Phase.TheVariants.{Flushed, TlbFlushed, Writing, Enabled}
+use Rattle.mt_machine.specs.declared.phase.Phase.TheVariants.{Flushed, TlbFlushed, Enabled}
 use Rattle.mt_machine.specs.Memory.{word_of}
-use Rattle.mt_machine.specs.System.{Processor, is_writing}
+use Rattle.mt_machine.specs.System.{Processor}
 use Rattle.mt_machine.specs.Control.{reload_cr3}
 use Rattle.mt_machine.specs.Machine.{after_flush, flush_tlb, own_step, with_goal, write_back_event}
 use Rattle.mt_machine.proofs.Files.{AgreeAll, alike_files, last_written}

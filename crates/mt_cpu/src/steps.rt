@@ -1,7 +1,7 @@
 ghost use Rattle.std.specs.Prelude.{◌≡◌, ◌<◌, ◌≤◌, ◌+◌, ◌-◌, ◌^◌, List, [], None, Some, IsTrue, length, if◌then◌else◌};
 ghost use Rattle.std.specs.List.{All};
 ghost use Rattle.mt_kinds.specs.Bits.{is_bit_set};
-ghost use Rattle.mt_regs.specs.RegisterFile.{IsRegisterFile, RegisterFile};
+ghost use Rattle.mt_regs.specs.RegisterFile.{RegisterFile};
 ghost use Rattle.mt_regs.specs.Registers.{writable};
 ghost use Rattle.mt_regs.specs.Faults.{IsAccepted};
 ghost use Rattle.mt_cache.specs.Lines.{first_dirty_line};
@@ -9,7 +9,7 @@ ghost use Rattle.mt_machine.specs.System.{Processor};
 ghost use Rattle.mt_machine.specs.Machine.{FitsGoal, Order, due, own_step, write_back_or_drop, write_or_enable};
 ghost use Rattle.mt_cpu.specs.Steps.{HasFirst, HasWritten, is_local, is_shift, is_writing_back};
 
-use crate::cpu::Cpu;
+use crate::cpu::{Cpu, width_of};
 use mt_kinds::is_bit_set;
 use mt_machine::{Event, Phase};
 use mt_regs::{RegFile, Register};
@@ -20,13 +20,6 @@ const WORD_BYTES: u64 = 8;
 
 // The bit E of the default-type register.
 const ENABLE: u8 = 11;
-
-// What the type of a register file keeps, for the proof alone.
-fn width_of(f: &RegFile) -> u8
-    ensures { IsRegisterFile f.now }
-{
-    f.maxphy
-}
 
 // A value of the default-type register with E clear.
 fn without_enable(deftype: u64) -> u64
@@ -214,11 +207,8 @@ impl Cpu {
                 self.restore_pge();
                 Event::RestorePge
             }
-            Phase::Running
-            | Phase::Taken
-            | Phase::Arrived
-            | Phase::Restored
-            | Phase::Arrived2 => unreachable!(),
+            Phase::Running | Phase::Taken | Phase::Arrived | Phase::Restored | Phase::Arrived2 =>
+                unreachable!(),
         }
     }
 

@@ -1,10 +1,10 @@
 use crate::cpu::Cpu;
 use mt_kinds::MemType;
-use mt_machine::Phase;
+use mt_machine::{Event, Phase};
 use mt_regs::RegFile;
 use mt_tlb::Mapping;
 
-/// A processor with these default types, of an address width of 36 bits.
+/// A processor that has just started, with this default-type register.
 fn processor(deftype: u64) -> Option<Cpu> {
     let Ok(mut file) = RegFile::blank(36, 0x508) else {
         return None;
@@ -84,4 +84,54 @@ fn the_cache_and_the_buffers_are_lent(rt: HostRuntime) {
     }
     assert_eq!(rt; cpu.cache().lines().len(), 1);
     assert_eq!(rt; cpu.maps().list().len(), 0);
+}
+
+/// The processor's next event, where it isn't past its first register.
+fn local(cpu: &mut Cpu, goal: &RegFile) -> Option<Event> {
+    let fits = goal.maxphy == cpu.regs().maxphy && goal.cap == cpu.regs().cap;
+    if !fits || goal.first_fault().is_some() || !cpu.cache().lines().is_empty() {
+        return None;
+    }
+    match cpu.phase() {
+        Phase::Passed | Phase::NoFill | Phase::Flushed | Phase::TlbFlushed | Phase::Writing(0) => {
+            Some(cpu.local(goal))
+        }
+        _ => None,
+    }
+}
+
+/// Moves the processor over a barrier, or on its way to one.
+fn shift(cpu: &mut Cpu) {
+    let can = cpu.buffers().lines().is_empty() && cpu.era() < u64::MAX;
+    match cpu.phase() {
+        Phase::Running if can => cpu.shift(Event::Take),
+        Phase::Taken => cpu.shift(Event::Arrive),
+        Phase::Arrived => cpu.shift(Event::Pass),
+        Phase::Restored => cpu.shift(Event::ArriveAgain),
+        Phase::Arrived2 if can => cpu.shift(Event::Release),
+        _ => {}
+    }
+}
+
+#[test]
+fn a_processor_goes_through_the_first_barrier(rt: HostRuntime) {
+    let Some(mut cpu) = processor(0x806) else {
+        panic!(rt; "the file is accepted");
+    };
+    let goal = cpu.regs().same();
+    for _ in 0..3 {
+        shift(&mut cpu);
+    }
+    assert!(rt; cpu.phase() == Phase::Passed);
+    for want in [
+        Event::SetNoFill,
+        Event::DropLines,
+        Event::FlushTlb,
+        Event::Disable,
+        Event::Write(0),
+    ] {
+        assert!(rt; local(&mut cpu, &goal) == Some(want));
+    }
+    assert!(rt; cpu.phase() == Phase::Writing(1));
+    assert!(rt; cpu.cd() && cpu.regs().deftype == 0x006);
 }

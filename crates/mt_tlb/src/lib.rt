@@ -4,11 +4,10 @@
 mod entry;
 mod mapping;
 mod maps;
-mod tlb;
-mod worked;
-
 #[cfg(test)]
 mod tests;
+mod tlb;
+mod worked;
 
 pub use entry::Entry;
 pub use mapping::Mapping;

@@ -1,4 +1,4 @@
-use Rattle.std.proofs.Common.{◌≡◌, ◌∙◌, ap, false, List}
+use Rattle.std.proofs.Common.{◌∙◌, ap, false, List}
 use Rattle.mt_tlb.specs.declared.entry.Entry.{Entry}
 use Rattle.mt_machine.specs.declared.event.Event.TheVariants.{FlushTlb}
 use Rattle.mt_machine.specs.declared.phase.Phase.TheVariants.{TlbFlushed}
