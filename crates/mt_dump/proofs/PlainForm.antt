@@ -2,12 +2,13 @@
 use Rattle.std.proofs.Common.{◌≡◌, ◌∙◌, ◌≤◌, ◌+◌, ℕ, Bool, true, false, not, ◌==◌, ◌&&◌, nat_le, nat_lt, List, [], ◌∷◌, length, map, Option, Some, None, Ok, refl, sym, ap, subst, arith, inl, inr}
 use Rattle.std.specs.Prelude.{codes, is_ok, if◌then◌else◌}
 use Rattle.std.specs.Cmp.Lexicographic.{same_text}
-use Rattle.std.specs.List.{AllByRecursion, filter, slice_split, onto_first, list_all}
+use Rattle.std.specs.List.{AllByRecursion, slice_split, onto_first, list_all}
 use Rattle.std.specs.Option.{option_map, option_and_then}
 use Rattle.std.proofs.lemmas.Bool.{cases_Bool, and_parts, eqb-true}
 use Rattle.std.proofs.lemmas.Bool.Decides.{nat_tests}
 use Rattle.hex.specs.Hex.{is_hex_digit}
-use Rattle.mt_text.specs.Text.{is_blank, lengthened, words_from, words_of, without_ending, lines_of}
+use Rattle.mt_text.specs.Text.{is_blank, between_blanks, words_from, words_of, without_ending, lines_of}
+use Rattle.mt_text.proofs.Between.{filled, texts, words_between}
 use Rattle.mt_text.specs.Number.{are_digits, hex_number, hex_value, is_decimal_digit, decimal_value, decimal_number}
 use Rattle.mt_text.specs.declared.place.Place.{Place}
 use Rattle.mt_text.proofs.Plain.{is_plain, plain_content, digits_plain, hex_number-digits}
@@ -15,46 +16,9 @@ use Rattle.mt_regs.specs.RegisterFile.{RegisterFile, low_byte}
 use Rattle.mt_regs.specs.Registers.{value_at}
 use Rattle.mt_dump.specs.Line.{Reading, said_of, said_words, said_pair, said_width, said_register, is_width_name, place_of}
 use Rattle.mt_dump.specs.Dump.{said_from, given, widths, width_of, Shown}
-use Rattle.mt_dump.specs.Plain.{has_bytes, plain_words, PlainLine, Empty, OfRegister, OfWidth, plain_number, plain_width, plain_pair, plain_line, plain_registers, plain_widths, PlainlyShown}
+use Rattle.mt_dump.specs.Plain.{PlainLine, Empty, OfRegister, OfWidth, plain_number, plain_width, plain_pair, plain_line, plain_registers, plain_widths, PlainlyShown}
 use Rattle.mt_dump.specs.declared.said.Said.{Said}
 use Rattle.mt_dump.specs.declared.said.Said.TheVariants.{Nothing, Width, Register}
-
-abbrev filled : List (List ℕ) → List (List ℕ)
-filled parts = filter has_bytes parts
-
-abbrev texts : List (ℕ × List ℕ) → List (List ℕ)
-texts words = map (λ word. word.1) words
-
--- a word that goes on with a byte, and is one byte longer
-longer : (at x y : ℕ) (parts : List (List ℕ)) (words : List (ℕ × List ℕ)) → texts words ≡ filled (onto_first y parts) → texts (lengthened at x words) ≡ filled (onto_first x (onto_first y parts))
-longer at x y [] [] same = cc same
-longer at x y [] (w ∷ ws) same =
-    let word : w.1 ≡ y ∷ [] = cc same in
-    let rest : texts ws ≡ [] = cc same in
-    rw (word, rest) refl
-longer at x y (part ∷ parts) [] same = cc same
-longer at x y (part ∷ parts) (w ∷ ws) same =
-    let word : w.1 ≡ y ∷ part = cc same in
-    let rest : texts ws ≡ filled parts = cc same in
-    rw (word, rest) refl
-
--- words stand between spaces and tabs
-words_between : (at : ℕ) (line : List ℕ) → texts (words_from at line) ≡ filled (slice_split is_blank line)
-words_between at [] = refl
-words_between at (x ∷ []) = elim (cases_Bool (is_blank x)) [
-  | inl hit ↦ rw hit refl
-  | inr miss ↦ rw miss refl
-]
-words_between at (x ∷ y ∷ ys) = by (is_blank x) refl (is_blank y) refl (words_between (at + 1) (y ∷ ys))
-  where
-    by : (first : Bool) → is_blank x ≡ first → (second : Bool) → is_blank y ≡ second → texts (words_from (at + 1) (y ∷ ys)) ≡ filled (slice_split is_blank (y ∷ ys)) → texts (words_from at (x ∷ y ∷ ys)) ≡ filled (slice_split is_blank (x ∷ y ∷ ys))
-    by true hit second is later = rw hit later
-    by false miss true ends later = rw (miss, ends) (ap (λ ws. (x ∷ []) ∷ ws) (rw ends at later))
-    by false miss false more later =
-        let parts : slice_split is_blank (y ∷ ys) ≡ onto_first y (slice_split is_blank ys) = rw more refl in
-        let here : words_from at (x ∷ y ∷ ys) ≡ lengthened at x (words_from (at + 1) (y ∷ ys)) = rw (miss, more) refl in
-        let whole : slice_split is_blank (x ∷ y ∷ ys) ≡ onto_first x (onto_first y (slice_split is_blank ys)) = rw (miss, more) refl in
-        ap texts here ∙ longer at x y (slice_split is_blank ys) (words_from (at + 1) (y ∷ ys)) (later ∙ ap filled parts) ∙ ap filled (sym whole)
 
 -- a line is plain where its words are
 abbrev IsPlain : List ℕ → Type 0
@@ -68,7 +32,7 @@ plain_parts x [] all = ((and_parts (is_plain x) true all.0).0, tt)
 plain_parts x ([] ∷ parts) all = ((and_parts (is_plain x) true all.0).0, all.1)
 plain_parts x ((y ∷ ys) ∷ parts) all = let both = and_parts (is_plain x) (list_all is_plain (y ∷ ys)) all.0 in (both.0, (both.1, all.1))
 
-plain_line_of : (line : List ℕ) → AllByRecursion IsPlain (plain_words line) → IsPlain line
+plain_line_of : (line : List ℕ) → AllByRecursion IsPlain (between_blanks line) → IsPlain line
 plain_line_of [] all = refl
 plain_line_of (x ∷ xs) all = elim (cases_Bool (is_blank x)) [
   | inl hit ↦ rw (blank_plain x hit) (plain_line_of xs (rw hit at all))
@@ -76,14 +40,14 @@ plain_line_of (x ∷ xs) all = elim (cases_Bool (is_blank x)) [
 ]
 
 -- the words of a plain line, by number of words
-no_words : (line : List ℕ) → plain_words line ≡ [] → words_of line ≡ []
+no_words : (line : List ℕ) → between_blanks line ≡ [] → words_of line ≡ []
 no_words line none = by (words_of line) (ap (words_from 0) (plain_content line (plain_line_of line (rw none tt))))
   where
     by : (words : List (ℕ × List ℕ)) → words ≡ words_from 0 line → words ≡ []
     by [] is = refl
     by (w ∷ ws) is = let e : texts (w ∷ ws) ≡ [] = ap texts is ∙ words_between 0 line ∙ none in cc e
 
-two_words : (line name value : List ℕ) → plain_words line ≡ name ∷ value ∷ [] → IsPlain name → IsPlain value
+two_words : (line name value : List ℕ) → between_blanks line ≡ name ∷ value ∷ [] → IsPlain name → IsPlain value
     → (first : ℕ) × (second : ℕ) × (words_of line ≡ (first, name) ∷ (second, value) ∷ [])
 two_words line name value two plain_name plain_value =
     let plain : IsPlain line = plain_line_of line (rw two (plain_name, (plain_value, tt))) in
@@ -212,10 +176,10 @@ register_said first second name value n v other is_number is_value sound =
     rw other (ap (λ r. said_register first second r (hex_number value)) read.1 ∙ ap (said_register first second (Ok n)) read_value.1 ∙ rw (register_test n v sound) refl)
 
 -- what a plain line says
-line_said : (number : ℕ) (line : List ℕ) (told : PlainLine) → length line ≤ 4096 → plain_line (plain_words line) ≡ Some told → IsSound told → (place : Place) × (said_of number line ≡ Ok (said_with place told))
-line_said number line told few is sound = by (plain_words line) refl is
+line_said : (number : ℕ) (line : List ℕ) (told : PlainLine) → length line ≤ 4096 → plain_line (between_blanks line) ≡ Some told → IsSound told → (place : Place) × (said_of number line ≡ Ok (said_with place told))
+line_said number line told few is sound = by (between_blanks line) refl is
   where
-    pair : (name value : List ℕ) → plain_words line ≡ name ∷ value ∷ [] → (named : Bool) → is_width_name name ≡ named → plain_pair name value ≡ Some told → (place : Place) × (said_of number line ≡ Ok (said_with place told))
+    pair : (name value : List ℕ) → between_blanks line ≡ name ∷ value ∷ [] → (named : Bool) → is_width_name name ≡ named → plain_pair name value ≡ Some told → (place : Place) × (said_of number line ≡ Ok (said_with place told))
     pair name value words true named is = width (plain_width value) refl (rw named at is)
       where
         width : (found : Option ℕ) → plain_width value ≡ found → option_map OfWidth found ≡ Some told → (place : Place) × (said_of number line ≡ Ok (said_with place told))
@@ -242,7 +206,7 @@ line_said number line told few is sound = by (plain_words line) refl is
             let fits : n ≡ 0xfe → low_byte v ≤ 32 = subst IsSound (sym told_is) sound in
             (first, said_two number line few two.0 two.1 name value two.2 bare ∙ register_said first (place_of number (two.1, value)) name value n v other some more fits ∙ ap (λ t. Ok (said_with first t)) told_is)
 
-    by : (words : List (List ℕ)) → plain_words line ≡ words → plain_line words ≡ Some told → (place : Place) × (said_of number line ≡ Ok (said_with place told))
+    by : (words : List (List ℕ)) → between_blanks line ≡ words → plain_line words ≡ Some told → (place : Place) × (said_of number line ≡ Ok (said_with place told))
     by [] none is =
         let told_is : Empty ≡ told = cc is in
         let place : Place = record { line = number; column = 1 } in
@@ -262,14 +226,14 @@ widths-told place (OfRegister number value) says tells same = same
 widths-told place (OfWidth width) says tells same = ap (λ ws. width ∷ ws) same
 
 -- what plain lines say
-lines_said : (number : ℕ) (lines : List (List ℕ)) (tells : List PlainLine) → map (λ line. plain_line (plain_words line)) lines ≡ map Some tells → AllByRecursion (λ line. length line ≤ 4096) lines → AllByRecursion IsSound tells
+lines_said : (number : ℕ) (lines : List (List ℕ)) (tells : List PlainLine) → map (λ line. plain_line (between_blanks line)) lines ≡ map Some tells → AllByRecursion (λ line. length line ≤ 4096) lines → AllByRecursion IsSound tells
     → (list_all is_ok (said_from number lines) ≡ true) × (given (said_from number lines) ≡ plain_registers tells) × (widths (said_from number lines) ≡ plain_widths tells)
 lines_said number [] [] same few sound = (refl, refl, refl)
 lines_said number [] (told ∷ tells) same few sound = cc same
 lines_said number (line ∷ lines) [] same few sound = cc same
 lines_said number (line ∷ lines) (told ∷ tells) same few sound =
-    let here : plain_line (plain_words line) ≡ Some told = cc same in
-    let rest : map (λ l. plain_line (plain_words l)) lines ≡ map Some tells = cc same in
+    let here : plain_line (between_blanks line) ≡ Some told = cc same in
+    let rest : map (λ l. plain_line (between_blanks l)) lines ≡ map Some tells = cc same in
     let said = line_said number line told few.0 here sound.0 in
     let later = lines_said (number + 1) lines tells rest few.1 sound.1 in
     let whole : said_from number (line ∷ lines) ≡ Ok (said_with said.0 told) ∷ said_from (number + 1) lines = ap (λ r. r ∷ said_from (number + 1) lines) said.1 in (

@@ -1,4 +1,4 @@
--- The canonical text of a file.
+-- The canonical text of a file (own).
 --     canon_lines file      its lines without their LF: the width, 0FEH, and each writable register in ascending order
 --     canon file      the whole text
 use Rattle.std.specs.Prelude.{ℕ, ◌+◌, ◌/◌, ◌%◌, List, [], ◌∷◌, ◌++◌, codes, map, slice_index}

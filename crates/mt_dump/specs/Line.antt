@@ -1,4 +1,4 @@
--- What one line of a dump says, whatever the other lines say.
+-- What one line of a dump says, whatever the other lines say (own).
 --     said_of number line      what the line of this number says, or its offence
 use Rattle.std.specs.Prelude.{ℕ, ◌+◌, ◌==◌, ◌&&◌, codes, nat_lt, nat_eq, Bool, List, length, [], ◌∷◌, if◌then◌else◌, Result, Ok, Err}
 use Rattle.std.specs.Cmp.Lexicographic.{pointwise}

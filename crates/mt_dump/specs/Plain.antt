@@ -1,27 +1,19 @@
--- The plain form of a dump.
+-- The plain form of a dump (own).
 -- Lines end with LF or at the end of the text, and words stand between spaces and tabs. A line without words says nothing.
 -- Any other line has two words: a register's number and its value, each of 1 to 16 hexadecimal digits, or `maxphyaddr` and
 -- 1 to 20 decimal digits of a width from 32 to 52. So there is no comment, no CR, no `:` and no `0x`.
 --     plain_line words      what a line of these words says
 --     PlainlyShown text file      the text has the plain form and shows the file
-use Rattle.std.specs.Prelude.{ℕ, ◌≡◌, ◌≤◌, ◌&&◌, nat_le, Bool, true, false, List, [], ◌∷◌, length, map, if◌then◌else◌, Option, Some, None}
-use Rattle.std.specs.List.{AllByRecursion, filter, slice_split}
+use Rattle.std.specs.Prelude.{ℕ, ◌≡◌, ◌≤◌, ◌&&◌, nat_le, List, [], ◌∷◌, length, map, if◌then◌else◌, Option, Some, None}
+use Rattle.std.specs.List.{AllByRecursion}
 use Rattle.std.specs.Option.{option_map, option_and_then}
 use Rattle.hex.specs.Hex.{is_hex_digit}
-use Rattle.mt_text.specs.Text.{is_blank, lines_of}
+use Rattle.mt_text.specs.Text.{between_blanks, lines_of}
 use Rattle.mt_text.specs.Number.{are_digits, hex_value, is_decimal_digit, decimal_value}
 use Rattle.mt_regs.specs.RegisterFile.{RegisterFile, IsRegisterFile, blank_file}
 use Rattle.mt_regs.specs.Registers.{value_at}
 use Rattle.mt_dump.specs.Line.{is_width_name}
 use Rattle.mt_dump.specs.Dump.{times, width_of}
-
-abbrev pub has_bytes : List ℕ → Bool
-has_bytes [] = false
-has_bytes (byte ∷ bytes) = true
-
--- what stands between spaces and tabs
-abbrev pub plain_words : List ℕ → List (List ℕ)
-plain_words line = filter has_bytes (slice_split is_blank line)
 
 -- what a line says: nothing, a register's number and value, or the width
 pub data PlainLine : Type 0 where
@@ -67,7 +59,7 @@ plain_widths (OfWidth width ∷ lines) = width ∷ plain_widths lines
 
 pub record PlainlyShown (text : List ℕ) (file : RegisterFile) : Type 0 where
   pub lines : List PlainLine
-  pub plain : map (λ line. plain_line (plain_words line)) (lines_of text) ≡ map Some lines  -- each line says something plain
+  pub plain : map (λ line. plain_line (between_blanks line)) (lines_of text) ≡ map Some lines  -- each line says something plain
   pub capabilities : (others : List (ℕ × ℕ)) × (plain_registers lines ≡ (0xfe, file.capabilities) ∷ others)  -- 0FEH is given before every other register
   pub once : (number : ℕ) → times number (plain_registers lines) ≤ 1  -- no register is given twice
   pub one_width : length (plain_widths lines) ≤ 1  -- nor is the width

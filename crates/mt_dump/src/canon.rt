@@ -1,4 +1,4 @@
-ghost use Rattle.std.specs.Prelude.{◌≡◌, ◌≤◌, ◌<◌, ◌+◌, ◌++◌, ◌∷◌, [], length, take, slice_index, slice_get, MatchOption};
+ghost use Rattle.std.specs.Prelude.{◌≡◌, ◌≤◌, ◌<◌, ◌+◌, ◌++◌, ◌∷◌, [], length, take, drop, slice_index, slice_get, MatchOption};
 ghost use Rattle.hex.specs.Hex.{lower_digits};
 ghost use Rattle.mt_dump.specs.Canon.{width_line, number_text, value_text, register_line, canon_lines};
 
@@ -89,7 +89,8 @@ fn canon_line(f: &RegFile, line: u32) -> ArrayVec<u8, 24>
 
 /// Puts one line of the canonical text into the front and answers its length, which is 0 past the last line.
 pub fn write_dump(f: &RegFile, line: u32, into: &mut [u8; 24]) -> usize
-    ensures { MatchOption (slice_get (canon_lines f.now) line) (result ≡ 0) (λ text. (result ≡ length text + 1) × (take result into.new ≡ text ++ 10 ∷ [])) }
+    ensures text { MatchOption (slice_get (canon_lines f.now) line) (result ≡ 0) (λ text. (result ≡ length text + 1) × (take result into.new ≡ text ++ 10 ∷ [])) }
+    ensures rest { drop result into.new ≡ drop result into.old }
 {
     let text = canon_line(f, line);
     let count = text.len();

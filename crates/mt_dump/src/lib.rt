@@ -18,7 +18,8 @@ pub use laws::{
 };
 pub use reader::{DumpReader, read_dump};
 pub use worked::{
-    worked_bad_lines, worked_bad_numbers, worked_file, worked_registers, worked_shapes,
+    worked_bad_lines, worked_bad_numbers, worked_file, worked_plain_lines, worked_registers,
+    worked_shapes,
 };
 
 #[cfg(test)]

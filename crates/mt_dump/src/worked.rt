@@ -1,6 +1,8 @@
-ghost use Rattle.std.specs.Prelude.{◌≡◌, ◌∷◌, [], codes};
+ghost use Rattle.std.specs.Prelude.{◌≡◌, ◌∷◌, [], codes, Some, None};
+ghost use Rattle.mt_text.specs.Text.{between_blanks};
 ghost use Rattle.mt_dump.specs.Canon.{canon, ended};
 ghost use Rattle.mt_dump.specs.Dump.{Shown, dump_offence};
+ghost use Rattle.mt_dump.specs.Plain.{plain_line, Empty, OfRegister, OfWidth};
 ghost use Rattle.mt_dump.specs.Worked.{fault_in, offence_in, two_registers, two_registers_file};
 ghost use Rattle.mt_dump.specs.declared.fault.DumpReason.TheVariants.{BadLine, BadNumber, UnknownRegister, Repeated, NoCap, BadWidth, TooManyPairs};
 
@@ -55,4 +57,18 @@ pub fn worked_registers()
 pub fn worked_file()
     ensures shown { Shown two_registers two_registers_file }
     ensures canonical { canon two_registers_file ≡ ended (codes "maxphyaddr 36" ∷ codes "0fe 0000000000000400" ∷ codes "277 0007040600070406" ∷ codes "2ff 0000000000000c00" ∷ []) }
+{}
+
+/// Worked examples of lines of the plain form, and of others.
+pub fn worked_plain_lines()
+    ensures register { plain_line (between_blanks (codes " fe\t508 ")) ≡ Some (OfRegister 0xfe 0x508) }
+    ensures width { plain_line (between_blanks (codes "maxphyaddr 040")) ≡ Some (OfWidth 40) }
+    ensures empty { plain_line (between_blanks (codes " \t")) ≡ Some Empty }
+    ensures one_word { plain_line (between_blanks (codes "fe")) ≡ None }
+    ensures three_words { plain_line (between_blanks (codes "fe 508 9")) ≡ None }
+    ensures prefix { plain_line (between_blanks (codes "0xfe 508")) ≡ None }
+    ensures colon { plain_line (between_blanks (codes "fe: 508")) ≡ None }
+    ensures comment { plain_line (between_blanks (codes "# 508")) ≡ None }
+    ensures return_at_the_end { plain_line (between_blanks (codes "fe 508\r")) ≡ None }
+    ensures wide { plain_line (between_blanks (codes "maxphyaddr 53")) ≡ None }
 {}

@@ -1,10 +1,10 @@
--- The lines of a text, and the words of a line.
+-- The lines of a text, and the words of a line (own).
 --     lines_of text      the lines, each without its LF; a line ends with LF or at the end of the text
 --     content line       what words stand in: the line without a CR at its end, up to the first `#`
 --     words_of line      the words, each with its offset in the line; a word is a longest run of bytes that are no blanks
 --     words_at offset line      the same words, each with its offset in a source in which the line stands at this offset
-use Rattle.std.specs.Prelude.{ℕ, ◌+◌, ◌≡◌, ◌≤◌, ⊤, drop, Bool, false, ◌==◌, ◌||◌, not, List, [], ◌∷◌, if◌then◌else◌, length, take, Some}
-use Rattle.std.specs.List.{onto_first, before_first, slice_get}
+use Rattle.std.specs.Prelude.{ℕ, ◌+◌, ◌≡◌, ◌≤◌, ⊤, drop, Bool, true, false, count_by, ◌==◌, ◌||◌, not, List, [], ◌∷◌, if◌then◌else◌, length, take, Some}
+use Rattle.std.specs.List.{onto_first, before_first, slice_get, slice_split, filter, list_any}
 use Rattle.mt_text.specs.declared.place.Place.{Place}
 
 abbrev pub is_line_end : ℕ → Bool
@@ -67,19 +67,26 @@ words_at offset line = words_from offset (content line)
 abbrev pub words_of : List ℕ → List (ℕ × List ℕ)
 words_of line = words_at 0 line
 
+abbrev pub has_bytes : List ℕ → Bool
+has_bytes [] = false
+has_bytes (byte ∷ bytes) = true
+
+-- what stands between spaces and tabs
+abbrev pub between_blanks : List ℕ → List (List ℕ)
+between_blanks line = filter has_bytes (slice_split is_blank line)
+
 -- a word that a line has, by its offset in the line
 abbrev pub HasWord : List ℕ → ℕ × List ℕ → Type 0
 HasWord line word = (i : ℕ) × (slice_get (words_of line) i ≡ Some word)
 
--- the place after the last byte: one more than the lines that are ended, and than the bytes after the last LF
-abbrev pub end_from : Place → List ℕ → Place
-end_from place [] = place
-end_from place (byte ∷ bytes) =
-    if is_line_end byte then end_from (record { line = place.line + 1; column = 1 }) bytes
-    else end_from (record { line = place.line; column = place.column + 1 }) bytes
+-- what follows the last LF, or the whole text where there is none
+abbrev pub after_line_ends : List ℕ → List ℕ
+after_line_ends [] = []
+after_line_ends (byte ∷ bytes) = if list_any is_line_end (byte ∷ bytes) then after_line_ends bytes else byte ∷ bytes
 
+-- the place after the last byte
 abbrev pub end_of : List ℕ → Place
-end_of text = end_from (record { line = 1; column = 1 }) text
+end_of text = record { line = count_by is_line_end text + 1; column = length (after_line_ends text) + 1 }
 
 -- Each word is what stands at its offset in the line, has a byte, and begins at or after the end of the one before it.
 abbrev pub StandInOrder : List ℕ → ℕ → List (ℕ × List ℕ) → Type 0
