@@ -3,3 +3,4 @@ pub mod Filed
 pub mod Settled
 pub mod Accepted
 pub mod UnderWay
+pub mod Quiet

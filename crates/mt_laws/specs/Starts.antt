@@ -1,5 +1,5 @@
 -- The start, and the eras.
-use Rattle.std.specs.Prelude.{◌≡◌, ℕ, ◌%◌, true, List, Some, ◌≤◌, ◌<◌, ◌-◌, ◌^◌}
+use Rattle.std.specs.Prelude.{◌≡◌, ℕ, ◌%◌, true, List, None, Some, ◌≤◌, ◌<◌, ◌-◌, ◌^◌}
 use Rattle.std.specs.List.{All, AllPairs}
 use Rattle.mt_machine.specs.Machine.{Machine, Order, Reached, MachineEvent, IsEnabled, next}
 use Rattle.mt_regs.specs.RegisterFile.{RegisterFile, IsRegisterFile}
@@ -25,3 +25,7 @@ abbrev pub ErasFit : Type 0
 ErasFit =
     (s m : Machine) (e : MachineEvent) → IsStart s → Reached s m → HasEras m → IsEnabled m e → (is_call e ≡ true → HasEraRoom m)
     → HasEras (next m e)
+
+-- where no update is under way a reached state is quiet, so what holds from quiet states on holds from it on: of each update of a run, after one that was cancelled too
+abbrev pub ReachedIsQuiet : Type 0
+ReachedIsQuiet = (s m : Machine) → IsStart s → Reached s m → m.order ≡ None → IsQuiet m

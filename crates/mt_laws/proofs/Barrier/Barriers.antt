@@ -255,21 +255,22 @@ module _ (o : Order) (ps : List Processor) (g : Guarded o (stages_of ps)) where
 
 -- ---- each event keeps it
 
+-- where all have one era, it is the first one's
+pub era_at : (ps : List Processor) → Rest (stages_of ps) → (i : ℕ) (x : Stage) → At (stages_of ps) i x → x.1 ≡ common_era ps
+era_at [] r i x at = absurd (cc)
+era_at (p ∷ ps) r i x at = r.one_era i 0 x (stage_of p) at refl
+
 called : (goal : RegisterFile) (ps : List Processor) → Rest (stages_of ps) → Guarded (record { goal = goal; from_era = common_era ps; go = Pending }) (stages_of ps)
 called goal ps r = record {
   first = λ i j x y at_x at_y h. absurd (let z = low i x at_x in omega arith);
   second = λ i j x y at_x at_y h. absurd (let z = low i x at_x in omega arith);
   given = λ i x at h. absurd (let z = low i x at in omega arith);
   in_step = λ i x at _. behind i x at;
-  eras = λ i x at. inl (at_era ps r i x at);
+  eras = λ i x at. inl (era_at ps r i x at);
 }
   where
-    at_era : (ps : List Processor) → Rest (stages_of ps) → (i : ℕ) (x : Stage) → At (stages_of ps) i x → x.1 ≡ common_era ps
-    at_era [] r i x at = absurd (cc)
-    at_era (p ∷ ps) r i x at = r.one_era i 0 x (stage_of p) at refl
-
     behind : (i : ℕ) (x : Stage) → At (stages_of ps) i x → nat_lt (common_era ps) x.1 ≡ false
-    behind i x at = let e = at_era ps r i x at in le-ltb (common_era ps) x.1 (omega arith)
+    behind i x at = let e = era_at ps r i x at in le-ltb (common_era ps) x.1 (omega arith)
 
     rank_low : (ph : Phase) (b : Bool) → is_running ph ≡ true → b ≡ false → rank_of ph b ≡ 0
     rank_low Running b runs is = ap (rank_of Running) is

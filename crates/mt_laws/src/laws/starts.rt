@@ -1,8 +1,13 @@
-ghost use Rattle.mt_laws.specs.Starts.{ErasFit, StartIsQuiet};
+ghost use Rattle.mt_laws.specs.Starts.{ErasFit, ReachedIsQuiet, StartIsQuiet};
 
 /// A system at its start is one from which the laws hold, whatever accepted file its processors have.
 pub fn start_is_quiet()
     ensures { StartIsQuiet }
+{}
+
+/// A reached state without an update under way is quiet, so the laws on one update hold of each update of a run.
+pub fn reached_is_quiet()
+    ensures { ReachedIsQuiet }
 {}
 
 /// Where an update is called only while the eras have room, no era passes 64 bits.
