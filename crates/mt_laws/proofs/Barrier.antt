@@ -7,3 +7,4 @@ pub mod Still
 pub mod Acting
 pub mod Eras
 pub mod Takes
+pub mod Counts

@@ -1,5 +1,5 @@
 -- Where whole updates end.
-use Rattle.std.specs.Prelude.{◌≡◌, ℕ, ◌%◌, true, not, ◌&&◌, List, [], ◌∷◌, None, Some, map, false}
+use Rattle.std.specs.Prelude.{◌≡◌, ◌⊎◌, ℕ, ◌%◌, true, not, ◌&&◌, List, [], ◌∷◌, None, Some, map, false}
 use Rattle.std.specs.List.{list_all, All}
 use Rattle.mt_machine.specs.System.{Processor, now, System}
 use Rattle.mt_machine.specs.Machine.{Machine, Order, MachineEvent, Calls, IsEnabled, next, run, AreEnabled, second_barrier_open, has_released, is_given}
@@ -36,7 +36,7 @@ pub record HoldsNothing (goal : RegisterFile) (p : Processor) : Type 0 where
 
 abbrev pub LedToSecondBarrier : Type 0
 LedToSecondBarrier =
-    (s m : Machine) (o last : Order) → IsBroadcast s o → Led s m → m.order ≡ Some last → last.go ≡ Given → second_barrier_open last m.system.processors ≡ true
+    (s m : Machine) (o last : Order) → IsBroadcast s o → Led s m → m.order ≡ Some last → second_barrier_open last m.system.processors ≡ true
     → All (HoldsNothing o.goal) m.system.processors
     × ((address : ℕ) → address % 8 ≡ 0 → word_at m.system.memory address ≡ now s.system address)
 
@@ -50,7 +50,7 @@ LedUpdate =
 -- a processor that has released is the one that the update leaves
 abbrev pub LedReleased : Type 0
 LedReleased =
-    (s m : Machine) (o last : Order) (k : ℕ) (p q : Processor) → IsBroadcast s o → Led s m → m.order ≡ Some last → last.go ≡ Given
+    (s m : Machine) (o last : Order) (k : ℕ) (p q : Processor) → IsBroadcast s o → Led s m → m.order ≡ Some last
     → IsAt s k p → IsAt m k q → has_released last q ≡ true → q ≡ settled_processor o.goal p
 
 -- ---- cancelled updates
@@ -78,6 +78,12 @@ LedCancelled =
     (s m : Machine) (o last : Order) (e : MachineEvent) → IsBroadcast s o → Led s m → m.order ≡ Some last → is_given last.go ≡ false
     → IsEnabled m e → is_led e ≡ true → is_go e ≡ false → (next m e).order ≡ None
     → next m e ≡ record { system = all_running s.system; order = None }
+
+-- by go, cancel and steps alone: where the update has ended, it was done whole or cancelled
+abbrev pub LedEnds : Type 0
+LedEnds =
+    (s m : Machine) (o : Order) → IsBroadcast s o → Led s m → m.order ≡ None
+    → (m ≡ updated s.system [] o.goal) ⊎ (m ≡ record { system = all_running s.system; order = None })
 
 -- a whole cancelled update without accesses or controls leaves what a fence of each processor that took leaves
 abbrev pub CancelledUpdate : Type 0

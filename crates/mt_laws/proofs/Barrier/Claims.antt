@@ -6,9 +6,11 @@ use Rattle.std.proofs.lemmas.Bool.{le-ltb}
 use Rattle.std.proofs.lemmas.Option.{get_or_from_slice_get, slice_get_within}
 use Rattle.mt_machine.specs.declared.phase.Phase.{Phase}
 use Rattle.mt_machine.specs.declared.phase.Phase.TheVariants.{Running, Taken, Arrived, Arrived2}
+use Rattle.mt_machine.specs.declared.go.Go.{Go}
+use Rattle.mt_machine.specs.declared.go.Go.TheVariants.{Pending, Given, Cancelled}
 use Rattle.mt_machine.specs.System.{Processor, System}
 use Rattle.mt_machine.specs.Access.{is_running}
-use Rattle.mt_machine.specs.Machine.{Machine, Order, Reached, is_changing, is_arrived, is_arrived_again, has_passed, has_arrived, has_arrived_again, has_released, common_era}
+use Rattle.mt_machine.specs.Machine.{Machine, Order, Reached, is_given, is_changing, is_arrived, is_arrived_again, has_passed, has_arrived, has_arrived_again, has_released, common_era}
 use Rattle.mt_machine.specs.Start.{IsQuiet, IsBroadcast, IsStart}
 use Rattle.mt_laws.specs.Barriers.{IsAt, BarriersHold, NoneRunsInChange}
 use Rattle.mt_laws.proofs.Barrier.Stages.{Stage, stage_of, stages}
@@ -114,8 +116,13 @@ start_invariant m s = ⊎_elim (λ (q : IsQuiet m). quiet_invariant m q) (λ (b 
 
 -- ---- the claims
 
+go_given : (go : Go) → is_given go ≡ true → go ≡ Given
+go_given Pending h = absurd (cc)
+go_given Given h = refl
+go_given Cancelled h = absurd (cc)
+
 barriers_of : (m : Machine) → Invariant m → BarriersHold m
-barriers_of m inv = record { first = firsts; second = seconds }
+barriers_of m inv = record { first = firsts; given = gives; second = seconds }
   where
     guard : (o : Order) → m.order ≡ Some o → Guarded o (stages m.system)
     guard o is = subst (λ (x : Option Order). Kept x (stages m.system)) is inv
@@ -129,6 +136,13 @@ barriers_of m inv = record { first = firsts; second = seconds }
         rank_arrived q.phase (is_ahead o (stage_of q))
         (g.first i j (stage_of p) (stage_of q) (at_stage i p at_p) (at_stage j q at_q)
         (passed_rank p.phase (is_ahead o (stage_of p)) (g.in_step i (stage_of p) (at_stage i p at_p)) h))
+
+    gives : (o : Order) (i : ℕ) (p : Processor) → m.order ≡ Some o → IsAt m i p → has_passed o p ≡ true → o.go ≡ Given
+    gives o i p is at h =
+        let g = guard o is in
+        go_given o.go
+        (g.given i (stage_of p) (at_stage i p at)
+        (passed_rank p.phase (is_ahead o (stage_of p)) (g.in_step i (stage_of p) (at_stage i p at)) h))
 
     seconds : (o : Order) (i j : ℕ) (p q : Processor) → m.order ≡ Some o → IsAt m i p → IsAt m j q → has_released o p ≡ true → has_arrived_again o q ≡ true
     seconds o i j p q is at_p at_q h =

@@ -1,7 +1,6 @@
 -- No event changes a processor's width or capabilities, so where no update is under way a reached state is quiet.
 use Rattle.std.proofs.Common.{◌≡◌, ◌≢◌, ℕ, List, [], ◌∷◌, get_or, Some, None, Option, true, refl, sym, ap, subst, ◌∙◌, ⊎_elim}
 use Rattle.std.specs.Prelude.{slice_get, slice_index_or}
-use Rattle.std.specs.Option.{option_map_or}
 use Rattle.std.specs.List.{All}
 use Rattle.std.proofs.lemmas.Option.{slice_get-get_or}
 use Rattle.mt_regs.specs.RegisterFile.{RegisterFile}
@@ -9,17 +8,17 @@ use Rattle.mt_regs.specs.declared.registers.Register.{Register}
 use Rattle.mt_regs.specs.declared.registers.Register.TheVariants.{PhysBase, PhysMask, FixedRange, Pat, DefaultType}
 use Rattle.mt_regs.specs.Registers.{writable}
 use Rattle.mt_machine.specs.declared.event.Event.{Event}
-use Rattle.mt_machine.specs.declared.event.Event.TheVariants.{Take, WriteBack, FlushTlb, Write, Enable}
+use Rattle.mt_machine.specs.declared.event.Event.TheVariants.{Take, WriteBack, FlushTlb, Write}
 use Rattle.mt_machine.specs.System.{Processor, System}
 use Rattle.mt_machine.specs.Access.{is_running}
-use Rattle.mt_machine.specs.Machine.{Machine, Order, MachineEvent, Accesses, Controls, Calls, Goes, Cancels, Steps, IsEnabled, next, due, own_step, before_own, step, with_goal, common_era, FitsGoal, Reached, at_start, after}
+use Rattle.mt_machine.specs.Machine.{Machine, Order, MachineEvent, Accesses, Controls, Calls, Goes, Cancels, Steps, next, own_step, before_own, step, with_goal, common_era, FitsGoal, Reached, at_start, after}
 use Rattle.mt_machine.specs.Start.{IsQuiet, IsBroadcast, IsStart}
 use Rattle.mt_laws.specs.Starts.{ReachedIsQuiet}
-use Rattle.mt_laws.proofs.Barrier.Stages.{Stage, stage_of, stages}
+use Rattle.mt_laws.proofs.Barrier.Stages.{stage_of, stages}
 use Rattle.mt_laws.proofs.Barrier.Ranks.{stage_at}
 use Rattle.mt_laws.proofs.Barrier.Barriers.{Rest, Kept, reached_keeps, era_at}
 use Rattle.mt_laws.proofs.Barrier.Claims.{all_get, start_invariant}
-use Rattle.mt_laws.proofs.Clearing.Follows.{FollowsIn, follows_drain, follows_access, follows_control}
+use Rattle.mt_laws.proofs.Clearing.Follows.{follows_drain, follows_access, follows_control}
 use Rattle.mt_laws.proofs.Clearing.Renewed.{at_change}
 use Rattle.mt_laws.proofs.Registers.Filed.{flush_file}
 use Rattle.mt_laws.proofs.Invariant.Standing.{stays_sound}

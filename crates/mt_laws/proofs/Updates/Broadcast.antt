@@ -11,10 +11,10 @@ use Rattle.mt_machine.specs.declared.event.Event.TheVariants.{Take}
 use Rattle.mt_machine.specs.declared.go.Go.TheVariants.{Pending, Given, Cancelled}
 use Rattle.mt_machine.specs.System.{Processor, System}
 use Rattle.mt_machine.specs.Access.{is_running}
-use Rattle.mt_machine.specs.Machine.{Machine, Order, MachineEvent, Accesses, Controls, Calls, Goes, Cancels, Steps, due, own_step, step, is_cancelled, is_given, remaining_order, is_over, run, AreEnabled, at_start, go_of, IsEnabled, next}
+use Rattle.mt_machine.specs.Machine.{Machine, Order, MachineEvent, Accesses, Controls, Calls, Goes, Cancels, Steps, due, own_step, step, is_cancelled, is_given, remaining_order, is_over, run, AreEnabled, at_start, go_of, due_at, IsEnabled, next}
 use Rattle.mt_machine.specs.Update.{is_led, is_cancel, is_go, taker, takes_of, emptied, updated, Led, led_start, led_on}
 use Rattle.mt_machine.specs.Start.{IsStart, IsBroadcast}
-use Rattle.mt_laws.specs.Updates.{BroadcastUpdate, CancelledBroadcast, LedUpdate, LedNotGiven, LedCancelled}
+use Rattle.mt_laws.specs.Updates.{BroadcastUpdate, CancelledBroadcast, LedUpdate, LedNotGiven, LedCancelled, LedEnds, all_running}
 use Rattle.mt_machine.specs.declared.go.Go.{Go}
 use Rattle.mt_laws.proofs.Barrier.Stages.{Stage, stage_of, stages}
 use Rattle.mt_laws.proofs.Barrier.Ranks.{rank, rank_of, At, Guarded, at_set, stage_at, and_left, and_right}
@@ -194,16 +194,19 @@ not_cancel Cancels m last is go enabled =
     absurd (let h : go_of m ≡ Some Given = ap (λ (v : Option Order). option_map (λ o. o.go) v) is ∙ ap (λ (g : Go). Some g) go in let clash : Some Pending ≡ Some Given = sym enabled ∙ h in cc)
 not_cancel other m last is go enabled = refl
 
-pub led_update : LedUpdate
-led_update s m o last e b l is go enabled led over =
-    let rest = led_list l last is (ap is_cancelled go) in
+led_whole : (s m : Machine) (o last : Order) (e : MachineEvent) → IsBroadcast s o → Led s m → m.order ≡ Some last → is_cancelled last.go ≡ false → IsEnabled m e → is_led e ≡ true → not (is_cancel e) ≡ true → (next m e).order ≡ None → next m e ≡ updated s.system [] o.goal
+led_whole s m o last e b l is off enabled led no_cancel over =
+    let rest = led_list l last is off in
     let es : List MachineEvent = rest.0 ++ e ∷ [] in
     let whole : run s es ≡ next m e = run_join s rest.0 (e ∷ []) ∙ ap (λ (x : Machine). next x e) rest.2 in
     sym whole
     ∙ broadcast_update s o es b
     (enabled_join s rest.0 (e ∷ []) rest.1 (subst (λ (x : Machine). IsEnabled x e) (sym rest.2) enabled, tt))
-    (all_append (λ e. is_led e && not (is_cancel e)) rest.0 (e ∷ []) rest.3 (both_true _ true (both_true _ _ led (not_cancel e m last is go enabled)) refl))
+    (all_append (λ e. is_led e && not (is_cancel e)) rest.0 (e ∷ []) rest.3 (both_true _ true (both_true _ _ led no_cancel) refl))
     (ap (λ (x : Machine). x.order) whole ∙ over)
+
+pub led_update : LedUpdate
+led_update s m o last e b l is go enabled led over = led_whole s m o last e b l is (ap is_cancelled go) enabled led (not_cancel e m last is go enabled) over
 
 -- ---- while the go isn't given
 
@@ -263,3 +266,43 @@ led_cancelled s m o last e b l is off enabled led quiet over =
     (enabled_join s rest.0 (e ∷ []) rest.1 (subst (λ (x : Machine). IsEnabled x e) (sym rest.2) enabled, tt))
     (all_append (λ e. is_led e && not (is_go e)) rest.0 (e ∷ []) rest.3 (both_true _ true (both_true _ _ led (ap not quiet)) refl))
     (ap (λ (x : Machine). x.order) whole ∙ over)
+
+-- ---- the end, whichever it is
+
+-- go and cancel, steps and the like need an order
+led_needs : (e : MachineEvent) (m : Machine) → m.order ≡ None → IsEnabled m e → is_led e ≡ true → ⊥
+led_needs (Accesses k op) m none enabled led = absurd (cc)
+led_needs (Controls k c) m none enabled led = absurd (cc)
+led_needs (Calls goal) m none enabled led = absurd (cc)
+led_needs Goes m none enabled led = absurd (let h : go_of m ≡ None = ap (λ (v : Option Order). option_map (λ o. o.go) v) none in cc)
+led_needs Cancels m none enabled led = absurd (let h : go_of m ≡ None = ap (λ (v : Option Order). option_map (λ o. o.go) v) none in cc)
+led_needs (Steps k w) m none enabled led = absurd (let h : due_at m k ≡ None = ap (λ (v : Option Order). due_at (record { system = m.system; order = v }) k) none in cc)
+
+not_go : (e : MachineEvent) (m : Machine) (last : Order) → m.order ≡ Some last → last.go ≡ Cancelled → IsEnabled m e → is_go e ≡ false
+not_go Goes m last is go enabled =
+    absurd (let h : go_of m ≡ Some Cancelled = ap (λ (v : Option Order). option_map (λ o. o.go) v) is ∙ ap (λ (g : Go). Some g) go in let clash : Some Pending ≡ Some Cancelled = sym enabled ∙ h in cc)
+not_go other m last is go enabled = refl
+
+cancel_no_go : (e : MachineEvent) → is_cancel e ≡ true → is_go e ≡ false
+cancel_no_go Cancels h = refl
+cancel_no_go other h = absurd (cc)
+
+abbrev Ended : Machine → Order → Machine → Type 0
+Ended s o m = (m ≡ updated s.system [] o.goal) ⊎ (m ≡ record { system = all_running s.system; order = None })
+
+ended_by : (s t : Machine) (o : Order) (e : MachineEvent) → IsBroadcast s o → Led s t → IsEnabled t e → is_led e ≡ true → (next t e).order ≡ None → (v : Option Order) → t.order ≡ v → Ended s o (next t e)
+ended_by s t o e b l enabled led over None is = absurd (led_needs e t is enabled led)
+ended_by s t o e b l enabled led over (Some last) is = one last.go refl (is_cancel e) refl
+  where
+    one : (go : Go) → last.go ≡ go → (c : Bool) → is_cancel e ≡ c → Ended s o (next t e)
+    one Pending go true is_c = inr (led_cancelled s t o last e b l is (ap is_given go) enabled led (cancel_no_go e is_c) over)
+    one Pending go false is_c = inl (led_whole s t o last e b l is (ap is_cancelled go) enabled led (ap not is_c) over)
+    one Given go c is_c = inl (led_update s t o last e b l is go enabled led over)
+    one Cancelled go c is_c = inr (led_cancelled s t o last e b l is (ap is_given go) enabled led (not_go e t last is go enabled) over)
+
+led_ended : (s : Machine) (o : Order) → IsBroadcast s o → {m : Machine} → Led s m → m.order ≡ None → Ended s o m
+led_ended s o b led_start over = absurd (let is = b.order in cc)
+led_ended s o b (led_on {t = t} e l enabled led) over = ended_by s t o e b l enabled led over t.order refl
+
+pub led_ends : LedEnds
+led_ends s m o b l over = led_ended s o b l over

@@ -1,29 +1,32 @@
 -- Where all have arrived again nothing is held, and memory has each word.
 use Rattle.std.proofs.Common.{◌≡◌, ◌⊎◌, ℕ, zero, suc, ◌%◌, ◌≤◌, List, [], ◌∷◌, get_or, Some, None, Option, Bool, true, false, refl, sym, ap, subst, ◌∙◌, arith, inl, ⊎_elim, inr}
-use Rattle.std.specs.Prelude.{slice_get, if◌then◌else◌, not, ◌&&◌}
+use Rattle.std.specs.Prelude.{slice_get, map, if◌then◌else◌, not, ◌&&◌, ◌||◌}
 use Rattle.std.specs.List.{All, fold, filter_map, list_all}
 use Rattle.std.specs.Option.{option_map_or}
 use Rattle.std.proofs.lemmas.Option.{slice_get-get_or}
 use Rattle.mt_regs.specs.RegisterFile.{RegisterFile}
 use Rattle.mt_machine.specs.declared.phase.Phase.{Phase}
 use Rattle.mt_machine.specs.declared.phase.Phase.TheVariants.{Running, Taken, Arrived, Arrived2}
+use Rattle.mt_machine.specs.declared.go.Go.{Go}
 use Rattle.mt_machine.specs.declared.go.Go.TheVariants.{Given}
 use Rattle.mt_machine.specs.Memory.{Window, word_at}
-use Rattle.mt_machine.specs.System.{Processor, System, now}
+use Rattle.mt_machine.specs.System.{Processor, System, now, dirty_word_in}
 use Rattle.mt_machine.specs.Bus.{drain}
-use Rattle.mt_machine.specs.Machine.{Machine, Order, MachineEvent, Accesses, Controls, Calls, Goes, Cancels, Steps, run, AreEnabled, due, step, is_cancelled, is_over, remaining_order, second_barrier_open, has_released}
+use Rattle.mt_machine.specs.Machine.{Machine, Order, MachineEvent, Accesses, Controls, Calls, Goes, Cancels, Steps, run, AreEnabled, due, step, is_cancelled, is_given, is_changing, is_arrived_again, is_over, remaining_order, second_barrier_open, has_arrived_again, has_passed, has_released}
 use Rattle.mt_machine.specs.Start.{IsStart, IsBroadcast}
 use Rattle.mt_machine.specs.Update.{is_led, is_cancel, emptied, taker, takes_of, settled_processor, Led}
 use Rattle.mt_laws.specs.Updates.{HoldsNothing, LedToSecondBarrier, LedReleased}
 use Rattle.mt_laws.proofs.Barrier.Stages.{Stage, stage_of, stages}
-use Rattle.mt_laws.proofs.Barrier.Ranks.{rank, rank_of, is_ahead, At, stage_at, all_fourth, Guarded}
+use Rattle.mt_laws.proofs.Barrier.Ranks.{rank, rank_of, is_ahead, At, stage_at, all_fourth, and_left, Guarded}
 use Rattle.mt_laws.proofs.Words.MemoryLaws.{AllAligned}
 use Rattle.mt_laws.proofs.Updates.Cancelled.{takes_more}
 use Rattle.mt_laws.proofs.Invariant.Standing.{Standing, standing_next, start_standing}
 use Rattle.mt_laws.proofs.Updates.Fates.{Fate}
 use Rattle.mt_laws.proofs.Updates.Whole.{Course, Early, Past, Fates, Standing', course_go, course_step, ended, to_past}
-use Rattle.mt_laws.proofs.Updates.Broadcast.{is_known, led_list, broadcast_takes, led_alone}
-use Rattle.mt_laws.proofs.Barrier.Claims.{broadcast_rank, released_rank}
+use Rattle.mt_laws.proofs.Updates.Broadcast.{is_known, led_list, broadcast_takes, led_alone, led_not_given}
+use Rattle.mt_laws.proofs.Updates.Erased.{erased}
+use Rattle.mt_laws.proofs.Invariant.Runs.{led_reached}
+use Rattle.mt_laws.proofs.Barrier.Claims.{barriers_hold_of, broadcast_rank, released_rank}
 use Rattle.mt_laws.proofs.Updates.Held.{settled_word}
 use Rattle.mt_laws.proofs.Invariant.Kept.{start_aligned}
 use Rattle.mt_laws.proofs.Clearing.Cleared.{lines_gone, buffers_gone, entries_gone}
@@ -172,8 +175,60 @@ module _ (s m : Machine) (o last : Order) (b : IsBroadcast s o) (l : Led s m) (i
       subst (λ (f : RegisterFile). q ≡ settled_processor f p) on_m.goal_stays
       (released_is s.system.memory.windows s.system.processors m.system drained last on_m.stands on_m.course (λ i x at. guard.second k i (stage_of q) x here at top) k p q at_p at_q ahead)
 
+-- the go was given, where one has passed
+module _ (s m : Machine) (o last : Order) (b : IsBroadcast s o) (l : Led s m) (is : m.order ≡ Some last) where
+  go_was_given : (k : ℕ) (q : Processor) → IsAt m k q → has_passed last q ≡ true → last.go ≡ Given
+  go_was_given k q at passed = (barriers_hold_of s m (inr (o, b)) (led_reached l)).given last k q is at passed
+
+  passed_if_again : (q : Processor) → has_arrived_again last q ≡ true → has_passed last q ≡ true
+  passed_if_again q h = one (is_changing q.phase) (is_arrived_again q.phase) (has_released last q) h
+    where
+      one : (x y z : Bool) → (y || z) ≡ true → (x || y || z) ≡ true
+      one true y z g = refl
+      one false y z g = g
+
+  passed_if_released : (q : Processor) → has_released last q ≡ true → has_passed last q ≡ true
+  passed_if_released q h = passed_if_again q (one (is_arrived_again q.phase) (has_released last q) h)
+    where
+      one : (x y : Bool) → y ≡ true → (x || y) ≡ true
+      one true y g = refl
+      one false y g = g
+
+  abbrev AtSecond : Type 0
+  AtSecond = All (HoldsNothing o.goal) m.system.processors × ((a : ℕ) → a % 8 ≡ 0 → word_at m.system.memory a ≡ now s.system a)
+
+  -- a system without processors
+  none_there : m.system.processors ≡ [] → AtSecond
+  none_there none = (
+    subst (All (HoldsNothing o.goal)) (sym none) (λ k d within. absurd (omega arith)),
+    λ a whole. by_go last.go refl a whole,
+  )
+    where
+      no_more : (ps : List Processor) → [] ≡ map erased ps → ps ≡ []
+      no_more [] h = refl
+      no_more (p ∷ ps) h = absurd (cc)
+
+      by_go : (go : Go) → last.go ≡ go → (a : ℕ) → a % 8 ≡ 0 → word_at m.system.memory a ≡ now s.system a
+      by_go Given go a whole = (second s m o last b l is go (ap (second_barrier_open last) none)).1 a whole
+      by_go other go a whole =
+          let same = led_not_given s m o last b l is (ap is_given go) in
+          let empty : s.system.processors ≡ [] = no_more s.system.processors (ap (map erased) (sym none) ∙ ap (λ (x : System). x.processors) same) in
+          ap (λ (x : System). word_at x.memory a) same
+          ∙ ap (λ (ps : List Processor). option_map_or (λ v. v) (dirty_word_in ps a) (word_at s.system.memory a)) (sym empty)
+
+  at_second : second_barrier_open last m.system.processors ≡ true → AtSecond
+  at_second opened = one m.system.processors refl
+    where
+      one : (ps : List Processor) → m.system.processors ≡ ps → AtSecond
+      one [] none = none_there none
+      one (q ∷ qs) some =
+          let again : has_arrived_again last q ≡ true = and_left _ _ (ap (second_barrier_open last) (sym some) ∙ opened) in
+          let at : IsAt m 0 q = ap (λ (ps : List Processor). slice_get ps 0) some in
+          second s m o last b l is (go_was_given 0 q at (passed_if_again q again)) opened
+
 pub led_to_second_barrier : LedToSecondBarrier
-led_to_second_barrier s m o last b l is go opened = second s m o last b l is go opened
+led_to_second_barrier s m o last b l is opened = at_second s m o last b l is opened
 
 pub led_released : LedReleased
-led_released s m o last k p q b l is go at_p at_q ahead = released s m o last b l is go k p q at_p at_q ahead
+led_released s m o last k p q b l is at_p at_q ahead =
+    released s m o last b l is (go_was_given s m o last b l is k q at_q (passed_if_released s m o last b l is q ahead)) k p q at_p at_q ahead

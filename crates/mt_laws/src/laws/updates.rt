@@ -1,4 +1,4 @@
-ghost use Rattle.mt_laws.specs.Updates.{BroadcastUpdate, CancelledBroadcast, CancelledUpdate, LedCancelled, LedNotGiven, LedReleased, LedToSecondBarrier, LedUpdate, WholeUpdate};
+ghost use Rattle.mt_laws.specs.Updates.{BroadcastUpdate, CancelledBroadcast, CancelledUpdate, LedCancelled, LedEnds, LedNotGiven, LedReleased, LedToSecondBarrier, LedUpdate, WholeUpdate};
 ghost use Rattle.mt_laws.specs.Counts.{CountOfSteps, TakesAtMostOnce, TakesOnce};
 
 /// A whole update without accesses or controls ends in the state that is given outright, and each
@@ -39,6 +39,12 @@ pub fn led_released()
 pub fn led_cancelled()
     ensures before { LedNotGiven }
     ensures end { LedCancelled }
+{}
+
+/// What is led to from a broadcast state and has no order any more is one of two: the state of the whole
+/// update, or the state of before with all processors running.
+pub fn led_ends()
+    ensures { LedEnds }
 {}
 
 /// A whole cancelled update leaves what fences leave, in the order of the takes, and no processor
