@@ -1,17 +1,18 @@
 -- From what the calls say of the bytes to what a run leaves.
-use Rattle.std.proofs.Common.{◌≡◌, ◌≢◌, ◌⊎◌, ℕ, List, [], ◌++◌, Option, Some, None, refl, sym, subst, ◌∙◌, ap, inl, inr}
+use Rattle.std.proofs.Common.{◌≡◌, ◌≢◌, ◌⊎◌, ℕ, ◌<◌, List, [], ◌++◌, length, length-append, Option, Some, None, refl, sym, subst, ◌∙◌, ap, inl, inr, arith}
 use Rattle.std.specs.Io.KnownBytes.{Appends, Consumes, IsAtEnd}
 use Rattle.std.proofs.lemmas.List.{append-nil}
 use Rattle.mt_ports.specs.Puts.{AppendsFront}
 use Rattle.mt_ports.specs.declared.status.Status.{Status}
-use Rattle.mt_ports.specs.declared.status.Status.TheVariants.{Done, Refused, Usage, WriteFault, TooFew, Disabled}
+use Rattle.mt_ports.specs.declared.status.Status.TheVariants.{Done, Refused, Usage, BadText, WriteFault, TooLong, TooFew, Disabled}
 use Rattle.mt_regs.specs.RegisterFile.{RegisterFile}
-use Rattle.mt_dump.specs.Dump.{Shown}
+use Rattle.mt_dump.specs.Dump.{Shown, dump_offence}
+use Rattle.mt_dump.specs.declared.fault.DumpFault.{DumpFault}
 use Rattle.mt_cli.specs.declared.command.Command.{Command}
 use Rattle.mt_cli.specs.CommandLine.{command_of}
 use Rattle.mt_cli.specs.Output.{Answer, Output, usage, bad_text, answered, refused, accepted, shown, typed, paged, tidied, too_few, disabled}
-use Rattle.mt_cli.specs.Reading.{EndsReading}
-use Rattle.mt_cli.specs.Tool.{Finished, Leaves}
+use Rattle.mt_cli.specs.Reading.{ConsumesTooMuch, EndsReading}
+use Rattle.mt_cli.specs.Tool.{Answered, Finished, Leaves, Reads}
 use Rattle.mt_cli.specs.Written.{Answers, Writes, writes, no_memory}
 
 -- what stands after the bytes that the sink had
@@ -80,3 +81,46 @@ pub unwritten_leaves : (words : List (List ℕ)) (bytes : List ℕ) (left : Opti
 unwritten_leaves words bytes left before after status told (inl is) = rw is told
 unwritten_leaves words bytes left before after status told (inr (inl is)) = rw is told
 unwritten_leaves words bytes left before after status told (inr (inr is)) = rw is told
+
+-- ---- what is said of the source alone
+
+-- a source of which more was read than a tool takes
+pub longer : (old new : Option (List ℕ)) (bytes : List ℕ) → old ≡ Some bytes → ConsumesTooMuch old new → 16777216 < length bytes
+longer None new bytes is much = absurd (cc is)
+longer (Some xs) None bytes is (text, takes, long) = absurd takes
+longer (Some xs) (Some ys) bytes is (text, takes, long) =
+    let e : xs ≡ bytes = cc is in
+    omega (arith, ap length (sym e ∙ takes), length-append text ys)
+
+answered_reads : (words : List (List ℕ)) (bytes : List ℕ) (left : Option (List ℕ)) (status : Status) → IsFinal status → Answered words bytes left status → Reads words bytes left status
+unfolding IsFinal
+answered_reads words bytes left status (inl is) told = rw is (subst (λ (s : Status). Answered words bytes left s) is told)
+answered_reads words bytes left status (inr (inl is)) told = rw is (subst (λ (s : Status). Answered words bytes left s) is told)
+answered_reads words bytes left status (inr (inr (inl is))) told = rw is (subst (λ (s : Status). Answered words bytes left s) is told)
+answered_reads words bytes left status (inr (inr (inr is))) told = rw is (subst (λ (s : Status). Answered words bytes left s) is told)
+
+-- the status of an answer
+pub answers_read : (words : List (List ℕ)) (bytes : List ℕ) (file : RegisterFile) (command : Command) (result : Status) (left old new : Option (List ℕ))
+    → command_of words ≡ Some command → Shown bytes file → left ≡ Some [] → Answers file command old new result → Reads words bytes left result
+answers_read words bytes file command result left old new says shows read (writes text status answer (inl (is, takes))) =
+    rw is (answered_reads words bytes left status (final file command text status answer) (record { text = text; output = answered command file text status says shows answer; read = read }))
+answers_read words bytes file command result left old new says shows read (writes text status answer (inr (is, cut))) = rw is tt
+answers_read words bytes file command result left old new says shows read (no_memory is same) = rw is tt
+
+-- the status of a dump that is no dump
+pub offence_reads : (words : List (List ℕ)) (bytes : List ℕ) (command : Command) (fault : DumpFault) (written : List ℕ) (result : Status) (left old new : Option (List ℕ))
+    → command_of words ≡ Some command → dump_offence bytes ≡ Some fault → left ≡ Some [] → Writes written BadText old new result → Reads words bytes left result
+offence_reads words bytes command fault written result left old new says is read (inl (done, takes)) =
+    rw done (record { text = _; output = bad_text command fault says is; read = read })
+offence_reads words bytes command fault written result left old new says is read (inr (failed, cut)) = rw failed tt
+
+-- wrong usage
+pub usage_reads : (words : List (List ℕ)) (bytes : List ℕ) (written : List ℕ) (result : Status) (left old new : Option (List ℕ)) → left ≡ Some bytes → Writes written Usage old new result → Reads words bytes left result
+usage_reads words bytes written result left old new same (inl (done, takes)) = rw done same
+usage_reads words bytes written result left old new same (inr (failed, cut)) = rw failed tt
+
+-- a reading that ended early
+pub unwritten_reads : (words : List (List ℕ)) (bytes : List ℕ) (left : Option (List ℕ)) (status : Status) → EndsReading status → (status ≡ TooLong → 16777216 < length bytes) → Reads words bytes left status
+unwritten_reads words bytes left status (inl is) long = rw is tt
+unwritten_reads words bytes left status (inr (inl is)) long = rw is (long is)
+unwritten_reads words bytes left status (inr (inr is)) long = rw is tt

@@ -1,7 +1,5 @@
 -- What a run of the program leaves in the source and the sink.
-use Rattle.std.specs.Prelude.{ℕ, ◌≡◌, ◌≢◌, ◌⊎◌, List, [], ◌++◌, Option, Some}
-use Rattle.std.specs.Io.KnownBytes.{Appends}
-use Rattle.mt_ports.specs.Puts.{AppendsFront}
+use Rattle.std.specs.Prelude.{ℕ, ◌≡◌, ◌≢◌, ◌<◌, List, [], ◌++◌, length, Option, Some, ⊤}
 use Rattle.mt_ports.specs.declared.status.Status.{Status}
 use Rattle.mt_ports.specs.declared.status.Status.TheVariants.{Done, Refused, Usage, BadText, ReadFault, WriteFault, NoMemory, TooLong, TooFew, Disabled}
 use Rattle.mt_cli.specs.Output.{Output}
@@ -39,3 +37,22 @@ Leaves words bytes left before after NoMemory = Untouched before after
 Leaves words bytes left before after TooLong = Untouched before after
 Leaves words bytes left before after TooFew = Finished words bytes left before after TooFew
 Leaves words bytes left before after Disabled = Finished words bytes left before after Disabled
+
+-- The status is that of the output for all bytes that the source held, of which nothing is left.
+pub record Answered (words : List (List ℕ)) (bytes : List ℕ) (left : Option (List ℕ)) (status : Status) : Type 0 where
+  pub text : List ℕ
+  pub output : Output words bytes text status
+  pub read : left ≡ Some []
+
+-- what each status says of the bytes that the source held and has left, whether or not the sink tells its bytes
+abbrev pub Reads : List (List ℕ) → List ℕ → Option (List ℕ) → Status → Type 0
+Reads words bytes left Done = Answered words bytes left Done
+Reads words bytes left Refused = Answered words bytes left Refused
+Reads words bytes left Usage = left ≡ Some bytes
+Reads words bytes left BadText = Answered words bytes left BadText
+Reads words bytes left ReadFault = ⊤
+Reads words bytes left WriteFault = ⊤
+Reads words bytes left NoMemory = ⊤
+Reads words bytes left TooLong = 16777216 < length bytes
+Reads words bytes left TooFew = Answered words bytes left TooFew
+Reads words bytes left Disabled = Answered words bytes left Disabled

@@ -2,7 +2,7 @@ ghost use Rattle.std.specs.Prelude.{◌≡◌, ◌⊎◌, ◌↔◌, List, ℕ, 
 ghost use Rattle.mt_ports.specs.Causes.{Rose};
 ghost use Rattle.mt_cli.specs.CommandLine.{command_of};
 ghost use Rattle.mt_cli.specs.Reading.{GaveTooMuch};
-ghost use Rattle.mt_cli.specs.Tool.{Leaves};
+ghost use Rattle.mt_cli.specs.Tool.{Leaves, Reads};
 
 use crate::answers::{answer, written};
 use crate::command_of;
@@ -26,6 +26,10 @@ pub fn tool<R: AllocGlobal, S: Source, K: Sink, G: Gate>(
     // the bytes, or after a failure a front of it.
     ensures leaves { (bytes before : List ℕ) → S.left source.old ≡ Some bytes → K.taken sink.old ≡ Some before →
         Leaves (map string_bytes words.now) bytes (S.left source.new) before (K.taken sink.new) result }
+
+    // Where the source tells its bytes, the status is that of the output for them, and a source of
+    // at most 16,777,216 bytes is not too long.
+    ensures reads { (bytes : List ℕ) → S.left source.old ≡ Some bytes → Reads (map string_bytes words.now) bytes (S.left source.new) result }
 
     // Usage comes exactly where the words are no command line, and then nothing is read.
     ensures usage { result ≡ Status.Usage → command_of (map string_bytes words.now) ≡ None }

@@ -3,7 +3,7 @@ use Rattle.mt_ports.specs.declared.status.Status.TheVariants.{BadText, Usage}
 use Rattle.mt_dump.specs.Dump.{Shown, dump_offence}
 use Rattle.mt_cli.specs.Output.{usage, bad_text}
 use Rattle.mt_cli.specs.Written.{Writes}
-use Rattle.mt_cli.proofs.Leaving.{answers_leave, read_to_end, written_leaves}
+use Rattle.mt_cli.proofs.Leaving.{answers_leave, answers_read, offence_reads, read_to_end, written_leaves}
 use Rattle.mt_cli.proofs.SoundCommands.{sound_command}
 use Rattle.mt_cli.proofs.top.tool.Goals as goal
 
@@ -27,3 +27,15 @@ returns-clause-leaves g c bytes before left taken =
     let read = read_to_end _ _ bytes _ left c.in-Ok.ensures.bytes c.in-Ok.ensures.end in
     let shows = subst (λ (b : List ℕ). Shown b c.in-Ok-read_dump.file) (c.deref.ensures.value ∙ sym read.0) c.in-Ok-read_dump.ensures.answer in
     answers_leave _ bytes c.in-Ok-read_dump.file c.in-Some.command _ _ before _ _ (sym c.in-Some.ensures) shows read.1 taken c.answer.ensures.bytes
+
+pub returns-in-Err-read_dump-clause-reads : goal.returns-in-Err-read_dump-clause-reads
+returns-in-Err-read_dump-clause-reads g c bytes left =
+    let read = read_to_end _ _ bytes _ left c.in-Ok.ensures.bytes c.in-Ok.ensures.end in
+    let offence = subst (λ (b : List ℕ). dump_offence b ≡ Some c.in-Err-read_dump.fault) (c.deref.ensures.value ∙ sym read.0) c.in-Err-read_dump.ensures.answer in
+    offence_reads _ bytes c.in-Some.command c.in-Err-read_dump.fault _ _ _ _ _ (sym c.in-Some.ensures) offence read.1 c.written-in-Err-read_dump.ensures.bytes
+
+pub returns-clause-reads : goal.returns-clause-reads
+returns-clause-reads g c bytes left =
+    let read = read_to_end _ _ bytes _ left c.in-Ok.ensures.bytes c.in-Ok.ensures.end in
+    let shows = subst (λ (b : List ℕ). Shown b c.in-Ok-read_dump.file) (c.deref.ensures.value ∙ sym read.0) c.in-Ok-read_dump.ensures.answer in
+    answers_read _ bytes c.in-Ok-read_dump.file c.in-Some.command _ _ _ _ (sym c.in-Some.ensures) shows read.1 c.answer.ensures.bytes
