@@ -3,4 +3,5 @@ mod CanonicalLines
 mod Leaving
 mod LongLines
 mod OneOutput
+mod SomeOutput
 mod SoundCommands

@@ -12,3 +12,8 @@ pub fn words_and_bytes_have_one_output()
     ensures text { (words : List (List ℕ)) (bytes text other : List ℕ) (s t : Status) → Output words bytes text s → Output words bytes other t
         → ((spare chunk : ℕ) → command_of words ≡ Some (Tidy spare chunk) → s ≢ Done) → text ≡ other }
 {}
+
+/// Each command line and each input have an output.
+pub fn words_and_bytes_have_an_output()
+    ensures { (words : List (List ℕ)) (bytes : List ℕ) → (text : List ℕ) × (status : Status) × Output words bytes text status }
+{}

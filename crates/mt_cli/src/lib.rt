@@ -12,7 +12,7 @@ mod words;
 
 pub use answers::answer;
 pub use command::{Command, TidyOption};
-pub use laws::words_and_bytes_have_one_output;
+pub use laws::{words_and_bytes_have_an_output, words_and_bytes_have_one_output};
 pub use lines::{
     LineBuffer, bad_text_line, disabled_line, page_text, refused_line, run_line, too_few_line,
     used_line,
