@@ -1,0 +1,192 @@
+ghost use Rattle.std.specs.Prelude.{◌≡◌, ℕ, ◌<◌, ◌≤◌, ◌+◌, ◌*◌, ◌^◌, ◌%◌, [], length, map, slice_index, slice_range, slice_set, OnOk, OnErr, IfSome, None, nat_le, nat_lt, ◌&&◌};
+ghost use Rattle.std.specs.Borrow.{Array, Lends, sem, u64};
+ghost use Rattle.std.specs.List.{All};
+ghost use Rattle.mt_machine.specs.Memory.{IsMemory, Memory, place, place_in, window_end, word_count};
+ghost use Rattle.mt_ram.specs.contracts.ram.Ram.{the_row};
+ghost use Rattle.mt_ram.specs.Windows.{is_overlap, refusal, refusal_in, shares_byte, window, window_of, with_line, with_window};
+
+use crate::fault::RamFault;
+use crate::window::Window;
+use arrayvec::ArrayVec;
+use std::alloc::Global;
+use std::marker::Model;
+
+/// The bytes of a line, and of a word.
+const LINE_BYTES: u64 = 64;
+
+const WORD_BYTES: u64 = 8;
+
+/// The words of all windows together are at most these, those of 4,096 lines.
+const MOST_WORDS: usize = 8 * 4096;
+
+/// Memory: at most 16 windows, which share no byte, and the words of all of them in a row.
+#[derive(Drop)]
+pub struct Ram {
+    windows: ArrayVec<Window, 16>,
+    words: Vec<u64>,
+}
+
+impl Model for Ram {
+    ghost use Rattle.std.specs.Prelude.{map};
+    ghost use Rattle.mt_machine.specs.Memory.{Memory};
+    ghost use Rattle.mt_ram.specs.Windows.{IsRam, window_of};
+
+    ghost Value = { Memory };
+
+    ghost view = { λ r. record { windows = map window_of r.windows.items; words = r.words.items } };
+
+    ghost invariant = { λ r. IsRam (record { windows = map window_of r.windows.items; words = r.words.items }) };
+}
+
+impl Window {
+    // Whether this window and one at an address with so many lines have a byte in common.
+    fn shares_byte(&self, base: u64, lines: u32) -> bool
+        requires own { window_end (window_of self.now) ≤ 2 ^ 52 }
+        requires other { base + 64 * lines ≤ 2 ^ 52 }
+        ensures { result ≡ shares_byte (window_of self.now) (window base lines) }
+    {
+        self.base < base + LINE_BYTES * lines as u64
+            && base < self.base + LINE_BYTES * self.lines as u64
+    }
+
+    // Whether the byte at this address is in the window.
+    fn covers(&self, address: u64) -> bool
+        requires { window_end (window_of self.now) ≤ 2 ^ 52 }
+        ensures { result ≡ (nat_le self.now.base address && nat_lt address (window_end (window_of self.now))) }
+    {
+        self.base <= address && address < self.base + LINE_BYTES * self.lines as u64
+    }
+}
+
+// Whether one of these windows has a byte of a window at this address with so many lines.
+fn is_overlap(windows: &[Window], base: u64, lines: u32) -> bool
+    requires end { base + 64 * lines ≤ 2 ^ 52 }
+    requires bounded { All (λ w. window_end w ≤ 2 ^ 52) (map window_of windows.now) }
+    ensures { result ≡ is_overlap (map window_of windows.now) (window base lines) }
+{
+    for w in windows {
+        if w.shares_byte(base, lines) {
+            return true;
+        }
+    }
+    false
+}
+
+// The place of the word at this address, if one of these windows has it.
+fn place_in(windows: &[Window], address: u64) -> Option<usize>
+    requires bounded { All (λ w. window_end w ≤ 2 ^ 52) (map window_of windows.now) }
+    requires few { word_count (map window_of windows.now) ≤ 8 * 4096 }
+    ensures { result ≡ place_in (map window_of windows.now) 0 address }
+{
+    let mut before = 0;
+    for w in windows {
+        if w.covers(address) {
+            return Some(before + ((address - w.base) / WORD_BYTES) as usize);
+        }
+        before += 8 * w.lines as usize;
+    }
+    None
+}
+
+impl Ram {
+    /// Memory without windows.
+    pub fn new(alloc: Global) -> Self
+        ensures { result ≡ record { windows = []; words = [] } }
+    {
+        Ram {
+            windows: ArrayVec::new(),
+            words: Vec::new(alloc),
+        }
+    }
+
+    // Why a window cannot be added.
+    fn refusal(&self, base: u64, lines: u32) -> Option<RamFault>
+        requires few { lines ≤ 4096 }
+        requires end { base + 64 * lines ≤ 2 ^ 52 }
+        ensures { result ≡ refusal self.now.windows (window base lines) }
+    {
+        if base % LINE_BYTES != 0 {
+            Some(RamFault::Misaligned)
+        } else if is_overlap(self.windows.as_slice(), base, lines) {
+            Some(RamFault::Overlaps)
+        } else if self.words.len() + 8 * lines as usize > MOST_WORDS || self.windows.is_full() {
+            Some(RamFault::TooMuch)
+        } else {
+            None
+        }
+    }
+
+    /// Adds a window of zero words, from an address in bytes on.
+    ///
+    /// # Errors
+    ///
+    /// Misaligned where the address is no multiple of 64; else Overlaps where an earlier window
+    /// has a byte of it; else TooMuch where there would be more than 4,096 lines or 16 windows.
+    /// NoMemory where none of these holds and the allocator has no room. Nothing then changes.
+    pub fn add(&mut self, base: u64, lines: u32) -> Result<(), RamFault>
+        requires some { 0 < lines }
+        requires few { lines ≤ 4096 }
+        requires end { base + 64 * lines ≤ 2 ^ 52 }
+        ensures refused { refusal_in result ≡ refusal self.old.windows (window base lines) }
+        ensures added { OnOk result (self.new ≡ with_window (window base lines) self.old) }
+        ensures kept { OnErr result (self.new ≡ self.old) }
+    {
+        if let Some(fault) = self.refusal(base, lines) {
+            return Err(fault);
+        }
+        let words = self.words.len() + 8 * lines as usize;
+        if self.words.resize(words, 0).is_err() {
+            return Err(RamFault::NoMemory);
+        }
+        self.windows.push(Window { base, lines });
+        Ok(())
+    }
+
+    /// The place of the word at this address, in bytes: none exactly where the address is no
+    /// multiple of 8 or lies in no window. Places count through the windows in the order in which
+    /// they were added, and through each by address.
+    pub fn place(&self, address: u64) -> Option<usize>
+        ensures value { result ≡ place self.now address }
+        ensures within { IfSome result (λ i. i < length self.now.words) }
+    {
+        if address % WORD_BYTES == 0 {
+            place_in(self.windows.as_slice(), address)
+        } else {
+            None
+        }
+    }
+
+    /// The number of words.
+    pub fn words(&self) -> usize
+        ensures count { result ≡ length self.now.words }
+        ensures memory { IsMemory self.now }
+    {
+        self.words.len()
+    }
+
+    /// The word at a place.
+    pub fn word(&self, i: usize) -> u64
+        requires { i < length self.now.words }
+        ensures { result ≡ slice_index self.now.words i }
+    {
+        self.words[i]
+    }
+
+    /// Lends the eight words of a line, from the place of the first on, for writing.
+    pub fn line_mut(&mut self, i: usize) -> &mut [u64]
+        requires line { i % 8 ≡ 0 }
+        requires within { i < length self.old.words }
+        ensures* writes_back { sem 𝓛 (Lends the_row (Array u64 0) self.entry result (with_line i self.old)) }
+        ensures value { result.now ≡ slice_range self.old.words i (i + 8) }
+    {
+        self.words.slice_mut(i..i + 8)
+    }
+
+    /// Writes the word at a place.
+    pub fn put(&mut self, i: usize, v: u64)
+        requires { i < length self.old.words }
+        ensures { self.new ≡ record self.old { words = slice_set self.old.words i v } }
+    {
+        self.words[i] = v;
+    }
+}
