@@ -164,9 +164,13 @@ impl<'a> Line<'a> {
         requires has { HasWord self.now.bytes.now (word.now.offset - self.now.offset, word.now.text.now) }
         ensures slice { IfSome result (λ next. next.text.now ≡ take (length next.text.now) (drop (next.offset - self.now.offset) self.now.bytes.now)) }
         ensures offset { IfSome result (λ next. (self.now.offset ≤ next.offset) × (next.place.line ≡ self.now.number) × (next.place.column + self.now.offset ≡ next.offset + 1)) }
+        ensures has { IfSome result (λ next. HasWord self.now.bytes.now (next.offset - self.now.offset, next.text.now)) }
         ensures word { (i : ℕ) → slice_get (words_of self.now.bytes.now) i ≡ Some (word.now.offset - self.now.offset, word.now.text.now) → MatchOption result
             (slice_get (words_of self.now.bytes.now) (i + 1) ≡ None)
             (λ next. slice_get (words_of self.now.bytes.now) (i + 1) ≡ Some (next.offset - self.now.offset, next.text.now)) }
+        ensures source { (i : ℕ) → slice_get (words_at self.now.offset self.now.bytes.now) i ≡ Some (word.now.offset, word.now.text.now) → MatchOption result
+            (slice_get (words_at self.now.offset self.now.bytes.now) (i + 1) ≡ None)
+            (λ next. slice_get (words_at self.now.offset self.now.bytes.now) (i + 1) ≡ Some (next.offset, next.text.now)) }
     {
         let end = word.offset - self.offset + word.text.len();
         let Some((start, end)) = next_word(without_ending(self.bytes, b'\r'), end) else {
