@@ -7,3 +7,4 @@ pub mod Fates
 pub mod Whole
 pub mod Broadcast
 pub mod SecondBarrier
+pub mod FirstRelease

@@ -6,3 +6,4 @@ pub mod Kept
 pub mod Settled
 pub mod Counts
 pub mod Updates
+pub mod WorkedRuns

@@ -1,7 +1,7 @@
 -- What holds from the first release of an update on.
 use Rattle.std.specs.Prelude.{◌≡◌, ℕ, ◌+◌, true, false, not, List, [], ◌∷◌, Some, ◌++◌}
 use Rattle.std.specs.List.{list_all, All}
-use Rattle.mt_machine.specs.Machine.{Machine, Order, has_passed, Reached, MachineEvent, Steps, IsEnabled, next, run, AreEnabled}
+use Rattle.mt_machine.specs.Machine.{Machine, Order, has_passed, has_released, Reached, MachineEvent, Steps, IsEnabled, next, run, AreEnabled}
 use Rattle.mt_machine.specs.declared.event.Event.TheVariants.{Pass, Release}
 use Rattle.mt_machine.specs.Update.{IsSettled, IsHeld, is_release, is_call}
 use Rattle.mt_machine.specs.Start.{IsStart}
@@ -22,6 +22,21 @@ abbrev pub HeldAfterRelease : Type 0
 HeldAfterRelease =
     (s p r : Machine) (o : Order) (since : List MachineEvent) → IsStart s → Reached s p → IsFirstRelease p r o → AreEnabled r since
     → IsHeld p.system r since
+
+-- a release before which none has released is the first of its update: some reached state before the first pass leads to it
+abbrev pub FirstReleaseFollows : Type 0
+FirstReleaseFollows =
+    (s m : Machine) (o : Order) (k : ℕ) → IsStart s → Reached s m → m.order ≡ Some o
+    → All (λ q. has_released o q ≡ false) m.system.processors → IsEnabled m (Steps k Release)
+    → (p : Machine) × Reached s p × IsFirstRelease p (next m (Steps k Release)) o
+
+-- so after the first release of each update that is reached, words are held
+abbrev pub HeldAfterEachFirst : Type 0
+HeldAfterEachFirst =
+    (s m : Machine) (o : Order) (k : ℕ) (since : List MachineEvent) → IsStart s → Reached s m → m.order ≡ Some o
+    → All (λ q. has_released o q ≡ false) m.system.processors → IsEnabled m (Steps k Release)
+    → AreEnabled (next m (Steps k Release)) since
+    → (p : Machine) × Reached s p × IsFirstRelease p (next m (Steps k Release)) o × IsHeld p.system (next m (Steps k Release)) since
 
 -- where some processor may pass the first barrier, none has a buffer
 abbrev pub NoBuffersAtPass : Type 0

@@ -5,6 +5,7 @@
 #![tactic(auto)]
 
 mod laws;
+mod worked;
 
 pub use laws::{
     accesses_keep_sound, barriers_count, barriers_hold, broadcast_update, cancelled_broadcast,
@@ -13,3 +14,4 @@ pub use laws::{
     no_buffers_at_pass, orders_hold, reached_is_quiet, reached_is_run, settled_after_each_release,
     start_is_quiet, stays_coherent, stays_sound, steps_keep_now, whole_update,
 };
+pub use worked::worked_first_release;

@@ -19,7 +19,7 @@ use Rattle.mt_laws.proofs.Barrier.Barriers.{Rest, Kept, Invariant, reached_keeps
 
 -- ---- ranks and the barriers' words
 
-passed_rank : (ph : Phase) (ahead : Bool) → (is_running ph ≡ false → ahead ≡ false) → (is_changing ph || is_arrived_again ph || ahead) ≡ true → 3 ≤ rank_of ph ahead
+pub passed_rank : (ph : Phase) (ahead : Bool) → (is_running ph ≡ false → ahead ≡ false) → (is_changing ph || is_arrived_again ph || ahead) ≡ true → 3 ≤ rank_of ph ahead
 passed_rank Running true in_step h = lit≤ tt
 passed_rank Running false in_step h = absurd (cc)
 passed_rank Taken true in_step h = absurd (let e : true ≡ false = in_step refl in cc)

@@ -92,6 +92,11 @@ set_at (v ∷ vs) (suc i) zero x y z at_i at_k = inl at_i
 set_at (v ∷ vs) (suc i) (suc k) x y z at_i at_k =
     ⊎_elim (λ (h : At (set vs k y) i x). inl h) (λ (h : (i ≡ k) × At (set vs k y) i y). inr (ap suc h.0, h.1)) (set_at vs i k x y z at_i at_k)
 
+pub set_same : (vs : List Stage) (k : ℕ) (y z : Stage) → At vs k z → At (set vs k y) k y
+set_same [] k y z h = absurd (cc)
+set_same (v ∷ vs) zero y z h = refl
+set_same (v ∷ vs) (suc k) y z h = set_same vs k y z h
+
 pub at_same : (vs : List Stage) (i : ℕ) (x y : Stage) → At vs i x → At vs i y → x ≡ y
 at_same vs i x y a b = let e : Some x ≡ Some y = sym a ∙ b in cc
 

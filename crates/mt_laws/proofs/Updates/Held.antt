@@ -23,7 +23,7 @@ use Rattle.mt_laws.proofs.Barrier.Barriers.{Kept, step_moves, step_stages, step_
 use Rattle.mt_laws.proofs.Barrier.Claims.{all_get}
 use Rattle.mt_laws.proofs.Clearing.Cleared.{lines_gone, buffers_gone}
 use Rattle.mt_laws.proofs.Clearing.Renewed.{AllClear, is_take, no_take}
-use Rattle.mt_laws.proofs.Clearing.Late.{IsKept, kept_next, reached_kept, start_kept, late, at_same, set_at}
+use Rattle.mt_laws.proofs.Clearing.Late.{IsKept, kept_next, reached_kept, start_kept, late, at_same, set_at, set_same}
 use Rattle.mt_laws.proofs.Words.MemoryLaws.{AllAligned}
 use Rattle.mt_laws.proofs.Words.Copies.{Copy, IsClear, IsShared, IsOwned}
 use Rattle.mt_laws.proofs.Words.LineLists.{copy_in}
@@ -68,7 +68,7 @@ pub record IsBetween (o : Order) (s : System) : Type 0 where
   pub past : 3 ≤ rank o stage
   pub behind : (i : ℕ) (x : Stage) → At (stages s) i x → is_ahead o x ≡ false
 
-own_era : (o : Order) (p : Processor) (e : Event) → is_release (Steps 0 e) ≡ false → (own_step o.goal e p).era ≡ p.era
+pub own_era : (o : Order) (p : Processor) (e : Event) → is_release (Steps 0 e) ≡ false → (own_step o.goal e p).era ≡ p.era
 own_era o p Release h = absurd (cc)
 own_era o p FlushTlb h = flush_era p.phase p
 own_era o p other h = refl
@@ -213,11 +213,6 @@ pass_between o s k g none enabled = one (slice_get s.processors k) refl enabled
     one None at h = absurd (cc)
     one (Some p) at h = (stays_under_way o (step o.goal Pass k s) (step_guarded o Pass k s p at h g) there, there)
       where
-        put : (vs : List Stage) (k : ℕ) (y z : Stage) → At vs k z → At (set vs k y) k y
-        put [] k y z h = absurd (cc)
-        put (v ∷ vs) zero y z h = refl
-        put (v ∷ vs) (suc k) y z h = put vs k y z h
-
         behind : (i : ℕ) (x : Stage) → At (stages s) i x → is_ahead o x ≡ false
         behind i x at_x =
             let found = processor_at s.processors i x at_x in
@@ -238,36 +233,37 @@ pass_between o s k g none enabled = one (slice_get s.processors k) refl enabled
             record {
               one = k;
               stage = (Passed, p.era);
-              there = subst (λ (vs : List Stage). At vs k (Passed, p.era)) (sym same) (put (stages s) k (Passed, p.era) (stage_of p) here);
+              there = subst (λ (vs : List Stage). At vs k (Passed, p.era)) (sym same) (set_same (stages s) k (Passed, p.era) (stage_of p) here);
               past = lit≤ tt;
               behind = λ i x at_x. kept (stages s) k i x (Passed, p.era) (subst (λ (vs : List Stage). At vs i x) same at_x) behind (behind k (stage_of p) here);
             }
+
+rank_behind : (ph : Phase) → rank_of ph false ≤ 4
+rank_behind Running = lit≤ tt
+rank_behind Taken = lit≤ tt
+rank_behind Arrived = lit≤ tt
+rank_behind Arrived2 = lit≤ tt
+rank_behind other = lit≤ tt
+
+-- a processor that hasn't released may release only where the second barrier is open
+pub release_opens : (o : Order) (s : System) (k : ℕ) (p : Processor) → slice_get s.processors k ≡ Some p → Guarded o (stages s) → is_ahead o (stage_of p) ≡ false → due o s.processors p p.phase ≡ Some Release → second_barrier_open o s.processors ≡ true
+release_opens o s k p at g behind h =
+    let here : At (stages s) k (stage_of p) = stage_at s.processors k p at in
+    let move = step_moves o s.processors p (g.eras k (stage_of p) here) p.phase Release refl h (g.in_step k (stage_of p) here) in
+    let above : nat_lt o.from_era (p.era + 1) ≡ true = ⊎_elim (λ (e : p.era ≡ o.from_era). lt-ltb o.from_era (p.era + 1) (omega arith)) (λ (e : p.era ≡ o.from_era + 1). lt-ltb o.from_era (p.era + 1) (omega arith)) (g.eras k (stage_of p) here) in
+    let fifth : rank o (Running, p.era + 1) ≡ 5 = ap (rank_of Running) above in
+    let low : rank o (stage_of p) ≡ rank_of p.phase false = ap (rank_of p.phase) behind in
+    ⊎_elim (λ (r : 5 ≤ rank o (stage_of p)). absurd (let n = rank_behind p.phase in omega arith)) (λ (r : second_barrier_open o s.processors ≡ true). r) (move.to_fifth (omega arith))
 
 -- when some processor may release, no cache has a line and no processor has a buffer
 nothing_held : (o : Order) (s : System) (k : ℕ) → Guarded o (stages s) → AllClear (Some o) s.processors → IsBetween o s → IsEnabled (record { system = s; order = Some o }) (Steps k Release) → (j : ℕ) (q : Processor) → slice_get s.processors j ≡ Some q → (q.lines ≡ []) × (q.buffers ≡ [])
 nothing_held o s k g clear b enabled j q at_q = one (slice_get s.processors k) refl enabled
   where
-    opened : (p : Processor) → slice_get s.processors k ≡ Some p → due o s.processors p p.phase ≡ Some Release → second_barrier_open o s.processors ≡ true
-    opened p at h =
-        let here : At (stages s) k (stage_of p) = stage_at s.processors k p at in
-        let move = step_moves o s.processors p (g.eras k (stage_of p) here) p.phase Release refl h (g.in_step k (stage_of p) here) in
-        let above : nat_lt o.from_era (p.era + 1) ≡ true = ⊎_elim (λ (e : p.era ≡ o.from_era). lt-ltb o.from_era (p.era + 1) (omega arith)) (λ (e : p.era ≡ o.from_era + 1). lt-ltb o.from_era (p.era + 1) (omega arith)) (g.eras k (stage_of p) here) in
-        let fifth : rank o (Running, p.era + 1) ≡ 5 = ap (rank_of Running) above in
-        let low : rank o (stage_of p) ≡ rank_of p.phase false = ap (rank_of p.phase) (b.behind k (stage_of p) here) in
-        ⊎_elim (λ (r : 5 ≤ rank o (stage_of p)). absurd (let n = not_five p.phase in omega arith)) (λ (r : second_barrier_open o s.processors ≡ true). r) (move.to_fifth (omega arith))
-      where
-        not_five : (ph : Phase) → rank_of ph false ≤ 4
-        not_five Running = lit≤ tt
-        not_five Taken = lit≤ tt
-        not_five Arrived = lit≤ tt
-        not_five Arrived2 = lit≤ tt
-        not_five other = lit≤ tt
-
     one : (x : Option Processor) → slice_get s.processors k ≡ x → option_map_or (λ p. due o s.processors p p.phase) x None ≡ Some Release → (q.lines ≡ []) × (q.buffers ≡ [])
     one None at h = absurd (cc)
     one (Some p) at h =
         let here = stage_at s.processors j q at_q in
-        let fourth = all_fourth o s.processors g (opened p at h) j (stage_of q) here in
+        let fourth = all_fourth o s.processors g (release_opens o s k p at g (b.behind k (stage_of p) (stage_at s.processors k p at)) h) j (stage_of q) here in
         ⊎_elim
         (λ (l : (is_running q.phase ≡ true) × (is_ahead o (stage_of q) ≡ true)). absurd (let off : is_ahead o (stage_of q) ≡ false = b.behind j (stage_of q) here in let on = l.1 in cc))
         (λ (l : (lines_gone q.phase ≡ true) × (buffers_gone q.phase ≡ true) × _ × (is_running q.phase ≡ false)). ((clear j q at_q).no_lines l.0, (clear j q at_q).no_buffers l.1))

@@ -1,4 +1,4 @@
-ghost use Rattle.mt_laws.specs.Settled.{HeldAfterRelease, NoBuffersAtPass, SettledAfterEachRelease};
+ghost use Rattle.mt_laws.specs.Settled.{FirstReleaseFollows, HeldAfterEachFirst, HeldAfterRelease, NoBuffersAtPass, SettledAfterEachRelease};
 
 /// From a release on, and up to the next call, each processor has the goal's registers and holds nothing older than the update.
 pub fn settled_after_each_release()
@@ -11,7 +11,10 @@ pub fn no_buffers_at_pass()
     ensures { NoBuffersAtPass }
 {}
 
-/// From the first release of an update on, each word that no access has stored since is in memory as it was before the first pass.
+/// From the first release of an update on, each word that no access has stored since is in memory as it was
+/// before the first pass. Before each first release that is reached there is such a state.
 pub fn held_after_release()
-    ensures { HeldAfterRelease }
+    ensures from { HeldAfterRelease }
+    ensures first { FirstReleaseFollows }
+    ensures each { HeldAfterEachFirst }
 {}

@@ -1,0 +1,27 @@
+-- A worked update of two processors without pairs and fixed ranges.
+use Rattle.std.specs.Prelude.{List, [], ◌∷◌, ◌++◌, map}
+use Rattle.mt_machine.specs.declared.event.Event.{Event}
+use Rattle.mt_machine.specs.declared.event.Event.TheVariants.{Pass, SetNoFill, DropLines, FlushTlb, Disable, Write, Enable, SetNormal, RestorePge, ArriveAgain, Release}
+use Rattle.mt_machine.specs.declared.go.Go.TheVariants.{Given}
+use Rattle.mt_machine.specs.Machine.{Machine, Order, MachineEvent, Calls, Goes, Steps, run}
+use Rattle.mt_machine.specs.Start.{start_machine}
+use Rattle.mt_machine.specs.WorkedRuns.{bare_file, walk}
+
+abbrev pub pair_order : Order
+pair_order = record { goal = bare_file 0x806; from_era = 0; go = Given }
+
+-- both have arrived, and the go is given
+abbrev pub pair_arrived : Machine
+pair_arrived = walk 2 1 (walk 2 0 (run (start_machine 2 (bare_file 0x800) []) (Calls (bare_file 0x806) ∷ Goes ∷ [])))
+
+-- a processor's events from its pass to the second barrier
+abbrev pub way_on : List Event
+way_on = SetNoFill ∷ DropLines ∷ FlushTlb ∷ Disable ∷ Write 0 ∷ Enable ∷ DropLines ∷ FlushTlb ∷ SetNormal ∷ RestorePge ∷ ArriveAgain ∷ []
+
+-- after the first has passed it goes on to the second barrier, and then the other does
+abbrev pub pair_between : List MachineEvent
+pair_between = map (Steps 0) way_on ++ map (Steps 1) (Pass ∷ way_on)
+
+-- then the other releases
+abbrev pub pair_released : Machine
+pair_released = run pair_arrived (Steps 0 Pass ∷ pair_between ++ Steps 1 Release ∷ [])
