@@ -8,3 +8,4 @@ pub mod Whole
 pub mod Broadcast
 pub mod SecondBarrier
 pub mod FirstRelease
+pub mod ToBroadcast

@@ -1,15 +1,17 @@
 -- Where whole updates end.
-use Rattle.std.specs.Prelude.{◌≡◌, ◌⊎◌, ℕ, ◌%◌, true, not, ◌&&◌, List, [], ◌∷◌, None, Some, map, false}
+use Rattle.std.specs.Prelude.{◌≡◌, ◌⊎◌, ℕ, ◌%◌, true, not, ◌&&◌, List, [], ◌∷◌, None, Some, map, length, false}
 use Rattle.std.specs.List.{list_all, All}
 use Rattle.mt_machine.specs.System.{Processor, now, System}
-use Rattle.mt_machine.specs.Machine.{Machine, Order, MachineEvent, Calls, IsEnabled, next, run, AreEnabled, second_barrier_open, has_released, is_given}
+use Rattle.mt_machine.specs.Machine.{Machine, Order, MachineEvent, Calls, Steps, IsEnabled, next, run, AreEnabled, common_era, second_barrier_open, has_released, is_given}
 use Rattle.mt_regs.specs.RegisterFile.{RegisterFile}
-use Rattle.mt_machine.specs.declared.phase.Phase.TheVariants.{Running}
-use Rattle.mt_machine.specs.declared.go.Go.TheVariants.{Given}
+use Rattle.mt_machine.specs.declared.phase.Phase.TheVariants.{Running, Taken}
+use Rattle.mt_machine.specs.declared.event.Event.TheVariants.{Take}
+use Rattle.mt_machine.specs.declared.go.Go.TheVariants.{Given, Pending}
 use Rattle.mt_machine.specs.Update.{is_led, is_go, emptied, Led, is_cancel, takes_of, updated, settled_processor}
 use Rattle.mt_machine.specs.Start.{IsQuiet, IsBroadcast}
 use Rattle.mt_machine.specs.Memory.{word_at}
 use Rattle.mt_laws.specs.Barriers.{IsAt}
+use Rattle.mt_laws.specs.Counts.{IsEachOnce}
 
 -- a whole update without accesses or controls
 abbrev pub WholeUpdate : Type 0
@@ -92,3 +94,37 @@ CancelledUpdate =
     → list_all (λ e. is_led e && not (is_go e)) es ≡ true
     → (run s (Calls goal ∷ es)).order ≡ None
     → run s (Calls goal ∷ es) ≡ record { system = emptied s.system (takes_of es); order = None }
+
+-- ---- from a call to a broadcast state
+
+-- the system, with all processors in Taken
+abbrev pub all_taken : System → System
+all_taken s = record s { processors = map (λ (p : Processor). record p { phase = Taken }) s.processors }
+
+-- the order that a call makes
+abbrev pub order_of_call : Machine → RegisterFile → Order
+order_of_call s goal = record { goal = goal; from_era = common_era s.system.processors; go = Pending }
+
+-- a call, and takes of these processors
+abbrev pub call_and_takes : RegisterFile → List ℕ → List MachineEvent
+call_and_takes goal ks = Calls goal ∷ map (λ k. Steps k Take) ks
+
+-- they are enabled, and lead to a broadcast state: the buffers are emptied in the order of the takes, and all have taken
+pub record LeadsToBroadcast (s : Machine) (goal : RegisterFile) (ks : List ℕ) : Type 0 where
+  pub enabled : AreEnabled s (call_and_takes goal ks)
+  pub broadcast : IsBroadcast (run s (call_and_takes goal ks)) (order_of_call s goal)
+  pub system : (run s (call_and_takes goal ks)).system ≡ all_taken (emptied s.system ks)
+
+-- from a quiet state, where each processor takes once, in any order
+abbrev pub TakesBroadcast : Type 0
+TakesBroadcast =
+    (s : Machine) (goal : RegisterFile) (ks : List ℕ) → IsQuiet s → IsEnabled s (Calls goal) → IsEachOnce (length s.system.processors) ks
+    → LeadsToBroadcast s goal ks
+
+-- from the broadcast state the update leads to what it leads to from the quiet one
+pub record UpdatesAlike (s : System) (ks : List ℕ) (goal : RegisterFile) : Type 0 where
+  pub from_emptied : updated (emptied s ks) [] goal ≡ updated s ks goal
+  pub from_taken : updated (all_taken (emptied s ks)) [] goal ≡ updated s ks goal
+
+abbrev pub UpdatedFromBroadcast : Type 0
+UpdatedFromBroadcast = (s : System) (ks : List ℕ) (goal : RegisterFile) → UpdatesAlike s ks goal

@@ -15,5 +15,5 @@ pub use settled::{held_after_release, no_buffers_at_pass, settled_after_each_rel
 pub use starts::{eras_fit, reached_is_quiet, start_is_quiet};
 pub use updates::{
     broadcast_update, cancelled_broadcast, cancelled_update, count_of_steps, led_cancelled,
-    led_ends, led_released, led_to_second_barrier, led_update, whole_update,
+    led_ends, led_released, led_to_second_barrier, led_update, takes_broadcast, whole_update,
 };

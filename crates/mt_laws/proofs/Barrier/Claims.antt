@@ -1,9 +1,9 @@
 -- The barriers' claims, from the invariant of all reached states.
-use Rattle.std.proofs.Common.{◌≡◌, ℕ, ◌≤◌, List, Some, None, Option, Bool, true, false, refl, sym, ap, subst, ◌∙◌, arith, inl, ⊎_elim, lit≤}
+use Rattle.std.proofs.Common.{◌≡◌, ℕ, ◌≤◌, List, get_or, Some, None, Option, Bool, true, false, refl, sym, ap, subst, ◌∙◌, arith, inl, ⊎_elim, lit≤}
 use Rattle.std.specs.Prelude.{slice_get, ◌||◌}
 use Rattle.std.specs.List.{All}
 use Rattle.std.proofs.lemmas.Bool.{le-ltb}
-use Rattle.std.proofs.lemmas.Option.{get_or_from_slice_get, slice_get_within}
+use Rattle.std.proofs.lemmas.Option.{get_or_from_slice_get, slice_get-get_or, slice_get_within}
 use Rattle.mt_machine.specs.declared.phase.Phase.{Phase}
 use Rattle.mt_machine.specs.declared.phase.Phase.TheVariants.{Running, Taken, Arrived, Arrived2}
 use Rattle.mt_machine.specs.declared.go.Go.{Go}
@@ -71,6 +71,9 @@ not_changing other runs = absurd (cc)
 
 pub all_get : (P : Processor → Type 0) (ps : List Processor) → All P ps → (i : ℕ) (p : Processor) → slice_get ps i ≡ Some p → P p
 all_get P ps all i p at = subst P (get_or_from_slice_get ps i p p at) (all i p (slice_get_within ps i p at))
+
+pub all_of : (P : Processor → Type 0) (ps : List Processor) → ((i : ℕ) (p : Processor) → slice_get ps i ≡ Some p → P p) → All P ps
+all_of P ps h k d within = h k (get_or ps k d) (slice_get-get_or ps k d within)
 
 pub quiet_rest : (m : Machine) → IsQuiet m → Rest (stages m.system)
 quiet_rest m q = record {

@@ -35,7 +35,7 @@ abbrev left : Order → Option Stage → ℕ
 left o None = 0
 left o (Some x) = cond (rank o x == 0) 1 0
 
-abbrev mine : ℕ → List ℕ → ℕ
+abbrev pub mine : ℕ → List ℕ → ℕ
 mine k ks = count_by (λ j. j == k) ks
 
 abbrev takes_now : ℕ → MachineEvent → ℕ

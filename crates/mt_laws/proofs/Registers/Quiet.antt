@@ -1,8 +1,7 @@
 -- No event changes a processor's width or capabilities, so where no update is under way a reached state is quiet.
-use Rattle.std.proofs.Common.{◌≡◌, ◌≢◌, ℕ, List, [], ◌∷◌, get_or, Some, None, Option, true, refl, sym, ap, subst, ◌∙◌, ⊎_elim}
+use Rattle.std.proofs.Common.{◌≡◌, ◌≢◌, ℕ, List, [], ◌∷◌, Some, None, Option, true, refl, sym, ap, subst, ◌∙◌, ⊎_elim}
 use Rattle.std.specs.Prelude.{slice_get, slice_index_or}
 use Rattle.std.specs.List.{All}
-use Rattle.std.proofs.lemmas.Option.{slice_get-get_or}
 use Rattle.mt_regs.specs.RegisterFile.{RegisterFile}
 use Rattle.mt_regs.specs.declared.registers.Register.{Register}
 use Rattle.mt_regs.specs.declared.registers.Register.TheVariants.{PhysBase, PhysMask, FixedRange, Pat, DefaultType}
@@ -17,7 +16,7 @@ use Rattle.mt_laws.specs.Starts.{ReachedIsQuiet}
 use Rattle.mt_laws.proofs.Barrier.Stages.{stage_of, stages}
 use Rattle.mt_laws.proofs.Barrier.Ranks.{stage_at}
 use Rattle.mt_laws.proofs.Barrier.Barriers.{Rest, Kept, reached_keeps, era_at}
-use Rattle.mt_laws.proofs.Barrier.Claims.{all_get, start_invariant}
+use Rattle.mt_laws.proofs.Barrier.Claims.{all_get, all_of, start_invariant}
 use Rattle.mt_laws.proofs.Clearing.Follows.{follows_drain, follows_access, follows_control}
 use Rattle.mt_laws.proofs.Clearing.Renewed.{at_change}
 use Rattle.mt_laws.proofs.Registers.Filed.{flush_file}
@@ -99,9 +98,6 @@ start_shape m start =
     start
 
 -- ---- quiet
-
-all_of : (P : Processor → Type 0) (ps : List Processor) → ((i : ℕ) (p : Processor) → slice_get ps i ≡ Some p → P p) → All P ps
-all_of P ps h k d within = h k (get_or ps k d) (slice_get-get_or ps k d within)
 
 alike_fit : (v : Shape) (p q : Processor) → shape p.file ≡ v → shape q.file ≡ v → FitsGoal p.file q
 alike_fit v p q is_p is_q =

@@ -1,10 +1,9 @@
 -- What an order says of each processor, and where the lines of a sound system lie.
 use Rattle.std.proofs.Common.{◌≡◌, ℕ, zero, suc, ◌+◌, ◌-◌, ◌*◌, ◌/◌, ◌%◌, ◌<◌, ◌≤◌, ◌^◌, ◌==◌, List, [], ◌∷◌, get_or, take, Some, None, Option, Bool, true, false, refl, sym, subst, arith}
-use Rattle.std.specs.Prelude.{slice_get, nat_le, nat_lt, ◌&&◌, if◌then◌else◌, is_some}
+use Rattle.std.specs.Prelude.{nat_le, nat_lt, ◌&&◌, if◌then◌else◌, is_some}
 use Rattle.std.specs.List.{All}
 use Rattle.std.proofs.lemmas.Bool.{ltb-true}
 use Rattle.std.proofs.lemmas.List.Elements.{All-head, All-tail}
-use Rattle.std.proofs.lemmas.Option.{slice_get-get_or}
 use Rattle.mt_regs.specs.declared.registers.Register.{Register}
 use Rattle.mt_regs.specs.RegisterFile.{RegisterFile}
 use Rattle.mt_regs.specs.Registers.{value_of, writable}
@@ -18,7 +17,7 @@ use Rattle.mt_laws.proofs.Barrier.Ranks.{and_right}
 use Rattle.mt_machine.proofs.Files.{AgreeAll}
 use Rattle.mt_laws.proofs.Registers.Filed.{AllFiled}
 use Rattle.mt_laws.proofs.Registers.Accepted.{GoalAccepted}
-use Rattle.mt_laws.proofs.Barrier.Claims.{all_get}
+use Rattle.mt_laws.proofs.Barrier.Claims.{all_get, all_of}
 use Rattle.mt_laws.proofs.Invariant.Kept.{start_aligned}
 use Rattle.mt_laws.proofs.Invariant.Standing.{Standing, start_standing, reached_standing}
 
@@ -26,9 +25,6 @@ agree_all : (goal f : RegisterFile) (rs : List Register) → AgreeAll goal f rs 
 agree_all goal f [] h k d within = absurd (omega arith)
 agree_all goal f (r ∷ rs) h zero d within = h.0
 agree_all goal f (r ∷ rs) h (suc k) d within = agree_all goal f rs h.1 k d (omega arith)
-
-all_of : (P : Processor → Type 0) (ps : List Processor) → ((i : ℕ) (p : Processor) → slice_get ps i ≡ Some p → P p) → All P ps
-all_of P ps h k d within = h k (get_or ps k d) (slice_get-get_or ps k d within)
 
 holds : (m : Machine) (o : Order) → m.order ≡ Some o → (ws : List Window) → Standing ws m → OrderHolds m o
 holds m o is ws st =

@@ -1,10 +1,9 @@
 -- Before the first release of an update stands a first pass, and between them none releases.
-use Rattle.std.proofs.Common.{◌≡◌, ◌⊎◌, ℕ, zero, suc, ◌+◌, ◌≤◌, List, [], ◌∷◌, ◌++◌, set, get_or, Some, None, Option, Bool, true, false, refl, sym, ap, subst, ◌∙◌, arith, inl, inr, ⊎_elim, lit≤}
+use Rattle.std.proofs.Common.{◌≡◌, ◌⊎◌, ℕ, zero, suc, ◌+◌, ◌≤◌, List, [], ◌∷◌, ◌++◌, set, Some, None, Option, Bool, true, false, refl, sym, ap, subst, ◌∙◌, arith, inl, inr, ⊎_elim, lit≤}
 use Rattle.std.specs.Prelude.{slice_get, if◌then◌else◌, nat_lt, ◌==◌, not, ◌&&◌, ◌||◌}
 use Rattle.std.specs.List.{All, list_all}
 use Rattle.std.specs.Option.{option_map_or}
 use Rattle.std.proofs.lemmas.Bool.{lt-ltb}
-use Rattle.std.proofs.lemmas.Option.{slice_get-get_or}
 use Rattle.mt_machine.specs.declared.phase.Phase.{Phase}
 use Rattle.mt_machine.specs.declared.phase.Phase.TheVariants.{Running, Taken, Arrived, Arrived2}
 use Rattle.mt_machine.specs.declared.event.Event.{Event}
@@ -20,7 +19,7 @@ use Rattle.mt_laws.specs.Settled.{FirstReleaseFollows, HeldAfterEachFirst}
 use Rattle.mt_laws.proofs.Barrier.Stages.{Stage, stage_of, stages, access_stages, control_stages}
 use Rattle.mt_laws.proofs.Barrier.Ranks.{rank, rank_of, is_ahead, At, Guarded, at_set, processor_at, stage_at, all_fourth}
 use Rattle.mt_laws.proofs.Barrier.Barriers.{Kept, keeps, reached_keeps, step_stages}
-use Rattle.mt_laws.proofs.Barrier.Claims.{all_get, broadcast_rank, passed_rank, start_invariant}
+use Rattle.mt_laws.proofs.Barrier.Claims.{all_get, all_of, broadcast_rank, passed_rank, start_invariant}
 use Rattle.mt_laws.proofs.Clearing.Follows.{all_append}
 use Rattle.mt_laws.proofs.Clearing.Late.{at_same, set_at, set_same}
 use Rattle.mt_laws.proofs.Invariant.Runs.{run_join, enabled_join}
@@ -102,9 +101,6 @@ same_order o was ps is = one (is_over was ps) is
     one : (b : Bool) → (if b then None else Some was) ≡ Some o → was ≡ o
     one true h = absurd (cc)
     one false h = cc
-
-all_of : (P : Processor → Type 0) (ps : List Processor) → ((i : ℕ) (p : Processor) → slice_get ps i ≡ Some p → P p) → All P ps
-all_of P ps h k d within = h k (get_or ps k d) (slice_get-get_or ps k d within)
 
 -- whether some processor has passed
 abbrev SomePassed : Order → List Processor → Type 0

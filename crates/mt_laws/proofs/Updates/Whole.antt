@@ -60,11 +60,11 @@ View = List Mapping × Bool × ℕ
 abbrev pub view : Processor → View
 view p = (p.mappings, p.page_global, p.era)
 
-view_erased : (ps : List Processor) → map view (map erased ps) ≡ map view ps
+pub view_erased : (ps : List Processor) → map view (map erased ps) ≡ map view ps
 view_erased [] = refl
 view_erased (p ∷ ps) = ap (λ vs. view p ∷ vs) (view_erased ps)
 
-emptied_views : (ks : List ℕ) (s : System) → map view (emptied s ks).processors ≡ map view s.processors
+pub emptied_views : (ks : List ℕ) (s : System) → map view (emptied s ks).processors ≡ map view s.processors
 emptied_views [] s = refl
 emptied_views (k ∷ ks) s = emptied_views ks (drain k s) ∙ drain_views View view (λ f p. refl) (λ f p. refl) k s
 
@@ -113,7 +113,7 @@ dirty_erased : (a : ℕ) (ps : List Processor) → dirty_word_in (map erased ps)
 dirty_erased a [] = refl
 dirty_erased a (p ∷ ps) = ap (λ o. option_or (dirty_word p.lines a) o) (dirty_erased a ps)
 
-now_erased : (a : ℕ) (s : System) → now (erase s) a ≡ now s a
+pub now_erased : (a : ℕ) (s : System) → now (erase s) a ≡ now s a
 now_erased a s = ap (λ o. option_map_or (λ v. v) o (word_at s.memory a)) (dirty_erased a s.processors)
 
 -- ---- how far the update has come

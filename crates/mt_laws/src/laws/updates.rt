@@ -1,4 +1,4 @@
-ghost use Rattle.mt_laws.specs.Updates.{BroadcastUpdate, CancelledBroadcast, CancelledUpdate, LedCancelled, LedEnds, LedNotGiven, LedReleased, LedToSecondBarrier, LedUpdate, WholeUpdate};
+ghost use Rattle.mt_laws.specs.Updates.{BroadcastUpdate, CancelledBroadcast, CancelledUpdate, LedCancelled, LedEnds, LedNotGiven, LedReleased, LedToSecondBarrier, LedUpdate, TakesBroadcast, UpdatedFromBroadcast, WholeUpdate};
 ghost use Rattle.mt_laws.specs.Counts.{CountOfSteps, TakesAtMostOnce, TakesOnce};
 
 /// A whole update without accesses or controls ends in the state that is given outright, and each
@@ -6,6 +6,13 @@ ghost use Rattle.mt_laws.specs.Counts.{CountOfSteps, TakesAtMostOnce, TakesOnce}
 pub fn whole_update()
     ensures outright { WholeUpdate }
     ensures takes { TakesOnce }
+{}
+
+/// After an accepted call the takes of all processors, once each in any order, lead to a broadcast state, from
+/// which the update leads to what it leads to from the quiet one.
+pub fn takes_broadcast()
+    ensures leads { TakesBroadcast }
+    ensures updated { UpdatedFromBroadcast }
 {}
 
 /// From a broadcast state an update that isn't cancelled ends in the state that is given outright.
