@@ -24,6 +24,7 @@ use Rattle.mt_regs.proofs.Writable.{pairs_length, writable_base, writable_fixed,
 use Rattle.mt_types.specs.declared.run.Run.{Run}
 use Rattle.mt_types.specs.Runs.{IsRunsOf, kind_at}
 use Rattle.mt_types.proofs.Chains.{within_chain}
+use Rattle.mt_types.proofs.SomeMap.{a_type_map}
 use Rattle.mt_types.proofs.Reading.{kind_is, no_undefined}
 use Rattle.mt_tidy.specs.declared.range.Range.{Range}
 use Rattle.mt_tidy.specs.Ranges.{types_at}
@@ -32,6 +33,7 @@ use Rattle.mt_tidy.specs.Keeps.{IsLeast, Keeps}
 use Rattle.mt_tidy.specs.Kept.{IsTidy, NeedsMore}
 use Rattle.mt_tidy.specs.Tidied.{IsTidied, IsTooFew}
 use Rattle.mt_tidy.proofs.Fitted.{checked_of}
+use Rattle.mt_tidy.proofs.WholeCost.{cost_is_least}
 
 left_none : {A : Type 0} (a b : Option A) → option_or a b ≡ None → a ≡ None
 left_none None b h = refl
@@ -300,3 +302,15 @@ tidy_file = tidy_of
 pub needs_more : (f : RegisterFile) → IsAccepted f → is_enabled f ≡ true → (runs : List Run) → IsRunsOf f runs
     → (chunk spare needs has : ℕ) → IsTooFew f runs chunk spare needs has → NeedsMore f chunk spare needs has
 needs_more = more_of
+
+pub least_number : (f : RegisterFile) (chunk : ℕ) → IsRegisterFile f → IsAccepted f → is_enabled f ≡ true → (count : ℕ) × IsLeast f chunk count
+least_number f chunk good accepted enabled =
+    let runs = a_type_map f good in
+    let cost = cost_is_least f runs.0 chunk enabled (own_runs f good accepted enabled runs.0 runs.1) in
+    (cost.0, least_of f accepted enabled runs.0 runs.1 chunk cost.0 cost.2)
+
+pub one_least : (f : RegisterFile) (chunk a b : ℕ) → IsLeast f chunk a → IsLeast f chunk b → a ≡ b
+one_least f chunk a b first second =
+    let below = second.none_shorter first.some.0 first.some.1 first.some.2 in
+    let above = first.none_shorter second.some.0 second.some.1 second.some.2 in
+    omega (arith, below, above, first.some.3, second.some.3)

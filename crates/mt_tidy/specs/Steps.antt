@@ -1,4 +1,4 @@
--- The steps by which a block is laid: one for the block, behind those of its halves, the upper half's first.
+-- The steps by which a block is laid: one for the block, behind those of its halves, the upper half's first (own).
 use Rattle.std.specs.Prelude.{◌≡◌, ℕ, zero, suc, ◌+◌, ◌^◌, List, [], ◌∷◌, ◌++◌, Option, None}
 use Rattle.mt_kinds.specs.declared.mem_type.MemType.TheVariants.{UC, WC, WT, WP, WB}
 use Rattle.mt_trie.specs.declared.context.Context.{Context}

@@ -1,4 +1,4 @@
--- What the pages of a block want, run by run.
+-- What the pages of a block want, run by run (own).
 use Rattle.std.specs.Prelude.{ℕ, ◌^◌, ◌≤◌, nat_lt, max, min, Bool, if◌then◌else◌, List, fold}
 use Rattle.mt_regs.specs.declared.page_type.PageType.{PageType}
 use Rattle.mt_regs.specs.declared.page_type.PageType.TheVariants.{Kind, Undefined}

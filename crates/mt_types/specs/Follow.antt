@@ -1,4 +1,4 @@
--- A run after the runs before it.
+-- A run after the runs before it (own).
 use Rattle.std.specs.Prelude.{◌≡◌, ◌≢◌, ℕ, ◌+◌, ◌^◌, ◌<◌, ◌≤◌, Option, Some, None}
 use Rattle.mt_regs.specs.declared.page_type.PageType.{PageType}
 use Rattle.mt_types.specs.declared.run.Run.{Run}

@@ -8,5 +8,5 @@ page_runs-requires c = checked_of c.args.f.now c.requires.accepted
 pub returns : goal.returns
 returns c = (
   c.in_ok-runs.ensures,
-  own_runs c.args.f.now c.is_file.ensures c.requires.accepted c.requires.enabled c.in_ok-runs.runs c.in_ok-runs.ensures,
+  own_runs c.args.f.now c.is_register_file.ensures c.requires.accepted c.requires.enabled c.in_ok-runs.runs c.in_ok-runs.ensures,
 )
