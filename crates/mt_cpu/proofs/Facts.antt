@@ -9,8 +9,8 @@ use Rattle.mt_tlb.specs.declared.entry.Entry.{Entry}
 use Rattle.mt_tlb.specs.declared.mapping.Mapping.{Mapping}
 use Rattle.mt_tlb.specs.Entries.{add_entry, is_mapped, set_mapping}
 use Rattle.mt_machine.specs.declared.phase.Phase.TheVariants.{Running}
-use Rattle.mt_machine.specs.System.{Processor}
-use Rattle.mt_cpu.specs.Facts.{KeepsFacts, is_tlb_flushed}
+use Rattle.mt_machine.specs.System.{Processor, is_tlb_flushed}
+use Rattle.mt_cpu.specs.Facts.{KeepsFacts}
 
 all_tail : {X : Type 0} (P : X → Type 0) (x : X) (xs : List X) → All P (x ∷ xs) → All P xs
 all_tail P x xs all k d within = all (suc k) d (omega arith)

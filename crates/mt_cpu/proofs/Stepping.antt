@@ -17,11 +17,11 @@ use Rattle.mt_tlb.specs.Entries.{global_entries}
 use Rattle.mt_machine.specs.declared.event.Event.TheVariants.{WriteBack, DropLines, FlushTlb}
 use Rattle.mt_machine.specs.declared.phase.Phase.TheVariants.{Flushed, TlbFlushed, Enabled}
 use Rattle.mt_machine.specs.Memory.{word_of}
-use Rattle.mt_machine.specs.System.{Processor}
+use Rattle.mt_machine.specs.System.{Processor, is_tlb_flushed}
 use Rattle.mt_machine.specs.Control.{reload_cr3}
 use Rattle.mt_machine.specs.Machine.{after_flush, flush_tlb, own_step, with_goal, write_back_event}
 use Rattle.mt_machine.proofs.Files.{AgreeAll, alike_files, last_written}
-use Rattle.mt_cpu.specs.Facts.{KeepsFacts, is_tlb_flushed}
+use Rattle.mt_cpu.specs.Facts.{KeepsFacts}
 use Rattle.mt_cpu.specs.Steps.{HasFirst}
 
 -- ---- a dirty word is written back

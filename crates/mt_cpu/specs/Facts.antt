@@ -1,23 +1,11 @@
 -- What the type of a processor keeps beside what the types of its parts keep.
-use Rattle.std.specs.Prelude.{◌≡◌, ℕ, ◌<◌, Bool, true, false, [], length, None, Some, IsTrue}
+use Rattle.std.specs.Prelude.{◌≡◌, ℕ, ◌<◌, true, false, [], length, None, Some, IsTrue}
 use Rattle.std.specs.List.{All}
 use Rattle.mt_regs.specs.RegisterFile.{page_count}
 use Rattle.mt_regs.specs.Registers.{writable}
 use Rattle.mt_regs.specs.Faults.{IsAccepted}
 use Rattle.mt_tlb.specs.Entries.{is_mapped}
-use Rattle.mt_machine.specs.declared.phase.Phase.{Phase}
-use Rattle.mt_machine.specs.declared.phase.Phase.TheVariants.{TlbFlushed, Writing, Enabled, Flushed2, TlbFlushed2, Normal}
-use Rattle.mt_machine.specs.System.{Processor, is_writing}
-
--- the phases from the first flush of the TLB on, up to the return of PGE
-abbrev pub is_tlb_flushed : Phase → Bool
-is_tlb_flushed TlbFlushed = true
-is_tlb_flushed (Writing i) = true
-is_tlb_flushed Enabled = true
-is_tlb_flushed Flushed2 = true
-is_tlb_flushed TlbFlushed2 = true
-is_tlb_flushed Normal = true
-is_tlb_flushed other = false
+use Rattle.mt_machine.specs.System.{Processor, is_tlb_flushed, is_writing}
 
 pub record KeepsFacts (p : Processor) : Type 0 where
   pub local_entries : p.page_global ≡ false → All (λ e. e.global ≡ false) p.entries

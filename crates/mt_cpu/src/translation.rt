@@ -2,23 +2,12 @@ ghost use Rattle.std.specs.Prelude.{◌≡◌, ◌/◌, ◌<◌, ◌^◌, ◌↔
 ghost use Rattle.std.specs.Option.{option_map, option_map_or};
 ghost use Rattle.mt_regs.specs.RegisterFile.{page_count};
 ghost use Rattle.mt_tlb.specs.Entries.{add_entry, find_entry, find_mapping};
-ghost use Rattle.mt_machine.specs.Access.{entry_of, keep_entry, kind_of, new_entry, physical};
+ghost use Rattle.mt_machine.specs.Access.{entry_of, keep_entry, new_entry, physical};
 
 use crate::cpu::Cpu;
 use mt_kinds::{MemType, Pat, effective};
 use mt_machine::Phase;
-use mt_regs::PageType;
 use mt_tlb::{Entry, Mapping};
-
-// The memory type of a page's type. No page of an accepted file is undefined.
-fn kind_of(kind: PageType) -> MemType
-    ensures { result ≡ kind_of kind }
-{
-    match kind {
-        PageType::Kind(kind) => kind,
-        PageType::Undefined => MemType::UC,
-    }
-}
 
 impl Cpu {
     // The entry that a mapping makes.
@@ -30,7 +19,7 @@ impl Cpu {
             vpage: m.vpage,
             ppage: m.ppage,
             kind: effective(
-                kind_of(self.regs.page_type(m.ppage)),
+                self.regs.page_type(m.ppage).defined(),
                 Pat(self.regs.pat).entry(m.index),
             ),
             global: m.global && self.pge,

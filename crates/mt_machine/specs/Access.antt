@@ -9,9 +9,7 @@ use Rattle.mt_kinds.specs.declared.mem_type.MemType.{MemType}
 use Rattle.mt_kinds.specs.declared.mem_type.MemType.TheVariants.{UC, WC, WT, WP, WB}
 use Rattle.mt_kinds.specs.EffectiveType.{effective_type}
 use Rattle.mt_kinds.specs.Pat.{pat_entry}
-use Rattle.mt_regs.specs.declared.page_type.PageType.{PageType}
-use Rattle.mt_regs.specs.declared.page_type.PageType.TheVariants.{Kind, Undefined}
-use Rattle.mt_regs.specs.PageTypes.{page_type}
+use Rattle.mt_regs.specs.PageTypes.{defined_type, page_type}
 use Rattle.mt_cache.specs.declared.line.CacheLine.{CacheLine}
 use Rattle.mt_cache.specs.Lines.{change_line, find_line, write_clean, write_dirty}
 use Rattle.mt_tlb.specs.declared.entry.Entry.{Entry}
@@ -33,16 +31,11 @@ is_running other = false
 
 -- ---- translation
 
--- no page of an accepted file is undefined
-abbrev pub kind_of : PageType → MemType
-kind_of (Kind t) = t
-kind_of Undefined = UC
-
 abbrev pub new_entry : Processor → Mapping → Entry
 new_entry p m = record {
   vpage = m.vpage;
   ppage = m.ppage;
-  kind = effective_type (kind_of (page_type p.file m.ppage)) (pat_entry p.file.pat m.index);
+  kind = effective_type (defined_type (page_type p.file m.ppage)) (pat_entry p.file.pat m.index);
   global = m.global && p.page_global;
   era = p.era;
 }
@@ -163,6 +156,7 @@ access_at s k p op =
     (entry_of p (address_of op / 4096))
     (record { answer = Unmapped; after = s })
 
+-- busy where the processor is in an update, and where k is no processor's number (own)
 abbrev pub access : System → ℕ → Op → Answered
 access s k op =
     option_map_or

@@ -32,7 +32,7 @@ pub record RuledAfter : Type 0 where
   pub answer : Ruled
   pub after : System
 
--- of a processor that runs
+-- of a processor that runs; Invlpg has a virtual address, whose page's entry goes
 abbrev pub control_at : System → ℕ → Processor → Control → RuledAfter
 control_at s k p (Map m) =
     if is_full_for m p.mappings then record { answer = Full; after = s }
@@ -42,6 +42,7 @@ control_at s k p Cr3 = record { answer = Okay; after = change reload_cr3 k (drai
 control_at s k p (Pge on) = record { answer = Okay; after = change (set_page_global on) k (drain k s) }
 control_at s k p (Cd on) = record { answer = Okay; after = change (λ q. record q { cache_disabled = on }) k (drain k s) }
 
+-- busy where the processor is in an update, and where k is no processor's number (own)
 abbrev pub control : System → ℕ → Control → RuledAfter
 control s k c =
     option_map_or

@@ -50,10 +50,6 @@ abbrev pub is_cancelled : Go → Bool
 is_cancelled Cancelled = true
 is_cancelled other = false
 
-abbrev pub is_pending : Go → Bool
-is_pending Pending = true
-is_pending other = false
-
 -- the phases from Passed to Restored, in which the registers change
 abbrev pub is_changing : Phase → Bool
 is_changing Running = false
@@ -246,6 +242,7 @@ common_era (p ∷ ps) = p.era
 abbrev pub go_of : Machine → Option Go
 go_of m = option_map (λ o. o.go) m.order
 
+-- machines are thought of with at least one processor (own): without any a call is enabled too, and the go ends its update at once
 abbrev pub IsEnabled : Machine → MachineEvent → Type 0
 IsEnabled m (Accesses k op) = IsRunningAt m k × FitsOp op
 IsEnabled m (Controls k c) = IsRunningAt m k × ((p : Processor) → slice_get m.system.processors k ≡ Some p → FitsControl p c)

@@ -1,5 +1,5 @@
 -- The state of all processors and the memory, and what holds of it at all times.
-use Rattle.std.specs.Prelude.{◌≡◌, ◌≢◌, ℕ, ◌<◌, ◌≤◌, ◌==◌, Bool, false, ◌&&◌, List, [], ◌∷◌, length, slice_index, slice_get, slice_set, Option, None, Some, IsTrue, IsSome, IsNone}
+use Rattle.std.specs.Prelude.{◌≡◌, ◌≢◌, ℕ, ◌<◌, ◌≤◌, ◌==◌, Bool, true, false, ◌&&◌, List, [], ◌∷◌, length, slice_index, slice_get, slice_set, Option, None, Some, IsTrue, IsSome, IsNone}
 use Rattle.std.specs.Option.{option_map_or, option_map, option_or}
 use Rattle.std.specs.List.{find, All}
 use Rattle.mt_cache.specs.declared.line.CacheLine.{CacheLine}
@@ -11,7 +11,7 @@ use Rattle.mt_regs.specs.RegisterFile.{RegisterFile, IsRegisterFile, page_count}
 use Rattle.mt_regs.specs.Registers.{writable}
 use Rattle.mt_regs.specs.Faults.{IsAccepted}
 use Rattle.mt_machine.specs.declared.phase.Phase.{Phase}
-use Rattle.mt_machine.specs.declared.phase.Phase.TheVariants.{Running, Writing}
+use Rattle.mt_machine.specs.declared.phase.Phase.TheVariants.{Running, TlbFlushed, Writing, Enabled, Flushed2, TlbFlushed2, Normal}
 use Rattle.mt_machine.specs.Memory.{Memory, IsMemory, word_at, place, line_of, word_of, word_address}
 
 pub record Processor : Type 0 where
@@ -79,6 +79,16 @@ abbrev pub is_writing : Phase → Option ℕ
 is_writing (Writing i) = Some i
 is_writing other = None
 
+-- the phases from the first flush of the TLB on, up to the return of PGE
+abbrev pub is_tlb_flushed : Phase → Bool
+is_tlb_flushed TlbFlushed = true
+is_tlb_flushed (Writing i) = true
+is_tlb_flushed Enabled = true
+is_tlb_flushed Flushed2 = true
+is_tlb_flushed TlbFlushed2 = true
+is_tlb_flushed Normal = true
+is_tlb_flushed other = false
+
 -- what a processor keeps at all times
 pub record IsProcessor (p : Processor) : Type 0 where
   pub register_file : IsRegisterFile p.file
@@ -91,6 +101,7 @@ pub record IsProcessor (p : Processor) : Type 0 where
   pub local_entries : p.page_global ≡ false → All (λ e. e.global ≡ false) p.entries
   pub mapped : All (λ e. IsTrue (is_mapped e.vpage p.mappings)) p.entries
   pub entry_pages : All (λ e. e.ppage < page_count p.file) p.entries
+  pub flushed : is_tlb_flushed p.phase ≡ true → p.entries ≡ []
   pub few_entries : length p.entries ≤ 64
   pub distinct_entries : AreEntriesApart p.entries
   pub few_lines : length p.lines ≤ 64

@@ -6,7 +6,7 @@ use Rattle.mt_regs.specs.RegisterFile.{RegisterFile}
 use Rattle.mt_cache.specs.declared.line.CacheLine.{CacheLine}
 use Rattle.mt_cache.specs.Lines.{eight, is_dirty}
 use Rattle.mt_machine.specs.declared.phase.Phase.TheVariants.{Running}
-use Rattle.mt_machine.specs.declared.event.Event.TheVariants.{Take, Pass, Release}
+use Rattle.mt_machine.specs.declared.event.Event.TheVariants.{Take, Release}
 use Rattle.mt_machine.specs.declared.op.Op.TheVariants.{Store}
 use Rattle.mt_machine.specs.declared.done.Done.{Done}
 use Rattle.mt_machine.specs.declared.done.Done.TheVariants.{Stored}
@@ -54,10 +54,6 @@ IsHeld p r es =
     → word_at (run r es).system.memory address ≡ now p address
 
 -- ---- kinds of events
-
-abbrev pub is_pass : MachineEvent → Bool
-is_pass (Steps k Pass) = true
-is_pass other = false
 
 abbrev pub is_release : MachineEvent → Bool
 is_release (Steps k Release) = true

@@ -34,14 +34,14 @@ module _ (s : System) (k : ℕ) (rests : (q : Processor) → slice_get s.process
   abbrev ruled : Bool → RuledAfter → RuledAfter → RuledAfter
   ruled b x y = if b then x else y
 
-  access_busy : (op : Op) → access s k op ≡ record { answer = Busy; after = s }
+  pub access_busy : (op : Op) → access s k op ≡ record { answer = Busy; after = s }
   access_busy op = one (slice_get s.processors k) refl
     where
       one : (x : Option Processor) → slice_get s.processors k ≡ x → option_map_or {U = Answered} (λ q. if is_running q.phase then access_at s k q op else record { answer = Busy; after = s }) x (record { answer = Busy; after = s }) ≡ record { answer = Busy; after = s }
       one None at = refl
       one (Some q) at = ap (λ (b : Bool). picked b (access_at s k q op) (record { answer = Busy; after = s })) (rests q at)
 
-  control_busy : (c : Control) → control s k c ≡ record { answer = RuledBusy; after = s }
+  pub control_busy : (c : Control) → control s k c ≡ record { answer = RuledBusy; after = s }
   control_busy c = one (slice_get s.processors k) refl
     where
       one : (x : Option Processor) → slice_get s.processors k ≡ x → option_map_or {U = RuledAfter} (λ q. if is_running q.phase then control_at s k q c else record { answer = RuledBusy; after = s }) x (record { answer = RuledBusy; after = s }) ≡ record { answer = RuledBusy; after = s }

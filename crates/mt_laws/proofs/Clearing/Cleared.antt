@@ -52,7 +52,7 @@ pub record Clear (o : Order) (p : Processor) : Type 0 where
 
 -- ---- lists of which no element passes
 
-none_of : {X : Type 0} → (xs : List X) → list_all (λ (x : X). false) xs ≡ true → xs ≡ []
+pub none_of : {X : Type 0} → (xs : List X) → list_all (λ (x : X). false) xs ≡ true → xs ≡ []
 none_of [] h = refl
 none_of (x ∷ xs) h = absurd (cc)
 

@@ -1,5 +1,5 @@
 -- What makes a system sound, in the forms that each event is seen to keep.
-use Rattle.std.proofs.Common.{◌≡◌, ℕ, ◌-◌, ◌^◌, ◌<◌, ◌%◌, ◌==◌, List, length, Some, None, Bool, true, false, refl, sym, ap, subst, ◌∙◌, arith, ◌≤◌}
+use Rattle.std.proofs.Common.{◌≡◌, ℕ, ◌-◌, ◌^◌, ◌<◌, ◌%◌, ◌==◌, List, [], length, Some, None, Bool, true, false, refl, sym, ap, subst, ◌∙◌, arith, ◌≤◌}
 use Rattle.std.specs.Prelude.{slice_get, nat_lt, not, is_some, IsTrue}
 use Rattle.std.specs.List.{All, AllPairs, list_all, list_any}
 use Rattle.std.proofs.lemmas.Bool.{lt-ltb, ltb-true}
@@ -10,8 +10,11 @@ use Rattle.mt_cache.specs.declared.line.CacheLine.{CacheLine}
 use Rattle.mt_cache.specs.Lines.{IsLine}
 use Rattle.mt_tlb.specs.declared.entry.Entry.{Entry}
 use Rattle.mt_tlb.specs.declared.mapping.Mapping.{Mapping}
+use Rattle.mt_machine.specs.declared.phase.Phase.{Phase}
+use Rattle.mt_machine.specs.declared.phase.Phase.TheVariants.{Running}
+use Rattle.mt_machine.specs.Access.{is_running}
 use Rattle.mt_machine.specs.Memory.{Memory, Window, IsMemory, AreApart, word_count, place, word_address, window_end}
-use Rattle.mt_machine.specs.System.{Processor, System, IsProcessor, IsSound, is_writing}
+use Rattle.mt_machine.specs.System.{Processor, System, IsProcessor, IsSound, is_tlb_flushed, is_writing}
 use Rattle.mt_laws.proofs.Barrier.Claims.{all_get}
 use Rattle.mt_laws.proofs.Clearing.Follows.{IsLocal}
 use Rattle.mt_laws.proofs.Words.LineLaws.{fits, is_placed}
@@ -22,6 +25,14 @@ use Rattle.mt_laws.proofs.Translations.Tidy.{AllTidy}
 use Rattle.mt_laws.proofs.Registers.Accepted.{EachAccepted}
 use Rattle.mt_lists.proofs.Keys.{from_apart, to_apart}
 
+-- from the first flush of the TLB on it holds no entry
+abbrev pub IsFlushed : Processor → Type 0
+IsFlushed p = is_tlb_flushed p.phase ≡ true → p.entries ≡ []
+
+pub flushed_runs : (ph : Phase) → is_running ph ≡ true → is_tlb_flushed ph ≡ false
+flushed_runs Running h = refl
+flushed_runs other h = absurd (cc)
+
 pub record Parts (ws : List Window) (s : System) : Type 0 where
   pub agrees : Agrees ws (record { system = s; order = None })
   pub tidy : AllTidy s.processors
@@ -29,6 +40,7 @@ pub record Parts (ws : List Window) (s : System) : Type 0 where
   pub accepted : EachAccepted s.processors
   pub ranges : (i : ℕ) (p : Processor) → slice_get s.processors i ≡ Some p → (j : ℕ) → is_writing p.phase ≡ Some j → j < length (writable p.file)
   pub local : (i : ℕ) (p : Processor) → slice_get s.processors i ≡ Some p → IsLocal p
+  pub flushed : (i : ℕ) (p : Processor) → slice_get s.processors i ≡ Some p → IsFlushed p
 
 module _ (ws : List Window) (s : System) (parts : Parts ws s) where
   lines_in : (ls : List CacheLine) → list_all (fits ws) ls ≡ true → All (λ (l : CacheLine). is_some (place s.memory (word_address l.number 0)) ≡ true) ls
@@ -60,6 +72,7 @@ module _ (ws : List Window) (s : System) (parts : Parts ws s) where
         entry_pages = test_all (λ (e : Entry). nat_lt e.ppage (2 ^ (p.file.width - 12))) (λ (e : Entry). e.ppage < page_count p.file) (λ e g. ltb-true e.ppage (2 ^ (p.file.width - 12)) g) p.entries t.entry_pages;
         few_mappings = t.few_mappings;
         distinct_mappings = from_apart (λ (m : Mapping). m.vpage) p.mappings t.mappings_apart;
+        flushed = parts.flushed i p at;
         few_entries = t.few_entries;
         distinct_entries = from_apart (λ (e : Entry). e.vpage) p.entries t.entries_apart;
         few_lines = f.few_lines;
@@ -116,4 +129,5 @@ sound_parts s h = record {
   ranges = λ i p at. (all_get IsProcessor s.processors h.each i p at).in_range;
   local = λ i p at off.
       all_test (λ (e : Entry). not e.global) (λ (e : Entry). e.global ≡ false) (λ e g. ap not g) p.entries ((all_get IsProcessor s.processors h.each i p at).local_entries off);
+  flushed = λ i p at. (all_get IsProcessor s.processors h.each i p at).flushed;
 }

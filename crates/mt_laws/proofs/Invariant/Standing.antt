@@ -1,12 +1,12 @@
 -- All that the laws keep, as one invariant: each event keeps it, and each start has it.
-use Rattle.std.proofs.Common.{◌≡◌, ℕ, ◌<◌, List, length, Some, None, Option, true, refl, sym, ap, subst, ⊎_elim}
+use Rattle.std.proofs.Common.{◌≡◌, ℕ, ◌<◌, List, length, Some, None, Option, true, false, refl, sym, ap, subst, ⊎_elim}
 use Rattle.std.specs.Prelude.{slice_get}
 use Rattle.mt_regs.specs.RegisterFile.{RegisterFile, IsRegisterFile}
 use Rattle.mt_regs.specs.Registers.{writable}
 use Rattle.mt_machine.specs.declared.phase.Phase.{Phase}
-use Rattle.mt_machine.specs.declared.phase.Phase.TheVariants.{Running}
+use Rattle.mt_machine.specs.declared.phase.Phase.TheVariants.{Running, Taken, Arrived, Passed, NoFill, Flushed}
 use Rattle.mt_machine.specs.Memory.{Window, IsMemory}
-use Rattle.mt_machine.specs.System.{Processor, IsProcessor, IsSound, is_writing}
+use Rattle.mt_machine.specs.System.{Processor, IsProcessor, IsSound, is_tlb_flushed, is_writing}
 use Rattle.mt_machine.specs.Access.{is_running}
 use Rattle.mt_machine.specs.Machine.{Machine, Order, MachineEvent, IsEnabled, next, Reached, at_start, after}
 use Rattle.mt_machine.specs.Start.{IsQuiet, IsBroadcast, IsStart}
@@ -16,6 +16,7 @@ use Rattle.mt_laws.proofs.Barrier.Stages.{stage_of, stages}
 use Rattle.mt_laws.proofs.Barrier.Barriers.{Kept}
 use Rattle.mt_laws.proofs.Barrier.Claims.{all_get}
 use Rattle.mt_laws.proofs.Clearing.Follows.{IsLocal}
+use Rattle.mt_laws.proofs.Clearing.Cleared.{entries_gone}
 use Rattle.mt_laws.proofs.Clearing.Renewed.{AllClear}
 use Rattle.mt_laws.proofs.Clearing.Late.{IsKept, kept_next, start_kept}
 use Rattle.mt_machine.proofs.Files.{file_alike}
@@ -28,7 +29,7 @@ use Rattle.mt_laws.proofs.Invariant.Kept.{start_sound, start_aligned}
 use Rattle.mt_laws.proofs.Translations.Tidy.{AllTidy}
 use Rattle.mt_laws.proofs.Translations.TidySteps.{tidy_next}
 use Rattle.mt_laws.proofs.Registers.Accepted.{GoalAccepted, Accepted, accepted_next}
-use Rattle.mt_laws.proofs.Invariant.Parts.{Parts, part_processor, parts_sound, sound_tidy, memory_of}
+use Rattle.mt_laws.proofs.Invariant.Parts.{Parts, IsFlushed, flushed_runs, part_processor, parts_sound, sound_tidy, memory_of}
 
 pub record Standing (ws : List Window) (m : Machine) : Type 0 where
   pub kept : IsKept m
@@ -73,6 +74,15 @@ running_writes_not : (ph : Phase) → is_running ph ≡ true → is_writing ph �
 running_writes_not Running h = refl
 running_writes_not other h = absurd (cc)
 
+flushed_gone : (ph : Phase) → is_tlb_flushed ph ≡ true → entries_gone ph ≡ true
+flushed_gone Running h = absurd (cc)
+flushed_gone Taken h = absurd (cc)
+flushed_gone Arrived h = absurd (cc)
+flushed_gone Passed h = absurd (cc)
+flushed_gone NoFill h = absurd (cc)
+flushed_gone Flushed h = absurd (cc)
+flushed_gone other h = refl
+
 same_writable : (f g : RegisterFile) → f.capabilities ≡ g.capabilities → writable f ≡ writable g
 same_writable f g same = ap (λ (c : ℕ). writable (record f { capabilities = c })) same
 
@@ -92,6 +102,10 @@ module _ (ws : List Window) (m : Machine) (st : Standing ws m) where
   local_in None all i p at = all i p at
   local_in (Some o) all i p at = (all i p at).local
 
+  flushed_in : (o : Option Order) → Kept o (stages m.system) → AllClear o m.system.processors → (i : ℕ) (p : Processor) → slice_get m.system.processors i ≡ Some p → IsFlushed p
+  flushed_in None kept all i p at h = absurd (let off : is_tlb_flushed p.phase ≡ false = flushed_runs p.phase (kept.running i (stage_of p) (stage_at m.system.processors i p at)) in cc)
+  flushed_in (Some o) kept all i p at h = (all i p at).no_entries (flushed_gone p.phase h)
+
   parts_of : Parts ws m.system
   parts_of = record {
     agrees = record { stands = st.agrees.stands; words = st.agrees.words };
@@ -100,6 +114,7 @@ module _ (ws : List Window) (m : Machine) (st : Standing ws m) where
     accepted = st.accepted.each;
     ranges = range_in m.order st.kept.0 st.filed;
     local = local_in m.order st.kept.1;
+    flushed = flushed_in m.order st.kept.0 st.kept.1;
   }
 
   pub processor_in : (i : ℕ) (p : Processor) → slice_get m.system.processors i ≡ Some p → IsProcessor p

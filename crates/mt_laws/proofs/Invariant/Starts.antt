@@ -31,6 +31,7 @@ start_is_processor f good accepted = record {
   local_entries = λ _. nothing _;
   mapped = nothing _;
   entry_pages = nothing _;
+  flushed = λ h. absurd (cc);
   few_entries = omega arith;
   distinct_entries = λ i j d low within. absurd (omega arith);
   few_lines = omega arith;

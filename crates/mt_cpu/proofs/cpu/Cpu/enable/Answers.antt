@@ -1,9 +1,8 @@
 use Rattle.std.proofs.Common.{◌≡◌, ◌∙◌, ◌≤◌, ◌+◌, ap, sym, subst, length}
 use Rattle.mt_regs.specs.RegisterFile.{RegisterFile}
 use Rattle.mt_regs.specs.Registers.{writable}
-use Rattle.mt_machine.specs.System.{Processor, is_writing}
+use Rattle.mt_machine.specs.System.{Processor, is_writing, is_tlb_flushed}
 use Rattle.mt_cpu.specs.contracts.cpu.Cpu.{the_view}
-use Rattle.mt_cpu.specs.Facts.{is_tlb_flushed}
 use Rattle.mt_cpu.specs.Steps.{HasFirst}
 use Rattle.mt_cpu.proofs.Stepping.{enabled_facts, file_is_goal}
 use Rattle.mt_cpu.proofs.cpu.Cpu.enable.Goals as goal

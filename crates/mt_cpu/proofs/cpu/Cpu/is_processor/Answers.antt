@@ -14,6 +14,7 @@ returns c = subst IsProcessor c.self.view_is (record {
   local_entries = c.self.invariant.local_entries;
   mapped = c.self.invariant.mapped;
   entry_pages = c.self.invariant.entry_pages;
+  flushed = c.self.invariant.flushed;
   few_entries = c.entries.ensures.room;
   distinct_entries = c.entries.ensures.apart;
   few_lines = c.lines.ensures.room;
