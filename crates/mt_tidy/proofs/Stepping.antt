@@ -1,21 +1,19 @@
 -- The steps of a block by its wish, and the block whose step comes last.
 use Rattle.std.proofs.Common.{◌≡◌, ℕ, zero, suc, ◌+◌, ◌-◌, ◌%◌, ◌^◌, ◌<◌, length, length-append, List, [], ◌∷◌, ◌++◌, refl, sym, ap, ◌∙◌, arith, subst, append_assoc}
 use Rattle.std.specs.Prelude.{nat_le, nat_lt, Option, None, Some, IsTrue, if◌then◌else◌}
-use Rattle.std.specs.List.{All, filter}
 use Rattle.std.proofs.lemmas.Bool.{and_from, and_parts, leb-true, ltb-true, lt-ltb, le-leb}
 use Rattle.std.proofs.lemmas.List.{same_from_push}
-use Rattle.std.proofs.lemmas.List.Elements.{All-filter}
 use Rattle.mt_kinds.specs.declared.mem_type.MemType.{MemType}
 use Rattle.mt_kinds.specs.declared.mem_type.MemType.TheVariants.{UC, WC, WT, WP, WB}
 use Rattle.mt_ranges.specs.declared.block.Block.{Block}
 use Rattle.mt_ranges.specs.Blocks.{block_end, has_page}
 use Rattle.mt_types.specs.declared.run.Run.{Run}
-use Rattle.mt_types.specs.Runs.{kind_at, shares_page}
+use Rattle.mt_types.specs.Runs.{kind_at}
 use Rattle.mt_trie.specs.declared.context.Context.{Context}
 use Rattle.mt_trie.specs.declared.context.Context.TheVariants.{Untouched, Has, Clash}
 use Rattle.mt_trie.specs.declared.wish.Wish.{Wish}
 use Rattle.mt_trie.specs.declared.wish.Wish.TheVariants.{Any, Only, Mixed}
-use Rattle.mt_trie.specs.Wishes.{InBlock, IsDefined, IsWish, is_free_page, type_of_kind, wanted_type}
+use Rattle.mt_trie.specs.Wishes.{InBlock, IsWish, is_free_page, type_of_kind, wanted_type}
 use Rattle.mt_trie.proofs.WishLaws.{one_wish, same_pages, same_wants}
 use Rattle.mt_tidy.specs.declared.rules.Rules.{Rules}
 use Rattle.mt_tidy.specs.declared.step.Step.{Step}
@@ -164,9 +162,6 @@ wish_is rules runs part b w same is =
 
     same_type : (page : ℕ) → InBlock b page → wanted_type rules.fixed part page ≡ wanted_type rules.fixed runs page
     same_type page has = ap (λ kind. if is_free_page rules.fixed page then None else type_of_kind kind) (same page has)
-
-pub part_defined : (runs part : List Run) (b : Block) → All IsDefined runs → part ≡ filter (shares_page b) runs → All IsDefined part
-part_defined runs part b all is = subst (λ rs. All IsDefined rs) (sym is) (All-filter (shares_page b) IsDefined runs all)
 
 -- the block's costs and steps from those of the blocks that the code takes for its halves
 module _ (log first half first_first second_log second_first : ℕ) (are : AreHalves log first half first_first second_log second_first)

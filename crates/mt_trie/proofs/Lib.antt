@@ -1,5 +1,5 @@
 pub mod Combined
 pub mod ContextLaws
 pub mod Joins
-mod OverRuns
+pub mod OverRuns
 pub mod WishLaws

@@ -1,7 +1,7 @@
 -- The wish of a block, run by run, is the wish of its pages.
 use Rattle.std.proofs.Common.{◌≡◌, ◌≢◌, ℕ, ◌^◌, ◌<◌, ◌≤◌, true, false, List, [], ◌∷◌, refl, sym, ap, ◌∙◌, ◌⊎◌, inl, inr, arith, subst}
 use Rattle.std.specs.Prelude.{Bool, Option, nat_le, nat_lt, max, min, None, Some, fold}
-use Rattle.std.specs.List.{All, AllByRecursion}
+use Rattle.std.specs.List.{All, AllByRecursion, filter}
 use Rattle.std.proofs.lemmas.List.Elements.{All-filter, recursion_from_All}
 use Rattle.std.proofs.lemmas.Bool.{cases_Bool, cases_lt, leb-true, ltb-true, ltb-false, lt-ltb, le-leb, le-ltb, and_parts, both_ways, and_from}
 use Rattle.mt_kinds.specs.declared.mem_type.MemType.{MemType}
@@ -16,7 +16,7 @@ use Rattle.mt_types.proofs.PartRuns.{CoversBlock, covers_block}
 use Rattle.mt_trie.specs.declared.wish.Wish.{Wish}
 use Rattle.mt_trie.specs.declared.wish.Wish.TheVariants.{Any, Only}
 use Rattle.mt_trie.specs.RunWishes.{EndsInTime, first_page, wish_in, wish_over}
-use Rattle.mt_trie.specs.Wishes.{InBlock, IsPart, IsWish, both, is_free_page, type_of_kind, wanted_type}
+use Rattle.mt_trie.specs.Wishes.{InBlock, IsDefined, IsPart, IsWish, both, is_free_page, type_of_kind, wanted_type}
 use Rattle.mt_trie.proofs.WishLaws.{MakeUp, both_mean, same_pages}
 
 ends_in_time : (runs : List Run) → IsChain 0 runs → pages_end 0 runs ≤ 2 ^ 40 → All EndsInTime runs
@@ -27,6 +27,10 @@ pub part_in_time : (runs : List Run) (b : Block) → IsPart runs b → All EndsI
 part_in_time runs b part =
     let all : All EndsInTime part.map = ends_in_time part.map part.is_map.chain part.is_map.bound in
     subst (λ rs. All EndsInTime rs) (sym part.lent) (All-filter (shares_page b) EndsInTime part.map all)
+
+-- a part of defined runs is defined
+pub part_defined : (runs part : List Run) (b : Block) → All IsDefined runs → part ≡ filter (shares_page b) runs → All IsDefined part
+part_defined runs part b all is = subst (λ rs. All IsDefined rs) (sym is) (All-filter (shares_page b) IsDefined runs all)
 
 part_covers : (runs : List Run) (b : Block) → IsPart runs b → CoversBlock b runs
 part_covers runs b part =

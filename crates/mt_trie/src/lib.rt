@@ -3,6 +3,8 @@
 
 mod context;
 mod laws;
+#[cfg(test)]
+mod tests;
 mod wants;
 mod wish;
 mod worked;
