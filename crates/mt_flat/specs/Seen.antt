@@ -1,0 +1,56 @@
+-- The flat machine beside a machine with caches.
+use Rattle.std.specs.Prelude.{◌≡◌, ℕ, ◌%◌, List, [], ◌∷◌, map, if◌then◌else◌, slice_index, Option, None, Some}
+use Rattle.std.specs.Option.{option_map_or, option_map}
+use Rattle.std.specs.List.{All}
+use Rattle.mt_kinds.specs.declared.mem_type.MemType.{MemType}
+use Rattle.mt_regs.specs.RegisterFile.{RegisterFile}
+use Rattle.mt_cache.specs.declared.line.CacheLine.{CacheLine}
+use Rattle.mt_cache.specs.Lines.{is_dirty}
+use Rattle.mt_machine.specs.declared.op.Op.{Op}
+use Rattle.mt_machine.specs.declared.op.Op.TheVariants.{Load, Store, Fence}
+use Rattle.mt_machine.specs.declared.done.Done.{Done}
+use Rattle.mt_machine.specs.declared.done.Done.TheVariants.{Value, Stored, Fenced}
+use Rattle.mt_machine.specs.declared.control.Control.TheVariants.{Map}
+use Rattle.mt_machine.specs.declared.event.Event.TheVariants.{Take}
+use Rattle.mt_machine.specs.Memory.{Window}
+use Rattle.mt_machine.specs.System.{System, IsSound, buffers_of, now}
+use Rattle.mt_machine.specs.Access.{access}
+use Rattle.mt_machine.specs.Machine.{Machine, MachineEvent, Accesses, Controls, Steps, IsEnabled, AreEnabled, next, run}
+use Rattle.mt_machine.specs.Start.{start_machine}
+use Rattle.mt_machine.specs.Update.{physical_of}
+use Rattle.mt_flat.specs.Flat.{PendingLine, Flat, FlatEvent, Loads, Stores, Empties, flat_start, flat_next, flat_answer}
+
+-- ---- what the flat machine is given
+
+-- an access that was answered with Value, Stored or Fenced
+abbrev pub given_access : System → ℕ → Op → Done → Option FlatEvent
+given_access s k (Load address) (Value value kind) = option_map (Loads k kind) (physical_of s k address)
+given_access s k (Store address value) (Stored kind) = option_map (λ word. Stores k kind word value) (physical_of s k address)
+given_access s k Fence Fenced = Some (Empties k)
+given_access s k op other = None
+
+-- each control instruction but Map empties, and so does Take
+abbrev pub given : Machine → MachineEvent → Option FlatEvent
+given m (Accesses k op) = given_access m.system k op (access m.system k op).answer
+given m (Controls k (Map p)) = None
+given m (Controls k other) = Some (Empties k)
+given m (Steps k Take) = Some (Empties k)
+given m other = None
+
+abbrev pub flat_after : Machine → MachineEvent → Flat → Flat
+flat_after m e f = option_map_or (flat_next f) (given m e) f
+
+abbrev pub flat_run : Machine → List MachineEvent → Flat → Flat
+flat_run m [] f = f
+flat_run m (e ∷ es) f = flat_run (next m e) es (flat_after m e f)
+
+-- ---- the relation
+
+-- the written words of a buffer
+abbrev pub written_of : CacheLine → PendingLine
+written_of b = record { number = b.number; written = λ word. if is_dirty b word then Some (slice_index b.words word) else None }
+
+-- each word's value is what it is now, and the pending lines are the buffers with their written words
+pub record IsFlatOf (s : System) (f : Flat) : Type 0 where
+  pub values : (address : ℕ) → address % 8 ≡ 0 → now s address ≡ f.values address
+  pub pending : (k : ℕ) → f.pending k ≡ map written_of (buffers_of s k)

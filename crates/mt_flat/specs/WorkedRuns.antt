@@ -1,0 +1,27 @@
+-- What is seen of a flat machine.
+use Rattle.std.specs.Prelude.{ℕ, List, ◌∷◌, [], map, Option}
+use Rattle.mt_cache.specs.Lines.{eight}
+use Rattle.mt_machine.specs.Machine.{MachineEvent}
+use Rattle.mt_machine.specs.WorkedRuns.{palette, store}
+use Rattle.mt_flat.specs.Flat.{Flat, flat_start}
+use Rattle.mt_flat.specs.Seen.{flat_run}
+
+-- beside two processors that have one page with five types, from zeros on
+abbrev pub flat_of : List MachineEvent → Flat
+flat_of es = flat_run palette es flat_start
+
+abbrev pub numbers : Flat → ℕ → List ℕ
+numbers f k = map (λ p. p.number) (f.pending k)
+
+abbrev pub pending_words : Flat → ℕ → List (ℕ × List (Option ℕ))
+pending_words f k = map (λ p. (p.number, map p.written eight)) (f.pending k)
+
+-- stores to five lines of write-combining memory
+abbrev pub four_lines : List MachineEvent
+four_lines = store 0 0x3000 1 ∷ store 0 0x3040 2 ∷ store 0 0x3080 3 ∷ store 0 0x30c0 4 ∷ []
+
+-- to seven words of a line
+abbrev pub seven_words : List MachineEvent
+seven_words =
+    store 0 0x3000 1 ∷ store 0 0x3008 2 ∷ store 0 0x3010 3 ∷ store 0 0x3018 4 ∷ store 0 0x3020 5 ∷ store 0 0x3028 6
+    ∷ store 0 0x3030 7 ∷ []

@@ -1,0 +1,49 @@
+ghost use Rattle.std.specs.Prelude.{◌≡◌, ◌∷◌, ◌++◌, [], None, Some};
+ghost use Rattle.mt_kinds.specs.declared.mem_type.MemType.TheVariants.{UC, WB, WC, WP};
+ghost use Rattle.mt_machine.specs.declared.control.Control.TheVariants.{Cd, Cr3};
+ghost use Rattle.mt_machine.specs.declared.event.Event.TheVariants.{Arrive, Take};
+ghost use Rattle.mt_machine.specs.declared.op.Op.TheVariants.{Fence};
+ghost use Rattle.mt_machine.specs.Machine.{Accesses, Calls, Controls, Steps};
+ghost use Rattle.mt_machine.specs.WorkedRuns.{goal_of, load, mapping, maps, store};
+ghost use Rattle.mt_flat.specs.Flat.{flat_answer};
+ghost use Rattle.mt_flat.specs.WorkedRuns.{flat_of, four_lines, numbers, pending_words, seven_words};
+
+/// Words of write-combining stores, pending and then set.
+pub fn worked_pending()
+    ensures pending { pending_words (flat_of (store 0 0x3008 7 ∷ [])) 0 ≡ (0x4000, None ∷ Some 7 ∷ None ∷ None ∷ None ∷ None ∷ None ∷ None ∷ []) ∷ [] }
+    ensures not_set { (flat_of (store 0 0x3008 7 ∷ [])).values 0x100008 ≡ 0 }
+    ensures others_see_nothing { flat_answer (flat_of (store 0 0x3008 7 ∷ [])) 1 WC 0x100008 ≡ 0 }
+    ensures its_own_load_empties { flat_answer (flat_of (store 0 0x3008 7 ∷ [])) 0 WC 0x100008 ≡ 7 }
+    ensures after_its_own_load { numbers (flat_of (store 0 0x3008 7 ∷ store 0 0x3040 8 ∷ load 0 0x1000 ∷ [])) 0 ≡ 0x4001 ∷ [] }
+    ensures set_by_its_own_load { (flat_of (store 0 0x3008 7 ∷ load 0 0x1000 ∷ [])).values 0x100008 ≡ 7 }
+    ensures uc_load_empties_all { numbers (flat_of (store 0 0x3008 7 ∷ store 0 0x3040 8 ∷ load 0 0x4000 ∷ [])) 0 ≡ [] }
+    ensures others_loads_empty_nothing { numbers (flat_of (store 0 0x3008 7 ∷ load 1 0x4000 ∷ [])) 0 ≡ 0x4000 ∷ [] }
+    ensures four { numbers (flat_of four_lines) 0 ≡ 0x4000 ∷ 0x4001 ∷ 0x4002 ∷ 0x4003 ∷ [] }
+    ensures fifth { numbers (flat_of (four_lines ++ store 0 0x3100 5 ∷ [])) 0 ≡ 0x4001 ∷ 0x4002 ∷ 0x4003 ∷ 0x4004 ∷ [] }
+    ensures first_is_set { (flat_of (four_lines ++ store 0 0x3100 5 ∷ [])).values 0x100000 ≡ 1 }
+    ensures second_is_not { (flat_of (four_lines ++ store 0 0x3100 5 ∷ [])).values 0x100040 ≡ 0 }
+    ensures one_of_four { numbers (flat_of (four_lines ++ store 0 0x3008 5 ∷ [])) 0 ≡ 0x4000 ∷ 0x4001 ∷ 0x4002 ∷ 0x4003 ∷ [] }
+    ensures seven { numbers (flat_of seven_words) 0 ≡ 0x4000 ∷ [] }
+    ensures full { numbers (flat_of (seven_words ++ store 0 0x3038 8 ∷ [])) 0 ≡ [] }
+    ensures full_is_set { (flat_of (seven_words ++ store 0 0x3038 8 ∷ [])).values 0x100010 ≡ 3 }
+    ensures fence { (flat_of (store 0 0x3008 7 ∷ Accesses 0 Fence ∷ [])).values 0x100008 ≡ 7 }
+    ensures control { (flat_of (store 0 0x3008 7 ∷ Controls 0 Cr3 ∷ [])).values 0x100008 ≡ 7 }
+    ensures map_empties_nothing { numbers (flat_of (store 0 0x3008 7 ∷ maps 0 (mapping 6 0x100 0) ∷ [])) 0 ≡ 0x4000 ∷ [] }
+    ensures take { (flat_of (store 0 0x3008 7 ∷ Calls goal_of ∷ Steps 0 Take ∷ [])).values 0x100008 ≡ 7 }
+    ensures take_leaves_none { numbers (flat_of (store 0 0x3008 7 ∷ Calls goal_of ∷ Steps 0 Take ∷ [])) 0 ≡ [] }
+    ensures call_empties_nothing { numbers (flat_of (store 0 0x3008 7 ∷ Calls goal_of ∷ [])) 0 ≡ 0x4000 ∷ [] }
+{}
+
+/// Stores of every other type.
+pub fn worked_stores()
+    ensures uc_empties_all { numbers (flat_of (store 0 0x3008 7 ∷ store 0 0x3040 8 ∷ store 0 0x4000 3 ∷ [])) 0 ≡ [] }
+    ensures uc_sets_what_it_empties { (flat_of (store 0 0x3008 7 ∷ store 0 0x3040 8 ∷ store 0 0x4000 3 ∷ [])).values 0x100040 ≡ 8 }
+    ensures uc_sets_its_word_last { (flat_of (store 0 0x3000 7 ∷ store 0 0x4000 3 ∷ [])).values 0x100000 ≡ 3 }
+    ensures wb_sets { (flat_of (store 0 0x1000 5 ∷ [])).values 0x100000 ≡ 5 }
+    ensures wb_across_processors { flat_answer (flat_of (store 0 0x1000 5 ∷ [])) 1 WB 0x100000 ≡ 5 }
+    ensures wb_empties_its_line { numbers (flat_of (store 0 0x3008 7 ∷ store 0 0x3040 8 ∷ store 0 0x1000 3 ∷ [])) 0 ≡ 0x4001 ∷ [] }
+    ensures wb_sets_what_it_empties { (flat_of (store 0 0x3008 7 ∷ store 0 0x1000 3 ∷ [])).values 0x100008 ≡ 7 }
+    ensures wt_sets { (flat_of (store 0 0x2000 5 ∷ [])).values 0x100000 ≡ 5 }
+    ensures wp_sets { (flat_of (store 0 0x5000 5 ∷ [])).values 0x100000 ≡ 5 }
+    ensures not_without_memory { (flat_of (maps 0 (mapping 6 0x200 0) ∷ store 0 0x6000 5 ∷ [])).values 0x200000 ≡ 0 }
+{}
