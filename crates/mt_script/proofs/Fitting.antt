@@ -1,0 +1,206 @@
+-- Each command that a line is read as fits the situation.
+use Rattle.std.proofs.Common.{◌≡◌, ℕ, ◌≤◌, ◌<◌, ◌%◌, ◌^◌, ◌==◌, ◌&&◌, ◌||◌, not, nat_le, nat_eq, nat_lt, Bool, true, false, List, length, Option, Some, None, Result, Ok, Err, refl, arith}
+use Rattle.std.specs.Prelude.{if◌then◌else◌}
+use Rattle.std.specs.Set.{is_member}
+use Rattle.std.specs.Result.{IfOk}
+use Rattle.std.proofs.lemmas.Bool.{and_parts, leb-true, ltb-true, eqb-true}
+use Rattle.std.proofs.lemmas.Bool.Decides.{nat_tests}
+use Rattle.mt_text.specs.Number.{hex_number, decimal_number, decimal_value, are_digits, is_decimal_digit}
+use Rattle.mt_text.specs.Text.{words_of, without_ending}
+use Rattle.mt_text.specs.declared.fault.NumberFault.{NumberFault}
+use Rattle.mt_text.specs.declared.fault.NumberFault.TheVariants.{NotDigit, TooLarge}
+use Rattle.mt_text.specs.declared.place.Place.{Place}
+use Rattle.mt_regs.specs.RegisterFile.{RegisterFile}
+use Rattle.mt_script.specs.Situation.{Situation}
+use Rattle.mt_script.specs.Words.{text_of, place_of}
+use Rattle.mt_script.specs.Numbers.{fault_at, tested, at_least, below, any, aligned, multiple, register, count_in, processor_in, value_in, aligned_in, register_in, base_in, has_room, is_register, is_writable, address_limit}
+use Rattle.mt_script.specs.Rows.{row_of, stands}
+use Rattle.mt_script.specs.Stages.{takes_commands, takes_registers, takes_end, is_in_dump}
+use Rattle.mt_script.specs.Shape.{shape_fault}
+use Rattle.mt_script.specs.Commands.{Answer, with, unless, cpus_in, ram_in, load_in, store_in, map_in, invlpg_in, msr_in, row_answer, row_line, outside, register_line, is_end, in_section, too_long, in_dump, not_too_long, in_stage, command_of}
+use Rattle.mt_script.specs.Accept.{Fits, IsAligned}
+use Rattle.mt_script.specs.declared.command.Stage.{Stage}
+use Rattle.mt_script.specs.declared.command.Stage.TheVariants.{NeedCpus, NeedDump, InDump, Rams, Commands, InUpdate, InBegin}
+use Rattle.mt_script.specs.declared.command.Command.{Command}
+use Rattle.mt_script.specs.declared.command.Command.TheVariants as command
+use Rattle.mt_script.specs.declared.row.Row.{Row}
+use Rattle.mt_script.specs.declared.row.Row.TheVariants as row
+use Rattle.mt_script.specs.declared.fault.ScriptReason.{ScriptReason}
+use Rattle.mt_script.specs.declared.fault.ScriptReason.TheVariants.{OutOfRange, NotNow}
+use Rattle.mt_script.specs.declared.fault.ScriptFault.{ScriptFault}
+
+-- what holds after each good number holds of the answer
+fits_with : (P : Command → Type 0) (number : Result ℕ ScriptFault) (next : ℕ → Answer) → ((n : ℕ) → number ≡ Ok n → IfOk (next n) P) → IfOk (with number next) P
+fits_with P (Err fault) next all = tt
+fits_with P (Ok n) next all = all n refl
+
+fits_unless : (P : Command → Type 0) (fault : Option ScriptFault) (answer : Answer) → IfOk answer P → IfOk (unless fault answer) P
+fits_unless P (Some fault) answer fits = tt
+fits_unless P None answer fits = fits
+
+fits_if : (P : Command → Type 0) (test : Bool) (yes_answer no_answer : Answer) → (test ≡ true → IfOk yes_answer P) → (test ≡ false → IfOk no_answer P) → IfOk (if test then yes_answer else no_answer) P
+fits_if P true yes_answer no_answer good bad = good refl
+fits_if P false yes_answer no_answer good bad = bad refl
+
+tested_fact : (good : Bool) (reason : ScriptReason) (place : Place) (m n : ℕ) → tested good reason place m ≡ Ok n → (good ≡ true) × (m ≡ n)
+tested_fact true reason place m n is = (refl, cc is)
+tested_fact false reason place m n is = cc is
+
+below_fact : (limit : ℕ) (place : Place) (reading : Result ℕ NumberFault) (n : ℕ) → below limit place reading ≡ Ok n → n < limit
+below_fact limit place (Err NotDigit) n is = cc is
+below_fact limit place (Err TooLarge) n is = cc is
+below_fact limit place (Ok m) n is =
+    let parts = tested_fact (nat_lt m limit) OutOfRange place m n is in
+    rw parts.1 at (ltb-true m limit parts.0)
+
+aligned_fact : (step limit : ℕ) (place : Place) (reading : Result ℕ NumberFault) (n : ℕ) → aligned step limit place reading ≡ Ok n → IsAligned step limit n
+aligned_fact step limit place (Err fault) n is = cc is
+aligned_fact step limit place (Ok m) n is =
+    let parts = tested_fact (m % step == 0 && nat_lt m limit) OutOfRange place m n is in
+    let both = and_parts (m % step == 0) (nat_lt m limit) parts.0 in
+    let good : IsAligned step limit m = (eqb-true (m % step) 0 both.0, ltb-true m limit both.1) in
+    rw parts.1 at good
+
+multiple_fact : (step : ℕ) (place : Place) (reading : Result ℕ NumberFault) (n : ℕ) → multiple step place reading ≡ Ok n → n % step ≡ 0
+multiple_fact step place (Err fault) n is = cc is
+multiple_fact step place (Ok m) n is =
+    let parts = tested_fact (m % step == 0) OutOfRange place m n is in
+    rw parts.1 at (eqb-true (m % step) 0 parts.0)
+
+register_fact : (file : Option RegisterFile) (place : Place) (reading : Result ℕ NumberFault) (n : ℕ) → register file place reading ≡ Ok n → is_register file n ≡ true
+register_fact file place (Err fault) n is = cc is
+register_fact file place (Ok m) n is =
+    let parts = tested_fact (is_register file m) ScriptReason.UnknownRegister place m n is in
+    rw parts.1 at parts.0
+
+decimal_within : (word : List ℕ) (max number : ℕ) → decimal_number word max ≡ Ok number → number ≤ max
+decimal_within word max number is = by (are_digits is_decimal_digit word) (nat_lt 20 (length word)) (nat_lt max (decimal_value word)) refl is
+  where
+    by : (digits long large : Bool) → nat_lt max (decimal_value word) ≡ large → (if not digits then Err NotDigit else if long || large then Err TooLarge else Ok (decimal_value word)) ≡ Ok number → number ≤ max
+    by false long large test is = cc is
+    by true true large test is = cc is
+    by true false true test is = cc is
+    by true false false test is = let e : decimal_value word ≡ number = cc is in let le : decimal_value word ≤ max = grind (arith, nat_tests, test) in omega arith
+
+count_fact : (line : ℕ) (words : List (ℕ × List ℕ)) (i first last n : ℕ) → count_in line words i first last ≡ Ok n → (first ≤ n) × (n ≤ last)
+count_fact line words i first last n is = by (decimal_number (text_of words i) last) refl is
+  where
+    by : (reading : Result ℕ NumberFault) → decimal_number (text_of words i) last ≡ reading → at_least first (place_of line words i) reading ≡ Ok n → (first ≤ n) × (n ≤ last)
+    by (Err NotDigit) read is = cc is
+    by (Err TooLarge) read is = cc is
+    by (Ok m) read is =
+        let parts = tested_fact (nat_le first m) OutOfRange (place_of line words i) m n is in
+        let range : (first ≤ m) × (m ≤ last) = (leb-true first m parts.0, decimal_within (text_of words i) last m read) in
+        rw parts.1 at range
+
+module _ (now : Situation) (line : ℕ) (words : List (ℕ × List ℕ)) where
+  for_processor : (next : ℕ → Answer) → ((k : ℕ) → k < now.cpus → IfOk (next k) (Fits now)) → IfOk (with (processor_in now line words 1) next) (Fits now)
+  for_processor next all = fits_with (Fits now) (processor_in now line words 1) next
+      (λ k is. all k (below_fact now.cpus (place_of line words 1) (decimal_number (text_of words 1) 0xffffffffffffffff) k is))
+
+  for_aligned : (i step limit : ℕ) (next : ℕ → Answer) → ((n : ℕ) → IsAligned step limit n → IfOk (next n) (Fits now)) → IfOk (with (aligned_in line words i step limit) next) (Fits now)
+  for_aligned i step limit next all = fits_with (Fits now) (aligned_in line words i step limit) next
+      (λ n is. all n (aligned_fact step limit (place_of line words i) (hex_number (text_of words i)) n is))
+
+  for_count : (i first last : ℕ) (next : ℕ → Answer) → ((n : ℕ) → (first ≤ n) × (n ≤ last) → IfOk (next n) (Fits now)) → IfOk (with (count_in line words i first last) next) (Fits now)
+  for_count i first last next all = fits_with (Fits now) (count_in line words i first last) next
+      (λ n is. all n (count_fact line words i first last n is))
+
+  cpus_fits : stands row.Cpus now.stage ≡ true → IfOk (cpus_in line words) (Fits now)
+  cpus_fits stage = for_count 1 1 16 (λ n. Ok (command.Cpus n)) (λ n range. (stage, range.0, range.1))
+
+  ram_fits : stands row.Ram now.stage ≡ true → IfOk (ram_in now line words) (Fits now)
+  ram_fits stage = fits_with (Fits now) (base_in line words 1) _ (λ base is_base.
+      for_count 2 1 4096 _ (λ lines range.
+      fits_if (Fits now) (has_room now base lines) (Ok (command.Ram base lines)) (Err (fault_at OutOfRange (place_of line words 2)))
+      (λ room. (stage, multiple_fact 64 (place_of line words 1) (hex_number (text_of words 1)) base is_base, range.0, range.1, room))
+      (λ miss. tt)))
+
+  load_fits : takes_commands now.stage ≡ true → IfOk (load_in now line words) (Fits now)
+  load_fits stage = for_processor _ (λ k known. for_aligned 2 8 (2 ^ 48) _ (λ address good. ((stage, known), good)))
+
+  store_fits : takes_commands now.stage ≡ true → IfOk (store_in now line words) (Fits now)
+  store_fits stage = for_processor _ (λ k known. for_aligned 2 8 (2 ^ 48) _ (λ address good.
+      fits_with (Fits now) (value_in line words 3) _ (λ value is. ((stage, known), good))))
+
+  map_fits : takes_commands now.stage ≡ true → IfOk (map_in now line words) (Fits now)
+  map_fits stage = for_processor _ (λ k known. for_aligned 2 4096 (2 ^ 48) _ (λ address good.
+      for_aligned 3 4096 (address_limit now.file) _ (λ physical fine.
+      for_count 4 0 7 _ (λ index range. ((stage, known), good, fine, range.1)))))
+
+  invlpg_fits : takes_commands now.stage ≡ true → IfOk (invlpg_in now line words) (Fits now)
+  invlpg_fits stage = for_processor _ (λ k known. for_aligned 2 1 (2 ^ 48) _ (λ address good. ((stage, known), good)))
+
+  msr_fits : takes_commands now.stage ≡ true → IfOk (msr_in now line words) (Fits now)
+  msr_fits stage = for_processor _ (λ k known. fits_with (Fits now) (register_in now line words 2) _ (λ msr is.
+      ((stage, known), register_fact now.file (place_of line words 2) (hex_number (text_of words 2)) msr is)))
+
+  row_fits : (row : Row) → stands row now.stage ≡ true → IfOk (row_answer now line words row) (Fits now)
+  row_fits row.Cpus stage = cpus_fits stage
+  row_fits row.Dump stage = stage
+  row_fits row.Ram stage = ram_fits stage
+  row_fits row.Load stage = load_fits stage
+  row_fits row.Store stage = store_fits stage
+  row_fits row.Fence stage = for_processor _ (λ k known. (stage, known))
+  row_fits row.Map stage = map_fits stage
+  row_fits row.Invlpg stage = invlpg_fits stage
+  row_fits row.Cr3 stage = for_processor _ (λ k known. (stage, known))
+  row_fits row.Pge stage = for_processor _ (λ k known. (stage, known))
+  row_fits row.Cd stage = for_processor _ (λ k known. (stage, known))
+  row_fits row.Update stage = stage
+  row_fits row.Begin stage = stage
+  row_fits row.Go stage = stage
+  row_fits row.Cancel stage = stage
+  row_fits row.Report stage = stage
+  row_fits row.Step stage = for_processor _ (λ k known. (stage, known))
+  row_fits row.Word stage = for_aligned 1 8 (address_limit now.file) _ (λ address good. (stage, good))
+  row_fits row.Msr stage = msr_fits stage
+
+  row_line_fits : (row : Option Row) → IfOk (row_line now line words row) (Fits now)
+  row_line_fits None = tt
+  row_line_fits (Some row) = fits_unless (Fits now) (shape_fault line words row) _
+      (fits_if (Fits now) (stands row now.stage) (row_answer now line words row) (Err (fault_at NotNow (place_of line words 0))) (row_fits row) (λ miss. tt))
+
+  outside_fits : IfOk (outside now line words) (Fits now)
+  outside_fits = fits_if (Fits now) (length words == 0) (Ok command.Blank) (row_line now line words (row_of (text_of words 0))) (λ blank. tt) (λ some. row_line_fits (row_of (text_of words 0)))
+
+  register_fits : takes_registers now.stage ≡ true → IfOk (register_line now line words) (Fits now)
+  register_fits stage = fits_with (Fits now) (any (place_of line words 0) (hex_number (without_ending 58 (text_of words 0)))) _ (λ number is_number.
+      fits_with (Fits now) (value_in line words 1) _ (λ value is_value.
+      fits_if (Fits now) (is_writable now.file number) _ _
+      (λ known. fits_if (Fits now) (is_member nat_eq now.seen number) _ _ (λ again. tt) (λ new. (stage, known, new)))
+      (λ unknown. tt)))
+
+  section_fits : takes_registers now.stage ≡ true → takes_end now.stage ≡ true → IfOk (in_section now line words) (Fits now)
+  section_fits stage ends =
+      fits_if (Fits now) (length words == 0) _ _ (λ blank. tt) (λ some_words.
+      fits_if (Fits now) (is_end words) _ _ (λ end. ends) (λ not_end.
+      fits_if (Fits now) (length words == 1) _ _ (λ short. tt) (λ longer.
+      fits_if (Fits now) (nat_lt 2 (length words)) _ _ (λ long. tt) (λ two. register_fits stage))))
+
+module _ (now : Situation) (line : ℕ) (bytes : List ℕ) where
+  dump_fits : is_in_dump now.stage ≡ true → takes_end now.stage ≡ true → IfOk (in_dump bytes) (Fits now)
+  dump_fits stage ends =
+      fits_if (Fits now) (too_long bytes) _ _ (λ long. stage) (λ short.
+      fits_if (Fits now) (is_end (words_of bytes)) _ _ (λ end. ends) (λ more. stage))
+
+  short_fits : (answer : Answer) → IfOk answer (Fits now) → IfOk (not_too_long line bytes answer) (Fits now)
+  short_fits answer fits = fits_if (Fits now) (too_long bytes) _ _ (λ long. tt) (λ short. fits)
+
+  pub command_fits : IfOk (command_of now line bytes) (Fits now)
+  command_fits = by now.stage refl
+    where
+      plain : IfOk (not_too_long line bytes (outside now line (words_of bytes))) (Fits now)
+      plain = short_fits _ (outside_fits now line (words_of bytes))
+
+      section : takes_registers now.stage ≡ true → takes_end now.stage ≡ true → IfOk (not_too_long line bytes (in_section now line (words_of bytes))) (Fits now)
+      section stage ends = short_fits _ (section_fits now line (words_of bytes) stage ends)
+
+      by : (stage : Stage) → now.stage ≡ stage → IfOk (in_stage now line bytes stage) (Fits now)
+      by NeedCpus is = plain
+      by NeedDump is = plain
+      by InDump is = dump_fits (rw is refl) (rw is refl)
+      by Rams is = plain
+      by Commands is = plain
+      by InUpdate is = section (rw is refl) (rw is refl)
+      by InBegin is = section (rw is refl) (rw is refl)

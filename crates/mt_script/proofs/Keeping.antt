@@ -1,0 +1,254 @@
+-- Each command that fits leaves what every setup keeps.
+use Rattle.std.proofs.Common.{◌≡◌, ◌≢◌, ℕ, ◌≤◌, ◌<◌, ◌+◌, ◌*◌, ◌&&◌, nat_eq, nat_lt, nat_le, Bool, true, false, List, [], ◌∷◌, ◌++◌, length, Option, Some, None, refl, sym, ◌∙◌, ap, arith, lit≤}
+use Rattle.std.specs.Prelude.{is_some, IfSome}
+use Rattle.std.specs.List.{IsDistinct, list_all}
+use Rattle.std.specs.Set.{is_member}
+use Rattle.std.proofs.lemmas.Bool.{and_parts, leb-true, ltb-true}
+use Rattle.mt_regs.specs.RegisterFile.{RegisterFile, IsRegisterFile}
+use Rattle.mt_script.specs.Situation.{Situation, at_start}
+use Rattle.mt_script.specs.Stages.{HasCpus, takes_cpus, takes_dump, takes_windows, takes_commands, takes_registers, takes_end, is_in_dump, is_past_dump}
+use Rattle.mt_script.specs.Numbers.{has_room, lines_together, is_writable, are_apart, address_limit}
+use Rattle.mt_script.specs.Kept.{IsSituation}
+use Rattle.mt_script.specs.Accept.{Fits, accepted, in_commands, in_section_of, finished}
+use Rattle.mt_script.specs.declared.command.Stage.{Stage}
+use Rattle.mt_script.specs.declared.command.Stage.TheVariants.{NeedCpus, NeedDump, InDump, Rams, Commands, InUpdate, InBegin}
+use Rattle.mt_script.specs.declared.command.Command.{Command}
+use Rattle.mt_script.specs.declared.command.Command.TheVariants as command
+use Rattle.mt_script.proofs.Sections.{one_more_distinct, one_more_known, room_for_one}
+
+-- nothing is set up at the start
+pub start_is : IsSituation at_start
+unfolding IsDistinct
+start_is = record { cpus = refl; has_file = refl; file = tt; few = lit≤ tt; together = lit≤ tt; distinct = tt; known = λ q member. cc member; idle = λ test. refl }
+
+no_registers : (P : ℕ → Type 0) (q : ℕ) → is_member nat_eq [] q ≡ true → P q
+no_registers P q member = cc member
+
+-- the stages in which commands may be given are past the dump, where processors were told
+past_of_commands : (stage : Stage) → takes_commands stage ≡ true → is_past_dump stage ≡ true
+past_of_commands Rams is = refl
+past_of_commands Commands is = refl
+past_of_commands NeedCpus is = cc is
+past_of_commands NeedDump is = cc is
+past_of_commands InDump is = cc is
+past_of_commands InUpdate is = cc is
+past_of_commands InBegin is = cc is
+
+past_of_registers : (stage : Stage) → takes_registers stage ≡ true → is_past_dump stage ≡ true
+past_of_registers InUpdate is = refl
+past_of_registers InBegin is = refl
+past_of_registers Rams is = cc is
+past_of_registers Commands is = cc is
+past_of_registers NeedCpus is = cc is
+past_of_registers NeedDump is = cc is
+past_of_registers InDump is = cc is
+
+cpus_past : (stage : Stage) (cpus : ℕ) → is_past_dump stage ≡ true → HasCpus stage cpus → (1 ≤ cpus) × (cpus ≤ 16)
+cpus_past Rams cpus past has = has
+cpus_past Commands cpus past has = has
+cpus_past InUpdate cpus past has = has
+cpus_past InBegin cpus past has = has
+cpus_past NeedCpus cpus past has = cc past
+cpus_past NeedDump cpus past has = cc past
+cpus_past InDump cpus past has = cc past
+
+cpus_of_dump : (stage : Stage) (cpus : ℕ) → takes_dump stage ≡ true → HasCpus stage cpus → (1 ≤ cpus) × (cpus ≤ 16)
+cpus_of_dump NeedDump cpus takes has = has
+cpus_of_dump NeedCpus cpus takes has = cc takes
+cpus_of_dump InDump cpus takes has = cc takes
+cpus_of_dump Rams cpus takes has = cc takes
+cpus_of_dump Commands cpus takes has = cc takes
+cpus_of_dump InUpdate cpus takes has = cc takes
+cpus_of_dump InBegin cpus takes has = cc takes
+
+cpus_in_dump : (stage : Stage) (cpus : ℕ) → is_in_dump stage ≡ true → HasCpus stage cpus → (1 ≤ cpus) × (cpus ≤ 16)
+cpus_in_dump InDump cpus is has = has
+cpus_in_dump NeedCpus cpus is has = cc is
+cpus_in_dump NeedDump cpus is has = cc is
+cpus_in_dump Rams cpus is has = cc is
+cpus_in_dump Commands cpus is has = cc is
+cpus_in_dump InUpdate cpus is has = cc is
+cpus_in_dump InBegin cpus is has = cc is
+
+not_past_of_dump : (stage : Stage) → takes_dump stage ≡ true → is_past_dump stage ≡ false
+not_past_of_dump NeedDump is = refl
+not_past_of_dump NeedCpus is = cc is
+not_past_of_dump InDump is = cc is
+not_past_of_dump Rams is = cc is
+not_past_of_dump Commands is = cc is
+not_past_of_dump InUpdate is = cc is
+not_past_of_dump InBegin is = cc is
+
+not_past_of_cpus : (stage : Stage) → takes_cpus stage ≡ true → is_past_dump stage ≡ false
+not_past_of_cpus NeedCpus is = refl
+not_past_of_cpus NeedDump is = cc is
+not_past_of_cpus InDump is = cc is
+not_past_of_cpus Rams is = cc is
+not_past_of_cpus Commands is = cc is
+not_past_of_cpus InUpdate is = cc is
+not_past_of_cpus InBegin is = cc is
+
+idle_commands : (stage : Stage) → takes_commands stage ≡ true → takes_registers stage ≡ false
+idle_commands Rams is = refl
+idle_commands Commands is = refl
+idle_commands NeedCpus is = cc is
+idle_commands NeedDump is = cc is
+idle_commands InDump is = cc is
+idle_commands InUpdate is = cc is
+idle_commands InBegin is = cc is
+
+idle_not_past : (stage : Stage) → is_past_dump stage ≡ false → takes_registers stage ≡ false
+idle_not_past NeedCpus is = refl
+idle_not_past NeedDump is = refl
+idle_not_past InDump is = refl
+idle_not_past Rams is = cc is
+idle_not_past Commands is = cc is
+idle_not_past InUpdate is = cc is
+idle_not_past InBegin is = cc is
+
+not_past_in_dump : (stage : Stage) → is_in_dump stage ≡ true → is_past_dump stage ≡ false
+not_past_in_dump InDump is = refl
+not_past_in_dump NeedCpus is = cc is
+not_past_in_dump NeedDump is = cc is
+not_past_in_dump Rams is = cc is
+not_past_in_dump Commands is = cc is
+not_past_in_dump InUpdate is = cc is
+not_past_in_dump InBegin is = cc is
+
+-- what ends outside the dump ends a section
+registers_of_end : (stage : Stage) → takes_end stage ≡ true → (is_in_dump stage ≡ true → ⊥) → takes_registers stage ≡ true
+registers_of_end InUpdate is not_dump = refl
+registers_of_end InBegin is not_dump = refl
+registers_of_end InDump is not_dump = absurd (not_dump refl)
+registers_of_end NeedCpus is not_dump = cc is
+registers_of_end NeedDump is not_dump = cc is
+registers_of_end Rams is not_dump = cc is
+registers_of_end Commands is not_dump = cc is
+
+length_then : {A : Type 0} (xs : List A) (x : A) → length (xs ++ x ∷ []) ≡ length xs + 1
+length_then [] x = refl
+length_then (y ∷ xs) x = let e = length_then xs x in omega arith
+
+lines_then : (windows : List (ℕ × ℕ)) (base lines : ℕ) → lines_together (windows ++ (base, lines) ∷ []) ≡ lines_together windows + lines
+lines_then [] base lines = omega arith
+lines_then (w ∷ windows) base lines = let e = lines_then windows base lines in omega arith
+
+module _ (now : Situation) (is : IsSituation now) where
+  -- past the dump
+  commands_is : is_past_dump now.stage ≡ true → takes_registers now.stage ≡ false → IsSituation (in_commands now)
+  commands_is past idle = record { cpus = cpus_past now.stage now.cpus past is.cpus; has_file = is.has_file ∙ past; file = is.file; few = is.few; together = is.together; distinct = is.distinct; known = is.known; idle = λ test. is.idle idle }
+
+  -- no register is given where a section begins or ends
+  section_is : (stage : Stage) → is_past_dump now.stage ≡ true → HasCpus stage now.cpus → is_past_dump stage ≡ true → IsSituation (in_section_of stage now)
+  unfolding IsDistinct
+  section_is stage past cpus past_too = record { cpus = cpus; has_file = is.has_file ∙ past ∙ sym past_too; file = is.file; few = is.few; together = is.together; distinct = tt; known = no_registers _; idle = λ test. refl }
+
+  cpus_is : (n : ℕ) → is_past_dump now.stage ≡ false → 1 ≤ n → n ≤ 16 → IsSituation (record now { stage = NeedDump; cpus = n })
+  cpus_is n before some few = record { cpus = (some, few); has_file = is.has_file ∙ before; file = is.file; few = is.few; together = is.together; distinct = is.distinct; known = is.known; idle = λ test. is.idle (idle_not_past now.stage before) }
+
+  dump_is : takes_dump now.stage ≡ true → IsSituation (record now { stage = InDump })
+  dump_is takes =
+      let before = not_past_of_dump now.stage takes in
+      record { cpus = cpus_of_dump now.stage now.cpus takes is.cpus; has_file = is.has_file ∙ before; file = is.file; few = is.few; together = is.together; distinct = is.distinct; known = is.known; idle = λ test. is.idle (idle_not_past now.stage before) }
+
+  -- the bounds that a window keeps to
+  window_bounds : (base lines : ℕ) → has_room now base lines ≡ true → (length now.windows < 16) × (lines_together now.windows + lines ≤ 4096)
+  window_bounds base lines room =
+      let last = and_parts (nat_le (base + 64 * lines) (address_limit now.file) && list_all (are_apart base lines) now.windows && nat_lt (length now.windows) 16) (nat_le (lines_together now.windows + lines) 4096) room in
+      let few = and_parts (nat_le (base + 64 * lines) (address_limit now.file) && list_all (are_apart base lines) now.windows) (nat_lt (length now.windows) 16) last.0 in
+      (ltb-true (length now.windows) 16 few.1, leb-true (lines_together now.windows + lines) 4096 last.1)
+
+  pub room_for_window : (base lines : ℕ) → has_room now base lines ≡ true → length now.windows < 16
+  room_for_window base lines room = (window_bounds base lines room).0
+
+  window_is : (base lines : ℕ) → has_room now base lines ≡ true → IsSituation (record now { windows = now.windows ++ (base, lines) ∷ [] })
+  window_is base lines room =
+      let bounds = window_bounds base lines room in
+      let few = bounds.0 in
+      let count = length_then now.windows (base, lines) in
+      record { cpus = is.cpus; has_file = is.has_file; file = is.file; few = omega arith; together = rw (lines_then now.windows base lines) bounds.1; distinct = is.distinct; known = is.known; idle = is.idle }
+
+  pub room_for_register : (msr : ℕ) → is_writable now.file msr ≡ true → is_member nat_eq now.seen msr ≡ false → length now.seen < 77
+  room_for_register msr known new = room_for_one now.file now.seen msr is.file is.distinct is.known known new
+
+  register_is : (msr : ℕ) → takes_registers now.stage ≡ true → is_writable now.file msr ≡ true → is_member nat_eq now.seen msr ≡ false → IsSituation (record now { seen = now.seen ++ msr ∷ [] })
+  register_is msr takes known new = record {
+    cpus = is.cpus;
+    has_file = is.has_file;
+    file = is.file;
+    few = is.few;
+    together = is.together;
+    distinct = one_more_distinct now.file now.seen msr is.file is.distinct is.known known new;
+    known = one_more_known now.file now.seen msr is.file is.distinct is.known known new;
+    idle = λ test. let e = sym test ∙ takes in cc e;
+  }
+
+  given : takes_commands now.stage ≡ true → IsSituation (in_commands now)
+  given takes = commands_is (past_of_commands now.stage takes) (idle_commands now.stage takes)
+
+  section : (stage : Stage) → takes_commands now.stage ≡ true → ((1 ≤ now.cpus) × (now.cpus ≤ 16) → HasCpus stage now.cpus) → is_past_dump stage ≡ true → IsSituation (in_section_of stage now)
+  section stage takes cpus past_too =
+      let past = past_of_commands now.stage takes in
+      section_is stage past (cpus (cpus_past now.stage now.cpus past is.cpus)) past_too
+
+  -- each command that fits, but the end of the dump
+  pub accepted_is : (c : Command) → Fits now c → (is_in_dump now.stage ≡ true → c ≢ command.End) → IsSituation (accepted now c)
+  accepted_is (command.Cpus n) fits goes_on = cpus_is n (not_past_of_cpus now.stage fits.0) fits.1 fits.2
+  accepted_is command.Dump fits goes_on = dump_is fits
+  accepted_is (command.Ram base lines) fits goes_on = window_is base lines fits.4
+  accepted_is (command.Load k address) fits goes_on = given fits.0.0
+  accepted_is (command.Store k address value) fits goes_on = given fits.0.0
+  accepted_is (command.Fence k) fits goes_on = given fits.0
+  accepted_is (command.Map k address physical index global) fits goes_on = given fits.0.0
+  accepted_is (command.Invlpg k address) fits goes_on = given fits.0.0
+  accepted_is (command.Cr3 k) fits goes_on = given fits.0
+  accepted_is (command.Pge k on) fits goes_on = given fits.0
+  accepted_is (command.Cd k on) fits goes_on = given fits.0
+  accepted_is command.Update fits goes_on = section InUpdate fits (λ cpus. cpus) refl
+  accepted_is command.Begin fits goes_on = section InBegin fits (λ cpus. cpus) refl
+  accepted_is command.Go fits goes_on = given fits
+  accepted_is command.Cancel fits goes_on = given fits
+  accepted_is command.Report fits goes_on = given fits
+  accepted_is (command.Step k) fits goes_on = given fits.0
+  accepted_is (command.Word address) fits goes_on = given fits.0
+  accepted_is (command.Msr k msr) fits goes_on = given fits.0.0
+  accepted_is command.Blank fits goes_on = is
+  accepted_is command.DumpLine fits goes_on = is
+  accepted_is (command.Register msr value) fits goes_on = register_is msr fits.0 fits.1 fits.2
+  accepted_is command.End fits goes_on =
+      let registers = registers_of_end now.stage fits (λ dump. goes_on dump refl) in
+      let past = past_of_registers now.stage registers in
+      section_is Commands past (cpus_past now.stage now.cpus past is.cpus) refl
+
+  -- each of the other commands moves on among the commands
+  pub others_is : (c : Command) → Fits now c → (is_in_dump now.stage ≡ true → c ≢ command.End)
+      → ((n : ℕ) → c ≢ command.Cpus n) → c ≢ command.Dump → ((base lines : ℕ) → c ≢ command.Ram base lines) → c ≢ command.Update → c ≢ command.Begin
+      → c ≢ command.Blank → c ≢ command.DumpLine → ((msr value : ℕ) → c ≢ command.Register msr value) → c ≢ command.End → IsSituation (in_commands now)
+  others_is (command.Cpus n) fits goes_on cpus dump ram update begin blank line register end = absurd (cpus n refl)
+  others_is command.Dump fits goes_on cpus dump ram update begin blank line register end = absurd (dump refl)
+  others_is (command.Ram base lines) fits goes_on cpus dump ram update begin blank line register end = absurd (ram base lines refl)
+  others_is (command.Load k address) fits goes_on cpus dump ram update begin blank line register end = given fits.0.0
+  others_is (command.Store k address value) fits goes_on cpus dump ram update begin blank line register end = given fits.0.0
+  others_is (command.Fence k) fits goes_on cpus dump ram update begin blank line register end = given fits.0
+  others_is (command.Map k address physical index global) fits goes_on cpus dump ram update begin blank line register end = given fits.0.0
+  others_is (command.Invlpg k address) fits goes_on cpus dump ram update begin blank line register end = given fits.0.0
+  others_is (command.Cr3 k) fits goes_on cpus dump ram update begin blank line register end = given fits.0
+  others_is (command.Pge k on) fits goes_on cpus dump ram update begin blank line register end = given fits.0
+  others_is (command.Cd k on) fits goes_on cpus dump ram update begin blank line register end = given fits.0
+  others_is command.Update fits goes_on cpus dump ram update begin blank line register end = absurd (update refl)
+  others_is command.Begin fits goes_on cpus dump ram update begin blank line register end = absurd (begin refl)
+  others_is command.Go fits goes_on cpus dump ram update begin blank line register end = given fits
+  others_is command.Cancel fits goes_on cpus dump ram update begin blank line register end = given fits
+  others_is command.Report fits goes_on cpus dump ram update begin blank line register end = given fits
+  others_is (command.Step k) fits goes_on cpus dump ram update begin blank line register end = given fits.0
+  others_is (command.Word address) fits goes_on cpus dump ram update begin blank line register end = given fits.0
+  others_is (command.Msr k msr) fits goes_on cpus dump ram update begin blank line register end = given fits.0.0
+  others_is command.Blank fits goes_on cpus dump ram update begin blank line register end = absurd (blank refl)
+  others_is command.DumpLine fits goes_on cpus dump ram update begin blank line register end = absurd (line refl)
+  others_is (command.Register msr value) fits goes_on cpus dump ram update begin blank line register end = absurd (register msr value refl)
+  others_is command.End fits goes_on cpus dump ram update begin blank line register end = absurd (end refl)
+
+  -- the end of the dump
+  pub finished_is : (file : RegisterFile) → is_in_dump now.stage ≡ true → IsRegisterFile file → IsSituation (finished now file)
+  unfolding IsDistinct
+  finished_is file dump good = record { cpus = cpus_in_dump now.stage now.cpus dump is.cpus; has_file = refl; file = good; few = is.few; together = is.together; distinct = tt; known = no_registers _; idle = λ test. refl }

@@ -1,0 +1,168 @@
+-- What one line of a script asks for, or its fault (own).
+--     command_of now line bytes      the answer for the line of this number, by what stands set up
+--     end_fault stage place      the fault where the text ends in this stage
+use Rattle.std.specs.Prelude.{ℕ, ◌==◌, nat_eq, nat_lt, codes, Bool, false, List, length, if◌then◌else◌, Option, Some, None, Result, Ok, Err}
+use Rattle.std.specs.Set.{is_member}
+use Rattle.mt_text.specs.Text.{words_of, without_ending}
+use Rattle.mt_text.specs.Number.{hex_number}
+use Rattle.mt_text.specs.declared.place.Place.{Place}
+use Rattle.mt_script.specs.Situation.{Situation}
+use Rattle.mt_script.specs.Words.{text_of, place_of}
+use Rattle.mt_script.specs.Numbers.{fault_at, any, count_in, processor_in, value_in, virtual_in, physical_in, register_in, base_in, has_room, is_writable}
+use Rattle.mt_script.specs.Rows.{is_word, row_of, stands}
+use Rattle.mt_script.specs.Stages.{takes_commands}
+use Rattle.mt_script.specs.Shape.{shape_fault}
+use Rattle.mt_script.specs.declared.command.Stage.{Stage}
+use Rattle.mt_script.specs.declared.command.Stage.TheVariants.{NeedCpus, NeedDump, InDump, Rams, Commands, InUpdate, InBegin}
+use Rattle.mt_script.specs.declared.command.Command.{Command}
+use Rattle.mt_script.specs.declared.command.Command.TheVariants as command
+use Rattle.mt_script.specs.declared.row.Row.{Row}
+use Rattle.mt_script.specs.declared.row.Row.TheVariants as row
+use Rattle.mt_script.specs.declared.fault.ScriptReason.TheVariants.{BadLine, UnknownRegister, OutOfRange, NoEnd, NotNow, Repeated}
+use Rattle.mt_script.specs.declared.fault.ScriptFault.{ScriptFault}
+
+abbrev pub Answer : Type 0
+Answer = Result Command ScriptFault
+
+-- what a good number leads to
+abbrev pub with : Result ℕ ScriptFault → (ℕ → Answer) → Answer
+with (Err fault) next = Err fault
+with (Ok number) next = next number
+
+-- a fault, or else another answer
+abbrev pub unless : Option ScriptFault → Answer → Answer
+unless (Some fault) answer = Err fault
+unless None answer = answer
+
+-- The numbers of a line of each row, from left to right, and the command that it asks for.
+abbrev pub cpus_in : ℕ → List (ℕ × List ℕ) → Answer
+cpus_in line words = with (count_in line words 1 1 16) (λ n. Ok (command.Cpus n))
+
+abbrev pub ram_in : Situation → ℕ → List (ℕ × List ℕ) → Answer
+ram_in now line words =
+    with (base_in line words 1) (λ base.
+    with (count_in line words 2 1 4096) (λ lines.
+    if has_room now base lines then Ok (command.Ram base lines) else Err (fault_at OutOfRange (place_of line words 2))))
+
+abbrev pub load_in : Situation → ℕ → List (ℕ × List ℕ) → Answer
+load_in now line words =
+    with (processor_in now line words 1) (λ k.
+    with (virtual_in line words 2 8) (λ address.
+    Ok (command.Load k address)))
+
+abbrev pub store_in : Situation → ℕ → List (ℕ × List ℕ) → Answer
+store_in now line words =
+    with (processor_in now line words 1) (λ k.
+    with (virtual_in line words 2 8) (λ address.
+    with (value_in line words 3) (λ value.
+    Ok (command.Store k address value))))
+
+abbrev pub map_in : Situation → ℕ → List (ℕ × List ℕ) → Answer
+map_in now line words =
+    with (processor_in now line words 1) (λ k.
+    with (virtual_in line words 2 4096) (λ address.
+    with (physical_in now line words 3 4096) (λ physical.
+    with (count_in line words 4 0 7) (λ index.
+    Ok (command.Map k address physical index (is_word (codes "global") (text_of words 5)))))))
+
+abbrev pub invlpg_in : Situation → ℕ → List (ℕ × List ℕ) → Answer
+invlpg_in now line words =
+    with (processor_in now line words 1) (λ k.
+    with (virtual_in line words 2 1) (λ address.
+    Ok (command.Invlpg k address)))
+
+abbrev pub switch_in : (ℕ → Bool → Command) → Situation → ℕ → List (ℕ × List ℕ) → Answer
+switch_in make now line words = with (processor_in now line words 1) (λ k. Ok (make k (is_word (codes "on") (text_of words 2))))
+
+abbrev pub msr_in : Situation → ℕ → List (ℕ × List ℕ) → Answer
+msr_in now line words =
+    with (processor_in now line words 1) (λ k.
+    with (register_in now line words 2) (λ register.
+    Ok (command.Msr k register)))
+
+abbrev pub row_answer : Situation → ℕ → List (ℕ × List ℕ) → Row → Answer
+row_answer now line words row.Cpus = cpus_in line words
+row_answer now line words row.Dump = Ok command.Dump
+row_answer now line words row.Ram = ram_in now line words
+row_answer now line words row.Load = load_in now line words
+row_answer now line words row.Store = store_in now line words
+row_answer now line words row.Fence = with (processor_in now line words 1) (λ k. Ok (command.Fence k))
+row_answer now line words row.Map = map_in now line words
+row_answer now line words row.Invlpg = invlpg_in now line words
+row_answer now line words row.Cr3 = with (processor_in now line words 1) (λ k. Ok (command.Cr3 k))
+row_answer now line words row.Pge = switch_in command.Pge now line words
+row_answer now line words row.Cd = switch_in command.Cd now line words
+row_answer now line words row.Update = Ok command.Update
+row_answer now line words row.Begin = Ok command.Begin
+row_answer now line words row.Go = Ok command.Go
+row_answer now line words row.Cancel = Ok command.Cancel
+row_answer now line words row.Report = Ok command.Report
+row_answer now line words row.Step = with (processor_in now line words 1) (λ k. Ok (command.Step k))
+row_answer now line words row.Word = with (physical_in now line words 1 8) (λ address. Ok (command.Word address))
+row_answer now line words row.Msr = msr_in now line words
+
+-- a line of a row: its words, its stage, its numbers
+abbrev pub row_line : Situation → ℕ → List (ℕ × List ℕ) → Option Row → Answer
+row_line now line words None = Err (fault_at BadLine (place_of line words 0))
+row_line now line words (Some row) =
+    unless (shape_fault line words row)
+    (if stands row now.stage then row_answer now line words row else Err (fault_at NotNow (place_of line words 0)))
+
+-- a line outside the sections
+abbrev pub outside : Situation → ℕ → List (ℕ × List ℕ) → Answer
+outside now line words =
+    if length words == 0 then Ok command.Blank
+    else row_line now line words (row_of (text_of words 0))
+
+-- a register and a value
+abbrev pub register_value : Situation → Place → ℕ → ℕ → Answer
+register_value now first number value =
+    if is_writable now.file number then
+    (if is_member nat_eq now.seen number then Err (fault_at Repeated first) else Ok (command.Register number value))
+    else Err (fault_at UnknownRegister first)
+
+-- One `:` at the end of the first word is no part of it.
+abbrev pub register_line : Situation → ℕ → List (ℕ × List ℕ) → Answer
+register_line now line words =
+    with (any (place_of line words 0) (hex_number (without_ending 58 (text_of words 0)))) (λ number.
+    with (value_in line words 1) (λ value.
+    register_value now (place_of line words 0) number value))
+
+-- the only word is `end`
+abbrev pub is_end : List (ℕ × List ℕ) → Bool
+is_end words = if length words == 1 then is_word (codes "end") (text_of words 0) else false
+
+-- a line of a section of `update` or `begin`
+abbrev pub in_section : Situation → ℕ → List (ℕ × List ℕ) → Answer
+in_section now line words =
+    if length words == 0 then Ok command.Blank
+    else if is_end words then Ok command.End
+    else if length words == 1 then Err (fault_at BadLine (place_of line words 0))
+    else if nat_lt 2 (length words) then Err (fault_at BadLine (place_of line words 2))
+    else register_line now line words
+
+abbrev pub too_long : List ℕ → Bool
+too_long bytes = nat_lt 4096 (length bytes)
+
+-- a line of the dump, which has no fault here
+abbrev pub in_dump : List ℕ → Answer
+in_dump bytes = if too_long bytes then Ok command.DumpLine else if is_end (words_of bytes) then Ok command.End else Ok command.DumpLine
+
+-- a line that isn't one of the dump
+abbrev pub not_too_long : ℕ → List ℕ → Answer → Answer
+not_too_long line bytes answer = if too_long bytes then Err (fault_at BadLine (record { line = line; column = 4097 })) else answer
+
+abbrev pub in_stage : Situation → ℕ → List ℕ → Stage → Answer
+in_stage now line bytes InDump = in_dump bytes
+in_stage now line bytes InUpdate = not_too_long line bytes (in_section now line (words_of bytes))
+in_stage now line bytes InBegin = not_too_long line bytes (in_section now line (words_of bytes))
+in_stage now line bytes NeedCpus = not_too_long line bytes (outside now line (words_of bytes))
+in_stage now line bytes NeedDump = not_too_long line bytes (outside now line (words_of bytes))
+in_stage now line bytes Rams = not_too_long line bytes (outside now line (words_of bytes))
+in_stage now line bytes Commands = not_too_long line bytes (outside now line (words_of bytes))
+
+abbrev pub command_of : Situation → ℕ → List ℕ → Answer
+command_of now line bytes = in_stage now line bytes now.stage
+
+abbrev pub end_fault : Stage → Place → Option ScriptFault
+end_fault stage place = if takes_commands stage then None else Some (fault_at NoEnd place)

@@ -1,0 +1,10 @@
+pub mod Accept
+pub mod Commands
+pub mod Kept
+pub mod Numbers
+pub mod Rows
+pub mod Seen
+pub mod Shape
+pub mod Situation
+pub mod Stages
+pub mod Words

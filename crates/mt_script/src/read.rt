@@ -1,0 +1,252 @@
+ghost use Rattle.std.specs.Prelude.{◌≡◌, nat_eq, codes, ◌≤◌, ◌<◌, length, Ok, Err, None, Some, MatchResult, if◌then◌else◌};
+ghost use Rattle.std.specs.Set.{is_member};
+ghost use Rattle.std.specs.Result.{IfOk};
+ghost use Rattle.mt_script.specs.Accept.{Fits};
+ghost use Rattle.mt_text.specs.Text.{words_of};
+ghost use Rattle.mt_script.specs.Commands.{command_of, outside, in_section, in_dump, row_answer, cpus_in, load_in, store_in, map_in, invlpg_in, switch_in, msr_in, ram_in, register_line, register_value, is_end, too_long, end_fault};
+ghost use Rattle.mt_script.specs.Numbers.{fault_at};
+ghost use Rattle.mt_script.specs.Words.{text_of};
+ghost use Rattle.mt_script.specs.Rows.{is_word};
+ghost use Rattle.mt_script.specs.declared.fault.ScriptReason.TheVariants.{BadLine};
+
+use crate::name::{is_word, row_of, stands, takes_commands};
+use crate::number::{
+    any, base_at, count_at, fault, physical_at, processor_at, register_at, value_at, virtual_at,
+    writable,
+};
+use crate::room::has_room;
+use crate::row::Row;
+use crate::shape::shape_fault;
+use crate::token::{place_of, text_of};
+use crate::{Command, ScriptFault, ScriptReason, Setup, Stage};
+use mt_text::{Line, Place, hex64, without_ending};
+
+const LIMIT_COLUMN: u64 = 4097;
+
+const MOST_CPUS: u64 = 16;
+
+const MOST_LINES: u64 = 4096;
+
+const LAST_INDEX: u64 = 7;
+
+const PAGE: u64 = 4096;
+
+const WORD: u64 = 8;
+
+fn read_ram(line: &Line<'_>, setup: &Setup) -> Result<Command, ScriptFault>
+    ensures { result ≡ ram_in setup.now line.now.number (words_of line.now.bytes.now) }
+{
+    let base = base_at(line, 1)?;
+    let lines = count_at(line, 2, 1, MOST_LINES)? as u32;
+    if has_room(setup, base, lines) {
+        Ok(Command::Ram(base, lines))
+    } else {
+        Err(fault(ScriptReason::OutOfRange, place_of(line, 2)))
+    }
+}
+
+fn read_load(line: &Line<'_>, setup: &Setup) -> Result<Command, ScriptFault>
+    ensures { result ≡ load_in setup.now line.now.number (words_of line.now.bytes.now) }
+{
+    let k = processor_at(line, 1, setup)?;
+    let address = virtual_at(line, 2, WORD)?;
+    Ok(Command::Load(k, address))
+}
+
+fn read_store(line: &Line<'_>, setup: &Setup) -> Result<Command, ScriptFault>
+    ensures { result ≡ store_in setup.now line.now.number (words_of line.now.bytes.now) }
+{
+    let k = processor_at(line, 1, setup)?;
+    let address = virtual_at(line, 2, WORD)?;
+    let value = value_at(line, 3)?;
+    Ok(Command::Store(k, address, value))
+}
+
+fn read_map(line: &Line<'_>, setup: &Setup) -> Result<Command, ScriptFault>
+    ensures { result ≡ map_in setup.now line.now.number (words_of line.now.bytes.now) }
+{
+    let k = processor_at(line, 1, setup)?;
+    let address = virtual_at(line, 2, PAGE)?;
+    let physical = physical_at(line, 3, PAGE, setup)?;
+    let index = count_at(line, 4, 0, LAST_INDEX)? as u8;
+    let global = is_word(text_of(line, 5), b"global");
+    Ok(Command::Map(k, address, physical, index, global))
+}
+
+fn read_invlpg(line: &Line<'_>, setup: &Setup) -> Result<Command, ScriptFault>
+    ensures { result ≡ invlpg_in setup.now line.now.number (words_of line.now.bytes.now) }
+{
+    let k = processor_at(line, 1, setup)?;
+    let address = virtual_at(line, 2, 1)?;
+    Ok(Command::Invlpg(k, address))
+}
+
+fn read_msr(line: &Line<'_>, setup: &Setup) -> Result<Command, ScriptFault>
+    ensures { result ≡ msr_in setup.now line.now.number (words_of line.now.bytes.now) }
+{
+    let k = processor_at(line, 1, setup)?;
+    let msr = register_at(line, 2, setup)?;
+    Ok(Command::Msr(k, msr))
+}
+
+fn read_cpus(line: &Line<'_>) -> Result<Command, ScriptFault>
+    ensures { result ≡ cpus_in line.now.number (words_of line.now.bytes.now) }
+{
+    Ok(Command::Cpus(count_at(line, 1, 1, MOST_CPUS)? as u32))
+}
+
+fn is_on(line: &Line<'_>) -> bool
+    ensures { result ≡ is_word (codes "on") (text_of (words_of line.now.bytes.now) 2) }
+{
+    is_word(text_of(line, 2), b"on")
+}
+
+// The numbers of a line of this row, and the command that it asks for.
+fn read_row(line: &Line<'_>, setup: &Setup, row: Row) -> Result<Command, ScriptFault>
+    ensures { result ≡ row_answer setup.now line.now.number (words_of line.now.bytes.now) row }
+{
+    match row {
+        Row::Cpus => read_cpus(line),
+        Row::Dump => Ok(Command::Dump),
+        Row::Ram => read_ram(line, setup),
+        Row::Load => read_load(line, setup),
+        Row::Store => read_store(line, setup),
+        Row::Fence => Ok(Command::Fence(processor_at(line, 1, setup)?)),
+        Row::Map => read_map(line, setup),
+        Row::Invlpg => read_invlpg(line, setup),
+        Row::Cr3 => Ok(Command::Cr3(processor_at(line, 1, setup)?)),
+        Row::Pge => Ok(Command::Pge(processor_at(line, 1, setup)?, is_on(line))),
+        Row::Cd => Ok(Command::Cd(processor_at(line, 1, setup)?, is_on(line))),
+        Row::Update => Ok(Command::Update),
+        Row::Begin => Ok(Command::Begin),
+        Row::Go => Ok(Command::Go),
+        Row::Cancel => Ok(Command::Cancel),
+        Row::Report => Ok(Command::Report),
+        Row::Step => Ok(Command::Step(processor_at(line, 1, setup)?)),
+        Row::Word => Ok(Command::Word(physical_at(line, 1, WORD, setup)?)),
+        Row::Msr => read_msr(line, setup),
+    }
+}
+
+fn read_outside(line: &Line<'_>, setup: &Setup) -> Result<Command, ScriptFault>
+    ensures { result ≡ outside setup.now line.now.number (words_of line.now.bytes.now) }
+{
+    if line.words() == 0 {
+        return Ok(Command::Blank);
+    }
+    let Some(row) = row_of(text_of(line, 0)) else {
+        return Err(fault(ScriptReason::BadLine, place_of(line, 0)));
+    };
+    if let Some(fault) = shape_fault(line, row) {
+        return Err(fault);
+    }
+    if !stands(row, setup.stage()) {
+        return Err(fault(ScriptReason::NotNow, place_of(line, 0)));
+    }
+    read_row(line, setup, row)
+}
+
+fn was_seen(seen: &[u32], msr: u32) -> bool
+    ensures { result ≡ is_member nat_eq seen.now msr }
+{
+    seen.iter().any(|seen| msr == *seen)
+}
+
+fn register(setup: &Setup, first: Place, number: u64, value: u64) -> Result<Command, ScriptFault>
+    ensures { result ≡ register_value setup.now first number value }
+{
+    let Some(msr) = writable(setup, number) else {
+        return Err(fault(ScriptReason::UnknownRegister, first));
+    };
+    if was_seen(setup.seen(), msr) {
+        return Err(fault(ScriptReason::Repeated, first));
+    }
+    Ok(Command::Register { msr, value })
+}
+
+fn read_register(line: &Line<'_>, setup: &Setup) -> Result<Command, ScriptFault>
+    ensures { result ≡ register_line setup.now line.now.number (words_of line.now.bytes.now) }
+{
+    let first = place_of(line, 0);
+    let number = any(first, hex64(without_ending(text_of(line, 0), b':')))?;
+    let value = value_at(line, 1)?;
+    register(setup, first, number, value)
+}
+
+fn is_end(line: &Line<'_>) -> bool
+    ensures { result ≡ is_end (words_of line.now.bytes.now) }
+{
+    line.words() == 1 && is_word(text_of(line, 0), b"end")
+}
+
+fn read_in_section(line: &Line<'_>, setup: &Setup) -> Result<Command, ScriptFault>
+    ensures { result ≡ in_section setup.now line.now.number (words_of line.now.bytes.now) }
+{
+    if is_end(line) {
+        return Ok(Command::End);
+    }
+    match line.words() {
+        0 => Ok(Command::Blank),
+        1 => Err(fault(ScriptReason::BadLine, place_of(line, 0))),
+        2 => read_register(line, setup),
+        _ => Err(fault(ScriptReason::BadLine, place_of(line, 2))),
+    }
+}
+
+fn read_in_dump(line: &Line<'_>) -> Command
+    ensures { in_dump line.now.bytes.now ≡ Ok result }
+{
+    if !line.too_long() && is_end(line) {
+        Command::End
+    } else {
+        Command::DumpLine
+    }
+}
+
+fn length_fault(line: &Line<'_>) -> Option<ScriptFault>
+    ensures { result ≡ (if too_long line.now.bytes.now then Some (fault_at BadLine (record { line = line.now.number; column = 4097 })) else None) }
+{
+    if !line.too_long() {
+        return None;
+    }
+    let place = Place {
+        line: line.number,
+        column: LIMIT_COLUMN,
+    };
+    Some(fault(ScriptReason::BadLine, place))
+}
+
+/// What a line asks for, or its offence. Each command fits the setup.
+pub fn read_command(line: &Line<'_>, st: &Setup) -> Result<Command, ScriptFault>
+    ensures answer { result ≡ command_of st.now line.now.number line.now.bytes.now }
+    ensures fits { IfOk result (λ command. Fits st.now command) }
+{
+    read_line(line, st)
+}
+
+fn read_line(line: &Line<'_>, st: &Setup) -> Result<Command, ScriptFault>
+    ensures { result ≡ command_of st.now line.now.number line.now.bytes.now }
+{
+    let stage = st.stage();
+    if stage == Stage::InDump {
+        return Ok(read_in_dump(line));
+    }
+    if let Some(fault) = length_fault(line) {
+        return Err(fault);
+    }
+    match stage {
+        Stage::InUpdate | Stage::InBegin => read_in_section(line, st),
+        _ => read_outside(line, st),
+    }
+}
+
+/// The offence of a text that ends too early.
+pub fn read_end(st: &Setup, at: Place) -> Result<(), ScriptFault>
+    ensures { MatchResult result (λ _. end_fault st.now.stage at ≡ None) (λ fault. end_fault st.now.stage at ≡ Some fault) }
+{
+    if takes_commands(st.stage()) {
+        Ok(())
+    } else {
+        Err(fault(ScriptReason::NoEnd, at))
+    }
+}

@@ -1,0 +1,159 @@
+ghost use Rattle.std.specs.Prelude.{◌≡◌, ◌≢◌, ◌≤◌, ◌<◌, ◌∷◌, ◌++◌, [], true, length, Some, None, MatchOption};
+ghost use Rattle.mt_script.specs.Situation.{at_start};
+ghost use Rattle.mt_script.specs.Stages.{is_in_dump};
+ghost use Rattle.mt_script.specs.Kept.{IsSituation};
+ghost use Rattle.mt_script.specs.Accept.{Fits, in_section_of, accepted, finished};
+
+use crate::{Command, Stage};
+use arrayvec::ArrayVec;
+use mt_regs::RegFile;
+use std::marker::Model;
+
+/// What the lines of a script so far have set up.
+#[derive(Drop)]
+pub struct Setup {
+    stage: Stage,
+    cpus: u32,
+    file: Option<RegFile>,
+    windows: ArrayVec<(u64, u32), 16>,
+    seen: ArrayVec<u32, 77>,
+}
+
+impl Model for Setup {
+    ghost use Rattle.mt_script.specs.Situation.{Situation};
+
+    ghost Value = { Situation };
+
+    ghost use Rattle.mt_script.specs.Seen.{situation_of, IsSituationInside};
+
+    ghost view = { situation_of };
+
+    ghost invariant = { IsSituationInside };
+}
+
+impl Setup {
+    /// What stands before the first line.
+    pub fn new() -> Setup
+        ensures { result ≡ at_start }
+    {
+        Setup {
+            stage: Stage::NeedCpus,
+            cpus: 0,
+            file: None,
+            windows: ArrayVec::new(),
+            seen: ArrayVec::new(),
+        }
+    }
+
+    /// Which lines may stand next.
+    pub fn stage(&self) -> Stage
+        ensures { result ≡ self.now.stage }
+    {
+        self.stage
+    }
+
+    /// How many processors there are, 0 before the `cpus` line.
+    pub fn cpus(&self) -> u32
+        ensures { result ≡ self.now.cpus }
+    {
+        self.cpus
+    }
+
+    /// The file of the dump. There is none before its end.
+    pub fn file(&self) -> Option<&RegFile>
+        ensures { MatchOption result (self.now.file ≡ None) (λ file. self.now.file ≡ Some file.now) }
+    {
+        self.file.as_ref()
+    }
+
+    /// Base and lines of each window, in the order of their lines.
+    pub fn windows(&self) -> &[(u64, u32)]
+        ensures windows { result.now ≡ self.now.windows }
+        ensures few { length result.now ≤ 16 }
+    {
+        self.windows.as_slice()
+    }
+
+    /// The registers that the present section has given.
+    pub fn seen(&self) -> &[u32]
+        ensures { result.now ≡ self.now.seen }
+    {
+        self.seen.as_slice()
+    }
+
+    /// What every setup keeps. This does nothing.
+    pub fn is_situation(&self)
+        ensures { IsSituation self.now }
+    {
+        let _ = &self.stage;
+    }
+
+    fn move_to(&mut self, stage: Stage)
+        requires { IsSituation (record self.old { stage = stage }) }
+        ensures { self.new ≡ record self.old { stage = stage } }
+    {
+        self.stage = stage;
+    }
+
+    fn begin_section(&mut self, stage: Stage)
+        requires { IsSituation (in_section_of stage self.old) }
+        ensures { self.new ≡ in_section_of stage self.old }
+    {
+        self.stage = stage;
+        self.seen.clear();
+    }
+
+    fn take_cpus(&mut self, cpus: u32)
+        requires { IsSituation (record self.old { stage = Stage.NeedDump; cpus = cpus }) }
+        ensures { self.new ≡ record self.old { stage = Stage.NeedDump; cpus = cpus } }
+    {
+        self.stage = Stage::NeedDump;
+        self.cpus = cpus;
+    }
+
+    fn add_window(&mut self, base: u64, lines: u32)
+        requires room { length self.old.windows < 16 }
+        requires is { IsSituation (record self.old { windows = self.old.windows ++ (base, lines) ∷ [] }) }
+        ensures { self.new ≡ record self.old { windows = self.old.windows ++ (base, lines) ∷ [] } }
+    {
+        self.windows.push((base, lines));
+    }
+
+    fn add_register(&mut self, msr: u32)
+        requires room { length self.old.seen < 77 }
+        requires is { IsSituation (record self.old { seen = self.old.seen ++ msr ∷ [] }) }
+        ensures { self.new ≡ record self.old { seen = self.old.seen ++ msr ∷ [] } }
+    {
+        self.seen.push(msr);
+    }
+
+    /// Moves on by a command that a line was read as, unless it ends the dump.
+    pub fn accept(&mut self, c: &Command)
+        requires fits { Fits self.old c.now }
+        requires goes_on { is_in_dump self.old.stage ≡ true → c.now ≢ Command.End }
+        ensures { self.new ≡ accepted self.old c.now }
+    {
+        self.is_situation();
+        match *c {
+            Command::Cpus(n) => self.take_cpus(n),
+            Command::Dump => self.move_to(Stage::InDump),
+            Command::Ram(base, lines) => self.add_window(base, lines),
+            Command::Update => self.begin_section(Stage::InUpdate),
+            Command::Begin => self.begin_section(Stage::InBegin),
+            Command::End => self.begin_section(Stage::Commands),
+            Command::Register { msr, .. } => self.add_register(msr),
+            Command::Blank | Command::DumpLine => {}
+            _ => self.move_to(Stage::Commands),
+        }
+    }
+
+    /// Keeps the file of the dump, at its end.
+    pub fn dumped(&mut self, f: RegFile)
+        requires { is_in_dump self.old.stage ≡ true }
+        ensures { self.new ≡ finished self.old f }
+    {
+        self.stage = Stage::Rams;
+        self.file = Some(f);
+        self.seen.clear();
+    }
+}
