@@ -1,12 +1,11 @@
 -- Each command that fits leaves what every setup keeps.
-use Rattle.std.proofs.Common.{◌≡◌, ◌≢◌, ℕ, ◌≤◌, ◌<◌, ◌+◌, ◌*◌, ◌&&◌, nat_eq, nat_lt, nat_le, Bool, true, false, List, [], ◌∷◌, ◌++◌, length, Option, Some, None, refl, sym, ◌∙◌, ap, arith, lit≤}
-use Rattle.std.specs.Prelude.{is_some, IfSome}
+use Rattle.std.proofs.Common.{◌≡◌, ◌≢◌, ℕ, ◌≤◌, ◌<◌, ◌+◌, ◌*◌, ◌&&◌, nat_eq, nat_lt, nat_le, true, false, List, [], ◌∷◌, ◌++◌, length, refl, sym, ◌∙◌, arith, lit≤}
 use Rattle.std.specs.List.{IsDistinct, list_all}
 use Rattle.std.specs.Set.{is_member}
 use Rattle.std.proofs.lemmas.Bool.{and_parts, leb-true, ltb-true}
 use Rattle.mt_regs.specs.RegisterFile.{RegisterFile, IsRegisterFile}
 use Rattle.mt_script.specs.Situation.{Situation, at_start}
-use Rattle.mt_script.specs.Stages.{HasCpus, takes_cpus, takes_dump, takes_windows, takes_commands, takes_registers, takes_end, is_in_dump, is_past_dump}
+use Rattle.mt_script.specs.Stages.{HasCpus, takes_cpus, takes_dump, takes_commands, takes_registers, takes_end, is_in_dump, is_past_dump}
 use Rattle.mt_script.specs.Numbers.{has_room, lines_together, is_writable, are_apart, address_limit}
 use Rattle.mt_script.specs.Kept.{IsSituation}
 use Rattle.mt_script.specs.Accept.{Fits, accepted, in_commands, in_section_of, finished}

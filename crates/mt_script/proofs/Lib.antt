@@ -1,4 +1,5 @@
 pub mod Fitting
+pub mod Good
 pub mod Keeping
 pub mod Registers
 pub mod Sections

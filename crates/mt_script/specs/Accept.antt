@@ -2,7 +2,7 @@
 --     Fits now command      what holds of each command that a line is read as
 --     accepted now command      the situation after the command
 --     finished now file      the situation after the dump's end
-use Rattle.std.specs.Prelude.{ℕ, nat_eq, ◌≡◌, ◌≤◌, ◌<◌, ◌^◌, ◌%◌, Bool, true, false, ⊤, [], ◌∷◌, ◌++◌, Some}
+use Rattle.std.specs.Prelude.{ℕ, nat_eq, ◌≡◌, ◌≤◌, ◌<◌, ◌^◌, ◌%◌, true, false, ⊤, [], ◌∷◌, ◌++◌, Some}
 use Rattle.std.specs.Set.{is_member}
 use Rattle.mt_regs.specs.RegisterFile.{RegisterFile}
 use Rattle.mt_script.specs.Situation.{Situation}

@@ -1,5 +1,5 @@
 -- What holds of each situation (own).
-use Rattle.std.specs.Prelude.{ℕ, ◌≡◌, ◌≤◌, nat_eq, true, false, List, [], length, IfSome, is_some}
+use Rattle.std.specs.Prelude.{ℕ, ◌≡◌, ◌≤◌, nat_eq, true, false, [], length, IfSome, is_some}
 use Rattle.std.specs.List.{IsDistinct}
 use Rattle.std.specs.Set.{is_member}
 use Rattle.mt_regs.specs.RegisterFile.{IsRegisterFile}

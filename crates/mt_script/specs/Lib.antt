@@ -3,8 +3,10 @@ pub mod Commands
 pub mod Kept
 pub mod Numbers
 pub mod Rows
+pub mod Script
 pub mod Seen
 pub mod Shape
 pub mod Situation
 pub mod Stages
 pub mod Words
+pub mod Worked

@@ -1,7 +1,6 @@
 use Rattle.std.proofs.Common.{subst}
 use Rattle.mt_script.specs.Kept.{IsSituation}
 use Rattle.mt_script.specs.Accept.{Fits, accepted}
-use Rattle.mt_script.specs.declared.command.Command.{Command}
 use Rattle.mt_script.specs.declared.command.Command.TheVariants as command
 use Rattle.mt_script.proofs.Keeping.{accepted_is, others_is, room_for_window, room_for_register}
 use Rattle.mt_script.proofs.setup.Setup.accept.Goals as goal
