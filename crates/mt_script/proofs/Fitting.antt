@@ -161,8 +161,8 @@ module _ (now : Situation) (line : ℕ) (words : List (ℕ × List ℕ)) where
   row_line_fits (Some row) = fits_unless (Fits now) (shape_fault line words row) _
       (fits_if (Fits now) (stands row now.stage) (row_answer now line words row) (Err (fault_at NotNow (place_of line words 0))) (row_fits row) (λ miss. tt))
 
-  outside_fits : IfOk (outside now line words) (Fits now)
-  outside_fits = fits_if (Fits now) (length words == 0) (Ok command.Blank) (row_line now line words (row_of (text_of words 0))) (λ blank. tt) (λ some. row_line_fits (row_of (text_of words 0)))
+  outside_fits : is_in_dump now.stage ≡ false → IfOk (outside now line words) (Fits now)
+  outside_fits apart = fits_if (Fits now) (length words == 0) (Ok command.Blank) (row_line now line words (row_of (text_of words 0))) (λ blank. apart) (λ some. row_line_fits (row_of (text_of words 0)))
 
   register_fits : takes_registers now.stage ≡ true → IfOk (register_line now line words) (Fits now)
   register_fits stage = fits_with (Fits now) (any (place_of line words 0) (hex_number (without_ending 58 (text_of words 0)))) _ (λ number is_number.
@@ -171,9 +171,9 @@ module _ (now : Situation) (line : ℕ) (words : List (ℕ × List ℕ)) where
       (λ known. fits_if (Fits now) (is_member nat_eq now.seen number) _ _ (λ again. tt) (λ new. (stage, known, new)))
       (λ unknown. tt)))
 
-  section_fits : takes_registers now.stage ≡ true → takes_end now.stage ≡ true → IfOk (in_section now line words) (Fits now)
-  section_fits stage ends =
-      fits_if (Fits now) (length words == 0) _ _ (λ blank. tt) (λ some_words.
+  section_fits : is_in_dump now.stage ≡ false → takes_registers now.stage ≡ true → takes_end now.stage ≡ true → IfOk (in_section now line words) (Fits now)
+  section_fits apart stage ends =
+      fits_if (Fits now) (length words == 0) _ _ (λ blank. apart) (λ some_words.
       fits_if (Fits now) (is_end words) _ _ (λ end. ends) (λ not_end.
       fits_if (Fits now) (length words == 1) _ _ (λ short. tt) (λ longer.
       fits_if (Fits now) (nat_lt 2 (length words)) _ _ (λ long. tt) (λ two. register_fits stage))))
@@ -190,17 +190,17 @@ module _ (now : Situation) (line : ℕ) (bytes : List ℕ) where
   pub command_fits : IfOk (command_of now line bytes) (Fits now)
   command_fits = by now.stage refl
     where
-      plain : IfOk (not_too_long line bytes (outside now line (words_of bytes))) (Fits now)
-      plain = short_fits _ (outside_fits now line (words_of bytes))
+      plain : is_in_dump now.stage ≡ false → IfOk (not_too_long line bytes (outside now line (words_of bytes))) (Fits now)
+      plain apart = short_fits _ (outside_fits now line (words_of bytes) apart)
 
-      section : takes_registers now.stage ≡ true → takes_end now.stage ≡ true → IfOk (not_too_long line bytes (in_section now line (words_of bytes))) (Fits now)
-      section stage ends = short_fits _ (section_fits now line (words_of bytes) stage ends)
+      section : is_in_dump now.stage ≡ false → takes_registers now.stage ≡ true → takes_end now.stage ≡ true → IfOk (not_too_long line bytes (in_section now line (words_of bytes))) (Fits now)
+      section apart stage ends = short_fits _ (section_fits now line (words_of bytes) apart stage ends)
 
       by : (stage : Stage) → now.stage ≡ stage → IfOk (in_stage now line bytes stage) (Fits now)
-      by NeedCpus is = plain
-      by NeedDump is = plain
+      by NeedCpus is = plain (rw is refl)
+      by NeedDump is = plain (rw is refl)
       by InDump is = dump_fits (rw is refl) (rw is refl)
-      by Rams is = plain
-      by Commands is = plain
-      by InUpdate is = section (rw is refl) (rw is refl)
-      by InBegin is = section (rw is refl) (rw is refl)
+      by Rams is = plain (rw is refl)
+      by Commands is = plain (rw is refl)
+      by InUpdate is = section (rw is refl) (rw is refl) (rw is refl)
+      by InBegin is = section (rw is refl) (rw is refl) (rw is refl)

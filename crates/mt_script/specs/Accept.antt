@@ -2,7 +2,7 @@
 --     Fits now command      what holds of each command that a line is read as
 --     accepted now command      the situation after the command
 --     finished now file      the situation after the dump's end
-use Rattle.std.specs.Prelude.{ℕ, nat_eq, ◌≡◌, ◌≤◌, ◌<◌, ◌^◌, ◌%◌, true, false, ⊤, [], ◌∷◌, ◌++◌, Some}
+use Rattle.std.specs.Prelude.{ℕ, nat_eq, ◌≡◌, ◌≤◌, ◌<◌, ◌^◌, ◌%◌, true, false, [], ◌∷◌, ◌++◌, Some}
 use Rattle.std.specs.Set.{is_member}
 use Rattle.mt_regs.specs.RegisterFile.{RegisterFile}
 use Rattle.mt_script.specs.Situation.{Situation}
@@ -42,7 +42,7 @@ Fits now command.Report = takes_commands now.stage ≡ true
 Fits now (command.Step k) = IsFor now k
 Fits now (command.Word address) = (takes_commands now.stage ≡ true) × IsAligned 8 (address_limit now.file) address
 Fits now (command.Msr k msr) = IsFor now k × (is_register now.file msr ≡ true)
-Fits now command.Blank = ⊤
+Fits now command.Blank = is_in_dump now.stage ≡ false
 Fits now command.DumpLine = is_in_dump now.stage ≡ true
 Fits now (command.Register msr value) =
     (takes_registers now.stage ≡ true) × (is_writable now.file msr ≡ true) × (is_member nat_eq now.seen msr ≡ false)

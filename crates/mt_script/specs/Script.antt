@@ -17,11 +17,8 @@ use Rattle.mt_script.specs.Accept.{accepted, finished}
 use Rattle.mt_script.specs.declared.command.Command.{Command}
 use Rattle.mt_script.specs.declared.command.Command.TheVariants as command
 use Rattle.mt_script.specs.declared.fault.ScriptFault.{ScriptFault}
-
--- an offence of the script, or of its dump
-pub data Offence : Type 0 where
-  OfScript : ScriptFault → Offence
-  OfDump : DumpFault → Offence
+use Rattle.mt_script.specs.declared.fault.Offence.{Offence}
+use Rattle.mt_script.specs.declared.fault.Offence.TheVariants.{Script, Dump}
 
 -- What the rest of a text leads to, by the situation and the dump's lines so far, of which the last stands first.
 abbrev pub Rest : Type 0
@@ -37,7 +34,7 @@ dump_ends now before None rest = None
 dump_ends now before (Some file) rest = rest (finished now (with_told_width before file)) []
 
 abbrev pub unless_dump : Option DumpFault → Option Offence → Option Offence
-unless_dump (Some fault) rest = Some (OfDump fault)
+unless_dump (Some fault) rest = Some (Dump fault)
 unless_dump None rest = rest
 
 -- after the dump's end, which this line is where the last argument is true, or after another line of it
@@ -78,12 +75,12 @@ after_command now before number line rest c true = after_dump now before number 
 after_command now before number line rest c false = rest (accepted now c) before
 
 abbrev pub after_line : Situation → List Reading → ℕ → List ℕ → Rest → Result Command ScriptFault → Option Offence
-after_line now before number line rest (Err fault) = Some (OfScript fault)
+after_line now before number line rest (Err fault) = Some (Script fault)
 after_line now before number line rest (Ok c) = after_command now before number line rest c (is_in_dump now.stage)
 
 abbrev pub at_end : Option ScriptFault → Option Offence
 at_end None = None
-at_end (Some fault) = Some (OfScript fault)
+at_end (Some fault) = Some (Script fault)
 
 -- the first offence of lines, the first of which has this number, where the text ends at this place
 abbrev pub offence_in : Place → ℕ → List (List ℕ) → Rest

@@ -7,9 +7,11 @@ use Rattle.mt_dump.specs.Line as dump
 use Rattle.mt_script.specs.Situation.{Situation}
 use Rattle.mt_script.specs.Numbers.{fault_at}
 use Rattle.mt_script.specs.Commands.{Answer, command_of}
-use Rattle.mt_script.specs.Script.{Offence, OfScript, OfDump, script_offence}
+use Rattle.mt_script.specs.Script.{script_offence}
 use Rattle.mt_script.specs.declared.command.Stage.{Stage}
 use Rattle.mt_script.specs.declared.fault.ScriptReason.{ScriptReason}
+use Rattle.mt_script.specs.declared.fault.Offence.{Offence}
+use Rattle.mt_script.specs.declared.fault.Offence.TheVariants.{Script, Dump}
 
 -- two processors of 36 bits with eight pairs and fixed ranges, and a window of sixteen lines from 1,024 on
 abbrev pub ready : Stage → Situation
@@ -32,10 +34,10 @@ abbrev pub offence_of_lines : List (List ℕ) → Option Offence
 offence_of_lines lines = script_offence (ended lines)
 
 abbrev pub script_fault : ScriptReason → ℕ → ℕ → Option Offence
-script_fault reason line column = Some (OfScript (fault_at reason (record { line = line; column = column })))
+script_fault reason line column = Some (Script (fault_at reason (record { line = line; column = column })))
 
 abbrev pub dump_fault : DumpReason → ℕ → ℕ → Option Offence
-dump_fault reason line column = Some (OfDump (dump.fault_at reason (record { line = line; column = column })))
+dump_fault reason line column = Some (Dump (dump.fault_at reason (record { line = line; column = column })))
 
 -- one processor, and a dump without pairs; these lines follow
 abbrev pub after_start : List (List ℕ) → List (List ℕ)
