@@ -63,17 +63,17 @@ listed WT = refl
 listed WP = refl
 listed WB = refl
 
-valid_bit : (x : ℕ) → is_bit_set (4096 * x + 2 ^ 11) 11 ≡ true
+pub valid_bit : (x : ℕ) → is_bit_set (4096 * x + 2 ^ 11) 11 ≡ true
 valid_bit x = eq-eqb ((4096 * x + 2 ^ 11) / 2 ^ 11 % 2 ^ 1) 1 (omega arith)
 
 low_is : (x byte : ℕ) → byte < 256 → low_byte (4096 * x + byte) ≡ byte
 low_is x byte small = omega arith
 
-type_is : (width : ℕ) (r : Range) → pair_type (pair_for width r) ≡ r.kind
+pub type_is : (width : ℕ) (r : Range) → pair_type (pair_for width r) ≡ r.kind
 type_is width r = ap listed_type (low_is r.first (byte_of_type r.kind) (small_byte r.kind)) ∙ listed r.kind
 
 -- the pair of a range matches its pages
-matches_is : (width : ℕ) → width ≤ 52 → (r : Range) → IsBlock width r → (page : ℕ) → page < 2 ^ (width - 12) → matches_pair width (pair_for width r) page ≡ holds_page r page
+pub matches_is : (width : ℕ) → width ≤ 52 → (r : Range) → IsBlock width r → (page : ℕ) → page < 2 ^ (width - 12) → matches_pair width (pair_for width r) page ≡ holds_page r page
 unfolding block_of_range
 matches_is width narrow r is page below =
     both (is_bit_set (pair_for width r).1 11) (covers width (pair_for width r) page) (valid_bit (2 ^ (width - 12) - 2 ^ r.log))

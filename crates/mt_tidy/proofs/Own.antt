@@ -1,6 +1,6 @@
 -- The types of an accepted file are supported, so its own runs can be wanted.
 use Rattle.std.proofs.Common.{◌≡◌, ◌≢◌, ℕ, zero, suc, ◌+◌, ◌-◌, ◌*◌, ◌/◌, ◌<◌, ◌==◌, Bool, true, false, List, [], ◌∷◌, length, map, Option, Some, None, refl, sym, ap, ◌∙◌, ◌⊎◌, inl, inr, arith, subst}
-use Rattle.std.specs.Prelude.{not, ◌&&◌, ◌||◌, nat_lt, if◌then◌else◌, slice_get, slice_index, slice_index_or}
+use Rattle.std.specs.Prelude.{◌↔◌, not, ◌&&◌, ◌||◌, nat_lt, if◌then◌else◌, slice_get, slice_index, slice_index_or}
 use Rattle.std.specs.Option.{option_or}
 use Rattle.std.specs.List.{AllByRecursion, filter, list_all, list_any}
 use Rattle.std.proofs.lemmas.Bool.{and_parts, cases_Bool, cases_lt, eqb-true, ltb-true, ltb-false}
@@ -263,6 +263,12 @@ module _ (f : RegisterFile) (accepted : IsAccepted f) (enabled : is_enabled f �
     none_shorter = λ ranges keeps allowed. least.none_shorter ranges (gives_of ranges keeps) allowed;
   }
 
+  least_for_of : (chunk count : ℕ) → IsLeast f chunk count → IsLeastFor f runs chunk count
+  least_for_of chunk count least = record {
+    some = (least.some.0, gives_of least.some.0 least.some.1, least.some.2, least.some.3);
+    none_shorter = λ ranges gives allowed. least.none_shorter ranges (keeps_of ranges gives) allowed;
+  }
+
   tidy_of : (chunk spare : ℕ) (new : RegisterFile) (used : ℕ) → IsTidied f runs chunk spare new used → IsTidy f chunk spare new used
   tidy_of chunk spare new used tidied = record {
     old_accepted = accepted;
@@ -298,6 +304,14 @@ module _ (f : RegisterFile) (accepted : IsAccepted f) (enabled : is_enabled f �
 pub tidy_file : (f : RegisterFile) → IsAccepted f → is_enabled f ≡ true → (runs : List Run) → IsRunsOf f runs
     → (chunk spare : ℕ) (new : RegisterFile) (used : ℕ) → IsTidied f runs chunk spare new used → IsTidy f chunk spare new used
 tidy_file = tidy_of
+
+pub keeps_is_gives : (f : RegisterFile) → IsAccepted f → is_enabled f ≡ true → (runs : List Run) → IsRunsOf f runs
+    → (ranges : List Range) → Keeps f ranges ↔ Gives f runs ranges
+keeps_is_gives f accepted enabled runs are ranges = (gives_of f accepted enabled runs are ranges, keeps_of f accepted enabled runs are ranges)
+
+pub least_is_least_for : (f : RegisterFile) → IsAccepted f → is_enabled f ≡ true → (runs : List Run) → IsRunsOf f runs
+    → (chunk count : ℕ) → IsLeast f chunk count ↔ IsLeastFor f runs chunk count
+least_is_least_for f accepted enabled runs are chunk count = (least_for_of f accepted enabled runs are chunk count, least_of f accepted enabled runs are chunk count)
 
 pub needs_more : (f : RegisterFile) → IsAccepted f → is_enabled f ≡ true → (runs : List Run) → IsRunsOf f runs
     → (chunk spare needs has : ℕ) → IsTooFew f runs chunk spare needs has → NeedsMore f chunk spare needs has

@@ -3,3 +3,4 @@ pub mod ContextLaws
 pub mod Joins
 pub mod OverRuns
 pub mod WishLaws
+mod TwoRuns

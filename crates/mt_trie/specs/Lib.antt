@@ -1,3 +1,4 @@
 pub mod Contexts
 pub mod RunWishes
 pub mod Wishes
+pub mod WorkedRuns
