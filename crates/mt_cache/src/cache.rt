@@ -2,11 +2,11 @@ ghost use Rattle.std.specs.Prelude.{◌≡◌, ℕ, ◌<◌, ◌≤◌, List, []
 ghost use Rattle.std.specs.List.{All, position};
 ghost use Rattle.std.specs.Option.{option_map};
 ghost use Rattle.mt_cache.specs.declared.line.CacheLine.{CacheLine};
-ghost use Rattle.mt_cache.specs.Lines.{AreDistinct, IsLine, clean_word, find_line, first_dirty_line, first_dirty_word, has_number, oldest_of_full, without_line};
+ghost use Rattle.mt_cache.specs.Lines.{AreDistinct, IsLine, clean_line, clean_word, find_line, first_dirty_line, first_dirty_word, has_number, oldest_of_full, without_line};
 ghost use Rattle.mt_cache.specs.Calls.{AreLines, change_at, clean_line_of, has_dirty_word, with_room, write_word};
 
 use crate::line::CacheLine;
-use crate::places::{add, clean_at, first_with_dirty, place_of, put_at, take_at};
+use crate::places::{add, clean_at, clean_line_at, first_with_dirty, place_of, put_at, take_at};
 use crate::words::first_word;
 use arrayvec::ArrayVec;
 use std::marker::Model;
@@ -88,6 +88,14 @@ impl Cache {
         ensures { self.new ≡ change_at i (clean_word word) self.old }
     {
         clean_at(&mut self.lines, i, word);
+    }
+
+    /// Clears the dirty bits of all words of the line at a place.
+    pub fn clean(&mut self, i: usize)
+        requires { i < length self.old }
+        ensures { self.new ≡ change_at i clean_line self.old }
+    {
+        clean_line_at(&mut self.lines, i);
     }
 
     /// Takes out the line at a place.

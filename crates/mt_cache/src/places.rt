@@ -1,11 +1,11 @@
 ghost use Rattle.std.specs.Prelude.{◌≡◌, ℕ, ◌<◌, [], ◌∷◌, ◌++◌, length, slice_get, None, Some};
 ghost use Rattle.std.specs.List.{position};
 ghost use Rattle.mt_cache.specs.declared.line.CacheLine.{CacheLine};
-ghost use Rattle.mt_cache.specs.Lines.{IsLine, clean_word, find_line, has_number, oldest_of_full, without_line};
+ghost use Rattle.mt_cache.specs.Lines.{IsLine, clean_line, clean_word, find_line, has_number, oldest_of_full, without_line};
 ghost use Rattle.mt_cache.specs.Calls.{AreLines, change_at, has_dirty_word, with_room, write_word};
 
 use crate::line::CacheLine;
-use crate::words::{clean, first_word, put};
+use crate::words::{clean, clean_all, first_word, put};
 use arrayvec::ArrayVec;
 
 /// The place of the line of this number.
@@ -48,6 +48,16 @@ pub(crate) fn clean_at<const N: usize>(lines: &mut ArrayVec<CacheLine, N>, i: us
     ensures kept { AreLines lines.new.items }
 {
     clean(&mut lines.as_mut_slice()[i], word);
+}
+
+/// Clears all dirty bits of the line at a place.
+pub(crate) fn clean_line_at<const N: usize>(lines: &mut ArrayVec<CacheLine, N>, i: usize)
+    requires kept { AreLines lines.old.items }
+    requires place { i < length lines.old.items }
+    ensures lines { lines.new.items ≡ change_at i clean_line lines.old.items }
+    ensures kept { AreLines lines.new.items }
+{
+    clean_all(&mut lines.as_mut_slice()[i]);
 }
 
 /// Takes out the line at a place.

@@ -2,7 +2,7 @@ ghost use Rattle.std.specs.Prelude.{◌≡◌, ℕ, ◌<◌, ◌==◌, replicate
 ghost use Rattle.std.specs.List.{find};
 ghost use Rattle.mt_kinds.specs.Bits.{is_bit_set};
 ghost use Rattle.mt_cache.specs.declared.line.CacheLine.{CacheLine};
-ghost use Rattle.mt_cache.specs.Lines.{IsLine, clean_word, eight, write_dirty};
+ghost use Rattle.mt_cache.specs.Lines.{IsLine, clean_line, clean_word, eight, write_dirty};
 ghost use Rattle.mt_cache.specs.Calls.{clean_line_of, write_word};
 
 use crate::line::CacheLine;
@@ -14,6 +14,14 @@ pub(crate) fn clean(line: &mut CacheLine, word: u8)
     ensures whole { IsLine line.new }
 {
     line.dirty &= 255 - (1 << word);
+}
+
+/// Clears all dirty bits.
+pub(crate) fn clean_all(line: &mut CacheLine)
+    ensures line { line.new ≡ clean_line line.old }
+    ensures whole { IsLine line.new }
+{
+    line.dirty = 0;
 }
 
 /// Writes a word and its dirty bit.
