@@ -1,13 +1,8 @@
-// A library with one function.
+//! Processors over one memory: their accesses and control instructions, with all snoops.
 #![tactic(auto)]
 
-ghost use Rattle.std.specs.Prelude.{◌≡◌};
-ghost use Rattle.mt_bus.specs.Echo.{echo_of};
-
-// The `ensures` clause is the contract: what `echo` returns is `echo_of` of its argument, a definition
-// in `specs/Echo.antt`, which a caller's clause can cite too.
-pub fn echo(x: usize) -> usize
-    ensures { result ≡ echo_of x }
-{
-    x
-}
+mod buffers;
+mod copies;
+mod fills;
+mod snoops;
+mod words;

@@ -1,0 +1,4 @@
+mod Emptying
+mod Lines
+mod Places
+mod Rooms

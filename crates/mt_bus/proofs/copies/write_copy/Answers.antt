@@ -1,0 +1,12 @@
+use Rattle.std.proofs.Common.{◌≡◌, ◌∙◌, ap, sym, subst, List}
+use Rattle.mt_cache.specs.declared.line.CacheLine.{CacheLine}
+use Rattle.mt_bus.proofs.Lines.{back_absent, back_at}
+use Rattle.mt_bus.proofs.copies.write_copy.Goals as goal
+
+pub returns-in-Some : goal.returns-in-Some
+returns-in-Some c =
+    c.write_back.ensures
+    ∙ sym (back_at c.args.number c.in-Some.i c.args.ram.now c.args.cache.now c.lines-lines.result.now _ c.lines-lines.ensures.value c.lines-lines.ensures.distinct c.in-Some.ensures.place c.in-Some.ensures.line)
+
+pub returns-in_default : goal.returns-in_default
+returns-in_default c = sym (back_absent c.args.number c.args.ram.now c.args.cache.now c.lines-lines.ensures.distinct c.in_default.ensures.absent)

@@ -1,0 +1,24 @@
+-- A system by its parts.
+use Rattle.std.specs.Prelude.{ℕ, List, [], slice_get, slice_set}
+use Rattle.std.specs.List.{fold}
+use Rattle.std.specs.Option.{option_map_or}
+use Rattle.mt_cache.specs.declared.line.CacheLine.{CacheLine}
+use Rattle.mt_machine.specs.Memory.{Memory, write_back_of}
+use Rattle.mt_machine.specs.System.{Processor, System}
+
+abbrev pub system : List Processor → Memory → System
+system ps m = record { processors = ps; memory = m }
+
+-- processor k as f makes it
+abbrev pub with_changed : (Processor → Processor) → ℕ → List Processor → List Processor
+with_changed f k ps = option_map_or (λ p. slice_set ps k (f p)) (slice_get ps k) ps
+
+-- the dirty words of the line in these caches go to memory
+abbrev pub written_back : ℕ → Memory → List Processor → Memory
+written_back n m ps = fold (λ v p. write_back_of n v p.lines) m ps
+
+abbrev pub lines_in : ℕ → List Processor → List CacheLine
+lines_in k ps = option_map_or (λ p. p.lines) (slice_get ps k) []
+
+abbrev pub buffers_in : ℕ → List Processor → List CacheLine
+buffers_in k ps = option_map_or (λ p. p.buffers) (slice_get ps k) []

@@ -1,0 +1,38 @@
+ghost use Rattle.std.specs.Prelude.{◌≡◌};
+ghost use Rattle.mt_cache.specs.declared.line.CacheLine.{CacheLine};
+ghost use Rattle.mt_cache.specs.Lines.{change_line, clean_line, without_line};
+ghost use Rattle.mt_machine.specs.Memory.{write_back_of};
+
+use crate::words::write_back;
+use mt_cache::Cache;
+use mt_ram::Ram;
+
+/// Writes the dirty words of a cache's copy of a line to memory.
+pub(crate) fn write_copy(cache: &Cache, ram: &mut Ram, number: u64)
+    ensures { ram.new ≡ write_back_of number ram.old cache.now }
+{
+    let lines = cache.lines();
+    if let Some(i) = cache.find(number) {
+        write_back(ram, &lines[i]);
+    }
+}
+
+/// Writes the dirty words of a cache's copy of a line to memory. The copy stays, clean.
+pub(crate) fn clean_copy(cache: &mut Cache, ram: &mut Ram, number: u64)
+    ensures cache { cache.new ≡ change_line number clean_line cache.old }
+    ensures ram { ram.new ≡ write_back_of number ram.old cache.old }
+{
+    write_copy(cache, ram, number);
+    if let Some(i) = cache.find(number) {
+        cache.clean(i);
+    }
+}
+
+/// Drops a cache's copy of a line.
+pub(crate) fn drop_copy(cache: &mut Cache, number: u64)
+    ensures { cache.new ≡ without_line number cache.old }
+{
+    if let Some(i) = cache.find(number) {
+        let _ = cache.invalidate(i);
+    }
+}
