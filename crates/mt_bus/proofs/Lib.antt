@@ -1,3 +1,4 @@
+mod Combining
 mod Emptying
 mod Lines
 mod Places

@@ -1,8 +1,9 @@
 -- A system by its parts.
-use Rattle.std.specs.Prelude.{ℕ, List, [], slice_get, slice_set}
+use Rattle.std.specs.Prelude.{ℕ, List, [], slice_get, slice_set, if◌then◌else◌, Option, None, is_some}
 use Rattle.std.specs.List.{fold}
 use Rattle.std.specs.Option.{option_map_or}
 use Rattle.mt_cache.specs.declared.line.CacheLine.{CacheLine}
+use Rattle.mt_cache.specs.Lines.{find_line, oldest_of_full}
 use Rattle.mt_machine.specs.Memory.{Memory, write_back_of}
 use Rattle.mt_machine.specs.System.{Processor, System}
 
@@ -22,3 +23,7 @@ lines_in k ps = option_map_or (λ p. p.lines) (slice_get ps k) []
 
 abbrev pub buffers_in : ℕ → List Processor → List CacheLine
 buffers_in k ps = option_map_or (λ p. p.buffers) (slice_get ps k) []
+
+-- the buffer that gives way before a word of a line is combined: the oldest of four, where the line has none
+abbrev pub giving_way : ℕ → List CacheLine → Option CacheLine
+giving_way n bs = if is_some (find_line n bs) then None else oldest_of_full 4 bs
