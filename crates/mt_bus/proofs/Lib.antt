@@ -1,5 +1,6 @@
 mod Combining
 mod Emptying
 mod Lines
+mod Misses
 mod Places
 mod Rooms

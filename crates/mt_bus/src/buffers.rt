@@ -30,7 +30,8 @@ fn buffer_at(cpus: &[Cpu], k: usize, i: usize) -> CacheLine
     cpus[k].buffers().lines()[i]
 }
 
-fn line_of(lines: &[CacheLine], number: u64) -> Option<CacheLine>
+/// The line of a number.
+pub(crate) fn line_of(lines: &[CacheLine], number: u64) -> Option<CacheLine>
     ensures { result ≡ find_line number lines.now }
 {
     for line in lines {

@@ -4,5 +4,7 @@
 mod buffers;
 mod copies;
 mod fills;
+mod loads;
 mod snoops;
+mod stores;
 mod words;
