@@ -4,3 +4,4 @@ mod Lines
 mod Misses
 mod Places
 mod Rooms
+mod Translated

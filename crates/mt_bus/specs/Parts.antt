@@ -1,13 +1,17 @@
 -- A system by its parts.
-use Rattle.std.specs.Prelude.{ℕ, ◌/◌, Bool, true, List, [], slice_get, slice_set, if◌then◌else◌, Option, None, is_some}
+use Rattle.std.specs.Prelude.{ℕ, ◌/◌, Bool, true, false, List, [], slice_get, slice_set, if◌then◌else◌, Option, None, is_some}
 use Rattle.std.specs.List.{fold}
 use Rattle.std.specs.Option.{option_map_or}
 use Rattle.mt_cache.specs.declared.line.CacheLine.{CacheLine}
 use Rattle.mt_cache.specs.Lines.{find_line, oldest_of_full}
+use Rattle.mt_tlb.specs.declared.mapping.Mapping.{Mapping}
+use Rattle.mt_machine.specs.declared.done.Done.{Done}
+use Rattle.mt_machine.specs.declared.ruled.Ruled.{Ruled}
+use Rattle.mt_machine.specs.Control.{RuledAfter}
 use Rattle.mt_machine.specs.Memory.{Memory, write_back_of}
 use Rattle.mt_kinds.specs.declared.mem_type.MemType.{MemType}
 use Rattle.mt_tlb.specs.declared.entry.Entry.{Entry}
-use Rattle.mt_machine.specs.Access.{entry_of, is_cached}
+use Rattle.mt_machine.specs.Access.{Answered, entry_of, is_cached, is_running}
 use Rattle.mt_machine.specs.System.{Processor, System}
 
 abbrev pub system : List Processor → Memory → System
@@ -41,3 +45,15 @@ entry_in k address ps = option_map_or (λ p. entry_of p (address / 4096)) (slice
 
 abbrev pub cache_disabled_in : ℕ → List Processor → Bool
 cache_disabled_in k ps = option_map_or (λ p. p.cache_disabled) (slice_get ps k) true
+
+abbrev pub is_running_in : ℕ → List Processor → Bool
+is_running_in k ps = option_map_or (λ p. is_running p.phase) (slice_get ps k) false
+
+abbrev pub answered : Done → System → Answered
+answered d s = record { answer = d; after = s }
+
+abbrev pub mappings_in : ℕ → List Processor → List Mapping
+mappings_in k ps = option_map_or (λ p. p.mappings) (slice_get ps k) []
+
+abbrev pub ruled : Ruled → System → RuledAfter
+ruled r s = record { answer = r; after = s }

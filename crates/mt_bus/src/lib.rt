@@ -1,10 +1,16 @@
 //! Processors over one memory: their accesses and control instructions, with all snoops.
 #![tactic(auto)]
 
+mod accesses;
 mod buffers;
+mod controls;
 mod copies;
 mod fills;
 mod loads;
 mod snoops;
 mod stores;
+mod system;
 mod words;
+
+pub use mt_machine::{Control, Done, Op, Ruled};
+pub use system::System;

@@ -1,0 +1,29 @@
+-- A processor whose translation fills an entry.
+use Rattle.std.proofs.Common.{◌≡◌, ◌∙◌, ap, sym, refl, arith, ℕ, zero, suc, ◌/◌, Bool, true, false, if◌then◌else◌, IsTrue, List, [], ◌∷◌, Option, None, Some, is_some, slice_get, slice_set}
+use Rattle.std.specs.Option.{option_map, option_map_or}
+use Rattle.mt_kinds.specs.declared.mem_type.MemType.{MemType}
+use Rattle.mt_tlb.specs.declared.entry.Entry.{Entry}
+use Rattle.mt_machine.specs.declared.op.Op.{Op}
+use Rattle.mt_machine.specs.declared.op.Op.TheVariants.{Load, Store}
+use Rattle.mt_machine.specs.declared.done.Done.TheVariants.{Busy, NoRam, Stored, Unmapped}
+use Rattle.mt_machine.specs.Memory.{Memory, place}
+use Rattle.mt_machine.specs.System.{Processor, System, change}
+use Rattle.mt_machine.specs.Access.{Answered, access, access_at, entry_of, is_running, keep_entry, load, physical, store, translated, value_answer}
+use Rattle.mt_bus.specs.Parts.{answered, entry_in, is_running_in, system, with_changed}
+use Rattle.mt_bus.proofs.Combining.{change_parts}
+
+set_same : (ps : List Processor) (k : ℕ) (p : Processor) → slice_get ps k ≡ Some p → slice_set ps k p ≡ ps
+set_same [] k p at = absurd (cc)
+set_same (x ∷ ps) zero p at = let e : p ≡ x = cc in ap (λ q. q ∷ ps) e
+set_same (x ∷ ps) (suc k) p at = ap (λ qs. x ∷ qs) (set_same ps k p at)
+
+pub entered : (ps : List Processor) (k va : ℕ) (p q : Processor) → slice_get ps k ≡ Some p → q ≡ option_map_or (λ e. keep_entry e p) (entry_of p (va / 4096)) p
+    → slice_set ps k q ≡ option_map_or (λ e. with_changed (keep_entry e) k ps) (entry_in k va ps) ps
+entered ps k va p q at made =
+    ap (slice_set ps k) made
+    ∙ one (entry_of p (va / 4096))
+    ∙ ap (λ o. option_map_or (λ e. with_changed (keep_entry e) k ps) o ps) (sym (ap (λ o. option_map_or (λ (x : Processor). entry_of x (va / 4096)) o None) at))
+  where
+    one : (o : Option Entry) → slice_set ps k (option_map_or (λ e. keep_entry e p) o p) ≡ option_map_or (λ e. with_changed (keep_entry e) k ps) o ps
+    one None = set_same ps k p at
+    one (Some e) = sym (ap (λ o. option_map_or (λ x. slice_set ps k (keep_entry e x)) o ps) at)

@@ -1,0 +1,105 @@
+ghost use Rattle.std.specs.Prelude.{◌≡◌, ◌<◌, ◌/◌, length, slice_get, is_err, OnOk, OnErr, Some, IsTrue};
+ghost use Rattle.mt_tlb.specs.Entries.{is_full_for, set_mapping};
+ghost use Rattle.mt_machine.specs.Machine.{FitsControl};
+ghost use Rattle.mt_machine.specs.System.{Processor};
+ghost use Rattle.mt_machine.specs.Control.{control, drop_page, reload_cr3, set_page_global};
+ghost use Rattle.mt_bus.specs.Parts.{is_running_in, mappings_in, ruled, system, with_changed};
+
+use crate::accesses::is_running;
+use crate::buffers::drain;
+use mt_cpu::Cpu;
+use mt_machine::{Control, Ruled};
+use mt_ram::Ram;
+use mt_tlb::{Full, Mapping};
+
+/// The bytes of a page.
+const PAGE_BYTES: u64 = 4096;
+
+fn map(cpus: &mut [Cpu], k: usize, x: Mapping) -> Result<(), Full>
+    requires processor { k < length cpus.old }
+    requires fits { (p : Processor) → slice_get cpus.old k ≡ Some p → FitsControl p (Control.Map x) }
+    ensures full { is_err result ≡ is_full_for x (mappings_in k cpus.old) }
+    ensures done { OnOk result (cpus.new ≡ with_changed (λ p. record p { mappings = set_mapping x p.mappings }) k cpus.old) }
+    ensures kept { OnErr result (cpus.new ≡ cpus.old) }
+{
+    let cpu = &mut cpus[k];
+    match cpu.map(x) {
+        Ok(()) => Ok(()),
+        Err(Full) => Err(Full),
+    }
+}
+
+fn invlpg(cpus: &mut [Cpu], k: usize, va: u64)
+    requires { k < length cpus.old }
+    ensures { cpus.new ≡ with_changed (drop_page (va / 4096)) k cpus.old }
+{
+    let cpu = &mut cpus[k];
+    cpu.invlpg(va / PAGE_BYTES);
+}
+
+fn reload_cr3(cpus: &mut [Cpu], k: usize)
+    requires { k < length cpus.old }
+    ensures { cpus.new ≡ with_changed reload_cr3 k cpus.old }
+{
+    let cpu = &mut cpus[k];
+    cpu.reload_cr3();
+}
+
+fn set_pge(cpus: &mut [Cpu], k: usize, on: bool)
+    requires { k < length cpus.old }
+    ensures { cpus.new ≡ with_changed (set_page_global on) k cpus.old }
+{
+    let cpu = &mut cpus[k];
+    cpu.set_pge(on);
+}
+
+fn set_cd(cpus: &mut [Cpu], k: usize, on: bool)
+    requires { k < length cpus.old }
+    ensures { cpus.new ≡ with_changed (λ p. record p { cache_disabled = on }) k cpus.old }
+{
+    let cpu = &mut cpus[k];
+    cpu.set_cd(on);
+}
+
+fn map_at(cpus: &mut [Cpu], ram: &Ram, k: usize, x: Mapping) -> Ruled
+    requires processor { k < length cpus.old }
+    requires running { IsTrue (is_running_in k cpus.old) }
+    requires fits { (p : Processor) → slice_get cpus.old k ≡ Some p → FitsControl p (Control.Map x) }
+    ensures { ruled result (system cpus.new ram.now) ≡ control (system cpus.old ram.now) k (Control.Map x) }
+{
+    match map(cpus, k, x) {
+        Ok(()) => Ruled::Okay,
+        Err(Full) => Ruled::Full,
+    }
+}
+
+/// One control instruction of one processor.
+pub(crate) fn control(cpus: &mut [Cpu], ram: &mut Ram, k: usize, c: Control) -> Ruled
+    requires processor { k < length cpus.old }
+    requires fits { (p : Processor) → slice_get cpus.old k ≡ Some p → FitsControl p c }
+    ensures { ruled result (system cpus.new ram.new) ≡ control (system cpus.old ram.old) k c }
+{
+    if !is_running(cpus, k) {
+        return Ruled::Busy;
+    }
+    match c {
+        Control::Map(x) => return map_at(cpus, ram, k, x),
+        Control::Invlpg(va) => {
+            drain(cpus, ram, k);
+            invlpg(cpus, k, va);
+        }
+        Control::Cr3 => {
+            drain(cpus, ram, k);
+            reload_cr3(cpus, k);
+        }
+        Control::Pge(on) => {
+            drain(cpus, ram, k);
+            set_pge(cpus, k, on);
+        }
+        Control::Cd(on) => {
+            drain(cpus, ram, k);
+            set_cd(cpus, k, on);
+        }
+    }
+    Ruled::Okay
+}
