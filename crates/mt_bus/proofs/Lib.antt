@@ -1,5 +1,6 @@
 mod Combining
 mod Emptying
+mod Grown
 mod Lines
 mod Misses
 mod Places

@@ -1,15 +1,24 @@
-ghost use Rattle.std.specs.Prelude.{◌≡◌, ◌<◌, length};
-ghost use Rattle.mt_machine.specs.System.{IsSound};
+ghost use Rattle.std.specs.Prelude.{◌≡◌, ◌<◌, ◌≤◌, ◌+◌, ◌*◌, ◌^◌, [], length, replicate, slice_get, IfOk, OnOk, OnErr, Some};
+ghost use Rattle.mt_regs.specs.Faults.{IsAccepted};
+ghost use Rattle.mt_ram.specs.Windows.{refusal, refusal_in, window, with_window};
+ghost use Rattle.mt_machine.specs.System.{Processor, start_processor};
+ghost use Rattle.mt_machine.specs.Start.{start_machine};
+ghost use Rattle.mt_machine.specs.Machine.{FitsControl};
+ghost use Rattle.mt_machine.specs.Control.{control};
 ghost use Rattle.mt_machine.specs.Bus.{drain};
 ghost use Rattle.mt_machine.specs.Access.{access};
-ghost use Rattle.mt_bus.specs.Parts.{answered};
+ghost use Rattle.mt_bus.specs.Parts.{answered, ruled};
 
 use crate::accesses;
 use crate::buffers;
+use crate::controls;
 use mt_cpu::Cpu;
-use mt_laws::accesses_keep_sound;
-use mt_machine::{Done, Op};
-use mt_ram::Ram;
+use mt_laws::{accesses_keep_sound, start_is_quiet};
+use mt_machine::{Control, Done, Op, Ruled};
+use mt_ports::NoMemory;
+use mt_ram::{Ram, RamFault};
+use mt_regs::RegFile;
+use std::alloc::Global;
 use std::marker::Model;
 
 /// Processors over one memory. Caches and memory agree, and each cached or buffered line lies in
@@ -30,7 +39,87 @@ impl Model for System {
     ghost invariant = { λ s. IsSound (record { processors = s.cpus.items; memory = s.ram }) };
 }
 
+// So many processors at the start, with the same registers.
+fn start_cpus(alloc: Global, count: u32, regs: &RegFile) -> Result<Vec<Cpu>, NoMemory>
+    requires { IsAccepted regs.now }
+    ensures { IfOk result (λ cpus. cpus.items ≡ replicate count (start_processor regs.now)) }
+{
+    let mut cpus = Vec::new(alloc);
+    for _i in 0..count {
+        if cpus.push(Cpu::new(regs.same())).is_err() {
+            return Err(NoMemory);
+        }
+    }
+    Ok(cpus)
+}
+
 impl System {
+    /// So many processors that run with the same registers, over memory without windows. The
+    /// error comes only where the allocator has no room.
+    pub fn new(alloc: Global, cpus: u32, regs: &RegFile) -> Result<System, NoMemory>
+        requires some { 0 < cpus }
+        requires few { cpus ≤ 16 }
+        requires accepted { IsAccepted regs.now }
+        ensures { IfOk result (λ s. s ≡ (start_machine cpus regs.now []).system) }
+    {
+        start_is_quiet();
+        regs.is_register_file();
+        let cpus = start_cpus(alloc, cpus, regs)?;
+        let ram = Ram::new(alloc);
+        Ok(System { cpus, ram })
+    }
+
+    /// Adds a window of zero words to the memory, from an address in bytes on.
+    ///
+    /// # Errors
+    ///
+    /// Those of `Ram::add`; nothing then changes.
+    pub fn add_ram(&mut self, base: u64, lines: u32) -> Result<(), RamFault>
+        requires some { 0 < lines }
+        requires few { lines ≤ 4096 }
+        requires end { base + 64 * lines ≤ 2 ^ 52 }
+        ensures refused { refusal_in result ≡ refusal self.old.memory.windows (window base lines) }
+        ensures added { OnOk result (self.new ≡ record self.old { memory = with_window (window base lines) self.old.memory }) }
+        ensures kept { OnErr result (self.new ≡ self.old) }
+    {
+        self.ram.add(base, lines)?;
+        let _ = self.ram.words();
+        Ok(())
+    }
+
+    /// The number of processors.
+    pub fn count(&self) -> usize
+        ensures { result ≡ length self.now.processors }
+    {
+        self.cpus.len()
+    }
+
+    /// A processor, for reading.
+    pub fn cpu(&self, k: u32) -> &Cpu
+        requires { k < length self.now.processors }
+        ensures { slice_get self.now.processors k ≡ Some result.now }
+    {
+        &self.cpus[k as usize]
+    }
+
+    /// The memory, for reading.
+    pub fn ram(&self) -> &Ram
+        ensures { result.now ≡ self.now.memory }
+    {
+        &self.ram
+    }
+
+    /// One control instruction of a processor. A mapping that is set has an index below 8, a
+    /// physical page of the processor and a virtual page below 2^36.
+    pub fn control(&mut self, k: u32, c: Control) -> Ruled
+        requires processor { k < length self.old.processors }
+        requires fits { (p : Processor) → slice_get self.old.processors k ≡ Some p → FitsControl p c }
+        ensures { ruled result self.new ≡ control self.old k c }
+    {
+        accesses_keep_sound();
+        controls::control(self.cpus.as_mut_slice(), &mut self.ram, k as usize, c)
+    }
+
     /// One access of a processor, an address being in bytes.
     pub fn access(&mut self, k: u32, op: Op) -> Done
         requires { k < length self.old.processors }

@@ -1,1 +1,1 @@
-mod Windows
+pub mod Windows
