@@ -99,12 +99,12 @@ room_after n (x ∷ xs) b is = one (length xs + 1 == 4) refl is
     one : (y : Bool) → (length xs + 1 == 4) ≡ y → (if y then Some x else None) ≡ Some b → giving_way n (without_line b.number (x ∷ xs)) ≡ None
     one false full e = absurd (cc)
     one true full e =
-      let same : x ≡ b = cc in
-      let long = eqb-true _ _ full in
-      let out : without_line b.number (x ∷ xs) ≡ without_line b.number xs =
-      ap (λ z. if not z then x ∷ without_line b.number xs else without_line b.number xs) (eq-eqb x.number b.number (ap (λ (y : CacheLine). y.number) same)) in
-      let shorter = filter_shorter (λ (y : CacheLine). not (y.number == b.number)) xs in
-      ap (giving_way n) out ∙ no_way n (without_line b.number xs) (few_none (without_line b.number xs) (omega arith))
+        let same : x ≡ b = cc in
+        let long = eqb-true _ _ full in
+        let out : without_line b.number (x ∷ xs) ≡ without_line b.number xs =
+        ap (λ z. if not z then x ∷ without_line b.number xs else without_line b.number xs) (eq-eqb x.number b.number (ap (λ (y : CacheLine). y.number) same)) in
+        let shorter = filter_shorter (λ (y : CacheLine). not (y.number == b.number)) xs in
+        ap (giving_way n) out ∙ no_way n (without_line b.number xs) (few_none (without_line b.number xs) (omega arith))
 
 buffers_changed : (f : List CacheLine → List CacheLine) (ps : List Processor) (k : ℕ) → k < length ps → buffers_in k (with_changed (with_buffers f) k ps) ≡ f (buffers_in k ps)
 buffers_changed f [] k within = absurd (omega arith)
@@ -129,15 +129,15 @@ pub gives_way : (k n : ℕ) (ps qs rs : List Processor) (m v : Memory) (b : Cach
     → system qs v ≡ empty_buffer (system ps m) b → rs ≡ with_changed (with_buffers (without_line b.number)) k qs → GivesWay k n ps qs rs m v
 gives_way k n ps qs rs m v b within way emptied dropped = record {
   after =
-    ap (λ xs. system xs v) dropped
-    ∙ sym (change_parts (with_buffers (without_line b.number)) k qs v)
-    ∙ ap (change (with_buffers (without_line b.number)) k) emptied
-    ∙ sym (room_is k n (system ps m) ∙ ap (λ o. option_map_or (λ c. change (with_buffers (without_line c.number)) k (empty_buffer (system ps m) c)) o (system ps m)) way);
+      ap (λ xs. system xs v) dropped
+      ∙ sym (change_parts (with_buffers (without_line b.number)) k qs v)
+      ∙ ap (change (with_buffers (without_line b.number)) k) emptied
+      ∙ sym (room_is k n (system ps m) ∙ ap (λ o. option_map_or (λ c. change (with_buffers (without_line c.number)) k (empty_buffer (system ps m) c)) o (system ps m)) way);
   room =
-    ap (λ xs. giving_way n (buffers_in k xs)) dropped
-    ∙ ap (giving_way n) (buffers_changed (without_line b.number) qs k within)
-    ∙ ap (λ bs. giving_way n (without_line b.number bs)) (ap (λ (s : System). buffers_of s k) emptied ∙ kept_buffers (system ps m) b k)
-    ∙ room_after n (buffers_in k ps) b (way_is_oldest n (buffers_in k ps) b way);
+      ap (λ xs. giving_way n (buffers_in k xs)) dropped
+      ∙ ap (giving_way n) (buffers_changed (without_line b.number) qs k within)
+      ∙ ap (λ bs. giving_way n (without_line b.number bs)) (ap (λ (s : System). buffers_of s k) emptied ∙ kept_buffers (system ps m) b k)
+      ∙ room_after n (buffers_in k ps) b (way_is_oldest n (buffers_in k ps) b way);
 }
 
 pub none_gives_way : (k n : ℕ) (s : System) → giving_way n (buffers_of s k) ≡ None → make_buffer_room k n s ≡ s
@@ -190,6 +190,7 @@ whole_is k n s js is =
         ≡ option_map_or (λ c. change (with_buffers (without_line n)) k (empty_buffer s c)) (if x then Some b else None) s
     two b true = refl
     two b false = refl
+
     one : (o : Option CacheLine)
         → option_map_or (λ (b : CacheLine). if b.dirty == 0xff then option_map_or (λ c. change (with_buffers (without_line n)) k (empty_buffer s c)) o s else s) o s
         ≡ option_map_or (λ c. change (with_buffers (without_line n)) k (empty_buffer s c)) (option_map_or (λ (b : CacheLine). if b.dirty == 0xff then Some b else None) o None) s
@@ -221,9 +222,6 @@ abbrev pub emptied_if : System → Option CacheLine → System
 emptied_if s o = option_map_or (λ b. empty_buffer s b) o s
 
 module _ (k n word v : ℕ) (ps : List Processor) (m : Memory) (p : Processor) (within : word < 8) (at : slice_get ps k ≡ Some p) (none : giving_way n p.buffers ≡ None) where
-
-
-
   joined_there : slice_get (slice_set ps k (join_word n word v p)) k ≡ Some (join_word n word v p)
   joined_there = set_there ps k p (join_word n word v p) at
 
@@ -232,25 +230,25 @@ module _ (k n word v : ℕ) (ps : List Processor) (m : Memory) (p : Processor) (
       ≡ option_map_or (λ b. change (with_buffers (without_line n)) k (empty_buffer (system (slice_set ps k (join_word n word v p)) m) b)) o (system (slice_set ps k (join_word n word v p)) m)
   cases None = refl
   cases (Some b) =
-    let once : with_changed (with_buffers (without_line n)) k (slice_set ps k (join_word n word v p)) ≡ slice_set ps k (record p { buffers = without_line n (combined_with n word v p.era p.buffers) }) =
-    ap (λ o. option_map_or (λ q. slice_set (slice_set ps k (join_word n word v p)) k (with_buffers (without_line n) q)) o (slice_set ps k (join_word n word v p))) joined_there
-    ∙ set-set ps k (join_word n word v p) (with_buffers (without_line n) (join_word n word v p)) in
-    ap (λ qs. empty_buffer (system qs m) b) (sym once) ∙ emptied_changed (without_line n) k b (slice_set ps k (join_word n word v p)) m
+      let once : with_changed (with_buffers (without_line n)) k (slice_set ps k (join_word n word v p)) ≡ slice_set ps k (record p { buffers = without_line n (combined_with n word v p.era p.buffers) }) =
+      ap (λ o. option_map_or (λ q. slice_set (slice_set ps k (join_word n word v p)) k (with_buffers (without_line n) q)) o (slice_set ps k (join_word n word v p))) joined_there
+      ∙ set-set ps k (join_word n word v p) (with_buffers (without_line n) (join_word n word v p)) in
+      ap (λ qs. empty_buffer (system qs m) b) (sym once) ∙ emptied_changed (without_line n) k b (slice_set ps k (join_word n word v p)) m
 
   at_one : emptied_if (system (with_changed (left_after n word v) k ps) m) (out_of k n word v ps) ≡ empty_if_whole k n (change (join_word n word v) k (system ps m))
   at_one =
-    let left : with_changed (left_after n word v) k ps
-        ≡ slice_set ps k (record p { buffers = if is_some (full_buffer n (combined_with n word v p.era p.buffers)) then without_line n (combined_with n word v p.era p.buffers) else combined_with n word v p.era p.buffers }) =
-    ap (λ o. option_map_or (λ q. slice_set ps k (left_after n word v q)) o ps) at ∙ ap (λ ls. slice_set ps k (record p { buffers = ls })) (left_is n word v p.era p.buffers none) in
-    let out : out_of k n word v ps ≡ full_buffer n (combined_with n word v p.era p.buffers) =
-    ap (λ o. option_map_or (λ (q : Processor). handed_back n word v q.era q.buffers) o None) at ∙ out_is n word v p.era p.buffers within none in
-    let now : change (join_word n word v) k (system ps m) ≡ system (slice_set ps k (join_word n word v p)) m =
-    ap (λ o. option_map_or (λ q. system (slice_set ps k (join_word n word v q)) m) o (system ps m)) at in
-    ap (λ qs. emptied_if (system qs m) (out_of k n word v ps)) left
-    ∙ ap (emptied_if (system (slice_set ps k (record p { buffers = if is_some (full_buffer n (combined_with n word v p.era p.buffers)) then without_line n (combined_with n word v p.era p.buffers) else combined_with n word v p.era p.buffers })) m)) out
-    ∙ cases (full_buffer n (combined_with n word v p.era p.buffers))
-    ∙ sym (whole_is k n (system (slice_set ps k (join_word n word v p)) m) (combined_with n word v p.era p.buffers) (ap (λ o. option_map_or (λ (q : Processor). q.buffers) o []) joined_there))
-    ∙ ap (empty_if_whole k n) (sym now)
+      let left : with_changed (left_after n word v) k ps
+      ≡ slice_set ps k (record p { buffers = if is_some (full_buffer n (combined_with n word v p.era p.buffers)) then without_line n (combined_with n word v p.era p.buffers) else combined_with n word v p.era p.buffers }) =
+      ap (λ o. option_map_or (λ q. slice_set ps k (left_after n word v q)) o ps) at ∙ ap (λ ls. slice_set ps k (record p { buffers = ls })) (left_is n word v p.era p.buffers none) in
+      let out : out_of k n word v ps ≡ full_buffer n (combined_with n word v p.era p.buffers) =
+      ap (λ o. option_map_or (λ (q : Processor). handed_back n word v q.era q.buffers) o None) at ∙ out_is n word v p.era p.buffers within none in
+      let now : change (join_word n word v) k (system ps m) ≡ system (slice_set ps k (join_word n word v p)) m =
+      ap (λ o. option_map_or (λ q. system (slice_set ps k (join_word n word v q)) m) o (system ps m)) at in
+      ap (λ qs. emptied_if (system qs m) (out_of k n word v ps)) left
+      ∙ ap (emptied_if (system (slice_set ps k (record p { buffers = if is_some (full_buffer n (combined_with n word v p.era p.buffers)) then without_line n (combined_with n word v p.era p.buffers) else combined_with n word v p.era p.buffers })) m)) out
+      ∙ cases (full_buffer n (combined_with n word v p.era p.buffers))
+      ∙ sym (whole_is k n (system (slice_set ps k (join_word n word v p)) m) (combined_with n word v p.era p.buffers) (ap (λ o. option_map_or (λ (q : Processor). q.buffers) o []) joined_there))
+      ∙ ap (empty_if_whole k n) (sym now)
 
 pub combine_done : (k n word v : ℕ) (ps qs rs : List Processor) (m w : Memory) (out : Option CacheLine) → word < 8 → k < length qs
     → system qs w ≡ make_buffer_room k n (system ps m) → giving_way n (buffers_in k qs) ≡ None

@@ -1,5 +1,5 @@
 -- What the emptying of a buffer leaves alone.
-use Rattle.std.proofs.Common.{◌≡◌, ◌∙◌, ap, sym, refl, arith, ℕ, zero, suc, ◌+◌, List, [], ◌∷◌, map, drop, Some, slice_get}
+use Rattle.std.proofs.Common.{◌≡◌, ◌∙◌, ap, refl, ℕ, zero, suc, ◌+◌, List, [], ◌∷◌, map, drop, Some, slice_get}
 use Rattle.std.proofs.lemmas.List.{drop_more}
 use Rattle.std.proofs.lemmas.Option.{get_or_from_slice_get, slice_get_within}
 use Rattle.mt_cache.specs.declared.line.CacheLine.{CacheLine}

@@ -1,13 +1,12 @@
 -- One window more keeps a system sound: no word changes, and what had a place keeps it.
-use Rattle.std.proofs.Common.{◌≡◌, ◌∙◌, ap, sym, refl, subst, arith, ℕ, zero, suc, ◌+◌, ◌-◌, ◌*◌, ◌/◌, ◌%◌, ◌<◌, ◌≤◌, ◌==◌, ◌&&◌, nat_le, nat_lt, Bool, true, false, if◌then◌else◌, List, [], ◌∷◌, ◌++◌, length, replicate, Option, None, Some, IsSome, IfSome, slice_index, get_or, add_assoc}
+use Rattle.std.proofs.Common.{◌≡◌, ◌∙◌, ap, sym, refl, subst, arith, ℕ, zero, suc, ◌+◌, ◌-◌, ◌*◌, ◌/◌, ◌%◌, ◌<◌, ◌==◌, ◌&&◌, nat_le, nat_lt, Bool, true, false, if◌then◌else◌, List, [], ◌∷◌, ◌++◌, length, replicate, Option, None, Some, IsSome, IfSome, slice_index}
 use Rattle.std.proofs.lemmas.List.{get_or-append_right, get_or_append_left}
 use Rattle.std.proofs.lemmas.List.Elements.{All-weaker}
 use Rattle.std.specs.List.{All}
 use Rattle.std.specs.Option.{option_map_or, option_or}
-use Rattle.mt_cache.specs.declared.line.CacheLine.{CacheLine}
 use Rattle.mt_cache.specs.Lines.{is_dirty}
 use Rattle.mt_machine.specs.Memory.{IsMemory, Memory, Window, place, place_in, window_end, word_address, word_at, word_count}
-use Rattle.mt_machine.specs.System.{IsCoherent, IsSound, Processor, System}
+use Rattle.mt_machine.specs.System.{IsSound, System}
 use Rattle.mt_ram.specs.Windows.{with_window}
 use Rattle.mt_ram.proofs.Windows.{place_within}
 
@@ -38,6 +37,7 @@ same_at ws xs w a counted =
     two : (b : Bool) → option_map_or (λ i. slice_index (xs ++ replicate (8 * w.lines) 0) i) (if b then Some (0 + word_count ws + (a - w.base) / 8) else None) 0 ≡ 0
     two true = get_or-append_right xs (replicate (8 * w.lines) 0) (length xs) (0 + word_count ws + (a - w.base) / 8) 0 refl (omega arith) ∙ zero_at (8 * w.lines) (0 + word_count ws + (a - w.base) / 8 - length xs)
     two false = refl
+
     one : (o : Option ℕ) → IfSome o (λ i. i < 0 + word_count ws)
         → option_map_or (λ i. slice_index (xs ++ replicate (8 * w.lines) 0) i) (option_or o (place_in (w ∷ []) (0 + word_count ws) a)) 0 ≡ option_map_or (λ i. slice_index xs i) o 0
     one None within = two (nat_le w.base a && nat_lt a (window_end w))
@@ -58,6 +58,7 @@ still_placed m w a = one (a % 8 == 0)
     two : (o p : Option ℕ) → IsSome o → IsSome (option_or o p)
     two None p h = absurd (cc)
     two (Some i) p h = h
+
     one : (b : Bool) → IsSome (if b then place_in m.windows 0 a else None) → IsSome (if b then place_in (m.windows ++ w ∷ []) 0 a else None)
     one true h = subst (λ (o : Option ℕ). IsSome o) (sym (placed_more m.windows w 0 a)) (two (place_in m.windows 0 a) (place_in (w ∷ []) (0 + word_count m.windows) a) h)
     one false h = absurd (cc)
@@ -69,21 +70,21 @@ sound_grown s w h good =
       memory = good;
       coherent = record {
         clean =
-          All-weaker (λ p. All (λ l. (word : ℕ) → word < 8 → is_dirty l word ≡ false → slice_index l.words word ≡ word_at s.memory (word_address l.number word)) p.lines)
-          (λ p. All (λ l. (word : ℕ) → word < 8 → is_dirty l word ≡ false → slice_index l.words word ≡ word_at more (word_address l.number word)) p.lines)
-          (λ p. All-weaker (λ l. (word : ℕ) → word < 8 → is_dirty l word ≡ false → slice_index l.words word ≡ word_at s.memory (word_address l.number word))
+            All-weaker (λ p. All (λ l. (word : ℕ) → word < 8 → is_dirty l word ≡ false → slice_index l.words word ≡ word_at s.memory (word_address l.number word)) p.lines)
+            (λ p. All (λ l. (word : ℕ) → word < 8 → is_dirty l word ≡ false → slice_index l.words word ≡ word_at more (word_address l.number word)) p.lines)
+            (λ p. All-weaker (λ l. (word : ℕ) → word < 8 → is_dirty l word ≡ false → slice_index l.words word ≡ word_at s.memory (word_address l.number word))
             (λ l. (word : ℕ) → word < 8 → is_dirty l word ≡ false → slice_index l.words word ≡ word_at more (word_address l.number word))
             (λ l f word within clean. f word within clean ∙ sym (same_word s.memory w (word_address l.number word) h.memory)) p.lines)
-          s.processors h.coherent.clean;
+            s.processors h.coherent.clean;
         sole = h.coherent.sole;
       };
       lines_in_memory =
-        All-weaker (λ p. All (λ l. IsSome (place s.memory (word_address l.number 0))) p.lines) (λ p. All (λ l. IsSome (place more (word_address l.number 0))) p.lines)
-        (λ p. All-weaker (λ l. IsSome (place s.memory (word_address l.number 0))) (λ l. IsSome (place more (word_address l.number 0))) (λ l. still_placed s.memory w (word_address l.number 0)) p.lines)
-        s.processors h.lines_in_memory;
+          All-weaker (λ p. All (λ l. IsSome (place s.memory (word_address l.number 0))) p.lines) (λ p. All (λ l. IsSome (place more (word_address l.number 0))) p.lines)
+          (λ p. All-weaker (λ l. IsSome (place s.memory (word_address l.number 0))) (λ l. IsSome (place more (word_address l.number 0))) (λ l. still_placed s.memory w (word_address l.number 0)) p.lines)
+          s.processors h.lines_in_memory;
       buffers_in_memory =
-        All-weaker (λ p. All (λ l. IsSome (place s.memory (word_address l.number 0))) p.buffers) (λ p. All (λ l. IsSome (place more (word_address l.number 0))) p.buffers)
-        (λ p. All-weaker (λ l. IsSome (place s.memory (word_address l.number 0))) (λ l. IsSome (place more (word_address l.number 0))) (λ l. still_placed s.memory w (word_address l.number 0)) p.buffers)
-        s.processors h.buffers_in_memory;
+          All-weaker (λ p. All (λ l. IsSome (place s.memory (word_address l.number 0))) p.buffers) (λ p. All (λ l. IsSome (place more (word_address l.number 0))) p.buffers)
+          (λ p. All-weaker (λ l. IsSome (place s.memory (word_address l.number 0))) (λ l. IsSome (place more (word_address l.number 0))) (λ l. still_placed s.memory w (word_address l.number 0)) p.buffers)
+          s.processors h.buffers_in_memory;
       each = h.each;
     }

@@ -1,5 +1,5 @@
 -- A load that misses.
-use Rattle.std.proofs.Common.{◌≡◌, ◌∙◌, ap, sym, refl, arith, ℕ, zero, suc, ◌+◌, ◌/◌, ◌&&◌, Bool, true, false, not, if◌then◌else◌, List, [], ◌∷◌, map, Option, None, Some, slice_get, slice_index}
+use Rattle.std.proofs.Common.{◌≡◌, ◌∙◌, ap, sym, refl, arith, ℕ, zero, suc, ◌+◌, ◌/◌, ◌&&◌, Bool, true, false, not, if◌then◌else◌, List, [], ◌∷◌, map, None, Some, slice_get, slice_index}
 use Rattle.std.proofs.lemmas.Bool.{eq-eqb}
 use Rattle.std.specs.Option.{option_map_or}
 use Rattle.mt_kinds.specs.declared.mem_type.MemType.{MemType}
@@ -44,7 +44,7 @@ load_missed t k a v ps qs m w fills after missed read value is then' =
     ∙ ap (pair (word_at (bus_read (a / 64) s).memory a))
     (then' ∙ ap (λ u. if fills then fill_line k (a / 64) u else u) read ∙ ap (λ b. if b then fill_line k (a / 64) (bus_read (a / 64) s) else bus_read (a / 64) s) is)
     ∙ sym (ap (λ o. option_map_or (λ (l : CacheLine). pair (slice_index l.words (word_of a)) s) o
-      (pair (word_at (bus_read (a / 64) s).memory a) (if is_cached t && not (cache_disabled_in k ps) then fill_line k (a / 64) (bus_read (a / 64) s) else bus_read (a / 64) s))) missed)
+    (pair (word_at (bus_read (a / 64) s).memory a) (if is_cached t && not (cache_disabled_in k ps) then fill_line k (a / 64) (bus_read (a / 64) s) else bus_read (a / 64) s))) missed)
 
 -- ---- what is done to the others leaves the own lines
 

@@ -1,5 +1,5 @@
 -- Room in a cache, and a processor of a list that is changed.
-use Rattle.std.proofs.Common.{◌≡◌, ◌∙◌, ap, sym, refl, arith, ℕ, zero, suc, ◌+◌, ◌<◌, ◌≤◌, ◌==◌, Bool, true, false, not, if◌then◌else◌, List, [], ◌∷◌, length, Option, None, Some, slice_get, slice_set}
+use Rattle.std.proofs.Common.{◌≡◌, ◌∙◌, ap, refl, arith, ℕ, zero, suc, ◌<◌, ◌≤◌, ◌==◌, Bool, true, false, not, if◌then◌else◌, List, [], ◌∷◌, length, Option, None, Some, slice_get, slice_set}
 use Rattle.std.proofs.lemmas.Bool.{eq-eqb}
 use Rattle.std.specs.List.{filter}
 use Rattle.std.specs.Option.{option_map_or}
@@ -8,7 +8,7 @@ use Rattle.mt_cache.specs.declared.line.CacheLine.{CacheLine}
 use Rattle.mt_cache.specs.Lines.{find_line, oldest_of_full, without_line}
 use Rattle.mt_cache.specs.Calls.{with_room}
 use Rattle.mt_machine.specs.Memory.{Memory, write_back}
-use Rattle.mt_machine.specs.System.{Processor, System, change}
+use Rattle.mt_machine.specs.System.{Processor, change}
 use Rattle.mt_machine.specs.Bus.{make_room, with_lines}
 use Rattle.mt_bus.specs.Parts.{lines_in, system, with_changed}
 

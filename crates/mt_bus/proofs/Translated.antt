@@ -1,16 +1,10 @@
 -- A processor whose translation fills an entry.
-use Rattle.std.proofs.Common.{◌≡◌, ◌∙◌, ap, sym, refl, arith, ℕ, zero, suc, ◌/◌, Bool, true, false, if◌then◌else◌, IsTrue, List, [], ◌∷◌, Option, None, Some, is_some, slice_get, slice_set}
-use Rattle.std.specs.Option.{option_map, option_map_or}
-use Rattle.mt_kinds.specs.declared.mem_type.MemType.{MemType}
+use Rattle.std.proofs.Common.{◌≡◌, ◌∙◌, ap, sym, ℕ, zero, suc, ◌/◌, List, [], ◌∷◌, Option, None, Some, slice_get, slice_set}
+use Rattle.std.specs.Option.{option_map_or}
 use Rattle.mt_tlb.specs.declared.entry.Entry.{Entry}
-use Rattle.mt_machine.specs.declared.op.Op.{Op}
-use Rattle.mt_machine.specs.declared.op.Op.TheVariants.{Load, Store}
-use Rattle.mt_machine.specs.declared.done.Done.TheVariants.{Busy, NoRam, Stored, Unmapped}
-use Rattle.mt_machine.specs.Memory.{Memory, place}
-use Rattle.mt_machine.specs.System.{Processor, System, change}
-use Rattle.mt_machine.specs.Access.{Answered, access, access_at, entry_of, is_running, keep_entry, load, physical, store, translated, value_answer}
-use Rattle.mt_bus.specs.Parts.{answered, entry_in, is_running_in, system, with_changed}
-use Rattle.mt_bus.proofs.Combining.{change_parts}
+use Rattle.mt_machine.specs.System.{Processor}
+use Rattle.mt_machine.specs.Access.{entry_of, keep_entry}
+use Rattle.mt_bus.specs.Parts.{entry_in, with_changed}
 
 set_same : (ps : List Processor) (k : ℕ) (p : Processor) → slice_get ps k ≡ Some p → slice_set ps k p ≡ ps
 set_same [] k p at = absurd (cc)

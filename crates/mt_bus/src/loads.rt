@@ -15,6 +15,7 @@ use mt_ram::Ram;
 
 /// The bytes of a line, and of a word.
 pub(crate) const LINE_BYTES: u64 = 64;
+
 pub(crate) const WORD_BYTES: u64 = 8;
 
 /// Whether lines of this type are cached.

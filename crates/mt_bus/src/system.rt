@@ -9,9 +9,7 @@ ghost use Rattle.mt_machine.specs.Bus.{drain};
 ghost use Rattle.mt_machine.specs.Access.{access};
 ghost use Rattle.mt_bus.specs.Parts.{answered, ruled};
 
-use crate::accesses;
-use crate::buffers;
-use crate::controls;
+use crate::{accesses, buffers, controls};
 use mt_cpu::Cpu;
 use mt_laws::{accesses_keep_sound, start_is_quiet};
 use mt_machine::{Control, Done, Op, Ruled};

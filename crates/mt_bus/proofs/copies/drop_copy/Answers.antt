@@ -1,5 +1,4 @@
 use Rattle.std.proofs.Common.{◌∙◌, sym}
-use Rattle.mt_lists.proofs.Keys.{none_of}
 use Rattle.mt_bus.proofs.Lines.{without_found, without_absent}
 use Rattle.mt_bus.proofs.copies.drop_copy.Goals as goal
 

@@ -1,5 +1,4 @@
-use Rattle.std.proofs.Common.{◌≡◌, ◌∙◌, ap, sym, subst, List}
-use Rattle.mt_cache.specs.declared.line.CacheLine.{CacheLine}
+use Rattle.std.proofs.Common.{◌∙◌, sym}
 use Rattle.mt_bus.proofs.Lines.{back_absent, back_at}
 use Rattle.mt_bus.proofs.copies.write_copy.Goals as goal
 

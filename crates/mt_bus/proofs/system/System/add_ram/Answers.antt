@@ -1,4 +1,4 @@
-use Rattle.std.proofs.Common.{◌≡◌, ◌∙◌, ap, sym, subst, rules}
+use Rattle.std.proofs.Common.{◌≡◌, sym, subst, rules}
 use Rattle.mt_machine.specs.Memory.{IsMemory}
 use Rattle.mt_machine.specs.System.{IsSound}
 use Rattle.mt_ram.specs.Windows.{window, with_window}

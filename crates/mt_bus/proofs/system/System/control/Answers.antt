@@ -1,7 +1,6 @@
-use Rattle.std.proofs.Common.{◌≡◌, ◌∙◌, ap, drop, length, sym, subst, rules, List, Some, slice_get}
+use Rattle.std.proofs.Common.{◌≡◌, ◌∙◌, ap, drop, length, sym, subst, rules, slice_get}
 use Rattle.std.proofs.lemmas.List.{take_at}
-use Rattle.mt_machine.specs.System.{IsSound, Processor, System}
-use Rattle.mt_machine.specs.Machine.{FitsControl}
+use Rattle.mt_machine.specs.System.{IsSound, System}
 use Rattle.mt_machine.specs.Control.{RuledAfter, control}
 use Rattle.mt_bus.specs.Parts.{system}
 use Rattle.mt_bus.proofs.system.System.control.Goals as goal
