@@ -1,13 +1,12 @@
 ghost use Rattle.std.specs.Prelude.{◌≡◌, ◌<◌, ◌≤◌, ◌+◌, ◌*◌, ◌^◌, [], length, replicate, slice_get, IfOk, OnOk, OnErr, Some};
 ghost use Rattle.mt_regs.specs.Faults.{IsAccepted};
 ghost use Rattle.mt_ram.specs.Windows.{refusal, refusal_in, window, with_window};
-ghost use Rattle.mt_machine.specs.System.{Processor, start_processor};
+ghost use Rattle.mt_machine.specs.System.{IsSound, Processor, start_processor};
 ghost use Rattle.mt_machine.specs.Start.{start_machine};
 ghost use Rattle.mt_machine.specs.Machine.{FitsControl};
 ghost use Rattle.mt_machine.specs.Control.{control};
 ghost use Rattle.mt_machine.specs.Bus.{drain};
 ghost use Rattle.mt_machine.specs.Access.{access};
-ghost use Rattle.mt_bus.specs.Parts.{answered, ruled};
 
 use crate::{accesses, buffers, controls};
 use mt_cpu::Cpu;
@@ -23,8 +22,8 @@ use std::marker::Model;
 /// a window.
 #[derive(Drop)]
 pub struct System {
-    cpus: Vec<Cpu>,
-    ram: Ram,
+    pub cpus: Vec<Cpu>,
+    pub ram: Ram,
 }
 
 impl Model for System {
@@ -85,26 +84,11 @@ impl System {
         Ok(())
     }
 
-    /// The number of processors.
-    pub fn count(&self) -> usize
-        ensures { result ≡ length self.now.processors }
+    /// What a system keeps, for the proof alone.
+    pub fn is_sound(&self)
+        ensures { IsSound self.now }
     {
-        self.cpus.len()
-    }
-
-    /// A processor, for reading.
-    pub fn cpu(&self, k: u32) -> &Cpu
-        requires { k < length self.now.processors }
-        ensures { slice_get self.now.processors k ≡ Some result.now }
-    {
-        &self.cpus[k as usize]
-    }
-
-    /// The memory, for reading.
-    pub fn ram(&self) -> &Ram
-        ensures { result.now ≡ self.now.memory }
-    {
-        &self.ram
+        let _ = &self.ram;
     }
 
     /// One control instruction of a processor. A mapping that is set has an index below 8, a
@@ -112,7 +96,8 @@ impl System {
     pub fn control(&mut self, k: u32, c: Control) -> Ruled
         requires processor { k < length self.old.processors }
         requires fits { (p : Processor) → slice_get self.old.processors k ≡ Some p → FitsControl p c }
-        ensures { ruled result self.new ≡ control self.old k c }
+        ensures answer { result ≡ (control self.old k c).answer }
+        ensures after { self.new ≡ (control self.old k c).after }
     {
         accesses_keep_sound();
         controls::control(self.cpus.as_mut_slice(), &mut self.ram, k as usize, c)
@@ -121,7 +106,8 @@ impl System {
     /// One access of a processor, an address being in bytes.
     pub fn access(&mut self, k: u32, op: Op) -> Done
         requires { k < length self.old.processors }
-        ensures { answered result self.new ≡ access self.old k op }
+        ensures answer { result ≡ (access self.old k op).answer }
+        ensures after { self.new ≡ (access self.old k op).after }
     {
         accesses_keep_sound();
         accesses::access(self.cpus.as_mut_slice(), &mut self.ram, k as usize, op)
