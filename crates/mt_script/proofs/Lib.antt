@@ -3,3 +3,4 @@ pub mod Good
 pub mod Keeping
 pub mod Registers
 pub mod Sections
+pub mod Standing

@@ -2,6 +2,7 @@ pub mod Accept
 pub mod Commands
 pub mod Kept
 pub mod Numbers
+pub mod Places
 pub mod Rows
 pub mod Script
 pub mod Seen
