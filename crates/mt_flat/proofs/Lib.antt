@@ -1,0 +1,5 @@
+pub mod PendingLists
+pub mod Emptying
+pub mod Storing
+pub mod Accessing
+pub mod Seeing

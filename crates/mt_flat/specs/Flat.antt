@@ -5,7 +5,7 @@ use Rattle.std.specs.Prelude.{ℕ, ◌+◌, ◌==◌, Bool, not, List, [], ◌�
 use Rattle.std.specs.Option.{option_map_or}
 use Rattle.std.specs.List.{filter, find, fold, list_all}
 use Rattle.mt_kinds.specs.declared.mem_type.MemType.{MemType}
-use Rattle.mt_kinds.specs.declared.mem_type.MemType.TheVariants.{UC, WC, WT, WP, WB}
+use Rattle.mt_kinds.specs.declared.mem_type.MemType.TheVariants.{UC, WC}
 use Rattle.mt_cache.specs.Lines.{eight}
 use Rattle.mt_machine.specs.Memory.{line_of, word_of}
 

@@ -54,3 +54,40 @@ written_of b = record { number = b.number; written = λ word. if is_dirty b word
 pub record IsFlatOf (s : System) (f : Flat) : Type 0 where
   pub values : (address : ℕ) → address % 8 ≡ 0 → now s address ≡ f.values address
   pub pending : (k : ℕ) → f.pending k ≡ map written_of (buffers_of s k)
+
+-- ---- laws
+
+-- the flat machine is at its start beside a machine at its start
+abbrev pub StartIsFlat : Type 0
+StartIsFlat = (count : ℕ) (file : RegisterFile) (ws : List Window) → IsFlatOf (start_machine count file ws).system flat_start
+
+-- and beside each system without buffers stands one with its words and nothing pending
+abbrev pub NoBuffersIsFlat : Type 0
+NoBuffersIsFlat =
+    (s : System) → All (λ p. p.buffers ≡ []) s.processors → IsFlatOf s (record { values = now s; pending = λ k. [] })
+
+-- each event keeps the relation
+abbrev pub EventsKeepFlat : Type 0
+EventsKeepFlat =
+    (m : Machine) (e : MachineEvent) (f : Flat) → IsSound m.system → IsFlatOf m.system f → IsEnabled m e → IsFlatOf (next m e).system (flat_after m e f)
+
+abbrev pub RunsKeepFlat : Type 0
+RunsKeepFlat =
+    (m : Machine) (es : List MachineEvent) (f : Flat) → IsSound m.system → IsFlatOf m.system f → AreEnabled m es → IsFlatOf (run m es).system (flat_run m es f)
+
+-- what a load of processor k is answered is what the flat machine answers it
+pub record IsFlatAnswer (m : Machine) (f : Flat) (k address value : ℕ) (kind : MemType) : Type 0 where
+  pub word : ℕ
+  pub physical : physical_of m.system k address ≡ Some word
+  pub answer : value ≡ flat_answer f k kind word
+
+abbrev pub AnswersAreFlat : Type 0
+AnswersAreFlat =
+    (m : Machine) (f : Flat) (k address value : ℕ) (kind : MemType) → IsSound m.system → IsFlatOf m.system f
+    → (access m.system k (Load address)).answer ≡ Value value kind → IsFlatAnswer m f k address value kind
+
+-- caches are never seen: after any list of enabled events each load is answered as by the flat machine that was given the same
+abbrev pub CachesAreNeverSeen : Type 0
+CachesAreNeverSeen =
+    (s : Machine) (f : Flat) (es : List MachineEvent) (k address value : ℕ) (kind : MemType) → IsSound s.system → IsFlatOf s.system f → AreEnabled s es
+    → (access (run s es).system k (Load address)).answer ≡ Value value kind → IsFlatAnswer (run s es) (flat_run s es f) k address value kind

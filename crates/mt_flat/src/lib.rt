@@ -4,6 +4,8 @@
 //! answers it.
 #![tactic(auto)]
 
+mod laws;
 mod worked;
 
+pub use laws::{caches_are_never_seen, events_are_flat, starts_are_flat};
 pub use worked::{worked_pending, worked_stores};

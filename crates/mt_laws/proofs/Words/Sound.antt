@@ -140,7 +140,7 @@ shows_by_place v (Some (y, false) ∷ cs) clean sole =
     (λ (h : IsOwned r.0 cs). let p = owned_place r.0 cs h in absurd (let e : Some (y, false) ≡ None = sole (suc p.0) 0 r.0 (Some (y, false)) (λ g. absurd (omega arith)) p.1 refl in cc))
     r.1
 
-shared_clean : (v : ℕ) (cs : List Copy) (i y : ℕ) (d : Bool) → IsShared v cs → slice_get cs i ≡ Some (Some (y, d)) → (y ≡ v) × (d ≡ false)
+pub shared_clean : (v : ℕ) (cs : List Copy) (i y : ℕ) (d : Bool) → IsShared v cs → slice_get cs i ≡ Some (Some (y, d)) → (y ≡ v) × (d ≡ false)
 shared_clean v [] i y d h at = absurd (cc)
 shared_clean v (None ∷ cs) zero y d h at = absurd (cc)
 shared_clean v (None ∷ cs) (suc i) y d h at = shared_clean v cs i y d h at
@@ -151,7 +151,7 @@ shared_clean v (Some (z, false) ∷ cs) zero y d h at =
     (sym e ∙ h.0, sym f)
 shared_clean v (Some (z, false) ∷ cs) (suc i) y d h at = shared_clean v cs i y d h.1 at
 
-clear_place : (cs : List Copy) (i : ℕ) (c : Copy) → IsClear cs → slice_get cs i ≡ Some c → c ≡ None
+pub clear_place : (cs : List Copy) (i : ℕ) (c : Copy) → IsClear cs → slice_get cs i ≡ Some c → c ≡ None
 clear_place [] i c h at = absurd (cc)
 clear_place (None ∷ cs) zero c h at = cc
 clear_place (None ∷ cs) (suc i) c h at = clear_place cs i c h at

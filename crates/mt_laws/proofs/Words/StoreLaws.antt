@@ -66,10 +66,15 @@ only_get i k (suc j) (c ∷ cs) e = only_get (i + 1) k j cs (omega arith)
 pub none_changed : (n : ℕ) (f : CacheLine → CacheLine) → ((l : CacheLine) → (f l).number ≡ l.number) → (ls : List CacheLine) → find_line n ls ≡ None → find_line n (change_line n f ls) ≡ None
 none_changed n f keeps ls h = find_change_same n f keeps ls ∙ ap (option_map f) h
 
--- a write where the word may have been stored
-stored_after : (may : Bool) (a x v : ℕ) (s : System) → (may ≡ false → ⊥) → Word true a v s → After may a x s
-stored_after true a x v s h w = (v, (λ e. absurd (cc)), w)
-stored_after false a x v s h w = absurd (h refl)
+-- a word with value x, after a store of v to it or to another word
+abbrev pub Put : Bool → ℕ → ℕ → ℕ → System → Bool → Type 0
+Put may a x v s true = Word true a v s
+Put may a x v s false = Word may a x s
+
+pub put_after : (may : Bool) (a x v : ℕ) (s : System) (b : Bool) → (may ≡ false → b ≡ true → ⊥) → Put may a x v s b → After may a x s
+put_after true a x v s true h w = (v, (λ e. absurd (cc)), w)
+put_after false a x v s true h w = absurd (h refl refl)
+put_after may a x v s false h w = after_word may a x s w
 
 module _ (ws : List Window) (aligned : AllAligned ws) where
   -- ---- one word of memory
@@ -278,16 +283,15 @@ module _ (ws : List Window) (aligned : AllAligned ws) where
     pub flush_put_stands : (s : System) → Stands ws s → Stands ws (store_in_memory address value (invalidate (line_of address) (bus_read (line_of address) s)))
     flush_put_stands s st = stands_put address value _ (stands_flush (line_of address) s st)
 
-    pub flush_put_word : (may : Bool) (a x : ℕ) (s : System) → a % 8 ≡ 0 → (may ≡ false → a ≢ address) → Stands ws s → Word may a x s → After may a x (store_in_memory address value (invalidate (line_of address) (bus_read (line_of address) s)))
-    flush_put_word may a x s whole other st w = one (a == address) refl
+    pub flush_put_word : (may : Bool) (a x : ℕ) (s : System) → a % 8 ≡ 0 → Stands ws s → Word may a x s → Put may a x value (store_in_memory address value (invalidate (line_of address) (bus_read (line_of address) s))) (a == address)
+    flush_put_word may a x s whole st w = one (a == address) refl
       where
-        one : (b : Bool) → (a == address) ≡ b → After may a x (store_in_memory address value (invalidate (line_of address) (bus_read (line_of address) s)))
-        one false is = after_word may a x _ (leaves_word may a x (invalidate (line_of address) (bus_read (line_of address) s)) _ (leaves_put a address value _ (eqb-false a address is) (stands_flush (line_of address) s st)) (flush_word may (line_of address) a x s whole st w))
+        one : (b : Bool) → (a == address) ≡ b → Put may a x value (store_in_memory address value (invalidate (line_of address) (bus_read (line_of address) s))) b
+        one false is = leaves_word may a x (invalidate (line_of address) (bus_read (line_of address) s)) _ (leaves_put a address value _ (eqb-false a address is) (stands_flush (line_of address) s st)) (flush_word may (line_of address) a x s whole st w)
         one true is =
             let e : a ≡ address = eqb-true a address is in
             let u : System = invalidate (line_of address) (bus_read (line_of address) s) in
             let bare = flush_same ws aligned may (line_of address) a x s whole (ap line_of e) st w in
-            stored_after may a x value (store_in_memory address value u) (λ h. other h e)
             (clean_word true a value (store_in_memory address value u)
             (record { at = ap (word_at (store_in_memory address value u).memory) e ∙ put_at address value u whole' placed (stands_flush (line_of address) s st); shared = clear_shared value (copies a u.processors) bare.clear })
             (λ h. absurd (cc)))
@@ -307,13 +311,13 @@ module _ (ws : List Window) (aligned : AllAligned ws) where
     pub through_stands : (s : System) → Stands ws s → Stands ws (store_after WT k address value s)
     through_stands s st = stands_clean_write address value k (store_past k address value s) (past_put_stands s st)
 
-    pub through_word : (may : Bool) (a x : ℕ) (s : System) (p : Processor) → slice_get s.processors k ≡ Some p → a % 8 ≡ 0 → (may ≡ false → a ≢ address) → Stands ws s → Word may a x s → After may a x (store_after WT k address value s)
-    through_word may a x s p at whole other st w = one (a == address) refl
+    pub through_word : (may : Bool) (a x : ℕ) (s : System) (p : Processor) → slice_get s.processors k ≡ Some p → a % 8 ≡ 0 → Stands ws s → Word may a x s → Put may a x value (store_after WT k address value s) (a == address)
+    through_word may a x s p at whole st w = one (a == address) refl
       where
-        one : (b : Bool) → (a == address) ≡ b → After may a x (store_after WT k address value s)
+        one : (b : Bool) → (a == address) ≡ b → Put may a x value (store_after WT k address value s) b
         one false is =
             let apart : a ≢ address = eqb-false a address is in
-            after_word may a x _ (leaves_word may a x (store_past k address value s) _ (leaves_clean_write a address value k (store_past k address value s) whole whole' apart) (past_put_other may a x s whole apart st w))
+            leaves_word may a x (store_past k address value s) _ (leaves_clean_write a address value k (store_past k address value s) whole whole' apart) (past_put_other may a x s whole apart st w)
         one true is =
             let e : a ≡ address = eqb-true a address is in
             let f : Processor → Processor = with_lines (change_line (line_of address) (write_clean (word_of address) value)) in
@@ -324,7 +328,6 @@ module _ (ws : List Window) (aligned : AllAligned ws) where
             let ls : List CacheLine = q.lines in
             let now : copies address (change f k u).processors ≡ set (only_from 0 k (copies address (bus_read (line_of address) s).processors)) k (copy_in address (f q).lines) =
             ap (λ (t : System). copies address t.processors) (change_at f k u q at_q) ∙ copies_set address u.processors k (f q) ∙ ap (λ cs. set cs k (copy_in address (f q).lines)) (past_copies address s refl) in
-            stored_after may a x value (change f k u) (λ h. other h e)
             (subst (λ (b : ℕ). Word true b value (change f k u)) (sym e)
             (clean_word true address value (change f k u)
             (record {
@@ -343,11 +346,11 @@ module _ (ws : List Window) (aligned : AllAligned ws) where
                 let eight = fits_eight ws l (found_passes (fits ws) (line_of address) _ l fit.lines_fit is) in
                 subst (λ (c : ℕ × Bool). IsShared value (Some c ∷ [])) (sym (look_clean address (word_of address) value l refl (word_small address) eight)) (refl, tt)
 
-    pub past_missing : (may : Bool) (a x : ℕ) (s : System) (p : Processor) → slice_get s.processors k ≡ Some p → Misses (line_of address) k s → a % 8 ≡ 0 → (may ≡ false → a ≢ address) → Stands ws s → Word may a x s → After may a x (store_past k address value s)
-    past_missing may a x s p at misses whole other st w = one (a == address) refl
+    pub past_missing : (may : Bool) (a x : ℕ) (s : System) (p : Processor) → slice_get s.processors k ≡ Some p → Misses (line_of address) k s → a % 8 ≡ 0 → Stands ws s → Word may a x s → Put may a x value (store_past k address value s) (a == address)
+    past_missing may a x s p at misses whole st w = one (a == address) refl
       where
-        one : (b : Bool) → (a == address) ≡ b → After may a x (store_past k address value s)
-        one false is = after_word may a x _ (past_put_other may a x s whole (eqb-false a address is) st w)
+        one : (b : Bool) → (a == address) ≡ b → Put may a x value (store_past k address value s) b
+        one false is = past_put_other may a x s whole (eqb-false a address is) st w
         one true is =
             let e : a ≡ address = eqb-true a address is in
             let u : System = store_past k address value s in
@@ -356,7 +359,6 @@ module _ (ws : List Window) (aligned : AllAligned ws) where
             let at_q : slice_get (bus_read (line_of address) s).processors k ≡ Some q = slice_get-map (with_lines (change_line (line_of address) clean_line)) s.processors k ∙ ap (option_map (with_lines (change_line (line_of address) clean_line))) at in
             let none : copy_in address q.lines ≡ None = ap (option_map (look address)) (none_changed (line_of address) clean_line (λ l. refl) p.lines (misses p at)) in
             let same : set (only_from 0 k cs) k None ≡ only_from 0 k cs = copy_set (only_from 0 k cs) k None (only_get 0 k k cs (omega arith) ∙ copies_at address (bus_read (line_of address) s).processors k q at_q ∙ ap (λ (c : Copy). Some c) none) in
-            stored_after may a x value u (λ h. other h e)
             (subst (λ (b : ℕ). Word true b value u) (sym e)
             (clean_word true address value u
             (record { at = past_value s st; shared = subst (IsShared value) (same ∙ sym (past_copies address s refl)) (shared_written value 0 k k None cs tt (omega arith)) })
@@ -367,19 +369,18 @@ module _ (ws : List Window) (aligned : AllAligned ws) where
     pub hit_stands : (s : System) → Stands ws s → Stands ws (store_hit k address value s)
     hit_stands s st = stands_dirty address value k _ (stands_others ws aligned k (line_of address) _ (stands_back_others ws aligned k (line_of address) s st))
 
-    pub hit_word : (may : Bool) (a x : ℕ) (s : System) (p : Processor) (l : CacheLine) → slice_get s.processors k ≡ Some p → find_line (line_of address) p.lines ≡ Some l → a % 8 ≡ 0 → (may ≡ false → a ≢ address) → Stands ws s → Word may a x s → After may a x (store_hit k address value s)
-    hit_word may a x s p l at found whole other st w = one (a == address) refl
+    pub hit_word : (may : Bool) (a x : ℕ) (s : System) (p : Processor) (l : CacheLine) → slice_get s.processors k ≡ Some p → find_line (line_of address) p.lines ≡ Some l → a % 8 ≡ 0 → Stands ws s → Word may a x s → Put may a x value (store_hit k address value s) (a == address)
+    hit_word may a x s p l at found whole st w = one (a == address) refl
       where
-        one : (b : Bool) → (a == address) ≡ b → After may a x (store_hit k address value s)
+        one : (b : Bool) → (a == address) ≡ b → Put may a x value (store_hit k address value s) b
         one false is =
             let apart : a ≢ address = eqb-false a address is in
-            after_word may a x _ (leaves_word may a x (invalidate_others k (line_of address) (write_back_others k (line_of address) s)) _ (leaves_dirty a address value k _ whole whole' apart) (over_word may k (line_of address) a x p l s whole st at found w))
+            leaves_word may a x (invalidate_others k (line_of address) (write_back_others k (line_of address) s)) _ (leaves_dirty a address value k _ whole whole' apart) (over_word may k (line_of address) a x p l s whole st at found w)
         one true is =
             let e : a ≡ address = eqb-true a address is in
             let u : System = invalidate_others k (line_of address) (write_back_others k (line_of address) s) in
             let at_u : slice_get u.processors k ≡ Some p = others_get _ 0 k k s.processors (omega arith) ∙ at in
             let within : k < length (copies address s.processors) = let b = slice_get_within s.processors k p at in let c = copies_length address s.processors in omega arith in
-            stored_after may a x value (store_hit k address value s) (λ h. other h e)
             (subst (λ (b : ℕ). Word true b value (store_hit k address value s)) (sym e)
             (owned_word address value k u p l (copies address s.processors) (stands_others ws aligned k (line_of address) _ (stands_back_others ws aligned k (line_of address) s st)) at_u found within
             (λ c. ap (λ cs. set cs k c) (others_same ws aligned k (line_of address) address (write_back_others k (line_of address) s) refl))))
@@ -396,8 +397,8 @@ module _ (ws : List Window) (aligned : AllAligned ws) where
       pub filling_stands : Stands ws (store_filling k address value s)
       filling_stands = stands_dirty address value k _ (stands_fill k (line_of address) _ _ (past_at k (line_of address) s p at) (stands_past k (line_of address) s st) misses_past placed)
 
-      pub filling_word : (may : Bool) (a x : ℕ) → a % 8 ≡ 0 → (may ≡ false → a ≢ address) → Word may a x s → After may a x (store_filling k address value s)
-      filling_word may a x whole other w = one (a == address) refl
+      pub filling_word : (may : Bool) (a x : ℕ) → a % 8 ≡ 0 → Word may a x s → Put may a x value (store_filling k address value s) (a == address)
+      filling_word may a x whole w = one (a == address) refl
         where
           filled : (b : Bool) → (line_of a == line_of address) ≡ b → Word may a x (fill_line k (line_of address) (invalidate_others k (line_of address) (bus_read (line_of address) s)))
           filled true is =
@@ -408,8 +409,8 @@ module _ (ws : List Window) (aligned : AllAligned ws) where
           filled false is =
               fill_other k (line_of address) _ _ (past_at k (line_of address) s p at) (stands_past k (line_of address) s st) misses_past placed may a x whole (eqb-false (line_of a) (line_of address) is) (past_word may k (line_of address) a x s whole st w)
 
-          one : (b : Bool) → (a == address) ≡ b → After may a x (store_filling k address value s)
-          one false is = after_word may a x _ (leaves_word may a x (fill_line k (line_of address) (invalidate_others k (line_of address) (bus_read (line_of address) s))) _ (leaves_dirty a address value k _ whole whole' (eqb-false a address is)) (filled (line_of a == line_of address) refl))
+          one : (b : Bool) → (a == address) ≡ b → Put may a x value (store_filling k address value s) b
+          one false is = leaves_word may a x (fill_line k (line_of address) (invalidate_others k (line_of address) (bus_read (line_of address) s))) _ (leaves_dirty a address value k _ whole whole' (eqb-false a address is)) (filled (line_of a == line_of address) refl)
           one true is =
               let e : a ≡ address = eqb-true a address is in
               let v : System = invalidate_others k (line_of address) (bus_read (line_of address) s) in
@@ -421,7 +422,6 @@ module _ (ws : List Window) (aligned : AllAligned ws) where
               let cs : List Copy = copies address (bus_read (line_of address) s).processors in
               let only : copies address v.processors ≡ only_from 0 k cs = others_same ws aligned k (line_of address) address (bus_read (line_of address) s) refl in
               let within : k < length cs = let b = slice_get_within s.processors k p at in let c = copies_length address (bus_read (line_of address) s).processors in let d = map_length s.processors in omega arith in
-              stored_after may a x value (store_filling k address value s) (λ h. other h e)
               (subst (λ (b : ℕ). Word true b value (store_filling k address value s)) (sym e)
               (owned_word address value k f q _ cs (stands_fill k (line_of address) v _ at_v stv misses_past placed) has.1 has.2 within
               (λ c. ap (λ ds. set ds k c) (fill_copies k (line_of address) v _ at_v stv misses_past placed address (word_at v.memory address) whole' refl refl)

@@ -28,9 +28,13 @@ use Rattle.mt_laws.proofs.Words.LineLaws.{fits, is_placed}
 use Rattle.mt_laws.proofs.Words.LineLists.{copy_in, Apart, apart_change, apart_append, passes_changed, passes_append, found_passes}
 use Rattle.mt_laws.proofs.Words.BusLaws.{Fits, Stands, is_unwritten, unwritten, Word, After, leaves_word, leaves_change, after_word, after_then, fits_of, stands_change, stands_read, leaves_read, read_writes, read_same, clean_word, buffers_fit_at, buffers_unwritten_at, stands_drain, drain_word, stands_one, one_word, stands_drain_line, drain_line_word, fit_at, stands_empty}
 use Rattle.mt_laws.proofs.Words.AccessLaws.{fits_dirty, word_small, same_word, word_buffers, oldest_found, line_placed, lines_at, changed_at, Misses, misses_of}
-use Rattle.mt_laws.proofs.Words.StoreLaws.{Has, has_after, none_changed, stands_fill, fill_other, fill_clean, fill_writes, flush_put_stands, flush_put_word, past_put_stands, past_missing, through_stands, through_word, hit_stands, hit_word, filling_stands, filling_word}
+use Rattle.mt_laws.proofs.Words.StoreLaws.{Has, has_after, Put, put_after, none_changed, stands_fill, fill_other, fill_clean, fill_writes, flush_put_stands, flush_put_word, past_put_stands, past_missing, through_stands, through_word, hit_stands, hit_word, filling_stands, filling_word}
 use Rattle.mt_laws.proofs.Words.Lengths.{add_length, change_length, oldest_none, oldest_some}
 use Rattle.mt_laws.proofs.Clearing.Renewed.{at_change}
+
+abbrev pub is_combined : MemType → Bool
+is_combined WC = true
+is_combined other = false
 
 -- ---- the buffers of a WC store
 
@@ -47,11 +51,11 @@ passes_changed_at test n f keeps (l ∷ ls) h =
     one true is = keeps l is (and_left _ _ h)
     one false is = and_left _ _ h
 
-buffers_at : (k : ℕ) (s : System) (p : Processor) → slice_get s.processors k ≡ Some p → buffers_of s k ≡ p.buffers
+pub buffers_at : (k : ℕ) (s : System) (p : Processor) → slice_get s.processors k ≡ Some p → buffers_of s k ≡ p.buffers
 buffers_at k s p at = ap (λ (o : Option Processor). option_map_or (λ q. q.buffers) o []) at
 
 -- a buffer that is emptied leaves the lists of buffers
-emptied_buffers : (s : System) (b : CacheLine) (k : ℕ) → buffers_of (empty_buffer s b) k ≡ buffers_of s k
+pub emptied_buffers : (s : System) (b : CacheLine) (k : ℕ) → buffers_of (empty_buffer s b) k ≡ buffers_of s k
 emptied_buffers s b k =
     ap (λ (o : Option Processor). option_map_or (λ q. q.buffers) o [])
     (slice_get-map (with_lines (without_line b.number)) (bus_read b.number s).processors k
@@ -68,7 +72,7 @@ module _ (ws : List Window) (aligned : AllAligned ws) where
     with_word p = record p { buffers = combined_with (line_of address) (word_of address) value p.era p.buffers }
 
     -- a buffer that is added has room
-    abbrev HasRoom : Processor → Type 0
+    abbrev pub HasRoom : Processor → Type 0
     HasRoom p = find_line (line_of address) p.buffers ≡ None → length p.buffers < 4
 
     fits_word : (p : Processor) → HasRoom p → Fits ws p → Fits ws (record p { buffers = combined_with (line_of address) (word_of address) value p.era p.buffers })
@@ -121,7 +125,7 @@ module _ (ws : List Window) (aligned : AllAligned ws) where
         if is_some (find_line (line_of address) (buffers_of s k)) then s
         else option_map_or (λ b. change (with_buffers (without_line b.number)) k (empty_buffer s b)) (oldest_of_full 4 (buffers_of s k)) s
 
-    roomy_stands : (s : System) → Stands ws s → Stands ws (with_room s)
+    pub roomy_stands : (s : System) → Stands ws s → Stands ws (with_room s)
     roomy_stands s st = one (is_some (find_line (line_of address) (buffers_of s k))) (oldest_of_full 4 (buffers_of s k))
       where
         one : (c : Bool) (o : Option CacheLine) → Stands ws (if c then s else option_map_or (λ b. change (with_buffers (without_line b.number)) k (empty_buffer s b)) o s)
@@ -142,7 +146,7 @@ module _ (ws : List Window) (aligned : AllAligned ws) where
             (λ h. found_passes (is_unwritten a) b.number (buffers_of s k) b (buffers_unwritten_at ws aligned a k s (w.writes h)) found)
             w
 
-    roomy_few : (s : System) → Stands ws s → (q : Processor) → slice_get (with_room s).processors k ≡ Some q → HasRoom q
+    pub roomy_few : (s : System) → Stands ws s → (q : Processor) → slice_get (with_room s).processors k ≡ Some q → HasRoom q
     roomy_few s st q = one (find_line (line_of address) (buffers_of s k)) refl (oldest_of_full 4 (buffers_of s k)) refl
       where
         one : (c : Option CacheLine) → find_line (line_of address) (buffers_of s k) ≡ c → (o : Option CacheLine) → oldest_of_full 4 (buffers_of s k) ≡ o → slice_get (if is_some c then s else option_map_or (λ b. change (with_buffers (without_line b.number)) k (empty_buffer s b)) o s).processors k ≡ Some q → HasRoom q
@@ -157,13 +161,13 @@ module _ (ws : List Window) (aligned : AllAligned ws) where
             (λ (e : (k ≢ k) × (slice_get (empty_buffer s b).processors k ≡ Some q)). absurd (e.0 refl))
             (at_change (with_buffers (without_line b.number)) k (empty_buffer s b) k q at)
 
-    joined_stands : (s : System) → ((q : Processor) → slice_get s.processors k ≡ Some q → HasRoom q) → Stands ws s → Stands ws (change with_word k s)
+    pub joined_stands : (s : System) → ((q : Processor) → slice_get s.processors k ≡ Some q → HasRoom q) → Stands ws s → Stands ws (change with_word k s)
     joined_stands s room st = stands_change ws with_word k s (λ p at h. fits_word p (room p at) h) st
 
     joined_word : (may : Bool) (a x : ℕ) (s : System) → a % 8 ≡ 0 → (may ≡ false → a ≢ address) → Word may a x s → Word may a x (change with_word k s)
     joined_word may a x s whole other w = word_buffers may a x with_word k s (λ p. refl) (λ h p g. word_unwritten a whole (other h) p g) w
 
-    full_stands : (s : System) → Stands ws s → Stands ws (option_map_or (λ (b : CacheLine). if b.dirty == 0xff then drain_line k (line_of address) s else s) (find_line (line_of address) (buffers_of s k)) s)
+    pub full_stands : (s : System) → Stands ws s → Stands ws (option_map_or (λ (b : CacheLine). if b.dirty == 0xff then drain_line k (line_of address) s else s) (find_line (line_of address) (buffers_of s k)) s)
     full_stands s st = one (find_line (line_of address) (buffers_of s k))
       where
         two : (c : Bool) → Stands ws (if c then drain_line k (line_of address) s else s)
@@ -185,7 +189,7 @@ module _ (ws : List Window) (aligned : AllAligned ws) where
         one None = after_word may a x s w
         one (Some b) = two (b.dirty == 0xff)
 
-    combine_stands : (s : System) → Stands ws s → Stands ws (combine k (line_of address) (word_of address) value s)
+    pub combine_stands : (s : System) → Stands ws s → Stands ws (combine k (line_of address) (word_of address) value s)
     combine_stands s st = full_stands (change with_word k (with_room s)) (joined_stands (with_room s) (roomy_few s st) (roomy_stands s st))
 
     combine_word : (may : Bool) (a x : ℕ) (s : System) → a % 8 ≡ 0 → (may ≡ false → a ≢ address) → Stands ws s → Word may a x s → After may a x (combine k (line_of address) (word_of address) value s)
@@ -195,7 +199,7 @@ module _ (ws : List Window) (aligned : AllAligned ws) where
 
     -- ---- stores
 
-    store_after_stands : (t : MemType) (s : System) → Has k s → Stands ws s → Stands ws (store_after t k address value s)
+    pub store_after_stands : (t : MemType) (s : System) → Has k s → Stands ws s → Stands ws (store_after t k address value s)
     store_after_stands UC s has st = flush_put_stands ws aligned k address value whole' placed s st
     store_after_stands WC s has st = combine_stands s st
     store_after_stands WT s has st = through_stands ws aligned k address value whole' placed s st
@@ -207,21 +211,27 @@ module _ (ws : List Window) (aligned : AllAligned ws) where
         one None is true = past_put_stands ws aligned k address value whole' placed s st
         one None is false = filling_stands ws aligned k address value whole' placed s has.0 has.1 (misses_of (line_of address) k s is) st
 
-    store_after_word : (t : MemType) (may : Bool) (a x : ℕ) (s : System) → Has k s → a % 8 ≡ 0 → (may ≡ false → a ≢ address) → Stands ws s → Word may a x s → After may a x (store_after t k address value s)
-    store_after_word UC may a x s has whole other st w = flush_put_word ws aligned k address value whole' placed may a x s whole other st w
-    store_after_word WC may a x s has whole other st w = combine_word may a x s whole other st w
-    store_after_word WT may a x s has whole other st w = through_word ws aligned k address value whole' placed may a x s has.0 has.1 whole other st w
-    store_after_word WP may a x s has whole other st w = flush_put_word ws aligned k address value whole' placed may a x s whole other st w
-    store_after_word WB may a x s has whole other st w = one (find_line (line_of address) (lines_of s k)) refl (cache_disabled_of s k)
+    -- every store but one that is combined sets its word, and leaves the others
+    pub store_put : (t : MemType) → is_combined t ≡ false → (may : Bool) (a x : ℕ) (s : System) → Has k s → a % 8 ≡ 0 → Stands ws s → Word may a x s → Put may a x value (store_after t k address value s) (a == address)
+    store_put UC sets may a x s has whole st w = flush_put_word ws aligned k address value whole' placed may a x s whole st w
+    store_put WC sets may a x s has whole st w = absurd (cc)
+    store_put WT sets may a x s has whole st w = through_word ws aligned k address value whole' placed may a x s has.0 has.1 whole st w
+    store_put WP sets may a x s has whole st w = flush_put_word ws aligned k address value whole' placed may a x s whole st w
+    store_put WB sets may a x s has whole st w = one (find_line (line_of address) (lines_of s k)) refl (cache_disabled_of s k)
       where
-        one : (o : Option CacheLine) → find_line (line_of address) (lines_of s k) ≡ o → (c : Bool) → After may a x (if is_some o then store_hit k address value s else (if c then store_past k address value s else store_filling k address value s))
-        one (Some l) is c = hit_word ws aligned k address value whole' placed may a x s has.0 l has.1 (ap (find_line (line_of address)) (sym (lines_at k s has.0 has.1)) ∙ is) whole other st w
-        one None is true = past_missing ws aligned k address value whole' placed may a x s has.0 has.1 (misses_of (line_of address) k s is) whole other st w
-        one None is false = filling_word ws aligned k address value whole' placed s has.0 has.1 (misses_of (line_of address) k s is) st may a x whole other w
+        one : (o : Option CacheLine) → find_line (line_of address) (lines_of s k) ≡ o → (c : Bool) → Put may a x value (if is_some o then store_hit k address value s else (if c then store_past k address value s else store_filling k address value s)) (a == address)
+        one (Some l) is c = hit_word ws aligned k address value whole' placed may a x s has.0 l has.1 (ap (find_line (line_of address)) (sym (lines_at k s has.0 has.1)) ∙ is) whole st w
+        one None is true = past_missing ws aligned k address value whole' placed may a x s has.0 has.1 (misses_of (line_of address) k s is) whole st w
+        one None is false = filling_word ws aligned k address value whole' placed s has.0 has.1 (misses_of (line_of address) k s is) st may a x whole w
+
+    store_after_word : (t : MemType) (may : Bool) (a x : ℕ) (s : System) → Has k s → a % 8 ≡ 0 → (may ≡ false → a ≢ address) → Stands ws s → Word may a x s → After may a x (store_after t k address value s)
+    store_after_word WC may a x s has whole other st w = combine_word may a x s whole other st w
+    store_after_word t may a x s has whole other st w =
+        put_after may a x value (store_after t k address value s) (a == address) (λ h e. other h (eqb-true a address e)) (store_put t refl may a x s has whole st w)
 
   -- ---- what comes first
 
-  first_load_stands : (t : MemType) (k n : ℕ) (s : System) → Stands ws s → Stands ws (first_of_load t k n s)
+  pub first_load_stands : (t : MemType) (k n : ℕ) (s : System) → Stands ws s → Stands ws (first_of_load t k n s)
   first_load_stands UC k n s st = stands_drain ws aligned k s st
   first_load_stands other k n s st = stands_drain_line ws aligned k n s st
 
@@ -229,7 +239,7 @@ module _ (ws : List Window) (aligned : AllAligned ws) where
   first_load_word UC may a x k n s whole st w = drain_word ws aligned may a x k s whole st w
   first_load_word other may a x k n s whole st w = drain_line_word ws aligned may a x k n s whole st w
 
-  first_store_stands : (t : MemType) (k n : ℕ) (s : System) → Stands ws s → Stands ws (first_of_store t k n s)
+  pub first_store_stands : (t : MemType) (k n : ℕ) (s : System) → Stands ws s → Stands ws (first_of_store t k n s)
   first_store_stands UC k n s st = stands_drain ws aligned k s st
   first_store_stands WC k n s st = st
   first_store_stands other k n s st = stands_drain_line ws aligned k n s st
@@ -255,7 +265,7 @@ module _ (ws : List Window) (aligned : AllAligned ws) where
     read_has : (s : System) → Has k s → Has k (bus_read (line_of address) s)
     read_has s h = (with_lines (change_line (line_of address) clean_line) h.0, slice_get-map (with_lines (change_line (line_of address) clean_line)) s.processors k ∙ ap (option_map (with_lines (change_line (line_of address) clean_line))) h.1)
 
-    read_word : (may : Bool) (a x : ℕ) (s : System) → a % 8 ≡ 0 → Stands ws s → Word may a x s → Word may a x (bus_read (line_of address) s)
+    pub read_word : (may : Bool) (a x : ℕ) (s : System) → a % 8 ≡ 0 → Stands ws s → Word may a x s → Word may a x (bus_read (line_of address) s)
     read_word may a x s whole st w = one (line_of a == line_of address) refl
       where
         one : (b : Bool) → (line_of a == line_of address) ≡ b → Word may a x (bus_read (line_of address) s)
@@ -280,7 +290,7 @@ module _ (ws : List Window) (aligned : AllAligned ws) where
             fill_other ws aligned k (line_of address) (bus_read (line_of address) s) h.0 h.1 stt ms placed may a x whole (eqb-false (line_of a) (line_of address) is) (read_word may a x s whole st w)
 
     -- where a load fills a line, the cache has none of that number
-    load_after_stands : (t : MemType) (s : System) → Has k s → Stands ws s → Stands ws (load_after t k address s).1
+    pub load_after_stands : (t : MemType) (s : System) → Has k s → Stands ws s → Stands ws (load_after t k address s).1
     load_after_stands t s has st = one (is_cached t) (find_line (line_of address) (lines_of s k)) refl (cache_disabled_of s k)
       where
         one : (c : Bool) (o : Option CacheLine) → find_line (line_of address) (lines_of s k) ≡ o → (d : Bool) → Stands ws (option_map_or {U = ℕ × System} (λ (l : CacheLine). (slice_index l.words (word_of address), s)) (if c then o else None) (word_at (bus_read (line_of address) s).memory address, (if c && not d then fill_line k (line_of address) (bus_read (line_of address) s) else bus_read (line_of address) s))).1
@@ -289,7 +299,7 @@ module _ (ws : List Window) (aligned : AllAligned ws) where
         one true None is false = let h = read_has s has in stands_fill ws aligned k (line_of address) (bus_read (line_of address) s) h.0 h.1 (stands_read ws aligned (line_of address) s st) (misses_read s (misses_of (line_of address) k s is)) placed
         one false o is d = stands_read ws aligned (line_of address) s st
 
-    load_after_word : (t : MemType) (may : Bool) (a x : ℕ) (s : System) → Has k s → a % 8 ≡ 0 → Stands ws s → Word may a x s → Word may a x (load_after t k address s).1
+    pub load_after_word : (t : MemType) (may : Bool) (a x : ℕ) (s : System) → Has k s → a % 8 ≡ 0 → Stands ws s → Word may a x s → Word may a x (load_after t k address s).1
     load_after_word t may a x s has whole st w = one (is_cached t) (find_line (line_of address) (lines_of s k)) refl (cache_disabled_of s k)
       where
         one : (c : Bool) (o : Option CacheLine) → find_line (line_of address) (lines_of s k) ≡ o → (d : Bool) → Word may a x (option_map_or {U = ℕ × System} (λ (l : CacheLine). (slice_index l.words (word_of address), s)) (if c then o else None) (word_at (bus_read (line_of address) s).memory address, (if c && not d then fill_line k (line_of address) (bus_read (line_of address) s) else bus_read (line_of address) s))).1
@@ -376,7 +386,7 @@ module _ (ws : List Window) (aligned : AllAligned ws) where
       one true = h
       one false = record { lines_apart = h.lines_apart; lines_fit = h.lines_fit; buffers_apart = h.buffers_apart; buffers_fit = h.buffers_fit; few_lines = h.few_lines; few_buffers = h.few_buffers }
 
-  entry_lines : (e : Entry) (p : Processor) → ((keep_entry e p).lines ≡ p.lines) × ((keep_entry e p).buffers ≡ p.buffers)
+  pub entry_lines : (e : Entry) (p : Processor) → ((keep_entry e p).lines ≡ p.lines) × ((keep_entry e p).buffers ≡ p.buffers)
   entry_lines e p = one (is_some (find (λ x. x.vpage == e.vpage) p.entries))
     where
       one : (b : Bool) → ((if b then p else record p { entries = add_entry e p.entries }).lines ≡ p.lines) × ((if b then p else record p { entries = add_entry e p.entries }).buffers ≡ p.buffers)
@@ -401,7 +411,7 @@ module _ (ws : List Window) (aligned : AllAligned ws) where
   quiet_word f k s may a x same w =
       leaves_word may a x s (change f k s) (leaves_change a f k s (λ p at. ap (copy_in a) (same p).0) (λ p at h. ap (unwritten a) (same p).1 ∙ h)) w
 
-  entry_has : (e : Entry) (k : ℕ) (s : System) (p : Processor) → slice_get s.processors k ≡ Some p → Has k (change (keep_entry e) k s)
+  pub entry_has : (e : Entry) (k : ℕ) (s : System) (p : Processor) → slice_get s.processors k ≡ Some p → Has k (change (keep_entry e) k s)
   entry_has e k s p at = (keep_entry e p, changed_at (keep_entry e) k s p at)
 
   entry_stands : (s : System) (k : ℕ) (p : Processor) (op : Op) → slice_get s.processors k ≡ Some p → Stands ws s → (o : Option Entry) → Stands ws (option_map_or (λ e. translated (change (keep_entry e) k s) k e op) o (record { answer = Unmapped; after = s })).after

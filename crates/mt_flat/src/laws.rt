@@ -1,0 +1,21 @@
+ghost use Rattle.mt_flat.specs.Seen.{AnswersAreFlat, CachesAreNeverSeen, EventsKeepFlat, NoBuffersIsFlat, RunsKeepFlat, StartIsFlat};
+
+/// The flat machine at its start stands beside a machine at its start, and beside each system without
+/// buffers stands one with its words and nothing pending.
+pub fn starts_are_flat()
+    ensures start { StartIsFlat }
+    ensures no_buffers { NoBuffersIsFlat }
+{}
+
+/// Each enabled event, and each list of them, keeps the words' values and the pending lines alike.
+pub fn events_are_flat()
+    ensures event { EventsKeepFlat }
+    ensures run { RunsKeepFlat }
+{}
+
+/// Each value that a load is answered is the flat machine's, in a state and after a list of events:
+/// caches are never seen.
+pub fn caches_are_never_seen()
+    ensures answer { AnswersAreFlat }
+    ensures run { CachesAreNeverSeen }
+{}
