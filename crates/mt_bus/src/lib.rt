@@ -10,6 +10,8 @@ mod loads;
 mod snoops;
 mod stores;
 mod system;
+#[cfg(test)]
+mod tests;
 mod words;
 
 pub use mt_machine::{Control, Done, Op, Ruled};

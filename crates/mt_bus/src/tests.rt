@@ -1,0 +1,127 @@
+use crate::system::System;
+use mt_kinds::MemType;
+use mt_machine::{Control, Done, Op, Ruled};
+use mt_regs::RegFile;
+use mt_tlb::Mapping;
+use std::alloc::Global;
+
+/// A file whose memory below 4 GB has a type, over UC.
+fn file(kind: u64) -> Option<RegFile> {
+    let Ok(mut file) = RegFile::blank(36, 0x508) else {
+        return None;
+    };
+    for (msr, value) in [(0x200, kind), (0x201, 0xf_0000_0800), (0x2ff, 0x800)] {
+        if file.set(msr, value).is_err() {
+            return None;
+        }
+    }
+    Some(file)
+}
+
+/// A system with a window of 64 lines from 1 MB on.
+fn system(alloc: Global, cpus: u32, kind: u64) -> Option<System> {
+    let file = file(kind)?;
+    if cpus == 0 || cpus > 16 || file.first_fault().is_some() {
+        return None;
+    }
+    let Ok(mut system) = System::new(alloc, cpus, &file) else {
+        return None;
+    };
+    if system.add_ram(0x10_0000, 64).is_err() {
+        return None;
+    }
+    Some(system)
+}
+
+/// Maps a page, where the processor has the physical page.
+fn map(system: &mut System, k: u32, vpage: u64, ppage: u64) -> Option<Ruled> {
+    let x = Mapping {
+        vpage,
+        ppage,
+        index: 0,
+        global: false,
+    };
+    let pages = system.cpus.get(k as usize)?.regs().pages();
+    if x.vpage < 1 << 36 && x.ppage < pages {
+        Some(system.control(k, Control::Map(x)))
+    } else {
+        None
+    }
+}
+
+fn access(system: &mut System, k: u32, op: Op) -> Option<Done> {
+    if (k as usize) < system.cpus.len() {
+        Some(system.access(k, op))
+    } else {
+        None
+    }
+}
+
+fn word(system: &System, address: u64) -> Option<u64> {
+    let i = system.ram.place(address)?;
+    Some(system.ram.word(i))
+}
+
+#[test]
+fn a_store_takes_the_line_over(rt: HostRuntime) {
+    let Some(mut system) = system(rt.alloc(), 2, 6) else {
+        panic!(rt; "the file is accepted");
+    };
+    for k in 0..2 {
+        assert!(rt;
+            map(&mut system, k, 1, 0x100) == Some(Ruled::Okay),
+            "at {k}"
+        );
+    }
+    assert!(rt; access(&mut system, 0, Op::Store(0x1000, 0x2a)) == Some(Done::Stored(MemType::WB)));
+    assert!(rt; word(&system, 0x10_0000) == Some(0));
+    assert!(rt; access(&mut system, 1, Op::Load(0x1000)) == Some(Done::Value(0x2a, MemType::WB)));
+    assert!(rt; word(&system, 0x10_0000) == Some(0x2a));
+    assert!(rt; access(&mut system, 1, Op::Store(0x1000, 0x2b)) == Some(Done::Stored(MemType::WB)));
+    assert!(rt; word(&system, 0x10_0000) == Some(0x2a));
+    for (k, lines) in [(0, 0), (1, 1)] {
+        assert!(rt;
+            matches!(system.cpus.get(k), Some(cpu) if cpu.cache().lines().len() == lines),
+            "at {k}"
+        );
+    }
+}
+
+#[test]
+fn the_oldest_of_four_buffers_gives_way(rt: HostRuntime) {
+    let Some(mut system) = system(rt.alloc(), 1, 1) else {
+        panic!(rt; "the file is accepted");
+    };
+    assert!(rt; map(&mut system, 0, 1, 0x100) == Some(Ruled::Okay));
+    for (address, v) in [(0x1000, 7), (0x1040, 8), (0x1080, 9), (0x10c0, 10)] {
+        assert!(rt;
+            access(&mut system, 0, Op::Store(address, v)) == Some(Done::Stored(MemType::WC)),
+            "at {address}"
+        );
+    }
+    assert!(rt; word(&system, 0x10_0000) == Some(0));
+    assert!(rt; access(&mut system, 0, Op::Store(0x1100, 11)) == Some(Done::Stored(MemType::WC)));
+    assert!(rt; word(&system, 0x10_0000) == Some(7));
+    assert!(rt; word(&system, 0x10_0040) == Some(0));
+    assert!(rt; access(&mut system, 0, Op::Fence) == Some(Done::Fenced));
+    assert!(rt; word(&system, 0x10_0040) == Some(8));
+    assert!(rt; word(&system, 0x10_0100) == Some(11));
+}
+
+#[test]
+fn refusals_and_no_fill_mode(rt: HostRuntime) {
+    let Some(mut system) = system(rt.alloc(), 1, 6) else {
+        panic!(rt; "the file is accepted");
+    };
+    assert!(rt; map(&mut system, 0, 1, 0x100) == Some(Ruled::Okay));
+    assert!(rt; access(&mut system, 0, Op::Load(0x2000)) == Some(Done::Unmapped));
+    assert!(rt; map(&mut system, 0, 2, 0x200) == Some(Ruled::Okay));
+    assert!(rt; access(&mut system, 0, Op::Load(0x2000)) == Some(Done::NoRam));
+    if 0 < system.cpus.len() {
+        assert!(rt; system.control(0, Control::Cd(true)) == Ruled::Okay);
+    }
+    assert!(rt; access(&mut system, 0, Op::Load(0x1000)) == Some(Done::Value(0, MemType::WB)));
+    assert!(rt;
+        matches!(system.cpus.first(), Some(cpu) if cpu.cache().lines().is_empty() && cpu.tlb().entries().len() == 2)
+    );
+}
