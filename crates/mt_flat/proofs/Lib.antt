@@ -3,3 +3,4 @@ pub mod Emptying
 pub mod Storing
 pub mod Accessing
 pub mod Seeing
+pub mod Updating

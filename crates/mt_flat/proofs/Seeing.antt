@@ -19,7 +19,7 @@ use Rattle.mt_flat.proofs.Accessing.{answer_same, next_same}
 
 -- ---- the relation, by now and by copies
 
-same_of : (s : System) (f : Flat) → IsSound s → IsFlatOf s f → Same s.memory.windows s f
+pub same_of : (s : System) (f : Flat) → IsSound s → IsFlatOf s f → Same s.memory.windows s f
 same_of s f h r = record {
   stands = sound_stands s h;
   values = λ a whole. let w = sound_word s h a whole in subst (λ (x : ℕ). Word true a x s) (sym (now_is s.memory.windows s a w.0 (sound_stands s h) w.1) ∙ r.values a whole) w.1;
@@ -29,7 +29,7 @@ same_of s f h r = record {
 flat_of : (ws : List Window) (s : System) (f : Flat) → Same ws s f → IsFlatOf s f
 flat_of ws s f r = record { values = λ a whole. now_is ws s a (f.values a) r.stands (r.values a whole); pending = r.pending }
 
-aligned_in : (s : System) → IsSound s → AllAligned s.memory.windows
+pub aligned_in : (s : System) → IsSound s → AllAligned s.memory.windows
 aligned_in s h = aligned_all s.memory.windows h.memory.aligned
 
 -- ---- events
@@ -38,7 +38,7 @@ pub events_keep_flat : EventsKeepFlat
 events_keep_flat m e f h r enabled =
     flat_of m.system.memory.windows (next m e).system (flat_after m e f) (next_same m.system.memory.windows (aligned_in m.system h) m e f enabled (same_of m.system f h r))
 
-run_same : (ws : List Window) → AllAligned ws → (es : List MachineEvent) (m : Machine) (f : Flat) → AreEnabled m es → Same ws m.system f → Same ws (run m es).system (flat_run m es f)
+pub run_same : (ws : List Window) → AllAligned ws → (es : List MachineEvent) (m : Machine) (f : Flat) → AreEnabled m es → Same ws m.system f → Same ws (run m es).system (flat_run m es f)
 run_same ws aligned [] m f enabled r = r
 run_same ws aligned (e ∷ es) m f enabled r = run_same ws aligned es (next m e) (flat_after m e f) enabled.1 (next_same ws aligned m e f enabled.0 r)
 
@@ -61,7 +61,7 @@ caches_are_never_seen s f es k address value kind h r enabled answer =
 
 -- ---- starts
 
-no_buffers_at : (ps : List Processor) (k : ℕ) → All (λ (p : Processor). p.buffers ≡ []) ps → option_map_or (λ p. p.buffers) (slice_get ps k) [] ≡ []
+pub no_buffers_at : (ps : List Processor) (k : ℕ) → All (λ (p : Processor). p.buffers ≡ []) ps → option_map_or (λ p. p.buffers) (slice_get ps k) [] ≡ []
 no_buffers_at [] k h = refl
 no_buffers_at (p ∷ ps) zero h = All-head (λ (q : Processor). q.buffers ≡ []) p ps h
 no_buffers_at (p ∷ ps) (suc k) h = no_buffers_at ps k (All-tail (λ (q : Processor). q.buffers ≡ []) p ps h)

@@ -1,7 +1,7 @@
 -- The flat machine beside a machine with caches.
-use Rattle.std.specs.Prelude.{◌≡◌, ℕ, ◌%◌, List, [], ◌∷◌, map, if◌then◌else◌, slice_index, Option, None, Some}
+use Rattle.std.specs.Prelude.{◌≡◌, ℕ, ◌%◌, ◌≤◌, List, [], ◌∷◌, length, map, if◌then◌else◌, slice_index, Option, None, Some}
 use Rattle.std.specs.Option.{option_map_or, option_map}
-use Rattle.std.specs.List.{All}
+use Rattle.std.specs.List.{All, Contains, fold}
 use Rattle.mt_kinds.specs.declared.mem_type.MemType.{MemType}
 use Rattle.mt_regs.specs.RegisterFile.{RegisterFile}
 use Rattle.mt_cache.specs.declared.line.CacheLine.{CacheLine}
@@ -12,13 +12,15 @@ use Rattle.mt_machine.specs.declared.done.Done.{Done}
 use Rattle.mt_machine.specs.declared.done.Done.TheVariants.{Value, Stored, Fenced}
 use Rattle.mt_machine.specs.declared.control.Control.TheVariants.{Map}
 use Rattle.mt_machine.specs.declared.event.Event.TheVariants.{Take}
-use Rattle.mt_machine.specs.Memory.{Window}
+use Rattle.mt_machine.specs.Memory.{Window, word_at}
 use Rattle.mt_machine.specs.System.{System, IsSound, buffers_of, now}
 use Rattle.mt_machine.specs.Access.{access}
-use Rattle.mt_machine.specs.Machine.{Machine, MachineEvent, Accesses, Controls, Steps, IsEnabled, AreEnabled, next, run}
-use Rattle.mt_machine.specs.Start.{start_machine}
-use Rattle.mt_machine.specs.Update.{physical_of}
-use Rattle.mt_flat.specs.Flat.{PendingLine, Flat, FlatEvent, Loads, Stores, Empties, flat_start, flat_next, flat_answer}
+use Rattle.mt_machine.specs.Machine.{Machine, MachineEvent, Order, Accesses, Calls, Controls, Steps, IsEnabled, AreEnabled, next, run}
+use Rattle.mt_machine.specs.Start.{IsQuiet, IsStart, start_machine}
+use Rattle.mt_machine.specs.Update.{physical_of, stored_words, updated}
+use Rattle.mt_laws.specs.Counts.{IsEachOnce}
+use Rattle.mt_laws.specs.Settled.{IsFirstRelease}
+use Rattle.mt_flat.specs.Flat.{PendingLine, Flat, FlatEvent, Loads, Stores, Empties, empty_all, flat_start, flat_next, flat_answer}
 
 -- ---- what the flat machine is given
 
@@ -91,3 +93,31 @@ abbrev pub CachesAreNeverSeen : Type 0
 CachesAreNeverSeen =
     (s : Machine) (f : Flat) (es : List MachineEvent) (k address value : ℕ) (kind : MemType) → IsSound s.system → IsFlatOf s.system f → AreEnabled s es
     → (access (run s es).system k (Load address)).answer ≡ Value value kind → IsFlatAnswer (run s es) (flat_run s es f) k address value kind
+
+-- no processor ever has more than four pending lines
+abbrev pub PendingStaysFew : Type 0
+PendingStaysFew =
+    (s : Machine) (f : Flat) (es : List MachineEvent) (k : ℕ) → IsSound s.system → IsFlatOf s.system f → AreEnabled s es
+    → length ((flat_run s es f).pending k) ≤ 4
+
+-- ---- updates
+
+-- what was given until an update's first pass: then nothing is pending, and after its first release memory has each word that was not stored since
+pub record IsHeldFlat (f : Flat) (r : Machine) (since : List MachineEvent) : Type 0 where
+  pub nothing : (k : ℕ) → f.pending k ≡ []
+  pub held : (address : ℕ) → address % 8 ≡ 0 → (Contains (stored_words r since) address → ⊥) → word_at (run r since).system.memory address ≡ f.values address
+
+abbrev pub HeldIsFlat : Type 0
+HeldIsFlat =
+    (s r : Machine) (f : Flat) (es since : List MachineEvent) (o : Order) → IsStart s → IsFlatOf s.system f → AreEnabled s es
+    → IsFirstRelease (run s es) r o → AreEnabled r since
+    → IsHeldFlat (flat_run s es f) r since
+
+-- of a whole update the flat machine is given the takes
+abbrev pub flat_takes : List ℕ → Flat → Flat
+flat_takes ks f = fold (λ g k. empty_all k g) f ks
+
+abbrev pub UpdatedIsFlat : Type 0
+UpdatedIsFlat =
+    (s : Machine) (f : Flat) (goal : RegisterFile) (ks : List ℕ) → IsQuiet s → IsEnabled s (Calls goal) → IsEachOnce (length s.system.processors) ks
+    → IsFlatOf s.system f → IsFlatOf (updated s.system ks goal).system (flat_takes ks f)

@@ -1,4 +1,4 @@
-ghost use Rattle.mt_flat.specs.Seen.{AnswersAreFlat, CachesAreNeverSeen, EventsKeepFlat, NoBuffersIsFlat, RunsKeepFlat, StartIsFlat};
+ghost use Rattle.mt_flat.specs.Seen.{AnswersAreFlat, CachesAreNeverSeen, EventsKeepFlat, HeldIsFlat, NoBuffersIsFlat, PendingStaysFew, RunsKeepFlat, StartIsFlat, UpdatedIsFlat};
 
 /// The flat machine at its start stands beside a machine at its start, and beside each system without
 /// buffers stands one with its words and nothing pending.
@@ -18,4 +18,17 @@ pub fn events_are_flat()
 pub fn caches_are_never_seen()
     ensures answer { AnswersAreFlat }
     ensures run { CachesAreNeverSeen }
+{}
+
+/// No processor ever has more than four pending lines.
+pub fn pending_stays_few()
+    ensures { PendingStaysFew }
+{}
+
+/// Where an update's first processor passes the first barrier nothing is pending, and after its first
+/// release memory has the flat machine's value of then for each word that was not stored since. Beside
+/// the state after a whole update stands the flat machine that was given its takes.
+pub fn updates_are_flat()
+    ensures held { HeldIsFlat }
+    ensures outright { UpdatedIsFlat }
 {}

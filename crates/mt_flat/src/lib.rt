@@ -7,5 +7,7 @@
 mod laws;
 mod worked;
 
-pub use laws::{caches_are_never_seen, events_are_flat, starts_are_flat};
+pub use laws::{
+    caches_are_never_seen, events_are_flat, pending_stays_few, starts_are_flat, updates_are_flat,
+};
 pub use worked::{worked_pending, worked_stores};

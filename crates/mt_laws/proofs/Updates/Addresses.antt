@@ -1,13 +1,15 @@
 -- Memory's words in a row are the words at its addresses.
 use Rattle.std.proofs.Common.{◌≡◌, ℕ, zero, suc, ◌+◌, ◌-◌, ◌*◌, ◌/◌, ◌%◌, ◌<◌, ◌≤◌, List, [], ◌∷◌, ◌++◌, length, get_or, Some, None, Option, Bool, true, false, refl, sym, ap, ◌∙◌, arith, ⊎_elim, eq-eqb}
-use Rattle.std.specs.Prelude.{if◌then◌else◌, nat_lt, nat_le, ◌&&◌, map}
+use Rattle.std.specs.Prelude.{if◌then◌else◌, nat_lt, nat_le, ◌&&◌, map, is_some}
 use Rattle.std.specs.List.{AllPairs}
 use Rattle.std.specs.Option.{option_map_or}
 use Rattle.std.proofs.lemmas.Bool.{ltb-true, ltb-false, leb-true, lt-ltb, le-leb, le-ltb}
 use Rattle.std.proofs.lemmas.List.{ext_get_or, length-append, length-map, get_or-map, get_or_append_left, get_or-append_right}
-use Rattle.mt_machine.specs.Memory.{Memory, Window, AreApart, IsMemory, word_count, place_in, place, word_at}
+use Rattle.mt_machine.specs.Memory.{Memory, Window, AreApart, IsMemory, word_count, place_in, place, word_at, line_of}
 use Rattle.mt_machine.specs.Update.{addresses_from, addresses}
-use Rattle.mt_laws.proofs.Words.MemoryLaws.{AllAligned}
+use Rattle.mt_laws.proofs.Words.MemoryLaws.{AllAligned, place_apart}
+use Rattle.mt_laws.proofs.Words.LineLaws.{word_placed}
+use Rattle.mt_laws.proofs.Words.AccessLaws.{line_placed}
 use Rattle.mt_laws.proofs.Words.Sound.{aligned_all}
 
 length_from : (base n : ℕ) → length (addresses_from base n) ≡ n
@@ -136,3 +138,21 @@ words_are m f h same =
     ap (λ (o : Option ℕ). option_map_or (λ j. get_or m.words j 0) o 0) (sym at)
     ∙ same a whole
     ∙ sym (get_or-map f (addresses m.windows) i 0 0 (omega arith)))
+
+-- where memory's words are f at each address, the word at each is f
+pub word_of_words : (m : Memory) (f : ℕ → ℕ) → IsMemory m → (a i : ℕ) → a % 8 ≡ 0 → place m a ≡ Some i → word_at (record { windows = m.windows; words = map f (addresses m.windows) }) a ≡ f a
+word_of_words m f h a i whole at =
+    let aligned = aligned_all m.windows h.aligned in
+    let line = line_placed m.windows m a aligned (record { windows = refl; counted = h.counted }) (ap is_some at) in
+    let found = word_placed m (line_of a) a aligned line.0 whole refl in
+    let same : Some i ≡ Some found.0 = sym at ∙ found.1 in
+    let low : i < word_count m.windows = let e : i ≡ found.0 = cc in let b = found.2 in omega arith in
+    let b : ℕ = get_or (addresses m.windows) i 0 in
+    let zero_sum : 0 + i ≡ i = omega arith in
+    let inside : place_in m.windows 0 a ≡ Some i = sym (ap (λ c. if c then place_in m.windows 0 a else None) (eq-eqb (a % 8) 0 whole)) ∙ at in
+    let there : place_in m.windows 0 (get_or (addresses m.windows) i 0) ≡ Some i = place_of_address m.windows 0 i (separate_of m.windows h.apart) low ∙ ap (λ (n : ℕ). Some n) zero_sum in
+    let e : get_or (addresses m.windows) i 0 ≡ a = place_apart m.windows 0 b a i aligned (address_aligned m.windows i aligned low) whole there inside in
+    let len = length_addresses m.windows in
+    ap (λ (o : Option ℕ). option_map_or (λ j. get_or (map f (addresses m.windows)) j 0) o 0) at
+    ∙ get_or-map f (addresses m.windows) i 0 0 (omega arith)
+    ∙ ap f e

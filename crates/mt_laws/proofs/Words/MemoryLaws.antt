@@ -23,7 +23,7 @@ place_from (w ∷ ws) before a i h = one (nat_le w.base a && nat_lt a (w.base + 
     one false rest g = let e = rest g in omega arith
 
 -- two words of one place have one address
-place_apart : (ws : List Window) (before a b i : ℕ) → AllAligned ws → a % 8 ≡ 0 → b % 8 ≡ 0 → place_in ws before a ≡ Some i → place_in ws before b ≡ Some i → a ≡ b
+pub place_apart : (ws : List Window) (before a b i : ℕ) → AllAligned ws → a % 8 ≡ 0 → b % 8 ≡ 0 → place_in ws before a ≡ Some i → place_in ws before b ≡ Some i → a ≡ b
 place_apart [] before a b i aligned wa wb ha hb = absurd (cc)
 place_apart (w ∷ ws) before a b i aligned wa wb ha hb =
     one (nat_le w.base a && nat_lt a (w.base + 64 * w.lines)) (nat_le w.base b && nat_lt b (w.base + 64 * w.lines)) refl refl

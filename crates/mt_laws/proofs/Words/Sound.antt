@@ -19,9 +19,9 @@ use Rattle.mt_laws.proofs.Words.BitLaws.{no_bit}
 use Rattle.mt_laws.proofs.Words.MemoryLaws.{AllAligned}
 use Rattle.mt_laws.proofs.Barrier.Claims.{all_get}
 use Rattle.mt_laws.proofs.Words.Copies.{Copy, IsClear, IsShared, IsOwned, Shows}
-use Rattle.mt_laws.proofs.Words.LineLaws.{fits, is_placed, look}
-use Rattle.mt_laws.proofs.Words.LineLists.{copy_in, Apart, find_hit, found_number}
-use Rattle.mt_laws.proofs.Words.BusLaws.{AllFit, Stands, copies, Word, copies_at, fits_of, fits_bits, fit_at}
+use Rattle.mt_laws.proofs.Words.LineLaws.{fits, is_placed, look, word_placed}
+use Rattle.mt_laws.proofs.Words.LineLists.{copy_in, Apart, find_hit, found_number, found_passes}
+use Rattle.mt_laws.proofs.Words.BusLaws.{AllFit, Stands, copies, Word, copies_at, fits_of, fits_bits, fits_placed, fit_at}
 use Rattle.mt_laws.proofs.Words.StepLaws.{find_passes, find_within, no_dirty_word}
 use Rattle.mt_laws.proofs.Words.Agreement.{Agrees}
 
@@ -373,4 +373,20 @@ now_is ws s a x st w =
     ⊎_elim
     (λ (h : (word_at s.memory a ≡ x) × IsShared (word_at s.memory a) (copies a s.processors)). ap (λ o. option_map_or (λ v. v) o (word_at s.memory a)) (shared_now ws a (word_at s.memory a) s.processors st.fit h.1) ∙ h.0)
     (λ (h : IsOwned x (copies a s.processors)). ap (λ o. option_map_or (λ v. v) o (word_at s.memory a)) (owned_now ws a x s.processors st.fit h))
+    w.shows
+
+-- a word that has no place is 0
+pub no_word : (ws : List Window) → AllAligned ws → (s : System) (a x : ℕ) → Stands ws s → a % 8 ≡ 0 → place s.memory a ≡ None → Word true a x s → x ≡ 0
+no_word ws aligned s a x st whole none w =
+    ⊎_elim
+    (λ (h : (word_at s.memory a ≡ x) × IsShared (word_at s.memory a) (copies a s.processors)). sym h.0 ∙ ap (λ (o : Option ℕ). option_map_or (λ i. slice_index s.memory.words i) o 0) none)
+    (λ (h : IsOwned x (copies a s.processors)).
+    let at = owned_place x (copies a s.processors) h in
+    let p = copies_place a s.processors at.0 (Some (x, true)) at.1 in
+    let l = copy_line a p.0.lines x true p.2 in
+    let number = found_number (line_of a) p.0.lines l.0 l.1 in
+    let fit = found_passes (fits ws) (line_of a) p.0.lines l.0 (fit_at ws s.processors at.0 p.0 st.fit p.1).lines_fit l.1 in
+    let placed : is_placed s.memory.windows (line_of a) ≡ true = ap (λ v. is_placed v (line_of a)) st.memory.windows ∙ ap (is_placed ws) (sym number) ∙ fits_placed ws l.0 fit in
+    let found = word_placed s.memory (line_of a) a (subst AllAligned (sym st.memory.windows) aligned) placed whole refl in
+    absurd (let e : None ≡ Some found.0 = sym none ∙ found.1 in cc))
     w.shows

@@ -125,7 +125,7 @@ module _ (ws : List Window) (aligned : AllAligned ws) where
         if is_some (find_line (line_of address) (buffers_of s k)) then s
         else option_map_or (λ b. change (with_buffers (without_line b.number)) k (empty_buffer s b)) (oldest_of_full 4 (buffers_of s k)) s
 
-    pub roomy_stands : (s : System) → Stands ws s → Stands ws (with_room s)
+    roomy_stands : (s : System) → Stands ws s → Stands ws (with_room s)
     roomy_stands s st = one (is_some (find_line (line_of address) (buffers_of s k))) (oldest_of_full 4 (buffers_of s k))
       where
         one : (c : Bool) (o : Option CacheLine) → Stands ws (if c then s else option_map_or (λ b. change (with_buffers (without_line b.number)) k (empty_buffer s b)) o s)
@@ -167,7 +167,7 @@ module _ (ws : List Window) (aligned : AllAligned ws) where
     joined_word : (may : Bool) (a x : ℕ) (s : System) → a % 8 ≡ 0 → (may ≡ false → a ≢ address) → Word may a x s → Word may a x (change with_word k s)
     joined_word may a x s whole other w = word_buffers may a x with_word k s (λ p. refl) (λ h p g. word_unwritten a whole (other h) p g) w
 
-    pub full_stands : (s : System) → Stands ws s → Stands ws (option_map_or (λ (b : CacheLine). if b.dirty == 0xff then drain_line k (line_of address) s else s) (find_line (line_of address) (buffers_of s k)) s)
+    full_stands : (s : System) → Stands ws s → Stands ws (option_map_or (λ (b : CacheLine). if b.dirty == 0xff then drain_line k (line_of address) s else s) (find_line (line_of address) (buffers_of s k)) s)
     full_stands s st = one (find_line (line_of address) (buffers_of s k))
       where
         two : (c : Bool) → Stands ws (if c then drain_line k (line_of address) s else s)
@@ -189,7 +189,7 @@ module _ (ws : List Window) (aligned : AllAligned ws) where
         one None = after_word may a x s w
         one (Some b) = two (b.dirty == 0xff)
 
-    pub combine_stands : (s : System) → Stands ws s → Stands ws (combine k (line_of address) (word_of address) value s)
+    combine_stands : (s : System) → Stands ws s → Stands ws (combine k (line_of address) (word_of address) value s)
     combine_stands s st = full_stands (change with_word k (with_room s)) (joined_stands (with_room s) (roomy_few s st) (roomy_stands s st))
 
     combine_word : (may : Bool) (a x : ℕ) (s : System) → a % 8 ≡ 0 → (may ≡ false → a ≢ address) → Stands ws s → Word may a x s → After may a x (combine k (line_of address) (word_of address) value s)
@@ -231,7 +231,7 @@ module _ (ws : List Window) (aligned : AllAligned ws) where
 
   -- ---- what comes first
 
-  pub first_load_stands : (t : MemType) (k n : ℕ) (s : System) → Stands ws s → Stands ws (first_of_load t k n s)
+  first_load_stands : (t : MemType) (k n : ℕ) (s : System) → Stands ws s → Stands ws (first_of_load t k n s)
   first_load_stands UC k n s st = stands_drain ws aligned k s st
   first_load_stands other k n s st = stands_drain_line ws aligned k n s st
 
@@ -239,7 +239,7 @@ module _ (ws : List Window) (aligned : AllAligned ws) where
   first_load_word UC may a x k n s whole st w = drain_word ws aligned may a x k s whole st w
   first_load_word other may a x k n s whole st w = drain_line_word ws aligned may a x k n s whole st w
 
-  pub first_store_stands : (t : MemType) (k n : ℕ) (s : System) → Stands ws s → Stands ws (first_of_store t k n s)
+  first_store_stands : (t : MemType) (k n : ℕ) (s : System) → Stands ws s → Stands ws (first_of_store t k n s)
   first_store_stands UC k n s st = stands_drain ws aligned k s st
   first_store_stands WC k n s st = st
   first_store_stands other k n s st = stands_drain_line ws aligned k n s st
@@ -265,7 +265,7 @@ module _ (ws : List Window) (aligned : AllAligned ws) where
     read_has : (s : System) → Has k s → Has k (bus_read (line_of address) s)
     read_has s h = (with_lines (change_line (line_of address) clean_line) h.0, slice_get-map (with_lines (change_line (line_of address) clean_line)) s.processors k ∙ ap (option_map (with_lines (change_line (line_of address) clean_line))) h.1)
 
-    pub read_word : (may : Bool) (a x : ℕ) (s : System) → a % 8 ≡ 0 → Stands ws s → Word may a x s → Word may a x (bus_read (line_of address) s)
+    read_word : (may : Bool) (a x : ℕ) (s : System) → a % 8 ≡ 0 → Stands ws s → Word may a x s → Word may a x (bus_read (line_of address) s)
     read_word may a x s whole st w = one (line_of a == line_of address) refl
       where
         one : (b : Bool) → (line_of a == line_of address) ≡ b → Word may a x (bus_read (line_of address) s)
