@@ -4,5 +4,7 @@ mod Grown
 mod Lines
 mod Misses
 mod Places
+mod Refusing
 mod Rooms
 mod Translated
+mod Ruling

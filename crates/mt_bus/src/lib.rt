@@ -6,6 +6,7 @@ mod buffers;
 mod controls;
 mod copies;
 mod fills;
+mod laws;
 mod loads;
 mod snoops;
 mod stores;
@@ -14,5 +15,6 @@ mod system;
 mod tests;
 mod words;
 
+pub use laws::{accesses_refuse_in_order, controls_refuse_in_order};
 pub use mt_machine::{Control, Done, Op, Ruled};
 pub use system::System;

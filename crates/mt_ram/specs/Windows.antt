@@ -1,5 +1,5 @@
 -- Windows of memory as they are added (own).
-use Rattle.std.specs.Prelude.{◌≤◌, ℕ, ◌+◌, ◌*◌, ◌%◌, ◌==◌, nat_lt, nat_le, Bool, false, ◌&&◌, ◌||◌, List, [], ◌∷◌, ◌++◌, length, replicate, take, drop, if◌then◌else◌, Option, None, Some, Result, Ok, Err}
+use Rattle.std.specs.Prelude.{◌≡◌, ◌↔◌, ◌<◌, ◌≤◌, ℕ, ◌+◌, ◌*◌, ◌%◌, ◌==◌, nat_lt, nat_le, Bool, true, false, ◌&&◌, ◌||◌, List, [], ◌∷◌, ◌++◌, length, replicate, take, drop, if◌then◌else◌, Option, None, Some, Result, Ok, Err}
 use Rattle.mt_ram.specs.declared.fault.RamFault.{RamFault}
 use Rattle.mt_ram.specs.declared.fault.RamFault.TheVariants.{Misaligned, Overlaps, TooMuch, NoMemory}
 use Rattle.mt_ram.specs.declared.window.Window.{Window}
@@ -51,3 +51,11 @@ with_line i m ws = record m { words = take (length m.words) (take i m.words ++ w
 pub record IsRam (m : machine.Memory) : Type 0 where
   pub memory : machine.IsMemory m
   pub few : length m.words ≤ 8 * 4096
+
+-- the byte at an address is in the window
+abbrev pub HasByte : machine.Window → ℕ → Type 0
+HasByte w address = (w.base ≤ address) × (address < machine.window_end w)
+
+-- the comparison of bounds tells whether two windows have a byte in common
+abbrev pub OverlapsByBytes : Type 0
+OverlapsByBytes = (v w : machine.Window) → 0 < v.lines → 0 < w.lines → (shares_byte v w ≡ true) ↔ ((address : ℕ) × HasByte v address × HasByte w address)

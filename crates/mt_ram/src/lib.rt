@@ -2,10 +2,12 @@
 #![tactic(auto)]
 
 mod fault;
+mod laws;
 mod ram;
 #[cfg(test)]
 mod tests;
 mod window;
 
 pub use fault::RamFault;
+pub use laws::windows_overlap_by_bytes;
 pub use ram::Ram;
