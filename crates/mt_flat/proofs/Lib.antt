@@ -4,3 +4,4 @@ pub mod Storing
 pub mod Accessing
 pub mod Seeing
 pub mod Updating
+pub mod Coursing

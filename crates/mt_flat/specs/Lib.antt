@@ -1,3 +1,4 @@
 pub mod Flat
 pub mod Seen
+pub mod Courses
 pub mod WorkedRuns

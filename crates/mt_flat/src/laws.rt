@@ -1,3 +1,4 @@
+ghost use Rattle.mt_flat.specs.Courses.{CoursesHideCaches, CoursesKeepFlat};
 ghost use Rattle.mt_flat.specs.Seen.{AnswersAreFlat, CachesAreNeverSeen, EventsKeepFlat, HeldIsFlat, NoBuffersIsFlat, PendingStaysFew, RunsKeepFlat, StartIsFlat, UpdatedIsFlat};
 
 /// The flat machine at its start stands beside a machine at its start, and beside each system without
@@ -31,4 +32,11 @@ pub fn pending_stays_few()
 pub fn updates_are_flat()
     ensures held { HeldIsFlat }
     ensures outright { UpdatedIsFlat }
+{}
+
+/// The same over courses, in which whole updates stand as one turn beside events: each value that a load is
+/// answered after one is the flat machine's.
+pub fn courses_are_flat()
+    ensures keep { CoursesKeepFlat }
+    ensures answer { CoursesHideCaches }
 {}

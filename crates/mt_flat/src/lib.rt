@@ -8,6 +8,7 @@ mod laws;
 mod worked;
 
 pub use laws::{
-    caches_are_never_seen, events_are_flat, pending_stays_few, starts_are_flat, updates_are_flat,
+    caches_are_never_seen, courses_are_flat, events_are_flat, pending_stays_few, starts_are_flat,
+    updates_are_flat,
 };
-pub use worked::{worked_pending, worked_stores};
+pub use worked::{worked_course, worked_pending, worked_stores};

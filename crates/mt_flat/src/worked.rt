@@ -2,10 +2,12 @@ ghost use Rattle.std.specs.Prelude.{◌≡◌, ◌∷◌, ◌++◌, [], None, So
 ghost use Rattle.mt_kinds.specs.declared.mem_type.MemType.TheVariants.{UC, WB, WC, WP};
 ghost use Rattle.mt_machine.specs.declared.control.Control.TheVariants.{Cd, Cr3};
 ghost use Rattle.mt_machine.specs.declared.event.Event.TheVariants.{Arrive, Take};
-ghost use Rattle.mt_machine.specs.declared.op.Op.TheVariants.{Fence};
+ghost use Rattle.mt_machine.specs.declared.done.Done.TheVariants.{Value};
+ghost use Rattle.mt_machine.specs.declared.op.Op.TheVariants.{Fence, Load};
 ghost use Rattle.mt_machine.specs.Machine.{Accesses, Calls, Controls, Steps};
-ghost use Rattle.mt_machine.specs.WorkedRuns.{goal_of, load, mapping, maps, store};
-ghost use Rattle.mt_flat.specs.Flat.{flat_answer};
+ghost use Rattle.mt_machine.specs.WorkedRuns.{answer_of, goal_of, load, mapping, maps, palette, small, store};
+ghost use Rattle.mt_flat.specs.Courses.{Does, Updates, course, flat_course};
+ghost use Rattle.mt_flat.specs.Flat.{flat_answer, flat_start};
 ghost use Rattle.mt_flat.specs.WorkedRuns.{flat_of, four_lines, numbers, pending_words, seven_words};
 
 /// Words of write-combining stores, pending and then set.
@@ -46,4 +48,12 @@ pub fn worked_stores()
     ensures wt_sets { (flat_of (store 0 0x2000 5 ∷ [])).values 0x100000 ≡ 5 }
     ensures wp_sets { (flat_of (store 0 0x5000 5 ∷ [])).values 0x100000 ≡ 5 }
     ensures not_without_memory { (flat_of (maps 0 (mapping 6 0x200 0) ∷ store 0 0x6000 5 ∷ [])).values 0x200000 ≡ 0 }
+{}
+
+/// A word that was combined before a whole update is set after it, and the machine loads it.
+pub fn worked_course()
+    ensures set { (flat_course (small palette) (Does (store 0 0x3000 7) ∷ Updates goal_of (0 ∷ 1 ∷ []) ∷ []) flat_start).values 0x100000 ≡ 7 }
+    ensures nothing_pending { numbers (flat_course (small palette) (Does (store 0 0x3000 7) ∷ Updates goal_of (0 ∷ 1 ∷ []) ∷ []) flat_start) 0 ≡ [] }
+    ensures loaded { answer_of (course (small palette) (Does (store 0 0x3000 7) ∷ Updates goal_of (0 ∷ 1 ∷ []) ∷ [])) 1 (Load 0x1000) ≡ Value 7 WB }
+    ensures pending_where_none_takes { numbers (flat_course (small palette) (Does (store 0 0x3000 7) ∷ Updates goal_of (1 ∷ []) ∷ []) flat_start) 0 ≡ 0x4000 ∷ [] }
 {}

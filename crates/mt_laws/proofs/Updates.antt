@@ -9,3 +9,4 @@ pub mod Broadcast
 pub mod SecondBarrier
 pub mod FirstRelease
 pub mod ToBroadcast
+pub mod Quiet

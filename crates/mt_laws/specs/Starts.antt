@@ -1,9 +1,9 @@
 -- The start, and the eras.
 use Rattle.std.specs.Prelude.{◌≡◌, ℕ, ◌%◌, true, List, None, Some, ◌≤◌, ◌<◌, ◌-◌, ◌^◌}
 use Rattle.std.specs.List.{All, AllPairs}
-use Rattle.mt_machine.specs.Machine.{Machine, Order, Reached, MachineEvent, IsEnabled, next}
+use Rattle.mt_machine.specs.Machine.{Machine, Order, Reached, MachineEvent, Calls, IsEnabled, next}
 use Rattle.mt_regs.specs.RegisterFile.{RegisterFile, IsRegisterFile}
-use Rattle.mt_machine.specs.Update.{is_call}
+use Rattle.mt_machine.specs.Update.{is_call, updated}
 use Rattle.mt_machine.specs.Start.{IsQuiet, IsStart, HasEraRoom, start_machine}
 use Rattle.mt_regs.specs.Faults.{IsAccepted}
 use Rattle.mt_machine.specs.Memory.{Window, window_end, AreApart}
@@ -29,3 +29,7 @@ ErasFit =
 -- where no update is under way a reached state is quiet, so what holds from quiet states on holds from it on: of each update of a run, after one that was cancelled too
 abbrev pub ReachedIsQuiet : Type 0
 ReachedIsQuiet = (s m : Machine) → IsStart s → Reached s m → m.order ≡ None → IsQuiet m
+
+-- the state after a whole update, given outright, is quiet, so the next update goes on from it
+abbrev pub UpdatedIsQuiet : Type 0
+UpdatedIsQuiet = (s : Machine) (goal : RegisterFile) (ks : List ℕ) → IsQuiet s → IsEnabled s (Calls goal) → IsQuiet (updated s.system ks goal)

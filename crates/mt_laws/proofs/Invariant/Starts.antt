@@ -16,7 +16,7 @@ use Rattle.mt_machine.specs.Start.{start_machine}
 use Rattle.mt_laws.specs.Starts.{StartIsQuiet}
 use Rattle.mt_laws.proofs.Barrier.Claims.{all_get}
 
-nothing : {X : Type 0} (P : X → Type 0) → All P []
+pub nothing : {X : Type 0} (P : X → Type 0) → All P []
 nothing P k d within = absurd (omega arith)
 
 start_is_processor : (f : RegisterFile) → IsRegisterFile f → IsAccepted f → IsProcessor (start_processor f)

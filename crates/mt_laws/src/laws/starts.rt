@@ -1,4 +1,4 @@
-ghost use Rattle.mt_laws.specs.Starts.{ErasFit, ReachedIsQuiet, StartIsQuiet};
+ghost use Rattle.mt_laws.specs.Starts.{ErasFit, ReachedIsQuiet, StartIsQuiet, UpdatedIsQuiet};
 
 /// A system at its start is one from which the laws hold, whatever accepted file its processors have.
 pub fn start_is_quiet()
@@ -13,4 +13,9 @@ pub fn reached_is_quiet()
 /// Where an update is called only while the eras have room, no era passes 64 bits.
 pub fn eras_fit()
     ensures { ErasFit }
+{}
+
+/// The state after a whole update, given outright, is quiet too.
+pub fn updated_is_quiet()
+    ensures { UpdatedIsQuiet }
 {}
