@@ -1,0 +1,24 @@
+-- The states that a core can be in, and what its calls leave.
+use Rattle.std.specs.Prelude.{◌≡◌, ℕ, ◌<◌, ◌-◌, ◌^◌, Bool, Option, None, Some}
+use Rattle.std.specs.Option.{option_map_or}
+use Rattle.mt_ram.specs.Windows.{with_window}
+use Rattle.mt_machine.specs.declared.go.Go.{Go}
+use Rattle.mt_machine.specs.declared.go.Go.TheVariants.{Pending}
+use Rattle.mt_machine.specs.Memory.{IsMemory, Window}
+use Rattle.mt_machine.specs.Machine.{IsEnabled, Machine, MachineEvent, Order, next}
+use Rattle.mt_machine.specs.Start.{IsStart}
+
+-- with a window of zero words more; the order stays
+abbrev pub grown : Window → Machine → Machine
+grown w m = record m { system = record m.system { memory = with_window w m.system.memory } }
+
+-- reached from a start by events and by new windows
+pub data Arises : Machine → Type 0 where
+  from_start : {m : Machine} → IsStart m → Arises m
+  by_event : {m : Machine} → (e : MachineEvent) → Arises m → IsEnabled m e → Arises (next m e)
+  by_window : {m : Machine} → (w : Window) → Arises m → IsMemory (with_window w m.system.memory) → Arises (grown w m)
+
+-- and the update under way, if there is one, was called while the eras had room
+pub record IsCore (m : Machine) : Type 0 where
+  pub arises : Arises m
+  pub room : (o : Order) → m.order ≡ Some o → o.from_era < 2 ^ 64 - 1

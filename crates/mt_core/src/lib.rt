@@ -1,0 +1,12 @@
+//! The update of the range registers over events: processors over one memory with the update that
+//! is under way, if there is one.
+#![tactic(auto)]
+
+mod core_type;
+mod fault;
+mod order;
+
+pub use core_type::Core;
+pub use fault::CallFault;
+pub use mt_machine::{Event, Go, Phase};
+pub use order::Order;
