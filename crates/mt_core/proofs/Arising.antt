@@ -1,5 +1,5 @@
 -- Each call keeps what a core keeps.
-use Rattle.std.proofs.Common.{◌≡◌, ◌∙◌, ap, sym, refl, subst, arith, ℕ, ◌-◌, ◌<◌, ◌^◌, Bool, true, false, if◌then◌else◌, List, length, Option, None, Some, slice_get, inl}
+use Rattle.std.proofs.Common.{◌≡◌, ◌∙◌, ap, sym, refl, subst, arith, ℕ, ◌-◌, ◌<◌, ◌^◌, Bool, true, false, if◌then◌else◌, List, [], ◌∷◌, length, Option, None, Some, slice_get, inl}
 use Rattle.std.specs.Option.{option_map_or}
 use Rattle.std.specs.List.{All}
 use Rattle.mt_ram.specs.Windows.{with_window}
@@ -89,3 +89,7 @@ went s o k e enabled h = record {
 
 pub wider : (s : System) (o : Option Order) (w : Window) → IsMemory (with_window w s.memory) → IsCore (machine s o) → IsCore (machine (record s { memory = with_window w s.memory }) o)
 wider s o w memory h = record { arises = by_window w h.arises memory; room = h.room }
+
+pub era_room : (ps : List Processor) → All (λ p. p.era < 2 ^ 64 - 1) ps → common_era ps < 2 ^ 64 - 1
+era_room [] h = omega arith
+era_room (p ∷ ps) h = h 0 p (omega arith)

@@ -1,1 +1,2 @@
 pub mod Arises
+pub mod Barriers

@@ -1,15 +1,22 @@
-ghost use Rattle.std.specs.Prelude.{◌≡◌, ◌<◌, ◌≤◌, ◌+◌, ◌*◌, ◌^◌, true, length, slice_get, MatchOption, OnOk, OnErr, None, Some};
+ghost use Rattle.std.specs.Prelude.{◌≡◌, ◌<◌, ◌≤◌, ◌+◌, ◌*◌, ◌^◌, ◌↔◌, true, false, IsTrue, IsSome, Err, length, slice_get, MatchOption, OnOk, OnErr, None, Some};
 ghost use Rattle.std.specs.List.{All};
 ghost use Rattle.mt_ram.specs.Windows.{refusal, refusal_in, window};
 ghost use Rattle.mt_machine.specs.Access.{access, is_running};
 ghost use Rattle.mt_machine.specs.Control.{control};
 ghost use Rattle.mt_machine.specs.System.{Processor};
-ghost use Rattle.mt_machine.specs.Machine.{Cancels, FitsControl, FitsGoal, FitsOp, Goes, common_era, go_of, next};
+ghost use Rattle.mt_regs.specs.declared.fault.Fault.{Fault};
+ghost use Rattle.mt_regs.specs.Faults.{IsAccepted, IsFirstFault};
+ghost use Rattle.mt_machine.specs.Start.{HasEraRoom};
+ghost use Rattle.mt_machine.specs.Machine.{Calls, Cancels, FitsControl, FitsGoal, FitsOp, Goes, common_era, go_of, next, remaining_order};
 ghost use Rattle.mt_core.specs.Arises.{grown};
 
+use crate::barriers::{is_pending, remaining};
+use crate::fault::CallFault;
 use crate::order::Order;
 use mt_bus::System;
-use mt_machine::{Control, Done, Op, Ruled};
+use mt_machine::{Control, Done, Go, Op, Ruled};
+use mt_ram::RamFault;
+use mt_regs::RegFile;
 use std::marker::Model;
 
 /// Processors over one memory with the update that is under way, if there is one.
@@ -28,6 +35,26 @@ impl Model for Core {
     ghost view = { λ c. record { system = c.system; order = c.order } };
 
     ghost invariant = { λ c. IsCore (record { system = c.system; order = c.order }) };
+}
+
+// The era of the first processor.
+fn common_era(system: &System) -> u64
+    requires { 0 < length system.now.processors }
+    ensures { result ≡ common_era system.now.processors }
+{
+    system.cpus.as_slice()[0].era()
+}
+
+// The order with the coordinator's word, unless its update is over.
+fn decided(system: &System, order: Order, go: Go) -> Option<Order>
+    ensures { result ≡ remaining_order (record order { go = go }) system.now.processors }
+{
+    let order = Order {
+        goal: order.goal,
+        from_era: order.from_era,
+        go,
+    };
+    remaining(system.cpus.as_slice(), order)
 }
 
 impl Core {
@@ -86,5 +113,85 @@ impl Core {
         ensures after { self.new ≡ record self.old { system = (control self.old.system k c).after } }
     {
         self.system.control(k, c)
+    }
+
+    /// Gives the go. It is false, and nothing changes, where no update is under way or its go isn't
+    /// pending.
+    pub fn go(&mut self) -> bool
+        ensures given { IsTrue result ↔ (go_of self.old ≡ Some Go.Pending) }
+        ensures after { IsTrue result → self.new ≡ next self.old Goes }
+        ensures kept { result ≡ false → self.new ≡ self.old }
+    {
+        let Some(order) = self.order.take() else {
+            return false;
+        };
+        if !is_pending(order.go) {
+            self.order = Some(order);
+            return false;
+        }
+        self.order = decided(&self.system, order, Go::Given);
+        true
+    }
+
+    /// Gives the update up. It is false, and nothing changes, where no update is under way or its
+    /// go isn't pending.
+    pub fn cancel(&mut self) -> bool
+        ensures given { IsTrue result ↔ (go_of self.old ≡ Some Go.Pending) }
+        ensures after { IsTrue result → self.new ≡ next self.old Cancels }
+        ensures kept { result ≡ false → self.new ≡ self.old }
+    {
+        let Some(order) = self.order.take() else {
+            return false;
+        };
+        if !is_pending(order.go) {
+            self.order = Some(order);
+            return false;
+        }
+        self.order = decided(&self.system, order, Go::Cancelled);
+        true
+    }
+
+    /// Begins an update to these registers, which have the processors' width and capabilities.
+    ///
+    /// # Errors
+    ///
+    /// An update is under way, or else the goal has a fault. Nothing then changes.
+    pub fn call(&mut self, goal: RegFile) -> Result<(), CallFault>
+        requires some { 0 < length self.old.system.processors }
+        requires fits { All (FitsGoal goal) self.old.system.processors }
+        requires room { HasEraRoom self.old }
+        ensures under_way { (result ≡ Err CallFault.UnderWay) ↔ IsSome self.old.order }
+        ensures refused { (fault : Fault) → result ≡ Err (CallFault.Refused fault) → (self.old.order ≡ None) × IsFirstFault goal (Some fault) }
+        ensures called { OnOk result ((self.old.order ≡ None) × IsAccepted goal × (self.new ≡ next self.old (Calls goal))) }
+        ensures kept { OnErr result (self.new ≡ self.old) }
+    {
+        if self.order.is_some() {
+            return Err(CallFault::UnderWay);
+        }
+        if let Some(fault) = goal.first_fault() {
+            return Err(CallFault::Refused(fault));
+        }
+        goal.is_register_file();
+        let from_era = common_era(&self.system);
+        self.order = Some(Order { goal, from_era, go: Go::Pending });
+        Ok(())
+    }
+
+    /// Adds a window of zero words to the memory, from an address in bytes on. The order stays.
+    ///
+    /// # Errors
+    ///
+    /// Those of `Ram::add`; nothing then changes.
+    pub fn add_ram(&mut self, base: u64, lines: u32) -> Result<(), RamFault>
+        requires some { 0 < lines }
+        requires few { lines ≤ 4096 }
+        requires end { base + 64 * lines ≤ 2 ^ 52 }
+        ensures refused { refusal_in result ≡ refusal self.old.system.memory.windows (window base lines) }
+        ensures added { OnOk result (self.new ≡ grown (window base lines) self.old) }
+        ensures kept { OnErr result (self.new ≡ self.old) }
+    {
+        self.system.add_ram(base, lines)?;
+        self.system.is_sound();
+        Ok(())
     }
 }

@@ -2,6 +2,7 @@
 //! is under way, if there is one.
 #![tactic(auto)]
 
+mod barriers;
 mod core_type;
 mod fault;
 mod order;

@@ -1,0 +1,19 @@
+use Rattle.std.proofs.Common.{◌≡◌, sym, subst, rules, ℕ, Option, Some, None}
+use Rattle.std.specs.List.{All}
+use Rattle.mt_regs.specs.Faults.{IsFirstFault}
+use Rattle.mt_machine.specs.declared.go.Go.TheVariants.{Pending}
+use Rattle.mt_machine.specs.Machine.{FitsGoal, Machine, Order, common_era}
+use Rattle.mt_machine.specs.Start.{HasEraRoom}
+use Rattle.mt_core.specs.Arises.{IsCore}
+use Rattle.mt_core.proofs.Arising.{called, era_room}
+use Rattle.mt_core.proofs.core_type.Core.call.Goals as goal
+
+pub invariant_of-self : goal.invariant_of-self
+invariant_of-self c =
+    let none : c.self.inside.order ≡ None = search rules in
+    let sound : c.first_fault.result ≡ None = search rules in
+    subst (λ (n : ℕ). IsCore (record { system = c.self.inside.system; order = Some (record { goal = c.args.goal; from_era = n; go = Pending }) })) (sym c.common_era-from_era.ensures)
+    (called c.self.inside.system c.args.goal c.is_register_file.ensures (subst (IsFirstFault c.args.goal) sound c.first_fault.ensures)
+    (subst (λ (m : Machine). All (FitsGoal c.args.goal) m.system.processors) (sym c.self.view_is) c.requires.fits)
+    (era_room c.self.inside.system.processors (subst HasEraRoom (sym c.self.view_is) c.requires.room))
+    (subst (λ (o : Option Order). IsCore (record { system = c.self.inside.system; order = o })) none c.self.invariant))

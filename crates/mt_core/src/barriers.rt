@@ -1,0 +1,109 @@
+ghost use Rattle.std.specs.Prelude.{◌≡◌, ◌<◌, ◌^◌, ◌↔◌, IsTrue, length};
+ghost use Rattle.std.specs.List.{list_all, list_any};
+ghost use Rattle.mt_machine.specs.Machine.{BarrierCount, first_barrier_count, has_arrived, has_arrived_again, has_passed, has_released, is_cancelled, is_changing, is_given, is_over, is_waiting_to_pass, remaining_order, second_barrier_count};
+ghost use Rattle.mt_core.specs.Barriers.{barrier_count};
+
+use crate::order::Order;
+use mt_cpu::Cpu;
+use mt_machine::{Go, Phase};
+
+/// Whether the coordinator has said nothing yet.
+pub(crate) fn is_pending(go: Go) -> bool
+    ensures { IsTrue result ↔ (go ≡ Go.Pending) }
+{
+    matches!(go, Go::Pending)
+}
+
+/// Whether the go is given.
+pub(crate) fn is_given(go: Go) -> bool
+    ensures { result ≡ is_given go }
+{
+    matches!(go, Go::Given)
+}
+
+/// Whether the update is given up.
+pub(crate) fn is_cancelled(go: Go) -> bool
+    ensures { result ≡ is_cancelled go }
+{
+    matches!(go, Go::Cancelled)
+}
+
+fn has_released(cpu: &Cpu, order: &Order) -> bool
+    ensures { result ≡ has_released order.now cpu.now }
+{
+    order.from_era < cpu.era()
+}
+
+fn is_changing(phase: Phase) -> bool
+    ensures { result ≡ is_changing phase }
+{
+    !matches!(phase, Phase::Running | Phase::Taken | Phase::Arrived | Phase::Arrived2)
+}
+
+fn is_waiting_to_pass(cpu: &Cpu) -> bool
+    ensures { result ≡ is_waiting_to_pass cpu.now.phase }
+{
+    matches!(cpu.phase(), Phase::Taken | Phase::Arrived)
+}
+
+fn has_arrived_again(cpu: &Cpu, order: &Order) -> bool
+    ensures { result ≡ has_arrived_again order.now cpu.now }
+{
+    matches!(cpu.phase(), Phase::Arrived2) || has_released(cpu, order)
+}
+
+fn has_arrived(cpu: &Cpu, order: &Order) -> bool
+    ensures { result ≡ has_arrived order.now cpu.now }
+{
+    let phase = cpu.phase();
+    matches!(phase, Phase::Arrived) || is_changing(phase) || has_arrived_again(cpu, order)
+}
+
+/// How many have arrived at the first barrier, and how many are awaited; the coordinator counts too.
+pub(crate) fn first_count(cpus: &[Cpu], order: &Order) -> (u32, u32)
+    requires { length cpus.now < 2 ^ 31 }
+    ensures { barrier_count result ≡ first_barrier_count order.now cpus.now }
+{
+    let arrived = cpus.iter().filter(|cpu| has_arrived(cpu, order)).count() as u32;
+    let given = is_given(order.go) as u32;
+    (arrived + given, cpus.len() as u32 + 1)
+}
+
+/// How many have arrived at the second barrier, and how many are awaited.
+pub(crate) fn second_count(cpus: &[Cpu], order: &Order) -> (u32, u32)
+    requires { length cpus.now < 2 ^ 31 }
+    ensures { barrier_count result ≡ second_barrier_count order.now cpus.now }
+{
+    let arrived = cpus.iter().filter(|cpu| has_arrived_again(cpu, order)).count();
+    (arrived as u32, cpus.len() as u32)
+}
+
+fn all_released(cpus: &[Cpu], order: &Order) -> bool
+    ensures { result ≡ list_all (has_released order.now) cpus.now }
+{
+    cpus.iter().all(|cpu| has_released(cpu, order))
+}
+
+fn any_waits(cpus: &[Cpu]) -> bool
+    ensures { result ≡ list_any (λ p. is_waiting_to_pass p.phase) cpus.now }
+{
+    cpus.iter().any(|cpu| is_waiting_to_pass(cpu))
+}
+
+// Whether each processor has released, or the update is cancelled and none waits for the first barrier.
+fn is_over(cpus: &[Cpu], order: &Order) -> bool
+    ensures { result ≡ is_over order.now cpus.now }
+{
+    all_released(cpus, order) || is_cancelled(order.go) && !any_waits(cpus)
+}
+
+/// The order, unless its update is over.
+pub(crate) fn remaining(cpus: &[Cpu], order: Order) -> Option<Order>
+    ensures { result ≡ remaining_order order cpus.now }
+{
+    if is_over(cpus, &order) {
+        None
+    } else {
+        Some(order)
+    }
+}
