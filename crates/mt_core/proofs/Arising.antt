@@ -1,5 +1,5 @@
 -- Each call keeps what a core keeps.
-use Rattle.std.proofs.Common.{◌≡◌, ◌∙◌, ap, sym, refl, subst, arith, ℕ, ◌-◌, ◌<◌, ◌^◌, Bool, true, false, if◌then◌else◌, List, [], ◌∷◌, length, Option, None, Some, slice_get, inl}
+use Rattle.std.proofs.Common.{◌≡◌, ◌∙◌, ap, sym, refl, subst, arith, ℕ, ◌-◌, ◌<◌, ◌≤◌, ◌^◌, Bool, true, false, if◌then◌else◌, List, [], ◌∷◌, length, Option, None, Some, slice_get, inl}
 use Rattle.std.specs.Option.{option_map_or}
 use Rattle.std.specs.List.{All}
 use Rattle.mt_ram.specs.Windows.{with_window}
@@ -12,15 +12,26 @@ use Rattle.mt_machine.specs.Memory.{IsMemory, Window}
 use Rattle.mt_machine.specs.System.{IsSound, Processor, System}
 use Rattle.mt_machine.specs.Access.{Answered, access, is_running}
 use Rattle.mt_machine.specs.Control.{RuledAfter, control}
-use Rattle.mt_machine.specs.Machine.{Accesses, Calls, Cancels, Controls, FitsControl, FitsGoal, FitsOp, Goes, IsEnabled, Machine, Order, Steps, common_era, is_over, next, remaining_order}
+use Rattle.mt_machine.specs.Machine.{Accesses, Calls, Cancels, Controls, FitsControl, FitsGoal, FitsOp, Goes, IsEnabled, Machine, Order, Steps, common_era, due, is_over, next, own_step, step, remaining_order}
 use Rattle.mt_machine.specs.Start.{HasEraRoom, IsQuiet}
 use Rattle.mt_regs.specs.RegisterFile.{RegisterFile, IsRegisterFile}
 use Rattle.mt_regs.specs.Faults.{IsAccepted}
+use Rattle.std.proofs.lemmas.List.{length-map, length-set}
 use Rattle.mt_laws.proofs.Barrier.Acting.{access_busy, control_busy}
+use Rattle.mt_laws.proofs.Barrier.Stages.{access_stages, control_stages, stage_of, stages}
+use Rattle.mt_laws.proofs.Barrier.Barriers.{step_stages}
 use Rattle.mt_core.specs.Arises.{Arises, IsCore, by_event, by_window, from_start, grown}
 
 abbrev machine : System → Option Order → Machine
 machine s o = record { system = s; order = o }
+
+same_length : (s t : System) → stages t ≡ stages s → length t.processors ≡ length s.processors
+same_length s t same = sym (length-map t.processors stage_of) ∙ ap length same ∙ length-map s.processors stage_of
+
+step_length : (goal : RegisterFile) (e : Event) (k : ℕ) (s : System) (p : Processor) → slice_get s.processors k ≡ Some p → length (step goal e k s).processors ≡ length s.processors
+step_length goal e k s p at =
+    sym (length-map (step goal e k s).processors stage_of) ∙ ap length (step_stages goal e k s p at)
+    ∙ length-set (stages s) k (stage_of (own_step goal e p)) ∙ length-map s.processors stage_of
 
 runs_or_rests : (s : System) (k : ℕ) (X : Type 0)
     → (option_map_or (λ p. is_running p.phase) (slice_get s.processors k) false ≡ true → X)
@@ -38,20 +49,21 @@ runs_or_rests s k X runs rests = one (slice_get s.processors k) refl
 pub accessed : (s : System) (o : Option Order) (k : ℕ) (op : Op) → FitsOp op → IsCore (machine s o) → IsCore (machine (access s k op).after o)
 accessed s o k op fits h =
     runs_or_rests s k (IsCore (machine (access s k op).after o))
-    (λ runs. record { arises = by_event (Accesses k op) h.arises (runs, fits); room = h.room })
+    (λ runs. record { arises = by_event (Accesses k op) h.arises (runs, fits); few = subst (λ n. n ≤ 16) (sym (same_length s (access s k op).after (access_stages s k op))) h.few; room = h.room })
     (λ rests. subst (λ t. IsCore (machine t o)) (sym (ap (λ (a : Answered). a.after) (access_busy s k rests op))) h)
 
 pub controlled : (s : System) (o : Option Order) (k : ℕ) (c : Control) → ((p : Processor) → slice_get s.processors k ≡ Some p → FitsControl p c)
     → IsCore (machine s o) → IsCore (machine (control s k c).after o)
 controlled s o k c fits h =
     runs_or_rests s k (IsCore (machine (control s k c).after o))
-    (λ runs. record { arises = by_event (Controls k c) h.arises (runs, fits); room = h.room })
+    (λ runs. record { arises = by_event (Controls k c) h.arises (runs, fits); few = subst (λ n. n ≤ 16) (sym (same_length s (control s k c).after (control_stages s k c))) h.few; room = h.room })
     (λ rests. subst (λ t. IsCore (machine t o)) (sym (ap (λ (a : RuledAfter). a.after) (control_busy s k rests c))) h)
 
-pub begun : (s : System) → IsSound s → All (λ p. is_running p.phase ≡ true) s.processors → All (λ p. p.era ≡ common_era s.processors) s.processors
+pub begun : (s : System) → length s.processors ≤ 16 → IsSound s → All (λ p. is_running p.phase ≡ true) s.processors → All (λ p. p.era ≡ common_era s.processors) s.processors
     → All (λ p. All (FitsGoal p.file) s.processors) s.processors → IsCore (machine s None)
-begun s sound running one_era one_kind = record {
+begun s few sound running one_era one_kind = record {
   arises = from_start (inl (record { sound = sound; running = running; one_era = one_era; one_kind = one_kind; no_order = refl }));
+  few = few;
   room = λ o is. absurd (cc);
 }
 
@@ -65,12 +77,14 @@ room_stays o ps low later h = one (is_over o ps) h
 pub gone : (s : System) (o : Order) → o.go ≡ Pending → IsCore (machine s (Some o)) → IsCore (machine s (remaining_order (record o { go = Given }) s.processors))
 gone s o pending h = record {
   arises = by_event Goes h.arises (ap Some pending);
+  few = h.few;
   room = room_stays (record o { go = Given }) s.processors (h.room o refl);
 }
 
 pub cancelled : (s : System) (o : Order) → o.go ≡ Pending → IsCore (machine s (Some o)) → IsCore (machine s (remaining_order (record o { go = Cancelled }) s.processors))
 cancelled s o pending h = record {
   arises = by_event Cancels h.arises (ap Some pending);
+  few = h.few;
   room = room_stays (record o { go = Cancelled }) s.processors (h.room o refl);
 }
 
@@ -78,17 +92,26 @@ pub called : (s : System) (goal : RegisterFile) → IsRegisterFile goal → IsAc
     → IsCore (machine s None) → IsCore (machine s (Some (record { goal = goal; from_era = common_era s.processors; go = Pending })))
 called s goal file accepted fits low h = record {
   arises = by_event (Calls goal) h.arises (refl, file, accepted, fits);
+  few = h.few;
   room = λ o is. let e : common_era s.processors ≡ o.from_era = ap (λ (x : Option Order). option_map_or (λ y. y.from_era) x 0) is in subst (λ n. n < 2 ^ 64 - 1) e low;
 }
+
+stepped_few : (s : System) (o : Order) (k : ℕ) (e : Event) → IsEnabled (machine s (Some o)) (Steps k e) → length s.processors ≤ 16 → length (step o.goal e k s).processors ≤ 16
+stepped_few s o k e enabled few = one (slice_get s.processors k) refl enabled
+  where
+    one : (x : Option Processor) → slice_get s.processors k ≡ x → option_map_or (λ p. due o s.processors p p.phase) x None ≡ Some e → length (step o.goal e k s).processors ≤ 16
+    one None at g = absurd (cc)
+    one (Some p) at g = subst (λ n. n ≤ 16) (sym (step_length o.goal e k s p at)) few
 
 pub went : (s : System) (o : Order) (k : ℕ) (e : Event) → IsEnabled (machine s (Some o)) (Steps k e) → IsCore (machine s (Some o)) → IsCore (next (machine s (Some o)) (Steps k e))
 went s o k e enabled h = record {
   arises = by_event (Steps k e) h.arises enabled;
+  few = stepped_few s o k e enabled h.few;
   room = room_stays o (next (machine s (Some o)) (Steps k e)).system.processors (h.room o refl);
 }
 
 pub wider : (s : System) (o : Option Order) (w : Window) → IsMemory (with_window w s.memory) → IsCore (machine s o) → IsCore (machine (record s { memory = with_window w s.memory }) o)
-wider s o w memory h = record { arises = by_window w h.arises memory; room = h.room }
+wider s o w memory h = record { arises = by_window w h.arises memory; few = h.few; room = h.room }
 
 pub era_room : (ps : List Processor) → All (λ p. p.era < 2 ^ 64 - 1) ps → common_era ps < 2 ^ 64 - 1
 era_room [] h = omega arith

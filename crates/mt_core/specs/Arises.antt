@@ -1,5 +1,5 @@
 -- The states that a core can be in, and what its calls leave.
-use Rattle.std.specs.Prelude.{◌≡◌, ℕ, ◌<◌, ◌-◌, ◌^◌, Bool, Option, None, Some}
+use Rattle.std.specs.Prelude.{◌≡◌, ℕ, ◌<◌, ◌≤◌, ◌-◌, ◌^◌, length, Some}
 use Rattle.std.specs.Option.{option_map_or}
 use Rattle.mt_ram.specs.Windows.{with_window}
 use Rattle.mt_machine.specs.declared.go.Go.{Go}
@@ -18,7 +18,8 @@ pub data Arises : Machine → Type 0 where
   by_event : {m : Machine} → (e : MachineEvent) → Arises m → IsEnabled m e → Arises (next m e)
   by_window : {m : Machine} → (w : Window) → Arises m → IsMemory (with_window w m.system.memory) → Arises (grown w m)
 
--- and the update under way, if there is one, was called while the eras had room
+-- with at most 16 processors, and the update under way, if there is one, was called while the eras had room
 pub record IsCore (m : Machine) : Type 0 where
   pub arises : Arises m
+  pub few : length m.system.processors ≤ 16
   pub room : (o : Order) → m.order ≡ Some o → o.from_era < 2 ^ 64 - 1

@@ -1,6 +1,6 @@
 ghost use Rattle.std.specs.Prelude.{◌≡◌, ◌<◌, ◌^◌, ◌↔◌, IsTrue, length};
 ghost use Rattle.std.specs.List.{list_all, list_any};
-ghost use Rattle.mt_machine.specs.Machine.{BarrierCount, first_barrier_count, has_arrived, has_arrived_again, has_passed, has_released, is_cancelled, is_changing, is_given, is_over, is_waiting_to_pass, remaining_order, second_barrier_count};
+ghost use Rattle.mt_machine.specs.Machine.{BarrierCount, first_barrier_count, first_barrier_open, has_arrived, has_arrived_again, has_passed, has_released, is_cancelled, is_changing, is_given, is_over, is_waiting_to_pass, remaining_order, second_barrier_count, second_barrier_open};
 ghost use Rattle.mt_core.specs.Barriers.{barrier_count};
 
 use crate::order::Order;
@@ -76,6 +76,26 @@ pub(crate) fn second_count(cpus: &[Cpu], order: &Order) -> (u32, u32)
 {
     let arrived = cpus.iter().filter(|cpu| has_arrived_again(cpu, order)).count();
     (arrived as u32, cpus.len() as u32)
+}
+
+fn all_arrived(cpus: &[Cpu], order: &Order) -> bool
+    ensures { result ≡ list_all (has_arrived order.now) cpus.now }
+{
+    cpus.iter().all(|cpu| has_arrived(cpu, order))
+}
+
+/// Whether the processors may pass the first barrier.
+pub(crate) fn is_first_open(cpus: &[Cpu], order: &Order) -> bool
+    ensures { result ≡ first_barrier_open order.now cpus.now }
+{
+    all_arrived(cpus, order) && is_given(order.go)
+}
+
+/// Whether the processors may leave the second barrier.
+pub(crate) fn is_second_open(cpus: &[Cpu], order: &Order) -> bool
+    ensures { result ≡ second_barrier_open order.now cpus.now }
+{
+    cpus.iter().all(|cpu| has_arrived_again(cpu, order))
 }
 
 fn all_released(cpus: &[Cpu], order: &Order) -> bool

@@ -61,6 +61,7 @@ impl Core {
     /// A core over processors that all run, with one era, one width and one value of the
     /// capabilities. No update is under way.
     pub fn new(system: System) -> Core
+        requires few { length system.processors ≤ 16 }
         requires running { All (λ p. is_running p.phase ≡ true) system.processors }
         requires one_era { All (λ p. p.era ≡ common_era system.processors) system.processors }
         requires one_kind { All (λ p. All (FitsGoal p.file) system.processors) system.processors }
