@@ -1,6 +1,6 @@
 mod Combining
 mod Emptying
-mod Grown
+pub mod Grown
 mod Lines
 mod Misses
 mod Places

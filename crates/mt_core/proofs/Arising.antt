@@ -3,7 +3,6 @@ use Rattle.std.proofs.Common.{◌≡◌, ◌∙◌, ap, sym, refl, subst, arith,
 use Rattle.std.specs.Option.{option_map_or}
 use Rattle.std.specs.List.{All}
 use Rattle.mt_ram.specs.Windows.{with_window}
-use Rattle.mt_machine.specs.declared.go.Go.{Go}
 use Rattle.mt_machine.specs.declared.go.Go.TheVariants.{Pending, Given, Cancelled}
 use Rattle.mt_machine.specs.declared.op.Op.{Op}
 use Rattle.mt_machine.specs.declared.control.Control.{Control}
@@ -13,19 +12,18 @@ use Rattle.mt_machine.specs.System.{IsSound, Processor, System}
 use Rattle.mt_machine.specs.Access.{Answered, access, is_running}
 use Rattle.mt_machine.specs.Control.{RuledAfter, control}
 use Rattle.mt_machine.specs.Machine.{Accesses, Calls, Cancels, Controls, FitsControl, FitsGoal, FitsOp, Goes, IsEnabled, Machine, Order, Steps, common_era, due, is_over, next, own_step, step, remaining_order}
-use Rattle.mt_machine.specs.Start.{HasEraRoom, IsQuiet}
 use Rattle.mt_regs.specs.RegisterFile.{RegisterFile, IsRegisterFile}
 use Rattle.mt_regs.specs.Faults.{IsAccepted}
 use Rattle.std.proofs.lemmas.List.{length-map, length-set}
 use Rattle.mt_laws.proofs.Barrier.Acting.{access_busy, control_busy}
 use Rattle.mt_laws.proofs.Barrier.Stages.{access_stages, control_stages, stage_of, stages}
 use Rattle.mt_laws.proofs.Barrier.Barriers.{step_stages}
-use Rattle.mt_core.specs.Arises.{Arises, IsCore, by_event, by_window, from_start, grown}
+use Rattle.mt_core.specs.Arises.{IsCore, by_event, by_window, from_start}
 
 abbrev machine : System → Option Order → Machine
 machine s o = record { system = s; order = o }
 
-same_length : (s t : System) → stages t ≡ stages s → length t.processors ≡ length s.processors
+pub same_length : (s t : System) → stages t ≡ stages s → length t.processors ≡ length s.processors
 same_length s t same = sym (length-map t.processors stage_of) ∙ ap length same ∙ length-map s.processors stage_of
 
 step_length : (goal : RegisterFile) (e : Event) (k : ℕ) (s : System) (p : Processor) → slice_get s.processors k ≡ Some p → length (step goal e k s).processors ≡ length s.processors

@@ -1,1 +1,2 @@
 mod Arising
+mod Stepping

@@ -1,9 +1,6 @@
 -- The states that a core can be in, and what its calls leave.
-use Rattle.std.specs.Prelude.{◌≡◌, ℕ, ◌<◌, ◌≤◌, ◌-◌, ◌^◌, length, Some}
-use Rattle.std.specs.Option.{option_map_or}
+use Rattle.std.specs.Prelude.{◌≡◌, ◌<◌, ◌≤◌, ◌-◌, ◌^◌, length, Some}
 use Rattle.mt_ram.specs.Windows.{with_window}
-use Rattle.mt_machine.specs.declared.go.Go.{Go}
-use Rattle.mt_machine.specs.declared.go.Go.TheVariants.{Pending}
 use Rattle.mt_machine.specs.Memory.{IsMemory, Window}
 use Rattle.mt_machine.specs.Machine.{IsEnabled, Machine, MachineEvent, Order, next}
 use Rattle.mt_machine.specs.Start.{IsStart}

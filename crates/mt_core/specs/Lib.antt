@@ -1,2 +1,3 @@
 pub mod Arises
 pub mod Barriers
+pub mod Steps

@@ -37,7 +37,10 @@ fn has_released(cpu: &Cpu, order: &Order) -> bool
 fn is_changing(phase: Phase) -> bool
     ensures { result ≡ is_changing phase }
 {
-    !matches!(phase, Phase::Running | Phase::Taken | Phase::Arrived | Phase::Arrived2)
+    !matches!(
+        phase,
+        Phase::Running | Phase::Taken | Phase::Arrived | Phase::Arrived2
+    )
 }
 
 fn is_waiting_to_pass(cpu: &Cpu) -> bool
@@ -74,7 +77,10 @@ pub(crate) fn second_count(cpus: &[Cpu], order: &Order) -> (u32, u32)
     requires { length cpus.now < 2 ^ 31 }
     ensures { barrier_count result ≡ second_barrier_count order.now cpus.now }
 {
-    let arrived = cpus.iter().filter(|cpu| has_arrived_again(cpu, order)).count();
+    let arrived = cpus
+        .iter()
+        .filter(|cpu| has_arrived_again(cpu, order))
+        .count();
     (arrived as u32, cpus.len() as u32)
 }
 

@@ -9,10 +9,13 @@ ghost use Rattle.mt_regs.specs.Faults.{IsAccepted, IsFirstFault};
 ghost use Rattle.mt_machine.specs.Start.{HasEraRoom};
 ghost use Rattle.mt_machine.specs.Machine.{Calls, Cancels, FitsControl, FitsGoal, FitsOp, Goes, common_era, go_of, next, remaining_order};
 ghost use Rattle.mt_core.specs.Arises.{grown};
+ghost use Rattle.mt_core.specs.Steps.{pause_at, step_after, step_answer, under_way};
 
 use crate::barriers::{is_pending, remaining};
 use crate::fault::CallFault;
 use crate::order::Order;
+use crate::stepped::Stepped;
+use crate::steps::{advance, pause};
 use mt_bus::System;
 use mt_machine::{Control, Done, Go, Op, Ruled};
 use mt_ram::RamFault;
@@ -55,6 +58,20 @@ fn decided(system: &System, order: Order, go: Go) -> Option<Order>
         go,
     };
     remaining(system.cpus.as_slice(), order)
+}
+
+fn remaining_in(system: &System, order: Order) -> Option<Order>
+    ensures { result ≡ remaining_order order system.now.processors }
+{
+    remaining(system.cpus.as_slice(), order)
+}
+
+fn pause_in(system: &System, order: &Order, k: u32) -> Stepped
+    requires processor { k < length system.now.processors }
+    requires few { length system.now.processors ≤ 16 }
+    ensures { result ≡ pause_at (under_way order.now system.now) k }
+{
+    pause(system.cpus.as_slice(), order, k as usize)
 }
 
 impl Core {
@@ -174,8 +191,30 @@ impl Core {
         }
         goal.is_register_file();
         let from_era = common_era(&self.system);
-        self.order = Some(Order { goal, from_era, go: Go::Pending });
+        self.order = Some(Order {
+            goal,
+            from_era,
+            go: Go::Pending,
+        });
         Ok(())
+    }
+
+    /// Does the event of a processor that is due. Nothing changes where none is due.
+    pub fn step(&mut self, k: u32) -> Stepped
+        requires { k < length self.old.system.processors }
+        ensures answer { result ≡ step_answer self.old k }
+        ensures after { self.new ≡ step_after self.old k }
+    {
+        let Some(order) = self.order.take() else {
+            return Stepped::NoUpdate;
+        };
+        let Some(event) = advance(&mut self.system, &order, k) else {
+            let pause = pause_in(&self.system, &order, k);
+            self.order = Some(order);
+            return pause;
+        };
+        self.order = remaining_in(&self.system, order);
+        Stepped::Did(event)
     }
 
     /// Adds a window of zero words to the memory, from an address in bytes on. The order stays.

@@ -6,8 +6,11 @@ mod barriers;
 mod core_type;
 mod fault;
 mod order;
+mod stepped;
+mod steps;
 
 pub use core_type::Core;
 pub use fault::CallFault;
 pub use mt_machine::{Event, Go, Phase};
 pub use order::Order;
+pub use stepped::Stepped;

@@ -1,5 +1,4 @@
-use Rattle.std.proofs.Common.{◌≡◌, sym, subst, rules}
-use Rattle.mt_machine.specs.Access.{access}
+use Rattle.std.proofs.Common.{sym, subst}
 use Rattle.mt_machine.specs.System.{System}
 use Rattle.mt_core.specs.Arises.{IsCore}
 use Rattle.mt_core.proofs.Arising.{accessed}

@@ -2,7 +2,7 @@ use Rattle.std.proofs.Common.{◌≡◌, sym, subst, rules, ℕ, Option, Some, N
 use Rattle.std.specs.List.{All}
 use Rattle.mt_regs.specs.Faults.{IsFirstFault}
 use Rattle.mt_machine.specs.declared.go.Go.TheVariants.{Pending}
-use Rattle.mt_machine.specs.Machine.{FitsGoal, Machine, Order, common_era}
+use Rattle.mt_machine.specs.Machine.{FitsGoal, Machine, Order}
 use Rattle.mt_machine.specs.Start.{HasEraRoom}
 use Rattle.mt_core.specs.Arises.{IsCore}
 use Rattle.mt_core.proofs.Arising.{called, era_room}

@@ -1,5 +1,4 @@
-use Rattle.std.proofs.Common.{◌≡◌, ap, ◌∙◌, sym, subst, rules, slice_get}
-use Rattle.mt_machine.specs.Control.{control}
+use Rattle.std.proofs.Common.{ap, ◌∙◌, sym, subst, slice_get}
 use Rattle.mt_machine.specs.System.{System}
 use Rattle.mt_machine.specs.Machine.{Machine}
 use Rattle.mt_core.specs.Arises.{IsCore}

@@ -1,0 +1,178 @@
+-- What a step needs of the state that it starts from, and that its own is sound.
+use Rattle.std.proofs.Common.{◌≡◌, ◌≢◌, ◌∙◌, ap, sym, refl, subst, arith, ℕ, zero, suc, ◌+◌, ◌-◌, ◌<◌, ◌^◌, ⊎_elim, true, false, List, [], ◌∷◌, length, take, Option, None, Some, slice_get, slice_set, IsTrue}
+use Rattle.std.specs.Prelude.{nat_lt}
+use Rattle.std.specs.List.{All}
+use Rattle.std.specs.Option.{option_map_or}
+use Rattle.std.proofs.lemmas.Bool.{lt-ltb}
+use Rattle.mt_regs.specs.declared.registers.Register.{Register}
+use Rattle.mt_regs.specs.RegisterFile.{RegisterFile}
+use Rattle.mt_regs.specs.Registers.{value_of, writable}
+use Rattle.mt_regs.specs.Faults.{IsAccepted}
+use Rattle.mt_cpu.specs.Steps.{HasWritten, is_local, is_shift}
+use Rattle.mt_machine.specs.declared.phase.Phase.{Phase}
+use Rattle.mt_machine.specs.declared.phase.Phase.TheVariants.{Running}
+use Rattle.mt_machine.specs.declared.event.Event.{Event}
+use Rattle.mt_machine.specs.declared.event.Event.TheVariants.{Release, Take, WriteBack}
+use Rattle.mt_machine.specs.Memory.{IsMemory, Memory, Window, put_word}
+use Rattle.mt_machine.specs.System.{IsSound, Processor, System, change}
+use Rattle.mt_machine.specs.Bus.{drain, with_buffers}
+use Rattle.mt_machine.specs.Access.{is_running}
+use Rattle.mt_machine.specs.Machine.{FitsGoal, Machine, MachineEvent, IsEnabled, Order, Steps, due, due_at, next, own_step, remaining_order, step}
+use Rattle.mt_machine.proofs.Files.{AgreeAll}
+use Rattle.mt_laws.proofs.Barrier.Claims.{all_get}
+use Rattle.mt_laws.proofs.Barrier.Ranks.{Guarded, stage_at}
+use Rattle.mt_laws.proofs.Barrier.Stages.{drain_stages, stage_of, stages}
+use Rattle.mt_laws.proofs.Clearing.Follows.{follows_drain}
+use Rattle.mt_core.proofs.Arising.{same_length, went}
+use Rattle.mt_laws.proofs.Clearing.Renewed.{at_change, is_take, no_take}
+use Rattle.mt_laws.proofs.Invariant.Kept.{start_sound}
+use Rattle.mt_laws.proofs.Invariant.Parts.{memory_of}
+use Rattle.mt_laws.proofs.Invariant.Standing.{Standing, standing_next, standing_sound, start_standing}
+use Rattle.mt_laws.proofs.Registers.UnderWay.{lines_are_low}
+use Rattle.mt_laws.proofs.Words.Sound.{aligned_all, sound_agrees}
+use Rattle.mt_bus.proofs.Grown.{sound_grown}
+use Rattle.mt_ram.specs.Windows.{with_window}
+use Rattle.mt_core.specs.Arises.{Arises, IsCore, by_event, by_window, from_start, grown}
+use Rattle.mt_bus.specs.Parts.{system, with_changed}
+use Rattle.mt_core.specs.Steps.{under_way, with_word_of}
+
+abbrev Stands : Machine → Type 0
+Stands m = IsMemory m.system.memory × Standing m.system.memory.windows m
+
+stands_next : (m : Machine) (e : MachineEvent) → IsEnabled m e → Stands m → Stands (next m e)
+stands_next m e enabled h =
+    let ws : List Window = m.system.memory.windows in
+    let later = standing_next ws (aligned_all ws h.0.aligned) m e enabled h.1 in
+    let same = later.agrees.stands.memory.windows in (
+      memory_of m.system.memory (next m e).system.memory same later.agrees.stands.memory.counted h.0,
+      subst (λ (v : List Window). Standing v (next m e)) (sym same) later,
+    )
+
+stands_grown : (m : Machine) (w : Window) → IsMemory (with_window w m.system.memory) → Stands m → Stands (grown w m)
+stands_grown m w memory h =
+    let st = h.1 in (
+      memory,
+      record {
+        kept = st.kept;
+        filed = st.filed;
+        accepted = record { goal = st.accepted.goal; each = st.accepted.each };
+        tidy = st.tidy;
+        agrees = sound_agrees (grown w m) (sound_grown m.system w (standing_sound m.system.memory.windows m st h.0) memory);
+      },
+    )
+
+pub stands : {m : Machine} → Arises m → Stands m
+stands {m} (from_start s) = ((start_sound m s).memory, start_standing m s)
+stands (by_event e a enabled) = stands_next _ e enabled (stands a)
+stands (by_window w a memory) = stands_grown _ w memory (stands a)
+
+pub is_sound : (m : Machine) → Arises m → IsSound m.system
+is_sound m a = let st = stands a in standing_sound m.system.memory.windows m st.1 st.0
+
+agree_all : (goal f : RegisterFile) (rs : List Register) → AgreeAll goal f rs → All (λ r. value_of f r ≡ value_of goal r) rs
+agree_all goal f [] h k d within = absurd (omega arith)
+agree_all goal f (r ∷ rs) h zero d within = h.0
+agree_all goal f (r ∷ rs) h (suc k) d within = agree_all goal f rs h.1 k d (omega arith)
+
+shift_rests : (ph : Phase) → is_shift Release ph ≡ true → is_running ph ≡ false
+shift_rests Running h = absurd (cc)
+shift_rests other h = refl
+
+module _ (o : Order) (s : System) (core : IsCore (under_way o s)) where
+  pub goal_accepted : IsAccepted o.goal
+  goal_accepted = (stands core.arises).1.accepted.goal
+
+  pub step_sound : (k : ℕ) (e : Event) → due_at (under_way o s) k ≡ Some e → IsSound (step o.goal e k s)
+  step_sound k e enabled = is_sound (next (under_way o s) (Steps k e)) (by_event (Steps k e) core.arises enabled)
+
+  module _ (k : ℕ) (p : Processor) (at : slice_get s.processors k ≡ Some p) where
+    pub fits_at : FitsGoal o.goal p
+    fits_at = let f = (stands core.arises).1.filed.1 k p at in record { width = sym f.alike.width; capabilities = sym f.alike.capabilities }
+
+    pub written_at : HasWritten o.goal p
+    written_at i writing = let f = (stands core.arises).1.filed.1 k p at in agree_all o.goal p.file (take i (writable o.goal)) (f.writing i writing).1
+
+    pub low_at : All (λ l. l.number < 2 ^ 46) p.lines
+    low_at = (all_get (λ q. All (λ l. l.number < 2 ^ 46) q.lines × All (λ l. l.number < 2 ^ 46) q.buffers) s.processors (lines_are_low s (is_sound (under_way o s) core.arises)) k p at).0
+
+    pub room_at : (e : Event) → IsTrue (is_shift e p.phase) → e ≡ Release → p.era < 2 ^ 64 - 1
+    room_at e shift release =
+        let guarded : Guarded o (stages s) = (stands core.arises).1.kept.0 in
+        let here = stage_at s.processors k p at in
+        let rests = shift_rests p.phase (subst (λ (v : Event). is_shift v p.phase ≡ true) release shift) in
+        let behind : nat_lt o.from_era p.era ≡ false = guarded.in_step k (stage_of p) here rests in
+        let low = core.room o refl in
+        ⊎_elim (λ (g : p.era ≡ o.from_era). omega arith)
+        (λ (g : p.era ≡ o.from_era + 1). absurd (let ahead : nat_lt o.from_era p.era ≡ true = lt-ltb o.from_era p.era (omega arith) in cc))
+        (guarded.eras k (stage_of p) here)
+
+pub drained : (k : ℕ) (s : System) (p : Processor) → slice_get (drain k s).processors k ≡ Some p → p.buffers ≡ []
+drained k s p at =
+    ⊎_elim
+    (λ (e : (k ≡ k) × (y : Processor) × (slice_get _ k ≡ Some y) × (with_buffers (λ _. []) y ≡ p)). ap (λ (q : Processor). q.buffers) (sym e.3))
+    (λ (e : (k ≢ k) × (slice_get _ k ≡ Some p)). absurd (e.0 refl))
+    (at_change (with_buffers (λ _. [])) k _ k p at)
+
+abbrev Done : (Processor → Processor) → ℕ → List Processor → Memory → Type 0
+Done f k ps m = system (with_changed f k ps) m ≡ change f k (system ps m)
+
+pub changed_is : (f : Processor → Processor) (k : ℕ) (ps : List Processor) (m : Memory) → Done f k ps m
+changed_is f k ps m = one (slice_get ps k)
+  where
+    one : (o : Option Processor) → system (option_map_or (λ p. slice_set ps k (f p)) o ps) m ≡ option_map_or (λ p. record (system ps m) { processors = slice_set ps k (f p) }) o (system ps m)
+    one None = refl
+    one (Some p) = refl
+
+pub shifted : (goal : RegisterFile) (e : Event) (ph : Phase) (k : ℕ) (ps : List Processor) (m : Memory) → e ≢ Take → IsTrue (is_shift e ph)
+    → system (with_changed (own_step goal e) k ps) m ≡ step goal e k (system ps m)
+shifted goal Take ph k ps m other h = absurd (other refl)
+shifted goal (WriteBack address value) ph k ps m other h = absurd (cc)
+shifted goal e ph k ps m other h = changed_is (own_step goal e) k ps m
+
+pub worked : (goal : RegisterFile) (e : Event) (k : ℕ) (ps : List Processor) (m : Memory) → e ≢ Take
+    → system (with_changed (own_step goal e) k ps) (with_word_of e m) ≡ step goal e k (system ps m)
+worked goal Take k ps m other = absurd (other refl)
+worked goal (WriteBack address value) k ps m other = changed_is (own_step goal (WriteBack address value)) k ps (put_word m address value)
+worked goal e k ps m other = changed_is (own_step goal e) k ps m
+
+local_rests : (ph : Phase) → IsTrue (is_local ph) → is_running ph ≡ false
+local_rests Running h = absurd (cc)
+local_rests other h = refl
+
+taken : is_take Take ≡ true
+unfolding is_take
+taken = refl
+
+pub local_takes_not : (o : Order) (ps : List Processor) (p : Processor) (e : Event) → IsTrue (is_local p.phase) → due o ps p p.phase ≡ Some e → e ≢ Take
+local_takes_not o ps p e h is same =
+    let a : is_take e ≡ true = ap is_take same ∙ taken in
+    let b : is_take e ≡ false = no_take o ps p p.phase e (local_rests p.phase h) is in
+    absurd (cc)
+
+-- the processor of a place within
+pub processor_of : (ps : List Processor) (k : ℕ) → k < length ps → (p : Processor) × (slice_get ps k ≡ Some p)
+processor_of [] k h = absurd (omega arith)
+processor_of (p ∷ ps) zero h = (p, refl)
+processor_of (p ∷ ps) (suc k) h = processor_of ps k (omega arith)
+
+take_runs : (o : Order) (ps : List Processor) (p : Processor) (ph : Phase) → due o ps p ph ≡ Some Take → is_shift Take ph ≡ true
+take_runs o ps p Running h = refl
+take_runs o ps p other h = absurd (let b : is_take Take ≡ false = no_take o ps p other Take refl h in let a : is_take Take ≡ true = taken in cc)
+
+pub taken_at : (o : Order) (s : System) (k : ℕ) → due_at (under_way o s) k ≡ Some Take → (q : Processor) → slice_get (drain k s).processors k ≡ Some q → IsTrue (is_shift Take q.phase)
+taken_at o s k is q at =
+    let from = follows_drain k s k q at in
+    let here : due o s.processors from.0 from.0.phase ≡ Some Take = ap (λ (x : Option Processor). option_map_or (λ p. due o s.processors p p.phase) x None) (sym from.1) ∙ is in
+    subst (λ (ph : Phase). is_shift Take ph ≡ true) (sym from.2.phase) (take_runs o s.processors from.0 from.0.phase here)
+
+pub drained_length : (k : ℕ) (s : System) → length (drain k s).processors ≡ length s.processors
+drained_length k s = same_length s (drain k s) (drain_stages k s)
+
+pub acted_sound : (o : Order) (s : System) → IsCore (under_way o s) → (k : ℕ) (r : Option Event) → r ≡ due_at (under_way o s) k → IsSound (option_map_or (λ e. step o.goal e k s) r s)
+acted_sound o s core k None h = is_sound (under_way o s) core.arises
+acted_sound o s core k (Some e) h = step_sound o s core k e (sym h)
+
+-- a step by its event and by the order that is left
+pub advanced : (o : Order) (s : System) → IsCore (under_way o s) → (k : ℕ) (e : Event) → due_at (under_way o s) k ≡ Some e
+    → IsCore (record { system = step o.goal e k s; order = remaining_order o (step o.goal e k s).processors })
+advanced o s core k e is = went s o k e is core
