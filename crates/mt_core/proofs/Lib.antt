@@ -1,2 +1,3 @@
 mod Arising
 mod Stepping
+mod Stopping

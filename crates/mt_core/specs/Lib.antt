@@ -1,3 +1,4 @@
 pub mod Arises
 pub mod Barriers
 pub mod Steps
+pub mod Stops

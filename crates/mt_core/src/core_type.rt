@@ -8,7 +8,7 @@ ghost use Rattle.mt_regs.specs.declared.fault.Fault.{Fault};
 ghost use Rattle.mt_regs.specs.Faults.{IsAccepted, IsFirstFault};
 ghost use Rattle.mt_machine.specs.Start.{HasEraRoom};
 ghost use Rattle.mt_machine.specs.Machine.{Calls, Cancels, FitsControl, FitsGoal, FitsOp, Goes, common_era, go_of, next, remaining_order};
-ghost use Rattle.mt_core.specs.Arises.{grown};
+ghost use Rattle.mt_core.specs.Arises.{IsCore, grown};
 ghost use Rattle.mt_core.specs.Steps.{pause_at, step_after, step_answer, under_way};
 
 use crate::barriers::{is_pending, remaining};
@@ -89,6 +89,13 @@ impl Core {
             system,
             order: None,
         }
+    }
+
+    /// What a core keeps, for the proof alone.
+    pub fn is_core(&self)
+        ensures { IsCore self.now }
+    {
+        let _ = &self.order;
     }
 
     /// The processors and the memory.

@@ -5,12 +5,14 @@
 mod barriers;
 mod core_type;
 mod fault;
+mod laws;
 mod order;
 mod stepped;
 mod steps;
 
 pub use core_type::Core;
 pub use fault::CallFault;
+pub use laws::steps_stop;
 pub use mt_machine::{Event, Go, Phase};
 pub use order::Order;
 pub use stepped::Stepped;
