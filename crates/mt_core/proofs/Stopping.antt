@@ -1,6 +1,6 @@
 -- A step answers NoUpdate exactly where the processor runs outside an update.
-use Rattle.std.proofs.Common.{◌≡◌, ◌⊎◌, ◌∙◌, ap, sym, refl, subst, arith, ℕ, ◌+◌, ◌==◌, ⊎_elim, Bool, true, false, List, Option, None, Some, slice_get}
-use Rattle.std.specs.Prelude.{nat_lt, not, ◌&&◌, ◌||◌, if◌then◌else◌}
+use Rattle.std.proofs.Common.{◌≡◌, ◌⊎◌, ◌∙◌, ap, sym, refl, arith, ℕ, ◌+◌, ◌==◌, ⊎_elim, Bool, true, false, List, Option, None, Some, slice_get}
+use Rattle.std.specs.Prelude.{not, ◌&&◌, ◌||◌, if◌then◌else◌}
 use Rattle.std.specs.Option.{option_map_or}
 use Rattle.std.proofs.lemmas.Bool.{eq-eqb, eqb-true, lt-ltb, ltb-true}
 use Rattle.mt_machine.specs.declared.phase.Phase.{Phase}
@@ -78,5 +78,5 @@ stops_outside m k p a at = one m.system m.order a at
         let guarded : Guarded o (stages s) = (stands b).1.kept.0 in
         let eras = guarded.eras k (stage_of p) (stage_at s.processors k p at) in
         let same : step_answer (under_way o s) k ≡ answer o s.processors p p.phase =
-            ap (λ (x : Option Processor). option_map_or Did (option_map_or (λ q. due o s.processors q q.phase) x None) (option_map_or (λ q. pause o s.processors q.phase) x NoUpdate)) at in
+        ap (λ (x : Option Processor). option_map_or Did (option_map_or (λ q. due o s.processors q q.phase) x None) (option_map_or (λ q. pause o s.processors q.phase) x NoUpdate)) at in
         ((λ h. out o s.processors p eras p.phase (sym same ∙ h)), (λ r h. same ∙ back o s.processors p eras p.phase r h))
