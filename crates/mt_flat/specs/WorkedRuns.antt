@@ -16,7 +16,7 @@ numbers f k = map (λ p. p.number) (f.pending k)
 abbrev pub pending_words : Flat → ℕ → List (ℕ × List (Option ℕ))
 pending_words f k = map (λ p. (p.number, map p.written eight)) (f.pending k)
 
--- stores to five lines of write-combining memory
+-- stores to four lines of write-combining memory
 abbrev pub four_lines : List MachineEvent
 four_lines = store 0 0x3000 1 ∷ store 0 0x3040 2 ∷ store 0 0x3080 3 ∷ store 0 0x30c0 4 ∷ []
 

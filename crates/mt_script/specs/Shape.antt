@@ -1,6 +1,5 @@
 -- What is wrong with the words of a line outside the sections, whatever its numbers are (own).
 --     shape_fault line words row      too few words, too many, or a wrong one in place of `global`, `on` or `off`
---     row_in line words      the row of a line that has a word, or its fault
 use Rattle.std.specs.Prelude.{ℕ, ◌-◌, ◌&&◌, ◌||◌, not, nat_lt, codes, Bool, true, List, length, if◌then◌else◌, Option, Some, None}
 use Rattle.mt_script.specs.Words.{text_of, place_of}
 use Rattle.mt_script.specs.Numbers.{fault_at}
