@@ -1,0 +1,89 @@
+-- The flat machine, without caches, beside a script: what it is given of each command, and the transcript with its values.
+use Rattle.std.specs.Prelude.{◌≡◌, ℕ, ◌+◌, ◌/◌, Bool, true, false, List, [], ◌∷◌, if◌then◌else◌, Option, None, Some, Result, Ok, Err}
+use Rattle.std.specs.Option.{option_map_or}
+use Rattle.mt_text.specs.Text.{lines_of, end_of}
+use Rattle.mt_text.specs.declared.place.Place.{Place}
+use Rattle.mt_regs.specs.RegisterFile.{RegisterFile}
+use Rattle.mt_machine.specs.declared.op.Op.{Op}
+use Rattle.mt_machine.specs.declared.op.Op.TheVariants as op
+use Rattle.mt_machine.specs.declared.done.Done.{Done}
+use Rattle.mt_machine.specs.declared.done.Done.TheVariants.{Value}
+use Rattle.mt_machine.specs.declared.control.Control.{Control}
+use Rattle.mt_machine.specs.declared.control.Control.TheVariants as control_of
+use Rattle.mt_machine.specs.declared.ruled.Ruled.{Ruled}
+use Rattle.mt_machine.specs.declared.ruled.Ruled.TheVariants.{Okay}
+use Rattle.mt_machine.specs.Access.{access}
+use Rattle.mt_machine.specs.Control.{control}
+use Rattle.mt_machine.specs.Machine.{Accesses, Controls, Machine, Steps, due_at}
+use Rattle.mt_machine.specs.Update.{physical_of}
+use Rattle.mt_flat.specs.Flat.{Flat, flat_answer, flat_start}
+use Rattle.mt_flat.specs.Seen.{flat_after, flat_takes}
+use Rattle.mt_script.specs.Situation.{at_start}
+use Rattle.mt_script.specs.Commands.{command_of, end_fault}
+use Rattle.mt_script.specs.declared.command.Command.{Command}
+use Rattle.mt_script.specs.declared.command.Command.TheVariants as command
+use Rattle.mt_script.specs.declared.fault.ScriptFault.{ScriptFault}
+use Rattle.mt_script.specs.declared.fault.Offence.TheVariants as offence
+use Rattle.mt_replay.specs.Texts.{done_line}
+use Rattle.mt_replay.specs.Session.{Session, call_fault, command_text, each_processor, is_update, mapping, session_after}
+use Rattle.mt_replay.specs.Transcript.{Told, behind, told_at_end, told_from, told_offence, transcript}
+
+-- ---- what the flat machine is given
+
+abbrev pub flat_accessed : Machine → ℕ → Op → Flat → Flat
+flat_accessed m k o f = flat_after m (Accesses k o) f
+
+-- a control instruction that is refused gives it nothing
+abbrev pub flat_ruled : Machine → ℕ → Control → Flat → Ruled → Flat
+flat_ruled m k c f Okay = flat_after m (Controls k c) f
+flat_ruled m k c f other = f
+
+abbrev pub flat_controlled : Machine → ℕ → Control → Flat → Flat
+flat_controlled m k c f = flat_ruled m k c f (control m.system k c).answer
+
+abbrev pub flat_stepped : Machine → ℕ → Flat → Flat
+flat_stepped m k f = option_map_or (λ e. flat_after m (Steps k e) f) (due_at m k) f
+
+-- of a whole update it is given the takes
+abbrev pub flat_updated : Machine → RegisterFile → Flat → Flat
+flat_updated m goal f = option_map_or (λ fault. f) (call_fault m goal) (flat_takes (each_processor m.system) f)
+
+abbrev pub flat_command : Session → Command → Flat → Flat
+flat_command s (command.Load k address) f = flat_accessed s.machine k (op.Load address) f
+flat_command s (command.Store k address value) f = flat_accessed s.machine k (op.Store address value) f
+flat_command s (command.Fence k) f = flat_accessed s.machine k op.Fence f
+flat_command s (command.Map k address physical index global) f = flat_controlled s.machine k (control_of.Map (mapping address physical index global)) f
+flat_command s (command.Invlpg k address) f = flat_controlled s.machine k (control_of.Invlpg address) f
+flat_command s (command.Cr3 k) f = flat_controlled s.machine k control_of.Cr3 f
+flat_command s (command.Pge k on) f = flat_controlled s.machine k (control_of.Pge on) f
+flat_command s (command.Cd k on) f = flat_controlled s.machine k (control_of.Cd on) f
+flat_command s (command.Step k) f = flat_stepped s.machine k f
+flat_command s command.End f = if is_update s.now.stage then flat_updated s.machine s.goal f else f
+flat_command s other f = f
+
+-- ---- the transcript with the flat machine's values
+
+-- the answer to a load, with the flat machine's value of its word in place of the machine's
+abbrev pub flat_done : Machine → Flat → ℕ → ℕ → Done → Done
+flat_done m f k address (Value value kind) = Value (option_map_or (λ word. flat_answer f k kind word) (physical_of m.system k address) 0) kind
+flat_done m f k address other = other
+
+abbrev pub flat_text : Session → Flat → Command → List ℕ
+flat_text s f (command.Load k address) = done_line (flat_done s.machine f k address (access s.machine.system k (op.Load address)).answer)
+flat_text s f other = command_text s other
+
+abbrev pub flat_told_command : Session → Flat → (Session → Flat → Told) → Result Command ScriptFault → Told
+flat_told_command s f rest (Err fault) = told_offence (offence.Script fault)
+flat_told_command s f rest (Ok c) = behind (flat_text s f c) (rest (session_after s c) (flat_command s c f))
+
+abbrev pub flat_told_in : Place → ℕ → List (List ℕ) → Session → Flat → Told
+flat_told_in end number [] s f = told_at_end (end_fault s.now.stage end)
+flat_told_in end number (line ∷ lines) s f = flat_told_command s f (flat_told_in end (number + 1) lines) (command_of s.now number line)
+
+-- the flat machine is at its start where the machine is
+abbrev pub flat_transcript : List ℕ → Told
+flat_transcript text = told_from (λ number lines s. flat_told_in (end_of text) number lines s flat_start) (end_of text) 1 (lines_of text) at_start []
+
+-- caches are never seen: each value in a transcript is the flat machine's
+abbrev pub ScriptsHideCaches : Type 0
+ScriptsHideCaches = (text : List ℕ) → flat_transcript text ≡ transcript text

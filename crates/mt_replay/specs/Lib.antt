@@ -1,0 +1,6 @@
+pub mod FirstFault
+pub mod Flat
+pub mod Kept
+pub mod Session
+pub mod Texts
+pub mod Transcript

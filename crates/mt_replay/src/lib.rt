@@ -1,0 +1,2 @@
+//! Scripts, run line by line.
+#![tactic(auto)]
