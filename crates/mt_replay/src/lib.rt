@@ -1,9 +1,7 @@
 //! Scripts: what their lines say, done on one machine, and the transcript of it.
 #![tactic(auto)]
 
-// mod commands;
 mod head;
-// mod replayer;
-// mod texts;
+mod laws;
 
-
+pub use laws::the_first_fault_is_first;
