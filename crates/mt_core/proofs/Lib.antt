@@ -1,3 +1,5 @@
 mod Arising
+pub mod Eras
+pub mod Settling
 mod Stepping
 mod Stopping
