@@ -3,3 +3,5 @@ pub mod Eras
 pub mod Settling
 mod Stepping
 mod Stopping
+mod Waiting
+mod Work

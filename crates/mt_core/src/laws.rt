@@ -1,10 +1,16 @@
-ghost use Rattle.mt_core.specs.Headline.{ErasRise, HeldFromFirstRelease, IsQuietWithoutOrder, NoBuffersWhereOnePasses, SettledFromRelease};
+ghost use Rattle.mt_core.specs.Headline.{ErasRise, HeldFromFirstRelease, IsQuietWithoutOrder, NoBuffersWhereOnePasses, SettledFromRelease, WaitsAtBarriers};
 ghost use Rattle.mt_core.specs.Stops.{StopsOutside};
 
 /// A step answers `NoUpdate` exactly where the processor runs and no update is under way, or it is
 /// cancelled, or the processor has released already.
 pub fn steps_stop()
     ensures { StopsOutside }
+{}
+
+/// A step answers `Waits` exactly at the first barrier of an update that isn't cancelled and at the
+/// second, where fewer have arrived than are awaited, and names both.
+pub fn steps_wait()
+    ensures { WaitsAtBarriers }
 {}
 
 /// From each release on, and up to the next call, each processor has the goal's registers and holds
