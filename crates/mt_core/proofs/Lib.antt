@@ -1,3 +1,7 @@
 mod Arising
+pub mod Eras
+pub mod Settling
 mod Stepping
 mod Stopping
+mod Waiting
+mod Work
