@@ -2,6 +2,7 @@ pub mod FirstFault
 pub mod Flat
 pub mod Kept
 pub mod Parts
+pub mod Running
 pub mod Session
 pub mod Texts
 pub mod Transcript

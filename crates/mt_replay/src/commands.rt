@@ -1,0 +1,154 @@
+ghost use Rattle.std.specs.Prelude.{◌≡◌, ◌<◌, ◌≤◌, ◌+◌, ◌*◌, ◌^◌, length, slice_get, OnOk, OnErr, None, Some};
+ghost use Rattle.std.specs.List.{All};
+ghost use Rattle.mt_machine.specs.Machine.{Accesses, Cancels, Controls, FitsControl, FitsGoal, FitsOp, Goes, common_era, go_of, next};
+ghost use Rattle.mt_machine.specs.System.{Processor};
+ghost use Rattle.mt_machine.specs.Start.{HasEraRoom};
+ghost use Rattle.mt_ram.specs.Windows.{refusal, window};
+ghost use Rattle.mt_regs.specs.RegisterFile.{RegisterFile};
+ghost use Rattle.mt_core.specs.Arises.{grown};
+ghost use Rattle.mt_core.specs.Steps.{step_after, step_answer};
+ghost use Rattle.mt_replay.specs.Session.{accessed_line, after_call, after_update, after_word, call_line, controlled_line, file_at, is_undecided, memory_word, update_line};
+ghost use Rattle.mt_replay.specs.Texts.{cancel_line, go_line, memory_line, register_line, stepped_line};
+ghost use Rattle.mt_regs.specs.Registers.{value_at};
+ghost use Rattle.std.specs.Option.{option_map_or};
+
+use crate::texts::{
+    call_fault_line, called_line, cancel_line, complete_line, done_line, go_line, memory_line,
+    register_line, ruled_line, stepped_line,
+};
+use mt_core::Core;
+use mt_machine::{Control, Op};
+use mt_output::LineBuffer;
+use mt_ports::NoMemory;
+use mt_ram::RamFault;
+use mt_regs::RegFile;
+
+/// An access, and its line.
+pub(crate) fn access(core: &mut Core, k: u32, op: Op) -> LineBuffer
+    requires processor { k < length core.old.system.processors }
+    requires fits { FitsOp op }
+    ensures text { result.items ≡ accessed_line core.old k op }
+    ensures after { core.new ≡ next core.old (Accesses k op) }
+{
+    done_line(&core.access(k, op))
+}
+
+/// A control instruction, and its line.
+pub(crate) fn control(core: &mut Core, k: u32, c: Control) -> LineBuffer
+    requires processor { k < length core.old.system.processors }
+    requires fits { (p : Processor) → slice_get core.old.system.processors k ≡ Some p → FitsControl p c }
+    ensures text { result.items ≡ controlled_line core.old k c }
+    ensures after { core.new ≡ next core.old (Controls k c) }
+{
+    ruled_line(&core.control(k, c))
+}
+
+/// Gives the go, and says whether it was given.
+pub(crate) fn go(core: &mut Core) -> LineBuffer
+    ensures text { result.items ≡ go_line (is_undecided (go_of core.old)) }
+    ensures after { core.new ≡ after_word Goes core.old }
+{
+    go_line(core.go())
+}
+
+/// Gives the update up, and says whether it was.
+pub(crate) fn cancel(core: &mut Core) -> LineBuffer
+    ensures text { result.items ≡ cancel_line (is_undecided (go_of core.old)) }
+    ensures after { core.new ≡ after_word Cancels core.old }
+{
+    cancel_line(core.cancel())
+}
+
+fn file_at(core: &Core, k: u32) -> &RegFile
+    requires { k < length core.now.system.processors }
+    ensures { (f : RegisterFile) → result.now ≡ file_at core.now.system.processors k f }
+{
+    core.system().cpus.as_slice()[k as usize].regs()
+}
+
+/// A step of a processor, and what it did.
+pub(crate) fn step(core: &mut Core, k: u32) -> LineBuffer
+    requires { k < length core.old.system.processors }
+    ensures text { (f : RegisterFile) → result.items ≡ stepped_line (file_at (step_after core.old k).system.processors k f) (step_answer core.old k) }
+    ensures after { core.new ≡ step_after core.old k }
+{
+    let stepped = core.step(k);
+    stepped_line(file_at(core, k), &stepped)
+}
+
+fn common_era(core: &Core) -> u64
+    ensures { result ≡ common_era core.now.system.processors }
+{
+    match core.system().cpus.as_slice().first() {
+        Some(cpu) => cpu.era(),
+        None => 0,
+    }
+}
+
+/// A whole update to these registers, and the era after it, or why it isn't begun.
+pub(crate) fn update(core: &mut Core, goal: &RegFile) -> LineBuffer
+    requires some { 0 < length core.old.system.processors }
+    requires fits { All (FitsGoal goal.now) core.old.system.processors }
+    requires room { HasEraRoom core.old }
+    ensures text { result.items ≡ update_line core.old goal.now }
+    ensures after { core.new ≡ after_update core.old goal.now }
+{
+    match core.call(goal.same()) {
+        Ok(()) => {
+            core.round();
+            complete_line(common_era(core))
+        }
+        Err(fault) => call_fault_line(&fault),
+    }
+}
+
+/// The call of an update to these registers, or why it isn't begun.
+pub(crate) fn call(core: &mut Core, goal: &RegFile) -> LineBuffer
+    requires some { 0 < length core.old.system.processors }
+    requires fits { All (FitsGoal goal.now) core.old.system.processors }
+    requires room { HasEraRoom core.old }
+    ensures text { result.items ≡ call_line core.old goal.now }
+    ensures after { core.new ≡ after_call core.old goal.now }
+{
+    match core.call(goal.same()) {
+        Ok(()) => called_line(),
+        Err(fault) => call_fault_line(&fault),
+    }
+}
+
+/// Memory's own word at an address.
+pub(crate) fn word(core: &Core, address: u64) -> LineBuffer
+    ensures { result.items ≡ memory_line (memory_word core.now.system.memory address) }
+{
+    let ram = &core.system().ram;
+    match ram.place(address) {
+        Some(place) => memory_line(Some(ram.word(place))),
+        None => memory_line(None),
+    }
+}
+
+/// The value of a register of a processor, 0 where it has none of this number.
+pub(crate) fn register(core: &Core, k: u32, msr: u32) -> LineBuffer
+    requires processor { k < length core.now.system.processors }
+    requires short { msr < 0x1000 }
+    ensures { (f : RegisterFile) → result.items ≡ register_line msr (option_map_or (λ value. value) (value_at (file_at core.now.system.processors k f) msr) 0) }
+{
+    register_line(msr, file_at(core, k).get(msr).unwrap_or(0))
+}
+
+/// A window for which there is room. The error comes only where the allocator has none; nothing
+/// then changes.
+pub(crate) fn add_window(core: &mut Core, base: u64, lines: u32) -> Result<(), NoMemory>
+    requires some { 0 < lines }
+    requires few { lines ≤ 4096 }
+    requires end { base + 64 * lines ≤ 2 ^ 52 }
+    requires room { refusal core.old.system.memory.windows (window base lines) ≡ None }
+    ensures added { OnOk result (core.new ≡ grown (window base lines) core.old) }
+    ensures kept { OnErr result (core.new ≡ core.old) }
+{
+    match core.add_ram(base, lines) {
+        Ok(()) => Ok(()),
+        Err(RamFault::NoMemory) => Err(NoMemory),
+        Err(_) => unreachable!(),
+    }
+}

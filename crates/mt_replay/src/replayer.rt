@@ -1,0 +1,189 @@
+ghost use Rattle.std.specs.Prelude.{◌≡◌, ◌≢◌, ◌<◌, true, [], length, IfOk, OnOk, OnErr, MatchResult, if◌then◌else◌};
+ghost use Rattle.std.specs.List.{All};
+ghost use Rattle.mt_regs.specs.Faults.{IsAccepted};
+ghost use Rattle.mt_regs.specs.RegisterFile.{RegisterFile};
+ghost use Rattle.mt_machine.specs.Machine.{FitsGoal};
+ghost use Rattle.mt_machine.specs.Start.{HasEraRoom};
+ghost use Rattle.mt_script.specs.Stages.{is_in_dump};
+ghost use Rattle.mt_script.specs.Accept.{Fits, accepted};
+ghost use Rattle.mt_replay.specs.Kept.{IsSession};
+ghost use Rattle.mt_replay.specs.Parts.{session};
+ghost use Rattle.mt_replay.specs.Session.{after_call, after_update, call_line, command_text, file_at, first_session, goal_after, is_update, machine_after, mapping, session_after, update_line, with_register};
+
+use crate::commands::{access, add_window, call, cancel, control, go, register, step, update, word};
+use arrayvec::ArrayVec;
+use mt_bus::System;
+use mt_core::Core;
+use mt_machine::{Control, Op};
+use mt_output::LineBuffer;
+use mt_ports::NoMemory;
+use mt_regs::RegFile;
+use mt_script::{Command, Setup, Stage};
+use mt_tlb::Mapping;
+use std::alloc::Global;
+use std::marker::Model;
+
+/// A script between two lines after its dump: what stands set up, the machine, and the goal of the
+/// section that is read.
+#[derive(Drop)]
+pub struct Replayer {
+    setup: Setup,
+    core: Core,
+    goal: RegFile,
+}
+
+impl Model for Replayer {
+    ghost use Rattle.mt_replay.specs.Session.{Session};
+    ghost use Rattle.mt_replay.specs.Kept.{IsSession};
+
+    ghost Value = { Session };
+
+    ghost view = { λ r. record { now = r.setup; machine = r.core; goal = r.goal } };
+
+    ghost invariant = { λ r. IsSession (record { now = r.setup; machine = r.core; goal = r.goal }) };
+}
+
+const PAGE: u64 = 4096;
+
+// Addresses are of bytes, and a mapping is of pages.
+fn mapping(address: u64, physical: u64, index: u8, global: bool) -> Mapping
+    ensures { result ≡ mapping address physical index global }
+{
+    Mapping {
+        vpage: address / PAGE,
+        ppage: physical / PAGE,
+        index,
+        global,
+    }
+}
+
+fn no_line() -> LineBuffer
+    ensures { result.items ≡ [] }
+{
+    ArrayVec::new()
+}
+
+// The registers of the first processor, with which the goal of a section begins.
+fn first_file(core: &Core) -> RegFile
+    requires { 0 < length core.now.system.processors }
+    ensures { (f : RegisterFile) → result ≡ file_at core.now.system.processors 0 f }
+{
+    core.system().cpus.as_slice()[0].regs().same()
+}
+
+// A section ends: an update, or a call for one.
+fn end_section(core: &mut Core, goal: &RegFile, stage: Stage) -> LineBuffer
+    requires some { 0 < length core.old.system.processors }
+    requires fits { All (FitsGoal goal.now) core.old.system.processors }
+    requires room { HasEraRoom core.old }
+    ensures text { result.items ≡ (if is_update stage then update_line core.old goal.now else call_line core.old goal.now) }
+    ensures after { core.new ≡ (if is_update stage then after_update core.old goal.now else after_call core.old goal.now) }
+{
+    if stage == Stage::InUpdate {
+        update(core, goal)
+    } else {
+        call(core, goal)
+    }
+}
+
+fn set(goal: &mut RegFile, msr: u32, value: u64)
+    ensures { goal.new ≡ with_register goal.old msr value }
+{
+    let _ = goal.set(msr, value);
+}
+
+// What a command other than a report writes, and what it does to the machine and the goal.
+fn act(setup: &Setup, core: &mut Core, goal: &mut RegFile, c: &Command) -> Result<LineBuffer, NoMemory>
+    requires session { IsSession (session setup.now core.old goal.old) }
+    requires fits { Fits setup.now c.now }
+    requires room { HasEraRoom core.old }
+    requires no_report { c.now ≢ Command.Report }
+    ensures text { IfOk result (λ line. line.items ≡ command_text (session setup.now core.old goal.old) c.now) }
+    ensures machine { OnOk result (core.new ≡ machine_after (session setup.now core.old goal.old) c.now) }
+    ensures goal { OnOk result (goal.new ≡ goal_after (session setup.now core.old goal.old) c.now) }
+    ensures kept { OnErr result ((core.new ≡ core.old) × (goal.new ≡ goal.old)) }
+{
+    Ok(match *c {
+        Command::Load(k, address) => access(core, k, Op::Load(address)),
+        Command::Store(k, address, value) => access(core, k, Op::Store(address, value)),
+        Command::Fence(k) => access(core, k, Op::Fence),
+        Command::Map(k, address, physical, index, global) => {
+            control(core, k, Control::Map(mapping(address, physical, index, global)))
+        }
+        Command::Invlpg(k, address) => control(core, k, Control::Invlpg(address)),
+        Command::Cr3(k) => control(core, k, Control::Cr3),
+        Command::Pge(k, on) => control(core, k, Control::Pge(on)),
+        Command::Cd(k, on) => control(core, k, Control::Cd(on)),
+        Command::Go => go(core),
+        Command::Cancel => cancel(core),
+        Command::Step(k) => step(core, k),
+        Command::Word(address) => word(core, address),
+        Command::Msr(k, msr) => register(core, k, msr),
+        Command::End => end_section(core, goal, setup.stage()),
+        Command::Ram(base, lines) => {
+            add_window(core, base, lines)?;
+            no_line()
+        }
+        Command::Update | Command::Begin => {
+            *goal = first_file(core);
+            no_line()
+        }
+        Command::Register { msr, value } => {
+            set(goal, msr, value);
+            no_line()
+        }
+        Command::Cpus(_) | Command::Dump | Command::Blank | Command::DumpLine => no_line(),
+        Command::Report => unreachable!(),
+    })
+}
+
+impl Replayer {
+    /// A script after its dump, whose file is accepted. The error comes only where the allocator has
+    /// no room.
+    pub fn begin(alloc: Global, setup: Setup, file: RegFile) -> Result<Replayer, NoMemory>
+        requires stage { is_in_dump setup.stage ≡ true }
+        requires accepted { IsAccepted file }
+        ensures { IfOk result (λ r. r ≡ first_session setup file) }
+    {
+        let mut setup = setup;
+        setup.is_situation();
+        file.is_register_file();
+        let system = System::new(alloc, setup.cpus(), &file)?;
+        let core = Core::new(system);
+        setup.dumped(file.same());
+        Ok(Replayer {
+            setup,
+            core,
+            goal: file,
+        })
+    }
+
+    /// What stands set up.
+    pub fn setup(&self) -> &Setup
+        ensures { result.now ≡ self.now.now }
+    {
+        &self.setup
+    }
+
+    /// What every replayer keeps. This does nothing.
+    pub fn is_session(&self)
+        ensures { IsSession self.now }
+    {
+        let _ = &self.goal;
+    }
+
+    /// Does a command other than a report, and answers its line. The error comes only where the
+    /// allocator has no room; nothing then changes.
+    pub fn run(&mut self, c: &Command) -> Result<LineBuffer, NoMemory>
+        requires fits { Fits self.old.now c.now }
+        requires room { HasEraRoom self.old.machine }
+        requires no_report { c.now ≢ Command.Report }
+        ensures { MatchResult result
+            (λ line. (line.items ≡ command_text self.old c.now) × (self.new ≡ session_after self.old c.now))
+            (λ _. self.new ≡ self.old) }
+    {
+        let line = act(&self.setup, &mut self.core, &mut self.goal, c)?;
+        self.setup.accept(c);
+        Ok(line)
+    }
+}
