@@ -1,0 +1,68 @@
+-- The lines that more than one command writes. Each ends with LF.
+use Rattle.std.specs.Prelude.{ℕ, List, [], ◌∷◌, ◌++◌, codes, decimal, drop}
+use Rattle.mt_regs.specs.declared.fault.Fault.{Fault}
+use Rattle.mt_regs.specs.declared.fault.Reason.{Reason}
+use Rattle.mt_regs.specs.declared.fault.Reason.TheVariants.{ReservedBit, UnsupportedType, BrokenMask, UndefinedOverlap}
+use Rattle.mt_text.specs.declared.place.Place.{Place}
+use Rattle.mt_dump.specs.Canon.{number_text, value_text}
+use Rattle.mt_dump.specs.declared.fault.DumpFault.{DumpFault}
+use Rattle.mt_dump.specs.declared.fault.DumpReason.{DumpReason}
+use Rattle.mt_dump.specs.declared.fault.DumpReason.TheVariants as dump
+use Rattle.mt_script.specs.declared.fault.ScriptFault.{ScriptFault}
+use Rattle.mt_script.specs.declared.fault.ScriptReason.{ScriptReason}
+use Rattle.mt_script.specs.declared.fault.ScriptReason.TheVariants as script
+use Rattle.mt_script.specs.declared.fault.Offence.{Offence}
+use Rattle.mt_script.specs.declared.fault.Offence.TheVariants.{Script, Dump}
+
+abbrev pub line : List ℕ → List ℕ
+line text = text ++ 10 ∷ []
+
+abbrev pub accepted_line : List ℕ
+accepted_line = line (codes "accepted")
+
+abbrev pub reason_text : Reason → List ℕ
+reason_text ReservedBit = codes "reserved bit"
+reason_text UnsupportedType = codes "unsupported type"
+reason_text BrokenMask = codes "broken mask"
+reason_text UndefinedOverlap = codes "undefined overlap"
+
+-- the register at fault and the reason
+abbrev pub refused_line : Fault → List ℕ
+refused_line fault = line (codes "refused " ++ number_text fault.msr ++ codes " " ++ reason_text fault.reason)
+
+abbrev pub dump_reason_text : DumpReason → List ℕ
+dump_reason_text dump.BadLine = codes "bad line"
+dump_reason_text dump.BadNumber = codes "bad number"
+dump_reason_text dump.UnknownRegister = codes "unknown register"
+dump_reason_text dump.Repeated = codes "repeated"
+dump_reason_text dump.NoCap = codes "no cap"
+dump_reason_text dump.BadWidth = codes "bad width"
+dump_reason_text dump.TooManyPairs = codes "too many pairs"
+
+abbrev pub script_reason_text : ScriptReason → List ℕ
+script_reason_text script.BadLine = codes "bad line"
+script_reason_text script.BadNumber = codes "bad number"
+script_reason_text script.UnknownRegister = codes "unknown register"
+script_reason_text script.OutOfRange = codes "out of range"
+script_reason_text script.NoEnd = codes "no end"
+script_reason_text script.NotNow = codes "not now"
+script_reason_text script.Repeated = codes "repeated"
+
+-- line, column and reason of an offence
+abbrev pub bad_text : Place → List ℕ → List ℕ
+bad_text place reason =
+    line (codes "bad text " ++ decimal place.line ++ codes ":" ++ decimal place.column ++ codes " " ++ reason)
+
+abbrev pub bad_text_line : DumpFault → List ℕ
+bad_text_line fault = bad_text fault.place (dump_reason_text fault.reason)
+
+abbrev pub bad_script_line : ScriptFault → List ℕ
+bad_script_line fault = bad_text fault.place (script_reason_text fault.reason)
+
+abbrev pub offence_line : Offence → List ℕ
+offence_line (Script fault) = bad_script_line fault
+offence_line (Dump fault) = bad_text_line fault
+
+-- an address in thirteen digits, which is 52 bits
+abbrev pub address_text : ℕ → List ℕ
+address_text address = drop 3 (value_text address)

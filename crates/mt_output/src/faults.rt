@@ -1,0 +1,108 @@
+ghost use Rattle.std.specs.Prelude.{◌≡◌, ◌≤◌, ◌<◌, length};
+ghost use Rattle.mt_output.specs.Lines.{bad_script_line, bad_text, bad_text_line, dump_reason_text, offence_line, reason_text, refused_line, script_reason_text};
+
+use crate::line::{LineBuffer, append, append_decimal, append_number};
+use arrayvec::ArrayVec;
+use mt_dump::{DumpFault, DumpReason};
+use mt_regs::{Fault, Reason};
+use mt_script::{Offence, ScriptFault, ScriptReason};
+use mt_text::Place;
+
+/// Why a register file isn't accepted.
+pub fn reason_text(reason: Reason) -> &'static [u8]
+    ensures text { result.now ≡ reason_text reason }
+    ensures short { length result.now ≤ 20 }
+{
+    match reason {
+        Reason::ReservedBit => b"reserved bit",
+        Reason::UnsupportedType => b"unsupported type",
+        Reason::BrokenMask => b"broken mask",
+        Reason::UndefinedOverlap => b"undefined overlap",
+    }
+}
+
+/// The line about a register at fault.
+pub fn refused_line(fault: &Fault) -> LineBuffer
+    requires { fault.now.msr < 4096 }
+    ensures { result.items ≡ refused_line fault.now }
+{
+    let mut line = ArrayVec::new();
+    append(&mut line, b"refused ");
+    append_number(&mut line, fault.msr);
+    append(&mut line, b" ");
+    append(&mut line, reason_text(fault.reason));
+    append(&mut line, b"\n");
+    line
+}
+
+/// What is wrong with a dump.
+pub fn dump_reason_text(reason: DumpReason) -> &'static [u8]
+    ensures text { result.now ≡ dump_reason_text reason }
+    ensures short { length result.now ≤ 20 }
+{
+    match reason {
+        DumpReason::BadLine => b"bad line",
+        DumpReason::BadNumber => b"bad number",
+        DumpReason::UnknownRegister => b"unknown register",
+        DumpReason::Repeated => b"repeated",
+        DumpReason::NoCap => b"no cap",
+        DumpReason::BadWidth => b"bad width",
+        DumpReason::TooManyPairs => b"too many pairs",
+    }
+}
+
+/// What is wrong with a script.
+pub fn script_reason_text(reason: ScriptReason) -> &'static [u8]
+    ensures text { result.now ≡ script_reason_text reason }
+    ensures short { length result.now ≤ 20 }
+{
+    match reason {
+        ScriptReason::BadLine => b"bad line",
+        ScriptReason::BadNumber => b"bad number",
+        ScriptReason::UnknownRegister => b"unknown register",
+        ScriptReason::OutOfRange => b"out of range",
+        ScriptReason::NoEnd => b"no end",
+        ScriptReason::NotNow => b"not now",
+        ScriptReason::Repeated => b"repeated",
+    }
+}
+
+// The line about an offence at a place.
+fn bad_text(place: Place, reason: &[u8]) -> LineBuffer
+    requires { length reason.now ≤ 20 }
+    ensures { result.items ≡ bad_text place reason.now }
+{
+    let mut line = ArrayVec::new();
+    append(&mut line, b"bad text ");
+    append_decimal(&mut line, place.line);
+    append(&mut line, b":");
+    append_decimal(&mut line, place.column);
+    append(&mut line, b" ");
+    append(&mut line, reason);
+    append(&mut line, b"\n");
+    line
+}
+
+/// The line about an offence of a dump.
+pub fn bad_text_line(fault: &DumpFault) -> LineBuffer
+    ensures { result.items ≡ bad_text_line fault.now }
+{
+    bad_text(fault.place, dump_reason_text(fault.reason))
+}
+
+/// The line about a fault of a script.
+pub fn bad_script_line(fault: &ScriptFault) -> LineBuffer
+    ensures { result.items ≡ bad_script_line fault.now }
+{
+    bad_text(fault.place, script_reason_text(fault.reason))
+}
+
+/// The line about an offence of a script, or of its dump.
+pub fn offence_line(offence: &Offence) -> LineBuffer
+    ensures { result.items ≡ offence_line offence.now }
+{
+    match offence {
+        Offence::Script(fault) => bad_script_line(fault),
+        Offence::Dump(fault) => bad_text_line(fault),
+    }
+}

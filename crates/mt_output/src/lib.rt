@@ -1,0 +1,19 @@
+//! Lines of text that the program writes, and a writer that gathers them.
+#![tactic(auto)]
+
+mod faults;
+mod line;
+mod writer;
+
+pub use faults::{
+    bad_script_line, bad_text_line, dump_reason_text, offence_line, reason_text, refused_line,
+    script_reason_text,
+};
+pub use line::{
+    LINE_ROOM, LineBuffer, accepted_line, append, append_address, append_decimal, append_number,
+    append_pat_type, append_type, append_value,
+};
+pub use writer::{WRITER_ROOM, Writer};
+
+#[cfg(test)]
+mod tests;

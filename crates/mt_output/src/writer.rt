@@ -1,0 +1,66 @@
+ghost use Rattle.std.specs.Prelude.{◌≡◌, ◌≤◌, [], length, IfOk, OnErr};
+ghost use Rattle.mt_ports.specs.Causes.{HasCause};
+ghost use Rattle.mt_output.specs.Writing.{Adds};
+
+use mt_ports::{Failed, NoMemory, Sink, put};
+use std::alloc::Global;
+use std::marker::Model;
+
+/// How many bytes may wait.
+pub const WRITER_ROOM: usize = 65_536;
+
+/// Gathers texts and hands them to a sink many at a time. Its value is the bytes that wait. Memory
+/// is taken once, by `new`.
+#[derive(Drop)]
+pub struct Writer {
+    text: Vec<u8>,
+}
+
+impl Model for Writer {
+    ghost use Rattle.std.specs.Prelude.{ℕ, ◌≤◌, List, vec_len, vec_capacity};
+
+    ghost Value = { List ℕ };
+
+    ghost view = { λ w. w.text.items };
+
+    ghost invariant = { λ w. (vec_len w.text ≤ 65536) × (65536 ≤ vec_capacity w.text) };
+}
+
+impl Writer {
+    /// A writer of which nothing waits.
+    pub fn new(alloc: Global) -> Result<Writer, NoMemory>
+        ensures { IfOk result (λ writer. writer ≡ []) }
+    {
+        let text = Vec::with_capacity(alloc, WRITER_ROOM)?;
+        Ok(Writer { text })
+    }
+
+    /// Hands all that waits to the sink. Nothing waits then, even if the sink failed.
+    pub fn flush<K: Sink>(&mut self, sink: &mut K) -> Result<(), Failed>
+        ensures bytes { Adds self.old [] self.new (K.taken sink.old) (K.taken sink.new) result }
+        ensures waiting { self.new ≡ [] }
+        ensures cause { HasCause (K.faults sink.old) (K.faults sink.new) result }
+    {
+        let result = put(sink, self.text.as_slice());
+        self.text.clear();
+        result
+    }
+
+    /// Adds a text to the bytes that wait, which go to the sink first where there isn't room. After
+    /// a failure nothing waits.
+    pub fn write<K: Sink>(&mut self, sink: &mut K, text: &[u8]) -> Result<(), Failed>
+        requires { length text.now ≤ WRITER_ROOM }
+        ensures bytes { Adds self.old text.now self.new (K.taken sink.old) (K.taken sink.new) result }
+        ensures room { length self.new ≤ WRITER_ROOM }
+        ensures failed { OnErr result (self.new ≡ []) }
+        ensures cause { HasCause (K.faults sink.old) (K.faults sink.new) result }
+    {
+        if text.len() > WRITER_ROOM - self.text.len() {
+            self.flush(sink)?;
+        }
+        match self.text.extend_from_slice(text) {
+            Ok(()) => Ok(()),
+            Err(_) => unreachable!(),
+        }
+    }
+}
