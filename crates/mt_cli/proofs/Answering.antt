@@ -1,5 +1,5 @@
 -- From the text that was written to what a command answers.
-use Rattle.std.proofs.Common.{◌≡◌, ℕ, List, Option, subst, sym}
+use Rattle.std.proofs.Common.{◌≡◌, ℕ, List, Option, subst}
 use Rattle.mt_ports.specs.declared.status.Status.{Status}
 use Rattle.mt_regs.specs.RegisterFile.{RegisterFile}
 use Rattle.mt_cli.specs.declared.command.Command.{Command}

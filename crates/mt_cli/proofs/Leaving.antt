@@ -2,9 +2,8 @@
 use Rattle.std.proofs.Common.{◌≡◌, ◌≢◌, ◌⊎◌, ℕ, ◌<◌, List, [], ◌++◌, length, length-append, Option, Some, None, refl, sym, subst, ◌∙◌, ap, inl, inr, arith}
 use Rattle.std.specs.Io.KnownBytes.{Appends, Consumes, IsAtEnd}
 use Rattle.std.proofs.lemmas.List.{append-nil}
-use Rattle.mt_ports.specs.Puts.{AppendsFront}
 use Rattle.mt_ports.specs.declared.status.Status.{Status}
-use Rattle.mt_ports.specs.declared.status.Status.TheVariants.{Done, Refused, Usage, BadText, WriteFault, TooLong, TooFew, Disabled}
+use Rattle.mt_ports.specs.declared.status.Status.TheVariants.{Done, Refused, Usage, BadText, TooLong, TooFew, Disabled}
 use Rattle.mt_regs.specs.RegisterFile.{RegisterFile}
 use Rattle.mt_dump.specs.Dump.{Shown, dump_offence}
 use Rattle.mt_dump.specs.declared.fault.DumpFault.{DumpFault}

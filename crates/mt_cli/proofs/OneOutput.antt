@@ -1,8 +1,8 @@
 -- Words and bytes have one status, and one text but where several lists of ranges are least.
-use Rattle.std.proofs.Common.{◌≡◌, ◌≢◌, ℕ, ◌-◌, ◌<◌, ◌≤◌, ◌++◌, true, false, List, length, Option, Some, None, refl, sym, subst, ap, ◌∙◌, inl, inr, arith}
+use Rattle.std.proofs.Common.{◌≡◌, ◌≢◌, ℕ, ◌++◌, false, List, Some, None, refl, sym, subst, ap, ◌∙◌, inl, inr, arith}
 use Rattle.std.specs.Prelude.{◌⊎◌}
 use Rattle.mt_ports.specs.declared.status.Status.{Status}
-use Rattle.mt_ports.specs.declared.status.Status.TheVariants.{Done, Refused, Usage, BadText, TooFew, Disabled}
+use Rattle.mt_ports.specs.declared.status.Status.TheVariants.{Done, Refused, TooFew, Disabled}
 use Rattle.mt_regs.specs.RegisterFile.{RegisterFile, is_enabled}
 use Rattle.mt_regs.specs.Faults.{IsAccepted, IsFirstFault}
 use Rattle.mt_regs.specs.declared.fault.Fault.{Fault}
@@ -11,15 +11,15 @@ use Rattle.mt_types.specs.declared.run.Run.{Run}
 use Rattle.mt_types.specs.Runs.{IsRunsOf}
 use Rattle.mt_types.proofs.OneMap.{one_type_map}
 use Rattle.mt_dump.specs.Canon.{canon}
-use Rattle.mt_dump.specs.Dump.{Shown, dump_offence}
-use Rattle.mt_dump.specs.declared.fault.DumpFault.{DumpFault}
+use Rattle.mt_dump.specs.Dump.{Shown}
 use Rattle.mt_dump.proofs.Ends.{one_file, shown_no_offence}
 use Rattle.mt_tidy.specs.Keeps.{IsLeast}
 use Rattle.mt_tidy.specs.Kept.{IsTidy, NeedsMore}
 use Rattle.mt_cli.specs.declared.command.Command.{Command}
 use Rattle.mt_cli.specs.declared.command.Command.TheVariants.{Check, Show, Types, Page, Tidy}
 use Rattle.mt_cli.specs.CommandLine.{command_of}
-use Rattle.mt_cli.specs.Lines.{accepted_line, bad_text_line, disabled_line, page_text, refused_line, too_few_line, types_text, usage_line, used_line}
+use Rattle.mt_output.specs.Lines.{accepted_line, bad_text_line, refused_line}
+use Rattle.mt_cli.specs.Lines.{disabled_line, page_text, too_few_line, types_text, used_line}
 use Rattle.mt_cli.specs.Output.{Answer, IsTesting, Output, refused, accepted, shown, typed, paged, tidied, too_few, disabled, usage, bad_text, answered}
 
 -- the answer names the file's first fault

@@ -1,5 +1,5 @@
 -- Each command line and each input have an output.
-use Rattle.std.proofs.Common.{◌≡◌, ℕ, ◌++◌, Bool, true, false, List, Option, Some, None, refl, inl, inr}
+use Rattle.std.proofs.Common.{◌≡◌, ℕ, Bool, true, false, List, Option, Some, None, refl, inl, inr}
 use Rattle.mt_ports.specs.declared.status.Status.{Status}
 use Rattle.mt_regs.specs.declared.fault.Fault.{Fault}
 use Rattle.mt_regs.specs.RegisterFile.{IsRegisterFile, RegisterFile, is_enabled}
@@ -11,7 +11,7 @@ use Rattle.mt_tidy.proofs.SomeTidy.{tidy_or_more}
 use Rattle.mt_cli.specs.declared.command.Command.{Command}
 use Rattle.mt_cli.specs.declared.command.Command.TheVariants.{Check, Show, Types, Page, Tidy}
 use Rattle.mt_cli.specs.CommandLine.{command_of}
-use Rattle.mt_cli.specs.Output.{Answer, IsTesting, Output, refused, accepted, shown, typed, paged, tidied, too_few, disabled, usage, bad_text, answered}
+use Rattle.mt_cli.specs.Output.{Answer, Output, refused, accepted, shown, typed, paged, tidied, too_few, disabled, usage, bad_text, answered}
 
 SomeAnswer : RegisterFile → Command → Type 0
 SomeAnswer file command = (text : List ℕ) × (status : Status) × Answer file command text status

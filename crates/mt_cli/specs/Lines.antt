@@ -1,58 +1,19 @@
--- The lines that the commands write. Each ends with LF.
-use Rattle.std.specs.Prelude.{ℕ, ◌+◌, ◌-◌, ◌*◌, ◌/◌, nat_lt, List, [], ◌∷◌, ◌++◌, codes, decimal, drop, flat_map, if◌then◌else◌}
+-- The lines that the commands write, but for those of mt_output. Each ends with LF.
+use Rattle.std.specs.Prelude.{ℕ, ◌-◌, ◌*◌, ◌/◌, nat_lt, List, ◌++◌, codes, decimal, flat_map, if◌then◌else◌}
 use Rattle.mt_kinds.specs.declared.mem_type.MemType.{MemType}
 use Rattle.mt_kinds.specs.declared.pat_type.PatType.{PatType}
 use Rattle.mt_kinds.specs.EffectiveType.{effective_type}
 use Rattle.mt_kinds.specs.Pat.{pat_entry}
 use Rattle.mt_kinds.specs.Types.{name_of_pat_type, name_of_type}
-use Rattle.mt_regs.specs.declared.fault.Fault.{Fault}
-use Rattle.mt_regs.specs.declared.fault.Reason.{Reason}
-use Rattle.mt_regs.specs.declared.fault.Reason.TheVariants.{ReservedBit, UnsupportedType, BrokenMask, UndefinedOverlap}
 use Rattle.mt_regs.specs.PageTypes.{defined_type, page_type}
 use Rattle.mt_regs.specs.RegisterFile.{RegisterFile, page_count}
 use Rattle.mt_types.specs.declared.run.Run.{Run}
 use Rattle.mt_types.specs.Runs.{run_end}
-use Rattle.mt_dump.specs.Canon.{number_text, value_text}
-use Rattle.mt_dump.specs.declared.fault.DumpFault.{DumpFault}
-use Rattle.mt_dump.specs.declared.fault.DumpReason.{DumpReason}
-use Rattle.mt_dump.specs.declared.fault.DumpReason.TheVariants.{BadLine, BadNumber, UnknownRegister, Repeated, NoCap, BadWidth, TooManyPairs}
-
-abbrev pub line : List ℕ → List ℕ
-line text = text ++ 10 ∷ []
+use Rattle.mt_dump.specs.Canon.{value_text}
+use Rattle.mt_output.specs.Lines.{address_text, line}
 
 abbrev pub usage_line : List ℕ
 usage_line = line (codes "usage")
-
-abbrev pub accepted_line : List ℕ
-accepted_line = line (codes "accepted")
-
-abbrev pub reason_text : Reason → List ℕ
-reason_text ReservedBit = codes "reserved bit"
-reason_text UnsupportedType = codes "unsupported type"
-reason_text BrokenMask = codes "broken mask"
-reason_text UndefinedOverlap = codes "undefined overlap"
-
--- the register at fault and the reason
-abbrev pub refused_line : Fault → List ℕ
-refused_line fault = line (codes "refused " ++ number_text fault.msr ++ codes " " ++ reason_text fault.reason)
-
-abbrev pub dump_reason_text : DumpReason → List ℕ
-dump_reason_text BadLine = codes "bad line"
-dump_reason_text BadNumber = codes "bad number"
-dump_reason_text UnknownRegister = codes "unknown register"
-dump_reason_text Repeated = codes "repeated"
-dump_reason_text NoCap = codes "no cap"
-dump_reason_text BadWidth = codes "bad width"
-dump_reason_text TooManyPairs = codes "too many pairs"
-
--- line, column and reason of an offence
-abbrev pub bad_text_line : DumpFault → List ℕ
-bad_text_line fault =
-    line (codes "bad text " ++ decimal fault.place.line ++ codes ":" ++ decimal fault.place.column ++ codes " " ++ dump_reason_text fault.reason)
-
--- an address in thirteen digits, which is 52 bits
-abbrev pub address_text : ℕ → List ℕ
-address_text address = drop 3 (value_text address)
 
 -- the first and the last byte address of a run, and its type
 abbrev pub run_line : Run → List ℕ

@@ -1,7 +1,7 @@
 -- What the program writes for a command line and an input, and the status that it ends with.
 --     Answer command file text status      what a command answers about a register file
 --     Output words bytes text status      what the program writes for these words and these bytes
-use Rattle.std.specs.Prelude.{ℕ, ◌≡◌, ◌++◌, false, List, Option, Some, None, ⊤}
+use Rattle.std.specs.Prelude.{ℕ, ◌≡◌, ◌++◌, false, List, Some, None, ⊤}
 use Rattle.mt_ports.specs.declared.status.Status.{Status}
 use Rattle.mt_ports.specs.declared.status.Status.TheVariants.{Done, Refused, Usage, BadText, TooFew, Disabled}
 use Rattle.mt_regs.specs.RegisterFile.{RegisterFile, is_enabled}
@@ -16,7 +16,8 @@ use Rattle.mt_tidy.specs.Kept.{IsTidy, NeedsMore}
 use Rattle.mt_cli.specs.declared.command.Command.{Command}
 use Rattle.mt_cli.specs.declared.command.Command.TheVariants.{Check, Show, Types, Page, Tidy}
 use Rattle.mt_cli.specs.CommandLine.{command_of}
-use Rattle.mt_cli.specs.Lines.{accepted_line, bad_text_line, disabled_line, page_text, refused_line, too_few_line, types_text, usage_line, used_line}
+use Rattle.mt_output.specs.Lines.{accepted_line, bad_text_line, refused_line}
+use Rattle.mt_cli.specs.Lines.{disabled_line, page_text, too_few_line, types_text, usage_line, used_line}
 
 -- the commands that refuse a file that isn't accepted: all but `show`
 abbrev pub IsTesting : Command → Type 0

@@ -7,8 +7,9 @@ ghost use Rattle.mt_cli.specs.CommandLine.{IsSound};
 ghost use Rattle.mt_cli.specs.Written.{Answers, Writes};
 
 use crate::Command;
-use crate::lines::{disabled_line, page_text, refused_line, too_few_line};
+use crate::lines::{disabled_line, page_text, too_few_line};
 use crate::texts::{canonical_text, tidied_text, types_text};
+use mt_output::{accepted_line, refused_line};
 use mt_ports::{Sink, Status, put};
 use mt_regs::{Fault, RegFile};
 use mt_tidy::{TidyFault, tidy};
@@ -100,7 +101,7 @@ fn answer_accepted<K: Sink>(alloc: Global, command: Command, f: &RegFile, sink: 
     ensures failed { result ≡ Status.WriteFault → Rose (K.faults sink.old) (K.faults sink.new) }
 {
     match command {
-        Command::Check => written(sink, b"accepted\n", Status::Done),
+        Command::Check => written(sink, accepted_line(), Status::Done),
         Command::Show => show(f, sink),
         Command::Types => types(alloc, f, sink),
         Command::Page { address, index } => page(f, address, index, sink),

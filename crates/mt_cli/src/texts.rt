@@ -14,10 +14,10 @@ use std::alloc::{AllocError, Global};
 const LONGEST_LINE: usize = 24;
 
 /// Room for the canonical text of any file behind one more line.
-pub type FileBuffer = ArrayVec<u8, 2048>;
+pub type FileBuffer = ArrayVec<u8, 2176>;
 
 fn append(text: &mut FileBuffer, bytes: &[u8])
-    requires { array_vec_len text.old + length bytes.now ≤ 2048 }
+    requires { array_vec_len text.old + length bytes.now ≤ 2176 }
     ensures { text.new.items ≡ text.old.items ++ bytes.now }
 {
     match text.try_extend_from_slice(bytes) {
@@ -28,7 +28,7 @@ fn append(text: &mut FileBuffer, bytes: &[u8])
 
 // Adds the canonical text of a file.
 fn append_canon(text: &mut FileBuffer, f: &RegFile)
-    requires { array_vec_len text.old ≤ 96 }
+    requires { array_vec_len text.old ≤ 224 }
     ensures { text.new.items ≡ text.old.items ++ canon f.now }
 {
     'lines: for i in 0..f.count() + 2 {

@@ -6,9 +6,9 @@ ghost use Rattle.mt_cli.specs.Tool.{Leaves, Reads};
 
 use crate::answers::{answer, written};
 use crate::command_of;
-use crate::lines::bad_text_line;
 use crate::reading::read_all;
 use mt_dump::read_dump;
+use mt_output::bad_text_line;
 use mt_ports::{Gate, Sink, Source, Status};
 
 /// Does all that the program does, and answers its status. The words are the command line without

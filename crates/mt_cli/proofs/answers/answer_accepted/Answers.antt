@@ -1,11 +1,10 @@
-use Rattle.std.proofs.Common.{refl}
 use Rattle.mt_cli.specs.declared.command.Command.TheVariants.{Check}
 use Rattle.mt_cli.specs.Output.{accepted}
 use Rattle.mt_cli.proofs.Answering.{answers_with}
 use Rattle.mt_cli.proofs.answers.answer_accepted.Goals as goal
 
 pub returns-in-Check-clause-bytes : goal.returns-in-Check-clause-bytes
-returns-in-Check-clause-bytes g c = rw c.in-Check.is (answers_with c.args.f.now Check _ _ _ _ _ _ (accepted c.requires.accepted) refl c.written.ensures.bytes)
+returns-in-Check-clause-bytes g c = rw c.in-Check.is (answers_with c.args.f.now Check _ _ _ _ _ _ (accepted c.requires.accepted) c.accepted_line.ensures c.written.ensures.bytes)
 
 pub returns-in-Show-clause-bytes : goal.returns-in-Show-clause-bytes
 returns-in-Show-clause-bytes g c = rw c.in-Show.is c.show.ensures.bytes

@@ -1,4 +1,4 @@
-use Rattle.std.proofs.Common.{◌∙◌, sym}
+use Rattle.std.proofs.Common.{◌∙◌}
 use Rattle.mt_regs.proofs.FaultNumbers.{fault_number}
 use Rattle.mt_cli.specs.Output.{refused}
 use Rattle.mt_cli.proofs.Answering.{answers_with}

@@ -1,4 +1,4 @@
-use Rattle.std.proofs.Common.{◌++◌, take, length, length-append, arith}
+use Rattle.std.proofs.Common.{◌++◌, take, length-append, arith}
 use Rattle.std.proofs.lemmas.List.{length-take}
 use Rattle.std.proofs.KnownBytes.{Consumes-trans}
 use Rattle.mt_cli.proofs.reading.read_all.Goals as goal

@@ -1,7 +1,6 @@
-use Rattle.std.proofs.Common.{◌≡◌, ◌≤◌, ◌<◌, take, length, ap, length-append, sym, arith}
+use Rattle.std.proofs.Common.{◌<◌, take, length, ap, length-append, arith}
 use Rattle.std.proofs.lemmas.List.{length-map}
 use Rattle.std.proofs.lemmas.List.{length-take}
-use Rattle.mt_regs.specs.Registers.{writable}
 use Rattle.mt_dump.specs.Canon.{canon_lines}
 use Rattle.mt_cli.proofs.CanonicalLines.{line_more}
 use Rattle.mt_cli.proofs.texts.append_canon.Goals as goal

@@ -5,5 +5,5 @@ use Rattle.mt_cli.proofs.texts.append_canon.Given as goal
 abbrev pub invariant-lines : goal.invariant-lines
 invariant-lines l = record {
   text : l.text.items ≡ l.initial.text.items ++ ended (take l.i (canon_lines l.f));
-  short : length l.text.items ≤ 96 + 24 * l.i;
+  short : length l.text.items ≤ 224 + 24 * l.i;
 }

@@ -1,4 +1,4 @@
-use Rattle.std.proofs.Common.{string_bytes, arith, map}
+use Rattle.std.proofs.Common.{string_bytes, map}
 use Rattle.std.proofs.lemmas.List.{length-map}
 use Rattle.mt_cli.proofs.LongLines.{no_command}
 use Rattle.mt_cli.proofs.words.command_of.Goals as goal
