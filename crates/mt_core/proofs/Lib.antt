@@ -1,3 +1,3 @@
-mod Arising
-mod Stepping
+pub mod Arising
+pub mod Stepping
 mod Stopping

@@ -1,0 +1,2 @@
+-- What commands keep of a session.
+pub mod Comes
