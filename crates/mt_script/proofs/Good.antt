@@ -31,7 +31,7 @@ shown_given says file shown =
     let one : times 0xfe (given says) ≡ times 0xfe ((0xfe, file.capabilities) ∷ shown.capabilities.0) = ap (times 0xfe) shown.capabilities.1 in
     ap (nat_lt 0) one ∙ positive (times 0xfe shown.capabilities.0 + 1) (omega arith)
 
-shown_end : (place : Place) (says : List Reading) (file : RegisterFile) → ShownBy says file → offence_at_end place says ≡ None
+pub shown_end : (place : Place) (says : List Reading) (file : RegisterFile) → ShownBy says file → offence_at_end place says ≡ None
 shown_end place says file shown = rw (shown_given says file shown) refl
 
 -- where clean lines lead to no file they gave no register
