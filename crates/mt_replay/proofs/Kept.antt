@@ -1,2 +1,5 @@
 -- What commands keep of a session.
 pub mod Comes
+pub mod Machines
+pub mod Windows
+pub mod Sessions
