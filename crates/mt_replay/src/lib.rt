@@ -2,6 +2,8 @@
 #![tactic(auto)]
 
 mod head;
+mod kept;
 mod laws;
 
+pub use kept::{commands_finish_one_update, commands_keep_a_session};
 pub use laws::the_first_fault_is_first;

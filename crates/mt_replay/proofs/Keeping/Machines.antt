@@ -29,7 +29,7 @@ use Rattle.mt_core.specs.Arises.{Arises, by_event, from_start}
 use Rattle.mt_core.specs.Steps.{step_after}
 use Rattle.mt_core.proofs.Stepping.{is_sound, stands}
 use Rattle.mt_replay.specs.Session.{after_word, is_undecided}
-use Rattle.mt_replay.proofs.Kept.Comes.{AllCome, Comes, come_same, comes_next, count_next}
+use Rattle.mt_replay.proofs.Keeping.Comes.{AllCome, Comes, come_same, comes_next, count_next}
 
 -- n comes of m, over the same windows
 pub record Follows (m n : Machine) : Type 0 where

@@ -3,3 +3,4 @@ pub mod Comes
 pub mod Machines
 pub mod Windows
 pub mod Sessions
+pub mod First

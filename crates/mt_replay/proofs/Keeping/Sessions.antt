@@ -40,9 +40,9 @@ use Rattle.mt_replay.specs.FirstFault.{first_fault}
 use Rattle.mt_replay.specs.Kept.{CommandsKeep, IsSession, windows_of}
 use Rattle.mt_replay.specs.Session.{Session, after_call, after_update, after_word, call_fault, each_processor, first_file, is_update, machine_after, mapping, session_after, with_register}
 use Rattle.mt_replay.proofs.FirstFault.{first_fault_is_first}
-use Rattle.mt_replay.proofs.Kept.Comes.{fits_come, fits_with_value}
-use Rattle.mt_replay.proofs.Kept.Machines.{Follows, follows_access, follows_control, follows_event, follows_same, follows_step, follows_update, follows_word}
-use Rattle.mt_replay.proofs.Kept.Windows.{grown_start, room_memory, windows_then}
+use Rattle.mt_replay.proofs.Keeping.Comes.{fits_come, fits_with_value}
+use Rattle.mt_replay.proofs.Keeping.Machines.{Follows, follows_access, follows_control, follows_event, follows_same, follows_step, follows_update, follows_word}
+use Rattle.mt_replay.proofs.Keeping.Windows.{grown_start, room_memory, windows_then}
 
 -- ---- stages
 
@@ -121,7 +121,7 @@ follows_called s n h later = one (call_fault s.machine s.goal) refl
     one None is = later (call_enabled s h is)
     one (Some fault) is = follows_same s.machine h.arises
 
-follows_end : (s : Session) → IsSession s → Follows s.machine (machine_after s command.End)
+pub follows_end : (s : Session) → IsSession s → Follows s.machine (machine_after s command.End)
 follows_end s h = one (is_update s.now.stage)
   where
     one : (b : Bool) → Follows s.machine (if b then after_update s.machine s.goal else after_call s.machine s.goal)
@@ -215,9 +215,11 @@ module _ (s : Session) (h : IsSession s) where
         goal = h.goal;
         windows = ap (λ ws. ws ++ window base lines ∷ []) h.windows ∙ sym (windows_then s.now base lines);
         fresh = λ f same takes.
-            let was = h.fresh f same takes in
-            (was.0, ap (grown (window base lines)) was.1 ∙ grown_start s.now.cpus f (windows_of s.now) (window base lines)
-            ∙ ap (start_machine s.now.cpus f) (sym (windows_then s.now base lines)));
+            let was = h.fresh f same takes in (
+              was.0,
+              ap (grown (window base lines)) was.1 ∙ grown_start s.now.cpus f (windows_of s.now) (window base lines)
+                  ∙ ap (start_machine s.now.cpus f) (sym (windows_then s.now base lines)),
+            );
       }
 
   kept : (c : Command) → Fits s.now c → IsSituation (accepted s.now c) → IsSession (session_after s c)
