@@ -18,3 +18,4 @@ mod words;
 pub use laws::{accesses_refuse_in_order, controls_refuse_in_order};
 pub use mt_machine::{Control, Done, Op, Ruled};
 pub use system::System;
+pub use words::store;

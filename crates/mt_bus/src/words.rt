@@ -35,7 +35,7 @@ pub(crate) fn read(ram: &Ram, address: u64) -> u64
 }
 
 /// Stores a word at a physical address where there is memory.
-pub(crate) fn store(ram: &mut Ram, address: u64, v: u64)
+pub fn store(ram: &mut Ram, address: u64, v: u64)
     ensures { ram.new ≡ put_word ram.old address v }
 {
     if let Some(i) = ram.place(address) {

@@ -139,7 +139,7 @@ local_rests : (ph : Phase) → IsTrue (is_local ph) → is_running ph ≡ false
 local_rests Running h = absurd (cc)
 local_rests other h = refl
 
-taken : is_take Take ≡ true
+pub taken : is_take Take ≡ true
 unfolding is_take
 taken = refl
 

@@ -23,7 +23,7 @@ use Rattle.mt_core.proofs.Stepping.{stands}
 abbrev Outside : Order → Processor → Type 0
 Outside o p = (is_cancelled o.go || has_released o p) ≡ true
 
-abbrev answer : Order → List Processor → Processor → Phase → Stepped
+abbrev pub answer : Order → List Processor → Processor → Phase → Stepped
 answer o ps p ph = option_map_or Did (due o ps p ph) (pause o ps ph)
 
 module _ (o : Order) (ps : List Processor) (p : Processor) (eras : (p.era ≡ o.from_era) ⊎ (p.era ≡ o.from_era + 1)) where

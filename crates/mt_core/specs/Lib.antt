@@ -1,4 +1,6 @@
 pub mod Arises
 pub mod Barriers
+pub mod Headline
+pub mod Rounds
 pub mod Steps
 pub mod Stops

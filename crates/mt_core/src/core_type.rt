@@ -7,7 +7,10 @@ ghost use Rattle.mt_machine.specs.System.{Processor};
 ghost use Rattle.mt_regs.specs.declared.fault.Fault.{Fault};
 ghost use Rattle.mt_regs.specs.Faults.{IsAccepted, IsFirstFault};
 ghost use Rattle.mt_machine.specs.Start.{HasEraRoom};
-ghost use Rattle.mt_machine.specs.Machine.{Calls, Cancels, FitsControl, FitsGoal, FitsOp, Goes, common_era, go_of, next, remaining_order};
+ghost use Rattle.mt_machine.specs.Machine.{Calls, Cancels, FitsControl, FitsGoal, FitsOp, Goes, Order as MachineOrder, common_era, go_of, next, remaining_order};
+ghost use Rattle.mt_machine.specs.Update.{IsSettled};
+ghost use Rattle.mt_machine.specs.declared.event.Event.TheVariants.{Release};
+ghost use Rattle.mt_core.specs.declared.stepped.Stepped.TheVariants.{Did};
 ghost use Rattle.mt_core.specs.Arises.{IsCore, grown};
 ghost use Rattle.mt_core.specs.Steps.{pause_at, step_after, step_answer, under_way};
 
@@ -211,6 +214,7 @@ impl Core {
         requires { k < length self.old.system.processors }
         ensures answer { result ≡ step_answer self.old k }
         ensures after { self.new ≡ step_after self.old k }
+        ensures settled { (o : MachineOrder) → result ≡ Did Release → self.old.order ≡ Some o → IsSettled self.new.system (o.from_era + 1) o.goal }
     {
         let Some(order) = self.order.take() else {
             return Stepped::NoUpdate;

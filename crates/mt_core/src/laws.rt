@@ -1,7 +1,37 @@
+ghost use Rattle.mt_core.specs.Headline.{ErasRise, HeldFromFirstRelease, IsQuietWithoutOrder, NoBuffersWhereOnePasses, SettledFromRelease, WaitsAtBarriers};
 ghost use Rattle.mt_core.specs.Stops.{StopsOutside};
 
 /// A step answers `NoUpdate` exactly where the processor runs and no update is under way, or it is
 /// cancelled, or the processor has released already.
 pub fn steps_stop()
     ensures { StopsOutside }
+{}
+
+/// A step answers `Waits` exactly at the first barrier of an update that isn't cancelled and at the
+/// second, where fewer have arrived than are awaited, and names both.
+pub fn steps_wait()
+    ensures { WaitsAtBarriers }
+{}
+
+/// From each release on, and up to the next call, each processor has the goal's registers and holds
+/// nothing older than the update.
+pub fn releases_settle()
+    ensures { SettledFromRelease }
+{}
+
+/// From the first release of an update on, each word that no access has stored since is in memory
+/// as it was before the first pass. Where some processor may pass, no buffer is left.
+pub fn words_are_held()
+    ensures held { HeldFromFirstRelease }
+    ensures buffers { NoBuffersWhereOnePasses }
+{}
+
+/// A state without an update under way is quiet, so each law on one update holds from it on.
+pub fn rests_quiet()
+    ensures { IsQuietWithoutOrder }
+{}
+
+/// An event leaves the number of processors, and raises no era by more than one.
+pub fn eras_rise()
+    ensures { ErasRise }
 {}

@@ -12,7 +12,7 @@ mod steps;
 
 pub use core_type::Core;
 pub use fault::CallFault;
-pub use laws::steps_stop;
+pub use laws::{eras_rise, releases_settle, rests_quiet, steps_stop, steps_wait, words_are_held};
 pub use mt_machine::{Event, Go, Phase};
 pub use order::Order;
 pub use stepped::Stepped;

@@ -4,7 +4,6 @@ ghost use Rattle.std.specs.Option.{option_map_or};
 ghost use Rattle.mt_regs.specs.RegisterFile.{RegisterFile};
 ghost use Rattle.mt_regs.specs.Faults.{IsAccepted};
 ghost use Rattle.mt_cpu.specs.Steps.{HasWritten, is_local, is_shift};
-ghost use Rattle.mt_machine.specs.Memory.{put_word};
 ghost use Rattle.mt_machine.specs.System.{Processor};
 ghost use Rattle.mt_machine.specs.Machine.{FitsGoal, Order, due, due_at, own_step, step};
 ghost use Rattle.mt_bus.specs.Parts.{system, with_changed};
@@ -14,19 +13,11 @@ ghost use Rattle.mt_core.specs.Steps.{pause, under_way, with_word_of};
 use crate::barriers::{first_count, is_cancelled, is_first_open, is_second_open, second_count};
 use crate::order::Order as CalledOrder;
 use crate::stepped::Stepped;
-use mt_bus::System;
+use mt_bus::{System, store};
 use mt_cpu::Cpu;
 use mt_machine::{Event, Phase};
 use mt_ram::Ram;
 use mt_regs::RegFile;
-
-fn store_word(ram: &mut Ram, address: u64, v: u64)
-    ensures { ram.new ≡ put_word ram.old address v }
-{
-    if let Some(i) = ram.place(address) {
-        ram.put(i, v);
-    }
-}
 
 fn is_local(phase: Phase) -> bool
     ensures { result ≡ is_local phase }
@@ -67,7 +58,7 @@ fn write_word_of(ram: &mut Ram, e: Event)
     ensures { ram.new ≡ with_word_of e ram.old }
 {
     if let Event::WriteBack { address, value } = e {
-        store_word(ram, address, value);
+        store(ram, address, value);
     }
 }
 

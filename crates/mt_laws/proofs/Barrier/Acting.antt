@@ -135,7 +135,7 @@ module _ (s : System) (o : Order) (k : ℕ) (g : Guarded o (stages s)) (clear : 
       one None at h = absurd (cc)
       one (Some p) at h = λ i q at_q. (clear i q at_q).no_buffers (ap not (none_runs p at h i q at_q))
 
-no_buffers : (m : Machine) (k : ℕ) → IsKept m → IsEnabled m (Steps k Pass) → All (λ (q : Processor). q.buffers ≡ []) m.system.processors
+pub no_buffers : (m : Machine) (k : ℕ) → IsKept m → IsEnabled m (Steps k Pass) → All (λ (q : Processor). q.buffers ≡ []) m.system.processors
 no_buffers m k kept enabled i d within = one m.order kept enabled i (get_or m.system.processors i d) (slice_get-get_or m.system.processors i d within)
   where
     one : (v : Option Order) → IsKept (record { system = m.system; order = v }) → IsEnabled (record { system = m.system; order = v }) (Steps k Pass) → (i : ℕ) (q : Processor) → slice_get m.system.processors i ≡ Some q → q.buffers ≡ []

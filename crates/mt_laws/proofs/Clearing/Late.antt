@@ -265,7 +265,7 @@ NothingOlderAfterRelease =
     → IsEnabled m (Steps k Release) → AreEnabled (next m (Steps k Release)) since → list_all (λ e. not (is_call e)) since ≡ true
     → (i : ℕ) (p : Processor) → IsAt (run (next m (Steps k Release)) since) i p → HoldsOnly (o.from_era + 1) p
 
-nothing_older_in : (m : Machine) (o : Order) (k : ℕ) (since : List MachineEvent) (x : Option Order) → m.order ≡ x → x ≡ Some o → IsKept (record { system = m.system; order = x }) → IsEnabled (record { system = m.system; order = x }) (Steps k Release)
+pub nothing_older_in : (m : Machine) (o : Order) (k : ℕ) (since : List MachineEvent) (x : Option Order) → m.order ≡ x → x ≡ Some o → IsKept (record { system = m.system; order = x }) → IsEnabled (record { system = m.system; order = x }) (Steps k Release)
     → AreEnabled (next (record { system = m.system; order = x }) (Steps k Release)) since → list_all (λ e. not (is_call e)) since ≡ true
     → (i : ℕ) (p : Processor) → IsAt (run (next (record { system = m.system; order = x }) (Steps k Release)) since) i p → HoldsOnly (o.from_era + 1) p
 nothing_older_in m o k since None is same kept enabled more quiet i p at = absurd (cc)

@@ -8,14 +8,14 @@ use Rattle.mt_regs.specs.declared.registers.Register.TheVariants.{PhysBase, Phys
 use Rattle.mt_regs.specs.Registers.{writable}
 use Rattle.mt_machine.specs.declared.event.Event.{Event}
 use Rattle.mt_machine.specs.declared.event.Event.TheVariants.{Take, WriteBack, FlushTlb, Write}
-use Rattle.mt_machine.specs.System.{Processor, System}
+use Rattle.mt_machine.specs.System.{IsSound, Processor, System}
 use Rattle.mt_machine.specs.Access.{is_running}
 use Rattle.mt_machine.specs.Machine.{Machine, Order, MachineEvent, Accesses, Controls, Calls, Goes, Cancels, Steps, next, own_step, before_own, step, with_goal, common_era, FitsGoal, Reached, at_start, after}
 use Rattle.mt_machine.specs.Start.{IsQuiet, IsBroadcast, IsStart}
 use Rattle.mt_laws.specs.Starts.{ReachedIsQuiet}
 use Rattle.mt_laws.proofs.Barrier.Stages.{stage_of, stages}
 use Rattle.mt_laws.proofs.Barrier.Ranks.{stage_at}
-use Rattle.mt_laws.proofs.Barrier.Barriers.{Rest, Kept, reached_keeps, era_at}
+use Rattle.mt_laws.proofs.Barrier.Barriers.{Invariant, Rest, Kept, reached_keeps, era_at}
 use Rattle.mt_laws.proofs.Barrier.Claims.{all_get, all_of, start_invariant}
 use Rattle.mt_laws.proofs.Clearing.Follows.{follows_drain, follows_access, follows_control}
 use Rattle.mt_laws.proofs.Clearing.Renewed.{at_change}
@@ -23,13 +23,13 @@ use Rattle.mt_laws.proofs.Registers.Filed.{flush_file}
 use Rattle.mt_laws.proofs.Invariant.Standing.{stays_sound}
 
 -- a file's width and capabilities
-abbrev Shape : Type 0
+abbrev pub Shape : Type 0
 Shape = ℕ × ℕ
 
-abbrev shape : RegisterFile → Shape
+abbrev pub shape : RegisterFile → Shape
 shape f = (f.width, f.capabilities)
 
-abbrev AllOf : Shape → List Processor → Type 0
+abbrev pub AllOf : Shape → List Processor → Type 0
 AllOf v ps = (i : ℕ) (p : Processor) → slice_get ps i ≡ Some p → shape p.file ≡ v
 
 shape_written : (goal f : RegisterFile) (r : Register) → shape (with_goal goal r f) ≡ shape f
@@ -58,7 +58,7 @@ step_shapes v goal e k s all j q at =
     (λ (m : (j ≢ k) × (slice_get (before_own e k s).processors j ≡ Some q)). before j q m.1)
     (at_change (own_step goal e) k (before_own e k s) j q at)
 
-next_shapes : (v : Shape) (e : MachineEvent) (s : System) (o : Option Order) → AllOf v s.processors → AllOf v (next (record { system = s; order = o }) e).system.processors
+pub next_shapes : (v : Shape) (e : MachineEvent) (s : System) (o : Option Order) → AllOf v s.processors → AllOf v (next (record { system = s; order = o }) e).system.processors
 next_shapes v (Accesses k op) s o all = λ j q at. let from = follows_access s k op j q at in ap shape from.2.file ∙ all j from.0 from.1
 next_shapes v (Controls k c) s o all = λ j q at. let from = follows_control s k c j q at in ap shape from.2.file ∙ all j from.0 from.1
 next_shapes v (Calls goal) s o all = all
@@ -88,7 +88,7 @@ quiet_shapes [] h i p at = absurd (cc)
 quiet_shapes (x ∷ ps) h i p at =
     fits_shape x.file p (all_get (FitsGoal x.file) (x ∷ ps) (all_get (λ (y : Processor). All (FitsGoal y.file) (x ∷ ps)) (x ∷ ps) h 0 x refl) i p at)
 
-start_shape : (m : Machine) → IsStart m → (v : Shape) × AllOf v m.system.processors
+pub start_shape : (m : Machine) → IsStart m → (v : Shape) × AllOf v m.system.processors
 start_shape m start =
     ⊎_elim
     (λ (q : IsQuiet m). let r : (v : Shape) × AllOf v m.system.processors = (first_shape m.system.processors, quiet_shapes m.system.processors q.one_kind) in r)
@@ -104,16 +104,19 @@ alike_fit v p q is_p is_q =
     let same : shape p.file ≡ shape q.file = is_p ∙ sym is_q in
     record { width = ap (λ (x : Shape). x.0) same; capabilities = ap (λ (x : Shape). x.1) same }
 
-pub reached_is_quiet : ReachedIsQuiet
-reached_is_quiet s m start r none =
+pub quiet_of : (v : Shape) (m : Machine) → IsSound m.system → Invariant m → AllOf v m.system.processors → m.order ≡ None → IsQuiet m
+quiet_of v m sound kept alike none =
     let ps : List Processor = m.system.processors in
-    let rest : Rest (stages m.system) = subst (λ (o : Option Order). Kept o (stages m.system)) none (reached_keeps r (start_invariant s start)) in
-    let first = start_shape s start in
-    let alike = reached_shapes first.0 r first.1 in
+    let rest : Rest (stages m.system) = subst (λ (o : Option Order). Kept o (stages m.system)) none kept in
     record {
-      sound = stays_sound s m start r;
+      sound = sound;
       running = all_of (λ p. is_running p.phase ≡ true) ps (λ i p at. rest.running i (stage_of p) (stage_at ps i p at));
       one_era = all_of (λ p. p.era ≡ common_era ps) ps (λ i p at. era_at ps rest i (stage_of p) (stage_at ps i p at));
-      one_kind = all_of (λ p. All (λ q. FitsGoal p.file q) ps) ps (λ i p at. all_of (FitsGoal p.file) ps (λ j q at_q. alike_fit first.0 p q (alike i p at) (alike j q at_q)));
+      one_kind = all_of (λ p. All (λ q. FitsGoal p.file q) ps) ps (λ i p at. all_of (FitsGoal p.file) ps (λ j q at_q. alike_fit v p q (alike i p at) (alike j q at_q)));
       no_order = none;
     }
+
+pub reached_is_quiet : ReachedIsQuiet
+reached_is_quiet s m start r none =
+    let first = start_shape s start in
+    quiet_of first.0 m (stays_sound s m start r) (reached_keeps r (start_invariant s start)) (reached_shapes first.0 r first.1) none

@@ -125,7 +125,7 @@ release_settling s o k kept all enabled = at_processor (slice_get s.processors k
     at_processor (Some p) at h =
         settling_still o.goal o (step o.goal Release k s) refl (step_guarded o Release k s p at h kept.0) (filed_steps o Release k s p at h kept.0 all) (is_released o k s p at h kept.0)
 
-files_in : (m : Machine) (o : Order) (k : ℕ) (since : List MachineEvent) (x : Option Order) → x ≡ Some o → IsKept (record { system = m.system; order = x }) → AllFiled x m.system.processors → IsEnabled (record { system = m.system; order = x }) (Steps k Release)
+pub files_in : (m : Machine) (o : Order) (k : ℕ) (since : List MachineEvent) (x : Option Order) → x ≡ Some o → IsKept (record { system = m.system; order = x }) → AllFiled x m.system.processors → IsEnabled (record { system = m.system; order = x }) (Steps k Release)
     → AreEnabled (next (record { system = m.system; order = x }) (Steps k Release)) since → list_all (λ e. not (is_call e)) since ≡ true
     → AllAre o.goal (run (next (record { system = m.system; order = x }) (Steps k Release)) since).system.processors
 files_in m o k since None same kept all enabled more quiet = absurd (cc)

@@ -145,7 +145,7 @@ module _ (o : Order) (s : System) (k : ℕ) (p : Processor) (at : slice_get s.pr
 -- ---- from the first pass to the release
 
 module _ (ws : List Window) (aligned : AllAligned ws) (k : ℕ) where
-  ready : (s : System) (o : Order) (p : Processor) → slice_get s.processors k ≡ Some p → Standing ws (record { system = s; order = Some o }) → Ready p
+  pub ready : (s : System) (o : Order) (p : Processor) → slice_get s.processors k ≡ Some p → Standing ws (record { system = s; order = Some o }) → Ready p
   ready s o p at st = record {
     apart = (fit_at ws s.processors k p st.agrees.stands.fit at).lines_apart;
     no_lines = λ same. (st.kept.1 k p at).no_lines (ap lines_gone same);

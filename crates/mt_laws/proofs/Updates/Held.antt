@@ -15,8 +15,8 @@ use Rattle.mt_machine.specs.Memory.{Window, word_at}
 use Rattle.mt_machine.specs.System.{Processor, System}
 use Rattle.mt_machine.specs.Access.{is_running}
 use Rattle.mt_machine.specs.Machine.{Machine, Order, MachineEvent, Accesses, Controls, Calls, Goes, Cancels, Steps, IsEnabled, next, due, own_step, step, remaining_order, is_given, is_cancelled, is_waiting_to_pass, has_released, has_passed, is_changing, is_arrived_again, second_barrier_open, run, AreEnabled}
-use Rattle.mt_machine.specs.Update.{stored_word, stored_words, is_release}
-use Rattle.mt_laws.specs.Settled.{HeldAfterRelease}
+use Rattle.mt_machine.specs.Update.{IsHeld, stored_word, stored_words, is_release}
+use Rattle.mt_laws.specs.Settled.{HeldAfterRelease, IsFirstRelease}
 use Rattle.mt_laws.proofs.Barrier.Stages.{Stage, stage_of, stages}
 use Rattle.mt_laws.proofs.Barrier.Ranks.{rank, rank_of, is_ahead, At, Guarded, not_both, processor_at, stage_at, all_at, all_fourth, and_left, and_right}
 use Rattle.mt_laws.proofs.Barrier.Barriers.{Kept, step_moves, step_stages, step_guarded, flush_era}
@@ -323,13 +323,9 @@ first_pass o p k (Some o') is kept none enabled =
     subst (λ (u : Order). ((next (record { system = p.system; order = Some o' }) (Steps k Pass)).order ≡ Some u) × IsBetween u (next (record { system = p.system; order = Some o' }) (Steps k Pass)).system) same
     (pass_between o' p.system k kept (subst (λ (u : Order). All (λ q. has_passed u q ≡ false) p.system.processors) (sym same) none) enabled)
 
-pub held_after_release : HeldAfterRelease
-held_after_release s p r o since start reached f enabled a aligned_a other =
-    let ws : List Window = s.system.memory.windows in
-    let aligned = start_aligned s start in
+pub held_of : (ws : List Window) → AllAligned ws → (p r : Machine) (o : Order) (since : List MachineEvent) → Agrees ws p → IsKept p → IsFirstRelease p r o → AreEnabled r since → IsHeld p.system r since
+held_of ws aligned p r o since g kept f enabled a aligned_a other =
     let whole : a % 8 ≡ 0 = omega arith in
-    let g = agrees s p start reached in
-    let kept = reached_kept reached (start_kept s start) in
     let w = g.words a whole in
     let pass : Machine = next p (Steps f.first Pass) in
     let at = first_pass o p f.first p.order f.order kept.0 f.none_passed f.enabled.0 in
@@ -340,3 +336,7 @@ held_after_release s p r o since start reached f enabled a aligned_a other =
     let stands_r : Stands ws r.system = subst (λ (m : Machine). Stands ws m.system) (sym f.leads) (agrees_run ws aligned p (Steps f.first Pass ∷ f.between ++ Steps f.last Release ∷ []) f.enabled g).stands in
     let at_end = stays_in_memory ws aligned since r a w.0 whole stands_r enabled other there in
     at_end.shows.0 ∙ sym (now_is ws p.system a w.0 g.stands w.1)
+
+pub held_after_release : HeldAfterRelease
+held_after_release s p r o since start reached f enabled =
+    held_of s.system.memory.windows (start_aligned s start) p r o since (agrees s p start reached) (reached_kept reached (start_kept s start)) f enabled
