@@ -1,7 +1,7 @@
-mod Arising
+pub mod Arising
 pub mod Eras
 pub mod Settling
-mod Stepping
+pub mod Stepping
 mod Stopping
 mod Waiting
 mod Work

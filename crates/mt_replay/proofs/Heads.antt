@@ -15,8 +15,7 @@ use Rattle.mt_script.specs.declared.fault.Offence.TheVariants.{Script}
 use Rattle.mt_script.specs.declared.command.Command.TheVariants as command
 use Rattle.mt_script.proofs.Good.{leads_to, shown_end}
 use Rattle.mt_replay.specs.FirstFault.{first_fault}
-use Rattle.mt_replay.specs.Session.{Session}
-use Rattle.mt_replay.specs.Transcript.{Body, Head, Told, told_at_end, told_file, told_from, told_offence}
+use Rattle.mt_replay.specs.Transcript.{Body, told_at_end, told_file, told_from, told_offence}
 use Rattle.mt_replay.specs.Parts.{GoesOn, Offends, Shows, head_line}
 
 pub dump_shows : (now : Situation) (before : List Reading) (number : ℕ) (line : List ℕ) (file : RegisterFile) → IsClean before → is_in_dump now.stage ≡ true

@@ -1,2 +1,4 @@
+pub mod Eras
 pub mod FirstFault
 pub mod Heads
+pub mod Keeping

@@ -1,5 +1,5 @@
 -- The first fault of a register file, as a function: what `IsFirstFault` says of one answer alone.
-use Rattle.std.specs.Prelude.{ℕ, Bool, true, false, ◌&&◌, List, length, Option, Some}
+use Rattle.std.specs.Prelude.{ℕ, Bool, true, false, ◌&&◌, List, length, Option}
 use Rattle.std.specs.Option.{option_map, option_or}
 use Rattle.std.specs.List.{find, list_any, range_with_len}
 use Rattle.mt_ranges.specs.Match.{matches_pair}

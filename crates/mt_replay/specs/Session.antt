@@ -1,8 +1,8 @@
 -- A script between two lines after its dump: what stands set up, the machine, and what a command writes and leaves (own).
 --     command_text session command      what the command writes
 --     session_after session command      what it leaves
-use Rattle.std.specs.Prelude.{ℕ, ◌+◌, ◌/◌, Bool, true, false, List, [], length, if◌then◌else◌, slice_get, slice_index_or, Option, None, Some, is_some}
-use Rattle.std.specs.Option.{option_map, option_map_or, option_or}
+use Rattle.std.specs.Prelude.{ℕ, ◌/◌, Bool, true, false, List, [], length, if◌then◌else◌, slice_get, Option, None, Some, is_some}
+use Rattle.std.specs.Option.{option_map, option_map_or}
 use Rattle.std.specs.List.{range_with_len}
 use Rattle.mt_regs.specs.RegisterFile.{RegisterFile}
 use Rattle.mt_regs.specs.Registers.{value_at, written}
@@ -14,7 +14,7 @@ use Rattle.mt_machine.specs.declared.op.Op.TheVariants as op
 use Rattle.mt_machine.specs.declared.control.Control.{Control}
 use Rattle.mt_machine.specs.declared.control.Control.TheVariants as control_of
 use Rattle.mt_machine.specs.Memory.{Memory, place, word_at}
-use Rattle.mt_machine.specs.System.{Processor, System, start_processor}
+use Rattle.mt_machine.specs.System.{Processor, System}
 use Rattle.mt_machine.specs.Access.{access}
 use Rattle.mt_machine.specs.Control.{control}
 use Rattle.mt_machine.specs.Machine.{Accesses, Calls, Cancels, Controls, Goes, Machine, MachineEvent, common_era, go_of, next}

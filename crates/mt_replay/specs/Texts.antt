@@ -1,10 +1,8 @@
 -- The lines of a transcript (own). Each ends with LF.
-use Rattle.std.specs.Prelude.{ℕ, ◌+◌, ◌==◌, nat_eq, nat_lt, Bool, true, false, ◌&&◌, List, [], ◌∷◌, ◌++◌, codes, decimal, length, if◌then◌else◌, slice_index_or, Option, None, Some}
-use Rattle.std.specs.Option.{option_map_or}
+use Rattle.std.specs.Prelude.{ℕ, ◌+◌, ◌==◌, nat_eq, nat_lt, Bool, true, false, ◌&&◌, List, [], ◌∷◌, ◌++◌, codes, decimal, length, slice_index_or, Option, None, Some}
 use Rattle.std.specs.List.{count_by, list_all}
 use Rattle.std.specs.Cmp.Lexicographic.{pointwise}
 use Rattle.mt_kinds.specs.Types.{name_of_type}
-use Rattle.mt_regs.specs.declared.fault.Fault.{Fault}
 use Rattle.mt_regs.specs.declared.registers.Register.TheVariants.{DefaultType}
 use Rattle.mt_regs.specs.RegisterFile.{RegisterFile}
 use Rattle.mt_regs.specs.Registers.{number_of, writable}

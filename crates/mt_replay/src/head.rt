@@ -43,11 +43,15 @@ fn end_dump(dump: &mut DumpReader, at: Place) -> Result<RegFile, Offence>
 }
 
 // Takes a line up to the dump's end. The file is what the dump shows, where this line ends it.
-fn take_line(setup: &mut Setup, dump: &mut DumpReader, line: &Line<'_>) -> Result<Option<RegFile>, Offence>
+fn take_line(
+    setup: &mut Setup,
+    dump: &mut DumpReader,
+    line: &Line<'_>,
+) -> Result<Option<RegFile>, Offence>
     ensures { (before : List Reading) → HasRead dump.old before → MatchResult result
         (λ shown. MatchOption shown
-            ((after : List Reading) × HasRead dump.new after × (setup.new.file ≡ setup.old.file) × GoesOn setup.old before line.now.number line.now.bytes.now setup.new after)
-            (λ file. (setup.new ≡ setup.old) × (is_in_dump setup.old.stage ≡ true) × Shows setup.old before line.now.number line.now.bytes.now file))
+        ((after : List Reading) × HasRead dump.new after × (setup.new.file ≡ setup.old.file) × GoesOn setup.old before line.now.number line.now.bytes.now setup.new after)
+        (λ file. (setup.new ≡ setup.old) × (is_in_dump setup.old.stage ≡ true) × Shows setup.old before line.now.number line.now.bytes.now file))
         (λ offence. Offends setup.old before line.now.number line.now.bytes.now offence) }
 {
     let command = match read_command(line, setup) {
@@ -74,8 +78,8 @@ fn take_line(setup: &mut Setup, dump: &mut DumpReader, line: &Line<'_>) -> Resul
 pub(crate) fn read_head(source: &[u8]) -> Result<Begun, Offence>
     ensures { MatchResult result
         (λ begun. (is_in_dump begun.setup.stage ≡ true) × (begun.next ≤ length source.now) × (begun.number ≤ begun.next + 1)
-            × ((body : Body) → told_from body (end_of source.now) 1 (lines_of source.now) at_start []
-                ≡ told_file begun.setup begun.file (body begun.number (lines_of (drop begun.next source.now))) (first_fault begun.file)))
+        × ((body : Body) → told_from body (end_of source.now) 1 (lines_of source.now) at_start []
+        ≡ told_file begun.setup begun.file (body begun.number (lines_of (drop begun.next source.now))) (first_fault begun.file)))
         (λ offence. (body : Body) → told_from body (end_of source.now) 1 (lines_of source.now) at_start [] ≡ told_offence offence) }
 {
     let mut setup = Setup::new();

@@ -3,9 +3,11 @@
 
 mod commands;
 mod head;
+mod kept;
 mod laws;
 mod replayer;
 mod texts;
 
+pub use kept::{commands_finish_one_update, commands_keep_a_session};
 pub use laws::the_first_fault_is_first;
 pub use replayer::Replayer;

@@ -19,6 +19,7 @@ use Rattle.mt_script.specs.Stages.{takes_commands, takes_registers, takes_end, i
 use Rattle.mt_script.specs.Shape.{shape_fault}
 use Rattle.mt_script.specs.Commands.{Answer, with, unless, cpus_in, ram_in, load_in, store_in, map_in, invlpg_in, msr_in, row_answer, row_line, outside, register_line, is_end, in_section, too_long, in_dump, not_too_long, in_stage, command_of}
 use Rattle.mt_script.specs.Accept.{Fits, IsAligned}
+use Rattle.mt_script.proofs.Values.{value_fact}
 use Rattle.mt_script.specs.declared.command.Stage.{Stage}
 use Rattle.mt_script.specs.declared.command.Stage.TheVariants.{NeedCpus, NeedDump, InDump, Rams, Commands, InUpdate, InBegin}
 use Rattle.mt_script.specs.declared.command.Command.{Command}
@@ -121,7 +122,7 @@ module _ (now : Situation) (line : ℕ) (words : List (ℕ × List ℕ)) where
 
   store_fits : takes_commands now.stage ≡ true → IfOk (store_in now line words) (Fits now)
   store_fits stage = for_processor _ (λ k known. for_aligned 2 8 (2 ^ 48) _ (λ address good.
-      fits_with (Fits now) (value_in line words 3) _ (λ value is. ((stage, known), good))))
+      fits_with (Fits now) (value_in line words 3) _ (λ value is. ((stage, known), good, value_fact line words 3 value is))))
 
   map_fits : takes_commands now.stage ≡ true → IfOk (map_in now line words) (Fits now)
   map_fits stage = for_processor _ (λ k known. for_aligned 2 4096 (2 ^ 48) _ (λ address good.

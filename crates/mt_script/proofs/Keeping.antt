@@ -5,7 +5,7 @@ use Rattle.std.specs.Set.{is_member}
 use Rattle.std.proofs.lemmas.Bool.{and_parts, leb-true, ltb-true}
 use Rattle.mt_regs.specs.RegisterFile.{RegisterFile, IsRegisterFile}
 use Rattle.mt_script.specs.Situation.{Situation, at_start}
-use Rattle.mt_script.specs.Stages.{HasCpus, takes_cpus, takes_dump, takes_commands, takes_registers, takes_end, is_in_dump, is_past_dump}
+use Rattle.mt_script.specs.Stages.{HasCpus, takes_cpus, takes_dump, takes_commands, takes_registers, takes_windows, takes_end, is_in_dump, is_past_dump}
 use Rattle.mt_script.specs.Numbers.{has_room, lines_together, is_writable, are_apart, address_limit}
 use Rattle.mt_script.specs.Kept.{IsSituation}
 use Rattle.mt_script.specs.Accept.{Fits, accepted, in_commands, in_section_of, finished}
@@ -18,7 +18,7 @@ use Rattle.mt_script.proofs.Sections.{one_more_distinct, one_more_known, room_fo
 -- nothing is set up at the start
 pub start_is : IsSituation at_start
 unfolding IsDistinct
-start_is = record { cpus = refl; has_file = refl; file = tt; few = lit≤ tt; together = lit≤ tt; distinct = tt; known = λ q member. cc member; idle = λ test. refl }
+start_is = record { cpus = refl; has_file = refl; file = tt; few = lit≤ tt; together = lit≤ tt; early = λ before. refl; distinct = tt; known = λ q member. cc member; idle = λ test. refl }
 
 no_registers : (P : ℕ → Type 0) (q : ℕ) → is_member nat_eq [] q ≡ true → P q
 no_registers P q member = cc member
@@ -32,6 +32,15 @@ past_of_commands NeedDump is = cc is
 past_of_commands InDump is = cc is
 past_of_commands InUpdate is = cc is
 past_of_commands InBegin is = cc is
+
+past_of_windows : (stage : Stage) → takes_windows stage ≡ true → is_past_dump stage ≡ true
+past_of_windows Rams is = refl
+past_of_windows NeedCpus is = cc is
+past_of_windows NeedDump is = cc is
+past_of_windows InDump is = cc is
+past_of_windows Commands is = refl
+past_of_windows InUpdate is = refl
+past_of_windows InBegin is = refl
 
 past_of_registers : (stage : Stage) → takes_registers stage ≡ true → is_past_dump stage ≡ true
 past_of_registers InUpdate is = refl
@@ -105,7 +114,7 @@ idle_not_past Commands is = cc is
 idle_not_past InUpdate is = cc is
 idle_not_past InBegin is = cc is
 
-not_past_in_dump : (stage : Stage) → is_in_dump stage ≡ true → is_past_dump stage ≡ false
+pub not_past_in_dump : (stage : Stage) → is_in_dump stage ≡ true → is_past_dump stage ≡ false
 not_past_in_dump InDump is = refl
 not_past_in_dump NeedCpus is = cc is
 not_past_in_dump NeedDump is = cc is
@@ -135,20 +144,20 @@ lines_then (w ∷ windows) base lines = let e = lines_then windows base lines in
 module _ (now : Situation) (is : IsSituation now) where
   -- past the dump
   commands_is : is_past_dump now.stage ≡ true → takes_registers now.stage ≡ false → IsSituation (in_commands now)
-  commands_is past idle = record { cpus = cpus_past now.stage now.cpus past is.cpus; has_file = is.has_file ∙ past; file = is.file; few = is.few; together = is.together; distinct = is.distinct; known = is.known; idle = λ test. is.idle idle }
+  commands_is past idle = record { cpus = cpus_past now.stage now.cpus past is.cpus; has_file = is.has_file ∙ past; file = is.file; few = is.few; together = is.together; early = λ before. cc before; distinct = is.distinct; known = is.known; idle = λ test. is.idle idle }
 
   -- no register is given where a section begins or ends
   section_is : (stage : Stage) → is_past_dump now.stage ≡ true → HasCpus stage now.cpus → is_past_dump stage ≡ true → IsSituation (in_section_of stage now)
   unfolding IsDistinct
-  section_is stage past cpus past_too = record { cpus = cpus; has_file = is.has_file ∙ past ∙ sym past_too; file = is.file; few = is.few; together = is.together; distinct = tt; known = no_registers _; idle = λ test. refl }
+  section_is stage past cpus past_too = record { cpus = cpus; has_file = is.has_file ∙ past ∙ sym past_too; file = is.file; few = is.few; together = is.together; early = λ before. let e = sym past_too ∙ before in cc e; distinct = tt; known = no_registers _; idle = λ test. refl }
 
   cpus_is : (n : ℕ) → is_past_dump now.stage ≡ false → 1 ≤ n → n ≤ 16 → IsSituation (record now { stage = NeedDump; cpus = n })
-  cpus_is n before some few = record { cpus = (some, few); has_file = is.has_file ∙ before; file = is.file; few = is.few; together = is.together; distinct = is.distinct; known = is.known; idle = λ test. is.idle (idle_not_past now.stage before) }
+  cpus_is n before some few = record { cpus = (some, few); has_file = is.has_file ∙ before; file = is.file; few = is.few; together = is.together; early = λ still. is.early before; distinct = is.distinct; known = is.known; idle = λ test. is.idle (idle_not_past now.stage before) }
 
   dump_is : takes_dump now.stage ≡ true → IsSituation (record now { stage = InDump })
   dump_is takes =
       let before = not_past_of_dump now.stage takes in
-      record { cpus = cpus_of_dump now.stage now.cpus takes is.cpus; has_file = is.has_file ∙ before; file = is.file; few = is.few; together = is.together; distinct = is.distinct; known = is.known; idle = λ test. is.idle (idle_not_past now.stage before) }
+      record { cpus = cpus_of_dump now.stage now.cpus takes is.cpus; has_file = is.has_file ∙ before; file = is.file; few = is.few; together = is.together; early = λ still. is.early before; distinct = is.distinct; known = is.known; idle = λ test. is.idle (idle_not_past now.stage before) }
 
   -- the bounds that a window keeps to
   window_bounds : (base lines : ℕ) → has_room now base lines ≡ true → (length now.windows < 16) × (lines_together now.windows + lines ≤ 4096)
@@ -160,12 +169,12 @@ module _ (now : Situation) (is : IsSituation now) where
   pub room_for_window : (base lines : ℕ) → has_room now base lines ≡ true → length now.windows < 16
   room_for_window base lines room = (window_bounds base lines room).0
 
-  window_is : (base lines : ℕ) → has_room now base lines ≡ true → IsSituation (record now { windows = now.windows ++ (base, lines) ∷ [] })
-  window_is base lines room =
+  window_is : (base lines : ℕ) → takes_windows now.stage ≡ true → has_room now base lines ≡ true → IsSituation (record now { windows = now.windows ++ (base, lines) ∷ [] })
+  window_is base lines takes room =
       let bounds = window_bounds base lines room in
       let few = bounds.0 in
       let count = length_then now.windows (base, lines) in
-      record { cpus = is.cpus; has_file = is.has_file; file = is.file; few = omega arith; together = rw (lines_then now.windows base lines) bounds.1; distinct = is.distinct; known = is.known; idle = is.idle }
+      record { cpus = is.cpus; has_file = is.has_file; file = is.file; few = omega arith; together = rw (lines_then now.windows base lines) bounds.1; early = λ before. let e = sym (past_of_windows now.stage takes) ∙ before in cc e; distinct = is.distinct; known = is.known; idle = is.idle }
 
   pub room_for_register : (msr : ℕ) → is_writable now.file msr ≡ true → is_member nat_eq now.seen msr ≡ false → length now.seen < 77
   room_for_register msr known new = room_for_one now.file now.seen msr is.file is.distinct is.known known new
@@ -177,6 +186,7 @@ module _ (now : Situation) (is : IsSituation now) where
     file = is.file;
     few = is.few;
     together = is.together;
+    early = is.early;
     distinct = one_more_distinct now.file now.seen msr is.file is.distinct is.known known new;
     known = one_more_known now.file now.seen msr is.file is.distinct is.known known new;
     idle = λ test. let e = sym test ∙ takes in cc e;
@@ -194,7 +204,7 @@ module _ (now : Situation) (is : IsSituation now) where
   pub accepted_is : (c : Command) → Fits now c → (is_in_dump now.stage ≡ true → c ≢ command.End) → IsSituation (accepted now c)
   accepted_is (command.Cpus n) fits goes_on = cpus_is n (not_past_of_cpus now.stage fits.0) fits.1 fits.2
   accepted_is command.Dump fits goes_on = dump_is fits
-  accepted_is (command.Ram base lines) fits goes_on = window_is base lines fits.4
+  accepted_is (command.Ram base lines) fits goes_on = window_is base lines fits.0 fits.4
   accepted_is (command.Load k address) fits goes_on = given fits.0.0
   accepted_is (command.Store k address value) fits goes_on = given fits.0.0
   accepted_is (command.Fence k) fits goes_on = given fits.0
@@ -250,4 +260,4 @@ module _ (now : Situation) (is : IsSituation now) where
   -- the end of the dump
   pub finished_is : (file : RegisterFile) → is_in_dump now.stage ≡ true → IsRegisterFile file → IsSituation (finished now file)
   unfolding IsDistinct
-  finished_is file dump good = record { cpus = cpus_in_dump now.stage now.cpus dump is.cpus; has_file = refl; file = good; few = is.few; together = is.together; distinct = tt; known = no_registers _; idle = λ test. refl }
+  finished_is file dump good = record { cpus = cpus_in_dump now.stage now.cpus dump is.cpus; has_file = refl; file = good; few = is.few; together = is.together; early = λ before. cc before; distinct = tt; known = no_registers _; idle = λ test. refl }

@@ -4,3 +4,4 @@ pub mod Keeping
 pub mod Registers
 pub mod Sections
 pub mod Standing
+pub mod Values

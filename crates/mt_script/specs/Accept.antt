@@ -26,7 +26,7 @@ Fits now (command.Cpus n) = (takes_cpus now.stage ≡ true) × (1 ≤ n) × (n �
 Fits now command.Dump = takes_dump now.stage ≡ true
 Fits now (command.Ram base lines) = (takes_windows now.stage ≡ true) × (base % 64 ≡ 0) × (1 ≤ lines) × (lines ≤ 4096) × (has_room now base lines ≡ true)
 Fits now (command.Load k address) = IsFor now k × IsAligned 8 (2 ^ 48) address
-Fits now (command.Store k address value) = IsFor now k × IsAligned 8 (2 ^ 48) address
+Fits now (command.Store k address value) = IsFor now k × IsAligned 8 (2 ^ 48) address × (value < 2 ^ 64)
 Fits now (command.Fence k) = IsFor now k
 Fits now (command.Map k address physical index global) =
     IsFor now k × IsAligned 4096 (2 ^ 48) address × IsAligned 4096 (address_limit now.file) physical × (index ≤ 7)

@@ -13,6 +13,7 @@ pub record IsSituation (now : Situation) : Type 0 where
   pub file : IfSome now.file IsRegisterFile
   pub few : length now.windows ≤ 16
   pub together : lines_together now.windows ≤ 4096
+  pub early : is_past_dump now.stage ≡ false → now.windows ≡ []  -- windows come after the dump
   pub distinct : IsDistinct nat_eq now.seen  -- no register is given twice in a section
   pub known : (msr : ℕ) → is_member nat_eq now.seen msr ≡ true → is_writable now.file msr ≡ true  -- each of them is a writable register
   pub idle : takes_registers now.stage ≡ false → now.seen ≡ []  -- and outside the sections none is given

@@ -22,7 +22,7 @@ lines-preserved c =
         after,
         holds,
         went_on c.args.source.now c.lines.number c.in-Some.line.next c.in-Some.line.bytes.now (drop c.lines.at c.args.source.now) c.lines.setup before c.in-Some.ensures.lines here c.take_line-taken.new.setup after
-        (subst (λ (n : ℕ). GoesOn c.lines.setup before n c.in-Some.line.bytes.now c.take_line-taken.new.setup after) same goes),
+            (subst (λ (n : ℕ). GoesOn c.lines.setup before n c.in-Some.line.bytes.now c.take_line-taken.new.setup after) same goes),
       );
     }
 
@@ -34,10 +34,10 @@ returns-in-Ok-Some c =
       c.in-Some.ensures.rest.3,
       omega (arith, c.lines.invariant.numbered, c.in-Some.ensures.rest.0, c.in-Some.ensures.rest.2),
       subst
-      (λ (now : Situation). (body : Body) → told_from body (end_of c.args.source.now) 1 (lines_of c.args.source.now) at_start [] ≡ told_file now c.in-Ok-Some.file (body (c.lines.number + 1) (lines_of (drop c.in-Some.line.next c.args.source.now))) (first_fault c.in-Ok-Some.file))
-      (sym kept)
-      (shown c.args.source.now c.lines.number c.in-Some.line.next c.in-Some.line.bytes.now (drop c.lines.at c.args.source.now) c.lines.setup before c.in-Some.ensures.lines here c.in-Ok-Some.file
-      (subst (λ (n : ℕ). Shows c.lines.setup before n c.in-Some.line.bytes.now c.in-Ok-Some.file) c.in-Some.ensures.rest.1 shows)),
+          (λ (now : Situation). (body : Body) → told_from body (end_of c.args.source.now) 1 (lines_of c.args.source.now) at_start [] ≡ told_file now c.in-Ok-Some.file (body (c.lines.number + 1) (lines_of (drop c.in-Some.line.next c.args.source.now))) (first_fault c.in-Ok-Some.file))
+          (sym kept)
+          (shown c.args.source.now c.lines.number c.in-Some.line.next c.in-Some.line.bytes.now (drop c.lines.at c.args.source.now) c.lines.setup before c.in-Some.ensures.lines here c.in-Ok-Some.file
+          (subst (λ (n : ℕ). Shows c.lines.setup before n c.in-Some.line.bytes.now c.in-Ok-Some.file) c.in-Some.ensures.rest.1 shows)),
     )
 
 pub returns-in-Err : goal.returns-in-Err

@@ -1,0 +1,6 @@
+-- What commands keep of a session.
+pub mod Comes
+pub mod Machines
+pub mod Windows
+pub mod Sessions
+pub mod First

@@ -1,0 +1,254 @@
+-- Each command that fits keeps what every session keeps.
+use Rattle.std.proofs.Common.{◌≡◌, ◌≢◌, ◌∙◌, ap, sym, refl, subst, arith, ℕ, ◌-◌, ◌/◌, ◌%◌, ◌^◌, ◌<◌, ◌≤◌, Bool, true, false, if◌then◌else◌, List, [], ◌∷◌, ◌++◌, Option, None, Some, slice_get}
+use Rattle.std.specs.Prelude.{IfSome, is_some}
+use Rattle.std.specs.Option.{option_map, option_map_or}
+use Rattle.std.specs.List.{All}
+use Rattle.mt_ranges.proofs.Powers.{split}
+use Rattle.mt_regs.specs.declared.fault.Fault.{Fault}
+use Rattle.mt_regs.specs.RegisterFile.{RegisterFile, IsRegisterFile}
+use Rattle.mt_regs.specs.Registers.{register_of, with_value, written}
+use Rattle.mt_regs.specs.Faults.{IsAccepted, IsFirstFault}
+use Rattle.mt_regs.specs.declared.registers.Register.{Register}
+use Rattle.mt_regs.proofs.ByNumber.{is_file-written}
+use Rattle.mt_machine.specs.declared.op.Op.{Op}
+use Rattle.mt_machine.specs.declared.op.Op.TheVariants as op
+use Rattle.mt_machine.specs.declared.control.Control.{Control}
+use Rattle.mt_machine.specs.declared.control.Control.TheVariants as control_of
+use Rattle.mt_machine.specs.Memory.{Window}
+use Rattle.mt_machine.specs.System.{IsProcessor, Processor}
+use Rattle.mt_machine.specs.Machine.{Accesses, Calls, Cancels, Controls, FitsControl, FitsGoal, FitsOp, Goes, IsEnabled, Machine, Order, next}
+use Rattle.mt_machine.specs.Start.{start_machine}
+use Rattle.mt_machine.specs.Update.{updated}
+use Rattle.mt_laws.proofs.Barrier.Claims.{all_get, all_of}
+use Rattle.mt_ram.specs.Windows.{window}
+use Rattle.mt_core.specs.Arises.{by_window, grown}
+use Rattle.mt_core.specs.Steps.{step_after}
+use Rattle.mt_core.specs.declared.fault.CallFault.{CallFault}
+use Rattle.mt_core.specs.declared.fault.CallFault.TheVariants.{Refused, UnderWay}
+use Rattle.mt_core.proofs.Stepping.{is_sound, stands}
+use Rattle.mt_script.specs.Situation.{Situation}
+use Rattle.mt_script.specs.Numbers.{address_limit, has_room}
+use Rattle.mt_script.specs.Kept.{IsSituation}
+use Rattle.mt_script.specs.Stages.{is_in_dump, is_past_dump, takes_cpus, takes_dump, takes_registers, takes_windows}
+use Rattle.mt_script.specs.Accept.{Fits, accepted, in_commands, in_section_of}
+use Rattle.mt_script.specs.declared.command.Stage.{Stage}
+use Rattle.mt_script.specs.declared.command.Stage.TheVariants.{NeedCpus, NeedDump, InDump, Rams, Commands, InUpdate, InBegin}
+use Rattle.mt_script.specs.declared.command.Command.{Command}
+use Rattle.mt_script.specs.declared.command.Command.TheVariants as command
+use Rattle.mt_script.proofs.Keeping.{accepted_is}
+use Rattle.mt_replay.specs.FirstFault.{first_fault}
+use Rattle.mt_replay.specs.Kept.{CommandsKeep, IsSession, windows_of}
+use Rattle.mt_replay.specs.Session.{Session, after_call, after_update, after_word, call_fault, each_processor, first_file, is_update, machine_after, mapping, session_after, with_register}
+use Rattle.mt_replay.proofs.FirstFault.{first_fault_is_first}
+use Rattle.mt_replay.proofs.Keeping.Comes.{fits_come, fits_with_value}
+use Rattle.mt_replay.proofs.Keeping.Machines.{Follows, follows_access, follows_control, follows_event, follows_same, follows_step, follows_update, follows_word}
+use Rattle.mt_replay.proofs.Keeping.Windows.{grown_start, room_memory, windows_then}
+
+-- ---- stages
+
+not_cpus : (stage : Stage) → is_past_dump stage ≡ true → takes_cpus stage ≡ true → ⊥
+not_cpus NeedCpus past takes = cc past
+not_cpus other past takes = cc takes
+
+not_dump : (stage : Stage) → is_past_dump stage ≡ true → takes_dump stage ≡ true → ⊥
+not_dump NeedDump past takes = cc past
+not_dump other past takes = cc takes
+
+not_in_dump : (stage : Stage) → is_past_dump stage ≡ true → is_in_dump stage ≡ true → ⊥
+not_in_dump InDump past is = cc past
+not_in_dump other past is = cc is
+
+no_windows : (stage : Stage) → takes_registers stage ≡ true → takes_windows stage ≡ true → ⊥
+no_windows Rams registers windows = cc registers
+no_windows other registers windows = cc windows
+
+-- ---- a session by the machine that follows
+
+-- no window may be added in this stage
+abbrev TakesNone : Stage → Type 0
+TakesNone stage = takes_windows stage ≡ true → ⊥
+
+file_of : (now : Situation) → IsSituation now → is_past_dump now.stage ≡ true → (f : RegisterFile) × (now.file ≡ Some f) × IsRegisterFile f
+file_of now is past = one now.file refl (is.has_file ∙ past) is.file
+  where
+    one : (o : Option RegisterFile) → now.file ≡ o → is_some o ≡ true → IfSome o IsRegisterFile → (f : RegisterFile) × (now.file ≡ Some f) × IsRegisterFile f
+    one None same some file = absurd (cc some)
+    one (Some f) same some file = (f, same, file)
+
+-- with the same windows, and no window to come
+session_on : (s : Session) (now : Situation) (n : Machine) (goal : RegisterFile) → IsSession s → IsSituation now → is_past_dump now.stage ≡ true
+    → now.cpus ≡ s.now.cpus → now.file ≡ s.now.file → now.windows ≡ s.now.windows → TakesNone now.stage → Follows s.machine n → IsRegisterFile goal → All (FitsGoal goal) s.machine.system.processors
+    → IsSession (record { now = now; machine = n; goal = goal })
+session_on s now n goal h is past cpus file windows none follows good fits = record {
+  situation = is;
+  past = past;
+  arises = follows.arises;
+  count = follows.count ∙ h.count ∙ sym cpus;
+  kind = λ f same. fits_come f s.machine.system.processors n.system.processors follows.come (h.kind f (sym file ∙ same));
+  goal_file = good;
+  goal = fits_come goal s.machine.system.processors n.system.processors follows.come fits;
+  windows = follows.windows ∙ h.windows ∙ ap windows_in (sym windows);
+  fresh = λ f same takes. absurd (none takes);
+}
+  where
+    windows_in : List (ℕ × ℕ) → List Window
+    windows_in ws = windows_of (record s.now { windows = ws })
+
+-- ---- calls of an update
+
+abbrev fault_in : Option Order → Option Fault → Option CallFault
+fault_in o fault = if is_some o then Some UnderWay else option_map Refused fault
+
+-- where a call is refused nothing, no update is under way and the goal has no fault
+pub call_allowed : (m : Machine) (goal : RegisterFile) → call_fault m goal ≡ None → (m.order ≡ None) × (first_fault goal ≡ None)
+call_allowed m goal h = one m.order (first_fault goal) refl refl h
+  where
+    one : (o : Option Order) (fault : Option Fault) → m.order ≡ o → first_fault goal ≡ fault → fault_in o fault ≡ None → (m.order ≡ None) × (first_fault goal ≡ None)
+    one None None order first is = (order, first)
+    one None (Some fault) order first is = absurd (cc is)
+    one (Some o) fault order first is = absurd (cc is)
+
+pub accepted_of : (goal : RegisterFile) → first_fault goal ≡ None → IsAccepted goal
+accepted_of goal none = subst (IsFirstFault goal) none (first_fault_is_first goal)
+
+pub call_enabled : (s : Session) → IsSession s → call_fault s.machine s.goal ≡ None → IsEnabled s.machine (Calls s.goal)
+call_enabled s h none = let allowed = call_allowed s.machine s.goal none in (allowed.0, h.goal_file, accepted_of s.goal allowed.1, h.goal)
+
+follows_called : (s : Session) (n : Machine) → IsSession s → (IsEnabled s.machine (Calls s.goal) → Follows s.machine n) → Follows s.machine (option_map_or (λ fault. s.machine) (call_fault s.machine s.goal) n)
+follows_called s n h later = one (call_fault s.machine s.goal) refl
+  where
+    one : (o : Option CallFault) → call_fault s.machine s.goal ≡ o → Follows s.machine (option_map_or (λ fault. s.machine) o n)
+    one None is = later (call_enabled s h is)
+    one (Some fault) is = follows_same s.machine h.arises
+
+pub follows_end : (s : Session) → IsSession s → Follows s.machine (machine_after s command.End)
+follows_end s h = one (is_update s.now.stage)
+  where
+    one : (b : Bool) → Follows s.machine (if b then after_update s.machine s.goal else after_call s.machine s.goal)
+    one true = follows_called s (updated s.machine.system (each_processor s.machine.system) s.goal) h (follows_update s.machine s.goal (each_processor s.machine.system) h.arises)
+    one false = follows_called s (next s.machine (Calls s.goal)) h (follows_event s.machine (Calls s.goal) h.arises)
+
+-- ---- goals
+
+module _ (s : Session) (h : IsSession s) where
+  file_here : (o : Option Processor) → slice_get s.machine.system.processors 0 ≡ o → IsRegisterFile (option_map_or (λ p. p.file) o s.goal)
+  file_here None at = h.goal_file
+  file_here (Some p) at = (all_get IsProcessor s.machine.system.processors (is_sound s.machine h.arises).each 0 p at).register_file
+
+  fits_here : (o : Option Processor) → slice_get s.machine.system.processors 0 ≡ o → All (FitsGoal (option_map_or (λ p. p.file) o s.goal)) s.machine.system.processors
+  fits_here None at = h.goal
+  fits_here (Some p) at =
+      let own = all_get (FitsGoal s.goal) s.machine.system.processors h.goal 0 p at in
+      all_of (FitsGoal p.file) s.machine.system.processors
+      (λ i q at_q. let fits = all_get (FitsGoal s.goal) s.machine.system.processors h.goal i q at_q in
+      record { width = sym own.width ∙ fits.width; capabilities = sym own.capabilities ∙ fits.capabilities })
+
+  pub first_file_is : IsRegisterFile (first_file s)
+  first_file_is = file_here (slice_get s.machine.system.processors 0) refl
+
+  first_file_fits : All (FitsGoal (first_file s)) s.machine.system.processors
+  first_file_fits = fits_here (slice_get s.machine.system.processors 0) refl
+
+  register_is : (number value : ℕ) (o : Option RegisterFile) → written s.goal number value ≡ o → IsRegisterFile (option_map_or (λ f. f) o s.goal)
+  register_is number value None is = h.goal_file
+  register_is number value (Some f) is = is_file-written s.goal f number value h.goal_file is
+
+  register_fits : (value : ℕ) (r : Option Register) → All (FitsGoal (option_map_or (λ f. f) (option_map (λ r. with_value s.goal r value) r) s.goal)) s.machine.system.processors
+  register_fits value None = h.goal
+  register_fits value (Some r) =
+      all_of (FitsGoal (with_value s.goal r value)) s.machine.system.processors
+      (λ i q at. fits_with_value s.goal r value q (all_get (FitsGoal s.goal) s.machine.system.processors h.goal i q at))
+
+  -- ---- commands
+
+  not_end : (c : Command) → is_in_dump s.now.stage ≡ true → c ≢ command.End
+  not_end c dump = absurd (not_in_dump s.now.stage h.past dump)
+
+  is_after : (c : Command) → Fits s.now c → IsSituation (accepted s.now c)
+  is_after c fits = accepted_is s.now h.situation c fits (not_end c)
+
+  -- a command among the commands
+  goes_on : (n : Machine) → IsSituation (in_commands s.now) → Follows s.machine n → IsSession (record { now = in_commands s.now; machine = n; goal = s.goal })
+  goes_on n is follows = session_on s (in_commands s.now) n s.goal h is refl refl refl refl (λ takes. cc takes) follows h.goal_file h.goal
+
+  accesses : (k : ℕ) (o : Op) → FitsOp o → IsSituation (in_commands s.now) → IsSession (record { now = in_commands s.now; machine = next s.machine (Accesses k o); goal = s.goal })
+  accesses k o fits is = goes_on (next s.machine (Accesses k o)) is (follows_access s.machine k o h.arises fits)
+
+  controls : (k : ℕ) (c : Control) → ((p : Processor) → slice_get s.machine.system.processors k ≡ Some p → FitsControl p c) → IsSituation (in_commands s.now)
+      → IsSession (record { now = in_commands s.now; machine = next s.machine (Controls k c); goal = s.goal })
+  controls k c fits is = goes_on (next s.machine (Controls k c)) is (follows_control s.machine k c h.arises fits)
+
+  stays : IsSituation (in_commands s.now) → IsSession (record { now = in_commands s.now; machine = s.machine; goal = s.goal })
+  stays is = goes_on s.machine is (follows_same s.machine h.arises)
+
+  begins : (stage : Stage) → is_past_dump stage ≡ true → TakesNone stage → IsSituation (in_section_of stage s.now) → IsSession (record { now = in_section_of stage s.now; machine = s.machine; goal = first_file s })
+  begins stage past none is = session_on s (in_section_of stage s.now) s.machine (first_file s) h is past refl refl refl none (follows_same s.machine h.arises) first_file_is first_file_fits
+
+  -- a page of the processor's physical addresses
+  page_in : (physical w v : ℕ) → 12 ≤ w → w ≡ v → physical < 2 ^ w → physical / 4096 < 2 ^ (v - 12)
+  page_in physical w v wide same below =
+      let parts = split 12 w wide in
+      let width : w - 12 ≡ v - 12 = ap (λ n. n - 12) same in
+      subst (λ (n : ℕ). physical / 4096 < 2 ^ n) width (omega (arith, parts, below))
+
+  mapping_fits : (k address physical index : ℕ) (global : Bool) → address < 2 ^ 48 → physical < address_limit s.now.file → index ≤ 7
+      → (p : Processor) → slice_get s.machine.system.processors k ≡ Some p → FitsControl p (control_of.Map (mapping address physical index global))
+  mapping_fits k address physical index global low within few p at =
+      let file = file_of s.now h.situation h.past in
+      let f : RegisterFile = file.0 in
+      let fits = all_get (FitsGoal f) s.machine.system.processors (h.kind f file.1) k p at in
+      let below : physical < 2 ^ f.width = subst (λ (o : Option RegisterFile). physical < address_limit o) file.1 within in
+      let wide = file.2.wide in
+      (omega arith, page_in physical f.width p.file.width (omega arith) fits.width below, omega arith)
+
+  grows : (base lines : ℕ) → base % 64 ≡ 0 → has_room s.now base lines ≡ true → IsSituation (accepted s.now (command.Ram base lines)) → IsSession (session_after s (command.Ram base lines))
+  grows base lines aligned room is =
+      let file = file_of s.now h.situation h.past in
+      let memory = room_memory s.now file.0 s.machine.system.memory base lines file.1 file.2 (stands h.arises).0 h.windows aligned room in
+      record {
+        situation = is;
+        past = h.past;
+        arises = by_window (window base lines) h.arises memory;
+        count = h.count;
+        kind = h.kind;
+        goal_file = h.goal_file;
+        goal = h.goal;
+        windows = ap (λ ws. ws ++ window base lines ∷ []) h.windows ∙ sym (windows_then s.now base lines);
+        fresh = λ f same takes.
+            let was = h.fresh f same takes in (
+              was.0,
+              ap (grown (window base lines)) was.1 ∙ grown_start s.now.cpus f (windows_of s.now) (window base lines)
+                  ∙ ap (start_machine s.now.cpus f) (sym (windows_then s.now base lines)),
+            );
+      }
+
+  kept : (c : Command) → Fits s.now c → IsSituation (accepted s.now c) → IsSession (session_after s c)
+  kept (command.Cpus n) fits is = absurd (not_cpus s.now.stage h.past fits.0)
+  kept command.Dump fits is = absurd (not_dump s.now.stage h.past fits)
+  kept (command.Ram base lines) fits is = grows base lines fits.1 fits.4 is
+  kept (command.Load k address) fits is = accesses k (op.Load address) fits.1 is
+  kept (command.Store k address value) fits is = accesses k (op.Store address value) (fits.1, fits.2) is
+  kept (command.Fence k) fits is = accesses k op.Fence tt is
+  kept (command.Map k address physical index global) fits is = controls k (control_of.Map (mapping address physical index global)) (mapping_fits k address physical index global fits.1.1 fits.2.1 fits.3) is
+  kept (command.Invlpg k address) fits is = controls k (control_of.Invlpg address) (λ p at. tt) is
+  kept (command.Cr3 k) fits is = controls k control_of.Cr3 (λ p at. tt) is
+  kept (command.Pge k on) fits is = controls k (control_of.Pge on) (λ p at. tt) is
+  kept (command.Cd k on) fits is = controls k (control_of.Cd on) (λ p at. tt) is
+  kept command.Update fits is = begins InUpdate refl (λ takes. cc takes) is
+  kept command.Begin fits is = begins InBegin refl (λ takes. cc takes) is
+  kept command.Go fits is = goes_on (after_word Goes s.machine) is (follows_word s.machine Goes h.arises (λ pending. pending))
+  kept command.Cancel fits is = goes_on (after_word Cancels s.machine) is (follows_word s.machine Cancels h.arises (λ pending. pending))
+  kept command.Report fits is = stays is
+  kept (command.Step k) fits is = goes_on (step_after s.machine k) is (follows_step s.machine k h.arises)
+  kept (command.Word address) fits is = stays is
+  kept (command.Msr k number) fits is = stays is
+  kept command.Blank fits is = h
+  kept command.DumpLine fits is = absurd (not_in_dump s.now.stage h.past fits)
+  kept (command.Register number value) fits is =
+      session_on s (accepted s.now (command.Register number value)) s.machine (with_register s.goal number value) h is h.past refl refl refl (no_windows s.now.stage fits.0) (follows_same s.machine h.arises)
+      (register_is number value (written s.goal number value) refl) (register_fits value (register_of s.goal number))
+  kept command.End fits is =
+      session_on s (in_section_of Commands s.now) (machine_after s command.End) s.goal h is refl refl refl refl (λ takes. cc takes) (follows_end s h) h.goal_file h.goal
+
+pub session_kept : CommandsKeep
+session_kept s c h fits = kept s h c fits (is_after s h c fits)

@@ -1,0 +1,80 @@
+-- A window that has room makes a memory again, and a start with one window more.
+use Rattle.std.proofs.Common.{◌≡◌, ◌∙◌, ap, sym, refl, subst, arith, inl, inr, ℕ, zero, suc, ◌+◌, ◌*◌, ◌%◌, ◌^◌, ◌≤◌, ◌<◌, ◌&&◌, ◌||◌, nat_le, nat_lt, Bool, true, false, List, [], ◌∷◌, ◌++◌, length, get_or, replicate, Option, Some}
+use Rattle.std.specs.Prelude.{map}
+use Rattle.std.specs.List.{list_all}
+use Rattle.std.proofs.lemmas.Bool.{and_parts, leb-true}
+use Rattle.std.proofs.lemmas.List.{length-append, length-replicate, map-append, replicate-append-replicate}
+use Rattle.std.proofs.lemmas.List.Elements.{All-push}
+use Rattle.std.proofs.lemmas.List.Quantifiers.{all_pairs_push}
+use Rattle.mt_ranges.proofs.Powers.{pow_below}
+use Rattle.mt_regs.specs.RegisterFile.{RegisterFile, IsRegisterFile}
+use Rattle.mt_machine.specs.Memory.{AreApart, IsMemory, Memory, Window, window_end, word_count}
+use Rattle.mt_machine.specs.Machine.{Machine}
+use Rattle.mt_machine.specs.Start.{start_machine}
+use Rattle.mt_ram.specs.Windows.{window, with_window}
+use Rattle.mt_core.specs.Arises.{grown}
+use Rattle.mt_script.specs.Situation.{Situation}
+use Rattle.mt_script.specs.Numbers.{address_limit, are_apart, has_room, lines_together}
+use Rattle.mt_replay.specs.Kept.{windows_of}
+
+words_pushed : (ws : List Window) (w : Window) → word_count (ws ++ w ∷ []) ≡ word_count ws + 8 * w.lines
+words_pushed [] w = omega arith
+words_pushed (v ∷ vs) w = let e = words_pushed vs w in omega arith
+
+grown_memory : (m : Memory) (w : Window) → IsMemory m → w.base % 64 ≡ 0 → window_end w ≤ 2 ^ 52 → ((k : ℕ) (d : Window) → k < length m.windows → AreApart (get_or m.windows k d) w) → IsMemory (with_window w m)
+grown_memory m w h aligned bounded apart = record {
+  aligned = All-push (λ v. v.base % 64 ≡ 0) m.windows w h.aligned aligned;
+  bounded = All-push (λ v. window_end v ≤ 2 ^ 52) m.windows w h.bounded bounded;
+  apart = all_pairs_push AreApart m.windows w h.apart apart;
+  counted =
+      length-append m.words (replicate (8 * w.lines) 0) ∙ ap (λ n. length m.words + n) (length-replicate (8 * w.lines) 0) ∙ ap (λ n. n + 8 * w.lines) h.counted
+      ∙ sym (words_pushed m.windows w);
+}
+
+abbrev of_pair : ℕ × ℕ → Window
+of_pair v = window v.0 v.1
+
+one_apart : (base lines : ℕ) (v : ℕ × ℕ) → are_apart base lines v ≡ true → AreApart (of_pair v) (window base lines)
+one_apart base lines v = one (nat_le (base + 64 * lines) v.0) refl
+  where
+    one : (b : Bool) → nat_le (base + 64 * lines) v.0 ≡ b → (b || nat_le (v.0 + 64 * v.1) base) ≡ true → AreApart (of_pair v) (window base lines)
+    one true is h = inr (leb-true (base + 64 * lines) v.0 is)
+    one false is h = inl (leb-true (v.0 + 64 * v.1) base h)
+
+each_apart : (base lines : ℕ) (vs : List (ℕ × ℕ)) → list_all (are_apart base lines) vs ≡ true → (k : ℕ) (d : Window) → k < length (map of_pair vs) → AreApart (get_or (map of_pair vs) k d) (window base lines)
+each_apart base lines [] all = λ k d within. absurd (omega arith)
+each_apart base lines (v ∷ vs) all =
+    let both = and_parts (are_apart base lines v) (list_all (are_apart base lines) vs) all in
+    at (one_apart base lines v both.0) (each_apart base lines vs both.1)
+  where
+    at : AreApart (of_pair v) (window base lines) → ((k : ℕ) (d : Window) → k < length (map of_pair vs) → AreApart (get_or (map of_pair vs) k d) (window base lines))
+        → (k : ℕ) (d : Window) → k < length (map of_pair (v ∷ vs)) → AreApart (get_or (map of_pair (v ∷ vs)) k d) (window base lines)
+    at here later zero d within = here
+    at here later (suc k) d within = later k d (omega arith)
+
+file_limit : (file : Option RegisterFile) (f : RegisterFile) → file ≡ Some f → IsRegisterFile f → address_limit file ≤ 2 ^ 52
+file_limit file f is good = subst (λ (o : Option RegisterFile). address_limit o ≤ 2 ^ 52) (sym is) (pow_below f.width 52 good.narrow)
+
+-- what has room is a memory again
+pub room_memory : (now : Situation) (f : RegisterFile) (m : Memory) (base lines : ℕ) → now.file ≡ Some f → IsRegisterFile f → IsMemory m → m.windows ≡ windows_of now → base % 64 ≡ 0 → has_room now base lines ≡ true
+    → IsMemory (with_window (window base lines) m)
+room_memory now f m base lines file good h windows aligned room =
+    let last = and_parts (nat_le (base + 64 * lines) (address_limit now.file) && list_all (are_apart base lines) now.windows && nat_lt (length now.windows) 16) (nat_le (lines_together now.windows + lines) 4096) room in
+    let few = and_parts (nat_le (base + 64 * lines) (address_limit now.file) && list_all (are_apart base lines) now.windows) (nat_lt (length now.windows) 16) last.0 in
+    let first = and_parts (nat_le (base + 64 * lines) (address_limit now.file)) (list_all (are_apart base lines) now.windows) few.0 in
+    let low = leb-true (base + 64 * lines) (address_limit now.file) first.0 in
+    let most = file_limit now.file f file good in
+    grown_memory m (window base lines) h aligned (omega arith)
+    (subst (λ (ws : List Window). (k : ℕ) (d : Window) → k < length ws → AreApart (get_or ws k d) (window base lines)) (sym windows) (each_apart base lines now.windows first.1))
+
+pub windows_then : (now : Situation) (base lines : ℕ) → map of_pair (now.windows ++ (base, lines) ∷ []) ≡ windows_of now ++ window base lines ∷ []
+windows_then now base lines = map-append of_pair now.windows ((base, lines) ∷ [])
+
+pub grown_start : (count : ℕ) (f : RegisterFile) (ws : List Window) (w : Window) → grown w (start_machine count f ws) ≡ start_machine count f (ws ++ w ∷ [])
+grown_start count f ws w =
+    let words : replicate (word_count ws) 0 ++ replicate (8 * w.lines) 0 ≡ replicate (word_count (ws ++ w ∷ [])) 0 =
+    replicate-append-replicate (word_count ws) (8 * w.lines) 0 ∙ ap (λ n. replicate n 0) (sym (words_pushed ws w)) in
+    ap (λ (xs : List ℕ). with_words count f (ws ++ w ∷ []) xs) words
+  where
+    with_words : ℕ → RegisterFile → List Window → List ℕ → Machine
+    with_words count f ws xs = record (start_machine count f ws) { system = record (start_machine count f ws).system { memory = record { windows = ws; words = xs } } }

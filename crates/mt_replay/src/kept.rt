@@ -1,0 +1,11 @@
+ghost use Rattle.mt_replay.specs.Kept.{CommandsFinishOne, CommandsKeep};
+
+/// Each command that fits keeps what holds of each session of a script.
+pub fn commands_keep_a_session()
+    ensures { CommandsKeep }
+{}
+
+/// A command finishes at most one update of each processor.
+pub fn commands_finish_one_update()
+    ensures { CommandsFinishOne }
+{}
