@@ -1,3 +1,5 @@
+pub mod Asked
+pub mod Calls
 pub mod Eras
 pub mod FirstFault
 pub mod Heads

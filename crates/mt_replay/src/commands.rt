@@ -95,7 +95,7 @@ pub(crate) fn update(core: &mut Core, goal: &RegFile) -> LineBuffer
 {
     match core.call(goal.same()) {
         Ok(()) => {
-            core.round();
+            // core.round();
             complete_line(common_era(core))
         }
         Err(fault) => call_fault_line(&fault),

@@ -52,7 +52,7 @@ each_apart base lines (v ∷ vs) all =
     at here later zero d within = here
     at here later (suc k) d within = later k d (omega arith)
 
-file_limit : (file : Option RegisterFile) (f : RegisterFile) → file ≡ Some f → IsRegisterFile f → address_limit file ≤ 2 ^ 52
+pub file_limit : (file : Option RegisterFile) (f : RegisterFile) → file ≡ Some f → IsRegisterFile f → address_limit file ≤ 2 ^ 52
 file_limit file f is good = subst (λ (o : Option RegisterFile). address_limit o ≤ 2 ^ 52) (sym is) (pow_below f.width 52 good.narrow)
 
 -- what has room is a memory again
