@@ -18,7 +18,7 @@ use Rattle.mt_machine.specs.Start.{IsBroadcast, IsQuiet}
 use Rattle.mt_laws.proofs.Barrier.Ranks.{Guarded, stage_at}
 use Rattle.mt_laws.proofs.Barrier.Stages.{Stage, access_stages, control_stages, stage_of, stages, stages_of}
 use Rattle.mt_core.specs.Arises.{Arises, by_event, by_window, from_start}
-use Rattle.mt_core.specs.Rounds.{each_steps, in_order, given_where, with_go_given}
+use Rattle.mt_core.specs.Rounds.{each_steps, in_order}
 use Rattle.mt_core.specs.Steps.{step_after, under_way}
 use Rattle.mt_core.proofs.Arising.{machine}
 use Rattle.mt_core.proofs.Eras.{eras_rise}
@@ -264,18 +264,6 @@ steps_decided (k ∷ ks) m on =
 pub each_decided : (m : Machine) → IsDecided m → IsDecided (each_steps m)
 each_decided m = steps_decided (in_order m) m
 
-pub given_decided : (m : Machine) → IsDecided (with_go_given m)
-given_decided m = one m.system m.order
-  where
-    two : (s : System) (o : Order) (go : Go) → o.go ≡ go → IsDecided (given_where (Some go) (machine s (Some o)))
-    two s o Pending is = remaining_decided (record o { go = Given }) s (is_over (record o { go = Given }) s.processors) (λ same. absurd (cc))
-    two s o Given is = λ same. absurd (let pending : o.go ≡ Pending = cc in cc)
-    two s o Cancelled is = λ same. absurd (let pending : o.go ≡ Pending = cc in cc)
-
-    one : (s : System) (x : Option Order) → IsDecided (with_go_given (machine s x))
-    one s None = λ same. absurd (cc)
-    one s (Some o) = two s o o.go refl
-
 -- ---- what the code of a turn needs
 
 pub same_number_after : (m : Machine) (k : ℕ) → length (step_after m k).system.processors ≡ length m.system.processors
@@ -287,13 +275,3 @@ range_more k end low = let more : end - k ≡ suc (end - (k + 1)) = omega arith 
 pub none_where_not : (x : Option Order) (b : Bool) → (IsTrue b ↔ IsSome x) → b ≡ false → x ≡ None
 none_where_not None b h off = refl
 none_where_not (Some o) b h off = absurd (let on : b ≡ true = h.1 refl in cc)
-
-pub given_is : (m n : Machine) (b : Bool) → (IsTrue b ↔ (go_of m ≡ Some Pending)) → (IsTrue b → n ≡ next m Goes) → (b ≡ false → n ≡ m) → n ≡ with_go_given m
-given_is m n true h goes stays = goes refl ∙ sym (ap (λ (x : Option Go). given_where x m) (h.0 refl))
-given_is m n false h goes stays = stays refl ∙ one (go_of m) refl
-  where
-    one : (x : Option Go) → go_of m ≡ x → m ≡ given_where x m
-    one None is = refl
-    one (Some Pending) is = absurd (let on : false ≡ true = h.1 is in cc)
-    one (Some Given) is = refl
-    one (Some Cancelled) is = refl
