@@ -1,7 +1,9 @@
 pub mod Arising
 pub mod Eras
+mod Progress
 pub mod Settling
 pub mod Stepping
 mod Stopping
+mod Turns
 mod Waiting
 mod Work

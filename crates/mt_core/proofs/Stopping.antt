@@ -27,7 +27,7 @@ abbrev pub answer : Order → List Processor → Processor → Phase → Stepped
 answer o ps p ph = option_map_or Did (due o ps p ph) (pause o ps ph)
 
 module _ (o : Order) (ps : List Processor) (p : Processor) (eras : (p.era ≡ o.from_era) ⊎ (p.era ≡ o.from_era + 1)) where
-  ahead : (p.era == o.from_era) ≡ false → has_released o p ≡ true
+  pub ahead : (p.era == o.from_era) ≡ false → has_released o p ≡ true
   ahead h =
       ⊎_elim (λ (g : p.era ≡ o.from_era). absurd (let e : (p.era == o.from_era) ≡ true = ap (λ n. n == o.from_era) g ∙ eq-eqb o.from_era o.from_era refl in cc))
       (λ (g : p.era ≡ o.from_era + 1). lt-ltb o.from_era p.era (omega arith)) eras

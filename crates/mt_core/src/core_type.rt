@@ -12,6 +12,7 @@ ghost use Rattle.mt_machine.specs.Update.{IsSettled};
 ghost use Rattle.mt_machine.specs.declared.event.Event.TheVariants.{Release};
 ghost use Rattle.mt_core.specs.declared.stepped.Stepped.TheVariants.{Did};
 ghost use Rattle.mt_core.specs.Arises.{IsCore, grown};
+ghost use Rattle.mt_core.specs.Rounds.{IsWholeUpdate, Rounds, each_steps, with_go_given};
 ghost use Rattle.mt_core.specs.Steps.{pause_at, step_after, step_answer, under_way};
 
 use crate::barriers::{is_pending, remaining};
@@ -226,6 +227,44 @@ impl Core {
         };
         self.order = remaining_in(&self.system, order);
         Stepped::Did(event)
+    }
+
+    // Whether an update is under way.
+    fn is_under_way(&self) -> bool
+        ensures { IsTrue result ↔ IsSome self.now.order }
+    {
+        self.order.is_some()
+    }
+
+    // The number of processors.
+    fn count(&self) -> u32
+        ensures { result ≡ length self.now.system.processors }
+    {
+        self.system.cpus.len() as u32
+    }
+
+    // One turn: each processor in ascending order does its event that is due.
+    fn turn(&mut self)
+        ensures { self.new ≡ each_steps self.old }
+    {
+        for k in 0..self.count() {
+            self.step(k);
+        }
+    }
+
+    /// Leads the update that is under way to its end: gives the go where it is pending, and then
+    /// steps the processors in turn, in ascending order, until no update is under way.
+    pub fn round(&mut self)
+        requires under_way { IsSome self.old.order }
+        ensures turns { Rounds (with_go_given self.old) self.new }
+        ensures ends { self.new.order ≡ None }
+        ensures updated { IsWholeUpdate self.old self.new }
+    {
+        self.go();
+        while self.is_under_way() {
+            self.is_core();
+            self.turn();
+        }
     }
 
     /// Adds a window of zero words to the memory, from an address in bytes on. The order stays.

@@ -9,6 +9,8 @@ mod laws;
 mod order;
 mod stepped;
 mod steps;
+#[cfg(test)]
+mod tests;
 
 pub use core_type::Core;
 pub use fault::CallFault;

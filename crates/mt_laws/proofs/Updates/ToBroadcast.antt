@@ -39,18 +39,18 @@ use Rattle.mt_laws.proofs.Updates.Erased.{erased, erase}
 use Rattle.mt_laws.proofs.Updates.Cancelled.{cancelled_run}
 use Rattle.mt_laws.proofs.Updates.Whole.{View, view, emptied_views, now_erased}
 
-abbrev takes : List ℕ → List MachineEvent
+abbrev pub takes : List ℕ → List MachineEvent
 takes ks = map (λ k. Steps k Take) ks
 
 -- ---- one take
 
 -- a processor has taken, or has yet to take once
-abbrev Todo : Order → ℕ → List ℕ → Stage → Type 0
+abbrev pub Todo : Order → ℕ → List ℕ → Stage → Type 0
 Todo o i ks x = (x.1 ≡ o.from_era) × (((x.0 ≡ Taken) × (mine i ks ≡ 0)) ⊎ ((x.0 ≡ Running) × (mine i ks ≡ 1)))
 
-record Waiting (o : Order) (s : System) (ks : List ℕ) : Type 0 where
-  each : (i : ℕ) (x : Stage) → At (stages s) i x → Todo o i ks x
-  inside : (i : ℕ) → slice_get (stages s) i ≡ None → mine i ks ≡ 0
+pub record Waiting (o : Order) (s : System) (ks : List ℕ) : Type 0 where
+  pub each : (i : ℕ) (x : Stage) → At (stages s) i x → Todo o i ks x
+  pub inside : (i : ℕ) → slice_get (stages s) i ≡ None → mine i ks ≡ 0
 
 not_over : (o : Order) (ps : List Processor) (i : ℕ) (p : Processor) → slice_get ps i ≡ Some p → has_released o p ≡ false → is_cancelled o.go ≡ false → remaining_order o ps ≡ Some o
 not_over o ps i p at behind off = one (list_all (has_released o) ps) (is_cancelled o.go) (not (list_any (λ q. is_waiting_to_pass q.phase) ps)) (λ all. let on : has_released o p ≡ true = all_at (has_released o) ps i p all at in absurd (cc)) off
@@ -76,7 +76,7 @@ same_or_not i k = one (k == i) refl
     one true h = inl (eqb-true k i h)
     one false h = inr (eqb-false k i h)
 
-module _ (o : Order) (pending : o.go ≡ Pending) (s : System) (k : ℕ) (ks : List ℕ) (w : Waiting o s (k ∷ ks)) where
+module _ (o : Order) (on : is_cancelled o.go ≡ false) (s : System) (k : ℕ) (ks : List ℕ) (w : Waiting o s (k ∷ ks)) where
   abbrev after_take : System
   after_take = step o.goal Take k s
 
@@ -103,7 +103,7 @@ module _ (o : Order) (pending : o.go ≡ Pending) (s : System) (k : ℕ) (ks : L
       let f = found in
       ap (λ (x : Option Processor). option_map_or (λ p. due o s.processors p p.phase) x None) f.1
       ∙ ap (λ (ph : Phase). due o s.processors f.0 ph) f.2
-      ∙ λ i. if (eq-eqb f.0.era o.from_era f.3 i) && not (ap is_cancelled pending i) then Some Take else None
+      ∙ λ i. if (eq-eqb f.0.era o.from_era f.3 i) && not (on i) then Some Take else None
 
   taken_stages : stages after_take ≡ set (stages s) k (Taken, found.0.era)
   taken_stages = step_stages o.goal Take k s found.0 found.1
@@ -115,7 +115,7 @@ module _ (o : Order) (pending : o.go ≡ Pending) (s : System) (k : ℕ) (ks : L
   goes_on =
       let q = processor_at after_take.processors k (Taken, found.0.era) now_taken in
       let era : q.0.era ≡ o.from_era = ap (λ (y : Stage). y.1) q.2 ∙ found.3 in
-      not_over o after_take.processors k q.0 q.1 (ap (nat_lt o.from_era) era ∙ le-ltb o.from_era o.from_era (omega arith)) (ap is_cancelled pending)
+      not_over o after_take.processors k q.0 q.1 (ap (nat_lt o.from_era) era ∙ le-ltb o.from_era o.from_era (omega arith)) on
 
   elsewhere : (i : ℕ) → k ≢ i → slice_get (stages after_take) i ≡ slice_get (stages s) i
   elsewhere i apart = ap (λ (vs : List Stage). slice_get vs i) taken_stages ∙ set_elsewhere (stages s) k i (Taken, found.0.era) (λ e. apart (sym e))
@@ -138,24 +138,25 @@ module _ (o : Order) (pending : o.go ≡ Pending) (s : System) (k : ℕ) (ks : L
 
 -- ---- all takes
 
-record Taking (o : Order) (s : System) (ks : List ℕ) : Type 0 where
-  last : System
-  enabled : AreEnabled (record { system = s; order = Some o }) (takes ks)
-  leads : run (record { system = s; order = Some o }) (takes ks) ≡ record { system = last; order = Some o }
-  waiting : Waiting o last []
+pub record Taking (o : Order) (s : System) (ks : List ℕ) : Type 0 where
+  pub last : System
+  pub enabled : AreEnabled (record { system = s; order = Some o }) (takes ks)
+  pub leads : run (record { system = s; order = Some o }) (takes ks) ≡ record { system = last; order = Some o }
+  pub waiting : Waiting o last []
 
-all_take : (o : Order) → o.go ≡ Pending → (ks : List ℕ) (s : System) → Waiting o s ks → Taking o s ks
-all_take o pending [] s w = record { last = s; enabled = tt; leads = refl; waiting = w }
-all_take o pending (k ∷ ks) s w =
-    let rest = all_take o pending ks (step o.goal Take k s) (still_waiting o pending s k ks w) in
-    let on = goes_on o pending s k ks w in
+-- of an order that isn't cancelled, whether its go is given or not
+pub all_take : (o : Order) → is_cancelled o.go ≡ false → (ks : List ℕ) (s : System) → Waiting o s ks → Taking o s ks
+all_take o on [] s w = record { last = s; enabled = tt; leads = refl; waiting = w }
+all_take o on (k ∷ ks) s w =
+    let rest = all_take o on ks (step o.goal Take k s) (still_waiting o on s k ks w) in
+    let stays = goes_on o on s k ks w in
     record {
       last = rest.last;
       enabled = (
-        take_due o pending s k ks w,
-        subst (λ (v : Option Order). AreEnabled (record { system = step o.goal Take k s; order = v }) (takes ks)) (sym on) rest.enabled,
+        take_due o on s k ks w,
+        subst (λ (v : Option Order). AreEnabled (record { system = step o.goal Take k s; order = v }) (takes ks)) (sym stays) rest.enabled,
       );
-      leads = ap (λ (v : Option Order). run (record { system = step o.goal Take k s; order = v }) (takes ks)) on ∙ rest.leads;
+      leads = ap (λ (v : Option Order). run (record { system = step o.goal Take k s; order = v }) (takes ks)) stays ∙ rest.leads;
       waiting = rest.waiting;
     }
 
@@ -165,7 +166,7 @@ runs_is : (ph : Phase) → is_running ph ≡ true → ph ≡ Running
 runs_is Running h = refl
 runs_is other h = absurd (cc)
 
-quiet_waiting : (s : Machine) (goal : RegisterFile) (ks : List ℕ) → IsQuiet s → IsEachOnce (length s.system.processors) ks → Waiting (order_of_call s goal) s.system ks
+pub quiet_waiting : (s : Machine) (goal : RegisterFile) (ks : List ℕ) → IsQuiet s → IsEachOnce (length s.system.processors) ks → Waiting (order_of_call s goal) s.system ks
 quiet_waiting s goal ks q once = record {
   each = λ i x at.
       let p = processor_at s.system.processors i x at in
@@ -197,7 +198,7 @@ takes_led : (ks : List ℕ) → list_all (λ e. is_led e && not (is_go e)) (take
 takes_led [] = refl
 takes_led (k ∷ ks) = takes_led ks
 
-takes_taken : (ks : List ℕ) → takes_of (takes ks) ≡ ks
+pub takes_taken : (ks : List ℕ) → takes_of (takes ks) ≡ ks
 takes_taken [] = refl
 takes_taken (k ∷ ks) = ap (λ js. k ∷ js) (takes_taken ks)
 

@@ -1,0 +1,204 @@
+ghost use Rattle.std.specs.Prelude.{◌≡◌, ◌↔◌, ◌<◌, ◌-◌, ◌^◌, IsTrue, IfSome, None, length};
+ghost use Rattle.std.specs.List.{All};
+ghost use Rattle.mt_machine.specs.Machine.{FitsGoal};
+
+use crate::core_type::Core;
+use crate::fault::CallFault;
+use crate::stepped::Stepped;
+use mt_bus::System;
+use mt_cpu::Cpu;
+use mt_kinds::MemType;
+use mt_laws::start_is_quiet;
+use mt_machine::{Control, Done, Event, Op, Ruled};
+use mt_ram::RamFault;
+use mt_regs::RegFile;
+use mt_tlb::Mapping;
+use std::alloc::Global;
+
+/// A file whose memory below 4 GB has a type, over UC: eight pairs, and 29 writable registers.
+fn file(kind: u64) -> Option<RegFile> {
+    let Ok(mut file) = RegFile::blank(36, 0x508) else {
+        return None;
+    };
+    for (msr, value) in [(0x200, kind), (0x201, 0xf_0000_0800), (0x2ff, 0x800)] {
+        if file.set(msr, value).is_err() {
+            return None;
+        }
+    }
+    Some(file)
+}
+
+/// Two processors whose memory is of type WB, with a window of 64 lines from 1 MB on.
+fn pair(alloc: Global) -> Option<Core> {
+    let file = file(6)?;
+    if file.first_fault().is_some() {
+        return None;
+    }
+    start_is_quiet();
+    file.is_register_file();
+    let Ok(system) = System::new(alloc, 2, &file) else {
+        return None;
+    };
+    let mut core = Core::new(system);
+    if core.add_ram(0x10_0000, 64).is_err() {
+        return None;
+    }
+    Some(core)
+}
+
+/// Stores a word at 1 MB and so many bytes, through page 1.
+fn store(core: &mut Core, k: u32, offset: u64, v: u64) -> Option<Done> {
+    let x = Mapping {
+        vpage: 1,
+        ppage: 0x100,
+        index: 0,
+        global: false,
+    };
+    let pages = core.system().cpus.get(k as usize)?.regs().pages();
+    if x.ppage >= pages || offset >= 4096 || offset % 8 != 0 {
+        return None;
+    }
+    if core.control(k, Control::Map(x)) != Ruled::Okay {
+        return None;
+    }
+    Some(core.access(k, Op::Store(0x1000 + offset, v)))
+}
+
+fn word(core: &Core, address: u64) -> Option<u64> {
+    let ram = &core.system().ram;
+    let i = ram.place(address)?;
+    Some(ram.word(i))
+}
+
+/// Whether each processor has the goal's width and capabilities.
+fn fits(cpus: &[Cpu], goal: &RegFile) -> bool
+    ensures { IsTrue result ↔ All (FitsGoal goal.now) cpus.now }
+{
+    cpus.iter()
+        .all(|cpu| goal.maxphy == cpu.regs().maxphy && goal.cap == cpu.regs().cap)
+}
+
+/// Whether each era has room for an update.
+fn has_room(cpus: &[Cpu]) -> bool
+    ensures { IsTrue result ↔ All (λ p. p.era < 2 ^ 64 - 1) cpus.now }
+{
+    cpus.iter().all(|cpu| cpu.era() < u64::MAX)
+}
+
+/// Begins an update, where the call's conditions hold.
+fn call(core: &mut Core, goal: RegFile) -> Option<Result<(), CallFault>> {
+    let cpus = core.system().cpus.as_slice();
+    if cpus.is_empty() || !fits(cpus, &goal) || !has_room(cpus) {
+        return None;
+    }
+    Some(core.call(goal))
+}
+
+fn step(core: &mut Core, k: u32) -> Option<Stepped> {
+    if (k as usize) < core.system().cpus.len() {
+        Some(core.step(k))
+    } else {
+        None
+    }
+}
+
+/// Whether a processor has this first pair, is in this era and holds nothing.
+fn is_settled(core: &Core, k: usize, kind: u64, era: u64) -> bool {
+    let Some(cpu) = core.system().cpus.get(k) else {
+        return false;
+    };
+    cpu.regs().get(0x200) == Some(kind)
+        && cpu.era() == era
+        && cpu.cache().lines().is_empty()
+        && cpu.tlb().entries().is_empty()
+}
+
+/// Two processors, each with one dirty line.
+fn dirty_pair(alloc: Global) -> Option<Core> {
+    let mut core = pair(alloc)?;
+    for (k, offset, v) in [(0, 0, 0x2a), (1, 0x40, 0x2b)] {
+        if store(&mut core, k, offset, v)? != Done::Stored(MemType::WB) {
+            return None;
+        }
+    }
+    Some(core)
+}
+
+#[test]
+fn rounds_lead_an_update_to_its_end(rt: HostRuntime) {
+    let (Some(mut core), Some(goal)) = (dirty_pair(rt.alloc()), file(4)) else {
+        panic!(rt; "the files are accepted");
+    };
+    assert!(rt; word(&core, 0x10_0000) == Some(0));
+    assert!(rt; word(&core, 0x10_0040) == Some(0));
+    assert!(rt; call(&mut core, goal) == Some(Ok(())));
+    if core.order().is_some() {
+        core.round();
+    }
+    assert!(rt; core.order().is_none());
+    assert!(rt; word(&core, 0x10_0000) == Some(0x2a));
+    assert!(rt; word(&core, 0x10_0040) == Some(0x2b));
+    for k in 0..2 {
+        assert!(rt; is_settled(&core, k, 4, 1), "at {k}");
+    }
+}
+
+#[test]
+fn steps_in_turn_lead_there_too(rt: HostRuntime) {
+    let (Some(mut core), Some(goal)) = (dirty_pair(rt.alloc()), file(4)) else {
+        panic!(rt; "the files are accepted");
+    };
+    assert!(rt; call(&mut core, goal) == Some(Ok(())));
+    assert!(rt; step(&mut core, 0) == Some(Stepped::Did(Event::Take)));
+    assert!(rt; step(&mut core, 0) == Some(Stepped::Did(Event::Arrive)));
+    assert!(rt; step(&mut core, 0) == Some(Stepped::Waits { arrived: 1, of: 3 }));
+    assert!(rt; core.go());
+    assert!(rt; !core.go());
+    assert!(rt; step(&mut core, 0) == Some(Stepped::Waits { arrived: 2, of: 3 }));
+    let mut did = 2;
+    for _ in 0..200 {
+        for k in 0..2 {
+            if matches!(step(&mut core, k), Some(Stepped::Did(_))) {
+                did += 1;
+            }
+        }
+    }
+    // Each does one event for each of 29 registers, one for its dirty word, and 13 more.
+    assert!(rt; did == 86);
+    assert!(rt; core.order().is_none());
+    assert!(rt; word(&core, 0x10_0000) == Some(0x2a));
+    for k in 0..2 {
+        assert!(rt; step(&mut core, k) == Some(Stepped::NoUpdate), "at {k}");
+        assert!(rt; is_settled(&core, k as usize, 4, 1), "at {k}");
+    }
+}
+
+#[test]
+fn refused_calls_change_nothing(rt: HostRuntime) {
+    let (Some(mut core), Some(goal), Some(bad)) = (dirty_pair(rt.alloc()), file(4), file(2)) else {
+        panic!(rt; "the files are made");
+    };
+    assert!(rt; matches!(call(&mut core, bad), Some(Err(CallFault::Refused(_)))));
+    assert!(rt; core.order().is_none());
+    assert!(rt; step(&mut core, 0) == Some(Stepped::NoUpdate));
+    assert!(rt; core.system().cpus.get(0).is_some_and(|cpu| cpu.regs().get(0x200) == Some(6)));
+    assert!(rt; call(&mut core, goal) == Some(Ok(())));
+    let Some(other) = file(5) else {
+        panic!(rt; "the file is made");
+    };
+    assert!(rt; call(&mut core, other) == Some(Err(CallFault::UnderWay)));
+    assert!(rt; core.cancel());
+    assert!(rt; core.order().is_none());
+}
+
+#[test]
+fn windows_are_added(rt: HostRuntime) {
+    let Some(mut core) = pair(rt.alloc()) else {
+        panic!(rt; "the file is accepted");
+    };
+    assert!(rt; word(&core, 0x20_0000) == None);
+    assert!(rt; core.add_ram(0x20_0000, 2) == Ok(()));
+    assert!(rt; word(&core, 0x20_0078) == Some(0));
+    assert!(rt; core.add_ram(0x30_0008, 1) == Err(RamFault::Misaligned));
+    assert!(rt; word(&core, 0x30_0008) == None);
+}
