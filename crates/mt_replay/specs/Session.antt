@@ -3,7 +3,6 @@
 --     session_after session command      what it leaves
 use Rattle.std.specs.Prelude.{ℕ, ◌/◌, Bool, true, false, List, [], length, if◌then◌else◌, slice_get, Option, None, Some, is_some}
 use Rattle.std.specs.Option.{option_map, option_map_or}
-use Rattle.std.specs.List.{range_with_len}
 use Rattle.mt_regs.specs.RegisterFile.{RegisterFile}
 use Rattle.mt_regs.specs.Registers.{value_at, written}
 use Rattle.mt_tlb.specs.declared.mapping.Mapping.{Mapping}
@@ -22,6 +21,7 @@ use Rattle.mt_machine.specs.Start.{start_machine}
 use Rattle.mt_machine.specs.Update.{updated}
 use Rattle.mt_ram.specs.Windows.{window}
 use Rattle.mt_core.specs.Arises.{grown}
+use Rattle.mt_core.specs.Rounds.{ascending}
 use Rattle.mt_core.specs.Steps.{step_after, step_answer}
 use Rattle.mt_core.specs.declared.fault.CallFault.{CallFault}
 use Rattle.mt_core.specs.declared.fault.CallFault.TheVariants.{Refused, UnderWay}
@@ -63,7 +63,7 @@ call_fault m goal = if is_some m.order then Some UnderWay else option_map Refuse
 
 -- the processors' numbers, in ascending order
 abbrev pub each_processor : System → List ℕ
-each_processor s = range_with_len 0 (length s.processors)
+each_processor s = ascending (length s.processors)
 
 -- after a whole update to the goal, in which each processor takes, in ascending order
 abbrev pub after_update : Machine → RegisterFile → Machine

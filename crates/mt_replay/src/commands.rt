@@ -1,13 +1,14 @@
-ghost use Rattle.std.specs.Prelude.{◌≡◌, ◌<◌, ◌≤◌, ◌+◌, ◌*◌, ◌^◌, length, slice_get, OnOk, OnErr, None, Some};
+ghost use Rattle.std.specs.Prelude.{◌≡◌, ◌<◌, ◌≤◌, ◌+◌, ◌*◌, ◌^◌, length, slice_get, MatchOption, OnOk, OnErr, None, Some};
 ghost use Rattle.std.specs.List.{All};
-ghost use Rattle.mt_machine.specs.Machine.{Accesses, Cancels, Controls, FitsControl, FitsGoal, FitsOp, Goes, common_era, go_of, next};
+ghost use Rattle.mt_machine.specs.Machine.{Accesses, Calls, Cancels, Controls, IsEnabled, FitsControl, FitsGoal, FitsOp, Goes, common_era, go_of, next};
 ghost use Rattle.mt_machine.specs.System.{Processor};
-ghost use Rattle.mt_machine.specs.Start.{HasEraRoom};
+ghost use Rattle.mt_machine.specs.Start.{HasEraRoom, IsQuiet};
 ghost use Rattle.mt_ram.specs.Windows.{refusal, window};
 ghost use Rattle.mt_regs.specs.RegisterFile.{RegisterFile};
+ghost use Rattle.mt_regs.specs.declared.fault.Fault.{Fault};
 ghost use Rattle.mt_core.specs.Arises.{grown};
 ghost use Rattle.mt_core.specs.Steps.{step_after, step_answer};
-ghost use Rattle.mt_replay.specs.Session.{accessed_line, after_call, after_update, after_word, call_line, controlled_line, file_at, is_undecided, memory_word, update_line};
+ghost use Rattle.mt_replay.specs.Session.{accessed_line, after_call, after_update, after_word, call_fault, call_line, controlled_line, file_at, is_undecided, memory_word, update_line};
 ghost use Rattle.mt_replay.specs.Texts.{cancel_line, go_line, memory_line, register_line, stepped_line};
 ghost use Rattle.mt_regs.specs.Registers.{value_at};
 ghost use Rattle.std.specs.Option.{option_map_or};
@@ -16,7 +17,7 @@ use crate::texts::{
     call_fault_line, called_line, cancel_line, complete_line, done_line, go_line, memory_line,
     register_line, ruled_line, stepped_line,
 };
-use mt_core::Core;
+use mt_core::{CallFault, Core};
 use mt_machine::{Control, Op};
 use mt_output::LineBuffer;
 use mt_ports::NoMemory;
@@ -85,6 +86,23 @@ fn common_era(core: &Core) -> u64
     }
 }
 
+// Calls an update to these registers, and answers why it isn't begun.
+fn begin(core: &mut Core, goal: &RegFile) -> Option<CallFault>
+    requires some { 0 < length core.old.system.processors }
+    requires fits { All (FitsGoal goal.now) core.old.system.processors }
+    requires room { HasEraRoom core.old }
+    ensures fault { result ≡ call_fault core.old goal.now }
+    ensures called { MatchOption result ((core.new ≡ next core.old (Calls goal.now)) × IsQuiet core.old × IsEnabled core.old (Calls goal.now)) (λ _. core.new ≡ core.old) }
+    ensures short { (own : Fault) → result ≡ Some (CallFault.Refused own) → own.msr < 0x1000 }
+{
+    core.is_core();
+    goal.is_register_file();
+    match core.call(goal.same()) {
+        Ok(()) => None,
+        Err(fault) => Some(fault),
+    }
+}
+
 /// A whole update to these registers, and the era after it, or why it isn't begun.
 pub(crate) fn update(core: &mut Core, goal: &RegFile) -> LineBuffer
     requires some { 0 < length core.old.system.processors }
@@ -93,12 +111,12 @@ pub(crate) fn update(core: &mut Core, goal: &RegFile) -> LineBuffer
     ensures text { result.items ≡ update_line core.old goal.now }
     ensures after { core.new ≡ after_update core.old goal.now }
 {
-    match core.call(goal.same()) {
-        Ok(()) => {
-            // core.round();
+    match begin(core, goal) {
+        None => {
+            core.round();
             complete_line(common_era(core))
         }
-        Err(fault) => call_fault_line(&fault),
+        Some(fault) => call_fault_line(&fault),
     }
 }
 
@@ -110,9 +128,9 @@ pub(crate) fn call(core: &mut Core, goal: &RegFile) -> LineBuffer
     ensures text { result.items ≡ call_line core.old goal.now }
     ensures after { core.new ≡ after_call core.old goal.now }
 {
-    match core.call(goal.same()) {
-        Ok(()) => called_line(),
-        Err(fault) => call_fault_line(&fault),
+    match begin(core, goal) {
+        None => called_line(),
+        Some(fault) => call_fault_line(&fault),
     }
 }
 
