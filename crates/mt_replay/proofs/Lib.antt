@@ -1,1 +1,3 @@
+mod DirtyCounts
 pub mod FirstFault
+pub mod SameFiles
