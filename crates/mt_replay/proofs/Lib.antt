@@ -1,6 +1,10 @@
 pub mod Asked
 pub mod Calls
+mod DirtyCounts
 pub mod Eras
 pub mod FirstFault
 pub mod Heads
+pub mod Hiding
 pub mod Keeping
+pub mod SameFiles
+mod Whole

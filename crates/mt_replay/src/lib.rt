@@ -3,11 +3,13 @@
 
 mod commands;
 mod head;
-mod kept;
 mod laws;
 mod replayer;
 mod texts;
+mod worked;
 
-pub use kept::{commands_finish_one_update, commands_keep_a_session};
-pub use laws::the_first_fault_is_first;
+pub use laws::{same_files_are_equal, the_first_fault_is_first};
 pub use replayer::Replayer;
+pub use worked::{
+    worked_answers, worked_events, worked_phases, worked_reports, worked_updates, worked_values,
+};

@@ -1,0 +1,113 @@
+ghost use Rattle.std.specs.Prelude.{◌≡◌, ◌∷◌, [], codes, replicate, true, false, None, Some};
+ghost use Rattle.mt_kinds.specs.declared.mem_type.MemType.TheVariants.{UC, WC, WB};
+ghost use Rattle.mt_regs.specs.declared.fault.Reason.TheVariants.{ReservedBit, UnsupportedType, BrokenMask, UndefinedOverlap};
+ghost use Rattle.mt_regs.specs.RegisterFile.{blank_file};
+ghost use Rattle.mt_machine.specs.declared.done.Done.TheVariants as done;
+ghost use Rattle.mt_machine.specs.declared.ruled.Ruled.TheVariants as ruled;
+ghost use Rattle.mt_machine.specs.declared.event.Event.TheVariants as event;
+ghost use Rattle.mt_machine.specs.declared.phase.Phase.TheVariants as phase;
+ghost use Rattle.mt_machine.specs.System.{start_processor};
+ghost use Rattle.mt_core.specs.declared.fault.CallFault.TheVariants.{Refused, UnderWay};
+ghost use Rattle.mt_core.specs.declared.stepped.Stepped.TheVariants.{Did, Waits, NoUpdate};
+ghost use Rattle.mt_replay.specs.Texts.{call_fault_line, called_line, cancel_line, complete_line, done_line, event_text, go_line, have_one_file, memory_line, phase_text, processor_line, register_line, registers_line, report_text, ruled_line, stepped_line};
+
+/// What accesses and control instructions are answered.
+#[tactic(auto, unfolding(hex::specs::Hex::encode_with))]
+pub fn worked_answers()
+    ensures value { done_line (done.Value 0x2a UC) ≡ codes "value 000000000000002a UC\n" }
+    ensures stored { done_line (done.Stored WC) ≡ codes "stored WC\n" }
+    ensures fenced { done_line done.Fenced ≡ codes "fenced\n" }
+    ensures unmapped { done_line done.Unmapped ≡ codes "unmapped\n" }
+    ensures no_ram { done_line done.NoRam ≡ codes "no ram\n" }
+    ensures in_an_update { done_line done.Busy ≡ codes "busy\n" }
+    ensures okay { ruled_line ruled.Okay ≡ codes "ok\n" }
+    ensures full { ruled_line ruled.Full ≡ codes "full\n" }
+    ensures ruled_busy { ruled_line ruled.Busy ≡ codes "busy\n" }
+{}
+
+/// Lines about updates.
+pub fn worked_updates()
+    ensures complete { complete_line 12 ≡ codes "complete 12\n" }
+    ensures called { called_line ≡ codes "called\n" }
+    ensures reserved { call_fault_line (Refused (record { msr = 0x2ff; reason = ReservedBit })) ≡ codes "refused 2ff reserved bit\n" }
+    ensures unsupported { call_fault_line (Refused (record { msr = 0x277; reason = UnsupportedType })) ≡ codes "refused 277 unsupported type\n" }
+    ensures broken { call_fault_line (Refused (record { msr = 0x201; reason = BrokenMask })) ≡ codes "refused 201 broken mask\n" }
+    ensures overlap { call_fault_line (Refused (record { msr = 0x200; reason = UndefinedOverlap })) ≡ codes "refused 200 undefined overlap\n" }
+    ensures under_way { call_fault_line UnderWay ≡ codes "under way\n" }
+    ensures go { go_line true ≡ codes "go\n" }
+    ensures no_go { go_line false ≡ codes "no\n" }
+    ensures cancelled { cancel_line true ≡ codes "cancelled\n" }
+    ensures not_cancelled { cancel_line false ≡ codes "no\n" }
+    ensures did { stepped_line (blank_file 36 0x508) (Did event.Take) ≡ codes "take\n" }
+    ensures waits { stepped_line (blank_file 36 0x508) (Waits 2 3) ≡ codes "waits 2 of 3\n" }
+    ensures no_update { stepped_line (blank_file 36 0x508) NoUpdate ≡ codes "no update\n" }
+{}
+
+/// The texts of events.
+#[tactic(auto, unfolding(hex::specs::Hex::encode_with))]
+pub fn worked_events()
+    ensures take { event_text (blank_file 36 0x400) event.Take ≡ codes "take" }
+    ensures arrive { event_text (blank_file 36 0x400) event.Arrive ≡ codes "arrive" }
+    ensures leave { event_text (blank_file 36 0x400) event.Leave ≡ codes "leave" }
+    ensures pass { event_text (blank_file 36 0x400) event.Pass ≡ codes "pass" }
+    ensures no_fill { event_text (blank_file 36 0x400) event.SetNoFill ≡ codes "no-fill" }
+    ensures write_back { event_text (blank_file 36 0x400) (event.WriteBack 0x100008 7) ≡ codes "write-back 0000000100008" }
+    ensures dropped { event_text (blank_file 36 0x400) event.DropLines ≡ codes "drop" }
+    ensures flush { event_text (blank_file 36 0x400) event.FlushTlb ≡ codes "flush-tlb" }
+    ensures disable { event_text (blank_file 36 0x400) event.Disable ≡ codes "disable" }
+    ensures write { event_text (blank_file 36 0x400) (event.Write 0) ≡ codes "write 277" }
+    ensures write_mask { event_text (blank_file 36 0x508) (event.Write 1) ≡ codes "write 201" }
+    ensures write_fixed { event_text (blank_file 36 0x508) (event.Write 26) ≡ codes "write 26f" }
+    ensures enable { event_text (blank_file 36 0x400) event.Enable ≡ codes "enable" }
+    ensures normal { event_text (blank_file 36 0x400) event.SetNormal ≡ codes "normal" }
+    ensures restore { event_text (blank_file 36 0x400) event.RestorePge ≡ codes "restore" }
+    ensures arrive_again { event_text (blank_file 36 0x400) event.ArriveAgain ≡ codes "arrive-again" }
+    ensures release { event_text (blank_file 36 0x400) event.Release ≡ codes "release" }
+{}
+
+/// The texts of phases.
+pub fn worked_phases()
+    ensures running { phase_text phase.Running ≡ codes "running" }
+    ensures taken { phase_text phase.Taken ≡ codes "taken" }
+    ensures arrived { phase_text phase.Arrived ≡ codes "arrived" }
+    ensures passed { phase_text phase.Passed ≡ codes "passed" }
+    ensures no_fill { phase_text phase.NoFill ≡ codes "no-fill" }
+    ensures flushed { phase_text phase.Flushed ≡ codes "flushed" }
+    ensures tlb_flushed { phase_text phase.TlbFlushed ≡ codes "tlb-flushed" }
+    ensures writing { phase_text (phase.Writing 3) ≡ codes "writing" }
+    ensures enabled { phase_text phase.Enabled ≡ codes "enabled" }
+    ensures flushed_again { phase_text phase.Flushed2 ≡ codes "flushed-again" }
+    ensures tlb_flushed_again { phase_text phase.TlbFlushed2 ≡ codes "tlb-flushed-again" }
+    ensures normal { phase_text phase.Normal ≡ codes "normal" }
+    ensures restored { phase_text phase.Restored ≡ codes "restored" }
+    ensures arrived_again { phase_text phase.Arrived2 ≡ codes "arrived-again" }
+{}
+
+/// Lines about memory and registers.
+#[tactic(auto, unfolding(hex::specs::Hex::encode_with))]
+pub fn worked_values()
+    ensures memory { memory_line (Some 0x2a) ≡ codes "memory 000000000000002a\n" }
+    ensures no_memory { memory_line None ≡ codes "no ram\n" }
+    ensures register { register_line 0x200 6 ≡ codes "200 0000000000000006\n" }
+    ensures capabilities { register_line 0xfe 0x508 ≡ codes "0fe 0000000000000508\n" }
+    ensures same { registers_line true ≡ codes "registers same\n" }
+    ensures differ { registers_line false ≡ codes "registers differ\n" }
+{}
+
+/// Lines of reports.
+pub fn worked_reports()
+    ensures start { processor_line 0 (start_processor (blank_file 36 0x508)) ≡ codes "cpu 0 running era 0 lines 0 dirty 0 buffers 0 entries 0 stale 0 cd 0 pge 0\n" }
+    ensures stored { processor_line 1 (record (start_processor (blank_file 36 0x508)) { lines = record { number = 0x4000; words = replicate 8 0x2b; dirty = 1; era = 0 } ∷ []; entries = record { vpage = 1; ppage = 0x100; kind = WB; global = false; era = 0 } ∷ [] }) ≡ codes "cpu 1 running era 0 lines 1 dirty 1 buffers 0 entries 1 stale 0 cd 0 pge 0\n" }
+    ensures stale { processor_line 15 (record (start_processor (blank_file 36 0x508)) {
+      cache_disabled = true;
+      page_global = true;
+      lines = record { number = 1; words = replicate 8 0; dirty = 0x81; era = 1 } ∷ record { number = 2; words = replicate 8 0; dirty = 0xff; era = 2 } ∷ record { number = 3; words = replicate 8 0; dirty = 0; era = 0 } ∷ [];
+      buffers = record { number = 4; words = replicate 8 0; dirty = 6; era = 1 } ∷ [];
+      entries = record { vpage = 1; ppage = 1; kind = WB; global = true; era = 1 } ∷ record { vpage = 2; ppage = 2; kind = UC; global = false; era = 2 } ∷ [];
+      phase = phase.Writing 3;
+      era = 2;
+    }) ≡ codes "cpu 15 writing era 2 lines 3 dirty 10 buffers 1 entries 2 stale 4 cd 1 pge 1\n" }
+    ensures none { have_one_file [] ≡ true }
+    ensures last_differs { have_one_file (start_processor (blank_file 36 0x508) ∷ start_processor (blank_file 36 0x508) ∷ start_processor (record (blank_file 36 0x508) { default_type = 0x800 }) ∷ []) ≡ false }
+    ensures report { report_text (start_processor (blank_file 36 0x508) ∷ []) ≡ codes "cpu 0 running era 0 lines 0 dirty 0 buffers 0 entries 0 stale 0 cd 0 pge 0\nregisters same\n" }
+{}
