@@ -1,4 +1,5 @@
 pub mod Eras
 pub mod FirstFault
 pub mod Heads
+pub mod Hiding
 pub mod Keeping

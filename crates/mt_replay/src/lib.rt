@@ -2,8 +2,10 @@
 #![tactic(auto)]
 
 mod head;
+mod hidden;
 mod kept;
 mod laws;
 
+pub use hidden::caches_are_never_seen_in_scripts;
 pub use kept::{commands_finish_one_update, commands_keep_a_session};
 pub use laws::the_first_fault_is_first;

@@ -54,7 +54,7 @@ follows_event m e a enabled =
 
 -- ---- accesses and control instructions, which change nothing where the processor is in an update
 
-runs_or_rests : (s : System) (k : ℕ) (X : Type 0)
+pub runs_or_rests : (s : System) (k : ℕ) (X : Type 0)
     → (option_map_or (λ p. is_running p.phase) (slice_get s.processors k) false ≡ true → X)
     → (((q : Processor) → slice_get s.processors k ≡ Some q → is_running q.phase ≡ false) → X) → X
 runs_or_rests s k X runs rests = one (slice_get s.processors k) refl
@@ -84,7 +84,7 @@ follows_control m k c a fits =
 
 -- ---- what is done only where it may be
 
-is_pending : (o : Option Go) → is_undecided o ≡ true → o ≡ Some Pending
+pub is_pending : (o : Option Go) → is_undecided o ≡ true → o ≡ Some Pending
 is_pending (Some Pending) h = refl
 is_pending (Some Given) h = absurd (cc h)
 is_pending (Some Cancelled) h = absurd (cc h)

@@ -68,7 +68,7 @@ no_windows other registers windows = cc windows
 abbrev TakesNone : Stage → Type 0
 TakesNone stage = takes_windows stage ≡ true → ⊥
 
-file_of : (now : Situation) → IsSituation now → is_past_dump now.stage ≡ true → (f : RegisterFile) × (now.file ≡ Some f) × IsRegisterFile f
+pub file_of : (now : Situation) → IsSituation now → is_past_dump now.stage ≡ true → (f : RegisterFile) × (now.file ≡ Some f) × IsRegisterFile f
 file_of now is past = one now.file refl (is.has_file ∙ past) is.file
   where
     one : (o : Option RegisterFile) → now.file ≡ o → is_some o ≡ true → IfSome o IsRegisterFile → (f : RegisterFile) × (now.file ≡ Some f) × IsRegisterFile f
@@ -191,7 +191,7 @@ module _ (s : Session) (h : IsSession s) where
       let width : w - 12 ≡ v - 12 = ap (λ n. n - 12) same in
       subst (λ (n : ℕ). physical / 4096 < 2 ^ n) width (omega (arith, parts, below))
 
-  mapping_fits : (k address physical index : ℕ) (global : Bool) → address < 2 ^ 48 → physical < address_limit s.now.file → index ≤ 7
+  pub mapping_fits : (k address physical index : ℕ) (global : Bool) → address < 2 ^ 48 → physical < address_limit s.now.file → index ≤ 7
       → (p : Processor) → slice_get s.machine.system.processors k ≡ Some p → FitsControl p (control_of.Map (mapping address physical index global))
   mapping_fits k address physical index global low within few p at =
       let file = file_of s.now h.situation h.past in
