@@ -23,6 +23,8 @@ use Rattle.mt_ram.specs.Windows.{window}
 use Rattle.mt_core.specs.Arises.{Arises, grown}
 use Rattle.mt_core.specs.Steps.{step_after}
 use Rattle.mt_core.specs.declared.fault.CallFault.{CallFault}
+use Rattle.mt_core.proofs.Arising.{runs_or_rests}
+use Rattle.mt_core.proofs.Settling.{is_quiet_without_order}
 use Rattle.mt_core.proofs.Stepping.{is_sound}
 use Rattle.mt_flat.specs.Flat.{Flat}
 use Rattle.mt_flat.specs.Seen.{IsFlatOf, flat_after, flat_takes, given_access}
@@ -35,7 +37,7 @@ use Rattle.mt_replay.specs.Flat.{flat_accessed, flat_command, flat_controlled, f
 use Rattle.mt_replay.specs.Kept.{IsSession, windows_of}
 use Rattle.mt_replay.specs.Session.{Session, after_call, after_update, after_word, call_fault, each_processor, is_undecided, is_update, machine_after, mapping}
 use Rattle.mt_replay.proofs.Hiding.Once.{each_once}
-use Rattle.mt_replay.proofs.Keeping.Machines.{is_pending, rests_quiet, runs_or_rests}
+use Rattle.mt_replay.proofs.Keeping.Machines.{is_pending}
 use Rattle.mt_replay.proofs.Keeping.Sessions.{call_enabled, file_of, mapping_fits}
 use Rattle.mt_replay.proofs.Keeping.Windows.{grown_start}
 
@@ -122,7 +124,7 @@ beside_update : (s : Session) (f : Flat) → IsSession s → IsBeside s.machine 
     → IsBeside (updated s.machine.system (each_processor s.machine.system) s.goal) (flat_takes (each_processor s.machine.system) f)
 beside_update s f h r none =
     let enabled = call_enabled s h none in
-    updated_is_flat s.machine f s.goal (each_processor s.machine.system) (rests_quiet s.goal s.machine h.arises h.goal enabled.0) enabled (each_once (length s.machine.system.processors)) r
+    updated_is_flat s.machine f s.goal (each_processor s.machine.system) (is_quiet_without_order s.machine h.arises enabled.0) enabled (each_once (length s.machine.system.processors)) r
 
 beside_end : (s : Session) (f : Flat) → IsSession s → IsBeside s.machine f → IsBeside (machine_after s command.End) (flat_command s command.End f)
 beside_end s f h r = one (is_update s.now.stage)

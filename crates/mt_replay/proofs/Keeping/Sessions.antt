@@ -40,7 +40,7 @@ use Rattle.mt_replay.specs.FirstFault.{first_fault}
 use Rattle.mt_replay.specs.Kept.{CommandsKeep, IsSession, windows_of}
 use Rattle.mt_replay.specs.Session.{Session, after_call, after_update, after_word, call_fault, each_processor, first_file, is_update, machine_after, mapping, session_after, with_register}
 use Rattle.mt_replay.proofs.FirstFault.{first_fault_is_first}
-use Rattle.mt_replay.proofs.Keeping.Comes.{fits_come, fits_with_value}
+use Rattle.mt_replay.proofs.Keeping.Kinds.{fits_with_value}
 use Rattle.mt_replay.proofs.Keeping.Machines.{Follows, follows_access, follows_control, follows_event, follows_same, follows_step, follows_update, follows_word}
 use Rattle.mt_replay.proofs.Keeping.Windows.{grown_start, room_memory, windows_then}
 
@@ -83,10 +83,10 @@ session_on s now n goal h is past cpus file windows none follows good fits = rec
   situation = is;
   past = past;
   arises = follows.arises;
-  count = follows.count ∙ h.count ∙ sym cpus;
-  kind = λ f same. fits_come f s.machine.system.processors n.system.processors follows.come (h.kind f (sym file ∙ same));
+  count = follows.risen.same_number ∙ h.count ∙ sym cpus;
+  kind = λ f same. follows.fits f (h.kind f (sym file ∙ same));
   goal_file = good;
-  goal = fits_come goal s.machine.system.processors n.system.processors follows.come fits;
+  goal = follows.fits goal fits;
   windows = follows.windows ∙ h.windows ∙ ap windows_in (sym windows);
   fresh = λ f same takes. absurd (none takes);
 }
