@@ -3,3 +3,4 @@ pub mod FirstFault
 pub mod Heads
 pub mod Hiding
 pub mod Keeping
+mod Whole

@@ -1,7 +1,6 @@
 -- Each value in a transcript is the flat machine's.
-use Rattle.std.proofs.Common.{◌≡◌, ◌∙◌, ap, sym, refl, subst, ℕ, ◌+◌, Bool, true, false, List, [], ◌∷◌, Option, None, Some, Result, Ok, Err}
+use Rattle.std.proofs.Common.{◌≡◌, ◌∙◌, ap, sym, refl, ℕ, ◌+◌, Bool, true, false, List, [], ◌∷◌, Option, None, Some, Result, Ok, Err}
 use Rattle.std.specs.Option.{option_map_or}
-use Rattle.std.specs.Result.{IfOk}
 use Rattle.mt_text.specs.Text.{lines_of, words_of, end_of}
 use Rattle.mt_text.specs.declared.place.Place.{Place}
 use Rattle.mt_regs.specs.declared.fault.Fault.{Fault}
@@ -33,7 +32,6 @@ use Rattle.mt_script.specs.Script.{is_end_command, with_told_width}
 use Rattle.mt_script.specs.declared.command.Command.{Command}
 use Rattle.mt_script.specs.declared.command.Command.TheVariants as command
 use Rattle.mt_script.specs.declared.fault.ScriptFault.{ScriptFault}
-use Rattle.mt_script.proofs.Fitting.{command_fits}
 use Rattle.mt_script.proofs.Keeping.{accepted_is, start_is}
 use Rattle.mt_replay.specs.FirstFault.{first_fault}
 use Rattle.mt_output.specs.Lines.{accepted_line}
@@ -43,7 +41,7 @@ use Rattle.mt_replay.specs.Kept.{IsSession}
 use Rattle.mt_replay.specs.Session.{Session, command_text, first_session, session_after}
 use Rattle.mt_replay.specs.Transcript.{Body, Head, Told, behind, told_command, told_dump_line, told_file, told_from, told_head_command, told_head_line, told_in, told_shown, told_unless}
 use Rattle.mt_replay.proofs.Keeping.First.{first_kept}
-use Rattle.mt_replay.proofs.Keeping.Sessions.{accepted_of, session_kept}
+use Rattle.mt_replay.proofs.Keeping.Sessions.{accepted_of, command_known, session_kept}
 use Rattle.mt_replay.proofs.Hiding.Commands.{command_beside}
 
 -- ---- the text of a command
@@ -59,9 +57,6 @@ text_same s f (command.Load k address) h r = ap done_line (done_same s.machine f
 text_same s f other h r = refl
 
 -- ---- the lines after the dump
-
-pub command_known : (now : Situation) (number : ℕ) (line : List ℕ) (c : Command) → command_of now number line ≡ Ok c → Fits now c
-command_known now number line c is = subst (λ answer. IfOk answer (Fits now)) is (command_fits now number line)
 
 told_same : (end : Place) (number : ℕ) (lines : List (List ℕ)) (s : Session) (f : Flat) → IsSession s → IsFlatOf s.machine.system f → flat_told_in end number lines s f ≡ told_in end number lines s
 told_same end number [] = λ s f h r. refl
