@@ -31,7 +31,7 @@ step_length goal e k s p at =
     sym (length-map (step goal e k s).processors stage_of) ∙ ap length (step_stages goal e k s p at)
     ∙ length-set (stages s) k (stage_of (own_step goal e p)) ∙ length-map s.processors stage_of
 
-runs_or_rests : (s : System) (k : ℕ) (X : Type 0)
+pub runs_or_rests : (s : System) (k : ℕ) (X : Type 0)
     → (option_map_or (λ p. is_running p.phase) (slice_get s.processors k) false ≡ true → X)
     → (((q : Processor) → slice_get s.processors k ≡ Some q → is_running q.phase ≡ false) → X) → X
 runs_or_rests s k X runs rests = one (slice_get s.processors k) refl

@@ -1,5 +1,5 @@
 -- What commands keep of a session.
-pub mod Comes
+pub mod Kinds
 pub mod Machines
 pub mod Windows
 pub mod Sessions

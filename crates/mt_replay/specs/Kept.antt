@@ -1,6 +1,8 @@
 -- What holds of each session that a script comes to (own).
-use Rattle.std.specs.Prelude.{ℕ, ◌≡◌, ◌+◌, ◌≤◌, true, List, [], ◌∷◌, length, map, Some, Result, Ok, Err, ⊤}
+use Rattle.std.specs.Prelude.{ℕ, ◌≡◌, ◌+◌, ◌≤◌, Bool, true, false, List, [], ◌∷◌, length, map, Option, None, Some, Result, Ok, Err, ⊤}
 use Rattle.std.specs.List.{All}
+use Rattle.mt_text.specs.Text.{lines_of, words_of}
+use Rattle.mt_regs.specs.declared.fault.Fault.{Fault}
 use Rattle.mt_regs.specs.RegisterFile.{RegisterFile, IsRegisterFile}
 use Rattle.mt_regs.specs.Faults.{IsAccepted}
 use Rattle.mt_ram.specs.Windows.{window}
@@ -8,14 +10,21 @@ use Rattle.mt_machine.specs.Memory.{Window}
 use Rattle.mt_machine.specs.Machine.{FitsGoal}
 use Rattle.mt_machine.specs.Start.{start_machine}
 use Rattle.mt_core.specs.Arises.{Arises}
-use Rattle.mt_script.specs.Situation.{Situation}
+use Rattle.mt_dump.specs.Line.{Reading, said_of}
+use Rattle.mt_dump.specs.Dump.{offence_of, offence_at_end}
+use Rattle.mt_dump.specs.Reader.{file_in, onto}
+use Rattle.mt_dump.specs.declared.fault.DumpFault.{DumpFault}
+use Rattle.mt_script.specs.Situation.{Situation, at_start}
 use Rattle.mt_script.specs.Kept.{IsSituation}
-use Rattle.mt_script.specs.Stages.{is_past_dump, takes_windows}
-use Rattle.mt_script.specs.Accept.{Fits}
+use Rattle.mt_script.specs.Stages.{is_in_dump, is_past_dump, takes_windows}
+use Rattle.mt_script.specs.Words.{place_of}
+use Rattle.mt_script.specs.Accept.{Fits, accepted}
 use Rattle.mt_script.specs.Commands.{command_of}
+use Rattle.mt_script.specs.Script.{is_end_command, with_told_width}
 use Rattle.mt_script.specs.declared.command.Command.{Command}
 use Rattle.mt_script.specs.declared.fault.ScriptFault.{ScriptFault}
-use Rattle.mt_replay.specs.Session.{Session, session_after}
+use Rattle.mt_replay.specs.FirstFault.{first_fault}
+use Rattle.mt_replay.specs.Session.{Session, first_session, session_after}
 
 abbrev pub windows_of : Situation → List Window
 windows_of now = map (λ w. window w.0 w.1) now.windows
@@ -53,3 +62,47 @@ EachAfter P s (Ok c) rest = rest (session_after s c)
 abbrev pub EachIn : (Session → Type 0) → ℕ → List (List ℕ) → Session → Type 0
 EachIn P number [] s = P s
 EachIn P number (line ∷ lines) s = P s × EachAfter P s (command_of s.now number line) (EachIn P (number + 1) lines)
+
+-- What holds of each session of a text, by the situation and the dump's lines so far, of which the last stands first. It is
+-- nothing where an offence or a fault of the file ends the transcript before the commands.
+abbrev pub Claim : Type 1
+Claim = Situation → List Reading → Type 0
+
+abbrev pub EachOfFile : Situation → RegisterFile → (Session → Type 0) → Option Fault → Type 0
+EachOfFile now file rest (Some fault) = ⊤
+EachOfFile now file rest None = rest (first_session now file)
+
+abbrev pub EachShown : Situation → List Reading → (Session → Type 0) → Option RegisterFile → Type 0
+EachShown now before rest None = ⊤
+EachShown now before rest (Some file) = EachOfFile now (with_told_width before file) rest (first_fault (with_told_width before file))
+
+abbrev pub EachUnless : Option DumpFault → Type 0 → Type 0
+EachUnless (Some fault) rest = ⊤
+EachUnless None rest = rest
+
+-- a line of the dump, which ends it where the last argument is true
+abbrev pub EachOfDump : Situation → List Reading → ℕ → List ℕ → Claim → (Session → Type 0) → Bool → Type 0
+EachOfDump now before number line head rest true =
+    EachUnless (offence_at_end (place_of number (words_of line) 0) (onto before [])) (EachShown now before rest (file_in before))
+EachOfDump now before number line head rest false =
+    EachUnless (offence_of before (said_of number line)) (head now (said_of number line ∷ before))
+
+abbrev pub EachOfCommand : Situation → List Reading → ℕ → List ℕ → Claim → (Session → Type 0) → Command → Bool → Type 0
+EachOfCommand now before number line head rest c true = EachOfDump now before number line head rest (is_end_command c)
+EachOfCommand now before number line head rest c false = head (accepted now c) before
+
+abbrev pub EachOfLine : Situation → List Reading → ℕ → List ℕ → Claim → (Session → Type 0) → Result Command ScriptFault → Type 0
+EachOfLine now before number line head rest (Err fault) = ⊤
+EachOfLine now before number line head rest (Ok c) = EachOfCommand now before number line head rest c (is_in_dump now.stage)
+
+abbrev pub EachFrom : (Session → Type 0) → ℕ → List (List ℕ) → Claim
+EachFrom P number [] now before = ⊤
+EachFrom P number (line ∷ lines) now before =
+    EachOfLine now before number line (EachFrom P (number + 1) lines) (EachIn P (number + 1) lines) (command_of now number line)
+
+-- it holds of each session that a text comes to
+abbrev pub HoldsThrough : (Session → Type 0) → List ℕ → Type 0
+HoldsThrough P text = EachFrom P 1 (lines_of text) at_start []
+
+abbrev pub ScriptsKeep : Type 0
+ScriptsKeep = (text : List ℕ) → HoldsThrough IsSession text

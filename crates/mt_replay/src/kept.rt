@@ -1,4 +1,4 @@
-ghost use Rattle.mt_replay.specs.Kept.{CommandsFinishOne, CommandsKeep};
+ghost use Rattle.mt_replay.specs.Kept.{CommandsFinishOne, CommandsKeep, ScriptsKeep};
 
 /// Each command that fits keeps what holds of each session of a script.
 pub fn commands_keep_a_session()
@@ -8,4 +8,9 @@ pub fn commands_keep_a_session()
 /// A command finishes at most one update of each processor.
 pub fn commands_finish_one_update()
     ensures { CommandsFinishOne }
+{}
+
+/// What holds of each session holds of each that a whole script comes to.
+pub fn scripts_keep_each_session()
+    ensures { ScriptsKeep }
 {}

@@ -3,11 +3,15 @@
 
 mod commands;
 mod head;
+mod hidden;
+mod kept;
 mod laws;
 mod replayer;
 mod texts;
 mod worked;
 
+pub use hidden::caches_are_never_seen_in_scripts;
+pub use kept::{commands_finish_one_update, commands_keep_a_session, scripts_keep_each_session};
 pub use laws::{same_files_are_equal, the_first_fault_is_first};
 pub use replayer::Replayer;
 pub use worked::{

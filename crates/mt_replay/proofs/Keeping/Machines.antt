@@ -1,9 +1,11 @@
 -- What events, windows and updates leave of a machine that a session has.
-use Rattle.std.proofs.Common.{◌≡◌, ◌∙◌, ap, sym, refl, subst, ℕ, zero, suc, Bool, true, false, if◌then◌else◌, List, [], ◌∷◌, length, Option, None, Some, slice_get, inl, arith}
+use Rattle.std.proofs.Common.{◌≡◌, ◌∙◌, ap, sym, refl, subst, ℕ, Bool, true, false, if◌then◌else◌, List, Option, None, Some, slice_get, inl, arith}
 use Rattle.std.specs.Prelude.{map}
-use Rattle.std.specs.Option.{option_map_or}
+use Rattle.std.specs.Option.{option_map, option_map_or}
 use Rattle.std.specs.List.{All}
 use Rattle.std.proofs.lemmas.List.{length-map}
+use Rattle.std.proofs.lemmas.List.Elements.{All-map}
+use Rattle.std.proofs.lemmas.Option.{slice_get-map}
 use Rattle.mt_regs.specs.RegisterFile.{RegisterFile}
 use Rattle.mt_machine.specs.declared.go.Go.{Go}
 use Rattle.mt_machine.specs.declared.go.Go.TheVariants.{Pending, Given, Cancelled}
@@ -12,34 +14,34 @@ use Rattle.mt_machine.specs.declared.control.Control.{Control}
 use Rattle.mt_machine.specs.declared.event.Event.{Event}
 use Rattle.mt_machine.specs.Memory.{Window}
 use Rattle.mt_machine.specs.System.{Processor, System}
-use Rattle.mt_machine.specs.Access.{Answered, is_running}
+use Rattle.mt_machine.specs.Access.{Answered}
 use Rattle.mt_machine.specs.Control.{RuledAfter}
-use Rattle.mt_machine.specs.Machine.{Accesses, Calls, Controls, FitsControl, FitsGoal, FitsOp, IsEnabled, Machine, MachineEvent, Order, Steps, common_era, due_at, go_of, next}
-use Rattle.mt_machine.specs.Start.{IsQuiet}
+use Rattle.mt_machine.specs.Machine.{Accesses, Calls, Controls, FitsControl, FitsGoal, FitsOp, IsEnabled, Machine, MachineEvent, Steps, due_at, go_of, next}
 use Rattle.mt_machine.specs.Update.{settled_processor, updated}
 use Rattle.mt_laws.proofs.Barrier.Acting.{access_busy, control_busy}
-use Rattle.mt_laws.proofs.Barrier.Barriers.{Kept, Rest, era_at}
 use Rattle.mt_laws.proofs.Barrier.Claims.{all_get, all_of}
-use Rattle.mt_laws.proofs.Barrier.Ranks.{stage_at}
-use Rattle.mt_laws.proofs.Barrier.Stages.{stage_of, stages}
 use Rattle.mt_laws.proofs.Invariant.Standing.{standing_next}
 use Rattle.mt_laws.proofs.Updates.Quiet.{updated_is_quiet}
 use Rattle.mt_laws.proofs.Words.Sound.{aligned_all}
 use Rattle.mt_core.specs.Arises.{Arises, by_event, from_start}
 use Rattle.mt_core.specs.Steps.{step_after}
-use Rattle.mt_core.proofs.Stepping.{is_sound, stands}
+use Rattle.mt_core.specs.Headline.{HasRisenByOne}
+use Rattle.mt_core.proofs.Arising.{runs_or_rests}
+use Rattle.mt_core.proofs.Eras.{eras_rise}
+use Rattle.mt_core.proofs.Settling.{is_quiet_without_order}
+use Rattle.mt_core.proofs.Stepping.{stands}
 use Rattle.mt_replay.specs.Session.{after_word, is_undecided}
-use Rattle.mt_replay.proofs.Keeping.Comes.{AllCome, Comes, come_same, comes_next, count_next}
+use Rattle.mt_replay.proofs.Keeping.Kinds.{fits_next, risen_same}
 
 -- n comes of m, over the same windows
 pub record Follows (m n : Machine) : Type 0 where
   pub arises : Arises n
-  pub count : length n.system.processors ≡ length m.system.processors
-  pub come : AllCome m.system.processors n.system.processors
+  pub risen : HasRisenByOne m.system n.system
+  pub fits : (f : RegisterFile) → All (FitsGoal f) m.system.processors → All (FitsGoal f) n.system.processors
   pub windows : n.system.memory.windows ≡ m.system.memory.windows
 
 pub follows_same : (m : Machine) → Arises m → Follows m m
-follows_same m a = record { arises = a; count = refl; come = come_same m.system.processors; windows = refl }
+follows_same m a = record { arises = a; risen = risen_same m.system m.system.memory; fits = λ f all. all; windows = refl }
 
 pub follows_event : (m : Machine) (e : MachineEvent) → Arises m → IsEnabled m e → Follows m (next m e)
 follows_event m e a enabled =
@@ -47,25 +49,12 @@ follows_event m e a enabled =
     let ws : List Window = m.system.memory.windows in
     record {
       arises = by_event e a enabled;
-      count = count_next m e enabled;
-      come = comes_next m e;
+      risen = eras_rise m e enabled;
+      fits = λ f. fits_next f m e;
       windows = (standing_next ws (aligned_all ws st.0.aligned) m e enabled st.1).agrees.stands.memory.windows;
     }
 
 -- ---- accesses and control instructions, which change nothing where the processor is in an update
-
-runs_or_rests : (s : System) (k : ℕ) (X : Type 0)
-    → (option_map_or (λ p. is_running p.phase) (slice_get s.processors k) false ≡ true → X)
-    → (((q : Processor) → slice_get s.processors k ≡ Some q → is_running q.phase ≡ false) → X) → X
-runs_or_rests s k X runs rests = one (slice_get s.processors k) refl
-  where
-    two : (q : Processor) → slice_get s.processors k ≡ Some q → (b : Bool) → is_running q.phase ≡ b → X
-    two q at true is = runs (ap (λ (o : Option Processor). option_map_or (λ p. is_running p.phase) o false) at ∙ is)
-    two q at false is = rests (λ r at_r. let e : Some q ≡ Some r = sym at ∙ at_r in let f : q ≡ r = cc in ap (λ (p : Processor). is_running p.phase) (sym f) ∙ is)
-
-    one : (o : Option Processor) → slice_get s.processors k ≡ o → X
-    one None at = rests (λ q at_q. absurd (let e : None ≡ Some q = sym at ∙ at_q in cc))
-    one (Some q) at = two q at (is_running q.phase) refl
 
 abbrev with_system : Machine → System → Machine
 with_system m s = record m { system = s }
@@ -84,7 +73,7 @@ follows_control m k c a fits =
 
 -- ---- what is done only where it may be
 
-is_pending : (o : Option Go) → is_undecided o ≡ true → o ≡ Some Pending
+pub is_pending : (o : Option Go) → is_undecided o ≡ true → o ≡ Some Pending
 is_pending (Some Pending) h = refl
 is_pending (Some Given) h = absurd (cc h)
 is_pending (Some Cancelled) h = absurd (cc h)
@@ -104,44 +93,30 @@ follows_step m k a = one (due_at m k) refl
     one None is = follows_same m a
     one (Some e) is = follows_event m (Steps k e) a is
 
--- ---- where no update is under way, and all have one kind of registers, the machine is quiet
-
-alike_fit : (f : RegisterFile) (p q : Processor) → FitsGoal f p → FitsGoal f q → FitsGoal p.file q
-alike_fit f p q a b = record { width = sym a.width ∙ b.width; capabilities = sym a.capabilities ∙ b.capabilities }
-
-pub rests_quiet : (f : RegisterFile) (m : Machine) → Arises m → All (FitsGoal f) m.system.processors → m.order ≡ None → IsQuiet m
-rests_quiet f m a fits none =
-    let ps : List Processor = m.system.processors in
-    let rest : Rest (stages m.system) = subst (λ (o : Option Order). Kept o (stages m.system)) none (stands a).1.kept.0 in
-    record {
-      sound = is_sound m a;
-      running = all_of (λ p. is_running p.phase ≡ true) ps (λ i p at. rest.running i (stage_of p) (stage_at ps i p at));
-      one_era = all_of (λ p. p.era ≡ common_era ps) ps (λ i p at. era_at ps rest i (stage_of p) (stage_at ps i p at));
-      one_kind =
-          all_of (λ p. All (λ q. FitsGoal p.file q) ps) ps
-          (λ i p at. all_of (FitsGoal p.file) ps (λ j q at_q. alike_fit f p q (all_get (FitsGoal f) ps fits i p at) (all_get (FitsGoal f) ps fits j q at_q)));
-      no_order = none;
-    }
-
 -- ---- whole updates
 
-settled_at : (goal : RegisterFile) (ps : List Processor) (j : ℕ) (q : Processor) → slice_get (map (settled_processor goal) ps) j ≡ Some q → (p : Processor) × (slice_get ps j ≡ Some p) × (settled_processor goal p ≡ q)
-settled_at goal [] j q at = absurd (cc)
-settled_at goal (p ∷ ps) zero q at = (p, refl, cc)
-settled_at goal (p ∷ ps) (suc j) q at = settled_at goal ps j q at
+updated_fits : (f goal : RegisterFile) (ps : List Processor) → All (FitsGoal goal) ps → All (FitsGoal f) ps → All (FitsGoal f) (map (settled_processor goal) ps)
+updated_fits f goal ps own all =
+    All-map (FitsGoal f) (settled_processor goal) ps
+    (all_of (λ p. FitsGoal f (settled_processor goal p)) ps
+    (λ i p at. let a = all_get (FitsGoal f) ps all i p at in
+    let b = all_get (FitsGoal goal) ps own i p at in
+    record { width = a.width ∙ sym b.width; capabilities = a.capabilities ∙ sym b.capabilities }))
 
-settled_comes : (goal : RegisterFile) (p : Processor) → FitsGoal goal p → Comes p (settled_processor goal p)
-settled_comes goal p fits = record { width = fits.width; capabilities = fits.capabilities; era = omega arith }
-
-updated_come : (goal : RegisterFile) (ps : List Processor) → All (FitsGoal goal) ps → AllCome ps (map (settled_processor goal) ps)
-updated_come goal ps fits j q at =
-    let from = settled_at goal ps j q at in
-    (from.0, from.1, subst (Comes from.0) from.2 (settled_comes goal from.0 (all_get (FitsGoal goal) ps fits j from.0 from.1)))
+updated_risen : (m : Machine) (goal : RegisterFile) (ks : List ℕ) → HasRisenByOne m.system (updated m.system ks goal).system
+updated_risen m goal ks = record {
+  same_number = length-map m.system.processors (settled_processor goal);
+  eras = λ k p q at_p at_q.
+      let e : Some (settled_processor goal p) ≡ Some q = sym (ap (option_map (settled_processor goal)) at_p) ∙ sym (slice_get-map (settled_processor goal) m.system.processors k) ∙ at_q in
+      let same : settled_processor goal p ≡ q = cc in
+      let era = ap (λ (x : Processor). x.era) same in
+      omega arith;
+}
 
 pub follows_update : (m : Machine) (goal : RegisterFile) (ks : List ℕ) → Arises m → IsEnabled m (Calls goal) → Follows m (updated m.system ks goal)
 follows_update m goal ks a enabled = record {
-  arises = from_start (inl (updated_is_quiet m goal ks (rests_quiet goal m a enabled.3 enabled.0) enabled));
-  count = length-map m.system.processors (settled_processor goal);
-  come = updated_come goal m.system.processors enabled.3;
+  arises = from_start (inl (updated_is_quiet m goal ks (is_quiet_without_order m a enabled.0) enabled));
+  risen = updated_risen m goal ks;
+  fits = λ f. updated_fits f goal m.system.processors enabled.3;
   windows = refl;
 }

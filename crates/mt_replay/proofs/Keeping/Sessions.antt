@@ -1,8 +1,9 @@
 -- Each command that fits keeps what every session keeps.
-use Rattle.std.proofs.Common.{◌≡◌, ◌≢◌, ◌∙◌, ap, sym, refl, subst, arith, ℕ, ◌-◌, ◌/◌, ◌%◌, ◌^◌, ◌<◌, ◌≤◌, Bool, true, false, if◌then◌else◌, List, [], ◌∷◌, ◌++◌, Option, None, Some, slice_get}
+use Rattle.std.proofs.Common.{◌≡◌, ◌≢◌, ◌∙◌, ap, sym, refl, subst, arith, ℕ, ◌-◌, ◌/◌, ◌%◌, ◌^◌, ◌<◌, ◌≤◌, Bool, true, false, if◌then◌else◌, List, [], ◌∷◌, ◌++◌, Option, None, Some, slice_get, Ok}
 use Rattle.std.specs.Prelude.{IfSome, is_some}
 use Rattle.std.specs.Option.{option_map, option_map_or}
 use Rattle.std.specs.List.{All}
+use Rattle.std.specs.Result.{IfOk}
 use Rattle.mt_ranges.proofs.Powers.{split}
 use Rattle.mt_regs.specs.declared.fault.Fault.{Fault}
 use Rattle.mt_regs.specs.RegisterFile.{RegisterFile, IsRegisterFile}
@@ -35,14 +36,20 @@ use Rattle.mt_script.specs.declared.command.Stage.{Stage}
 use Rattle.mt_script.specs.declared.command.Stage.TheVariants.{NeedCpus, NeedDump, InDump, Rams, Commands, InUpdate, InBegin}
 use Rattle.mt_script.specs.declared.command.Command.{Command}
 use Rattle.mt_script.specs.declared.command.Command.TheVariants as command
+use Rattle.mt_script.specs.Commands.{command_of}
+use Rattle.mt_script.proofs.Fitting.{command_fits}
 use Rattle.mt_script.proofs.Keeping.{accepted_is}
 use Rattle.mt_replay.specs.FirstFault.{first_fault}
 use Rattle.mt_replay.specs.Kept.{CommandsKeep, IsSession, windows_of}
 use Rattle.mt_replay.specs.Session.{Session, after_call, after_update, after_word, call_fault, each_processor, first_file, is_update, machine_after, mapping, session_after, with_register}
 use Rattle.mt_replay.proofs.FirstFault.{first_fault_is_first}
-use Rattle.mt_replay.proofs.Keeping.Comes.{fits_come, fits_with_value}
+use Rattle.mt_replay.proofs.Keeping.Kinds.{fits_with_value}
 use Rattle.mt_replay.proofs.Keeping.Machines.{Follows, follows_access, follows_control, follows_event, follows_same, follows_step, follows_update, follows_word}
 use Rattle.mt_replay.proofs.Keeping.Windows.{grown_start, room_memory, windows_then}
+
+-- what a line is read as fits
+pub command_known : (now : Situation) (number : ℕ) (line : List ℕ) (c : Command) → command_of now number line ≡ Ok c → Fits now c
+command_known now number line c is = subst (λ answer. IfOk answer (Fits now)) is (command_fits now number line)
 
 -- ---- stages
 
@@ -83,10 +90,10 @@ session_on s now n goal h is past cpus file windows none follows good fits = rec
   situation = is;
   past = past;
   arises = follows.arises;
-  count = follows.count ∙ h.count ∙ sym cpus;
-  kind = λ f same. fits_come f s.machine.system.processors n.system.processors follows.come (h.kind f (sym file ∙ same));
+  count = follows.risen.same_number ∙ h.count ∙ sym cpus;
+  kind = λ f same. follows.fits f (h.kind f (sym file ∙ same));
   goal_file = good;
-  goal = fits_come goal s.machine.system.processors n.system.processors follows.come fits;
+  goal = follows.fits goal fits;
   windows = follows.windows ∙ h.windows ∙ ap windows_in (sym windows);
   fresh = λ f same takes. absurd (none takes);
 }

@@ -1,0 +1,4 @@
+-- Caches are never seen in scripts.
+pub mod Once
+pub mod Commands
+pub mod Lines

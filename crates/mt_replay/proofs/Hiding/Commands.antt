@@ -1,0 +1,174 @@
+-- Each command keeps a flat machine beside the machine.
+use Rattle.std.proofs.Common.{◌≡◌, ◌∙◌, ap, sym, refl, subst, ℕ, Bool, true, false, if◌then◌else◌, List, [], ◌∷◌, ◌++◌, length, Option, None, Some, slice_get}
+use Rattle.std.specs.Option.{option_map_or}
+use Rattle.mt_regs.specs.RegisterFile.{RegisterFile}
+use Rattle.mt_machine.specs.declared.op.Op.{Op}
+use Rattle.mt_machine.specs.declared.op.Op.TheVariants as op
+use Rattle.mt_machine.specs.declared.done.Done.TheVariants as done
+use Rattle.mt_machine.specs.declared.control.Control.{Control}
+use Rattle.mt_machine.specs.declared.control.Control.TheVariants as control_of
+use Rattle.mt_machine.specs.declared.ruled.Ruled.{Ruled}
+use Rattle.mt_machine.specs.declared.ruled.Ruled.TheVariants as ruled
+use Rattle.mt_machine.specs.declared.event.Event.{Event}
+use Rattle.mt_machine.specs.declared.go.Go.TheVariants.{Pending}
+use Rattle.mt_machine.specs.Memory.{Window}
+use Rattle.mt_machine.specs.System.{Processor, System, now}
+use Rattle.mt_machine.specs.Access.{is_running}
+use Rattle.mt_machine.specs.Control.{RuledAfter, control, control_at}
+use Rattle.mt_machine.specs.Machine.{Accesses, Calls, Cancels, Controls, FitsControl, FitsOp, Goes, IsEnabled, Machine, MachineEvent, Steps, due_at, go_of, next}
+use Rattle.mt_machine.specs.Start.{start_machine}
+use Rattle.mt_machine.specs.Update.{updated}
+use Rattle.mt_laws.proofs.Barrier.Acting.{access_busy, control_busy}
+use Rattle.mt_ram.specs.Windows.{window}
+use Rattle.mt_core.specs.Arises.{Arises, grown}
+use Rattle.mt_core.specs.Steps.{step_after}
+use Rattle.mt_core.specs.declared.fault.CallFault.{CallFault}
+use Rattle.mt_core.proofs.Arising.{runs_or_rests}
+use Rattle.mt_core.proofs.Settling.{is_quiet_without_order}
+use Rattle.mt_core.proofs.Stepping.{is_sound}
+use Rattle.mt_flat.specs.Flat.{Flat}
+use Rattle.mt_flat.specs.Seen.{IsFlatOf, flat_after, flat_takes, given_access}
+use Rattle.mt_flat.proofs.Seeing.{events_keep_flat, start_is_flat}
+use Rattle.mt_flat.proofs.Updating.{updated_is_flat}
+use Rattle.mt_script.specs.Accept.{Fits}
+use Rattle.mt_script.specs.declared.command.Command.{Command}
+use Rattle.mt_script.specs.declared.command.Command.TheVariants as command
+use Rattle.mt_replay.specs.Flat.{flat_accessed, flat_command, flat_controlled, flat_ruled, flat_stepped, flat_updated}
+use Rattle.mt_replay.specs.Kept.{IsSession, windows_of}
+use Rattle.mt_replay.specs.Session.{Session, after_call, after_update, after_word, call_fault, each_processor, is_undecided, is_update, machine_after, mapping}
+use Rattle.mt_replay.proofs.Hiding.Once.{each_once}
+use Rattle.mt_replay.proofs.Keeping.Machines.{is_pending}
+use Rattle.mt_replay.proofs.Keeping.Sessions.{call_enabled, file_of, mapping_fits}
+use Rattle.mt_replay.proofs.Keeping.Windows.{grown_start}
+
+abbrev IsBeside : Machine → Flat → Type 0
+IsBeside m f = IsFlatOf m.system f
+
+beside_event : (m : Machine) (e : MachineEvent) (f : Flat) → Arises m → IsBeside m f → IsEnabled m e → IsBeside (next m e) (flat_after m e f)
+beside_event m e f a r enabled = events_keep_flat m e f (is_sound m a) r enabled
+
+-- ---- accesses, of which a processor in an update gives nothing
+
+busy_gives : (s : System) (k : ℕ) (o : Op) → given_access s k o done.Busy ≡ None
+busy_gives s k (op.Load address) = refl
+busy_gives s k (op.Store address value) = refl
+busy_gives s k op.Fence = refl
+
+pub beside_access : (m : Machine) (k : ℕ) (o : Op) (f : Flat) → Arises m → IsBeside m f → FitsOp o → IsBeside (next m (Accesses k o)) (flat_accessed m k o f)
+beside_access m k o f a r fits =
+    runs_or_rests m.system k (IsBeside (next m (Accesses k o)) (flat_accessed m k o f))
+    (λ runs. beside_event m (Accesses k o) f a r (runs, fits))
+    (λ rests. let busy = access_busy m.system k rests o in
+    rw busy (rw (busy_gives m.system k o) r))
+
+-- ---- control instructions
+
+is_map : Control → Bool
+is_map (control_of.Map p) = true
+is_map other = false
+
+map_gives : (m : Machine) (k : ℕ) (c : Control) (f : Flat) (answer : Ruled) → is_map c ≡ true → flat_ruled m k c f answer ≡ flat_after m (Controls k c) f
+unfolding is_map
+map_gives m k (control_of.Map p) f ruled.Okay is = refl
+map_gives m k (control_of.Map p) f other is = refl
+map_gives m k other f answer is = absurd (cc is)
+
+abbrev answer_in : System → ℕ → Control → Option Processor → Ruled
+answer_in s k c o = (option_map_or {U = RuledAfter} (λ p. if is_running p.phase then control_at s k p c else record { answer = ruled.Busy; after = s }) o (record { answer = ruled.Busy; after = s })).answer
+
+okay_at : (s : System) (k : ℕ) (p : Processor) (c : Control) → is_map c ≡ false → (control_at s k p c).answer ≡ ruled.Okay
+unfolding is_map
+okay_at s k p (control_of.Map q) is = absurd (cc is)
+okay_at s k p other is = refl
+
+okay_in : (s : System) (k : ℕ) (c : Control) (o : Option Processor) → option_map_or (λ p. is_running p.phase) o false ≡ true → is_map c ≡ false → answer_in s k c o ≡ ruled.Okay
+okay_in s k c None runs is = absurd (cc runs)
+okay_in s k c (Some p) runs is = one (is_running p.phase) runs
+  where
+    one : (b : Bool) → b ≡ true → (if b then control_at s k p c else record { answer = ruled.Busy; after = s }).answer ≡ ruled.Okay
+    one true h = okay_at s k p c is
+    one false h = absurd (cc h)
+
+given_control : (m : Machine) (k : ℕ) (c : Control) (f : Flat) → option_map_or (λ p. is_running p.phase) (slice_get m.system.processors k) false ≡ true → flat_controlled m k c f ≡ flat_after m (Controls k c) f
+given_control m k c f runs = one (is_map c) refl
+  where
+    one : (b : Bool) → is_map c ≡ b → flat_controlled m k c f ≡ flat_after m (Controls k c) f
+    one true is = map_gives m k c f (control m.system k c).answer is
+    one false is = ap (flat_ruled m k c f) (okay_in m.system k c (slice_get m.system.processors k) runs is)
+
+pub beside_control : (m : Machine) (k : ℕ) (c : Control) (f : Flat) → Arises m → IsBeside m f → ((p : Processor) → slice_get m.system.processors k ≡ Some p → FitsControl p c) → IsBeside (next m (Controls k c)) (flat_controlled m k c f)
+beside_control m k c f a r fits =
+    runs_or_rests m.system k (IsBeside (next m (Controls k c)) (flat_controlled m k c f))
+    (λ runs. subst (IsBeside (next m (Controls k c))) (sym (given_control m k c f runs)) (beside_event m (Controls k c) f a r (runs, fits)))
+    (λ rests. rw (control_busy m.system k rests c) r)
+
+-- ---- steps, and the coordinator's words
+
+beside_word : (m : Machine) (e : MachineEvent) (f : Flat) → Arises m → IsBeside m f → (go_of m ≡ Some Pending → IsEnabled m e) → flat_after m e f ≡ f → IsBeside (after_word e m) f
+beside_word m e f a r enabled nothing = one (is_undecided (go_of m)) refl
+  where
+    one : (b : Bool) → is_undecided (go_of m) ≡ b → IsBeside (if b then next m e else m) f
+    one true is = subst (IsBeside (next m e)) nothing (beside_event m e f a r (enabled (is_pending (go_of m) is)))
+    one false is = r
+
+beside_step : (m : Machine) (k : ℕ) (f : Flat) → Arises m → IsBeside m f → IsBeside (step_after m k) (flat_stepped m k f)
+beside_step m k f a r = one (due_at m k) refl
+  where
+    one : (o : Option Event) → due_at m k ≡ o → IsBeside (option_map_or (λ e. next m (Steps k e)) o m) (option_map_or (λ e. flat_after m (Steps k e) f) o f)
+    one None is = r
+    one (Some e) is = beside_event m (Steps k e) f a r is
+
+-- ---- updates
+
+beside_update : (s : Session) (f : Flat) → IsSession s → IsBeside s.machine f → call_fault s.machine s.goal ≡ None
+    → IsBeside (updated s.machine.system (each_processor s.machine.system) s.goal) (flat_takes (each_processor s.machine.system) f)
+beside_update s f h r none =
+    let enabled = call_enabled s h none in
+    updated_is_flat s.machine f s.goal (each_processor s.machine.system) (is_quiet_without_order s.machine h.arises enabled.0) enabled (each_once (length s.machine.system.processors)) r
+
+beside_end : (s : Session) (f : Flat) → IsSession s → IsBeside s.machine f → IsBeside (machine_after s command.End) (flat_command s command.End f)
+beside_end s f h r = one (is_update s.now.stage)
+  where
+    whole : (o : Option CallFault) → call_fault s.machine s.goal ≡ o
+        → IsBeside (option_map_or (λ fault. s.machine) o (updated s.machine.system (each_processor s.machine.system) s.goal)) (option_map_or (λ fault. f) o (flat_takes (each_processor s.machine.system) f))
+    whole None is = beside_update s f h r is
+    whole (Some fault) is = r
+
+    called : (o : Option CallFault) → IsBeside (option_map_or (λ fault. s.machine) o (next s.machine (Calls s.goal))) f
+    called None = r
+    called (Some fault) = r
+
+    one : (b : Bool) → IsBeside (if b then after_update s.machine s.goal else after_call s.machine s.goal) (if b then flat_updated s.machine s.goal f else f)
+    one true = whole (call_fault s.machine s.goal) refl
+    one false = called (call_fault s.machine s.goal)
+
+-- ---- windows, at the start, where each word is zero
+
+beside_window : (count : ℕ) (file : RegisterFile) (ws : List Window) (w : Window) (m : Machine) (f : Flat) → m ≡ start_machine count file ws → IsBeside m f → IsBeside (grown w m) f
+beside_window count file ws w m f is r = record {
+  values = λ a whole.
+      ap (λ (n : Machine). now (grown w n).system a) is ∙ ap (λ (n : Machine). now n.system a) (grown_start count file ws w) ∙ (start_is_flat count file (ws ++ w ∷ [])).values a whole
+      ∙ sym ((start_is_flat count file ws).values a whole) ∙ ap (λ (n : Machine). now n.system a) (sym is) ∙ r.values a whole;
+  pending = r.pending;
+}
+
+-- ---- commands
+
+pub command_beside : (s : Session) (c : Command) (f : Flat) → IsSession s → Fits s.now c → IsBeside s.machine f → IsBeside (machine_after s c) (flat_command s c f)
+command_beside s (command.Ram base lines) f h fits r =
+    let file = file_of s.now h.situation h.past in
+    beside_window s.now.cpus file.0 (windows_of s.now) (window base lines) s.machine f (h.fresh file.0 file.1 fits.0).1 r
+command_beside s (command.Load k address) f h fits r = beside_access s.machine k (op.Load address) f h.arises r fits.1
+command_beside s (command.Store k address value) f h fits r = beside_access s.machine k (op.Store address value) f h.arises r (fits.1, fits.2)
+command_beside s (command.Fence k) f h fits r = beside_access s.machine k op.Fence f h.arises r tt
+command_beside s (command.Map k address physical index global) f h fits r =
+    beside_control s.machine k (control_of.Map (mapping address physical index global)) f h.arises r (mapping_fits s h k address physical index global fits.1.1 fits.2.1 fits.3)
+command_beside s (command.Invlpg k address) f h fits r = beside_control s.machine k (control_of.Invlpg address) f h.arises r (λ p at. tt)
+command_beside s (command.Cr3 k) f h fits r = beside_control s.machine k control_of.Cr3 f h.arises r (λ p at. tt)
+command_beside s (command.Pge k on) f h fits r = beside_control s.machine k (control_of.Pge on) f h.arises r (λ p at. tt)
+command_beside s (command.Cd k on) f h fits r = beside_control s.machine k (control_of.Cd on) f h.arises r (λ p at. tt)
+command_beside s command.Go f h fits r = beside_word s.machine Goes f h.arises r (λ pending. pending) refl
+command_beside s command.Cancel f h fits r = beside_word s.machine Cancels f h.arises r (λ pending. pending) refl
+command_beside s (command.Step k) f h fits r = beside_step s.machine k f h.arises r
+command_beside s command.End f h fits r = beside_end s f h r
+command_beside s other f h fits r = r
