@@ -73,6 +73,7 @@ pub(crate) fn step(core: &mut Core, k: u32) -> LineBuffer
     ensures text { (f : RegisterFile) → result.items ≡ stepped_line (file_at (step_after core.old k).system.processors k f) (step_answer core.old k) }
     ensures after { core.new ≡ step_after core.old k }
 {
+    core.is_core();
     let stepped = core.step(k);
     stepped_line(file_at(core, k), &stepped)
 }

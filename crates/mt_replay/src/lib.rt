@@ -6,7 +6,9 @@ mod head;
 mod hidden;
 mod kept;
 mod laws;
+mod replay;
 mod replayer;
+mod report;
 mod texts;
 mod worked;
 

@@ -6,17 +6,20 @@ ghost use Rattle.mt_machine.specs.Machine.{FitsGoal};
 ghost use Rattle.mt_machine.specs.Start.{HasEraRoom};
 ghost use Rattle.mt_script.specs.Stages.{is_in_dump};
 ghost use Rattle.mt_script.specs.Accept.{Fits, accepted};
+ghost use Rattle.mt_ports.specs.Causes.{HasCause};
+ghost use Rattle.mt_output.specs.Writing.{Adds};
 ghost use Rattle.mt_replay.specs.Kept.{IsSession};
 ghost use Rattle.mt_replay.specs.Parts.{session};
 ghost use Rattle.mt_replay.specs.Session.{after_call, after_update, call_line, command_text, file_at, first_session, goal_after, is_update, machine_after, mapping, session_after, update_line, with_register};
 
+use crate::report::write_report;
 use crate::commands::{access, add_window, call, cancel, control, go, register, step, update, word};
 use arrayvec::ArrayVec;
 use mt_bus::System;
 use mt_core::Core;
 use mt_machine::{Control, Op};
-use mt_output::LineBuffer;
-use mt_ports::NoMemory;
+use mt_output::{LineBuffer, Writer};
+use mt_ports::{Failed, NoMemory, Sink};
 use mt_regs::RegFile;
 use mt_script::{Command, Setup, Stage};
 use mt_tlb::Mapping;
@@ -185,5 +188,16 @@ impl Replayer {
         let line = act(&self.setup, &mut self.core, &mut self.goal, c)?;
         self.setup.accept(c);
         Ok(line)
+    }
+
+    /// Does a report: writes a line for each processor, and whether all have the same registers.
+    pub fn report<K: Sink>(&mut self, writer: &mut Writer, sink: &mut K) -> Result<(), Failed>
+        requires { Fits self.old.now Command.Report }
+        ensures bytes { Adds writer.old (command_text self.old Command.Report) writer.new (K.taken sink.old) (K.taken sink.new) result }
+        ensures after { self.new ≡ session_after self.old Command.Report }
+        ensures cause { HasCause (K.faults sink.old) (K.faults sink.new) result }
+    {
+        self.setup.accept(&Command::Report);
+        write_report(self.core.system().cpus.as_slice(), writer, sink)
     }
 }

@@ -7,7 +7,7 @@ use Rattle.mt_machine.specs.Machine.{Calls, next}
 use Rattle.mt_core.specs.declared.fault.CallFault.{CallFault}
 use Rattle.mt_core.specs.declared.fault.CallFault.TheVariants.{Refused, UnderWay}
 use Rattle.mt_replay.proofs.Calls.{call_accepted, call_fails}
-use Rattle.mt_replay.proofs.Keeping.Machines.{rests_quiet}
+use Rattle.mt_core.proofs.Settling.{is_quiet_without_order}
 use Rattle.mt_replay.proofs.commands.begin.Goals as goal
 
 pub returns-in-Ok-clause-fault : goal.returns-in-Ok-clause-fault
@@ -19,7 +19,7 @@ pub returns-in-Ok-clause-called : goal.returns-in-Ok-clause-called
 returns-in-Ok-clause-called c =
     let called = subst (λ (g : RegisterFile). (c.args.core.now.order ≡ None) × IsAccepted g × (c.call.new.self ≡ next c.args.core.now (Calls g))) c.same.ensures c.in-Ok.ensures.called in (
       called.2,
-      rests_quiet c.args.goal.now c.args.core.now c.is_core.ensures.arises c.requires.fits called.0,
+      is_quiet_without_order c.args.core.now c.is_core.ensures.arises called.0,
       (called.0, c.is_register_file.ensures, called.1, c.requires.fits),
     )
 

@@ -1,0 +1,112 @@
+ghost use Rattle.std.specs.Prelude.{◌≡◌, ◌≤◌, ◌<◌, ◌+◌, ◌++◌, ℕ, drop, length, MatchOption, MatchResult, Ok, Err};
+ghost use Rattle.mt_text.specs.Text.{end_of, lines_of};
+ghost use Rattle.mt_ports.specs.Causes.{HasCause, Rose};
+ghost use Rattle.mt_ports.specs.Puts.{AppendsFront};
+ghost use Rattle.mt_machine.specs.Start.{HasEraRoom};
+ghost use Rattle.mt_output.specs.Lines.{offence_line};
+ghost use Rattle.mt_output.specs.Writing.{Passes};
+ghost use Rattle.mt_script.specs.Accept.{Fits};
+ghost use Rattle.mt_script.specs.Commands.{command_of, end_fault};
+ghost use Rattle.mt_replay.specs.Kept.{HasEras};
+ghost use Rattle.mt_replay.specs.Running.{LeadsTo, Replays, Tells};
+ghost use Rattle.mt_replay.specs.Session.{Session, command_text, session_after};
+ghost use Rattle.mt_replay.specs.Transcript.{Told, told, told_at_end, told_command, told_in, told_offence, transcript};
+
+use crate::head::{Begun, read_head};
+use crate::replayer::Replayer;
+use mt_output::{Writer, accepted_line, offence_line, refused_line};
+use mt_ports::{Failed, Gate, Sink, Status};
+use mt_script::{Command, Offence, Setup, read_command, read_end};
+use mt_text::{Line, end_place, next_line};
+use std::alloc::Global;
+
+// Writes a last text, and answers the status.
+fn tell<K: Sink>(writer: &mut Writer, sink: &mut K, text: &[u8], status: Status) -> Result<Status, Failed>
+    requires { length text.now ≤ 224 }
+    ensures bytes { Tells (told text.now status) writer.old writer.new (K.taken sink.old) (K.taken sink.new) result }
+    ensures cause { HasCause (K.faults sink.old) (K.faults sink.new) result }
+{
+    writer.write(sink, text)?;
+    Ok(status)
+}
+
+fn tell_offence<K: Sink>(writer: &mut Writer, sink: &mut K, offence: &Offence) -> Result<Status, Failed>
+    ensures bytes { Tells (told_offence offence.now) writer.old writer.new (K.taken sink.old) (K.taken sink.new) result }
+    ensures cause { HasCause (K.faults sink.old) (K.faults sink.new) result }
+{
+    tell(writer, sink, offence_line(offence).as_slice(), Status::BadText)
+}
+
+// Does a command and writes what it says. There is a status where memory is refused.
+fn do_command<K: Sink>(replayer: &mut Replayer, c: &Command, writer: &mut Writer, sink: &mut K) -> Result<Option<Status>, Failed>
+    requires fits { Fits replayer.old.now c.now }
+    requires room { HasEraRoom replayer.old.machine }
+    ensures bytes { MatchResult result
+        (λ ended. MatchOption ended
+            (Passes writer.old (command_text replayer.old c.now) writer.new (K.taken sink.old) (K.taken sink.new) × (replayer.new ≡ session_after replayer.old c.now))
+            (λ status. (status ≡ Status.NoMemory) × (writer.new ≡ writer.old) × (K.taken sink.new ≡ K.taken sink.old)))
+        (λ _. AppendsFront (K.taken sink.old) (K.taken sink.new) (writer.old ++ command_text replayer.old c.now)) }
+    ensures cause { HasCause (K.faults sink.old) (K.faults sink.new) result }
+{
+    if *c == Command::Report {
+        replayer.report(writer, sink)?;
+        return Ok(None);
+    }
+    let Ok(line) = replayer.run(c) else {
+        return Ok(Some(Status::NoMemory));
+    };
+    writer.write(sink, line.as_slice())?;
+    Ok(None)
+}
+
+// Takes a line after the dump. There is a status where the replay ends with it.
+fn take_line<K: Sink>(replayer: &mut Replayer, line: &Line<'_>, writer: &mut Writer, sink: &mut K) -> Result<Option<Status>, Failed>
+    requires { HasEraRoom replayer.old.machine }
+    ensures bytes { (rest : Session → Told) → MatchResult result
+        (λ ended. MatchOption ended
+            (LeadsTo (told_command replayer.old rest (command_of replayer.old.now line.now.number line.now.bytes.now)) (rest replayer.new) writer.old writer.new (K.taken sink.old) (K.taken sink.new))
+            (λ status. Tells (told_command replayer.old rest (command_of replayer.old.now line.now.number line.now.bytes.now)) writer.old writer.new (K.taken sink.old) (K.taken sink.new) (Ok status)))
+        (λ failed. Tells (told_command replayer.old rest (command_of replayer.old.now line.now.number line.now.bytes.now)) writer.old writer.new (K.taken sink.old) (K.taken sink.new) (Err failed)) }
+    ensures eras { (most : ℕ) → HasEras most replayer.old → MatchResult result (λ ended. MatchOption ended (HasEras (most + 1) replayer.new) (λ _. Unit {0})) (λ _. Unit {0}) }
+    ensures cause { HasCause (K.faults sink.old) (K.faults sink.new) result }
+{
+    replayer.is_session();
+    match read_command(line, replayer.setup()) {
+        Ok(command) => do_command(replayer, &command, writer, sink),
+        Err(fault) => Ok(Some(tell_offence(writer, sink, &Offence::Script(fault))?)),
+    }
+}
+
+// Where the text ends.
+fn end_lines<K: Sink>(setup: &Setup, source: &[u8], writer: &mut Writer, sink: &mut K) -> Result<Status, Failed>
+    ensures bytes { Tells (told_at_end (end_fault setup.now.stage (end_of source.now))) writer.old writer.new (K.taken sink.old) (K.taken sink.new) result }
+    ensures cause { HasCause (K.faults sink.old) (K.faults sink.new) result }
+{
+    match read_end(setup, end_place(source)) {
+        Ok(()) => Ok(Status::Done),
+        Err(fault) => tell_offence(writer, sink, &Offence::Script(fault)),
+    }
+}
+
+// Runs the lines after the dump, the first of which begins at an offset and has this number.
+fn run_lines<K: Sink>(replayer: Replayer, source: &[u8], from: usize, first: u64, writer: &mut Writer, sink: &mut K) -> Result<Status, Failed>
+    requires within { from ≤ length source.now }
+    requires numbered { first ≤ from + 1 }
+    requires eras { HasEras first replayer }
+    ensures bytes { Tells (told_in (end_of source.now) first (lines_of (drop from source.now)) replayer) writer.old writer.new (K.taken sink.old) (K.taken sink.new) result }
+    ensures cause { HasCause (K.faults sink.old) (K.faults sink.new) result }
+{
+    let mut replayer = replayer;
+    let mut at = from;
+    let mut number = first;
+    'lines: while let Some(line) = next_line(source, at, number) {
+        match take_line(&mut replayer, &line, writer, sink) {
+            Ok(None) => {}
+            Ok(Some(status)) => return Ok(status),
+            Err(failed) => return Err(failed),
+        }
+        at = line.next;
+        number += 1;
+    }
+    end_lines(replayer.setup(), source, writer, sink)
+}

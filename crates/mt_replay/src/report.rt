@@ -1,0 +1,31 @@
+ghost use Rattle.std.specs.Prelude.{◌≤◌, length};
+ghost use Rattle.mt_ports.specs.Causes.{HasCause};
+ghost use Rattle.mt_output.specs.Writing.{Adds};
+ghost use Rattle.mt_replay.specs.Texts.{processor_lines, report_text};
+
+use crate::texts::{have_one_file, processor_line, registers_line};
+use mt_cpu::Cpu;
+use mt_output::Writer;
+use mt_ports::{Failed, Sink};
+
+// Writes a line for each processor, in order.
+fn write_processors<K: Sink>(cpus: &[Cpu], writer: &mut Writer, sink: &mut K) -> Result<(), Failed>
+    requires { length cpus.now ≤ 16 }
+    ensures bytes { Adds writer.old (processor_lines 0 cpus.now) writer.new (K.taken sink.old) (K.taken sink.new) result }
+    ensures cause { HasCause (K.faults sink.old) (K.faults sink.new) result }
+{
+    'processors: for k in 0..cpus.len() {
+        writer.write(sink, processor_line(k as u32, &cpus[k]).as_slice())?;
+    }
+    Ok(())
+}
+
+/// Writes a line for each processor in order, and whether all have the same registers.
+pub(crate) fn write_report<K: Sink>(cpus: &[Cpu], writer: &mut Writer, sink: &mut K) -> Result<(), Failed>
+    requires { length cpus.now ≤ 16 }
+    ensures bytes { Adds writer.old (report_text cpus.now) writer.new (K.taken sink.old) (K.taken sink.new) result }
+    ensures cause { HasCause (K.faults sink.old) (K.faults sink.new) result }
+{
+    write_processors(cpus, writer, sink)?;
+    writer.write(sink, registers_line(have_one_file(cpus)).as_slice())
+}
