@@ -2,17 +2,22 @@
 use Rattle.std.proofs.Common.{◌≡◌, ◌≢◌, ◌⊎◌, ℕ, ◌<◌, List, [], ◌++◌, length, length-append, Option, Some, None, refl, sym, subst, ◌∙◌, ap, inl, inr, arith}
 use Rattle.std.specs.Io.KnownBytes.{Appends, Consumes, IsAtEnd}
 use Rattle.std.proofs.lemmas.List.{append-nil}
+use Rattle.mt_ports.specs.Puts.{AppendsFront}
 use Rattle.mt_ports.specs.declared.status.Status.{Status}
 use Rattle.mt_ports.specs.declared.status.Status.TheVariants.{Done, Refused, Usage, BadText, TooLong, TooFew, Disabled}
 use Rattle.mt_regs.specs.RegisterFile.{RegisterFile}
 use Rattle.mt_dump.specs.Dump.{Shown, dump_offence}
 use Rattle.mt_dump.specs.declared.fault.DumpFault.{DumpFault}
+use Rattle.mt_replay.specs.Running.{Replays}
+use Rattle.mt_replay.specs.Transcript.{transcript}
 use Rattle.mt_cli.specs.declared.command.Command.{Command}
+use Rattle.mt_cli.specs.declared.command.Command.TheVariants.{Replay}
 use Rattle.mt_cli.specs.CommandLine.{command_of}
-use Rattle.mt_cli.specs.Output.{Answer, Output, usage, bad_text, answered, refused, accepted, shown, typed, paged, tidied, too_few, disabled}
+use Rattle.mt_cli.specs.Output.{Answer, IsOfDump, Output, usage, bad_text, answered, replayed, refused, accepted, shown, typed, paged, tidied, too_few, disabled}
 use Rattle.mt_cli.specs.Reading.{ConsumesTooMuch, EndsReading}
-use Rattle.mt_cli.specs.Tool.{Answered, Finished, Leaves, Reads}
+use Rattle.mt_cli.specs.Tool.{Answered, CutShort, Finished, Leaves, Reads}
 use Rattle.mt_cli.specs.Written.{Answers, Writes, writes, no_memory}
+use Rattle.mt_replay.proofs.TranscriptEnds.{HasEnded, transcript_ends}
 
 -- what stands after the bytes that the sink had
 appended : (before text : List ℕ) (old new : Option (List ℕ)) → old ≡ Some before → Appends old new text → new ≡ Some (before ++ text)
@@ -49,15 +54,26 @@ finished_leaves words bytes left before after status (inr (inl is)) done = rw is
 finished_leaves words bytes left before after status (inr (inr (inl is))) done = rw is (subst (λ (s : Status). Finished words bytes left before after s) is done)
 finished_leaves words bytes left before after status (inr (inr (inr is))) done = rw is (subst (λ (s : Status). Finished words bytes left before after s) is done)
 
+-- the same for the status of a transcript
+ended_leaves : (words : List (List ℕ)) (bytes : List ℕ) (left : Option (List ℕ)) (before : List ℕ) (after : Option (List ℕ)) (status : Status)
+    → HasEnded status → Finished words bytes left before after status → Leaves words bytes left before after status
+ended_leaves words bytes left before after status (inl is) done = rw is (subst (λ (s : Status). Finished words bytes left before after s) is done)
+ended_leaves words bytes left before after status (inr (inl is)) done = rw is (subst (λ (s : Status). Finished words bytes left before after s) is done)
+ended_leaves words bytes left before after status (inr (inr is)) done = rw is (subst (λ (s : Status). Finished words bytes left before after s) is done)
+
 -- a run that has written its whole output
 whole : (words : List (List ℕ)) (bytes text : List ℕ) (status : Status) (left : Option (List ℕ)) (before : List ℕ) (after : Option (List ℕ))
     → Output words bytes text status → (status ≢ Usage → left ≡ Some []) → after ≡ Some (before ++ text) → Leaves words bytes left before after status
 whole words bytes text status left before after (usage other) = λ read taken. record { text = _; output = usage other; taken = taken; read = read }
-whole words bytes text status left before after (bad_text command fault says is) = λ read taken. record { text = _; output = bad_text command fault says is; taken = taken; read = read }
+whole words bytes text status left before after (bad_text command fault says of_dump is) = λ read taken.
+    record { text = _; output = bad_text command fault says of_dump is; taken = taken; read = read }
 whole words bytes text status left before after (answered command file t s says shows answer) = λ read taken.
     let fin : IsFinal s = final file command t s answer in
     finished_leaves words bytes left before after s fin
     (record { text = t; output = answered command file t s says shows answer; taken = taken; read = read })
+whole words bytes text status left before after (replayed says) = λ read taken.
+    ended_leaves words bytes left before after (transcript bytes).status (transcript_ends bytes)
+    (record { text = (transcript bytes).text; output = replayed says; taken = taken; read = read })
 
 -- a run whose last write is done or has failed
 pub written_leaves : (words : List (List ℕ)) (bytes text : List ℕ) (status result : Status) (left : Option (List ℕ)) (before : List ℕ) (old new : Option (List ℕ))
@@ -72,14 +88,28 @@ pub answers_leave : (words : List (List ℕ)) (bytes : List ℕ) (file : Registe
     → command_of words ≡ Some command → Shown bytes file → left ≡ Some [] → old ≡ Some before → Answers file command old new result → Leaves words bytes left before new result
 answers_leave words bytes file command result left before old new says shows read told (writes text status answer wrote) =
     written_leaves words bytes text status result left before old new (answered command file text status says shows answer) (λ _. read) told wrote
-answers_leave words bytes file command result left before old new says shows read told (no_memory is same) = rw is (same ∙ told)
+answers_leave words bytes file command result left before old new says shows read told (no_memory is same) = rw is (inl (same ∙ told))
+
+-- the sink took a front of the transcript
+front_of_transcript : (words : List (List ℕ)) (bytes before : List ℕ) (old new : Option (List ℕ))
+    → command_of words ≡ Some Replay → old ≡ Some before → AppendsFront old new (transcript bytes).text → CutShort words bytes before new
+front_of_transcript words bytes before old new says told cut =
+    record { text = (transcript bytes).text; status = (transcript bytes).status; output = replayed says; front = cut.0; back = cut.1; cut = cut.2; taken = appended before cut.0 old new told cut.3 }
+
+-- a run that has written a transcript, or a front of one
+pub replays_leave : (words : List (List ℕ)) (bytes : List ℕ) (result : Status) (left : Option (List ℕ)) (before : List ℕ) (old new : Option (List ℕ))
+    → command_of words ≡ Some Replay → left ≡ Some [] → old ≡ Some before → Replays bytes old new result → Leaves words bytes left before new result
+replays_leave words bytes result left before old new says read told (inl (is, takes)) =
+    rw is (whole words bytes (transcript bytes).text (transcript bytes).status left before new (replayed says) (λ _. read) (appended before (transcript bytes).text old new told takes))
+replays_leave words bytes result left before old new says read told (inr (inl is, cut)) = rw is (inr (says, front_of_transcript words bytes before old new says told cut))
+replays_leave words bytes result left before old new says read told (inr (inr is, cut)) = rw is (front_of_transcript words bytes before old new says told cut)
 
 -- a run that has written nothing, since the reading ended
 pub unwritten_leaves : (words : List (List ℕ)) (bytes : List ℕ) (left : Option (List ℕ)) (before : List ℕ) (after : Option (List ℕ)) (status : Status)
     → after ≡ Some before → EndsReading status → Leaves words bytes left before after status
 unwritten_leaves words bytes left before after status told (inl is) = rw is told
 unwritten_leaves words bytes left before after status told (inr (inl is)) = rw is told
-unwritten_leaves words bytes left before after status told (inr (inr is)) = rw is told
+unwritten_leaves words bytes left before after status told (inr (inr is)) = rw is (inl told)
 
 -- ---- what is said of the source alone
 
@@ -98,6 +128,11 @@ answered_reads words bytes left status (inr (inl is)) told = rw is (subst (λ (s
 answered_reads words bytes left status (inr (inr (inl is))) told = rw is (subst (λ (s : Status). Answered words bytes left s) is told)
 answered_reads words bytes left status (inr (inr (inr is))) told = rw is (subst (λ (s : Status). Answered words bytes left s) is told)
 
+ended_reads : (words : List (List ℕ)) (bytes : List ℕ) (left : Option (List ℕ)) (status : Status) → HasEnded status → Answered words bytes left status → Reads words bytes left status
+ended_reads words bytes left status (inl is) told = rw is (subst (λ (s : Status). Answered words bytes left s) is told)
+ended_reads words bytes left status (inr (inl is)) told = rw is (subst (λ (s : Status). Answered words bytes left s) is told)
+ended_reads words bytes left status (inr (inr is)) told = rw is (subst (λ (s : Status). Answered words bytes left s) is told)
+
 -- the status of an answer
 pub answers_read : (words : List (List ℕ)) (bytes : List ℕ) (file : RegisterFile) (command : Command) (result : Status) (left old new : Option (List ℕ))
     → command_of words ≡ Some command → Shown bytes file → left ≡ Some [] → Answers file command old new result → Reads words bytes left result
@@ -106,12 +141,20 @@ answers_read words bytes file command result left old new says shows read (write
 answers_read words bytes file command result left old new says shows read (writes text status answer (inr (is, cut))) = rw is tt
 answers_read words bytes file command result left old new says shows read (no_memory is same) = rw is tt
 
+-- the status of a transcript
+pub replays_read : (words : List (List ℕ)) (bytes : List ℕ) (result : Status) (left old new : Option (List ℕ))
+    → command_of words ≡ Some Replay → left ≡ Some [] → Replays bytes old new result → Reads words bytes left result
+replays_read words bytes result left old new says read (inl (is, takes)) =
+    rw is (ended_reads words bytes left (transcript bytes).status (transcript_ends bytes) (record { text = (transcript bytes).text; output = replayed says; read = read }))
+replays_read words bytes result left old new says read (inr (inl is, cut)) = rw is tt
+replays_read words bytes result left old new says read (inr (inr is, cut)) = rw is tt
+
 -- the status of a dump that is no dump
 pub offence_reads : (words : List (List ℕ)) (bytes : List ℕ) (command : Command) (fault : DumpFault) (written : List ℕ) (result : Status) (left old new : Option (List ℕ))
-    → command_of words ≡ Some command → dump_offence bytes ≡ Some fault → left ≡ Some [] → Writes written BadText old new result → Reads words bytes left result
-offence_reads words bytes command fault written result left old new says is read (inl (done, takes)) =
-    rw done (record { text = _; output = bad_text command fault says is; read = read })
-offence_reads words bytes command fault written result left old new says is read (inr (failed, cut)) = rw failed tt
+    → command_of words ≡ Some command → IsOfDump command → dump_offence bytes ≡ Some fault → left ≡ Some [] → Writes written BadText old new result → Reads words bytes left result
+offence_reads words bytes command fault written result left old new says of_dump is read (inl (done, takes)) =
+    rw done (record { text = _; output = bad_text command fault says of_dump is; read = read })
+offence_reads words bytes command fault written result left old new says of_dump is read (inr (failed, cut)) = rw failed tt
 
 -- wrong usage
 pub usage_reads : (words : List (List ℕ)) (bytes : List ℕ) (written : List ℕ) (result : Status) (left old new : Option (List ℕ)) → left ≡ Some bytes → Writes written Usage old new result → Reads words bytes left result

@@ -16,11 +16,11 @@ use Rattle.mt_dump.proofs.Ends.{one_file, shown_no_offence}
 use Rattle.mt_tidy.specs.Keeps.{IsLeast}
 use Rattle.mt_tidy.specs.Kept.{IsTidy, NeedsMore}
 use Rattle.mt_cli.specs.declared.command.Command.{Command}
-use Rattle.mt_cli.specs.declared.command.Command.TheVariants.{Check, Show, Types, Page, Tidy}
+use Rattle.mt_cli.specs.declared.command.Command.TheVariants.{Check, Show, Types, Page, Tidy, Replay}
 use Rattle.mt_cli.specs.CommandLine.{command_of}
 use Rattle.mt_output.specs.Lines.{accepted_line, bad_text_line, refused_line}
 use Rattle.mt_cli.specs.Lines.{disabled_line, page_text, too_few_line, types_text, used_line}
-use Rattle.mt_cli.specs.Output.{Answer, IsTesting, Output, refused, accepted, shown, typed, paged, tidied, too_few, disabled, usage, bad_text, answered}
+use Rattle.mt_cli.specs.Output.{Answer, IsOfDump, IsTesting, Output, refused, accepted, shown, typed, paged, tidied, too_few, disabled, usage, bad_text, answered, replayed}
 
 -- the answer names the file's first fault
 record Refusal (file : RegisterFile) (command : Command) (text : List ℕ) (status : Status) : Type 0 where
@@ -69,6 +69,7 @@ Own file Show text status = Plain (Unit {0}) (canon file) text status
 Own file Types text status = Mapped file text status
 Own file (Page address index) text status = Plain (IsAccepted file) (page_text file address index) text status
 Own file (Tidy spare chunk) text status = Tidied file spare chunk text status ⊎ Lacking file spare chunk text status ⊎ Off file text status
+Own file Replay text status = ⊥
 
 taken_apart : (file : RegisterFile) (command : Command) (text : List ℕ) (status : Status) → Answer file command text status → Refusal file command text status ⊎ Own file command text status
 taken_apart file command text status (refused other fault tests first) = inl (record { fault = fault; tests = tests; first = first; is_text = refl; is_status = refl })
@@ -92,6 +93,7 @@ own_good file (Page address index) text status tests own = own.good
 own_good file (Tidy spare chunk) text status tests (inl own) = own.tidy.old_accepted
 own_good file (Tidy spare chunk) text status tests (inr (inl own)) = own.more.accepted
 own_good file (Tidy spare chunk) text status tests (inr (inr own)) = own.good
+own_good file Replay text status tests own = absurd own
 
 no_fault : (file : RegisterFile) (fault : Fault) → IsFirstFault file (Some fault) → IsAccepted file → ⊥
 no_fault file fault first good = let e : Some fault ≡ None = one_first_fault_lem file (Some fault) None first good in cc e
@@ -124,6 +126,7 @@ agree_own file Show text other s t a b = (a.is_status ∙ sym b.is_status, λ no
 agree_own file Types text other s t a b = (a.is_status ∙ sym b.is_status, λ not_done. a.is_text ∙ ap types_text (one_type_map file a.runs b.runs a.are b.are) ∙ sym b.is_text)
 agree_own file (Page address index) text other s t a b = (a.is_status ∙ sym b.is_status, λ not_done. a.is_text ∙ sym b.is_text)
 agree_own file (Tidy spare chunk) text other s t a b = agree_tidy file spare chunk text other s t a b
+agree_own file Replay text other s t a b = absurd a
 
 agree_parts : (file : RegisterFile) (command : Command) (text other : List ℕ) (s t : Status)
     → Refusal file command text s ⊎ Own file command text s → Refusal file command other t ⊎ Own file command other t → Agree command text other s t
@@ -154,19 +157,48 @@ agree_answered words bytes text other s t a b f g says also shows too left right
     let agree = agree_answers f a text other s t left same in
     (agree.0, λ not_done. agree.1 (λ spare chunk is. not_done spare chunk (says ∙ ap Some is)))
 
+testing_of_dump : (command : Command) → IsTesting command → IsOfDump command
+testing_of_dump Check tests = tt
+testing_of_dump Show tests = tt
+testing_of_dump Types tests = tt
+testing_of_dump (Page address index) tests = tt
+testing_of_dump (Tidy spare chunk) tests = tt
+testing_of_dump Replay tests = absurd tests
+
+answer_of_dump : (file : RegisterFile) (command : Command) (text : List ℕ) (status : Status) → Answer file command text status → IsOfDump command
+answer_of_dump file command text status (refused other fault tests first) = testing_of_dump command tests
+answer_of_dump file command text status (accepted good) = tt
+answer_of_dump file command text status shown = tt
+answer_of_dump file command text status (typed runs good are) = tt
+answer_of_dump file command text status (paged address index good) = tt
+answer_of_dump file command text status (tidied spare chunk used new is) = tt
+answer_of_dump file command text status (too_few spare chunk needs has is) = tt
+answer_of_dump file command text status (disabled spare chunk good off) = tt
+
+-- words of `replay` are those of no other command
+no_replay : (words : List (List ℕ)) (command : Command) → command_of words ≡ Some command → IsOfDump command → command_of words ≡ Some Replay → ⊥
+no_replay words command says of_dump is = subst IsOfDump (some_command words command Replay says is) of_dump
+
 pub one_output : (words : List (List ℕ)) (bytes text other : List ℕ) (s t : Status) → Output words bytes text s → Output words bytes other t → AgreeFor words text other s t
 one_output words bytes text other s t (usage none_is) (usage also) = (refl, λ not_done. refl)
-one_output words bytes text other s t (usage none_is) (bad_text command fault says is) = absurd (cc (none_is, says))
+one_output words bytes text other s t (usage none_is) (bad_text command fault says of_dump is) = absurd (cc (none_is, says))
 one_output words bytes text other s t (usage none_is) (answered command file u v says shows answer) = absurd (cc (none_is, says))
-one_output words bytes text other s t (bad_text command fault says is) (usage none_is) = absurd (cc (none_is, says))
-one_output words bytes text other s t (bad_text command fault says is) (bad_text again offence also too) =
+one_output words bytes text other s t (usage none_is) (replayed says) = absurd (cc (none_is, says))
+one_output words bytes text other s t (bad_text command fault says of_dump is) (usage none_is) = absurd (cc (none_is, says))
+one_output words bytes text other s t (bad_text command fault says of_dump is) (bad_text again offence also of_dump_too too) =
     let e : Some fault ≡ Some offence = sym is ∙ too in
     let same : fault ≡ offence = cc e in
     (refl, λ not_done. ap bad_text_line same)
-one_output words bytes text other s t (bad_text command fault says is) (answered again file u v also shows answer) =
+one_output words bytes text other s t (bad_text command fault says of_dump is) (answered again file u v also shows answer) =
     let e : Some fault ≡ None = sym is ∙ shown_no_offence bytes file shows in absurd (cc e)
+one_output words bytes text other s t (bad_text command fault says of_dump is) (replayed also) = absurd (no_replay words command says of_dump also)
 one_output words bytes text other s t (answered command file u v says shows answer) (usage none_is) = absurd (cc (none_is, says))
-one_output words bytes text other s t (answered command file u v says shows answer) (bad_text again fault also is) =
+one_output words bytes text other s t (answered command file u v says shows answer) (bad_text again fault also of_dump is) =
     let e : Some fault ≡ None = sym is ∙ shown_no_offence bytes file shows in absurd (cc e)
 one_output words bytes text other s t (answered command file u v says shows answer) (answered again other_file w x also too reply) =
     agree_answered words bytes u w v x command again file other_file says also shows too answer reply
+one_output words bytes text other s t (answered command file u v says shows answer) (replayed also) = absurd (no_replay words command says (answer_of_dump file command u v answer) also)
+one_output words bytes text other s t (replayed says) (usage none_is) = absurd (cc (none_is, says))
+one_output words bytes text other s t (replayed says) (bad_text again fault also of_dump is) = absurd (no_replay words again also of_dump says)
+one_output words bytes text other s t (replayed says) (answered again file u v also shows answer) = absurd (no_replay words again also (answer_of_dump file again u v answer) says)
+one_output words bytes text other s t (replayed says) (replayed also) = (refl, λ not_done. refl)

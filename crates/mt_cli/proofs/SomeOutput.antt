@@ -1,5 +1,5 @@
 -- Each command line and each input have an output.
-use Rattle.std.proofs.Common.{◌≡◌, ℕ, Bool, true, false, List, Option, Some, None, refl, inl, inr}
+use Rattle.std.proofs.Common.{◌≡◌, ◌⊎◌, ℕ, Bool, true, false, List, Option, Some, None, refl, ◌∙◌, ap, inl, inr}
 use Rattle.mt_ports.specs.declared.status.Status.{Status}
 use Rattle.mt_regs.specs.declared.fault.Fault.{Fault}
 use Rattle.mt_regs.specs.RegisterFile.{IsRegisterFile, RegisterFile, is_enabled}
@@ -9,9 +9,9 @@ use Rattle.mt_types.proofs.SomeMap.{a_type_map}
 use Rattle.mt_dump.proofs.Ends.{shown_or_offence}
 use Rattle.mt_tidy.proofs.SomeTidy.{tidy_or_more}
 use Rattle.mt_cli.specs.declared.command.Command.{Command}
-use Rattle.mt_cli.specs.declared.command.Command.TheVariants.{Check, Show, Types, Page, Tidy}
+use Rattle.mt_cli.specs.declared.command.Command.TheVariants.{Check, Show, Types, Page, Tidy, Replay}
 use Rattle.mt_cli.specs.CommandLine.{command_of}
-use Rattle.mt_cli.specs.Output.{Answer, Output, refused, accepted, shown, typed, paged, tidied, too_few, disabled, usage, bad_text, answered}
+use Rattle.mt_cli.specs.Output.{Answer, IsOfDump, Output, refused, accepted, shown, typed, paged, tidied, too_few, disabled, usage, bad_text, answered, replayed}
 
 SomeAnswer : RegisterFile → Command → Type 0
 SomeAnswer file command = (text : List ℕ) × (status : Status) × Answer file command text status
@@ -27,36 +27,51 @@ tidying file good lawful spare chunk = by_enabled (is_enabled file) refl
       | inr lacking ↦ (_, _, too_few spare chunk lacking.0 lacking.1 lacking.2)
     ]
 
-of_accepted : (file : RegisterFile) → IsRegisterFile file → IsAccepted file → (command : Command) → SomeAnswer file command
+of_accepted : (file : RegisterFile) → IsRegisterFile file → IsAccepted file → (command : Command) → IsOfDump command → SomeAnswer file command
 unfolding SomeAnswer
-of_accepted file good lawful Check = (_, _, accepted lawful)
-of_accepted file good lawful Show = (_, _, shown)
-of_accepted file good lawful Types = let (runs, are) = a_type_map file good in (_, _, typed runs lawful are)
-of_accepted file good lawful (Page address index) = (_, _, paged address index lawful)
-of_accepted file good lawful (Tidy spare chunk) = tidying file good lawful spare chunk
+of_accepted file good lawful Check of_dump = (_, _, accepted lawful)
+of_accepted file good lawful Show of_dump = (_, _, shown)
+of_accepted file good lawful Types of_dump = let (runs, are) = a_type_map file good in (_, _, typed runs lawful are)
+of_accepted file good lawful (Page address index) of_dump = (_, _, paged address index lawful)
+of_accepted file good lawful (Tidy spare chunk) of_dump = tidying file good lawful spare chunk
+of_accepted file good lawful Replay of_dump = absurd of_dump
 
-of_refused : (file : RegisterFile) (fault : Fault) → IsFirstFault file (Some fault) → (command : Command) → SomeAnswer file command
+of_refused : (file : RegisterFile) (fault : Fault) → IsFirstFault file (Some fault) → (command : Command) → IsOfDump command → SomeAnswer file command
 unfolding SomeAnswer
-of_refused file fault first Check = (_, _, refused Check fault tt first)
-of_refused file fault first Show = (_, _, shown)
-of_refused file fault first Types = (_, _, refused Types fault tt first)
-of_refused file fault first (Page address index) = (_, _, refused (Page address index) fault tt first)
-of_refused file fault first (Tidy spare chunk) = (_, _, refused (Tidy spare chunk) fault tt first)
+of_refused file fault first Check of_dump = (_, _, refused Check fault tt first)
+of_refused file fault first Show of_dump = (_, _, shown)
+of_refused file fault first Types of_dump = (_, _, refused Types fault tt first)
+of_refused file fault first (Page address index) of_dump = (_, _, refused (Page address index) fault tt first)
+of_refused file fault first (Tidy spare chunk) of_dump = (_, _, refused (Tidy spare chunk) fault tt first)
+of_refused file fault first Replay of_dump = absurd of_dump
 
-some_answer : (file : RegisterFile) → IsRegisterFile file → (command : Command) → SomeAnswer file command
-some_answer file good command = by_fault (a_first_fault_or_none_lem file).0 (a_first_fault_or_none_lem file).1
+some_answer : (file : RegisterFile) → IsRegisterFile file → (command : Command) → IsOfDump command → SomeAnswer file command
+some_answer file good command of_dump = by_fault (a_first_fault_or_none_lem file).0 (a_first_fault_or_none_lem file).1
   where
     by_fault : (answer : Option Fault) → IsFirstFault file answer → SomeAnswer file command
-    by_fault None lawful = of_accepted file good lawful command
-    by_fault (Some fault) first = of_refused file fault first command
+    by_fault None lawful = of_accepted file good lawful command of_dump
+    by_fault (Some fault) first = of_refused file fault first command of_dump
+
+of_dump_or_replay : (command : Command) → IsOfDump command ⊎ (command ≡ Replay)
+of_dump_or_replay Check = inl tt
+of_dump_or_replay Show = inl tt
+of_dump_or_replay Types = inl tt
+of_dump_or_replay (Page address index) = inl tt
+of_dump_or_replay (Tidy spare chunk) = inl tt
+of_dump_or_replay Replay = inr refl
 
 pub some_output : (words : List (List ℕ)) (bytes : List ℕ) → (text : List ℕ) × (status : Status) × Output words bytes text status
 unfolding SomeAnswer
 some_output words bytes = by_command (command_of words) refl
   where
+    of_dump_output : (command : Command) → IsOfDump command → command_of words ≡ Some command → (text : List ℕ) × (status : Status) × Output words bytes text status
+    of_dump_output command of_dump says = elim (shown_or_offence bytes) [
+      | inl (file, shows) ↦ let (text, status, answer) = some_answer file shows.is_file command of_dump in (text, status, answered command file text status says shows answer)
+      | inr (fault, is) ↦ (_, _, bad_text command fault says of_dump is)
+    ]
+    by_kind : (command : Command) → IsOfDump command ⊎ (command ≡ Replay) → command_of words ≡ Some command → (text : List ℕ) × (status : Status) × Output words bytes text status
+    by_kind command (inl of_dump) says = of_dump_output command of_dump says
+    by_kind command (inr is) says = (_, _, replayed (says ∙ ap Some is))
     by_command : (o : Option Command) → command_of words ≡ o → (text : List ℕ) × (status : Status) × Output words bytes text status
     by_command None none_is = (_, _, usage none_is)
-    by_command (Some command) says = elim (shown_or_offence bytes) [
-      | inl (file, shows) ↦ let (text, status, answer) = some_answer file shows.is_file command in (text, status, answered command file text status says shows answer)
-      | inr (fault, is) ↦ (_, _, bad_text command fault says is)
-    ]
+    by_command (Some command) says = by_kind command (of_dump_or_replay command) says

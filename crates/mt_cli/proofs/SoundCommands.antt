@@ -5,7 +5,7 @@ use Rattle.std.proofs.lemmas.Bool.{and_parts, ltb-true}
 use Rattle.mt_text.specs.Number.{hex_number}
 use Rattle.mt_text.specs.declared.fault.NumberFault.{NumberFault}
 use Rattle.mt_cli.specs.declared.command.Command.{Command}
-use Rattle.mt_cli.specs.declared.command.Command.TheVariants.{Page, Tidy}
+use Rattle.mt_cli.specs.declared.command.Command.TheVariants.{Page, Tidy, Replay}
 use Rattle.mt_cli.specs.declared.command.TidyOption.{TidyOption}
 use Rattle.mt_cli.specs.declared.command.TidyOption.TheVariants.{Spare, Chunk}
 use Rattle.mt_cli.specs.CommandLine.{IsSound, command_of, command_of_one, command_of_three, index_of, is_text, option_of, page_at, tidy_with, tidy_with_both, usual_chunk, usual_spare}
@@ -55,7 +55,7 @@ sound_with_both (Some (Chunk chunk)) (Some (Chunk other)) = tt
 sound_one : (name : List ℕ) → IfSome (command_of_one name) IsSound
 sound_one name =
     choice (is_text name (codes "check")) _ _ tt
-    (choice (is_text name (codes "show")) _ _ tt (choice (is_text name (codes "types")) _ _ tt (choice (is_text name (codes "tidy")) (Some (Tidy usual_spare usual_chunk)) None tt tt)))
+    (choice (is_text name (codes "show")) _ _ tt (choice (is_text name (codes "types")) _ _ tt (choice (is_text name (codes "tidy")) (Some (Tidy usual_spare usual_chunk)) _ tt (choice (is_text name (codes "replay")) (Some Replay) None tt tt))))
 
 sound_three : (name first second : List ℕ) → IfSome (command_of_three name first second) IsSound
 sound_three name first second =

@@ -5,7 +5,7 @@ use Rattle.std.specs.Cmp.Lexicographic.{pointwise}
 use Rattle.mt_text.specs.Number.{hex_number, decimal_number}
 use Rattle.mt_text.specs.declared.fault.NumberFault.{NumberFault}
 use Rattle.mt_cli.specs.declared.command.Command.{Command}
-use Rattle.mt_cli.specs.declared.command.Command.TheVariants.{Check, Show, Types, Page, Tidy}
+use Rattle.mt_cli.specs.declared.command.Command.TheVariants.{Check, Show, Types, Page, Tidy, Replay}
 use Rattle.mt_cli.specs.declared.command.TidyOption.{TidyOption}
 use Rattle.mt_cli.specs.declared.command.TidyOption.TheVariants.{Spare, Chunk}
 
@@ -25,6 +25,7 @@ command_of_one name =
     else if is_text name (codes "show") then Some Show
     else if is_text name (codes "types") then Some Types
     else if is_text name (codes "tidy") then Some (Tidy usual_spare usual_chunk)
+    else if is_text name (codes "replay") then Some Replay
     else None
 
 -- what stands behind a text at the front of a word
@@ -100,3 +101,4 @@ IsSound Show = ⊤
 IsSound Types = ⊤
 IsSound (Page address index) = (address < 2 ^ 52) × (index < 8)
 IsSound (Tidy spare chunk) = ⊤
+IsSound Replay = ⊤

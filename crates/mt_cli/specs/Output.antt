@@ -12,22 +12,33 @@ use Rattle.mt_types.specs.Runs.{IsRunsOf}
 use Rattle.mt_dump.specs.Canon.{canon}
 use Rattle.mt_dump.specs.Dump.{Shown, dump_offence}
 use Rattle.mt_dump.specs.declared.fault.DumpFault.{DumpFault}
+use Rattle.mt_replay.specs.Transcript.{transcript}
 use Rattle.mt_tidy.specs.Kept.{IsTidy, NeedsMore}
 use Rattle.mt_cli.specs.declared.command.Command.{Command}
-use Rattle.mt_cli.specs.declared.command.Command.TheVariants.{Check, Show, Types, Page, Tidy}
+use Rattle.mt_cli.specs.declared.command.Command.TheVariants.{Check, Show, Types, Page, Tidy, Replay}
 use Rattle.mt_cli.specs.CommandLine.{command_of}
 use Rattle.mt_output.specs.Lines.{accepted_line, bad_text_line, refused_line}
 use Rattle.mt_cli.specs.Lines.{disabled_line, page_text, too_few_line, types_text, usage_line, used_line}
 
--- the commands that refuse a file that isn't accepted: all but `show`
+-- the commands whose input is one dump
+abbrev pub IsOfDump : Command → Type 0
+IsOfDump Check = ⊤
+IsOfDump Show = ⊤
+IsOfDump Types = ⊤
+IsOfDump (Page address index) = ⊤
+IsOfDump (Tidy spare chunk) = ⊤
+IsOfDump Replay = ⊥
+
+-- the commands of one dump that refuse a file that isn't accepted: all but `show`
 abbrev pub IsTesting : Command → Type 0
 IsTesting Check = ⊤
 IsTesting Show = ⊥
 IsTesting Types = ⊤
 IsTesting (Page address index) = ⊤
 IsTesting (Tidy spare chunk) = ⊤
+IsTesting Replay = ⊥
 
--- What a command answers about the file that the dump shows. Where several lists of ranges have the least length,
+-- What a command of one dump answers about the file that the dump shows; `replay` has no answer of this kind. Where several lists of ranges have the least length,
 -- `tidy` may answer with any of them; every other answer is one text.
 pub data Answer (file : RegisterFile) : Command → List ℕ → Status → Type 0 where
   refused : (command : Command) (fault : Fault) → IsTesting command → IsFirstFault file (Some fault) → Answer file command (refused_line fault) Refused
@@ -42,5 +53,6 @@ pub data Answer (file : RegisterFile) : Command → List ℕ → Status → Type
 -- The text and the status for a command line and an input.
 pub data Output (words : List (List ℕ)) (bytes : List ℕ) : List ℕ → Status → Type 0 where
   usage : command_of words ≡ None → Output words bytes usage_line Usage
-  bad_text : (command : Command) (fault : DumpFault) → command_of words ≡ Some command → dump_offence bytes ≡ Some fault → Output words bytes (bad_text_line fault) BadText
+  bad_text : (command : Command) (fault : DumpFault) → command_of words ≡ Some command → IsOfDump command → dump_offence bytes ≡ Some fault → Output words bytes (bad_text_line fault) BadText
   answered : (command : Command) (file : RegisterFile) (text : List ℕ) (status : Status) → command_of words ≡ Some command → Shown bytes file → Answer file command text status → Output words bytes text status
+  replayed : command_of words ≡ Some Replay → Output words bytes (transcript bytes).text (transcript bytes).status

@@ -2,7 +2,7 @@ ghost use Rattle.std.specs.Prelude.{◌≡◌, ◌≢◌, ◌<◌, ◌^◌, None
 ghost use Rattle.mt_ports.specs.Causes.{Rose};
 ghost use Rattle.mt_regs.specs.Faults.{IsAccepted, IsFirstFault};
 ghost use Rattle.mt_cli.specs.declared.command.Command.TheVariants.{Check, Show, Types, Page, Tidy};
-ghost use Rattle.mt_cli.specs.Output.{IsTesting};
+ghost use Rattle.mt_cli.specs.Output.{IsOfDump, IsTesting};
 ghost use Rattle.mt_cli.specs.CommandLine.{IsSound};
 ghost use Rattle.mt_cli.specs.Written.{Answers, Writes};
 
@@ -97,6 +97,7 @@ fn tidied<K: Sink>(alloc: Global, f: &RegFile, spare: u8, chunk: u64, sink: &mut
 fn answer_accepted<K: Sink>(alloc: Global, command: Command, f: &RegFile, sink: &mut K) -> Status
     requires accepted { IsAccepted f.now }
     requires command { IsSound command }
+    requires of_dump { IsOfDump command }
     ensures bytes { Answers f.now command (K.taken sink.old) (K.taken sink.new) result }
     ensures failed { result ≡ Status.WriteFault → Rose (K.faults sink.old) (K.faults sink.new) }
 {
@@ -106,12 +107,14 @@ fn answer_accepted<K: Sink>(alloc: Global, command: Command, f: &RegFile, sink: 
         Command::Types => types(alloc, f, sink),
         Command::Page { address, index } => page(f, address, index, sink),
         Command::Tidy { spare, chunk } => tidied(alloc, f, spare, chunk, sink),
+        Command::Replay => unreachable!(),
     }
 }
 
-/// Writes what a command answers about a file, and answers the status.
+/// Writes what a command of one dump answers about its file, and answers the status.
 pub fn answer<K: Sink>(alloc: Global, command: Command, f: &RegFile, sink: &mut K) -> Status
-    requires { IsSound command }
+    requires sound { IsSound command }
+    requires of_dump { IsOfDump command }
     ensures bytes { Answers f.now command (K.taken sink.old) (K.taken sink.new) result }
     ensures failed { result ≡ Status.WriteFault → Rose (K.faults sink.old) (K.faults sink.new) }
 {

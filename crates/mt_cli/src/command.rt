@@ -12,6 +12,8 @@ pub enum Command {
     /// A file of the same types with the fewest pairs, of which some are to be spared. Of two
     /// ranges that share a page the larger has at most `chunk` bytes.
     Tidy { spare: u8, chunk: u64 },
+    /// The transcript of a script.
+    Replay,
 }
 
 /// An option of the command `tidy`.

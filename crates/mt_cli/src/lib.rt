@@ -6,6 +6,7 @@ mod command;
 mod laws;
 mod lines;
 mod reading;
+mod stub;
 mod texts;
 mod top;
 mod words;
@@ -19,5 +20,7 @@ pub use texts::{canonical_text, tidied_text, types_text};
 pub use top::tool;
 pub use words::command_of;
 
+#[cfg(test)]
+mod script_tests;
 #[cfg(test)]
 mod tests;

@@ -4,27 +4,27 @@ use mt_vectors::{Row, dump_tables};
 use std::process::Abort;
 use std::test::Fail;
 
-const ROOM: usize = 8192;
+const ROOM: usize = 131_072;
 
 const LIMIT: usize = 16_777_216;
 
 // What a run ended with, and what the sink took.
 #[derive(Drop)]
-struct Ran {
-    status: Status,
-    sink: MemSink,
+pub(crate) struct Ran {
+    pub(crate) status: Status,
+    pub(crate) sink: MemSink,
 }
 
 // A run over memory: its input in pieces, and the calls at which the source and the sink fail.
 #[derive(Clone, Copy)]
-struct Ports<'a> {
-    input: &'a [u8],
-    piece: usize,
-    failing_reads: &'a [u64],
-    failing_writes: &'a [u64],
+pub(crate) struct Ports<'a> {
+    pub(crate) input: &'a [u8],
+    pub(crate) piece: usize,
+    pub(crate) failing_reads: &'a [u64],
+    pub(crate) failing_writes: &'a [u64],
 }
 
-fn run<R: AllocGlobal + Abort>(rt: &R, words: &[&str], ports: &Ports<'_>) -> Result<Ran, Fail> {
+pub(crate) fn run<R: AllocGlobal + Abort>(rt: &R, words: &[&str], ports: &Ports<'_>) -> Result<Ran, Fail> {
     let alloc = rt.alloc();
     let mut owned = Vec::new(alloc);
     for word in words {
@@ -41,7 +41,7 @@ fn run<R: AllocGlobal + Abort>(rt: &R, words: &[&str], ports: &Ports<'_>) -> Res
 }
 
 // Each row of a table gives its output and its status.
-fn expect_rows<R: AllocGlobal + Abort>(rt: &R, rows: &[Row], piece: usize) -> Result<(), Fail> {
+pub(crate) fn expect_rows<R: AllocGlobal + Abort>(rt: &R, rows: &[Row], piece: usize) -> Result<(), Fail> {
     for row in rows {
         let ports = Ports {
             input: row.input,

@@ -5,11 +5,12 @@ ghost use Rattle.mt_cli.specs.Reading.{GaveTooMuch};
 ghost use Rattle.mt_cli.specs.Tool.{Leaves, Reads};
 
 use crate::answers::{answer, written};
-use crate::command_of;
+use crate::{Command, command_of};
 use crate::reading::read_all;
 use mt_dump::read_dump;
 use mt_output::bad_text_line;
 use mt_ports::{Gate, Sink, Source, Status};
+use crate::stub::replay;
 
 /// Does all that the program does, and answers its status. The words are the command line without
 /// the program's name. Nothing is read where they are no command line; otherwise the input is read
@@ -20,7 +21,7 @@ pub fn tool<R: AllocGlobal, S: Source, K: Sink, G: Gate>(
     words: &[String],
     source: &mut S,
     sink: &mut K,
-    _gate: &G,
+    gate: &G,
 ) -> Status
     // Where the source and the sink tell their bytes, the sink took the output for the words and
     // the bytes, or after a failure a front of it.
@@ -48,6 +49,9 @@ pub fn tool<R: AllocGlobal, S: Source, K: Sink, G: Gate>(
         Ok(text) => text,
         Err(status) => return status,
     };
+    if let Command::Replay = command {
+        return replay(rt, &text, sink, gate);
+    }
     match read_dump(&text) {
         Err(fault) => written(sink, bad_text_line(&fault).as_slice(), Status::BadText),
         Ok(file) => answer(rt.alloc(), command, &file, sink),

@@ -26,6 +26,8 @@ fn command_of_one(name: &[u8]) -> Option<Command>
             spare: USUAL_SPARE,
             chunk: USUAL_CHUNK,
         })
+    } else if name == b"replay".as_slice() {
+        Some(Command::Replay)
     } else {
         None
     }

@@ -8,3 +8,4 @@ pub mod Hiding
 pub mod Keeping
 pub mod SameFiles
 mod Whole
+pub mod TranscriptEnds

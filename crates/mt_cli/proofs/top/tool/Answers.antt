@@ -17,7 +17,7 @@ returns-in-Err-read_dump-clause-leaves g c bytes before left taken =
     let offence = subst (λ (b : List ℕ). dump_offence b ≡ Some c.in-Err-read_dump.fault) (c.deref.ensures.value ∙ sym read.0) c.in-Err-read_dump.ensures.answer in
     let wrote = subst (λ (t : List ℕ). Writes t BadText (g.K.Sink.taken c.args.sink.now) (g.K.Sink.taken c.written-in-Err-read_dump.new.sink) c.written-in-Err-read_dump.result)
     (c.as_slice.ensures.value ∙ c.bad_text_line.ensures) c.written-in-Err-read_dump.ensures.bytes in
-    written_leaves _ bytes _ BadText _ _ before _ _ (bad_text c.in-Some.command c.in-Err-read_dump.fault (sym c.in-Some.ensures) offence) (λ _. read.1) taken wrote
+    written_leaves _ bytes _ BadText _ _ before _ _ (bad_text c.in-Some.command c.in-Err-read_dump.fault (sym c.in-Some.ensures) of_dump offence) (λ _. read.1) taken wrote
 
 pub answer-requires : goal.answer-requires
 answer-requires g c = sound_command (map string_bytes c.args.words.now) c.in-Some.command (sym c.in-Some.ensures)
@@ -32,7 +32,7 @@ pub returns-in-Err-read_dump-clause-reads : goal.returns-in-Err-read_dump-clause
 returns-in-Err-read_dump-clause-reads g c bytes left =
     let read = read_to_end _ _ bytes _ left c.in-Ok.ensures.bytes c.in-Ok.ensures.end in
     let offence = subst (λ (b : List ℕ). dump_offence b ≡ Some c.in-Err-read_dump.fault) (c.deref.ensures.value ∙ sym read.0) c.in-Err-read_dump.ensures.answer in
-    offence_reads _ bytes c.in-Some.command c.in-Err-read_dump.fault _ _ _ _ _ (sym c.in-Some.ensures) offence read.1 c.written-in-Err-read_dump.ensures.bytes
+    offence_reads _ bytes c.in-Some.command c.in-Err-read_dump.fault _ _ _ _ _ (sym c.in-Some.ensures) of_dump offence read.1 c.written-in-Err-read_dump.ensures.bytes
 
 pub returns-clause-reads : goal.returns-clause-reads
 returns-clause-reads g c bytes left =
