@@ -4,12 +4,13 @@ use Rattle.std.specs.Io.KnownBytes.{Appends, Consumes, IsAtEnd}
 use Rattle.std.proofs.lemmas.List.{append-nil}
 use Rattle.mt_ports.specs.Puts.{AppendsFront}
 use Rattle.mt_ports.specs.declared.status.Status.{Status}
-use Rattle.mt_ports.specs.declared.status.Status.TheVariants.{Done, Refused, Usage, BadText, TooLong, TooFew, Disabled}
+use Rattle.mt_ports.specs.declared.status.Status.TheVariants.{Done, Refused, Usage, BadText, ReadFault, WriteFault, NoMemory, TooLong, TooFew, Disabled}
 use Rattle.mt_regs.specs.RegisterFile.{RegisterFile}
 use Rattle.mt_dump.specs.Dump.{Shown, dump_offence}
 use Rattle.mt_dump.specs.declared.fault.DumpFault.{DumpFault}
 use Rattle.mt_replay.specs.Running.{Replays}
 use Rattle.mt_replay.specs.Transcript.{transcript}
+use Rattle.mt_replay.proofs.Refusals.Outcomes.{one_of_three}
 use Rattle.mt_cli.specs.declared.command.Command.{Command}
 use Rattle.mt_cli.specs.declared.command.Command.TheVariants.{Replay}
 use Rattle.mt_cli.specs.CommandLine.{command_of}
@@ -17,7 +18,6 @@ use Rattle.mt_cli.specs.Output.{Answer, IsOfDump, Output, usage, bad_text, answe
 use Rattle.mt_cli.specs.Reading.{ConsumesTooMuch, EndsReading}
 use Rattle.mt_cli.specs.Tool.{Answered, CutShort, Finished, Leaves, Reads}
 use Rattle.mt_cli.specs.Written.{Answers, Writes, writes, no_memory}
-use Rattle.mt_replay.proofs.TranscriptEnds.{HasEnded, transcript_ends}
 
 -- what stands after the bytes that the sink had
 appended : (before text : List ℕ) (old new : Option (List ℕ)) → old ≡ Some before → Appends old new text → new ≡ Some (before ++ text)
@@ -31,9 +31,9 @@ read_to_end None new bytes text is takes end = cc is
 read_to_end (Some xs) None bytes text is takes end = absurd takes
 read_to_end (Some xs) (Some ys) bytes text is takes end = let e : xs ≡ bytes = cc is in (sym e ∙ takes ∙ ap (λ (l : List ℕ). text ++ l) end ∙ append-nil text, ap Some end)
 
--- the statuses with which a command answers about a file
+-- the statuses with which a command answers about a file, and with which a transcript ends
 IsFinal : Status → Type 0
-IsFinal status = (status ≡ Done) ⊎ (status ≡ Refused) ⊎ (status ≡ TooFew) ⊎ (status ≡ Disabled)
+IsFinal status = (status ≡ Done) ⊎ (status ≡ Refused) ⊎ (status ≡ BadText) ⊎ (status ≡ TooFew) ⊎ (status ≡ Disabled)
 
 final : (file : RegisterFile) (command : Command) (text : List ℕ) (status : Status) → Answer file command text status → IsFinal status
 unfolding IsFinal
@@ -43,8 +43,16 @@ final file command text status shown = inl refl
 final file command text status (typed runs good are) = inl refl
 final file command text status (paged address index good) = inl refl
 final file command text status (tidied spare chunk used new is) = inl refl
-final file command text status (too_few spare chunk needs has is) = inr (inr (inl refl))
-final file command text status (disabled spare chunk good off) = inr (inr (inr refl))
+final file command text status (too_few spare chunk needs has is) = inr (inr (inr (inl refl)))
+final file command text status (disabled spare chunk good off) = inr (inr (inr (inr refl)))
+
+final_of_transcript : (bytes : List ℕ) → IsFinal (transcript bytes).status
+unfolding IsFinal
+final_of_transcript bytes = elim (one_of_three bytes) [
+  | inl is ↦ inl is
+  | inr (inl is) ↦ inr (inl is)
+  | inr (inr is) ↦ inr (inr (inl is))
+]
 
 finished_leaves : (words : List (List ℕ)) (bytes : List ℕ) (left : Option (List ℕ)) (before : List ℕ) (after : Option (List ℕ)) (status : Status)
     → IsFinal status → Finished words bytes left before after status → Leaves words bytes left before after status
@@ -52,14 +60,8 @@ unfolding IsFinal
 finished_leaves words bytes left before after status (inl is) done = rw is (subst (λ (s : Status). Finished words bytes left before after s) is done)
 finished_leaves words bytes left before after status (inr (inl is)) done = rw is (subst (λ (s : Status). Finished words bytes left before after s) is done)
 finished_leaves words bytes left before after status (inr (inr (inl is))) done = rw is (subst (λ (s : Status). Finished words bytes left before after s) is done)
-finished_leaves words bytes left before after status (inr (inr (inr is))) done = rw is (subst (λ (s : Status). Finished words bytes left before after s) is done)
-
--- the same for the status of a transcript
-ended_leaves : (words : List (List ℕ)) (bytes : List ℕ) (left : Option (List ℕ)) (before : List ℕ) (after : Option (List ℕ)) (status : Status)
-    → HasEnded status → Finished words bytes left before after status → Leaves words bytes left before after status
-ended_leaves words bytes left before after status (inl is) done = rw is (subst (λ (s : Status). Finished words bytes left before after s) is done)
-ended_leaves words bytes left before after status (inr (inl is)) done = rw is (subst (λ (s : Status). Finished words bytes left before after s) is done)
-ended_leaves words bytes left before after status (inr (inr is)) done = rw is (subst (λ (s : Status). Finished words bytes left before after s) is done)
+finished_leaves words bytes left before after status (inr (inr (inr (inl is)))) done = rw is (subst (λ (s : Status). Finished words bytes left before after s) is done)
+finished_leaves words bytes left before after status (inr (inr (inr (inr is)))) done = rw is (subst (λ (s : Status). Finished words bytes left before after s) is done)
 
 -- a run that has written its whole output
 whole : (words : List (List ℕ)) (bytes text : List ℕ) (status : Status) (left : Option (List ℕ)) (before : List ℕ) (after : Option (List ℕ))
@@ -72,7 +74,7 @@ whole words bytes text status left before after (answered command file t s says 
     finished_leaves words bytes left before after s fin
     (record { text = t; output = answered command file t s says shows answer; taken = taken; read = read })
 whole words bytes text status left before after (replayed says) = λ read taken.
-    ended_leaves words bytes left before after (transcript bytes).status (transcript_ends bytes)
+    finished_leaves words bytes left before after (transcript bytes).status (final_of_transcript bytes)
     (record { text = (transcript bytes).text; output = replayed says; taken = taken; read = read })
 
 -- a run whose last write is done or has failed
@@ -126,12 +128,8 @@ unfolding IsFinal
 answered_reads words bytes left status (inl is) told = rw is (subst (λ (s : Status). Answered words bytes left s) is told)
 answered_reads words bytes left status (inr (inl is)) told = rw is (subst (λ (s : Status). Answered words bytes left s) is told)
 answered_reads words bytes left status (inr (inr (inl is))) told = rw is (subst (λ (s : Status). Answered words bytes left s) is told)
-answered_reads words bytes left status (inr (inr (inr is))) told = rw is (subst (λ (s : Status). Answered words bytes left s) is told)
-
-ended_reads : (words : List (List ℕ)) (bytes : List ℕ) (left : Option (List ℕ)) (status : Status) → HasEnded status → Answered words bytes left status → Reads words bytes left status
-ended_reads words bytes left status (inl is) told = rw is (subst (λ (s : Status). Answered words bytes left s) is told)
-ended_reads words bytes left status (inr (inl is)) told = rw is (subst (λ (s : Status). Answered words bytes left s) is told)
-ended_reads words bytes left status (inr (inr is)) told = rw is (subst (λ (s : Status). Answered words bytes left s) is told)
+answered_reads words bytes left status (inr (inr (inr (inl is)))) told = rw is (subst (λ (s : Status). Answered words bytes left s) is told)
+answered_reads words bytes left status (inr (inr (inr (inr is)))) told = rw is (subst (λ (s : Status). Answered words bytes left s) is told)
 
 -- the status of an answer
 pub answers_read : (words : List (List ℕ)) (bytes : List ℕ) (file : RegisterFile) (command : Command) (result : Status) (left old new : Option (List ℕ))
@@ -145,9 +143,24 @@ answers_read words bytes file command result left old new says shows read (no_me
 pub replays_read : (words : List (List ℕ)) (bytes : List ℕ) (result : Status) (left old new : Option (List ℕ))
     → command_of words ≡ Some Replay → left ≡ Some [] → Replays bytes old new result → Reads words bytes left result
 replays_read words bytes result left old new says read (inl (is, takes)) =
-    rw is (ended_reads words bytes left (transcript bytes).status (transcript_ends bytes) (record { text = (transcript bytes).text; output = replayed says; read = read }))
+    rw is (answered_reads words bytes left (transcript bytes).status (final_of_transcript bytes) (record { text = (transcript bytes).text; output = replayed says; read = read }))
 replays_read words bytes result left old new says read (inr (inl is, cut)) = rw is tt
 replays_read words bytes result left old new says read (inr (inr is, cut)) = rw is tt
+
+-- the statuses with which a replay never ends
+pub never_replays : (bytes : List ℕ) (result : Status) (old new : Option (List ℕ)) → Replays bytes old new result → (result ≢ Usage) × (result ≢ ReadFault) × (result ≢ TooLong)
+never_replays bytes result old new told = by told
+  where
+    but : (status : Status) → result ≡ status → (status ≢ Usage) × (status ≢ ReadFault) × (status ≢ TooLong) → (result ≢ Usage) × (result ≢ ReadFault) × (result ≢ TooLong)
+    but status is others = rw is others
+    by : Replays bytes old new result → (result ≢ Usage) × (result ≢ ReadFault) × (result ≢ TooLong)
+    by (inl (is, takes)) = elim (one_of_three bytes) [
+      | inl done ↦ but Done (is ∙ done) (λ e. cc e, λ e. cc e, λ e. cc e)
+      | inr (inl refused) ↦ but Refused (is ∙ refused) (λ e. cc e, λ e. cc e, λ e. cc e)
+      | inr (inr bad) ↦ but BadText (is ∙ bad) (λ e. cc e, λ e. cc e, λ e. cc e)
+    ]
+    by (inr (inl is, cut)) = but NoMemory is (λ e. cc e, λ e. cc e, λ e. cc e)
+    by (inr (inr is, cut)) = but WriteFault is (λ e. cc e, λ e. cc e, λ e. cc e)
 
 -- the status of a dump that is no dump
 pub offence_reads : (words : List (List ℕ)) (bytes : List ℕ) (command : Command) (fault : DumpFault) (written : List ℕ) (result : Status) (left old new : Option (List ℕ))

@@ -11,6 +11,7 @@ use Rattle.mt_tidy.proofs.SomeTidy.{tidy_or_more}
 use Rattle.mt_cli.specs.declared.command.Command.{Command}
 use Rattle.mt_cli.specs.declared.command.Command.TheVariants.{Check, Show, Types, Page, Tidy, Replay}
 use Rattle.mt_cli.specs.CommandLine.{command_of}
+use Rattle.mt_cli.proofs.SoundCommands.{of_dump_or_replay}
 use Rattle.mt_cli.specs.Output.{Answer, IsOfDump, Output, refused, accepted, shown, typed, paged, tidied, too_few, disabled, usage, bad_text, answered, replayed}
 
 SomeAnswer : RegisterFile → Command → Type 0
@@ -51,14 +52,6 @@ some_answer file good command of_dump = by_fault (a_first_fault_or_none_lem file
     by_fault : (answer : Option Fault) → IsFirstFault file answer → SomeAnswer file command
     by_fault None lawful = of_accepted file good lawful command of_dump
     by_fault (Some fault) first = of_refused file fault first command of_dump
-
-of_dump_or_replay : (command : Command) → IsOfDump command ⊎ (command ≡ Replay)
-of_dump_or_replay Check = inl tt
-of_dump_or_replay Show = inl tt
-of_dump_or_replay Types = inl tt
-of_dump_or_replay (Page address index) = inl tt
-of_dump_or_replay (Tidy spare chunk) = inl tt
-of_dump_or_replay Replay = inr refl
 
 pub some_output : (words : List (List ℕ)) (bytes : List ℕ) → (text : List ℕ) × (status : Status) × Output words bytes text status
 unfolding SomeAnswer

@@ -1,13 +1,14 @@
--- A page's address that a command line names has 52 bits, and its index is one of eight.
-use Rattle.std.proofs.Common.{◌≡◌, ℕ, ◌-◌, ◌^◌, ◌<◌, Bool, true, false, List, [], ◌∷◌, Option, Some, None, refl, arith}
+-- A page's address that a command line names has 52 bits, and its index is one of eight. All commands but `replay` are of one dump.
+use Rattle.std.proofs.Common.{◌≡◌, ◌≢◌, ◌⊎◌, inl, inr, ℕ, ◌-◌, ◌^◌, ◌<◌, Bool, true, false, List, [], ◌∷◌, Option, Some, None, refl, arith}
 use Rattle.std.specs.Prelude.{◌&&◌, nat_le, nat_lt, codes, if◌then◌else◌, IfSome, Result, Ok, Err}
 use Rattle.std.proofs.lemmas.Bool.{and_parts, ltb-true}
 use Rattle.mt_text.specs.Number.{hex_number}
 use Rattle.mt_text.specs.declared.fault.NumberFault.{NumberFault}
 use Rattle.mt_cli.specs.declared.command.Command.{Command}
-use Rattle.mt_cli.specs.declared.command.Command.TheVariants.{Page, Tidy, Replay}
+use Rattle.mt_cli.specs.declared.command.Command.TheVariants.{Check, Show, Types, Page, Tidy, Replay}
 use Rattle.mt_cli.specs.declared.command.TidyOption.{TidyOption}
 use Rattle.mt_cli.specs.declared.command.TidyOption.TheVariants.{Spare, Chunk}
+use Rattle.mt_cli.specs.Output.{IsOfDump}
 use Rattle.mt_cli.specs.CommandLine.{IsSound, command_of, command_of_one, command_of_three, index_of, is_text, option_of, page_at, tidy_with, tidy_with_both, usual_chunk, usual_spare}
 
 choice : (b : Bool) (x y : Option Command) → IfSome x IsSound → IfSome y IsSound → IfSome (if b then x else y) IsSound
@@ -71,3 +72,19 @@ sound (name ∷ first ∷ second ∷ third ∷ more) = tt
 
 pub sound_command : (words : List (List ℕ)) (command : Command) → command_of words ≡ Some command → IsSound command
 sound_command words command is = let h = sound words in rw is at h
+
+-- ---- commands of one dump
+
+pub of_dump_or_replay : (command : Command) → IsOfDump command ⊎ (command ≡ Replay)
+of_dump_or_replay Check = inl tt
+of_dump_or_replay Show = inl tt
+of_dump_or_replay Types = inl tt
+of_dump_or_replay (Page address index) = inl tt
+of_dump_or_replay (Tidy spare chunk) = inl tt
+of_dump_or_replay Replay = inr refl
+
+pub of_dump_unless : (command : Command) → command ≢ Replay → IsOfDump command
+of_dump_unless command other = elim (of_dump_or_replay command) [
+  | inl of_dump ↦ of_dump
+  | inr is ↦ absurd (other is)
+]

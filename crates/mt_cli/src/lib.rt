@@ -6,7 +6,6 @@ mod command;
 mod laws;
 mod lines;
 mod reading;
-mod stub;
 mod texts;
 mod top;
 mod words;

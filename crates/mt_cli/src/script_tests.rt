@@ -40,7 +40,7 @@ fn each_read_may_fail(rt: HostRuntime) -> Result<(), Fail> {
             assert_eq!(rt; ran.sink.bytes().len(), 0);
         } else {
             assert_eq!(rt; ran.status, Status::Done, "at {call}");
-            assert!(rt; ran.sink.bytes() == b"accepted\ncomplete 1\n");
+            assert!(rt; ran.sink.bytes() == b"accepted\ncomplete 1\n".as_slice());
         }
     }
     Ok(())
@@ -135,9 +135,7 @@ fn cuts() -> &'static [Cut] {
         (1, Status::BadText, b"bad text 5:1 no end\n"),
         (2, Status::BadText, b"bad text 5:1 bad line\n"),
         (2, Status::Done, b"accepted\n"),
-        (1, Status::BadText, b"accepted\nbad text 6:1 bad line\n"),
-        (1, Status::Done, b"accepted\nup 1\n"),
-        (3, Status::BadText, b"accepted\nbad text 6:1 bad line\n"),
+        (5, Status::BadText, b"accepted\nbad text 6:1 bad line\n"),
         (1, Status::BadText, b"accepted\nbad text 6:7 no end\n"),
         (1, Status::BadText, b"accepted\nbad text 7:1 no end\n"),
         (4, Status::BadText, b"accepted\nbad text 7:1 bad line\n"),

@@ -10,7 +10,7 @@ use crate::reading::read_all;
 use mt_dump::read_dump;
 use mt_output::bad_text_line;
 use mt_ports::{Gate, Sink, Source, Status};
-use crate::stub::replay;
+use mt_replay::replay;
 
 /// Does all that the program does, and answers its status. The words are the command line without
 /// the program's name. Nothing is read where they are no command line; otherwise the input is read

@@ -8,4 +8,3 @@ pub mod Hiding
 pub mod Keeping
 pub mod SameFiles
 mod Whole
-pub mod TranscriptEnds
