@@ -6,5 +6,6 @@ pub mod FirstFault
 pub mod Heads
 pub mod Hiding
 pub mod Keeping
+pub mod Refusals
 pub mod SameFiles
 mod Whole
