@@ -1,8 +1,8 @@
 -- What is promised of a script's refusals (own).
 --     ShowsDump text file      the text's dump is read whole, no offence stands before, and its lines show the file
 --     the status of a text's transcript, and its first and last line
---     what a refused update, a complete one and a release leave of the machine
-use Rattle.std.specs.Prelude.{ℕ, ◌≡◌, ◌≢◌, ◌⊎◌, ◌↔◌, ◌+◌, Bool, true, false, List, [], ◌∷◌, ◌++◌, codes, IsSome, Some, None, Ok}
+--     what a refused update, a complete one and a release leave of the machine of a session
+use Rattle.std.specs.Prelude.{ℕ, ◌≡◌, ◌≢◌, ◌⊎◌, ◌↔◌, ◌+◌, Bool, true, false, List, [], ◌∷◌, ◌++◌, codes, IsSome, ⊤, Some, None, Ok}
 use Rattle.std.specs.List.{All}
 use Rattle.mt_text.specs.Text.{lines_of}
 use Rattle.mt_ports.specs.declared.status.Status.TheVariants.{Done, Refused, BadText}
@@ -15,13 +15,13 @@ use Rattle.mt_dump.specs.Reader.{onto}
 use Rattle.mt_machine.specs.declared.event.Event.TheVariants.{Release}
 use Rattle.mt_machine.specs.Memory.{place, word_at}
 use Rattle.mt_machine.specs.System.{now}
-use Rattle.mt_machine.specs.Machine.{Calls, Machine, Order, next}
+use Rattle.mt_machine.specs.Machine.{Calls, Machine, Order, common_era, next}
 use Rattle.mt_machine.specs.Update.{IsSettled, emptied}
 use Rattle.mt_core.specs.Steps.{step_answer}
 use Rattle.mt_core.specs.declared.stepped.Stepped.TheVariants.{Did}
 use Rattle.mt_script.specs.Situation.{Situation, at_start}
 use Rattle.mt_script.specs.Stages.{is_in_dump}
-use Rattle.mt_script.specs.Accept.{accepted}
+use Rattle.mt_script.specs.Accept.{Fits, accepted}
 use Rattle.mt_script.specs.Commands.{command_of}
 use Rattle.mt_script.specs.Script.{is_end_command, script_offence}
 use Rattle.mt_script.specs.declared.command.Command.{Command}
@@ -29,7 +29,7 @@ use Rattle.mt_script.specs.declared.command.Command.TheVariants as command
 use Rattle.mt_script.specs.declared.fault.Offence.{Offence}
 use Rattle.mt_output.specs.Lines.{accepted_line, line, offence_line, refused_line}
 use Rattle.mt_replay.specs.Kept.{IsSession}
-use Rattle.mt_replay.specs.Session.{Session, call_fault, command_text, each_processor, is_update, machine_after}
+use Rattle.mt_replay.specs.Session.{Session, call_fault, command_text, each_processor, is_update, machine_after, session_after}
 use Rattle.mt_replay.specs.Texts.{called_line, complete_line}
 use Rattle.mt_replay.specs.Transcript.{told, told_offence, transcript}
 
@@ -118,16 +118,17 @@ EndsIdle s text = (command_text s command.End ≡ text) × (machine_after s comm
 
 -- in both kinds of section
 abbrev pub RefusedCallsChangeNothing : Type 0
-RefusedCallsChangeNothing = (s : Session) (fault : Fault) → IsSession s → s.machine.order ≡ None → IsFirstFault s.goal (Some fault) → EndsIdle s (refused_line fault)
+RefusedCallsChangeNothing = (s : Session) (fault : Fault) → s.machine.order ≡ None → IsFirstFault s.goal (Some fault) → EndsIdle s (refused_line fault)
 
 -- whatever the goal is
 abbrev pub CallsUnderWayChangeNothing : Type 0
-CallsUnderWayChangeNothing = (s : Session) → IsSession s → IsSome s.machine.order → EndsIdle s (line (codes "under way"))
+CallsUnderWayChangeNothing = (s : Session) → IsSome s.machine.order → EndsIdle s (line (codes "under way"))
 
 -- The machine after a whole update to the goal.
 pub record IsSettledAfter (s : Session) (m : Machine) : Type 0 where
   pub era : ℕ
   pub line_is : command_text s command.End ≡ complete_line era
+  pub risen : era ≡ common_era s.machine.system.processors + 1
   pub eras : All (λ p. p.era ≡ era) m.system.processors
   pub settled : IsSettled m.system era s.goal
   pub no_order : m.order ≡ None
@@ -141,15 +142,27 @@ CompleteUpdatesSettle = (s : Session) → IsSession s → is_update s.now.stage 
 -- the other kind of section gives the goal to the processors, and no more
 abbrev pub AcceptedCallsAreUnderWay : Type 0
 AcceptedCallsAreUnderWay =
-    (s : Session) → IsSession s → is_update s.now.stage ≡ false → call_fault s.machine s.goal ≡ None
+    (s : Session) → is_update s.now.stage ≡ false → call_fault s.machine s.goal ≡ None
     → (command_text s command.End ≡ called_line) × (machine_after s command.End ≡ next s.machine (Calls s.goal))
 
 -- a goal is refused nothing exactly where no update is under way and it has no fault
 abbrev pub AcceptedWhereIdle : Type 0
 AcceptedWhereIdle = (s : Session) → (call_fault s.machine s.goal ≡ None) ↔ ((s.machine.order ≡ None) × IsAccepted s.goal)
 
--- a step that releases leaves each processor with the goal's registers, and nothing older than the update
+-- ---- releases
+
+-- each of these commands fits in its turn, and none calls for an update
+abbrev pub AreWithoutCall : Session → List Command → Type 0
+AreWithoutCall s [] = ⊤
+AreWithoutCall s (c ∷ cs) = Fits s.now c × (c ≡ command.End → IsSome (call_fault s.machine s.goal)) × AreWithoutCall (session_after s c) cs
+
+abbrev pub session_after_all : Session → List Command → Session
+session_after_all s [] = s
+session_after_all s (c ∷ cs) = session_after_all (session_after s c) cs
+
+-- from a step that releases on, and up to the next call, each processor has the goal's registers and holds nothing older than the update
 abbrev pub ReleasedSessionsSettle : Type 0
 ReleasedSessionsSettle =
-    (s : Session) (k : ℕ) → IsSession s → step_answer s.machine k ≡ Did Release
-    → (o : Order) × (s.machine.order ≡ Some o) × IsSettled (machine_after s (command.Step k)).system (o.from_era + 1) o.goal
+    (s : Session) (k : ℕ) (since : List Command) → IsSession s → Fits s.now (command.Step k) → step_answer s.machine k ≡ Did Release
+    → AreWithoutCall (session_after s (command.Step k)) since
+    → (o : Order) × (s.machine.order ≡ Some o) × IsSettled (session_after_all (session_after s (command.Step k)) since).machine.system (o.from_era + 1) o.goal

@@ -44,8 +44,8 @@ pub fn complete_updates_settle()
     ensures settled { CompleteUpdatesSettle }
 {}
 
-/// A step that releases leaves each processor with the goal's registers, and with nothing older than
-/// the update.
+/// From a step that releases on, and up to the next call for an update, each processor has the
+/// goal's registers and holds nothing older than the update.
 pub fn released_sessions_settle()
     ensures { ReleasedSessionsSettle }
 {}

@@ -1,5 +1,5 @@
--- What refused and accepted calls of an update leave, and a step that releases.
-use Rattle.std.proofs.Common.{◌≡◌, ◌∙◌, ap, sym, refl, subst, arith, ℕ, ◌+◌, ◌%◌, ◌==◌, Bool, true, false, if◌then◌else◌, List, [], map, Option, None, Some, slice_get}
+-- What refused and accepted calls of an update leave.
+use Rattle.std.proofs.Common.{◌≡◌, ◌∙◌, ap, sym, refl, subst, arith, ℕ, ◌+◌, ◌%◌, ◌≤◌, length, ◌==◌, Bool, true, false, if◌then◌else◌, List, [], ◌∷◌, map, Option, None, Some}
 use Rattle.std.specs.Prelude.{IsSome}
 use Rattle.std.specs.Option.{option_map_or}
 use Rattle.std.specs.List.{All}
@@ -8,27 +8,24 @@ use Rattle.std.proofs.lemmas.List.Elements.{All-map}
 use Rattle.mt_regs.specs.declared.fault.Fault.{Fault}
 use Rattle.mt_regs.specs.RegisterFile.{RegisterFile}
 use Rattle.mt_regs.specs.Faults.{IsFirstFault}
-use Rattle.mt_machine.specs.declared.event.Event.{Event}
-use Rattle.mt_machine.specs.declared.event.Event.TheVariants.{Release}
-use Rattle.mt_machine.specs.declared.phase.Phase.{Phase}
-use Rattle.mt_machine.specs.declared.phase.Phase.TheVariants.{Arrived, Arrived2}
 use Rattle.mt_machine.specs.Memory.{IsMemory, Memory, place, place_in, word_at}
 use Rattle.mt_machine.specs.System.{Processor, now}
-use Rattle.mt_machine.specs.Machine.{Calls, Machine, Order, Steps, common_era, due_at, first_barrier_count, is_cancelled, next}
+use Rattle.mt_machine.specs.Machine.{Calls, common_era, next}
 use Rattle.mt_machine.specs.Start.{IsQuiet}
-use Rattle.mt_machine.specs.Update.{IsSettled, IsSettledOn, addresses, emptied, settled_processor, updated}
+use Rattle.mt_machine.specs.Update.{IsSettledOn, addresses, emptied, settled_processor, updated}
 use Rattle.mt_laws.proofs.Updates.Addresses.{word_of_words}
 use Rattle.mt_laws.proofs.Updates.Quiet.{updated_is_quiet}
-use Rattle.mt_core.specs.Steps.{pause, pause_at, step_after, step_answer}
 use Rattle.mt_core.specs.declared.fault.CallFault.{CallFault}
 use Rattle.mt_core.specs.declared.fault.CallFault.TheVariants.{Refused, UnderWay}
-use Rattle.mt_core.specs.declared.stepped.Stepped.TheVariants.{Did, NoUpdate, Waits}
-use Rattle.mt_core.proofs.Settling.{is_quiet_without_order, settled_from_release}
+use Rattle.mt_core.proofs.Settling.{is_quiet_without_order}
 use Rattle.mt_core.proofs.Stepping.{stands}
+use Rattle.mt_script.specs.Stages.{HasCpus, is_past_dump}
+use Rattle.mt_script.specs.declared.command.Stage.{Stage}
+use Rattle.mt_script.specs.declared.command.Stage.TheVariants.{Rams, Commands, InUpdate, InBegin}
 use Rattle.mt_script.specs.declared.command.Command.TheVariants as command
 use Rattle.mt_replay.specs.Kept.{IsSession}
 use Rattle.mt_replay.specs.Session.{Session, after_call, after_update, call_fault, call_line, command_text, each_processor, is_update, machine_after, update_line}
-use Rattle.mt_replay.specs.Statuses.{AcceptedCallsAreUnderWay, AcceptedWhereIdle, CallsUnderWayChangeNothing, CompleteUpdatesSettle, EndsIdle, IsSettledAfter, RefusedCallsChangeNothing, ReleasedSessionsSettle}
+use Rattle.mt_replay.specs.Statuses.{AcceptedCallsAreUnderWay, AcceptedWhereIdle, CallsUnderWayChangeNothing, CompleteUpdatesSettle, EndsIdle, IsSettledAfter, RefusedCallsChangeNothing}
 use Rattle.mt_replay.specs.Texts.{call_fault_line, called_line, complete_line}
 use Rattle.mt_replay.proofs.Calls.{call_accepted, call_fails}
 use Rattle.mt_replay.proofs.Keeping.Sessions.{accepted_of, call_allowed, call_enabled}
@@ -36,7 +33,7 @@ use Rattle.mt_replay.proofs.Keeping.Sessions.{accepted_of, call_allowed, call_en
 -- ---- refused
 
 -- a fault is told, and the machine stays
-ends_idle : (s : Session) (fault : CallFault) → call_fault s.machine s.goal ≡ Some fault → EndsIdle s (call_fault_line fault)
+pub ends_idle : (s : Session) (fault : CallFault) → call_fault s.machine s.goal ≡ Some fault → EndsIdle s (call_fault_line fault)
 ends_idle s fault is = one (is_update s.now.stage)
   where
     one : (b : Bool)
@@ -51,11 +48,11 @@ ends_idle s fault is = one (is_update s.now.stage)
     )
 
 pub refused_calls_change_nothing : RefusedCallsChangeNothing
-refused_calls_change_nothing s fault h none first =
+refused_calls_change_nothing s fault none first =
     ends_idle s (Refused fault) (call_fails s.machine s.goal (Refused fault) (λ busy. absurd (cc busy)) (λ own same. let e : fault ≡ own = cc same in (none, subst (λ (f : Fault). IsFirstFault s.goal (Some f)) e first)))
 
 pub calls_under_way_change_nothing : CallsUnderWayChangeNothing
-calls_under_way_change_nothing s h busy = ends_idle s UnderWay (call_fails s.machine s.goal UnderWay (λ same. busy) (λ own same. absurd (cc same)))
+calls_under_way_change_nothing s busy = ends_idle s UnderWay (call_fails s.machine s.goal UnderWay (λ same. busy) (λ own same. absurd (cc same)))
 
 -- ---- accepted
 
@@ -66,7 +63,7 @@ accepted_where_idle s = (
 )
 
 pub accepted_calls : AcceptedCallsAreUnderWay
-accepted_calls s h begin none = (
+accepted_calls s begin none = (
   ap (λ (b : Bool). if b then update_line s.machine s.goal else call_line s.machine s.goal) begin ∙ ap (λ (o : Option CallFault). option_map_or call_fault_line o called_line) none,
   ap (λ (b : Bool). if b then after_update s.machine s.goal else after_call s.machine s.goal) begin
       ∙ ap (λ (o : Option CallFault). option_map_or (λ fault. s.machine) o (next s.machine (Calls s.goal))) none,
@@ -98,6 +95,18 @@ word_after m f h address some = one (place m address) refl some
     one None at some = absurd (cc some)
     one (Some i) at some = word_of_words m f h address i (aligned_place m address i at) at
 
+-- a session has at least one processor
+some_told : (stage : Stage) (cpus : ℕ) → is_past_dump stage ≡ true → HasCpus stage cpus → 1 ≤ cpus
+some_told Rams cpus past has = has.0
+some_told Commands cpus past has = has.0
+some_told InUpdate cpus past has = has.0
+some_told InBegin cpus past has = has.0
+some_told other cpus past has = absurd (cc past)
+
+era_risen : (goal : RegisterFile) (ps : List Processor) → 1 ≤ length ps → common_era (map (settled_processor goal) ps) ≡ common_era ps + 1
+era_risen goal [] some = absurd (omega arith)
+era_risen goal (p ∷ ps) some = refl
+
 -- from the machine that the end of the section leaves
 settles : (s : Session) → IsSession s → IsMemory s.machine.system.memory → IsQuiet (updated s.machine.system (each_processor s.machine.system) s.goal)
     → command_text s command.End ≡ complete_line (common_era (map (settled_processor s.goal) s.machine.system.processors))
@@ -105,6 +114,7 @@ settles : (s : Session) → IsSession s → IsMemory s.machine.system.memory →
 settles s h memory quiet text = record {
   era = common_era (map (settled_processor s.goal) s.machine.system.processors);
   line_is = text;
+  risen = era_risen s.goal s.machine.system.processors (let some = some_told s.now.stage s.now.cpus h.past h.situation.cpus in omega (arith, some, h.count));
   eras = quiet.one_era;
   settled = settled_after s.goal (common_era (map (settled_processor s.goal) s.machine.system.processors)) s.machine.system.processors;
   no_order = refl;
@@ -123,44 +133,3 @@ complete_updates_settle s h update none =
     ∙ ap (λ (o : Option CallFault). option_map_or call_fault_line o (complete_line (common_era (option_map_or (λ fault. s.machine) o (updated s.machine.system (each_processor s.machine.system) s.goal)).system.processors))) none in
     subst (IsSettledAfter s) (sym after)
     (settles s h (stands h.arises).0 (updated_is_quiet s.machine s.goal (each_processor s.machine.system) (is_quiet_without_order s.machine h.arises enabled.0) enabled) text)
-
--- ---- releases
-
--- a step that does nothing tells of no event
-count_idle : (o : Order) (ps : List Processor) (ph : Phase) (e : Event) → pause o ps ph ≡ Did e → ⊥
-count_idle o ps Arrived e is = one (is_cancelled o.go) is
-  where
-    one : (b : Bool) → option_map_or (λ c. Waits c.arrived c.awaited) (if b then None else Some (first_barrier_count o ps)) NoUpdate ≡ Did e → ⊥
-    one true is = cc is
-    one false is = cc is
-count_idle o ps Arrived2 e is = cc is
-count_idle o ps other e is = cc is
-
-pause_idle : (m : Machine) (k : ℕ) (e : Event) → pause_at m k ≡ Did e → ⊥
-pause_idle m k e = one m.order (slice_get m.system.processors k)
-  where
-    one : (o : Option Order) (p : Option Processor) → option_map_or (λ o. option_map_or (λ p. pause o m.system.processors p.phase) p NoUpdate) o NoUpdate ≡ Did e → ⊥
-    one None p is = cc is
-    one (Some o) None is = cc is
-    one (Some o) (Some p) is = count_idle o m.system.processors p.phase e is
-
-answered_due : (m : Machine) (k : ℕ) (e : Event) → step_answer m k ≡ Did e → due_at m k ≡ Some e
-answered_due m k e = one (due_at m k)
-  where
-    one : (o : Option Event) → option_map_or Did o (pause_at m k) ≡ Did e → o ≡ Some e
-    one None is = absurd (pause_idle m k e is)
-    one (Some due) is = let same : due ≡ e = cc is in ap Some same
-
-due_order : (m : Machine) (k : ℕ) (e : Event) → due_at m k ≡ Some e → (o : Order) × (m.order ≡ Some o)
-due_order m k e due = one m.order refl
-  where
-    one : (o : Option Order) → m.order ≡ o → (o : Order) × (m.order ≡ Some o)
-    one None is = absurd (cc (rw is at due))
-    one (Some o) is = (o, is)
-
-pub released_sessions_settle : ReleasedSessionsSettle
-released_sessions_settle s k h released =
-    let due = answered_due s.machine k Release released in
-    let order = due_order s.machine k Release due in
-    let after : step_after s.machine k ≡ next s.machine (Steps k Release) = ap (λ (o : Option Event). option_map_or (λ e. next s.machine (Steps k e)) o s.machine) due in
-    (order.0, order.1, subst (λ (m : Machine). IsSettled m.system (order.0.from_era + 1) order.0.goal) (sym after) (settled_from_release s.machine order.0 k [] h.arises order.1 due tt refl))

@@ -1,4 +1,4 @@
-use Rattle.mt_replay.proofs.Refusals.Calls.{released_sessions_settle}
+use Rattle.mt_replay.proofs.Refusals.Releases.{released_sessions_settle}
 use Rattle.mt_replay.proofs.statuses.released_sessions_settle.Goals as goal
 
 pub returns : goal.returns
