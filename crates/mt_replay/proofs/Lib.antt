@@ -7,6 +7,7 @@ pub mod FirstFault
 pub mod Heads
 pub mod Hiding
 pub mod Keeping
+pub mod Refusals
 pub mod SameFiles
 pub mod Telling
 mod Whole

@@ -9,6 +9,7 @@ mod laws;
 mod replayer;
 mod report;
 mod running;
+mod statuses;
 mod texts;
 mod worked;
 
@@ -17,6 +18,11 @@ pub use kept::{commands_finish_one_update, commands_keep_a_session, scripts_keep
 pub use laws::{same_files_are_equal, the_first_fault_is_first};
 pub use replayer::Replayer;
 pub use running::replay;
+pub use statuses::{
+    a_text_shows_one_dump, accepted_comes_first, complete_updates_settle,
+    refused_calls_change_nothing, refused_dumps_are_told_alone, released_sessions_settle,
+    statuses_tell_of_offences,
+};
 pub use worked::{
     worked_answers, worked_events, worked_phases, worked_reports, worked_updates, worked_values,
 };
