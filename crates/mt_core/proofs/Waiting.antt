@@ -122,8 +122,7 @@ waits_at_barriers m k p c at = one m.system m.order at
     one s None at = ((λ h. absurd (cc)), (λ o is w. absurd (cc)))
     one s (Some o) at =
         let same : step_answer (under_way o s) k ≡ answer o s.processors p p.phase =
-        ap (λ (x : Option Processor). option_map_or Did (option_map_or (λ q. due o s.processors q q.phase) x None) (option_map_or (λ q. pause o s.processors q.phase) x NoUpdate)) at in
-        (
+        ap (λ (x : Option Processor). option_map_or Did (option_map_or (λ q. due o s.processors q q.phase) x None) (option_map_or (λ q. pause o s.processors q.phase) x NoUpdate)) at in (
           (λ h. (o, refl, out o s.processors p c p.phase (sym same ∙ h))),
           (λ v is w. let order : o ≡ v = cc in same ∙ back o s.processors p c p.phase (subst (λ (x : Order). WaitsFor x s.processors p c) (sym order) w)),
         )

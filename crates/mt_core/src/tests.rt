@@ -74,8 +74,7 @@ fn word(core: &Core, address: u64) -> Option<u64> {
 fn fits(cpus: &[Cpu], goal: &RegFile) -> bool
     ensures { IsTrue result ↔ All (FitsGoal goal.now) cpus.now }
 {
-    cpus.iter()
-        .all(|cpu| goal.maxphy == cpu.regs().maxphy && goal.cap == cpu.regs().cap)
+    cpus.iter().all(|cpu| goal.maxphy == cpu.regs().maxphy && goal.cap == cpu.regs().cap)
 }
 
 /// Whether each era has room for an update.
@@ -155,11 +154,11 @@ fn steps_in_turn_lead_there_too(rt: HostRuntime) {
     assert!(rt; core.go());
     assert!(rt; !core.go());
     assert!(rt; step(&mut core, 0) == Some(Stepped::Waits { arrived: 2, of: 3 }));
-    let mut did = 2;
+    let mut did = 2u32;
     for _ in 0..200 {
         for k in 0..2 {
             if matches!(step(&mut core, k), Some(Stepped::Did(_))) {
-                did += 1;
+                did = u32::saturating_add(did, 1);
             }
         }
     }
@@ -181,7 +180,12 @@ fn refused_calls_change_nothing(rt: HostRuntime) {
     assert!(rt; matches!(call(&mut core, bad), Some(Err(CallFault::Refused(_)))));
     assert!(rt; core.order().is_none());
     assert!(rt; step(&mut core, 0) == Some(Stepped::NoUpdate));
-    assert!(rt; core.system().cpus.get(0).is_some_and(|cpu| cpu.regs().get(0x200) == Some(6)));
+    assert!(rt;
+        core.system()
+            .cpus
+            .get(0)
+            .is_some_and(|cpu| cpu.regs().get(0x200) == Some(6))
+    );
     assert!(rt; call(&mut core, goal) == Some(Ok(())));
     let Some(other) = file(5) else {
         panic!(rt; "the file is made");

@@ -4,5 +4,6 @@ pub mod Kept
 pub mod Parts
 pub mod Running
 pub mod Session
+pub mod Statuses
 pub mod Texts
 pub mod Transcript

@@ -6,9 +6,10 @@ mod head;
 mod hidden;
 mod kept;
 mod laws;
-mod replay;
 mod replayer;
 mod report;
+mod running;
+mod statuses;
 mod texts;
 mod worked;
 
@@ -16,6 +17,12 @@ pub use hidden::caches_are_never_seen_in_scripts;
 pub use kept::{commands_finish_one_update, commands_keep_a_session, scripts_keep_each_session};
 pub use laws::{same_files_are_equal, the_first_fault_is_first};
 pub use replayer::Replayer;
+pub use running::replay;
+pub use statuses::{
+    a_text_shows_one_dump, accepted_comes_first, complete_updates_settle,
+    refused_calls_change_nothing, refused_dumps_are_told_alone, released_sessions_settle,
+    statuses_tell_of_offences,
+};
 pub use worked::{
     worked_answers, worked_events, worked_phases, worked_reports, worked_updates, worked_values,
 };

@@ -1,4 +1,4 @@
-ghost use Rattle.std.specs.Prelude.{◌≤◌, length};
+ghost use Rattle.std.specs.Prelude.{◌≡◌, ◌<◌, ◌≤◌, length, slice_get, Some};
 ghost use Rattle.mt_ports.specs.Causes.{HasCause};
 ghost use Rattle.mt_output.specs.Writing.{Adds};
 ghost use Rattle.mt_replay.specs.Texts.{processor_lines, report_text};
@@ -8,6 +8,13 @@ use mt_cpu::Cpu;
 use mt_output::Writer;
 use mt_ports::{Failed, Sink};
 
+fn cpu_at(cpus: &[Cpu], k: usize) -> &Cpu
+    requires { k < length cpus.now }
+    ensures { slice_get cpus.now k ≡ Some result.now }
+{
+    &cpus[k]
+}
+
 // Writes a line for each processor, in order.
 fn write_processors<K: Sink>(cpus: &[Cpu], writer: &mut Writer, sink: &mut K) -> Result<(), Failed>
     requires { length cpus.now ≤ 16 }
@@ -15,7 +22,11 @@ fn write_processors<K: Sink>(cpus: &[Cpu], writer: &mut Writer, sink: &mut K) ->
     ensures cause { HasCause (K.faults sink.old) (K.faults sink.new) result }
 {
     'processors: for k in 0..cpus.len() {
-        writer.write(sink, processor_line(k as u32, &cpus[k]).as_slice())?;
+        let line = processor_line(k as u32, cpu_at(cpus, k));
+        match writer.write(sink, line.as_slice()) {
+            Ok(()) => {}
+            Err(failed) => return Err(failed),
+        }
     }
     Ok(())
 }
@@ -26,6 +37,8 @@ pub(crate) fn write_report<K: Sink>(cpus: &[Cpu], writer: &mut Writer, sink: &mu
     ensures bytes { Adds writer.old (report_text cpus.now) writer.new (K.taken sink.old) (K.taken sink.new) result }
     ensures cause { HasCause (K.faults sink.old) (K.faults sink.new) result }
 {
-    write_processors(cpus, writer, sink)?;
-    writer.write(sink, registers_line(have_one_file(cpus)).as_slice())
+    match write_processors(cpus, writer, sink) {
+        Ok(()) => writer.write(sink, registers_line(have_one_file(cpus)).as_slice()),
+        Err(failed) => Err(failed),
+    }
 }

@@ -10,6 +10,6 @@ loop-k-preserved c =
     let k = c.loop-k.k in
     let end = c.count-k-end.result in (
       ap (λ (m : Machine). fold step_after m (range_with_len (k + 1) (end - (k + 1)))) c.step.ensures.after
-      ∙ ap (fold step_after c.loop-k.self) (sym (range_more k end (omega arith))) ∙ c.loop-k.invariant.0,
+          ∙ ap (fold step_after c.loop-k.self) (sym (range_more k end (omega arith))) ∙ c.loop-k.invariant.0,
       ap (λ (m : Machine). length m.system.processors) c.step.ensures.after ∙ same_number_after c.loop-k.self k ∙ c.loop-k.invariant.1,
     )

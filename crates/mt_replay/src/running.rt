@@ -1,4 +1,4 @@
-ghost use Rattle.std.specs.Prelude.{◌≡◌, ◌≤◌, ◌<◌, ◌+◌, ◌++◌, ℕ, drop, length, MatchOption, MatchResult, Ok, Err};
+ghost use Rattle.std.specs.Prelude.{◌≡◌, ◌≤◌, ◌<◌, ◌+◌, ◌++◌, ℕ, drop, length, true, MatchOption, MatchResult, Ok, Err};
 ghost use Rattle.mt_text.specs.Text.{end_of, lines_of};
 ghost use Rattle.mt_ports.specs.Causes.{HasCause, Rose};
 ghost use Rattle.mt_ports.specs.Puts.{AppendsFront};
@@ -10,7 +10,9 @@ ghost use Rattle.mt_script.specs.Commands.{command_of, end_fault};
 ghost use Rattle.mt_replay.specs.Kept.{HasEras};
 ghost use Rattle.mt_replay.specs.Running.{LeadsTo, Replays, Tells};
 ghost use Rattle.mt_replay.specs.Session.{Session, command_text, session_after};
-ghost use Rattle.mt_replay.specs.Transcript.{Told, told, told_at_end, told_command, told_in, told_offence, transcript};
+ghost use Rattle.mt_replay.specs.Transcript.{Told, told, told_at_end, told_command, told_file, told_in, told_offence, transcript};
+ghost use Rattle.mt_replay.specs.FirstFault.{first_fault};
+ghost use Rattle.mt_script.specs.Stages.{is_in_dump};
 
 use crate::head::{Begun, read_head};
 use crate::replayer::Replayer;
@@ -26,8 +28,10 @@ fn tell<K: Sink>(writer: &mut Writer, sink: &mut K, text: &[u8], status: Status)
     ensures bytes { Tells (told text.now status) writer.old writer.new (K.taken sink.old) (K.taken sink.new) result }
     ensures cause { HasCause (K.faults sink.old) (K.faults sink.new) result }
 {
-    writer.write(sink, text)?;
-    Ok(status)
+    match writer.write(sink, text) {
+        Ok(()) => Ok(status),
+        Err(failed) => Err(failed),
+    }
 }
 
 fn tell_offence<K: Sink>(writer: &mut Writer, sink: &mut K, offence: &Offence) -> Result<Status, Failed>
@@ -49,14 +53,18 @@ fn do_command<K: Sink>(replayer: &mut Replayer, c: &Command, writer: &mut Writer
     ensures cause { HasCause (K.faults sink.old) (K.faults sink.new) result }
 {
     if *c == Command::Report {
-        replayer.report(writer, sink)?;
-        return Ok(None);
+        return match replayer.report(writer, sink) {
+            Ok(()) => Ok(None),
+            Err(failed) => Err(failed),
+        };
     }
     let Ok(line) = replayer.run(c) else {
         return Ok(Some(Status::NoMemory));
     };
-    writer.write(sink, line.as_slice())?;
-    Ok(None)
+    match writer.write(sink, line.as_slice()) {
+        Ok(()) => Ok(None),
+        Err(failed) => Err(failed),
+    }
 }
 
 // Takes a line after the dump. There is a status where the replay ends with it.
@@ -73,7 +81,10 @@ fn take_line<K: Sink>(replayer: &mut Replayer, line: &Line<'_>, writer: &mut Wri
     replayer.is_session();
     match read_command(line, replayer.setup()) {
         Ok(command) => do_command(replayer, &command, writer, sink),
-        Err(fault) => Ok(Some(tell_offence(writer, sink, &Offence::Script(fault))?)),
+        Err(fault) => match tell_offence(writer, sink, &Offence::Script(fault)) {
+            Ok(status) => Ok(Some(status)),
+            Err(failed) => Err(failed),
+        },
     }
 }
 
@@ -89,18 +100,17 @@ fn end_lines<K: Sink>(setup: &Setup, source: &[u8], writer: &mut Writer, sink: &
 }
 
 // Runs the lines after the dump, the first of which begins at an offset and has this number.
-fn run_lines<K: Sink>(replayer: Replayer, source: &[u8], from: usize, first: u64, writer: &mut Writer, sink: &mut K) -> Result<Status, Failed>
+fn run_lines<K: Sink>(replayer: &mut Replayer, source: &[u8], from: usize, first: u64, writer: &mut Writer, sink: &mut K) -> Result<Status, Failed>
     requires within { from ≤ length source.now }
     requires numbered { first ≤ from + 1 }
-    requires eras { HasEras first replayer }
-    ensures bytes { Tells (told_in (end_of source.now) first (lines_of (drop from source.now)) replayer) writer.old writer.new (K.taken sink.old) (K.taken sink.new) result }
+    requires eras { HasEras first replayer.old }
+    ensures bytes { Tells (told_in (end_of source.now) first (lines_of (drop from source.now)) replayer.old) writer.old writer.new (K.taken sink.old) (K.taken sink.new) result }
     ensures cause { HasCause (K.faults sink.old) (K.faults sink.new) result }
 {
-    let mut replayer = replayer;
     let mut at = from;
     let mut number = first;
     'lines: while let Some(line) = next_line(source, at, number) {
-        match take_line(&mut replayer, &line, writer, sink) {
+        match take_line(replayer, &line, writer, sink) {
             Ok(None) => {}
             Ok(Some(status)) => return Ok(status),
             Err(failed) => return Err(failed),
@@ -109,4 +119,61 @@ fn run_lines<K: Sink>(replayer: Replayer, source: &[u8], from: usize, first: u64
         number += 1;
     }
     end_lines(replayer.setup(), source, writer, sink)
+}
+
+// Runs a script from its dump's end on.
+fn run_begun<K: Sink>(alloc: Global, begun: Begun, source: &[u8], writer: &mut Writer, sink: &mut K) -> Result<Status, Failed>
+    requires stage { is_in_dump begun.setup.stage ≡ true }
+    requires within { begun.next ≤ length source.now }
+    requires numbered { begun.number ≤ begun.next + 1 }
+    ensures bytes { Tells (told_file begun.setup begun.file (told_in (end_of source.now) begun.number (lines_of (drop begun.next source.now))) (first_fault begun.file)) writer.old writer.new (K.taken sink.old) (K.taken sink.new) result }
+    ensures cause { HasCause (K.faults sink.old) (K.faults sink.new) result }
+{
+    let Begun {
+        setup,
+        file,
+        next,
+        number,
+    } = begun;
+    file.is_register_file();
+    if let Some(fault) = file.first_fault() {
+        return tell(writer, sink, refused_line(&fault).as_slice(), Status::Refused);
+    }
+    let Ok(mut replayer) = Replayer::begin(alloc, setup, file) else {
+        return Ok(Status::NoMemory);
+    };
+    match writer.write(sink, accepted_line()) {
+        Ok(()) => run_lines(&mut replayer, source, next, number, writer, sink),
+        Err(failed) => Err(failed),
+    }
+}
+
+// Runs a script. All that it says goes to the writer.
+fn run<K: Sink>(alloc: Global, source: &[u8], writer: &mut Writer, sink: &mut K) -> Result<Status, Failed>
+    ensures bytes { Tells (transcript source.now) writer.old writer.new (K.taken sink.old) (K.taken sink.new) result }
+    ensures cause { HasCause (K.faults sink.old) (K.faults sink.new) result }
+{
+    match read_head(source) {
+        Ok(begun) => run_begun(alloc, begun, source, writer, sink),
+        Err(offence) => tell_offence(writer, sink, &offence),
+    }
+}
+
+/// Runs a script on one machine and writes its transcript. The status is the transcript's, NoMemory
+/// or WriteFault. Memory is asked for at the start, at the dump's end and at each window alone.
+pub fn replay<R: AllocGlobal, K: Sink, G: Gate>(rt: &R, source: &[u8], sink: &mut K, _gate: &G) -> Status
+    ensures bytes { Replays source.now (K.taken sink.old) (K.taken sink.new) result }
+    ensures later { K.faults sink.old ≤ K.faults sink.new }
+    ensures failed { result ≡ Status.WriteFault → Rose (K.faults sink.old) (K.faults sink.new) }
+{
+    let Ok(mut writer) = Writer::new(rt.alloc()) else {
+        return Status::NoMemory;
+    };
+    match run(rt.alloc(), source, &mut writer, sink) {
+        Ok(status) => match writer.flush(sink) {
+            Ok(()) => status,
+            Err(_) => Status::WriteFault,
+        },
+        Err(_) => Status::WriteFault,
+    }
 }

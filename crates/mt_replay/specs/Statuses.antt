@@ -1,0 +1,168 @@
+-- What is promised of a script's refusals (own).
+--     ShowsDump text file      the text's dump is read whole, no offence stands before, and its lines show the file
+--     the status of a text's transcript, and its first and last line
+--     what a refused update, a complete one and a release leave of the machine of a session
+use Rattle.std.specs.Prelude.{ℕ, ◌≡◌, ◌≢◌, ◌⊎◌, ◌↔◌, ◌+◌, Bool, true, false, List, [], ◌∷◌, ◌++◌, codes, IsSome, ⊤, Some, None, Ok}
+use Rattle.std.specs.List.{All}
+use Rattle.mt_text.specs.Text.{lines_of}
+use Rattle.mt_ports.specs.declared.status.Status.TheVariants.{Done, Refused, BadText}
+use Rattle.mt_regs.specs.declared.fault.Fault.{Fault}
+use Rattle.mt_regs.specs.RegisterFile.{RegisterFile}
+use Rattle.mt_regs.specs.Faults.{IsAccepted, IsFirstFault}
+use Rattle.mt_dump.specs.Line.{Reading, said_of}
+use Rattle.mt_dump.specs.Dump.{ShownBy, offence_of}
+use Rattle.mt_dump.specs.Reader.{onto}
+use Rattle.mt_machine.specs.declared.event.Event.TheVariants.{Release}
+use Rattle.mt_machine.specs.Memory.{place, word_at}
+use Rattle.mt_machine.specs.System.{now}
+use Rattle.mt_machine.specs.Machine.{Calls, Machine, Order, common_era, next}
+use Rattle.mt_machine.specs.Update.{IsSettled, emptied}
+use Rattle.mt_core.specs.Steps.{step_answer}
+use Rattle.mt_core.specs.declared.stepped.Stepped.TheVariants.{Did}
+use Rattle.mt_script.specs.Situation.{Situation, at_start}
+use Rattle.mt_script.specs.Stages.{is_in_dump}
+use Rattle.mt_script.specs.Accept.{Fits, accepted}
+use Rattle.mt_script.specs.Commands.{command_of}
+use Rattle.mt_script.specs.Script.{is_end_command, script_offence}
+use Rattle.mt_script.specs.declared.command.Command.{Command}
+use Rattle.mt_script.specs.declared.command.Command.TheVariants as command
+use Rattle.mt_script.specs.declared.fault.Offence.{Offence}
+use Rattle.mt_output.specs.Lines.{accepted_line, line, offence_line, refused_line}
+use Rattle.mt_replay.specs.Kept.{IsSession}
+use Rattle.mt_replay.specs.Session.{Session, call_fault, command_text, each_processor, is_update, machine_after, session_after}
+use Rattle.mt_replay.specs.Texts.{called_line, complete_line}
+use Rattle.mt_replay.specs.Transcript.{told, told_offence, transcript}
+
+-- ---- the dump of a text
+
+-- a line of the dump, which ends it where the last argument is true: the lines before it then show the file
+abbrev pub ShowsAt : RegisterFile → Situation → List Reading → Reading → (Situation → List Reading → Type 0) → Bool → Type 0
+ShowsAt file now before says rest true = ShownBy (onto before []) file
+ShowsAt file now before says rest false = (offence_of before says ≡ None) × rest now (says ∷ before)
+
+abbrev pub ShowsAfter : RegisterFile → Situation → List Reading → Reading → (Situation → List Reading → Type 0) → Command → Bool → Type 0
+ShowsAfter file now before says rest c true = ShowsAt file now before says rest (is_end_command c)
+ShowsAfter file now before says rest c false = rest (accepted now c) before
+
+-- each of these lines is accepted in its turn, up to one that ends the dump
+abbrev pub ShowsIn : RegisterFile → ℕ → List (List ℕ) → Situation → List Reading → Type 0
+ShowsIn file number [] now before = ⊥
+ShowsIn file number (line ∷ lines) now before =
+    (c : Command) × (command_of now number line ≡ Ok c) × ShowsAfter file now before (said_of number line) (ShowsIn file (number + 1) lines) c (is_in_dump now.stage)
+
+abbrev pub ShowsDump : List ℕ → RegisterFile → Type 0
+ShowsDump text file = ShowsIn file 1 (lines_of text) at_start []
+
+-- the dump isn't read to its end, whatever file it might show
+abbrev pub ShowsNoDump : List ℕ → Type 0
+ShowsNoDump text = (file : RegisterFile) → ShowsDump text file → ⊥
+
+-- a text shows no two files
+abbrev pub OneFileShown : Type 0
+OneFileShown = (text : List ℕ) (file other : RegisterFile) → ShowsDump text file → ShowsDump text other → file ≡ other
+
+-- ---- statuses
+
+abbrev pub EndsWith : List ℕ → List ℕ → Type 0
+EndsWith text last = (front : List ℕ) × (text ≡ front ++ last)
+
+abbrev pub BeginsWith : List ℕ → List ℕ → Type 0
+BeginsWith text first = (rest : List ℕ) × (text ≡ first ++ rest)
+
+abbrev pub HasRefusedFile : List ℕ → Type 0
+HasRefusedFile text = (file : RegisterFile) × (fault : Fault) × ShowsDump text file × IsFirstFault file (Some fault)
+
+abbrev pub RefusedWhereFileIsRefused : Type 0
+RefusedWhereFileIsRefused = (text : List ℕ) → ((transcript text).status ≡ Refused) ↔ HasRefusedFile text
+
+-- the whole text is the line of the fault
+abbrev pub RefusedAlone : Type 0
+RefusedAlone = (text : List ℕ) (file : RegisterFile) (fault : Fault) → ShowsDump text file → IsFirstFault file (Some fault) → transcript text ≡ told (refused_line fault) Refused
+
+-- where no file is refused the status says whether the script has an offence
+abbrev pub BadTextWhereOffence : Type 0
+BadTextWhereOffence =
+    (text : List ℕ) → ((transcript text).status ≡ BadText) ↔ (((o : Offence) × (script_offence text ≡ Some o)) × ((transcript text).status ≢ Refused))
+
+-- the first offence is the last line
+abbrev pub BadTextEndsWithOffence : Type 0
+BadTextEndsWithOffence =
+    (text : List ℕ) (o : Offence) → script_offence text ≡ Some o → (transcript text).status ≢ Refused → EndsWith (transcript text).text (offence_line o)
+
+abbrev pub DoneWhereNoOffence : Type 0
+DoneWhereNoOffence = (text : List ℕ) → ((transcript text).status ≡ Done) ↔ ((script_offence text ≡ None) × ((transcript text).status ≢ Refused))
+
+abbrev pub OneOfThreeStatuses : Type 0
+OneOfThreeStatuses =
+    (text : List ℕ) → ((transcript text).status ≡ Done) ⊎ ((transcript text).status ≡ Refused) ⊎ ((transcript text).status ≡ BadText)
+
+-- ---- the first line
+
+-- a file that is shown is accepted exactly where the status isn't Refused
+abbrev pub AcceptedUnlessRefused : Type 0
+AcceptedUnlessRefused = (text : List ℕ) (file : RegisterFile) → ShowsDump text file → ((transcript text).status ≢ Refused) ↔ IsAccepted file
+
+-- an accepted file is told of before anything else
+abbrev pub AcceptedFirst : Type 0
+AcceptedFirst = (text : List ℕ) (file : RegisterFile) → ShowsDump text file → IsAccepted file → BeginsWith (transcript text).text accepted_line
+
+-- where the dump isn't read to its end the whole text is the line of the offence
+abbrev pub OffenceAlone : Type 0
+OffenceAlone = (text : List ℕ) → ShowsNoDump text → (o : Offence) × (script_offence text ≡ Some o) × (transcript text ≡ told_offence o)
+
+-- ---- refused and complete updates
+
+-- the end of a section writes this line, and changes no processor, no word and no order
+abbrev pub EndsIdle : Session → List ℕ → Type 0
+EndsIdle s text = (command_text s command.End ≡ text) × (machine_after s command.End ≡ s.machine)
+
+-- in both kinds of section
+abbrev pub RefusedCallsChangeNothing : Type 0
+RefusedCallsChangeNothing = (s : Session) (fault : Fault) → s.machine.order ≡ None → IsFirstFault s.goal (Some fault) → EndsIdle s (refused_line fault)
+
+-- whatever the goal is
+abbrev pub CallsUnderWayChangeNothing : Type 0
+CallsUnderWayChangeNothing = (s : Session) → IsSome s.machine.order → EndsIdle s (line (codes "under way"))
+
+-- The machine after a whole update to the goal.
+pub record IsSettledAfter (s : Session) (m : Machine) : Type 0 where
+  pub era : ℕ
+  pub line_is : command_text s command.End ≡ complete_line era
+  pub risen : era ≡ common_era s.machine.system.processors + 1
+  pub eras : All (λ p. p.era ≡ era) m.system.processors
+  pub settled : IsSettled m.system era s.goal
+  pub no_order : m.order ≡ None
+  pub windows : m.system.memory.windows ≡ s.machine.system.memory.windows
+  pub words : (address : ℕ) → IsSome (place s.machine.system.memory address)
+      → word_at m.system.memory address ≡ now (emptied s.machine.system (each_processor s.machine.system)) address  -- as it was once the buffers were emptied
+
+abbrev pub CompleteUpdatesSettle : Type 0
+CompleteUpdatesSettle = (s : Session) → IsSession s → is_update s.now.stage ≡ true → call_fault s.machine s.goal ≡ None → IsSettledAfter s (machine_after s command.End)
+
+-- the other kind of section gives the goal to the processors, and no more
+abbrev pub AcceptedCallsAreUnderWay : Type 0
+AcceptedCallsAreUnderWay =
+    (s : Session) → is_update s.now.stage ≡ false → call_fault s.machine s.goal ≡ None
+    → (command_text s command.End ≡ called_line) × (machine_after s command.End ≡ next s.machine (Calls s.goal))
+
+-- a goal is refused nothing exactly where no update is under way and it has no fault
+abbrev pub AcceptedWhereIdle : Type 0
+AcceptedWhereIdle = (s : Session) → (call_fault s.machine s.goal ≡ None) ↔ ((s.machine.order ≡ None) × IsAccepted s.goal)
+
+-- ---- releases
+
+-- each of these commands fits in its turn, and none calls for an update
+abbrev pub AreWithoutCall : Session → List Command → Type 0
+AreWithoutCall s [] = ⊤
+AreWithoutCall s (c ∷ cs) = Fits s.now c × (c ≡ command.End → IsSome (call_fault s.machine s.goal)) × AreWithoutCall (session_after s c) cs
+
+abbrev pub session_after_all : Session → List Command → Session
+session_after_all s [] = s
+session_after_all s (c ∷ cs) = session_after_all (session_after s c) cs
+
+-- from a step that releases on, and up to the next call, each processor has the goal's registers and holds nothing older than the update
+abbrev pub ReleasedSessionsSettle : Type 0
+ReleasedSessionsSettle =
+    (s : Session) (k : ℕ) (since : List Command) → IsSession s → Fits s.now (command.Step k) → step_answer s.machine k ≡ Did Release
+    → AreWithoutCall (session_after s (command.Step k)) since
+    → (o : Order) × (s.machine.order ≡ Some o) × IsSettled (session_after_all (session_after s (command.Step k)) since).machine.system (o.from_era + 1) o.goal

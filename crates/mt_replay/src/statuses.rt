@@ -1,0 +1,51 @@
+ghost use Rattle.mt_replay.specs.Statuses.{AcceptedCallsAreUnderWay, AcceptedFirst, AcceptedUnlessRefused, AcceptedWhereIdle, BadTextEndsWithOffence, BadTextWhereOffence, CallsUnderWayChangeNothing, CompleteUpdatesSettle, DoneWhereNoOffence, OffenceAlone, OneFileShown, OneOfThreeStatuses, RefusedAlone, RefusedCallsChangeNothing, RefusedWhereFileIsRefused, ReleasedSessionsSettle};
+
+/// A text's dump shows no two files.
+pub fn a_text_shows_one_dump()
+    ensures { OneFileShown }
+{}
+
+/// A script is refused exactly where its dump is read whole and shows a file with a fault, which is
+/// then all that is told.
+pub fn refused_dumps_are_told_alone()
+    ensures exactly { RefusedWhereFileIsRefused }
+    ensures alone { RefusedAlone }
+{}
+
+/// Where it isn't refused the status says whether it has an offence, which is then the last line.
+pub fn statuses_tell_of_offences()
+    ensures bad_text { BadTextWhereOffence }
+    ensures last { BadTextEndsWithOffence }
+    ensures done { DoneWhereNoOffence }
+    ensures three { OneOfThreeStatuses }
+{}
+
+/// An accepted file is told of first. Where the dump isn't read to its end the offence is all that
+/// is told.
+pub fn accepted_comes_first()
+    ensures exactly { AcceptedUnlessRefused }
+    ensures first { AcceptedFirst }
+    ensures offence { OffenceAlone }
+{}
+
+/// Where a goal has a fault, or an update is under way, the end of its section says so and the
+/// machine stays as it is.
+pub fn refused_calls_change_nothing()
+    ensures refused { RefusedCallsChangeNothing }
+    ensures under_way { CallsUnderWayChangeNothing }
+{}
+
+/// A goal without a fault is accepted where no update is under way; it is then called for, or, in a
+/// section of `update`, each processor has it afterwards and holds nothing of another era, and each
+/// word of memory is as it was once the buffers were emptied.
+pub fn complete_updates_settle()
+    ensures accepted { AcceptedWhereIdle }
+    ensures called { AcceptedCallsAreUnderWay }
+    ensures settled { CompleteUpdatesSettle }
+{}
+
+/// From a step that releases on, and up to the next call for an update, each processor has the
+/// goal's registers and holds nothing older than the update.
+pub fn released_sessions_settle()
+    ensures { ReleasedSessionsSettle }
+{}
