@@ -155,9 +155,9 @@ never_replays bytes result old new told = by told
     but status is others = rw is others
     by : Replays bytes old new result → (result ≢ Usage) × (result ≢ ReadFault) × (result ≢ TooLong)
     by (inl (is, takes)) = elim (one_of_three bytes) [
-      | inl done ↦ but Done (is ∙ done) (λ e. cc e, λ e. cc e, λ e. cc e)
-      | inr (inl refused) ↦ but Refused (is ∙ refused) (λ e. cc e, λ e. cc e, λ e. cc e)
-      | inr (inr bad) ↦ but BadText (is ∙ bad) (λ e. cc e, λ e. cc e, λ e. cc e)
+      | inl ends ↦ but Done (is ∙ ends) (λ e. cc e, λ e. cc e, λ e. cc e)
+      | inr (inl ends) ↦ but Refused (is ∙ ends) (λ e. cc e, λ e. cc e, λ e. cc e)
+      | inr (inr ends) ↦ but BadText (is ∙ ends) (λ e. cc e, λ e. cc e, λ e. cc e)
     ]
     by (inr (inl is, cut)) = but NoMemory is (λ e. cc e, λ e. cc e, λ e. cc e)
     by (inr (inr is, cut)) = but WriteFault is (λ e. cc e, λ e. cc e, λ e. cc e)

@@ -4,7 +4,7 @@ use Rattle.mt_dump.specs.Dump.{Shown, dump_offence}
 use Rattle.mt_replay.specs.Running.{Replays}
 use Rattle.mt_cli.specs.Output.{usage, bad_text}
 use Rattle.mt_cli.specs.Written.{Writes}
-use Rattle.mt_cli.proofs.Leaving.{answers_leave, answers_read, offence_reads, read_to_end, replays_leave, replays_read, written_leaves}
+use Rattle.mt_cli.proofs.Leaving.{answers_leave, answers_read, never_replays, offence_reads, read_to_end, replays_leave, replays_read, written_leaves}
 use Rattle.mt_cli.proofs.SoundCommands.{of_dump_unless, sound_command}
 use Rattle.mt_cli.proofs.top.tool.Goals as goal
 
@@ -23,6 +23,15 @@ returns-in-Replay-clause-reads g c bytes left =
     let read = read_to_end _ _ bytes _ left c.in-Ok.ensures.bytes c.in-Ok.ensures.end in
     let replays = subst (λ (b : List ℕ). Replays b (g.K.Sink.taken c.args.sink.now) (g.K.Sink.taken c.replay.new.sink) c.replay.result) (c.deref.ensures.value ∙ sym read.0) c.replay.ensures.bytes in
     replays_read _ bytes _ _ _ _ (sym c.in-Some.ensures ∙ ap Some c.in-Replay.is) read.1 replays
+
+pub returns-in-Replay-clause-usage : goal.returns-in-Replay-clause-usage
+returns-in-Replay-clause-usage g c = λ is. absurd ((never_replays _ _ _ _ c.replay.ensures.bytes).0 is)
+
+pub returns-in-Replay-clause-read_fault : goal.returns-in-Replay-clause-read_fault
+returns-in-Replay-clause-read_fault g c = λ is. absurd ((never_replays _ _ _ _ c.replay.ensures.bytes).1 is)
+
+pub returns-in-Replay-clause-too_long : goal.returns-in-Replay-clause-too_long
+returns-in-Replay-clause-too_long g c = (λ is. absurd ((never_replays _ _ _ _ c.replay.ensures.bytes).2 is), λ much. absurd (c.in-Ok.ensures.too_long.1 much))
 
 pub returns-in-Err-read_dump-clause-leaves : goal.returns-in-Err-read_dump-clause-leaves
 returns-in-Err-read_dump-clause-leaves g c bytes before left taken =
