@@ -2,7 +2,9 @@
 //! group of runs is another file with a table, and another list like `dump_tables` here.
 #![tactic(auto)]
 
+mod accesses;
 mod canonical_texts;
+mod capacities;
 mod dump_texts;
 mod dumps;
 mod effective_types;
@@ -10,8 +12,14 @@ mod overlaps;
 mod pages;
 mod registers;
 mod row;
+mod script_lines;
+mod script_numbers;
+mod script_sections;
+mod scripts;
+mod steps;
 mod tidied;
 mod type_maps;
+mod updates;
 mod usages;
 
 pub use row::Row;
@@ -28,5 +36,26 @@ pub fn dump_tables() -> [&'static [Row]; 9] {
         effective_types::effective_types(),
         tidied::tidied(),
         usages::usages(),
+    ]
+}
+
+/// The tables of `replay`.
+pub fn script_tables() -> [&'static [Row]; 15] {
+    [
+        scripts::scripts(),
+        accesses::loads(),
+        accesses::stores(),
+        accesses::controls(),
+        capacities::capacities(),
+        script_lines::bad_lines(),
+        script_lines::stages(),
+        script_numbers::numbers(),
+        script_numbers::addresses(),
+        script_numbers::windows(),
+        script_sections::sections(),
+        script_sections::dumps(),
+        updates::updates(),
+        updates::barriers(),
+        steps::steps(),
     ]
 }
