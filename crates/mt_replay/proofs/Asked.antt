@@ -1,22 +1,19 @@
 -- What the conditions of calls want, from what a command fits.
-use Rattle.std.proofs.Common.{◌≡◌, ◌∙◌, ap, sym, refl, subst, arith, ℕ, ◌+◌, ◌*◌, ◌^◌, ◌<◌, ◌≤◌, ◌==◌, Bool, true, false, List, [], ◌∷◌, map, length, Option, None, Some, nat_le, nat_lt}
+use Rattle.std.proofs.Common.{◌≡◌, refl, arith, ℕ, ◌+◌, ◌*◌, ◌<◌, ◌≤◌, ◌==◌, Bool, true, false, List, [], ◌∷◌, map, length, Option, None, Some, nat_le, nat_lt}
 use Rattle.std.specs.Prelude.{◌%◌, ◌&&◌, ◌||◌, if◌then◌else◌, is_some}
 use Rattle.std.specs.List.{list_all}
 use Rattle.std.specs.Option.{option_map}
-use Rattle.std.proofs.lemmas.Bool.{and_parts, eq-eqb, eqb-true, le-leb, leb-true, lt-ltb, ltb-true, ltb-false, leb-false}
+use Rattle.std.proofs.lemmas.Bool.{and_parts, eq-eqb, eqb-true, leb-true, ltb-true}
 use Rattle.std.proofs.lemmas.List.{length-map}
 use Rattle.mt_regs.specs.RegisterFile.{RegisterFile, IsRegisterFile}
 use Rattle.mt_regs.specs.Registers.{register_of, value_at, value_of}
 use Rattle.mt_regs.specs.declared.registers.Register.{Register}
 use Rattle.mt_regs.proofs.ByNumber.{register_of-range}
-use Rattle.mt_machine.specs.Memory.{Window, window_end, word_count}
-use Rattle.mt_ram.specs.declared.fault.RamFault.{RamFault}
-use Rattle.mt_ram.specs.declared.fault.RamFault.TheVariants.{Misaligned, Overlaps, TooMuch}
+use Rattle.mt_machine.specs.Memory.{Window, word_count}
 use Rattle.mt_ram.specs.Windows.{is_overlap, is_too_much, refusal, shares_byte, window}
 use Rattle.mt_script.specs.Situation.{Situation}
 use Rattle.mt_script.specs.Numbers.{address_limit, are_apart, has_room, lines_together}
 use Rattle.mt_replay.specs.Kept.{windows_of}
-
 
 -- ---- registers
 

@@ -1,5 +1,5 @@
 -- What a call of an update answers.
-use Rattle.std.proofs.Common.{◌≡◌, sym, ap, refl, Option, None, Some, Result, Err}
+use Rattle.std.proofs.Common.{◌≡◌, sym, refl, None, Some}
 use Rattle.std.specs.Prelude.{IsSome}
 use Rattle.mt_regs.specs.declared.fault.Fault.{Fault}
 use Rattle.mt_regs.specs.RegisterFile.{RegisterFile}

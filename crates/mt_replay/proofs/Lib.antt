@@ -1,12 +1,12 @@
 pub mod Asked
 pub mod Calls
 mod DirtyCounts
-pub mod Lines
 pub mod Eras
 pub mod FirstFault
 pub mod Heads
 pub mod Hiding
 pub mod Keeping
+pub mod Lines
 pub mod Refusals
 pub mod SameFiles
 pub mod Telling

@@ -3,14 +3,14 @@ use Rattle.std.proofs.Common.{◌≡◌, ◌∙◌, ap, sym, refl, subst, arith,
 use Rattle.std.specs.Prelude.{◌⊎◌, MatchOption, MatchResult}
 use Rattle.std.specs.List.{All}
 use Rattle.std.specs.Io.KnownBytes.{Appends}
-use Rattle.mt_ports.specs.Puts.{AppendsFront, Puts}
+use Rattle.mt_ports.specs.Puts.{AppendsFront}
 use Rattle.mt_ports.specs.declared.status.Failed.{Failed}
 use Rattle.mt_ports.specs.declared.status.Status.{Status}
-use Rattle.mt_ports.specs.declared.status.Status.TheVariants.{NoMemory, Refused}
+use Rattle.mt_ports.specs.declared.status.Status.TheVariants.{BadText, Done, NoMemory, Refused, WriteFault}
 use Rattle.mt_output.specs.Writing.{Adds, Passes}
 use Rattle.mt_output.specs.Lines.{accepted_line, refused_line}
 use Rattle.mt_output.proofs.Writing.{fails_after, fails_longer, front_of_longer, passes_both, passes_nothing, puts_whole}
-use Rattle.mt_text.specs.Text.{end_of, lines_of}
+use Rattle.mt_text.specs.Text.{lines_of}
 use Rattle.mt_text.specs.declared.place.Place.{Place}
 use Rattle.mt_regs.specs.RegisterFile.{RegisterFile}
 use Rattle.mt_regs.specs.Faults.{IsAccepted, IsFirstFault}
@@ -24,12 +24,13 @@ use Rattle.mt_script.specs.declared.fault.ScriptFault.{ScriptFault}
 use Rattle.mt_script.specs.declared.fault.Offence.TheVariants.{Script}
 use Rattle.mt_replay.specs.FirstFault.{first_fault}
 use Rattle.mt_replay.specs.Kept.{HasEras, IsSession}
-use Rattle.mt_replay.specs.Running.{LeadsTo, Replays, Tells, TellsAll, TellsFront}
+use Rattle.mt_replay.specs.Running.{LeadsTo, Replays, Tells}
 use Rattle.mt_replay.specs.Session.{Session, command_text, first_session, session_after}
 use Rattle.mt_replay.specs.Transcript.{Told, behind, told, told_at_end, told_command, told_file, told_in, told_offence, transcript}
 use Rattle.mt_replay.proofs.Eras.{eras_kept}
 use Rattle.mt_replay.proofs.FirstFault.{is_first_fault}
 use Rattle.mt_replay.proofs.Lines.{drop_past}
+use Rattle.mt_replay.proofs.Refusals.Outcomes.{one_of_three}
 
 -- nothing is written yet
 pub leads_here : (t : Told) (waiting : List ℕ) (known : Option (List ℕ)) → LeadsTo t t waiting waiting known known
@@ -128,8 +129,8 @@ Does s new c waiting left a b result =
 pub command_told : (s new : Session) (c : Command) (rest : Session → Told) (answer : Result Command ScriptFault) → answer ≡ Ok c
     → (waiting left : List ℕ) (a b : Option (List ℕ)) (result : Result (Option Status) Failed) → Does s new c waiting left a b result
     → MatchResult result
-      (λ ended. MatchOption ended (LeadsTo (told_command s rest answer) (rest new) waiting left a b) (λ status. Tells (told_command s rest answer) waiting left a b (Ok status)))
-      (λ failed. Tells (told_command s rest answer) waiting left a b (Err failed))
+    (λ ended. MatchOption ended (LeadsTo (told_command s rest answer) (rest new) waiting left a b) (λ status. Tells (told_command s rest answer) waiting left a b (Ok status)))
+    (λ failed. Tells (told_command s rest answer) waiting left a b (Err failed))
 command_told s new c rest answer is waiting left a b (Ok None) does = command_leads s c rest answer is new waiting left a b does.1 does.0
 command_told s new c rest answer is waiting left a b (Ok (Some status)) does = tells_refused (told_command s rest answer) waiting left a b status does.0 does.1 does.2
 command_told s new c rest answer is waiting left a b (Err failed) does = command_fails s c rest answer is waiting a b does
@@ -174,3 +175,16 @@ replays_whole text final left status a b c (Err failed) none (inl all) flushed =
 replays_whole text final left status a b c (Err failed) none (inr front) flushed =
     let taken : AppendsFront a c front.front = puts_whole {T = Unit {0}} {E = Failed} front.front left final a b c (Err failed) front.passed none flushed in
     subst (AppendsFront a c) (sym front.cut) (front_of_longer front.front front.rest a c taken)
+
+-- an answer is no failed write
+pub never_fails : (text waiting left : List ℕ) (status : Status) (a b : Option (List ℕ)) → Tells (transcript text) waiting left a b (Ok status) → status ≡ WriteFault → ⊥
+never_fails text waiting left status a b (inr front) is = let no_memory : status ≡ NoMemory = front.refused in cc
+never_fails text waiting left status a b (inl all) is = by (one_of_three text)
+  where
+    same : (transcript text).status ≡ WriteFault
+    same = sym all.status_is ∙ is
+
+    by : ((transcript text).status ≡ Done) ⊎ ((transcript text).status ≡ Refused) ⊎ ((transcript text).status ≡ BadText) → ⊥
+    by (inl done) = let e : Done ≡ WriteFault = sym done ∙ same in cc e
+    by (inr (inl refused)) = let e : Refused ≡ WriteFault = sym refused ∙ same in cc e
+    by (inr (inr bad)) = let e : BadText ≡ WriteFault = sym bad ∙ same in cc e

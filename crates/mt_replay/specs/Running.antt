@@ -1,14 +1,14 @@
 -- What a part of a replay leaves in the sink and in the writer before it.
 --     Tells told waiting left before after result      what each result says
 --     Replays text before after status      what the whole replay of a text leaves in the sink
-use Rattle.std.specs.Prelude.{ℕ, ◌≡◌, ◌⊎◌, List, [], ◌++◌, Option, Result, Ok, Err}
+use Rattle.std.specs.Prelude.{ℕ, ◌≡◌, ◌⊎◌, List, ◌++◌, Option, Result, Ok, Err}
 use Rattle.std.specs.Io.KnownBytes.{Appends}
 use Rattle.mt_ports.specs.Puts.{AppendsFront}
 use Rattle.mt_ports.specs.declared.status.Failed.{Failed}
 use Rattle.mt_ports.specs.declared.status.Status.{Status}
 use Rattle.mt_ports.specs.declared.status.Status.TheVariants.{NoMemory, WriteFault}
 use Rattle.mt_output.specs.Writing.{Passes}
-use Rattle.mt_replay.specs.Transcript.{Told, behind, told, transcript}
+use Rattle.mt_replay.specs.Transcript.{Told, behind, transcript}
 
 -- the writer took the whole text, and the status is answered
 pub record TellsAll (t : Told) (waiting left : List ℕ) (before after : Option (List ℕ)) (status : Status) : Type 0 where

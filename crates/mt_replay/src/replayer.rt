@@ -12,8 +12,10 @@ ghost use Rattle.mt_replay.specs.Kept.{IsSession};
 ghost use Rattle.mt_replay.specs.Parts.{session};
 ghost use Rattle.mt_replay.specs.Session.{after_call, after_update, call_line, command_text, file_at, first_session, goal_after, is_update, machine_after, mapping, session_after, update_line, with_register};
 
+use crate::commands::{
+    access, add_window, call, cancel, control, go, register, step, update, word,
+};
 use crate::report::write_report;
-use crate::commands::{access, add_window, call, cancel, control, go, register, step, update, word};
 use arrayvec::ArrayVec;
 use mt_bus::System;
 use mt_core::Core;
@@ -96,7 +98,12 @@ fn set(goal: &mut RegFile, msr: u32, value: u64)
 }
 
 // What a command other than a report writes, and what it does to the machine and the goal.
-fn act(setup: &Setup, core: &mut Core, goal: &mut RegFile, c: &Command) -> Result<LineBuffer, NoMemory>
+fn act(
+    setup: &Setup,
+    core: &mut Core,
+    goal: &mut RegFile,
+    c: &Command,
+) -> Result<LineBuffer, NoMemory>
     requires session { IsSession (session setup.now core.old goal.old) }
     requires fits { Fits setup.now c.now }
     requires room { HasEraRoom core.old }
@@ -111,7 +118,11 @@ fn act(setup: &Setup, core: &mut Core, goal: &mut RegFile, c: &Command) -> Resul
         Command::Store(k, address, value) => access(core, k, Op::Store(address, value)),
         Command::Fence(k) => access(core, k, Op::Fence),
         Command::Map(k, address, physical, index, global) => {
-            control(core, k, Control::Map(mapping(address, physical, index, global)))
+            control(
+                core,
+                k,
+                Control::Map(mapping(address, physical, index, global)),
+            )
         }
         Command::Invlpg(k, address) => control(core, k, Control::Invlpg(address)),
         Command::Cr3(k) => control(core, k, Control::Cr3),

@@ -32,7 +32,11 @@ fn write_processors<K: Sink>(cpus: &[Cpu], writer: &mut Writer, sink: &mut K) ->
 }
 
 /// Writes a line for each processor in order, and whether all have the same registers.
-pub(crate) fn write_report<K: Sink>(cpus: &[Cpu], writer: &mut Writer, sink: &mut K) -> Result<(), Failed>
+pub(crate) fn write_report<K: Sink>(
+    cpus: &[Cpu],
+    writer: &mut Writer,
+    sink: &mut K,
+) -> Result<(), Failed>
     requires { length cpus.now ≤ 16 }
     ensures bytes { Adds writer.old (report_text cpus.now) writer.new (K.taken sink.old) (K.taken sink.new) result }
     ensures cause { HasCause (K.faults sink.old) (K.faults sink.new) result }

@@ -23,7 +23,12 @@ use mt_text::{Line, end_place, next_line};
 use std::alloc::Global;
 
 // Writes a last text, and answers the status.
-fn tell<K: Sink>(writer: &mut Writer, sink: &mut K, text: &[u8], status: Status) -> Result<Status, Failed>
+fn tell<K: Sink>(
+    writer: &mut Writer,
+    sink: &mut K,
+    text: &[u8],
+    status: Status,
+) -> Result<Status, Failed>
     requires { length text.now ≤ 224 }
     ensures bytes { Tells (told text.now status) writer.old writer.new (K.taken sink.old) (K.taken sink.new) result }
     ensures cause { HasCause (K.faults sink.old) (K.faults sink.new) result }
@@ -34,21 +39,35 @@ fn tell<K: Sink>(writer: &mut Writer, sink: &mut K, text: &[u8], status: Status)
     }
 }
 
-fn tell_offence<K: Sink>(writer: &mut Writer, sink: &mut K, offence: &Offence) -> Result<Status, Failed>
+fn tell_offence<K: Sink>(
+    writer: &mut Writer,
+    sink: &mut K,
+    offence: &Offence,
+) -> Result<Status, Failed>
     ensures bytes { Tells (told_offence offence.now) writer.old writer.new (K.taken sink.old) (K.taken sink.new) result }
     ensures cause { HasCause (K.faults sink.old) (K.faults sink.new) result }
 {
-    tell(writer, sink, offence_line(offence).as_slice(), Status::BadText)
+    tell(
+        writer,
+        sink,
+        offence_line(offence).as_slice(),
+        Status::BadText,
+    )
 }
 
 // Does a command and writes what it says. There is a status where memory is refused.
-fn do_command<K: Sink>(replayer: &mut Replayer, c: &Command, writer: &mut Writer, sink: &mut K) -> Result<Option<Status>, Failed>
+fn do_command<K: Sink>(
+    replayer: &mut Replayer,
+    c: &Command,
+    writer: &mut Writer,
+    sink: &mut K,
+) -> Result<Option<Status>, Failed>
     requires fits { Fits replayer.old.now c.now }
     requires room { HasEraRoom replayer.old.machine }
     ensures bytes { MatchResult result
         (λ ended. MatchOption ended
-            (Passes writer.old (command_text replayer.old c.now) writer.new (K.taken sink.old) (K.taken sink.new) × (replayer.new ≡ session_after replayer.old c.now))
-            (λ status. (status ≡ Status.NoMemory) × (writer.new ≡ writer.old) × (K.taken sink.new ≡ K.taken sink.old)))
+        (Passes writer.old (command_text replayer.old c.now) writer.new (K.taken sink.old) (K.taken sink.new) × (replayer.new ≡ session_after replayer.old c.now))
+        (λ status. (status ≡ Status.NoMemory) × (writer.new ≡ writer.old) × (K.taken sink.new ≡ K.taken sink.old)))
         (λ _. AppendsFront (K.taken sink.old) (K.taken sink.new) (writer.old ++ command_text replayer.old c.now)) }
     ensures cause { HasCause (K.faults sink.old) (K.faults sink.new) result }
 {
@@ -68,12 +87,17 @@ fn do_command<K: Sink>(replayer: &mut Replayer, c: &Command, writer: &mut Writer
 }
 
 // Takes a line after the dump. There is a status where the replay ends with it.
-fn take_line<K: Sink>(replayer: &mut Replayer, line: &Line<'_>, writer: &mut Writer, sink: &mut K) -> Result<Option<Status>, Failed>
+fn take_line<K: Sink>(
+    replayer: &mut Replayer,
+    line: &Line<'_>,
+    writer: &mut Writer,
+    sink: &mut K,
+) -> Result<Option<Status>, Failed>
     requires { HasEraRoom replayer.old.machine }
     ensures bytes { (rest : Session → Told) → MatchResult result
         (λ ended. MatchOption ended
-            (LeadsTo (told_command replayer.old rest (command_of replayer.old.now line.now.number line.now.bytes.now)) (rest replayer.new) writer.old writer.new (K.taken sink.old) (K.taken sink.new))
-            (λ status. Tells (told_command replayer.old rest (command_of replayer.old.now line.now.number line.now.bytes.now)) writer.old writer.new (K.taken sink.old) (K.taken sink.new) (Ok status)))
+        (LeadsTo (told_command replayer.old rest (command_of replayer.old.now line.now.number line.now.bytes.now)) (rest replayer.new) writer.old writer.new (K.taken sink.old) (K.taken sink.new))
+        (λ status. Tells (told_command replayer.old rest (command_of replayer.old.now line.now.number line.now.bytes.now)) writer.old writer.new (K.taken sink.old) (K.taken sink.new) (Ok status)))
         (λ failed. Tells (told_command replayer.old rest (command_of replayer.old.now line.now.number line.now.bytes.now)) writer.old writer.new (K.taken sink.old) (K.taken sink.new) (Err failed)) }
     ensures eras { (most : ℕ) → HasEras most replayer.old → MatchResult result (λ ended. MatchOption ended (HasEras (most + 1) replayer.new) (λ _. Unit {0})) (λ _. Unit {0}) }
     ensures cause { HasCause (K.faults sink.old) (K.faults sink.new) result }
@@ -89,7 +113,12 @@ fn take_line<K: Sink>(replayer: &mut Replayer, line: &Line<'_>, writer: &mut Wri
 }
 
 // Where the text ends.
-fn end_lines<K: Sink>(setup: &Setup, source: &[u8], writer: &mut Writer, sink: &mut K) -> Result<Status, Failed>
+fn end_lines<K: Sink>(
+    setup: &Setup,
+    source: &[u8],
+    writer: &mut Writer,
+    sink: &mut K,
+) -> Result<Status, Failed>
     ensures bytes { Tells (told_at_end (end_fault setup.now.stage (end_of source.now))) writer.old writer.new (K.taken sink.old) (K.taken sink.new) result }
     ensures cause { HasCause (K.faults sink.old) (K.faults sink.new) result }
 {
@@ -100,7 +129,14 @@ fn end_lines<K: Sink>(setup: &Setup, source: &[u8], writer: &mut Writer, sink: &
 }
 
 // Runs the lines after the dump, the first of which begins at an offset and has this number.
-fn run_lines<K: Sink>(replayer: &mut Replayer, source: &[u8], from: usize, first: u64, writer: &mut Writer, sink: &mut K) -> Result<Status, Failed>
+fn run_lines<K: Sink>(
+    replayer: &mut Replayer,
+    source: &[u8],
+    from: usize,
+    first: u64,
+    writer: &mut Writer,
+    sink: &mut K,
+) -> Result<Status, Failed>
     requires within { from ≤ length source.now }
     requires numbered { first ≤ from + 1 }
     requires eras { HasEras first replayer.old }
@@ -122,7 +158,13 @@ fn run_lines<K: Sink>(replayer: &mut Replayer, source: &[u8], from: usize, first
 }
 
 // Runs a script from its dump's end on.
-fn run_begun<K: Sink>(alloc: Global, begun: Begun, source: &[u8], writer: &mut Writer, sink: &mut K) -> Result<Status, Failed>
+fn run_begun<K: Sink>(
+    alloc: Global,
+    begun: Begun,
+    source: &[u8],
+    writer: &mut Writer,
+    sink: &mut K,
+) -> Result<Status, Failed>
     requires stage { is_in_dump begun.setup.stage ≡ true }
     requires within { begun.next ≤ length source.now }
     requires numbered { begun.number ≤ begun.next + 1 }
@@ -137,7 +179,12 @@ fn run_begun<K: Sink>(alloc: Global, begun: Begun, source: &[u8], writer: &mut W
     } = begun;
     file.is_register_file();
     if let Some(fault) = file.first_fault() {
-        return tell(writer, sink, refused_line(&fault).as_slice(), Status::Refused);
+        return tell(
+            writer,
+            sink,
+            refused_line(&fault).as_slice(),
+            Status::Refused,
+        );
     }
     let Ok(mut replayer) = Replayer::begin(alloc, setup, file) else {
         return Ok(Status::NoMemory);
@@ -149,7 +196,12 @@ fn run_begun<K: Sink>(alloc: Global, begun: Begun, source: &[u8], writer: &mut W
 }
 
 // Runs a script. All that it says goes to the writer.
-fn run<K: Sink>(alloc: Global, source: &[u8], writer: &mut Writer, sink: &mut K) -> Result<Status, Failed>
+fn run<K: Sink>(
+    alloc: Global,
+    source: &[u8],
+    writer: &mut Writer,
+    sink: &mut K,
+) -> Result<Status, Failed>
     ensures bytes { Tells (transcript source.now) writer.old writer.new (K.taken sink.old) (K.taken sink.new) result }
     ensures cause { HasCause (K.faults sink.old) (K.faults sink.new) result }
 {
@@ -161,7 +213,12 @@ fn run<K: Sink>(alloc: Global, source: &[u8], writer: &mut Writer, sink: &mut K)
 
 /// Runs a script on one machine and writes its transcript. The status is the transcript's, NoMemory
 /// or WriteFault. Memory is asked for at the start, at the dump's end and at each window alone.
-pub fn replay<R: AllocGlobal, K: Sink, G: Gate>(rt: &R, source: &[u8], sink: &mut K, _gate: &G) -> Status
+pub fn replay<R: AllocGlobal, K: Sink, G: Gate>(
+    rt: &R,
+    source: &[u8],
+    sink: &mut K,
+    _gate: &G,
+) -> Status
     ensures bytes { Replays source.now (K.taken sink.old) (K.taken sink.new) result }
     ensures later { K.faults sink.old ≤ K.faults sink.new }
     ensures failed { result ≡ Status.WriteFault → Rose (K.faults sink.old) (K.faults sink.new) }

@@ -1,11 +1,11 @@
-use Rattle.std.proofs.Common.{◌≡◌, sym, ap, subst, Option, None, Some, Err}
+use Rattle.std.proofs.Common.{◌≡◌, sym, ap, subst, None, Some, Err}
 use Rattle.mt_regs.specs.declared.fault.Fault.{Fault}
 use Rattle.mt_regs.specs.RegisterFile.{RegisterFile}
 use Rattle.mt_regs.specs.Faults.{IsAccepted, IsFirstFault}
 use Rattle.mt_regs.proofs.FaultNumbers.{fault_number}
 use Rattle.mt_machine.specs.Machine.{Calls, next}
 use Rattle.mt_core.specs.declared.fault.CallFault.{CallFault}
-use Rattle.mt_core.specs.declared.fault.CallFault.TheVariants.{Refused, UnderWay}
+use Rattle.mt_core.specs.declared.fault.CallFault.TheVariants.{Refused}
 use Rattle.mt_replay.proofs.Calls.{call_accepted, call_fails}
 use Rattle.mt_core.proofs.Settling.{is_quiet_without_order}
 use Rattle.mt_replay.proofs.commands.begin.Goals as goal

@@ -1,5 +1,4 @@
-use Rattle.std.proofs.Common.{◌≡◌, arith, sym, subst, ap, true, ◌+◌, ◌*◌, ◌≤◌, ◌^◌, ℕ, List, Option, None}
-use Rattle.std.specs.Prelude.{is_some}
+use Rattle.std.proofs.Common.{◌≡◌, arith, sym, subst, true, List, Option, None}
 use Rattle.mt_tlb.specs.declared.mapping.Mapping.{Mapping}
 use Rattle.mt_regs.specs.RegisterFile.{RegisterFile}
 use Rattle.mt_machine.specs.declared.control.Control.TheVariants as control_of
@@ -8,11 +7,8 @@ use Rattle.mt_machine.specs.Memory.{Window}
 use Rattle.mt_ram.specs.Windows.{refusal, window}
 use Rattle.mt_script.specs.Accept.{Fits}
 use Rattle.mt_script.specs.Numbers.{is_register}
-use Rattle.mt_script.specs.declared.command.Command.{Command}
 use Rattle.mt_script.specs.declared.command.Command.TheVariants as command
-use Rattle.mt_replay.specs.Kept.{IsSession}
 use Rattle.mt_replay.specs.Parts.{session}
-use Rattle.mt_replay.specs.Session.{Session}
 use Rattle.mt_replay.proofs.Asked.{has_place, short_number}
 use Rattle.mt_replay.proofs.Keeping.Sessions.{file_of, mapping_fits}
 use Rattle.mt_replay.proofs.Keeping.Windows.{file_limit}

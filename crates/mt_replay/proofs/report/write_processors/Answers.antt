@@ -1,4 +1,4 @@
-use Rattle.std.proofs.Common.{◌≡◌, ◌∙◌, arith}
+use Rattle.std.proofs.Common.{◌∙◌, arith}
 use Rattle.mt_replay.proofs.Lines.{line_fails, one_more}
 use Rattle.mt_replay.proofs.report.write_processors.Goals as goal
 

@@ -1,4 +1,4 @@
-use Rattle.std.proofs.Common.{rules, ◌≡◌, List, ℕ, ◌++◌, sym, subst, ap, ◌∙◌}
+use Rattle.std.proofs.Common.{rules, ◌≡◌, List, ℕ, subst}
 use Rattle.mt_output.specs.Writing.{Adds}
 use Rattle.mt_output.proofs.Writing.{adds_after, fails_longer}
 use Rattle.mt_replay.specs.Texts.{have_one_file, processor_lines, registers_line}

@@ -1,5 +1,5 @@
-use Rattle.std.proofs.Common.{rules, ◌≡◌, sym, subst, drop}
-use Rattle.mt_text.specs.Text.{end_of, lines_of}
+use Rattle.std.proofs.Common.{sym, subst}
+use Rattle.mt_text.specs.Text.{end_of}
 use Rattle.mt_replay.specs.Running.{Tells}
 use Rattle.mt_replay.specs.Transcript.{Told, told_in}
 use Rattle.mt_replay.proofs.running.run.Goals as goal

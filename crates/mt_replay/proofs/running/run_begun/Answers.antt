@@ -1,4 +1,4 @@
-use Rattle.std.proofs.Common.{rules, ◌≡◌, ◌∙◌, ◌+◌, ◌++◌, arith, sym, ap, refl, subst, ℕ, List, drop, length, Option, None, Some, Ok, Err}
+use Rattle.std.proofs.Common.{◌≡◌, ◌∙◌, ◌++◌, sym, ap, subst, ℕ, List, drop}
 use Rattle.mt_text.specs.Text.{end_of, lines_of}
 use Rattle.mt_ports.specs.Puts.{AppendsFront}
 use Rattle.mt_ports.specs.declared.status.Status.TheVariants.{Refused}
@@ -6,13 +6,12 @@ use Rattle.mt_output.specs.Lines.{accepted_line, refused_line}
 use Rattle.mt_output.specs.Writing.{Passes}
 use Rattle.mt_output.proofs.Writing.{fails_longer}
 use Rattle.mt_regs.specs.Faults.{IsAccepted, IsFirstFault}
-use Rattle.mt_regs.specs.declared.fault.Fault.{Fault}
 use Rattle.mt_regs.proofs.FaultNumbers.{fault_number}
 use Rattle.mt_replay.specs.FirstFault.{first_fault}
 use Rattle.mt_replay.specs.Running.{LeadsTo, Tells}
 use Rattle.mt_replay.specs.Session.{Session, first_session}
 use Rattle.mt_replay.specs.Transcript.{Told, behind, told, told_file, told_in}
-use Rattle.mt_replay.proofs.Telling.{file_accepted, file_refused, first_eras, leads_tells}
+use Rattle.mt_replay.proofs.Telling.{file_accepted, file_refused, leads_tells}
 use Rattle.mt_replay.proofs.running.run_begun.Goals as goal
 
 pub refused_line-requires : goal.refused_line-requires

@@ -1,9 +1,7 @@
-use Rattle.std.proofs.Common.{rules, ◌≡◌, ◌∙◌, ◌+◌, arith, sym, ap, subst, ℕ, List, drop, length, Option, None, Some, Ok, Err}
+use Rattle.std.proofs.Common.{rules, ◌≡◌, ◌+◌, arith, sym, subst, ℕ, List, drop, length, Ok, Err}
 use Rattle.mt_text.specs.Text.{end_of, lines_of}
-use Rattle.mt_script.specs.Commands.{end_fault}
-use Rattle.mt_replay.specs.Kept.{HasEras}
 use Rattle.mt_replay.specs.Running.{LeadsTo, Tells}
-use Rattle.mt_replay.specs.Transcript.{Told, told_at_end, told_in}
+use Rattle.mt_replay.specs.Transcript.{Told, told_in}
 use Rattle.mt_replay.proofs.Telling.{at_end, at_line, leads_here, leads_on, leads_tells}
 use Rattle.mt_replay.proofs.running.run_lines.Goals as goal
 

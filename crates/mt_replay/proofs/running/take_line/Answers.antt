@@ -1,4 +1,4 @@
-use Rattle.std.proofs.Common.{rules, ◌≡◌, ◌∙◌, sym, ap, subst, Ok, Err}
+use Rattle.std.proofs.Common.{rules, ◌≡◌, subst, Ok, Err}
 use Rattle.mt_script.specs.Accept.{Fits}
 use Rattle.mt_script.specs.Situation.{Situation}
 use Rattle.mt_script.specs.Commands.{command_of}

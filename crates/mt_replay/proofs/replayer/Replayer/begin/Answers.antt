@@ -1,4 +1,4 @@
-use Rattle.std.proofs.Common.{rules, ◌≡◌}
+use Rattle.std.proofs.Common.{rules}
 use Rattle.mt_replay.specs.Kept.{IsSession}
 use Rattle.mt_replay.specs.Session.{first_session}
 use Rattle.mt_replay.proofs.Keeping.First.{first_kept}

@@ -1,4 +1,4 @@
-use Rattle.std.proofs.Common.{◌≡◌, sym, subst}
+use Rattle.std.proofs.Common.{sym, subst}
 use Rattle.mt_script.specs.Accept.{Fits}
 use Rattle.mt_replay.specs.Kept.{IsSession}
 use Rattle.mt_replay.specs.Parts.{session}
