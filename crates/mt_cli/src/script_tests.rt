@@ -93,8 +93,9 @@ fn each_write_may_fail(rt: HostRuntime) -> Result<(), Fail> {
     for call in 0..3 {
         let ports = Ports {
             input: &script,
+            piece: 4096,
+            failing_reads: &[],
             failing_writes: &[call],
-            ..PLAIN
         };
         let ran = run(&rt, &["replay"], &ports)?;
         let taken = ran.sink.bytes();
@@ -153,6 +154,7 @@ fn a_script_may_be_cut(rt: HostRuntime) -> Result<(), Fail> {
     let mut length = 0;
     for (count, status, transcript) in cuts() {
         for _ in 0..*count {
+            assert!(rt; length <= UPDATE.len());
             let ports = Ports {
                 input: &UPDATE[..length],
                 ..PLAIN

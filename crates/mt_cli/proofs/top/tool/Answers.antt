@@ -25,13 +25,13 @@ returns-in-Replay-clause-reads g c bytes left =
     replays_read _ bytes _ _ _ _ (sym c.in-Some.ensures ∙ ap Some c.in-Replay.is) read.1 replays
 
 pub returns-in-Replay-clause-usage : goal.returns-in-Replay-clause-usage
-returns-in-Replay-clause-usage g c = λ is. absurd ((never_replays _ _ _ _ c.replay.ensures.bytes).0 is)
+returns-in-Replay-clause-usage g c = λ is. absurd ((never_replays c.deref.result.now _ _ _ c.replay.ensures.bytes).0 is)
 
 pub returns-in-Replay-clause-read_fault : goal.returns-in-Replay-clause-read_fault
-returns-in-Replay-clause-read_fault g c = λ is. absurd ((never_replays _ _ _ _ c.replay.ensures.bytes).1 is)
+returns-in-Replay-clause-read_fault g c = λ is. absurd ((never_replays c.deref.result.now _ _ _ c.replay.ensures.bytes).1 is)
 
 pub returns-in-Replay-clause-too_long : goal.returns-in-Replay-clause-too_long
-returns-in-Replay-clause-too_long g c = (λ is. absurd ((never_replays _ _ _ _ c.replay.ensures.bytes).2 is), λ much. absurd (c.in-Ok.ensures.too_long.1 much))
+returns-in-Replay-clause-too_long g c = (λ is. absurd ((never_replays c.deref.result.now _ _ _ c.replay.ensures.bytes).2 is), λ much. absurd (cc (c.in-Ok.ensures.too_long.1 much)))
 
 pub returns-in-Err-read_dump-clause-leaves : goal.returns-in-Err-read_dump-clause-leaves
 returns-in-Err-read_dump-clause-leaves g c bytes before left taken =
