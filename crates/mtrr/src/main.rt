@@ -1,4 +1,4 @@
-//! Reads dumps of memory type range registers and answers about memory types.
+//! Reads dumps of memory type range registers, answers about memory types, and replays scripts.
 #![tactic(auto)]
 
 use mt_cli::tool;
