@@ -153,6 +153,7 @@ never_replays bytes result old new told = by told
   where
     but : (status : Status) → result ≡ status → (status ≢ Usage) × (status ≢ ReadFault) × (status ≢ TooLong) → (result ≢ Usage) × (result ≢ ReadFault) × (result ≢ TooLong)
     but status is others = rw is others
+
     by : Replays bytes old new result → (result ≢ Usage) × (result ≢ ReadFault) × (result ≢ TooLong)
     by (inl (is, takes)) = elim (one_of_three bytes) [
       | inl ends ↦ but Done (is ∙ ends) (λ e. cc e, λ e. cc e, λ e. cc e)

@@ -62,9 +62,11 @@ some_output words bytes = by_command (command_of words) refl
       | inl (file, shows) ↦ let (text, status, answer) = some_answer file shows.is_file command of_dump in (text, status, answered command file text status says shows answer)
       | inr (fault, is) ↦ (_, _, bad_text command fault says of_dump is)
     ]
+
     by_kind : (command : Command) → IsOfDump command ⊎ (command ≡ Replay) → command_of words ≡ Some command → (text : List ℕ) × (status : Status) × Output words bytes text status
     by_kind command (inl of_dump) says = of_dump_output command of_dump says
     by_kind command (inr is) says = (_, _, replayed (says ∙ ap Some is))
+
     by_command : (o : Option Command) → command_of words ≡ o → (text : List ℕ) × (status : Status) × Output words bytes text status
     by_command None none_is = (_, _, usage none_is)
     by_command (Some command) says = by_kind command (of_dump_or_replay command) says

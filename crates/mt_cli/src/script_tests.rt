@@ -76,7 +76,9 @@ fn long_transcript(alloc: Global) -> Result<String, Fail> {
     let mut text = String::from_str(alloc, "accepted\n")?;
     for _ in 0..REPORTS {
         for k in 0..16 {
-            let line = format!(in alloc; "cpu {k} running era 0 lines 0 dirty 0 buffers 0 entries 0 stale 0 cd 0 pge 0\n")?;
+            let line = format!(in alloc;
+                "cpu {k} running era 0 lines 0 dirty 0 buffers 0 entries 0 stale 0 cd 0 pge 0\n"
+            )?;
             text.push_str(line.as_str())?;
         }
         text.push_str("registers same\n")?;
@@ -104,7 +106,11 @@ fn each_write_may_fail(rt: HostRuntime) -> Result<(), Fail> {
             1 => assert!(rt; !taken.is_empty() && taken.len() < whole.len()),
             _ => assert_eq!(rt; taken.len(), whole.len()),
         }
-        let status = if call < 2 { Status::WriteFault } else { Status::Done };
+        let status = if call < 2 {
+            Status::WriteFault
+        } else {
+            Status::Done
+        };
         assert_eq!(rt; ran.status, status, "at {call}");
         assert!(rt; whole.starts_with(taken), "at {call}");
     }

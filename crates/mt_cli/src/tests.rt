@@ -24,7 +24,11 @@ pub(crate) struct Ports<'a> {
     pub(crate) failing_writes: &'a [u64],
 }
 
-pub(crate) fn run<R: AllocGlobal + Abort>(rt: &R, words: &[&str], ports: &Ports<'_>) -> Result<Ran, Fail> {
+pub(crate) fn run<R: AllocGlobal + Abort>(
+    rt: &R,
+    words: &[&str],
+    ports: &Ports<'_>,
+) -> Result<Ran, Fail> {
     let alloc = rt.alloc();
     let mut owned = Vec::new(alloc);
     for word in words {
@@ -41,7 +45,11 @@ pub(crate) fn run<R: AllocGlobal + Abort>(rt: &R, words: &[&str], ports: &Ports<
 }
 
 // Each row of a table gives its output and its status.
-pub(crate) fn expect_rows<R: AllocGlobal + Abort>(rt: &R, rows: &[Row], piece: usize) -> Result<(), Fail> {
+pub(crate) fn expect_rows<R: AllocGlobal + Abort>(
+    rt: &R,
+    rows: &[Row],
+    piece: usize,
+) -> Result<(), Fail> {
     for row in rows {
         let ports = Ports {
             input: row.input,

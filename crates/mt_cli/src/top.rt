@@ -5,8 +5,8 @@ ghost use Rattle.mt_cli.specs.Reading.{GaveTooMuch};
 ghost use Rattle.mt_cli.specs.Tool.{Leaves, Reads};
 
 use crate::answers::{answer, written};
-use crate::{Command, command_of};
 use crate::reading::read_all;
+use crate::{Command, command_of};
 use mt_dump::read_dump;
 use mt_output::bad_text_line;
 use mt_ports::{Gate, Sink, Source, Status};
