@@ -5,6 +5,8 @@
 mod barriers;
 mod core_type;
 mod fault;
+#[cfg(test)]
+mod interleavings;
 mod laws;
 mod order;
 mod stepped;

@@ -28,15 +28,14 @@ fn file(kind: u64) -> Option<RegFile> {
     Some(file)
 }
 
-/// Two processors whose memory is of type WB, with a window of 64 lines from 1 MB on.
-fn pair(alloc: Global) -> Option<Core> {
-    let file = file(6)?;
+/// Two processors with these registers, and a window of 64 lines from 1 MB on.
+pub(crate) fn pair_of(alloc: Global, file: &RegFile) -> Option<Core> {
     if file.first_fault().is_some() {
         return None;
     }
     start_is_quiet();
     file.is_register_file();
-    let Ok(system) = System::new(alloc, 2, &file) else {
+    let Ok(system) = System::new(alloc, 2, file) else {
         return None;
     };
     let mut core = Core::new(system);
@@ -46,8 +45,13 @@ fn pair(alloc: Global) -> Option<Core> {
     Some(core)
 }
 
+/// Two processors whose memory is of type WB.
+fn pair(alloc: Global) -> Option<Core> {
+    pair_of(alloc, &file(6)?)
+}
+
 /// Stores a word at 1 MB and so many bytes, through page 1.
-fn store(core: &mut Core, k: u32, offset: u64, v: u64) -> Option<Done> {
+pub(crate) fn store(core: &mut Core, k: u32, offset: u64, v: u64) -> Option<Done> {
     let x = Mapping {
         vpage: 1,
         ppage: 0x100,
@@ -64,7 +68,7 @@ fn store(core: &mut Core, k: u32, offset: u64, v: u64) -> Option<Done> {
     Some(core.access(k, Op::Store(0x1000 + offset, v)))
 }
 
-fn word(core: &Core, address: u64) -> Option<u64> {
+pub(crate) fn word(core: &Core, address: u64) -> Option<u64> {
     let ram = &core.system().ram;
     let i = ram.place(address)?;
     Some(ram.word(i))
@@ -85,7 +89,7 @@ fn has_room(cpus: &[Cpu]) -> bool
 }
 
 /// Begins an update, where the call's conditions hold.
-fn call(core: &mut Core, goal: RegFile) -> Option<Result<(), CallFault>> {
+pub(crate) fn call(core: &mut Core, goal: RegFile) -> Option<Result<(), CallFault>> {
     let cpus = core.system().cpus.as_slice();
     if cpus.is_empty() || !fits(cpus, &goal) || !has_room(cpus) {
         return None;
@@ -93,7 +97,7 @@ fn call(core: &mut Core, goal: RegFile) -> Option<Result<(), CallFault>> {
     Some(core.call(goal))
 }
 
-fn step(core: &mut Core, k: u32) -> Option<Stepped> {
+pub(crate) fn step(core: &mut Core, k: u32) -> Option<Stepped> {
     if (k as usize) < core.system().cpus.len() {
         Some(core.step(k))
     } else {

@@ -10,6 +10,8 @@ mod replayer;
 mod report;
 mod running;
 mod statuses;
+#[cfg(test)]
+mod tests;
 mod texts;
 mod worked;
 
