@@ -3,8 +3,10 @@ ghost use Rattle.std.specs.List.{All, position};
 ghost use Rattle.std.specs.Option.{option_map};
 ghost use Rattle.mt_cache.specs.declared.line.CacheLine.{CacheLine};
 ghost use Rattle.mt_cache.specs.Lines.{AreDistinct, IsLine, clean_line, clean_word, find_line, first_dirty_line, first_dirty_word, has_number, oldest_of_full, without_line};
+ghost use Rattle.mt_cache.specs.Counts.{AreCounted};
 ghost use Rattle.mt_cache.specs.Calls.{AreLines, change_at, clean_line_of, has_dirty_word, with_room, write_word};
 
+use crate::counts::LineCounts;
 use crate::line::CacheLine;
 use crate::places::{add, clean_at, clean_line_at, first_with_dirty, place_of, put_at, take_at};
 use crate::words::first_word;
@@ -12,9 +14,12 @@ use arrayvec::ArrayVec;
 use std::marker::Model;
 
 /// The lines of a cache, the oldest first. No two have one number.
+///
+/// The counts answer most searches for a line that isn't there without a look at the lines.
 #[derive(Drop)]
 pub struct Cache {
-    pub lines: ArrayVec<CacheLine, 64>,
+    lines: ArrayVec<CacheLine, 64>,
+    counts: LineCounts,
 }
 
 impl Model for Cache {
@@ -22,7 +27,7 @@ impl Model for Cache {
 
     ghost view = { λ c. c.lines.items };
 
-    ghost invariant = { λ c. AreLines c.lines.items };
+    ghost invariant = { λ c. AreLines c.lines.items × AreCounted c.lines.items c.counts.counts };
 }
 
 impl Cache {
@@ -32,6 +37,7 @@ impl Cache {
     {
         Cache {
             lines: ArrayVec::new(),
+            counts: LineCounts::new(),
         }
     }
 
@@ -52,7 +58,11 @@ impl Cache {
         ensures line { IfSome result (λ i. slice_get self.now i ≡ find_line number self.now) }
         ensures absent { IfNone result (find_line number self.now ≡ None) }
     {
-        place_of(self.lines.as_slice(), number)
+        if self.counts.may_have(number) {
+            place_of(self.lines.as_slice(), number)
+        } else {
+            None
+        }
     }
 
     /// Adds a clean line. Where 64 lines stood, it first takes out the oldest and hands it back.
@@ -61,7 +71,7 @@ impl Cache {
         ensures out { result ≡ oldest_of_full 64 self.old }
         ensures lines { self.new ≡ with_room 64 self.old ++ clean_line_of number words era ∷ [] }
     {
-        add(
+        let oldest = add(
             &mut self.lines,
             CacheLine {
                 number,
@@ -69,7 +79,10 @@ impl Cache {
                 dirty: 0,
                 era,
             },
-        )
+        );
+        self.counts.remove_pushed_out(oldest);
+        self.counts.add(number);
+        oldest
     }
 
     /// Writes a word of the line at a place, and its dirty bit.
@@ -104,7 +117,9 @@ impl Cache {
         ensures line { slice_get self.old i ≡ Some result }
         ensures lines { self.new ≡ without_line result.number self.old }
     {
-        take_at(&mut self.lines, i)
+        let line = take_at(&mut self.lines, i);
+        self.counts.remove(line.number);
+        line
     }
 
     /// The first dirty word of the first line that has one: the place of the line, and the word.
@@ -130,5 +145,6 @@ impl Cache {
         ensures { self.new ≡ [] }
     {
         self.lines.clear();
+        self.counts.clear();
     }
 }

@@ -3,6 +3,7 @@
 
 mod buffers;
 mod cache;
+mod counts;
 mod line;
 mod places;
 #[cfg(test)]

@@ -1,4 +1,4 @@
-ghost use Rattle.std.specs.Prelude.{◌≡◌, ℕ, ◌<◌, [], ◌∷◌, ◌++◌, length, slice_get, None, Some};
+ghost use Rattle.std.specs.Prelude.{◌≡◌, ℕ, ◌<◌, ◌≤◌, [], ◌∷◌, ◌++◌, length, slice_get, None, Some};
 ghost use Rattle.std.specs.List.{position};
 ghost use Rattle.mt_cache.specs.declared.line.CacheLine.{CacheLine};
 ghost use Rattle.mt_cache.specs.Lines.{IsLine, clean_line, clean_word, find_line, has_number, oldest_of_full, without_line};
@@ -83,6 +83,7 @@ pub(crate) fn add<const N: usize>(
     requires whole { IsLine line }
     ensures out { result ≡ oldest_of_full N lines.old.items }
     ensures lines { lines.new.items ≡ with_room N lines.old.items ++ line ∷ [] }
+    ensures room { length lines.new.items ≤ N }
     ensures kept { AreLines lines.new.items }
 {
     let oldest = if lines.is_full() {

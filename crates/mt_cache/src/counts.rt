@@ -1,0 +1,60 @@
+ghost use Rattle.std.specs.Prelude.{◌≡◌, ℕ, ◌<◌, ◌%◌, ◌==◌, not, replicate, slice_index_or, IfSome};
+ghost use Rattle.mt_cache.specs.declared.line.CacheLine.{CacheLine};
+ghost use Rattle.mt_cache.specs.Counts.{lowered, lowered_by, raised};
+
+use crate::line::CacheLine;
+
+/// How many lines of a cache have a number with each residue modulo 4096.
+#[derive(Drop)]
+pub(crate) struct LineCounts {
+    pub(crate) counts: [u8; 4096],
+}
+
+impl LineCounts {
+    /// The counts of no lines.
+    pub(crate) fn new() -> Self
+        ensures { result.counts ≡ replicate 4096 0 }
+    {
+        LineCounts { counts: [0; 4096] }
+    }
+
+    /// Whether a line may have this number.
+    pub(crate) fn may_have(&self, number: u64) -> bool
+        ensures { result ≡ not (slice_index_or self.now.counts (number % 4096) 0 == 0) }
+    {
+        self.counts[(number % 4096) as usize] != 0
+    }
+
+    /// Counts a line of this number.
+    pub(crate) fn add(&mut self, number: u64)
+        requires { slice_index_or self.old.counts (number % 4096) 0 < 255 }
+        ensures { self.new.counts ≡ raised number self.old.counts }
+    {
+        self.counts[(number % 4096) as usize] += 1;
+    }
+
+    /// Counts a line of this number no more.
+    pub(crate) fn remove(&mut self, number: u64)
+        requires { 0 < slice_index_or self.old.counts (number % 4096) 0 }
+        ensures { self.new.counts ≡ lowered number self.old.counts }
+    {
+        self.counts[(number % 4096) as usize] -= 1;
+    }
+
+    /// Counts the line that was pushed out, if any, no more.
+    pub(crate) fn remove_pushed_out(&mut self, oldest: Option<CacheLine>)
+        requires { IfSome oldest (λ l. 0 < slice_index_or self.old.counts (l.number % 4096) 0) }
+        ensures { self.new.counts ≡ lowered_by oldest self.old.counts }
+    {
+        if let Some(line) = oldest {
+            self.remove(line.number);
+        }
+    }
+
+    /// Counts no line.
+    pub(crate) fn clear(&mut self)
+        ensures { self.new.counts ≡ replicate 4096 0 }
+    {
+        self.counts = [0; 4096];
+    }
+}
