@@ -1,6 +1,7 @@
 pub mod Arising
 pub mod Eras
 mod Progress
+pub mod Reaching
 pub mod Settling
 pub mod Stepping
 mod Stopping

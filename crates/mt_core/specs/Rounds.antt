@@ -1,13 +1,14 @@
 -- Whole turns of steps, until no update is under way.
-use Rattle.std.specs.Prelude.{◌≡◌, ℕ, List, length, IsSome, Option, None, Some}
-use Rattle.std.specs.List.{fold, range_with_len}
+use Rattle.std.specs.Prelude.{◌≡◌, ◌<◌, ◌&&◌, ℕ, true, not, List, [], ◌∷◌, ◌++◌, length, IsSome, Option, None, Some}
+use Rattle.std.specs.List.{fold, list_all, range_with_len}
+use Rattle.mt_machine.specs.declared.event.Event.TheVariants.{Release}
 use Rattle.mt_machine.specs.declared.go.Go.{Go}
 use Rattle.mt_machine.specs.declared.go.Go.TheVariants.{Pending}
-use Rattle.mt_machine.specs.System.{Processor}
-use Rattle.mt_machine.specs.Machine.{Calls, Goes, IsEnabled, Machine, go_of, next}
+use Rattle.mt_machine.specs.Machine.{AreEnabled, Calls, Goes, IsEnabled, Machine, MachineEvent, Reached, Steps, go_of, next, run}
 use Rattle.mt_regs.specs.RegisterFile.{RegisterFile}
 use Rattle.mt_machine.specs.Start.{IsQuiet}
-use Rattle.mt_machine.specs.Update.{updated}
+use Rattle.mt_machine.specs.Update.{is_cancel, is_led, updated}
+use Rattle.mt_core.specs.Arises.{Arises}
 use Rattle.mt_core.specs.Steps.{step_after}
 
 -- the numbers below a count, in order
@@ -40,3 +41,24 @@ abbrev pub IsWholeUpdate : Machine → Machine → Type 0
 IsWholeUpdate m n =
     (s : Machine) (goal : RegisterFile) → IsQuiet s → IsEnabled s (Calls goal) → m ≡ next s (Calls goal)
     → n ≡ updated s.system (in_order s) goal
+
+-- turns come to an end, whatever state arose, and each state on the way is reached by events
+abbrev pub TurnsEnd : Type 0
+TurnsEnd = (m : Machine) → Arises m → (t : Machine) × Rounds (with_go_given m) t × Reached m t
+
+-- the last event is a release
+abbrev pub EndsByRelease : List MachineEvent → Type 0
+EndsByRelease es = (front : List MachineEvent) × (k : ℕ) × (es ≡ front ++ Steps k Release ∷ [])
+
+-- A whole update as events: after the call the go and steps alone, of which a release is the last.
+pub record IsUpdateByEvents (s : Machine) (goal : RegisterFile) (es : List MachineEvent) : Type 0 where
+  pub enabled : AreEnabled s (Calls goal ∷ es)
+  pub led : list_all (λ e. is_led e && not (is_cancel e)) es ≡ true
+  pub leads : run s (Calls goal ∷ es) ≡ updated s.system (in_order s) goal
+  pub last : 0 < length s.system.processors → EndsByRelease es
+
+-- the state after a whole update is reached by events from the state before it
+abbrev pub UpdatesAreReached : Type 0
+UpdatesAreReached =
+    (s : Machine) (goal : RegisterFile) → IsQuiet s → IsEnabled s (Calls goal)
+    → Reached s (updated s.system (in_order s) goal) × ((es : List MachineEvent) × IsUpdateByEvents s goal es)
