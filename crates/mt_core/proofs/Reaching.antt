@@ -28,6 +28,12 @@ use Rattle.mt_core.proofs.Stepping.{processor_of}
 use Rattle.mt_core.proofs.Turns.{goes_on, over_empty, rounds_course, rounds_end, rounds_whole}
 use Rattle.mt_core.proofs.Work.{release_is, work_of}
 
+-- ---- one after the other
+
+pub reached_on : {p m n : Machine} → Reached p m → Reached m n → Reached p n
+reached_on first at_start = first
+reached_on first (after e later enabled) = after e (reached_on first later) enabled
+
 -- ---- turns end
 
 record Turns (m : Machine) : Type 0 where
