@@ -6,5 +6,6 @@ pub mod Settling
 pub mod Stepping
 mod Stopping
 mod Turns
+pub mod Updated
 mod Waiting
 mod Work

@@ -1,5 +1,5 @@
 ghost use Rattle.mt_core.specs.Headline.{ErasRise, HeldFromFirstRelease, IsQuietWithoutOrder, NoBuffersWhereOnePasses, SettledFromRelease, WaitsAtBarriers};
-ghost use Rattle.mt_core.specs.Rounds.{TurnsEnd, UpdatesAreReached};
+ghost use Rattle.mt_core.specs.Rounds.{TurnsEnd, UpdatedWordsAreHeld, UpdatesAreReached, UpdatesSettle};
 ghost use Rattle.mt_core.specs.Stops.{StopsOutside};
 
 /// A step answers `NoUpdate` exactly where the processor runs and no update is under way, or it is
@@ -43,4 +43,12 @@ pub fn eras_rise()
 pub fn updates_are_reached()
     ensures ends { TurnsEnd }
     ensures reached { UpdatesAreReached }
+{}
+
+/// From a whole update on, and up to the next call, each processor has the goal's registers and holds
+/// nothing of another era, and each word that no access has stored since is in memory as the update
+/// left it.
+pub fn updates_settle()
+    ensures settled { UpdatesSettle }
+    ensures held { UpdatedWordsAreHeld }
 {}
