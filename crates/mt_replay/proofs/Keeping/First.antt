@@ -1,5 +1,5 @@
 -- The first session, after the dump.
-use Rattle.std.proofs.Common.{◌≡◌, ◌∙◌, ap, sym, refl, subst, arith, inl, ℕ, true, []}
+use Rattle.std.proofs.Common.{◌≡◌, ap, sym, refl, subst, arith, inl, ℕ, true, []}
 use Rattle.std.specs.Prelude.{map}
 use Rattle.std.specs.List.{All}
 use Rattle.std.proofs.lemmas.List.{length-replicate}
