@@ -31,7 +31,7 @@ use Rattle.mt_script.specs.declared.command.Command.{Command}
 use Rattle.mt_script.specs.declared.command.Command.TheVariants as command
 use Rattle.mt_script.specs.declared.fault.Offence.{Offence}
 use Rattle.mt_output.specs.Lines.{accepted_line, line, offence_line, refused_line}
-use Rattle.mt_replay.specs.Kept.{IsSession, start_of}
+use Rattle.mt_replay.specs.Kept.{HoldsThrough, IsSession, start_of}
 use Rattle.mt_replay.specs.Session.{Session, call_fault, command_text, each_processor, is_update, machine_after, session_after}
 use Rattle.mt_replay.specs.Texts.{called_line, complete_line}
 use Rattle.mt_replay.specs.Transcript.{told, told_offence, transcript}
@@ -63,6 +63,10 @@ ShowsNoDump text = (file : RegisterFile) → ShowsDump text file → ⊥
 -- a text shows no two files
 abbrev pub OneFileShown : Type 0
 OneFileShown = (text : List ℕ) (file other : RegisterFile) → ShowsDump text file → ShowsDump text other → file ≡ other
+
+-- each session of a text has the file that the text's dump shows
+abbrev pub SessionsHaveTheShownFile : Type 0
+SessionsHaveTheShownFile = (text : List ℕ) (file : RegisterFile) → ShowsDump text file → HoldsThrough (λ s. s.now.file ≡ Some file) text
 
 -- ---- statuses
 

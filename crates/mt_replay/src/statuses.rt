@@ -1,8 +1,13 @@
-ghost use Rattle.mt_replay.specs.Statuses.{AcceptedCallsAreUnderWay, AcceptedFirst, AcceptedUnlessRefused, AcceptedWhereIdle, BadTextEndsWithOffence, BadTextWhereOffence, CallsUnderWayChangeNothing, CompleteUpdatesSettle, DoneWhereNoOffence, OffenceAlone, OneFileShown, OneOfThreeStatuses, RefusedAlone, RefusedCallsChangeNothing, RefusedWhereFileIsRefused, ReleasedSessionsSettle, ReleasedWordsAreHeld, UpdatedWordsAreHeld};
+ghost use Rattle.mt_replay.specs.Statuses.{AcceptedCallsAreUnderWay, AcceptedFirst, AcceptedUnlessRefused, AcceptedWhereIdle, BadTextEndsWithOffence, BadTextWhereOffence, CallsUnderWayChangeNothing, CompleteUpdatesSettle, DoneWhereNoOffence, OffenceAlone, OneFileShown, OneOfThreeStatuses, RefusedAlone, RefusedCallsChangeNothing, RefusedWhereFileIsRefused, ReleasedSessionsSettle, ReleasedWordsAreHeld, SessionsHaveTheShownFile, UpdatedWordsAreHeld};
 
 /// A text's dump shows no two files.
 pub fn a_text_shows_one_dump()
     ensures { OneFileShown }
+{}
+
+/// Each session that a text comes to has the file that the text's dump shows.
+pub fn sessions_have_the_shown_file()
+    ensures { SessionsHaveTheShownFile }
 {}
 
 /// A script is refused exactly where its dump is read whole and shows a file with a fault, which is
