@@ -1,8 +1,8 @@
 -- While an update is under way some processor has an event that is due, so each turn lowers what is left.
 use Rattle.std.proofs.Common.{◌≡◌, ◌≢◌, ◌⊎◌, ◌∙◌, ap, sym, refl, subst, arith, below_more, ℕ, zero, suc, ◌+◌, ◌<◌, ◌≤◌, ⊎_elim, inl, inr, Bool, true, false, List, [], ◌∷◌, length, Option, None, Some, slice_get}
-use Rattle.std.specs.Prelude.{IsSome, IsTrue, if◌then◌else◌, map, nat_lt, ◌-◌, ◌↔◌, not, ◌&&◌, ◌||◌, ◌==◌}
+use Rattle.std.specs.Prelude.{IsSome, IsTrue, if◌then◌else◌, nat_lt, ◌-◌, ◌↔◌, not, ◌&&◌, ◌||◌, ◌==◌}
 use Rattle.std.specs.List.{fold, list_all, list_any, range_with_len}
-use Rattle.std.specs.Option.{option_map, option_map_or}
+use Rattle.std.specs.Option.{option_map_or}
 use Rattle.std.proofs.lemmas.Option.{slice_get_within}
 use Rattle.mt_machine.specs.declared.phase.Phase.{Phase}
 use Rattle.mt_machine.specs.declared.phase.Phase.TheVariants.{Running, Taken, Arrived, Arrived2}
@@ -19,7 +19,7 @@ use Rattle.mt_laws.proofs.Barrier.Ranks.{Guarded, stage_at}
 use Rattle.mt_laws.proofs.Barrier.Stages.{Stage, access_stages, control_stages, stage_of, stages, stages_of}
 use Rattle.mt_core.specs.Arises.{Arises, by_event, by_window, from_start}
 use Rattle.mt_core.specs.Rounds.{each_steps, in_order}
-use Rattle.mt_core.specs.Steps.{step_after, under_way}
+use Rattle.mt_core.specs.Steps.{step_after}
 use Rattle.mt_core.proofs.Arising.{machine}
 use Rattle.mt_core.proofs.Eras.{eras_rise}
 use Rattle.mt_core.proofs.Stepping.{stands}
@@ -28,7 +28,7 @@ use Rattle.mt_core.proofs.Work.{falls, work_of}
 
 -- ---- a decided update under way isn't over
 
-abbrev Lasts : Machine → Type 0
+abbrev pub Lasts : Machine → Type 0
 Lasts m = (o : Order) → m.order ≡ Some o → o.go ≢ Pending → is_over o m.system.processors ≡ false
 
 all_stages : (test : Stage → Bool) (ps : List Processor) → list_all (λ p. test (stage_of p)) ps ≡ list_all test (stages_of ps)
@@ -65,7 +65,7 @@ next_lasts Cancels s (Some o) enabled h = λ v is decided. remaining_lasts (reco
 next_lasts (Steps k e) s None enabled h = absurd (cc)
 next_lasts (Steps k e) s (Some o) enabled h = λ v is decided. remaining_lasts o (step o.goal e k s).processors v is
 
-lasts : {m : Machine} → Arises m → Lasts m
+pub lasts : {m : Machine} → Arises m → Lasts m
 lasts {m} (from_start s) =
     λ o is decided. ⊎_elim
     (λ (q : IsQuiet m). absurd (let none = q.no_order in cc))
@@ -76,7 +76,7 @@ lasts (by_window w a memory) = lasts a
 
 -- ---- where none has an event that is due, the update is over
 
-all_true : (test : Processor → Bool) (ps : List Processor) → ((i : ℕ) (p : Processor) → slice_get ps i ≡ Some p → test p ≡ true) → list_all test ps ≡ true
+pub all_true : (test : Processor → Bool) (ps : List Processor) → ((i : ℕ) (p : Processor) → slice_get ps i ≡ Some p → test p ≡ true) → list_all test ps ≡ true
 all_true test [] h = refl
 all_true test (p ∷ ps) h = λ i. h 0 p refl i && all_true test ps (λ j q at. h (suc j) q at) i
 
@@ -248,7 +248,7 @@ each_falls_in s (Some o) a there decided =
 pub each_falls : (m : Machine) → Arises m → IsSome m.order → IsDecided m → work_of (each_steps m) < work_of m
 each_falls m = each_falls_in m.system m.order
 
-remaining_decided : (o : Order) (s : System) (b : Bool) → o.go ≢ Pending → IsDecided (machine s (if b then None else Some o))
+pub remaining_decided : (o : Order) (s : System) (b : Bool) → o.go ≢ Pending → IsDecided (machine s (if b then None else Some o))
 remaining_decided o s true on is = absurd (cc)
 remaining_decided o s false on is = on (cc)
 

@@ -4,8 +4,8 @@ use Rattle.std.proofs.lemmas.Option.{slice_get-get_or}
 use Rattle.mt_machine.specs.declared.event.Event.{Event}
 use Rattle.mt_machine.specs.declared.event.Event.TheVariants.{Release}
 use Rattle.mt_machine.specs.Memory.{Window}
-use Rattle.mt_machine.specs.System.{Processor, System}
-use Rattle.mt_machine.specs.Machine.{Machine, MachineEvent, Order, Steps, due_at, next, run, step}
+use Rattle.mt_machine.specs.System.{System}
+use Rattle.mt_machine.specs.Machine.{Machine, Order, Steps, due_at, next, run, step}
 use Rattle.mt_machine.specs.Update.{IsSettled}
 use Rattle.mt_laws.specs.Barriers.{IsAt}
 use Rattle.mt_laws.proofs.Barrier.Acting.{no_buffers}

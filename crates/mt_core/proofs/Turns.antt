@@ -1,16 +1,16 @@
 -- Rounds are events, and from a call in a quiet state they make the whole update.
 use Rattle.std.proofs.Common.{◌≡◌, ◌⊎◌, ◌∙◌, ap, sym, refl, subst, arith, eq-eqb, ne_eqb, ℕ, zero, suc, ◌+◌, ◌<◌, ◌≤◌, ⊎_elim, inl, inr, Bool, true, false, List, [], ◌∷◌, ◌++◌, length, Option, None, Some}
-use Rattle.std.specs.Prelude.{IsSome, cond, if◌then◌else◌, map, nat_lt, not, ◌&&◌, ◌==◌}
-use Rattle.std.specs.List.{count_by, fold, list_all, range_with_len}
+use Rattle.std.specs.Prelude.{IsSome, cond, if◌then◌else◌, nat_lt, not, ◌&&◌, ◌==◌}
+use Rattle.std.specs.List.{fold, list_all, range_with_len}
 use Rattle.std.specs.Option.{option_map_or}
-use Rattle.std.proofs.lemmas.Bool.{eqb-false, eqb-true, le-ltb, lt-ltb, ltb-false, ltb-true}
+use Rattle.std.proofs.lemmas.Bool.{eqb-false, eqb-true, le-ltb, ltb-false, ltb-true}
 use Rattle.std.proofs.lemmas.List.Elements.{filter_map-append}
 use Rattle.mt_regs.specs.RegisterFile.{RegisterFile}
 use Rattle.mt_machine.specs.declared.event.Event.{Event}
 use Rattle.mt_machine.specs.declared.event.Event.TheVariants.{Take}
 use Rattle.mt_machine.specs.declared.go.Go.TheVariants.{Given}
-use Rattle.mt_machine.specs.System.{Processor, System}
-use Rattle.mt_machine.specs.Machine.{AreEnabled, Calls, Goes, IsEnabled, Machine, MachineEvent, Order, Steps, common_era, due_at, has_released, is_cancelled, is_over, next, remaining_order, run}
+use Rattle.mt_machine.specs.System.{Processor}
+use Rattle.mt_machine.specs.Machine.{AreEnabled, Calls, Goes, IsEnabled, Machine, MachineEvent, Order, Steps, common_era, due_at, has_released, is_over, next, remaining_order, run}
 use Rattle.mt_machine.specs.Start.{IsQuiet}
 use Rattle.mt_machine.specs.Update.{is_cancel, is_led, taker, takes_of, updated}
 use Rattle.mt_laws.specs.Counts.{IsEachOnce}
@@ -26,15 +26,15 @@ use Rattle.mt_core.specs.Steps.{step_after}
 use Rattle.mt_core.proofs.Arising.{machine}
 use Rattle.mt_core.proofs.Progress.{after_case}
 
-abbrev goes_on : MachineEvent → Bool
+abbrev pub goes_on : MachineEvent → Bool
 goes_on e = is_led e && not (is_cancel e)
 
 -- some events lead from the first machine to the second, without access, control, call and cancel
-record Course (m n : Machine) : Type 0 where
-  es : List MachineEvent
-  enabled : AreEnabled m es
-  leads : run m es ≡ n
-  led : list_all goes_on es ≡ true
+pub record Course (m n : Machine) : Type 0 where
+  pub es : List MachineEvent
+  pub enabled : AreEnabled m es
+  pub leads : run m es ≡ n
+  pub led : list_all goes_on es ≡ true
 
 all_join : (xs ys : List MachineEvent) → list_all goes_on xs ≡ true → list_all goes_on ys ≡ true → list_all goes_on (xs ++ ys) ≡ true
 all_join [] ys h g = g
@@ -63,11 +63,11 @@ steps_course : (ks : List ℕ) (m : Machine) → Course m (fold step_after m ks)
 steps_course [] m = stays m
 steps_course (k ∷ ks) m = joined m (step_after m k) (fold step_after (step_after m k) ks) (one_course m k) (steps_course ks (step_after m k))
 
-rounds_course : {m n : Machine} → Rounds m n → Course m n
+pub rounds_course : {m n : Machine} → Rounds m n → Course m n
 rounds_course {m} (ended none) = stays m
 rounds_course {m} {n} (again some rest) = joined m (each_steps m) n (steps_course (in_order m) m) (rounds_course rest)
 
-rounds_end : {m n : Machine} → Rounds m n → n.order ≡ None
+pub rounds_end : {m n : Machine} → Rounds m n → n.order ≡ None
 rounds_end (ended none) = none
 rounds_end (again some rest) = rounds_end rest
 
@@ -166,7 +166,7 @@ module _ (s : Machine) (goal : RegisterFile) (quiet : IsQuiet s) (enabled : IsEn
   abbrev ps : List Processor
   ps = s.system.processors
 
-  over_empty : (qs : List Processor) → common_era qs ≡ common_era ps → list_all (has_released given) qs ≡ true → length qs ≡ 0
+  pub over_empty : (qs : List Processor) → common_era qs ≡ common_era ps → list_all (has_released given) qs ≡ true → length qs ≡ 0
   over_empty [] same all = refl
   over_empty (q ∷ qs) same all =
       absurd (let first : has_released given q ≡ true = all_at (has_released given) (q ∷ qs) 0 q all refl in

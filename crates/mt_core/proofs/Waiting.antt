@@ -1,17 +1,15 @@
 -- A step waits exactly at a barrier whose count is not full.
-use Rattle.std.proofs.Common.{◌≡◌, ◌⊎◌, ◌∙◌, ap, sym, refl, subst, arith, ℕ, ◌+◌, ◌<◌, ◌≤◌, ⊎_elim, inl, inr, Bool, true, false, List, Option, None, Some, slice_get, lit≤}
-use Rattle.std.specs.Prelude.{if◌then◌else◌, not, ◌&&◌}
+use Rattle.std.proofs.Common.{◌≡◌, ◌⊎◌, ◌∙◌, ap, sym, refl, subst, arith, ◌≤◌, ⊎_elim, inl, inr, Bool, true, false, List, Option, None, Some, slice_get, lit≤}
+use Rattle.std.specs.Prelude.{if◌then◌else◌}
 use Rattle.std.specs.Option.{option_map_or}
 use Rattle.std.proofs.lemmas.List.Sums.{count_by-le-length}
 use Rattle.mt_machine.specs.declared.phase.Phase.{Phase}
 use Rattle.mt_machine.specs.declared.phase.Phase.TheVariants.{Running, Arrived, Arrived2}
-use Rattle.mt_machine.specs.declared.event.Event.{Event}
 use Rattle.mt_machine.specs.declared.event.Event.TheVariants.{Leave, Pass, Release, Take}
 use Rattle.mt_machine.specs.System.{Processor, System}
 use Rattle.mt_machine.specs.Machine.{BarrierCount, Order, due, first_barrier_count, first_barrier_open, has_arrived, has_arrived_again, is_cancelled, is_given, second_barrier_count, second_barrier_open}
 use Rattle.mt_laws.specs.Barriers.{IsFull}
 use Rattle.mt_laws.proofs.Barrier.Counts.{open_where_full}
-use Rattle.mt_core.specs.declared.stepped.Stepped.{Stepped}
 use Rattle.mt_core.specs.declared.stepped.Stepped.TheVariants.{Did, NoUpdate, Waits}
 use Rattle.mt_core.specs.Headline.{IsBelowFull, WaitsAtBarriers, WaitsFor}
 use Rattle.mt_core.specs.Steps.{pause, step_answer, under_way}

@@ -1,5 +1,5 @@
 -- What is left to do of an update, as a number: each event that is due lowers it.
-use Rattle.std.proofs.Common.{◌≡◌, ◌≢◌, ◌∙◌, ap, sym, refl, subst, arith, ℕ, zero, suc, ◌+◌, ◌*◌, ◌<◌, ◌≤◌, ⊎_elim, ◌⊎◌, inl, inr, Bool, true, false, List, [], ◌∷◌, length, Option, None, Some, slice_get, lit<, lit≤}
+use Rattle.std.proofs.Common.{◌≡◌, ◌≢◌, ◌∙◌, ap, sym, refl, subst, arith, ℕ, zero, suc, ◌+◌, ◌*◌, ◌<◌, ◌≤◌, ⊎_elim, ◌⊎◌, Bool, true, false, List, [], ◌∷◌, length, Option, None, Some, slice_get, lit≤}
 use Rattle.std.specs.Prelude.{if◌then◌else◌, nat_lt, not, ◌&&◌, ◌==◌}
 use Rattle.std.specs.Option.{option_map_or}
 use Rattle.std.specs.List.{count_by}
@@ -11,15 +11,14 @@ use Rattle.mt_regs.specs.Registers.{writable}
 use Rattle.mt_cache.specs.declared.line.CacheLine.{CacheLine}
 use Rattle.mt_cache.specs.Lines.{eight, is_dirty}
 use Rattle.mt_machine.specs.declared.phase.Phase.{Phase}
-use Rattle.mt_machine.specs.declared.phase.Phase.TheVariants.{Running, Taken, Arrived, Passed, Arrived2}
+use Rattle.mt_machine.specs.declared.phase.Phase.TheVariants.{Running, Taken, Arrived, Arrived2}
 use Rattle.mt_machine.specs.declared.event.Event.{Event}
 use Rattle.mt_machine.specs.declared.event.Event.TheVariants.{Arrive, Leave, Pass, Release, Take}
 use Rattle.mt_machine.specs.System.{Processor, System}
-use Rattle.mt_machine.specs.Machine.{Machine, Order, Steps, before_own, due, due_at, first_barrier_open, has_released, is_cancelled, is_over, next, own_step, second_barrier_open, step}
+use Rattle.mt_machine.specs.Machine.{Machine, Order, Steps, before_own, due, due_at, first_barrier_open, has_released, is_cancelled, is_over, next, own_step, step}
 use Rattle.mt_machine.specs.Update.{dirty_count, is_release}
-use Rattle.mt_laws.proofs.Barrier.Barriers.{step_stages}
-use Rattle.mt_laws.proofs.Barrier.Ranks.{Guarded, is_ahead, rank, rank_of, stage_at}
-use Rattle.mt_laws.proofs.Barrier.Stages.{Stage, stage_of, stages}
+use Rattle.mt_laws.proofs.Barrier.Ranks.{Guarded, rank, rank_of, stage_at}
+use Rattle.mt_laws.proofs.Barrier.Stages.{stage_of, stages}
 use Rattle.mt_laws.proofs.Clearing.Follows.{follows_drain}
 use Rattle.mt_laws.proofs.Clearing.Renewed.{at_change, is_take, left_alone, no_take}
 use Rattle.mt_laws.proofs.Invariant.Standing.{Standing}
@@ -96,7 +95,7 @@ same_count f g same = ap (λ (c : ℕ). length (writable (record f { capabilitie
 
 -- ---- the processor's own step
 
-release_is : (e : Event) → is_release (Steps 0 e) ≡ true → e ≡ Release
+pub release_is : (e : Event) → is_release (Steps 0 e) ≡ true → e ≡ Release
 release_is Release h = refl
 release_is other h = absurd (cc)
 

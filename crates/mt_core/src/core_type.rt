@@ -7,13 +7,15 @@ ghost use Rattle.mt_machine.specs.System.{Processor};
 ghost use Rattle.mt_regs.specs.declared.fault.Fault.{Fault};
 ghost use Rattle.mt_regs.specs.Faults.{IsAccepted, IsFirstFault};
 ghost use Rattle.mt_machine.specs.Start.{HasEraRoom};
-ghost use Rattle.mt_machine.specs.Machine.{Calls, Cancels, FitsControl, FitsGoal, FitsOp, Goes, Order as MachineOrder, common_era, go_of, next, remaining_order};
+ghost use Rattle.mt_machine.specs.Machine.{BarrierCount, Calls, Cancels, FitsControl, FitsGoal, FitsOp, Goes, Order as MachineOrder, common_era, go_of, next, remaining_order};
 ghost use Rattle.mt_machine.specs.Update.{IsSettled};
 ghost use Rattle.mt_machine.specs.declared.event.Event.TheVariants.{Release};
-ghost use Rattle.mt_core.specs.declared.stepped.Stepped.TheVariants.{Did};
+ghost use Rattle.mt_core.specs.declared.stepped.Stepped.TheVariants.{Did, NoUpdate, Waits};
 ghost use Rattle.mt_core.specs.Arises.{IsCore, grown};
+ghost use Rattle.mt_core.specs.Headline.{WaitsFor};
 ghost use Rattle.mt_core.specs.Rounds.{IsWholeUpdate, Rounds, each_steps, with_go_given};
 ghost use Rattle.mt_core.specs.Steps.{pause_at, step_after, step_answer, under_way};
+ghost use Rattle.mt_core.specs.Stops.{is_outside};
 
 use crate::barriers::{is_pending, remaining};
 use crate::fault::CallFault;
@@ -210,8 +212,22 @@ impl Core {
         Ok(())
     }
 
-    /// Does the event of a processor that is due. Nothing changes where none is due.
+    /// Does the event of a processor that is due. Nothing changes where none is due: the processor
+    /// waits at a barrier that isn't full, or runs outside an update.
     pub fn step(&mut self, k: u32) -> Stepped
+        requires { k < length self.old.system.processors }
+        ensures answer { result ≡ step_answer self.old k }
+        ensures after { self.new ≡ step_after self.old k }
+        ensures settled { (o : MachineOrder) → result ≡ Did Release → self.old.order ≡ Some o → IsSettled self.new.system (o.from_era + 1) o.goal }
+        ensures waits { (p : Processor) (c : BarrierCount) → slice_get self.old.system.processors k ≡ Some p → (result ≡ Waits c.arrived c.awaited) ↔ ((o : MachineOrder) × (self.old.order ≡ Some o) × WaitsFor o self.old.system.processors p c) }
+        ensures stops { (p : Processor) → slice_get self.old.system.processors k ≡ Some p → (result ≡ NoUpdate) ↔ ((is_running p.phase ≡ true) × (is_outside self.old p ≡ true)) }
+    {
+        self.is_core();
+        self.do_due(k)
+    }
+
+    // The step, by its answer and the state that it leaves.
+    fn do_due(&mut self, k: u32) -> Stepped
         requires { k < length self.old.system.processors }
         ensures answer { result ≡ step_answer self.old k }
         ensures after { self.new ≡ step_after self.old k }

@@ -1,4 +1,5 @@
 ghost use Rattle.mt_core.specs.Headline.{ErasRise, HeldFromFirstRelease, IsQuietWithoutOrder, NoBuffersWhereOnePasses, SettledFromRelease, WaitsAtBarriers};
+ghost use Rattle.mt_core.specs.Rounds.{TurnsEnd, UpdatedWordsAreHeld, UpdatesAreReached, UpdatesSettle};
 ghost use Rattle.mt_core.specs.Stops.{StopsOutside};
 
 /// A step answers `NoUpdate` exactly where the processor runs and no update is under way, or it is
@@ -34,4 +35,20 @@ pub fn rests_quiet()
 /// An event leaves the number of processors, and raises no era by more than one.
 pub fn eras_rise()
     ensures { ErasRise }
+{}
+
+/// Turns of steps end whatever state arose, and the state after a whole update is reached by events:
+/// the call, the go and steps, of which a release is the last. So each law on reached states holds
+/// from a whole update on too.
+pub fn updates_are_reached()
+    ensures ends { TurnsEnd }
+    ensures reached { UpdatesAreReached }
+{}
+
+/// From a whole update on, and up to the next call, each processor has the goal's registers and holds
+/// nothing of another era, and each word that no access has stored since is in memory as the update
+/// left it.
+pub fn updates_settle()
+    ensures settled { UpdatesSettle }
+    ensures held { UpdatedWordsAreHeld }
 {}

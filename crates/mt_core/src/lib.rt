@@ -16,7 +16,10 @@ mod tests;
 
 pub use core_type::Core;
 pub use fault::CallFault;
-pub use laws::{eras_rise, releases_settle, rests_quiet, steps_stop, steps_wait, words_are_held};
+pub use laws::{
+    eras_rise, releases_settle, rests_quiet, steps_stop, steps_wait, updates_are_reached,
+    updates_settle, words_are_held,
+};
 pub use mt_machine::{Event, Go, Phase};
 pub use order::Order;
 pub use stepped::Stepped;

@@ -9,5 +9,6 @@ pub mod Keeping
 pub mod Lines
 pub mod Refusals
 pub mod SameFiles
+pub mod ShownFile
 pub mod Telling
 mod Whole

@@ -7,8 +7,8 @@ use Rattle.mt_regs.specs.RegisterFile.{RegisterFile, IsRegisterFile}
 use Rattle.mt_regs.specs.Faults.{IsAccepted}
 use Rattle.mt_ram.specs.Windows.{window}
 use Rattle.mt_machine.specs.Memory.{Window}
-use Rattle.mt_machine.specs.Machine.{FitsGoal}
-use Rattle.mt_machine.specs.Start.{start_machine}
+use Rattle.mt_machine.specs.Machine.{FitsGoal, Machine, Reached}
+use Rattle.mt_machine.specs.Start.{IsQuiet, start_machine}
 use Rattle.mt_core.specs.Arises.{Arises}
 use Rattle.mt_dump.specs.Line.{Reading, said_of}
 use Rattle.mt_dump.specs.Dump.{offence_of, offence_at_end}
@@ -29,7 +29,12 @@ use Rattle.mt_replay.specs.Session.{Session, first_session, session_after}
 abbrev pub windows_of : Situation → List Window
 windows_of now = map (λ w. window w.0 w.1) now.windows
 
--- the machine arises from a start by events of its table, and nothing has happened to it before the first command
+-- the processors with this file, over zero words
+abbrev pub start_of : Situation → RegisterFile → Machine
+start_of now f = start_machine now.cpus f (windows_of now)
+
+-- The machine is reached by events from its start, the processors with the dump's file over zero words, which is quiet: so each
+-- law on what is reached from a start holds of it. Nothing has happened to it before the first command.
 pub record IsSession (s : Session) : Type 0 where
   pub situation : IsSituation s.now
   pub past : is_past_dump s.now.stage ≡ true
@@ -39,7 +44,9 @@ pub record IsSession (s : Session) : Type 0 where
   pub goal_file : IsRegisterFile s.goal
   pub goal : All (FitsGoal s.goal) s.machine.system.processors
   pub windows : s.machine.system.memory.windows ≡ windows_of s.now
-  pub fresh : (f : RegisterFile) → s.now.file ≡ Some f → takes_windows s.now.stage ≡ true → IsAccepted f × (s.machine ≡ start_machine s.now.cpus f (windows_of s.now))
+  pub quiet : (f : RegisterFile) → s.now.file ≡ Some f → IsQuiet (start_of s.now f)
+  pub reached : (f : RegisterFile) → s.now.file ≡ Some f → Reached (start_of s.now f) s.machine
+  pub fresh : (f : RegisterFile) → s.now.file ≡ Some f → takes_windows s.now.stage ≡ true → IsAccepted f × (s.machine ≡ start_of s.now f)
 
 -- no processor has finished more updates than this
 abbrev pub HasEras : ℕ → Session → Type 0

@@ -5,6 +5,8 @@ use Rattle.mt_machine.specs.Machine.{Machine}
 use Rattle.mt_dump.specs.Line.{Reading}
 use Rattle.mt_script.specs.Situation.{Situation}
 use Rattle.mt_script.specs.Commands.{command_of}
+use Rattle.mt_script.specs.declared.command.Command.{Command}
+use Rattle.mt_script.specs.declared.command.Command.TheVariants as command
 use Rattle.mt_script.specs.declared.fault.Offence.{Offence}
 use Rattle.mt_replay.specs.FirstFault.{first_fault}
 use Rattle.mt_replay.specs.Session.{Session}
@@ -30,3 +32,7 @@ Shows now before number line file =
 abbrev pub Offends : Situation → List Reading → ℕ → List ℕ → Offence → Type 0
 Offends now before number line o =
     (head : Head) (rest : Session → Told) → head_line now before number line head rest ≡ told_offence o
+
+-- a command of a window, the only one that asks for memory
+abbrev pub IsWindow : Command → Type 0
+IsWindow c = (base : ℕ) × (lines : ℕ) × (c ≡ command.Ram base lines)

@@ -2,8 +2,9 @@
 --     ShowsDump text file      the text's dump is read whole, no offence stands before, and its lines show the file
 --     the status of a text's transcript, and its first and last line
 --     what a refused update, a complete one and a release leave of the machine of a session
-use Rattle.std.specs.Prelude.{ℕ, ◌≡◌, ◌≢◌, ◌⊎◌, ◌↔◌, ◌+◌, Bool, true, false, List, [], ◌∷◌, ◌++◌, codes, IsSome, ⊤, Some, None, Ok}
-use Rattle.std.specs.List.{All}
+use Rattle.std.specs.Prelude.{ℕ, ◌≡◌, ◌≢◌, ◌⊎◌, ◌↔◌, ◌+◌, ◌%◌, Bool, true, false, List, [], ◌∷◌, ◌++◌, codes, IsSome, ⊤, Option, Some, None, Ok}
+use Rattle.std.specs.List.{All, Contains}
+use Rattle.std.specs.Option.{option_map_or}
 use Rattle.mt_text.specs.Text.{lines_of}
 use Rattle.mt_ports.specs.declared.status.Status.TheVariants.{Done, Refused, BadText}
 use Rattle.mt_regs.specs.declared.fault.Fault.{Fault}
@@ -15,8 +16,10 @@ use Rattle.mt_dump.specs.Reader.{onto}
 use Rattle.mt_machine.specs.declared.event.Event.TheVariants.{Release}
 use Rattle.mt_machine.specs.Memory.{place, word_at}
 use Rattle.mt_machine.specs.System.{now}
-use Rattle.mt_machine.specs.Machine.{Calls, Machine, Order, common_era, next}
-use Rattle.mt_machine.specs.Update.{IsSettled, emptied}
+use Rattle.mt_machine.specs.declared.op.Op.TheVariants as op
+use Rattle.mt_machine.specs.Machine.{Accesses, Calls, Machine, Order, Reached, common_era, has_released, next}
+use Rattle.mt_machine.specs.Update.{IsSettled, emptied, stored_word}
+use Rattle.mt_laws.specs.Settled.{IsFirstRelease}
 use Rattle.mt_core.specs.Steps.{step_answer}
 use Rattle.mt_core.specs.declared.stepped.Stepped.TheVariants.{Did}
 use Rattle.mt_script.specs.Situation.{Situation, at_start}
@@ -28,7 +31,7 @@ use Rattle.mt_script.specs.declared.command.Command.{Command}
 use Rattle.mt_script.specs.declared.command.Command.TheVariants as command
 use Rattle.mt_script.specs.declared.fault.Offence.{Offence}
 use Rattle.mt_output.specs.Lines.{accepted_line, line, offence_line, refused_line}
-use Rattle.mt_replay.specs.Kept.{IsSession}
+use Rattle.mt_replay.specs.Kept.{HoldsThrough, IsSession, start_of}
 use Rattle.mt_replay.specs.Session.{Session, call_fault, command_text, each_processor, is_update, machine_after, session_after}
 use Rattle.mt_replay.specs.Texts.{called_line, complete_line}
 use Rattle.mt_replay.specs.Transcript.{told, told_offence, transcript}
@@ -60,6 +63,10 @@ ShowsNoDump text = (file : RegisterFile) → ShowsDump text file → ⊥
 -- a text shows no two files
 abbrev pub OneFileShown : Type 0
 OneFileShown = (text : List ℕ) (file other : RegisterFile) → ShowsDump text file → ShowsDump text other → file ≡ other
+
+-- each session of a text has the file that the text's dump shows
+abbrev pub SessionsHaveTheShownFile : Type 0
+SessionsHaveTheShownFile = (text : List ℕ) (file : RegisterFile) → ShowsDump text file → HoldsThrough (λ s. s.now.file ≡ Some file) text
 
 -- ---- statuses
 
@@ -124,13 +131,23 @@ RefusedCallsChangeNothing = (s : Session) (fault : Fault) → s.machine.order �
 abbrev pub CallsUnderWayChangeNothing : Type 0
 CallsUnderWayChangeNothing = (s : Session) → IsSome s.machine.order → EndsIdle s (line (codes "under way"))
 
--- The machine after a whole update to the goal.
+-- each of these commands fits in its turn, and none calls for an update
+abbrev pub AreWithoutCall : Session → List Command → Type 0
+AreWithoutCall s [] = ⊤
+AreWithoutCall s (c ∷ cs) = Fits s.now c × (c ≡ command.End → IsSome (call_fault s.machine s.goal)) × AreWithoutCall (session_after s c) cs
+
+abbrev pub session_after_all : Session → List Command → Session
+session_after_all s [] = s
+session_after_all s (c ∷ cs) = session_after_all (session_after s c) cs
+
+-- The machine after a whole update to the goal, and after commands since.
 pub record IsSettledAfter (s : Session) (m : Machine) : Type 0 where
   pub era : ℕ
   pub line_is : command_text s command.End ≡ complete_line era
   pub risen : era ≡ common_era s.machine.system.processors + 1
   pub eras : All (λ p. p.era ≡ era) m.system.processors
   pub settled : IsSettled m.system era s.goal
+  pub stays_settled : (since : List Command) → AreWithoutCall (session_after s command.End) since → IsSettled (session_after_all (session_after s command.End) since).machine.system era s.goal
   pub no_order : m.order ≡ None
   pub windows : m.system.memory.windows ≡ s.machine.system.memory.windows
   pub words : (address : ℕ) → IsSome (place s.machine.system.memory address)
@@ -151,18 +168,39 @@ AcceptedWhereIdle = (s : Session) → (call_fault s.machine s.goal ≡ None) ↔
 
 -- ---- releases
 
--- each of these commands fits in its turn, and none calls for an update
-abbrev pub AreWithoutCall : Session → List Command → Type 0
-AreWithoutCall s [] = ⊤
-AreWithoutCall s (c ∷ cs) = Fits s.now c × (c ≡ command.End → IsSome (call_fault s.machine s.goal)) × AreWithoutCall (session_after s c) cs
-
-abbrev pub session_after_all : Session → List Command → Session
-session_after_all s [] = s
-session_after_all s (c ∷ cs) = session_after_all (session_after s c) cs
-
 -- from a step that releases on, and up to the next call, each processor has the goal's registers and holds nothing older than the update
 abbrev pub ReleasedSessionsSettle : Type 0
 ReleasedSessionsSettle =
     (s : Session) (k : ℕ) (since : List Command) → IsSession s → Fits s.now (command.Step k) → step_answer s.machine k ≡ Did Release
     → AreWithoutCall (session_after s (command.Step k)) since
     → (o : Order) × (s.machine.order ≡ Some o) × IsSettled (session_after_all (session_after s (command.Step k)) since).machine.system (o.from_era + 1) o.goal
+
+-- ---- words
+
+-- the word that a command stores, where the access is answered Stored
+abbrev pub stored_by : Session → Command → Option ℕ
+stored_by s (command.Store k address value) = stored_word s.machine (Accesses k (op.Store address value))
+stored_by s other = None
+
+abbrev pub stored_by_all : Session → List Command → List ℕ
+stored_by_all s [] = []
+stored_by_all s (c ∷ cs) = option_map_or (λ a. a ∷ stored_by_all (session_after s c) cs) (stored_by s c) (stored_by_all (session_after s c) cs)
+
+-- after these commands each word that none of them stored has this value in memory
+abbrev pub AreHeld : (ℕ → ℕ) → Session → List Command → Type 0
+AreHeld value s since =
+    (address : ℕ) → address % 8 ≡ 0 → (Contains (stored_by_all s since) address → ⊥) → word_at (session_after_all s since).machine.system.memory address ≡ value address
+
+-- from a complete update on, and up to the next call: the value that the update left
+abbrev pub UpdatedWordsAreHeld : Type 0
+UpdatedWordsAreHeld =
+    (s : Session) (since : List Command) → IsSession s → is_update s.now.stage ≡ true → call_fault s.machine s.goal ≡ None → AreWithoutCall (session_after s command.End) since
+    → AreHeld (word_at (machine_after s command.End).system.memory) (session_after s command.End) since
+
+-- from the first release of an update on, and up to the next call: the value that the word had before the first pass
+abbrev pub ReleasedWordsAreHeld : Type 0
+ReleasedWordsAreHeld =
+    (s : Session) (f : RegisterFile) (o : Order) (k : ℕ) (since : List Command) → IsSession s → s.now.file ≡ Some f → Fits s.now (command.Step k)
+    → step_answer s.machine k ≡ Did Release → s.machine.order ≡ Some o → All (λ q. has_released o q ≡ false) s.machine.system.processors
+    → AreWithoutCall (session_after s (command.Step k)) since
+    → (p : Machine) × Reached (start_of s.now f) p × IsFirstRelease p (machine_after s (command.Step k)) o × AreHeld (now p.system) (session_after s (command.Step k)) since

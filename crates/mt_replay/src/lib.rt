@@ -23,7 +23,7 @@ pub use running::replay;
 pub use statuses::{
     a_text_shows_one_dump, accepted_comes_first, complete_updates_settle,
     refused_calls_change_nothing, refused_dumps_are_told_alone, released_sessions_settle,
-    statuses_tell_of_offences,
+    sessions_have_the_shown_file, statuses_tell_of_offences, stored_words_are_held,
 };
 pub use worked::{
     worked_answers, worked_events, worked_phases, worked_reports, worked_updates, worked_values,

@@ -9,7 +9,7 @@ ghost use Rattle.mt_script.specs.Accept.{Fits, accepted};
 ghost use Rattle.mt_ports.specs.Causes.{HasCause};
 ghost use Rattle.mt_output.specs.Writing.{Adds};
 ghost use Rattle.mt_replay.specs.Kept.{IsSession};
-ghost use Rattle.mt_replay.specs.Parts.{session};
+ghost use Rattle.mt_replay.specs.Parts.{IsWindow, session};
 ghost use Rattle.mt_replay.specs.Session.{after_call, after_update, call_line, command_text, file_at, first_session, goal_after, is_update, machine_after, mapping, session_after, update_line, with_register};
 
 use crate::commands::{
@@ -112,6 +112,7 @@ fn act(
     ensures machine { OnOk result (core.new ≡ machine_after (session setup.now core.old goal.old) c.now) }
     ensures goal { OnOk result (goal.new ≡ goal_after (session setup.now core.old goal.old) c.now) }
     ensures kept { OnErr result ((core.new ≡ core.old) × (goal.new ≡ goal.old)) }
+    ensures window { OnErr result (IsWindow c.now) }
 {
     Ok(match *c {
         Command::Load(k, address) => access(core, k, Op::Load(address)),
@@ -187,14 +188,14 @@ impl Replayer {
     }
 
     /// Does a command other than a report, and answers its line. The error comes only where the
-    /// allocator has no room; nothing then changes.
+    /// allocator has no room for a window; nothing then changes.
     pub fn run(&mut self, c: &Command) -> Result<LineBuffer, NoMemory>
         requires fits { Fits self.old.now c.now }
         requires room { HasEraRoom self.old.machine }
         requires no_report { c.now ≢ Command.Report }
         ensures { MatchResult result
             (λ line. (line.items ≡ command_text self.old c.now) × (self.new ≡ session_after self.old c.now))
-            (λ _. self.new ≡ self.old) }
+            (λ _. (self.new ≡ self.old) × IsWindow c.now) }
     {
         let line = act(&self.setup, &mut self.core, &mut self.goal, c)?;
         self.setup.accept(c);

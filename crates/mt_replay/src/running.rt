@@ -1,4 +1,4 @@
-ghost use Rattle.std.specs.Prelude.{◌≡◌, ◌≤◌, ◌<◌, ◌+◌, ◌++◌, ℕ, drop, length, true, MatchOption, MatchResult, Ok, Err};
+ghost use Rattle.std.specs.Prelude.{◌≡◌, ◌≤◌, ◌<◌, ◌+◌, ◌++◌, ℕ, drop, length, true, MatchOption, MatchResult, Some, Ok, Err};
 ghost use Rattle.mt_text.specs.Text.{end_of, lines_of};
 ghost use Rattle.mt_ports.specs.Causes.{HasCause, Rose};
 ghost use Rattle.mt_ports.specs.Puts.{AppendsFront};
@@ -8,6 +8,7 @@ ghost use Rattle.mt_output.specs.Writing.{Passes};
 ghost use Rattle.mt_script.specs.Accept.{Fits};
 ghost use Rattle.mt_script.specs.Commands.{command_of, end_fault};
 ghost use Rattle.mt_replay.specs.Kept.{HasEras};
+ghost use Rattle.mt_replay.specs.Parts.{IsWindow};
 ghost use Rattle.mt_replay.specs.Running.{LeadsTo, Replays, Tells};
 ghost use Rattle.mt_replay.specs.Session.{Session, command_text, session_after};
 ghost use Rattle.mt_replay.specs.Transcript.{Told, told, told_at_end, told_command, told_file, told_in, told_offence, transcript};
@@ -55,7 +56,7 @@ fn tell_offence<K: Sink>(
     )
 }
 
-// Does a command and writes what it says. There is a status where memory is refused.
+// Does a command and writes what it says. There is a status where memory is refused to a window.
 fn do_command<K: Sink>(
     replayer: &mut Replayer,
     c: &Command,
@@ -69,6 +70,7 @@ fn do_command<K: Sink>(
         (Passes writer.old (command_text replayer.old c.now) writer.new (K.taken sink.old) (K.taken sink.new) × (replayer.new ≡ session_after replayer.old c.now))
         (λ status. (status ≡ Status.NoMemory) × (writer.new ≡ writer.old) × (K.taken sink.new ≡ K.taken sink.old)))
         (λ _. AppendsFront (K.taken sink.old) (K.taken sink.new) (writer.old ++ command_text replayer.old c.now)) }
+    ensures window { (status : Status) → result ≡ Ok (Some status) → IsWindow c.now }
     ensures cause { HasCause (K.faults sink.old) (K.faults sink.new) result }
 {
     if *c == Command::Report {

@@ -1,8 +1,13 @@
-ghost use Rattle.mt_replay.specs.Statuses.{AcceptedCallsAreUnderWay, AcceptedFirst, AcceptedUnlessRefused, AcceptedWhereIdle, BadTextEndsWithOffence, BadTextWhereOffence, CallsUnderWayChangeNothing, CompleteUpdatesSettle, DoneWhereNoOffence, OffenceAlone, OneFileShown, OneOfThreeStatuses, RefusedAlone, RefusedCallsChangeNothing, RefusedWhereFileIsRefused, ReleasedSessionsSettle};
+ghost use Rattle.mt_replay.specs.Statuses.{AcceptedCallsAreUnderWay, AcceptedFirst, AcceptedUnlessRefused, AcceptedWhereIdle, BadTextEndsWithOffence, BadTextWhereOffence, CallsUnderWayChangeNothing, CompleteUpdatesSettle, DoneWhereNoOffence, OffenceAlone, OneFileShown, OneOfThreeStatuses, RefusedAlone, RefusedCallsChangeNothing, RefusedWhereFileIsRefused, ReleasedSessionsSettle, ReleasedWordsAreHeld, SessionsHaveTheShownFile, UpdatedWordsAreHeld};
 
 /// A text's dump shows no two files.
 pub fn a_text_shows_one_dump()
     ensures { OneFileShown }
+{}
+
+/// Each session that a text comes to has the file that the text's dump shows.
+pub fn sessions_have_the_shown_file()
+    ensures { SessionsHaveTheShownFile }
 {}
 
 /// A script is refused exactly where its dump is read whole and shows a file with a fault, which is
@@ -36,8 +41,8 @@ pub fn refused_calls_change_nothing()
 {}
 
 /// A goal without a fault is accepted where no update is under way; it is then called for, or, in a
-/// section of `update`, each processor has it afterwards and holds nothing of another era, and each
-/// word of memory is as it was once the buffers were emptied.
+/// section of `update`, each processor has it from then on, up to the next call, and holds nothing of
+/// another era, and each word of memory is as it was once the buffers were emptied.
 pub fn complete_updates_settle()
     ensures accepted { AcceptedWhereIdle }
     ensures called { AcceptedCallsAreUnderWay }
@@ -48,4 +53,12 @@ pub fn complete_updates_settle()
 /// goal's registers and holds nothing older than the update.
 pub fn released_sessions_settle()
     ensures { ReleasedSessionsSettle }
+{}
+
+/// From a complete update on, and up to the next call, each word that no command has stored since is
+/// in memory as the update left it. From the first release of an update on it is in memory as it was
+/// before the first pass, whether in a cache or in memory.
+pub fn stored_words_are_held()
+    ensures updated { UpdatedWordsAreHeld }
+    ensures released { ReleasedWordsAreHeld }
 {}

@@ -1,5 +1,5 @@
 -- The first session, after the dump.
-use Rattle.std.proofs.Common.{◌≡◌, ◌∙◌, ap, sym, refl, subst, arith, inl, ℕ, true, []}
+use Rattle.std.proofs.Common.{◌≡◌, ap, sym, refl, subst, arith, inl, ℕ, true, []}
 use Rattle.std.specs.Prelude.{map}
 use Rattle.std.specs.List.{All}
 use Rattle.std.proofs.lemmas.List.{length-replicate}
@@ -8,21 +8,20 @@ use Rattle.mt_regs.specs.RegisterFile.{RegisterFile, IsRegisterFile}
 use Rattle.mt_regs.specs.Faults.{IsAccepted}
 use Rattle.mt_machine.specs.Memory.{Window}
 use Rattle.mt_machine.specs.System.{start_processor}
-use Rattle.mt_machine.specs.Machine.{FitsGoal}
-use Rattle.mt_machine.specs.Start.{start_machine}
+use Rattle.mt_machine.specs.Machine.{FitsGoal, Machine, Reached, at_start}
+use Rattle.mt_machine.specs.Start.{IsQuiet, start_machine}
 use Rattle.mt_laws.proofs.Invariant.Starts.{nothing, start_is_quiet}
 use Rattle.mt_ram.specs.Windows.{window}
-use Rattle.mt_core.specs.Arises.{Arises, from_start}
+use Rattle.mt_core.specs.Arises.{from_start}
 use Rattle.mt_script.specs.Situation.{Situation}
 use Rattle.mt_script.specs.Kept.{IsSituation}
 use Rattle.mt_script.specs.Stages.{is_in_dump}
 use Rattle.mt_script.proofs.Keeping.{finished_is, not_past_in_dump}
-use Rattle.mt_replay.specs.Kept.{IsSession, windows_of}
+use Rattle.mt_replay.specs.Kept.{IsSession, start_of, windows_of}
 use Rattle.mt_replay.specs.Session.{first_session}
 
-start_arises : (count : ℕ) (f : RegisterFile) → IsRegisterFile f → IsAccepted f → Arises (start_machine count f [])
-start_arises count f good accepted =
-    from_start (inl (start_is_quiet count f [] good accepted (nothing (λ (w : Window). _)) (nothing (λ (w : Window). _)) (λ i j d low within. absurd (omega arith))))
+bare_is_quiet : (count : ℕ) (f : RegisterFile) → IsRegisterFile f → IsAccepted f → IsQuiet (start_machine count f [])
+bare_is_quiet count f good accepted = start_is_quiet count f [] good accepted (nothing (λ (w : Window). _)) (nothing (λ (w : Window). _)) (λ i j d low within. absurd (omega arith))
 
 start_fits : (count : ℕ) (f g : RegisterFile) → f ≡ g → All (FitsGoal g) (start_machine count f []).system.processors
 start_fits count f g same =
@@ -31,17 +30,19 @@ start_fits count f g same =
 
 pub first_kept : (now : Situation) (f : RegisterFile) → IsSituation now → is_in_dump now.stage ≡ true → IsRegisterFile f → IsAccepted f → IsSession (first_session now f)
 first_kept now f is dump good accepted =
+    let quiet = bare_is_quiet now.cpus f good accepted in
     let none : [] ≡ windows_of now = ap (map (λ (w : ℕ × ℕ). window w.0 w.1)) (sym (is.early (not_past_in_dump now.stage dump))) in
+    let started : (g : RegisterFile) → f ≡ g → start_machine now.cpus f [] ≡ start_of now g = λ g e. (λ i. start_machine now.cpus (e i) (none i)) in
     record {
       situation = finished_is now is f dump good;
       past = refl;
-      arises = start_arises now.cpus f good accepted;
+      arises = from_start (inl quiet);
       count = length-replicate now.cpus (start_processor f);
       kind = λ g same. start_fits now.cpus f g (let e : f ≡ g = cc same in e);
       goal_file = good;
       goal = start_fits now.cpus f f refl;
       windows = none;
-      fresh = λ g same takes.
-          let e : f ≡ g = cc same in
-          (subst IsAccepted e accepted, ap (λ (x : RegisterFile). start_machine now.cpus x []) e ∙ ap (start_machine now.cpus g) none);
+      quiet = λ g same. let e : f ≡ g = cc same in subst IsQuiet (started g e) quiet;
+      reached = λ g same. let e : f ≡ g = cc same in subst (λ (m : Machine). Reached m (start_machine now.cpus f [])) (started g e) at_start;
+      fresh = λ g same takes. let e : f ≡ g = cc same in (subst IsAccepted e accepted, started g e);
     }

@@ -16,7 +16,7 @@ use Rattle.mt_machine.specs.Memory.{Window}
 use Rattle.mt_machine.specs.System.{Processor, System}
 use Rattle.mt_machine.specs.Access.{Answered}
 use Rattle.mt_machine.specs.Control.{RuledAfter}
-use Rattle.mt_machine.specs.Machine.{Accesses, Calls, Controls, FitsControl, FitsGoal, FitsOp, IsEnabled, Machine, MachineEvent, Steps, due_at, go_of, next}
+use Rattle.mt_machine.specs.Machine.{Accesses, Calls, Controls, FitsControl, FitsGoal, FitsOp, IsEnabled, Machine, MachineEvent, Reached, Steps, after, due_at, go_of, next}
 use Rattle.mt_machine.specs.Update.{settled_processor, updated}
 use Rattle.mt_laws.proofs.Barrier.Acting.{access_busy, control_busy}
 use Rattle.mt_laws.proofs.Barrier.Claims.{all_get, all_of}
@@ -28,20 +28,22 @@ use Rattle.mt_core.specs.Steps.{step_after}
 use Rattle.mt_core.specs.Headline.{HasRisenByOne}
 use Rattle.mt_core.proofs.Arising.{runs_or_rests}
 use Rattle.mt_core.proofs.Eras.{eras_rise}
+use Rattle.mt_core.proofs.Reaching.{reached_on, updates_are_reached}
 use Rattle.mt_core.proofs.Settling.{is_quiet_without_order}
 use Rattle.mt_core.proofs.Stepping.{stands}
-use Rattle.mt_replay.specs.Session.{after_word, is_undecided}
+use Rattle.mt_replay.specs.Session.{after_word, each_processor, is_undecided}
 use Rattle.mt_replay.proofs.Keeping.Kinds.{fits_next, risen_same}
 
 -- n comes of m, over the same windows
 pub record Follows (m n : Machine) : Type 0 where
   pub arises : Arises n
+  pub reached : (p : Machine) → Reached p m → Reached p n
   pub risen : HasRisenByOne m.system n.system
   pub fits : (f : RegisterFile) → All (FitsGoal f) m.system.processors → All (FitsGoal f) n.system.processors
   pub windows : n.system.memory.windows ≡ m.system.memory.windows
 
 pub follows_same : (m : Machine) → Arises m → Follows m m
-follows_same m a = record { arises = a; risen = risen_same m.system m.system.memory; fits = λ f all. all; windows = refl }
+follows_same m a = record { arises = a; reached = λ p r. r; risen = risen_same m.system m.system.memory; fits = λ f all. all; windows = refl }
 
 pub follows_event : (m : Machine) (e : MachineEvent) → Arises m → IsEnabled m e → Follows m (next m e)
 follows_event m e a enabled =
@@ -49,6 +51,7 @@ follows_event m e a enabled =
     let ws : List Window = m.system.memory.windows in
     record {
       arises = by_event e a enabled;
+      reached = λ p r. after e r enabled;
       risen = eras_rise m e enabled;
       fits = λ f. fits_next f m e;
       windows = (standing_next ws (aligned_all ws st.0.aligned) m e enabled st.1).agrees.stands.memory.windows;
@@ -113,10 +116,14 @@ updated_risen m goal ks = record {
       omega arith;
 }
 
-pub follows_update : (m : Machine) (goal : RegisterFile) (ks : List ℕ) → Arises m → IsEnabled m (Calls goal) → Follows m (updated m.system ks goal)
-follows_update m goal ks a enabled = record {
-  arises = from_start (inl (updated_is_quiet m goal ks (is_quiet_without_order m a enabled.0) enabled));
-  risen = updated_risen m goal ks;
-  fits = λ f. updated_fits f goal m.system.processors enabled.3;
-  windows = refl;
-}
+pub follows_update : (m : Machine) (goal : RegisterFile) → Arises m → IsEnabled m (Calls goal) → Follows m (updated m.system (each_processor m.system) goal)
+follows_update m goal a enabled =
+    let quiet = is_quiet_without_order m a enabled.0 in
+    let ks : List ℕ = each_processor m.system in
+    record {
+      arises = from_start (inl (updated_is_quiet m goal ks quiet enabled));
+      reached = λ p r. reached_on r (updates_are_reached m goal quiet enabled).0;
+      risen = updated_risen m goal ks;
+      fits = λ f. updated_fits f goal m.system.processors enabled.3;
+      windows = refl;
+    }

@@ -1,6 +1,6 @@
 -- Each command that fits keeps what every session keeps.
 use Rattle.std.proofs.Common.{◌≡◌, ◌≢◌, ◌∙◌, ap, sym, refl, subst, arith, ℕ, ◌-◌, ◌/◌, ◌%◌, ◌^◌, ◌<◌, ◌≤◌, Bool, true, false, if◌then◌else◌, List, [], ◌∷◌, ◌++◌, Option, None, Some, slice_get, Ok}
-use Rattle.std.specs.Prelude.{IfSome, is_some}
+use Rattle.std.specs.Prelude.{IfSome, is_some, map}
 use Rattle.std.specs.Option.{option_map, option_map_or}
 use Rattle.std.specs.List.{All}
 use Rattle.std.specs.Result.{IfOk}
@@ -17,11 +17,11 @@ use Rattle.mt_machine.specs.declared.control.Control.{Control}
 use Rattle.mt_machine.specs.declared.control.Control.TheVariants as control_of
 use Rattle.mt_machine.specs.Memory.{Window}
 use Rattle.mt_machine.specs.System.{IsProcessor, Processor}
-use Rattle.mt_machine.specs.Machine.{Accesses, Calls, Cancels, Controls, FitsControl, FitsGoal, FitsOp, Goes, IsEnabled, Machine, Order, next}
-use Rattle.mt_machine.specs.Start.{start_machine}
+use Rattle.mt_machine.specs.Machine.{Accesses, Calls, Cancels, Controls, FitsControl, FitsGoal, FitsOp, Goes, IsEnabled, Machine, Order, Reached, at_start, next}
+use Rattle.mt_machine.specs.Start.{IsQuiet, start_machine}
 use Rattle.mt_machine.specs.Update.{updated}
 use Rattle.mt_laws.proofs.Barrier.Claims.{all_get, all_of}
-use Rattle.mt_ram.specs.Windows.{window}
+use Rattle.mt_ram.specs.Windows.{window, with_window}
 use Rattle.mt_core.specs.Arises.{by_window, grown}
 use Rattle.mt_core.specs.Steps.{step_after}
 use Rattle.mt_core.specs.declared.fault.CallFault.{CallFault}
@@ -40,12 +40,12 @@ use Rattle.mt_script.specs.Commands.{command_of}
 use Rattle.mt_script.proofs.Fitting.{command_fits}
 use Rattle.mt_script.proofs.Keeping.{accepted_is}
 use Rattle.mt_replay.specs.FirstFault.{first_fault}
-use Rattle.mt_replay.specs.Kept.{CommandsKeep, IsSession, windows_of}
+use Rattle.mt_replay.specs.Kept.{CommandsKeep, IsSession, start_of, windows_of}
 use Rattle.mt_replay.specs.Session.{Session, after_call, after_update, after_word, call_fault, each_processor, first_file, is_update, machine_after, mapping, session_after, with_register}
 use Rattle.mt_replay.proofs.FirstFault.{first_fault_is_first}
 use Rattle.mt_replay.proofs.Keeping.Kinds.{fits_with_value}
 use Rattle.mt_replay.proofs.Keeping.Machines.{Follows, follows_access, follows_control, follows_event, follows_same, follows_step, follows_update, follows_word}
-use Rattle.mt_replay.proofs.Keeping.Windows.{grown_start, room_memory, windows_then}
+use Rattle.mt_replay.proofs.Keeping.Windows.{grown_start, memory_is_quiet, room_memory, windows_then}
 
 -- what a line is read as fits
 pub command_known : (now : Situation) (number : ℕ) (line : List ℕ) (c : Command) → command_of now number line ≡ Ok c → Fits now c
@@ -82,6 +82,10 @@ file_of now is past = one now.file refl (is.has_file ∙ past) is.file
     one None same some file = absurd (cc some)
     one (Some f) same some file = (f, same, file)
 
+-- the start stays the same while no window is added
+same_start : (now was : Situation) (f : RegisterFile) → now.cpus ≡ was.cpus → now.windows ≡ was.windows → start_of was f ≡ start_of now f
+same_start now was f cpus windows = λ i. start_machine (sym cpus i) f (map (λ (w : ℕ × ℕ). window w.0 w.1) (sym windows i))
+
 -- with the same windows, and no window to come
 session_on : (s : Session) (now : Situation) (n : Machine) (goal : RegisterFile) → IsSession s → IsSituation now → is_past_dump now.stage ≡ true
     → now.cpus ≡ s.now.cpus → now.file ≡ s.now.file → now.windows ≡ s.now.windows → TakesNone now.stage → Follows s.machine n → IsRegisterFile goal → All (FitsGoal goal) s.machine.system.processors
@@ -95,6 +99,8 @@ session_on s now n goal h is past cpus file windows none follows good fits = rec
   goal_file = good;
   goal = follows.fits goal fits;
   windows = follows.windows ∙ h.windows ∙ ap windows_in (sym windows);
+  quiet = λ f same. subst IsQuiet (same_start now s.now f cpus windows) (h.quiet f (sym file ∙ same));
+  reached = λ f same. subst (λ (m : Machine). Reached m n) (same_start now s.now f cpus windows) (follows.reached (start_of s.now f) (h.reached f (sym file ∙ same)));
   fresh = λ f same takes. absurd (none takes);
 }
   where
@@ -132,7 +138,7 @@ pub follows_end : (s : Session) → IsSession s → Follows s.machine (machine_a
 follows_end s h = one (is_update s.now.stage)
   where
     one : (b : Bool) → Follows s.machine (if b then after_update s.machine s.goal else after_call s.machine s.goal)
-    one true = follows_called s (updated s.machine.system (each_processor s.machine.system) s.goal) h (follows_update s.machine s.goal (each_processor s.machine.system) h.arises)
+    one true = follows_called s (updated s.machine.system (each_processor s.machine.system) s.goal) h (follows_update s.machine s.goal h.arises)
     one false = follows_called s (next s.machine (Calls s.goal)) h (follows_event s.machine (Calls s.goal) h.arises)
 
 -- ---- goals
@@ -208,10 +214,16 @@ module _ (s : Session) (h : IsSession s) where
       let wide = file.2.wide in
       (omega arith, page_in physical f.width p.file.width (omega arith) fits.width below, omega arith)
 
-  grows : (base lines : ℕ) → base % 64 ≡ 0 → has_room s.now base lines ≡ true → IsSituation (accepted s.now (command.Ram base lines)) → IsSession (session_after s (command.Ram base lines))
-  grows base lines aligned room is =
+  grows : (base lines : ℕ) → takes_windows s.now.stage ≡ true → base % 64 ≡ 0 → has_room s.now base lines ≡ true → IsSituation (accepted s.now (command.Ram base lines)) → IsSession (session_after s (command.Ram base lines))
+  grows base lines windows aligned room is =
       let file = file_of s.now h.situation h.past in
       let memory = room_memory s.now file.0 s.machine.system.memory base lines file.1 file.2 (stands h.arises).0 h.windows aligned room in
+      let together : s.machine.system.memory.windows ++ window base lines ∷ [] ≡ windows_of (accepted s.now (command.Ram base lines)) =
+      ap (λ ws. ws ++ window base lines ∷ []) h.windows ∙ sym (windows_then s.now base lines) in
+      let started : (f : RegisterFile) → s.now.file ≡ Some f → grown (window base lines) s.machine ≡ start_of (accepted s.now (command.Ram base lines)) f =
+      λ f same.
+      ap (grown (window base lines)) (h.fresh f same windows).1 ∙ grown_start s.now.cpus f (windows_of s.now) (window base lines)
+      ∙ ap (start_machine s.now.cpus f) (sym (windows_then s.now base lines)) in
       record {
         situation = is;
         past = h.past;
@@ -220,19 +232,18 @@ module _ (s : Session) (h : IsSession s) where
         kind = h.kind;
         goal_file = h.goal_file;
         goal = h.goal;
-        windows = ap (λ ws. ws ++ window base lines ∷ []) h.windows ∙ sym (windows_then s.now base lines);
-        fresh = λ f same takes.
-            let was = h.fresh f same takes in (
-              was.0,
-              ap (grown (window base lines)) was.1 ∙ grown_start s.now.cpus f (windows_of s.now) (window base lines)
-                  ∙ ap (start_machine s.now.cpus f) (sym (windows_then s.now base lines)),
-            );
+        windows = together;
+        quiet = λ f same.
+            let good : IsRegisterFile f = subst (λ (o : Option RegisterFile). IfSome o IsRegisterFile) same h.situation.file in
+            memory_is_quiet s.now.cpus f (with_window (window base lines) s.machine.system.memory) (windows_of (accepted s.now (command.Ram base lines))) memory together good (h.fresh f same windows).0;
+        reached = λ f same. subst (Reached (start_of (accepted s.now (command.Ram base lines)) f)) (sym (started f same)) at_start;
+        fresh = λ f same takes. ((h.fresh f same windows).0, started f same);
       }
 
   kept : (c : Command) → Fits s.now c → IsSituation (accepted s.now c) → IsSession (session_after s c)
   kept (command.Cpus n) fits is = absurd (not_cpus s.now.stage h.past fits.0)
   kept command.Dump fits is = absurd (not_dump s.now.stage h.past fits)
-  kept (command.Ram base lines) fits is = grows base lines fits.1 fits.4 is
+  kept (command.Ram base lines) fits is = grows base lines fits.0 fits.1 fits.4 is
   kept (command.Load k address) fits is = accesses k (op.Load address) fits.1 is
   kept (command.Store k address value) fits is = accesses k (op.Store address value) (fits.1, fits.2) is
   kept (command.Fence k) fits is = accesses k op.Fence tt is

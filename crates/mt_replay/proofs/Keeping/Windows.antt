@@ -8,9 +8,11 @@ use Rattle.std.proofs.lemmas.List.Elements.{All-push}
 use Rattle.std.proofs.lemmas.List.Quantifiers.{all_pairs_push}
 use Rattle.mt_ranges.proofs.Powers.{pow_below}
 use Rattle.mt_regs.specs.RegisterFile.{RegisterFile, IsRegisterFile}
+use Rattle.mt_regs.specs.Faults.{IsAccepted}
 use Rattle.mt_machine.specs.Memory.{AreApart, IsMemory, Memory, Window, window_end, word_count}
 use Rattle.mt_machine.specs.Machine.{Machine}
-use Rattle.mt_machine.specs.Start.{start_machine}
+use Rattle.mt_machine.specs.Start.{IsQuiet, start_machine}
+use Rattle.mt_laws.proofs.Invariant.Starts.{start_is_quiet}
 use Rattle.mt_ram.specs.Windows.{window, with_window}
 use Rattle.mt_core.specs.Arises.{grown}
 use Rattle.mt_script.specs.Situation.{Situation}
@@ -66,6 +68,11 @@ room_memory now f m base lines file good h windows aligned room =
     let most = file_limit now.file f file good in
     grown_memory m (window base lines) h aligned (omega arith)
     (subst (λ (ws : List Window). (k : ℕ) (d : Window) → k < length ws → AreApart (get_or ws k d) (window base lines)) (sym windows) (each_apart base lines now.windows first.1))
+
+-- the windows of a memory make a quiet start
+pub memory_is_quiet : (count : ℕ) (f : RegisterFile) (m : Memory) (ws : List Window) → IsMemory m → m.windows ≡ ws → IsRegisterFile f → IsAccepted f → IsQuiet (start_machine count f ws)
+memory_is_quiet count f m ws h same good accepted =
+    subst (λ (vs : List Window). IsQuiet (start_machine count f vs)) same (start_is_quiet count f m.windows good accepted h.aligned h.bounded h.apart)
 
 pub windows_then : (now : Situation) (base lines : ℕ) → map of_pair (now.windows ++ (base, lines) ∷ []) ≡ windows_of now ++ window base lines ∷ []
 windows_then now base lines = map-append of_pair now.windows ((base, lines) ∷ [])

@@ -92,7 +92,7 @@ offends : (end : Place) (Showing : RegisterFile → Type 0) (o : Offence) → ((
 offends end Showing o none = inl (record { none = none; offence = o; is_first = refl; tells = λ body. refl })
 
 -- only the dump's end gives a situation its file
-file_after : (now : Situation) (c : Command) → (accepted now c).file ≡ now.file
+pub file_after : (now : Situation) (c : Command) → (accepted now c).file ≡ now.file
 file_after now command.Blank = refl
 file_after now other = refl
 

@@ -1,4 +1,5 @@
-use Rattle.mt_replay.proofs.Refusals.Calls.{accepted_calls, accepted_where_idle, complete_updates_settle}
+use Rattle.mt_replay.proofs.Refusals.Calls.{accepted_calls, accepted_where_idle}
+use Rattle.mt_replay.proofs.Refusals.Updates.{complete_updates_settle}
 use Rattle.mt_replay.proofs.statuses.complete_updates_settle.Goals as goal
 
 pub returns-clause-accepted : goal.returns-clause-accepted

@@ -1,7 +1,7 @@
-use Rattle.std.proofs.Common.{◌≡◌, ◌<◌, ap, sym, subst, rules, None}
+use Rattle.std.proofs.Common.{◌≡◌, ◌<◌, sym, subst, None}
 use Rattle.std.specs.Prelude.{IsSome}
 use Rattle.mt_machine.specs.Machine.{Machine}
-use Rattle.mt_core.specs.Rounds.{Rounds, again, ended, with_go_given}
+use Rattle.mt_core.specs.Rounds.{Rounds, again, ended}
 use Rattle.mt_core.proofs.Progress.{IsDecided, each_decided, each_falls, none_where_not}
 use Rattle.mt_core.proofs.Turns.{rounds_whole}
 use Rattle.mt_core.proofs.Work.{work_of}
