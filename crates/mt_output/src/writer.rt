@@ -46,8 +46,8 @@ impl Writer {
         result
     }
 
-    /// Adds a text to the bytes that wait, which go to the sink first where there isn't room. After
-    /// a failure nothing waits.
+    /// Adds a text to the bytes that wait. They go to the sink at the latest where there isn't room
+    /// for more. After a failure nothing waits.
     pub fn write<K: Sink>(&mut self, sink: &mut K, text: &[u8]) -> Result<(), Failed>
         requires { length text.now ≤ WRITER_ROOM }
         ensures bytes { Adds self.old text.now self.new (K.taken sink.old) (K.taken sink.new) result }
