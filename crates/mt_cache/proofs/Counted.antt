@@ -6,13 +6,13 @@ use Rattle.std.specs.Option.{option_map_or}
 use Rattle.std.proofs.lemmas.Bool.{eq-eqb, eqb-true, eqb-false, not-false}
 use Rattle.std.proofs.lemmas.Option.{slice_get-get_or}
 use Rattle.std.proofs.lemmas.List.{get_or-set_same, get_or-set_other, get_or-replicate, length_push, length-set}
-use Rattle.std.proofs.lemmas.List.Sums.{sum_by-cons, sum_by_push, sum_by-remove, get_or-le-sum_by, count_by-le-length}
+use Rattle.std.proofs.lemmas.List.Sums.{sum_by_push, sum_by-remove, get_or-le-sum_by, count_by-le-length}
 use Rattle.mt_lists.proofs.Keys.{to_apart, removed, none_of, some_at, found_key, at_position, position_within}
 use Rattle.mt_cache.specs.declared.line.CacheLine.{CacheLine}
-use Rattle.mt_cache.specs.Lines.{AreDistinct, has_number, without_line, change_line, oldest_of_full}
-use Rattle.mt_cache.specs.Calls.{AreLines, with_room, change_at}
+use Rattle.mt_cache.specs.Lines.{AreDistinct, has_number, without_line, oldest_of_full}
+use Rattle.mt_cache.specs.Calls.{AreLines, with_room}
 use Rattle.mt_cache.specs.Counts.{AreCounted, has_residue, raised, lowered, lowered_by}
-use Rattle.mt_cache.proofs.Lists.{number_of, KeepsNumber}
+use Rattle.mt_cache.proofs.Lists.{number_of}
 
 -- one line's part of a count
 abbrev pub one_at : ℕ → CacheLine → ℕ
@@ -23,6 +23,9 @@ residue_within n = omega arith
 
 pub nothing_counted : AreCounted [] (replicate 4096 0)
 nothing_counted = record { long = search arith; each = λ r within. get_or-replicate 4096 r 0 0 within }
+
+pub counted_by : (ls ms : List CacheLine) (counts others : List ℕ) → ls ≡ ms → counts ≡ others → AreCounted ms others → AreCounted ls counts
+counted_by ls ms counts others same_lines same_counts counted = subst (λ (xs : List CacheLine). AreCounted xs counts) (sym same_lines) (subst (AreCounted ms) (sym same_counts) counted)
 
 -- ---- a line more, a line less
 
@@ -52,27 +55,27 @@ counted_more ls counts l counted = record { long = length-set counts k (get_or c
             ∙ omega arith
             ∙ sym (sum_by_push (one_at r) ls l ∙ ap (λ b. count_by (has_residue r) ls + cond b 1 0) is)
 
+read : (ls : List CacheLine) (i : ℕ) (l : CacheLine) → i < length ls → slice_get ls i ≡ Some l → get_or ls i l ≡ l
+read ls i l within at = same (sym (slice_get-get_or ls i l within) ∙ at)
+  where
+    same : {x y : CacheLine} → Some x ≡ Some y → x ≡ y
+    same e = cc
+
 -- the count of one residue, where the line at a place goes
 count_less : (ls : List CacheLine) (i : ℕ) (l : CacheLine) (r : ℕ) → AreDistinct ls → i < length ls → slice_get ls i ≡ Some l → count_by (has_residue r) (without_line l.number ls) + one_at r l ≡ count_by (has_residue r) ls
 count_less ls i l r distinct within at =
-    let whole : get_or ls i l ≡ l = some_is (sym (slice_get-get_or ls i l within) ∙ at) in
+    let whole : get_or ls i l ≡ l = read ls i l within at in
     ap (λ (xs : List CacheLine). count_by (has_residue r) xs + one_at r l) (sym (removed number_of ls i l (to_apart number_of ls distinct) at))
     ∙ ap (λ (x : CacheLine). count_by (has_residue r) (remove ls i) + one_at r x) (sym whole)
     ∙ sum_by-remove (one_at r) ls i l within
-  where
-    some_is : {x y : CacheLine} → Some x ≡ Some y → x ≡ y
-    some_is e = cc
 
 pub count_some : (ls : List CacheLine) (i : ℕ) (l : CacheLine) → i < length ls → slice_get ls i ≡ Some l → 0 < count_by (has_residue (l.number % 4096)) ls
 count_some ls i l within at =
     let r : ℕ = l.number % 4096 in
-    let whole : get_or ls i l ≡ l = some_is (sym (slice_get-get_or ls i l within) ∙ at) in
+    let whole : get_or ls i l ≡ l = read ls i l within at in
     let one : one_at r (get_or ls i l) ≡ 1 = ap (one_at r) whole ∙ ap (λ b. cond b 1 0) (eq-eqb r r refl) in
     let part : one_at r (get_or ls i l) ≤ count_by (has_residue r) ls = get_or-le-sum_by (one_at r) ls i l within in
     omega (arith, one, part)
-  where
-    some_is : {x y : CacheLine} → Some x ≡ Some y → x ≡ y
-    some_is e = cc
 
 pub counted_some : (ls : List CacheLine) (counts : List ℕ) (i : ℕ) (l : CacheLine) → AreCounted ls counts → i < length ls → slice_get ls i ≡ Some l → 0 < slice_index_or counts (l.number % 4096) 0
 counted_some ls counts i l counted within at =
@@ -122,8 +125,8 @@ pub counted_oldest : (size : ℕ) (ls : List CacheLine) (counts : List ℕ) (o :
 counted_oldest size ls counts None counted is = tt
 counted_oldest size ls counts (Some l) counted is = let first = oldest_at size ls l (sym is) in counted_some ls counts 0 l counted first.0 first.1
 
-pub counted_room : (size : ℕ) (ls : List CacheLine) (counts : List ℕ) (o : Option CacheLine) → AreDistinct ls → AreCounted ls counts → o ≡ oldest_of_full size ls → AreCounted (with_room size ls) (lowered_by o counts)
-counted_room size ls counts o distinct counted is = subst (λ (p : Option CacheLine). AreCounted (option_map_or (λ l. without_line l.number ls) p ls) (lowered_by o counts)) is (one o is)
+pub counted_room : (size : ℕ) (ls : List CacheLine) (counts left : List ℕ) (o : Option CacheLine) → AreDistinct ls → AreCounted ls counts → o ≡ oldest_of_full size ls → left ≡ lowered_by o counts → AreCounted (with_room size ls) left
+counted_room size ls counts left o distinct counted is after = subst (AreCounted (with_room size ls)) (sym after) (subst (λ (p : Option CacheLine). AreCounted (option_map_or (λ l. without_line l.number ls) p ls) (lowered_by o counts)) is (one o is))
   where
     one : (p : Option CacheLine) → p ≡ oldest_of_full size ls → AreCounted (option_map_or (λ l. without_line l.number ls) p ls) (lowered_by p counts)
     one None e = counted
@@ -134,27 +137,6 @@ counted_below ls counts n counted few =
     let is : slice_index_or counts (n % 4096) 0 ≡ count_by (has_residue (n % 4096)) ls = counted.each (n % 4096) (residue_within n) in
     let part : count_by (has_residue (n % 4096)) ls ≤ length ls = count_by-le-length (has_residue (n % 4096)) ls in
     omega (arith, is, part, few)
-
--- ---- a line is changed
-
-count_changed : (n : ℕ) (f : CacheLine → CacheLine) → KeepsNumber f → (r : ℕ) (ls : List CacheLine) → count_by (has_residue r) (change_line n f ls) ≡ count_by (has_residue r) ls
-count_changed n f keeps r [] = refl
-count_changed n f keeps r (l ∷ ls) =
-    sum_by-cons (one_at r) (if has_number n l then f l else l) (change_line n f ls)
-    ∙ ap (λ m. one_at r (if has_number n l then f l else l) + m) (count_changed n f keeps r ls)
-    ∙ ap (λ m. m + count_by (has_residue r) ls) (one (has_number n l))
-    ∙ sym (sum_by-cons (one_at r) l ls)
-  where
-    one : (b : Bool) → one_at r (if b then f l else l) ≡ one_at r l
-    one true = ap (λ m. cond (m % 4096 == r) 1 0) (keeps l)
-    one false = refl
-
-pub counted_change : (i : ℕ) (f : CacheLine → CacheLine) → KeepsNumber f → (ls : List CacheLine) (counts : List ℕ) → AreCounted ls counts → AreCounted (change_at i f ls) counts
-counted_change i f keeps ls counts counted = one (slice_get ls i)
-  where
-    one : (o : Option CacheLine) → AreCounted (option_map_or (λ l. change_line l.number f ls) o ls) counts
-    one None = counted
-    one (Some l) = record { long = counted.long; each = λ r within. counted.each r within ∙ sym (count_changed l.number f keeps r ls) }
 
 -- ---- a line that is counted nowhere
 
@@ -173,9 +155,6 @@ pub not_counted : (n : ℕ) (ls : List CacheLine) (counts : List ℕ) → AreCou
 not_counted n ls counts counted is = none_at n ls (sym (counted.each (n % 4096) (residue_within n)) ∙ eqb-true (slice_index_or counts (n % 4096) 0) 0 (not-false (slice_index_or counts (n % 4096) 0 == 0) is))
 
 -- ---- what the calls leave
-
-pub counted_by : (ls ms : List CacheLine) (counts others : List ℕ) → ls ≡ ms → counts ≡ others → AreCounted ms others → AreCounted ls counts
-counted_by ls ms counts others same_lines same_counts counted = subst (λ (xs : List CacheLine). AreCounted xs counts) (sym same_lines) (subst (AreCounted ms) (sym same_counts) counted)
 
 pub no_lines : (ls : List CacheLine) (counts : List ℕ) → ls ≡ [] → counts ≡ replicate 4096 0 → AreLines ls × AreCounted ls counts
 no_lines ls counts none zeros = (
