@@ -1,4 +1,4 @@
-ghost use Rattle.std.specs.Prelude.{◌≡◌, ◌≢◌, ◌<◌, true, [], length, IfOk, OnOk, OnErr, MatchResult, if◌then◌else◌};
+ghost use Rattle.std.specs.Prelude.{◌≡◌, ◌≢◌, ◌<◌, ℕ, true, [], length, IfOk, OnOk, OnErr, MatchResult, if◌then◌else◌};
 ghost use Rattle.std.specs.List.{All};
 ghost use Rattle.mt_regs.specs.Faults.{IsAccepted};
 ghost use Rattle.mt_regs.specs.RegisterFile.{RegisterFile};
@@ -112,6 +112,7 @@ fn act(
     ensures machine { OnOk result (core.new ≡ machine_after (session setup.now core.old goal.old) c.now) }
     ensures goal { OnOk result (goal.new ≡ goal_after (session setup.now core.old goal.old) c.now) }
     ensures kept { OnErr result ((core.new ≡ core.old) × (goal.new ≡ goal.old)) }
+    ensures window { OnErr result ((base lines : ℕ) × (c.now ≡ Command.Ram base lines)) }
 {
     Ok(match *c {
         Command::Load(k, address) => access(core, k, Op::Load(address)),
@@ -186,15 +187,15 @@ impl Replayer {
         let _ = &self.goal;
     }
 
-    /// Does a command other than a report, and answers its line. The error comes only where the
-    /// allocator has no room; nothing then changes.
+    /// Does a command other than a report, and answers its line. The error comes only at a window
+    /// for which the allocator has no room; nothing then changes.
     pub fn run(&mut self, c: &Command) -> Result<LineBuffer, NoMemory>
         requires fits { Fits self.old.now c.now }
         requires room { HasEraRoom self.old.machine }
         requires no_report { c.now ≢ Command.Report }
         ensures { MatchResult result
             (λ line. (line.items ≡ command_text self.old c.now) × (self.new ≡ session_after self.old c.now))
-            (λ _. self.new ≡ self.old) }
+            (λ _. (self.new ≡ self.old) × (base lines : ℕ) × (c.now ≡ Command.Ram base lines)) }
     {
         let line = act(&self.setup, &mut self.core, &mut self.goal, c)?;
         self.setup.accept(c);

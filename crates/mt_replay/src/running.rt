@@ -55,7 +55,7 @@ fn tell_offence<K: Sink>(
     )
 }
 
-// Does a command and writes what it says. There is a status where memory is refused.
+// Does a command and writes what it says. There is a status where memory is refused for a window.
 fn do_command<K: Sink>(
     replayer: &mut Replayer,
     c: &Command,
@@ -69,6 +69,7 @@ fn do_command<K: Sink>(
         (Passes writer.old (command_text replayer.old c.now) writer.new (K.taken sink.old) (K.taken sink.new) × (replayer.new ≡ session_after replayer.old c.now))
         (λ status. (status ≡ Status.NoMemory) × (writer.new ≡ writer.old) × (K.taken sink.new ≡ K.taken sink.old)))
         (λ _. AppendsFront (K.taken sink.old) (K.taken sink.new) (writer.old ++ command_text replayer.old c.now)) }
+    ensures window { MatchResult result (λ ended. MatchOption ended (Unit {0}) (λ _. (base lines : ℕ) × (c.now ≡ Command.Ram base lines))) (λ _. Unit {0}) }
     ensures cause { HasCause (K.faults sink.old) (K.faults sink.new) result }
 {
     if *c == Command::Report {
