@@ -7,7 +7,7 @@ use Rattle.mt_regs.specs.Faults.{IsAccepted, IsFirstFault}
 use Rattle.mt_machine.specs.Machine.{Machine}
 use Rattle.mt_core.specs.declared.fault.CallFault.{CallFault}
 use Rattle.mt_core.specs.declared.fault.CallFault.TheVariants.{Refused, UnderWay}
-use Rattle.mt_replay.specs.Session.{call_fault}
+use Rattle.mt_replay.specs.ReplayState.{call_fault}
 use Rattle.mt_replay.proofs.FirstFault.{is_first_fault}
 
 pub call_accepted : (m : Machine) (goal : RegisterFile) → m.order ≡ None → IsAccepted goal → call_fault m goal ≡ None

@@ -7,13 +7,13 @@ use Rattle.mt_core.specs.Headline.{HasRisenByOne}
 use Rattle.mt_script.specs.Accept.{Fits}
 use Rattle.mt_script.specs.declared.command.Command.{Command}
 use Rattle.mt_script.specs.declared.command.Command.TheVariants as command
-use Rattle.mt_replay.specs.Kept.{CommandsFinishOne, IsSession}
-use Rattle.mt_replay.specs.Session.{Session, machine_after, mapping}
+use Rattle.mt_replay.specs.Kept.{CommandsFinishOne, IsReplayState}
+use Rattle.mt_replay.specs.ReplayState.{ReplayState, machine_after, mapping}
 use Rattle.mt_replay.proofs.Keeping.Kinds.{eras_risen, risen_same}
 use Rattle.mt_replay.proofs.Keeping.Machines.{follows_access, follows_control, follows_step, follows_word}
-use Rattle.mt_replay.proofs.Keeping.Sessions.{follows_end, mapping_fits}
+use Rattle.mt_replay.proofs.Keeping.States.{follows_end, mapping_fits}
 
-risen : (s : Session) (c : Command) → IsSession s → Fits s.now c → HasRisenByOne s.machine.system (machine_after s c).system
+risen : (s : ReplayState) (c : Command) → IsReplayState s → Fits s.now c → HasRisenByOne s.machine.system (machine_after s c).system
 risen s (command.Ram base lines) h fits = risen_same s.machine.system (with_window (window base lines) s.machine.system.memory)
 risen s (command.Load k address) h fits = (follows_access s.machine k (op.Load address) h.arises fits.1).risen
 risen s (command.Store k address value) h fits = (follows_access s.machine k (op.Store address value) h.arises (fits.1, fits.2)).risen

@@ -1,6 +1,6 @@
--- What commands keep of a session.
+-- What commands keep of a replay's state.
 pub mod Kinds
 pub mod Machines
 pub mod Windows
-pub mod Sessions
+pub mod States
 pub mod First

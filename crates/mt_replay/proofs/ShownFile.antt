@@ -1,4 +1,4 @@
--- Each session that a text comes to has the file that the text's dump shows.
+-- Each state that a text comes to has the file that the text's dump shows.
 use Rattle.std.proofs.Common.{◌≡◌, ◌∙◌, ap, sym, refl, subst, ℕ, ◌+◌, Bool, true, false, List, [], ◌∷◌, Option, None, Some, Result, Ok, Err}
 use Rattle.mt_text.specs.Text.{lines_of, words_of}
 use Rattle.mt_regs.specs.declared.fault.Fault.{Fault}
@@ -19,24 +19,24 @@ use Rattle.mt_script.specs.declared.command.Command.{Command}
 use Rattle.mt_script.specs.declared.fault.ScriptFault.{ScriptFault}
 use Rattle.mt_replay.specs.FirstFault.{first_fault}
 use Rattle.mt_replay.specs.Kept.{Claim, EachAfter, EachFrom, EachIn, EachOfCommand, EachOfDump, EachOfFile, EachOfLine, EachShown, EachUnless}
-use Rattle.mt_replay.specs.Session.{Session, session_after}
-use Rattle.mt_replay.specs.Statuses.{SessionsHaveTheShownFile, ShowsAfter, ShowsAt, ShowsIn}
+use Rattle.mt_replay.specs.ReplayState.{ReplayState, state_after}
+use Rattle.mt_replay.specs.Statuses.{StatesHaveTheShownFile, ShowsAfter, ShowsAt, ShowsIn}
 use Rattle.mt_replay.proofs.Refusals.Dumps.{file_after}
 
 module _ (file : RegisterFile) where
-  abbrev Has : Session → Type 0
+  abbrev Has : ReplayState → Type 0
   Has s = s.now.file ≡ Some file
 
-  each_in : (number : ℕ) (lines : List (List ℕ)) (s : Session) → Has s → EachIn Has number lines s
+  each_in : (number : ℕ) (lines : List (List ℕ)) (s : ReplayState) → Has s → EachIn Has number lines s
   each_in number [] = λ s h. h
   each_in number (line ∷ lines) = one (each_in (number + 1) lines)
     where
-      one : ((s : Session) → Has s → EachIn Has (number + 1) lines s) → (s : Session) → Has s → EachIn Has number (line ∷ lines) s
+      one : ((s : ReplayState) → Has s → EachIn Has (number + 1) lines s) → (s : ReplayState) → Has s → EachIn Has number (line ∷ lines) s
       one later s h = (h, by (command_of s.now number line))
         where
           by : (answer : Result Command ScriptFault) → EachAfter Has s answer (EachIn Has (number + 1) lines)
           by (Err fault) = tt
-          by (Ok c) = later (session_after s c) (file_after s.now c ∙ h)
+          by (Ok c) = later (state_after s c) (file_after s.now c ∙ h)
 
   -- ---- up to the dump's end
 
@@ -45,7 +45,7 @@ module _ (file : RegisterFile) where
 
   module _ (number : ℕ) (line : List ℕ) (lines : List (List ℕ)) (shows : Situation → List Reading → Type 0) (head : Claim) (later : IsMet shows head)
       (now : Situation) (before : List Reading) (clean : IsClean before) where
-    abbrev Rest : Session → Type 0
+    abbrev Rest : ReplayState → Type 0
     Rest = EachIn Has (number + 1) lines
 
     of_file : (f : RegisterFile) → f ≡ file → (fault : Option Fault) → EachOfFile now f Rest fault
@@ -77,5 +77,5 @@ module _ (file : RegisterFile) where
   each_from number (line ∷ lines) now before clean shown =
       of_line number line lines (ShowsIn file (number + 1) lines) (EachFrom Has (number + 1) lines) (each_from (number + 1) lines) now before clean shown.0 shown.1 shown.2
 
-pub sessions_have_the_shown_file : SessionsHaveTheShownFile
-sessions_have_the_shown_file text file shown = each_from file 1 (lines_of text) at_start [] tt shown
+pub states_have_the_shown_file : StatesHaveTheShownFile
+states_have_the_shown_file text file shown = each_from file 1 (lines_of text) at_start [] tt shown

@@ -23,9 +23,9 @@ use Rattle.mt_script.specs.declared.command.Command.{Command}
 use Rattle.mt_script.specs.declared.fault.ScriptFault.{ScriptFault}
 use Rattle.mt_script.specs.declared.fault.Offence.TheVariants.{Script}
 use Rattle.mt_replay.specs.FirstFault.{first_fault}
-use Rattle.mt_replay.specs.Kept.{HasEras, IsSession}
+use Rattle.mt_replay.specs.Kept.{HasEras, IsReplayState}
 use Rattle.mt_replay.specs.Running.{LeadsTo, Replays, Tells}
-use Rattle.mt_replay.specs.Session.{Session, command_text, first_session, session_after}
+use Rattle.mt_replay.specs.ReplayState.{ReplayState, command_text, first_state, state_after}
 use Rattle.mt_replay.specs.Transcript.{Told, behind, told, told_at_end, told_command, told_file, told_in, told_offence, transcript}
 use Rattle.mt_replay.proofs.Eras.{eras_kept}
 use Rattle.mt_replay.proofs.FirstFault.{is_first_fault}
@@ -85,20 +85,20 @@ tells_refused t waiting left a b status is same kept = inr (record {
 
 -- ---- commands
 
-module _ (s : Session) (c : Command) (rest : Session → Told) (answer : Result Command ScriptFault) (is : answer ≡ Ok c) where
-  pub command_leads : (new : Session) (waiting left : List ℕ) (a b : Option (List ℕ)) → new ≡ session_after s c → Passes waiting (command_text s c) left a b
+module _ (s : ReplayState) (c : Command) (rest : ReplayState → Told) (answer : Result Command ScriptFault) (is : answer ≡ Ok c) where
+  pub command_leads : (new : ReplayState) (waiting left : List ℕ) (a b : Option (List ℕ)) → new ≡ state_after s c → Passes waiting (command_text s c) left a b
       → LeadsTo (told_command s rest answer) (rest new) waiting left a b
   command_leads new waiting left a b after passed = record {
     text = command_text s c;
-    led = ap (told_command s rest) is ∙ ap (λ (t : Session). behind (command_text s c) (rest t)) (sym after);
+    led = ap (told_command s rest) is ∙ ap (λ (t : ReplayState). behind (command_text s c) (rest t)) (sym after);
     passed = passed;
   }
 
   pub command_fails : (waiting : List ℕ) (a b : Option (List ℕ)) → AppendsFront a b (waiting ++ command_text s c) → AppendsFront a b (waiting ++ (told_command s rest answer).text)
   command_fails waiting a b failed =
-      subst (λ (x : Result Command ScriptFault). AppendsFront a b (waiting ++ (told_command s rest x).text)) (sym is) (fails_longer waiting (command_text s c) (rest (session_after s c)).text a b failed)
+      subst (λ (x : Result Command ScriptFault). AppendsFront a b (waiting ++ (told_command s rest x).text)) (sym is) (fails_longer waiting (command_text s c) (rest (state_after s c)).text a b failed)
 
-pub fault_tells : (s : Session) (fault : ScriptFault) (rest : Session → Told) (answer : Result Command ScriptFault) → answer ≡ Err fault
+pub fault_tells : (s : ReplayState) (fault : ScriptFault) (rest : ReplayState → Told) (answer : Result Command ScriptFault) → answer ≡ Err fault
     → (waiting left : List ℕ) (a b : Option (List ℕ)) (result : Result Status Failed) → Tells (told_offence (Script fault)) waiting left a b result → Tells (told_command s rest answer) waiting left a b result
 fault_tells s fault rest answer is waiting left a b result tells = subst (λ (x : Result Command ScriptFault). Tells (told_command s rest x) waiting left a b result) (sym is) tells
 
@@ -113,20 +113,20 @@ start_eras (suc count) most f = λ k d within. at k d (start_eras count most f) 
     at (suc k) d later within = later k d (omega arith)
 
 -- no processor has finished an update yet
-pub first_eras : (now : Situation) (f : RegisterFile) (most : ℕ) → HasEras most (first_session now f)
+pub first_eras : (now : Situation) (f : RegisterFile) (most : ℕ) → HasEras most (first_state now f)
 first_eras now f most = start_eras now.cpus most f
 
 -- ---- lines
 
 -- what doing a command leaves
-abbrev pub Does : Session → Session → Command → List ℕ → List ℕ → Option (List ℕ) → Option (List ℕ) → Result (Option Status) Failed → Type 0
+abbrev pub Does : ReplayState → ReplayState → Command → List ℕ → List ℕ → Option (List ℕ) → Option (List ℕ) → Result (Option Status) Failed → Type 0
 Does s new c waiting left a b result =
     MatchResult result
-    (λ ended. MatchOption ended (Passes waiting (command_text s c) left a b × (new ≡ session_after s c)) (λ status. (status ≡ NoMemory) × (left ≡ waiting) × (b ≡ a)))
+    (λ ended. MatchOption ended (Passes waiting (command_text s c) left a b × (new ≡ state_after s c)) (λ status. (status ≡ NoMemory) × (left ≡ waiting) × (b ≡ a)))
     (λ failed. AppendsFront a b (waiting ++ command_text s c))
 
 -- what a command's line leads to, or tells
-pub command_told : (s new : Session) (c : Command) (rest : Session → Told) (answer : Result Command ScriptFault) → answer ≡ Ok c
+pub command_told : (s new : ReplayState) (c : Command) (rest : ReplayState → Told) (answer : Result Command ScriptFault) → answer ≡ Ok c
     → (waiting left : List ℕ) (a b : Option (List ℕ)) (result : Result (Option Status) Failed) → Does s new c waiting left a b result
     → MatchResult result
     (λ ended. MatchOption ended (LeadsTo (told_command s rest answer) (rest new) waiting left a b) (λ status. Tells (told_command s rest answer) waiting left a b (Ok status)))
@@ -135,32 +135,32 @@ command_told s new c rest answer is waiting left a b (Ok None) does = command_le
 command_told s new c rest answer is waiting left a b (Ok (Some status)) does = tells_refused (told_command s rest answer) waiting left a b status does.0 does.1 does.2
 command_told s new c rest answer is waiting left a b (Err failed) does = command_fails s c rest answer is waiting a b does
 
-abbrev HasErasAfter : ℕ → Session → Result (Option Status) Failed → Type 0
+abbrev HasErasAfter : ℕ → ReplayState → Result (Option Status) Failed → Type 0
 HasErasAfter most new result = MatchResult result (λ ended. MatchOption ended (HasEras (most + 1) new) (λ status. Unit {0})) (λ failed. Unit {0})
 
-pub command_eras : (s new : Session) (c : Command) (most : ℕ) (waiting left : List ℕ) (a b : Option (List ℕ)) (result : Result (Option Status) Failed) → IsSession s → Fits s.now c → HasEras most s
+pub command_eras : (s new : ReplayState) (c : Command) (most : ℕ) (waiting left : List ℕ) (a b : Option (List ℕ)) (result : Result (Option Status) Failed) → IsReplayState s → Fits s.now c → HasEras most s
     → Does s new c waiting left a b result → HasErasAfter most new result
 command_eras s new c most waiting left a b (Ok None) is fits eras does = subst (HasEras (most + 1)) (sym does.1) (eras_kept s c most is fits eras)
 command_eras s new c most waiting left a b (Ok (Some status)) is fits eras does = tt
 command_eras s new c most waiting left a b (Err failed) is fits eras does = tt
 
 -- the line that lines begin with
-pub at_line : (end : Place) (number other next : ℕ) (source rest line : List ℕ) (s : Session) → lines_of rest ≡ line ∷ lines_of (drop next source) → other ≡ number
+pub at_line : (end : Place) (number other next : ℕ) (source rest line : List ℕ) (s : ReplayState) → lines_of rest ≡ line ∷ lines_of (drop next source) → other ≡ number
     → told_in end number (lines_of rest) s ≡ told_command s (told_in end (number + 1) (lines_of (drop next source))) (command_of s.now other line)
 at_line end number other next source rest line s lines same =
     ap (λ (ls : List (List ℕ)). told_in end number ls s) lines
     ∙ ap (λ (n : ℕ). told_command s (told_in end (number + 1) (lines_of (drop next source))) (command_of s.now n line)) (sym same)
 
 -- no line is left
-pub at_end : (end : Place) (at number : ℕ) (source : List ℕ) (s : Session) → at ≡ length source → told_in end number (lines_of (drop at source)) s ≡ told_at_end (end_fault s.now.stage end)
+pub at_end : (end : Place) (at number : ℕ) (source : List ℕ) (s : ReplayState) → at ≡ length source → told_in end number (lines_of (drop at source)) s ≡ told_at_end (end_fault s.now.stage end)
 at_end end at number source s all = ap (λ (ls : List ℕ). told_in end number (lines_of ls) s) (ap (λ (n : ℕ). drop n source) all ∙ drop_past source)
 
 -- ---- the dump's end
 
-pub file_refused : (now : Situation) (f : RegisterFile) (body : Session → Told) (fault : Fault) → IsFirstFault f (Some fault) → told_file now f body (first_fault f) ≡ told (refused_line fault) Refused
+pub file_refused : (now : Situation) (f : RegisterFile) (body : ReplayState → Told) (fault : Fault) → IsFirstFault f (Some fault) → told_file now f body (first_fault f) ≡ told (refused_line fault) Refused
 file_refused now f body fault is = ap (told_file now f body) (sym (is_first_fault f (Some fault) is))
 
-pub file_accepted : (now : Situation) (f : RegisterFile) (body : Session → Told) → IsAccepted f → told_file now f body (first_fault f) ≡ behind accepted_line (body (first_session now f))
+pub file_accepted : (now : Situation) (f : RegisterFile) (body : ReplayState → Told) → IsAccepted f → told_file now f body (first_fault f) ≡ behind accepted_line (body (first_state now f))
 file_accepted now f body is = ap (told_file now f body) (sym (is_first_fault f None is))
 
 -- the whole text, once what waits goes to the sink too

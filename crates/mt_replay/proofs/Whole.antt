@@ -1,4 +1,4 @@
--- Each session that a text comes to is kept.
+-- Each state that a text comes to is kept.
 use Rattle.std.proofs.Common.{◌≡◌, ◌∙◌, sym, refl, ℕ, ◌+◌, Bool, true, false, List, [], ◌∷◌, Option, None, Some, Result, Ok, Err}
 use Rattle.mt_text.specs.Text.{lines_of, words_of}
 use Rattle.mt_regs.specs.declared.fault.Fault.{Fault}
@@ -20,21 +20,21 @@ use Rattle.mt_script.specs.declared.command.Command.{Command}
 use Rattle.mt_script.specs.declared.fault.ScriptFault.{ScriptFault}
 use Rattle.mt_script.proofs.Keeping.{accepted_is, start_is}
 use Rattle.mt_replay.specs.FirstFault.{first_fault}
-use Rattle.mt_replay.specs.Kept.{Claim, EachAfter, EachFrom, EachIn, EachOfCommand, EachOfDump, EachOfFile, EachOfLine, EachShown, EachUnless, IsSession, ScriptsKeep}
-use Rattle.mt_replay.specs.Session.{Session, session_after}
+use Rattle.mt_replay.specs.Kept.{Claim, EachAfter, EachFrom, EachIn, EachOfCommand, EachOfDump, EachOfFile, EachOfLine, EachShown, EachUnless, IsReplayState, ScriptsKeep}
+use Rattle.mt_replay.specs.ReplayState.{ReplayState, state_after}
 use Rattle.mt_replay.proofs.Keeping.First.{first_kept}
-use Rattle.mt_replay.proofs.Keeping.Sessions.{accepted_of, command_known, session_kept}
+use Rattle.mt_replay.proofs.Keeping.States.{accepted_of, command_known, state_kept}
 
-each_in : (number : ℕ) (lines : List (List ℕ)) (s : Session) → IsSession s → EachIn IsSession number lines s
+each_in : (number : ℕ) (lines : List (List ℕ)) (s : ReplayState) → IsReplayState s → EachIn IsReplayState number lines s
 each_in number [] = λ s h. h
 each_in number (line ∷ lines) = one (each_in (number + 1) lines)
   where
-    one : ((s : Session) → IsSession s → EachIn IsSession (number + 1) lines s) → (s : Session) → IsSession s → EachIn IsSession number (line ∷ lines) s
+    one : ((s : ReplayState) → IsReplayState s → EachIn IsReplayState (number + 1) lines s) → (s : ReplayState) → IsReplayState s → EachIn IsReplayState number (line ∷ lines) s
     one later s h = (h, by (command_of s.now number line) refl)
       where
-        by : (answer : Result Command ScriptFault) → command_of s.now number line ≡ answer → EachAfter IsSession s answer (EachIn IsSession (number + 1) lines)
+        by : (answer : Result Command ScriptFault) → command_of s.now number line ≡ answer → EachAfter IsReplayState s answer (EachIn IsReplayState (number + 1) lines)
         by (Err fault) asked = tt
-        by (Ok c) asked = later (session_after s c) (session_kept s c h (command_known s.now number line c asked))
+        by (Ok c) asked = later (state_after s c) (state_kept s c h (command_known s.now number line c asked))
 
 -- ---- up to the dump's end
 
@@ -43,8 +43,8 @@ IsMet claim = (now : Situation) (before : List Reading) → IsSituation now → 
 
 module _ (number : ℕ) (line : List ℕ) (lines : List (List ℕ)) (head : Claim) (later : IsMet head)
     (now : Situation) (before : List Reading) (is : IsSituation now) (clean : IsClean before) where
-  abbrev Rest : Session → Type 0
-  Rest = EachIn IsSession (number + 1) lines
+  abbrev Rest : ReplayState → Type 0
+  Rest = EachIn IsReplayState (number + 1) lines
 
   of_file : is_in_dump now.stage ≡ true → (file : RegisterFile) → IsRegisterFile file → (fault : Option Fault) → first_fault file ≡ fault → EachOfFile now file Rest fault
   of_file dump file good (Some fault) first = tt
@@ -70,9 +70,9 @@ module _ (number : ℕ) (line : List ℕ) (lines : List (List ℕ)) (head : Clai
   of_line (Err fault) asked = tt
   of_line (Ok c) asked = of_command c (command_known now number line c asked) (is_in_dump now.stage) refl
 
-each_from : (number : ℕ) (lines : List (List ℕ)) → IsMet (EachFrom IsSession number lines)
+each_from : (number : ℕ) (lines : List (List ℕ)) → IsMet (EachFrom IsReplayState number lines)
 each_from number [] now before is clean = tt
-each_from number (line ∷ lines) now before is clean = of_line number line lines (EachFrom IsSession (number + 1) lines) (each_from (number + 1) lines) now before is clean (command_of now number line) refl
+each_from number (line ∷ lines) now before is clean = of_line number line lines (EachFrom IsReplayState (number + 1) lines) (each_from (number + 1) lines) now before is clean (command_of now number line) refl
 
 pub scripts_keep : ScriptsKeep
 scripts_keep text = each_from 1 (lines_of text) at_start [] start_is tt

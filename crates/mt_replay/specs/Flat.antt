@@ -25,7 +25,7 @@ use Rattle.mt_script.specs.declared.command.Command.TheVariants as command
 use Rattle.mt_script.specs.declared.fault.ScriptFault.{ScriptFault}
 use Rattle.mt_script.specs.declared.fault.Offence.TheVariants as offence
 use Rattle.mt_replay.specs.Texts.{done_line}
-use Rattle.mt_replay.specs.Session.{Session, call_fault, command_text, each_processor, is_update, mapping, session_after}
+use Rattle.mt_replay.specs.ReplayState.{ReplayState, call_fault, command_text, each_processor, is_update, mapping, state_after}
 use Rattle.mt_replay.specs.Transcript.{Told, behind, told_at_end, told_from, told_offence, transcript}
 
 -- ---- what the flat machine is given
@@ -48,7 +48,7 @@ flat_stepped m k f = option_map_or (λ e. flat_after m (Steps k e) f) (due_at m 
 abbrev pub flat_updated : Machine → RegisterFile → Flat → Flat
 flat_updated m goal f = option_map_or (λ fault. f) (call_fault m goal) (flat_takes (each_processor m.system) f)
 
-abbrev pub flat_command : Session → Command → Flat → Flat
+abbrev pub flat_command : ReplayState → Command → Flat → Flat
 flat_command s (command.Load k address) f = flat_accessed s.machine k (op.Load address) f
 flat_command s (command.Store k address value) f = flat_accessed s.machine k (op.Store address value) f
 flat_command s (command.Fence k) f = flat_accessed s.machine k op.Fence f
@@ -68,15 +68,15 @@ abbrev pub flat_done : Machine → Flat → ℕ → ℕ → Done → Done
 flat_done m f k address (Value value kind) = Value (option_map_or (λ word. flat_answer f k kind word) (physical_of m.system k address) 0) kind
 flat_done m f k address other = other
 
-abbrev pub flat_text : Session → Flat → Command → List ℕ
+abbrev pub flat_text : ReplayState → Flat → Command → List ℕ
 flat_text s f (command.Load k address) = done_line (flat_done s.machine f k address (access s.machine.system k (op.Load address)).answer)
 flat_text s f other = command_text s other
 
-abbrev pub flat_told_command : Session → Flat → (Session → Flat → Told) → Result Command ScriptFault → Told
+abbrev pub flat_told_command : ReplayState → Flat → (ReplayState → Flat → Told) → Result Command ScriptFault → Told
 flat_told_command s f rest (Err fault) = told_offence (offence.Script fault)
-flat_told_command s f rest (Ok c) = behind (flat_text s f c) (rest (session_after s c) (flat_command s c f))
+flat_told_command s f rest (Ok c) = behind (flat_text s f c) (rest (state_after s c) (flat_command s c f))
 
-abbrev pub flat_told_in : Place → ℕ → List (List ℕ) → Session → Flat → Told
+abbrev pub flat_told_in : Place → ℕ → List (List ℕ) → ReplayState → Flat → Told
 flat_told_in end number [] s f = told_at_end (end_fault s.now.stage end)
 flat_told_in end number (line ∷ lines) s f = flat_told_command s f (flat_told_in end (number + 1) lines) (command_of s.now number line)
 

@@ -3,7 +3,7 @@ pub mod Flat
 pub mod Kept
 pub mod Parts
 pub mod Running
-pub mod Session
+pub mod ReplayState
 pub mod Statuses
 pub mod Texts
 pub mod Transcript

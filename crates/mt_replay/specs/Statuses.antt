@@ -1,7 +1,7 @@
 -- What is promised of a script's refusals (own).
 --     ShowsDump text file      the text's dump is read whole, no offence stands before, and its lines show the file
 --     the status of a text's transcript, and its first and last line
---     what a refused update, a complete one and a release leave of the machine of a session
+--     what a refused update, a complete one and a release leave of the machine of a state
 use Rattle.std.specs.Prelude.{ℕ, ◌≡◌, ◌≢◌, ◌⊎◌, ◌↔◌, ◌+◌, ◌%◌, Bool, true, false, List, [], ◌∷◌, ◌++◌, codes, IsSome, ⊤, Option, Some, None, Ok}
 use Rattle.std.specs.List.{All, Contains}
 use Rattle.std.specs.Option.{option_map_or}
@@ -31,8 +31,8 @@ use Rattle.mt_script.specs.declared.command.Command.{Command}
 use Rattle.mt_script.specs.declared.command.Command.TheVariants as command
 use Rattle.mt_script.specs.declared.fault.Offence.{Offence}
 use Rattle.mt_output.specs.Lines.{accepted_line, line, offence_line, refused_line}
-use Rattle.mt_replay.specs.Kept.{HoldsThrough, IsSession, start_of}
-use Rattle.mt_replay.specs.Session.{Session, call_fault, command_text, each_processor, is_update, machine_after, session_after}
+use Rattle.mt_replay.specs.Kept.{HoldsThrough, IsReplayState, start_of}
+use Rattle.mt_replay.specs.ReplayState.{ReplayState, call_fault, command_text, each_processor, is_update, machine_after, state_after}
 use Rattle.mt_replay.specs.Texts.{called_line, complete_line}
 use Rattle.mt_replay.specs.Transcript.{told, told_offence, transcript}
 
@@ -64,9 +64,9 @@ ShowsNoDump text = (file : RegisterFile) → ShowsDump text file → ⊥
 abbrev pub OneFileShown : Type 0
 OneFileShown = (text : List ℕ) (file other : RegisterFile) → ShowsDump text file → ShowsDump text other → file ≡ other
 
--- each session of a text has the file that the text's dump shows
-abbrev pub SessionsHaveTheShownFile : Type 0
-SessionsHaveTheShownFile = (text : List ℕ) (file : RegisterFile) → ShowsDump text file → HoldsThrough (λ s. s.now.file ≡ Some file) text
+-- each state of a text has the file that the text's dump shows
+abbrev pub StatesHaveTheShownFile : Type 0
+StatesHaveTheShownFile = (text : List ℕ) (file : RegisterFile) → ShowsDump text file → HoldsThrough (λ s. s.now.file ≡ Some file) text
 
 -- ---- statuses
 
@@ -120,87 +120,87 @@ OffenceAlone = (text : List ℕ) → ShowsNoDump text → (o : Offence) × (scri
 -- ---- refused and complete updates
 
 -- the end of a section writes this line, and changes no processor, no word and no order
-abbrev pub EndsIdle : Session → List ℕ → Type 0
+abbrev pub EndsIdle : ReplayState → List ℕ → Type 0
 EndsIdle s text = (command_text s command.End ≡ text) × (machine_after s command.End ≡ s.machine)
 
 -- in both kinds of section
 abbrev pub RefusedCallsChangeNothing : Type 0
-RefusedCallsChangeNothing = (s : Session) (fault : Fault) → s.machine.order ≡ None → IsFirstFault s.goal (Some fault) → EndsIdle s (refused_line fault)
+RefusedCallsChangeNothing = (s : ReplayState) (fault : Fault) → s.machine.order ≡ None → IsFirstFault s.goal (Some fault) → EndsIdle s (refused_line fault)
 
 -- whatever the goal is
 abbrev pub CallsUnderWayChangeNothing : Type 0
-CallsUnderWayChangeNothing = (s : Session) → IsSome s.machine.order → EndsIdle s (line (codes "under way"))
+CallsUnderWayChangeNothing = (s : ReplayState) → IsSome s.machine.order → EndsIdle s (line (codes "under way"))
 
 -- each of these commands fits in its turn, and none calls for an update
-abbrev pub AreWithoutCall : Session → List Command → Type 0
+abbrev pub AreWithoutCall : ReplayState → List Command → Type 0
 AreWithoutCall s [] = ⊤
-AreWithoutCall s (c ∷ cs) = Fits s.now c × (c ≡ command.End → IsSome (call_fault s.machine s.goal)) × AreWithoutCall (session_after s c) cs
+AreWithoutCall s (c ∷ cs) = Fits s.now c × (c ≡ command.End → IsSome (call_fault s.machine s.goal)) × AreWithoutCall (state_after s c) cs
 
-abbrev pub session_after_all : Session → List Command → Session
-session_after_all s [] = s
-session_after_all s (c ∷ cs) = session_after_all (session_after s c) cs
+abbrev pub state_after_all : ReplayState → List Command → ReplayState
+state_after_all s [] = s
+state_after_all s (c ∷ cs) = state_after_all (state_after s c) cs
 
 -- The machine after a whole update to the goal, and after commands since.
-pub record IsSettledAfter (s : Session) (m : Machine) : Type 0 where
+pub record IsSettledAfter (s : ReplayState) (m : Machine) : Type 0 where
   pub era : ℕ
   pub line_is : command_text s command.End ≡ complete_line era
   pub risen : era ≡ common_era s.machine.system.processors + 1
   pub eras : All (λ p. p.era ≡ era) m.system.processors
   pub settled : IsSettled m.system era s.goal
-  pub stays_settled : (since : List Command) → AreWithoutCall (session_after s command.End) since → IsSettled (session_after_all (session_after s command.End) since).machine.system era s.goal
+  pub stays_settled : (since : List Command) → AreWithoutCall (state_after s command.End) since → IsSettled (state_after_all (state_after s command.End) since).machine.system era s.goal
   pub no_order : m.order ≡ None
   pub windows : m.system.memory.windows ≡ s.machine.system.memory.windows
   pub words : (address : ℕ) → IsSome (place s.machine.system.memory address)
       → word_at m.system.memory address ≡ now (emptied s.machine.system (each_processor s.machine.system)) address  -- as it was once the buffers were emptied
 
 abbrev pub CompleteUpdatesSettle : Type 0
-CompleteUpdatesSettle = (s : Session) → IsSession s → is_update s.now.stage ≡ true → call_fault s.machine s.goal ≡ None → IsSettledAfter s (machine_after s command.End)
+CompleteUpdatesSettle = (s : ReplayState) → IsReplayState s → is_update s.now.stage ≡ true → call_fault s.machine s.goal ≡ None → IsSettledAfter s (machine_after s command.End)
 
 -- the other kind of section gives the goal to the processors, and no more
 abbrev pub AcceptedCallsAreUnderWay : Type 0
 AcceptedCallsAreUnderWay =
-    (s : Session) → is_update s.now.stage ≡ false → call_fault s.machine s.goal ≡ None
+    (s : ReplayState) → is_update s.now.stage ≡ false → call_fault s.machine s.goal ≡ None
     → (command_text s command.End ≡ called_line) × (machine_after s command.End ≡ next s.machine (Calls s.goal))
 
 -- a goal is refused nothing exactly where no update is under way and it has no fault
 abbrev pub AcceptedWhereIdle : Type 0
-AcceptedWhereIdle = (s : Session) → (call_fault s.machine s.goal ≡ None) ↔ ((s.machine.order ≡ None) × IsAccepted s.goal)
+AcceptedWhereIdle = (s : ReplayState) → (call_fault s.machine s.goal ≡ None) ↔ ((s.machine.order ≡ None) × IsAccepted s.goal)
 
 -- ---- releases
 
 -- from a step that releases on, and up to the next call, each processor has the goal's registers and holds nothing older than the update
-abbrev pub ReleasedSessionsSettle : Type 0
-ReleasedSessionsSettle =
-    (s : Session) (k : ℕ) (since : List Command) → IsSession s → Fits s.now (command.Step k) → step_answer s.machine k ≡ Did Release
-    → AreWithoutCall (session_after s (command.Step k)) since
-    → (o : Order) × (s.machine.order ≡ Some o) × IsSettled (session_after_all (session_after s (command.Step k)) since).machine.system (o.from_era + 1) o.goal
+abbrev pub ReleasedStatesSettle : Type 0
+ReleasedStatesSettle =
+    (s : ReplayState) (k : ℕ) (since : List Command) → IsReplayState s → Fits s.now (command.Step k) → step_answer s.machine k ≡ Did Release
+    → AreWithoutCall (state_after s (command.Step k)) since
+    → (o : Order) × (s.machine.order ≡ Some o) × IsSettled (state_after_all (state_after s (command.Step k)) since).machine.system (o.from_era + 1) o.goal
 
 -- ---- words
 
 -- the word that a command stores, where the access is answered Stored
-abbrev pub stored_by : Session → Command → Option ℕ
+abbrev pub stored_by : ReplayState → Command → Option ℕ
 stored_by s (command.Store k address value) = stored_word s.machine (Accesses k (op.Store address value))
 stored_by s other = None
 
-abbrev pub stored_by_all : Session → List Command → List ℕ
+abbrev pub stored_by_all : ReplayState → List Command → List ℕ
 stored_by_all s [] = []
-stored_by_all s (c ∷ cs) = option_map_or (λ a. a ∷ stored_by_all (session_after s c) cs) (stored_by s c) (stored_by_all (session_after s c) cs)
+stored_by_all s (c ∷ cs) = option_map_or (λ a. a ∷ stored_by_all (state_after s c) cs) (stored_by s c) (stored_by_all (state_after s c) cs)
 
 -- after these commands each word that none of them stored has this value in memory
-abbrev pub AreHeld : (ℕ → ℕ) → Session → List Command → Type 0
+abbrev pub AreHeld : (ℕ → ℕ) → ReplayState → List Command → Type 0
 AreHeld value s since =
-    (address : ℕ) → address % 8 ≡ 0 → (Contains (stored_by_all s since) address → ⊥) → word_at (session_after_all s since).machine.system.memory address ≡ value address
+    (address : ℕ) → address % 8 ≡ 0 → (Contains (stored_by_all s since) address → ⊥) → word_at (state_after_all s since).machine.system.memory address ≡ value address
 
 -- from a complete update on, and up to the next call: the value that the update left
 abbrev pub UpdatedWordsAreHeld : Type 0
 UpdatedWordsAreHeld =
-    (s : Session) (since : List Command) → IsSession s → is_update s.now.stage ≡ true → call_fault s.machine s.goal ≡ None → AreWithoutCall (session_after s command.End) since
-    → AreHeld (word_at (machine_after s command.End).system.memory) (session_after s command.End) since
+    (s : ReplayState) (since : List Command) → IsReplayState s → is_update s.now.stage ≡ true → call_fault s.machine s.goal ≡ None → AreWithoutCall (state_after s command.End) since
+    → AreHeld (word_at (machine_after s command.End).system.memory) (state_after s command.End) since
 
 -- from the first release of an update on, and up to the next call: the value that the word had before the first pass
 abbrev pub ReleasedWordsAreHeld : Type 0
 ReleasedWordsAreHeld =
-    (s : Session) (f : RegisterFile) (o : Order) (k : ℕ) (since : List Command) → IsSession s → s.now.file ≡ Some f → Fits s.now (command.Step k)
+    (s : ReplayState) (f : RegisterFile) (o : Order) (k : ℕ) (since : List Command) → IsReplayState s → s.now.file ≡ Some f → Fits s.now (command.Step k)
     → step_answer s.machine k ≡ Did Release → s.machine.order ≡ Some o → All (λ q. has_released o q ≡ false) s.machine.system.processors
-    → AreWithoutCall (session_after s (command.Step k)) since
-    → (p : Machine) × Reached (start_of s.now f) p × IsFirstRelease p (machine_after s (command.Step k)) o × AreHeld (now p.system) (session_after s (command.Step k)) since
+    → AreWithoutCall (state_after s (command.Step k)) since
+    → (p : Machine) × Reached (start_of s.now f) p × IsFirstRelease p (machine_after s (command.Step k)) o × AreHeld (now p.system) (state_after s (command.Step k)) since

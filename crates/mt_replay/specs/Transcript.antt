@@ -23,7 +23,7 @@ use Rattle.mt_script.specs.declared.fault.Offence.{Offence}
 use Rattle.mt_script.specs.declared.fault.Offence.TheVariants as offence
 use Rattle.mt_output.specs.Lines.{accepted_line, offence_line, refused_line}
 use Rattle.mt_replay.specs.FirstFault.{first_fault}
-use Rattle.mt_replay.specs.Session.{Session, command_text, first_session, session_after}
+use Rattle.mt_replay.specs.ReplayState.{ReplayState, command_text, first_state, state_after}
 
 pub record Told : Type 0 where
   pub text : List ℕ
@@ -46,13 +46,13 @@ told_at_end (Some fault) = told_offence (offence.Script fault)
 
 -- ---- after the dump
 
--- a line after the dump: what its command writes, and then the rest from the session that it leaves
-abbrev pub told_command : Session → (Session → Told) → Result Command ScriptFault → Told
+-- a line after the dump: what its command writes, and then the rest from the state that it leaves
+abbrev pub told_command : ReplayState → (ReplayState → Told) → Result Command ScriptFault → Told
 told_command s rest (Err fault) = told_offence (offence.Script fault)
-told_command s rest (Ok c) = behind (command_text s c) (rest (session_after s c))
+told_command s rest (Ok c) = behind (command_text s c) (rest (state_after s c))
 
 -- of lines after the dump, the first of which has this number, where the text ends at this place
-abbrev pub told_in : Place → ℕ → List (List ℕ) → Session → Told
+abbrev pub told_in : Place → ℕ → List (List ℕ) → ReplayState → Told
 told_in end number [] s = told_at_end (end_fault s.now.stage end)
 told_in end number (line ∷ lines) s = told_command s (told_in end (number + 1) lines) (command_of s.now number line)
 
@@ -63,12 +63,12 @@ abbrev pub Head : Type 0
 Head = Situation → List Reading → Told
 
 -- the dump shows a file, which may have a fault
-abbrev pub told_file : Situation → RegisterFile → (Session → Told) → Option Fault → Told
+abbrev pub told_file : Situation → RegisterFile → (ReplayState → Told) → Option Fault → Told
 told_file now file rest (Some fault) = told (refused_line fault) Refused
-told_file now file rest None = behind accepted_line (rest (first_session now file))
+told_file now file rest None = behind accepted_line (rest (first_state now file))
 
 -- the dump's end has no offence; its lines then show a file
-abbrev pub told_shown : Situation → List Reading → (Session → Told) → Option RegisterFile → Told
+abbrev pub told_shown : Situation → List Reading → (ReplayState → Told) → Option RegisterFile → Told
 told_shown now before rest None = told [] Done
 told_shown now before rest (Some file) = told_file now (with_told_width before file) rest (first_fault (with_told_width before file))
 
@@ -77,23 +77,23 @@ told_unless (Some fault) rest = told_offence (offence.Dump fault)
 told_unless None rest = rest
 
 -- a line of the dump, which ends it where the last argument is true
-abbrev pub told_dump_line : Situation → List Reading → ℕ → List ℕ → Head → (Session → Told) → Bool → Told
+abbrev pub told_dump_line : Situation → List Reading → ℕ → List ℕ → Head → (ReplayState → Told) → Bool → Told
 told_dump_line now before number line head rest true =
     told_unless (offence_at_end (place_of number (words_of line) 0) (onto before [])) (told_shown now before rest (file_in before))
 told_dump_line now before number line head rest false =
     told_unless (offence_of before (said_of number line)) (head now (said_of number line ∷ before))
 
-abbrev pub told_head_command : Situation → List Reading → ℕ → List ℕ → Head → (Session → Told) → Command → Bool → Told
+abbrev pub told_head_command : Situation → List Reading → ℕ → List ℕ → Head → (ReplayState → Told) → Command → Bool → Told
 told_head_command now before number line head rest c true = told_dump_line now before number line head rest (is_end_command c)
 told_head_command now before number line head rest c false = head (accepted now c) before
 
-abbrev pub told_head_line : Situation → List Reading → ℕ → List ℕ → Head → (Session → Told) → Result Command ScriptFault → Told
+abbrev pub told_head_line : Situation → List Reading → ℕ → List ℕ → Head → (ReplayState → Told) → Result Command ScriptFault → Told
 told_head_line now before number line head rest (Err fault) = told_offence (offence.Script fault)
 told_head_line now before number line head rest (Ok c) = told_head_command now before number line head rest c (is_in_dump now.stage)
 
 -- what the lines after the dump lead to, the first of which has this number
 abbrev pub Body : Type 0
-Body = ℕ → List (List ℕ) → Session → Told
+Body = ℕ → List (List ℕ) → ReplayState → Told
 
 -- of lines up to the dump's end, and all that follow
 abbrev pub told_from : Body → Place → ℕ → List (List ℕ) → Head

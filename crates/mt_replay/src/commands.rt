@@ -8,7 +8,7 @@ ghost use Rattle.mt_regs.specs.RegisterFile.{RegisterFile};
 ghost use Rattle.mt_regs.specs.declared.fault.Fault.{Fault};
 ghost use Rattle.mt_core.specs.Arises.{grown};
 ghost use Rattle.mt_core.specs.Steps.{step_after, step_answer};
-ghost use Rattle.mt_replay.specs.Session.{accessed_line, after_call, after_update, after_word, call_fault, call_line, controlled_line, file_at, is_undecided, memory_word, update_line};
+ghost use Rattle.mt_replay.specs.ReplayState.{accessed_line, after_call, after_update, after_word, call_fault, call_line, controlled_line, file_at, is_undecided, memory_word, update_line};
 ghost use Rattle.mt_replay.specs.Texts.{cancel_line, go_line, memory_line, register_line, stepped_line};
 ghost use Rattle.mt_regs.specs.Registers.{value_at};
 ghost use Rattle.std.specs.Option.{option_map_or};

@@ -1,7 +1,7 @@
 ghost use Rattle.mt_replay.specs.Kept.{CommandsFinishOne, CommandsKeep, ScriptsKeep};
 
-/// Each command that fits keeps what holds of each session of a script.
-pub fn commands_keep_a_session()
+/// Each command that fits keeps what holds of each state of a script.
+pub fn commands_keep_a_state()
     ensures { CommandsKeep }
 {}
 
@@ -10,7 +10,7 @@ pub fn commands_finish_one_update()
     ensures { CommandsFinishOne }
 {}
 
-/// What holds of each session holds of each that a whole script comes to.
-pub fn scripts_keep_each_session()
+/// What holds of each state holds of each that a whole script comes to.
+pub fn scripts_keep_each_state()
     ensures { ScriptsKeep }
 {}

@@ -16,14 +16,14 @@ mod texts;
 mod worked;
 
 pub use hidden::caches_are_never_seen_in_scripts;
-pub use kept::{commands_finish_one_update, commands_keep_a_session, scripts_keep_each_session};
+pub use kept::{commands_finish_one_update, commands_keep_a_state, scripts_keep_each_state};
 pub use laws::{same_files_are_equal, the_first_fault_is_first};
 pub use replayer::Replayer;
 pub use running::replay;
 pub use statuses::{
     a_text_shows_one_dump, accepted_comes_first, complete_updates_settle,
-    refused_calls_change_nothing, refused_dumps_are_told_alone, released_sessions_settle,
-    sessions_have_the_shown_file, statuses_tell_of_offences, stored_words_are_held,
+    refused_calls_change_nothing, refused_dumps_are_told_alone, released_states_settle,
+    states_have_the_shown_file, statuses_tell_of_offences, stored_words_are_held,
 };
 pub use worked::{
     worked_answers, worked_events, worked_phases, worked_reports, worked_updates, worked_values,

@@ -8,9 +8,9 @@ ghost use Rattle.mt_script.specs.Stages.{is_in_dump};
 ghost use Rattle.mt_script.specs.Accept.{Fits, accepted};
 ghost use Rattle.mt_ports.specs.Causes.{HasCause};
 ghost use Rattle.mt_output.specs.Writing.{Adds};
-ghost use Rattle.mt_replay.specs.Kept.{IsSession};
-ghost use Rattle.mt_replay.specs.Parts.{IsWindow, session};
-ghost use Rattle.mt_replay.specs.Session.{after_call, after_update, call_line, command_text, file_at, first_session, goal_after, is_update, machine_after, mapping, session_after, update_line, with_register};
+ghost use Rattle.mt_replay.specs.Kept.{IsReplayState};
+ghost use Rattle.mt_replay.specs.Parts.{IsWindow, state};
+ghost use Rattle.mt_replay.specs.ReplayState.{after_call, after_update, call_line, command_text, file_at, first_state, goal_after, is_update, machine_after, mapping, state_after, update_line, with_register};
 
 use crate::commands::{
     access, add_window, call, cancel, control, go, register, step, update, word,
@@ -38,14 +38,14 @@ pub struct Replayer {
 }
 
 impl Model for Replayer {
-    ghost use Rattle.mt_replay.specs.Session.{Session};
-    ghost use Rattle.mt_replay.specs.Kept.{IsSession};
+    ghost use Rattle.mt_replay.specs.ReplayState.{ReplayState};
+    ghost use Rattle.mt_replay.specs.Kept.{IsReplayState};
 
-    ghost Value = { Session };
+    ghost Value = { ReplayState };
 
     ghost view = { λ r. record { now = r.setup; machine = r.core; goal = r.goal } };
 
-    ghost invariant = { λ r. IsSession (record { now = r.setup; machine = r.core; goal = r.goal }) };
+    ghost invariant = { λ r. IsReplayState (record { now = r.setup; machine = r.core; goal = r.goal }) };
 }
 
 const PAGE: u64 = 4096;
@@ -104,13 +104,13 @@ fn act(
     goal: &mut RegFile,
     c: &Command,
 ) -> Result<LineBuffer, NoMemory>
-    requires session { IsSession (session setup.now core.old goal.old) }
+    requires state { IsReplayState (state setup.now core.old goal.old) }
     requires fits { Fits setup.now c.now }
     requires room { HasEraRoom core.old }
     requires no_report { c.now ≢ Command.Report }
-    ensures text { IfOk result (λ line. line.items ≡ command_text (session setup.now core.old goal.old) c.now) }
-    ensures machine { OnOk result (core.new ≡ machine_after (session setup.now core.old goal.old) c.now) }
-    ensures goal { OnOk result (goal.new ≡ goal_after (session setup.now core.old goal.old) c.now) }
+    ensures text { IfOk result (λ line. line.items ≡ command_text (state setup.now core.old goal.old) c.now) }
+    ensures machine { OnOk result (core.new ≡ machine_after (state setup.now core.old goal.old) c.now) }
+    ensures goal { OnOk result (goal.new ≡ goal_after (state setup.now core.old goal.old) c.now) }
     ensures kept { OnErr result ((core.new ≡ core.old) × (goal.new ≡ goal.old)) }
     ensures window { OnErr result (IsWindow c.now) }
 {
@@ -158,7 +158,7 @@ impl Replayer {
     pub fn begin(alloc: Global, setup: Setup, file: RegFile) -> Result<Replayer, NoMemory>
         requires stage { is_in_dump setup.stage ≡ true }
         requires accepted { IsAccepted file }
-        ensures { IfOk result (λ r. r ≡ first_session setup file) }
+        ensures { IfOk result (λ r. r ≡ first_state setup file) }
     {
         let mut setup = setup;
         setup.is_situation();
@@ -181,8 +181,8 @@ impl Replayer {
     }
 
     /// What every replayer keeps. This does nothing.
-    pub fn is_session(&self)
-        ensures { IsSession self.now }
+    pub fn is_replay_state(&self)
+        ensures { IsReplayState self.now }
     {
         let _ = &self.goal;
     }
@@ -194,7 +194,7 @@ impl Replayer {
         requires room { HasEraRoom self.old.machine }
         requires no_report { c.now ≢ Command.Report }
         ensures { MatchResult result
-            (λ line. (line.items ≡ command_text self.old c.now) × (self.new ≡ session_after self.old c.now))
+            (λ line. (line.items ≡ command_text self.old c.now) × (self.new ≡ state_after self.old c.now))
             (λ _. (self.new ≡ self.old) × IsWindow c.now) }
     {
         let line = act(&self.setup, &mut self.core, &mut self.goal, c)?;
@@ -206,7 +206,7 @@ impl Replayer {
     pub fn report<K: Sink>(&mut self, writer: &mut Writer, sink: &mut K) -> Result<(), Failed>
         requires { Fits self.old.now Command.Report }
         ensures bytes { Adds writer.old (command_text self.old Command.Report) writer.new (K.taken sink.old) (K.taken sink.new) result }
-        ensures after { self.new ≡ session_after self.old Command.Report }
+        ensures after { self.new ≡ state_after self.old Command.Report }
         ensures cause { HasCause (K.faults sink.old) (K.faults sink.new) result }
     {
         self.setup.accept(&Command::Report);

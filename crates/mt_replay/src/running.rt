@@ -10,7 +10,7 @@ ghost use Rattle.mt_script.specs.Commands.{command_of, end_fault};
 ghost use Rattle.mt_replay.specs.Kept.{HasEras};
 ghost use Rattle.mt_replay.specs.Parts.{IsWindow};
 ghost use Rattle.mt_replay.specs.Running.{LeadsTo, Replays, Tells};
-ghost use Rattle.mt_replay.specs.Session.{Session, command_text, session_after};
+ghost use Rattle.mt_replay.specs.ReplayState.{ReplayState, command_text, state_after};
 ghost use Rattle.mt_replay.specs.Transcript.{Told, told, told_at_end, told_command, told_file, told_in, told_offence, transcript};
 ghost use Rattle.mt_replay.specs.FirstFault.{first_fault};
 ghost use Rattle.mt_script.specs.Stages.{is_in_dump};
@@ -67,7 +67,7 @@ fn do_command<K: Sink>(
     requires room { HasEraRoom replayer.old.machine }
     ensures bytes { MatchResult result
         (λ ended. MatchOption ended
-        (Passes writer.old (command_text replayer.old c.now) writer.new (K.taken sink.old) (K.taken sink.new) × (replayer.new ≡ session_after replayer.old c.now))
+        (Passes writer.old (command_text replayer.old c.now) writer.new (K.taken sink.old) (K.taken sink.new) × (replayer.new ≡ state_after replayer.old c.now))
         (λ status. (status ≡ Status.NoMemory) × (writer.new ≡ writer.old) × (K.taken sink.new ≡ K.taken sink.old)))
         (λ _. AppendsFront (K.taken sink.old) (K.taken sink.new) (writer.old ++ command_text replayer.old c.now)) }
     ensures window { (status : Status) → result ≡ Ok (Some status) → IsWindow c.now }
@@ -96,7 +96,7 @@ fn take_line<K: Sink>(
     sink: &mut K,
 ) -> Result<Option<Status>, Failed>
     requires { HasEraRoom replayer.old.machine }
-    ensures bytes { (rest : Session → Told) → MatchResult result
+    ensures bytes { (rest : ReplayState → Told) → MatchResult result
         (λ ended. MatchOption ended
         (LeadsTo (told_command replayer.old rest (command_of replayer.old.now line.now.number line.now.bytes.now)) (rest replayer.new) writer.old writer.new (K.taken sink.old) (K.taken sink.new))
         (λ status. Tells (told_command replayer.old rest (command_of replayer.old.now line.now.number line.now.bytes.now)) writer.old writer.new (K.taken sink.old) (K.taken sink.new) (Ok status)))
@@ -104,7 +104,7 @@ fn take_line<K: Sink>(
     ensures eras { (most : ℕ) → HasEras most replayer.old → MatchResult result (λ ended. MatchOption ended (HasEras (most + 1) replayer.new) (λ _. Unit {0})) (λ _. Unit {0}) }
     ensures cause { HasCause (K.faults sink.old) (K.faults sink.new) result }
 {
-    replayer.is_session();
+    replayer.is_replay_state();
     match read_command(line, replayer.setup()) {
         Ok(command) => do_command(replayer, &command, writer, sink),
         Err(fault) => match tell_offence(writer, sink, &Offence::Script(fault)) {

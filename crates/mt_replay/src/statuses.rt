@@ -1,13 +1,13 @@
-ghost use Rattle.mt_replay.specs.Statuses.{AcceptedCallsAreUnderWay, AcceptedFirst, AcceptedUnlessRefused, AcceptedWhereIdle, BadTextEndsWithOffence, BadTextWhereOffence, CallsUnderWayChangeNothing, CompleteUpdatesSettle, DoneWhereNoOffence, OffenceAlone, OneFileShown, OneOfThreeStatuses, RefusedAlone, RefusedCallsChangeNothing, RefusedWhereFileIsRefused, ReleasedSessionsSettle, ReleasedWordsAreHeld, SessionsHaveTheShownFile, UpdatedWordsAreHeld};
+ghost use Rattle.mt_replay.specs.Statuses.{AcceptedCallsAreUnderWay, AcceptedFirst, AcceptedUnlessRefused, AcceptedWhereIdle, BadTextEndsWithOffence, BadTextWhereOffence, CallsUnderWayChangeNothing, CompleteUpdatesSettle, DoneWhereNoOffence, OffenceAlone, OneFileShown, OneOfThreeStatuses, RefusedAlone, RefusedCallsChangeNothing, RefusedWhereFileIsRefused, ReleasedStatesSettle, ReleasedWordsAreHeld, StatesHaveTheShownFile, UpdatedWordsAreHeld};
 
 /// A text's dump shows no two files.
 pub fn a_text_shows_one_dump()
     ensures { OneFileShown }
 {}
 
-/// Each session that a text comes to has the file that the text's dump shows.
-pub fn sessions_have_the_shown_file()
-    ensures { SessionsHaveTheShownFile }
+/// Each state that a text comes to has the file that the text's dump shows.
+pub fn states_have_the_shown_file()
+    ensures { StatesHaveTheShownFile }
 {}
 
 /// A script is refused exactly where its dump is read whole and shows a file with a fault, which is
@@ -51,8 +51,8 @@ pub fn complete_updates_settle()
 
 /// From a step that releases on, and up to the next call for an update, each processor has the
 /// goal's registers and holds nothing older than the update.
-pub fn released_sessions_settle()
-    ensures { ReleasedSessionsSettle }
+pub fn released_states_settle()
+    ensures { ReleasedStatesSettle }
 {}
 
 /// From a complete update on, and up to the next call, each word that no command has stored since is

@@ -34,11 +34,11 @@ use Rattle.mt_script.specs.Accept.{Fits}
 use Rattle.mt_script.specs.declared.command.Command.{Command}
 use Rattle.mt_script.specs.declared.command.Command.TheVariants as command
 use Rattle.mt_replay.specs.Flat.{flat_accessed, flat_command, flat_controlled, flat_ruled, flat_stepped, flat_updated}
-use Rattle.mt_replay.specs.Kept.{IsSession, windows_of}
-use Rattle.mt_replay.specs.Session.{Session, after_call, after_update, after_word, call_fault, each_processor, is_undecided, is_update, machine_after, mapping}
+use Rattle.mt_replay.specs.Kept.{IsReplayState, windows_of}
+use Rattle.mt_replay.specs.ReplayState.{ReplayState, after_call, after_update, after_word, call_fault, each_processor, is_undecided, is_update, machine_after, mapping}
 use Rattle.mt_replay.proofs.Hiding.Once.{each_once}
 use Rattle.mt_replay.proofs.Keeping.Machines.{is_pending}
-use Rattle.mt_replay.proofs.Keeping.Sessions.{call_enabled, file_of, mapping_fits}
+use Rattle.mt_replay.proofs.Keeping.States.{call_enabled, file_of, mapping_fits}
 use Rattle.mt_replay.proofs.Keeping.Windows.{grown_start}
 
 abbrev IsBeside : Machine → Flat → Type 0
@@ -120,13 +120,13 @@ beside_step m k f a r = one (due_at m k) refl
 
 -- ---- updates
 
-beside_update : (s : Session) (f : Flat) → IsSession s → IsBeside s.machine f → call_fault s.machine s.goal ≡ None
+beside_update : (s : ReplayState) (f : Flat) → IsReplayState s → IsBeside s.machine f → call_fault s.machine s.goal ≡ None
     → IsBeside (updated s.machine.system (each_processor s.machine.system) s.goal) (flat_takes (each_processor s.machine.system) f)
 beside_update s f h r none =
     let enabled = call_enabled s h none in
     updated_is_flat s.machine f s.goal (each_processor s.machine.system) (is_quiet_without_order s.machine h.arises enabled.0) enabled (each_once (length s.machine.system.processors)) r
 
-beside_end : (s : Session) (f : Flat) → IsSession s → IsBeside s.machine f → IsBeside (machine_after s command.End) (flat_command s command.End f)
+beside_end : (s : ReplayState) (f : Flat) → IsReplayState s → IsBeside s.machine f → IsBeside (machine_after s command.End) (flat_command s command.End f)
 beside_end s f h r = one (is_update s.now.stage)
   where
     whole : (o : Option CallFault) → call_fault s.machine s.goal ≡ o
@@ -154,7 +154,7 @@ beside_window count file ws w m f is r = record {
 
 -- ---- commands
 
-pub command_beside : (s : Session) (c : Command) (f : Flat) → IsSession s → Fits s.now c → IsBeside s.machine f → IsBeside (machine_after s c) (flat_command s c f)
+pub command_beside : (s : ReplayState) (c : Command) (f : Flat) → IsReplayState s → Fits s.now c → IsBeside s.machine f → IsBeside (machine_after s c) (flat_command s c f)
 command_beside s (command.Ram base lines) f h fits r =
     let file = file_of s.now h.situation h.past in
     beside_window s.now.cpus file.0 (windows_of s.now) (window base lines) s.machine f (h.fresh file.0 file.1 fits.0).1 r

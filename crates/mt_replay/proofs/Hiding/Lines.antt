@@ -37,11 +37,11 @@ use Rattle.mt_replay.specs.FirstFault.{first_fault}
 use Rattle.mt_output.specs.Lines.{accepted_line}
 use Rattle.mt_replay.specs.Texts.{done_line}
 use Rattle.mt_replay.specs.Flat.{ScriptsHideCaches, flat_command, flat_done, flat_text, flat_told_command, flat_told_in}
-use Rattle.mt_replay.specs.Kept.{IsSession}
-use Rattle.mt_replay.specs.Session.{Session, command_text, first_session, session_after}
+use Rattle.mt_replay.specs.Kept.{IsReplayState}
+use Rattle.mt_replay.specs.ReplayState.{ReplayState, command_text, first_state, state_after}
 use Rattle.mt_replay.specs.Transcript.{Body, Head, Told, behind, told_command, told_dump_line, told_file, told_from, told_head_command, told_head_line, told_in, told_shown, told_unless}
 use Rattle.mt_replay.proofs.Keeping.First.{first_kept}
-use Rattle.mt_replay.proofs.Keeping.Sessions.{accepted_of, command_known, session_kept}
+use Rattle.mt_replay.proofs.Keeping.States.{accepted_of, command_known, state_kept}
 use Rattle.mt_replay.proofs.Hiding.Commands.{command_beside}
 
 -- ---- the text of a command
@@ -52,44 +52,44 @@ done_same m f k address a r (Value value kind) is =
     ap (λ v. Value v kind) (ap (λ (o : Option ℕ). option_map_or (λ word. flat_answer f k kind word) o 0) seen.physical ∙ sym seen.answer)
 done_same m f k address a r other is = refl
 
-text_same : (s : Session) (f : Flat) (c : Command) → IsSession s → IsFlatOf s.machine.system f → flat_text s f c ≡ command_text s c
+text_same : (s : ReplayState) (f : Flat) (c : Command) → IsReplayState s → IsFlatOf s.machine.system f → flat_text s f c ≡ command_text s c
 text_same s f (command.Load k address) h r = ap done_line (done_same s.machine f k address h.arises r (access s.machine.system k (op.Load address)).answer refl)
 text_same s f other h r = refl
 
 -- ---- the lines after the dump
 
-told_same : (end : Place) (number : ℕ) (lines : List (List ℕ)) (s : Session) (f : Flat) → IsSession s → IsFlatOf s.machine.system f → flat_told_in end number lines s f ≡ told_in end number lines s
+told_same : (end : Place) (number : ℕ) (lines : List (List ℕ)) (s : ReplayState) (f : Flat) → IsReplayState s → IsFlatOf s.machine.system f → flat_told_in end number lines s f ≡ told_in end number lines s
 told_same end number [] = λ s f h r. refl
 told_same end number (line ∷ lines) = one (told_same end (number + 1) lines)
   where
-    one : ((s : Session) (f : Flat) → IsSession s → IsFlatOf s.machine.system f → flat_told_in end (number + 1) lines s f ≡ told_in end (number + 1) lines s)
-        → (s : Session) (f : Flat) → IsSession s → IsFlatOf s.machine.system f → flat_told_in end number (line ∷ lines) s f ≡ told_in end number (line ∷ lines) s
+    one : ((s : ReplayState) (f : Flat) → IsReplayState s → IsFlatOf s.machine.system f → flat_told_in end (number + 1) lines s f ≡ told_in end (number + 1) lines s)
+        → (s : ReplayState) (f : Flat) → IsReplayState s → IsFlatOf s.machine.system f → flat_told_in end number (line ∷ lines) s f ≡ told_in end number (line ∷ lines) s
     one later s f h r = by (command_of s.now number line) refl
       where
         by : (answer : Result Command ScriptFault) → command_of s.now number line ≡ answer → flat_told_command s f (flat_told_in end (number + 1) lines) answer ≡ told_command s (told_in end (number + 1) lines) answer
         by (Err fault) is = refl
         by (Ok c) is =
             let fits = command_known s.now number line c is in
-            ap (λ text. behind text (flat_told_in end (number + 1) lines (session_after s c) (flat_command s c f))) (text_same s f c h r)
-            ∙ ap (behind (command_text s c)) (later (session_after s c) (flat_command s c f) (session_kept s c h fits) (command_beside s c f h fits r))
+            ap (λ text. behind text (flat_told_in end (number + 1) lines (state_after s c) (flat_command s c f))) (text_same s f c h r)
+            ∙ ap (behind (command_text s c)) (later (state_after s c) (flat_command s c f) (state_kept s c h fits) (command_beside s c f h fits r))
 
 -- ---- the lines up to the dump's end
 
--- the bodies lead to the same from each session that a dump leads to
+-- the bodies lead to the same from each state that a dump leads to
 abbrev AreSame : Body → Body → Type 0
 AreSame b d =
     (number : ℕ) (lines : List (List ℕ)) (now : Situation) (file : RegisterFile) → IsSituation now → is_in_dump now.stage ≡ true → IsRegisterFile file → IsAccepted file
-    → b number lines (first_session now file) ≡ d number lines (first_session now file)
+    → b number lines (first_state now file) ≡ d number lines (first_state now file)
 
 abbrev LeadSame : Head → Head → Type 0
 LeadSame head other = (now : Situation) (before : List Reading) → IsSituation now → IsClean before → head now before ≡ other now before
 
 module _ (b d : Body) (same : AreSame b d) (number : ℕ) (line : List ℕ) (lines : List (List ℕ)) (head other : Head) (later : LeadSame head other)
     (now : Situation) (before : List Reading) (is : IsSituation now) (clean : IsClean before) where
-  abbrev of_b : Session → Told
+  abbrev of_b : ReplayState → Told
   of_b = b (number + 1) lines
 
-  abbrev of_d : Session → Told
+  abbrev of_d : ReplayState → Told
   of_d = d (number + 1) lines
 
   file_same : is_in_dump now.stage ≡ true → (file : RegisterFile) → IsRegisterFile file → (fault : Option Fault) → first_fault file ≡ fault → told_file now file of_b fault ≡ told_file now file of_d fault
@@ -125,5 +125,5 @@ pub scripts_hide_caches : ScriptsHideCaches
 scripts_hide_caches text =
     head_same (λ number lines s. flat_told_in (end_of text) number lines s flat_start) (told_in (end_of text))
     (λ number lines now file is dump good accepted.
-    told_same (end_of text) number lines (first_session now file) flat_start (first_kept now file is dump good accepted) (start_is_flat now.cpus file []))
+    told_same (end_of text) number lines (first_state now file) flat_start (first_kept now file is dump good accepted) (start_is_flat now.cpus file []))
     (end_of text) 1 (lines_of text) at_start [] start_is tt

@@ -1,4 +1,4 @@
--- The first session, after the dump.
+-- The first state, after the dump.
 use Rattle.std.proofs.Common.{◌≡◌, ap, sym, refl, subst, arith, inl, ℕ, true, []}
 use Rattle.std.specs.Prelude.{map}
 use Rattle.std.specs.List.{All}
@@ -17,8 +17,8 @@ use Rattle.mt_script.specs.Situation.{Situation}
 use Rattle.mt_script.specs.Kept.{IsSituation}
 use Rattle.mt_script.specs.Stages.{is_in_dump}
 use Rattle.mt_script.proofs.Keeping.{finished_is, not_past_in_dump}
-use Rattle.mt_replay.specs.Kept.{IsSession, start_of, windows_of}
-use Rattle.mt_replay.specs.Session.{first_session}
+use Rattle.mt_replay.specs.Kept.{IsReplayState, start_of, windows_of}
+use Rattle.mt_replay.specs.ReplayState.{first_state}
 
 bare_is_quiet : (count : ℕ) (f : RegisterFile) → IsRegisterFile f → IsAccepted f → IsQuiet (start_machine count f [])
 bare_is_quiet count f good accepted = start_is_quiet count f [] good accepted (nothing (λ (w : Window). _)) (nothing (λ (w : Window). _)) (λ i j d low within. absurd (omega arith))
@@ -28,7 +28,7 @@ start_fits count f g same =
     All-replicate (FitsGoal g) count (start_processor f)
     (record { width = sym (ap (λ (x : RegisterFile). x.width) same); capabilities = sym (ap (λ (x : RegisterFile). x.capabilities) same) })
 
-pub first_kept : (now : Situation) (f : RegisterFile) → IsSituation now → is_in_dump now.stage ≡ true → IsRegisterFile f → IsAccepted f → IsSession (first_session now f)
+pub first_kept : (now : Situation) (f : RegisterFile) → IsSituation now → is_in_dump now.stage ≡ true → IsRegisterFile f → IsAccepted f → IsReplayState (first_state now f)
 first_kept now f is dump good accepted =
     let quiet = bare_is_quiet now.cpus f good accepted in
     let none : [] ≡ windows_of now = ap (map (λ (w : ℕ × ℕ). window w.0 w.1)) (sym (is.early (not_past_in_dump now.stage dump))) in

@@ -1,4 +1,4 @@
--- What events, windows and updates leave of a machine that a session has.
+-- What events, windows and updates leave of a machine that a state has.
 use Rattle.std.proofs.Common.{◌≡◌, ◌∙◌, ap, sym, refl, subst, ℕ, Bool, true, false, if◌then◌else◌, List, Option, None, Some, slice_get, inl, arith}
 use Rattle.std.specs.Prelude.{map}
 use Rattle.std.specs.Option.{option_map, option_map_or}
@@ -31,7 +31,7 @@ use Rattle.mt_core.proofs.Eras.{eras_rise}
 use Rattle.mt_core.proofs.Reaching.{reached_on, updates_are_reached}
 use Rattle.mt_core.proofs.Settling.{is_quiet_without_order}
 use Rattle.mt_core.proofs.Stepping.{stands}
-use Rattle.mt_replay.specs.Session.{after_word, each_processor, is_undecided}
+use Rattle.mt_replay.specs.ReplayState.{after_word, each_processor, is_undecided}
 use Rattle.mt_replay.proofs.Keeping.Kinds.{fits_next, risen_same}
 
 -- n comes of m, over the same windows

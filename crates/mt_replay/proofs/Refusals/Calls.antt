@@ -7,16 +7,16 @@ use Rattle.mt_machine.specs.Machine.{Calls, common_era, next}
 use Rattle.mt_machine.specs.Update.{updated}
 use Rattle.mt_core.specs.declared.fault.CallFault.{CallFault}
 use Rattle.mt_core.specs.declared.fault.CallFault.TheVariants.{Refused, UnderWay}
-use Rattle.mt_replay.specs.Session.{Session, after_call, after_update, call_fault, call_line, each_processor, is_update, update_line}
+use Rattle.mt_replay.specs.ReplayState.{ReplayState, after_call, after_update, call_fault, call_line, each_processor, is_update, update_line}
 use Rattle.mt_replay.specs.Statuses.{AcceptedCallsAreUnderWay, AcceptedWhereIdle, CallsUnderWayChangeNothing, EndsIdle, RefusedCallsChangeNothing}
 use Rattle.mt_replay.specs.Texts.{call_fault_line, called_line, complete_line}
 use Rattle.mt_replay.proofs.Calls.{call_accepted, call_fails}
-use Rattle.mt_replay.proofs.Keeping.Sessions.{accepted_of, call_allowed}
+use Rattle.mt_replay.proofs.Keeping.States.{accepted_of, call_allowed}
 
 -- ---- refused
 
 -- a fault is told, and the machine stays
-pub ends_idle : (s : Session) (fault : CallFault) → call_fault s.machine s.goal ≡ Some fault → EndsIdle s (call_fault_line fault)
+pub ends_idle : (s : ReplayState) (fault : CallFault) → call_fault s.machine s.goal ≡ Some fault → EndsIdle s (call_fault_line fault)
 ends_idle s fault is = one (is_update s.now.stage)
   where
     one : (b : Bool)

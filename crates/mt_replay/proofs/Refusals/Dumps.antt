@@ -32,7 +32,7 @@ use Rattle.mt_script.proofs.Keeping.{accepted_is}
 use Rattle.mt_replay.specs.FirstFault.{first_fault}
 use Rattle.mt_replay.specs.Statuses.{ShowsAfter, ShowsAt, ShowsIn}
 use Rattle.mt_replay.specs.Transcript.{Body, Told, told_at_end, told_dump_line, told_file, told_from, told_head_command, told_head_line, told_offence, told_shown, told_unless}
-use Rattle.mt_replay.proofs.Keeping.Sessions.{command_known}
+use Rattle.mt_replay.proofs.Keeping.States.{command_known}
 
 -- where clean lines lead to no file they gave no register, and the dump may not end
 none_given : (before : List Reading) → IsClean before → file_in before ≡ None → is_given 0xfe (onto before []) ≡ false

@@ -18,13 +18,13 @@ use Rattle.mt_script.specs.declared.fault.Offence.{Offence}
 use Rattle.mt_script.proofs.Keeping.{not_past_in_dump, start_is}
 use Rattle.mt_output.specs.Lines.{accepted_line, offence_line, refused_line}
 use Rattle.mt_replay.specs.FirstFault.{first_fault}
-use Rattle.mt_replay.specs.Kept.{IsSession}
-use Rattle.mt_replay.specs.Session.{Session, command_text, first_session, session_after}
+use Rattle.mt_replay.specs.Kept.{IsReplayState}
+use Rattle.mt_replay.specs.ReplayState.{ReplayState, command_text, first_state, state_after}
 use Rattle.mt_replay.specs.Statuses.{AcceptedFirst, AcceptedUnlessRefused, BadTextEndsWithOffence, BadTextWhereOffence, DoneWhereNoOffence, EndsWith, HasRefusedFile, OffenceAlone, OneFileShown, OneOfThreeStatuses, RefusedAlone, RefusedWhereFileIsRefused, ShowsDump}
 use Rattle.mt_replay.specs.Transcript.{Told, behind, told, told_at_end, told_command, told_file, told_from, told_in, told_offence, transcript}
 use Rattle.mt_replay.proofs.FirstFault.{first_fault_is_first, is_first_fault}
 use Rattle.mt_replay.proofs.Keeping.First.{first_kept}
-use Rattle.mt_replay.proofs.Keeping.Sessions.{accepted_of, command_known, session_kept}
+use Rattle.mt_replay.proofs.Keeping.States.{accepted_of, command_known, state_kept}
 use Rattle.mt_replay.proofs.Refusals.Dumps.{Comes, OneDump, all_come}
 
 -- ---- the lines behind the dump
@@ -42,23 +42,23 @@ ends_at_end : (fault : Option ScriptFault) → Ends (told_at_end fault) (at_end 
 ends_at_end None = refl
 ends_at_end (Some fault) = (refl, ([], refl))
 
-ends_in : (end : Place) (number : ℕ) (lines : List (List ℕ)) (s : Session) → IsSession s → Ends (told_in end number lines s) (offence_in end number lines s.now [])
+ends_in : (end : Place) (number : ℕ) (lines : List (List ℕ)) (s : ReplayState) → IsReplayState s → Ends (told_in end number lines s) (offence_in end number lines s.now [])
 ends_in end number [] = λ s h. ends_at_end (end_fault s.now.stage end)
 ends_in end number (line ∷ lines) = one (ends_in end (number + 1) lines)
   where
-    one : ((s : Session) → IsSession s → Ends (told_in end (number + 1) lines s) (offence_in end (number + 1) lines s.now [])) → (s : Session) → IsSession s
+    one : ((s : ReplayState) → IsReplayState s → Ends (told_in end (number + 1) lines s) (offence_in end (number + 1) lines s.now [])) → (s : ReplayState) → IsReplayState s
         → Ends (told_in end number (line ∷ lines) s) (offence_in end number (line ∷ lines) s.now [])
     one later s h = by (command_of s.now number line) refl
       where
-        on : (c : Command) → IsSession (session_after s c) → (dump : Bool) → is_in_dump s.now.stage ≡ dump
-            → Ends (behind (command_text s c) (told_in end (number + 1) lines (session_after s c))) (after_command s.now [] number line (offence_in end (number + 1) lines) c dump)
+        on : (c : Command) → IsReplayState (state_after s c) → (dump : Bool) → is_in_dump s.now.stage ≡ dump
+            → Ends (behind (command_text s c) (told_in end (number + 1) lines (state_after s c))) (after_command s.now [] number line (offence_in end (number + 1) lines) c dump)
         on c kept true dump = absurd (let past = sym (not_past_in_dump s.now.stage dump) ∙ h.past in cc past)
-        on c kept false dump = ends_behind (command_text s c) (told_in end (number + 1) lines (session_after s c)) (offence_in end (number + 1) lines (session_after s c).now []) (later (session_after s c) kept)
+        on c kept false dump = ends_behind (command_text s c) (told_in end (number + 1) lines (state_after s c)) (offence_in end (number + 1) lines (state_after s c).now []) (later (state_after s c) kept)
 
         by : (answer : Result Command ScriptFault) → command_of s.now number line ≡ answer
             → Ends (told_command s (told_in end (number + 1) lines) answer) (after_line s.now [] number line (offence_in end (number + 1) lines) answer)
         by (Err fault) asked = (refl, ([], refl))
-        by (Ok c) asked = on c (session_kept s c h (command_known s.now number line c asked)) (is_in_dump s.now.stage) refl
+        by (Ok c) asked = on c (state_kept s c h (command_known s.now number line c asked)) (is_in_dump s.now.stage) refl
 
 -- ---- whole texts
 
@@ -116,10 +116,10 @@ outcome_of text = by (all_come (end_of text) 1 (lines_of text) at_start [] start
           shows = d.shows;
           alone = d.alone;
           has = has;
-          rest = told_in (end_of text) d.number d.lines (first_session d.last d.file);
+          rest = told_in (end_of text) d.number d.lines (first_state d.last d.file);
           is = d.tells (told_in (end_of text)) ∙ ap (told_file d.last d.file (told_in (end_of text) d.number d.lines)) has;
-          ends = subst (Ends (told_in (end_of text) d.number d.lines (first_session d.last d.file))) (sym d.follows)
-              (ends_in (end_of text) d.number d.lines (first_session d.last d.file) (first_kept d.last d.file d.is d.in_dump d.good (accepted_of d.file has)));
+          ends = subst (Ends (told_in (end_of text) d.number d.lines (first_state d.last d.file))) (sym d.follows)
+              (ends_in (end_of text) d.number d.lines (first_state d.last d.file) (first_kept d.last d.file d.is d.in_dump d.good (accepted_of d.file has)));
         })
 
     by : Comes (end_of text) (λ file. ShowsDump text file) (script_offence text) (λ body. told_from body (end_of text) 1 (lines_of text) at_start []) → Outcome text

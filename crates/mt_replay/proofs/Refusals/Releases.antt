@@ -17,9 +17,9 @@ use Rattle.mt_core.specs.declared.stepped.Stepped.TheVariants.{Did, NoUpdate, Wa
 use Rattle.mt_core.proofs.Settling.{settled_from_release}
 use Rattle.mt_script.specs.declared.command.Command.TheVariants as command
 use Rattle.mt_replay.specs.Kept.{start_of}
-use Rattle.mt_replay.specs.Session.{session_after}
-use Rattle.mt_replay.specs.Statuses.{ReleasedSessionsSettle, ReleasedWordsAreHeld, session_after_all, stored_by_all}
-use Rattle.mt_replay.proofs.Keeping.Sessions.{session_kept}
+use Rattle.mt_replay.specs.ReplayState.{state_after}
+use Rattle.mt_replay.specs.Statuses.{ReleasedStatesSettle, ReleasedWordsAreHeld, state_after_all, stored_by_all}
+use Rattle.mt_replay.proofs.Keeping.States.{state_kept}
 use Rattle.mt_replay.proofs.Refusals.Since.{Leads, all_lead}
 
 -- a step that does nothing tells of no event
@@ -56,14 +56,14 @@ due_order m k e due = one m.order refl
 
 -- ---- commands since
 
-pub released_sessions_settle : ReleasedSessionsSettle
-released_sessions_settle s k since h fits released without =
+pub released_states_settle : ReleasedStatesSettle
+released_states_settle s k since h fits released without =
     let due = answered_due s.machine k Release released in
     let order = due_order s.machine k Release due in
-    let last : Machine = (session_after_all (session_after s (command.Step k)) since).machine in
+    let last : Machine = (state_after_all (state_after s (command.Step k)) since).machine in
     let after : step_after s.machine k ≡ next s.machine (Steps k Release) = ap (λ (o : Option Event). option_map_or (λ e. next s.machine (Steps k e)) o s.machine) due in
-    let leads : Leads (next s.machine (Steps k Release)) last (stored_by_all (session_after s (command.Step k)) since) =
-    subst (λ (m : Machine). Leads m last (stored_by_all (session_after s (command.Step k)) since)) after (all_lead since (session_after s (command.Step k)) (session_kept s (command.Step k) h fits) refl without) in (
+    let leads : Leads (next s.machine (Steps k Release)) last (stored_by_all (state_after s (command.Step k)) since) =
+    subst (λ (m : Machine). Leads m last (stored_by_all (state_after s (command.Step k)) since)) after (all_lead since (state_after s (command.Step k)) (state_kept s (command.Step k) h fits) refl without) in (
       order.0,
       order.1,
       subst (λ (m : Machine). IsSettled m.system (order.0.from_era + 1) order.0.goal) leads.is
@@ -74,11 +74,11 @@ pub released_words_are_held : ReleasedWordsAreHeld
 released_words_are_held s f o k since h file fits released order none without =
     let due = answered_due s.machine k Release released in
     let start = start_of s.now f in
-    let last : Machine = (session_after_all (session_after s (command.Step k)) since).machine in
-    let words : List ℕ = stored_by_all (session_after s (command.Step k)) since in
+    let last : Machine = (state_after_all (state_after s (command.Step k)) since).machine in
+    let words : List ℕ = stored_by_all (state_after s (command.Step k)) since in
     let after : step_after s.machine k ≡ next s.machine (Steps k Release) = ap (λ (o : Option Event). option_map_or (λ e. next s.machine (Steps k e)) o s.machine) due in
     let leads : Leads (next s.machine (Steps k Release)) last words =
-    subst (λ (m : Machine). Leads m last words) after (all_lead since (session_after s (command.Step k)) (session_kept s (command.Step k) h fits) refl without) in
+    subst (λ (m : Machine). Leads m last words) after (all_lead since (state_after s (command.Step k)) (state_kept s (command.Step k) h fits) refl without) in
     let held = held_after_each_first start s.machine o k leads.since (inl (h.quiet f file)) (h.reached f file) order none due leads.enabled in (
       held.0,
       held.1,

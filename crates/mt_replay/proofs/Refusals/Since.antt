@@ -24,11 +24,11 @@ use Rattle.mt_script.specs.Stages.{takes_windows}
 use Rattle.mt_script.specs.Accept.{Fits, accepted}
 use Rattle.mt_script.specs.declared.command.Command.{Command}
 use Rattle.mt_script.specs.declared.command.Command.TheVariants as command
-use Rattle.mt_replay.specs.Kept.{IsSession}
-use Rattle.mt_replay.specs.Session.{Session, after_word, call_fault, is_undecided, machine_after, mapping, session_after}
-use Rattle.mt_replay.specs.Statuses.{AreWithoutCall, session_after_all, stored_by, stored_by_all}
+use Rattle.mt_replay.specs.Kept.{IsReplayState}
+use Rattle.mt_replay.specs.ReplayState.{ReplayState, after_word, call_fault, is_undecided, machine_after, mapping, state_after}
+use Rattle.mt_replay.specs.Statuses.{AreWithoutCall, state_after_all, stored_by, stored_by_all}
 use Rattle.mt_replay.proofs.Keeping.Machines.{is_pending}
-use Rattle.mt_replay.proofs.Keeping.Sessions.{mapping_fits, session_kept}
+use Rattle.mt_replay.proofs.Keeping.States.{mapping_fits, state_kept}
 use Rattle.mt_replay.proofs.Refusals.Calls.{ends_idle}
 
 -- it stays, or does one event that is no call; the last argument is the word that it stores
@@ -70,7 +70,7 @@ step_moves m k = one (due_at m k) refl
     one None is = inl (refl, refl)
     one (Some e) is = inr (Steps k e, is, refl, refl, refl)
 
-end_moves : (s : Session) → IsSome (call_fault s.machine s.goal) → Moves s.machine (machine_after s command.End) None
+end_moves : (s : ReplayState) → IsSome (call_fault s.machine s.goal) → Moves s.machine (machine_after s command.End) None
 end_moves s some = one (call_fault s.machine s.goal) refl some
   where
     one : (o : Option CallFault) → call_fault s.machine s.goal ≡ o → IsSome o → Moves s.machine (machine_after s command.End) None
@@ -78,7 +78,7 @@ end_moves s some = one (call_fault s.machine s.goal) refl some
     one (Some fault) is some = inl ((ends_idle s fault is).1, refl)
 
 -- windows come before all other commands
-moves : (s : Session) (c : Command) → IsSession s → Fits s.now c → (c ≡ command.End → IsSome (call_fault s.machine s.goal)) → takes_windows s.now.stage ≡ false → Moves s.machine (machine_after s c) (stored_by s c)
+moves : (s : ReplayState) (c : Command) → IsReplayState s → Fits s.now c → (c ≡ command.End → IsSome (call_fault s.machine s.goal)) → takes_windows s.now.stage ≡ false → Moves s.machine (machine_after s c) (stored_by s c)
 moves s (command.Ram base lines) h fits calls past = absurd (let takes = fits.0 in cc (takes, past))
 moves s (command.Load k address) h fits calls past = access_moves s.machine k (op.Load address) fits.1
 moves s (command.Store k address value) h fits calls past = access_moves s.machine k (op.Store address value) (fits.1, fits.2)
@@ -123,9 +123,9 @@ moved m n r o words (inr (e, enabled, quiet, same, stores)) h =
       stored = λ i. option_map_or (λ a. a ∷ later.stored i) (stores i) (later.stored i);
     }
 
-pub all_lead : (cs : List Command) (s : Session) → IsSession s → takes_windows s.now.stage ≡ false → AreWithoutCall s cs → Leads s.machine (session_after_all s cs).machine (stored_by_all s cs)
+pub all_lead : (cs : List Command) (s : ReplayState) → IsReplayState s → takes_windows s.now.stage ≡ false → AreWithoutCall s cs → Leads s.machine (state_after_all s cs).machine (stored_by_all s cs)
 all_lead [] = λ s h past without. record { since = []; enabled = tt; quiet = refl; is = refl; stored = refl }
 all_lead (c ∷ cs) = λ s h past without.
-    moved s.machine (machine_after s c) (session_after_all (session_after s c) cs).machine (stored_by s c) (stored_by_all (session_after s c) cs)
+    moved s.machine (machine_after s c) (state_after_all (state_after s c) cs).machine (stored_by s c) (stored_by_all (state_after s c) cs)
     (moves s c h without.0 without.1 past)
-    (all_lead cs (session_after s c) (session_kept s c h without.0) (stays_past s.now c past) without.2)
+    (all_lead cs (state_after s c) (state_kept s c h without.0) (stays_past s.now c past) without.2)

@@ -23,11 +23,11 @@ use Rattle.mt_script.specs.declared.command.Stage.TheVariants.{Rams, Commands, I
 use Rattle.mt_script.specs.declared.command.Command.TheVariants as command
 use Rattle.mt_script.specs.declared.command.Command.{Command}
 use Rattle.mt_script.specs.Accept.{Fits}
-use Rattle.mt_replay.specs.Kept.{IsSession}
-use Rattle.mt_replay.specs.Session.{Session, after_call, after_update, call_fault, call_line, command_text, each_processor, is_update, machine_after, session_after, update_line}
-use Rattle.mt_replay.specs.Statuses.{AreHeld, AreWithoutCall, CompleteUpdatesSettle, IsSettledAfter, UpdatedWordsAreHeld, session_after_all, stored_by_all}
+use Rattle.mt_replay.specs.Kept.{IsReplayState}
+use Rattle.mt_replay.specs.ReplayState.{ReplayState, after_call, after_update, call_fault, call_line, command_text, each_processor, is_update, machine_after, state_after, update_line}
+use Rattle.mt_replay.specs.Statuses.{AreHeld, AreWithoutCall, CompleteUpdatesSettle, IsSettledAfter, UpdatedWordsAreHeld, state_after_all, stored_by_all}
 use Rattle.mt_replay.specs.Texts.{call_fault_line, complete_line}
-use Rattle.mt_replay.proofs.Keeping.Sessions.{call_enabled, session_kept}
+use Rattle.mt_replay.proofs.Keeping.States.{call_enabled, state_kept}
 use Rattle.mt_replay.proofs.Refusals.Since.{Leads, all_lead}
 
 settled_after : (goal : RegisterFile) (era : ℕ) (ps : List Processor) → All (IsSettledOn era goal) (map (settled_processor goal) ps)
@@ -54,7 +54,7 @@ word_after m f h address some = one (place m address) refl some
     one None at some = absurd (cc some)
     one (Some i) at some = word_of_words m f h address i (aligned_place m address i at) at
 
--- a session has at least one processor
+-- a state has at least one processor
 some_told : (stage : Stage) (cpus : ℕ) → is_past_dump stage ≡ true → HasCpus stage cpus → 1 ≤ cpus
 some_told Rams cpus past has = has.0
 some_told Commands cpus past has = has.0
@@ -71,7 +71,7 @@ era_risen : (goal : RegisterFile) (ps : List Processor) → 1 ≤ length ps → 
 era_risen goal [] some = absurd (omega arith)
 era_risen goal (p ∷ ps) some = refl
 
-module _ (s : Session) (h : IsSession s) (update : is_update s.now.stage ≡ true) (none : call_fault s.machine s.goal ≡ None) where
+module _ (s : ReplayState) (h : IsReplayState s) (update : is_update s.now.stage ≡ true) (none : call_fault s.machine s.goal ≡ None) where
   abbrev last : Machine
   last = updated s.machine.system (each_processor s.machine.system) s.goal
 
@@ -98,21 +98,21 @@ module _ (s : Session) (h : IsSession s) (update : is_update s.now.stage ≡ tru
   risen = era_risen s.goal s.machine.system.processors some
 
   -- the events of the commands since
-  leads : (since : List Command) → Fits s.now command.End → AreWithoutCall (session_after s command.End) since
-      → Leads last (session_after_all (session_after s command.End) since).machine (stored_by_all (session_after s command.End) since)
+  leads : (since : List Command) → Fits s.now command.End → AreWithoutCall (state_after s command.End) since
+      → Leads last (state_after_all (state_after s command.End) since).machine (stored_by_all (state_after s command.End) since)
   leads since fits without =
-      subst (λ (m : Machine). Leads m (session_after_all (session_after s command.End) since).machine (stored_by_all (session_after s command.End) since)) after
-      (all_lead since (session_after s command.End) (session_kept s command.End h fits) refl without)
+      subst (λ (m : Machine). Leads m (state_after_all (state_after s command.End) since).machine (stored_by_all (state_after s command.End) since)) after
+      (all_lead since (state_after s command.End) (state_kept s command.End h fits) refl without)
 
-  stays : (since : List Command) → Fits s.now command.End → AreWithoutCall (session_after s command.End) since
-      → IsSettled (session_after_all (session_after s command.End) since).machine.system (common_era last.system.processors) s.goal
+  stays : (since : List Command) → Fits s.now command.End → AreWithoutCall (state_after s command.End) since
+      → IsSettled (state_after_all (state_after s command.End) since).machine.system (common_era last.system.processors) s.goal
   stays since fits without =
       let l = leads since fits without in
       let settled = updates_settle s.machine s.goal l.since quiet enabled (omega (arith, some)) l.enabled l.quiet in
       subst (λ (v : ℕ × Machine). IsSettled v.1.system v.0 s.goal) (λ i. (sym risen i, l.is i)) settled
 
-  held : (since : List Command) → Fits s.now command.End → AreWithoutCall (session_after s command.End) since
-      → AreHeld (word_at (machine_after s command.End).system.memory) (session_after s command.End) since
+  held : (since : List Command) → Fits s.now command.End → AreWithoutCall (state_after s command.End) since
+      → AreHeld (word_at (machine_after s command.End).system.memory) (state_after s command.End) since
   held since fits without address whole other =
       let l = leads since fits without in
       let same = words_held s.machine s.goal l.since address quiet enabled l.enabled whole (λ stored. other (subst (λ (xs : List ℕ). Contains xs address) l.stored stored)) in

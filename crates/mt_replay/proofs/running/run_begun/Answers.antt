@@ -9,7 +9,7 @@ use Rattle.mt_regs.specs.Faults.{IsAccepted, IsFirstFault}
 use Rattle.mt_regs.proofs.FaultNumbers.{fault_number}
 use Rattle.mt_replay.specs.FirstFault.{first_fault}
 use Rattle.mt_replay.specs.Running.{LeadsTo, Tells}
-use Rattle.mt_replay.specs.Session.{Session, first_session}
+use Rattle.mt_replay.specs.ReplayState.{ReplayState, first_state}
 use Rattle.mt_replay.specs.Transcript.{Told, behind, told, told_file, told_in}
 use Rattle.mt_replay.proofs.Telling.{file_accepted, file_refused, leads_tells}
 use Rattle.mt_replay.proofs.running.run_begun.Goals as goal
@@ -26,13 +26,13 @@ returns-in-Some-clause-bytes g c =
 
 pub returns-in-Ok-write-clause-bytes : goal.returns-in-Ok-write-clause-bytes
 returns-in-Ok-write-clause-bytes g c =
-    let body : Session → Told = told_in (end_of c.args.source.now) c.args.begun.number (lines_of (drop c.args.begun.next c.args.source.now)) in
+    let body : ReplayState → Told = told_in (end_of c.args.source.now) c.args.begun.number (lines_of (drop c.args.begun.next c.args.source.now)) in
     let accepted : IsAccepted c.args.begun.file = subst (IsFirstFault c.args.begun.file) c.in_default.is c.first_fault.ensures in
-    let first : c.in-Ok.replayer ≡ first_session c.args.begun.setup c.args.begun.file = c.in-Ok.ensures in
+    let first : c.in-Ok.replayer ≡ first_state c.args.begun.setup c.args.begun.file = c.in-Ok.ensures in
     let led : LeadsTo (told_file c.args.begun.setup c.args.begun.file body (first_fault c.args.begun.file)) (body c.in-Ok.replayer) c.args.writer.now c.write.new.self (g.K.Sink.taken c.args.sink.now) (g.K.Sink.taken c.write.new.sink) =
     record {
       text = accepted_line;
-      led = file_accepted c.args.begun.setup c.args.begun.file body accepted ∙ ap (λ (s : Session). behind accepted_line (body s)) (sym first);
+      led = file_accepted c.args.begun.setup c.args.begun.file body accepted ∙ ap (λ (s : ReplayState). behind accepted_line (body s)) (sym first);
       passed = subst (λ (l : List ℕ). Passes c.args.writer.now l c.write.new.self (g.K.Sink.taken c.args.sink.now) (g.K.Sink.taken c.write.new.sink)) c.accepted_line.ensures c.in-Ok-write.ensures.bytes;
     } in
     leads_tells (told_file c.args.begun.setup c.args.begun.file body (first_fault c.args.begun.file)) (body c.in-Ok.replayer) c.args.writer.now c.write.new.self c.run_lines.new.writer
@@ -40,8 +40,8 @@ returns-in-Ok-write-clause-bytes g c =
 
 pub returns-clause-bytes : goal.returns-clause-bytes
 returns-clause-bytes g c =
-    let body : Session → Told = told_in (end_of c.args.source.now) c.args.begun.number (lines_of (drop c.args.begun.next c.args.source.now)) in
+    let body : ReplayState → Told = told_in (end_of c.args.source.now) c.args.begun.number (lines_of (drop c.args.begun.next c.args.source.now)) in
     let accepted : IsAccepted c.args.begun.file = subst (IsFirstFault c.args.begun.file) c.in_default.is c.first_fault.ensures in
     subst (λ (t : Told). AppendsFront (g.K.Sink.taken c.args.sink.now) (g.K.Sink.taken c.write.new.sink) (c.args.writer.now ++ t.text)) (sym (file_accepted c.args.begun.setup c.args.begun.file body accepted))
-    (fails_longer c.args.writer.now accepted_line (body (first_session c.args.begun.setup c.args.begun.file)).text (g.K.Sink.taken c.args.sink.now) (g.K.Sink.taken c.write.new.sink)
+    (fails_longer c.args.writer.now accepted_line (body (first_state c.args.begun.setup c.args.begun.file)).text (g.K.Sink.taken c.args.sink.now) (g.K.Sink.taken c.write.new.sink)
     (subst (λ (l : List ℕ). AppendsFront (g.K.Sink.taken c.args.sink.now) (g.K.Sink.taken c.write.new.sink) (c.args.writer.now ++ l)) c.accepted_line.ensures c.in-Err.ensures.bytes))

@@ -14,7 +14,7 @@ returns-in-Ok-clause-bytes g c = λ rest.
 pub returns-in-Ok-clause-eras : goal.returns-in-Ok-clause-eras
 returns-in-Ok-clause-eras g c = λ most eras.
     let fits : Fits c.args.replayer.now.now c.in-Ok.command = subst (λ (now : Situation). Fits now c.in-Ok.command) c.setup.ensures c.in-Ok.ensures.fits in
-    command_eras c.args.replayer.now c.do_command.new.replayer c.in-Ok.command most c.args.writer.now c.do_command.new.writer (g.K.Sink.taken c.args.sink.now) (g.K.Sink.taken c.do_command.new.sink) c.do_command.result c.is_session.ensures fits eras c.do_command.ensures.bytes
+    command_eras c.args.replayer.now c.do_command.new.replayer c.in-Ok.command most c.args.writer.now c.do_command.new.writer (g.K.Sink.taken c.args.sink.now) (g.K.Sink.taken c.do_command.new.sink) c.do_command.result c.is_replay_state.ensures fits eras c.do_command.ensures.bytes
 
 pub returns-in-Err-tell_offence-clause-bytes : goal.returns-in-Err-tell_offence-clause-bytes
 returns-in-Err-tell_offence-clause-bytes g c = λ rest.

@@ -1,4 +1,4 @@
--- Each command that fits keeps what every session keeps.
+-- Each command that fits keeps what every state keeps.
 use Rattle.std.proofs.Common.{◌≡◌, ◌≢◌, ◌∙◌, ap, sym, refl, subst, arith, ℕ, ◌-◌, ◌/◌, ◌%◌, ◌^◌, ◌<◌, ◌≤◌, Bool, true, false, if◌then◌else◌, List, [], ◌∷◌, ◌++◌, Option, None, Some, slice_get, Ok}
 use Rattle.std.specs.Prelude.{IfSome, is_some, map}
 use Rattle.std.specs.Option.{option_map, option_map_or}
@@ -40,8 +40,8 @@ use Rattle.mt_script.specs.Commands.{command_of}
 use Rattle.mt_script.proofs.Fitting.{command_fits}
 use Rattle.mt_script.proofs.Keeping.{accepted_is}
 use Rattle.mt_replay.specs.FirstFault.{first_fault}
-use Rattle.mt_replay.specs.Kept.{CommandsKeep, IsSession, start_of, windows_of}
-use Rattle.mt_replay.specs.Session.{Session, after_call, after_update, after_word, call_fault, each_processor, first_file, is_update, machine_after, mapping, session_after, with_register}
+use Rattle.mt_replay.specs.Kept.{CommandsKeep, IsReplayState, start_of, windows_of}
+use Rattle.mt_replay.specs.ReplayState.{ReplayState, after_call, after_update, after_word, call_fault, each_processor, first_file, is_update, machine_after, mapping, state_after, with_register}
 use Rattle.mt_replay.proofs.FirstFault.{first_fault_is_first}
 use Rattle.mt_replay.proofs.Keeping.Kinds.{fits_with_value}
 use Rattle.mt_replay.proofs.Keeping.Machines.{Follows, follows_access, follows_control, follows_event, follows_same, follows_step, follows_update, follows_word}
@@ -69,7 +69,7 @@ no_windows : (stage : Stage) → takes_registers stage ≡ true → takes_window
 no_windows Rams registers windows = cc registers
 no_windows other registers windows = cc windows
 
--- ---- a session by the machine that follows
+-- ---- a state by the machine that follows
 
 -- no window may be added in this stage
 abbrev TakesNone : Stage → Type 0
@@ -87,10 +87,10 @@ same_start : (now was : Situation) (f : RegisterFile) → now.cpus ≡ was.cpus 
 same_start now was f cpus windows = λ i. start_machine (sym cpus i) f (map (λ (w : ℕ × ℕ). window w.0 w.1) (sym windows i))
 
 -- with the same windows, and no window to come
-session_on : (s : Session) (now : Situation) (n : Machine) (goal : RegisterFile) → IsSession s → IsSituation now → is_past_dump now.stage ≡ true
+state_on : (s : ReplayState) (now : Situation) (n : Machine) (goal : RegisterFile) → IsReplayState s → IsSituation now → is_past_dump now.stage ≡ true
     → now.cpus ≡ s.now.cpus → now.file ≡ s.now.file → now.windows ≡ s.now.windows → TakesNone now.stage → Follows s.machine n → IsRegisterFile goal → All (FitsGoal goal) s.machine.system.processors
-    → IsSession (record { now = now; machine = n; goal = goal })
-session_on s now n goal h is past cpus file windows none follows good fits = record {
+    → IsReplayState (record { now = now; machine = n; goal = goal })
+state_on s now n goal h is past cpus file windows none follows good fits = record {
   situation = is;
   past = past;
   arises = follows.arises;
@@ -124,17 +124,17 @@ call_allowed m goal h = one m.order (first_fault goal) refl refl h
 pub accepted_of : (goal : RegisterFile) → first_fault goal ≡ None → IsAccepted goal
 accepted_of goal none = subst (IsFirstFault goal) none (first_fault_is_first goal)
 
-pub call_enabled : (s : Session) → IsSession s → call_fault s.machine s.goal ≡ None → IsEnabled s.machine (Calls s.goal)
+pub call_enabled : (s : ReplayState) → IsReplayState s → call_fault s.machine s.goal ≡ None → IsEnabled s.machine (Calls s.goal)
 call_enabled s h none = let allowed = call_allowed s.machine s.goal none in (allowed.0, h.goal_file, accepted_of s.goal allowed.1, h.goal)
 
-follows_called : (s : Session) (n : Machine) → IsSession s → (IsEnabled s.machine (Calls s.goal) → Follows s.machine n) → Follows s.machine (option_map_or (λ fault. s.machine) (call_fault s.machine s.goal) n)
+follows_called : (s : ReplayState) (n : Machine) → IsReplayState s → (IsEnabled s.machine (Calls s.goal) → Follows s.machine n) → Follows s.machine (option_map_or (λ fault. s.machine) (call_fault s.machine s.goal) n)
 follows_called s n h later = one (call_fault s.machine s.goal) refl
   where
     one : (o : Option CallFault) → call_fault s.machine s.goal ≡ o → Follows s.machine (option_map_or (λ fault. s.machine) o n)
     one None is = later (call_enabled s h is)
     one (Some fault) is = follows_same s.machine h.arises
 
-pub follows_end : (s : Session) → IsSession s → Follows s.machine (machine_after s command.End)
+pub follows_end : (s : ReplayState) → IsReplayState s → Follows s.machine (machine_after s command.End)
 follows_end s h = one (is_update s.now.stage)
   where
     one : (b : Bool) → Follows s.machine (if b then after_update s.machine s.goal else after_call s.machine s.goal)
@@ -143,7 +143,7 @@ follows_end s h = one (is_update s.now.stage)
 
 -- ---- goals
 
-module _ (s : Session) (h : IsSession s) where
+module _ (s : ReplayState) (h : IsReplayState s) where
   file_here : (o : Option Processor) → slice_get s.machine.system.processors 0 ≡ o → IsRegisterFile (option_map_or (λ p. p.file) o s.goal)
   file_here None at = h.goal_file
   file_here (Some p) at = (all_get IsProcessor s.machine.system.processors (is_sound s.machine h.arises).each 0 p at).register_file
@@ -181,21 +181,21 @@ module _ (s : Session) (h : IsSession s) where
   is_after c fits = accepted_is s.now h.situation c fits (not_end c)
 
   -- a command among the commands
-  goes_on : (n : Machine) → IsSituation (in_commands s.now) → Follows s.machine n → IsSession (record { now = in_commands s.now; machine = n; goal = s.goal })
-  goes_on n is follows = session_on s (in_commands s.now) n s.goal h is refl refl refl refl (λ takes. cc takes) follows h.goal_file h.goal
+  goes_on : (n : Machine) → IsSituation (in_commands s.now) → Follows s.machine n → IsReplayState (record { now = in_commands s.now; machine = n; goal = s.goal })
+  goes_on n is follows = state_on s (in_commands s.now) n s.goal h is refl refl refl refl (λ takes. cc takes) follows h.goal_file h.goal
 
-  accesses : (k : ℕ) (o : Op) → FitsOp o → IsSituation (in_commands s.now) → IsSession (record { now = in_commands s.now; machine = next s.machine (Accesses k o); goal = s.goal })
+  accesses : (k : ℕ) (o : Op) → FitsOp o → IsSituation (in_commands s.now) → IsReplayState (record { now = in_commands s.now; machine = next s.machine (Accesses k o); goal = s.goal })
   accesses k o fits is = goes_on (next s.machine (Accesses k o)) is (follows_access s.machine k o h.arises fits)
 
   controls : (k : ℕ) (c : Control) → ((p : Processor) → slice_get s.machine.system.processors k ≡ Some p → FitsControl p c) → IsSituation (in_commands s.now)
-      → IsSession (record { now = in_commands s.now; machine = next s.machine (Controls k c); goal = s.goal })
+      → IsReplayState (record { now = in_commands s.now; machine = next s.machine (Controls k c); goal = s.goal })
   controls k c fits is = goes_on (next s.machine (Controls k c)) is (follows_control s.machine k c h.arises fits)
 
-  stays : IsSituation (in_commands s.now) → IsSession (record { now = in_commands s.now; machine = s.machine; goal = s.goal })
+  stays : IsSituation (in_commands s.now) → IsReplayState (record { now = in_commands s.now; machine = s.machine; goal = s.goal })
   stays is = goes_on s.machine is (follows_same s.machine h.arises)
 
-  begins : (stage : Stage) → is_past_dump stage ≡ true → TakesNone stage → IsSituation (in_section_of stage s.now) → IsSession (record { now = in_section_of stage s.now; machine = s.machine; goal = first_file s })
-  begins stage past none is = session_on s (in_section_of stage s.now) s.machine (first_file s) h is past refl refl refl none (follows_same s.machine h.arises) first_file_is first_file_fits
+  begins : (stage : Stage) → is_past_dump stage ≡ true → TakesNone stage → IsSituation (in_section_of stage s.now) → IsReplayState (record { now = in_section_of stage s.now; machine = s.machine; goal = first_file s })
+  begins stage past none is = state_on s (in_section_of stage s.now) s.machine (first_file s) h is past refl refl refl none (follows_same s.machine h.arises) first_file_is first_file_fits
 
   -- a page of the processor's physical addresses
   page_in : (physical w v : ℕ) → 12 ≤ w → w ≡ v → physical < 2 ^ w → physical / 4096 < 2 ^ (v - 12)
@@ -214,7 +214,7 @@ module _ (s : Session) (h : IsSession s) where
       let wide = file.2.wide in
       (omega arith, page_in physical f.width p.file.width (omega arith) fits.width below, omega arith)
 
-  grows : (base lines : ℕ) → takes_windows s.now.stage ≡ true → base % 64 ≡ 0 → has_room s.now base lines ≡ true → IsSituation (accepted s.now (command.Ram base lines)) → IsSession (session_after s (command.Ram base lines))
+  grows : (base lines : ℕ) → takes_windows s.now.stage ≡ true → base % 64 ≡ 0 → has_room s.now base lines ≡ true → IsSituation (accepted s.now (command.Ram base lines)) → IsReplayState (state_after s (command.Ram base lines))
   grows base lines windows aligned room is =
       let file = file_of s.now h.situation h.past in
       let memory = room_memory s.now file.0 s.machine.system.memory base lines file.1 file.2 (stands h.arises).0 h.windows aligned room in
@@ -240,7 +240,7 @@ module _ (s : Session) (h : IsSession s) where
         fresh = λ f same takes. ((h.fresh f same windows).0, started f same);
       }
 
-  kept : (c : Command) → Fits s.now c → IsSituation (accepted s.now c) → IsSession (session_after s c)
+  kept : (c : Command) → Fits s.now c → IsSituation (accepted s.now c) → IsReplayState (state_after s c)
   kept (command.Cpus n) fits is = absurd (not_cpus s.now.stage h.past fits.0)
   kept command.Dump fits is = absurd (not_dump s.now.stage h.past fits)
   kept (command.Ram base lines) fits is = grows base lines fits.0 fits.1 fits.4 is
@@ -263,10 +263,10 @@ module _ (s : Session) (h : IsSession s) where
   kept command.Blank fits is = h
   kept command.DumpLine fits is = absurd (not_in_dump s.now.stage h.past fits)
   kept (command.Register number value) fits is =
-      session_on s (accepted s.now (command.Register number value)) s.machine (with_register s.goal number value) h is h.past refl refl refl (no_windows s.now.stage fits.0) (follows_same s.machine h.arises)
+      state_on s (accepted s.now (command.Register number value)) s.machine (with_register s.goal number value) h is h.past refl refl refl (no_windows s.now.stage fits.0) (follows_same s.machine h.arises)
       (register_is number value (written s.goal number value) refl) (register_fits value (register_of s.goal number))
   kept command.End fits is =
-      session_on s (in_section_of Commands s.now) (machine_after s command.End) s.goal h is refl refl refl refl (λ takes. cc takes) (follows_end s h) h.goal_file h.goal
+      state_on s (in_section_of Commands s.now) (machine_after s command.End) s.goal h is refl refl refl refl (λ takes. cc takes) (follows_end s h) h.goal_file h.goal
 
-pub session_kept : CommandsKeep
-session_kept s c h fits = kept s h c fits (is_after s h c fits)
+pub state_kept : CommandsKeep
+state_kept s c h fits = kept s h c fits (is_after s h c fits)

@@ -1,6 +1,6 @@
 -- A script between two lines after its dump: what stands set up, the machine, and what a command writes and leaves (own).
---     command_text session command      what the command writes
---     session_after session command      what it leaves
+--     command_text state command      what the command writes
+--     state_after state command      what it leaves
 use Rattle.std.specs.Prelude.{ℕ, ◌/◌, Bool, true, false, List, [], length, if◌then◌else◌, slice_get, Option, None, Some, is_some}
 use Rattle.std.specs.Option.{option_map, option_map_or}
 use Rattle.mt_regs.specs.RegisterFile.{RegisterFile}
@@ -34,14 +34,14 @@ use Rattle.mt_script.specs.declared.command.Command.TheVariants as command
 use Rattle.mt_replay.specs.FirstFault.{first_fault}
 use Rattle.mt_replay.specs.Texts.{call_fault_line, called_line, cancel_line, complete_line, done_line, go_line, memory_line, register_line, report_text, ruled_line, stepped_line}
 
-pub record Session : Type 0 where
+pub record ReplayState : Type 0 where
   pub now : Situation
   pub machine : Machine
   pub goal : RegisterFile  -- of the section that is read, so far
 
 -- after the dump, whose file is accepted
-abbrev pub first_session : Situation → RegisterFile → Session
-first_session now file = record { now = finished now file; machine = start_machine now.cpus file []; goal = file }
+abbrev pub first_state : Situation → RegisterFile → ReplayState
+first_state now file = record { now = finished now file; machine = start_machine now.cpus file []; goal = file }
 
 -- ---- accesses and control instructions
 
@@ -99,7 +99,7 @@ abbrev pub file_at : List Processor → ℕ → RegisterFile → RegisterFile
 file_at ps k f = option_map_or (λ p. p.file) (slice_get ps k) f
 
 -- the goal of a section begins as processor 0's registers, which no line of the section changes
-abbrev pub first_file : Session → RegisterFile
+abbrev pub first_file : ReplayState → RegisterFile
 first_file s = file_at s.machine.system.processors 0 s.goal
 
 abbrev pub with_register : RegisterFile → ℕ → ℕ → RegisterFile
@@ -110,12 +110,12 @@ with_register goal number value = option_map_or (λ f. f) (written goal number v
 abbrev pub memory_word : Memory → ℕ → Option ℕ
 memory_word m address = if is_some (place m address) then Some (word_at m address) else None
 
-abbrev pub register_value : Session → ℕ → ℕ → ℕ
+abbrev pub register_value : ReplayState → ℕ → ℕ → ℕ
 register_value s k number = option_map_or (λ value. value) (value_at (file_at s.machine.system.processors k s.goal) number) 0
 
 -- ---- commands
 
-abbrev pub command_text : Session → Command → List ℕ
+abbrev pub command_text : ReplayState → Command → List ℕ
 command_text s (command.Cpus n) = []
 command_text s command.Dump = []
 command_text s (command.Ram base lines) = []
@@ -140,7 +140,7 @@ command_text s command.DumpLine = []
 command_text s (command.Register number value) = []
 command_text s command.End = if is_update s.now.stage then update_line s.machine s.goal else call_line s.machine s.goal
 
-abbrev pub machine_after : Session → Command → Machine
+abbrev pub machine_after : ReplayState → Command → Machine
 machine_after s (command.Cpus n) = s.machine
 machine_after s command.Dump = s.machine
 machine_after s (command.Ram base lines) = grown (window base lines) s.machine
@@ -165,11 +165,11 @@ machine_after s command.DumpLine = s.machine
 machine_after s (command.Register number value) = s.machine
 machine_after s command.End = if is_update s.now.stage then after_update s.machine s.goal else after_call s.machine s.goal
 
-abbrev pub goal_after : Session → Command → RegisterFile
+abbrev pub goal_after : ReplayState → Command → RegisterFile
 goal_after s command.Update = first_file s
 goal_after s command.Begin = first_file s
 goal_after s (command.Register number value) = with_register s.goal number value
 goal_after s other = s.goal
 
-abbrev pub session_after : Session → Command → Session
-session_after s c = record { now = accepted s.now c; machine = machine_after s c; goal = goal_after s c }
+abbrev pub state_after : ReplayState → Command → ReplayState
+state_after s c = record { now = accepted s.now c; machine = machine_after s c; goal = goal_after s c }
