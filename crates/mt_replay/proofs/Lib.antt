@@ -1,5 +1,6 @@
 pub mod Asked
 pub mod Calls
+pub mod Courses
 mod DirtyCounts
 pub mod Eras
 pub mod FirstFault

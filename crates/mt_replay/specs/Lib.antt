@@ -1,4 +1,5 @@
 pub mod FirstFault
+pub mod Headline
 pub mod Flat
 pub mod Kept
 pub mod Parts

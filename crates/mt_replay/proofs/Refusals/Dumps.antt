@@ -41,7 +41,7 @@ none_given before clean led =
     let count : times 0xfe (given (onto before [])) ≡ 0 = ap (times 0xfe) (given-onto before [] ∙ ap (λ gs. onto gs []) none) in
     rw count refl
 
-none_ends : (at : Place) (before : List Reading) → IsClean before → file_in before ≡ None → offence_at_end at (onto before []) ≡ None → ⊥
+pub none_ends : (at : Place) (before : List Reading) → IsClean before → file_in before ≡ None → offence_at_end at (onto before []) ≡ None → ⊥
 none_ends at before clean led end = cc (rw (none_given before clean led) at end)
 
 -- No file is shown: what is told is the offence alone.
@@ -167,7 +167,7 @@ module _ (end : Place) (number : ℕ) (line : List ℕ) (lines : List (List ℕ)
       (command_comes c (command_known now number line c asked) (is_in_dump now.stage) refl)
 
 -- commands may be given only after the dump
-past_dump : (stage : Stage) → takes_commands stage ≡ true → is_past_dump stage ≡ true
+pub past_dump : (stage : Stage) → takes_commands stage ≡ true → is_past_dump stage ≡ true
 past_dump Rams takes = refl
 past_dump Commands takes = refl
 past_dump other takes = absurd (cc takes)

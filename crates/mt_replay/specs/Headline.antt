@@ -1,0 +1,195 @@
+-- The headline of a script (own): what the transcript tells, and what holds of the machine once it tells that an update is complete.
+--     course text      the steps of a text: what each line behind the dump does, up to the first offence
+--     wrote step, left step      the text that a step writes, and the state that it leaves
+--     Keeps goal era value stored m      every processor has the goal, nothing is older than the update, memory has each word
+use Rattle.std.specs.Prelude.{ℕ, ◌≡◌, ◌⊎◌, ◌+◌, Bool, true, false, List, [], ◌∷◌, ◌++◌, codes, IsSome, ⊤, Option, Some, None, Result, Ok, Err}
+use Rattle.std.specs.List.{All, Contains}
+use Rattle.std.specs.Option.{option_map_or}
+use Rattle.mt_text.specs.Text.{lines_of, words_of}
+use Rattle.mt_ports.specs.declared.status.Status.TheVariants.{Done, Refused}
+use Rattle.mt_regs.specs.declared.fault.Fault.{Fault}
+use Rattle.mt_regs.specs.RegisterFile.{RegisterFile}
+use Rattle.mt_dump.specs.Line.{Reading, said_of}
+use Rattle.mt_dump.specs.Dump.{offence_of, offence_at_end}
+use Rattle.mt_dump.specs.Reader.{file_in, onto}
+use Rattle.mt_dump.specs.declared.fault.DumpFault.{DumpFault}
+use Rattle.mt_machine.specs.Memory.{place, word_at}
+use Rattle.mt_machine.specs.System.{Processor, now}
+use Rattle.mt_machine.specs.Machine.{Machine, common_era}
+use Rattle.mt_machine.specs.Update.{emptied}
+use Rattle.mt_script.specs.Situation.{Situation, at_start}
+use Rattle.mt_script.specs.Stages.{is_in_dump}
+use Rattle.mt_script.specs.Words.{place_of}
+use Rattle.mt_script.specs.Commands.{command_of}
+use Rattle.mt_script.specs.Accept.{accepted}
+use Rattle.mt_script.specs.Script.{is_end_command, script_offence, with_told_width}
+use Rattle.mt_script.specs.declared.command.Command.{Command}
+use Rattle.mt_script.specs.declared.command.Command.TheVariants as command
+use Rattle.mt_script.specs.declared.fault.ScriptFault.{ScriptFault}
+use Rattle.mt_script.specs.declared.fault.Offence.{Offence}
+use Rattle.mt_output.specs.Lines.{accepted_line, line, refused_line}
+use Rattle.mt_replay.specs.FirstFault.{first_fault}
+use Rattle.mt_replay.specs.ReplayState.{ReplayState, command_text, each_processor, first_file, first_state, state_after, with_register}
+use Rattle.mt_replay.specs.Statuses.{stored_by}
+use Rattle.mt_replay.specs.Texts.{called_line, complete_line}
+use Rattle.mt_replay.specs.Transcript.{Told, behind, told, told_offence, transcript}
+
+-- ---- steps
+
+-- A line behind the dump, with what it asks for, and the state that it finds.
+pub record Step : Type 0 where
+  pub number : ℕ
+  pub command : Command
+  pub before : ReplayState
+
+abbrev pub wrote : Step → List ℕ
+wrote step = command_text step.before step.command
+
+abbrev pub left : Step → ReplayState
+left step = state_after step.before step.command
+
+-- of these lines, the first of which has this number, up to the first that is refused
+abbrev pub steps_of : ReplayState → ℕ → (ReplayState → List Step) → Result Command ScriptFault → List Step
+steps_of s number rest (Err fault) = []
+steps_of s number rest (Ok c) = record { number = number; command = c; before = s } ∷ rest (state_after s c)
+
+abbrev pub steps_in : ℕ → List (List ℕ) → ReplayState → List Step
+steps_in number [] s = []
+steps_in number (line ∷ lines) s = steps_of s number (steps_in (number + 1) lines) (command_of s.now number line)
+
+-- ---- where the steps of a text begin
+
+-- The number of the line behind the dump's end, the lines from there on, and the first state.
+pub record Beginning : Type 0 where
+  pub number : ℕ
+  pub lines : List (List ℕ)
+  pub state : ReplayState
+
+-- the dump shows a file, which may have a fault
+abbrev pub begins_with : Situation → RegisterFile → ℕ → List (List ℕ) → Option Fault → Option Beginning
+begins_with now file number lines (Some fault) = None
+begins_with now file number lines None = Some (record { number = number; lines = lines; state = first_state now file })
+
+abbrev pub begins_shown : Situation → List Reading → ℕ → List (List ℕ) → Option RegisterFile → Option Beginning
+begins_shown now before number lines None = None
+begins_shown now before number lines (Some file) = begins_with now (with_told_width before file) number lines (first_fault (with_told_width before file))
+
+abbrev pub begins_unless : Option DumpFault → Option Beginning → Option Beginning
+begins_unless (Some fault) rest = None
+begins_unless None rest = rest
+
+-- by the situation and the dump's lines so far, of which the last stands first
+abbrev pub Beginnings : Type 0
+Beginnings = Situation → List Reading → Option Beginning
+
+-- a line of the dump, which ends it where the last argument is true
+abbrev pub begins_in_dump : Situation → List Reading → ℕ → List ℕ → List (List ℕ) → Beginnings → Bool → Option Beginning
+begins_in_dump now before number line lines later true =
+    begins_unless (offence_at_end (place_of number (words_of line) 0) (onto before [])) (begins_shown now before (number + 1) lines (file_in before))
+begins_in_dump now before number line lines later false =
+    begins_unless (offence_of before (said_of number line)) (later now (said_of number line ∷ before))
+
+abbrev pub begins_at_command : Situation → List Reading → ℕ → List ℕ → List (List ℕ) → Beginnings → Command → Bool → Option Beginning
+begins_at_command now before number line lines later c true = begins_in_dump now before number line lines later (is_end_command c)
+begins_at_command now before number line lines later c false = later (accepted now c) before
+
+abbrev pub begins_at_line : Situation → List Reading → ℕ → List ℕ → List (List ℕ) → Beginnings → Result Command ScriptFault → Option Beginning
+begins_at_line now before number line lines later (Err fault) = None
+begins_at_line now before number line lines later (Ok c) = begins_at_command now before number line lines later c (is_in_dump now.stage)
+
+abbrev pub begins_from : ℕ → List (List ℕ) → Beginnings
+begins_from number [] now before = None
+begins_from number (line ∷ lines) now before =
+    begins_at_line now before number line lines (begins_from (number + 1) lines) (command_of now number line)
+
+-- none where the dump isn't read to its end, or is refused
+abbrev pub beginning : List ℕ → Option Beginning
+beginning text = begins_from 1 (lines_of text) at_start []
+
+abbrev pub course : List ℕ → List Step
+course text = option_map_or (λ b. steps_in b.number b.lines b.state) (beginning text) []
+
+-- ---- "the tool writes exactly the transcript of the manual's machine"
+
+abbrev pub joined : List Step → List ℕ
+joined [] = []
+joined (step ∷ steps) = wrote step ++ joined steps
+
+-- the line of the first offence, where there is one
+abbrev pub ending : Option Offence → Told
+ending None = told [] Done
+ending (Some o) = told_offence o
+
+-- the transcript is the line `accepted`, what the steps write, and the ending
+abbrev pub TranscriptIsOfTheCourse : Type 0
+TranscriptIsOfTheCourse =
+    (text : List ℕ) → IsSome (beginning text) → transcript text ≡ behind accepted_line (behind (joined (course text)) (ending (script_offence text)))
+
+-- where no step begins it is one line, of an offence or of the refused dump
+abbrev pub TranscriptIsOneLine : Type 0
+TranscriptIsOneLine =
+    (text : List ℕ) → beginning text ≡ None
+    → ((o : Offence) × (transcript text ≡ told_offence o)) ⊎ ((fault : Fault) × (transcript text ≡ told (refused_line fault) Refused))
+
+-- each step finds what the one before it left
+abbrev pub StepsFollow : Type 0
+StepsFollow = (text : List ℕ) (front rest : List Step) (first second : Step) → course text ≡ front ++ first ∷ second ∷ rest → second.before ≡ left first
+
+-- ---- "a refused update changes no processor"
+
+abbrev pub IsRefused : Step → Type 0
+IsRefused step = ((fault : Fault) × (wrote step ≡ refused_line fault)) ⊎ (wrote step ≡ line (codes "under way"))
+
+-- nor memory, nor an update under way
+abbrev pub RefusedUpdatesChangeNothing : Type 0
+RefusedUpdatesChangeNothing =
+    (text : List ℕ) (front rest : List Step) (step : Step) → course text ≡ front ++ step ∷ rest → IsRefused step → (left step).machine ≡ step.before.machine
+
+-- ---- "every processor holds those register values, no cache, buffer or TLB entry is older than the update,
+-- ---- and memory holds every store cached before it, save words stored again since"
+
+-- every line, buffer and TLB entry is of this era
+abbrev pub HoldsOnly : ℕ → Processor → Type 0
+HoldsOnly era p = All (λ l. l.era ≡ era) p.lines × All (λ l. l.era ≡ era) p.buffers × All (λ e. e.era ≡ era) p.entries
+
+pub record Keeps (goal : RegisterFile) (era : ℕ) (value : ℕ → ℕ) (stored : List ℕ) (m : Machine) : Type 0 where
+  pub every_processor_holds_those_register_values : All (λ p. p.file ≡ goal) m.system.processors
+  pub nothing_is_older_than_the_update : All (HoldsOnly era) m.system.processors
+  pub memory_holds_every_store : (address : ℕ) → IsSome (place m.system.memory address) → (Contains stored address → ⊥) → word_at m.system.memory address ≡ value address
+
+-- the words for which a store of these steps was answered `stored`
+abbrev pub stored_in : List Step → List ℕ
+stored_in [] = []
+stored_in (step ∷ steps) = option_map_or (λ a. a ∷ stored_in steps) (stored_by step.before step.command) (stored_in steps)
+
+-- the state that the last of these steps leaves, or this one
+abbrev pub last_of : ReplayState → List Step → ReplayState
+last_of s [] = s
+last_of s (step ∷ steps) = last_of (left step) steps
+
+-- ---- "until the next is called"
+
+abbrev pub IsCall : Step → Type 0
+IsCall step = (wrote step ≡ called_line) ⊎ ((era : ℕ) × (wrote step ≡ complete_line era))
+
+-- of no step it holds
+abbrev pub NoneOf : (Step → Type 0) → List Step → Type 0
+NoneOf P [] = ⊤
+NoneOf P (step ∷ steps) = (P step → ⊥) × NoneOf P steps
+
+abbrev pub NoneWrote : List ℕ → List Step → Type 0
+NoneWrote text steps = NoneOf (λ step. wrote step ≡ text) steps
+
+-- the era of the processors after an update that this step begins
+abbrev pub next_era : Step → ℕ
+next_era step = common_era step.before.machine.system.processors + 1
+
+-- ---- "once any processor is told that an accepted update is complete": all at once by `complete E`
+
+-- the value of a word is what it had, cached or not, once the buffers were emptied
+abbrev pub CompleteUpdatesAreKept : Type 0
+CompleteUpdatesAreKept =
+    (text : List ℕ) (front since rest : List Step) (update : Step) (era : ℕ)
+    → course text ≡ front ++ update ∷ since ++ rest → wrote update ≡ complete_line era → NoneOf IsCall since
+    → (wrote update ≡ complete_line (next_era update))
+    × Keeps update.before.goal (next_era update) (now (emptied update.before.machine.system (each_processor update.before.machine.system))) (stored_in since) (last_of (left update) since).machine
