@@ -190,6 +190,14 @@ next_era step = common_era step.before.machine.system.processors + 1
 abbrev pub CompleteUpdatesAreKept : Type 0
 CompleteUpdatesAreKept =
     (text : List ℕ) (front since rest : List Step) (update : Step) (era : ℕ)
-    → course text ≡ front ++ update ∷ since ++ rest → wrote update ≡ complete_line era → NoneOf IsCall since
+    → course text ≡ front ++ update ∷ (since ++ rest) → wrote update ≡ complete_line era → NoneOf IsCall since
     → (wrote update ≡ complete_line (next_era update))
     × Keeps update.before.goal (next_era update) (now (emptied update.before.machine.system (each_processor update.before.machine.system))) (stored_in since) (last_of (left update) since).machine
+
+-- ---- the same, one after the other by `release`
+
+abbrev pub pass_line : List ℕ
+pass_line = line (codes "pass")
+
+abbrev pub release_line : List ℕ
+release_line = line (codes "release")

@@ -1,8 +1,16 @@
-ghost use Rattle.mt_replay.specs.Headline.{StepsFollow, TranscriptIsOfTheCourse, TranscriptIsOneLine};
+ghost use Rattle.mt_replay.specs.Headline.{CompleteUpdatesAreKept, RefusedUpdatesChangeNothing, StepsFollow, TranscriptIsOfTheCourse, TranscriptIsOneLine};
 
 /// The headline of a script: its transcript is what its steps write, one behind the other.
 pub fn a_transcript_is_of_its_course()
     ensures joined { TranscriptIsOfTheCourse }
     ensures one_line { TranscriptIsOneLine }
     ensures follow { StepsFollow }
+{}
+
+/// A refused update changes no processor, no word and no update under way. Once `complete` is told,
+/// and until the next is called, every processor holds those register values, nothing is older than
+/// the update, and memory holds every store cached before it, save words stored again since.
+pub fn a_complete_update_holds()
+    ensures refused { RefusedUpdatesChangeNothing }
+    ensures complete { CompleteUpdatesAreKept }
 {}

@@ -95,7 +95,7 @@ moves s (command.Step k) h fits calls past = step_moves s.machine k
 moves s command.End h fits calls past = end_moves s (calls refl)
 moves s other h fits calls past = inl (refl, refl)
 
-stays_past : (now : Situation) (c : Command) → takes_windows now.stage ≡ false → takes_windows (accepted now c).stage ≡ false
+pub stays_past : (now : Situation) (c : Command) → takes_windows now.stage ≡ false → takes_windows (accepted now c).stage ≡ false
 stays_past now (command.Ram base lines) past = past
 stays_past now command.Blank past = past
 stays_past now command.DumpLine past = past

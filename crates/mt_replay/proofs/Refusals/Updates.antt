@@ -40,7 +40,7 @@ settled_after goal era ps =
       entries = λ i e below. absurd (omega arith);
     })
 
-aligned_place : (m : Memory) (address i : ℕ) → place m address ≡ Some i → address % 8 ≡ 0
+pub aligned_place : (m : Memory) (address i : ℕ) → place m address ≡ Some i → address % 8 ≡ 0
 aligned_place m address i at = one (address % 8 == 0) refl at
   where
     one : (b : Bool) → (address % 8 == 0) ≡ b → (if b then place_in m.windows 0 address else None) ≡ Some i → address % 8 ≡ 0

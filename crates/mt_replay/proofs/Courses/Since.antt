@@ -1,0 +1,167 @@
+-- Steps that call for no update, and what a complete update and a refused one leave in a course.
+use Rattle.std.proofs.Common.{◌≡◌, ◌⊎◌, ◌∙◌, ap, sym, refl, subst, inl, inr, ℕ, ◌+◌, ◌%◌, ◌==◌, Bool, true, false, if◌then◌else◌, List, [], ◌∷◌, ◌++◌, map, Option, None, Some}
+use Rattle.std.specs.Prelude.{IsSome, codes}
+use Rattle.std.specs.Option.{option_map_or}
+use Rattle.std.specs.List.{All, Contains}
+use Rattle.mt_regs.specs.RegisterFile.{RegisterFile}
+use Rattle.mt_machine.specs.Memory.{Memory, Window, place, place_in, word_at}
+use Rattle.mt_machine.specs.System.{System, now}
+use Rattle.mt_machine.specs.Machine.{Machine}
+use Rattle.mt_machine.specs.Update.{IsSettled, IsSettledOn, emptied}
+use Rattle.mt_core.specs.declared.fault.CallFault.{CallFault}
+use Rattle.mt_script.specs.Situation.{Situation}
+use Rattle.mt_script.specs.Stages.{takes_windows}
+use Rattle.mt_script.specs.Accept.{Fits, accepted}
+use Rattle.mt_script.specs.declared.command.Command.{Command}
+use Rattle.mt_script.specs.declared.command.Command.TheVariants as command
+use Rattle.mt_output.specs.Lines.{line, refused_line}
+use Rattle.mt_replay.specs.Headline.{CompleteUpdatesAreKept, HoldsOnly, IsCall, Keeps, NoneOf, RefusedUpdatesChangeNothing, Step, last_of, left, next_era, stored_in, wrote}
+use Rattle.mt_replay.specs.Kept.{IsReplayState, windows_of}
+use Rattle.mt_replay.specs.ReplayState.{ReplayState, call_fault, command_text, each_processor, is_update, machine_after, state_after}
+use Rattle.mt_replay.specs.Statuses.{AreHeld, AreWithoutCall, IsSettledAfter, state_after_all, stored_by, stored_by_all}
+use Rattle.mt_replay.specs.Texts.{called_line, complete_line}
+use Rattle.mt_replay.proofs.Courses.Steps.{GoesOn, StandsIn, course_is, in_front, kept_behind, left_is, stands_in}
+use Rattle.mt_replay.proofs.Courses.Tells.{writes_complete, writes_refused, writes_under_way}
+use Rattle.mt_replay.proofs.Keeping.States.{state_kept}
+use Rattle.mt_replay.proofs.Refusals.Calls.{accepted_calls, ends_idle}
+use Rattle.mt_replay.proofs.Refusals.Since.{stays_past}
+use Rattle.mt_replay.proofs.Refusals.Updates.{aligned_place, complete_updates_settle, updated_words_are_held}
+
+-- ---- refused
+
+idle_step : (step : Step) (fault : CallFault) → step.command ≡ command.End → call_fault step.before.machine step.before.goal ≡ Some fault → (left step).machine ≡ step.before.machine
+idle_step step fault ends is = ap (machine_after step.before) ends ∙ (ends_idle step.before fault is).1
+
+pub refused_updates_change_nothing : RefusedUpdatesChangeNothing
+refused_updates_change_nothing text front rest step same (inl h) = let w = writes_refused step.before step.command h.0 h.1 in idle_step step w.1.0 w.0 w.1.1
+refused_updates_change_nothing text front rest step same (inr h) = let w = writes_under_way step.before step.command h in idle_step step w.1.0 w.0 w.1.1
+
+-- ---- no call
+
+abbrev pub commands : List Step → List Command
+commands steps = map (λ (step : Step). step.command) steps
+
+-- an end that isn't refused writes the line of a call
+pub accepted_end : (s : ReplayState) → IsReplayState s → call_fault s.machine s.goal ≡ None → (command_text s command.End ≡ called_line) ⊎ ((era : ℕ) × (command_text s command.End ≡ complete_line era))
+accepted_end s h none = one (is_update s.now.stage) refl
+  where
+    one : (b : Bool) → is_update s.now.stage ≡ b → (command_text s command.End ≡ called_line) ⊎ ((era : ℕ) × (command_text s command.End ≡ complete_line era))
+    one true update = let done = complete_updates_settle s h update none in inr (done.era, done.line_is)
+    one false begin = inl (accepted_calls s begin none).0
+
+pub no_call : (step : Step) → IsReplayState step.before → (IsCall step → ⊥) → step.command ≡ command.End → IsSome (call_fault step.before.machine step.before.goal)
+no_call step h calls ends = one (call_fault step.before.machine step.before.goal) refl
+  where
+    one : (o : Option CallFault) → call_fault step.before.machine step.before.goal ≡ o → IsSome o
+    one (Some fault) is = refl
+    one None is =
+        absurd (calls (subst (λ (c : Command). (command_text step.before c ≡ called_line) ⊎ ((era : ℕ) × (command_text step.before c ≡ complete_line era))) (sym ends) (accepted_end step.before h is)))
+
+pub same_last : (steps : List Step) (s : ReplayState) → GoesOn s steps → state_after_all s (commands steps) ≡ last_of s steps
+same_last [] s on = refl
+same_last (step ∷ steps) s on =
+    ap (λ (x : ReplayState). state_after_all (state_after x step.command) (commands steps)) (sym on.0) ∙ same_last steps (left step) on.2
+
+pub same_stored : (steps : List Step) (s : ReplayState) → GoesOn s steps → stored_by_all s (commands steps) ≡ stored_in steps
+same_stored [] s on = refl
+same_stored (step ∷ steps) s on =
+    ap (λ (x : ReplayState). stored_by_all x (step.command ∷ commands steps)) (sym on.0)
+    ∙ ap (λ (ws : List ℕ). option_map_or (λ a. a ∷ ws) (stored_by step.before step.command) ws) (same_stored steps (left step) on.2)
+
+pub without_call : (steps : List Step) (s : ReplayState) → IsReplayState s → GoesOn s steps → NoneOf IsCall steps → AreWithoutCall s (commands steps)
+without_call [] s h on none = tt
+without_call (step ∷ steps) s h on none =
+    let here : IsReplayState step.before = subst IsReplayState (sym on.0) h in
+    subst (λ (x : ReplayState). AreWithoutCall x (step.command ∷ commands steps)) on.0
+    (on.1, no_call step here none.0, without_call steps (left step) (state_kept step.before step.command here on.1) on.2 none.1)
+
+-- ---- windows
+
+no_window : (now : Situation) (c : Command) → Fits now c → takes_windows now.stage ≡ false → (accepted now c).windows ≡ now.windows
+no_window now (command.Ram base lines) fits past = absurd (let takes = fits.0 in cc (takes, past))
+no_window now command.Blank fits past = refl
+no_window now other fits past = refl
+
+windows_stay : (steps : List Step) (s : ReplayState) → GoesOn s steps → takes_windows s.now.stage ≡ false → (last_of s steps).now.windows ≡ s.now.windows
+windows_stay [] s on past = refl
+windows_stay (step ∷ steps) s on past =
+    let here : takes_windows step.before.now.stage ≡ false = ap (λ (x : ReplayState). takes_windows x.now.stage) on.0 ∙ past in
+    windows_stay steps (left step) on.2 (stays_past step.before.now step.command here) ∙ no_window step.before.now step.command on.1 here ∙ ap (λ (x : ReplayState). x.now.windows) on.0
+
+pub same_windows : (steps : List Step) (s : ReplayState) → IsReplayState s → GoesOn s steps → takes_windows s.now.stage ≡ false → (last_of s steps).machine.system.memory.windows ≡ s.machine.system.memory.windows
+same_windows steps s h on past =
+    (kept_behind steps s h on).windows ∙ ap (λ (ws : List (ℕ × ℕ)). windows_of (record s.now { windows = ws })) (windows_stay steps s on past) ∙ sym h.windows
+
+-- the same words have a place
+pub same_place : (m n : Memory) (address : ℕ) → m.windows ≡ n.windows → IsSome (place m address) → IsSome (place n address)
+same_place m n address same some = subst (λ (ws : List Window). IsSome (if address % 8 == 0 then place_in ws 0 address else None)) same some
+
+pub is_aligned : (m : Memory) (address : ℕ) → IsSome (place m address) → address % 8 ≡ 0
+is_aligned m address some = one (place m address) refl some
+  where
+    one : (o : Option ℕ) → place m address ≡ o → IsSome o → address % 8 ≡ 0
+    one None at some = absurd (cc some)
+    one (Some i) at some = aligned_place m address i at
+
+-- ---- what is kept
+
+pub keeps : (goal : RegisterFile) (era : ℕ) (value : ℕ → ℕ) (stored : List ℕ) (m : Machine) → IsSettled m.system era goal
+    → ((address : ℕ) → IsSome (place m.system.memory address) → (Contains stored address → ⊥) → word_at m.system.memory address ≡ value address)
+    → Keeps goal era value stored m
+keeps goal era value stored m settled held = record {
+  every_processor_holds_those_register_values = λ k d within. (settled k d within).file;
+  nothing_is_older_than_the_update = λ k d within. let p = settled k d within in (p.lines, p.buffers, p.entries);
+  memory_holds_every_store = held;
+}
+
+module _ (update : Step) (since : List Step) (h : IsReplayState update.before) (fits : Fits update.before.now update.command) (on : GoesOn (left update) since) (none : NoneOf IsCall since)
+    (ends : update.command ≡ command.End) (section : is_update update.before.now.stage ≡ true) (accepts : call_fault update.before.machine update.before.goal ≡ None) where
+  abbrev s : ReplayState
+  s = update.before
+
+  done : IsSettledAfter s (machine_after s command.End)
+  done = complete_updates_settle s h section accepts
+
+  after : left update ≡ state_after s command.End
+  after = ap (state_after s) ends
+
+  calls : AreWithoutCall (state_after s command.End) (commands since)
+  calls = subst (λ (x : ReplayState). AreWithoutCall x (commands since)) after (without_call since (left update) (state_kept s update.command h fits) on none)
+
+  last_is : state_after_all (state_after s command.End) (commands since) ≡ last_of (left update) since
+  last_is = ap (λ (x : ReplayState). state_after_all x (commands since)) (sym after) ∙ same_last since (left update) on
+
+  stored_is : stored_by_all (state_after s command.End) (commands since) ≡ stored_in since
+  stored_is = ap (λ (x : ReplayState). stored_by_all x (commands since)) (sym after) ∙ same_stored since (left update) on
+
+  held : AreHeld (word_at (machine_after s command.End).system.memory) (state_after s command.End) (commands since)
+  held = updated_words_are_held s (commands since) h section accepts calls
+
+  windows : (last_of (left update) since).machine.system.memory.windows ≡ s.machine.system.memory.windows
+  windows =
+      same_windows since (left update) (state_kept s update.command h fits) on (ap (λ (x : ReplayState). takes_windows x.now.stage) after)
+      ∙ ap (λ (x : ReplayState). x.machine.system.memory.windows) after ∙ done.windows
+
+  words : (address : ℕ) → IsSome (place (last_of (left update) since).machine.system.memory address) → (Contains (stored_in since) address → ⊥)
+      → word_at (last_of (left update) since).machine.system.memory address ≡ now (emptied s.machine.system (each_processor s.machine.system)) address
+  words address some other =
+      ap (λ (x : ReplayState). word_at x.machine.system.memory address) (sym last_is)
+      ∙ held address (is_aligned (last_of (left update) since).machine.system.memory address some) (λ stored. other (subst (λ (ws : List ℕ). Contains ws address) stored_is stored))
+      ∙ done.words address (same_place (last_of (left update) since).machine.system.memory s.machine.system.memory address windows some)
+
+  settled : IsSettled (last_of (left update) since).machine.system (next_era update) s.goal
+  settled =
+      subst (λ (v : ReplayState × ℕ). IsSettled v.0.machine.system v.1 s.goal) (λ i. (last_is i, done.risen i)) (done.stays_settled (commands since) calls)
+
+  complete_is : (wrote update ≡ complete_line (next_era update))
+      × Keeps s.goal (next_era update) (now (emptied s.machine.system (each_processor s.machine.system))) (stored_in since) (last_of (left update) since).machine
+  complete_is = (
+    ap (command_text s) ends ∙ done.line_is ∙ ap complete_line done.risen,
+    keeps s.goal (next_era update) (now (emptied s.machine.system (each_processor s.machine.system))) (stored_in since) (last_of (left update) since).machine settled words,
+  )
+
+pub complete_updates_are_kept : CompleteUpdatesAreKept
+complete_updates_are_kept text front since rest update era same wrote_it none =
+    let w = writes_complete update.before update.command era wrote_it in
+    let there = stands_in front (since ++ rest) update (course_is text front (since ++ rest) update same) in
+    complete_is update since there.is there.fits (in_front since rest (left update) there.goes_on) none w.0 w.1 w.2

@@ -1,0 +1,278 @@
+-- Which steps write the lines of updates.
+use Rattle.std.proofs.Common.{◌≡◌, ◌⊎◌, ◌∙◌, ap, sym, refl, subst, inl, inr, ℕ, Bool, true, false, List, [], ◌∷◌, Option, None, Some, if◌then◌else◌}
+use Rattle.std.specs.Prelude.{◌==◌, ◌&&◌, ◌||◌, IsSome, codes}
+use Rattle.std.specs.Option.{option_map_or}
+use Rattle.mt_regs.specs.declared.fault.Fault.{Fault}
+use Rattle.mt_regs.specs.RegisterFile.{RegisterFile}
+use Rattle.mt_machine.specs.declared.done.Done.{Done}
+use Rattle.mt_machine.specs.declared.done.Done.TheVariants.{Value, Stored, Fenced, Unmapped, NoRam, Busy}
+use Rattle.mt_machine.specs.declared.ruled.Ruled.{Ruled}
+use Rattle.mt_machine.specs.declared.ruled.Ruled.TheVariants as ruled
+use Rattle.mt_machine.specs.declared.event.Event.{Event}
+use Rattle.mt_machine.specs.declared.event.Event.TheVariants as event
+use Rattle.mt_machine.specs.System.{Processor}
+use Rattle.mt_machine.specs.declared.op.Op.TheVariants as op
+use Rattle.mt_machine.specs.declared.control.Control.TheVariants as control_of
+use Rattle.mt_machine.specs.Access.{access}
+use Rattle.mt_machine.specs.Control.{control}
+use Rattle.mt_machine.specs.Machine.{common_era, go_of}
+use Rattle.mt_core.specs.Steps.{step_answer, step_after}
+use Rattle.mt_core.specs.declared.fault.CallFault.{CallFault}
+use Rattle.mt_core.specs.declared.fault.CallFault.TheVariants.{Refused, UnderWay}
+use Rattle.mt_core.specs.declared.stepped.Stepped.{Stepped}
+use Rattle.mt_core.specs.declared.stepped.Stepped.TheVariants.{Did, NoUpdate, Waits}
+use Rattle.mt_script.specs.declared.command.Command.{Command}
+use Rattle.mt_script.specs.declared.command.Command.TheVariants as command
+use Rattle.mt_output.specs.Lines.{line, refused_line}
+use Rattle.mt_replay.specs.Headline.{pass_line, release_line}
+use Rattle.mt_replay.specs.ReplayState.{ReplayState, after_update, call_fault, call_line, command_text, file_at, is_undecided, is_update, mapping, memory_word, register_value, update_line}
+use Rattle.mt_replay.specs.Texts.{call_fault_line, called_line, cancel_line, complete_line, done_line, event_text, go_line, have_one_file, memory_line, register_line, registers_line, report_text, ruled_line, stepped_line}
+
+-- by the second, third and fourth letter: comp, call, refu, unde, rele, pass
+abbrev is_of_update : List ℕ → Bool
+is_of_update (a ∷ b ∷ c ∷ d ∷ rest) = ((d == 112) && (c == 109)) || ((d == 108) && (b == 97)) || ((d == 117) && (c == 102)) || ((d == 101) && ((c == 100) || (c == 108))) || ((d == 115) && (c == 115))
+is_of_update other = false
+
+clash : (b : Bool) → b ≡ false → b ≡ true → ⊥
+clash b off is = cc (off, is)
+
+of_done : (d : Done) → is_of_update (done_line d) ≡ false
+of_done (Value value kind) = refl
+of_done (Stored kind) = refl
+of_done Fenced = refl
+of_done Unmapped = refl
+of_done NoRam = refl
+of_done Busy = refl
+
+of_ruled : (r : Ruled) → is_of_update (ruled_line r) ≡ false
+of_ruled ruled.Okay = refl
+of_ruled ruled.Full = refl
+of_ruled ruled.Busy = refl
+
+of_go : (b : Bool) → is_of_update (go_line b) ≡ false
+of_go true = refl
+of_go false = refl
+
+of_cancel : (b : Bool) → is_of_update (cancel_line b) ≡ false
+of_cancel true = refl
+of_cancel false = refl
+
+of_memory : (o : Option ℕ) → is_of_update (memory_line o) ≡ false
+of_memory None = refl
+of_memory (Some value) = refl
+
+of_registers : (b : Bool) → is_of_update (registers_line b) ≡ false
+of_registers true = refl
+of_registers false = refl
+
+of_report : (ps : List Processor) → is_of_update (report_text ps) ≡ false
+of_report [] = of_registers (have_one_file [])
+of_report (p ∷ ps) = refl
+
+-- a step or the end of a section
+abbrev IsOfUpdate : Command → Type 0
+IsOfUpdate (command.Step k) = Unit {0}
+IsOfUpdate command.End = Unit {0}
+IsOfUpdate other = ⊥
+
+of_command : (s : ReplayState) (c : Command) → is_of_update (command_text s c) ≡ true → IsOfUpdate c
+of_command s (command.Load k address) is = absurd (clash (is_of_update (command_text s (command.Load k address))) (of_done (access s.machine.system k (op.Load address)).answer) is)
+of_command s (command.Store k address value) is = absurd (clash (is_of_update (command_text s (command.Store k address value))) (of_done (access s.machine.system k (op.Store address value)).answer) is)
+of_command s (command.Fence k) is = absurd (clash (is_of_update (command_text s (command.Fence k))) (of_done (access s.machine.system k op.Fence).answer) is)
+of_command s (command.Map k address physical index global) is = absurd (clash (is_of_update (command_text s (command.Map k address physical index global))) (of_ruled (control s.machine.system k (control_of.Map (mapping address physical index global))).answer) is)
+of_command s (command.Invlpg k address) is = absurd (clash (is_of_update (command_text s (command.Invlpg k address))) (of_ruled (control s.machine.system k (control_of.Invlpg address)).answer) is)
+of_command s (command.Cr3 k) is = absurd (clash (is_of_update (command_text s (command.Cr3 k))) (of_ruled (control s.machine.system k control_of.Cr3).answer) is)
+of_command s (command.Pge k on) is = absurd (clash (is_of_update (command_text s (command.Pge k on))) (of_ruled (control s.machine.system k (control_of.Pge on)).answer) is)
+of_command s (command.Cd k on) is = absurd (clash (is_of_update (command_text s (command.Cd k on))) (of_ruled (control s.machine.system k (control_of.Cd on)).answer) is)
+of_command s command.Go is = absurd (clash (is_of_update (command_text s command.Go)) (of_go (is_undecided (go_of s.machine))) is)
+of_command s command.Cancel is = absurd (clash (is_of_update (command_text s command.Cancel)) (of_cancel (is_undecided (go_of s.machine))) is)
+of_command s command.Report is = absurd (clash (is_of_update (command_text s command.Report)) (of_report s.machine.system.processors) is)
+of_command s (command.Step k) is = tt
+of_command s (command.Word address) is = absurd (clash (is_of_update (command_text s (command.Word address))) (of_memory (memory_word s.machine.system.memory address)) is)
+of_command s (command.Msr k number) is = absurd (cc is)
+of_command s command.End is = tt
+of_command s other is = absurd (cc is)
+
+-- ---- ends of sections
+
+-- by the second, third and fourth letter: comp, call, refu, unde
+abbrev is_of_call : List ℕ → Bool
+is_of_call (a ∷ b ∷ c ∷ d ∷ rest) = ((d == 112) && (c == 109)) || ((d == 108) && (b == 97)) || ((d == 117) && (c == 102)) || ((d == 101) && (c == 100))
+is_of_call other = false
+
+of_event : (f : RegisterFile) (e : Event) → is_of_call (line (event_text f e)) ≡ false
+of_event f event.Take = refl
+of_event f event.Arrive = refl
+of_event f event.Leave = refl
+of_event f event.Pass = refl
+of_event f event.SetNoFill = refl
+of_event f (event.WriteBack address value) = refl
+of_event f event.DropLines = refl
+of_event f event.FlushTlb = refl
+of_event f event.Disable = refl
+of_event f (event.Write i) = refl
+of_event f event.Enable = refl
+of_event f event.SetNormal = refl
+of_event f event.RestorePge = refl
+of_event f event.ArriveAgain = refl
+of_event f event.Release = refl
+
+of_stepped : (f : RegisterFile) (a : Stepped) → is_of_call (stepped_line f a) ≡ false
+of_stepped f (Did e) = of_event f e
+of_stepped f (Waits arrived awaited) = refl
+of_stepped f NoUpdate = refl
+
+-- only the end of a section writes such a text
+call_ends : (s : ReplayState) (c : Command) → is_of_update (command_text s c) ≡ true → is_of_call (command_text s c) ≡ true → c ≡ command.End
+call_ends s c update call = one c (of_command s c update) call
+  where
+    one : (c : Command) → IsOfUpdate c → is_of_call (command_text s c) ≡ true → c ≡ command.End
+    one (command.Step k) update call = absurd (clash (is_of_call (command_text s (command.Step k))) (of_stepped (file_at (step_after s.machine k).system.processors k s.goal) (step_answer s.machine k)) call)
+    one command.End update call = refl
+    one other update call = absurd update
+
+-- what the end of a section writes, by the kind of section and the call's fault
+abbrev end_text : Bool → Option CallFault → ℕ → List ℕ
+end_text b o era = if b then option_map_or call_fault_line o (complete_line era) else option_map_or call_fault_line o called_line
+
+abbrev told_era : ReplayState → ℕ
+told_era s = common_era (after_update s.machine s.goal).system.processors
+
+-- the fourth letter is this one
+abbrev has_fourth : ℕ → List ℕ → Bool
+has_fourth n (a ∷ b ∷ c ∷ d ∷ rest) = d == n
+has_fourth n other = false
+
+complete_end : (b : Bool) (o : Option CallFault) (told era : ℕ) → end_text b o told ≡ complete_line era → (b ≡ true) × (o ≡ None)
+complete_end true None told era is = (refl, refl)
+complete_end false None told era is = absurd (let e : false ≡ true = ap (has_fourth 112) is in cc e)
+complete_end true (Some (Refused fault)) told era is = absurd (let e : false ≡ true = ap (has_fourth 112) is in cc e)
+complete_end true (Some UnderWay) told era is = absurd (let e : false ≡ true = ap (has_fourth 112) is in cc e)
+complete_end false (Some (Refused fault)) told era is = absurd (let e : false ≡ true = ap (has_fourth 112) is in cc e)
+complete_end false (Some UnderWay) told era is = absurd (let e : false ≡ true = ap (has_fourth 112) is in cc e)
+
+called_end : (b : Bool) (o : Option CallFault) (told : ℕ) → end_text b o told ≡ called_line → (b ≡ false) × (o ≡ None)
+called_end false None told is = (refl, refl)
+called_end true None told is = absurd (let e : false ≡ true = ap (has_fourth 108) is in cc e)
+called_end true (Some (Refused fault)) told is = absurd (let e : false ≡ true = ap (has_fourth 108) is in cc e)
+called_end true (Some UnderWay) told is = absurd (let e : false ≡ true = ap (has_fourth 108) is in cc e)
+called_end false (Some (Refused fault)) told is = absurd (let e : false ≡ true = ap (has_fourth 108) is in cc e)
+called_end false (Some UnderWay) told is = absurd (let e : false ≡ true = ap (has_fourth 108) is in cc e)
+
+refused_end : (b : Bool) (o : Option CallFault) (told : ℕ) (fault : Fault) → end_text b o told ≡ refused_line fault → (own : CallFault) × (o ≡ Some own)
+refused_end b (Some own) told fault is = (own, refl)
+refused_end true None told fault is = absurd (let e : false ≡ true = ap (has_fourth 117) is in cc e)
+refused_end false None told fault is = absurd (let e : false ≡ true = ap (has_fourth 117) is in cc e)
+
+under_way_end : (b : Bool) (o : Option CallFault) (told : ℕ) → end_text b o told ≡ line (codes "under way") → (own : CallFault) × (o ≡ Some own)
+under_way_end b (Some own) told is = (own, refl)
+under_way_end true None told is = absurd (let e : false ≡ true = ap (has_fourth 101) is in cc e)
+under_way_end false None told is = absurd (let e : false ≡ true = ap (has_fourth 101) is in cc e)
+
+end_after : (s : ReplayState) (c : Command) (text : List ℕ) → c ≡ command.End → command_text s c ≡ text → end_text (is_update s.now.stage) (call_fault s.machine s.goal) (told_era s) ≡ text
+end_after s c text same is = subst (λ (c : Command). command_text s c ≡ text) same is
+
+pub writes_complete : (s : ReplayState) (c : Command) (era : ℕ) → command_text s c ≡ complete_line era → (c ≡ command.End) × (is_update s.now.stage ≡ true) × (call_fault s.machine s.goal ≡ None)
+writes_complete s c era is =
+    let ends = call_ends s c (ap is_of_update is) (ap is_of_call is) in
+    let parts = complete_end (is_update s.now.stage) (call_fault s.machine s.goal) (told_era s) era (end_after s c (complete_line era) ends is) in
+    (ends, parts.0, parts.1)
+
+pub writes_called : (s : ReplayState) (c : Command) → command_text s c ≡ called_line → (c ≡ command.End) × (is_update s.now.stage ≡ false) × (call_fault s.machine s.goal ≡ None)
+writes_called s c is =
+    let ends = call_ends s c (ap is_of_update is) (ap is_of_call is) in
+    let parts = called_end (is_update s.now.stage) (call_fault s.machine s.goal) (told_era s) (end_after s c called_line ends is) in
+    (ends, parts.0, parts.1)
+
+pub writes_refused : (s : ReplayState) (c : Command) (fault : Fault) → command_text s c ≡ refused_line fault → (c ≡ command.End) × ((own : CallFault) × (call_fault s.machine s.goal ≡ Some own))
+writes_refused s c fault is =
+    let ends = call_ends s c (ap is_of_update is) (ap is_of_call is) in
+    (ends, refused_end (is_update s.now.stage) (call_fault s.machine s.goal) (told_era s) fault (end_after s c (refused_line fault) ends is))
+
+pub writes_under_way : (s : ReplayState) (c : Command) → command_text s c ≡ line (codes "under way") → (c ≡ command.End) × ((own : CallFault) × (call_fault s.machine s.goal ≡ Some own))
+writes_under_way s c is =
+    let ends = call_ends s c (ap is_of_update is) (ap is_of_call is) in
+    (ends, under_way_end (is_update s.now.stage) (call_fault s.machine s.goal) (told_era s) (end_after s c (line (codes "under way")) ends is))
+
+-- ---- steps of a processor
+
+-- by the first and the third letter: rele, pass
+abbrev is_of_release : List ℕ → Bool
+is_of_release (a ∷ b ∷ c ∷ rest) = (c == 108) && (a == 114)
+is_of_release other = false
+
+abbrev is_of_pass : List ℕ → Bool
+is_of_pass (a ∷ b ∷ c ∷ rest) = (c == 115) && (a == 112)
+is_of_pass other = false
+
+ends_no_step : (b : Bool) (o : Option CallFault) (told : ℕ) → (is_of_release (end_text b o told) ≡ false) × (is_of_pass (end_text b o told) ≡ false)
+ends_no_step true None told = (refl, refl)
+ends_no_step false None told = (refl, refl)
+ends_no_step true (Some (Refused fault)) told = (refl, refl)
+ends_no_step true (Some UnderWay) told = (refl, refl)
+ends_no_step false (Some (Refused fault)) told = (refl, refl)
+ends_no_step false (Some UnderWay) told = (refl, refl)
+
+releases : (f : RegisterFile) (e : Event) → is_of_release (line (event_text f e)) ≡ true → e ≡ event.Release
+releases f event.Release is = refl
+releases f event.Take is = absurd (cc is)
+releases f event.Arrive is = absurd (cc is)
+releases f event.Leave is = absurd (cc is)
+releases f event.Pass is = absurd (cc is)
+releases f event.SetNoFill is = absurd (cc is)
+releases f (event.WriteBack address value) is = absurd (cc is)
+releases f event.DropLines is = absurd (cc is)
+releases f event.FlushTlb is = absurd (cc is)
+releases f event.Disable is = absurd (cc is)
+releases f (event.Write i) is = absurd (cc is)
+releases f event.Enable is = absurd (cc is)
+releases f event.SetNormal is = absurd (cc is)
+releases f event.RestorePge is = absurd (cc is)
+releases f event.ArriveAgain is = absurd (cc is)
+
+passes : (f : RegisterFile) (e : Event) → is_of_pass (line (event_text f e)) ≡ true → e ≡ event.Pass
+passes f event.Pass is = refl
+passes f event.Take is = absurd (cc is)
+passes f event.Arrive is = absurd (cc is)
+passes f event.Leave is = absurd (cc is)
+passes f event.SetNoFill is = absurd (cc is)
+passes f (event.WriteBack address value) is = absurd (cc is)
+passes f event.DropLines is = absurd (cc is)
+passes f event.FlushTlb is = absurd (cc is)
+passes f event.Disable is = absurd (cc is)
+passes f (event.Write i) is = absurd (cc is)
+passes f event.Enable is = absurd (cc is)
+passes f event.SetNormal is = absurd (cc is)
+passes f event.RestorePge is = absurd (cc is)
+passes f event.ArriveAgain is = absurd (cc is)
+passes f event.Release is = absurd (cc is)
+
+did_release : (f : RegisterFile) (a : Stepped) → is_of_release (stepped_line f a) ≡ true → a ≡ Did event.Release
+did_release f (Did e) is = ap Did (releases f e is)
+did_release f (Waits arrived awaited) is = absurd (cc is)
+did_release f NoUpdate is = absurd (cc is)
+
+did_pass : (f : RegisterFile) (a : Stepped) → is_of_pass (stepped_line f a) ≡ true → a ≡ Did event.Pass
+did_pass f (Did e) is = ap Did (passes f e is)
+did_pass f (Waits arrived awaited) is = absurd (cc is)
+did_pass f NoUpdate is = absurd (cc is)
+
+-- the command is a step, which does this event
+abbrev pub Does : ReplayState → Command → Event → Type 0
+Does s c e = (k : ℕ) × (c ≡ command.Step k) × (step_answer s.machine k ≡ Did e)
+
+pub writes_release : (s : ReplayState) (c : Command) → command_text s c ≡ release_line → Does s c event.Release
+writes_release s c is = one c (of_command s c (ap is_of_update is)) (ap is_of_release is)
+  where
+    one : (c : Command) → IsOfUpdate c → is_of_release (command_text s c) ≡ true → Does s c event.Release
+    one (command.Step k) update is = (k, refl, did_release (file_at (step_after s.machine k).system.processors k s.goal) (step_answer s.machine k) is)
+    one command.End update is = absurd (clash (is_of_release (command_text s command.End)) (ends_no_step (is_update s.now.stage) (call_fault s.machine s.goal) (told_era s)).0 is)
+    one other update is = absurd update
+
+pub writes_pass : (s : ReplayState) (c : Command) → command_text s c ≡ pass_line → Does s c event.Pass
+writes_pass s c is = one c (of_command s c (ap is_of_update is)) (ap is_of_pass is)
+  where
+    one : (c : Command) → IsOfUpdate c → is_of_pass (command_text s c) ≡ true → Does s c event.Pass
+    one (command.Step k) update is = (k, refl, did_pass (file_at (step_after s.machine k).system.processors k s.goal) (step_answer s.machine k) is)
+    one command.End update is = absurd (clash (is_of_pass (command_text s command.End)) (ends_no_step (is_update s.now.stage) (call_fault s.machine s.goal) (told_era s)).1 is)
+    one other update is = absurd update
