@@ -201,3 +201,39 @@ pass_line = line (codes "pass")
 
 abbrev pub release_line : List ℕ
 release_line = line (codes "release")
+
+-- a step that releases stands behind one that called, and no other call stands between them
+abbrev pub ReleasesFollowCalls : Type 0
+ReleasesFollowCalls =
+    (text : List ℕ) (front rest : List Step) (release : Step) → course text ≡ front ++ release ∷ rest → wrote release ≡ release_line
+    → (before : List Step) × (call : Step) × (between : List Step)
+    × (front ≡ before ++ call ∷ between) × (wrote call ≡ called_line) × NoneOf IsCall between
+
+-- From the first release behind a call on. The first pass stands between them, and the value of a word is what it had, cached or
+-- not, just before that.
+abbrev pub ReleasedUpdatesAreKept : Type 0
+ReleasedUpdatesAreKept =
+    (text : List ℕ) (front upto since rest : List Step) (call release : Step)
+    → course text ≡ front ++ call ∷ (upto ++ release ∷ (since ++ rest))
+    → wrote call ≡ called_line → NoneOf IsCall upto → NoneWrote release_line upto → wrote release ≡ release_line → NoneOf IsCall since
+    → (waiting : List Step) × (pass : Step) × (between : List Step)
+    × (upto ≡ waiting ++ pass ∷ between) × NoneWrote pass_line waiting × (wrote pass ≡ pass_line)
+    × Keeps call.before.goal (next_era call) (now pass.before.machine.system) (stored_in since) (last_of (left release) since).machine
+
+-- ---- "those register values"
+
+-- a line of a section gives the goal one register
+abbrev pub given : RegisterFile → Command → RegisterFile
+given goal (command.Register number value) = with_register goal number value
+given goal other = goal
+
+abbrev pub goal_of : RegisterFile → List Step → RegisterFile
+goal_of goal [] = goal
+goal_of goal (step ∷ steps) = goal_of (given goal step.command) steps
+
+-- the goal at the end of a section is processor 0's registers where it begins, with those that its lines give
+abbrev pub GoalsAreOfTheirSections : Type 0
+GoalsAreOfTheirSections =
+    (text : List ℕ) (front lines rest : List Step) (opens ends : Step) → course text ≡ front ++ opens ∷ (lines ++ ends ∷ rest)
+    → (opens.command ≡ command.Update) ⊎ (opens.command ≡ command.Begin) → NoneOf (λ step. step.command ≡ command.End) lines
+    → ends.before.goal ≡ goal_of (first_file opens.before) lines

@@ -194,6 +194,15 @@ writes_under_way s c is =
     let ends = call_ends s c (ap is_of_update is) (ap is_of_call is) in
     (ends, under_way_end (is_update s.now.stage) (call_fault s.machine s.goal) (told_era s) (end_after s c (line (codes "under way")) ends is))
 
+-- a command writes a line of calls and their faults only at the end of a section
+pub end_or_not : (s : ReplayState) (c : Command) → (c ≡ command.End) ⊎ ((command_text s c ≡ called_line → ⊥) × ((era : ℕ) → command_text s c ≡ complete_line era → ⊥))
+end_or_not s c = one (is_of_update (command_text s c)) (is_of_call (command_text s c)) refl refl
+  where
+    one : (a b : Bool) → is_of_update (command_text s c) ≡ a → is_of_call (command_text s c) ≡ b → (c ≡ command.End) ⊎ ((command_text s c ≡ called_line → ⊥) × ((era : ℕ) → command_text s c ≡ complete_line era → ⊥))
+    one true true update call = inl (call_ends s c update call)
+    one false b update call = inr (λ is. clash (is_of_update (command_text s c)) update (ap is_of_update is), λ era is. clash (is_of_update (command_text s c)) update (ap is_of_update is))
+    one true false update call = inr (λ is. clash (is_of_call (command_text s c)) call (ap is_of_call is), λ era is. clash (is_of_call (command_text s c)) call (ap is_of_call is))
+
 -- ---- steps of a processor
 
 -- by the first and the third letter: rele, pass
@@ -269,10 +278,26 @@ writes_release s c is = one c (of_command s c (ap is_of_update is)) (ap is_of_re
     one command.End update is = absurd (clash (is_of_release (command_text s command.End)) (ends_no_step (is_update s.now.stage) (call_fault s.machine s.goal) (told_era s)).0 is)
     one other update is = absurd update
 
-pub writes_pass : (s : ReplayState) (c : Command) → command_text s c ≡ pass_line → Does s c event.Pass
-writes_pass s c is = one c (of_command s c (ap is_of_update is)) (ap is_of_pass is)
+pass_marked : (s : ReplayState) (c : Command) → is_of_update (command_text s c) ≡ true → is_of_pass (command_text s c) ≡ true → Does s c event.Pass
+pass_marked s c update pass = one c (of_command s c update) pass
   where
     one : (c : Command) → IsOfUpdate c → is_of_pass (command_text s c) ≡ true → Does s c event.Pass
     one (command.Step k) update is = (k, refl, did_pass (file_at (step_after s.machine k).system.processors k s.goal) (step_answer s.machine k) is)
     one command.End update is = absurd (clash (is_of_pass (command_text s command.End)) (ends_no_step (is_update s.now.stage) (call_fault s.machine s.goal) (told_era s)).1 is)
     one other update is = absurd update
+
+pub writes_pass : (s : ReplayState) (c : Command) → command_text s c ≡ pass_line → Does s c event.Pass
+writes_pass s c is = pass_marked s c (ap is_of_update is) (ap is_of_pass is)
+
+pass_written : (s : ReplayState) (c : Command) → Does s c event.Pass → command_text s c ≡ pass_line
+pass_written s c does =
+    ap (command_text s) does.1 ∙ ap (stepped_line (file_at (step_after s.machine does.0).system.processors does.0 s.goal)) does.2
+
+-- a step writes the line of a pass, or another
+pub pass_or_not : (s : ReplayState) (c : Command) → (command_text s c ≡ pass_line) ⊎ (command_text s c ≡ pass_line → ⊥)
+pass_or_not s c = one (is_of_update (command_text s c)) (is_of_pass (command_text s c)) refl refl
+  where
+    one : (a b : Bool) → is_of_update (command_text s c) ≡ a → is_of_pass (command_text s c) ≡ b → (command_text s c ≡ pass_line) ⊎ (command_text s c ≡ pass_line → ⊥)
+    one true true update pass = inl (pass_written s c (pass_marked s c update pass))
+    one false b update pass = inr (λ is. clash (is_of_update (command_text s c)) update (ap is_of_update is))
+    one true false update pass = inr (λ is. clash (is_of_pass (command_text s c)) pass (ap is_of_pass is))

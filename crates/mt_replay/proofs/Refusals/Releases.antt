@@ -40,14 +40,14 @@ pause_idle m k e = one m.order (slice_get m.system.processors k)
     one (Some o) None is = cc is
     one (Some o) (Some p) is = count_idle o m.system.processors p.phase e is
 
-answered_due : (m : Machine) (k : ℕ) (e : Event) → step_answer m k ≡ Did e → due_at m k ≡ Some e
+pub answered_due : (m : Machine) (k : ℕ) (e : Event) → step_answer m k ≡ Did e → due_at m k ≡ Some e
 answered_due m k e = one (due_at m k)
   where
     one : (o : Option Event) → option_map_or Did o (pause_at m k) ≡ Did e → o ≡ Some e
     one None is = absurd (pause_idle m k e is)
     one (Some due) is = let same : due ≡ e = cc is in ap Some same
 
-due_order : (m : Machine) (k : ℕ) (e : Event) → due_at m k ≡ Some e → (o : Order) × (m.order ≡ Some o)
+pub due_order : (m : Machine) (k : ℕ) (e : Event) → due_at m k ≡ Some e → (o : Order) × (m.order ≡ Some o)
 due_order m k e due = one m.order refl
   where
     one : (o : Option Order) → m.order ≡ o → (o : Order) × (m.order ≡ Some o)

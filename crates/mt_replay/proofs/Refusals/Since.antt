@@ -36,10 +36,10 @@ abbrev Moves : Machine → Machine → Option ℕ → Type 0
 Moves m n o =
     ((n ≡ m) × (o ≡ None)) ⊎ ((e : MachineEvent) × IsEnabled m e × (not (is_call e) ≡ true) × (n ≡ next m e) × (stored_word m e ≡ o))
 
-abbrev with_system : Machine → System → Machine
+abbrev pub with_system : Machine → System → Machine
 with_system m s = record m { system = s }
 
-busy_stores_none : (m : Machine) (k : ℕ) (o : Op) → access m.system k o ≡ record { answer = Busy; after = m.system } → stored_word m (Accesses k o) ≡ None
+pub busy_stores_none : (m : Machine) (k : ℕ) (o : Op) → access m.system k o ≡ record { answer = Busy; after = m.system } → stored_word m (Accesses k o) ≡ None
 busy_stores_none m k (op.Load address) busy = refl
 busy_stores_none m k (op.Store address value) busy = ap (λ (x : Answered). if is_stored x.answer then physical_of m.system k address else None) busy
 busy_stores_none m k op.Fence busy = refl

@@ -1,0 +1,212 @@
+-- What the first release of an update leaves in a course.
+use Rattle.std.proofs.Common.{◌≡◌, ◌⊎◌, ◌∙◌, ap, sym, refl, subst, inl, inr, ℕ, ◌+◌, Bool, true, false, if◌then◌else◌, List, [], ◌∷◌, ◌++◌, Option, None, Some}
+use Rattle.std.specs.Prelude.{IsSome}
+use Rattle.std.specs.Option.{option_map_or}
+use Rattle.std.specs.List.{Contains}
+use Rattle.mt_regs.specs.RegisterFile.{RegisterFile}
+use Rattle.mt_machine.specs.declared.event.Event.{Event}
+use Rattle.mt_machine.specs.declared.event.Event.TheVariants.{Pass, Release}
+use Rattle.mt_machine.specs.Memory.{place, word_at}
+use Rattle.mt_machine.specs.System.{now}
+use Rattle.mt_machine.specs.Machine.{Calls, IsEnabled, Machine, MachineEvent, Order, Steps, common_era, due_at, next, run}
+use Rattle.mt_machine.specs.Start.{IsQuiet}
+use Rattle.mt_machine.specs.Update.{IsHeld, IsSettled}
+use Rattle.mt_laws.specs.Settled.{IsFirstRelease}
+use Rattle.mt_laws.proofs.Invariant.Runs.{enabled_join, run_join}
+use Rattle.mt_core.specs.Steps.{step_after}
+use Rattle.mt_core.proofs.Settling.{held_from_first_release, is_quiet_without_order}
+use Rattle.mt_script.specs.Stages.{takes_windows}
+use Rattle.mt_script.specs.Accept.{Fits, accepted}
+use Rattle.mt_script.specs.declared.command.Command.{Command}
+use Rattle.mt_script.specs.declared.command.Command.TheVariants as command
+use Rattle.mt_replay.specs.Headline.{IsCall, Keeps, NoneOf, NoneWrote, ReleasedUpdatesAreKept, Step, course, last_of, left, next_era, pass_line, release_line, stored_in, wrote}
+use Rattle.mt_replay.specs.Kept.{IsReplayState}
+use Rattle.mt_replay.specs.ReplayState.{ReplayState, call_fault, is_update, machine_after, state_after}
+use Rattle.mt_replay.specs.Statuses.{AreWithoutCall, state_after_all, stored_by_all}
+use Rattle.mt_replay.specs.Texts.{called_line}
+use Rattle.mt_replay.proofs.Courses.Acting.{FirstPass, Goes_between, Stands, WaitsIn, first_pass, none_release, order_stays, stands_after, stands_behind}
+use Rattle.mt_replay.proofs.Courses.Since.{commands, is_aligned, keeps, same_last, same_stored, without_call}
+use Rattle.mt_replay.proofs.Courses.Steps.{GoesOn, behind_front, course_is, in_front, left_is, stands_in}
+use Rattle.mt_replay.proofs.Courses.Tells.{Does, writes_called, writes_pass, writes_release}
+use Rattle.mt_replay.proofs.Courses.Waiting.{IsOf, Waits, none_has_passed, none_releases, order_of, waits_at_call}
+use Rattle.mt_replay.proofs.Keeping.States.{call_enabled, state_kept}
+use Rattle.mt_replay.proofs.Refusals.Calls.{accepted_calls}
+use Rattle.mt_replay.proofs.Refusals.Releases.{answered_due, due_order, released_states_settle}
+use Rattle.mt_replay.proofs.Refusals.Since.{Leads, all_lead}
+
+none_behind : (P : Step → Type 0) (front rest : List Step) → NoneOf P (front ++ rest) → NoneOf P rest
+none_behind P [] rest h = h
+none_behind P (step ∷ front) rest h = none_behind P front rest h.1
+
+last_join : (front rest : List Step) (s : ReplayState) → last_of s (front ++ rest) ≡ last_of (last_of s front) rest
+last_join [] rest s = refl
+last_join (step ∷ front) rest s = last_join front rest (left step)
+
+-- the machine after a step that does an event
+did : (step : Step) (e : Event) (does : Does step.before step.command e) → due_at step.before.machine does.0 ≡ Some e → (left step).machine ≡ next step.before.machine (Steps does.0 e)
+did step e does due =
+    ap (machine_after step.before) does.1
+    ∙ ap (λ (o : Option Event). option_map_or (λ e. next step.before.machine (Steps does.0 e)) o step.before.machine) due
+
+-- ---- from a release on
+
+module _ (release : Step) (since : List Step) (h : Stands release.before) (fits : Fits release.before.now release.command) (on : GoesOn (left release) since) (calls : NoneOf IsCall since)
+    (does : Does release.before release.command Release) where
+  abbrev m : Machine
+  m = release.before.machine
+
+  abbrev k : ℕ
+  k = does.0
+
+  due : due_at m k ≡ Some Release
+  due = answered_due m k Release does.2
+
+  after : left release ≡ state_after release.before (command.Step k)
+  after = ap (state_after release.before) does.1
+
+  fits_step : Fits release.before.now (command.Step k)
+  fits_step = subst (Fits release.before.now) does.1 fits
+
+  without : AreWithoutCall (left release) (commands since)
+  without = without_call since (left release) (stands_after release h fits).is on calls
+
+  settled : (goal : RegisterFile) (era : ℕ) → IsOf goal era m.order → IsSettled (last_of (left release) since).machine.system (era + 1) goal
+  settled goal era of =
+      let s = released_states_settle release.before k (commands since) h.is fits_step does.2 (subst (λ (x : ReplayState). AreWithoutCall x (commands since)) after without) in
+      let own : IsOf goal era (Some s.0) = subst (IsOf goal era) s.1 of in
+      let last_is : state_after_all (state_after release.before (command.Step k)) (commands since) ≡ last_of (left release) since =
+      ap (λ (x : ReplayState). state_after_all x (commands since)) (sym after) ∙ same_last since (left release) on in
+      subst (λ (v : ReplayState × ℕ × RegisterFile). IsSettled v.0.machine.system (v.1 + 1) v.2) (λ i. (last_is i, own.1 i, own.0 i)) s.2
+
+  -- the events since
+  leads : Leads (next m (Steps k Release)) (last_of (left release) since).machine (stored_in since)
+  leads =
+      let all : Leads (left release).machine (state_after_all (left release) (commands since)).machine (stored_by_all (left release) (commands since)) =
+      all_lead (commands since) (left release) (stands_after release h fits).is (stands_after release h fits).past without in
+      subst (λ (v : Machine × ReplayState × List ℕ). Leads v.0 v.1.machine v.2)
+      (λ i. (did release Release does due i, same_last since (left release) on i, same_stored since (left release) on i)) all
+
+-- ---- from the first pass to the first release
+
+module _ (goal : RegisterFile) (era : ℕ) (pass : Step) (between : List Step) (h : Stands pass.before) (fits : Fits pass.before.now pass.command) (on : GoesOn (left pass) between)
+    (calls : NoneOf IsCall between) (releases : NoneWrote release_line between) (waits : WaitsIn goal era pass.before) (passes : Does pass.before pass.command Pass)
+    (m : Machine) (same : (last_of (left pass) between).machine ≡ m) (last : ℕ) (due : due_at m last ≡ Some Release) where
+  abbrev p : Machine
+  p = pass.before.machine
+
+  due_pass : due_at p passes.0 ≡ Some Pass
+  due_pass = answered_due p passes.0 Pass passes.2
+
+  order : (o : Order) × (p.order ≡ Some o)
+  order = due_order p passes.0 Pass due_pass
+
+  goes_between : Goes_between (next p (Steps passes.0 Pass)) m
+  goes_between =
+      subst (λ (v : Machine × Machine). Goes_between v.0 v.1) (λ i. (did pass Pass passes due_pass i, same i))
+      (none_release between (left pass) (stands_after pass h fits) on calls releases)
+
+  is_first : IsFirstRelease p (next m (Steps last Release)) order.0
+  is_first = record {
+    order = order.1;
+    none_passed = none_has_passed goal era p.system order.0 (subst (Waits goal era p.system) order.1 waits);
+    first = passes.0;
+    last = last;
+    between = goes_between.events;
+    no_release = goes_between.no_release;
+    enabled = enabled_join p (Steps passes.0 Pass ∷ goes_between.events) (Steps last Release ∷ []) (due_pass, goes_between.enabled) (subst (λ (x : Machine). IsEnabled x (Steps last Release)) (sym goes_between.is) due, tt);
+    leads = ap (λ (x : Machine). next x (Steps last Release)) (sym goes_between.is) ∙ sym (run_join p (Steps passes.0 Pass ∷ goes_between.events) (Steps last Release ∷ []));
+  }
+
+-- ---- the course of an update
+
+-- its first pass, and what is kept from its first release on
+abbrev Released : Step → List Step → Step → List Step → Type 0
+Released call upto release since =
+    (waiting : List Step) × (pass : Step) × (between : List Step)
+    × (upto ≡ waiting ++ pass ∷ between) × NoneWrote pass_line waiting × (wrote pass ≡ pass_line)
+    × Keeps call.before.goal (next_era call) (now pass.before.machine.system) (stored_in since) (last_of (left release) since).machine
+
+module _ (call release : Step) (upto since : List Step) (h : IsReplayState call.before) (fits : Fits call.before.now call.command)
+    (on : GoesOn (left call) (upto ++ release ∷ since)) (called : wrote call ≡ called_line) (calls : NoneOf IsCall upto) (releases : NoneWrote release_line upto)
+    (released : wrote release ≡ release_line) (quiet_since : NoneOf IsCall since) where
+  abbrev goal : RegisterFile
+  goal = call.before.goal
+
+  abbrev era : ℕ
+  era = common_era call.before.machine.system.processors
+
+  called_so : (call.command ≡ command.End) × (is_update call.before.now.stage ≡ false) × (call_fault call.before.machine call.before.goal ≡ None)
+  called_so = writes_called call.before call.command called
+
+  quiet : IsQuiet call.before.machine
+  quiet = is_quiet_without_order call.before.machine h.arises (call_enabled call.before h called_so.2).0
+
+  begins : Stands (left call)
+  begins = record { is = state_kept call.before call.command h fits; past = ap (λ (c : Command). takes_windows (accepted call.before.now c).stage) called_so.0 }
+
+  waits : WaitsIn goal era (left call)
+  waits =
+      let after : (left call).machine ≡ next call.before.machine (Calls goal) = ap (machine_after call.before) called_so.0 ∙ (accepted_calls call.before called_so.1 called_so.2).1 in
+      subst (λ (x : Machine). Waits goal era x.system x.order) (sym after) (waits_at_call call.before.machine goal quiet)
+
+  on_upto : GoesOn (left call) upto
+  on_upto = in_front upto (release ∷ since) (left call) on
+
+  on_release : GoesOn (last_of (left call) upto) (release ∷ since)
+  on_release = behind_front upto (release ∷ since) (left call) on
+
+  stands : Stands release.before
+  stands = subst Stands (sym on_release.0) (stands_behind upto (left call) begins on_upto)
+
+  does : Does release.before release.command Release
+  does = writes_release release.before release.command released
+
+  of : IsOf goal era release.before.machine.order
+  of =
+      subst (λ (x : ReplayState). IsOf goal era x.machine.order) (sym on_release.0)
+      (order_stays goal era upto (left call) begins on_upto calls (order_of goal era (left call).machine.system (left call).machine.order waits))
+
+  kept : FirstPass goal era upto → Released call upto release since
+  kept f =
+      let on_all : GoesOn (left call) (f.waiting ++ f.pass ∷ f.between) = subst (GoesOn (left call)) f.is on_upto in
+      let on_pass : GoesOn (last_of (left call) f.waiting) (f.pass ∷ f.between) = behind_front f.waiting (f.pass ∷ f.between) (left call) on_all in
+      let at_pass : Stands f.pass.before = subst Stands (sym on_pass.0) (stands_behind f.waiting (left call) begins (in_front f.waiting (f.pass ∷ f.between) (left call) on_all)) in
+      let no_calls : NoneOf IsCall (f.pass ∷ f.between) = none_behind IsCall f.waiting (f.pass ∷ f.between) (subst (NoneOf IsCall) f.is calls) in
+      let no_releases : NoneWrote release_line (f.pass ∷ f.between) = none_behind (λ step. wrote step ≡ release_line) f.waiting (f.pass ∷ f.between) (subst (NoneWrote release_line) f.is releases) in
+      let there : last_of (left f.pass) f.between ≡ release.before = sym (on_release.0 ∙ ap (last_of (left call)) f.is ∙ last_join f.waiting (f.pass ∷ f.between) (left call)) in
+      let first : IsFirstRelease f.pass.before.machine (next release.before.machine (Steps does.0 Release)) _ =
+      is_first goal era f.pass f.between at_pass on_pass.1 on_pass.2 no_calls.1 no_releases.1 f.waits (writes_pass f.pass.before f.pass.command f.passes)
+      release.before.machine (ap (λ (x : ReplayState). x.machine) there) does.0 (answered_due release.before.machine does.0 Release does.2) in
+      let l = leads release since stands on_release.1 on_release.2 quiet_since does in
+      let held = held_from_first_release f.pass.before.machine (next release.before.machine (Steps does.0 Release)) _ l.since at_pass.is.arises first l.enabled in
+      let end = (last_of (left release) since).machine in (
+        f.waiting,
+        f.pass,
+        f.between,
+        f.is,
+        f.none,
+        f.passes,
+        keeps goal (next_era call) (now f.pass.before.machine.system) (stored_in since) end
+            (settled release since stands on_release.1 on_release.2 quiet_since does goal era of)
+            (λ address some other.
+            ap (λ (x : Machine). word_at x.system.memory address) (sym l.is)
+            ∙ held address (is_aligned end.system.memory address some) (λ stored. other (subst (λ (ws : List ℕ). Contains ws address) l.stored stored))),
+      )
+
+  released_is : Released call upto release since
+  released_is = one (first_pass goal era upto (left call) begins on_upto calls waits)
+    where
+      one : FirstPass goal era upto ⊎ WaitsIn goal era (last_of (left call) upto) → Released call upto release since
+      one (inl f) = kept f
+      one (inr w) =
+          absurd (none_releases goal era does.0 release.before.machine.system release.before.machine.order (subst (WaitsIn goal era) (sym on_release.0) w)
+          (answered_due release.before.machine does.0 Release does.2))
+
+shorter : (upto since rest : List Step) (release : Step) (s : ReplayState) → GoesOn s (upto ++ release ∷ (since ++ rest)) → GoesOn s (upto ++ release ∷ since)
+shorter [] since rest release s on = (on.0, on.1, in_front since rest (left release) on.2)
+shorter (step ∷ upto) since rest release s on = (on.0, on.1, shorter upto since rest release (left step) on.2)
+
+pub released_updates_are_kept : ReleasedUpdatesAreKept
+released_updates_are_kept text front upto since rest call release same called calls releases released quiet =
+    let there = stands_in front (upto ++ release ∷ (since ++ rest)) call (course_is text front (upto ++ release ∷ (since ++ rest)) call same) in
+    released_is call release upto since there.is there.fits (shorter upto since rest release (left call) there.goes_on) called calls releases released quiet
