@@ -2,13 +2,14 @@
 --     course text      the steps of a text: what each line behind the dump does, up to the first offence
 --     wrote step, left step      the text that a step writes, and the state that it leaves
 --     Keeps goal era value stored m      every processor has the goal, nothing is older than the update, memory has each word
-use Rattle.std.specs.Prelude.{ℕ, ◌≡◌, ◌⊎◌, ◌+◌, Bool, true, false, List, [], ◌∷◌, ◌++◌, codes, IsSome, ⊤, Option, Some, None, Result, Ok, Err}
+use Rattle.std.specs.Prelude.{ℕ, ◌≡◌, ◌⊎◌, ◌↔◌, ◌+◌, Bool, true, false, List, [], ◌∷◌, ◌++◌, codes, IsSome, ⊤, Option, Some, None, Result, Ok, Err}
 use Rattle.std.specs.List.{All, Contains}
 use Rattle.std.specs.Option.{option_map_or}
 use Rattle.mt_text.specs.Text.{lines_of, words_of}
 use Rattle.mt_ports.specs.declared.status.Status.TheVariants.{Done, Refused}
 use Rattle.mt_regs.specs.declared.fault.Fault.{Fault}
 use Rattle.mt_regs.specs.RegisterFile.{RegisterFile}
+use Rattle.mt_regs.specs.Faults.{IsAccepted}
 use Rattle.mt_dump.specs.Line.{Reading, said_of}
 use Rattle.mt_dump.specs.Dump.{offence_of, offence_at_end}
 use Rattle.mt_dump.specs.Reader.{file_in, onto}
@@ -145,6 +146,18 @@ abbrev pub RefusedUpdatesChangeNothing : Type 0
 RefusedUpdatesChangeNothing =
     (text : List ℕ) (front rest : List Step) (step : Step) → course text ≡ front ++ step ∷ rest → IsRefused step → (left step).machine ≡ step.before.machine
 
+-- ---- "an accepted update"
+
+-- a step calls for an update
+abbrev pub IsCall : Step → Type 0
+IsCall step = (wrote step ≡ called_line) ⊎ ((era : ℕ) × (wrote step ≡ complete_line era))
+
+-- an update is accepted exactly where none is under way and its goal has no fault
+abbrev pub AcceptedWhereIdleAndWhole : Type 0
+AcceptedWhereIdleAndWhole =
+    (text : List ℕ) (front rest : List Step) (step : Step) → course text ≡ front ++ step ∷ rest → step.command ≡ command.End
+    → IsCall step ↔ ((step.before.machine.order ≡ None) × IsAccepted step.before.goal)
+
 -- ---- "every processor holds those register values, no cache, buffer or TLB entry is older than the update,
 -- ---- and memory holds every store cached before it, save words stored again since"
 
@@ -168,9 +181,6 @@ last_of s [] = s
 last_of s (step ∷ steps) = last_of (left step) steps
 
 -- ---- "until the next is called"
-
-abbrev pub IsCall : Step → Type 0
-IsCall step = (wrote step ≡ called_line) ⊎ ((era : ℕ) × (wrote step ≡ complete_line era))
 
 -- of no step it holds
 abbrev pub NoneOf : (Step → Type 0) → List Step → Type 0
@@ -202,23 +212,32 @@ pass_line = line (codes "pass")
 abbrev pub release_line : List ℕ
 release_line = line (codes "release")
 
--- a step that releases stands behind one that called, and no other call stands between them
-abbrev pub ReleasesFollowCalls : Type 0
-ReleasesFollowCalls =
-    (text : List ℕ) (front rest : List Step) (release : Step) → course text ≡ front ++ release ∷ rest → wrote release ≡ release_line
-    → (before : List Step) × (call : Step) × (between : List Step)
-    × (front ≡ before ++ call ∷ between) × (wrote call ≡ called_line) × NoneOf IsCall between
+-- The update of which a release tells. In this order stand in the course: its call, its first pass, its first release, and this
+-- release, which may be the first itself.
+pub record UpdateOf (front : List Step) (release : Step) : Type 0 where
+  pub before : List Step
+  pub call : Step
+  pub waiting : List Step
+  pub pass : Step
+  pub between : List Step
+  pub first : Step
+  pub again : List Step  -- from behind the first release to this one
+  pub stand : front ++ release ∷ [] ≡ before ++ call ∷ (waiting ++ pass ∷ (between ++ first ∷ again))
+  pub calls : wrote call ≡ called_line
+  pub passes : wrote pass ≡ pass_line
+  pub releases : wrote first ≡ release_line
+  pub no_other_call : NoneOf IsCall (waiting ++ pass ∷ (between ++ first ∷ again))
+  pub first_pass : NoneWrote pass_line waiting
+  pub first_release : NoneWrote release_line (waiting ++ pass ∷ between)
+  pub no_store_waits : All (λ p. p.buffers ≡ []) pass.before.machine.system.processors  -- in a buffer, just before the pass
 
--- From the first release behind a call on. The first pass stands between them, and the value of a word is what it had, cached or
--- not, just before that.
+-- the value of a word is what it had, cached or not, just before the first pass
 abbrev pub ReleasedUpdatesAreKept : Type 0
 ReleasedUpdatesAreKept =
-    (text : List ℕ) (front upto since rest : List Step) (call release : Step)
-    → course text ≡ front ++ call ∷ (upto ++ release ∷ (since ++ rest))
-    → wrote call ≡ called_line → NoneOf IsCall upto → NoneWrote release_line upto → wrote release ≡ release_line → NoneOf IsCall since
-    → (waiting : List Step) × (pass : Step) × (between : List Step)
-    × (upto ≡ waiting ++ pass ∷ between) × NoneWrote pass_line waiting × (wrote pass ≡ pass_line)
-    × Keeps call.before.goal (next_era call) (now pass.before.machine.system) (stored_in since) (last_of (left release) since).machine
+    (text : List ℕ) (front since rest : List Step) (release : Step)
+    → course text ≡ front ++ release ∷ (since ++ rest) → wrote release ≡ release_line → NoneOf IsCall since
+    → (u : UpdateOf front release)
+    × Keeps u.call.before.goal (next_era u.call) (now u.pass.before.machine.system) (stored_in (u.again ++ since)) (last_of (left release) since).machine
 
 -- ---- "those register values"
 

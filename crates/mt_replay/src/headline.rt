@@ -1,26 +1,17 @@
-ghost use Rattle.mt_replay.specs.Headline.{CompleteUpdatesAreKept, GoalsAreOfTheirSections, ReleasedUpdatesAreKept, ReleasesFollowCalls, RefusedUpdatesChangeNothing, StepsFollow, TranscriptIsOfTheCourse, TranscriptIsOneLine};
+ghost use Rattle.mt_replay.specs.Headline.{AcceptedWhereIdleAndWhole, CompleteUpdatesAreKept, GoalsAreOfTheirSections, RefusedUpdatesChangeNothing, ReleasedUpdatesAreKept, StepsFollow, TranscriptIsOfTheCourse, TranscriptIsOneLine};
 
-/// The headline of a script: its transcript is what its steps write, one behind the other.
-pub fn a_transcript_is_of_its_course()
-    ensures joined { TranscriptIsOfTheCourse }
+/// The headline: whatever bytes a script has, its transcript is what the steps of its course write.
+/// In whatever order the processors step, once any of them is told that an accepted update is
+/// complete, and until the next is called, every processor holds those register values, no cache,
+/// buffer or TLB entry is older than the update, and memory holds every store cached before it, save
+/// words stored again since. A refused update changes no processor.
+pub fn the_headline_holds()
+    ensures transcript { TranscriptIsOfTheCourse }
     ensures one_line { TranscriptIsOneLine }
     ensures follow { StepsFollow }
-{}
-
-/// A refused update changes no processor, no word and no update under way. Once `complete` is told,
-/// and until the next is called, every processor holds those register values, nothing is older than
-/// the update, and memory holds every store cached before it, save words stored again since.
-pub fn a_complete_update_holds()
-    ensures refused { RefusedUpdatesChangeNothing }
+    ensures accepted { AcceptedWhereIdleAndWhole }
+    ensures those_registers { GoalsAreOfTheirSections }
     ensures complete { CompleteUpdatesAreKept }
-{}
-
-/// A release is of an update that this script called for. Once it is told, in whatever order the
-/// processors step, and until the next is called, every processor holds those register values,
-/// nothing is older than the update, and memory holds every store cached before it, save words stored
-/// again since.
-pub fn a_released_update_holds()
-    ensures called { ReleasesFollowCalls }
     ensures released { ReleasedUpdatesAreKept }
-    ensures goal { GoalsAreOfTheirSections }
+    ensures refused { RefusedUpdatesChangeNothing }
 {}

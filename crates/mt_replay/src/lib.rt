@@ -16,9 +16,7 @@ mod tests;
 mod texts;
 mod worked;
 
-pub use headline::{
-    a_complete_update_holds, a_released_update_holds, a_transcript_is_of_its_course,
-};
+pub use headline::the_headline_holds;
 pub use hidden::caches_are_never_seen_in_scripts;
 pub use kept::{commands_finish_one_update, commands_keep_a_state, scripts_keep_each_state};
 pub use laws::{same_files_are_equal, the_first_fault_is_first};

@@ -1,5 +1,5 @@
 -- A step that calls for no update does an event that its text tells of, or nothing.
-use Rattle.std.proofs.Common.{◌≡◌, ◌⊎◌, ◌∙◌, ap, sym, refl, subst, inl, inr, ℕ, Bool, true, false, if◌then◌else◌, List, [], ◌∷◌, Option, None, Some, slice_get, ◌++◌}
+use Rattle.std.proofs.Common.{◌≡◌, ◌⊎◌, ap, sym, refl, subst, inl, inr, ℕ, Bool, true, false, if◌then◌else◌, List, [], ◌∷◌, Option, None, Some, slice_get, ◌++◌}
 use Rattle.std.specs.Prelude.{IsSome, not}
 use Rattle.std.specs.Option.{option_map_or}
 use Rattle.std.specs.List.{list_all}
@@ -11,16 +11,16 @@ use Rattle.mt_machine.specs.declared.op.Op.{Op}
 use Rattle.mt_machine.specs.declared.op.Op.TheVariants as op
 use Rattle.mt_machine.specs.declared.control.Control.{Control}
 use Rattle.mt_machine.specs.declared.control.Control.TheVariants as control_of
-use Rattle.mt_machine.specs.System.{Processor, System}
+use Rattle.mt_machine.specs.System.{Processor}
 use Rattle.mt_machine.specs.Access.{Answered}
 use Rattle.mt_machine.specs.Control.{RuledAfter}
-use Rattle.mt_machine.specs.Machine.{Accesses, AreEnabled, Calls, Cancels, Controls, FitsControl, FitsOp, Goes, IsEnabled, Machine, MachineEvent, Steps, due_at, go_of, next, run}
+use Rattle.mt_machine.specs.Machine.{Accesses, AreEnabled, Cancels, Controls, FitsControl, FitsOp, Goes, IsEnabled, Machine, MachineEvent, Steps, due_at, go_of, next, run}
 use Rattle.mt_machine.specs.Update.{is_call, is_release}
 use Rattle.mt_laws.proofs.Barrier.Acting.{access_busy, control_busy}
 use Rattle.mt_core.specs.Steps.{pause_at, step_after, step_answer}
 use Rattle.mt_core.specs.declared.stepped.Stepped.TheVariants.{Did}
 use Rattle.mt_core.specs.declared.fault.CallFault.{CallFault}
-use Rattle.mt_core.proofs.Arising.{machine, runs_or_rests}
+use Rattle.mt_core.proofs.Arising.{runs_or_rests}
 use Rattle.mt_script.specs.Situation.{Situation}
 use Rattle.mt_script.specs.Stages.{takes_windows}
 use Rattle.mt_script.specs.Accept.{Fits}
@@ -29,7 +29,7 @@ use Rattle.mt_script.specs.declared.command.Command.TheVariants as command
 use Rattle.mt_output.specs.Lines.{line}
 use Rattle.mt_replay.specs.Headline.{IsCall, NoneOf, NoneWrote, Step, last_of, left, pass_line, release_line, wrote}
 use Rattle.mt_replay.specs.Kept.{IsReplayState}
-use Rattle.mt_replay.specs.ReplayState.{ReplayState, after_word, call_fault, command_text, file_at, is_undecided, machine_after, mapping, state_after}
+use Rattle.mt_replay.specs.ReplayState.{ReplayState, after_word, call_fault, command_text, file_at, is_undecided, machine_after, mapping}
 use Rattle.mt_replay.specs.Texts.{event_text, stepped_line}
 use Rattle.mt_replay.proofs.Courses.Since.{no_call}
 use Rattle.mt_replay.proofs.Courses.Steps.{GoesOn}

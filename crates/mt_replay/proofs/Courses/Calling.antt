@@ -8,22 +8,22 @@ use Rattle.mt_machine.specs.Machine.{Accesses, Calls, Cancels, Controls, Goes, M
 use Rattle.mt_machine.specs.Update.{is_call}
 use Rattle.mt_core.specs.declared.fault.CallFault.{CallFault}
 use Rattle.mt_core.proofs.Arising.{machine}
-use Rattle.mt_script.specs.Situation.{Situation}
 use Rattle.mt_script.specs.Stages.{is_in_dump, takes_commands, takes_cpus, takes_dump, takes_registers, takes_windows}
 use Rattle.mt_script.specs.Accept.{Fits, accepted}
 use Rattle.mt_script.specs.declared.command.Stage.{Stage}
 use Rattle.mt_script.specs.declared.command.Stage.TheVariants.{InUpdate, InBegin}
 use Rattle.mt_script.specs.declared.command.Command.{Command}
 use Rattle.mt_script.specs.declared.command.Command.TheVariants as command
-use Rattle.mt_replay.specs.Headline.{GoalsAreOfTheirSections, IsCall, NoneOf, ReleasesFollowCalls, Step, course, given, goal_of, last_of, left, release_line, wrote}
+use Rattle.mt_replay.specs.Headline.{AcceptedWhereIdleAndWhole, GoalsAreOfTheirSections, IsCall, NoneOf, Step, course, given, goal_of, last_of, left, release_line, wrote}
 use Rattle.mt_replay.specs.Kept.{IsReplayState}
 use Rattle.mt_replay.specs.ReplayState.{ReplayState, call_fault, command_text, first_file, goal_after, machine_after}
 use Rattle.mt_replay.specs.Texts.{called_line, complete_line}
-use Rattle.mt_replay.proofs.Courses.Acting.{Acts, IsNoWindow, acts}
+use Rattle.mt_replay.proofs.Courses.Acting.{Acts, acts}
 use Rattle.mt_replay.proofs.Courses.Since.{accepted_end, no_call}
 use Rattle.mt_replay.proofs.Courses.Steps.{GoesOn, behind_front, course_is, in_front, stands_in}
 use Rattle.mt_replay.proofs.Courses.Tells.{end_or_not, writes_called, writes_complete, writes_release}
 use Rattle.mt_replay.proofs.Keeping.States.{state_kept}
+use Rattle.mt_replay.proofs.Refusals.Calls.{accepted_where_idle}
 use Rattle.mt_replay.proofs.Refusals.Releases.{answered_due, due_order}
 use Rattle.mt_replay.proofs.Refusals.Updates.{complete_updates_settle}
 
@@ -67,7 +67,7 @@ call_or_not step h = by (end_or_not step.before step.command)
     by (inl ends) = ended ends (call_fault step.before.machine step.before.goal) refl
     by (inr none) = inr (other none.0 none.1)
 
-abbrev CalledIn : List Step → Type 0
+abbrev pub CalledIn : List Step → Type 0
 CalledIn steps =
     (before : List Step) × (call : Step) × (between : List Step)
     × (steps ≡ before ++ call ∷ between) × (wrote call ≡ called_line) × NoneOf IsCall between
@@ -98,7 +98,8 @@ called_before (step ∷ steps) s h on some =
     subst (λ (x : ReplayState). StillOrCalled x (step ∷ steps)) on.0
     (one_more step steps here on.1 (call_or_not step here) (called_before steps (left step) (state_kept step.before step.command here on.1) on.2 some))
 
-pub releases_follow_calls : ReleasesFollowCalls
+-- a step that releases stands behind one that called, and no other call stands between them
+pub releases_follow_calls : (text : List ℕ) (front rest : List Step) (release : Step) → course text ≡ front ++ release ∷ rest → wrote release ≡ release_line → CalledIn front
 releases_follow_calls text front rest release same released =
     let c = course_is text front rest release same in
     let on = behind_front front (release ∷ rest) c.first c.goes_on in
@@ -110,6 +111,20 @@ releases_follow_calls text front rest release same released =
     one : (s : ReplayState) → s.machine.order ≡ None → StillOrCalled s front → CalledIn front
     one s none (inl still) = absurd (let some = still.0 in cc (some, none))
     one s none (inr called) = called
+
+-- ---- accepted
+
+pub accepted_where_idle_and_whole : AcceptedWhereIdleAndWhole
+accepted_where_idle_and_whole text front rest step same ends = (
+  λ call. (accepted_where_idle step.before).0 (no_fault call),
+  λ idle.
+      subst (λ (c : Command). (command_text step.before c ≡ called_line) ⊎ ((era : ℕ) × (command_text step.before c ≡ complete_line era))) (sym ends)
+      (accepted_end step.before (stands_in front rest step (course_is text front rest step same)).is ((accepted_where_idle step.before).1 idle)),
+)
+  where
+    no_fault : IsCall step → call_fault step.before.machine step.before.goal ≡ None
+    no_fault (inl is) = (writes_called step.before step.command is).2
+    no_fault (inr is) = (writes_complete step.before step.command is.0 is.1).2
 
 -- ---- goals
 

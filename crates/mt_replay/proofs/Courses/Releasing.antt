@@ -1,33 +1,33 @@
 -- What the first release of an update leaves in a course.
-use Rattle.std.proofs.Common.{◌≡◌, ◌⊎◌, ◌∙◌, ap, sym, refl, subst, inl, inr, ℕ, ◌+◌, Bool, true, false, if◌then◌else◌, List, [], ◌∷◌, ◌++◌, Option, None, Some}
-use Rattle.std.specs.Prelude.{IsSome}
+use Rattle.std.proofs.Common.{◌≡◌, ◌⊎◌, ◌∙◌, ap, sym, refl, subst, inl, inr, ℕ, ◌+◌, false, List, [], ◌∷◌, ◌++◌, Option, None, Some}
 use Rattle.std.specs.Option.{option_map_or}
-use Rattle.std.specs.List.{Contains}
+use Rattle.std.specs.List.{All, Contains}
+use Rattle.std.proofs.lemmas.List.{append_assoc}
 use Rattle.mt_regs.specs.RegisterFile.{RegisterFile}
 use Rattle.mt_machine.specs.declared.event.Event.{Event}
 use Rattle.mt_machine.specs.declared.event.Event.TheVariants.{Pass, Release}
-use Rattle.mt_machine.specs.Memory.{place, word_at}
+use Rattle.mt_machine.specs.Memory.{word_at}
 use Rattle.mt_machine.specs.System.{now}
-use Rattle.mt_machine.specs.Machine.{Calls, IsEnabled, Machine, MachineEvent, Order, Steps, common_era, due_at, next, run}
+use Rattle.mt_machine.specs.Machine.{Calls, IsEnabled, Machine, Order, Steps, common_era, due_at, next}
 use Rattle.mt_machine.specs.Start.{IsQuiet}
-use Rattle.mt_machine.specs.Update.{IsHeld, IsSettled}
+use Rattle.mt_machine.specs.Update.{IsSettled}
 use Rattle.mt_laws.specs.Settled.{IsFirstRelease}
 use Rattle.mt_laws.proofs.Invariant.Runs.{enabled_join, run_join}
-use Rattle.mt_core.specs.Steps.{step_after}
-use Rattle.mt_core.proofs.Settling.{held_from_first_release, is_quiet_without_order}
+use Rattle.mt_core.proofs.Settling.{held_from_first_release, is_quiet_without_order, no_buffers_where_one_passes}
 use Rattle.mt_script.specs.Stages.{takes_windows}
 use Rattle.mt_script.specs.Accept.{Fits, accepted}
 use Rattle.mt_script.specs.declared.command.Command.{Command}
 use Rattle.mt_script.specs.declared.command.Command.TheVariants as command
-use Rattle.mt_replay.specs.Headline.{IsCall, Keeps, NoneOf, NoneWrote, ReleasedUpdatesAreKept, Step, course, last_of, left, next_era, pass_line, release_line, stored_in, wrote}
+use Rattle.mt_replay.specs.Headline.{IsCall, Keeps, NoneOf, NoneWrote, ReleasedUpdatesAreKept, Step, UpdateOf, course, last_of, left, next_era, pass_line, release_line, stored_in, wrote}
 use Rattle.mt_replay.specs.Kept.{IsReplayState}
 use Rattle.mt_replay.specs.ReplayState.{ReplayState, call_fault, is_update, machine_after, state_after}
 use Rattle.mt_replay.specs.Statuses.{AreWithoutCall, state_after_all, stored_by_all}
-use Rattle.mt_replay.specs.Texts.{called_line}
+use Rattle.mt_replay.specs.Texts.{called_line, complete_line}
 use Rattle.mt_replay.proofs.Courses.Acting.{FirstPass, Goes_between, Stands, WaitsIn, first_pass, none_release, order_stays, stands_after, stands_behind}
+use Rattle.mt_replay.proofs.Courses.Calling.{releases_follow_calls}
 use Rattle.mt_replay.proofs.Courses.Since.{commands, is_aligned, keeps, same_last, same_stored, without_call}
-use Rattle.mt_replay.proofs.Courses.Steps.{GoesOn, behind_front, course_is, in_front, left_is, stands_in}
-use Rattle.mt_replay.proofs.Courses.Tells.{Does, writes_called, writes_pass, writes_release}
+use Rattle.mt_replay.proofs.Courses.Steps.{GoesOn, behind_front, course_is, in_front, stands_in}
+use Rattle.mt_replay.proofs.Courses.Tells.{Does, call_is_no_release, complete_is_no_release, release_or_not, writes_called, writes_pass, writes_release}
 use Rattle.mt_replay.proofs.Courses.Waiting.{IsOf, Waits, none_has_passed, none_releases, order_of, waits_at_call}
 use Rattle.mt_replay.proofs.Keeping.States.{call_enabled, state_kept}
 use Rattle.mt_replay.proofs.Refusals.Calls.{accepted_calls}
@@ -123,7 +123,7 @@ module _ (goal : RegisterFile) (era : ℕ) (pass : Step) (between : List Step) (
 abbrev Released : Step → List Step → Step → List Step → Type 0
 Released call upto release since =
     (waiting : List Step) × (pass : Step) × (between : List Step)
-    × (upto ≡ waiting ++ pass ∷ between) × NoneWrote pass_line waiting × (wrote pass ≡ pass_line)
+    × (upto ≡ waiting ++ pass ∷ between) × NoneWrote pass_line waiting × (wrote pass ≡ pass_line) × All (λ p. p.buffers ≡ []) pass.before.machine.system.processors
     × Keeps call.before.goal (next_era call) (now pass.before.machine.system) (stored_in since) (last_of (left release) since).machine
 
 module _ (call release : Step) (upto since : List Step) (h : IsReplayState call.before) (fits : Fits call.before.now call.command)
@@ -186,6 +186,8 @@ module _ (call release : Step) (upto since : List Step) (h : IsReplayState call.
         f.is,
         f.none,
         f.passes,
+        no_buffers_where_one_passes f.pass.before.machine (writes_pass f.pass.before f.pass.command f.passes).0 at_pass.is.arises
+            (answered_due f.pass.before.machine (writes_pass f.pass.before f.pass.command f.passes).0 Pass (writes_pass f.pass.before f.pass.command f.passes).2),
         keeps goal (next_era call) (now f.pass.before.machine.system) (stored_in since) end
             (settled release since stands on_release.1 on_release.2 quiet_since does goal era of)
             (λ address some other.
@@ -206,7 +208,93 @@ shorter : (upto since rest : List Step) (release : Step) (s : ReplayState) → G
 shorter [] since rest release s on = (on.0, on.1, in_front since rest (left release) on.2)
 shorter (step ∷ upto) since rest release s on = (on.0, on.1, shorter upto since rest release (left step) on.2)
 
-pub released_updates_are_kept : ReleasedUpdatesAreKept
-released_updates_are_kept text front upto since rest call release same called calls releases released quiet =
+released_in : (text : List ℕ) (front upto since rest : List Step) (call release : Step) → course text ≡ front ++ call ∷ (upto ++ release ∷ (since ++ rest))
+    → wrote call ≡ called_line → NoneOf IsCall upto → NoneWrote release_line upto → wrote release ≡ release_line → NoneOf IsCall since → Released call upto release since
+released_in text front upto since rest call release same called calls releases released quiet =
     let there = stands_in front (upto ++ release ∷ (since ++ rest)) call (course_is text front (upto ++ release ∷ (since ++ rest)) call same) in
     released_is call release upto since there.is there.fits (shorter upto since rest release (left call) there.goes_on) called calls releases released quiet
+
+-- ---- the first release
+
+-- The first of these steps that releases.
+record FirstRelease (steps : List Step) : Type 0 where
+  upto : List Step
+  first : Step
+  again : List Step
+  is : steps ≡ upto ++ first ∷ again
+  none : NoneWrote release_line upto
+  releases : wrote first ≡ release_line
+
+first_release : (steps : List Step) → FirstRelease steps ⊎ NoneWrote release_line steps
+first_release [] = inr tt
+first_release (step ∷ steps) = one (first_release steps) (release_or_not step.before step.command)
+  where
+    one : FirstRelease steps ⊎ NoneWrote release_line steps → (wrote step ≡ release_line) ⊎ (wrote step ≡ release_line → ⊥) → FirstRelease (step ∷ steps) ⊎ NoneWrote release_line (step ∷ steps)
+    one later (inl is) = inl (record { upto = []; first = step; again = steps; is = refl; none = tt; releases = is })
+    one (inl f) (inr other) = inl (record { upto = step ∷ f.upto; first = f.first; again = f.again; is = ap (λ (rest : List Step). step ∷ rest) f.is; none = (other, f.none); releases = f.releases })
+    one (inr none) (inr other) = inr (other, none)
+
+none_joined : (P : Step → Type 0) (front rest : List Step) → NoneOf P front → NoneOf P rest → NoneOf P (front ++ rest)
+none_joined P [] rest f r = r
+none_joined P (step ∷ front) rest f r = (f.0, none_joined P front rest f.1 r)
+
+none_before : (P : Step → Type 0) (front rest : List Step) → NoneOf P (front ++ rest) → NoneOf P front
+none_before P [] rest h = tt
+none_before P (step ∷ front) rest h = (h.0, none_before P front rest h.1)
+
+-- this release stands behind these steps, or is the first
+no_call_of : (step : Step) (text : List ℕ) → wrote step ≡ release_line → IsCall step → ⊥
+no_call_of step text is (inl called) = let same : called_line ≡ release_line = sym called ∙ is in call_is_no_release same
+no_call_of step text is (inr complete) = let same : complete_line complete.0 ≡ release_line = sym complete.1 ∙ is in complete_is_no_release complete.0 same
+
+abbrev Told : List Step → Step → List Step → Type 0
+Told front release since =
+    (u : UpdateOf front release)
+    × Keeps u.call.before.goal (next_era u.call) (now u.pass.before.machine.system) (stored_in (u.again ++ since)) (last_of (left release) since).machine
+
+module _ (text : List ℕ) (front since rest : List Step) (release : Step) (same : course text ≡ front ++ release ∷ (since ++ rest)) (released : wrote release ≡ release_line) (quiet : NoneOf IsCall since)
+    (before : List Step) (call : Step) (behind : List Step) (split : front ≡ before ++ call ∷ behind) (called : wrote call ≡ called_line) (none : NoneOf IsCall behind) where
+  -- the steps from the call to this release, by its first release
+  told : (upto : List Step) (first : Step) (again : List Step) → behind ++ release ∷ [] ≡ upto ++ first ∷ again → NoneWrote release_line upto → wrote first ≡ release_line
+      → last_of (left first) again ≡ left release → Told front release since
+  told upto first again is silent releases last =
+      let all : NoneOf IsCall (upto ++ first ∷ again) = subst (NoneOf IsCall) is (none_joined IsCall behind (release ∷ []) none (no_call_of release text released, tt)) in
+      let later : NoneOf IsCall (first ∷ again) = none_behind IsCall upto (first ∷ again) all in
+      let course_is : course text ≡ before ++ call ∷ (upto ++ first ∷ ((again ++ since) ++ rest)) =
+      same ∙ ap (λ (xs : List Step). xs ++ release ∷ (since ++ rest)) split
+      ∙ append_assoc before (call ∷ behind) (release ∷ (since ++ rest))
+      ∙ ap (λ (xs : List Step). before ++ call ∷ xs) (sym (append_assoc behind (release ∷ []) (since ++ rest)) ∙ ap (λ (xs : List Step). xs ++ (since ++ rest)) is ∙ append_assoc upto (first ∷ again) (since ++ rest)
+      ∙ ap (λ (xs : List Step). upto ++ first ∷ xs) (sym (append_assoc again since rest))) in
+      let r = released_in text before upto (again ++ since) rest call first course_is called (none_before IsCall upto (first ∷ again) all) silent releases (none_joined IsCall again since later.1 quiet) in
+      let inside : upto ++ first ∷ again ≡ r.0 ++ r.1 ∷ (r.2 ++ first ∷ again) = ap (λ (xs : List Step). xs ++ first ∷ again) r.3 ∙ append_assoc r.0 (r.1 ∷ r.2) (first ∷ again) in
+      let end : last_of (left first) (again ++ since) ≡ last_of (left release) since = last_join again since (left first) ∙ ap (λ (x : ReplayState). last_of x since) last in (
+        record {
+          before = before;
+          call = call;
+          waiting = r.0;
+          pass = r.1;
+          between = r.2;
+          first = first;
+          again = again;
+          stand = ap (λ (xs : List Step). xs ++ release ∷ []) split ∙ append_assoc before (call ∷ behind) (release ∷ []) ∙ ap (λ (xs : List Step). before ++ call ∷ xs) (is ∙ inside);
+          calls = called;
+          passes = r.5;
+          releases = releases;
+          no_other_call = subst (NoneOf IsCall) inside all;
+          first_pass = r.4;
+          first_release = subst (NoneWrote release_line) r.3 silent;
+          no_store_waits = r.6;
+        },
+        subst (λ (x : ReplayState). Keeps call.before.goal (next_era call) (now r.1.before.machine.system) (stored_in (again ++ since)) x.machine) end r.7,
+      )
+
+  told_of : FirstRelease behind ⊎ NoneWrote release_line behind → Told front release since
+  told_of (inl f) =
+      told f.upto f.first (f.again ++ release ∷ []) (ap (λ (xs : List Step). xs ++ release ∷ []) f.is ∙ append_assoc f.upto (f.first ∷ f.again) (release ∷ [])) f.none f.releases
+      (last_join f.again (release ∷ []) (left f.first))
+  told_of (inr silent) = told behind release [] refl silent released refl
+
+pub released_updates_are_kept : ReleasedUpdatesAreKept
+released_updates_are_kept text front since rest release same released quiet =
+    let c = releases_follow_calls text front (since ++ rest) release same released in
+    told_of text front since rest release same released quiet c.0 c.1 c.2 c.3 c.4 c.5 (first_release c.2)

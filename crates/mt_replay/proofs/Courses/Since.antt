@@ -1,26 +1,25 @@
 -- Steps that call for no update, and what a complete update and a refused one leave in a course.
-use Rattle.std.proofs.Common.{◌≡◌, ◌⊎◌, ◌∙◌, ap, sym, refl, subst, inl, inr, ℕ, ◌+◌, ◌%◌, ◌==◌, Bool, true, false, if◌then◌else◌, List, [], ◌∷◌, ◌++◌, map, Option, None, Some}
-use Rattle.std.specs.Prelude.{IsSome, codes}
+use Rattle.std.proofs.Common.{◌≡◌, ◌⊎◌, ◌∙◌, ap, sym, refl, subst, inl, inr, ℕ, ◌%◌, ◌==◌, Bool, true, false, if◌then◌else◌, List, [], ◌∷◌, ◌++◌, map, Option, None, Some}
+use Rattle.std.specs.Prelude.{IsSome}
 use Rattle.std.specs.Option.{option_map_or}
-use Rattle.std.specs.List.{All, Contains}
+use Rattle.std.specs.List.{Contains}
 use Rattle.mt_regs.specs.RegisterFile.{RegisterFile}
 use Rattle.mt_machine.specs.Memory.{Memory, Window, place, place_in, word_at}
-use Rattle.mt_machine.specs.System.{System, now}
+use Rattle.mt_machine.specs.System.{now}
 use Rattle.mt_machine.specs.Machine.{Machine}
-use Rattle.mt_machine.specs.Update.{IsSettled, IsSettledOn, emptied}
+use Rattle.mt_machine.specs.Update.{IsSettled, emptied}
 use Rattle.mt_core.specs.declared.fault.CallFault.{CallFault}
 use Rattle.mt_script.specs.Situation.{Situation}
 use Rattle.mt_script.specs.Stages.{takes_windows}
 use Rattle.mt_script.specs.Accept.{Fits, accepted}
 use Rattle.mt_script.specs.declared.command.Command.{Command}
 use Rattle.mt_script.specs.declared.command.Command.TheVariants as command
-use Rattle.mt_output.specs.Lines.{line, refused_line}
-use Rattle.mt_replay.specs.Headline.{CompleteUpdatesAreKept, HoldsOnly, IsCall, Keeps, NoneOf, RefusedUpdatesChangeNothing, Step, last_of, left, next_era, stored_in, wrote}
+use Rattle.mt_replay.specs.Headline.{CompleteUpdatesAreKept, IsCall, Keeps, NoneOf, RefusedUpdatesChangeNothing, Step, last_of, left, next_era, stored_in, wrote}
 use Rattle.mt_replay.specs.Kept.{IsReplayState, windows_of}
 use Rattle.mt_replay.specs.ReplayState.{ReplayState, call_fault, command_text, each_processor, is_update, machine_after, state_after}
 use Rattle.mt_replay.specs.Statuses.{AreHeld, AreWithoutCall, IsSettledAfter, state_after_all, stored_by, stored_by_all}
 use Rattle.mt_replay.specs.Texts.{called_line, complete_line}
-use Rattle.mt_replay.proofs.Courses.Steps.{GoesOn, StandsIn, course_is, in_front, kept_behind, left_is, stands_in}
+use Rattle.mt_replay.proofs.Courses.Steps.{GoesOn, course_is, in_front, kept_behind, stands_in}
 use Rattle.mt_replay.proofs.Courses.Tells.{writes_complete, writes_refused, writes_under_way}
 use Rattle.mt_replay.proofs.Keeping.States.{state_kept}
 use Rattle.mt_replay.proofs.Refusals.Calls.{accepted_calls, ends_idle}

@@ -5,7 +5,7 @@ use Rattle.std.specs.Option.{option_map_or}
 use Rattle.std.proofs.lemmas.List.{append_assoc}
 use Rattle.mt_text.specs.Text.{lines_of, words_of, end_of}
 use Rattle.mt_text.specs.declared.place.Place.{Place}
-use Rattle.mt_ports.specs.declared.status.Status.TheVariants.{Done, Refused}
+use Rattle.mt_ports.specs.declared.status.Status.TheVariants.{Refused}
 use Rattle.mt_regs.specs.declared.fault.Fault.{Fault}
 use Rattle.mt_regs.specs.RegisterFile.{RegisterFile, IsRegisterFile}
 use Rattle.mt_dump.specs.Line.{Reading, said_of}
@@ -30,10 +30,10 @@ use Rattle.mt_script.specs.declared.fault.Offence.TheVariants.{Script, Dump}
 use Rattle.mt_script.proofs.Keeping.{accepted_is, not_past_in_dump, start_is}
 use Rattle.mt_output.specs.Lines.{accepted_line, refused_line}
 use Rattle.mt_replay.specs.FirstFault.{first_fault}
-use Rattle.mt_replay.specs.Headline.{Beginning, Beginnings, Step, StepsFollow, TranscriptIsOfTheCourse, TranscriptIsOneLine, beginning, begins_at_command, begins_at_line, begins_from, begins_in_dump, begins_shown, begins_unless, begins_with, course, ending, joined, last_of, left, steps_in, steps_of, wrote}
+use Rattle.mt_replay.specs.Headline.{Beginning, Step, StepsFollow, TranscriptIsOfTheCourse, TranscriptIsOneLine, beginning, begins_at_command, begins_at_line, begins_from, begins_in_dump, begins_shown, begins_unless, begins_with, course, ending, joined, last_of, left, steps_in, steps_of}
 use Rattle.mt_replay.specs.Kept.{IsReplayState}
-use Rattle.mt_replay.specs.ReplayState.{ReplayState, command_text, first_state, state_after}
-use Rattle.mt_replay.specs.Transcript.{Body, Told, behind, told, told_at_end, told_command, told_dump_line, told_file, told_from, told_head_command, told_head_line, told_in, told_offence, told_shown, told_unless, transcript}
+use Rattle.mt_replay.specs.ReplayState.{ReplayState, command_text, state_after}
+use Rattle.mt_replay.specs.Transcript.{Told, behind, told, told_at_end, told_command, told_dump_line, told_file, told_from, told_head_command, told_head_line, told_in, told_offence, told_shown, told_unless, transcript}
 use Rattle.mt_replay.proofs.Keeping.First.{first_kept}
 use Rattle.mt_replay.proofs.Keeping.States.{accepted_of, command_known, state_kept}
 use Rattle.mt_replay.proofs.Refusals.Dumps.{file_after, none_ends, past_dump}

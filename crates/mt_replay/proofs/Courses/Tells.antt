@@ -1,6 +1,6 @@
 -- Which steps write the lines of updates.
-use Rattle.std.proofs.Common.{◌≡◌, ◌⊎◌, ◌∙◌, ap, sym, refl, subst, inl, inr, ℕ, Bool, true, false, List, [], ◌∷◌, Option, None, Some, if◌then◌else◌}
-use Rattle.std.specs.Prelude.{◌==◌, ◌&&◌, ◌||◌, IsSome, codes}
+use Rattle.std.proofs.Common.{◌≡◌, ◌⊎◌, ◌∙◌, ap, refl, subst, inl, inr, ℕ, Bool, true, false, List, [], ◌∷◌, Option, None, Some, if◌then◌else◌}
+use Rattle.std.specs.Prelude.{◌==◌, ◌&&◌, ◌||◌, codes}
 use Rattle.std.specs.Option.{option_map_or}
 use Rattle.mt_regs.specs.declared.fault.Fault.{Fault}
 use Rattle.mt_regs.specs.RegisterFile.{RegisterFile}
@@ -25,8 +25,8 @@ use Rattle.mt_script.specs.declared.command.Command.{Command}
 use Rattle.mt_script.specs.declared.command.Command.TheVariants as command
 use Rattle.mt_output.specs.Lines.{line, refused_line}
 use Rattle.mt_replay.specs.Headline.{pass_line, release_line}
-use Rattle.mt_replay.specs.ReplayState.{ReplayState, after_update, call_fault, call_line, command_text, file_at, is_undecided, is_update, mapping, memory_word, register_value, update_line}
-use Rattle.mt_replay.specs.Texts.{call_fault_line, called_line, cancel_line, complete_line, done_line, event_text, go_line, have_one_file, memory_line, register_line, registers_line, report_text, ruled_line, stepped_line}
+use Rattle.mt_replay.specs.ReplayState.{ReplayState, after_update, call_fault, command_text, file_at, is_undecided, is_update, mapping, memory_word}
+use Rattle.mt_replay.specs.Texts.{call_fault_line, called_line, cancel_line, complete_line, done_line, event_text, go_line, have_one_file, memory_line, registers_line, report_text, ruled_line, stepped_line}
 
 -- by the second, third and fourth letter: comp, call, refu, unde, rele, pass
 abbrev is_of_update : List ℕ → Bool
@@ -270,13 +270,35 @@ did_pass f NoUpdate is = absurd (cc is)
 abbrev pub Does : ReplayState → Command → Event → Type 0
 Does s c e = (k : ℕ) × (c ≡ command.Step k) × (step_answer s.machine k ≡ Did e)
 
-pub writes_release : (s : ReplayState) (c : Command) → command_text s c ≡ release_line → Does s c event.Release
-writes_release s c is = one c (of_command s c (ap is_of_update is)) (ap is_of_release is)
+release_marked : (s : ReplayState) (c : Command) → is_of_update (command_text s c) ≡ true → is_of_release (command_text s c) ≡ true → Does s c event.Release
+release_marked s c update release = one c (of_command s c update) release
   where
     one : (c : Command) → IsOfUpdate c → is_of_release (command_text s c) ≡ true → Does s c event.Release
     one (command.Step k) update is = (k, refl, did_release (file_at (step_after s.machine k).system.processors k s.goal) (step_answer s.machine k) is)
     one command.End update is = absurd (clash (is_of_release (command_text s command.End)) (ends_no_step (is_update s.now.stage) (call_fault s.machine s.goal) (told_era s)).0 is)
     one other update is = absurd update
+
+pub writes_release : (s : ReplayState) (c : Command) → command_text s c ≡ release_line → Does s c event.Release
+writes_release s c is = release_marked s c (ap is_of_update is) (ap is_of_release is)
+
+release_written : (s : ReplayState) (c : Command) → Does s c event.Release → command_text s c ≡ release_line
+release_written s c does =
+    ap (command_text s) does.1 ∙ ap (stepped_line (file_at (step_after s.machine does.0).system.processors does.0 s.goal)) does.2
+
+-- a step writes the line of a release, or another
+pub release_or_not : (s : ReplayState) (c : Command) → (command_text s c ≡ release_line) ⊎ (command_text s c ≡ release_line → ⊥)
+release_or_not s c = one (is_of_update (command_text s c)) (is_of_release (command_text s c)) refl refl
+  where
+    one : (a b : Bool) → is_of_update (command_text s c) ≡ a → is_of_release (command_text s c) ≡ b → (command_text s c ≡ release_line) ⊎ (command_text s c ≡ release_line → ⊥)
+    one true true update release = inl (release_written s c (release_marked s c update release))
+    one false b update release = inr (λ is. clash (is_of_update (command_text s c)) update (ap is_of_update is))
+    one true false update release = inr (λ is. clash (is_of_release (command_text s c)) release (ap is_of_release is))
+
+pub call_is_no_release : called_line ≡ release_line → ⊥
+call_is_no_release is = let e : false ≡ true = ap is_of_release is in cc e
+
+pub complete_is_no_release : (era : ℕ) → complete_line era ≡ release_line → ⊥
+complete_is_no_release era is = let e : false ≡ true = ap is_of_release is in cc e
 
 pass_marked : (s : ReplayState) (c : Command) → is_of_update (command_text s c) ≡ true → is_of_pass (command_text s c) ≡ true → Does s c event.Pass
 pass_marked s c update pass = one c (of_command s c update) pass

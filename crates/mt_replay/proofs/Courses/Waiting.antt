@@ -1,5 +1,5 @@
 -- Up to the first pass no processor has passed, and the order of an update keeps its goal and its era.
-use Rattle.std.proofs.Common.{◌≡◌, ◌⊎◌, ◌∙◌, ap, sym, refl, subst, arith, ℕ, zero, suc, ◌+◌, set, List, [], ◌∷◌, Bool, true, false, if◌then◌else◌, Option, None, Some, slice_get}
+use Rattle.std.proofs.Common.{◌≡◌, ◌∙◌, ap, sym, refl, subst, arith, ℕ, zero, suc, set, List, [], ◌∷◌, Bool, true, false, if◌then◌else◌, Option, None, Some, slice_get}
 use Rattle.std.specs.Prelude.{not, nat_lt, ◌&&◌, ◌||◌, ◌==◌}
 use Rattle.std.specs.Option.{option_map_or}
 use Rattle.std.specs.List.{All}
@@ -11,8 +11,7 @@ use Rattle.mt_machine.specs.declared.event.Event.{Event}
 use Rattle.mt_machine.specs.declared.event.Event.TheVariants.{Take, Arrive, Leave, Pass, Release}
 use Rattle.mt_machine.specs.declared.go.Go.TheVariants.{Given, Cancelled}
 use Rattle.mt_machine.specs.System.{Processor, System}
-use Rattle.mt_machine.specs.Access.{access, is_running}
-use Rattle.mt_machine.specs.Control.{control}
+use Rattle.mt_machine.specs.Access.{is_running}
 use Rattle.mt_machine.specs.Machine.{Accesses, Calls, Cancels, Controls, Goes, IsEnabled, Machine, MachineEvent, Order, Steps, common_era, due, first_barrier_open, has_passed, is_arrived_again, is_cancelled, is_changing, is_over, next, own_step, step}
 use Rattle.mt_machine.specs.Update.{is_call}
 use Rattle.mt_machine.specs.Start.{IsQuiet}

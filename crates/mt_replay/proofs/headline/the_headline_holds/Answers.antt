@@ -1,0 +1,29 @@
+use Rattle.mt_replay.proofs.Courses.Calling.{accepted_where_idle_and_whole, goals_are_of_their_sections}
+use Rattle.mt_replay.proofs.Courses.Releasing.{released_updates_are_kept}
+use Rattle.mt_replay.proofs.Courses.Since.{complete_updates_are_kept, refused_updates_change_nothing}
+use Rattle.mt_replay.proofs.Courses.Steps.{steps_follow, transcript_is_of_the_course, transcript_is_one_line}
+use Rattle.mt_replay.proofs.headline.the_headline_holds.Goals as goal
+
+pub returns-clause-transcript : goal.returns-clause-transcript
+returns-clause-transcript c = transcript_is_of_the_course
+
+pub returns-clause-one_line : goal.returns-clause-one_line
+returns-clause-one_line c = transcript_is_one_line
+
+pub returns-clause-follow : goal.returns-clause-follow
+returns-clause-follow c = steps_follow
+
+pub returns-clause-accepted : goal.returns-clause-accepted
+returns-clause-accepted c = accepted_where_idle_and_whole
+
+pub returns-clause-those_registers : goal.returns-clause-those_registers
+returns-clause-those_registers c = goals_are_of_their_sections
+
+pub returns-clause-complete : goal.returns-clause-complete
+returns-clause-complete c = complete_updates_are_kept
+
+pub returns-clause-released : goal.returns-clause-released
+returns-clause-released c = released_updates_are_kept
+
+pub returns-clause-refused : goal.returns-clause-refused
+returns-clause-refused c = refused_updates_change_nothing
