@@ -8,3 +8,4 @@ pub mod ReplayState
 pub mod Statuses
 pub mod Texts
 pub mod Transcript
+pub mod WorkedScript

@@ -1,3 +1,6 @@
+ghost use Rattle.std.specs.Prelude.{◌≡◌, map};
+ghost use Rattle.mt_replay.specs.Headline.{course, wrote};
+ghost use Rattle.mt_replay.specs.WorkedScript.{worked_lines, worked_script};
 ghost use Rattle.mt_replay.specs.Headline.{AcceptedWhereIdleAndWhole, CompleteUpdatesAreKept, GoalsAreOfTheirSections, RefusedUpdatesChangeNothing, ReleasedUpdatesAreKept, StepsFollow, TranscriptIsOfTheCourse, TranscriptIsOneLine};
 
 /// The headline: whatever bytes a script has, its transcript is what the steps of its course write.
@@ -14,4 +17,9 @@ pub fn the_headline_holds()
     ensures complete { CompleteUpdatesAreKept }
     ensures released { ReleasedUpdatesAreKept }
     ensures refused { RefusedUpdatesChangeNothing }
+{}
+
+/// The steps of a worked script write these lines.
+pub fn worked_course()
+    ensures lines { map wrote (course worked_script) ≡ worked_lines }
 {}
