@@ -1,7 +1,16 @@
 -- A worked script of two processors: an update by steps, one all at once, a refused one, and a store behind each of the first two.
-use Rattle.std.specs.Prelude.{ℕ, List, [], ◌∷◌, ◌++◌, codes, map}
+use Rattle.std.specs.Prelude.{ℕ, ◌≡◌, ◌+◌, Bool, true, false, List, [], ◌∷◌, ◌++◌, codes, drop, map, if◌then◌else◌, ◌==◌, replicate, slice_index_or, take, None}
+use Rattle.mt_kinds.specs.declared.mem_type.MemType.TheVariants.{WB}
+use Rattle.mt_regs.specs.RegisterFile.{RegisterFile, blank_file}
+use Rattle.mt_machine.specs.System.{Processor, start_processor}
+use Rattle.mt_machine.specs.Machine.{Machine}
+use Rattle.mt_machine.specs.Start.{start_machine}
 use Rattle.mt_output.specs.Lines.{line}
-use Rattle.mt_replay.specs.Headline.{Step, course, wrote}
+use Rattle.mt_script.specs.Situation.{at_start}
+use Rattle.mt_script.specs.declared.command.Command.TheVariants as command
+use Rattle.mt_replay.specs.Headline.{IsCall, IsRefused, Keeps, NoneOf, Step, course, release_line, stored_in, wrote}
+use Rattle.mt_replay.specs.ReplayState.{first_state}
+use Rattle.mt_replay.specs.Texts.{complete_line}
 
 -- all memory is WB, and a store stays in processor 0's cache
 abbrev pub worked_setup : List ℕ
@@ -40,3 +49,43 @@ worked_lines =
     ∷ [] ∷ [] ∷ line (codes "complete 2") ∷ line (codes "stored WB")
     ∷ line (codes "memory 000000000000002a") ∷ line (codes "memory 0000000000000007")
     ∷ [] ∷ [] ∷ line (codes "refused 2ff unsupported type") ∷ []
+
+-- ---- where the premises of the headline hold
+
+abbrev pub no_step : Step
+no_step = record { number = 0; command = command.Blank; before = first_state at_start (blank_file 36 0) }
+
+-- a step of the worked script, the first being 0
+abbrev pub step_at : ℕ → Step
+step_at k = slice_index_or (course worked_script) k no_step
+
+-- so many steps from one on
+abbrev pub steps_at : ℕ → ℕ → List Step
+steps_at k count = take count (drop k (course worked_script))
+
+-- it is this step of its script, behind which so many steps call for no update and store these words
+pub record IsQuietFrom (k count : ℕ) (words : List ℕ) : Type 0 where
+  pub stands : course worked_script ≡ take k (course worked_script) ++ step_at k ∷ (steps_at (k + 1) count ++ drop count (drop (k + 1) (course worked_script)))
+  pub quiet : NoneOf IsCall (steps_at (k + 1) count)
+  pub stored : stored_in (steps_at (k + 1) count) ≡ words
+
+-- ---- what the relations refuse
+
+abbrev pub worked_file : RegisterFile
+worked_file = blank_file 36 0x400
+
+-- a machine of one processor, whose memory has one line of zeros
+abbrev pub machine_of : Processor → Machine
+machine_of p = record { system = record { processors = p ∷ []; memory = record { windows = record { base = 0x100000; lines = 1 } ∷ []; words = replicate 8 0 } }; order = None }
+
+-- a processor behind its first update
+abbrev pub updated_processor : Processor
+updated_processor = record (start_processor worked_file) { era = 1 }
+
+-- the machine keeps what the headline promises of an update to this file, the first, behind which these words were stored
+abbrev pub IsKept : (ℕ → ℕ) → List ℕ → Processor → Type 0
+IsKept value stored p = Keeps worked_file 1 value stored (machine_of p)
+
+-- the first word was stored, the others are zeros
+abbrev pub seven_stored : ℕ → ℕ
+seven_stored address = if address == 0x100000 then 7 else 0

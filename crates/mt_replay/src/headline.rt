@@ -1,7 +1,8 @@
-ghost use Rattle.std.specs.Prelude.{◌≡◌, map};
-ghost use Rattle.mt_replay.specs.Headline.{course, wrote};
-ghost use Rattle.mt_replay.specs.WorkedScript.{worked_lines, worked_script};
-ghost use Rattle.mt_replay.specs.Headline.{AcceptedWhereIdleAndWhole, CompleteUpdatesAreKept, GoalsAreOfTheirSections, RefusedUpdatesChangeNothing, ReleasedUpdatesAreKept, StepsFollow, TranscriptIsOfTheCourse, TranscriptIsOneLine};
+ghost use Rattle.std.specs.Prelude.{◌≡◌, ◌∷◌, [], false, map, replicate};
+ghost use Rattle.mt_kinds.specs.declared.mem_type.MemType.TheVariants.{WB};
+ghost use Rattle.mt_replay.specs.Headline.{AcceptedWhereIdleAndWhole, CompleteUpdatesAreKept, GoalsAreOfTheirSections, IsCall, IsRefused, NoneOf, RefusedUpdatesChangeNothing, ReleasedUpdatesAreKept, StepsFollow, TranscriptIsOfTheCourse, TranscriptIsOneLine, course, release_line, wrote};
+ghost use Rattle.mt_replay.specs.Texts.{complete_line};
+ghost use Rattle.mt_replay.specs.WorkedScript.{IsKept, IsQuietFrom, seven_stored, step_at, steps_at, updated_processor, worked_file, worked_lines, worked_script};
 
 /// The headline: whatever bytes a script has, its transcript is what the steps of its course write.
 /// In whatever order the processors step, once any of them is told that an accepted update is
@@ -22,4 +23,30 @@ pub fn the_headline_holds()
 /// The steps of a worked script write these lines.
 pub fn worked_course()
     ensures lines { map wrote (course worked_script) ≡ worked_lines }
+{}
+
+/// The premises of the headline hold where the worked script tells of a release, and where it tells
+/// of a complete update; a word is stored behind each. Its last step is refused.
+pub fn worked_headline()
+    ensures called { IsCall (step_at 6) }
+    ensures release { wrote (step_at 37) ≡ release_line }
+    ensures since_release { IsQuietFrom 37 6 (0x100008 ∷ []) }
+    ensures complete { wrote (step_at 44) ≡ complete_line 2 }
+    ensures since_complete { IsQuietFrom 44 5 (0x100000 ∷ []) }
+    ensures refused { IsRefused (step_at 50) }
+    ensures goal { (step_at 6).before.goal.default_type ≡ 0x800 }
+{}
+
+/// What the headline's relations accept, and what they refuse.
+pub fn worked_refusals()
+    ensures kept { IsKept (λ a. 0) [] updated_processor }
+    ensures other_register { IsKept (λ a. 0) [] (record updated_processor { file = record worked_file { default_type = 0x800 } }) → ⊥ }
+    ensures older_line { IsKept (λ a. 0) [] (record updated_processor { lines = record { number = 0x4000; words = replicate 8 0; dirty = 0; era = 0 } ∷ [] }) → ⊥ }
+    ensures older_buffer { IsKept (λ a. 0) [] (record updated_processor { buffers = record { number = 0x4000; words = replicate 8 0; dirty = 1; era = 0 } ∷ [] }) → ⊥ }
+    ensures older_entry { IsKept (λ a. 0) [] (record updated_processor { entries = record { vpage = 1; ppage = 0x100; kind = WB; global = false; era = 0 } ∷ [] }) → ⊥ }
+    ensures lost_store { IsKept seven_stored [] updated_processor → ⊥ }
+    ensures stored_again { IsKept seven_stored (0x100000 ∷ []) updated_processor }
+    ensures call { NoneOf IsCall (steps_at 5 2) → ⊥ }
+    ensures complete { NoneOf IsCall (steps_at 44 1) → ⊥ }
+    ensures no_refusal { IsRefused (step_at 44) → ⊥ }
 {}

@@ -1,7 +1,9 @@
 -- Which steps write the lines of updates.
-use Rattle.std.proofs.Common.{◌≡◌, ◌⊎◌, ◌∙◌, ap, refl, subst, inl, inr, ℕ, Bool, true, false, List, [], ◌∷◌, Option, None, Some, if◌then◌else◌}
-use Rattle.std.specs.Prelude.{◌==◌, ◌&&◌, ◌||◌, codes}
+use Rattle.std.proofs.Common.{◌≡◌, ◌⊎◌, ◌∙◌, ap, refl, subst, inl, inr, ℕ, Bool, true, false, List, [], ◌∷◌, Option, None, Some, if◌then◌else◌, sym}
+use Rattle.std.specs.Prelude.{◌==◌, ◌&&◌, ◌||◌, codes, not}
 use Rattle.std.specs.Option.{option_map_or}
+use Rattle.std.specs.List.{list_all}
+use Rattle.std.proofs.lemmas.Bool.{and_parts}
 use Rattle.mt_regs.specs.declared.fault.Fault.{Fault}
 use Rattle.mt_regs.specs.RegisterFile.{RegisterFile}
 use Rattle.mt_machine.specs.declared.done.Done.{Done}
@@ -24,7 +26,7 @@ use Rattle.mt_core.specs.declared.stepped.Stepped.TheVariants.{Did, NoUpdate, Wa
 use Rattle.mt_script.specs.declared.command.Command.{Command}
 use Rattle.mt_script.specs.declared.command.Command.TheVariants as command
 use Rattle.mt_output.specs.Lines.{line, refused_line}
-use Rattle.mt_replay.specs.Headline.{pass_line, release_line}
+use Rattle.mt_replay.specs.Headline.{IsCall, NoneOf, Step, pass_line, release_line, wrote}
 use Rattle.mt_replay.specs.ReplayState.{ReplayState, after_update, call_fault, command_text, file_at, is_undecided, is_update, mapping, memory_word}
 use Rattle.mt_replay.specs.Texts.{call_fault_line, called_line, cancel_line, complete_line, done_line, event_text, go_line, have_one_file, memory_line, registers_line, report_text, ruled_line, stepped_line}
 
@@ -96,7 +98,7 @@ of_command s other is = absurd (cc is)
 -- ---- ends of sections
 
 -- by the second, third and fourth letter: comp, call, refu, unde
-abbrev is_of_call : List ℕ → Bool
+abbrev pub is_of_call : List ℕ → Bool
 is_of_call (a ∷ b ∷ c ∷ d ∷ rest) = ((d == 112) && (c == 109)) || ((d == 108) && (b == 97)) || ((d == 117) && (c == 102)) || ((d == 101) && (c == 100))
 is_of_call other = false
 
@@ -202,6 +204,18 @@ end_or_not s c = one (is_of_update (command_text s c)) (is_of_call (command_text
     one true true update call = inl (call_ends s c update call)
     one false b update call = inr (λ is. clash (is_of_update (command_text s c)) update (ap is_of_update is), λ era is. clash (is_of_update (command_text s c)) update (ap is_of_update is))
     one true false update call = inr (λ is. clash (is_of_call (command_text s c)) call (ap is_of_call is), λ era is. clash (is_of_call (command_text s c)) call (ap is_of_call is))
+
+-- ---- texts that call for nothing, by computation
+
+pub no_call_there : (step : Step) → not (is_of_call (wrote step)) ≡ true → IsCall step → ⊥
+no_call_there step other (inl called) = let e : false ≡ true = sym (ap (λ (text : List ℕ). not (is_of_call text)) called) ∙ other in cc e
+no_call_there step other (inr complete) = let e : false ≡ true = sym (ap (λ (text : List ℕ). not (is_of_call text)) complete.1) ∙ other in cc e
+
+pub none_calls : (steps : List Step) → list_all (λ step. not (is_of_call (wrote step))) steps ≡ true → NoneOf IsCall steps
+none_calls [] others = tt
+none_calls (step ∷ steps) others =
+    let both = and_parts (not (is_of_call (wrote step))) (list_all (λ step. not (is_of_call (wrote step))) steps) others in
+    (no_call_there step both.0, none_calls steps both.1)
 
 -- ---- steps of a processor
 
