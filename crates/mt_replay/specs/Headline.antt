@@ -30,6 +30,7 @@ use Rattle.mt_script.specs.declared.fault.ScriptFault.{ScriptFault}
 use Rattle.mt_script.specs.declared.fault.Offence.{Offence}
 use Rattle.mt_output.specs.Lines.{accepted_line, line, refused_line}
 use Rattle.mt_replay.specs.FirstFault.{first_fault}
+use Rattle.mt_replay.specs.Kept.{HoldsThrough}
 use Rattle.mt_replay.specs.ReplayState.{ReplayState, command_text, each_processor, first_file, first_state, state_after, with_register}
 use Rattle.mt_replay.specs.Statuses.{stored_by}
 use Rattle.mt_replay.specs.Texts.{called_line, complete_line}
@@ -135,6 +136,12 @@ TranscriptIsOneLine =
 -- each step finds what the one before it left
 abbrev pub StepsFollow : Type 0
 StepsFollow = (text : List ℕ) (front rest : List Step) (first second : Step) → course text ≡ front ++ first ∷ second ∷ rest → second.before ≡ left first
+
+-- what holds through a text holds where each step begins and ends
+abbrev pub StatesAreOfTheCourse : Type 0
+StatesAreOfTheCourse =
+    (text : List ℕ) (test : ReplayState → Bool) → HoldsThrough (λ s. test s ≡ true) text
+    → (front rest : List Step) (step : Step) → course text ≡ front ++ step ∷ rest → (test step.before ≡ true) × (test (left step) ≡ true)
 
 -- ---- "a refused update changes no processor"
 

@@ -1,6 +1,6 @@
 ghost use Rattle.std.specs.Prelude.{◌≡◌, ◌∷◌, [], false, map, replicate};
 ghost use Rattle.mt_kinds.specs.declared.mem_type.MemType.TheVariants.{WB};
-ghost use Rattle.mt_replay.specs.Headline.{AcceptedWhereIdleAndWhole, CompleteUpdatesAreKept, GoalsAreOfTheirSections, IsCall, IsRefused, NoneOf, RefusedUpdatesChangeNothing, ReleasedUpdatesAreKept, StepsFollow, TranscriptIsOfTheCourse, TranscriptIsOneLine, course, release_line, wrote};
+ghost use Rattle.mt_replay.specs.Headline.{AcceptedWhereIdleAndWhole, CompleteUpdatesAreKept, GoalsAreOfTheirSections, IsCall, IsRefused, NoneOf, RefusedUpdatesChangeNothing, ReleasedUpdatesAreKept, StatesAreOfTheCourse, StepsFollow, TranscriptIsOfTheCourse, TranscriptIsOneLine, course, release_line, wrote};
 ghost use Rattle.mt_replay.specs.Texts.{complete_line};
 ghost use Rattle.mt_replay.specs.WorkedScript.{IsKept, IsQuietFrom, seven_stored, step_at, steps_at, updated_processor, worked_file, worked_lines, worked_script};
 
@@ -13,6 +13,7 @@ pub fn the_headline_holds()
     ensures transcript { TranscriptIsOfTheCourse }
     ensures one_line { TranscriptIsOneLine }
     ensures follow { StepsFollow }
+    ensures states { StatesAreOfTheCourse }
     ensures accepted { AcceptedWhereIdleAndWhole }
     ensures those_registers { GoalsAreOfTheirSections }
     ensures complete { CompleteUpdatesAreKept }

@@ -1,6 +1,7 @@
 use Rattle.mt_replay.proofs.Courses.Calling.{accepted_where_idle_and_whole, goals_are_of_their_sections}
 use Rattle.mt_replay.proofs.Courses.Releasing.{released_updates_are_kept}
 use Rattle.mt_replay.proofs.Courses.Since.{complete_updates_are_kept, refused_updates_change_nothing}
+use Rattle.mt_replay.proofs.Courses.States.{states_are_of_the_course}
 use Rattle.mt_replay.proofs.Courses.Steps.{steps_follow, transcript_is_of_the_course, transcript_is_one_line}
 use Rattle.mt_replay.proofs.headline.the_headline_holds.Goals as goal
 
@@ -27,3 +28,6 @@ returns-clause-released c = released_updates_are_kept
 
 pub returns-clause-refused : goal.returns-clause-refused
 returns-clause-refused c = refused_updates_change_nothing
+
+pub returns-clause-states : goal.returns-clause-states
+returns-clause-states c = states_are_of_the_course
