@@ -30,9 +30,9 @@ use Rattle.mt_script.specs.declared.fault.ScriptFault.{ScriptFault}
 use Rattle.mt_script.specs.declared.fault.Offence.{Offence}
 use Rattle.mt_output.specs.Lines.{accepted_line, line, refused_line}
 use Rattle.mt_replay.specs.FirstFault.{first_fault}
-use Rattle.mt_replay.specs.Kept.{HoldsThrough}
+use Rattle.mt_replay.specs.Kept.{HoldsThrough, start_of}
 use Rattle.mt_replay.specs.ReplayState.{ReplayState, command_text, each_processor, first_file, first_state, state_after, with_register}
-use Rattle.mt_replay.specs.Statuses.{stored_by}
+use Rattle.mt_replay.specs.Statuses.{ShowsDump, stored_by}
 use Rattle.mt_replay.specs.Texts.{called_line, complete_line}
 use Rattle.mt_replay.specs.Transcript.{Told, behind, told, told_offence, transcript}
 
@@ -132,6 +132,13 @@ abbrev pub TranscriptIsOneLine : Type 0
 TranscriptIsOneLine =
     (text : List ℕ) → beginning text ≡ None
     → ((o : Offence) × (transcript text ≡ told_offence o)) ⊎ ((fault : Fault) × (transcript text ≡ told (refused_line fault) Refused))
+
+-- Where the dump shows a file without a fault, the first step finds processors with that file, to which nothing has happened.
+abbrev pub StartsAsTheDumpShows : Type 0
+StartsAsTheDumpShows =
+    (text : List ℕ) (file : RegisterFile) → ShowsDump text file → IsAccepted file
+    → (b : Beginning) × (beginning text ≡ Some b) × (b.state.machine ≡ start_of b.state.now file)
+    × ((step : Step) (rest : List Step) → course text ≡ step ∷ rest → step.before ≡ b.state)
 
 -- each step finds what the one before it left
 abbrev pub StepsFollow : Type 0

@@ -1,16 +1,13 @@
 -- A worked script of two processors: an update by steps, one all at once, a refused one, and a store behind each of the first two.
-use Rattle.std.specs.Prelude.{ℕ, ◌≡◌, ◌+◌, Bool, true, false, List, [], ◌∷◌, ◌++◌, codes, drop, map, if◌then◌else◌, ◌==◌, replicate, slice_index_or, take, None}
-use Rattle.mt_kinds.specs.declared.mem_type.MemType.TheVariants.{WB}
+use Rattle.std.specs.Prelude.{ℕ, ◌≡◌, ◌+◌, List, [], ◌∷◌, ◌++◌, codes, drop, if◌then◌else◌, ◌==◌, replicate, slice_index_or, take, None}
 use Rattle.mt_regs.specs.RegisterFile.{RegisterFile, blank_file}
 use Rattle.mt_machine.specs.System.{Processor, start_processor}
 use Rattle.mt_machine.specs.Machine.{Machine}
-use Rattle.mt_machine.specs.Start.{start_machine}
 use Rattle.mt_output.specs.Lines.{line}
 use Rattle.mt_script.specs.Situation.{at_start}
 use Rattle.mt_script.specs.declared.command.Command.TheVariants as command
-use Rattle.mt_replay.specs.Headline.{IsCall, IsRefused, Keeps, NoneOf, Step, course, release_line, stored_in, wrote}
+use Rattle.mt_replay.specs.Headline.{IsCall, Keeps, NoneOf, Step, course, stored_in}
 use Rattle.mt_replay.specs.ReplayState.{first_state}
-use Rattle.mt_replay.specs.Texts.{complete_line}
 
 -- all memory is WB, and a store stays in processor 0's cache
 abbrev pub worked_setup : List ℕ

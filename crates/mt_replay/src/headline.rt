@@ -1,6 +1,9 @@
-ghost use Rattle.std.specs.Prelude.{◌≡◌, ◌∷◌, [], false, map, replicate};
+ghost use Rattle.std.specs.Prelude.{◌≡◌, ◌∷◌, [], None, false, map, replicate};
 ghost use Rattle.mt_kinds.specs.declared.mem_type.MemType.TheVariants.{WB};
-ghost use Rattle.mt_replay.specs.Headline.{AcceptedWhereIdleAndWhole, CompleteUpdatesAreKept, GoalsAreOfTheirSections, IsCall, IsRefused, NoneOf, RefusedUpdatesChangeNothing, ReleasedUpdatesAreKept, StatesAreOfTheCourse, StepsFollow, TranscriptIsOfTheCourse, TranscriptIsOneLine, course, release_line, wrote};
+ghost use Rattle.mt_replay.specs.Headline.{AcceptedWhereIdleAndWhole, CompleteUpdatesAreKept, GoalsAreOfTheirSections, IsCall, IsRefused, NoneOf, RefusedUpdatesChangeNothing, ReleasedUpdatesAreKept, StartsAsTheDumpShows, StatesAreOfTheCourse, StepsFollow, TranscriptIsOfTheCourse, TranscriptIsOneLine, course, left, release_line, wrote};
+ghost use Rattle.mt_replay.specs.Kept.{HoldsThrough};
+ghost use Rattle.mt_replay.specs.Statuses.{AreWithoutCall};
+ghost use Rattle.mt_script.specs.declared.command.Command.TheVariants as command;
 ghost use Rattle.mt_replay.specs.Texts.{complete_line};
 ghost use Rattle.mt_replay.specs.WorkedScript.{IsKept, IsQuietFrom, seven_stored, step_at, steps_at, updated_processor, worked_file, worked_lines, worked_script};
 
@@ -12,6 +15,7 @@ ghost use Rattle.mt_replay.specs.WorkedScript.{IsKept, IsQuietFrom, seven_stored
 pub fn the_headline_holds()
     ensures transcript { TranscriptIsOfTheCourse }
     ensures one_line { TranscriptIsOneLine }
+    ensures starts { StartsAsTheDumpShows }
     ensures follow { StepsFollow }
     ensures states { StatesAreOfTheCourse }
     ensures accepted { AcceptedWhereIdleAndWhole }
@@ -50,4 +54,12 @@ pub fn worked_refusals()
     ensures call { NoneOf IsCall (steps_at 5 2) → ⊥ }
     ensures complete { NoneOf IsCall (steps_at 44 1) → ⊥ }
     ensures no_refusal { IsRefused (step_at 44) → ⊥ }
+{}
+
+/// The commands behind the worked script's first release are without a call; the end of its section
+/// isn't; and an update is under way in one of its states.
+pub fn worked_since()
+    ensures without_call { AreWithoutCall (left (step_at 37)) (map (λ step. step.command) (steps_at 38 6)) }
+    ensures call { AreWithoutCall (step_at 6).before (command.End ∷ []) → ⊥ }
+    ensures states { HoldsThrough (λ s. s.machine.order ≡ None) worked_script → ⊥ }
 {}

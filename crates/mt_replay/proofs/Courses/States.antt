@@ -1,7 +1,8 @@
 -- What holds through a text holds where each step of its course begins and ends.
-use Rattle.std.proofs.Common.{◌≡◌, ◌∙◌, ap, sym, refl, subst, ℕ, ◌+◌, Bool, true, false, List, [], ◌∷◌, ◌++◌, Option, None, Some, Result, Ok, Err}
+use Rattle.std.proofs.Common.{◌≡◌, ◌∙◌, ap, sym, refl, subst, inl, inr, ℕ, ◌+◌, Bool, true, false, List, [], ◌∷◌, ◌++◌, Option, None, Some, Result, Ok, Err}
+use Rattle.std.specs.Prelude.{◌==◌}
 use Rattle.std.specs.Option.{option_map_or}
-use Rattle.mt_text.specs.Text.{lines_of, words_of}
+use Rattle.mt_text.specs.Text.{end_of, lines_of, words_of}
 use Rattle.mt_regs.specs.declared.fault.Fault.{Fault}
 use Rattle.mt_regs.specs.RegisterFile.{RegisterFile}
 use Rattle.mt_dump.specs.Line.{Reading, said_of}
@@ -13,13 +14,21 @@ use Rattle.mt_script.specs.Stages.{is_in_dump}
 use Rattle.mt_script.specs.Words.{place_of}
 use Rattle.mt_script.specs.Commands.{command_of}
 use Rattle.mt_script.specs.Accept.{accepted}
-use Rattle.mt_script.specs.Script.{is_end_command, with_told_width}
+use Rattle.mt_script.specs.Script.{is_end_command, script_offence, with_told_width}
+use Rattle.mt_script.specs.declared.fault.Offence.{Offence}
+use Rattle.mt_script.specs.declared.fault.Offence.TheVariants as offence
+use Rattle.mt_output.specs.Lines.{accepted_line, offence_line, refused_line}
 use Rattle.mt_script.specs.declared.command.Command.{Command}
 use Rattle.mt_script.specs.declared.fault.ScriptFault.{ScriptFault}
 use Rattle.mt_replay.specs.FirstFault.{first_fault}
-use Rattle.mt_replay.specs.Headline.{Beginning, StatesAreOfTheCourse, Step, beginning, begins_at_command, begins_at_line, begins_from, begins_in_dump, begins_shown, begins_unless, begins_with, left, steps_in, steps_of}
-use Rattle.mt_replay.specs.Kept.{EachAfter, EachFrom, EachIn, EachOfCommand, EachOfDump, EachOfFile, EachOfLine, EachShown, EachUnless}
+use Rattle.mt_replay.specs.Headline.{Beginning, StartsAsTheDumpShows, StatesAreOfTheCourse, Step, beginning, begins_at_command, begins_at_line, begins_from, begins_in_dump, begins_shown, begins_unless, begins_with, course, left, steps_in, steps_of}
+use Rattle.mt_replay.specs.Kept.{EachAfter, EachFrom, EachIn, EachOfCommand, EachOfDump, EachOfFile, EachOfLine, EachShown, EachUnless, HoldsThrough, start_of}
 use Rattle.mt_replay.specs.ReplayState.{ReplayState, state_after}
+use Rattle.mt_replay.specs.Statuses.{BeginsWith}
+use Rattle.mt_replay.specs.Transcript.{Told, transcript}
+use Rattle.mt_replay.proofs.Courses.Steps.{GoesOn, IsOneLine, Leads, steps_go_on, whole}
+use Rattle.mt_replay.proofs.Refusals.Outcomes.{accepted_first}
+use Rattle.mt_replay.proofs.ShownFile.{states_have_the_shown_file}
 
 module _ (P : ReplayState → Type 0) where
   -- it holds from there on
@@ -102,5 +111,39 @@ module _ (P : ReplayState → Type 0) where
       one (other ∷ front) e = cc e
   around text front rest step (Some b) begins h is = each_step b.number b.lines b.state (carries 1 (lines_of text) at_start [] b h begins) front rest step is
 
+pub around_step : (P : ReplayState → Type 0) (text : List ℕ) → HoldsThrough P text → (front rest : List Step) (step : Step) → course text ≡ front ++ step ∷ rest → P step.before × P (left step)
+around_step P text h front rest step is = around P text front rest step (beginning text) refl h is
+
 pub states_are_of_the_course : StatesAreOfTheCourse
 states_are_of_the_course text test h front rest step is = around (λ s. test s ≡ true) text front rest step (beginning text) refl h is
+
+-- ---- the first state
+
+abbrev has_first : List ℕ → Bool
+has_first [] = false
+has_first (a ∷ rest) = a == 97
+
+-- the line of an offence doesn't begin as `accepted` does
+offence_letter : (o : Offence) (rest : List ℕ) → offence_line o ≡ accepted_line ++ rest → ⊥
+offence_letter (offence.Script fault) rest is = let e : false ≡ true = ap has_first is in cc e
+offence_letter (offence.Dump fault) rest is = let e : false ≡ true = ap has_first is in cc e
+
+refused_letter : (fault : Fault) (rest : List ℕ) → refused_line fault ≡ accepted_line ++ rest → ⊥
+refused_letter fault rest is = let e : false ≡ true = ap has_first is in cc e
+
+no_line : (text : List ℕ) → BeginsWith (transcript text).text accepted_line → IsOneLine (transcript text) → ⊥
+no_line text begins (inl is) = offence_letter is.0 begins.0 (ap (λ (t : Told). t.text) (sym is.1) ∙ begins.1)
+no_line text begins (inr is) = refused_letter is.0 begins.0 (ap (λ (t : Told). t.text) (sym is.1) ∙ begins.1)
+
+first_step : (b : Beginning) (step : Step) (rest : List Step) → steps_in b.number b.lines b.state ≡ step ∷ rest → step.before ≡ b.state
+first_step b step rest is = (subst (GoesOn b.state) is (steps_go_on b.number b.lines b.state)).0
+
+pub starts_as_the_dump_shows : StartsAsTheDumpShows
+starts_as_the_dump_shows text file shows accepted = one (beginning text) refl (whole text)
+  where
+    one : (o : Option Beginning) → beginning text ≡ o → Leads (end_of text) (script_offence text) (transcript text) o
+        → (b : Beginning) × (o ≡ Some b) × (b.state.machine ≡ start_of b.state.now file) × ((step : Step) (rest : List Step) → option_map_or (λ b. steps_in b.number b.lines b.state) o [] ≡ step ∷ rest → step.before ≡ b.state)
+    one None none h = absurd (no_line text (accepted_first text file shows accepted) h)
+    one (Some b) begins h =
+        let has = first_of (λ s. s.now.file ≡ Some file) b.number b.lines b.state (carries (λ s. s.now.file ≡ Some file) 1 (lines_of text) at_start [] b (states_have_the_shown_file text file shows) begins) in
+        (b, refl, (h.is.fresh file has h.windows).1, first_step b)

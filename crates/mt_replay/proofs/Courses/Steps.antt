@@ -16,7 +16,7 @@ use Rattle.mt_dump.proofs.OneLine.{is_sane}
 use Rattle.mt_dump.proofs.Stands.{clean_shown}
 use Rattle.mt_script.specs.Situation.{Situation, at_start}
 use Rattle.mt_script.specs.Kept.{IsSituation}
-use Rattle.mt_script.specs.Stages.{is_in_dump, takes_commands}
+use Rattle.mt_script.specs.Stages.{is_in_dump, takes_commands, takes_windows}
 use Rattle.mt_script.specs.Numbers.{fault_at}
 use Rattle.mt_script.specs.declared.fault.ScriptReason.TheVariants.{NoEnd}
 use Rattle.mt_script.specs.Words.{place_of}
@@ -106,16 +106,17 @@ told_steps end number (line ∷ lines) = one (told_steps end (number + 1) lines)
 -- ---- where they begin
 
 -- The steps begin here: the lines before it tell `accepted` alone, and the first offence is behind it.
-record Begins (end : Place) (first : Option Offence) (telling : Told) (b : Beginning) : Type 0 where
-  is : IsReplayState b.state
-  no_order : b.state.machine.order ≡ None
-  follows : first ≡ offence_in end b.number b.lines b.state.now []
-  tells : telling ≡ behind accepted_line (told_in end b.number b.lines b.state)
+pub record Begins (end : Place) (first : Option Offence) (telling : Told) (b : Beginning) : Type 0 where
+  pub is : IsReplayState b.state
+  pub no_order : b.state.machine.order ≡ None
+  pub windows : takes_windows b.state.now.stage ≡ true
+  pub follows : first ≡ offence_in end b.number b.lines b.state.now []
+  pub tells : telling ≡ behind accepted_line (told_in end b.number b.lines b.state)
 
-abbrev IsOneLine : Told → Type 0
+abbrev pub IsOneLine : Told → Type 0
 IsOneLine t = ((o : Offence) × (t ≡ told_offence o)) ⊎ ((fault : Fault) × (t ≡ told (refused_line fault) Refused))
 
-abbrev Leads : Place → Option Offence → Told → Option Beginning → Type 0
+abbrev pub Leads : Place → Option Offence → Told → Option Beginning → Type 0
 Leads end first telling None = IsOneLine telling
 Leads end first telling (Some b) = Begins end first telling b
 
@@ -130,7 +131,7 @@ module _ (end : Place) (number : ℕ) (line : List ℕ) (lines : List (List ℕ)
       → Leads end (offence_in end (number + 1) lines (finished now file) []) (told_file now file (told_in end (number + 1) lines) fault) (begins_with now file (number + 1) lines fault)
   file_leads dump file good (Some fault) first = inr (fault, refl)
   file_leads dump file good None first =
-      record { is = first_kept now file is dump good (accepted_of file first); no_order = refl; follows = refl; tells = refl }
+      record { is = first_kept now file is dump good (accepted_of file first); no_order = refl; windows = refl; follows = refl; tells = refl }
 
   shown_leads : is_in_dump now.stage ≡ true → (found : Option RegisterFile) → file_in before ≡ found → offence_at_end (place_of number (words_of line) 0) (onto before []) ≡ None
       → Leads end (dump_ends now before found (offence_in end (number + 1) lines)) (told_shown now before (told_in end (number + 1) lines) found) (begins_shown now before (number + 1) lines found)
@@ -183,7 +184,7 @@ all_lead end number [] now before is clean fresh = end_leads end now is fresh (t
 all_lead end number (line ∷ lines) now before is clean fresh =
     line_leads end number line lines (all_lead end (number + 1) lines) now before is clean fresh (command_of now number line) refl
 
-whole : (text : List ℕ) → Leads (end_of text) (script_offence text) (transcript text) (beginning text)
+pub whole : (text : List ℕ) → Leads (end_of text) (script_offence text) (transcript text) (beginning text)
 whole text = all_lead (end_of text) 1 (lines_of text) at_start [] start_is tt refl
 
 -- ---- whole texts

@@ -1,7 +1,7 @@
 use Rattle.mt_replay.proofs.Courses.Calling.{accepted_where_idle_and_whole, goals_are_of_their_sections}
 use Rattle.mt_replay.proofs.Courses.Releasing.{released_updates_are_kept}
 use Rattle.mt_replay.proofs.Courses.Since.{complete_updates_are_kept, refused_updates_change_nothing}
-use Rattle.mt_replay.proofs.Courses.States.{states_are_of_the_course}
+use Rattle.mt_replay.proofs.Courses.States.{starts_as_the_dump_shows, states_are_of_the_course}
 use Rattle.mt_replay.proofs.Courses.Steps.{steps_follow, transcript_is_of_the_course, transcript_is_one_line}
 use Rattle.mt_replay.proofs.headline.the_headline_holds.Goals as goal
 
@@ -31,3 +31,6 @@ returns-clause-refused c = refused_updates_change_nothing
 
 pub returns-clause-states : goal.returns-clause-states
 returns-clause-states c = states_are_of_the_course
+
+pub returns-clause-starts : goal.returns-clause-starts
+returns-clause-starts c = starts_as_the_dump_shows

@@ -1,14 +1,13 @@
-use Rattle.std.proofs.Common.{◌≡◌, ap, sym, refl, arith, inl, inr, ℕ, Bool, true, false, List, [], ◌∷◌, Option, None, Some, ◌==◌, if◌then◌else◌, replicate}
-use Rattle.std.specs.Prelude.{IsSome}
+use Rattle.std.proofs.Common.{◌≡◌, ap, sym, refl, arith, inl, inr, ℕ, Bool, true, false, [], ◌∷◌, ◌==◌, if◌then◌else◌}
 use Rattle.std.specs.Fmt.{digits}
 use Rattle.std.specs.List.{Contains}
 use Rattle.std.proofs.lemmas.Bool.{eqb-true}
 use Rattle.mt_kinds.specs.declared.mem_type.MemType.TheVariants.{WB}
 use Rattle.mt_regs.specs.RegisterFile.{RegisterFile}
-use Rattle.mt_machine.specs.Memory.{Memory, place, word_at}
+use Rattle.mt_machine.specs.Memory.{word_at}
 use Rattle.mt_machine.specs.System.{Processor}
 use Rattle.mt_replay.specs.Headline.{HoldsOnly}
-use Rattle.mt_replay.specs.WorkedScript.{machine_of, seven_stored, updated_processor, worked_file}
+use Rattle.mt_replay.specs.WorkedScript.{machine_of, updated_processor, worked_file}
 use Rattle.mt_replay.proofs.Courses.Worked.{alone, nothing, zero_word}
 use Rattle.mt_replay.proofs.headline.worked_refusals.Goals as goal
 
