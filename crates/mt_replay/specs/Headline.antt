@@ -1,7 +1,12 @@
--- The headline of a script (own): what the transcript tells, and what holds of the machine once it tells that an update is complete.
---     course text      the steps of a text: what each line behind the dump does, up to the first offence
+-- The headline of a script (own), phrase by phrase: "Whatever bytes a script has, the tool writes exactly the transcript; in every
+-- interleaving of processor steps, once any processor is told that an accepted update is complete, and until the next is called,
+-- every processor holds those register values, no cache, buffer or TLB entry is older than the update, and memory holds every store
+-- cached before it, save words stored again since. A refused update changes no processor."
+--     course text      the steps of a text: what each line behind the dump does, in its order, up to the first offence
 --     wrote step, left step      the text that a step writes, and the state that it leaves
+--     IsCall step      the step says `called` or `complete E`
 --     Keeps goal era value stored m      every processor has the goal, nothing is older than the update, memory has each word
+--     CompleteUpdatesAreKept, ReleasedUpdatesAreKept      the machine does so from the line `complete E` or `release` on
 use Rattle.std.specs.Prelude.{ℕ, ◌≡◌, ◌⊎◌, ◌↔◌, ◌+◌, Bool, true, false, List, [], ◌∷◌, ◌++◌, codes, IsSome, ⊤, Option, Some, None, Result, Ok, Err}
 use Rattle.std.specs.List.{All, Contains}
 use Rattle.std.specs.Option.{option_map_or}
@@ -150,16 +155,6 @@ StatesAreOfTheCourse =
     (text : List ℕ) (test : ReplayState → Bool) → HoldsThrough (λ s. test s ≡ true) text
     → (front rest : List Step) (step : Step) → course text ≡ front ++ step ∷ rest → (test step.before ≡ true) × (test (left step) ≡ true)
 
--- ---- "a refused update changes no processor"
-
-abbrev pub IsRefused : Step → Type 0
-IsRefused step = ((fault : Fault) × (wrote step ≡ refused_line fault)) ⊎ (wrote step ≡ line (codes "under way"))
-
--- nor memory, nor an update under way
-abbrev pub RefusedUpdatesChangeNothing : Type 0
-RefusedUpdatesChangeNothing =
-    (text : List ℕ) (front rest : List Step) (step : Step) → course text ≡ front ++ step ∷ rest → IsRefused step → (left step).machine ≡ step.before.machine
-
 -- ---- "an accepted update"
 
 -- a step calls for an update
@@ -171,6 +166,38 @@ abbrev pub AcceptedWhereIdleAndWhole : Type 0
 AcceptedWhereIdleAndWhole =
     (text : List ℕ) (front rest : List Step) (step : Step) → course text ≡ front ++ step ∷ rest → step.command ≡ command.End
     → IsCall step ↔ ((step.before.machine.order ≡ None) × IsAccepted step.before.goal)
+
+-- ---- "until the next is called"
+
+-- of no step it holds
+abbrev pub NoneOf : (Step → Type 0) → List Step → Type 0
+NoneOf P [] = ⊤
+NoneOf P (step ∷ steps) = (P step → ⊥) × NoneOf P steps
+
+abbrev pub NoneWrote : List ℕ → List Step → Type 0
+NoneWrote text steps = NoneOf (λ step. wrote step ≡ text) steps
+
+-- the era of the processors after an update that this step begins
+abbrev pub next_era : Step → ℕ
+next_era step = common_era step.before.machine.system.processors + 1
+
+-- ---- "those register values"
+
+-- a line of a section gives the goal one register
+abbrev pub given : RegisterFile → Command → RegisterFile
+given goal (command.Register number value) = with_register goal number value
+given goal other = goal
+
+abbrev pub goal_of : RegisterFile → List Step → RegisterFile
+goal_of goal [] = goal
+goal_of goal (step ∷ steps) = goal_of (given goal step.command) steps
+
+-- the goal at the end of a section is processor 0's registers where it begins, with those that its lines give
+abbrev pub GoalsAreOfTheirSections : Type 0
+GoalsAreOfTheirSections =
+    (text : List ℕ) (front lines rest : List Step) (opens ends : Step) → course text ≡ front ++ opens ∷ (lines ++ ends ∷ rest)
+    → (opens.command ≡ command.Update) ⊎ (opens.command ≡ command.Begin) → NoneOf (λ step. step.command ≡ command.End) lines
+    → ends.before.goal ≡ goal_of (first_file opens.before) lines
 
 -- ---- "every processor holds those register values, no cache, buffer or TLB entry is older than the update,
 -- ---- and memory holds every store cached before it, save words stored again since"
@@ -193,20 +220,6 @@ stored_in (step ∷ steps) = option_map_or (λ a. a ∷ stored_in steps) (stored
 abbrev pub last_of : ReplayState → List Step → ReplayState
 last_of s [] = s
 last_of s (step ∷ steps) = last_of (left step) steps
-
--- ---- "until the next is called"
-
--- of no step it holds
-abbrev pub NoneOf : (Step → Type 0) → List Step → Type 0
-NoneOf P [] = ⊤
-NoneOf P (step ∷ steps) = (P step → ⊥) × NoneOf P steps
-
-abbrev pub NoneWrote : List ℕ → List Step → Type 0
-NoneWrote text steps = NoneOf (λ step. wrote step ≡ text) steps
-
--- the era of the processors after an update that this step begins
-abbrev pub next_era : Step → ℕ
-next_era step = common_era step.before.machine.system.processors + 1
 
 -- ---- "once any processor is told that an accepted update is complete": all at once by `complete E`
 
@@ -253,20 +266,12 @@ ReleasedUpdatesAreKept =
     → (u : UpdateOf front release)
     × Keeps u.call.before.goal (next_era u.call) (now u.pass.before.machine.system) (stored_in (u.again ++ since)) (last_of (left release) since).machine
 
--- ---- "those register values"
+-- ---- "a refused update changes no processor"
 
--- a line of a section gives the goal one register
-abbrev pub given : RegisterFile → Command → RegisterFile
-given goal (command.Register number value) = with_register goal number value
-given goal other = goal
+abbrev pub IsRefused : Step → Type 0
+IsRefused step = ((fault : Fault) × (wrote step ≡ refused_line fault)) ⊎ (wrote step ≡ line (codes "under way"))
 
-abbrev pub goal_of : RegisterFile → List Step → RegisterFile
-goal_of goal [] = goal
-goal_of goal (step ∷ steps) = goal_of (given goal step.command) steps
-
--- the goal at the end of a section is processor 0's registers where it begins, with those that its lines give
-abbrev pub GoalsAreOfTheirSections : Type 0
-GoalsAreOfTheirSections =
-    (text : List ℕ) (front lines rest : List Step) (opens ends : Step) → course text ≡ front ++ opens ∷ (lines ++ ends ∷ rest)
-    → (opens.command ≡ command.Update) ⊎ (opens.command ≡ command.Begin) → NoneOf (λ step. step.command ≡ command.End) lines
-    → ends.before.goal ≡ goal_of (first_file opens.before) lines
+-- nor memory, nor an update under way
+abbrev pub RefusedUpdatesChangeNothing : Type 0
+RefusedUpdatesChangeNothing =
+    (text : List ℕ) (front rest : List Step) (step : Step) → course text ≡ front ++ step ∷ rest → IsRefused step → (left step).machine ≡ step.before.machine
