@@ -255,38 +255,49 @@ Told front release since =
 module _ (text : List ℕ) (front since rest : List Step) (release : Step) (same : course text ≡ front ++ release ∷ (since ++ rest)) (released : wrote release ≡ release_line) (quiet : NoneOf IsCall since)
     (before : List Step) (call : Step) (behind : List Step) (split : front ≡ before ++ call ∷ behind) (called : wrote call ≡ called_line) (none : NoneOf IsCall behind) where
   -- the steps from the call to this release, by its first release
-  told : (upto : List Step) (first : Step) (again : List Step) → behind ++ release ∷ [] ≡ upto ++ first ∷ again → NoneWrote release_line upto → wrote first ≡ release_line
-      → last_of (left first) again ≡ left release → Told front release since
-  told upto first again is silent releases last =
-      let all : NoneOf IsCall (upto ++ first ∷ again) = subst (NoneOf IsCall) is (none_joined IsCall behind (release ∷ []) none (no_call_of release text released, tt)) in
-      let later : NoneOf IsCall (first ∷ again) = none_behind IsCall upto (first ∷ again) all in
-      let course_is : course text ≡ before ++ call ∷ (upto ++ first ∷ ((again ++ since) ++ rest)) =
-      same ∙ ap (λ (xs : List Step). xs ++ release ∷ (since ++ rest)) split
-      ∙ append_assoc before (call ∷ behind) (release ∷ (since ++ rest))
-      ∙ ap (λ (xs : List Step). before ++ call ∷ xs) (sym (append_assoc behind (release ∷ []) (since ++ rest)) ∙ ap (λ (xs : List Step). xs ++ (since ++ rest)) is ∙ append_assoc upto (first ∷ again) (since ++ rest)
-      ∙ ap (λ (xs : List Step). upto ++ first ∷ xs) (sym (append_assoc again since rest))) in
-      let r = released_in text before upto (again ++ since) rest call first course_is called (none_before IsCall upto (first ∷ again) all) silent releases (none_joined IsCall again since later.1 quiet) in
-      let inside : upto ++ first ∷ again ≡ r.0 ++ r.1 ∷ (r.2 ++ first ∷ again) = ap (λ (xs : List Step). xs ++ first ∷ again) r.3 ∙ append_assoc r.0 (r.1 ∷ r.2) (first ∷ again) in
-      let end : last_of (left first) (again ++ since) ≡ last_of (left release) since = last_join again since (left first) ∙ ap (λ (x : ReplayState). last_of x since) last in (
-        record {
-          before = before;
-          call = call;
-          waiting = r.0;
-          pass = r.1;
-          between = r.2;
-          first = first;
-          again = again;
-          stand = ap (λ (xs : List Step). xs ++ release ∷ []) split ∙ append_assoc before (call ∷ behind) (release ∷ []) ∙ ap (λ (xs : List Step). before ++ call ∷ xs) (is ∙ inside);
-          calls = called;
-          passes = r.5;
-          releases = releases;
-          no_other_call = subst (NoneOf IsCall) inside all;
-          first_pass = r.4;
-          first_release = subst (NoneWrote release_line) r.3 silent;
-          no_store_waits = r.6;
-        },
-        subst (λ (x : ReplayState). Keeps call.before.goal (next_era call) (now r.1.before.machine.system) (stored_in (again ++ since)) x.machine) end r.7,
-      )
+  module _ (upto : List Step) (first : Step) (again : List Step) (is : behind ++ release ∷ [] ≡ upto ++ first ∷ again) (silent : NoneWrote release_line upto) (releases : wrote first ≡ release_line)
+      (last : last_of (left first) again ≡ left release) where
+    all : NoneOf IsCall (upto ++ first ∷ again)
+    all = subst (NoneOf IsCall) is (none_joined IsCall behind (release ∷ []) none (no_call_of release text released, tt))
+
+    course_so : course text ≡ before ++ call ∷ (upto ++ first ∷ ((again ++ since) ++ rest))
+    course_so =
+        same ∙ ap (λ (xs : List Step). xs ++ release ∷ (since ++ rest)) split
+        ∙ append_assoc before (call ∷ behind) (release ∷ (since ++ rest))
+        ∙ ap (λ (xs : List Step). before ++ call ∷ xs)
+        (sym (append_assoc behind (release ∷ []) (since ++ rest)) ∙ ap (λ (xs : List Step). xs ++ (since ++ rest)) is ∙ append_assoc upto (first ∷ again) (since ++ rest)
+        ∙ ap (λ (xs : List Step). upto ++ first ∷ xs) (sym (append_assoc again since rest)))
+
+    end : last_of (left first) (again ++ since) ≡ last_of (left release) since
+    end = last_join again since (left first) ∙ ap (λ (x : ReplayState). last_of x since) last
+
+    tell : Released call upto first (again ++ since) → Told front release since
+    tell r =
+        let inside : upto ++ first ∷ again ≡ r.0 ++ r.1 ∷ (r.2 ++ first ∷ again) = ap (λ (xs : List Step). xs ++ first ∷ again) r.3 ∙ append_assoc r.0 (r.1 ∷ r.2) (first ∷ again) in (
+          record {
+            before = before;
+            call = call;
+            waiting = r.0;
+            pass = r.1;
+            between = r.2;
+            first = first;
+            again = again;
+            stand = ap (λ (xs : List Step). xs ++ release ∷ []) split ∙ append_assoc before (call ∷ behind) (release ∷ []) ∙ ap (λ (xs : List Step). before ++ call ∷ xs) (is ∙ inside);
+            calls = called;
+            passes = r.5;
+            releases = releases;
+            no_other_call = subst (NoneOf IsCall) inside all;
+            first_pass = r.4;
+            first_release = subst (NoneWrote release_line) r.3 silent;
+            no_store_waits = r.6;
+          },
+          subst (λ (x : ReplayState). Keeps call.before.goal (next_era call) (now r.1.before.machine.system) (stored_in (again ++ since)) x.machine) end r.7,
+        )
+
+    told : Told front release since
+    told =
+        let later : NoneOf IsCall (first ∷ again) = none_behind IsCall upto (first ∷ again) all in
+        tell (released_in text before upto (again ++ since) rest call first course_so called (none_before IsCall upto (first ∷ again) all) silent releases (none_joined IsCall again since later.1 quiet))
 
   told_of : FirstRelease behind ⊎ NoneWrote release_line behind → Told front release since
   told_of (inl f) =
