@@ -7,7 +7,7 @@
 --     IsCall step      the step says `called` or `complete E`
 --     Keeps goal era value stored m      every processor has the goal, nothing is older than the update, memory has each word
 --     CompleteUpdatesAreKept, ReleasedUpdatesAreKept      the machine does so from the line `complete E` or `release` on
-use Rattle.std.specs.Prelude.{ℕ, ◌≡◌, ◌⊎◌, ◌↔◌, ◌+◌, Bool, true, false, List, [], ◌∷◌, ◌++◌, codes, IsSome, ⊤, Option, Some, None, Result, Ok, Err}
+use Rattle.std.specs.Prelude.{ℕ, ◌≡◌, ◌⊎◌, ◌↔◌, ◌+◌, Bool, true, false, List, [], ◌∷◌, ◌++◌, codes, length, IsSome, ⊤, Option, Some, None, Result, Ok, Err}
 use Rattle.std.specs.List.{All, Contains}
 use Rattle.std.specs.Option.{option_map_or}
 use Rattle.mt_text.specs.Text.{lines_of, words_of}
@@ -137,6 +137,13 @@ abbrev pub TranscriptIsOneLine : Type 0
 TranscriptIsOneLine =
     (text : List ℕ) → beginning text ≡ None
     → ((o : Offence) × (transcript text ≡ told_offence o)) ⊎ ((fault : Fault) × (transcript text ≡ told (refused_line fault) Refused))
+
+-- a step is what the script's line of its number asks for
+abbrev pub StepsAreOfTheirLines : Type 0
+StepsAreOfTheirLines =
+    (text : List ℕ) (front rest : List Step) (step : Step) → course text ≡ front ++ step ∷ rest
+    → (above : List (List ℕ)) × (line : List ℕ) × (below : List (List ℕ))
+    × (lines_of text ≡ above ++ line ∷ below) × (step.number ≡ length above + 1) × (command_of step.before.now step.number line ≡ Ok step.command)
 
 -- Where the dump shows a file without a fault, the first step finds processors with that file, to which nothing has happened.
 abbrev pub StartsAsTheDumpShows : Type 0

@@ -1,6 +1,6 @@
 ghost use Rattle.std.specs.Prelude.{◌≡◌, ◌∷◌, [], None, false, map, replicate};
 ghost use Rattle.mt_kinds.specs.declared.mem_type.MemType.TheVariants.{WB};
-ghost use Rattle.mt_replay.specs.Headline.{AcceptedWhereIdleAndWhole, CompleteUpdatesAreKept, GoalsAreOfTheirSections, IsCall, IsRefused, NoneOf, RefusedUpdatesChangeNothing, ReleasedUpdatesAreKept, StartsAsTheDumpShows, StatesAreOfTheCourse, StepsFollow, TranscriptIsOfTheCourse, TranscriptIsOneLine, course, left, release_line, wrote};
+ghost use Rattle.mt_replay.specs.Headline.{AcceptedWhereIdleAndWhole, CompleteUpdatesAreKept, GoalsAreOfTheirSections, IsCall, IsRefused, NoneOf, RefusedUpdatesChangeNothing, ReleasedUpdatesAreKept, StartsAsTheDumpShows, StatesAreOfTheCourse, StepsAreOfTheirLines, StepsFollow, TranscriptIsOfTheCourse, TranscriptIsOneLine, course, left, release_line, wrote};
 ghost use Rattle.mt_replay.specs.Kept.{HoldsThrough};
 ghost use Rattle.mt_replay.specs.Statuses.{AreWithoutCall};
 ghost use Rattle.mt_script.specs.declared.command.Command.TheVariants as command;
@@ -15,6 +15,7 @@ ghost use Rattle.mt_replay.specs.WorkedScript.{IsKept, IsQuietFrom, seven_stored
 pub fn the_headline_holds()
     ensures transcript { TranscriptIsOfTheCourse }
     ensures one_line { TranscriptIsOneLine }
+    ensures lines { StepsAreOfTheirLines }
     ensures starts { StartsAsTheDumpShows }
     ensures follow { StepsFollow }
     ensures states { StatesAreOfTheCourse }

@@ -1,4 +1,5 @@
 use Rattle.mt_replay.proofs.Courses.Calling.{accepted_where_idle_and_whole, goals_are_of_their_sections}
+use Rattle.mt_replay.proofs.Courses.Numbers.{steps_are_of_their_lines}
 use Rattle.mt_replay.proofs.Courses.Releasing.{released_updates_are_kept}
 use Rattle.mt_replay.proofs.Courses.Since.{complete_updates_are_kept, refused_updates_change_nothing}
 use Rattle.mt_replay.proofs.Courses.States.{starts_as_the_dump_shows, states_are_of_the_course}
@@ -34,3 +35,6 @@ returns-clause-states c = states_are_of_the_course
 
 pub returns-clause-starts : goal.returns-clause-starts
 returns-clause-starts c = starts_as_the_dump_shows
+
+pub returns-clause-lines : goal.returns-clause-lines
+returns-clause-lines c = steps_are_of_their_lines
