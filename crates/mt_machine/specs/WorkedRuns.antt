@@ -15,7 +15,7 @@ use Rattle.mt_machine.specs.declared.event.Event.{Event}
 use Rattle.mt_machine.specs.declared.op.Op.{Op}
 use Rattle.mt_machine.specs.declared.op.Op.TheVariants.{Load, Store}
 use Rattle.mt_machine.specs.declared.done.Done.{Done}
-use Rattle.mt_machine.specs.Memory.{Window, word_at}
+use Rattle.mt_machine.specs.Memory.{Window, put_word, word_at}
 use Rattle.mt_machine.specs.System.{Processor, start_processor, lines_of, buffers_of}
 use Rattle.mt_machine.specs.Access.{access}
 use Rattle.mt_machine.specs.Machine.{Machine, MachineEvent, Accesses, Controls, Calls, Goes, Steps, due_at, next, run}
@@ -198,3 +198,32 @@ wide_alone p = record {
   system = record { processors = p ∷ []; memory = zero_memory (record { base = 0x100000; lines = 65 } ∷ []) };
   order = None;
 }
+
+-- a line at the window's begin, whose words 1 and 2 are dirty
+abbrev pub line_of : ℕ → ℕ → CacheLine
+line_of number era = record { number = number; words = 0 ∷ 6 ∷ 7 ∷ 0 ∷ 0 ∷ 0 ∷ 0 ∷ 0 ∷ []; dirty = 6; era = era }
+
+-- it has the registers of goal_of, and a line, a buffer and an entry of era 1
+abbrev pub keeper : Processor
+keeper = record (start_processor goal_of) {
+  lines = line_of 0x4000 1 ∷ [];
+  buffers = line_of 0x4000 1 ∷ [];
+  entries = record (entry 1 false) { era = 1 } ∷ [];
+  era = 1;
+}
+
+-- it keeps all that a processor keeps, and has a line, a buffer and an entry
+abbrev pub whole : Processor
+whole = record (start_processor (bare_file 0x800)) {
+  mappings = mapping 1 0x100 7 ∷ [];
+  lines = line_of 0x4000 0 ∷ [];
+  buffers = line_of 0x4000 0 ∷ [];
+  entries = entry 1 false ∷ [];
+}
+
+abbrev pub idle : Processor
+idle = start_processor (bare_file 0x800)
+
+-- over 64 lines whose first word is this number, and 0 everywhere else
+abbrev pub with_first_word : ℕ → Machine → Machine
+with_first_word value m = record m { system = record m.system { memory = put_word m.system.memory 0x100000 value } }

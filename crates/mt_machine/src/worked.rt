@@ -1,11 +1,15 @@
 mod controls;
 mod loads;
 mod scripts;
+mod settled;
+mod sound;
 mod steps;
 mod stores;
 
 pub use controls::{worked_controls, worked_refusals};
 pub use loads::{worked_loads, worked_translations};
 pub use scripts::{worked_barrier, worked_buffers, worked_cancel, worked_snoops, worked_updates};
+pub use settled::{worked_held, worked_kinds, worked_settled, worked_stored_words};
+pub use sound::{worked_memory, worked_processors, worked_sound};
 pub use steps::{worked_phases, worked_steps};
 pub use stores::{worked_combining, worked_stores};

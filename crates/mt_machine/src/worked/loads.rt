@@ -1,5 +1,5 @@
 ghost use Rattle.std.specs.Prelude.{◌≡◌, ◌∷◌, [], Some, false, length, map, slice_get, true};
-ghost use Rattle.mt_kinds.specs.declared.mem_type.MemType.TheVariants.{UC, WB, WC, WT};
+ghost use Rattle.mt_kinds.specs.declared.mem_type.MemType.TheVariants.{UC, WB, WC, WP, WT};
 ghost use Rattle.mt_machine.specs.declared.control.Control.TheVariants.{Invlpg, Pge};
 ghost use Rattle.mt_machine.specs.declared.done.Done.TheVariants.{Value};
 ghost use Rattle.mt_machine.specs.declared.op.Op.TheVariants.{Load};
@@ -21,6 +21,14 @@ pub fn worked_loads()
     ensures wc_hit_as_miss { cached (run palette (store 0 0x1000 5 ∷ load 0 0x3000 ∷ [])) 0 ≡ (0x4000, 0) ∷ [] }
     ensures wt_empties_its_line { answer_of (run palette (store 0 0x3000 7 ∷ [])) 0 (Load 0x2000) ≡ Value 7 WT }
     ensures wt_leaves_other_buffers { pending (run palette (store 0 0x3000 7 ∷ store 0 0x3040 8 ∷ load 0 0x2000 ∷ [])) 0 ≡ (0x4001, 1) ∷ [] }
+    ensures wp_empties_its_line { pending (run palette (store 0 0x3000 7 ∷ store 0 0x3040 8 ∷ load 0 0x5000 ∷ [])) 0 ≡ (0x4001, 1) ∷ [] }
+    ensures wp_value { answer_of (run palette (store 0 0x3000 7 ∷ [])) 0 (Load 0x5000) ≡ Value 7 WP }
+    ensures wp_hit_reads_the_cache { answer_of (run palette (store 0 0x1000 5 ∷ [])) 0 (Load 0x5000) ≡ Value 5 WP }
+    ensures wp_reads_the_bus { memory_at (run palette (store 1 0x1008 9 ∷ load 0 0x5000 ∷ [])) 0x100008 ≡ 9 }
+    ensures wt_reads_the_bus { memory_at (run palette (store 1 0x1008 9 ∷ load 0 0x2000 ∷ [])) 0x100008 ≡ 9 }
+    ensures wc_reads_the_bus { memory_at (run palette (store 1 0x1008 9 ∷ load 0 0x3000 ∷ [])) 0x100008 ≡ 9 }
+    ensures wb_empties_its_line { pending (run palette (store 0 0x3000 7 ∷ store 0 0x3040 8 ∷ load 0 0x1000 ∷ [])) 0 ≡ (0x4001, 1) ∷ [] }
+    ensures wb_value { answer_of (run palette (store 0 0x3000 7 ∷ [])) 0 (Load 0x1000) ≡ Value 7 WB }
     ensures wt_fills { cached (run palette (load 0 0x2000 ∷ [])) 0 ≡ (0x4000, 0) ∷ [] }
     ensures wp_fills { cached (run palette (load 0 0x5000 ∷ [])) 0 ≡ (0x4000, 0) ∷ [] }
     ensures wb_fills { cached (run palette (load 0 0x1000 ∷ [])) 0 ≡ (0x4000, 0) ∷ [] }
@@ -29,6 +37,10 @@ pub fn worked_loads()
     ensures hit_reads_the_cache { answer_of (run palette (store 0 0x1000 5 ∷ [])) 0 (Load 0x2000) ≡ Value 5 WT }
     ensures hit_writes_nothing { memory_at (run palette (store 0 0x1000 5 ∷ load 0 0x1000 ∷ [])) 0x100000 ≡ 0 }
     ensures no_fill { cached (run palette (no_fill 0 ∷ load 0 0x1000 ∷ [])) 0 ≡ [] }
+    ensures no_fill_wt { cached (run palette (no_fill 0 ∷ load 0 0x2000 ∷ [])) 0 ≡ [] }
+    ensures no_fill_wp { cached (run palette (no_fill 0 ∷ load 0 0x5000 ∷ [])) 0 ≡ [] }
+    ensures no_fill_hit_wt { answer_of (run palette (store 0 0x1000 5 ∷ no_fill 0 ∷ [])) 0 (Load 0x2000) ≡ Value 5 WT }
+    ensures no_fill_hit_wp { answer_of (run palette (store 0 0x1000 5 ∷ no_fill 0 ∷ [])) 0 (Load 0x5000) ≡ Value 5 WP }
     ensures no_fill_hit { answer_of (run palette (store 0 0x1000 5 ∷ no_fill 0 ∷ [])) 0 (Load 0x1000) ≡ Value 5 WB }
     ensures no_fill_hit_stays { cached (run palette (store 0 0x1000 5 ∷ no_fill 0 ∷ load 0 0x1000 ∷ [])) 0 ≡ (0x4000, 1) ∷ [] }
     ensures era { (own (run (alone (record (holder true) { era = 3; lines = [] })) (load 0 0x1000 ∷ [])) 0).lines ≡ record { number = 0x4000; words = 0 ∷ 0 ∷ 0 ∷ 0 ∷ 0 ∷ 0 ∷ 0 ∷ 0 ∷ []; dirty = 0; era = 3 } ∷ [] }

@@ -5,7 +5,7 @@ ghost use Rattle.mt_regs.specs.WorkedRows.{four_gigabytes};
 ghost use Rattle.mt_machine.specs.declared.event.Event.TheVariants.{Arrive, ArriveAgain, Disable, DropLines, Enable, FlushTlb, Leave, Pass, Release, RestorePge, SetNoFill, SetNormal, Write, WriteBack};
 ghost use Rattle.mt_machine.specs.declared.phase.Phase.TheVariants.{Arrived2, Enabled, Flushed2, Running};
 ghost use Rattle.mt_machine.specs.Machine.{Calls, Cancels, Goes, due_at, run};
-ghost use Rattle.mt_machine.specs.WorkedRuns.{alone, begun, both_arrived, cached, called, goal_of, holder, memory_at, own, palette, store, uncached_goal, walk};
+ghost use Rattle.mt_machine.specs.WorkedRuns.{alone, begun, both_arrived, cached, called, dirty_lines, goal_of, holder, memory_at, own, palette, store, uncached_goal, walk};
 
 /// Rows of the table of events, up to where the ranges are off.
 pub fn worked_steps()
@@ -34,6 +34,10 @@ pub fn worked_steps()
     ensures not_remembered { (own (walk 8 0 (called (alone (record (holder false) { remembered_global = true })))) 0).remembered_global ≡ false }
     ensures disable { due_at (walk 8 0 (called (alone (holder true)))) 0 ≡ Some Disable }
     ensures disabled { value_of (own (walk 9 0 (called (alone (holder true)))) 0).file DefaultType ≡ 0 }
+    ensures disabled_alone { (own (walk 9 0 (called (alone (record (holder true) { file = with_value four_gigabytes DefaultType 0xc06 })))) 0).file.default_type ≡ 0x406 }
+    ensures pass_leaves_the_cache { (own (walk 3 0 (called (alone (holder true)))) 0).cache_disabled ≡ false }
+    ensures first_line_first { due_at (walk 4 0 (called (alone (record (holder true) { lines = dirty_lines 0x4001 2 })))) 0 ≡ Some (WriteBack 0x100040 0x4001) }
+    ensures then_the_second { due_at (walk 5 0 (called (alone (record (holder true) { lines = dirty_lines 0x4001 2 })))) 0 ≡ Some (WriteBack 0x100080 0x4002) }
     ensures disabled_already { (own (walk 9 0 (called (alone (record (holder true) { file = with_value four_gigabytes DefaultType 0x406 })))) 0).file.default_type ≡ 0x406 }
 {}
 
@@ -47,6 +51,10 @@ pub fn worked_phases()
     ensures drop_again { due_at (walk 38 0 (called (alone (holder true)))) 0 ≡ Some DropLines }
     ensures flush_again { due_at (walk 39 0 (called (alone (holder true)))) 0 ≡ Some FlushTlb }
     ensures normal { due_at (walk 40 0 (called (alone (holder true)))) 0 ≡ Some SetNormal }
+    ensures disabled_while_written { (own (walk 38 0 (called (alone (holder true)))) 0).cache_disabled ≡ true }
+    ensures disabled_up_to_the_flush { (own (walk 40 0 (called (alone (holder true)))) 0).cache_disabled ≡ true }
+    ensures not_yet_restored { (own (walk 41 0 (called (alone (holder true)))) 0).page_global ≡ false }
+    ensures still_remembered { (own (walk 41 0 (called (alone (holder true)))) 0).remembered_global ≡ true }
     ensures enabled_cache { (own (walk 41 0 (called (alone (holder true)))) 0).cache_disabled ≡ false }
     ensures restore { due_at (walk 41 0 (called (alone (holder true)))) 0 ≡ Some RestorePge }
     ensures restored { (own (walk 42 0 (called (alone (holder true)))) 0).page_global ≡ true }
