@@ -9,3 +9,4 @@ pub mod Statuses
 pub mod Texts
 pub mod Transcript
 pub mod WorkedScript
+pub mod WorkedStates

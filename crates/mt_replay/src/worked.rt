@@ -1,3 +1,5 @@
+mod states;
+
 ghost use Rattle.std.specs.Prelude.{◌≡◌, ◌∷◌, [], codes, replicate, true, false, None, Some};
 ghost use Rattle.mt_kinds.specs.declared.mem_type.MemType.TheVariants.{UC, WC, WB};
 ghost use Rattle.mt_regs.specs.declared.fault.Reason.TheVariants.{ReservedBit, UnsupportedType, BrokenMask, UndefinedOverlap};
@@ -10,6 +12,8 @@ ghost use Rattle.mt_machine.specs.System.{start_processor};
 ghost use Rattle.mt_core.specs.declared.fault.CallFault.TheVariants.{Refused, UnderWay};
 ghost use Rattle.mt_core.specs.declared.stepped.Stepped.TheVariants.{Did, Waits, NoUpdate};
 ghost use Rattle.mt_replay.specs.Texts.{call_fault_line, called_line, cancel_line, complete_line, done_line, event_text, go_line, have_one_file, memory_line, phase_text, processor_line, register_line, registers_line, report_text, ruled_line, stepped_line};
+
+pub use states::{worked_each_state, worked_settled_states, worked_without_call, worked_words};
 
 /// What accesses and control instructions are answered.
 #[tactic(auto, unfolding(hex::specs::Hex::encode_with))]

@@ -1,0 +1,40 @@
+-- States of worked examples.
+use Rattle.std.specs.Prelude.{List, [], ◌∷◌, Some}
+use Rattle.mt_machine.specs.Machine.{Machine, MachineEvent, Calls, run}
+use Rattle.mt_machine.specs.Update.{updated}
+use Rattle.mt_machine.specs.WorkedRuns.{bare_file, idle, machine_of, palette, store}
+use Rattle.mt_script.specs.Situation.{Situation}
+use Rattle.mt_script.specs.declared.command.Stage.{Stage}
+use Rattle.mt_script.specs.declared.command.Stage.TheVariants.{Commands, InUpdate}
+use Rattle.mt_replay.specs.ReplayState.{ReplayState}
+
+abbrev pub two_processors : Stage → Situation
+two_processors stage = record { stage = stage; cpus = 2; file = Some (bare_file 0x800); windows = (0x100000, 64) ∷ []; seen = [] }
+
+-- two processors with this machine, whose goal has no fault
+abbrev pub state_of : Stage → Machine → ReplayState
+state_of stage m = record { now = two_processors stage; machine = m; goal = bare_file 0x800 }
+
+-- one page is mapped five times
+abbrev pub painted : ReplayState
+painted = state_of Commands palette
+
+-- after these events
+abbrev pub painted_by : List MachineEvent → ReplayState
+painted_by es = state_of Commands (run palette es)
+
+-- both have an accepted file, and no update is under way
+abbrev pub resting : Stage → ReplayState
+resting stage = state_of stage (machine_of (idle ∷ idle ∷ []))
+
+-- one is
+abbrev pub busy : Stage → ReplayState
+busy stage = state_of stage (run (machine_of (idle ∷ idle ∷ [])) (Calls (bare_file 0x800) ∷ []))
+
+-- the word at 100000H is dirty in a cache, at the end of a section
+abbrev pub at_end : ReplayState
+at_end = state_of InUpdate (run palette (store 0 0x1000 7 ∷ []))
+
+-- the machine after its update
+abbrev pub after_end : Machine
+after_end = updated at_end.machine.system (0 ∷ 1 ∷ []) (bare_file 0x800)

@@ -1,0 +1,49 @@
+ghost use Rattle.std.specs.Prelude.{◌≡◌, ◌∷◌, [], codes, false, None, Some};
+ghost use Rattle.mt_machine.specs.Machine.{Calls, run};
+ghost use Rattle.mt_machine.specs.Start.{zero_memory};
+ghost use Rattle.mt_machine.specs.WorkedRuns.{bare_file, one_window, palette, store};
+ghost use Rattle.mt_script.specs.declared.command.Command.TheVariants as asks;
+ghost use Rattle.mt_script.specs.declared.command.Stage.TheVariants as stage;
+ghost use Rattle.mt_replay.specs.Kept.{EachIn, EachOfFile, EachUnless};
+ghost use Rattle.mt_replay.specs.Statuses.{AreHeld, AreWithoutCall, IsSettledAfter, stored_by, stored_by_all};
+ghost use Rattle.mt_replay.specs.WorkedStates.{after_end, at_end, busy, painted, painted_by, resting};
+
+/// Commands among which no call is accepted, and such as one is among or one doesn't fit.
+pub fn worked_without_call()
+    ensures none { AreWithoutCall painted [] }
+    ensures fit { AreWithoutCall painted (asks.Store 0 0x1000 7 ∷ asks.Blank ∷ asks.Go ∷ asks.Update ∷ []) }
+    ensures under_way { AreWithoutCall (busy stage.Commands) (asks.Begin ∷ asks.End ∷ asks.Report ∷ []) }
+    ensures no_such_processor { AreWithoutCall painted (asks.Blank ∷ asks.Fence 2 ∷ []) → ⊥ }
+    ensures no_section { AreWithoutCall (busy stage.Commands) (asks.End ∷ []) → ⊥ }
+    ensures called { AreWithoutCall (resting stage.InBegin) (asks.End ∷ []) → ⊥ }
+    ensures updated_later { AreWithoutCall (resting stage.Commands) (asks.Fence 0 ∷ asks.Update ∷ asks.End ∷ []) → ⊥ }
+{}
+
+/// What holds of each state that lines lead to, and what doesn't of one of them.
+pub fn worked_each_state()
+    ensures each { EachIn (λ s. s.now.stage ≡ stage.Commands) 1 (codes "fence 0" ∷ codes "go" ∷ []) painted }
+    ensures up_to_an_offence { EachIn (λ s. s.now.stage ≡ stage.Commands) 1 (codes "fence 2" ∷ codes "begin" ∷ []) painted }
+    ensures not_of_the_first { EachIn (λ s. s.now.stage ≡ stage.InBegin) 1 (codes "begin" ∷ []) painted → ⊥ }
+    ensures not_of_the_second { EachIn (λ s. s.now.stage ≡ stage.Commands) 1 (codes "begin" ∷ codes "end" ∷ []) painted → ⊥ }
+    ensures not_of_the_last { EachIn (λ s. s.now.stage ≡ stage.Commands) 1 (codes "fence 0" ∷ codes "begin" ∷ []) painted → ⊥ }
+    ensures after_the_dump { EachOfFile painted.now (bare_file 0x800) (λ s. s.now.stage ≡ stage.Commands) None → ⊥ }
+    ensures after_a_line_of_the_dump { EachUnless None (stage.Rams ≡ stage.Commands) → ⊥ }
+{}
+
+/// The words that commands store, and words that are held and are not.
+pub fn worked_words()
+    ensures stored { stored_by painted (asks.Store 0 0x1008 7) ≡ Some 0x100008 }
+    ensures unmapped { stored_by painted (asks.Store 0 0x6000 7) ≡ None }
+    ensures loaded { stored_by painted (asks.Load 0 0x1000) ≡ None }
+    ensures in_turn { stored_by_all painted (asks.Store 0 0x6000 1 ∷ asks.Map 0 0x6000 0x100000 0 false ∷ asks.Store 0 0x6010 1 ∷ asks.Load 0 0x1008 ∷ asks.Store 1 0x1000 2 ∷ []) ≡ 0x100010 ∷ 0x100000 ∷ [] }
+    ensures other_value { AreHeld (λ address. 1) painted [] → ⊥ }
+    ensures emptied_since { AreHeld (λ address. 0) (painted_by (store 0 0x3000 7 ∷ [])) (asks.Fence 0 ∷ []) → ⊥ }
+{}
+
+/// What isn't settled after a whole update.
+pub fn worked_settled_states()
+    ensures other_era { IsSettledAfter at_end palette → ⊥ }
+    ensures order_stays { IsSettledAfter at_end (record after_end { order = (run palette (Calls (bare_file 0x800) ∷ [])).order }) → ⊥ }
+    ensures windows_lost { IsSettledAfter at_end (record after_end { system = record after_end.system { memory = zero_memory [] } }) → ⊥ }
+    ensures word_lost { IsSettledAfter at_end (record after_end { system = record after_end.system { memory = zero_memory one_window } }) → ⊥ }
+{}
