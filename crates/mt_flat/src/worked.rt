@@ -1,13 +1,14 @@
-ghost use Rattle.std.specs.Prelude.{◌≡◌, ◌∷◌, ◌++◌, [], None, Some};
+ghost use Rattle.std.specs.Prelude.{◌≡◌, ◌∷◌, ◌++◌, [], None, Some, false, true};
 ghost use Rattle.mt_kinds.specs.declared.mem_type.MemType.TheVariants.{UC, WB, WC, WP};
-ghost use Rattle.mt_machine.specs.declared.control.Control.TheVariants.{Cd, Cr3};
+ghost use Rattle.mt_machine.specs.declared.control.Control.TheVariants.{Cd, Cr3, Invlpg, Pge};
 ghost use Rattle.mt_machine.specs.declared.event.Event.TheVariants.{Arrive, Take};
 ghost use Rattle.mt_machine.specs.declared.done.Done.TheVariants.{Value};
 ghost use Rattle.mt_machine.specs.declared.op.Op.TheVariants.{Fence, Load};
-ghost use Rattle.mt_machine.specs.Machine.{Accesses, Calls, Controls, Steps};
+ghost use Rattle.mt_machine.specs.Machine.{Accesses, Calls, Controls, Steps, run};
 ghost use Rattle.mt_machine.specs.WorkedRuns.{answer_of, goal_of, load, mapping, maps, palette, small, store};
 ghost use Rattle.mt_flat.specs.Courses.{Does, Updates, course, flat_course};
 ghost use Rattle.mt_flat.specs.Flat.{flat_answer, flat_start};
+ghost use Rattle.mt_flat.specs.Seen.{IsFlatAnswer, IsFlatOf, IsHeldFlat};
 ghost use Rattle.mt_flat.specs.WorkedRuns.{flat_of, four_lines, numbers, pending_words, seven_words};
 
 /// Words of write-combining stores, pending and then set.
@@ -19,6 +20,9 @@ pub fn worked_pending()
     ensures after_its_own_load { numbers (flat_of (store 0 0x3008 7 ∷ store 0 0x3040 8 ∷ load 0 0x1000 ∷ [])) 0 ≡ 0x4001 ∷ [] }
     ensures set_by_its_own_load { (flat_of (store 0 0x3008 7 ∷ load 0 0x1000 ∷ [])).values 0x100008 ≡ 7 }
     ensures uc_load_empties_all { numbers (flat_of (store 0 0x3008 7 ∷ store 0 0x3040 8 ∷ load 0 0x4000 ∷ [])) 0 ≡ [] }
+    ensures wc_load_empties_its_line { numbers (flat_of (store 0 0x3008 7 ∷ store 0 0x3040 8 ∷ load 0 0x3000 ∷ [])) 0 ≡ 0x4001 ∷ [] }
+    ensures wt_load_empties_its_line { numbers (flat_of (store 0 0x3008 7 ∷ store 0 0x3040 8 ∷ load 0 0x2000 ∷ [])) 0 ≡ 0x4001 ∷ [] }
+    ensures wp_load_empties_its_line { numbers (flat_of (store 0 0x3008 7 ∷ store 0 0x3040 8 ∷ load 0 0x5000 ∷ [])) 0 ≡ 0x4001 ∷ [] }
     ensures others_loads_empty_nothing { numbers (flat_of (store 0 0x3008 7 ∷ load 1 0x4000 ∷ [])) 0 ≡ 0x4000 ∷ [] }
     ensures four { numbers (flat_of four_lines) 0 ≡ 0x4000 ∷ 0x4001 ∷ 0x4002 ∷ 0x4003 ∷ [] }
     ensures fifth { numbers (flat_of (four_lines ++ store 0 0x3100 5 ∷ [])) 0 ≡ 0x4001 ∷ 0x4002 ∷ 0x4003 ∷ 0x4004 ∷ [] }
@@ -30,6 +34,10 @@ pub fn worked_pending()
     ensures full_is_set { (flat_of (seven_words ++ store 0 0x3038 8 ∷ [])).values 0x100010 ≡ 3 }
     ensures fence { (flat_of (store 0 0x3008 7 ∷ Accesses 0 Fence ∷ [])).values 0x100008 ≡ 7 }
     ensures control { (flat_of (store 0 0x3008 7 ∷ Controls 0 Cr3 ∷ [])).values 0x100008 ≡ 7 }
+    ensures invlpg { numbers (flat_of (store 0 0x3008 7 ∷ Controls 0 (Invlpg 0x1000) ∷ [])) 0 ≡ [] }
+    ensures pge { numbers (flat_of (store 0 0x3008 7 ∷ Controls 0 (Pge false) ∷ [])) 0 ≡ [] }
+    ensures cd { numbers (flat_of (store 0 0x3008 7 ∷ Controls 0 (Cd true) ∷ [])) 0 ≡ [] }
+    ensures others_control { numbers (flat_of (store 0 0x3008 7 ∷ Controls 1 Cr3 ∷ [])) 0 ≡ 0x4000 ∷ [] }
     ensures map_empties_nothing { numbers (flat_of (store 0 0x3008 7 ∷ maps 0 (mapping 6 0x100 0) ∷ [])) 0 ≡ 0x4000 ∷ [] }
     ensures take { (flat_of (store 0 0x3008 7 ∷ Calls goal_of ∷ Steps 0 Take ∷ [])).values 0x100008 ≡ 7 }
     ensures take_leaves_none { numbers (flat_of (store 0 0x3008 7 ∷ Calls goal_of ∷ Steps 0 Take ∷ [])) 0 ≡ [] }
@@ -45,6 +53,8 @@ pub fn worked_stores()
     ensures wb_across_processors { flat_answer (flat_of (store 0 0x1000 5 ∷ [])) 1 WB 0x100000 ≡ 5 }
     ensures wb_empties_its_line { numbers (flat_of (store 0 0x3008 7 ∷ store 0 0x3040 8 ∷ store 0 0x1000 3 ∷ [])) 0 ≡ 0x4001 ∷ [] }
     ensures wb_sets_what_it_empties { (flat_of (store 0 0x3008 7 ∷ store 0 0x1000 3 ∷ [])).values 0x100008 ≡ 7 }
+    ensures wt_empties_its_line { numbers (flat_of (store 0 0x3008 7 ∷ store 0 0x3040 8 ∷ store 0 0x2000 3 ∷ [])) 0 ≡ 0x4001 ∷ [] }
+    ensures wp_empties_its_line { numbers (flat_of (store 0 0x3008 7 ∷ store 0 0x3040 8 ∷ store 0 0x5000 3 ∷ [])) 0 ≡ 0x4001 ∷ [] }
     ensures wt_sets { (flat_of (store 0 0x2000 5 ∷ [])).values 0x100000 ≡ 5 }
     ensures wp_sets { (flat_of (store 0 0x5000 5 ∷ [])).values 0x100000 ≡ 5 }
     ensures not_without_memory { (flat_of (maps 0 (mapping 6 0x200 0) ∷ store 0 0x6000 5 ∷ [])).values 0x200000 ≡ 0 }
@@ -56,4 +66,13 @@ pub fn worked_course()
     ensures nothing_pending { numbers (flat_course (small palette) (Does (store 0 0x3000 7) ∷ Updates goal_of (0 ∷ 1 ∷ []) ∷ []) flat_start) 0 ≡ [] }
     ensures loaded { answer_of (course (small palette) (Does (store 0 0x3000 7) ∷ Updates goal_of (0 ∷ 1 ∷ []) ∷ [])) 1 (Load 0x1000) ≡ Value 7 WB }
     ensures pending_where_none_takes { numbers (flat_course (small palette) (Does (store 0 0x3000 7) ∷ Updates goal_of (1 ∷ []) ∷ []) flat_start) 0 ≡ 0x4000 ∷ [] }
+{}
+
+/// What doesn't stand beside a system, isn't its answer and isn't held, for one thing.
+pub fn worked_beside()
+    ensures other_value { IsFlatOf (run palette (store 0 0x1000 7 ∷ [])).system flat_start → ⊥ }
+    ensures line_not_pending { IsFlatOf (run palette (store 0 0x3000 7 ∷ [])).system flat_start → ⊥ }
+    ensures another_answer { IsFlatAnswer palette (flat_of (store 0 0x1000 5 ∷ [])) 1 0x1000 0 WB → ⊥ }
+    ensures still_pending { IsHeldFlat (flat_of (store 0 0x3000 7 ∷ [])) palette [] → ⊥ }
+    ensures not_in_memory { IsHeldFlat (flat_of (store 0 0x1000 7 ∷ [])) palette [] → ⊥ }
 {}
