@@ -1,0 +1,29 @@
+-- Ranges and files of worked examples.
+use Rattle.std.specs.Prelude.{ℕ, List, [], ◌∷◌}
+use Rattle.mt_kinds.specs.declared.mem_type.MemType.{MemType}
+use Rattle.mt_kinds.specs.declared.mem_type.MemType.TheVariants.{UC, WB}
+use Rattle.mt_regs.specs.declared.page_type.PageType.TheVariants.{Kind}
+use Rattle.mt_regs.specs.declared.registers.Register.TheVariants.{DefaultType}
+use Rattle.mt_regs.specs.RegisterFile.{RegisterFile, blank_file}
+use Rattle.mt_regs.specs.Registers.{with_value}
+use Rattle.mt_types.specs.declared.run.Run.{Run}
+use Rattle.mt_tidy.specs.declared.range.Range.{Range}
+
+-- the 2 ^ log pages from first on
+abbrev pub range : ℕ → ℕ → MemType → Range
+range first log kind = record { first = first; log = log; kind = kind }
+
+-- a hole of one page in eight
+abbrev pub holed : List Range
+holed = range 0 3 WB ∷ range 7 0 UC ∷ []
+
+-- ranges are on, and there is none; the first without WC
+abbrev pub uncached : RegisterFile
+uncached = with_value (blank_file 36 8) DefaultType 0x800
+
+abbrev pub cached : RegisterFile
+cached = with_value (blank_file 36 0x408) DefaultType 0x806
+
+-- all 2 ^ 24 pages of one type
+abbrev pub all_of : MemType → List Run
+all_of kind = record { first = 0; count = 0x1000000; kind = Kind kind } ∷ []

@@ -1,0 +1,102 @@
+ghost use Rattle.std.specs.Prelude.{◌≡◌, ◌∷◌, [], false, true};
+ghost use Rattle.mt_kinds.specs.declared.mem_type.MemType.TheVariants.{UC, WB, WC, WP, WT};
+ghost use Rattle.mt_regs.specs.WorkedRows.{clash, four_gigabytes, video_memory};
+ghost use Rattle.mt_tidy.specs.Keeps.{IsLeast, Keeps};
+ghost use Rattle.mt_tidy.specs.Kept.{IsTidy, NeedsMore};
+ghost use Rattle.mt_tidy.specs.Ranges.{InOrder, IsAllowed, Precedes, holds_page, types_at};
+ghost use Rattle.mt_tidy.specs.Tidied.{StandsFor, is_valid, pairs_for, valid_count, with_ranges};
+ghost use Rattle.mt_tidy.specs.Wanted.{Gives, IsBlock, IsLeastFor, IsRangeOf, is_free, is_supported_type};
+ghost use Rattle.mt_tidy.specs.WorkedRanges.{all_of, cached, holed, range, uncached};
+
+/// The pages of ranges, and which lists are allowed.
+pub fn worked_ranges()
+    ensures first_page { holds_page (range 8 3 WB) 8 ≡ true }
+    ensures last_page { holds_page (range 8 3 WB) 15 ≡ true }
+    ensures page_before { holds_page (range 8 3 WB) 7 ≡ false }
+    ensures page_after { holds_page (range 8 3 WB) 16 ≡ false }
+    ensures types { types_at holed 7 ≡ WB ∷ UC ∷ [] }
+    ensures types_beside { types_at holed 6 ≡ WB ∷ [] }
+    ensures allowed { IsAllowed 32768 holed }
+    ensures larger_than_the_chunk { IsAllowed 32767 holed → ⊥ }
+    ensures smaller_first { IsAllowed 32767 (range 7 0 UC ∷ range 0 3 WB ∷ []) → ⊥ }
+    ensures behind_another { IsAllowed 32767 (range 8 0 UC ∷ holed) → ⊥ }
+    ensures first_and_last { IsAllowed 4095 (range 0 0 WB ∷ range 8 0 UC ∷ range 0 0 WB ∷ []) → ⊥ }
+{}
+
+/// The order of ranges.
+pub fn worked_order()
+    ensures earlier { Precedes (range 0 0 WB) (range 1 3 UC) }
+    ensures later { Precedes (range 1 3 UC) (range 0 0 UC) → ⊥ }
+    ensures larger { Precedes (range 0 3 WB) (range 0 0 UC) }
+    ensures smaller { Precedes (range 0 0 UC) (range 0 3 WB) → ⊥ }
+    ensures lower_byte { Precedes (range 0 3 UC) (range 0 3 WB) }
+    ensures higher_byte { Precedes (range 0 3 WB) (range 0 3 WP) → ⊥ }
+    ensures same { Precedes (range 0 3 WB) (range 0 3 WB) }
+    ensures in_order { InOrder (range 0 3 WB ∷ range 7 0 UC ∷ range 8 0 WB ∷ []) }
+    ensures first_and_last { InOrder (range 1 0 WB ∷ range 7 0 UC ∷ range 0 0 WB ∷ []) → ⊥ }
+    ensures last_two { InOrder (range 0 0 WB ∷ range 7 0 UC ∷ range 1 0 WB ∷ []) → ⊥ }
+{}
+
+/// Ranges of a file, and its free pages.
+pub fn worked_ranges_of_a_file()
+    ensures block { IsBlock 36 (range 8 3 WB) }
+    ensures whole_block { IsBlock 36 (range 0 24 WB) }
+    ensures not_aligned { IsBlock 36 (range 4 3 WB) → ⊥ }
+    ensures too_large { IsBlock 36 (range 0 25 WB) → ⊥ }
+    ensures supported { is_supported_type cached WC ≡ true }
+    ensures no_combining { is_supported_type uncached WC ≡ false }
+    ensures always_supported { is_supported_type uncached WT ≡ true }
+    ensures range_of { IsRangeOf cached (range 8 3 WC) }
+    ensures range_of_none { IsRangeOf uncached (range 8 3 WC) → ⊥ }
+    ensures no_block { IsRangeOf cached (range 4 3 WC) → ⊥ }
+    ensures free { is_free video_memory 0xff ≡ true }
+    ensures not_free { is_free video_memory 0x100 ≡ false }
+    ensures fixed_off { is_free four_gigabytes 0xff ≡ false }
+{}
+
+/// What lists give, and don't for one thing.
+pub fn worked_gives()
+    ensures gives { Gives cached (all_of WB) [] }
+    ensures other_kind { Gives cached (all_of UC) [] → ⊥ }
+    ensures unsupported { Gives uncached (all_of UC) (range 0 3 WC ∷ []) → ⊥ }
+    ensures last_page { Gives cached (all_of WB) (range 0xffffff 0 UC ∷ []) → ⊥ }
+    ensures page_past_the_fixed_ranges { Gives video_memory (all_of UC) (range 0x100 0 WB ∷ []) → ⊥ }
+    ensures least { IsLeastFor cached (all_of WB) 0 0 }
+    ensures not_least { IsLeastFor cached (all_of WB) 0 1 → ⊥ }
+    ensures too_few { IsLeastFor cached (all_of UC) 0 0 → ⊥ }
+{}
+
+/// What lists keep, and don't for one thing.
+pub fn worked_keeps()
+    ensures keeps { Keeps cached [] }
+    ensures other_type { Keeps four_gigabytes [] → ⊥ }
+    ensures unsupported { Keeps uncached (range 0 3 WC ∷ []) → ⊥ }
+    ensures undefined { Keeps clash (range 0 20 WB ∷ range 0xc0000 16 WC ∷ []) → ⊥ }
+    ensures least { IsLeast cached 0 0 }
+    ensures not_least { IsLeast cached 0 1 → ⊥ }
+    ensures too_few { IsLeast four_gigabytes 0 0 → ⊥ }
+{}
+
+/// Pairs that stand for ranges.
+pub fn worked_pairs()
+    ensures pairs { pairs_for 36 3 (range 0 20 WB ∷ range 0xc0000 16 UC ∷ []) ≡ (6, 0xf00000800) ∷ (0xc0000000, 0xff0000800) ∷ (0, 0) ∷ [] }
+    ensures file { (with_ranges cached (range 0 20 WT ∷ [])).pairs ≡ (4, 0xf00000800) ∷ (0, 0) ∷ (0, 0) ∷ (0, 0) ∷ (0, 0) ∷ (0, 0) ∷ (0, 0) ∷ (0, 0) ∷ [] }
+    ensures default { (with_ranges cached (range 0 20 WT ∷ [])).default_type ≡ 0x806 }
+    ensures valid { is_valid (0, 0x800) ≡ true }
+    ensures not_valid { is_valid (0x800, 0x400) ≡ false }
+    ensures count { valid_count four_gigabytes ≡ 1 }
+    ensures stands_not_valid { StandsFor 36 (range 0 20 WB) (6, 0xf00000000) → ⊥ }
+    ensures stands_for_others { StandsFor 36 (range 0 20 WB) (6, 0xff0000800) → ⊥ }
+    ensures stands_for_another_type { StandsFor 36 (range 0 20 WB) (4, 0xf00000800) → ⊥ }
+{}
+
+/// What isn't tidy, for one thing.
+pub fn worked_tidy()
+    ensures not_accepted { IsTidy clash 0 0 clash 2 → ⊥ }
+    ensures ranges_off { IsTidy (record cached { default_type = 6 }) 0 0 cached 0 → ⊥ }
+    ensures none_left { IsTidy cached 0 8 cached 1 → ⊥ }
+    ensures more_than_least { IsTidy cached 0 0 (with_ranges cached (range 0 24 WB ∷ [])) 1 → ⊥ }
+    ensures enough { NeedsMore cached 0 0 8 8 → ⊥ }
+    ensures other_count { NeedsMore cached 0 2 9 8 → ⊥ }
+    ensures more_needed { NeedsMore cached 0 8 1 0 → ⊥ }
+{}
