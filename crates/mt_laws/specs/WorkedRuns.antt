@@ -1,7 +1,7 @@
 -- A worked update of two processors without pairs and fixed ranges.
 use Rattle.std.specs.Prelude.{List, [], ◌∷◌, ◌++◌, map}
 use Rattle.mt_machine.specs.declared.event.Event.{Event}
-use Rattle.mt_machine.specs.declared.event.Event.TheVariants.{Pass, SetNoFill, DropLines, FlushTlb, Disable, Write, Enable, SetNormal, RestorePge, ArriveAgain, Release}
+use Rattle.mt_machine.specs.declared.event.Event.TheVariants.{Arrive, Pass, SetNoFill, DropLines, FlushTlb, Disable, Write, Enable, SetNormal, RestorePge, ArriveAgain, Release}
 use Rattle.mt_machine.specs.declared.go.Go.TheVariants.{Given}
 use Rattle.mt_machine.specs.Machine.{Machine, Order, MachineEvent, Calls, Goes, Steps, run}
 use Rattle.mt_machine.specs.Start.{start_machine}
@@ -25,3 +25,10 @@ pair_between = map (Steps 0) way_on ++ map (Steps 1) (Pass ∷ way_on)
 -- then the other releases
 abbrev pub pair_released : Machine
 pair_released = run pair_arrived (Steps 0 Pass ∷ pair_between ++ Steps 1 Release ∷ [])
+
+-- one processor without pairs and fixed ranges whose go was given, and its events between its take and its release
+abbrev pub bare_called : Machine
+bare_called = run (start_machine 1 (bare_file 0x800) []) (Calls (bare_file 0x806) ∷ Goes ∷ [])
+
+abbrev pub between_of_bare : List MachineEvent
+between_of_bare = map (Steps 0) (Arrive ∷ Pass ∷ way_on)

@@ -15,4 +15,4 @@ pub use laws::{
     start_is_quiet, stays_coherent, stays_sound, steps_keep_now, takes_broadcast, updated_is_quiet,
     whole_update,
 };
-pub use worked::worked_first_release;
+pub use worked::{worked_counts, worked_first_release, worked_holdings};

@@ -10,7 +10,6 @@ use Rattle.mt_cache.specs.declared.line.CacheLine.{CacheLine}
 use Rattle.mt_machine.specs.declared.phase.Phase.{Phase}
 use Rattle.mt_machine.specs.declared.phase.Phase.TheVariants.{Running, Taken}
 use Rattle.mt_machine.specs.declared.event.Event.TheVariants.{Take}
-use Rattle.mt_machine.specs.declared.go.Go.TheVariants.{Pending}
 use Rattle.mt_machine.specs.Memory.{Memory, write_back_of}
 use Rattle.mt_machine.specs.System.{Processor, System, change, now, buffers_of}
 use Rattle.mt_machine.specs.Bus.{drain, empty_buffer, with_buffers, bus_read, invalidate}

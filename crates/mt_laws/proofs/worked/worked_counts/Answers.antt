@@ -1,0 +1,40 @@
+use Rattle.std.proofs.Common.{◌≡◌, List, [], ◌∷◌, ◌++◌, length, refl, ap, arith}
+use Rattle.mt_machine.specs.declared.event.Event.TheVariants.{Arrive, Pass, Take}
+use Rattle.mt_machine.specs.Machine.{MachineEvent, Steps, run}
+use Rattle.mt_machine.specs.WorkedRuns.{own}
+use Rattle.mt_laws.specs.WorkedRuns.{bare_called, way_on}
+use Rattle.std.specs.Prelude.{map}
+use Rattle.mt_laws.proofs.worked.worked_counts.Goals as goal
+
+pub returns-clause-counted : goal.returns-clause-counted
+returns-clause-counted c = record {
+  before = Steps 0 Arrive ∷ [];
+  rest = map (Steps 0) way_on;
+  passes = refl;
+  passed = own (run bare_called (Steps 0 Take ∷ Steps 0 Arrive ∷ Steps 0 Pass ∷ [])) 0;
+  at_pass = refl;
+  phase = refl;
+  count = refl;
+}
+
+unlike : (before rest : List MachineEvent) → [] ≡ before ++ Steps 0 Pass ∷ rest → ⊥
+unlike [] rest is = omega (arith, ap length is)
+unlike (e ∷ before) rest is = omega (arith, ap length is)
+
+pub returns-clause-no_pass : goal.returns-clause-no_pass
+returns-clause-no_pass c = λ h. unlike h.before h.rest h.passes
+
+pub returns-clause-one_missing : goal.returns-clause-one_missing
+returns-clause-one_missing c = λ h. omega (arith, h 1)
+
+pub returns-clause-one_twice : goal.returns-clause-one_twice
+returns-clause-one_twice c = λ h. omega (arith, h 0)
+
+pub returns-clause-one_too_many : goal.returns-clause-one_too_many
+returns-clause-one_too_many c = λ h. omega (arith, h 2)
+
+pub returns-clause-twice : goal.returns-clause-twice
+returns-clause-twice c = λ h. omega (arith, h 0)
+
+pub returns-clause-no_processor : goal.returns-clause-no_processor
+returns-clause-no_processor c = λ h. omega (arith, h 2)
