@@ -1,0 +1,10 @@
+mod Keeps
+mod Local
+mod Steps
+mod RootSteps
+mod Facts
+mod Carried
+mod Ends
+mod Unique
+mod Handed
+mod Begun

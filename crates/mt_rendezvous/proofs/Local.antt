@@ -1,0 +1,197 @@
+-- The events of a processor between the barriers, and how phases go with the rule.
+use Rattle.std.proofs.Common.{◌≡◌, ◌≢◌, ◌⊎◌, ◌+◌, ℕ, Bool, true, false, List, [], length, sym, refl, ap, ◌∙◌, subst, inl, inr, ⊎_elim, arith, Option, Some, None}
+use Rattle.std.specs.Prelude.{nat_lt, if◌then◌else◌, slice_index, slice_get}
+use Rattle.std.specs.Option.{option_map_or}
+use Rattle.std.proofs.lemmas.Bool.{lt-ltb}
+use Rattle.mt_cache.specs.declared.line.CacheLine.{CacheLine}
+use Rattle.mt_cache.specs.Lines.{first_dirty_line, first_dirty_word}
+use Rattle.mt_regs.specs.RegisterFile.{RegisterFile}
+use Rattle.mt_regs.specs.Registers.{writable}
+use Rattle.mt_machine.specs.declared.phase.Phase.{Phase}
+use Rattle.mt_machine.specs.declared.phase.Phase.TheVariants.{Running, Taken, Arrived, Passed, NoFill, Flushed, TlbFlushed, Writing, Enabled, Flushed2, TlbFlushed2, Normal, Restored, Arrived2}
+use Rattle.mt_machine.specs.declared.event.Event.{Event}
+use Rattle.mt_machine.specs.declared.event.Event.TheVariants.{Take, WriteBack, DropLines, Write, Enable}
+use Rattle.mt_machine.specs.declared.go.Go.{Go}
+use Rattle.mt_machine.specs.declared.go.Go.TheVariants.{Given, Cancelled}
+use Rattle.mt_machine.specs.Memory.{word_address}
+use Rattle.mt_machine.specs.System.{Processor, System}
+use Rattle.mt_machine.specs.Machine.{Order, due, own_step, before_own, is_changing, has_arrived, has_arrived_again, write_back_or_drop, write_back_event, write_or_enable, after_drop, after_flush, flush_tlb, common_era}
+use Rattle.mt_machine.specs.Control.{reload_cr3}
+use Rattle.mt_cpu.specs.Steps.{is_local}
+use Rattle.mt_rendezvous.specs.declared.view.Held.{Held}
+use Rattle.mt_rendezvous.specs.declared.view.Start.{Start}
+use Rattle.mt_rendezvous.specs.Station.{order_of, code, phase_word, Fits, FitsHeld, Waits, rise}
+use Rattle.mt_rendezvous.specs.Plays.{written}
+use Rattle.mt_rendezvous.proofs.Keeps.{IsUnderWay}
+
+-- ---- phases and the rule
+
+pub changing_under_way : (p : Phase) → is_changing p ≡ true → IsUnderWay p
+changing_under_way Running h = absurd (cc)
+changing_under_way other h = tt
+
+pub local_changing : (p : Phase) → is_local p ≡ true → is_changing p ≡ true
+local_changing Running h = absurd (cc)
+local_changing Taken h = absurd (cc)
+local_changing Arrived h = absurd (cc)
+local_changing Arrived2 h = absurd (cc)
+local_changing other h = refl
+
+pub changing_waits_not : (p : Phase) → is_changing p ≡ true → Waits p → ⊥
+changing_waits_not Running h w = absurd (cc)
+changing_waits_not Taken h w = absurd (cc)
+changing_waits_not Arrived h w = absurd (cc)
+changing_waits_not other h w = w
+
+pub fits_changing : (go : Go) (added again : Bool) (p : Phase) → is_changing p ≡ true → again ≡ false → added ≡ true → go ≡ Given → Fits go added again p
+fits_changing go added again Running h a b c = absurd (cc)
+fits_changing go added again Taken h a b c = absurd (cc)
+fits_changing go added again Arrived h a b c = absurd (cc)
+fits_changing go added again Arrived2 h a b c = absurd (cc)
+fits_changing go added again other h a b c = (a, b, c)
+
+pub changing_fits : (go : Go) (added again : Bool) (p : Phase) → is_changing p ≡ true → Fits go added again p → (again ≡ false) × (added ≡ true) × (go ≡ Given)
+changing_fits go added again Running h f = absurd (cc)
+changing_fits go added again Taken h f = absurd (cc)
+changing_fits go added again Arrived h f = absurd (cc)
+changing_fits go added again Arrived2 h f = absurd (cc)
+changing_fits go added again other h f = f
+
+pub word_is_code : (again : Bool) (p : Phase) → is_changing p ≡ true → phase_word again p ≡ code p
+word_is_code again Running h = absurd (cc)
+word_is_code again Arrived2 h = absurd (cc)
+word_is_code again other h = refl
+
+no_rise : (again : Bool) (p : Phase) → IsUnderWay p → rise again p ≡ 0
+no_rise again Running u = absurd u
+no_rise again other u = refl
+
+pub same_era : (t : Start) (go : Go) (h : Held) → FitsHeld t go h → IsUnderWay h.cpu.phase → h.cpu.era ≡ common_era t.cpus
+same_era t go h f u = let e = f.era in let z = no_rise h.again h.cpu.phase u in omega arith
+
+-- a processor that is on its way after an event that leaves its era
+pub fits_on : (t : Start) (go : Go) (h : Held) → h.cpu.era ≡ common_era t.cpus → IsUnderWay h.cpu.phase → Fits go h.added h.again h.cpu.phase → (Waits h.cpu.phase → slice_get t.cpus h.number ≡ Some (record h.cpu { phase = Taken })) → FitsHeld t go h
+fits_on t go h era u f first = record { first = first; fits = f; era = let z = no_rise h.again h.cpu.phase u in omega arith }
+
+-- ---- the barriers' counts
+
+arrived_in : (t : Start) (p : Processor) (added again : Bool) (ph : Phase) → Fits Given added again ph → added ≡ true → p.era ≡ common_era t.cpus + rise again ph → has_arrived (order_of t Given) (record p { phase = ph }) ≡ true
+arrived_in t p added again Taken f a era = let c = f.1 a in absurd (cc)
+arrived_in t p added again Running f a era = ⊎_elim
+    (λ (x : (again ≡ false) × (Given ≡ Cancelled)). let e = x.1 in absurd (cc))
+    (λ (x : (again ≡ true) × (Given ≡ Given)). let up : rise again Running ≡ 1 = ap (λ b. rise b Running) x.0 in lt-ltb (common_era t.cpus) p.era (omega arith))
+    f.1
+arrived_in t p added again other f a era = refl
+
+pub arrived_of : (t : Start) (go : Go) (h : Held) → go ≡ Given → FitsHeld t go h → h.added ≡ true → has_arrived (order_of t go) h.cpu ≡ true
+arrived_of t go h is f a =
+    subst (λ (g : Go). has_arrived (order_of t g) h.cpu ≡ true) (sym is)
+    (arrived_in t h.cpu h.added h.again h.cpu.phase (subst (λ (g : Go). Fits g h.added h.again h.cpu.phase) is f.fits) a f.era)
+
+again_in : (t : Start) (go : Go) (p : Processor) (added again : Bool) (ph : Phase) → Fits go added again ph → again ≡ true → p.era ≡ common_era t.cpus + rise again ph → has_arrived_again (order_of t go) (record p { phase = ph }) ≡ true
+again_in t go p added again Arrived2 f a era = refl
+again_in t go p added again Running f a era = let up : rise again Running ≡ 1 = ap (λ b. rise b Running) a in lt-ltb (common_era t.cpus) p.era (omega arith)
+again_in t go p added again other f a era = absurd (let c = f.0 in cc)
+
+pub again_of_held : (t : Start) (go : Go) (h : Held) → FitsHeld t go h → h.again ≡ true → has_arrived_again (order_of t go) h.cpu ≡ true
+again_of_held t go h f a = again_in t go h.cpu h.added h.again h.cpu.phase f.fits a f.era
+
+-- ---- local events
+
+abbrev pub IsWork : RegisterFile → Event → Processor → Type 0
+IsWork goal e p = (is_changing (own_step goal e p).phase ≡ true) × ((own_step goal e p).era ≡ p.era)
+
+drop_changes : (p : Phase) → is_changing (after_drop p) ≡ true
+drop_changes Enabled = refl
+drop_changes other = refl
+
+flush_changes : (p : Phase) → is_changing (after_flush p) ≡ true
+flush_changes Flushed2 = refl
+flush_changes other = refl
+
+flush_era : (ph : Phase) (p : Processor) → (flush_tlb ph p).era ≡ p.era
+flush_era Flushed2 p = refl
+flush_era other p = one p.page_global
+  where
+    one : (b : Bool) → (if b then record p { remembered_global = true; page_global = false; entries = [] } else record (reload_cr3 p) { remembered_global = false }).era ≡ p.era
+    one true = refl
+    one false = refl
+
+abbrev back_of : CacheLine → ℕ → Event
+back_of l w = WriteBack (word_address l.number w) (slice_index l.words w)
+
+dirty_or_drop : (p : Processor) → (write_back_or_drop p ≡ DropLines) ⊎ ((a : ℕ) × (v : ℕ) × (write_back_or_drop p ≡ WriteBack a v))
+dirty_or_drop p = by_line (first_dirty_line p.lines)
+  where
+    by_word : (l : CacheLine) (o : Option ℕ) → (option_map_or (back_of l) o DropLines ≡ DropLines) ⊎ ((a : ℕ) × (v : ℕ) × (option_map_or (back_of l) o DropLines ≡ WriteBack a v))
+    by_word l None = inl refl
+    by_word l (Some w) = inr (word_address l.number w, slice_index l.words w, refl)
+
+    by_line : (o : Option CacheLine) → (option_map_or write_back_event o DropLines ≡ DropLines) ⊎ ((a : ℕ) × (v : ℕ) × (option_map_or write_back_event o DropLines ≡ WriteBack a v))
+    by_line None = inl refl
+    by_line (Some l) = by_word l (first_dirty_word l)
+
+back_works : (goal : RegisterFile) (p : Processor) → is_changing p.phase ≡ true → IsWork goal (write_back_or_drop p) p
+back_works goal p on = ⊎_elim
+    (λ (e : write_back_or_drop p ≡ DropLines). subst (λ (x : Event). IsWork goal x p) (sym e) (drop_changes p.phase, refl))
+    (λ (e : (a : ℕ) × (v : ℕ) × (write_back_or_drop p ≡ WriteBack a v)). subst (λ (x : Event). IsWork goal x p) (sym e.2) (on, refl))
+    (dirty_or_drop p)
+
+last_works : (goal : RegisterFile) (p : Processor) (i : ℕ) → IsWork goal (write_or_enable p i) p
+last_works goal p i = one (nat_lt (i + 1) (length (writable p.file)))
+  where
+    one : (b : Bool) → IsWork goal (if b then Write i else Enable) p
+    one true = (refl, refl)
+    one false = (refl, refl)
+
+injected : (a b : Event) → Some a ≡ Some b → a ≡ b
+injected a b e = cc
+
+-- an event between the barriers leads to a phase between them, and leaves the era
+pub works_in : (goal : RegisterFile) (p : Processor) (e : Event) (ph : Phase) → ph ≡ p.phase → is_local ph ≡ true → ((o : Order) (ps : List Processor) → due o ps p ph ≡ Some e) → Order → IsWork goal e p
+works_in goal p e Running same here is o = absurd (cc)
+works_in goal p e Taken same here is o = absurd (cc)
+works_in goal p e Arrived same here is o = absurd (cc)
+works_in goal p e Arrived2 same here is o = absurd (cc)
+works_in goal p e Restored same here is o = absurd (cc)
+works_in goal p e Passed same here is o = subst (λ (x : Event). IsWork goal x p) (injected _ _ (is o [])) (refl, refl)
+works_in goal p e NoFill same here is o = subst (λ (x : Event). IsWork goal x p) (injected _ _ (is o [])) (back_works goal p (sym (ap is_changing same)))
+works_in goal p e Flushed same here is o = subst (λ (x : Event). IsWork goal x p) (injected _ _ (is o [])) (flush_changes p.phase, flush_era p.phase p)
+works_in goal p e TlbFlushed same here is o = subst (λ (x : Event). IsWork goal x p) (injected _ _ (is o [])) (refl, refl)
+works_in goal p e (Writing i) same here is o = subst (λ (x : Event). IsWork goal x p) (injected _ _ (is o [])) (last_works goal p i)
+works_in goal p e Enabled same here is o = subst (λ (x : Event). IsWork goal x p) (injected _ _ (is o [])) (back_works goal p (sym (ap is_changing same)))
+works_in goal p e Flushed2 same here is o = subst (λ (x : Event). IsWork goal x p) (injected _ _ (is o [])) (flush_changes p.phase, flush_era p.phase p)
+works_in goal p e TlbFlushed2 same here is o = subst (λ (x : Event). IsWork goal x p) (injected _ _ (is o [])) (refl, refl)
+works_in goal p e Normal same here is o = subst (λ (x : Event). IsWork goal x p) (injected _ _ (is o [])) (refl, refl)
+
+back_takes_not : (p : Processor) → write_back_or_drop p ≡ Take → ⊥
+back_takes_not p q = ⊎_elim (λ (e : write_back_or_drop p ≡ DropLines). let x = sym e ∙ q in cc) (λ (e : (a : ℕ) × (v : ℕ) × (write_back_or_drop p ≡ WriteBack a v)). let x = sym e.2 ∙ q in cc) (dirty_or_drop p)
+
+-- such an event is not Take
+pub takes_not : (p : Processor) (e : Event) (ph : Phase) → is_local ph ≡ true → ((o : Order) (ps : List Processor) → due o ps p ph ≡ Some e) → Order → e ≢ Take
+takes_not p e Running here is o take = absurd (cc)
+takes_not p e Taken here is o take = absurd (cc)
+takes_not p e Arrived here is o take = absurd (cc)
+takes_not p e Arrived2 here is o take = absurd (cc)
+takes_not p e Restored here is o take = absurd (cc)
+takes_not p e NoFill here is o take = back_takes_not p (injected _ _ (is o []) ∙ take)
+takes_not p e Enabled here is o take = back_takes_not p (injected _ _ (is o []) ∙ take)
+takes_not p e (Writing i) here is o take = one (nat_lt (i + 1) (length (writable p.file))) (injected _ _ (is o []) ∙ take)
+  where
+    one : (b : Bool) → (if b then Write i else Enable) ≡ Take → ⊥
+    one true q = cc
+    one false q = cc
+takes_not p e other here is o take = let x = injected _ _ (is o []) ∙ take in cc
+
+-- an event that writes no word of memory, and one that does
+pub written_not : (e : Event) (k : ℕ) (s : System) → e ≢ Take → written e ≡ None → before_own e k s ≡ s
+written_not Take k s other h = absurd (other refl)
+written_not (WriteBack a v) k s other h = absurd (cc)
+written_not e k s other h = refl
+
+paired : (p q : ℕ × ℕ) → Some p ≡ Some q → p ≡ q
+paired p q e = cc
+
+pub written_is : (e : Event) (a v : ℕ) → written e ≡ Some (a, v) → e ≡ WriteBack a v
+written_is (WriteBack x y) a v h = ap (λ (z : ℕ × ℕ). WriteBack z.0 z.1) (paired (x, y) (a, v) h)
+written_is e a v h = absurd (cc)

@@ -1,0 +1,37 @@
+use Rattle.std.proofs.Common.{true, false, refl, sym, ap, ◌∙◌, inr, arith}
+use Rattle.mt_machine.specs.declared.phase.Phase.{Phase}
+use Rattle.mt_machine.specs.System.{Processor}
+use Rattle.mt_rendezvous.specs.declared.view.View.{View}
+use Rattle.mt_rendezvous.specs.Station.{held}
+use Rattle.mt_rendezvous.specs.Plays.{arrive}
+use Rattle.mt_rendezvous.proofs.Steps.{arrives}
+use Rattle.std.proofs.Common.{◌≡◌, Some}
+use Rattle.std.specs.Prelude.{slice_get}
+use Rattle.mt_rendezvous.proofs.Carried.{carried, of_it}
+use Rattle.mt_rendezvous.proofs.station.Pass.arrive.Goals as goal
+
+pub fetch_add-found-requires : goal.fetch_add-found-requires
+fetch_add-found-requires c = let r = c.requires.carries in let w = c.args.station.now.wide in
+    (r.same, omega arith, arrives c.args.station.now.table.shared.key _ _ c.args.self.now.seat.me (held c.args.self.now.number c.args.cpu.now false false) r.holds refl refl c.requires.taken)
+
+pub returns-then-found-lt-CANCEL-clause-carries : goal.returns-then-found-lt-CANCEL-clause-carries
+returns-then-found-lt-CANCEL-clause-carries c =
+    let e = c.fetch_add-found.ensures in
+    let tells = e.2 in
+    let moves = (tells.2 c.if-found-lt-CANCEL.true).0 in
+    carried c.requires.carries _ _ c.shift.new.self true false arrive e.0 tells.0 (ap (λ (v : View). v.held) moves) (ap (λ (v : View). v.start) moves)
+    (ap (λ (p : Processor). held c.args.self.now.number p true false) (sym (c.shift.ensures c.args.station.now.table.shared.key.goal.value)))
+
+pub returns-then-found-lt-CANCEL-clause-waits : goal.returns-then-found-lt-CANCEL-clause-waits
+returns-then-found-lt-CANCEL-clause-waits c = inr (ap (λ (p : Processor). p.phase) (c.shift.ensures c.args.station.now.table.shared.key.goal.value))
+
+pub returns-then-found-lt-CANCEL-clause-same : goal.returns-then-found-lt-CANCEL-clause-same
+returns-then-found-lt-CANCEL-clause-same c =
+    let is = c.shift.ensures c.args.station.now.table.shared.key.goal.value in
+    is ∙ ap (λ (ph : Phase). record c.args.cpu.now { phase = ph }) (sym (ap (λ (p : Processor). p.phase) is))
+
+pub returns-then-found-lt-CANCEL-clause-first : goal.returns-then-found-lt-CANCEL-clause-first
+returns-then-found-lt-CANCEL-clause-first c = of_it c.requires.carries (λ t h. slice_get t.cpus h.number ≡ Some h.cpu) c.fetch_add-found.ensures.2.1
+
+pub returns-else-found-lt-CANCEL-clause-first : goal.returns-else-found-lt-CANCEL-clause-first
+returns-else-found-lt-CANCEL-clause-first c = of_it c.requires.carries (λ t h. slice_get t.cpus h.number ≡ Some h.cpu) c.fetch_add-found.ensures.2.1

@@ -1,0 +1,70 @@
+use Rattle.std.proofs.Common.{◌≡◌, length, true, false, refl, sym, ap, subst, arith}
+use Rattle.mt_machine.specs.declared.phase.Phase.TheVariants.{Arrived}
+use Rattle.mt_machine.specs.declared.event.Event.TheVariants.{Leave, Pass}
+use Rattle.mt_machine.specs.declared.go.Go.TheVariants.{Given, Cancelled}
+use Rattle.mt_machine.specs.System.{Processor}
+use Rattle.mt_cpu.specs.Steps.{is_shift}
+use Rattle.mt_rendezvous.specs.declared.view.View.{View}
+use Rattle.mt_rendezvous.specs.declared.view.Start.{Start}
+use Rattle.mt_rendezvous.specs.Station.{held, start_of}
+use Rattle.mt_rendezvous.specs.Plays.{Took, Stands, does}
+use Rattle.mt_rendezvous.specs.Calls.{Waited}
+use Rattle.mt_rendezvous.proofs.Steps.{passes}
+use Rattle.mt_rendezvous.proofs.Carried.{carried, of_it}
+use Rattle.mt_rendezvous.proofs.station.Pass.wait_first.Goals as goal
+
+pub load-found-requires : goal.load-found-requires
+load-found-requires g c = let r = c.loop.invariant.carries in let w = c.args.station.now.wide in
+    (r.same, omega arith, passes c.args.station.now.table.shared.key _ _ c.loop.self.seat.me (held c.loop.self.number c.loop.cpu true false) r.holds refl refl c.loop.invariant.waits)
+
+pub returns-then-found-ge-CANCEL-clause-carries : goal.returns-then-found-ge-CANCEL-clause-carries
+returns-then-found-ge-CANCEL-clause-carries g c =
+    let e = c.load-found.ensures in
+    let tells = e.2 in
+    let moves = (tells.2 c.if-found-ge-CANCEL.true).0 in
+    carried c.loop.invariant.carries _ _ c.shift.new.self true false (λ t. does t Leave) e.0 tells.0 (ap (λ (v : View). v.held) moves) (ap (λ (v : View). v.start) moves)
+    (ap (λ (p : Processor). held c.loop.self.number p true false) (sym (c.shift.ensures c.args.station.now.table.shared.key.goal.value)))
+
+pub returns-then-found-ge-CANCEL-clause-waited : goal.returns-then-found-ge-CANCEL-clause-waited
+returns-then-found-ge-CANCEL-clause-waited g c =
+    let tells = c.load-found.ensures.2 in
+    let t : Start = start_of c.args.station.now.table.shared.key in
+    let is = c.shift.ensures t.goal in
+    let left = of_it c.loop.invariant.carries (λ u h. Took u h.number Leave h.cpu (does u Leave h).cpu × Stands u Cancelled h.number h.cpu) (tells.2 c.if-found-ge-CANCEL.true).1 in
+    subst (λ (p : Processor). Waited false t c.loop.self.number p c.shift.new.self) c.loop.invariant.cpu
+    (is, subst (Took t c.loop.self.number Leave c.loop.cpu) (sym is) left.0, left.1)
+
+pub shift-requires-then-found-station-clause-enabled : goal.shift-requires-then-found-station-clause-enabled
+shift-requires-then-found-station-clause-enabled g c =
+    let tells = c.load-found.ensures.2 in
+    let r = c.loop.invariant.carries in
+    let long : length c.loop.self.seat.me.0.start.cpus ≡ length c.args.station.now.table.shared.key.cpus.value.items = ap (λ (u : Start). length u.cpus) r.told in
+    let counted = c.args.station.now.counted in
+    let is = c.if-found-station.true in
+    let passed = of_it r (λ u h. (h.cpu.phase ≡ Arrived) × Took u h.number Pass h.cpu (does u Pass h).cpu × Stands u Given h.number (does u Pass h).cpu) (tells.1 (omega arith)).1 in
+    ap (is_shift Pass) passed.0
+
+pub returns-then-found-station-clause-carries : goal.returns-then-found-station-clause-carries
+returns-then-found-station-clause-carries g c =
+    let e = c.load-found.ensures in
+    let tells = e.2 in
+    let r = c.loop.invariant.carries in
+    let long : length c.loop.self.seat.me.0.start.cpus ≡ length c.args.station.now.table.shared.key.cpus.value.items = ap (λ (u : Start). length u.cpus) r.told in
+    let counted = c.args.station.now.counted in
+    let is = c.if-found-station.true in
+    let moves = (tells.1 (omega arith)).0 in
+    carried r _ _ c.shift-then-found-station.new.self true false (λ t. does t Pass) e.0 tells.0 (ap (λ (v : View). v.held) moves) (ap (λ (v : View). v.start) moves)
+    (ap (λ (p : Processor). held c.loop.self.number p true false) (sym (c.shift-then-found-station.ensures c.args.station.now.table.shared.key.goal.value)))
+
+pub returns-then-found-station-clause-waited : goal.returns-then-found-station-clause-waited
+returns-then-found-station-clause-waited g c =
+    let tells = c.load-found.ensures.2 in
+    let r = c.loop.invariant.carries in
+    let t : Start = start_of c.args.station.now.table.shared.key in
+    let long : length c.loop.self.seat.me.0.start.cpus ≡ length c.args.station.now.table.shared.key.cpus.value.items = ap (λ (u : Start). length u.cpus) r.told in
+    let counted = c.args.station.now.counted in
+    let same = c.if-found-station.true in
+    let is = c.shift-then-found-station.ensures t.goal in
+    let passed = of_it r (λ u h. (h.cpu.phase ≡ Arrived) × Took u h.number Pass h.cpu (does u Pass h).cpu × Stands u Given h.number (does u Pass h).cpu) (tells.1 (omega arith)).1 in
+    subst (λ (p : Processor). Waited true t c.loop.self.number p c.shift-then-found-station.new.self) c.loop.invariant.cpu
+    (is, subst (Stands t Given c.loop.self.number) (sym is) passed.2)

@@ -1,0 +1,109 @@
+use Rattle.std.proofs.Common.{◌≡◌, ℕ, ◌+◌, List, [], length, true, false, sym, ap, ◌∙◌, subst, arith, Some, Option}
+use Rattle.mt_regs.specs.RegisterFile.{RegisterFile}
+use Rattle.mt_machine.specs.declared.go.Go.TheVariants.{Given}
+use Rattle.mt_machine.specs.System.{Processor}
+use Rattle.mt_machine.specs.Memory.{place}
+use Rattle.mt_machine.specs.Machine.{FitsGoal, Order, due, own_step}
+use Rattle.mt_machine.specs.declared.event.Event.{Event}
+use Rattle.mt_machine.specs.declared.event.Event.TheVariants.{SetNoFill}
+use Rattle.std.specs.Option.{option_map_or}
+use Rattle.mt_cpu.specs.Steps.{HasWritten}
+use Rattle.mt_rendezvous.specs.declared.view.Start.{Start}
+use Rattle.mt_rendezvous.specs.Station.{held, start_of, order_of, code}
+use Rattle.mt_rendezvous.specs.Plays.{Took, Stands, work, own_event}
+use Rattle.mt_rendezvous.proofs.Facts.{fits_goal, has_written, low_numbers, back_place, place_same}
+use Rattle.mt_rendezvous.proofs.Steps.{works, writes_back}
+use Rattle.mt_rendezvous.proofs.Carried.{of_it}
+use Rattle.mt_rendezvous.proofs.station.Pass.work.Goals as goal
+
+injected : (a b : ℕ) → Some a ≡ Some b → a ≡ b
+injected a b e = cc
+
+-- the processor after the event that the code did
+worked : (t : Start) (g : RegisterFile) (e : Event) (p q : Processor) → g ≡ t.goal → ((o : Order) (ps : List Processor) → due o ps p p.phase ≡ Some e) → q ≡ own_step g e p → q ≡ own_step t.goal (own_event t p) p
+worked t g e p q same is moved =
+    moved ∙ ap (λ (x : RegisterFile). own_step x e p) same
+    ∙ ap (λ (x : Event). own_step t.goal x p) (sym (ap (λ (x : Option Event). option_map_or (λ y. y) x SetNoFill) (is (order_of t Given) [])))
+
+pub local-e-requires-clause-fits : goal.local-e-requires-clause-fits
+local-e-requires-clause-fits c = let t : Start = start_of c.args.station.now.table.shared.key in
+    subst (λ (g : RegisterFile). FitsGoal g c.args.cpu.now) (sym c.requires.goal) (fits_goal t c.requires.carries.begins Given c.args.self.now.number c.args.cpu.now c.requires.stands)
+
+pub local-e-requires-clause-written : goal.local-e-requires-clause-written
+local-e-requires-clause-written c = let t : Start = start_of c.args.station.now.table.shared.key in
+    subst (λ (g : RegisterFile). HasWritten g c.args.cpu.now) (sym c.requires.goal) (has_written t c.requires.carries.begins Given c.args.self.now.number c.args.cpu.now c.requires.stands)
+
+pub local-e-requires-clause-numbers : goal.local-e-requires-clause-numbers
+local-e-requires-clause-numbers c = let t : Start = start_of c.args.station.now.table.shared.key in
+    low_numbers t c.requires.carries.begins Given c.args.self.now.number c.args.cpu.now c.requires.stands
+
+pub unreachable-requires : goal.unreachable-requires
+unreachable-requires c =
+    let t : Start = start_of c.args.station.now.table.shared.key in
+    let e = c.local-e.result in
+    let there = back_place t c.requires.carries.begins Given c.args.self.now.number c.args.cpu.now c.requires.stands e c.in-Some.address c.in-Some.value c.requires.between c.local-e.ensures.event (sym c.written.ensures ∙ c.in-Some.is) in
+    let same = place_same c.args.ram.now t.ram c.in-Some.address c.requires.windows in
+    c.in_default.not-Some there.0 (c.place.ensures.value ∙ same ∙ there.1)
+
+pub overflow_add-word-in-Some : goal.overflow_add-word-in-Some
+overflow_add-word-in-Some c =
+    let t : Start = start_of c.args.station.now.table.shared.key in
+    let e = c.local-e.result in
+    let there = back_place t c.requires.carries.begins Given c.args.self.now.number c.args.cpu.now c.requires.stands e c.in-Some.address c.in-Some.value c.requires.between c.local-e.ensures.event (sym c.written.ensures ∙ c.in-Some.is) in
+    let same = place_same c.args.ram.now t.ram c.in-Some.address c.requires.windows in
+    let at : c.in-Some-place.i ≡ there.0 = injected c.in-Some-place.i there.0 (sym c.in-Some-place.is ∙ c.place.ensures.value ∙ same ∙ there.1) in
+    let low = there.2 in
+    let few = c.args.station.now.few in
+    let few_words = c.args.station.now.few_words in
+    omega arith
+
+pub store-requires : goal.store-requires
+store-requires c =
+    let t : Start = start_of c.args.station.now.table.shared.key in
+    let r = c.requires.carries in
+    let e = c.local-e.result in
+    let word = sym c.written.ensures ∙ c.in-Some.is in
+    let there = back_place t r.begins Given c.args.self.now.number c.args.cpu.now c.requires.stands e c.in-Some.address c.in-Some.value c.requires.between c.local-e.ensures.event word in
+    let same = place_same c.args.ram.now t.ram c.in-Some.address c.requires.windows in
+    let at : c.in-Some-place.i ≡ there.0 = injected c.in-Some-place.i there.0 (sym c.in-Some-place.is ∙ c.place.ensures.value ∙ same ∙ there.1) in
+    let low = there.2 in
+    let wide = c.args.station.now.wide in
+    let counted = c.args.station.now.counted in
+    let long : length c.args.self.now.seat.me.0.start.cpus ≡ length t.cpus = ap (λ (u : Start). length u.cpus) r.told in (
+      r.same,
+      omega arith,
+      writes_back c.args.station.now.table.shared.key _ _ (c.args.station.now.count + 2 + c.in-Some-place.i) there.0 c.in-Some.address c.in-Some.value c.args.self.now.seat.me (held c.args.self.now.number c.args.cpu.now true false) e
+          (record { is = r.holds; here = c.requires.between; due_is = c.local-e.ensures.event }) word (subst (λ (u : Start). place u.ram c.in-Some.address ≡ Some there.0) (sym r.told) there.1) (omega arith),
+    )
+
+pub store-requires-in-None : goal.store-requires-in-None
+store-requires-in-None c =
+    let t : Start = start_of c.args.station.now.table.shared.key in
+    let r = c.requires.carries in
+    let e = c.local-e.result in
+    let wide = c.args.station.now.wide in
+    let counted = c.args.station.now.counted in
+    let below = r.below in
+    let becomes : c.local-e.new.self ≡ own_step c.args.self.now.seat.me.0.start.goal e c.args.cpu.now = c.local-e.ensures.step ∙ ap (λ (g : RegisterFile). own_step g e c.args.cpu.now) (c.requires.goal ∙ sym (ap (λ (u : Start). u.goal) r.told)) in (
+      r.same,
+      omega arith,
+      works c.args.station.now.table.shared.key _ _ c.code.result c.args.self.now.seat.me (held c.args.self.now.number c.args.cpu.now true false) e
+          (record { is = r.holds; here = c.requires.between; due_is = c.local-e.ensures.event }) (sym c.written.ensures ∙ c.in-None.is)
+          (c.code.ensures ∙ ap code (c.phase.ensures ∙ ap (λ (p : Processor). p.phase) becomes)),
+    )
+
+pub returns-in-Some-place-clause-stands : goal.returns-in-Some-place-clause-stands
+returns-in-Some-place-clause-stands c =
+    let t : Start = start_of c.args.station.now.table.shared.key in
+    let r = c.requires.carries in
+    let tells = c.store.ensures.2 in
+    let now = of_it r (λ u h. Took u h.number (own_event u h.cpu) h.cpu (work u h).cpu × Stands u Given h.number (work u h).cpu) tells.2 in
+    subst (Stands t Given c.args.self.now.number) (sym (worked t c.args.goal.now c.local-e.result c.args.cpu.now c.local-e.new.self c.requires.goal c.local-e.ensures.event c.local-e.ensures.step)) now.1
+
+pub returns-in-None-clause-stands : goal.returns-in-None-clause-stands
+returns-in-None-clause-stands c =
+    let t : Start = start_of c.args.station.now.table.shared.key in
+    let r = c.requires.carries in
+    let tells = c.store-in-None.ensures.2 in
+    let now = of_it r (λ u h. Took u h.number (own_event u h.cpu) h.cpu (work u h).cpu × Stands u Given h.number (work u h).cpu) tells.2 in
+    subst (Stands t Given c.args.self.now.number) (sym (worked t c.args.goal.now c.local-e.result c.args.cpu.now c.local-e.new.self c.requires.goal c.local-e.ensures.event c.local-e.ensures.step)) now.1

@@ -1,0 +1,117 @@
+-- What each step of a seat tells: its view before and after, and the event that it is.
+use Rattle.std.specs.Prelude.{◌≡◌, ◌≢◌, ℕ, ◌+◌, ◌<◌, ◌≤◌, true, [], ◌∷◌, map, length, slice_get, Option, Some, None}
+use Rattle.std.specs.Option.{option_map_or}
+use Rattle.atomic_table.specs.Table.{Me, Step}
+use Rattle.mt_machine.specs.declared.phase.Phase.TheVariants.{Arrived}
+use Rattle.mt_machine.specs.declared.go.Go.{Go}
+use Rattle.mt_machine.specs.declared.go.Go.TheVariants.{Given, Cancelled}
+use Rattle.mt_machine.specs.declared.event.Event.{Event}
+use Rattle.mt_machine.specs.declared.event.Event.TheVariants.{Arrive, Leave, Pass, ArriveAgain, Release, SetNoFill, WriteBack}
+use Rattle.mt_machine.specs.System.{Processor}
+use Rattle.mt_machine.specs.Machine.{Machine, MachineEvent, Steps, Goes, Cancels as CancelsUpdate, IsEnabled, common_era, due, next, own_step}
+use Rattle.mt_machine.specs.Update.{Led}
+use Rattle.mt_rendezvous.specs.declared.view.Held.{Held}
+use Rattle.mt_rendezvous.specs.declared.view.Start.{Start}
+use Rattle.mt_rendezvous.specs.declared.view.View.{View}
+use Rattle.mt_rendezvous.specs.Station.{order_of, broadcast, held, view, with_held}
+
+abbrev Sat : Type 0
+Sat = Me (Unit {0}) View
+
+-- the event took place: a machine that the broadcast leads to has the processor as it was, the event is enabled there, and the next machine has it as it is
+pub record Took (t : Start) (k : ℕ) (e : Event) (p q : Processor) : Type 0 where
+  pub machine : Machine
+  pub go : Go
+  pub led : Led (broadcast t) machine
+  pub order : machine.order ≡ Some (order_of t go)
+  pub enabled : IsEnabled machine (Steps k e)
+  pub before : slice_get machine.system.processors k ≡ Some p
+  pub after : slice_get (next machine (Steps k e)).system.processors k ≡ Some q
+
+-- a machine that the broadcast leads to has the processor so, and its update isn't over
+pub record Stands (t : Start) (go : Go) (k : ℕ) (p : Processor) : Type 0 where
+  pub machine : Machine
+  pub led : Led (broadcast t) machine
+  pub order : machine.order ≡ Some (order_of t go)
+  pub at : slice_get machine.system.processors k ≡ Some p
+
+-- what is so of the one processor of a view
+abbrev pub Of : View → (Held → Type 0) → Type 0
+Of v P = (h : Held) → v.held ≡ h ∷ [] → P h
+
+-- what each step makes of the one processor of a pass
+abbrev pub does : Start → Event → Held → Held
+does t e h = held h.number (own_step t.goal e h.cpu) h.added h.again
+
+abbrev pub arrive : Start → Held → Held
+arrive t h = held h.number (own_step t.goal Arrive h.cpu) true h.again
+
+-- the cancel came first
+abbrev pub late : Held → Held
+late h = held h.number h.cpu true h.again
+
+abbrev pub arrive_again : Start → Held → Held
+arrive_again t h = held h.number (own_step t.goal ArriveAgain h.cpu) h.added true
+
+-- the event that is due for a processor between the barriers, which looks at nothing else
+abbrev pub own_event : Start → Processor → Event
+own_event t p = option_map_or (λ e. e) (due (order_of t Given) [] p p.phase) SetNoFill
+
+abbrev pub work : Start → Held → Held
+work t h = does t (own_event t h.cpu) h
+
+abbrev pub Arrives : Step (Unit {0}) → Sat → ℕ → Sat → Type 0
+Arrives st me found new =
+    (new.1 ≡ me.1)
+    × Of me.0 (λ h. slice_get me.0.start.cpus h.number ≡ Some h.cpu)
+    × (found < 4294967296 → (new.0 ≡ with_held me.0 (map (arrive me.0.start) me.0.held)) × Of me.0 (λ h. Took me.0.start h.number Arrive h.cpu (arrive me.0.start h).cpu))
+    × (4294967296 ≤ found → new.0 ≡ with_held me.0 (map late me.0.held))
+
+abbrev pub Passes : Step (Unit {0}) → Sat → ℕ → Sat → Type 0
+Passes st me found new =
+    (new.1 ≡ me.1)
+    × (found ≡ length me.0.start.cpus + 1 → (new.0 ≡ with_held me.0 (map (does me.0.start Pass) me.0.held)) × Of me.0 (λ h. (h.cpu.phase ≡ Arrived) × Took me.0.start h.number Pass h.cpu (does me.0.start Pass h).cpu × Stands me.0.start Given h.number (does me.0.start Pass h).cpu))
+    × (4294967296 ≤ found → (new.0 ≡ with_held me.0 (map (does me.0.start Leave) me.0.held)) × Of me.0 (λ h. Took me.0.start h.number Leave h.cpu (does me.0.start Leave h).cpu × Stands me.0.start Cancelled h.number h.cpu))
+    × (found < 4294967296 → found ≢ length me.0.start.cpus + 1 → new.0 ≡ me.0)
+
+-- a store of the own phase word, or of a memory word
+abbrev pub Works : Step (Unit {0}) → Sat → ℕ → Sat → Type 0
+Works st me found new =
+    (new.1 ≡ me.1)
+    × (new.0 ≡ with_held me.0 (map (work me.0.start) me.0.held))
+    × Of me.0 (λ h. Took me.0.start h.number (own_event me.0.start h.cpu) h.cpu (work me.0.start h).cpu × Stands me.0.start Given h.number (work me.0.start h).cpu)
+
+abbrev pub ArrivesAgain : Step (Unit {0}) → Sat → ℕ → Sat → Type 0
+ArrivesAgain st me found new =
+    (new.1 ≡ me.1)
+    × (new.0 ≡ with_held me.0 (map (arrive_again me.0.start) me.0.held))
+    × Of me.0 (λ h. Took me.0.start h.number ArriveAgain h.cpu (arrive_again me.0.start h).cpu)
+
+abbrev pub with_shown : View → ℕ → View
+with_shown v n = view v.root v.held v.go (Some n) v
+
+abbrev pub Releases : Step (Unit {0}) → Sat → ℕ → Sat → Type 0
+Releases st me found new =
+    (new.1 ≡ me.1)
+    × (found ≡ length me.0.start.cpus → (new.0 ≡ with_shown (with_held me.0 (map (does me.0.start Release) me.0.held)) found) × Of me.0 (λ h. (h.cpu.era ≡ common_era me.0.start.cpus) × Took me.0.start h.number Release h.cpu (does me.0.start Release h).cpu))
+    × (found ≢ length me.0.start.cpus → new.0 ≡ with_shown me.0 found)
+
+-- the coordinator's event took place
+pub record Decided (t : Start) (e : MachineEvent) : Type 0 where
+  pub machine : Machine
+  pub led : Led (broadcast t) machine
+  pub enabled : IsEnabled machine e
+
+abbrev pub with_go : View → Go → View
+with_go v go = view v.root v.held go v.shown v
+
+abbrev pub Gives : Step (Unit {0}) → Sat → ℕ → Sat → Type 0
+Gives st me found new = (new.1 ≡ me.1) × (new.0 ≡ with_go me.0 Given) × Decided me.0.start Goes
+
+abbrev pub Cancels : Step (Unit {0}) → Sat → ℕ → Sat → Type 0
+Cancels st me found new = (new.1 ≡ me.1) × (new.0 ≡ with_go me.0 Cancelled) × Decided me.0.start CancelsUpdate
+
+-- the word of memory that an event writes
+abbrev pub written : Event → Option (ℕ × ℕ)
+written (WriteBack address value) = Some (address, value)
+written other = None

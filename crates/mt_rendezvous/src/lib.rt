@@ -1,0 +1,12 @@
+//! The update of the range registers on threads: processors that meet at two barriers, over atomic words.
+#![tactic(auto)]
+
+mod gather;
+mod laws;
+mod station;
+mod view;
+
+pub use gather::disband;
+pub use laws::{broadcast_begins, full_station_holds, station_is_led};
+pub use station::{Attendee, Outcome, Pass, Root, Station, attend};
+pub use view::{Held, Key, Start, View};

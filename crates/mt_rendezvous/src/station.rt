@@ -1,0 +1,310 @@
+// The station, its root and its passes.
+ghost use Rattle.std.specs.Prelude.{◌≡◌, ℕ, ◌+◌, ◌<◌, ◌⊎◌, Bool, true, false, List, [], ◌∷◌, length, slice_get, Some, None, IsTrue};
+ghost use Rattle.mt_machine.specs.declared.phase.Phase.TheVariants.{Taken, Restored, Arrived2, Running};
+ghost use Rattle.mt_machine.specs.declared.go.Go.TheVariants.{Pending, Given, Cancelled};
+ghost use Rattle.mt_machine.specs.declared.event.Event.TheVariants.{Arrive, ArriveAgain, Release};
+ghost use Rattle.mt_machine.specs.Machine.{own_step, is_changing, common_era};
+ghost use Rattle.mt_cpu.specs.Steps.{is_local};
+ghost use Rattle.mt_rendezvous.specs.Station.{code, start_of};
+ghost use Rattle.mt_rendezvous.specs.Plays.{Stands, Took, written};
+ghost use Rattle.mt_rendezvous.specs.Calls.{Attended, Carries, IsWaiting, Leads, Waited};
+
+use crate::view::{
+    Arrives, ArrivesAgain, Cancels, Gives, Key, Meeting, Passes, Releases, View, Works,
+};
+use atomic_table::{Seat, Table};
+use mt_cpu::Cpu;
+use mt_machine::{Event, Phase};
+use mt_ports::Gate;
+use mt_ram::Ram;
+use mt_regs::RegFile;
+use std::alloc::Global;
+use std::sync::Wait;
+use std::thread;
+
+// What the root adds to the first word to cancel.
+const CANCEL: u64 = 0x1_0000_0000;
+
+/// The words of one update.
+#[derive(Drop)]
+pub struct Station {
+    pub table: Table<(), View, Key, Meeting, Global>,
+    pub count: u64,
+    pub ghost counted: { length table.shared.key.cpus.value.items ≡ count },
+    pub ghost wide: { table.shared.table_id.words ≡ count + 2 + length table.shared.key.ram.value.words },
+    pub ghost few: { count < 65536 },
+    pub ghost few_words: { count + 2 + length table.shared.key.ram.value.words < 18446744073709551616 },
+    pub ghost no_slots: { table.shared.table_id.slots ≡ 0 },
+}
+
+/// What a thread carries its processor in.
+#[derive(Drop)]
+pub struct Pass {
+    pub seat: Seat<(), View>,
+    pub number: u64,
+    pub shown: Option<u64>,
+    pub ghost few: { number < 65536 },
+}
+
+#[derive(Drop)]
+pub struct Root {
+    pub seat: Seat<(), View>,
+}
+
+#[derive(Clone, Copy, Debug, PartialEq, Eq)]
+pub enum Outcome {
+    Complete,
+    Cancelled,
+}
+
+// The number of a phase that an event of a processor alone leads to.
+fn code(phase: Phase) -> u64
+    ensures { result ≡ code phase }
+{
+    match phase {
+        Phase::NoFill => 1,
+        Phase::Flushed => 2,
+        Phase::TlbFlushed => 3,
+        Phase::Enabled => 4,
+        Phase::Flushed2 => 5,
+        Phase::TlbFlushed2 => 6,
+        Phase::Normal => 7,
+        Phase::Restored => 8,
+        Phase::Writing(i) => 9 + i as u64,
+        _ => 0,
+    }
+}
+
+// The word of memory that an event writes.
+fn written(e: Event) -> Option<(u64, u64)>
+    ensures { result ≡ written e }
+{
+    match e {
+        Event::WriteBack { address, value } => Some((address, value)),
+        _ => None,
+    }
+}
+
+fn is_local(phase: Phase) -> bool
+    ensures { result ≡ is_local phase }
+{
+    !matches!(
+        phase,
+        Phase::Running | Phase::Taken | Phase::Arrived | Phase::Restored | Phase::Arrived2
+    )
+}
+
+impl Root {
+    pub fn go(&mut self, station: &Station)
+        requires { Leads station.now.table.shared.table_id (start_of station.now.table.shared.key) self.old.seat.table_id self.old.seat.me Pending }
+        ensures leads { Leads station.now.table.shared.table_id (start_of station.now.table.shared.key) self.new.seat.table_id self.new.seat.me Given }
+        ensures held { self.new.seat.me.0.held ≡ self.old.seat.me.0.held }
+    {
+        station
+            .table
+            .shared
+            .fetch_add::<Gives>(&mut self.seat, 0, 1);
+    }
+
+    pub fn cancel(&mut self, station: &Station)
+        requires { Leads station.now.table.shared.table_id (start_of station.now.table.shared.key) self.old.seat.table_id self.old.seat.me Pending }
+        ensures leads { Leads station.now.table.shared.table_id (start_of station.now.table.shared.key) self.new.seat.table_id self.new.seat.me Cancelled }
+        ensures held { self.new.seat.me.0.held ≡ self.old.seat.me.0.held }
+    {
+        station
+            .table
+            .shared
+            .fetch_add::<Cancels>(&mut self.seat, 0, CANCEL);
+    }
+}
+
+impl Pass {
+    /// The number of its processor.
+    pub fn processor(&self) -> u32
+        ensures { result ≡ self.now.number }
+    {
+        self.number as u32
+    }
+
+    /// The second count that its last load of it showed. There is none where it has made no such load.
+    pub fn shown(&self) -> Option<u64>
+        ensures { result ≡ self.now.shown }
+    {
+        self.shown
+    }
+
+    pub(crate) fn arrive(&mut self, station: &Station, cpu: &mut Cpu)
+        requires carries { Carries station.now.table.shared.table_id (start_of station.now.table.shared.key) self.old.seat.table_id self.old.seat.me self.old.number cpu.old false false }
+        requires taken { cpu.old.phase ≡ Taken }
+        ensures carries { Carries station.now.table.shared.table_id (start_of station.now.table.shared.key) self.new.seat.table_id self.new.seat.me self.new.number cpu.new true false }
+        ensures waits { IsWaiting cpu.new.phase }
+        ensures same { cpu.new ≡ record cpu.old { phase = cpu.new.phase } }
+        ensures first { slice_get station.now.table.shared.key.cpus.value.items self.old.number ≡ Some cpu.old }
+        ensures number { self.new.number ≡ self.old.number }
+    {
+        let found = station
+            .table
+            .shared
+            .fetch_add::<Arrives>(&mut self.seat, 0, 1);
+        if found < CANCEL {
+            cpu.shift(Event::Arrive);
+        }
+    }
+
+    // Waits for the others. The answer is whether the update goes on.
+    pub(crate) fn wait_first<R: Wait>(&mut self, rt: &R, station: &Station, cpu: &mut Cpu) -> bool
+        requires carries { Carries station.now.table.shared.table_id (start_of station.now.table.shared.key) self.old.seat.table_id self.old.seat.me self.old.number cpu.old true false }
+        requires waits { IsWaiting cpu.old.phase }
+        ensures number { self.new.number ≡ self.old.number }
+        ensures carries { Carries station.now.table.shared.table_id (start_of station.now.table.shared.key) self.new.seat.table_id self.new.seat.me self.new.number cpu.new true false }
+        ensures waited { Waited result (start_of station.now.table.shared.key) self.new.number cpu.old cpu.new }
+    {
+        for _ in rt.forever() {
+            let found = station.table.shared.load::<Passes>(&mut self.seat, 0);
+            if found >= CANCEL {
+                cpu.shift(Event::Leave);
+                return false;
+            }
+            if found == station.count + 1 {
+                cpu.shift(Event::Pass);
+                return true;
+            }
+            thread::yield_now();
+        }
+        unreachable!()
+    }
+
+    // Does the processor's next event between the barriers, and stores what others see of it.
+    pub(crate) fn work(&mut self, station: &Station, ram: &Ram, goal: &RegFile, cpu: &mut Cpu)
+        requires carries { Carries station.now.table.shared.table_id (start_of station.now.table.shared.key) self.old.seat.table_id self.old.seat.me self.old.number cpu.old true false }
+        requires stands { Stands (start_of station.now.table.shared.key) Given self.old.number cpu.old }
+        requires between { IsTrue (is_local cpu.old.phase) }
+        requires goal { goal.now ≡ station.now.table.shared.key.goal.value }
+        requires windows { ram.now.windows ≡ station.now.table.shared.key.ram.value.windows }
+        ensures number { self.new.number ≡ self.old.number }
+        ensures carries { Carries station.now.table.shared.table_id (start_of station.now.table.shared.key) self.new.seat.table_id self.new.seat.me self.new.number cpu.new true false }
+        ensures stands { Stands (start_of station.now.table.shared.key) Given self.new.number cpu.new }
+        ensures between { is_changing cpu.new.phase ≡ true }
+    {
+        let e = cpu.local(goal);
+        match written(e) {
+            Some((address, value)) => {
+                let Some(i) = ram.place(address) else {
+                    unreachable!()
+                };
+                let word = station.count as usize + 2 + i;
+                station
+                    .table
+                    .shared
+                    .store::<Works>(&mut self.seat, word, value);
+            }
+            None => {
+                let word = self.number as usize + 2;
+                station
+                    .table
+                    .shared
+                    .store::<Works>(&mut self.seat, word, code(cpu.phase()));
+            }
+        }
+    }
+
+    // Does all events between the barriers.
+    pub(crate) fn work_all<R: Wait>(
+        &mut self,
+        rt: &R,
+        station: &Station,
+        ram: &Ram,
+        goal: &RegFile,
+        cpu: &mut Cpu,
+    )
+        requires carries { Carries station.now.table.shared.table_id (start_of station.now.table.shared.key) self.old.seat.table_id self.old.seat.me self.old.number cpu.old true false }
+        requires stands { Stands (start_of station.now.table.shared.key) Given self.old.number cpu.old }
+        requires between { is_changing cpu.old.phase ≡ true }
+        requires goal { goal.now ≡ station.now.table.shared.key.goal.value }
+        requires windows { ram.now.windows ≡ station.now.table.shared.key.ram.value.windows }
+        ensures number { self.new.number ≡ self.old.number }
+        ensures carries { Carries station.now.table.shared.table_id (start_of station.now.table.shared.key) self.new.seat.table_id self.new.seat.me self.new.number cpu.new true false }
+        ensures restored { cpu.new.phase ≡ Restored }
+    {
+        for _ in rt.forever() {
+            if !is_local(cpu.phase()) {
+                return;
+            }
+            self.work(station, ram, goal, cpu);
+        }
+        unreachable!()
+    }
+
+    pub(crate) fn arrive_again(&mut self, station: &Station, cpu: &mut Cpu)
+        requires carries { Carries station.now.table.shared.table_id (start_of station.now.table.shared.key) self.old.seat.table_id self.old.seat.me self.old.number cpu.old true false }
+        requires restored { cpu.old.phase ≡ Restored }
+        ensures number { self.new.number ≡ self.old.number }
+        ensures carries { Carries station.now.table.shared.table_id (start_of station.now.table.shared.key) self.new.seat.table_id self.new.seat.me self.new.number cpu.new true true }
+        ensures waits { cpu.new.phase ≡ Arrived2 }
+    {
+        station
+            .table
+            .shared
+            .fetch_add::<ArrivesAgain>(&mut self.seat, 1, 1);
+        cpu.shift(Event::ArriveAgain);
+    }
+
+    pub(crate) fn wait_second<R: Wait>(&mut self, rt: &R, station: &Station, cpu: &mut Cpu)
+        requires carries { Carries station.now.table.shared.table_id (start_of station.now.table.shared.key) self.old.seat.table_id self.old.seat.me self.old.number cpu.old true true }
+        requires waits { cpu.old.phase ≡ Arrived2 }
+        ensures number { self.new.number ≡ self.old.number }
+        ensures carries { Carries station.now.table.shared.table_id (start_of station.now.table.shared.key) self.new.seat.table_id self.new.seat.me self.new.number cpu.new true true }
+        ensures shown { self.new.seat.me.0.shown ≡ Some station.now.count }
+        ensures told { self.new.shown ≡ Some station.now.count }
+        ensures took { Took (start_of station.now.table.shared.key) self.new.number Release cpu.old cpu.new }
+        ensures becomes { cpu.new ≡ own_step station.now.table.shared.key.goal.value Release cpu.old }
+        ensures risen { cpu.new.era ≡ common_era station.now.table.shared.key.cpus.value.items + 1 }
+    {
+        for _ in rt.forever() {
+            let found = station.table.shared.load::<Releases>(&mut self.seat, 1);
+            self.shown = Some(found);
+            if found == station.count {
+                cpu.shift(Event::Release);
+                return;
+            }
+            thread::yield_now();
+        }
+        unreachable!()
+    }
+}
+
+/// A processor with its pass.
+#[derive(Drop)]
+pub struct Attendee {
+    pub cpu: Cpu,
+    pub pass: Pass,
+}
+
+/// Takes the processor through the update. It waits for the others, and for the root.
+pub fn attend<R: Wait, G: Gate>(
+    rt: &R,
+    station: &Station,
+    ram: &Ram,
+    a: Attendee,
+    goal: &RegFile,
+    gate: &G,
+) -> (Attendee, Outcome)
+    requires carries { Carries station.now.table.shared.table_id (start_of station.now.table.shared.key) a.pass.seat.table_id a.pass.seat.me a.pass.number a.cpu false false }
+    requires taken { a.cpu.phase ≡ Taken }
+    requires goal { goal.now ≡ station.now.table.shared.key.goal.value }
+    requires windows { ram.now.windows ≡ station.now.table.shared.key.ram.value.windows }
+    ensures attended { Attended result.1 station.now.table.shared.table_id (start_of station.now.table.shared.key) a.pass.number a.cpu result.0.pass.seat.table_id result.0.pass.seat.me result.0.cpu }
+    ensures number { result.0.pass.number ≡ a.pass.number }
+    ensures shown { result.1 ≡ Outcome.Complete → result.0.pass.shown ≡ Some station.now.count }
+{
+    let Attendee { mut cpu, mut pass } = a;
+    pass.arrive(station, &mut cpu);
+    gate.arrived(pass.number as u32);
+    if !pass.wait_first(rt, station, &mut cpu) {
+        return (Attendee { cpu, pass }, Outcome::Cancelled);
+    }
+    pass.work_all(rt, station, ram, goal, &mut cpu);
+    pass.arrive_again(station, &mut cpu);
+    pass.wait_second(rt, station, &mut cpu);
+    (Attendee { cpu, pass }, Outcome::Complete)
+}
