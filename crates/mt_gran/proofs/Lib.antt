@@ -1,0 +1,12 @@
+mod RunsOf
+mod Whole
+mod Cuts
+mod CutMarks
+mod Rest
+mod Maps
+mod Counts
+mod LostParts
+mod Steady
+mod RoundedFit
+mod OneList
+mod WorkedParts

@@ -1,0 +1,5 @@
+pub mod Granules
+pub mod Parts
+pub mod Marks
+pub mod Grained
+pub mod WorkedGranules

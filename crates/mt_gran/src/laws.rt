@@ -1,0 +1,41 @@
+ghost use Rattle.std.specs.Prelude.{◌≡◌, ◌/◌, ◌^◌, ◌<◌, ◌↔◌, ℕ, List, [], true, false};
+ghost use Rattle.mt_kinds.specs.declared.mem_type.MemType.{MemType};
+ghost use Rattle.mt_regs.specs.declared.page_type.PageType.TheVariants.{Kind};
+ghost use Rattle.mt_regs.specs.RegisterFile.{RegisterFile, page_count};
+ghost use Rattle.mt_regs.specs.PageTypes.{page_type};
+ghost use Rattle.mt_types.specs.declared.run.Run.{Run};
+ghost use Rattle.mt_gran.specs.Grained.{IsGrained, IsLeastRounded, NeedsMore};
+ghost use Rattle.mt_gran.specs.Granules.{TypedPages, is_whole, pages_of, rounded_kind};
+ghost use Rattle.mt_gran.specs.Parts.{ArePartsOf};
+
+/// The rounded types of a rounded file are its own types.
+pub fn the_rounded_file_keeps_its_types()
+    ensures { (f new : RegisterFile) (g chunk spare used lost : ℕ) (parts : List Run) → IsGrained f g chunk spare new used lost parts
+        → (page : ℕ) → page < page_count new → rounded_kind (pages_of new) g page ≡ page_type new page }
+{}
+
+/// Where a rounded file is rounded to granules of the same size, nothing is lost.
+pub fn a_second_rounding_loses_nothing()
+    ensures parts { (f new newer : RegisterFile) (g chunk spare used lost : ℕ) (parts : List Run) → IsGrained f g chunk spare new used lost parts
+        → (others few number gone : ℕ) (lasts : List Run) → IsGrained new g others few newer number gone lasts → lasts ≡ [] }
+    ensures lost { (f new newer : RegisterFile) (g chunk spare used lost : ℕ) (parts : List Run) → IsGrained f g chunk spare new used lost parts
+        → (others few number gone : ℕ) (lasts : List Run) → IsGrained new g others few newer number gone lasts → gone ≡ 0 }
+{}
+
+/// A granule is whole exactly where all its pages that aren't free have one type.
+pub fn a_granule_is_whole_where_its_pages_have_one_type()
+    ensures { (m : TypedPages) (g granule : ℕ) → (is_whole m g granule ≡ true)
+        ↔ ((t : MemType) × ((page : ℕ) → page < m.count → page / 2 ^ g ≡ granule → m.free page ≡ false → m.kind page ≡ Kind t)) }
+{}
+
+/// Pages have one list of parts.
+pub fn a_file_has_one_list_of_parts()
+    ensures { (m : TypedPages) (g : ℕ) (parts others : List Run) → ArePartsOf m g parts → ArePartsOf m g others → parts ≡ others }
+{}
+
+/// The least number of ranges that give the rounded types is one, and it is the number that is answered or asked for.
+pub fn each_size_has_one_least_number()
+    ensures one { (f : RegisterFile) (g chunk a b : ℕ) → IsLeastRounded f g chunk a → IsLeastRounded f g chunk b → a ≡ b }
+    ensures used { (f new : RegisterFile) (g chunk spare used lost : ℕ) (parts : List Run) → IsGrained f g chunk spare new used lost parts → IsLeastRounded f g chunk used }
+    ensures needs { (f : RegisterFile) (g chunk spare needs has : ℕ) → NeedsMore f g chunk spare needs has → IsLeastRounded f g chunk needs }
+{}

@@ -1,0 +1,56 @@
+ghost use Rattle.std.specs.Prelude.{◌≡◌, [], ◌∷◌, true, false};
+ghost use Rattle.mt_regs.specs.declared.page_type.PageType.TheVariants.{Kind};
+ghost use Rattle.mt_gran.specs.Granules.{is_whole, loses, lost_pages, rounded_kind};
+ghost use Rattle.mt_gran.specs.Parts.{ArePartsOf};
+ghost use Rattle.mt_gran.specs.WorkedGranules.{run, sixteen, with_free};
+
+use mt_kinds::MemType;
+
+/// Whole granules and broken ones of sixteen pages, and of as many as the last granule isn't full of.
+#[tactic(auto, unfolding(crate::specs::Granules::is_whole, crate::specs::Granules::has_type))]
+pub fn worked_granules()
+    ensures free_pages_do_not_count { is_whole sixteen 2 0 ≡ true }
+    ensures broken_by_one_page { is_whole sixteen 2 1 ≡ false }
+    ensures of_one_type { is_whole sixteen 2 2 ≡ true }
+    ensures of_two_types { is_whole sixteen 3 1 ≡ false }
+    ensures of_one_page { is_whole sixteen 0 7 ≡ true }
+    ensures free_alone { is_whole sixteen 1 0 ≡ true }
+    ensures cut { is_whole (with_free 11) 3 1 ≡ true }
+    ensures larger_than_all { is_whole (with_free 11) 28 0 ≡ true }
+    ensures larger_and_broken { is_whole sixteen 28 0 ≡ false }
+{}
+
+/// What pages are rounded to.
+#[tactic(auto, unfolding(crate::specs::Granules::is_whole, crate::specs::Granules::has_type))]
+pub fn worked_rounding()
+    ensures free_keeps { rounded_kind sixteen 3 1 ≡ Kind MemType.WP }
+    ensures broken { rounded_kind sixteen 3 2 ≡ Kind MemType.UC }
+    ensures whole { rounded_kind sixteen 2 2 ≡ Kind MemType.WB }
+    ensures write_through_keeps { rounded_kind sixteen 2 11 ≡ Kind MemType.WT }
+    ensures write_through_turns { rounded_kind sixteen 3 11 ≡ Kind MemType.UC }
+    ensures not_up { rounded_kind sixteen 2 7 ≡ Kind MemType.UC }
+{}
+
+/// What is lost.
+#[tactic(auto, unfolding(crate::specs::Granules::is_whole, crate::specs::Granules::has_type))]
+pub fn worked_losses()
+    ensures none { lost_pages sixteen 0 ≡ 0 }
+    ensures three { lost_pages sixteen 2 ≡ 3 }
+    ensures nine { lost_pages sixteen 3 ≡ 9 }
+    ensures not_free { lost_pages sixteen 28 ≡ 9 }
+    ensures cut { lost_pages (with_free 11) 3 ≡ 0 }
+    ensures uncacheable_is_not_lost { loses sixteen 2 MemType.UC 7 ≡ false }
+    ensures write_through_is { loses sixteen 3 MemType.WT 8 ≡ true }
+    ensures of_its_own_type { loses sixteen 3 MemType.WB 8 ≡ false }
+{}
+
+/// The parts of sixteen pages, and lists that aren't.
+pub fn worked_parts()
+    ensures of_fours { ArePartsOf sixteen 2 (run 4 3 MemType.WB ∷ []) }
+    ensures of_eights { ArePartsOf sixteen 3 (run 2 5 MemType.WB ∷ run 8 4 MemType.WT ∷ run 12 4 MemType.WB ∷ []) }
+    ensures not_none { ArePartsOf sixteen 2 [] → ⊥ }
+    ensures not_divided { ArePartsOf sixteen 2 (run 4 1 MemType.WB ∷ run 5 2 MemType.WB ∷ []) → ⊥ }
+    ensures not_uncacheable { ArePartsOf sixteen 2 (run 4 3 MemType.WB ∷ run 7 1 MemType.UC ∷ []) → ⊥ }
+    ensures not_free { ArePartsOf sixteen 3 (run 0 2 MemType.WP ∷ run 2 5 MemType.WB ∷ run 8 4 MemType.WT ∷ run 12 4 MemType.WB ∷ []) → ⊥ }
+    ensures not_joined { ArePartsOf sixteen 3 (run 2 5 MemType.WB ∷ run 8 8 MemType.WT ∷ []) → ⊥ }
+{}
