@@ -1,19 +1,18 @@
 -- Counting the pages that lose WB over the runs of pages that lose a type.
 use Rattle.std.proofs.Common.{◌≡◌, ◌≢◌, ℕ, zero, suc, ◌+◌, ◌-◌, ◌/◌, ◌^◌, ◌<◌, ◌≤◌, Bool, true, false, List, [], ◌∷◌, length, drop, drop-cons, get_or, Option, Some, None, refl, sym, ap, ◌∙◌, ◌⊎◌, inl, inr, arith, subst}
-use Rattle.std.specs.Prelude.{not, ◌&&◌}
-use Rattle.std.proofs.lemmas.Bool.{and_from, and_parts, both_ways, cases_Bool, cases_lt}
+use Rattle.std.proofs.lemmas.Bool.{and_from, and_parts, both_ways, cases_Bool}
 use Rattle.std.proofs.lemmas.List.{drop_all}
 use Rattle.mt_kinds.specs.declared.mem_type.MemType.{MemType}
-use Rattle.mt_kinds.specs.declared.mem_type.MemType.TheVariants.{UC, WC, WT, WP, WB}
+use Rattle.mt_kinds.specs.declared.mem_type.MemType.TheVariants.{UC, WB}
 use Rattle.mt_regs.specs.declared.page_type.PageType.{PageType}
-use Rattle.mt_regs.specs.declared.page_type.PageType.TheVariants.{Kind, Undefined}
+use Rattle.mt_regs.specs.declared.page_type.PageType.TheVariants.{Kind}
 use Rattle.mt_types.specs.declared.run.Run.{Run}
 use Rattle.mt_types.specs.Runs.{run_end}
 use Rattle.mt_trie.specs.Contexts.{is_kind}
 use Rattle.mt_gran.specs.Granules.{TypedPages, count_below, is_whole, lost_pages, loses, rounded_kind}
 use Rattle.mt_gran.specs.Marks.{AreRunsOf, lost_mark, part_loss}
 use Rattle.mt_gran.proofs.RunsOf.{ends_later}
-use Rattle.mt_gran.proofs.Whole.{is_own_kind, kind_of, not_true, of_kind, true_not}
+use Rattle.mt_gran.proofs.Whole.{kind_of, not_true, of_kind, true_not}
 use Rattle.mt_gran.proofs.CutMarks.{broken_gets, broken_marks, free_marks, uncacheable_marks, whole_keeps, whole_marks}
 
 -- a page's mark is the type that it loses

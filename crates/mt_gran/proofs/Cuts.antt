@@ -1,6 +1,6 @@
 -- Where the pages of a run lie in whole granules.
-use Rattle.std.proofs.Common.{◌≡◌, ◌≢◌, ℕ, suc, ◌+◌, ◌-◌, ◌*◌, ◌/◌, ◌%◌, ◌^◌, ◌<◌, ◌≤◌, Bool, true, false, refl, sym, ap, ◌∙◌, ◌⊎◌, inl, inr, arith, subst}
-use Rattle.std.specs.Prelude.{◌&&◌, max, min, nat_lt, if◌then◌else◌}
+use Rattle.std.proofs.Common.{◌≡◌, ℕ, suc, ◌+◌, ◌-◌, ◌*◌, ◌/◌, ◌%◌, ◌^◌, ◌<◌, ◌≤◌, true, false, refl, sym, ◌∙◌, ◌⊎◌, inl, inr, arith}
+use Rattle.std.specs.Prelude.{max, min, if◌then◌else◌}
 use Rattle.std.proofs.Math.Nat.{div-lt_iff_lt-mul, le-div_iff_mul-le, div-eq_of_lt-le, div-add-mod}
 use Rattle.std.proofs.lemmas.Nat.{pow_pos}
 use Rattle.std.proofs.lemmas.Bool.{and_from, both_ways, cases_Bool, cases_lt, lt-ltb, le-ltb}
@@ -8,7 +8,6 @@ use Rattle.mt_regs.specs.RegisterFile.{RegisterFile, is_fixed_enabled, page_coun
 use Rattle.mt_types.specs.declared.run.Run.{Run}
 use Rattle.mt_types.specs.Runs.{run_end}
 use Rattle.mt_tidy.specs.Wanted.{is_free}
-use Rattle.mt_gran.specs.declared.cut.Cut.{Cut}
 use Rattle.mt_gran.specs.Granules.{is_whole, pages_of}
 use Rattle.mt_gran.specs.Marks.{IsCut, IsWholeRun}
 use Rattle.mt_gran.proofs.Whole.{not_whole, whole_from}

@@ -1,6 +1,5 @@
 -- Longest runs of pages that lose a type are the parts.
-use Rattle.std.proofs.Common.{◌≡◌, ◌≢◌, ℕ, suc, ◌+◌, ◌<◌, ◌≤◌, true, List, [], ◌∷◌, Option, Some, None, refl, sym, ap, ◌∙◌, inl, inr, arith}
-use Rattle.std.specs.Prelude.{◌⊎◌}
+use Rattle.std.proofs.Common.{◌≡◌, ◌≢◌, ℕ, suc, ◌<◌, ◌≤◌, List, [], ◌∷◌, Some, refl, sym, ap, ◌∙◌, inl, inr, arith}
 use Rattle.std.specs.List.{AllByRecursion}
 use Rattle.std.proofs.lemmas.Bool.{cases_lt}
 use Rattle.mt_kinds.specs.declared.mem_type.MemType.{MemType}
@@ -8,7 +7,7 @@ use Rattle.mt_regs.specs.declared.page_type.PageType.{PageType}
 use Rattle.mt_regs.specs.declared.page_type.PageType.TheVariants.{Kind}
 use Rattle.mt_types.specs.declared.run.Run.{Run}
 use Rattle.mt_types.specs.Runs.{run_end}
-use Rattle.mt_gran.specs.Granules.{TypedPages, loses}
+use Rattle.mt_gran.specs.Granules.{TypedPages}
 use Rattle.mt_gran.specs.Marks.{AreRunsOf, HaveMark, lost_mark}
 use Rattle.mt_gran.specs.Parts.{ArePartsOf, Ascend, IsInSome, IsPart}
 use Rattle.mt_gran.proofs.RunsOf.{ends_later}

@@ -1,13 +1,11 @@
 -- There is one list of parts.
-use Rattle.std.proofs.Common.{◌≡◌, ◌≢◌, ℕ, suc, ◌+◌, ◌<◌, ◌≤◌, true, false, List, [], ◌∷◌, refl, sym, ap, ◌∙◌, inl, inr, arith, subst}
-use Rattle.std.specs.Prelude.{◌⊎◌}
+use Rattle.std.proofs.Common.{◌≡◌, ℕ, ◌<◌, ◌≤◌, true, false, List, [], ◌∷◌, refl, sym, ap, ◌∙◌, inl, inr, arith, subst}
 use Rattle.std.specs.List.{AllByRecursion}
 use Rattle.std.proofs.lemmas.Bool.{both_ways, cases_lt}
 use Rattle.mt_kinds.specs.declared.mem_type.MemType.{MemType}
-use Rattle.mt_regs.specs.declared.page_type.PageType.{PageType}
 use Rattle.mt_regs.specs.declared.page_type.PageType.TheVariants.{Kind}
 use Rattle.mt_types.specs.declared.run.Run.{Run}
-use Rattle.mt_types.specs.Runs.{HasPage, run_end}
+use Rattle.mt_types.specs.Runs.{run_end}
 use Rattle.mt_gran.specs.Granules.{TypedPages, loses}
 use Rattle.mt_gran.specs.Parts.{ArePartsOf, Ascend, IsInSome, IsPart}
 use Rattle.mt_gran.proofs.Counts.{lost_by, mark_of}

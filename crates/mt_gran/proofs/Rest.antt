@@ -1,7 +1,6 @@
 -- The runs of a file's type map that are left.
-use Rattle.std.proofs.Common.{◌≡◌, ◌≢◌, ℕ, suc, ◌+◌, ◌<◌, ◌≤◌, List, [], ◌∷◌, length, Option, drop, drop-cons, get_or, refl, sym, ap, ◌∙◌, inl, inr, arith, subst}
+use Rattle.std.proofs.Common.{◌≡◌, ◌≢◌, ℕ, suc, ◌+◌, ◌<◌, ◌≤◌, List, [], ◌∷◌, length, Option, drop, drop-cons, get_or, refl, sym, ap, ◌∙◌, arith, subst}
 use Rattle.std.specs.List.{All}
-use Rattle.std.proofs.lemmas.Bool.{cases_lt}
 use Rattle.std.proofs.lemmas.List.{drop_all}
 use Rattle.mt_kinds.specs.declared.mem_type.MemType.{MemType}
 use Rattle.mt_regs.specs.declared.page_type.PageType.{PageType}

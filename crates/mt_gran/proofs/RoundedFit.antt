@@ -1,33 +1,31 @@
 -- A fit of the rounded types.
-use Rattle.std.proofs.Common.{◌≡◌, ◌≢◌, ℕ, ◌-◌, ◌+◌, ◌/◌, ◌^◌, ◌<◌, ◌≤◌, true, false, List, [], length, refl, sym, ap, subst, ◌∙◌, ◌⊎◌, inl, inr, arith}
+use Rattle.std.proofs.Common.{◌≡◌, ℕ, ◌/◌, ◌^◌, ◌<◌, true, List, [], refl, sym, ap, ◌∙◌, ◌⊎◌, inl, inr, arith}
 use Rattle.std.specs.Prelude.{IsTrue, slice_index_or}
 use Rattle.std.proofs.lemmas.Bool.{cases_Bool}
 use Rattle.mt_kinds.specs.declared.mem_type.MemType.{MemType}
 use Rattle.mt_kinds.specs.declared.mem_type.MemType.TheVariants.{UC}
-use Rattle.mt_regs.specs.declared.page_type.PageType.{PageType}
 use Rattle.mt_regs.specs.declared.page_type.PageType.TheVariants.{Kind}
 use Rattle.mt_regs.specs.RegisterFile.{IsRegisterFile, RegisterFile, is_enabled, page_count}
 use Rattle.mt_regs.specs.PageTypes.{page_type}
 use Rattle.mt_regs.specs.Faults.{IsAccepted}
 use Rattle.mt_types.specs.declared.run.Run.{Run}
-use Rattle.mt_types.specs.Runs.{IsRunsOf, kind_at}
+use Rattle.mt_types.specs.Runs.{IsRunsOf}
 use Rattle.mt_types.proofs.Chains.{within_chain}
 use Rattle.mt_types.proofs.Once.{some_run}
 use Rattle.mt_types.proofs.Reading.{no_undefined}
 use Rattle.mt_tidy.specs.Tidied.{IsTidied}
-use Rattle.mt_tidy.specs.Wanted.{Gives, IsLeastFor, IsWanted, is_free, is_supported_type}
+use Rattle.mt_tidy.specs.Wanted.{Gives, IsWanted, is_free, is_supported_type}
 use Rattle.mt_tidy.specs.declared.range.Range.{Range}
 use Rattle.mt_tidy.proofs.Own.{own_runs}
 use Rattle.mt_gran.specs.Granules.{AreRounded, TypedPages, is_whole, lost_pages, pages_of, rounded_kind}
 use Rattle.mt_gran.specs.Marks.{AreRunsOf, lost_mark}
-use Rattle.mt_gran.specs.Parts.{ArePartsOf}
 use Rattle.mt_gran.specs.Grained.{IsGrained, IsLeastRounded, NeedsMore}
 use Rattle.mt_gran.proofs.Counts.{default_run}
 use Rattle.mt_gran.proofs.CutMarks.{broken_gets, free_keeps, whole_keeps}
 use Rattle.mt_gran.proofs.LostParts.{parts_of}
 use Rattle.mt_gran.proofs.Maps.{kind_rounded}
 use Rattle.mt_gran.proofs.Rest.{defined}
-use Rattle.mt_gran.proofs.Steady.{HasRounded, none_lost, no_parts, stays}
+use Rattle.mt_gran.proofs.Steady.{none_lost, no_parts, stays}
 
 either : (m : TypedPages) (g page : ℕ) → (rounded_kind m g page ≡ m.kind page) ⊎ (rounded_kind m g page ≡ Kind UC)
 either m g page = elim (cases_Bool (m.free page)) [

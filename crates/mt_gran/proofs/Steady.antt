@@ -1,12 +1,9 @@
 -- A file of rounded types is rounded to its own types.
-use Rattle.std.proofs.Common.{◌≡◌, ◌≢◌, ℕ, suc, zero, ◌+◌, ◌/◌, ◌^◌, ◌<◌, ◌≤◌, true, false, List, [], ◌∷◌, refl, sym, ap, ◌∙◌, ◌⊎◌, inl, inr, arith}
+use Rattle.std.proofs.Common.{◌≡◌, ℕ, ◌/◌, ◌^◌, ◌<◌, false, List, [], ◌∷◌, refl, sym, ap, ◌∙◌, inl, inr, arith}
 use Rattle.std.proofs.lemmas.Bool.{and_parts, both_ways, cases_Bool}
 use Rattle.mt_kinds.specs.declared.mem_type.MemType.{MemType}
 use Rattle.mt_kinds.specs.declared.mem_type.MemType.TheVariants.{UC, WB}
-use Rattle.mt_regs.specs.declared.page_type.PageType.{PageType}
-use Rattle.mt_regs.specs.declared.page_type.PageType.TheVariants.{Kind}
 use Rattle.mt_types.specs.declared.run.Run.{Run}
-use Rattle.mt_types.specs.Runs.{run_end}
 use Rattle.mt_trie.specs.Contexts.{is_kind}
 use Rattle.mt_gran.specs.Granules.{TypedPages, is_whole, lost_pages, loses, rounded_kind}
 use Rattle.mt_gran.specs.Parts.{ArePartsOf}
@@ -27,12 +24,12 @@ stays m n g has page below = elim (cases_Bool (n.free page)) [
     | inl whole ↦
         let one = whole_has m g (page / 2 ^ g) whole in
         whole_from n g (page / 2 ^ g) one.0 (λ q q_below at q_nonfree.
-            let inside : q < m.count = omega (arith, q_below, has.count) in
-            let apart = sym (has.free q) ∙ q_nonfree in
-            has.kinds q inside ∙ whole_keeps m g q apart (ap (is_whole m g) at ∙ whole) ∙ one.1 q inside at apart)
+        let inside : q < m.count = omega (arith, q_below, has.count) in
+        let apart = sym (has.free q) ∙ q_nonfree in
+        has.kinds q inside ∙ whole_keeps m g q apart (ap (is_whole m g) at ∙ whole) ∙ one.1 q inside at apart)
     | inr broken ↦
         whole_from n g (page / 2 ^ g) UC (λ q q_below at q_nonfree.
-            has.kinds q (omega (arith, q_below, has.count)) ∙ broken_gets m g q (sym (has.free q) ∙ q_nonfree) (ap (is_whole m g) at ∙ broken))
+        has.kinds q (omega (arith, q_below, has.count)) ∙ broken_gets m g q (sym (has.free q) ∙ q_nonfree) (ap (is_whole m g) at ∙ broken))
   ])
 ]
 

@@ -1,12 +1,12 @@
 -- Whether a granule is whole.
-use Rattle.std.proofs.Common.{◌≡◌, ◌≢◌, ℕ, zero, suc, ◌+◌, ◌-◌, ◌*◌, ◌/◌, ◌^◌, ◌<◌, ◌≤◌, ◌==◌, Bool, true, false, List, [], ◌∷◌, refl, sym, ap, ◌∙◌, ◌⊎◌, inl, inr, arith, subst}
-use Rattle.std.specs.Prelude.{not, ◌&&◌, ◌||◌}
+use Rattle.std.proofs.Common.{◌≡◌, ◌≢◌, ℕ, zero, suc, ◌/◌, ◌^◌, ◌<◌, ◌==◌, Bool, true, false, List, [], ◌∷◌, refl, sym, ap, ◌∙◌, ◌⊎◌, inl, inr, arith, subst}
+use Rattle.std.specs.Prelude.{not, ◌||◌}
 use Rattle.std.specs.List.{list_any}
-use Rattle.std.proofs.lemmas.Bool.{and_from, and_parts, both_ways, cases_Bool, cases_lt, eqb-true, eq-eqb}
+use Rattle.std.proofs.lemmas.Bool.{and_from, and_parts, cases_Bool, cases_lt, eqb-true, eq-eqb}
 use Rattle.mt_kinds.specs.declared.mem_type.MemType.{MemType}
 use Rattle.mt_kinds.specs.declared.mem_type.MemType.TheVariants.{UC, WC, WT, WP, WB}
 use Rattle.mt_regs.specs.declared.page_type.PageType.{PageType}
-use Rattle.mt_regs.specs.declared.page_type.PageType.TheVariants.{Kind, Undefined}
+use Rattle.mt_regs.specs.declared.page_type.PageType.TheVariants.{Kind}
 use Rattle.mt_trie.specs.Contexts.{is_kind, types}
 use Rattle.mt_gran.specs.Granules.{TypedPages, each_below, has_type, is_of_granule, is_whole}
 
@@ -106,8 +106,8 @@ unfolding is_whole has_type
 whole_from m g granule t all =
     any_type (has_type m g granule) t (each_from (λ page. not (is_of_granule m g granule page) || is_kind (m.kind page) t) m.count
     (λ page below. implied (is_of_granule m g granule page) (is_kind (m.kind page) t) (λ is.
-        let parts = and_parts (page / 2 ^ g == granule) (not (m.free page)) is in
-        of_kind (m.kind page) t (all page below (eqb-true (page / 2 ^ g) granule parts.0) (not_true (m.free page) parts.1)))))
+    let parts = and_parts (page / 2 ^ g == granule) (not (m.free page)) is in
+    of_kind (m.kind page) t (all page below (eqb-true (page / 2 ^ g) granule parts.0) (not_true (m.free page) parts.1)))))
 
 pub whole_has : (m : TypedPages) (g granule : ℕ) → is_whole m g granule ≡ true → (t : MemType) × AllHave m g granule t
 unfolding is_whole has_type

@@ -1,10 +1,9 @@
 -- The parts of sixteen pages.
-use Rattle.std.proofs.Common.{◌≡◌, ℕ, suc, ◌<◌, ◌≤◌, List, [], ◌∷◌, Option, Some, None, refl, sym, ap, ◌∙◌, inl, inr, arith, subst}
+use Rattle.std.proofs.Common.{◌≡◌, ℕ, suc, ◌≤◌, [], ◌∷◌, Option, Some, None, refl, inl, inr, arith, subst}
 use Rattle.std.proofs.lemmas.Bool.{cases_lt}
 use Rattle.mt_kinds.specs.declared.mem_type.MemType.TheVariants.{UC, WP, WT, WB}
 use Rattle.mt_regs.specs.declared.page_type.PageType.{PageType}
 use Rattle.mt_regs.specs.declared.page_type.PageType.TheVariants.{Kind}
-use Rattle.mt_types.specs.declared.run.Run.{Run}
 use Rattle.mt_gran.specs.Granules.{has_type, is_whole}
 use Rattle.mt_gran.specs.Marks.{AreRunsOf, HaveMark, lost_mark}
 use Rattle.mt_gran.specs.Parts.{ArePartsOf}

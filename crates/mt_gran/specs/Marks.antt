@@ -7,7 +7,7 @@ use Rattle.mt_regs.specs.declared.page_type.PageType.TheVariants.{Kind}
 use Rattle.mt_regs.specs.RegisterFile.{RegisterFile, page_count}
 use Rattle.mt_regs.specs.PageTypes.{page_type}
 use Rattle.mt_types.specs.declared.run.Run.{Run}
-use Rattle.mt_types.specs.Runs.{HasKind, HasPage, run_end}
+use Rattle.mt_types.specs.Runs.{HasKind, run_end}
 use Rattle.mt_trie.specs.Contexts.{is_kind}
 use Rattle.mt_gran.specs.declared.cut.Cut.{Cut}
 use Rattle.mt_gran.specs.Granules.{TypedPages, is_whole, rounded_kind}

@@ -1,11 +1,10 @@
 -- Sixteen pages (own).
-use Rattle.std.specs.Prelude.{ℕ, ◌≡◌, nat_lt, Bool, false, if◌then◌else◌, List, [], ◌∷◌}
+use Rattle.std.specs.Prelude.{ℕ, nat_lt, if◌then◌else◌}
 use Rattle.mt_kinds.specs.declared.mem_type.MemType.{MemType}
 use Rattle.mt_kinds.specs.declared.mem_type.MemType.TheVariants.{UC, WP, WT, WB}
-use Rattle.mt_regs.specs.declared.page_type.PageType.{PageType}
 use Rattle.mt_regs.specs.declared.page_type.PageType.TheVariants.{Kind}
 use Rattle.mt_types.specs.declared.run.Run.{Run}
-use Rattle.mt_gran.specs.Granules.{TypedPages, rounded_kind}
+use Rattle.mt_gran.specs.Granules.{TypedPages}
 
 -- pages 0 and 1 have WP and are free; then WB up to page 6, UC on page 7, WT up to page 11, and WB
 abbrev pub sixteen : TypedPages

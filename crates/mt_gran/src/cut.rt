@@ -46,7 +46,11 @@ fn whole_from(first: u64, start: u64, free_end: u64, g: u8) -> u64
     }
     let size = granule_size(g);
     let past = first % size;
-    if past == 0 { first } else { first - past + size }
+    if past == 0 {
+        first
+    } else {
+        first - past + size
+    }
 }
 
 // Where they end: at a granule's end, or at that of all pages.

@@ -35,13 +35,7 @@ pub fn rounded(alloc: Global, f: &RegFile, g: u8) -> Result<Runs, NoMemory>
 /// The file that differs from `f` in its pairs alone and gives each page its type rounded to granules of `2^g` pages,
 /// with the fewest pairs, as `fit` does, and what is lost. Each refusal comes exactly where `GranFault` says, but for
 /// want of memory.
-pub fn gran(
-    alloc: Global,
-    f: &RegFile,
-    g: u8,
-    spare: u8,
-    chunk: u64,
-) -> Result<Grained, GranFault>
+pub fn gran(alloc: Global, f: &RegFile, g: u8, spare: u8, chunk: u64) -> Result<Grained, GranFault>
     requires { g ≤ 28 }
     ensures ok { IfOk result (λ grained. IsGrained f.now g chunk spare grained.tidied.file grained.tidied.used grained.lost grained.parts.items) }
     ensures err { IfErr result (λ fault. IsWhy f.now g chunk spare fault) }

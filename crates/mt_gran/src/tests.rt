@@ -1,4 +1,6 @@
-use crate::{GranFault, Grained, gran, rounded};
+ghost use Rattle.std.specs.Prelude.{◌≤◌};
+
+use crate::{Grained, GranFault, gran, rounded};
 use mt_kinds::MemType;
 use mt_regs::{PageType, Reason, RegFile};
 use mt_types::Run;

@@ -1,7 +1,7 @@
-use Rattle.std.proofs.Common.{◌≡◌, ◌∙◌, ap, refl, sym, subst, ◌<◌, ℕ}
+use Rattle.std.proofs.Common.{◌∙◌, ap, refl, subst, ℕ}
 use Rattle.std.specs.Prelude.{max, min}
 use Rattle.mt_types.specs.Runs.{run_end}
-use Rattle.mt_gran.proofs.Cuts.{IsFrom, IsTo, first_not_free, none_whole, some_whole}
+use Rattle.mt_gran.proofs.Cuts.{IsFrom, IsTo, none_whole, some_whole}
 use Rattle.mt_gran.proofs.cut.cut_of.Goals as goal
 
 pub returns-then-from-to : goal.returns-then-from-to

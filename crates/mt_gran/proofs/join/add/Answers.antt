@@ -1,4 +1,4 @@
-use Rattle.std.proofs.Common.{◌≡◌, ◌-◌, ◌≤◌, ◌<◌, List, [], ◌∷◌, ◌++◌, refl, sym, ap, ◌∙◌, subst, arith}
+use Rattle.std.proofs.Common.{◌-◌, List, [], ◌∷◌, ◌++◌, refl, sym, ap, ◌∙◌, subst, arith}
 use Rattle.mt_types.specs.declared.run.Run.{Run}
 use Rattle.mt_gran.specs.Marks.{AreRunsOf}
 use Rattle.mt_gran.proofs.RunsOf.{last_ends, longer_run, next_run}

@@ -1,7 +1,6 @@
-use Rattle.std.proofs.Common.{◌≡◌, ◌≢◌, ℕ, refl, subst, arith}
+use Rattle.std.proofs.Common.{◌≢◌, ℕ, refl, subst, arith}
 use Rattle.mt_kinds.specs.declared.mem_type.MemType.TheVariants.{UC}
 use Rattle.mt_regs.specs.declared.page_type.PageType.TheVariants.{Kind}
-use Rattle.mt_types.specs.declared.run.Run.{Run}
 use Rattle.mt_types.specs.Runs.{run_end}
 use Rattle.mt_gran.specs.Granules.{pages_of}
 use Rattle.mt_gran.specs.Marks.{AreRunsOf, lost_mark}

@@ -1,5 +1,4 @@
-use Rattle.std.proofs.Common.{◌≡◌, ◌∙◌, List, ap, subst, sym, ℕ}
-use Rattle.mt_types.specs.declared.run.Run.{Run}
+use Rattle.std.proofs.Common.{subst, ℕ}
 use Rattle.mt_gran.specs.Granules.{pages_of}
 use Rattle.mt_gran.specs.Marks.{AreRunsOf, rounded_mark}
 use Rattle.mt_gran.proofs.CutMarks.{free_rounded, head_rounded, tail_rounded, whole_rounded}

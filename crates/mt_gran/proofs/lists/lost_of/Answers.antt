@@ -1,4 +1,4 @@
-use Rattle.std.proofs.Common.{◌+◌, ap, arith, subst, sym, ℕ, drop}
+use Rattle.std.proofs.Common.{◌+◌, arith, subst, sym, ℕ, drop}
 use Rattle.mt_regs.proofs.Powers.{few_pages}
 use Rattle.mt_gran.specs.Granules.{pages_of}
 use Rattle.mt_gran.proofs.Counts.{Counted, all_lost, counted_start, default_run, few_lost, more_lost}

@@ -1,6 +1,6 @@
 use Rattle.mt_gran.specs.Granules.{pages_of}
 use Rattle.mt_gran.specs.Marks.{lost_mark}
-use Rattle.mt_gran.proofs.Rest.{Goes, goes_end, goes_on, goes_start, runs_before, whole_run}
+use Rattle.mt_gran.proofs.Rest.{goes_end, goes_on, goes_start, runs_before, whole_run}
 use Rattle.mt_gran.proofs.lists.lost_parts.Goals as goal
 
 pub loop-run-init : goal.loop-run-init

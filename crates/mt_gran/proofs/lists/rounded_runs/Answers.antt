@@ -3,7 +3,7 @@ use Rattle.std.proofs.lemmas.Nat.{pow_pos}
 use Rattle.mt_types.specs.declared.run.Run.{Run}
 use Rattle.mt_gran.specs.Granules.{AreRounded, pages_of}
 use Rattle.mt_gran.specs.Marks.{rounded_mark}
-use Rattle.mt_gran.proofs.Rest.{Goes, goes_end, goes_on, goes_start, runs_before, whole_run}
+use Rattle.mt_gran.proofs.Rest.{goes_end, goes_on, goes_start, runs_before, whole_run}
 use Rattle.mt_gran.proofs.Maps.{rounded_map}
 use Rattle.mt_gran.proofs.lists.rounded_runs.Goals as goal
 
