@@ -10,3 +10,4 @@ mod Steady
 mod RoundedFit
 mod OneList
 mod WorkedParts
+mod SomeRounding

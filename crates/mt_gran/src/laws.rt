@@ -1,8 +1,9 @@
-ghost use Rattle.std.specs.Prelude.{◌≡◌, ◌/◌, ◌^◌, ◌<◌, ◌↔◌, ℕ, List, [], true, false};
+ghost use Rattle.std.specs.Prelude.{◌≡◌, ◌/◌, ◌^◌, ◌<◌, ◌↔◌, ◌⊎◌, ℕ, List, [], true, false};
 ghost use Rattle.mt_kinds.specs.declared.mem_type.MemType.{MemType};
 ghost use Rattle.mt_regs.specs.declared.page_type.PageType.TheVariants.{Kind};
-ghost use Rattle.mt_regs.specs.RegisterFile.{RegisterFile, page_count};
+ghost use Rattle.mt_regs.specs.RegisterFile.{IsRegisterFile, RegisterFile, is_enabled, page_count};
 ghost use Rattle.mt_regs.specs.PageTypes.{page_type};
+ghost use Rattle.mt_regs.specs.Faults.{IsAccepted};
 ghost use Rattle.mt_types.specs.declared.run.Run.{Run};
 ghost use Rattle.mt_gran.specs.Grained.{IsGrained, IsLeastRounded, NeedsMore};
 ghost use Rattle.mt_gran.specs.Granules.{TypedPages, is_whole, pages_of, rounded_kind};
@@ -38,4 +39,11 @@ pub fn each_size_has_one_least_number()
     ensures one { (f : RegisterFile) (g chunk a b : ℕ) → IsLeastRounded f g chunk a → IsLeastRounded f g chunk b → a ≡ b }
     ensures used { (f new : RegisterFile) (g chunk spare used lost : ℕ) (parts : List Run) → IsGrained f g chunk spare new used lost parts → IsLeastRounded f g chunk used }
     ensures needs { (f : RegisterFile) (g chunk spare needs has : ℕ) → NeedsMore f g chunk spare needs has → IsLeastRounded f g chunk needs }
+{}
+
+/// Each accepted file whose ranges are on can be rounded, or needs more pairs than it has.
+pub fn each_file_is_rounded_or_needs_more()
+    ensures { (f : RegisterFile) → IsRegisterFile f → IsAccepted f → is_enabled f ≡ true → (g chunk spare : ℕ)
+        → ((new : RegisterFile) × (used : ℕ) × (lost : ℕ) × (parts : List Run) × IsGrained f g chunk spare new used lost parts)
+        ⊎ ((needs : ℕ) × (has : ℕ) × NeedsMore f g chunk spare needs has) }
 {}
