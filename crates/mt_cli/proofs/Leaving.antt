@@ -14,7 +14,7 @@ use Rattle.mt_replay.proofs.Refusals.Outcomes.{one_of_three}
 use Rattle.mt_cli.specs.declared.command.Command.{Command}
 use Rattle.mt_cli.specs.declared.command.Command.TheVariants.{Replay}
 use Rattle.mt_cli.specs.CommandLine.{command_of}
-use Rattle.mt_cli.specs.Output.{Answer, IsOfDump, Output, usage, bad_text, answered, replayed, refused, accepted, shown, typed, paged, tidied, too_few, disabled}
+use Rattle.mt_cli.specs.Output.{Answer, IsOfDump, Output, usage, bad_text, answered, replayed, refused, accepted, shown, typed, paged, tidied, too_few, disabled, grained, gran_too_few, gran_disabled}
 use Rattle.mt_cli.specs.Reading.{ConsumesTooMuch, EndsReading}
 use Rattle.mt_cli.specs.Tool.{Answered, CutShort, Finished, Leaves, Reads}
 use Rattle.mt_cli.specs.Written.{Answers, Writes, writes, no_memory}
@@ -45,6 +45,9 @@ final file command text status (paged address index good) = inl refl
 final file command text status (tidied spare chunk used new is) = inl refl
 final file command text status (too_few spare chunk needs has is) = inr (inr (inr (inl refl)))
 final file command text status (disabled spare chunk good off) = inr (inr (inr (inr refl)))
+final file command text status (grained log spare chunk used lost parts new is) = inl refl
+final file command text status (gran_too_few log spare chunk needs has is) = inr (inr (inr (inl refl)))
+final file command text status (gran_disabled log spare chunk good off) = inr (inr (inr (inr refl)))
 
 final_of_transcript : (bytes : List ℕ) → IsFinal (transcript bytes).status
 unfolding IsFinal

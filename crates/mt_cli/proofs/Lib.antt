@@ -5,3 +5,4 @@ mod LongLines
 mod OneOutput
 mod SomeOutput
 mod SoundCommands
+mod Parting

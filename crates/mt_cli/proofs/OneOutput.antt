@@ -15,12 +15,14 @@ use Rattle.mt_dump.specs.Dump.{Shown}
 use Rattle.mt_dump.proofs.Ends.{one_file, shown_no_offence}
 use Rattle.mt_tidy.specs.Keeps.{IsLeast}
 use Rattle.mt_tidy.specs.Kept.{IsTidy, NeedsMore}
+use Rattle.mt_gran.specs.Grained.{IsGrained, NeedsMore as GranNeedsMore}
+use Rattle.mt_gran.proofs.RoundedFit.{needs_is_least, one_least as one_rounded, used_is_least}
 use Rattle.mt_cli.specs.declared.command.Command.{Command}
-use Rattle.mt_cli.specs.declared.command.Command.TheVariants.{Check, Show, Types, Page, Tidy, Replay}
+use Rattle.mt_cli.specs.declared.command.Command.TheVariants.{Check, Show, Types, Page, Tidy, Gran, Replay}
 use Rattle.mt_cli.specs.CommandLine.{command_of}
 use Rattle.mt_output.specs.Lines.{accepted_line, bad_text_line, refused_line}
-use Rattle.mt_cli.specs.Lines.{disabled_line, page_text, too_few_line, types_text, used_line}
-use Rattle.mt_cli.specs.Output.{Answer, IsOfDump, IsTesting, Output, refused, accepted, shown, typed, paged, tidied, too_few, disabled, usage, bad_text, answered, replayed}
+use Rattle.mt_cli.specs.Lines.{disabled_line, lost_line, page_text, parts_text, too_few_line, types_text, used_line}
+use Rattle.mt_cli.specs.Output.{Answer, IsOfDump, IsTesting, MayChoose, Output, refused, accepted, shown, typed, paged, tidied, too_few, disabled, grained, gran_too_few, gran_disabled, usage, bad_text, answered, replayed}
 
 -- the answer names the file's first fault
 record Refusal (file : RegisterFile) (command : Command) (text : List ℕ) (status : Status) : Type 0 where
@@ -41,6 +43,21 @@ record Lacking (file : RegisterFile) (spare chunk : ℕ) (text : List ℕ) (stat
   pub needs : ℕ
   pub has : ℕ
   pub more : NeedsMore file chunk spare needs has
+  pub is_text : text ≡ too_few_line needs has
+  pub is_status : status ≡ TooFew
+
+record Grained (file : RegisterFile) (log spare chunk : ℕ) (text : List ℕ) (status : Status) : Type 0 where
+  pub used : ℕ
+  pub lost : ℕ
+  pub parts : List Run
+  pub new : RegisterFile
+  pub is : IsGrained file log chunk spare new used lost parts
+  pub is_status : status ≡ Done
+
+record GranLacking (file : RegisterFile) (log spare chunk : ℕ) (text : List ℕ) (status : Status) : Type 0 where
+  pub needs : ℕ
+  pub has : ℕ
+  pub more : GranNeedsMore file log chunk spare needs has
   pub is_text : text ≡ too_few_line needs has
   pub is_status : status ≡ TooFew
 
@@ -69,6 +86,7 @@ Own file Show text status = Plain (Unit {0}) (canon file) text status
 Own file Types text status = Mapped file text status
 Own file (Page address index) text status = Plain (IsAccepted file) (page_text file address index) text status
 Own file (Tidy spare chunk) text status = Tidied file spare chunk text status ⊎ Lacking file spare chunk text status ⊎ Off file text status
+Own file (Gran log spare chunk) text status = Grained file log spare chunk text status ⊎ GranLacking file log spare chunk text status ⊎ Off file text status
 Own file Replay text status = ⊥
 
 taken_apart : (file : RegisterFile) (command : Command) (text : List ℕ) (status : Status) → Answer file command text status → Refusal file command text status ⊎ Own file command text status
@@ -80,10 +98,13 @@ taken_apart file command text status (paged address index good) = inr (record { 
 taken_apart file command text status (tidied spare chunk used new is) = inr (inl (record { used = used; new = new; tidy = is; is_text = refl; is_status = refl }))
 taken_apart file command text status (too_few spare chunk needs has is) = inr (inr (inl (record { needs = needs; has = has; more = is; is_text = refl; is_status = refl })))
 taken_apart file command text status (disabled spare chunk good off) = inr (inr (inr (record { good = good; off = off; is_text = refl; is_status = refl })))
+taken_apart file command text status (grained log spare chunk used lost parts new is) = inr (inl (record { used = used; lost = lost; parts = parts; new = new; is = is; is_status = refl }))
+taken_apart file command text status (gran_too_few log spare chunk needs has is) = inr (inr (inl (record { needs = needs; has = has; more = is; is_text = refl; is_status = refl })))
+taken_apart file command text status (gran_disabled log spare chunk good off) = inr (inr (inr (record { good = good; off = off; is_text = refl; is_status = refl })))
 
--- what both answers have in common: the status, and the text unless a tidied file was written
+-- what both answers have in common: the status, and the text unless a tidied or rounded file was written
 abbrev Agree : Command → List ℕ → List ℕ → Status → Status → Type 0
-Agree command text other s t = (s ≡ t) × (((spare chunk : ℕ) → command ≡ Tidy spare chunk → s ≢ Done) → text ≡ other)
+Agree command text other s t = (s ≡ t) × ((MayChoose command → s ≢ Done) → text ≡ other)
 
 own_good : (file : RegisterFile) (command : Command) (text : List ℕ) (status : Status) → IsTesting command → Own file command text status → IsAccepted file
 own_good file Check text status tests own = own.good
@@ -93,6 +114,9 @@ own_good file (Page address index) text status tests own = own.good
 own_good file (Tidy spare chunk) text status tests (inl own) = own.tidy.old_accepted
 own_good file (Tidy spare chunk) text status tests (inr (inl own)) = own.more.accepted
 own_good file (Tidy spare chunk) text status tests (inr (inr own)) = own.good
+own_good file (Gran log spare chunk) text status tests (inl own) = own.is.old_accepted
+own_good file (Gran log spare chunk) text status tests (inr (inl own)) = own.more.accepted
+own_good file (Gran log spare chunk) text status tests (inr (inr own)) = own.good
 own_good file Replay text status tests own = absurd own
 
 no_fault : (file : RegisterFile) (fault : Fault) → IsFirstFault file (Some fault) → IsAccepted file → ⊥
@@ -107,7 +131,7 @@ one_least file chunk a b first second =
 agree_tidy : (file : RegisterFile) (spare chunk : ℕ) (text other : List ℕ) (s t : Status)
     → Tidied file spare chunk text s ⊎ Lacking file spare chunk text s ⊎ Off file text s → Tidied file spare chunk other t ⊎ Lacking file spare chunk other t ⊎ Off file other t
     → Agree (Tidy spare chunk) text other s t
-agree_tidy file spare chunk text other s t (inl a) (inl b) = (a.is_status ∙ sym b.is_status, λ not_done. absurd (not_done spare chunk refl a.is_status))
+agree_tidy file spare chunk text other s t (inl a) (inl b) = (a.is_status ∙ sym b.is_status, λ not_done. absurd (not_done tt a.is_status))
 agree_tidy file spare chunk text other s t (inl a) (inr (inl b)) = absurd (omega (arith, one_least file chunk a.used b.needs a.tidy.least b.more.least, a.tidy.enough, b.more.has_is, b.more.above))
 agree_tidy file spare chunk text other s t (inl a) (inr (inr b)) = absurd (cc (sym a.tidy.enabled ∙ b.off))
 agree_tidy file spare chunk text other s t (inr (inl a)) (inl b) = absurd (omega (arith, one_least file chunk b.used a.needs b.tidy.least a.more.least, b.tidy.enough, a.more.has_is, a.more.above))
@@ -120,12 +144,33 @@ agree_tidy file spare chunk text other s t (inr (inr a)) (inl b) = absurd (cc (s
 agree_tidy file spare chunk text other s t (inr (inr a)) (inr (inl b)) = absurd (cc (sym b.more.enabled ∙ a.off))
 agree_tidy file spare chunk text other s t (inr (inr a)) (inr (inr b)) = (a.is_status ∙ sym b.is_status, λ not_done. a.is_text ∙ sym b.is_text)
 
+agree_gran : (file : RegisterFile) (log spare chunk : ℕ) (text other : List ℕ) (s t : Status)
+    → Grained file log spare chunk text s ⊎ GranLacking file log spare chunk text s ⊎ Off file text s → Grained file log spare chunk other t ⊎ GranLacking file log spare chunk other t ⊎ Off file other t
+    → Agree (Gran log spare chunk) text other s t
+agree_gran file log spare chunk text other s t (inl a) (inl b) = (a.is_status ∙ sym b.is_status, λ not_done. absurd (not_done tt a.is_status))
+agree_gran file log spare chunk text other s t (inl a) (inr (inl b)) =
+    absurd (omega (arith, one_rounded file log chunk a.used b.needs (used_is_least file a.new log chunk spare a.used a.lost a.parts a.is) (needs_is_least file log chunk spare b.needs b.has b.more),
+    a.is.tidied.enough, b.more.few.has_is, b.more.few.above))
+agree_gran file log spare chunk text other s t (inl a) (inr (inr b)) = absurd (cc (sym a.is.enabled ∙ b.off))
+agree_gran file log spare chunk text other s t (inr (inl a)) (inl b) =
+    absurd (omega (arith, one_rounded file log chunk b.used a.needs (used_is_least file b.new log chunk spare b.used b.lost b.parts b.is) (needs_is_least file log chunk spare a.needs a.has a.more),
+    b.is.tidied.enough, a.more.few.has_is, a.more.few.above))
+agree_gran file log spare chunk text other s t (inr (inl a)) (inr (inl b)) =
+    let needs : a.needs ≡ b.needs = one_rounded file log chunk a.needs b.needs (needs_is_least file log chunk spare a.needs a.has a.more) (needs_is_least file log chunk spare b.needs b.has b.more) in
+    let has : a.has ≡ b.has = a.more.few.has_is ∙ sym b.more.few.has_is in
+    (a.is_status ∙ sym b.is_status, λ not_done. a.is_text ∙ ap (λ (n : ℕ). too_few_line n a.has) needs ∙ ap (λ (n : ℕ). too_few_line b.needs n) has ∙ sym b.is_text)
+agree_gran file log spare chunk text other s t (inr (inl a)) (inr (inr b)) = absurd (cc (sym a.more.enabled ∙ b.off))
+agree_gran file log spare chunk text other s t (inr (inr a)) (inl b) = absurd (cc (sym b.is.enabled ∙ a.off))
+agree_gran file log spare chunk text other s t (inr (inr a)) (inr (inl b)) = absurd (cc (sym b.more.enabled ∙ a.off))
+agree_gran file log spare chunk text other s t (inr (inr a)) (inr (inr b)) = (a.is_status ∙ sym b.is_status, λ not_done. a.is_text ∙ sym b.is_text)
+
 agree_own : (file : RegisterFile) (command : Command) (text other : List ℕ) (s t : Status) → Own file command text s → Own file command other t → Agree command text other s t
 agree_own file Check text other s t a b = (a.is_status ∙ sym b.is_status, λ not_done. a.is_text ∙ sym b.is_text)
 agree_own file Show text other s t a b = (a.is_status ∙ sym b.is_status, λ not_done. a.is_text ∙ sym b.is_text)
 agree_own file Types text other s t a b = (a.is_status ∙ sym b.is_status, λ not_done. a.is_text ∙ ap types_text (one_type_map file a.runs b.runs a.are b.are) ∙ sym b.is_text)
 agree_own file (Page address index) text other s t a b = (a.is_status ∙ sym b.is_status, λ not_done. a.is_text ∙ sym b.is_text)
 agree_own file (Tidy spare chunk) text other s t a b = agree_tidy file spare chunk text other s t a b
+agree_own file (Gran log spare chunk) text other s t a b = agree_gran file log spare chunk text other s t a b
 agree_own file Replay text other s t a b = absurd a
 
 agree_parts : (file : RegisterFile) (command : Command) (text other : List ℕ) (s t : Status)
@@ -141,9 +186,9 @@ agree_parts file command text other s t (inr a) (inr b) = agree_own file command
 pub agree_answers : (file : RegisterFile) (command : Command) (text other : List ℕ) (s t : Status) → Answer file command text s → Answer file command other t → Agree command text other s t
 agree_answers file command text other s t a b = agree_parts file command text other s t (taken_apart file command text s a) (taken_apart file command other t b)
 
--- one status, and one text unless a tidied file was written
+-- one status, and one text unless a tidied or rounded file was written
 abbrev pub AgreeFor : List (List ℕ) → List ℕ → List ℕ → Status → Status → Type 0
-AgreeFor words text other s t = (s ≡ t) × (((spare chunk : ℕ) → command_of words ≡ Some (Tidy spare chunk) → s ≢ Done) → text ≡ other)
+AgreeFor words text other s t = (s ≡ t) × (((command : Command) → command_of words ≡ Some command → MayChoose command → s ≢ Done) → text ≡ other)
 
 some_command : (words : List (List ℕ)) (a b : Command) → command_of words ≡ Some a → command_of words ≡ Some b → a ≡ b
 some_command words a b first second = let e : Some a ≡ Some b = sym first ∙ second in cc e
@@ -155,7 +200,7 @@ agree_answered words bytes text other s t a b f g says also shows too left right
     let file : g ≡ f = one_file bytes g f too shows in
     let same : Answer f a other t = subst (λ (c : Command). Answer f c other t) command (subst (λ (h : RegisterFile). Answer h b other t) file right) in
     let agree = agree_answers f a text other s t left same in
-    (agree.0, λ not_done. agree.1 (λ spare chunk is. not_done spare chunk (says ∙ ap Some is)))
+    (agree.0, λ not_done. agree.1 (λ chooses. not_done a says chooses))
 
 testing_of_dump : (command : Command) → IsTesting command → IsOfDump command
 testing_of_dump Check tests = tt
@@ -163,6 +208,7 @@ testing_of_dump Show tests = tt
 testing_of_dump Types tests = tt
 testing_of_dump (Page address index) tests = tt
 testing_of_dump (Tidy spare chunk) tests = tt
+testing_of_dump (Gran log spare chunk) tests = tt
 testing_of_dump Replay tests = absurd tests
 
 answer_of_dump : (file : RegisterFile) (command : Command) (text : List ℕ) (status : Status) → Answer file command text status → IsOfDump command
@@ -174,6 +220,9 @@ answer_of_dump file command text status (paged address index good) = tt
 answer_of_dump file command text status (tidied spare chunk used new is) = tt
 answer_of_dump file command text status (too_few spare chunk needs has is) = tt
 answer_of_dump file command text status (disabled spare chunk good off) = tt
+answer_of_dump file command text status (grained log spare chunk used lost parts new is) = tt
+answer_of_dump file command text status (gran_too_few log spare chunk needs has is) = tt
+answer_of_dump file command text status (gran_disabled log spare chunk good off) = tt
 
 -- words of `replay` are those of no other command
 no_replay : (words : List (List ℕ)) (command : Command) → command_of words ≡ Some command → IsOfDump command → command_of words ≡ Some Replay → ⊥

@@ -8,11 +8,12 @@ use Rattle.mt_regs.proofs.Decided.{a_first_fault_or_none_lem}
 use Rattle.mt_types.proofs.SomeMap.{a_type_map}
 use Rattle.mt_dump.proofs.Ends.{shown_or_offence}
 use Rattle.mt_tidy.proofs.SomeTidy.{tidy_or_more}
+use Rattle.mt_gran.proofs.SomeRounding.{rounded_or_more}
 use Rattle.mt_cli.specs.declared.command.Command.{Command}
-use Rattle.mt_cli.specs.declared.command.Command.TheVariants.{Check, Show, Types, Page, Tidy, Replay}
+use Rattle.mt_cli.specs.declared.command.Command.TheVariants.{Check, Show, Types, Page, Tidy, Gran, Replay}
 use Rattle.mt_cli.specs.CommandLine.{command_of}
 use Rattle.mt_cli.proofs.SoundCommands.{of_dump_or_replay}
-use Rattle.mt_cli.specs.Output.{Answer, IsOfDump, Output, refused, accepted, shown, typed, paged, tidied, too_few, disabled, usage, bad_text, answered, replayed}
+use Rattle.mt_cli.specs.Output.{Answer, IsOfDump, Output, refused, accepted, shown, typed, paged, tidied, too_few, disabled, grained, gran_too_few, gran_disabled, usage, bad_text, answered, replayed}
 
 SomeAnswer : RegisterFile → Command → Type 0
 SomeAnswer file command = (text : List ℕ) × (status : Status) × Answer file command text status
@@ -28,6 +29,17 @@ tidying file good lawful spare chunk = by_enabled (is_enabled file) refl
       | inr lacking ↦ (_, _, too_few spare chunk lacking.0 lacking.1 lacking.2)
     ]
 
+rounding : (file : RegisterFile) → IsRegisterFile file → IsAccepted file → (log spare chunk : ℕ) → SomeAnswer file (Gran log spare chunk)
+unfolding SomeAnswer
+rounding file good lawful log spare chunk = by_enabled (is_enabled file) refl
+  where
+    by_enabled : (b : Bool) → is_enabled file ≡ b → (text : List ℕ) × (status : Status) × Answer file (Gran log spare chunk) text status
+    by_enabled false off = (_, _, gran_disabled log spare chunk lawful off)
+    by_enabled true on = elim (rounded_or_more file good lawful on log chunk spare) [
+      | inl done ↦ (_, _, grained log spare chunk done.1 done.2 done.3 done.0 done.4)
+      | inr lacking ↦ (_, _, gran_too_few log spare chunk lacking.0 lacking.1 lacking.2)
+    ]
+
 of_accepted : (file : RegisterFile) → IsRegisterFile file → IsAccepted file → (command : Command) → IsOfDump command → SomeAnswer file command
 unfolding SomeAnswer
 of_accepted file good lawful Check of_dump = (_, _, accepted lawful)
@@ -35,6 +47,7 @@ of_accepted file good lawful Show of_dump = (_, _, shown)
 of_accepted file good lawful Types of_dump = let (runs, are) = a_type_map file good in (_, _, typed runs lawful are)
 of_accepted file good lawful (Page address index) of_dump = (_, _, paged address index lawful)
 of_accepted file good lawful (Tidy spare chunk) of_dump = tidying file good lawful spare chunk
+of_accepted file good lawful (Gran log spare chunk) of_dump = rounding file good lawful log spare chunk
 of_accepted file good lawful Replay of_dump = absurd of_dump
 
 of_refused : (file : RegisterFile) (fault : Fault) → IsFirstFault file (Some fault) → (command : Command) → IsOfDump command → SomeAnswer file command
@@ -44,6 +57,7 @@ of_refused file fault first Show of_dump = (_, _, shown)
 of_refused file fault first Types of_dump = (_, _, refused Types fault tt first)
 of_refused file fault first (Page address index) of_dump = (_, _, refused (Page address index) fault tt first)
 of_refused file fault first (Tidy spare chunk) of_dump = (_, _, refused (Tidy spare chunk) fault tt first)
+of_refused file fault first (Gran log spare chunk) of_dump = (_, _, refused (Gran log spare chunk) fault tt first)
 of_refused file fault first Replay of_dump = absurd of_dump
 
 some_answer : (file : RegisterFile) → IsRegisterFile file → (command : Command) → IsOfDump command → SomeAnswer file command

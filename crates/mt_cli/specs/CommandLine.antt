@@ -1,11 +1,11 @@
 -- The command lines: what their words ask for. All other lists of words are wrong usage.
 --     command_of words      the command of these words, the program's name left out
-use Rattle.std.specs.Prelude.{ℕ, ◌-◌, ◌^◌, ◌<◌, ◌&&◌, nat_eq, nat_le, nat_lt, Bool, List, [], ◌∷◌, length, drop, take, codes, if◌then◌else◌, Option, Some, None, Result, Ok, Err, ⊤}
+use Rattle.std.specs.Prelude.{ℕ, zero, suc, ◌+◌, ◌-◌, ◌^◌, ◌≤◌, ◌==◌, ◌<◌, ◌&&◌, nat_eq, nat_le, nat_lt, Bool, List, [], ◌∷◌, length, drop, take, codes, if◌then◌else◌, Option, Some, None, Result, Ok, Err, ⊤}
 use Rattle.std.specs.Cmp.Lexicographic.{pointwise}
 use Rattle.mt_text.specs.Number.{hex_number, decimal_number}
 use Rattle.mt_text.specs.declared.fault.NumberFault.{NumberFault}
 use Rattle.mt_cli.specs.declared.command.Command.{Command}
-use Rattle.mt_cli.specs.declared.command.Command.TheVariants.{Check, Show, Types, Page, Tidy, Replay}
+use Rattle.mt_cli.specs.declared.command.Command.TheVariants.{Check, Show, Types, Page, Tidy, Gran, Replay}
 use Rattle.mt_cli.specs.declared.command.TidyOption.{TidyOption}
 use Rattle.mt_cli.specs.declared.command.TidyOption.TheVariants.{Spare, Chunk}
 
@@ -66,8 +66,29 @@ tidy_with_both (Some (Chunk chunk)) (Some (Chunk other)) = None
 tidy_with_both (Some option) None = None
 tidy_with_both None second = None
 
+-- the log of the pages of a granule of so many bytes, where some logs are looked at from one on
+unfoldable pub log_among : ℕ → ℕ → ℕ → Option ℕ
+log_among size log zero = None
+log_among size log (suc more) = if size == 2 ^ (12 + log) then Some log else log_among size (log + 1) more
+
+-- a power of two from 1000H to 10000000000H
+abbrev pub log_of : Result ℕ NumberFault → Option ℕ
+log_of (Ok size) = log_among size 0 29
+log_of (Err fault) = None
+
+-- `gran` has a size before the options of `tidy`
+abbrev pub gran_as : Option ℕ → Option Command → Option Command
+gran_as (Some log) (Some (Tidy spare chunk)) = Some (Gran log spare chunk)
+gran_as log command = None
+
+abbrev pub gran_with : List ℕ → Option Command → Option Command
+gran_with size command = gran_as (log_of (hex_number size)) command
+
 abbrev pub command_of_two : List ℕ → List ℕ → Option Command
-command_of_two name option = if is_text name (codes "tidy") then tidy_with (option_of option) else None
+command_of_two name option =
+    if is_text name (codes "tidy") then tidy_with (option_of option)
+    else if is_text name (codes "gran") then gran_with option (Some (Tidy usual_spare usual_chunk))
+    else None
 
 -- one decimal digit from 0 to 7
 abbrev pub index_of : List ℕ → Option ℕ
@@ -85,20 +106,26 @@ abbrev pub command_of_three : List ℕ → List ℕ → List ℕ → Option Comm
 command_of_three name first second =
     if is_text name (codes "page") then page_at (hex_number first) (index_of second)
     else if is_text name (codes "tidy") then tidy_with_both (option_of first) (option_of second)
+    else if is_text name (codes "gran") then gran_with first (tidy_with (option_of second))
     else None
+
+abbrev pub command_of_four : List ℕ → List ℕ → List ℕ → List ℕ → Option Command
+command_of_four name first second third = if is_text name (codes "gran") then gran_with first (tidy_with_both (option_of second) (option_of third)) else None
 
 abbrev pub command_of : List (List ℕ) → Option Command
 command_of [] = None
 command_of (name ∷ []) = command_of_one name
 command_of (name ∷ option ∷ []) = command_of_two name option
 command_of (name ∷ first ∷ second ∷ []) = command_of_three name first second
-command_of (name ∷ first ∷ second ∷ third ∷ more) = None
+command_of (name ∷ first ∷ second ∷ third ∷ []) = command_of_four name first second third
+command_of (name ∷ first ∷ second ∷ third ∷ fourth ∷ more) = None
 
--- a page's address has 52 bits, and an index is one of eight
+-- a page's address has 52 bits, an index is one of eight, and a granule has at most 2 ^ 28 pages
 abbrev pub IsSound : Command → Type 0
 IsSound Check = ⊤
 IsSound Show = ⊤
 IsSound Types = ⊤
 IsSound (Page address index) = (address < 2 ^ 52) × (index < 8)
 IsSound (Tidy spare chunk) = ⊤
+IsSound (Gran log spare chunk) = log ≤ 28
 IsSound Replay = ⊤

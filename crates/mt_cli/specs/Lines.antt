@@ -1,5 +1,5 @@
 -- The lines that the commands write, but for those of mt_output. Each ends with LF.
-use Rattle.std.specs.Prelude.{ℕ, ◌-◌, ◌*◌, ◌/◌, nat_lt, List, ◌++◌, codes, decimal, flat_map, if◌then◌else◌}
+use Rattle.std.specs.Prelude.{ℕ, ◌-◌, ◌*◌, ◌/◌, ◌^◌, ◌<◌, ◌≤◌, nat_lt, List, ◌++◌, codes, decimal, flat_map, if◌then◌else◌}
 use Rattle.mt_kinds.specs.declared.mem_type.MemType.{MemType}
 use Rattle.mt_kinds.specs.declared.pat_type.PatType.{PatType}
 use Rattle.mt_kinds.specs.EffectiveType.{effective_type}
@@ -18,6 +18,10 @@ usage_line = line (codes "usage")
 -- the first and the last byte address of a run, and its type
 abbrev pub run_line : Run → List ℕ
 run_line r = line (address_text (4096 * r.first) ++ codes "-" ++ address_text (4096 * run_end r - 1) ++ codes " " ++ name_of_type (defined_type r.kind))
+
+-- a run that has a line: it has pages, and they lie below 2 ^ 40
+abbrev pub IsLine : Run → Type 0
+IsLine r = (0 < r.count) × (run_end r ≤ 2 ^ 40)
 
 abbrev pub types_text : List Run → List ℕ
 types_text runs = flat_map run_line runs
@@ -39,6 +43,16 @@ page_text f address index =
 
 abbrev pub used_line : ℕ → List ℕ
 used_line used = line (codes "# used " ++ decimal used)
+
+-- a run of pages that lose its type
+abbrev pub part_line : Run → List ℕ
+part_line r = codes "# part " ++ run_line r
+
+abbrev pub parts_text : List Run → List ℕ
+parts_text parts = flat_map part_line parts
+
+abbrev pub lost_line : ℕ → List ℕ
+lost_line lost = line (codes "# lost " ++ decimal lost)
 
 abbrev pub too_few_line : ℕ → ℕ → List ℕ
 too_few_line needs has = line (codes "too few needs " ++ decimal needs ++ codes " has " ++ decimal has)

@@ -14,11 +14,12 @@ use Rattle.mt_dump.specs.Dump.{Shown, dump_offence}
 use Rattle.mt_dump.specs.declared.fault.DumpFault.{DumpFault}
 use Rattle.mt_replay.specs.Transcript.{transcript}
 use Rattle.mt_tidy.specs.Kept.{IsTidy, NeedsMore}
+use Rattle.mt_gran.specs.Grained.{IsGrained, NeedsMore as GranNeedsMore}
 use Rattle.mt_cli.specs.declared.command.Command.{Command}
-use Rattle.mt_cli.specs.declared.command.Command.TheVariants.{Check, Show, Types, Page, Tidy, Replay}
+use Rattle.mt_cli.specs.declared.command.Command.TheVariants.{Check, Show, Types, Page, Tidy, Gran, Replay}
 use Rattle.mt_cli.specs.CommandLine.{command_of}
 use Rattle.mt_output.specs.Lines.{accepted_line, bad_text_line, refused_line}
-use Rattle.mt_cli.specs.Lines.{disabled_line, page_text, too_few_line, types_text, usage_line, used_line}
+use Rattle.mt_cli.specs.Lines.{disabled_line, lost_line, page_text, parts_text, too_few_line, types_text, usage_line, used_line}
 
 -- the commands whose input is one dump
 abbrev pub IsOfDump : Command → Type 0
@@ -27,6 +28,7 @@ IsOfDump Show = ⊤
 IsOfDump Types = ⊤
 IsOfDump (Page address index) = ⊤
 IsOfDump (Tidy spare chunk) = ⊤
+IsOfDump (Gran log spare chunk) = ⊤
 IsOfDump Replay = ⊥
 
 -- the commands of one dump that refuse a file that isn't accepted: all but `show`
@@ -36,10 +38,21 @@ IsTesting Show = ⊥
 IsTesting Types = ⊤
 IsTesting (Page address index) = ⊤
 IsTesting (Tidy spare chunk) = ⊤
+IsTesting (Gran log spare chunk) = ⊤
 IsTesting Replay = ⊥
 
+-- the commands that may answer with any of several least lists of ranges
+abbrev pub MayChoose : Command → Type 0
+MayChoose Check = ⊥
+MayChoose Show = ⊥
+MayChoose Types = ⊥
+MayChoose (Page address index) = ⊥
+MayChoose (Tidy spare chunk) = ⊤
+MayChoose (Gran log spare chunk) = ⊤
+MayChoose Replay = ⊥
+
 -- What a command of one dump answers about the file that the dump shows; `replay` has no answer of this kind. Where several lists of ranges have the least length,
--- `tidy` may answer with any of them; every other answer is one text.
+-- `tidy` and `gran` may answer with any of them; every other answer is one text.
 pub data Answer (file : RegisterFile) : Command → List ℕ → Status → Type 0 where
   refused : (command : Command) (fault : Fault) → IsTesting command → IsFirstFault file (Some fault) → Answer file command (refused_line fault) Refused
   accepted : IsAccepted file → Answer file Check accepted_line Done
@@ -49,6 +62,10 @@ pub data Answer (file : RegisterFile) : Command → List ℕ → Status → Type
   tidied : (spare chunk used : ℕ) (new : RegisterFile) → IsTidy file chunk spare new used → Answer file (Tidy spare chunk) (used_line used ++ canon new) Done
   too_few : (spare chunk needs has : ℕ) → NeedsMore file chunk spare needs has → Answer file (Tidy spare chunk) (too_few_line needs has) TooFew
   disabled : (spare chunk : ℕ) → IsAccepted file → is_enabled file ≡ false → Answer file (Tidy spare chunk) (disabled_line file.default_type) Disabled
+  grained : (log spare chunk used lost : ℕ) (parts : List Run) (new : RegisterFile) → IsGrained file log chunk spare new used lost parts
+      → Answer file (Gran log spare chunk) (parts_text parts ++ lost_line lost ++ used_line used ++ canon new) Done
+  gran_too_few : (log spare chunk needs has : ℕ) → GranNeedsMore file log chunk spare needs has → Answer file (Gran log spare chunk) (too_few_line needs has) TooFew
+  gran_disabled : (log spare chunk : ℕ) → IsAccepted file → is_enabled file ≡ false → Answer file (Gran log spare chunk) (disabled_line file.default_type) Disabled
 
 -- The text and the status for a command line and an input.
 pub data Output (words : List (List ℕ)) (bytes : List ℕ) : List ℕ → Status → Type 0 where

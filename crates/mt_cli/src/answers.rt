@@ -1,14 +1,15 @@
-ghost use Rattle.std.specs.Prelude.{◌≡◌, ◌≢◌, ◌<◌, ◌^◌, None, Some};
+ghost use Rattle.std.specs.Prelude.{◌≡◌, ◌≢◌, ◌<◌, ◌≤◌, ◌^◌, None, Some};
 ghost use Rattle.mt_ports.specs.Causes.{Rose};
 ghost use Rattle.mt_regs.specs.Faults.{IsAccepted, IsFirstFault};
-ghost use Rattle.mt_cli.specs.declared.command.Command.TheVariants.{Check, Show, Types, Page, Tidy};
+ghost use Rattle.mt_cli.specs.declared.command.Command.TheVariants.{Check, Show, Types, Page, Tidy, Gran};
 ghost use Rattle.mt_cli.specs.Output.{IsOfDump, IsTesting};
 ghost use Rattle.mt_cli.specs.CommandLine.{IsSound};
 ghost use Rattle.mt_cli.specs.Written.{Answers, Writes};
 
 use crate::Command;
 use crate::lines::{disabled_line, page_text, too_few_line};
-use crate::texts::{canonical_text, tidied_text, types_text};
+use crate::texts::{canonical_text, grained_text, tidied_text, types_text};
+use mt_gran::{GranFault, gran};
 use mt_output::{accepted_line, refused_line};
 use mt_ports::{Sink, Status, put};
 use mt_regs::{Fault, RegFile};
@@ -93,6 +94,42 @@ fn tidied<K: Sink>(alloc: Global, f: &RegFile, spare: u8, chunk: u64, sink: &mut
     }
 }
 
+// Writes a file of the rounded types with the fewest pairs and what is lost, or why there is none.
+fn grained<K: Sink>(
+    alloc: Global,
+    f: &RegFile,
+    log: u8,
+    spare: u8,
+    chunk: u64,
+    sink: &mut K,
+) -> Status
+    requires { log ≤ 28 }
+    ensures bytes { Answers f.now (Gran log spare chunk) (K.taken sink.old) (K.taken sink.new) result }
+    ensures failed { result ≡ Status.WriteFault → Rose (K.faults sink.old) (K.faults sink.new) }
+{
+    f.is_register_file();
+    match gran(alloc, f, log, spare, chunk) {
+        Ok(grained) => {
+            let tidied = &grained.tidied;
+            let parts = grained.parts.as_slice();
+            match grained_text(alloc, parts, grained.lost, tidied.used, &tidied.file) {
+                Ok(text) => written(sink, text.as_slice(), Status::Done),
+                Err(_) => Status::NoMemory,
+            }
+        }
+        Err(GranFault::Refused(fault)) => {
+            refuse(f, &fault, sink, Command::Gran { log, spare, chunk })
+        }
+        Err(GranFault::Disabled) => {
+            written(sink, disabled_line(f.deftype).as_slice(), Status::Disabled)
+        }
+        Err(GranFault::TooFew { needs, has }) => {
+            written(sink, too_few_line(needs, has).as_slice(), Status::TooFew)
+        }
+        Err(GranFault::NoMemory) => Status::NoMemory,
+    }
+}
+
 // Answers a command about an accepted file.
 fn answer_accepted<K: Sink>(alloc: Global, command: Command, f: &RegFile, sink: &mut K) -> Status
     requires accepted { IsAccepted f.now }
@@ -107,6 +144,7 @@ fn answer_accepted<K: Sink>(alloc: Global, command: Command, f: &RegFile, sink: 
         Command::Types => types(alloc, f, sink),
         Command::Page { address, index } => page(f, address, index, sink),
         Command::Tidy { spare, chunk } => tidied(alloc, f, spare, chunk, sink),
+        Command::Gran { log, spare, chunk } => grained(alloc, f, log, spare, chunk, sink),
         Command::Replay => unreachable!(),
     }
 }

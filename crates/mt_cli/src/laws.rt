@@ -1,16 +1,16 @@
 ghost use Rattle.std.specs.Prelude.{◌≡◌, ◌≢◌, ℕ, List, Some};
 ghost use Rattle.mt_ports.specs.declared.status.Status.{Status};
 ghost use Rattle.mt_ports.specs.declared.status.Status.TheVariants.{Done};
-ghost use Rattle.mt_cli.specs.declared.command.Command.TheVariants.{Tidy};
+ghost use Rattle.mt_cli.specs.declared.command.Command.{Command};
 ghost use Rattle.mt_cli.specs.CommandLine.{command_of};
-ghost use Rattle.mt_cli.specs.Output.{Output};
+ghost use Rattle.mt_cli.specs.Output.{MayChoose, Output};
 
-/// Words and bytes have one status, and one text: but for a tidied file, where several lists of
-/// ranges may be the least. So each cause of a status holds both ways.
+/// Words and bytes have one status, and one text: but for a tidied or rounded file, where
+/// several lists of ranges may be the least. So each cause of a status holds both ways.
 pub fn words_and_bytes_have_one_output()
     ensures status { (words : List (List ℕ)) (bytes text other : List ℕ) (s t : Status) → Output words bytes text s → Output words bytes other t → s ≡ t }
     ensures text { (words : List (List ℕ)) (bytes text other : List ℕ) (s t : Status) → Output words bytes text s → Output words bytes other t
-        → ((spare chunk : ℕ) → command_of words ≡ Some (Tidy spare chunk) → s ≢ Done) → text ≡ other }
+        → ((command : Command) → command_of words ≡ Some command → MayChoose command → s ≢ Done) → text ≡ other }
 {}
 
 /// Each command line and each input have an output.

@@ -1,6 +1,6 @@
 ghost use Rattle.std.specs.Prelude.{◌≡◌, ◌≤◌, ◌<◌, ◌^◌};
 ghost use Rattle.mt_types.specs.Runs.{run_end};
-ghost use Rattle.mt_cli.specs.Lines.{disabled_line, outside_line, page_line, page_text, run_line, too_few_line, used_line};
+ghost use Rattle.mt_cli.specs.Lines.{disabled_line, lost_line, outside_line, page_line, page_text, run_line, too_few_line, used_line};
 
 use arrayvec::ArrayVec;
 use mt_kinds::{MemType, Pat, PatType, effective};
@@ -79,6 +79,17 @@ pub fn used_line(used: u32) -> LineBuffer
     let mut line = ArrayVec::new();
     append(&mut line, b"# used ");
     append_decimal(&mut line, used as u64);
+    append(&mut line, b"\n");
+    line
+}
+
+/// The line with the number of pages that lose WB.
+pub fn lost_line(lost: u64) -> LineBuffer
+    ensures { result.items ≡ lost_line lost }
+{
+    let mut line = ArrayVec::new();
+    append(&mut line, b"# lost ");
+    append_decimal(&mut line, lost);
     append(&mut line, b"\n");
     line
 }

@@ -1,10 +1,11 @@
 ghost use Rattle.std.specs.Prelude.{◌≡◌, ◌≤◌, ◌+◌, ◌++◌, length, IfOk};
 ghost use Rattle.arrayvec.specs.ArrayVec.{array_vec_len};
 ghost use Rattle.mt_dump.specs.Canon.{canon};
-ghost use Rattle.mt_cli.specs.Lines.{types_text, used_line};
+ghost use Rattle.std.specs.List.{All};
+ghost use Rattle.mt_cli.specs.Lines.{IsLine, lost_line, parts_text, types_text, used_line};
 ghost use Rattle.mt_types.specs.Runs.{IsTypeMap};
 
-use crate::lines::{run_line, used_line};
+use crate::lines::{lost_line, run_line, used_line};
 use arrayvec::ArrayVec;
 use mt_dump::write_dump;
 use mt_regs::RegFile;
@@ -66,5 +67,35 @@ pub fn types_text(alloc: Global, runs: &[Run]) -> Result<Vec<u8>, AllocError>
     'runs: for run in runs {
         text.extend_from_slice(run_line(run).as_slice())?;
     }
+    Ok(text)
+}
+
+// The lines of all parts.
+fn parts_text(alloc: Global, parts: &[Run]) -> Result<Vec<u8>, AllocError>
+    requires { All IsLine parts.now }
+    ensures { IfOk result (λ text. text.items ≡ parts_text parts.now) }
+{
+    let mut text = Vec::new(alloc);
+    'parts: for part in parts {
+        text.extend_from_slice(b"# part ")?;
+        text.extend_from_slice(run_line(part).as_slice())?;
+    }
+    Ok(text)
+}
+
+/// The lines of all parts, the number of pages that lose WB, that of pairs that the file uses, and its canonical text.
+pub fn grained_text(
+    alloc: Global,
+    parts: &[Run],
+    lost: u64,
+    used: u32,
+    f: &RegFile,
+) -> Result<Vec<u8>, AllocError>
+    requires { All IsLine parts.now }
+    ensures { IfOk result (λ text. text.items ≡ parts_text parts.now ++ lost_line lost ++ used_line used ++ canon f.now) }
+{
+    let mut text = parts_text(alloc, parts)?;
+    text.extend_from_slice(lost_line(lost).as_slice())?;
+    text.extend_from_slice(tidied_text(used, f).as_slice())?;
     Ok(text)
 }

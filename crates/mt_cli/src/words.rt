@@ -1,5 +1,6 @@
-ghost use Rattle.std.specs.Prelude.{◌≡◌, ◌<◌, map, string_bytes, IfSome, MatchOption};
-ghost use Rattle.mt_cli.specs.CommandLine.{behind, command_of, command_of_one, command_of_three, command_of_two, index_of, option_of, tidy_with, tidy_with_both};
+ghost use Rattle.std.specs.Prelude.{◌≡◌, ◌≤◌, ◌<◌, ◌+◌, ◌^◌, map, string_bytes, IfSome, MatchOption};
+ghost use Rattle.mt_text.specs.Number.{hex_number};
+ghost use Rattle.mt_cli.specs.CommandLine.{behind, command_of, command_of_four, command_of_one, command_of_three, command_of_two, gran_as, gran_with, index_of, log_among, log_of, option_of, tidy_with, tidy_with_both};
 
 use crate::{Command, TidyOption};
 use mt_text::{decimal, hex64};
@@ -11,6 +12,8 @@ const USUAL_CHUNK: u64 = 0x1000_0000;
 const MOST_SPARE: u64 = 32;
 
 const ADDRESSES: u64 = 1 << 52;
+
+const GRANULE_SIZES: u8 = 29;
 
 fn command_of_one(name: &[u8]) -> Option<Command>
     ensures { result ≡ command_of_one name.now }
@@ -89,11 +92,64 @@ fn tidy_with_both(first: Option<TidyOption>, second: Option<TidyOption>) -> Opti
     }
 }
 
+// The bytes of a granule.
+fn granule_bytes(log: u8) -> u64
+    requires { log ≤ 28 }
+    ensures { result ≡ 2 ^ (12 + log) }
+{
+    1 << (12 + log)
+}
+
+// The log of the pages of a granule of so many bytes.
+fn log_among(size: u64) -> Option<u8>
+    ensures { result ≡ log_among size 0 29 }
+{
+    for log in 0..GRANULE_SIZES {
+        if size == granule_bytes(log) {
+            return Some(log);
+        }
+    }
+    None
+}
+
+fn log_of(size: &[u8]) -> Option<u8>
+    ensures { result ≡ log_of (hex_number size.now) }
+{
+    match hex64(size) {
+        Ok(size) => log_among(size),
+        Err(_) => None,
+    }
+}
+
+// `gran` has a size before the options of `tidy`.
+fn gran_as(log: Option<u8>, command: Option<Command>) -> Option<Command>
+    ensures { result ≡ gran_as log command }
+{
+    match (log, command) {
+        (Some(log), Some(Command::Tidy { spare, chunk })) => {
+            Some(Command::Gran { log, spare, chunk })
+        }
+        _ => None,
+    }
+}
+
+fn gran_with(size: &[u8], command: Option<Command>) -> Option<Command>
+    ensures { result ≡ gran_with size.now command }
+{
+    gran_as(log_of(size), command)
+}
+
 fn command_of_two(name: &[u8], option: &[u8]) -> Option<Command>
     ensures { result ≡ command_of_two name.now option.now }
 {
     if name == b"tidy".as_slice() {
         tidy_with(option_of(option))
+    } else if name == b"gran".as_slice() {
+        let usual = Command::Tidy {
+            spare: USUAL_SPARE,
+            chunk: USUAL_CHUNK,
+        };
+        gran_with(option, Some(usual))
     } else {
         None
     }
@@ -122,6 +178,18 @@ fn command_of_three(name: &[u8], first: &[u8], second: &[u8]) -> Option<Command>
     }
     if name == b"tidy".as_slice() {
         tidy_with_both(option_of(first), option_of(second))
+    } else if name == b"gran".as_slice() {
+        gran_with(first, tidy_with(option_of(second)))
+    } else {
+        None
+    }
+}
+
+fn command_of_four(name: &[u8], first: &[u8], second: &[u8], third: &[u8]) -> Option<Command>
+    ensures { result ≡ command_of_four name.now first.now second.now third.now }
+{
+    if name == b"gran".as_slice() {
+        gran_with(first, tidy_with_both(option_of(second), option_of(third)))
     } else {
         None
     }
@@ -139,6 +207,12 @@ pub fn command_of(words: &[String]) -> Option<Command>
             name.as_str().as_bytes(),
             first.as_str().as_bytes(),
             second.as_str().as_bytes(),
+        ),
+        [name, first, second, third] => command_of_four(
+            name.as_str().as_bytes(),
+            first.as_str().as_bytes(),
+            second.as_str().as_bytes(),
+            third.as_str().as_bytes(),
         ),
         _ => None,
     }

@@ -7,7 +7,7 @@ mod Maps
 mod Counts
 mod LostParts
 mod Steady
-mod RoundedFit
+pub mod RoundedFit
 mod OneList
 mod WorkedParts
-mod SomeRounding
+pub mod SomeRounding

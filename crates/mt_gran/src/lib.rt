@@ -16,7 +16,6 @@ pub use grains::{Grained, gran, rounded};
 pub use laws::{
     a_file_has_one_list_of_parts, a_granule_is_whole_where_its_pages_have_one_type,
     a_second_rounding_loses_nothing, each_file_is_rounded_or_needs_more,
-    each_size_has_one_least_number,
-    the_rounded_file_keeps_its_types,
+    each_size_has_one_least_number, the_rounded_file_keeps_its_types,
 };
 pub use worked::{worked_granules, worked_losses, worked_parts, worked_rounding};

@@ -15,5 +15,8 @@ returns-in-Types-clause-bytes g c = rw c.in-Types.is c.types.ensures.bytes
 pub returns-in-Page-clause-bytes : goal.returns-in-Page-clause-bytes
 returns-in-Page-clause-bytes g c = rw c.in-Page.is c.page.ensures.bytes
 
+pub returns-in-Gran-clause-bytes : goal.returns-in-Gran-clause-bytes
+returns-in-Gran-clause-bytes g c = rw c.in-Gran.is c.grained.ensures.bytes
+
 pub returns-in-Tidy-clause-bytes : goal.returns-in-Tidy-clause-bytes
 returns-in-Tidy-clause-bytes g c = rw c.in-Tidy.is c.tidied.ensures.bytes
