@@ -21,7 +21,7 @@ use Rattle.mt_cli.specs.declared.command.Command.{Command}
 use Rattle.mt_cli.specs.declared.command.Command.TheVariants.{Check, Show, Types, Page, Tidy, Gran, Replay}
 use Rattle.mt_cli.specs.CommandLine.{command_of}
 use Rattle.mt_output.specs.Lines.{accepted_line, bad_text_line, refused_line}
-use Rattle.mt_cli.specs.Lines.{disabled_line, lost_line, page_text, parts_text, too_few_line, types_text, used_line}
+use Rattle.mt_cli.specs.Lines.{disabled_line, page_text, too_few_line, types_text, used_line}
 use Rattle.mt_cli.specs.Output.{Answer, IsOfDump, IsTesting, MayChoose, Output, refused, accepted, shown, typed, paged, tidied, too_few, disabled, grained, gran_too_few, gran_disabled, usage, bad_text, answered, replayed}
 
 -- the answer names the file's first fault
@@ -149,12 +149,22 @@ agree_gran : (file : RegisterFile) (log spare chunk : ℕ) (text other : List �
     → Agree (Gran log spare chunk) text other s t
 agree_gran file log spare chunk text other s t (inl a) (inl b) = (a.is_status ∙ sym b.is_status, λ not_done. absurd (not_done tt a.is_status))
 agree_gran file log spare chunk text other s t (inl a) (inr (inl b)) =
-    absurd (omega (arith, one_rounded file log chunk a.used b.needs (used_is_least file a.new log chunk spare a.used a.lost a.parts a.is) (needs_is_least file log chunk spare b.needs b.has b.more),
-    a.is.tidied.enough, b.more.few.has_is, b.more.few.above))
+    absurd (omega (
+      arith,
+      one_rounded file log chunk a.used b.needs (used_is_least file a.new log chunk spare a.used a.lost a.parts a.is) (needs_is_least file log chunk spare b.needs b.has b.more),
+      a.is.tidied.enough,
+      b.more.few.has_is,
+      b.more.few.above,
+    ))
 agree_gran file log spare chunk text other s t (inl a) (inr (inr b)) = absurd (cc (sym a.is.enabled ∙ b.off))
 agree_gran file log spare chunk text other s t (inr (inl a)) (inl b) =
-    absurd (omega (arith, one_rounded file log chunk b.used a.needs (used_is_least file b.new log chunk spare b.used b.lost b.parts b.is) (needs_is_least file log chunk spare a.needs a.has a.more),
-    b.is.tidied.enough, a.more.few.has_is, a.more.few.above))
+    absurd (omega (
+      arith,
+      one_rounded file log chunk b.used a.needs (used_is_least file b.new log chunk spare b.used b.lost b.parts b.is) (needs_is_least file log chunk spare a.needs a.has a.more),
+      b.is.tidied.enough,
+      a.more.few.has_is,
+      a.more.few.above,
+    ))
 agree_gran file log spare chunk text other s t (inr (inl a)) (inr (inl b)) =
     let needs : a.needs ≡ b.needs = one_rounded file log chunk a.needs b.needs (needs_is_least file log chunk spare a.needs a.has a.more) (needs_is_least file log chunk spare b.needs b.has b.more) in
     let has : a.has ≡ b.has = a.more.few.has_is ∙ sym b.more.few.has_is in

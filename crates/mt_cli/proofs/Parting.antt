@@ -1,11 +1,10 @@
 -- What the program's command line and lines say of granules.
-use Rattle.std.proofs.Common.{◌≡◌, ◌≢◌, ℕ, zero, suc, ◌+◌, ◌-◌, ◌^◌, ◌<◌, ◌≤◌, ◌==◌, true, false, List, [], ◌∷◌, ◌++◌, length, take, get_or, flat_map, codes, append_assoc, Option, Some, None, refl, sym, ap, ◌∙◌, inl, inr, arith}
+use Rattle.std.proofs.Common.{◌≡◌, ◌≢◌, ℕ, zero, suc, ◌+◌, ◌^◌, ◌<◌, ◌≤◌, ◌==◌, true, List, [], ◌∷◌, ◌++◌, length, take, get_or, flat_map, codes, append_assoc, Some, None, refl, sym, ap, ◌∙◌, inl, inr, arith}
 use Rattle.std.proofs.lemmas.Bool.{cases_Bool, eq-eqb, eqb-true}
 use Rattle.std.specs.List.{All, AllByRecursion}
 use Rattle.std.proofs.lemmas.List.{flat_map_more, take_more}
 use Rattle.std.proofs.lemmas.List.Elements.{All-from_recursion}
 use Rattle.mt_types.specs.declared.run.Run.{Run}
-use Rattle.mt_types.specs.Runs.{run_end}
 use Rattle.mt_gran.specs.Granules.{TypedPages}
 use Rattle.mt_gran.specs.Parts.{ArePartsOf, IsPart}
 use Rattle.mt_cli.specs.CommandLine.{log_among}

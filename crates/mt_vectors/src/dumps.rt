@@ -20,6 +20,17 @@ pub const COVERED_CLASH: &[u8] = b"0fe 508\n\
 /// WB below 4 GB with a hole of UC from 3.5 GB.
 pub const HOLE: &[u8] = b"0fe 503\n200 6\n201 f00000800\n202 e0000000\n203 fe0000800\n2ff 800\n";
 
+/// WB below 4 GB with a hole of UC of 1 MB from 3.5 GB.
+pub const MEGABYTE_HOLE: &[u8] =
+    b"0fe 508\n200 6\n201 f00000800\n202 e0000000\n203 ffff00800\n2ff 800\n";
+
+/// The same with three pairs.
+pub const FEW_PAIRS: &[u8] =
+    b"0fe 503\n200 6\n201 f00000800\n202 e0000000\n203 ffff00800\n2ff 800\n";
+
+/// Ranges that are off.
+pub const NOTHING_ENABLED: &[u8] = b"0fe 508\n200 6\n201 f00000800\n";
+
 /// An ordinary PC with 8 GB: a hole for devices below 4 GB, fixed ranges below 1 MB.
 pub const ORDINARY_PC: &[u8] = b"maxphyaddr 36\n\
     0fe d08\n\

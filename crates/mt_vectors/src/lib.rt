@@ -8,6 +8,7 @@ mod capacities;
 mod dump_texts;
 mod dumps;
 mod effective_types;
+mod granules;
 mod overlaps;
 mod pages;
 mod registers;
@@ -25,7 +26,7 @@ mod usages;
 pub use row::Row;
 
 /// The tables of the commands about one dump.
-pub fn dump_tables() -> [&'static [Row]; 9] {
+pub fn dump_tables() -> [&'static [Row]; 10] {
     [
         registers::registers(),
         overlaps::overlaps(),
@@ -35,6 +36,7 @@ pub fn dump_tables() -> [&'static [Row]; 9] {
         pages::pages(),
         effective_types::effective_types(),
         tidied::tidied(),
+        granules::granules(),
         usages::usages(),
     ]
 }
