@@ -1,8 +1,8 @@
-ghost use Rattle.std.specs.Prelude.{◌≡◌, ◌≢◌, ℕ, List, Some};
+ghost use Rattle.std.specs.Prelude.{◌≡◌, ◌≢◌, ◌+◌, ◌^◌, ◌≤◌, ◌↔◌, ℕ, List, Some};
 ghost use Rattle.mt_ports.specs.declared.status.Status.{Status};
 ghost use Rattle.mt_ports.specs.declared.status.Status.TheVariants.{Done};
 ghost use Rattle.mt_cli.specs.declared.command.Command.{Command};
-ghost use Rattle.mt_cli.specs.CommandLine.{command_of};
+ghost use Rattle.mt_cli.specs.CommandLine.{command_of, log_among};
 ghost use Rattle.mt_cli.specs.Output.{MayChoose, Output};
 
 /// Words and bytes have one status, and one text: but for a tidied or rounded file, where
@@ -11,6 +11,11 @@ pub fn words_and_bytes_have_one_output()
     ensures status { (words : List (List ℕ)) (bytes text other : List ℕ) (s t : Status) → Output words bytes text s → Output words bytes other t → s ≡ t }
     ensures text { (words : List (List ℕ)) (bytes text other : List ℕ) (s t : Status) → Output words bytes text s → Output words bytes other t
         → ((command : Command) → command_of words ≡ Some command → MayChoose command → s ≢ Done) → text ≡ other }
+{}
+
+/// A size is read as that of granules of `2^log` pages exactly where it is `2^(12 + log)` bytes, of at most `2^28` pages.
+pub fn a_size_is_a_power_of_two()
+    ensures { (size log : ℕ) → (log_among size 0 29 ≡ Some log) ↔ ((log ≤ 28) × (size ≡ 2 ^ (12 + log))) }
 {}
 
 /// Each command line and each input have an output.

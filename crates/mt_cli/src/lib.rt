@@ -12,7 +12,9 @@ mod words;
 
 pub use answers::answer;
 pub use command::{Command, TidyOption};
-pub use laws::{words_and_bytes_have_an_output, words_and_bytes_have_one_output};
+pub use laws::{
+    a_size_is_a_power_of_two, words_and_bytes_have_an_output, words_and_bytes_have_one_output,
+};
 pub use lines::{disabled_line, lost_line, page_text, run_line, too_few_line, used_line};
 pub use reading::read_all;
 pub use texts::{canonical_text, grained_text, tidied_text, types_text};
