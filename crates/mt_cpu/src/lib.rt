@@ -9,3 +9,4 @@ mod translation;
 
 pub use cpu::Cpu;
 pub use mt_machine::{Event, Phase};
+pub use steps::is_local;

@@ -21,6 +21,17 @@ const WORD_BYTES: u64 = 8;
 // The bit E of the default-type register.
 const ENABLE: u8 = 11;
 
+/// Whether a processor's next event in this phase looks at nothing but the processor and the goal. So it
+/// is from the first barrier up to the return of PGE.
+pub fn is_local(phase: Phase) -> bool
+    ensures { result ≡ is_local phase }
+{
+    !matches!(
+        phase,
+        Phase::Running | Phase::Taken | Phase::Arrived | Phase::Restored | Phase::Arrived2
+    )
+}
+
 // A value of the default-type register with E clear.
 fn without_enable(deftype: u64) -> u64
     ensures { result ≡ (if is_bit_set deftype 11 then deftype - 2 ^ 11 else deftype) }

@@ -5,3 +5,4 @@ pub mod Standing
 pub mod SoundSteps
 pub mod Starts
 pub mod Runs
+pub mod WriteBacks

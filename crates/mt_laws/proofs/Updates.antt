@@ -10,3 +10,4 @@ pub mod SecondBarrier
 pub mod FirstRelease
 pub mod ToBroadcast
 pub mod Quiet
+pub mod UpdatedWords

@@ -1,5 +1,6 @@
 -- Words of memory and their copies: what each bus operation, access and step does to them.
 pub mod MemoryLaws
+pub mod Places
 pub mod Copies
 pub mod BitLaws
 pub mod LineLaws

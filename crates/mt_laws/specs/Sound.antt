@@ -1,11 +1,13 @@
 -- What is sound stays sound.
-use Rattle.std.specs.Prelude.{◌≡◌, ℕ, slice_get, Some, ◌<◌, ◌^◌}
+use Rattle.std.specs.Prelude.{◌≡◌, ℕ, length, slice_get, Some, ◌<◌, ◌^◌}
 use Rattle.std.specs.List.{All}
+use Rattle.mt_machine.specs.Memory.{place}
 use Rattle.mt_machine.specs.System.{Processor, System, IsCoherent, IsSound}
-use Rattle.mt_machine.specs.Machine.{Machine, Reached, FitsControl}
+use Rattle.mt_machine.specs.Machine.{Machine, Reached, FitsControl, write_back_or_drop}
 use Rattle.mt_machine.specs.Access.{access}
 use Rattle.mt_machine.specs.Start.{IsStart}
 use Rattle.mt_machine.specs.declared.op.Op.{Op}
+use Rattle.mt_machine.specs.declared.event.Event.TheVariants.{WriteBack}
 use Rattle.mt_machine.specs.declared.control.Control.{Control}
 use Rattle.mt_machine.specs.Control.{control}
 use Rattle.mt_machine.specs.Bus.{drain}
@@ -33,3 +35,9 @@ DrainKeepsSound = (s : System) (k : ℕ) → IsSound s → IsSound (drain k s)
 -- the lines of a sound system lie below 2^52
 abbrev pub LinesAreLow : Type 0
 LinesAreLow = (s : System) → IsSound s → All (λ p. All (λ l. l.number < 2 ^ 46) p.lines × All (λ l. l.number < 2 ^ 46) p.buffers) s.processors
+
+-- a dirty word of a sound system has a place in memory, to which it is written back
+abbrev pub WriteBacksHavePlaces : Type 0
+WriteBacksHavePlaces =
+    (s : System) (k : ℕ) (p : Processor) (address value : ℕ) → IsSound s → slice_get s.processors k ≡ Some p
+    → write_back_or_drop p ≡ WriteBack address value → (i : ℕ) × (place s.memory address ≡ Some i) × (i < length s.memory.words)

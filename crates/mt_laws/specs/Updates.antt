@@ -1,7 +1,7 @@
 -- Where whole updates end.
 use Rattle.std.specs.Prelude.{◌≡◌, ◌⊎◌, ℕ, ◌%◌, true, not, ◌&&◌, List, [], ◌∷◌, None, Some, map, length, false}
 use Rattle.std.specs.List.{list_all, All}
-use Rattle.mt_machine.specs.System.{Processor, now, System}
+use Rattle.mt_machine.specs.System.{Processor, now, System, IsSound}
 use Rattle.mt_machine.specs.Machine.{Machine, Order, MachineEvent, Calls, Steps, IsEnabled, next, run, AreEnabled, common_era, second_barrier_open, has_released, is_given}
 use Rattle.mt_regs.specs.RegisterFile.{RegisterFile}
 use Rattle.mt_machine.specs.declared.phase.Phase.TheVariants.{Running, Taken}
@@ -28,6 +28,12 @@ BroadcastUpdate =
     → list_all (λ e. is_led e && not (is_cancel e)) es ≡ true
     → (run s es).order ≡ None
     → run s es ≡ updated s.system [] o.goal
+
+-- after a whole update each word is in memory as it was once the buffers had been emptied
+abbrev pub UpdatedWords : Type 0
+UpdatedWords =
+    (s : System) (goal : RegisterFile) (ks : List ℕ) (address : ℕ) → IsSound s → address % 8 ≡ 0
+    → word_at (updated s ks goal).system.memory address ≡ now (emptied s ks) address
 
 -- by go, cancel and steps alone: where all have arrived again, or gone on from there, each processor has the goal's registers and holds nothing, and each word is in memory
 pub record HoldsNothing (goal : RegisterFile) (p : Processor) : Type 0 where

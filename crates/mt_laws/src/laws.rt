@@ -8,12 +8,13 @@ mod updates;
 pub use barriers::{barriers_count, barriers_hold};
 pub use kept::{
     accesses_keep_sound, events_keep, lines_are_low, orders_hold, stays_coherent, stays_sound,
-    steps_keep_now,
+    steps_keep_now, write_backs_have_places,
 };
 pub use runs::{led_is_reached, reached_is_run};
 pub use settled::{held_after_release, no_buffers_at_pass, settled_after_each_release};
 pub use starts::{eras_fit, reached_is_quiet, start_is_quiet, updated_is_quiet};
 pub use updates::{
     broadcast_update, cancelled_broadcast, cancelled_update, count_of_steps, led_cancelled,
-    led_ends, led_released, led_to_second_barrier, led_update, takes_broadcast, whole_update,
+    led_ends, led_released, led_to_second_barrier, led_update, takes_broadcast, updated_words,
+    whole_update,
 };

@@ -1,16 +1,16 @@
 -- What a processor that stands so in a led machine has for its next event.
-use Rattle.std.proofs.Common.{◌≡◌, ◌<◌, ◌+◌, ◌%◌, ◌^◌, ℕ, true, false, List, [], length, ap, ◌∙◌, inr, arith, Some, None}
-use Rattle.std.specs.Prelude.{if◌then◌else◌, nat_lt, ◌==◌}
+use Rattle.std.proofs.Common.{◌≡◌, ◌<◌, ◌+◌, ◌^◌, ℕ, true, false, List, [], length, sym, ap, ◌∙◌, inr, arith, Some}
+use Rattle.std.specs.Prelude.{if◌then◌else◌, nat_lt}
 use Rattle.std.specs.List.{All}
 use Rattle.mt_regs.specs.Faults.{IsAccepted}
 use Rattle.mt_regs.specs.Registers.{writable}
 use Rattle.mt_machine.specs.declared.phase.Phase.{Phase}
 use Rattle.mt_machine.specs.declared.phase.Phase.TheVariants.{Running, Taken, Arrived, NoFill, Writing, Enabled, Restored, Arrived2}
 use Rattle.mt_machine.specs.declared.event.Event.{Event}
-use Rattle.mt_machine.specs.declared.event.Event.TheVariants.{WriteBack, Write, Enable}
+use Rattle.mt_machine.specs.declared.event.Event.TheVariants.{Write, Enable}
 use Rattle.mt_machine.specs.declared.go.Go.{Go}
 use Rattle.mt_machine.specs.declared.go.Go.TheVariants.{Pending}
-use Rattle.mt_machine.specs.Memory.{Memory, Window, place, place_in, word_address}
+use Rattle.mt_machine.specs.Memory.{place, word_count}
 use Rattle.mt_machine.specs.System.{IsSound, Processor}
 use Rattle.mt_machine.specs.Machine.{FitsGoal, Order, Reached, due, write_back_or_drop}
 use Rattle.mt_machine.specs.Start.{IsStart}
@@ -19,12 +19,10 @@ use Rattle.mt_laws.specs.Kept.{IsUnderWay, OrderHolds}
 use Rattle.mt_laws.proofs.Barrier.Claims.{all_get}
 use Rattle.mt_laws.proofs.Invariant.Kept.{start_aligned, start_sound}
 use Rattle.mt_laws.proofs.Invariant.Runs.{led_reached}
+use Rattle.mt_laws.proofs.Invariant.WriteBacks.{write_backs_have_places}
 use Rattle.mt_laws.proofs.Invariant.Standing.{Standing, reached_standing, start_standing, stays_sound}
 use Rattle.mt_laws.proofs.Registers.UnderWay.{lines_are_low, orders_hold}
-use Rattle.mt_laws.proofs.Words.BusLaws.{Fits, fit_at, fits_placed}
-use Rattle.mt_laws.proofs.Words.LineLaws.{word_placed}
-use Rattle.mt_laws.proofs.Words.LineLists.{found_passes}
-use Rattle.mt_laws.proofs.Words.StepLaws.{FirstDirty, drain_case}
+use Rattle.mt_laws.proofs.Words.Places.{place_same}
 use Rattle.mt_rendezvous.specs.declared.view.Start.{Start}
 use Rattle.mt_rendezvous.specs.Station.{order_of, broadcast, Begins}
 use Rattle.mt_rendezvous.specs.Plays.{Stands, written}
@@ -48,10 +46,6 @@ writes_dirty p e a v Arrived here is o w = absurd (cc)
 writes_dirty p e a v Arrived2 here is o w = absurd (cc)
 writes_dirty p e a v Restored here is o w = absurd (cc)
 writes_dirty p e a v other here is o w = absurd (let q = ap written (injected _ _ (is o [])) ∙ w in cc)
-
--- places depend on the windows alone
-pub place_same : (m n : Memory) (a : ℕ) → m.windows ≡ n.windows → place m a ≡ place n a
-place_same m n a same = ap (λ (ws : List Window). if a % 8 == 0 then place_in ws 0 a else None) same
 
 module _ (t : Start) (begins : Begins t) (go : Go) (k : ℕ) (p : Processor) (st : Stands t go k p) where
   abbrev start : IsStart (broadcast t)
@@ -88,21 +82,7 @@ module _ (t : Start) (begins : Begins t) (go : Go) (k : ℕ) (p : Processor) (st
   pub back_place : (e : Event) (a v : ℕ) → is_local p.phase ≡ true → ((o : Order) (ps : List Processor) → due o ps p p.phase ≡ Some e) → written e ≡ Some (a, v)
       → (j : ℕ) × (place t.ram a ≡ Some j) × (j < length t.ram.words)
   back_place e a v here is word =
-      drain_case (λ x. x ≡ e → (j : ℕ) × (place t.ram a ≡ Some j) × (j < length t.ram.words)) p fit.lines_apart
-      (λ address value f same. placed address value f (same ∙ written_is' e word))
-      (λ none same. absurd (let q = same ∙ written_is' e word in cc))
-      (writes_dirty p e a v p.phase here is (order_of t go) word)
-    where
-      fit : Fits t.ram.windows p
-      fit = fit_at t.ram.windows st.machine.system.processors k p standing.agrees.stands.fit st.at
-
-      written_is' : (e : Event) → written e ≡ Some (a, v) → e ≡ WriteBack a v
-      written_is' e w = written_is e a v w
-
-      placed : (address value : ℕ) → FirstDirty p address value → WriteBack address value ≡ WriteBack a v → (j : ℕ) × (place t.ram a ≡ Some j) × (j < length t.ram.words)
-      placed address value f same =
-          let l = f.line in
-          let is : word_address l.number f.word ≡ a = (let q : address ≡ a = cc in f.address_is ∙ q) in
-          let w = f.within in
-          let r = word_placed t.ram l.number a (start_aligned (broadcast t) start) (fits_placed t.ram.windows l (found_passes _ l.number p.lines l fit.lines_fit f.found)) (omega arith) (omega arith) in
-          (r.0, r.1, (let c = (start_sound (broadcast t) start).memory.counted in let b = r.2 in omega arith))
+      let written_here = writes_dirty p e a v p.phase here is (order_of t go) word ∙ written_is e a v word in
+      let r = write_backs_have_places st.machine.system k p a v sound st.at written_here in
+      let m = standing.agrees.stands.memory in
+      (r.0, place_same t.ram st.machine.system.memory a (sym m.windows) ∙ r.1, (let b = r.2 in let c = sound.memory.counted in let d = (start_sound (broadcast t) start).memory.counted in let w = ap word_count m.windows in omega arith))

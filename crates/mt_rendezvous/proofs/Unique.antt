@@ -1,5 +1,5 @@
 -- A station's words and views stand for one state, and what it is where the second count is full.
-use Rattle.std.proofs.Common.{◌≡◌, ◌<◌, ◌+◌, ◌%◌, ℕ, zero, suc, Bool, true, false, List, [], ◌∷◌, length, map, sym, refl, ap, ◌∙◌, subst, ⊎_elim, arith, Option, Some, None}
+use Rattle.std.proofs.Common.{◌≡◌, ◌<◌, ◌+◌, ◌%◌, ℕ, zero, suc, Bool, true, false, List, [], ◌∷◌, length, map, sym, refl, ap, ◌∙◌, subst, ⊎_elim, arith, Some, None}
 use Rattle.std.specs.Prelude.{if◌then◌else◌, slice_index, slice_get}
 use Rattle.std.specs.List.{All, list_all}
 use mathlib.Core.Option.{some, some-injective}
@@ -8,13 +8,11 @@ use Rattle.mt_machine.specs.declared.phase.Phase.TheVariants.{Running}
 use Rattle.mt_machine.specs.declared.go.Go.{Go}
 use Rattle.mt_machine.specs.declared.go.Go.TheVariants.{Pending, Given, Cancelled}
 use Rattle.mt_regs.specs.RegisterFile.{RegisterFile}
-use Rattle.mt_machine.specs.Memory.{Window, place, word_at}
-use Rattle.mt_machine.specs.System.{IsSound, Processor, now}
+use Rattle.mt_machine.specs.Memory.{word_at}
+use Rattle.mt_machine.specs.System.{Processor, now}
 use Rattle.mt_machine.specs.Machine.{Machine, common_era, has_arrived_again, is_over}
-use Rattle.std.specs.Option.{option_map_or}
 use Rattle.mt_laws.proofs.Barrier.Claims.{all_get}
-use Rattle.mt_laws.proofs.Updates.Addresses.{word_of_words}
-use Rattle.mt_laws.proofs.Words.Sound.{aligned_all, no_word, now_is, sound_agrees}
+use Rattle.mt_laws.proofs.Updates.UpdatedWords.{updated_words}
 use Rattle.mt_machine.specs.Update.{settled_processor, updated}
 use Rattle.mt_laws.specs.Updates.{HoldsNothing, all_running}
 use Rattle.mt_laws.proofs.Updates.SecondBarrier.{led_to_second_barrier}
@@ -80,22 +78,6 @@ all_settled goal [] k d within = absurd (omega arith)
 all_settled goal (p ∷ ps) zero d within = record { file = refl; lines = refl; buffers = refl; entries = refl }
 all_settled goal (p ∷ ps) (suc k) d within = all_settled goal ps k d (omega arith)
 
--- the words that an update leaves
-updated_word : (s : Machine) → IsSound s.system → (goal : RegisterFile) (a : ℕ) → a % 8 ≡ 0 → word_at (updated s.system [] goal).system.memory a ≡ now s.system a
-updated_word s sound goal a whole = one (place s.system.memory a) refl
-  where
-    ws : List Window
-    ws = s.system.memory.windows
-
-    one : (o : Option ℕ) → place s.system.memory a ≡ o → word_at (updated s.system [] goal).system.memory a ≡ now s.system a
-    one (Some i) at = word_of_words s.system.memory (now s.system) sound.memory a i whole at
-    one None at =
-        let agrees = sound_agrees s sound in
-        let x = agrees.words a whole in
-        ap (λ (o : Option ℕ). option_map_or (λ i. slice_index (updated s.system [] goal).system.memory.words i) o 0) at
-        ∙ sym (no_word ws (aligned_all ws sound.memory.aligned) s.system a x.0 agrees.stands whole at x.1)
-        ∙ sym (now_is ws s.system a x.0 agrees.stands x.1)
-
 pub holds_where_full : HoldsWhereFull
 holds_where_full key s m full = one (is_over (order_of t m.go) (map cpu_of m.all)) refl
   where
@@ -115,7 +97,7 @@ holds_where_full key s m full = one (is_over (order_of t m.go) (map cpu_of m.all
     ends over = ⊎_elim
         (λ (e : machine_of key s m ≡ updated (broadcast t).system [] t.goal). (
           subst (λ (x : Machine). All (HoldsNothing t.goal) x.system.processors) (sym e) (all_settled t.goal t.cpus),
-          λ a whole. ap (λ (x : Machine). word_at x.system.memory a) e ∙ updated_word (broadcast t) m.begins.broadcasts.sound t.goal a whole,
+          λ a whole. ap (λ (x : Machine). word_at x.system.memory a) e ∙ updated_words (broadcast t).system t.goal [] a m.begins.broadcasts.sound whole,
         ))
         (λ (e : machine_of key s m ≡ record { system = all_running (broadcast t).system; order = None }). absurd (unchanged e))
         (led_ends (broadcast t) (machine_of key s m) (order_of t Pending) m.begins.broadcasts m.led_to over)

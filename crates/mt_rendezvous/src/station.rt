@@ -13,7 +13,7 @@ use crate::view::{
     Arrives, ArrivesAgain, Cancels, Gives, Key, Meeting, Passes, Releases, View, Works,
 };
 use atomic_table::{Seat, Table};
-use mt_cpu::Cpu;
+use mt_cpu::{Cpu, is_local};
 use mt_machine::{Event, Phase};
 use mt_ports::Gate;
 use mt_ram::Ram;
@@ -83,15 +83,6 @@ fn written(e: Event) -> Option<(u64, u64)>
         Event::WriteBack { address, value } => Some((address, value)),
         _ => None,
     }
-}
-
-fn is_local(phase: Phase) -> bool
-    ensures { result ≡ is_local phase }
-{
-    !matches!(
-        phase,
-        Phase::Running | Phase::Taken | Phase::Arrived | Phase::Restored | Phase::Arrived2
-    )
 }
 
 impl Root {

@@ -276,7 +276,7 @@ change_memory f k s = one (slice_get s.processors k)
     one None = refl
     one (Some p) = refl
 
-emptied_windows : (ks : List ℕ) (s : System) → (emptied s ks).memory.windows ≡ s.memory.windows
+pub emptied_windows : (ks : List ℕ) (s : System) → (emptied s ks).memory.windows ≡ s.memory.windows
 emptied_windows [] s = refl
 emptied_windows (k ∷ ks) s =
     emptied_windows ks (drain k s)

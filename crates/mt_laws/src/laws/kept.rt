@@ -1,4 +1,4 @@
-ghost use Rattle.mt_laws.specs.Sound.{AccessKeepsSound, ControlKeepsSound, DrainKeepsSound, LinesAreLow, StaysCoherent, StaysSound};
+ghost use Rattle.mt_laws.specs.Sound.{AccessKeepsSound, ControlKeepsSound, DrainKeepsSound, LinesAreLow, StaysCoherent, StaysSound, WriteBacksHavePlaces};
 ghost use Rattle.mt_laws.specs.Kept.{OrdersHold, StepsKeepNow, StillEventsKeep, TakeFences};
 
 /// Take is a fence, and the events of the coordinator, Arrive and Leave keep all that is held.
@@ -33,6 +33,11 @@ pub fn orders_hold()
 /// The numbers of the lines and buffers of a sound system are below 2^46.
 pub fn lines_are_low()
     ensures { LinesAreLow }
+{}
+
+/// The dirty word of a sound system that is written back next has a place in memory.
+pub fn write_backs_have_places()
+    ensures { WriteBacksHavePlaces }
 {}
 
 /// No step of the update but Take changes a word's value.

@@ -1,4 +1,4 @@
-ghost use Rattle.mt_laws.specs.Updates.{BroadcastUpdate, CancelledBroadcast, CancelledUpdate, LedCancelled, LedEnds, LedNotGiven, LedReleased, LedToSecondBarrier, LedUpdate, TakesBroadcast, UpdatedFromBroadcast, WholeUpdate};
+ghost use Rattle.mt_laws.specs.Updates.{BroadcastUpdate, CancelledBroadcast, CancelledUpdate, LedCancelled, LedEnds, LedNotGiven, LedReleased, LedToSecondBarrier, LedUpdate, TakesBroadcast, UpdatedFromBroadcast, UpdatedWords, WholeUpdate};
 ghost use Rattle.mt_laws.specs.Counts.{CountOfSteps, TakesAtMostOnce, TakesOnce};
 
 /// A whole update without accesses or controls ends in the state that is given outright, and each
@@ -18,6 +18,11 @@ pub fn takes_broadcast()
 /// From a broadcast state an update that isn't cancelled ends in the state that is given outright.
 pub fn broadcast_update()
     ensures { BroadcastUpdate }
+{}
+
+/// In the state that is given outright each word is in memory as it was once the buffers had been emptied.
+pub fn updated_words()
+    ensures { UpdatedWords }
 {}
 
 /// Where all have arrived at the second barrier each processor has the goal's registers and holds nothing,

@@ -11,7 +11,8 @@ use Rattle.mt_cpu.specs.Steps.{HasWritten}
 use Rattle.mt_rendezvous.specs.declared.view.Start.{Start}
 use Rattle.mt_rendezvous.specs.Station.{held, start_of, order_of, code}
 use Rattle.mt_rendezvous.specs.Plays.{Took, Stands, work, own_event}
-use Rattle.mt_rendezvous.proofs.Facts.{fits_goal, has_written, low_numbers, back_place, place_same}
+use Rattle.mt_rendezvous.proofs.Facts.{fits_goal, has_written, low_numbers, back_place}
+use Rattle.mt_laws.proofs.Words.Places.{place_same}
 use Rattle.mt_rendezvous.proofs.Steps.{works, writes_back}
 use Rattle.mt_rendezvous.proofs.Carried.{of_it}
 use Rattle.mt_rendezvous.proofs.station.Pass.work.Goals as goal
