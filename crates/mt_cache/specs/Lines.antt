@@ -1,4 +1,4 @@
--- Lines of a cache or of the write-combining buffers, in the order in which they were filled.
+-- Lines of a cache or of the write-combining buffers, in the order in which they were filled (own).
 use Rattle.std.specs.Prelude.{◌≡◌, ◌≢◌, ℕ, ◌+◌, ◌-◌, ◌^◌, ◌<◌, ◌==◌, bit_and, bit_or, Bool, not, List, [], ◌∷◌, ◌++◌, length, map, if◌then◌else◌, slice_set, Option, None, Some, is_some}
 use Rattle.std.specs.List.{AllPairs, filter, find}
 use Rattle.mt_kinds.specs.Bits.{is_bit_set}

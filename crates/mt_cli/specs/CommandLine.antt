@@ -1,4 +1,4 @@
--- The command lines: what their words ask for. All other lists of words are wrong usage.
+-- The command lines: what their words ask for (own). All other lists of words are wrong usage.
 --     command_of words      the command of these words, the program's name left out
 use Rattle.std.specs.Prelude.{ℕ, zero, suc, ◌+◌, ◌-◌, ◌^◌, ◌≤◌, ◌==◌, ◌<◌, ◌&&◌, nat_eq, nat_le, nat_lt, Bool, List, [], ◌∷◌, length, drop, take, codes, if◌then◌else◌, Option, Some, None, Result, Ok, Err, ⊤}
 use Rattle.std.specs.Cmp.Lexicographic.{pointwise}

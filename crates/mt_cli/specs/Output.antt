@@ -1,4 +1,4 @@
--- What the program writes for a command line and an input, and the status that it ends with.
+-- What the program writes for a command line and an input, and the status that it ends with (own).
 --     Answer command file text status      what a command answers about a register file
 --     Output words bytes text status      what the program writes for these words and these bytes
 use Rattle.std.specs.Prelude.{ℕ, ◌≡◌, ◌++◌, false, List, Some, None, ⊤}

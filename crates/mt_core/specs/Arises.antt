@@ -1,4 +1,4 @@
--- The states that a core can be in, and what its calls leave.
+-- The states that a core can be in, and what its calls leave (own).
 use Rattle.std.specs.Prelude.{◌≡◌, ◌<◌, ◌≤◌, ◌-◌, ◌^◌, length, Some}
 use Rattle.mt_ram.specs.Windows.{with_window}
 use Rattle.mt_machine.specs.Memory.{IsMemory, Window}

@@ -1,4 +1,4 @@
--- Whole turns of steps, until no update is under way.
+-- Whole turns of steps, until no update is under way (own).
 use Rattle.std.specs.Prelude.{◌≡◌, ◌<◌, ◌+◌, ◌%◌, ◌&&◌, ℕ, true, not, List, [], ◌∷◌, ◌++◌, length, IsSome, Option, None, Some}
 use Rattle.std.specs.List.{Contains, fold, list_all, range_with_len}
 use Rattle.mt_machine.specs.declared.event.Event.TheVariants.{Release}

@@ -1,4 +1,4 @@
--- What a step answers and leaves.
+-- What a step answers and leaves (own).
 use Rattle.std.specs.Prelude.{ℕ, if◌then◌else◌, List, slice_get, Option, None, Some}
 use Rattle.std.specs.Option.{option_map_or}
 use Rattle.mt_machine.specs.declared.phase.Phase.{Phase}

@@ -1,4 +1,4 @@
--- What a reader of a dump keeps of the lines that it has read, of which the last stands first.
+-- What a reader of a dump keeps of the lines that it has read, of which the last stands first (own).
 use Rattle.std.specs.Prelude.{ℕ, ◌≡◌, ◌≤◌, ◌<◌, ◌-◌, ◌==◌, nat_lt, Bool, false, List, [], ◌∷◌, length, ⊤, if◌then◌else◌, Option, Some, None, option_and_then, Ok, Err}
 use Rattle.std.specs.List.{slice_index_or}
 use Rattle.mt_regs.specs.RegisterFile.{RegisterFile, low_byte, blank_file}

@@ -1,4 +1,4 @@
--- The states from which the laws hold.
+-- The states from which the laws hold (own).
 use Rattle.std.specs.Prelude.{◌≡◌, ◌⊎◌, ℕ, ◌<◌, ◌-◌, ◌^◌, true, [], None, Some, replicate, List}
 use Rattle.std.specs.List.{All}
 use Rattle.mt_regs.specs.RegisterFile.{RegisterFile, IsRegisterFile}

@@ -1,4 +1,6 @@
--- The state of all processors and the memory, and what holds of it at all times.
+-- The state of all processors and the memory, and what holds of it at all times. What a processor has: Intel SDM, volume 3A, chapter Memory Cache Control,
+-- sections "Cache Control Registers and Bits" and "Buffering of Write Combining Memory Locations"; coherence: section "Cache Control
+-- Protocol". Eras, phases, mappings in place of page tables, and how many of each there are, are this project's (own).
 use Rattle.std.specs.Prelude.{◌≡◌, ◌≢◌, ℕ, ◌<◌, ◌≤◌, ◌==◌, Bool, true, false, ◌&&◌, List, [], ◌∷◌, length, slice_index, slice_get, slice_set, Option, None, Some, IsTrue, IsSome, IsNone}
 use Rattle.std.specs.Option.{option_map_or, option_map, option_or}
 use Rattle.std.specs.List.{find, All}

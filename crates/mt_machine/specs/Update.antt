@@ -1,4 +1,5 @@
--- A whole update, given outright, and what is settled and held after one.
+-- A whole update, given outright, and what is settled and held after one (own). What it is to lead to is the state after the steps
+-- of the manual's section "MTRR Considerations in MP Systems"; that it does is a law of mt_laws.
 use Rattle.std.specs.Prelude.{◌≡◌, ℕ, zero, suc, ◌+◌, ◌*◌, ◌/◌, ◌%◌, ◌==◌, Bool, true, false, List, [], ◌∷◌, ◌++◌, map, if◌then◌else◌, slice_get, Option, None, Some}
 use Rattle.std.specs.Option.{option_map_or, option_map}
 use Rattle.std.specs.List.{fold, filter_map, All, Contains, count_by}

@@ -1,4 +1,4 @@
--- The lines that more than one command writes. Each ends with LF.
+-- The lines that more than one command writes (own). Each ends with LF.
 use Rattle.std.specs.Prelude.{ℕ, List, [], ◌∷◌, ◌++◌, codes, decimal, drop}
 use Rattle.mt_regs.specs.declared.fault.Fault.{Fault}
 use Rattle.mt_regs.specs.declared.fault.Reason.{Reason}

@@ -1,4 +1,7 @@
--- The first fault of a register file.
+-- The first fault of a register file. Which bits are reserved, which types there are and which overlaps are undefined: Intel SDM,
+-- volume 3A, chapter Memory Cache Control, sections MTRR Feature Identification, IA32_MTRR_DEF_TYPE MSR, Fixed Range MTRRs,
+-- Variable Range MTRRs, IA32_PAT MSR and MTRR Precedences. That a mask with a gap is a fault, that FE is reserved without FIX, and
+-- the order in which a file's faults are looked for are this project's choices (own).
 use Rattle.std.specs.Prelude.{◌≡◌, ◌≢◌, ℕ, zero, suc, ◌-◌, ◌/◌, ◌%◌, ◌^◌, ◌<◌, ◌==◌, Bool, true, false, not, ◌&&◌, ◌||◌, List, [], ◌∷◌, if◌then◌else◌, MatchOption}
 use Rattle.std.specs.Prelude.{Option, None, Some}
 use Rattle.std.specs.Option.{option_or}

@@ -1,4 +1,6 @@
--- The writable registers of a file, their numbers and their values.
+-- The writable registers of a file, their numbers and their values: Intel SDM, volume 3A, chapter Memory Cache Control,
+-- sections Fixed Range MTRRs, Variable Range MTRRs, IA32_PAT MSR and IA32_MTRR_DEF_TYPE MSR. That a processor without FIX
+-- hasn't the fixed-range registers is this project's choice (own).
 use Rattle.std.specs.Prelude.{◌≡◌, ◌≢◌, true, ◌==◌, slice_set, Option, Some, ℕ, zero, suc, ◌+◌, ◌*◌, ◌<◌, List, [], ◌∷◌, ◌++◌, length, map, if◌then◌else◌, slice_index}
 use Rattle.std.specs.List.{find}
 use Rattle.std.specs.Option.{option_map}

@@ -1,4 +1,4 @@
--- The first fault of a register file, as a function: what `IsFirstFault` says of one answer alone.
+-- The first fault of a register file, as a function: what `IsFirstFault` says of one answer alone (own).
 use Rattle.std.specs.Prelude.{ℕ, Bool, true, false, ◌&&◌, List, length, Option}
 use Rattle.std.specs.Option.{option_map, option_or}
 use Rattle.std.specs.List.{find, list_any, range_with_len}

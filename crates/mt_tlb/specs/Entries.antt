@@ -1,4 +1,4 @@
--- Lists of TLB entries, the oldest first, and of mappings, in the order in which their pages were first mapped.
+-- Lists of TLB entries, the oldest first, and of mappings, in the order in which their pages were first mapped (own).
 use Rattle.std.specs.Prelude.{◌≢◌, ℕ, ◌==◌, Bool, not, ◌&&◌, List, [], ◌∷◌, ◌++◌, map, length, drop, if◌then◌else◌, Option}
 use Rattle.std.specs.List.{AllPairs, filter, find, list_any}
 use Rattle.mt_tlb.specs.declared.entry.Entry.{Entry}
