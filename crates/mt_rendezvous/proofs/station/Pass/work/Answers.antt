@@ -10,7 +10,7 @@ use Rattle.std.specs.Option.{option_map_or}
 use Rattle.mt_cpu.specs.Steps.{HasWritten}
 use Rattle.mt_rendezvous.specs.declared.view.Start.{Start}
 use Rattle.mt_rendezvous.specs.Station.{held, start_of, order_of, code}
-use Rattle.mt_rendezvous.specs.Plays.{Took, Stands, work, own_event}
+use Rattle.mt_rendezvous.specs.Plays.{Stands, work, own_event}
 use Rattle.mt_rendezvous.proofs.Facts.{fits_goal, has_written, low_numbers, back_place, place_same}
 use Rattle.mt_rendezvous.proofs.Steps.{works, writes_back}
 use Rattle.mt_rendezvous.proofs.Carried.{of_it}
@@ -97,13 +97,13 @@ returns-in-Some-place-clause-stands c =
     let t : Start = start_of c.args.station.now.table.shared.key in
     let r = c.requires.carries in
     let tells = c.store.ensures.2 in
-    let now = of_it r (λ u h. Took u h.number (own_event u h.cpu) h.cpu (work u h).cpu × Stands u Given h.number (work u h).cpu) tells.2 in
-    subst (Stands t Given c.args.self.now.number) (sym (worked t c.args.goal.now c.local-e.result c.args.cpu.now c.local-e.new.self c.requires.goal c.local-e.ensures.event c.local-e.ensures.step)) now.1
+    let now = of_it r (λ u h. Stands u Given h.number (work u h).cpu) tells.3 in
+    subst (Stands t Given c.args.self.now.number) (sym (worked t c.args.goal.now c.local-e.result c.args.cpu.now c.local-e.new.self c.requires.goal c.local-e.ensures.event c.local-e.ensures.step)) now
 
 pub returns-in-None-clause-stands : goal.returns-in-None-clause-stands
 returns-in-None-clause-stands c =
     let t : Start = start_of c.args.station.now.table.shared.key in
     let r = c.requires.carries in
     let tells = c.store-in-None.ensures.2 in
-    let now = of_it r (λ u h. Took u h.number (own_event u h.cpu) h.cpu (work u h).cpu × Stands u Given h.number (work u h).cpu) tells.2 in
-    subst (Stands t Given c.args.self.now.number) (sym (worked t c.args.goal.now c.local-e.result c.args.cpu.now c.local-e.new.self c.requires.goal c.local-e.ensures.event c.local-e.ensures.step)) now.1
+    let now = of_it r (λ u h. Stands u Given h.number (work u h).cpu) tells.3 in
+    subst (Stands t Given c.args.self.now.number) (sym (worked t c.args.goal.now c.local-e.result c.args.cpu.now c.local-e.new.self c.requires.goal c.local-e.ensures.event c.local-e.ensures.step)) now
