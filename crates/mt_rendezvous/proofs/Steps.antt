@@ -25,7 +25,7 @@ use Rattle.mt_rendezvous.specs.declared.view.Held.{Held}
 use Rattle.mt_rendezvous.specs.declared.view.Start.{Start}
 use Rattle.mt_rendezvous.specs.declared.view.View.{View}
 use Rattle.mt_rendezvous.specs.declared.view.Key.{Key}
-use Rattle.mt_rendezvous.specs.Station.{order_of, broadcast, cpu_of, first_memory_word, memory_of, system_of, joined, start_of, view, with_held, weight, total, added_of, again_of, go_weight, code, phase_word, phase_word_of, Fits, FitsHeld, Waits, Meets}
+use Rattle.mt_rendezvous.specs.Station.{Begins, order_of, broadcast, cpu_of, first_memory_word, memory_of, system_of, joined, start_of, view, with_held, weight, total, added_of, again_of, go_weight, code, phase_word, phase_word_of, Fits, FitsHeld, Waits, Meets}
 use Rattle.mt_machine.specs.Machine.{MachineEvent, Steps as Does}
 use Rattle.mt_rendezvous.specs.Plays.{PassSteps, Stands, Of, does, arrive, late, arrive_again, own_event, work, with_shown, written, Arrives, Passes, Works, ArrivesAgain, Releases}
 use Rattle.mt_rendezvous.proofs.Keeps.{placed, total_set, total_small, total_full, weight_small, at_cpu, at_less, all_true, acts, Acts, led_acts, event_step, still_step, same_machine, low_word, stands_order, drop_set, codes_kept, codes_stored, IsUnderWay}
@@ -188,6 +188,7 @@ module _ (key : Key) where
             (record { first = f.fits.first; fits = subst (λ p. Fits m.go true h.again p) (sym taken) (first, λ _. c.0); era = f.fits.era }) count s.homes,
         (
           refl,
+          subst Begins (sym f.told) m.begins,
           told_first,
           (λ (below : get_or s.words 0 0 < 4294967296). absurd (let b = c.1 in omega arith)),
           (λ _. (
@@ -206,6 +207,7 @@ module _ (key : Key) where
             (fits_on t m.go w (same_era t m.go h f.fits u) tt (first, refl) (λ _. f.fits.first (subst Waits (sym taken) tt))) count s.homes,
         (
           refl,
+          subst Begins (sym f.told) m.begins,
           told_first,
           (λ _. (
             moved me.0 (arrive me.0.start) h is,

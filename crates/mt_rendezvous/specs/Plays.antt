@@ -15,7 +15,7 @@ use Rattle.mt_machine.specs.Update.{Led}
 use Rattle.mt_rendezvous.specs.declared.view.Held.{Held}
 use Rattle.mt_rendezvous.specs.declared.view.Start.{Start}
 use Rattle.mt_rendezvous.specs.declared.view.View.{View}
-use Rattle.mt_rendezvous.specs.Station.{order_of, broadcast, held, joined, view, with_held}
+use Rattle.mt_rendezvous.specs.Station.{Begins, order_of, broadcast, held, joined, view, with_held}
 
 abbrev Sat : Type 0
 Sat = Me (Unit {0}) View
@@ -102,10 +102,11 @@ work t h = does t (own_event t h.cpu) h
 abbrev pub sum_word : Step (Unit {0}) → ℕ → ℕ
 sum_word st found = (found + st.first) % 2 ^ 64
 
--- an addition of a pass to word 0: Arrive, or no event where the word held the cancel before
+-- an addition of a pass to word 0: Arrive, or no event where the word held the cancel before. It tells besides that the processor is as it was gathered
 abbrev pub Arrives : Step (Unit {0}) → Sat → ℕ → Sat → Type 0
 Arrives st me found new =
     (new.1 ≡ me.1)
+    × Begins me.0.start
     × Of me.0 (λ h. slice_get me.0.start.cpus h.number ≡ Some h.cpu)
     × (found < 4294967296 → (new.0 ≡ with_held me.0 (map (arrive me.0.start) me.0.held)) × Of me.0 (λ h. PassSteps me.0.start st.word found (sum_word st found) (Some (Steps h.number Arrive)) h (arrive me.0.start h)))
     × (4294967296 ≤ found → (new.0 ≡ with_held me.0 (map late me.0.held)) × Of me.0 (λ h. PassSteps me.0.start st.word found (sum_word st found) None h (late h)))

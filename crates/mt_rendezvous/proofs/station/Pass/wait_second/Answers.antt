@@ -66,5 +66,5 @@ shift-requires-clause-room g c release =
     let counted = c.args.station.now.counted in
     let same = c.if-found-station.true in
     let era = of_it r (λ u h. h.cpu.era ≡ common_era u.cpus) (tells.2 (omega arith)).2 in
-    let room = r.begins.room in
+    let room = c.requires.begins.room in
     omega arith

@@ -27,21 +27,21 @@ worked t g e p q same is moved =
 
 pub local-e-requires-clause-fits : goal.local-e-requires-clause-fits
 local-e-requires-clause-fits c = let t : Start = start_of c.args.station.now.table.shared.key in
-    subst (λ (g : RegisterFile). FitsGoal g c.args.cpu.now) (sym c.requires.goal) (fits_goal t c.requires.carries.begins Given c.args.self.now.number c.args.cpu.now c.requires.stands)
+    subst (λ (g : RegisterFile). FitsGoal g c.args.cpu.now) (sym c.requires.goal) (fits_goal t c.requires.begins Given c.args.self.now.number c.args.cpu.now c.requires.stands)
 
 pub local-e-requires-clause-written : goal.local-e-requires-clause-written
 local-e-requires-clause-written c = let t : Start = start_of c.args.station.now.table.shared.key in
-    subst (λ (g : RegisterFile). HasWritten g c.args.cpu.now) (sym c.requires.goal) (has_written t c.requires.carries.begins Given c.args.self.now.number c.args.cpu.now c.requires.stands)
+    subst (λ (g : RegisterFile). HasWritten g c.args.cpu.now) (sym c.requires.goal) (has_written t c.requires.begins Given c.args.self.now.number c.args.cpu.now c.requires.stands)
 
 pub local-e-requires-clause-numbers : goal.local-e-requires-clause-numbers
 local-e-requires-clause-numbers c = let t : Start = start_of c.args.station.now.table.shared.key in
-    low_numbers t c.requires.carries.begins Given c.args.self.now.number c.args.cpu.now c.requires.stands
+    low_numbers t c.requires.begins Given c.args.self.now.number c.args.cpu.now c.requires.stands
 
 pub unreachable-requires : goal.unreachable-requires
 unreachable-requires c =
     let t : Start = start_of c.args.station.now.table.shared.key in
     let e = c.local-e.result in
-    let there = back_place t c.requires.carries.begins Given c.args.self.now.number c.args.cpu.now c.requires.stands e c.in-Some.address c.in-Some.value c.requires.between c.local-e.ensures.event (sym c.written.ensures ∙ c.in-Some.is) in
+    let there = back_place t c.requires.begins Given c.args.self.now.number c.args.cpu.now c.requires.stands e c.in-Some.address c.in-Some.value c.requires.between c.local-e.ensures.event (sym c.written.ensures ∙ c.in-Some.is) in
     let same = place_same c.args.ram.now t.ram c.in-Some.address c.requires.windows in
     c.in_default.not-Some there.0 (c.place.ensures.value ∙ same ∙ there.1)
 
@@ -49,7 +49,7 @@ pub overflow_add-word-in-Some : goal.overflow_add-word-in-Some
 overflow_add-word-in-Some c =
     let t : Start = start_of c.args.station.now.table.shared.key in
     let e = c.local-e.result in
-    let there = back_place t c.requires.carries.begins Given c.args.self.now.number c.args.cpu.now c.requires.stands e c.in-Some.address c.in-Some.value c.requires.between c.local-e.ensures.event (sym c.written.ensures ∙ c.in-Some.is) in
+    let there = back_place t c.requires.begins Given c.args.self.now.number c.args.cpu.now c.requires.stands e c.in-Some.address c.in-Some.value c.requires.between c.local-e.ensures.event (sym c.written.ensures ∙ c.in-Some.is) in
     let same = place_same c.args.ram.now t.ram c.in-Some.address c.requires.windows in
     let at : c.in-Some-place.i ≡ there.0 = injected c.in-Some-place.i there.0 (sym c.in-Some-place.is ∙ c.place.ensures.value ∙ same ∙ there.1) in
     let low = there.2 in
@@ -63,7 +63,7 @@ store-requires c =
     let r = c.requires.carries in
     let e = c.local-e.result in
     let word = sym c.written.ensures ∙ c.in-Some.is in
-    let there = back_place t r.begins Given c.args.self.now.number c.args.cpu.now c.requires.stands e c.in-Some.address c.in-Some.value c.requires.between c.local-e.ensures.event word in
+    let there = back_place t c.requires.begins Given c.args.self.now.number c.args.cpu.now c.requires.stands e c.in-Some.address c.in-Some.value c.requires.between c.local-e.ensures.event word in
     let same = place_same c.args.ram.now t.ram c.in-Some.address c.requires.windows in
     let at : c.in-Some-place.i ≡ there.0 = injected c.in-Some-place.i there.0 (sym c.in-Some-place.is ∙ c.place.ensures.value ∙ same ∙ there.1) in
     let low = there.2 in
