@@ -17,7 +17,6 @@ module _ {table : TableId} {t : Start} {its : TableId} {me : Me (Unit {0}) View}
     same = same ∙ r.same;
     holds = moves ∙ (λ i. map (f (r.told i)) (r.holds i)) ∙ ap (λ (h : Held). h ∷ []) becomes;
     told = told ∙ r.told;
-    begins = r.begins;
     below = r.below;
     bare = bare ∙ r.bare;
   }

@@ -23,7 +23,7 @@ use Rattle.mt_rendezvous.specs.declared.view.Start.{Start}
 use Rattle.mt_rendezvous.specs.declared.view.View.{View}
 use Rattle.mt_rendezvous.specs.declared.view.Key.{Key}
 use Rattle.mt_rendezvous.specs.Station.{order_of, broadcast, cpu_of, first_memory_word, system_of, joined, start_of, view, weight, total, added_of, again_of, go_weight, phase_word_of, Fits, FitsHeld, rise, Sits, IsHeld, Meets}
-use Rattle.mt_rendezvous.specs.Plays.{Took}
+use Rattle.mt_rendezvous.specs.Plays.{PassSteps, Took}
 
 -- ---- lists
 
@@ -162,24 +162,46 @@ pub led_acts : (t : Start) (all : List Held) (go : Go) (words after : List ℕ) 
     → Led (broadcast t) (joined t (set all k w) go after)
 led_acts t all go words after k e h w l a = subst (Led (broadcast t)) a.moves (led_on (Steps k e) l a.enabled refl)
 
-pub took : (t : Start) (all : List Held) (go : Go) (words after : List ℕ) (k : ℕ) (e : Event) (h w : Held) → Led (broadcast t) (joined t all go words) → Acts t all go words after k e h w
-    → get_elem? all k ≡ some h → Took t k e h.cpu w.cpu
-took t all go words after k e h w l a at = record {
-  machine = joined t all go words;
-  go = go;
-  led = l;
-  order = a.order;
-  enabled = a.enabled;
-  before = at_cpu all k h at;
-  after = ap (λ (m : Machine). slice_get m.system.processors k) a.moves ∙ at_cpu (set all k w) k w (set_here all k w (at_less all k h at));
+-- the step by which it acts
+pub event_step : (t : Start) (all : List Held) (go : Go) (words : List ℕ) (i n : ℕ) (e : Event) (h w : Held) → Led (broadcast t) (joined t all go words) → Acts t all go words (set words i n) h.number e h w
+    → get_elem? all h.number ≡ some h → PassSteps t i (slice_index words i) n (Some (Steps h.number e)) h w
+event_step t all go words i n e h w l a at = record { all = all; go = go; words = words; led = l; at = at; word = refl; enabled = a.enabled; becomes = sym a.moves }
+
+-- an event that is enabled there has an order
+order_there : (t : Start) (s : System) (go : Go) (k : ℕ) (e : Event) → IsEnabled (stepped (order_of t go) s) (Steps k e) → (stepped (order_of t go) s).order ≡ Some (order_of t go)
+order_there t s go k e h = one (is_over (order_of t go) s.processors) h
+  where
+    one : (b : Bool) → option_map_or (λ o. option_map_or (λ p. due o s.processors p p.phase) (slice_get s.processors k) None) (if b then None else Some (order_of t go)) None ≡ Some e
+        → (if b then None else Some (order_of t go)) ≡ Some (order_of t go)
+    one true h = absurd (cc)
+    one false h = refl
+
+pub took_of : (t : Start) (i found new : ℕ) (e : Event) (h w : Held) → PassSteps t i found new (Some (Steps h.number e)) h w → Took t h.number e h.cpu w.cpu
+took_of t i found new e h w r = record {
+  machine = joined t r.all r.go r.words;
+  go = r.go;
+  led = r.led;
+  order = order_there t (system_of t r.all r.words) r.go h.number e r.enabled;
+  enabled = r.enabled;
+  before = at_cpu r.all h.number h r.at;
+  after = ap (λ (m : Machine). slice_get m.system.processors h.number) (sym r.becomes) ∙ at_cpu (set r.all h.number w) h.number w (set_here r.all h.number w (at_less r.all h.number h r.at));
 }
 
 -- nothing happens to the machine
+pub unmoved : (t : Start) (all : List Held) (go : Go) (words after : List ℕ) (k : ℕ) (h w : Held) → get_elem? all k ≡ some h → w.cpu ≡ h.cpu
+    → drop (first_memory_word t) words ≡ drop (first_memory_word t) after → joined t all go words ≡ joined t (set all k w) go after
+unmoved t all go words after k h w at is memory =
+    ap (λ (x : List Processor × List ℕ). stepped (order_of t go) (record { processors = x.0; memory = record { windows = t.ram.windows; words = x.1 } }))
+    (λ i. (same_cpus all k h w at is i, memory i))
+
 pub same_machine : (t : Start) (all : List Held) (go : Go) (words after : List ℕ) (k : ℕ) (h w : Held) → Led (broadcast t) (joined t all go words) → get_elem? all k ≡ some h → w.cpu ≡ h.cpu
     → drop (first_memory_word t) words ≡ drop (first_memory_word t) after → Led (broadcast t) (joined t (set all k w) go after)
-same_machine t all go words after k h w l at is memory =
-    subst (λ (x : List Processor × List ℕ). Led (broadcast t) (stepped (order_of t go) (record { processors = x.0; memory = record { windows = t.ram.windows; words = x.1 } })))
-    (λ i. (same_cpus all k h w at is i, memory i)) l
+same_machine t all go words after k h w l at is memory = subst (Led (broadcast t)) (unmoved t all go words after k h w at is memory) l
+
+-- the step that is no event
+pub still_step : (t : Start) (all : List Held) (go : Go) (words : List ℕ) (i n : ℕ) (h w : Held) → Led (broadcast t) (joined t all go words) → get_elem? all h.number ≡ some h → w.cpu ≡ h.cpu
+    → drop (first_memory_word t) words ≡ drop (first_memory_word t) (set words i n) → PassSteps t i (slice_index words i) n None h w
+still_step t all go words i n h w l at is memory = record { all = all; go = go; words = words; led = l; at = at; word = refl; enabled = tt; becomes = sym (unmoved t all go words (set words i n) h.number h w at is memory) }
 
 -- a word before those of memory is stored
 pub low_word : (t : Start) (all : List Held) (words : List ℕ) (i n : ℕ) → i < first_memory_word t → system_of t all words ≡ system_of t all (set words i n)

@@ -199,6 +199,17 @@ module _ (key : Key) where
       by_case (inl nothing) = absurd (let e = nothing.1 in cc)
       by_case (inr x) = x
 
+  decided : (go : Go) (e : MachineEvent) (all : List Held) (words : List ℕ) (n : ℕ) → Led (broadcast start) (joined start all Pending words) → Turns (joined start all Pending words) e (joined start all go words)
+      → Decided start 0 (get_or words 0 0) n e go
+  decided go e all words n l a = record {
+    all = all;
+    words = words;
+    led = l;
+    word = refl;
+    enabled = a.enabled;
+    becomes = ap (stepped (order_of start go)) (sym (low_word start all words 0 n (omega arith))) ∙ sym a.moves;
+  }
+
   pub gives : (slots id : ℕ) (me : Me (Unit {0}) View) → me.0.root ≡ true → me.0.go ≡ Pending
       → Allows (Meets key) slots id me 0 (λ n. (n + 1) % 2 ^ 64) (Gives (step slots 0 1 0 none) me)
   gives slots id me root is s m _ at small =
@@ -213,7 +224,11 @@ module _ (key : Key) where
         tt,
         decides s m id me.0 Given ((get_or s.words 0 0 + 1) % 18446744073709551616) at root was (subst (Led (broadcast start)) a.moves (led_on Goes l a.enabled refl))
             (λ le. omega arith) s.homes,
-        (refl, refl, subst (λ (y : Start). Decided y Goes) (sym (root_told s m id me.0 at root)) (record { machine = joined start m.all Pending s.words; led = l; enabled = a.enabled })),
+        (
+          refl,
+          refl,
+          subst (λ (y : Start). Decided y 0 (get_or s.words 0 0) ((get_or s.words 0 0 + 1) % 18446744073709551616) Goes Given) (sym (root_told s m id me.0 at root)) (decided Given Goes m.all s.words ((get_or s.words 0 0 + 1) % 18446744073709551616) l a),
+        ),
       )
 
   pub cancels : (slots id : ℕ) (me : Me (Unit {0}) View) → me.0.root ≡ true → me.0.go ≡ Pending
@@ -230,7 +245,12 @@ module _ (key : Key) where
         tt,
         decides s m id me.0 Cancelled ((get_or s.words 0 0 + 4294967296) % 18446744073709551616) at root was (subst (Led (broadcast start)) a.moves (led_on CancelsUpdate l a.enabled refl))
             (λ le. omega arith) s.homes,
-        (refl, refl, subst (λ (y : Start). Decided y CancelsUpdate) (sym (root_told s m id me.0 at root)) (record { machine = joined start m.all Pending s.words; led = l; enabled = a.enabled })),
+        (
+          refl,
+          refl,
+          subst (λ (y : Start). Decided y 0 (get_or s.words 0 0) ((get_or s.words 0 0 + 4294967296) % 18446744073709551616) CancelsUpdate Cancelled) (sym (root_told s m id me.0 at root))
+              (decided Cancelled CancelsUpdate m.all s.words ((get_or s.words 0 0 + 4294967296) % 18446744073709551616) l a),
+        ),
       )
 
   -- a processor is given away to a new pass

@@ -25,9 +25,10 @@ use Rattle.mt_rendezvous.specs.declared.view.Held.{Held}
 use Rattle.mt_rendezvous.specs.declared.view.Start.{Start}
 use Rattle.mt_rendezvous.specs.declared.view.View.{View}
 use Rattle.mt_rendezvous.specs.declared.view.Key.{Key}
-use Rattle.mt_rendezvous.specs.Station.{order_of, broadcast, cpu_of, first_memory_word, memory_of, system_of, joined, start_of, view, with_held, weight, total, added_of, again_of, go_weight, code, phase_word, phase_word_of, Fits, FitsHeld, Waits, Meets}
-use Rattle.mt_rendezvous.specs.Plays.{Took, Stands, Of, does, arrive, late, arrive_again, own_event, work, with_shown, written, Arrives, Passes, Works, ArrivesAgain, Releases}
-use Rattle.mt_rendezvous.proofs.Keeps.{placed, total_set, total_small, total_full, weight_small, at_cpu, at_less, all_true, acts, Acts, led_acts, took, same_machine, low_word, stands_order, drop_set, codes_kept, codes_stored, IsUnderWay}
+use Rattle.mt_rendezvous.specs.Station.{Begins, order_of, broadcast, cpu_of, first_memory_word, memory_of, system_of, joined, start_of, view, with_held, weight, total, added_of, again_of, go_weight, code, phase_word, phase_word_of, Fits, FitsHeld, Waits, Meets}
+use Rattle.mt_machine.specs.Machine.{MachineEvent, Steps as Does}
+use Rattle.mt_rendezvous.specs.Plays.{PassSteps, Stands, Of, does, arrive, late, arrive_again, own_event, work, with_shown, written, Arrives, Passes, Works, ArrivesAgain, Releases}
+use Rattle.mt_rendezvous.proofs.Keeps.{placed, total_set, total_small, total_full, weight_small, at_cpu, at_less, all_true, acts, Acts, led_acts, event_step, still_step, same_machine, low_word, stands_order, drop_set, codes_kept, codes_stored, IsUnderWay}
 use Rattle.mt_rendezvous.proofs.Local.{changing_under_way, local_changing, fits_changing, changing_fits, changing_waits_not, word_is_code, same_era, fits_on, arrived_of, again_of_held, IsWork, works_in, takes_not, written_not, written_is}
 
 only : (w g : Held) → w ∷ [] ≡ g ∷ [] → w ≡ g
@@ -153,6 +154,9 @@ module _ (key : Key) where
   low_before : (s : St) (m : Meets key s) (i n : ℕ) → i < 2 → system_of t m.all s.words ≡ system_of t m.all (set s.words i n)
   low_before s m i n low = low_word t m.all s.words i n (omega arith)
 
+  low_memory : (s : St) (m : Meets key s) (i n : ℕ) → i < 2 → drop (first_memory_word t) s.words ≡ drop (first_memory_word t) (set s.words i n)
+  low_memory s m i n low = ap (λ (y : System). y.memory.words) (low_before s m i n low)
+
   -- an event by which the words of memory stay
   acts_low : (s : St) (m : Meets key s) (k i n : ℕ) (e : Event) (h w : Held) → get_elem? m.all k ≡ some h → IsUnderWay h.cpu.phase → FitsHeld t m.go h → i < 2
       → due (order_of t m.go) (map cpu_of m.all) h.cpu h.cpu.phase ≡ Some e → w.cpu ≡ own_step t.goal e h.cpu → (s' : System) → s' ≡ system_of t m.all s.words → before_own e k (system_of t m.all s.words) ≡ s'
@@ -180,9 +184,19 @@ module _ (key : Key) where
         view me.0.root (w ∷ []) me.0.go me.0.shown me.0,
         keeps,
         tt,
-        at_first s m id me.0 h w me.0.shown n at is refl refl refl (same_machine t m.all m.go s.words (set s.words 0 n) h.number h w m.led_to f.at refl (ap (λ (y : System). y.memory.words) (low_before s m 0 n (omega arith))))
+        at_first s m id me.0 h w me.0.shown n at is refl refl refl (same_machine t m.all m.go s.words (set s.words 0 n) h.number h w m.led_to f.at refl (low_memory s m 0 n (omega arith)))
             (record { first = f.fits.first; fits = subst (λ p. Fits m.go true h.again p) (sym taken) (first, λ _. c.0); era = f.fits.era }) count s.homes,
-        (refl, told_first, (λ (below : get_or s.words 0 0 < 4294967296). absurd (let b = c.1 in omega arith)), (λ _. moved me.0 late h is)),
+        (
+          refl,
+          subst Begins (sym f.told) m.begins,
+          told_first,
+          (λ (below : get_or s.words 0 0 < 4294967296). absurd (let b = c.1 in omega arith)),
+          (λ _. (
+            moved me.0 late h is,
+            of_one me.0 h (λ g. PassSteps me.0.start 0 (get_or s.words 0 0) n None g (late g)) is
+                (subst (λ (y : Start). PassSteps y 0 (get_or s.words 0 0) n None h w) (sym f.told) (still_step t m.all m.go s.words 0 n h w m.led_to f.at refl (low_memory s m 0 n (omega arith)))),
+          )),
+        ),
       ))
       (λ (c : (m.go ≢ Cancelled) × (get_or s.words 0 0 < 4294967296)). let w = arrive me.0.start h in
       let a = acts_low s m h.number 0 n Arrive h w f.at u f.fits (omega arith) (due_arrive t m.go (map cpu_of m.all) h.cpu taken c.0) refl (system_of t m.all s.words) refl refl in (
@@ -193,8 +207,13 @@ module _ (key : Key) where
             (fits_on t m.go w (same_era t m.go h f.fits u) tt (first, refl) (λ _. f.fits.first (subst Waits (sym taken) tt))) count s.homes,
         (
           refl,
+          subst Begins (sym f.told) m.begins,
           told_first,
-          (λ _. (moved me.0 (arrive me.0.start) h is, of_one me.0 h (λ g. Took me.0.start g.number Arrive g.cpu (arrive me.0.start g).cpu) is (subst (λ (y : Start). Took y h.number Arrive h.cpu w.cpu) (sym f.told) (took t m.all m.go s.words (set s.words 0 n) h.number Arrive h w m.led_to a f.at)))),
+          (λ _. (
+            moved me.0 (arrive me.0.start) h is,
+            of_one me.0 h (λ g. PassSteps me.0.start 0 (get_or s.words 0 0) n (Some (Does g.number Arrive)) g (arrive me.0.start g)) is
+                (subst (λ (y : Start). PassSteps y 0 (get_or s.words 0 0) n (Some (Does h.number Arrive)) h w) (sym f.told) (event_step t m.all m.go s.words 0 n Arrive h w m.led_to a f.at)),
+          )),
           (λ (above : 4294967296 ≤ get_or s.words 0 0). absurd (let b = c.1 in omega arith)),
         ),
       ))
@@ -252,8 +271,10 @@ module _ (key : Key) where
           (λ (e : get_or s.words 0 0 ≡ length me.0.start.cpus + 1). absurd (let above = c.1 in omega arith)),
           (λ _. (
             moved me.0 (does me.0.start Leave) h is,
-            of_one me.0 h (λ g. Took me.0.start g.number Leave g.cpu (does me.0.start Leave g).cpu × Stands me.0.start Cancelled g.number g.cpu) is
-                (subst (λ (y : Start). Took y h.number Leave h.cpu w.cpu × Stands y Cancelled h.number h.cpu) (sym f.told) (took t m.all m.go s.words (set s.words 0 x) h.number Leave h w m.led_to a f.at, stands m.all m.go Cancelled s.words h.number h m.led_to f.at u f.fits c.0)),
+            of_one me.0 h (λ g. PassSteps me.0.start 0 x x (Some (Does g.number Leave)) g (does me.0.start Leave g)) is
+                (subst (λ (y : Start). PassSteps y 0 x x (Some (Does h.number Leave)) h w) (sym f.told) (event_step t m.all m.go s.words 0 x Leave h w m.led_to a f.at)),
+            of_one me.0 h (λ g. Stands me.0.start Cancelled g.number g.cpu) is
+                (subst (λ (y : Start). Stands y Cancelled h.number h.cpu) (sym f.told) (stands m.all m.go Cancelled s.words h.number h m.led_to f.at u f.fits c.0)),
           )),
           (λ (below : get_or s.words 0 0 < 4294967296) _. absurd (let above = c.1 in omega arith)),
         ),
@@ -274,9 +295,10 @@ module _ (key : Key) where
           refl,
           (λ _. (
             moved me.0 (does me.0.start Pass) h is,
-            of_one me.0 h (λ g. (g.cpu.phase ≡ Arrived) × Took me.0.start g.number Pass g.cpu (does me.0.start Pass g).cpu × Stands me.0.start Given g.number (does me.0.start Pass g).cpu) is (
+            of_one me.0 h (λ g. PassSteps me.0.start 0 x x (Some (Does g.number Pass)) g (does me.0.start Pass g)) is
+                (subst (λ (y : Start). PassSteps y 0 x x (Some (Does h.number Pass)) h w) (sym f.told) (event_step t m.all m.go s.words 0 x Pass h w m.led_to a f.at)),
+            of_one me.0 h (λ g. (g.cpu.phase ≡ Arrived) × Stands me.0.start Given g.number (does me.0.start Pass g).cpu) is (
               p,
-              subst (λ (y : Start). Took y h.number Pass h.cpu w.cpu) (sym f.told) (took t m.all m.go s.words (set s.words 0 x) h.number Pass h w m.led_to a f.at),
               subst (λ (y : Start). Stands y Given h.number w.cpu) (sym f.told) (stands (set m.all h.number w) m.go Given (set s.words 0 x) h.number w l (set_here m.all h.number w (at_less m.all h.number h f.at)) tt g r.0),
             ),
           )),
@@ -289,7 +311,16 @@ module _ (key : Key) where
         keeps,
         tt,
         same_state s m 0 id me at,
-        (refl, (λ (e : get_or s.words 0 0 ≡ length me.0.start.cpus + 1). absurd (n e)), (λ (above : 4294967296 ≤ get_or s.words 0 0). absurd (let b = c.1 in omega arith)), (λ _ _. refl)),
+        (
+          refl,
+          (λ (e : get_or s.words 0 0 ≡ length me.0.start.cpus + 1). absurd (n e)),
+          (λ (above : 4294967296 ≤ get_or s.words 0 0). absurd (let b = c.1 in omega arith)),
+          (λ _ _. (
+            refl,
+            of_one me.0 h (λ g. PassSteps me.0.start 0 x x None g g) is
+                (subst (λ (y : Start). PassSteps y 0 x x None h h) (sym f.told) (still_step t m.all m.go s.words 0 x h h m.led_to f.at refl (low_memory s m 0 x (omega arith)))),
+          )),
+        ),
       )))
       (shows m.go (total added_of m.all) x m.first (omega arith))
 
@@ -332,8 +363,8 @@ module _ (key : Key) where
         (
           refl,
           moved me.0 (arrive_again me.0.start) h is,
-          of_one me.0 h (λ g. Took me.0.start g.number ArriveAgain g.cpu (arrive_again me.0.start g).cpu) is
-              (subst (λ (y : Start). Took y h.number ArriveAgain h.cpu w.cpu) (sym f.told) (took t m.all m.go s.words (set s.words 1 n) h.number ArriveAgain h w m.led_to a f.at)),
+          of_one me.0 h (λ g. PassSteps me.0.start 1 x n (Some (Does g.number ArriveAgain)) g (arrive_again me.0.start g)) is
+              (subst (λ (y : Start). PassSteps y 1 x n (Some (Does h.number ArriveAgain)) h w) (sym f.told) (event_step t m.all m.go s.words 1 n ArriveAgain h w m.led_to a f.at)),
         ),
       )
 
@@ -346,6 +377,7 @@ module _ (key : Key) where
       let size : length m.all ≡ length me.0.start.cpus = f.size in
       let old : Fits m.go h.added h.again Arrived2 = subst (Fits m.go h.added h.again) waits f.fits.fits in
       let u : IsUnderWay h.cpu.phase = under_way h.cpu.phase Arrived2 waits tt in
+      let below : get_or s.words 1 0 < 65536 = (let e = m.second in let least = f.few_again in let few = m.few in omega arith) in
       dite (ℕ_discrete (get_or s.words 1 0) (length me.0.start.cpus))
       (λ (e : get_or s.words 1 0 ≡ length me.0.start.cpus). let w = does me.0.start Release h in
       let all = all_again s m (e ∙ sym size) in
@@ -357,12 +389,12 @@ module _ (key : Key) where
             (record { first = λ w. absurd w; fits = (counted, inr (twice, old.2)); era = let e = same_era t m.go h f.fits u in let z : weight h.again ≡ 1 = ap weight twice in omega arith }) refl s.homes,
         (
           refl,
+          below,
           (λ _. (
             moved_shown me.0 (does me.0.start Release) h x is,
-            of_one me.0 h (λ g. (g.cpu.era ≡ common_era me.0.start.cpus) × Took me.0.start g.number Release g.cpu (does me.0.start Release g).cpu) is (
-              same_era t m.go h f.fits u ∙ ap (λ (y : Start). common_era y.cpus) (sym f.told),
-              subst (λ (y : Start). Took y h.number Release h.cpu w.cpu) (sym f.told) (took t m.all m.go s.words (set s.words 1 x) h.number Release h w m.led_to a f.at),
-            ),
+            of_one me.0 h (λ g. PassSteps me.0.start 1 x x (Some (Does g.number Release)) g (does me.0.start Release g)) is
+                (subst (λ (y : Start). PassSteps y 1 x x (Some (Does h.number Release)) h w) (sym f.told) (event_step t m.all m.go s.words 1 x Release h w m.led_to a f.at)),
+            of_one me.0 h (λ g. g.cpu.era ≡ common_era me.0.start.cpus) is (same_era t m.go h f.fits u ∙ ap (λ (y : Start). common_era y.cpus) (sym f.told)),
           )),
           (λ (n : get_or s.words 1 0 ≢ length me.0.start.cpus). absurd (n e)),
         ),
@@ -371,8 +403,17 @@ module _ (key : Key) where
         view me.0.root (h ∷ []) me.0.go (Some x) me.0,
         keeps,
         tt,
-        at_second s m id me.0 h h (Some x) x at is refl refl refl (same_machine t m.all m.go s.words (set s.words 1 x) h.number h h m.led_to f.at refl (ap (λ (y : System). y.memory.words) (low_before s m 1 x (omega arith)))) f.fits refl s.homes,
-        (refl, (λ (e : get_or s.words 1 0 ≡ length me.0.start.cpus). absurd (n e)), (λ _. shown_only me.0 h x is)),
+        at_second s m id me.0 h h (Some x) x at is refl refl refl (same_machine t m.all m.go s.words (set s.words 1 x) h.number h h m.led_to f.at refl (low_memory s m 1 x (omega arith))) f.fits refl s.homes,
+        (
+          refl,
+          below,
+          (λ (e : get_or s.words 1 0 ≡ length me.0.start.cpus). absurd (n e)),
+          (λ _. (
+            shown_only me.0 h x is,
+            of_one me.0 h (λ g. PassSteps me.0.start 1 x x None g g) is
+                (subst (λ (y : Start). PassSteps y 1 x x None h h) (sym f.told) (still_step t m.all m.go s.words 1 x h h m.led_to f.at refl (low_memory s m 1 x (omega arith)))),
+          )),
+        ),
       ))
 
   -- ---- the stores
@@ -428,10 +469,14 @@ module _ (key : Key) where
         (
           refl,
           ap (λ (y : Event). view me.0.root (does me.0.start y h ∷ []) me.0.go me.0.shown me.0) own_e ∙ moved me.0 (work me.0.start) h d.is,
-          of_one me.0 h (λ x. Took me.0.start x.number (own_event me.0.start x.cpu) x.cpu (work me.0.start x).cpu × Stands me.0.start Given x.number (work me.0.start x).cpu) d.is
-              (subst (λ (y : Event). Took me.0.start h.number y h.cpu (does me.0.start y h).cpu × Stands me.0.start Given h.number (does me.0.start y h).cpu) own_e
-              (subst (λ (y : Start). Took y h.number e h.cpu w.cpu × Stands y Given h.number w.cpu) (sym f.told)
-              (took t m.all m.go s.words (set s.words i n) h.number e h w m.led_to a f.at, stands (set m.all h.number w) m.go Given (set s.words i n) h.number w l (set_here m.all h.number w (at_less m.all h.number h f.at)) u' g old.2))),
+          of_one me.0 h (λ x. (was : ℕ) × PassSteps me.0.start i was n (Some (Does x.number (own_event me.0.start x.cpu))) x (work me.0.start x)) d.is
+              (subst (λ (y : Event). (was : ℕ) × PassSteps me.0.start i was n (Some (Does h.number y)) h (does me.0.start y h)) own_e
+              (subst (λ (y : Start). (was : ℕ) × PassSteps y i was n (Some (Does h.number e)) h w) (sym f.told)
+              (get_or s.words i 0, event_step t m.all m.go s.words i n e h w m.led_to a f.at))),
+          of_one me.0 h (λ x. Stands me.0.start Given x.number (work me.0.start x).cpu) d.is
+              (subst (λ (y : Event). Stands me.0.start Given h.number (does me.0.start y h).cpu) own_e
+              (subst (λ (y : Start). Stands y Given h.number w.cpu) (sym f.told)
+              (stands (set m.all h.number w) m.go Given (set s.words i n) h.number w l (set_here m.all h.number w (at_less m.all h.number h f.at)) u' g old.2))),
         ),
       )
 

@@ -30,7 +30,6 @@ pub record Carries (table : TableId) (t : Start) (its : TableId) (me : Me (Unit 
   pub same : its ≡ table
   pub holds : me.0.held ≡ held number c added again ∷ []
   pub told : me.0.start ≡ t
-  pub begins : Begins t
   pub below : number < length t.cpus
   pub bare : me.1 ≡ []
 
@@ -40,7 +39,6 @@ pub record Leads (table : TableId) (t : Start) (its : TableId) (me : Me (Unit {0
   pub root : me.0.root ≡ true
   pub said : me.0.go ≡ go
   pub told : me.0.start ≡ t
-  pub begins : Begins t
   pub bare : me.1 ≡ []
 
 abbrev pub IsWaiting : Phase → Type 0
@@ -61,17 +59,26 @@ abbrev pub Waited : Bool → Start → ℕ → Processor → Processor → Type 
 Waited true t k p q = (q ≡ own_step t.goal Pass p) × Stands t Given k q
 Waited false t k p q = (q ≡ own_step t.goal Leave p) × Took t k Leave p q × Stands t Stopped k p
 
+-- a load showed the cancel: a machine that the broadcast leads to, and that is cancelled, has the processor as it was but for its phase; it left then
+pub record HasLeft (t : Start) (k : ℕ) (p q : Processor) : Type 0 where
+  pub before : Processor
+  pub same : before ≡ record p { phase = before.phase }
+  pub waits : IsWaiting before.phase
+  pub stands : Stands t Stopped k before
+  pub took : Took t k Leave before q
+
 -- what comes of an attendee: its processor is the one that the update leaves, after a load showed that all had arrived again; or it is as it was, and runs
 abbrev pub Attended : Outcome → TableId → Start → ℕ → Processor → TableId → Me (Unit {0}) View → Processor → Type 0
 Attended Complete table t number p its me q =
     Carries table t its me number q true true × (me.0.shown ≡ Some (length t.cpus)) × (q ≡ settled_processor t.goal p) × Released t number q
-Attended Cancelled table t number p its me q = Carries table t its me number q true false × (q ≡ record p { phase = Running })
+Attended Cancelled table t number p its me q = Carries table t its me number q true false × (q ≡ record p { phase = Running }) × HasLeft t number p q
 
--- the k-th attendee carries the k-th processor as it was, and its pass has added nothing
+-- the k-th attendee carries the k-th processor as it was, and its pass has added nothing and has been shown nothing
 pub record Attends (table : TableId) (t : Start) (k : ℕ) (c : Processor) (its : TableId) (me : Me (Unit {0}) View) (number : ℕ) : Type 0 where
   pub numbered : number ≡ k
   pub first : slice_get t.cpus k ≡ Some c
   pub carries : Carries table t its me number c false false
+  pub unshown : me.0.shown ≡ None
 
 -- the root has the processors from number i on
 abbrev pub Offers : Start → ℕ → Me (Unit {0}) View → Type 0

@@ -1,10 +1,12 @@
--- What each step of a seat tells: its view before and after, and the event that it is.
-use Rattle.std.specs.Prelude.{◌≡◌, ◌≢◌, ℕ, ◌+◌, ◌<◌, ◌≤◌, true, [], ◌∷◌, map, length, slice_get, Option, Some, None}
+-- What each step of a seat tells: its view before and after, and the event that it is, or that it is none.
+use Rattle.std.specs.Prelude.{◌≡◌, ◌≢◌, ℕ, ◌+◌, ◌%◌, ◌^◌, ◌<◌, ◌≤◌, true, List, [], ◌∷◌, map, length, slice_get, slice_index, slice_set, Option, Some, None}
 use Rattle.std.specs.Option.{option_map_or}
+use mathlib.Core.Option.{some}
+use lib.ListN.{get_elem?}
 use Rattle.atomic_table.specs.Table.{Me, Step}
 use Rattle.mt_machine.specs.declared.phase.Phase.TheVariants.{Arrived}
 use Rattle.mt_machine.specs.declared.go.Go.{Go}
-use Rattle.mt_machine.specs.declared.go.Go.TheVariants.{Given, Cancelled}
+use Rattle.mt_machine.specs.declared.go.Go.TheVariants.{Pending, Given, Cancelled}
 use Rattle.mt_machine.specs.declared.event.Event.{Event}
 use Rattle.mt_machine.specs.declared.event.Event.TheVariants.{Arrive, Leave, Pass, ArriveAgain, Release, SetNoFill, WriteBack}
 use Rattle.mt_machine.specs.System.{Processor}
@@ -13,10 +15,44 @@ use Rattle.mt_machine.specs.Update.{Led}
 use Rattle.mt_rendezvous.specs.declared.view.Held.{Held}
 use Rattle.mt_rendezvous.specs.declared.view.Start.{Start}
 use Rattle.mt_rendezvous.specs.declared.view.View.{View}
-use Rattle.mt_rendezvous.specs.Station.{order_of, broadcast, held, view, with_held}
+use Rattle.mt_rendezvous.specs.Station.{Begins, order_of, broadcast, held, joined, view, with_held}
 
 abbrev Sat : Type 0
 Sat = Me (Unit {0}) View
+
+-- ---- one event, or none
+
+-- the machine after an event, or after none
+abbrev pub after_event : Machine → Option MachineEvent → Machine
+after_event m None = m
+after_event m (Some e) = next m e
+
+-- the event is enabled, if there is one
+abbrev pub CanFollow : Machine → Option MachineEvent → Type 0
+CanFollow m None = Unit {0}
+CanFollow m (Some e) = IsEnabled m e
+
+-- A step of the pass that holds h, by which word i becomes new where it was found: the words and views stood for a machine that the broadcast leads to; with the new word, and with w in place of h, they stand for the machine after this event, which was enabled, or for the same machine if there is none.
+pub record PassSteps (t : Start) (i found new : ℕ) (e : Option MachineEvent) (h w : Held) : Type 0 where
+  pub all : List Held
+  pub go : Go
+  pub words : List ℕ
+  pub led : Led (broadcast t) (joined t all go words)
+  pub at : get_elem? all h.number ≡ some h
+  pub word : slice_index words i ≡ found
+  pub enabled : CanFollow (joined t all go words) e
+  pub becomes : joined t (slice_set all h.number w) go (slice_set words i new) ≡ after_event (joined t all go words) e
+
+-- the same of a step of the root, which leaves the processors and says `go`
+pub record Decided (t : Start) (i found new : ℕ) (e : MachineEvent) (go : Go) : Type 0 where
+  pub all : List Held
+  pub words : List ℕ
+  pub led : Led (broadcast t) (joined t all Pending words)
+  pub word : slice_index words i ≡ found
+  pub enabled : IsEnabled (joined t all Pending words) e
+  pub becomes : joined t all go (slice_set words i new) ≡ next (joined t all Pending words) e
+
+-- ---- what a call's contract says of one processor
 
 -- the event took place: a machine that the broadcast leads to has the processor as it was, the event is enabled there, and the next machine has it as it is
 pub record Took (t : Start) (k : ℕ) (e : Event) (p q : Processor) : Type 0 where
@@ -34,6 +70,8 @@ pub record Stands (t : Start) (go : Go) (k : ℕ) (p : Processor) : Type 0 where
   pub led : Led (broadcast t) machine
   pub order : machine.order ≡ Some (order_of t go)
   pub at : slice_get machine.system.processors k ≡ Some p
+
+-- ---- the steps
 
 -- what is so of the one processor of a view
 abbrev pub Of : View → (Held → Type 0) → Type 0
@@ -60,56 +98,62 @@ own_event t p = option_map_or (λ e. e) (due (order_of t Given) [] p p.phase) Se
 abbrev pub work : Start → Held → Held
 work t h = does t (own_event t h.cpu) h
 
+-- the word after an addition, and the word that a load leaves
+abbrev pub sum_word : Step (Unit {0}) → ℕ → ℕ
+sum_word st found = (found + st.first) % 2 ^ 64
+
+-- an addition of a pass to word 0: Arrive, or no event where the word held the cancel before. It tells besides that the processor is as it was gathered
 abbrev pub Arrives : Step (Unit {0}) → Sat → ℕ → Sat → Type 0
 Arrives st me found new =
     (new.1 ≡ me.1)
+    × Begins me.0.start
     × Of me.0 (λ h. slice_get me.0.start.cpus h.number ≡ Some h.cpu)
-    × (found < 4294967296 → (new.0 ≡ with_held me.0 (map (arrive me.0.start) me.0.held)) × Of me.0 (λ h. Took me.0.start h.number Arrive h.cpu (arrive me.0.start h).cpu))
-    × (4294967296 ≤ found → new.0 ≡ with_held me.0 (map late me.0.held))
+    × (found < 4294967296 → (new.0 ≡ with_held me.0 (map (arrive me.0.start) me.0.held)) × Of me.0 (λ h. PassSteps me.0.start st.word found (sum_word st found) (Some (Steps h.number Arrive)) h (arrive me.0.start h)))
+    × (4294967296 ≤ found → (new.0 ≡ with_held me.0 (map late me.0.held)) × Of me.0 (λ h. PassSteps me.0.start st.word found (sum_word st found) None h (late h)))
 
+-- a load of word 0: Pass where all have arrived and go is given, Leave where it shows the cancel, else no event
 abbrev pub Passes : Step (Unit {0}) → Sat → ℕ → Sat → Type 0
 Passes st me found new =
     (new.1 ≡ me.1)
-    × (found ≡ length me.0.start.cpus + 1 → (new.0 ≡ with_held me.0 (map (does me.0.start Pass) me.0.held)) × Of me.0 (λ h. (h.cpu.phase ≡ Arrived) × Took me.0.start h.number Pass h.cpu (does me.0.start Pass h).cpu × Stands me.0.start Given h.number (does me.0.start Pass h).cpu))
-    × (4294967296 ≤ found → (new.0 ≡ with_held me.0 (map (does me.0.start Leave) me.0.held)) × Of me.0 (λ h. Took me.0.start h.number Leave h.cpu (does me.0.start Leave h).cpu × Stands me.0.start Cancelled h.number h.cpu))
-    × (found < 4294967296 → found ≢ length me.0.start.cpus + 1 → new.0 ≡ me.0)
+    × (found ≡ length me.0.start.cpus + 1 → (new.0 ≡ with_held me.0 (map (does me.0.start Pass) me.0.held)) × Of me.0 (λ h. PassSteps me.0.start st.word found found (Some (Steps h.number Pass)) h (does me.0.start Pass h)) × Of me.0 (λ h. (h.cpu.phase ≡ Arrived) × Stands me.0.start Given h.number (does me.0.start Pass h).cpu))
+    × (4294967296 ≤ found → (new.0 ≡ with_held me.0 (map (does me.0.start Leave) me.0.held)) × Of me.0 (λ h. PassSteps me.0.start st.word found found (Some (Steps h.number Leave)) h (does me.0.start Leave h)) × Of me.0 (λ h. Stands me.0.start Cancelled h.number h.cpu))
+    × (found < 4294967296 → found ≢ length me.0.start.cpus + 1 → (new.0 ≡ me.0) × Of me.0 (λ h. PassSteps me.0.start st.word found found None h h))
 
--- a store of the own phase word, or of a memory word
+-- a store of the own phase word, or of a word of memory: the event that is due
 abbrev pub Works : Step (Unit {0}) → Sat → ℕ → Sat → Type 0
 Works st me found new =
     (new.1 ≡ me.1)
     × (new.0 ≡ with_held me.0 (map (work me.0.start) me.0.held))
-    × Of me.0 (λ h. Took me.0.start h.number (own_event me.0.start h.cpu) h.cpu (work me.0.start h).cpu × Stands me.0.start Given h.number (work me.0.start h).cpu)
+    × Of me.0 (λ h. (was : ℕ) × PassSteps me.0.start st.word was st.first (Some (Steps h.number (own_event me.0.start h.cpu))) h (work me.0.start h))
+    × Of me.0 (λ h. Stands me.0.start Given h.number (work me.0.start h).cpu)
 
+-- an addition to word 1: ArriveAgain
 abbrev pub ArrivesAgain : Step (Unit {0}) → Sat → ℕ → Sat → Type 0
 ArrivesAgain st me found new =
     (new.1 ≡ me.1)
     × (new.0 ≡ with_held me.0 (map (arrive_again me.0.start) me.0.held))
-    × Of me.0 (λ h. Took me.0.start h.number ArriveAgain h.cpu (arrive_again me.0.start h).cpu)
+    × Of me.0 (λ h. PassSteps me.0.start st.word found (sum_word st found) (Some (Steps h.number ArriveAgain)) h (arrive_again me.0.start h))
 
 abbrev pub with_shown : View → ℕ → View
 with_shown v n = view v.root v.held v.go (Some n) v
 
+-- a load of word 1, which the view keeps: Release where all have arrived again, else no event
 abbrev pub Releases : Step (Unit {0}) → Sat → ℕ → Sat → Type 0
 Releases st me found new =
     (new.1 ≡ me.1)
-    × (found ≡ length me.0.start.cpus → (new.0 ≡ with_shown (with_held me.0 (map (does me.0.start Release) me.0.held)) found) × Of me.0 (λ h. (h.cpu.era ≡ common_era me.0.start.cpus) × Took me.0.start h.number Release h.cpu (does me.0.start Release h).cpu))
-    × (found ≢ length me.0.start.cpus → new.0 ≡ with_shown me.0 found)
-
--- the coordinator's event took place
-pub record Decided (t : Start) (e : MachineEvent) : Type 0 where
-  pub machine : Machine
-  pub led : Led (broadcast t) machine
-  pub enabled : IsEnabled machine e
+    × (found < 65536)
+    × (found ≡ length me.0.start.cpus → (new.0 ≡ with_shown (with_held me.0 (map (does me.0.start Release) me.0.held)) found) × Of me.0 (λ h. PassSteps me.0.start st.word found found (Some (Steps h.number Release)) h (does me.0.start Release h)) × Of me.0 (λ h. h.cpu.era ≡ common_era me.0.start.cpus))
+    × (found ≢ length me.0.start.cpus → (new.0 ≡ with_shown me.0 found) × Of me.0 (λ h. PassSteps me.0.start st.word found found None h h))
 
 abbrev pub with_go : View → Go → View
 with_go v go = view v.root v.held go v.shown v
 
+-- the root's additions to word 0: Go and Cancel
 abbrev pub Gives : Step (Unit {0}) → Sat → ℕ → Sat → Type 0
-Gives st me found new = (new.1 ≡ me.1) × (new.0 ≡ with_go me.0 Given) × Decided me.0.start Goes
+Gives st me found new = (new.1 ≡ me.1) × (new.0 ≡ with_go me.0 Given) × Decided me.0.start st.word found (sum_word st found) Goes Given
 
 abbrev pub Cancels : Step (Unit {0}) → Sat → ℕ → Sat → Type 0
-Cancels st me found new = (new.1 ≡ me.1) × (new.0 ≡ with_go me.0 Cancelled) × Decided me.0.start CancelsUpdate
+Cancels st me found new = (new.1 ≡ me.1) × (new.0 ≡ with_go me.0 Cancelled) × Decided me.0.start st.word found (sum_word st found) CancelsUpdate Cancelled
 
 -- the word of memory that an event writes
 abbrev pub written : Event → Option (ℕ × ℕ)

@@ -113,6 +113,7 @@ impl Station {
         requires few { vec_len cpus ≤ 16 }
         requires begins { Begins (gathered cpus.items ram.now goal.now) }
         ensures root { IfOk result (λ t. Leads t.0.table.shared.table_id (start_of t.0.table.shared.key) t.1.seat.table_id t.1.seat.me Pending) }
+        ensures empty { IfOk result (λ t. t.1.seat.me.0.held ≡ []) }
         ensures key { IfOk result (λ t. start_of t.0.table.shared.key ≡ gathered cpus.items ram.now goal.now) }
         ensures count { IfOk result (λ t. length t.2.items ≡ length cpus.items) }
         ensures attendees { IfOk result (λ t. (k : ℕ) (a : _) → get_elem? t.2.items k ≡ some a → Attends t.0.table.shared.table_id (start_of t.0.table.shared.key) k a.cpu a.pass.seat.table_id a.pass.seat.me a.pass.number) }

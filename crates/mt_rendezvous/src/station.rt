@@ -3,10 +3,10 @@ ghost use Rattle.std.specs.Prelude.{◌≡◌, ℕ, ◌+◌, ◌<◌, ◌⊎◌,
 ghost use Rattle.mt_machine.specs.declared.phase.Phase.TheVariants.{Taken, Restored, Arrived2, Running};
 ghost use Rattle.mt_machine.specs.declared.go.Go.TheVariants.{Pending, Given, Cancelled};
 ghost use Rattle.mt_machine.specs.declared.event.Event.TheVariants.{Arrive, ArriveAgain, Release};
-ghost use Rattle.mt_machine.specs.Machine.{own_step, is_changing, common_era};
+ghost use Rattle.mt_machine.specs.Machine.{Cancels as CancelsUpdate, Goes, own_step, is_changing, common_era};
 ghost use Rattle.mt_cpu.specs.Steps.{is_local};
-ghost use Rattle.mt_rendezvous.specs.Station.{code, start_of};
-ghost use Rattle.mt_rendezvous.specs.Plays.{Stands, Took, written};
+ghost use Rattle.mt_rendezvous.specs.Station.{Begins, code, start_of};
+ghost use Rattle.mt_rendezvous.specs.Plays.{Decided, Stands, Took, written};
 ghost use Rattle.mt_rendezvous.specs.Calls.{Attended, Carries, IsWaiting, Leads, Waited};
 
 use crate::view::{
@@ -42,8 +42,9 @@ pub struct Station {
 pub struct Pass {
     pub seat: Seat<(), View>,
     pub number: u64,
-    pub shown: Option<u64>,
+    pub shown: Option<u32>,
     pub ghost few: { number < 65536 },
+    pub ghost told: { shown ≡ seat.me.0.shown },
 }
 
 #[derive(Drop)]
@@ -90,6 +91,7 @@ impl Root {
         requires { Leads station.now.table.shared.table_id (start_of station.now.table.shared.key) self.old.seat.table_id self.old.seat.me Pending }
         ensures leads { Leads station.now.table.shared.table_id (start_of station.now.table.shared.key) self.new.seat.table_id self.new.seat.me Given }
         ensures held { self.new.seat.me.0.held ≡ self.old.seat.me.0.held }
+        ensures event { (found : ℕ) × Decided (start_of station.now.table.shared.key) 0 found (found + 1) Goes Given }
     {
         station
             .table
@@ -101,6 +103,7 @@ impl Root {
         requires { Leads station.now.table.shared.table_id (start_of station.now.table.shared.key) self.old.seat.table_id self.old.seat.me Pending }
         ensures leads { Leads station.now.table.shared.table_id (start_of station.now.table.shared.key) self.new.seat.table_id self.new.seat.me Cancelled }
         ensures held { self.new.seat.me.0.held ≡ self.old.seat.me.0.held }
+        ensures event { (found : ℕ) × Decided (start_of station.now.table.shared.key) 0 found (found + 4294967296) CancelsUpdate Cancelled }
     {
         station
             .table
@@ -118,8 +121,8 @@ impl Pass {
     }
 
     /// The second count that its last load of it showed. There is none where it has made no such load.
-    pub fn shown(&self) -> Option<u64>
-        ensures { result ≡ self.now.shown }
+    pub fn shown(&self) -> Option<u32>
+        ensures { result ≡ self.now.seat.me.0.shown }
     {
         self.shown
     }
@@ -131,6 +134,7 @@ impl Pass {
         ensures waits { IsWaiting cpu.new.phase }
         ensures same { cpu.new ≡ record cpu.old { phase = cpu.new.phase } }
         ensures first { slice_get station.now.table.shared.key.cpus.value.items self.old.number ≡ Some cpu.old }
+        ensures begins { Begins (start_of station.now.table.shared.key) }
         ensures number { self.new.number ≡ self.old.number }
     {
         let found = station
@@ -170,6 +174,7 @@ impl Pass {
         requires carries { Carries station.now.table.shared.table_id (start_of station.now.table.shared.key) self.old.seat.table_id self.old.seat.me self.old.number cpu.old true false }
         requires stands { Stands (start_of station.now.table.shared.key) Given self.old.number cpu.old }
         requires between { IsTrue (is_local cpu.old.phase) }
+        requires begins { Begins (start_of station.now.table.shared.key) }
         requires goal { goal.now ≡ station.now.table.shared.key.goal.value }
         requires windows { ram.now.windows ≡ station.now.table.shared.key.ram.value.windows }
         ensures number { self.new.number ≡ self.old.number }
@@ -211,6 +216,7 @@ impl Pass {
         requires carries { Carries station.now.table.shared.table_id (start_of station.now.table.shared.key) self.old.seat.table_id self.old.seat.me self.old.number cpu.old true false }
         requires stands { Stands (start_of station.now.table.shared.key) Given self.old.number cpu.old }
         requires between { is_changing cpu.old.phase ≡ true }
+        requires begins { Begins (start_of station.now.table.shared.key) }
         requires goal { goal.now ≡ station.now.table.shared.key.goal.value }
         requires windows { ram.now.windows ≡ station.now.table.shared.key.ram.value.windows }
         ensures number { self.new.number ≡ self.old.number }
@@ -243,17 +249,17 @@ impl Pass {
     pub(crate) fn wait_second<R: Wait>(&mut self, rt: &R, station: &Station, cpu: &mut Cpu)
         requires carries { Carries station.now.table.shared.table_id (start_of station.now.table.shared.key) self.old.seat.table_id self.old.seat.me self.old.number cpu.old true true }
         requires waits { cpu.old.phase ≡ Arrived2 }
+        requires begins { Begins (start_of station.now.table.shared.key) }
         ensures number { self.new.number ≡ self.old.number }
         ensures carries { Carries station.now.table.shared.table_id (start_of station.now.table.shared.key) self.new.seat.table_id self.new.seat.me self.new.number cpu.new true true }
         ensures shown { self.new.seat.me.0.shown ≡ Some station.now.count }
-        ensures told { self.new.shown ≡ Some station.now.count }
         ensures took { Took (start_of station.now.table.shared.key) self.new.number Release cpu.old cpu.new }
         ensures becomes { cpu.new ≡ own_step station.now.table.shared.key.goal.value Release cpu.old }
         ensures risen { cpu.new.era ≡ common_era station.now.table.shared.key.cpus.value.items + 1 }
     {
         for _ in rt.forever() {
             let found = station.table.shared.load::<Releases>(&mut self.seat, 1);
-            self.shown = Some(found);
+            self.shown = Some(found as u32);
             if found == station.count {
                 cpu.shift(Event::Release);
                 return;
@@ -286,7 +292,7 @@ pub fn attend<R: Wait, G: Gate>(
     requires windows { ram.now.windows ≡ station.now.table.shared.key.ram.value.windows }
     ensures attended { Attended result.1 station.now.table.shared.table_id (start_of station.now.table.shared.key) a.pass.number a.cpu result.0.pass.seat.table_id result.0.pass.seat.me result.0.cpu }
     ensures number { result.0.pass.number ≡ a.pass.number }
-    ensures shown { result.1 ≡ Outcome.Complete → result.0.pass.shown ≡ Some station.now.count }
+    ensures shown { result.1 ≡ Outcome.Complete → result.0.pass.shown ≡ Some (length station.now.table.shared.key.cpus.value.items) }
 {
     let Attendee { mut cpu, mut pass } = a;
     pass.arrive(station, &mut cpu);

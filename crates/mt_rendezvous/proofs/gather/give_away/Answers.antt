@@ -27,8 +27,8 @@ returns-clause-attends c =
         same = s.3 ∙ l.same;
         holds = ap (λ m. m.0.held) s.4 ∙ ap one (c.requires.offers ∙ o.0);
         told = ap (λ m. m.0.start) s.4 ∙ l.told;
-        begins = l.begins;
         below = o.1;
         bare = ap (λ m. m.1) s.4;
       };
+      unshown = ap (λ m. m.0.shown) s.4;
     }

@@ -12,7 +12,7 @@ pub returns-clause-attended : goal.returns-clause-attended
 returns-clause-attended g c =
     let t : Start = start_of c.args.station.now.table.shared.key in
     let w = c.wait_second.ensures in
-    let begins = c.requires.carries.begins in
+    let begins = c.arrive.ensures.begins in
     let number = w.number ∙ c.arrive_again.ensures.number ∙ c.work_all.ensures.number ∙ c.wait_first.ensures.number ∙ c.arrive.ensures.number in
     let q : Processor = c.wait_second.new.cpu in
     let k : ℕ = c.args.a.pass.number in

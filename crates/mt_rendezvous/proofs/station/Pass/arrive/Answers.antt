@@ -1,8 +1,8 @@
-use Rattle.std.proofs.Common.{true, false, refl, sym, ap, ◌∙◌, inr, arith}
+use Rattle.std.proofs.Common.{true, false, refl, subst, sym, ap, ◌∙◌, inr, arith}
 use Rattle.mt_machine.specs.declared.phase.Phase.{Phase}
 use Rattle.mt_machine.specs.System.{Processor}
 use Rattle.mt_rendezvous.specs.declared.view.View.{View}
-use Rattle.mt_rendezvous.specs.Station.{held}
+use Rattle.mt_rendezvous.specs.Station.{Begins, held}
 use Rattle.mt_rendezvous.specs.Plays.{arrive}
 use Rattle.mt_rendezvous.proofs.Steps.{arrives}
 use Rattle.std.proofs.Common.{◌≡◌, Some}
@@ -18,7 +18,7 @@ pub returns-then-found-lt-CANCEL-clause-carries : goal.returns-then-found-lt-CAN
 returns-then-found-lt-CANCEL-clause-carries c =
     let e = c.fetch_add-found.ensures in
     let tells = e.2 in
-    let moves = (tells.2 c.if-found-lt-CANCEL.true).0 in
+    let moves = (tells.3 c.if-found-lt-CANCEL.true).0 in
     carried c.requires.carries _ _ c.shift.new.self true false arrive e.0 tells.0 (ap (λ (v : View). v.held) moves) (ap (λ (v : View). v.start) moves)
     (ap (λ (p : Processor). held c.args.self.now.number p true false) (sym (c.shift.ensures c.args.station.now.table.shared.key.goal.value)))
 
@@ -31,7 +31,13 @@ returns-then-found-lt-CANCEL-clause-same c =
     is ∙ ap (λ (ph : Phase). record c.args.cpu.now { phase = ph }) (sym (ap (λ (p : Processor). p.phase) is))
 
 pub returns-then-found-lt-CANCEL-clause-first : goal.returns-then-found-lt-CANCEL-clause-first
-returns-then-found-lt-CANCEL-clause-first c = of_it c.requires.carries (λ t h. slice_get t.cpus h.number ≡ Some h.cpu) c.fetch_add-found.ensures.2.1
+returns-then-found-lt-CANCEL-clause-first c = of_it c.requires.carries (λ t h. slice_get t.cpus h.number ≡ Some h.cpu) c.fetch_add-found.ensures.2.2
 
 pub returns-else-found-lt-CANCEL-clause-first : goal.returns-else-found-lt-CANCEL-clause-first
-returns-else-found-lt-CANCEL-clause-first c = of_it c.requires.carries (λ t h. slice_get t.cpus h.number ≡ Some h.cpu) c.fetch_add-found.ensures.2.1
+returns-else-found-lt-CANCEL-clause-first c = of_it c.requires.carries (λ t h. slice_get t.cpus h.number ≡ Some h.cpu) c.fetch_add-found.ensures.2.2
+
+pub returns-then-found-lt-CANCEL-clause-begins : goal.returns-then-found-lt-CANCEL-clause-begins
+returns-then-found-lt-CANCEL-clause-begins c = subst Begins c.requires.carries.told c.fetch_add-found.ensures.2.1
+
+pub returns-else-found-lt-CANCEL-clause-begins : goal.returns-else-found-lt-CANCEL-clause-begins
+returns-else-found-lt-CANCEL-clause-begins c = subst Begins c.requires.carries.told c.fetch_add-found.ensures.2.1

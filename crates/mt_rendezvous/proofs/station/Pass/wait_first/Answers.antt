@@ -1,4 +1,4 @@
-use Rattle.std.proofs.Common.{◌≡◌, length, true, false, refl, sym, ap, subst, arith}
+use Rattle.std.proofs.Common.{◌≡◌, length, true, false, Some, refl, sym, ap, subst, arith}
 use Rattle.mt_machine.specs.declared.phase.Phase.TheVariants.{Arrived}
 use Rattle.mt_machine.specs.declared.event.Event.TheVariants.{Leave, Pass}
 use Rattle.mt_machine.specs.declared.go.Go.TheVariants.{Given, Cancelled}
@@ -7,7 +7,10 @@ use Rattle.mt_cpu.specs.Steps.{is_shift}
 use Rattle.mt_rendezvous.specs.declared.view.View.{View}
 use Rattle.mt_rendezvous.specs.declared.view.Start.{Start}
 use Rattle.mt_rendezvous.specs.Station.{held, start_of}
-use Rattle.mt_rendezvous.specs.Plays.{Took, Stands, does}
+use Rattle.mt_machine.specs.Machine.{Steps}
+use Rattle.mt_rendezvous.specs.declared.view.Held.{Held}
+use Rattle.mt_rendezvous.specs.Plays.{PassSteps, Took, Stands, does}
+use Rattle.mt_rendezvous.proofs.Keeps.{took_of}
 use Rattle.mt_rendezvous.specs.Calls.{Waited}
 use Rattle.mt_rendezvous.proofs.Steps.{passes}
 use Rattle.mt_rendezvous.proofs.Carried.{carried, of_it}
@@ -30,9 +33,11 @@ returns-then-found-ge-CANCEL-clause-waited g c =
     let tells = c.load-found.ensures.2 in
     let t : Start = start_of c.args.station.now.table.shared.key in
     let is = c.shift.ensures t.goal in
-    let left = of_it c.loop.invariant.carries (λ u h. Took u h.number Leave h.cpu (does u Leave h).cpu × Stands u Cancelled h.number h.cpu) (tells.2 c.if-found-ge-CANCEL.true).1 in
+    let shows = tells.2 c.if-found-ge-CANCEL.true in
+    let h : Held = held c.loop.self.number c.loop.cpu true false in
+    let left = took_of t 0 c.load-found.result c.load-found.result Leave h (does t Leave h) (of_it c.loop.invariant.carries (λ u x. PassSteps u 0 c.load-found.result c.load-found.result (Some (Steps x.number Leave)) x (does u Leave x)) shows.1) in
     subst (λ (p : Processor). Waited false t c.loop.self.number p c.shift.new.self) c.loop.invariant.cpu
-    (is, subst (Took t c.loop.self.number Leave c.loop.cpu) (sym is) left.0, left.1)
+    (is, subst (Took t c.loop.self.number Leave c.loop.cpu) (sym is) left, of_it c.loop.invariant.carries (λ u x. Stands u Cancelled x.number x.cpu) shows.2)
 
 pub shift-requires-then-found-station-clause-enabled : goal.shift-requires-then-found-station-clause-enabled
 shift-requires-then-found-station-clause-enabled g c =
@@ -41,7 +46,7 @@ shift-requires-then-found-station-clause-enabled g c =
     let long : length c.loop.self.seat.me.0.start.cpus ≡ length c.args.station.now.table.shared.key.cpus.value.items = ap (λ (u : Start). length u.cpus) r.told in
     let counted = c.args.station.now.counted in
     let is = c.if-found-station.true in
-    let passed = of_it r (λ u h. (h.cpu.phase ≡ Arrived) × Took u h.number Pass h.cpu (does u Pass h).cpu × Stands u Given h.number (does u Pass h).cpu) (tells.1 (omega arith)).1 in
+    let passed = of_it r (λ u h. (h.cpu.phase ≡ Arrived) × Stands u Given h.number (does u Pass h).cpu) (tells.1 (omega arith)).2 in
     ap (is_shift Pass) passed.0
 
 pub returns-then-found-station-clause-carries : goal.returns-then-found-station-clause-carries
@@ -65,6 +70,6 @@ returns-then-found-station-clause-waited g c =
     let counted = c.args.station.now.counted in
     let same = c.if-found-station.true in
     let is = c.shift-then-found-station.ensures t.goal in
-    let passed = of_it r (λ u h. (h.cpu.phase ≡ Arrived) × Took u h.number Pass h.cpu (does u Pass h).cpu × Stands u Given h.number (does u Pass h).cpu) (tells.1 (omega arith)).1 in
+    let passed = of_it r (λ u h. (h.cpu.phase ≡ Arrived) × Stands u Given h.number (does u Pass h).cpu) (tells.1 (omega arith)).2 in
     subst (λ (p : Processor). Waited true t c.loop.self.number p c.shift-then-found-station.new.self) c.loop.invariant.cpu
-    (is, subst (Stands t Given c.loop.self.number) (sym is) passed.2)
+    (is, subst (Stands t Given c.loop.self.number) (sym is) passed.1)

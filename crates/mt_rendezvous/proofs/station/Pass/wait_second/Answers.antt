@@ -1,11 +1,13 @@
-use Rattle.std.proofs.Common.{◌≡◌, ℕ, ◌+◌, length, true, refl, sym, ap, ◌∙◌, subst, arith}
+use Rattle.std.proofs.Common.{◌≡◌, ℕ, ◌+◌, length, true, Some, refl, sym, ap, ◌∙◌, subst, arith}
 use Rattle.mt_machine.specs.declared.event.Event.TheVariants.{Release}
 use Rattle.mt_machine.specs.System.{Processor}
-use Rattle.mt_machine.specs.Machine.{common_era, own_step}
+use Rattle.mt_machine.specs.Machine.{Steps, common_era, own_step}
 use Rattle.mt_rendezvous.specs.declared.view.View.{View}
 use Rattle.mt_rendezvous.specs.declared.view.Start.{Start}
 use Rattle.mt_rendezvous.specs.Station.{held, start_of}
-use Rattle.mt_rendezvous.specs.Plays.{Took, does}
+use Rattle.mt_rendezvous.specs.declared.view.Held.{Held}
+use Rattle.mt_rendezvous.specs.Plays.{PassSteps, Took, does}
+use Rattle.mt_rendezvous.proofs.Keeps.{took_of}
 use Rattle.mt_rendezvous.proofs.Steps.{releases}
 use Rattle.mt_rendezvous.proofs.Carried.{carried, of_it}
 use Rattle.mt_rendezvous.proofs.station.Pass.wait_second.Goals as goal
@@ -22,7 +24,7 @@ returns-then-found-station-clause-carries g c =
     let long : length c.loop.self.seat.me.0.start.cpus ≡ length c.args.station.now.table.shared.key.cpus.value.items = ap (λ (u : Start). length u.cpus) r.told in
     let counted = c.args.station.now.counted in
     let is = c.if-found-station.true in
-    let moves = (tells.1 (omega arith)).0 in
+    let moves = (tells.2 (omega arith)).0 in
     carried r _ _ c.shift.new.self true true (λ t. does t Release) e.0 tells.0 (ap (λ (v : View). v.held) moves) (ap (λ (v : View). v.start) moves)
     (ap (λ (p : Processor). held c.loop.self.number p true true) (sym (c.shift.ensures c.args.station.now.table.shared.key.goal.value)))
 
@@ -35,8 +37,9 @@ returns-then-found-station-clause-took g c =
     let counted = c.args.station.now.counted in
     let same = c.if-found-station.true in
     let is = c.shift.ensures t.goal in
-    let took = of_it r (λ u h. (h.cpu.era ≡ common_era u.cpus) × Took u h.number Release h.cpu (does u Release h).cpu) (tells.1 (omega arith)).1 in
-    subst (λ (p : Processor). Took t c.loop.self.number Release p c.shift.new.self) c.loop.invariant.cpu (subst (Took t c.loop.self.number Release c.loop.cpu) (sym is) took.1)
+    let h : Held = held c.loop.self.number c.loop.cpu true true in
+    let took = took_of t 1 c.load-found.result c.load-found.result Release h (does t Release h) (of_it r (λ u x. PassSteps u 1 c.load-found.result c.load-found.result (Some (Steps x.number Release)) x (does u Release x)) (tells.2 (omega arith)).1) in
+    subst (λ (p : Processor). Took t c.loop.self.number Release p c.shift.new.self) c.loop.invariant.cpu (subst (Took t c.loop.self.number Release c.loop.cpu) (sym is) took)
 
 pub returns-then-found-station-clause-risen : goal.returns-then-found-station-clause-risen
 returns-then-found-station-clause-risen g c =
@@ -46,8 +49,8 @@ returns-then-found-station-clause-risen g c =
     let long : length c.loop.self.seat.me.0.start.cpus ≡ length c.args.station.now.table.shared.key.cpus.value.items = ap (λ (u : Start). length u.cpus) r.told in
     let counted = c.args.station.now.counted in
     let same = c.if-found-station.true in
-    let took = of_it r (λ u h. (h.cpu.era ≡ common_era u.cpus) × Took u h.number Release h.cpu (does u Release h).cpu) (tells.1 (omega arith)).1 in
-    ap (λ (p : Processor). p.era) (c.shift.ensures t.goal) ∙ ap (λ (n : ℕ). n + 1) took.0
+    let era = of_it r (λ u h. h.cpu.era ≡ common_era u.cpus) (tells.2 (omega arith)).2 in
+    ap (λ (p : Processor). p.era) (c.shift.ensures t.goal) ∙ ap (λ (n : ℕ). n + 1) era
 
 pub returns-then-found-station-clause-becomes : goal.returns-then-found-station-clause-becomes
 returns-then-found-station-clause-becomes g c =
@@ -62,7 +65,6 @@ shift-requires-clause-room g c release =
     let long : length c.loop.self.seat.me.0.start.cpus ≡ length c.args.station.now.table.shared.key.cpus.value.items = ap (λ (u : Start). length u.cpus) r.told in
     let counted = c.args.station.now.counted in
     let same = c.if-found-station.true in
-    let took = of_it r (λ u h. (h.cpu.era ≡ common_era u.cpus) × Took u h.number Release h.cpu (does u Release h).cpu) (tells.1 (omega arith)).1 in
-    let era = took.0 in
-    let room = r.begins.room in
+    let era = of_it r (λ u h. h.cpu.era ≡ common_era u.cpus) (tells.2 (omega arith)).2 in
+    let room = c.requires.begins.room in
     omega arith

@@ -10,7 +10,7 @@ use Rattle.std.specs.Option.{option_map_or}
 use Rattle.mt_cpu.specs.Steps.{HasWritten}
 use Rattle.mt_rendezvous.specs.declared.view.Start.{Start}
 use Rattle.mt_rendezvous.specs.Station.{held, start_of, order_of, code}
-use Rattle.mt_rendezvous.specs.Plays.{Took, Stands, work, own_event}
+use Rattle.mt_rendezvous.specs.Plays.{Stands, work, own_event}
 use Rattle.mt_rendezvous.proofs.Facts.{fits_goal, has_written, low_numbers, back_place}
 use Rattle.mt_laws.proofs.Words.Places.{place_same}
 use Rattle.mt_rendezvous.proofs.Steps.{works, writes_back}
@@ -28,21 +28,21 @@ worked t g e p q same is moved =
 
 pub local-e-requires-clause-fits : goal.local-e-requires-clause-fits
 local-e-requires-clause-fits c = let t : Start = start_of c.args.station.now.table.shared.key in
-    subst (λ (g : RegisterFile). FitsGoal g c.args.cpu.now) (sym c.requires.goal) (fits_goal t c.requires.carries.begins Given c.args.self.now.number c.args.cpu.now c.requires.stands)
+    subst (λ (g : RegisterFile). FitsGoal g c.args.cpu.now) (sym c.requires.goal) (fits_goal t c.requires.begins Given c.args.self.now.number c.args.cpu.now c.requires.stands)
 
 pub local-e-requires-clause-written : goal.local-e-requires-clause-written
 local-e-requires-clause-written c = let t : Start = start_of c.args.station.now.table.shared.key in
-    subst (λ (g : RegisterFile). HasWritten g c.args.cpu.now) (sym c.requires.goal) (has_written t c.requires.carries.begins Given c.args.self.now.number c.args.cpu.now c.requires.stands)
+    subst (λ (g : RegisterFile). HasWritten g c.args.cpu.now) (sym c.requires.goal) (has_written t c.requires.begins Given c.args.self.now.number c.args.cpu.now c.requires.stands)
 
 pub local-e-requires-clause-numbers : goal.local-e-requires-clause-numbers
 local-e-requires-clause-numbers c = let t : Start = start_of c.args.station.now.table.shared.key in
-    low_numbers t c.requires.carries.begins Given c.args.self.now.number c.args.cpu.now c.requires.stands
+    low_numbers t c.requires.begins Given c.args.self.now.number c.args.cpu.now c.requires.stands
 
 pub unreachable-requires : goal.unreachable-requires
 unreachable-requires c =
     let t : Start = start_of c.args.station.now.table.shared.key in
     let e = c.local-e.result in
-    let there = back_place t c.requires.carries.begins Given c.args.self.now.number c.args.cpu.now c.requires.stands e c.in-Some.address c.in-Some.value c.requires.between c.local-e.ensures.event (sym c.written.ensures ∙ c.in-Some.is) in
+    let there = back_place t c.requires.begins Given c.args.self.now.number c.args.cpu.now c.requires.stands e c.in-Some.address c.in-Some.value c.requires.between c.local-e.ensures.event (sym c.written.ensures ∙ c.in-Some.is) in
     let same = place_same c.args.ram.now t.ram c.in-Some.address c.requires.windows in
     c.in_default.not-Some there.0 (c.place.ensures.value ∙ same ∙ there.1)
 
@@ -50,7 +50,7 @@ pub overflow_add-word-in-Some : goal.overflow_add-word-in-Some
 overflow_add-word-in-Some c =
     let t : Start = start_of c.args.station.now.table.shared.key in
     let e = c.local-e.result in
-    let there = back_place t c.requires.carries.begins Given c.args.self.now.number c.args.cpu.now c.requires.stands e c.in-Some.address c.in-Some.value c.requires.between c.local-e.ensures.event (sym c.written.ensures ∙ c.in-Some.is) in
+    let there = back_place t c.requires.begins Given c.args.self.now.number c.args.cpu.now c.requires.stands e c.in-Some.address c.in-Some.value c.requires.between c.local-e.ensures.event (sym c.written.ensures ∙ c.in-Some.is) in
     let same = place_same c.args.ram.now t.ram c.in-Some.address c.requires.windows in
     let at : c.in-Some-place.i ≡ there.0 = injected c.in-Some-place.i there.0 (sym c.in-Some-place.is ∙ c.place.ensures.value ∙ same ∙ there.1) in
     let low = there.2 in
@@ -64,7 +64,7 @@ store-requires c =
     let r = c.requires.carries in
     let e = c.local-e.result in
     let word = sym c.written.ensures ∙ c.in-Some.is in
-    let there = back_place t r.begins Given c.args.self.now.number c.args.cpu.now c.requires.stands e c.in-Some.address c.in-Some.value c.requires.between c.local-e.ensures.event word in
+    let there = back_place t c.requires.begins Given c.args.self.now.number c.args.cpu.now c.requires.stands e c.in-Some.address c.in-Some.value c.requires.between c.local-e.ensures.event word in
     let same = place_same c.args.ram.now t.ram c.in-Some.address c.requires.windows in
     let at : c.in-Some-place.i ≡ there.0 = injected c.in-Some-place.i there.0 (sym c.in-Some-place.is ∙ c.place.ensures.value ∙ same ∙ there.1) in
     let low = there.2 in
@@ -98,13 +98,13 @@ returns-in-Some-place-clause-stands c =
     let t : Start = start_of c.args.station.now.table.shared.key in
     let r = c.requires.carries in
     let tells = c.store.ensures.2 in
-    let now = of_it r (λ u h. Took u h.number (own_event u h.cpu) h.cpu (work u h).cpu × Stands u Given h.number (work u h).cpu) tells.2 in
-    subst (Stands t Given c.args.self.now.number) (sym (worked t c.args.goal.now c.local-e.result c.args.cpu.now c.local-e.new.self c.requires.goal c.local-e.ensures.event c.local-e.ensures.step)) now.1
+    let now = of_it r (λ u h. Stands u Given h.number (work u h).cpu) tells.3 in
+    subst (Stands t Given c.args.self.now.number) (sym (worked t c.args.goal.now c.local-e.result c.args.cpu.now c.local-e.new.self c.requires.goal c.local-e.ensures.event c.local-e.ensures.step)) now
 
 pub returns-in-None-clause-stands : goal.returns-in-None-clause-stands
 returns-in-None-clause-stands c =
     let t : Start = start_of c.args.station.now.table.shared.key in
     let r = c.requires.carries in
     let tells = c.store-in-None.ensures.2 in
-    let now = of_it r (λ u h. Took u h.number (own_event u h.cpu) h.cpu (work u h).cpu × Stands u Given h.number (work u h).cpu) tells.2 in
-    subst (Stands t Given c.args.self.now.number) (sym (worked t c.args.goal.now c.local-e.result c.args.cpu.now c.local-e.new.self c.requires.goal c.local-e.ensures.event c.local-e.ensures.step)) now.1
+    let now = of_it r (λ u h. Stands u Given h.number (work u h).cpu) tells.3 in
+    subst (Stands t Given c.args.self.now.number) (sym (worked t c.args.goal.now c.local-e.result c.args.cpu.now c.local-e.new.self c.requires.goal c.local-e.ensures.event c.local-e.ensures.step)) now
