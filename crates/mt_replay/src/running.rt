@@ -213,8 +213,8 @@ fn run<K: Sink>(
     }
 }
 
-/// Runs a script on one machine and writes its transcript. The status is the transcript's, NoMemory
-/// or WriteFault. Memory is asked for at the start, at the dump's end and at each window alone.
+/// Runs a script on one machine and writes its transcript, with the transcript's status. Where memory
+/// is refused, or a write fails, a front of it was written.
 pub fn replay<R: AllocGlobal, K: Sink, G: Gate>(
     rt: &R,
     source: &[u8],

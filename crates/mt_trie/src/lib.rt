@@ -10,7 +10,9 @@ mod wish;
 mod worked;
 
 pub use context::Context;
-pub use laws::{a_block_has_one_wish, a_page_type_is_a_join, joins_are_free_of_order};
+pub use laws::{
+    a_block_has_one_wish, a_page_type_is_a_join, a_page_type_is_of_a_set, joins_are_free_of_order,
+};
 pub use wants::{same_type, want};
 pub use wish::Wish;
 pub use worked::{worked_joins, worked_wanted_types, worked_wishes, worked_wishes_of_blocks};
