@@ -15,7 +15,7 @@ mod system;
 mod tests;
 mod words;
 
-pub use laws::{accesses_refuse_in_order, controls_refuse_in_order};
+pub use laws::{a_system_is_sound, accesses_refuse_in_order, controls_refuse_in_order};
 pub use mt_machine::{Control, Done, Op, Ruled};
 pub use system::System;
 pub use words::store;

@@ -84,13 +84,6 @@ impl System {
         Ok(())
     }
 
-    /// What a system keeps, for the proof alone.
-    pub fn is_sound(&self)
-        ensures { IsSound self.now }
-    {
-        let _ = &self.ram;
-    }
-
     /// One control instruction of a processor. A mapping that is set has an index below 8, a
     /// physical page of the processor and a virtual page below 2^36.
     pub fn control(&mut self, k: u32, c: Control) -> Ruled

@@ -1,8 +1,9 @@
 -- Each call keeps what a core keeps.
-use Rattle.std.proofs.Common.{◌≡◌, ◌∙◌, ap, sym, refl, subst, arith, ℕ, ◌-◌, ◌<◌, ◌≤◌, ◌^◌, Bool, true, false, if◌then◌else◌, List, [], ◌∷◌, length, Option, None, Some, slice_get, inl}
+use Rattle.std.proofs.Common.{◌≡◌, ◌≢◌, ◌∙◌, ap, sym, refl, subst, arith, ℕ, ◌-◌, ◌<◌, ◌≤◌, ◌^◌, Bool, true, false, if◌then◌else◌, List, [], ◌∷◌, length, Option, None, Some, slice_get, inl}
 use Rattle.std.specs.Option.{option_map_or}
 use Rattle.std.specs.List.{All}
 use Rattle.mt_ram.specs.Windows.{with_window}
+use Rattle.mt_machine.specs.declared.go.Go.{Go}
 use Rattle.mt_machine.specs.declared.go.Go.TheVariants.{Pending, Given, Cancelled}
 use Rattle.mt_machine.specs.declared.op.Op.{Op}
 use Rattle.mt_machine.specs.declared.control.Control.{Control}
@@ -72,15 +73,14 @@ room_stays o ps low later h = one (is_over o ps) h
     one true g = absurd (cc)
     one false g = let e : o ≡ later = cc in subst (λ (x : Order). x.from_era < 2 ^ 64 - 1) e low
 
-pub gone : (s : System) (o : Order) → o.go ≡ Pending → IsCore (machine s (Some o)) → IsCore (machine s (remaining_order (record o { go = Given }) s.processors))
-gone s o pending h = record {
+pub decided : (s : System) (o : Order) (go : Go) → go ≢ Pending → o.go ≡ Pending → IsCore (machine s (Some o)) → IsCore (machine s (remaining_order (record o { go = go }) s.processors))
+decided s o Pending said pending h = absurd (said refl)
+decided s o Given said pending h = record {
   arises = by_event Goes h.arises (ap Some pending);
   few = h.few;
   room = room_stays (record o { go = Given }) s.processors (h.room o refl);
 }
-
-pub cancelled : (s : System) (o : Order) → o.go ≡ Pending → IsCore (machine s (Some o)) → IsCore (machine s (remaining_order (record o { go = Cancelled }) s.processors))
-cancelled s o pending h = record {
+decided s o Cancelled said pending h = record {
   arises = by_event Cancels h.arises (ap Some pending);
   few = h.few;
   room = room_stays (record o { go = Cancelled }) s.processors (h.room o refl);

@@ -36,12 +36,20 @@ settled_from_release m o k since a is enabled more quiet =
     }
 
 -- the step that released
-pub did_settle : (s : System) (o : Order) (k : ℕ) (e : Event) → Arises (under_way o s) → due_at (under_way o s) k ≡ Some e → Did e ≡ Did Release → IsSettled (step o.goal e k s) (o.from_era + 1) o.goal
+did_settle : (s : System) (o : Order) (k : ℕ) (e : Event) → Arises (under_way o s) → due_at (under_way o s) k ≡ Some e → Did e ≡ Did Release → IsSettled (step o.goal e k s) (o.from_era + 1) o.goal
 did_settle s o k e a due is =
     let release : e ≡ Release = cc in
     let enabled : due_at (under_way o s) k ≡ Some Release = due ∙ ap Some release in
     subst (λ (v : Event). IsSettled (step o.goal v k s) (o.from_era + 1) o.goal) (sym release)
     (settled_from_release (under_way o s) o k [] a refl enabled tt refl)
+
+pub settled_by : (m : Machine) (s t : System) (o : Order) (k : ℕ) (e : Event) → Arises (under_way o s) → m.order ≡ Some o → due_at (under_way o s) k ≡ Some e → t ≡ step o.goal e k s
+    → (x : Order) → Did e ≡ Did Release → m.order ≡ Some x → IsSettled t (x.from_era + 1) x.goal
+settled_by m s t o k e a was due stepped x is at =
+    let same : Some o ≡ Some x = sym was ∙ at in
+    let order : o ≡ x = cc in
+    subst (λ (y : Order). IsSettled t (y.from_era + 1) y.goal) order
+    (subst (λ (u : System). IsSettled u (o.from_era + 1) o.goal) (sym stepped) (did_settle s o k e a due is))
 
 pub held_from_first_release : HeldFromFirstRelease
 held_from_first_release p r o since a first enabled =

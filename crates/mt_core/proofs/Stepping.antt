@@ -17,7 +17,7 @@ use Rattle.mt_machine.specs.Memory.{IsMemory, Memory, Window, put_word}
 use Rattle.mt_machine.specs.System.{IsSound, Processor, System, change}
 use Rattle.mt_machine.specs.Bus.{drain, with_buffers}
 use Rattle.mt_machine.specs.Access.{is_running}
-use Rattle.mt_machine.specs.Machine.{FitsGoal, Machine, MachineEvent, IsEnabled, Order, Steps, due, due_at, next, own_step, remaining_order, step}
+use Rattle.mt_machine.specs.Machine.{FitsGoal, Machine, MachineEvent, IsEnabled, Order, Steps, before_own, due, due_at, next, own_step, remaining_order, step}
 use Rattle.mt_machine.proofs.Files.{AgreeAll}
 use Rattle.mt_laws.proofs.Barrier.Claims.{all_get}
 use Rattle.mt_laws.proofs.Barrier.Ranks.{Guarded, stage_at}
@@ -123,12 +123,6 @@ changed_is f k ps m = one (slice_get ps k)
     one None = refl
     one (Some p) = refl
 
-pub shifted : (goal : RegisterFile) (e : Event) (ph : Phase) (k : ℕ) (ps : List Processor) (m : Memory) → e ≢ Take → IsTrue (is_shift e ph)
-    → system (with_changed (own_step goal e) k ps) m ≡ step goal e k (system ps m)
-shifted goal Take ph k ps m other h = absurd (other refl)
-shifted goal (WriteBack address value) ph k ps m other h = absurd (cc)
-shifted goal e ph k ps m other h = changed_is (own_step goal e) k ps m
-
 pub worked : (goal : RegisterFile) (e : Event) (k : ℕ) (ps : List Processor) (m : Memory) → e ≢ Take
     → system (with_changed (own_step goal e) k ps) (with_word_of e m) ≡ step goal e k (system ps m)
 worked goal Take k ps m other = absurd (other refl)
@@ -168,9 +162,28 @@ taken_at o s k is q at =
 pub drained_length : (k : ℕ) (s : System) → length (drain k s).processors ≡ length s.processors
 drained_length k s = same_length s (drain k s) (drain_stages k s)
 
-pub acted_sound : (o : Order) (s : System) → IsCore (under_way o s) → (k : ℕ) (r : Option Event) → r ≡ due_at (under_way o s) k → IsSound (option_map_or (λ e. step o.goal e k s) r s)
-acted_sound o s core k None h = is_sound (under_way o s) core.arises
-acted_sound o s core k (Some e) h = step_sound o s core k e (sym h)
+-- what a barrier event asks of the processor
+pub record IsReady (e : Event) (q : Processor) : Type 0 where
+  pub enabled : IsTrue (is_shift e q.phase)
+  pub room : e ≡ Release → q.era < 2 ^ 64 - 1
+  pub empty : e ≡ Take → q.buffers ≡ []
+
+abbrev Shifts : Event → ℕ → System → Type 0
+Shifts e k s = (p : Processor) → slice_get s.processors k ≡ Some p → IsTrue (is_shift e p.phase)
+
+pub prepared : (o : Order) (s : System) → IsCore (under_way o s) → (k : ℕ) (e : Event) → due_at (under_way o s) k ≡ Some e → Shifts e k s
+    → (q : Processor) → slice_get (before_own e k s).processors k ≡ Some q → IsReady e q
+prepared o s core k Take due shifts q at = record { enabled = taken_at o s k due q at; room = λ same. absurd (cc); empty = λ _. drained k s q at }
+prepared o s core k e due shifts q at = record { enabled = shifts q at; room = room_at o s core k q at e (shifts q at); empty = λ same. absurd (cc) }
+
+pub prepared_length : (e : Event) (k : ℕ) (s : System) → length (before_own e k s).processors ≡ length s.processors
+prepared_length Take k s = drained_length k s
+prepared_length e k s = refl
+
+pub unprepared : (e : Event) (ph : Phase) (k : ℕ) (s : System) → e ≢ Take → IsTrue (is_shift e ph) → s ≡ before_own e k s
+unprepared Take ph k s other h = absurd (other refl)
+unprepared (WriteBack address value) ph k s other h = absurd (cc)
+unprepared e ph k s other h = refl
 
 -- a step by its event and by the order that is left
 pub advanced : (o : Order) (s : System) → IsCore (under_way o s) → (k : ℕ) (e : Event) → due_at (under_way o s) k ≡ Some e

@@ -1,6 +1,6 @@
 ghost use Rattle.std.specs.Prelude.{◌≡◌, ◌<◌, ◌^◌, ◌↔◌, IsTrue, length};
 ghost use Rattle.std.specs.List.{list_all, list_any};
-ghost use Rattle.mt_machine.specs.Machine.{BarrierCount, first_barrier_count, first_barrier_open, has_arrived, has_arrived_again, has_passed, has_released, is_cancelled, is_changing, is_given, is_over, is_waiting_to_pass, remaining_order, second_barrier_count, second_barrier_open};
+ghost use Rattle.mt_machine.specs.Machine.{BarrierCount, first_barrier_count, first_barrier_open, has_arrived, has_arrived_again, has_passed, has_released, is_cancelled, is_changing, is_given, is_over, is_waiting_to_pass, second_barrier_count, second_barrier_open};
 ghost use Rattle.mt_core.specs.Barriers.{barrier_count};
 
 use crate::order::Order;
@@ -116,20 +116,10 @@ fn any_waits(cpus: &[Cpu]) -> bool
     cpus.iter().any(|cpu| is_waiting_to_pass(cpu))
 }
 
-// Whether each processor has released, or the update is cancelled and none waits for the first barrier.
-fn is_over(cpus: &[Cpu], order: &Order) -> bool
+/// Whether an update is over: each processor has released, or it is cancelled and none waits for the
+/// first barrier.
+pub(crate) fn is_over(cpus: &[Cpu], order: &Order) -> bool
     ensures { result ≡ is_over order.now cpus.now }
 {
     all_released(cpus, order) || is_cancelled(order.go) && !any_waits(cpus)
-}
-
-/// The order, unless its update is over.
-pub(crate) fn remaining(cpus: &[Cpu], order: Order) -> Option<Order>
-    ensures { result ≡ remaining_order order cpus.now }
-{
-    if is_over(cpus, &order) {
-        None
-    } else {
-        Some(order)
-    }
 }

@@ -1,4 +1,4 @@
-ghost use Rattle.std.specs.Prelude.{◌≡◌, ◌<◌, ◌≤◌, ◌+◌, ◌*◌, ◌^◌, ◌↔◌, true, false, IsTrue, IsSome, Err, length, slice_get, MatchOption, OnOk, OnErr, None, Some};
+ghost use Rattle.std.specs.Prelude.{◌≡◌, ◌≢◌, ◌<◌, ◌≤◌, ◌+◌, ◌*◌, ◌^◌, ◌↔◌, true, false, IsTrue, IsSome, Err, length, slice_get, MatchOption, OnOk, OnErr, None, Some};
 ghost use Rattle.std.specs.List.{All};
 ghost use Rattle.mt_ram.specs.Windows.{refusal, refusal_in, window};
 ghost use Rattle.mt_machine.specs.Access.{access, is_running};
@@ -7,7 +7,7 @@ ghost use Rattle.mt_machine.specs.System.{Processor};
 ghost use Rattle.mt_regs.specs.declared.fault.Fault.{Fault};
 ghost use Rattle.mt_regs.specs.Faults.{IsAccepted, IsFirstFault};
 ghost use Rattle.mt_machine.specs.Start.{HasEraRoom};
-ghost use Rattle.mt_machine.specs.Machine.{BarrierCount, Calls, Cancels, FitsControl, FitsGoal, FitsOp, Goes, Order as MachineOrder, common_era, go_of, next, remaining_order};
+ghost use Rattle.mt_machine.specs.Machine.{BarrierCount, Calls, Cancels, FitsControl, FitsGoal, FitsOp, Goes, Order as MachineOrder, common_era, go_of, is_over, next, with_go};
 ghost use Rattle.mt_machine.specs.Update.{IsSettled};
 ghost use Rattle.mt_machine.specs.declared.event.Event.TheVariants.{Release};
 ghost use Rattle.mt_core.specs.declared.stepped.Stepped.TheVariants.{Did, NoUpdate, Waits};
@@ -17,12 +17,12 @@ ghost use Rattle.mt_core.specs.Rounds.{IsWholeUpdate, Rounds, each_steps, with_g
 ghost use Rattle.mt_core.specs.Steps.{pause_at, step_after, step_answer, under_way};
 ghost use Rattle.mt_core.specs.Stops.{is_outside};
 
-use crate::barriers::{is_pending, remaining};
+use crate::barriers::{is_over, is_pending};
 use crate::fault::CallFault;
 use crate::order::Order;
 use crate::stepped::Stepped;
-use crate::steps::{advance, pause};
-use mt_bus::System;
+use crate::steps::{do_due_event, pause};
+use mt_bus::{System, a_system_is_sound};
 use mt_machine::{Control, Done, Go, Op, Ruled};
 use mt_ram::RamFault;
 use mt_regs::RegFile;
@@ -31,8 +31,8 @@ use std::marker::Model;
 /// Processors over one memory with the update that is under way, if there is one.
 #[derive(Drop)]
 pub struct Core {
-    system: System,
-    order: Option<Order>,
+    pub(crate) system: System,
+    pub(crate) order: Option<Order>,
 }
 
 impl Model for Core {
@@ -54,22 +54,10 @@ fn common_era(system: &System) -> u64
     system.cpus.as_slice()[0].era()
 }
 
-// The order with the coordinator's word, unless its update is over.
-fn decided(system: &System, order: Order, go: Go) -> Option<Order>
-    ensures { result ≡ remaining_order (record order { go = go }) system.now.processors }
+fn is_over_in(system: &System, order: &Order) -> bool
+    ensures { result ≡ is_over order.now system.now.processors }
 {
-    let order = Order {
-        goal: order.goal,
-        from_era: order.from_era,
-        go,
-    };
-    remaining(system.cpus.as_slice(), order)
-}
-
-fn remaining_in(system: &System, order: Order) -> Option<Order>
-    ensures { result ≡ remaining_order order system.now.processors }
-{
-    remaining(system.cpus.as_slice(), order)
+    is_over(system.cpus.as_slice(), order)
 }
 
 fn pause_in(system: &System, order: &Order, k: u32) -> Stepped
@@ -90,18 +78,11 @@ impl Core {
         requires one_kind { All (λ p. All (FitsGoal p.file) system.processors) system.processors }
         ensures { result ≡ record { system = system; order = None } }
     {
-        system.is_sound();
+        a_system_is_sound(&system); // a fact for the proof
         Core {
             system,
             order: None,
         }
-    }
-
-    /// What a core keeps, for the proof alone.
-    pub fn is_core(&self)
-        ensures { IsCore self.now }
-    {
-        let _ = &self.order;
     }
 
     /// The processors and the memory.
@@ -153,15 +134,7 @@ impl Core {
         ensures after { IsTrue result → self.new ≡ next self.old Goes }
         ensures kept { result ≡ false → self.new ≡ self.old }
     {
-        let Some(order) = self.order.take() else {
-            return false;
-        };
-        if !is_pending(order.go) {
-            self.order = Some(order);
-            return false;
-        }
-        self.order = decided(&self.system, order, Go::Given);
-        true
+        self.decide(Go::Given)
     }
 
     /// Gives the update up. It is false, and nothing changes, where no update is under way or its
@@ -171,14 +144,26 @@ impl Core {
         ensures after { IsTrue result → self.new ≡ next self.old Cancels }
         ensures kept { result ≡ false → self.new ≡ self.old }
     {
-        let Some(order) = self.order.take() else {
+        self.decide(Go::Cancelled)
+    }
+
+    // The coordinator's word, which an update awaits whose go is pending.
+    fn decide(&mut self, go: Go) -> bool
+        requires { go ≢ Go.Pending }
+        ensures given { IsTrue result ↔ (go_of self.old ≡ Some Go.Pending) }
+        ensures after { IsTrue result → self.new ≡ with_go go self.old }
+        ensures kept { result ≡ false → self.new ≡ self.old }
+    {
+        let Some(order) = &mut self.order else {
             return false;
         };
         if !is_pending(order.go) {
-            self.order = Some(order);
             return false;
         }
-        self.order = decided(&self.system, order, Go::Cancelled);
+        order.go = go;
+        if is_over_in(&self.system, order) {
+            self.order = None;
+        }
         true
     }
 
@@ -202,7 +187,7 @@ impl Core {
         if let Some(fault) = goal.first_fault() {
             return Err(CallFault::Refused(fault));
         }
-        goal.is_register_file();
+        goal.is_register_file(); // a fact for the proof
         let from_era = common_era(&self.system);
         self.order = Some(Order {
             goal,
@@ -222,32 +207,33 @@ impl Core {
         ensures waits { (p : Processor) (c : BarrierCount) → slice_get self.old.system.processors k ≡ Some p → (result ≡ Waits c.arrived c.awaited) ↔ ((o : MachineOrder) × (self.old.order ≡ Some o) × WaitsFor o self.old.system.processors p c) }
         ensures stops { (p : Processor) → slice_get self.old.system.processors k ≡ Some p → (result ≡ NoUpdate) ↔ ((is_running p.phase ≡ true) × (is_outside self.old p ≡ true)) }
     {
-        self.is_core();
         self.do_due(k)
     }
 
     // The step, by its answer and the state that it leaves.
     fn do_due(&mut self, k: u32) -> Stepped
         requires { k < length self.old.system.processors }
+        ensures core { IsCore self.old }
         ensures answer { result ≡ step_answer self.old k }
         ensures after { self.new ≡ step_after self.old k }
         ensures settled { (o : MachineOrder) → result ≡ Did Release → self.old.order ≡ Some o → IsSettled self.new.system (o.from_era + 1) o.goal }
     {
-        let Some(order) = self.order.take() else {
+        let Some(order) = &self.order else {
             return Stepped::NoUpdate;
         };
-        let Some(event) = advance(&mut self.system, &order, k) else {
-            let pause = pause_in(&self.system, &order, k);
-            self.order = Some(order);
-            return pause;
+        let Some(event) = do_due_event(&mut self.system, order, k) else {
+            return pause_in(&self.system, order, k);
         };
-        self.order = remaining_in(&self.system, order);
+        if is_over_in(&self.system, order) {
+            self.order = None;
+        }
         Stepped::Did(event)
     }
 
     // Whether an update is under way.
     fn is_under_way(&self) -> bool
-        ensures { IsTrue result ↔ IsSome self.now.order }
+        ensures core { IsCore self.now }
+        ensures value { IsTrue result ↔ IsSome self.now.order }
     {
         self.order.is_some()
     }
@@ -278,7 +264,6 @@ impl Core {
     {
         self.go();
         while self.is_under_way() {
-            self.is_core();
             self.turn();
         }
     }
@@ -297,7 +282,7 @@ impl Core {
         ensures kept { OnErr result (self.new ≡ self.old) }
     {
         self.system.add_ram(base, lines)?;
-        self.system.is_sound();
+        a_system_is_sound(&self.system); // a fact for the proof
         Ok(())
     }
 }

@@ -1,6 +1,17 @@
+ghost use Rattle.mt_core.specs.Arises.{IsCore};
 ghost use Rattle.mt_core.specs.Headline.{ErasRise, HeldFromFirstRelease, IsQuietWithoutOrder, NoBuffersWhereOnePasses, SettledFromRelease, WaitsAtBarriers};
 ghost use Rattle.mt_core.specs.Rounds.{TurnsEnd, UpdatedWordsAreHeld, UpdatesAreReached, UpdatesSettle};
 ghost use Rattle.mt_core.specs.Stops.{StopsOutside};
+
+use crate::core_type::Core;
+
+/// What a core keeps: its state arises from a start by events and new windows, it has at most 16
+/// processors, and an update under way was called while the eras had room.
+pub fn a_core_arises(core: &Core)
+    ensures { IsCore core.now }
+{
+    let _ = &core.order;
+}
 
 /// A step answers `NoUpdate` exactly where the processor runs and no update is under way, or it is
 /// cancelled, or the processor has released already.

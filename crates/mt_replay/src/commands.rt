@@ -17,7 +17,7 @@ use crate::texts::{
     call_fault_line, called_line, cancel_line, complete_line, done_line, go_line, memory_line,
     register_line, ruled_line, stepped_line,
 };
-use mt_core::{CallFault, Core};
+use mt_core::{CallFault, Core, a_core_arises};
 use mt_machine::{Control, Op};
 use mt_output::LineBuffer;
 use mt_ports::NoMemory;
@@ -73,7 +73,7 @@ pub(crate) fn step(core: &mut Core, k: u32) -> LineBuffer
     ensures text { (f : RegisterFile) → result.items ≡ stepped_line (file_at (step_after core.old k).system.processors k f) (step_answer core.old k) }
     ensures after { core.new ≡ step_after core.old k }
 {
-    core.is_core();
+    a_core_arises(core); // a fact for the proof
     let stepped = core.step(k);
     stepped_line(file_at(core, k), &stepped)
 }
@@ -96,7 +96,7 @@ fn begin(core: &mut Core, goal: &RegFile) -> Option<CallFault>
     ensures called { MatchOption result ((core.new ≡ next core.old (Calls goal.now)) × IsQuiet core.old × IsEnabled core.old (Calls goal.now)) (λ _. core.new ≡ core.old) }
     ensures short { (own : Fault) → result ≡ Some (CallFault.Refused own) → own.msr < 0x1000 }
 {
-    core.is_core();
+    a_core_arises(core); // a fact for the proof
     goal.is_register_file();
     match core.call(goal.same()) {
         Ok(()) => None,

@@ -19,7 +19,7 @@ pub returns-in-Ok-clause-called : goal.returns-in-Ok-clause-called
 returns-in-Ok-clause-called c =
     let called = subst (λ (g : RegisterFile). (c.args.core.now.order ≡ None) × IsAccepted g × (c.call.new.self ≡ next c.args.core.now (Calls g))) c.same.ensures c.in-Ok.ensures.called in (
       called.2,
-      is_quiet_without_order c.args.core.now c.is_core.ensures.arises called.0,
+      is_quiet_without_order c.args.core.now c.a_core_arises.ensures.arises called.0,
       (called.0, c.is_register_file.ensures, called.1, c.requires.fits),
     )
 

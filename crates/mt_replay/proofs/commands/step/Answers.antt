@@ -5,5 +5,5 @@ use Rattle.mt_replay.proofs.commands.step.Goals as goal
 
 pub file_at-requires : goal.file_at-requires
 file_at-requires c =
-    let same : length (step_after c.args.core.now c.args.k).system.processors ≡ length c.args.core.now.system.processors = (follows_step c.args.core.now c.args.k c.is_core.ensures.arises).risen.same_number in
+    let same : length (step_after c.args.core.now c.args.k).system.processors ≡ length c.args.core.now.system.processors = (follows_step c.args.core.now c.args.k c.a_core_arises.ensures.arises).risen.same_number in
     rw c.step-stepped.ensures.after (omega (arith, same, c.requires))

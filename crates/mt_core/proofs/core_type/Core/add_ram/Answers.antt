@@ -11,4 +11,4 @@ invariant_of-self-2 c =
     let more : c.add_ram.new.self ≡ record c.self.inside.system { memory = with_window (window c.args.base c.args.lines) c.self.inside.system.memory } = search rules in
     subst (λ (s : System). IsCore (record { system = s; order = c.self.inside.order })) (sym more)
     (wider c.self.inside.system c.self.inside.order (window c.args.base c.args.lines)
-    (subst (λ (s : System). IsMemory s.memory) more c.is_sound.ensures.memory) c.self.invariant)
+    (subst (λ (s : System). IsMemory s.memory) more c.a_system_is_sound.ensures.memory) c.self.invariant)

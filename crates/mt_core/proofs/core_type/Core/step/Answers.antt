@@ -18,6 +18,6 @@ returns-clause-waits c p count at =
 
 pub returns-clause-stops : goal.returns-clause-stops
 returns-clause-stops c p at =
-    let both = stops_outside c.args.self.now c.args.k p c.is_core.ensures.arises at in
+    let both = stops_outside c.args.self.now c.args.k p c.do_due.ensures.core.arises at in
     subst (λ (r : Stepped). (r ≡ NoUpdate) ↔ ((is_running p.phase ≡ true) × (is_outside c.args.self.now p ≡ true))) (sym c.do_due.ensures.answer)
     (both.0, λ h. both.1 h.0 h.1)
