@@ -1,6 +1,6 @@
 use mt_regs::Fault;
 
-/// Why a file isn't rounded. `Disabled` comes only where `Refused` doesn't, and the others only where neither comes.
+/// Why a file isn't rounded. `Disabled` comes only where `Refused` doesn't, and `TooFew` only where neither does.
 /// `NoMemory` may come wherever a list grows, so also where `TooFew` would come.
 #[derive(Clone, Copy, Debug, Drop, PartialEq, Eq)]
 pub enum GranFault {

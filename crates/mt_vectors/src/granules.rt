@@ -74,6 +74,28 @@ pub fn granules() -> &'static [Row] {
               26f 0000000000000000\n\
               277 0007040600070406\n\
               2ff 0000000000000800\n";
+        "whole granules alone", ["gran", "10000000", "spare=0"],
+            b"0fe 401\n200 6\n201 f00000800\n2ff 800\n" => Done, b"# lost 0\n\
+              # used 1\n\
+              maxphyaddr 36\n\
+              0fe 0000000000000401\n\
+              200 0000000000000006\n\
+              201 0000000f00000800\n\
+              277 0007040600070406\n\
+              2ff 0000000000000800\n";
+        "one granule of all pages", ["gran", "10000000000", "spare=0"],
+            b"0fe 401\n200 0\n201 f00000800\n2ff 806\n" => Done,
+            b"# part 0000100000000-0000fffffffff WB\n\
+              # lost 15728640\n\
+              # used 1\n\
+              maxphyaddr 36\n\
+              0fe 0000000000000401\n\
+              200 0000000000000000\n\
+              201 0000000000000800\n\
+              277 0007040600070406\n\
+              2ff 0000000000000806\n";
+        "granules of one page", ["gran", "1000", "chunk=100000000", "spare=32"],
+            MEGABYTE_HOLE => TooFew, b"too few needs 2 has 0\n";
         "three registers where four are needed", ["gran", "10000000", "spare=0"],
             FEW_PAIRS => TooFew, b"too few needs 4 has 3\n";
         "both options", ["gran", "0x10000000", "chunk=0", "spare=32"],
