@@ -1,6 +1,5 @@
 -- What is said of one line.
-use Rattle.std.proofs.Common.{◌≡◌, ℕ, ◌+◌, ◌-◌, ◌≤◌, List, [], ◌∷◌, length, Some, None, nat_lt, Bool, true, false, ◌==◌, ◌&&◌, not, Ok, Err, Result, refl, arith}
-use Rattle.std.specs.List.{slice_get}
+use Rattle.std.proofs.Common.{◌≡◌, ℕ, ◌≤◌, List, [], ◌∷◌, length, take, nat_lt, Bool, true, false, ◌==◌, ◌&&◌, not, Ok, Err, Result, refl, arith}
 use Rattle.std.proofs.lemmas.Bool.Decides.{nat_tests}
 use Rattle.std.specs.Prelude.{◌||◌, if◌then◌else◌}
 use Rattle.std.proofs.lemmas.Bool.{eqb-false}
@@ -8,36 +7,44 @@ use Rattle.mt_text.specs.Number.{hex_number, decimal_number, decimal_value, are_
 use Rattle.mt_text.specs.declared.fault.NumberFault.{NumberFault}
 use Rattle.mt_text.specs.declared.fault.NumberFault.TheVariants.{NotDigit, TooLarge}
 use Rattle.mt_text.specs.Text.{words_of, without_ending}
+use Rattle.mt_text.specs.Words.{text_of}
+use Rattle.mt_text.specs.Words as word
 use Rattle.mt_text.specs.declared.place.Place.{Place}
 use Rattle.mt_regs.specs.RegisterFile.{low_byte}
 use Rattle.mt_dump.specs.Line.{said_of, said_words, said_pair, said_width, said_register, is_width_name, fault_at, place_of}
 use Rattle.mt_dump.specs.Reader.{IsSane}
 use Rattle.mt_dump.specs.declared.fault.DumpReason.TheVariants.{BadLine, BadWidth, TooManyPairs}
-use Rattle.mt_dump.specs.declared.said.Said.TheVariants.{Width, Register}
+use Rattle.mt_dump.specs.declared.said.Said.TheVariants.{Nothing, Width, Register}
 
-pub place_is : (place : Place) (number offset start : ℕ) (text : List ℕ) → place.line ≡ number → place.column + start ≡ offset + 1 → start ≤ offset → place ≡ place_of number (offset - start, text)
-place_is place number offset start text line_is column_is below =
-    let column_of : place.column ≡ offset - start + 1 = omega arith in
-    same line_is column_of
-  where
-    same : {a b c d : ℕ} → a ≡ c → b ≡ d → ◌≡◌ {A = Place} (record { line = a; column = b }) (record { line = c; column = d })
-    same p q = cc
+-- words by their number
+pub said_none : (number : ℕ) (words : List (ℕ × List ℕ)) → length words ≡ 0 → said_words number words ≡ Ok Nothing
+said_none number [] count = refl
+said_none number (a ∷ words) count = absurd (omega arith)
 
-by_words : (number : ℕ) (words : List (ℕ × List ℕ)) (first second : ℕ × List ℕ) → slice_get words 0 ≡ Some first → slice_get words 1 ≡ Some second → slice_get words 2 ≡ None
-    → said_words number words ≡ said_pair (place_of number first) (place_of number second) (without_ending 58 first.1) second.1
-by_words number [] first second is_first is_second is_none = cc is_first
-by_words number (a ∷ []) first second is_first is_second is_none = cc is_second
-by_words number (a ∷ b ∷ []) first second is_first is_second is_none =
-    let p : a ≡ first = cc is_first in
-    let q : b ≡ second = cc is_second in
-    rw (p, q) refl
-by_words number (a ∷ b ∷ c ∷ more) first second is_first is_second is_none = cc is_none
+pub said_one : (number : ℕ) (words : List (ℕ × List ℕ)) → length words ≡ 1 → said_words number words ≡ Err (fault_at BadLine (word.place_of number words 0))
+said_one number [] count = absurd (omega arith)
+said_one number (a ∷ []) count = refl
+said_one number (a ∷ b ∷ words) count = absurd (omega arith)
 
-pub two_words : (number : ℕ) (line : List ℕ) (first second : ℕ × List ℕ) → length line ≤ 4096 → slice_get (words_of line) 0 ≡ Some first → slice_get (words_of line) 1 ≡ Some second → slice_get (words_of line) 2 ≡ None
-    → said_of number line ≡ said_pair (place_of number first) (place_of number second) (without_ending 58 first.1) second.1
-two_words number line first second short is_first is_second is_none =
-    let test : nat_lt 4096 (length line) ≡ false = grind (arith, nat_tests) in
-    rw test (by_words number (words_of line) first second is_first is_second is_none)
+pub said_two : (number : ℕ) (words : List (ℕ × List ℕ)) → length words ≡ 2
+    → said_words number words ≡ said_pair (word.place_of number words 0) (word.place_of number words 1) (without_ending 58 (text_of words 0)) (text_of words 1)
+said_two number [] count = absurd (omega arith)
+said_two number (a ∷ []) count = absurd (omega arith)
+said_two number (a ∷ b ∷ []) count = refl
+said_two number (a ∷ b ∷ c ∷ words) count = absurd (omega arith)
+
+pub said_more : (number : ℕ) (words : List (ℕ × List ℕ)) → 3 ≤ length words → said_words number words ≡ Err (fault_at BadLine (word.place_of number words 2))
+said_more number [] count = absurd (omega arith)
+said_more number (a ∷ []) count = absurd (omega arith)
+said_more number (a ∷ b ∷ []) count = absurd (omega arith)
+said_more number (a ∷ b ∷ c ∷ words) count = refl
+
+-- the first seven words say what all of them say
+pub said_first : (number : ℕ) (words : List (ℕ × List ℕ)) → said_words number (take 7 words) ≡ said_words number words
+said_first number [] = refl
+said_first number (a ∷ []) = refl
+said_first number (a ∷ b ∷ []) = refl
+said_first number (a ∷ b ∷ c ∷ words) = refl
 
 -- a decimal number is at most its limit
 decimal_within : (word : List ℕ) (max number : ℕ) → decimal_number word max ≡ Ok number → number ≤ max

@@ -14,7 +14,7 @@ ghost use Rattle.mt_replay.specs.Transcript.{Body, told_file, told_from, told_of
 
 use mt_dump::DumpReader;
 use mt_regs::RegFile;
-use mt_script::{Command, Offence, Setup, Stage, place_of, read_command, read_end};
+use mt_script::{Command, Offence, Setup, Stage, first_place, read_command, read_end};
 use mt_text::{Line, Place, end_place, next_line};
 use std::mem;
 
@@ -63,7 +63,7 @@ fn take_line(
         return Ok(None);
     }
     if command == Command::End {
-        return match end_dump(dump, place_of(line, 0)) {
+        return match end_dump(dump, first_place(line)) {
             Ok(file) => Ok(Some(file)),
             Err(offence) => Err(offence),
         };

@@ -5,3 +5,4 @@ pub mod Registers
 pub mod Sections
 pub mod Standing
 pub mod Values
+pub mod FirstWords

@@ -17,9 +17,8 @@ use crate::number::{
 use crate::room::has_room;
 use crate::row::Row;
 use crate::shape::shape_fault;
-use crate::token::{place_of, text_of};
 use crate::{Command, ScriptFault, ScriptReason, Setup, Stage};
-use mt_text::{Line, Place, hex64, without_ending};
+use mt_text::{Line, Place, Words, hex64, without_ending};
 
 const LIMIT_COLUMN: u64 = 4097;
 
@@ -33,117 +32,117 @@ const PAGE: u64 = 4096;
 
 const WORD: u64 = 8;
 
-fn read_ram(line: &Line<'_>, setup: &Setup) -> Result<Command, ScriptFault>
-    ensures { result ≡ ram_in setup.now line.now.number (words_of line.now.bytes.now) }
+fn read_ram(words: &Words<'_>, setup: &Setup) -> Result<Command, ScriptFault>
+    ensures { result ≡ ram_in setup.now words.now.number words.now.words }
 {
-    let base = base_at(line, 1)?;
-    let lines = count_at(line, 2, 1, MOST_LINES)? as u32;
+    let base = base_at(words, 1)?;
+    let lines = count_at(words, 2, 1, MOST_LINES)? as u32;
     if has_room(setup, base, lines) {
         Ok(Command::Ram(base, lines))
     } else {
-        Err(fault(ScriptReason::OutOfRange, place_of(line, 2)))
+        Err(fault(ScriptReason::OutOfRange, words.place(2)))
     }
 }
 
-fn read_load(line: &Line<'_>, setup: &Setup) -> Result<Command, ScriptFault>
-    ensures { result ≡ load_in setup.now line.now.number (words_of line.now.bytes.now) }
+fn read_load(words: &Words<'_>, setup: &Setup) -> Result<Command, ScriptFault>
+    ensures { result ≡ load_in setup.now words.now.number words.now.words }
 {
-    let k = processor_at(line, 1, setup)?;
-    let address = virtual_at(line, 2, WORD)?;
+    let k = processor_at(words, 1, setup)?;
+    let address = virtual_at(words, 2, WORD)?;
     Ok(Command::Load(k, address))
 }
 
-fn read_store(line: &Line<'_>, setup: &Setup) -> Result<Command, ScriptFault>
-    ensures { result ≡ store_in setup.now line.now.number (words_of line.now.bytes.now) }
+fn read_store(words: &Words<'_>, setup: &Setup) -> Result<Command, ScriptFault>
+    ensures { result ≡ store_in setup.now words.now.number words.now.words }
 {
-    let k = processor_at(line, 1, setup)?;
-    let address = virtual_at(line, 2, WORD)?;
-    let value = value_at(line, 3)?;
+    let k = processor_at(words, 1, setup)?;
+    let address = virtual_at(words, 2, WORD)?;
+    let value = value_at(words, 3)?;
     Ok(Command::Store(k, address, value))
 }
 
-fn read_map(line: &Line<'_>, setup: &Setup) -> Result<Command, ScriptFault>
-    ensures { result ≡ map_in setup.now line.now.number (words_of line.now.bytes.now) }
+fn read_map(words: &Words<'_>, setup: &Setup) -> Result<Command, ScriptFault>
+    ensures { result ≡ map_in setup.now words.now.number words.now.words }
 {
-    let k = processor_at(line, 1, setup)?;
-    let address = virtual_at(line, 2, PAGE)?;
-    let physical = physical_at(line, 3, PAGE, setup)?;
-    let index = count_at(line, 4, 0, LAST_INDEX)? as u8;
-    let global = is_word(text_of(line, 5), b"global");
+    let k = processor_at(words, 1, setup)?;
+    let address = virtual_at(words, 2, PAGE)?;
+    let physical = physical_at(words, 3, PAGE, setup)?;
+    let index = count_at(words, 4, 0, LAST_INDEX)? as u8;
+    let global = is_word(words.text(5), b"global");
     Ok(Command::Map(k, address, physical, index, global))
 }
 
-fn read_invlpg(line: &Line<'_>, setup: &Setup) -> Result<Command, ScriptFault>
-    ensures { result ≡ invlpg_in setup.now line.now.number (words_of line.now.bytes.now) }
+fn read_invlpg(words: &Words<'_>, setup: &Setup) -> Result<Command, ScriptFault>
+    ensures { result ≡ invlpg_in setup.now words.now.number words.now.words }
 {
-    let k = processor_at(line, 1, setup)?;
-    let address = virtual_at(line, 2, 1)?;
+    let k = processor_at(words, 1, setup)?;
+    let address = virtual_at(words, 2, 1)?;
     Ok(Command::Invlpg(k, address))
 }
 
-fn read_msr(line: &Line<'_>, setup: &Setup) -> Result<Command, ScriptFault>
-    ensures { result ≡ msr_in setup.now line.now.number (words_of line.now.bytes.now) }
+fn read_msr(words: &Words<'_>, setup: &Setup) -> Result<Command, ScriptFault>
+    ensures { result ≡ msr_in setup.now words.now.number words.now.words }
 {
-    let k = processor_at(line, 1, setup)?;
-    let msr = register_at(line, 2, setup)?;
+    let k = processor_at(words, 1, setup)?;
+    let msr = register_at(words, 2, setup)?;
     Ok(Command::Msr(k, msr))
 }
 
-fn read_cpus(line: &Line<'_>) -> Result<Command, ScriptFault>
-    ensures { result ≡ cpus_in line.now.number (words_of line.now.bytes.now) }
+fn read_cpus(words: &Words<'_>) -> Result<Command, ScriptFault>
+    ensures { result ≡ cpus_in words.now.number words.now.words }
 {
-    Ok(Command::Cpus(count_at(line, 1, 1, MOST_CPUS)? as u32))
+    Ok(Command::Cpus(count_at(words, 1, 1, MOST_CPUS)? as u32))
 }
 
-fn is_on(line: &Line<'_>) -> bool
-    ensures { result ≡ is_word (codes "on") (text_of (words_of line.now.bytes.now) 2) }
+fn is_on(words: &Words<'_>) -> bool
+    ensures { result ≡ is_word (codes "on") (text_of words.now.words 2) }
 {
-    is_word(text_of(line, 2), b"on")
+    is_word(words.text(2), b"on")
 }
 
 // The numbers of a line of this row, and the command that it asks for.
-fn read_row(line: &Line<'_>, setup: &Setup, row: Row) -> Result<Command, ScriptFault>
-    ensures { result ≡ row_answer setup.now line.now.number (words_of line.now.bytes.now) row }
+fn read_row(words: &Words<'_>, setup: &Setup, row: Row) -> Result<Command, ScriptFault>
+    ensures { result ≡ row_answer setup.now words.now.number words.now.words row }
 {
     match row {
-        Row::Cpus => read_cpus(line),
+        Row::Cpus => read_cpus(words),
         Row::Dump => Ok(Command::Dump),
-        Row::Ram => read_ram(line, setup),
-        Row::Load => read_load(line, setup),
-        Row::Store => read_store(line, setup),
-        Row::Fence => Ok(Command::Fence(processor_at(line, 1, setup)?)),
-        Row::Map => read_map(line, setup),
-        Row::Invlpg => read_invlpg(line, setup),
-        Row::Cr3 => Ok(Command::Cr3(processor_at(line, 1, setup)?)),
-        Row::Pge => Ok(Command::Pge(processor_at(line, 1, setup)?, is_on(line))),
-        Row::Cd => Ok(Command::Cd(processor_at(line, 1, setup)?, is_on(line))),
+        Row::Ram => read_ram(words, setup),
+        Row::Load => read_load(words, setup),
+        Row::Store => read_store(words, setup),
+        Row::Fence => Ok(Command::Fence(processor_at(words, 1, setup)?)),
+        Row::Map => read_map(words, setup),
+        Row::Invlpg => read_invlpg(words, setup),
+        Row::Cr3 => Ok(Command::Cr3(processor_at(words, 1, setup)?)),
+        Row::Pge => Ok(Command::Pge(processor_at(words, 1, setup)?, is_on(words))),
+        Row::Cd => Ok(Command::Cd(processor_at(words, 1, setup)?, is_on(words))),
         Row::Update => Ok(Command::Update),
         Row::Begin => Ok(Command::Begin),
         Row::Go => Ok(Command::Go),
         Row::Cancel => Ok(Command::Cancel),
         Row::Report => Ok(Command::Report),
-        Row::Step => Ok(Command::Step(processor_at(line, 1, setup)?)),
-        Row::Word => Ok(Command::Word(physical_at(line, 1, WORD, setup)?)),
-        Row::Msr => read_msr(line, setup),
+        Row::Step => Ok(Command::Step(processor_at(words, 1, setup)?)),
+        Row::Word => Ok(Command::Word(physical_at(words, 1, WORD, setup)?)),
+        Row::Msr => read_msr(words, setup),
     }
 }
 
-fn read_outside(line: &Line<'_>, setup: &Setup) -> Result<Command, ScriptFault>
-    ensures { result ≡ outside setup.now line.now.number (words_of line.now.bytes.now) }
+fn read_outside(words: &Words<'_>, setup: &Setup) -> Result<Command, ScriptFault>
+    ensures { result ≡ outside setup.now words.now.number words.now.words }
 {
-    if line.words() == 0 {
+    if words.count() == 0 {
         return Ok(Command::Blank);
     }
-    let Some(row) = row_of(text_of(line, 0)) else {
-        return Err(fault(ScriptReason::BadLine, place_of(line, 0)));
+    let Some(row) = row_of(words.text(0)) else {
+        return Err(fault(ScriptReason::BadLine, words.place(0)));
     };
-    if let Some(fault) = shape_fault(line, row) {
+    if let Some(fault) = shape_fault(words, row) {
         return Err(fault);
     }
     if !stands(row, setup.stage()) {
-        return Err(fault(ScriptReason::NotNow, place_of(line, 0)));
+        return Err(fault(ScriptReason::NotNow, words.place(0)));
     }
-    read_row(line, setup, row)
+    read_row(words, setup, row)
 }
 
 fn was_seen(seen: &[u32], msr: u32) -> bool
@@ -164,39 +163,40 @@ fn register(setup: &Setup, first: Place, number: u64, value: u64) -> Result<Comm
     Ok(Command::Register { msr, value })
 }
 
-fn read_register(line: &Line<'_>, setup: &Setup) -> Result<Command, ScriptFault>
-    ensures { result ≡ register_line setup.now line.now.number (words_of line.now.bytes.now) }
+fn read_register(words: &Words<'_>, setup: &Setup) -> Result<Command, ScriptFault>
+    ensures { result ≡ register_line setup.now words.now.number words.now.words }
 {
-    let first = place_of(line, 0);
-    let number = any(first, hex64(without_ending(text_of(line, 0), b':')))?;
-    let value = value_at(line, 1)?;
+    let first = words.place(0);
+    let number = any(first, hex64(without_ending(words.text(0), b':')))?;
+    let value = value_at(words, 1)?;
     register(setup, first, number, value)
 }
 
-fn is_end(line: &Line<'_>) -> bool
-    ensures { result ≡ is_end (words_of line.now.bytes.now) }
+fn is_end(words: &Words<'_>) -> bool
+    ensures { result ≡ is_end words.now.words }
 {
-    line.words() == 1 && is_word(text_of(line, 0), b"end")
+    words.count() == 1 && is_word(words.text(0), b"end")
 }
 
-fn read_in_section(line: &Line<'_>, setup: &Setup) -> Result<Command, ScriptFault>
-    ensures { result ≡ in_section setup.now line.now.number (words_of line.now.bytes.now) }
+fn read_in_section(words: &Words<'_>, setup: &Setup) -> Result<Command, ScriptFault>
+    ensures { result ≡ in_section setup.now words.now.number words.now.words }
 {
-    if is_end(line) {
+    if is_end(words) {
         return Ok(Command::End);
     }
-    match line.words() {
+    match words.count() {
         0 => Ok(Command::Blank),
-        1 => Err(fault(ScriptReason::BadLine, place_of(line, 0))),
-        2 => read_register(line, setup),
-        _ => Err(fault(ScriptReason::BadLine, place_of(line, 2))),
+        1 => Err(fault(ScriptReason::BadLine, words.place(0))),
+        2 => read_register(words, setup),
+        _ => Err(fault(ScriptReason::BadLine, words.place(2))),
     }
 }
 
+#[tactic(auto, using(crate::proofs::FirstWords::is_end_first))]
 fn read_in_dump(line: &Line<'_>) -> Command
     ensures { in_dump line.now.bytes.now ≡ Ok result }
 {
-    if !line.too_long() && is_end(line) {
+    if !line.too_long() && is_end(&line.first_words()) {
         Command::End
     } else {
         Command::DumpLine
@@ -224,6 +224,19 @@ pub fn read_command(line: &Line<'_>, st: &Setup) -> Result<Command, ScriptFault>
     read_line(line, st)
 }
 
+#[tactic(auto, using(crate::proofs::FirstWords::section_first))]
+fn read_section_line(line: &Line<'_>, st: &Setup) -> Result<Command, ScriptFault>
+    ensures { result ≡ in_section st.now line.now.number (words_of line.now.bytes.now) }
+{
+    read_in_section(&line.first_words(), st)
+}
+
+fn read_outside_line(line: &Line<'_>, st: &Setup) -> Result<Command, ScriptFault>
+    ensures { result ≡ outside st.now line.now.number (words_of line.now.bytes.now) }
+{
+    read_outside(&line.first_words(), st)
+}
+
 fn read_line(line: &Line<'_>, st: &Setup) -> Result<Command, ScriptFault>
     ensures { result ≡ command_of st.now line.now.number line.now.bytes.now }
 {
@@ -235,8 +248,8 @@ fn read_line(line: &Line<'_>, st: &Setup) -> Result<Command, ScriptFault>
         return Err(fault);
     }
     match stage {
-        Stage::InUpdate | Stage::InBegin => read_in_section(line, st),
-        _ => read_outside(line, st),
+        Stage::InUpdate | Stage::InBegin => read_section_line(line, st),
+        _ => read_outside_line(line, st),
     }
 }
 

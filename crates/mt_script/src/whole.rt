@@ -9,7 +9,7 @@ ghost use Rattle.mt_script.specs.Commands.{command_of};
 ghost use Rattle.mt_script.specs.Stages.{is_in_dump};
 ghost use Rattle.mt_script.specs.Script.{Rest, after_line, script_offence};
 
-use crate::token::place_of;
+use crate::token::first_place;
 use crate::{Command, Offence, Setup, Stage, read_command, read_end};
 use mt_dump::DumpReader;
 use mt_text::{Line, Place, end_place, next_line};
@@ -47,7 +47,7 @@ fn take_line(setup: &mut Setup, dump: &mut DumpReader, line: &Line<'_>) -> Resul
         return Ok(());
     }
     if command == Command::End {
-        return end_dump(setup, dump, place_of(line, 0));
+        return end_dump(setup, dump, first_place(line));
     }
     match dump.take(line) {
         Ok(()) => Ok(()),

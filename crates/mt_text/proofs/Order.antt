@@ -1,5 +1,5 @@
 -- Words stand in order.
-use Rattle.std.proofs.Common.{◌≡◌, ◌∙◌, ◌+◌, ◌≤◌, ℕ, zero, suc, Bool, true, false, List, [], ◌∷◌, length, take, drop, refl, sym, ap, subst, arith, map, Some, None, ◌-◌, Option}
+use Rattle.std.proofs.Common.{◌≡◌, ◌∙◌, ◌+◌, ◌≤◌, ℕ, zero, suc, Bool, true, false, List, [], ◌∷◌, length, take, drop, refl, sym, ap, subst, arith, map, Some, None}
 use Rattle.std.proofs.lemmas.List.{length-take, length-drop, drop-take}
 use Rattle.std.specs.List.{slice_get}
 use Rattle.std.specs.Option.{option_map}
@@ -86,18 +86,6 @@ moved_some by i bytes word found = moved_get by i bytes ∙ ap (option_map (move
 
 pub moved_none : (by i : ℕ) (bytes : List ℕ) → slice_get (words_from 0 bytes) i ≡ None → slice_get (words_from by bytes) i ≡ None
 moved_none by i bytes none = moved_get by i bytes ∙ ap (option_map (moved by)) none
-
-pub moved_back : (by i offset : ℕ) (text bytes : List ℕ) → slice_get (words_from by bytes) i ≡ Some (offset, text) → slice_get (words_from 0 bytes) i ≡ Some (offset - by, text)
-moved_back by i offset text bytes found = back (slice_get (words_from 0 bytes) i) refl (sym (moved_get by i bytes) ∙ found)
-  where
-    back : (o : Option (ℕ × List ℕ)) → slice_get (words_from 0 bytes) i ≡ o → option_map (moved by) o ≡ Some (offset, text) → slice_get (words_from 0 bytes) i ≡ Some (offset - by, text)
-    back None none is = cc is
-    back (Some word) some is =
-        let pair : moved by word ≡ (offset, text) = cc is in
-        let place : by + word.0 ≡ offset = ap (λ (w : ℕ × List ℕ). w.0) pair in
-        let start : word.0 ≡ offset - by = omega arith in
-        let same : word.1 ≡ text = ap (λ (w : ℕ × List ℕ). w.1) pair in
-        some ∙ ap (λ n. let w : ℕ × List ℕ = (n, word.1) in Some w) start ∙ ap (λ t. let w : ℕ × List ℕ = (offset - by, t) in Some w) same
 
 -- a front of a list is the front of its own length
 pub front_is : (text line : List ℕ) (at : ℕ) → line ≡ take at text → line ≡ take (length line) text

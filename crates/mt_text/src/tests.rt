@@ -7,32 +7,41 @@ fn words_of_a_source(rt: HostRuntime) {
         Some(line) => {
             assert_eq!(rt; (line.offset, line.next, line.words()), (4, 19, 2));
             assert!(rt; !line.too_long());
-            match line.word(0) {
-                Some(first) => {
-                    assert_eq!(rt; first.text, b"0fe:".as_slice());
+            match line.word(1) {
+                Some(second) => {
+                    assert_eq!(rt; second.text, b"508".as_slice());
                     assert_eq!(rt;
-                        (first.offset, first.place),
-                        (5, Place { line: 2, column: 2 })
+                        (second.offset, second.place),
+                        (10, Place { line: 2, column: 7 })
                     );
-                    match line.word_after(&first) {
-                        Some(second) => {
-                            assert_eq!(rt; second.text, b"508".as_slice());
-                            assert_eq!(rt;
-                                (second.offset, second.place),
-                                (10, Place { line: 2, column: 7 })
-                            );
-                            assert!(rt; line.word_after(&second).is_none());
-                        }
-                        None => panic!(rt; "the second word is missing"),
-                    }
                 }
-                None => panic!(rt; "the first word is missing"),
+                None => panic!(rt; "the second word is missing"),
             }
             assert!(rt; line.word(2).is_none());
         }
         None => panic!(rt; "the line is missing"),
     }
     assert_eq!(rt; end_place(source), Place { line: 3, column: 4 });
+}
+
+#[test]
+fn first_words_of_a_line(rt: HostRuntime) {
+    let Some(line) = next_line(b" map 0 1000\t2000 6 global on and # on", 0, 9) else {
+        panic!(rt; "the line is missing")
+    };
+    let words = line.first_words();
+    assert_eq!(rt; (line.words(), words.count()), (8, 7));
+    assert_eq!(rt; words.text(3), b"2000".as_slice());
+    assert_eq!(rt;
+        words.place(3),
+        Place {
+            line: 9,
+            column: 13
+        }
+    );
+    assert_eq!(rt; words.text(6), b"on".as_slice());
+    assert_eq!(rt; words.text(7), b"".as_slice());
+    assert_eq!(rt; words.place(7), Place { line: 9, column: 1 });
 }
 
 #[test]

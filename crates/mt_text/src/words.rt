@@ -1,6 +1,6 @@
-ghost use Rattle.std.specs.Prelude.{◌≡◌, ℕ, ◌≤◌, ◌<◌, ◌+◌, ◌-◌, [], ◌∷◌, length, drop, take, MatchOption, IfSome, position, Some, None, slice_get};
+ghost use Rattle.std.specs.Prelude.{◌≡◌, ◌≤◌, ◌<◌, ◌+◌, ◌-◌, [], ◌∷◌, length, drop, take, MatchOption, IfSome, position, Some, None, slice_get};
 ghost use Rattle.std.specs.List.{position_or_len};
-ghost use Rattle.mt_text.specs.Text.{is_blank, is_word_byte, ends_word, before_comment, without_ending, without_return, words_at, words_from, words_of, HasWord};
+ghost use Rattle.mt_text.specs.Text.{is_blank, is_word_byte, ends_word, before_comment, without_ending, without_return, words_at, words_from, words_of};
 
 use crate::{Line, Place};
 
@@ -65,7 +65,7 @@ pub fn without_ending(text: &[u8], ending: u8) -> &[u8]
 
 // Where the first word from an offset on begins and ends, in a line without CR.
 #[tactic(auto, using(crate::proofs::Places::position_within))]
-fn next_word(text: &[u8], from: usize) -> Option<(usize, usize)>
+pub(crate) fn next_word(text: &[u8], from: usize) -> Option<(usize, usize)>
     requires { from ≤ length text.now }
     ensures bounds { IfSome result (λ x. (from ≤ x.0) × (x.0 < x.1) × (x.1 ≤ length text.now)) }
     ensures word { MatchOption result
@@ -125,10 +125,8 @@ impl<'a> Line<'a> {
         requires some { start < end }
         requires within { end ≤ length (without_return self.now.bytes.now) }
         ensures text { result.text.now ≡ take (end - start) (drop start (without_return self.now.bytes.now)) }
-        ensures slice { result.text.now ≡ take (length result.text.now) (drop start self.now.bytes.now) }
         ensures offset { result.offset ≡ self.now.offset + start }
-        ensures line { result.place.line ≡ self.now.number }
-        ensures column { result.place.column ≡ start + 1 }
+        ensures place { result.place ≡ record { line = self.now.number; column = start + 1 } }
     {
         let text = without_ending(self.bytes, b'\r');
         Word {
@@ -143,37 +141,12 @@ impl<'a> Line<'a> {
 
     /// The i-th word, as it stands in the source.
     pub fn word(&self, i: usize) -> Option<Word<'a>>
-        ensures slice { IfSome result (λ word. word.text.now ≡ take (length word.text.now) (drop (word.offset - self.now.offset) self.now.bytes.now)) }
-        ensures offset { IfSome result (λ word. (self.now.offset ≤ word.offset) × (word.place.line ≡ self.now.number) × (word.place.column + self.now.offset ≡ word.offset + 1)) }
         ensures word { MatchOption result
-            (slice_get (words_of self.now.bytes.now) i ≡ None)
-            (λ word. slice_get (words_of self.now.bytes.now) i ≡ Some (word.offset - self.now.offset, word.text.now)) }
-        ensures source { MatchOption result
             (slice_get (words_at self.now.offset self.now.bytes.now) i ≡ None)
             (λ word. slice_get (words_at self.now.offset self.now.bytes.now) i ≡ Some (word.offset, word.text.now)) }
+        ensures place { IfSome result (λ word. word.place ≡ record { line = self.now.number; column = word.offset - self.now.offset + 1 }) }
     {
         let Some((start, end)) = word_at(without_ending(self.bytes, b'\r'), i) else {
-            return None;
-        };
-        Some(self.word_between(start, end))
-    }
-
-    /// The word after a word of this line, found from that word's end on.
-    pub fn word_after(&self, word: &Word<'_>) -> Option<Word<'a>>
-        requires begins { self.now.offset ≤ word.now.offset }
-        requires has { HasWord self.now.bytes.now (word.now.offset - self.now.offset, word.now.text.now) }
-        ensures slice { IfSome result (λ next. next.text.now ≡ take (length next.text.now) (drop (next.offset - self.now.offset) self.now.bytes.now)) }
-        ensures offset { IfSome result (λ next. (self.now.offset ≤ next.offset) × (next.place.line ≡ self.now.number) × (next.place.column + self.now.offset ≡ next.offset + 1)) }
-        ensures has { IfSome result (λ next. HasWord self.now.bytes.now (next.offset - self.now.offset, next.text.now)) }
-        ensures word { (i : ℕ) → slice_get (words_of self.now.bytes.now) i ≡ Some (word.now.offset - self.now.offset, word.now.text.now) → MatchOption result
-            (slice_get (words_of self.now.bytes.now) (i + 1) ≡ None)
-            (λ next. slice_get (words_of self.now.bytes.now) (i + 1) ≡ Some (next.offset - self.now.offset, next.text.now)) }
-        ensures source { (i : ℕ) → slice_get (words_at self.now.offset self.now.bytes.now) i ≡ Some (word.now.offset, word.now.text.now) → MatchOption result
-            (slice_get (words_at self.now.offset self.now.bytes.now) (i + 1) ≡ None)
-            (λ next. slice_get (words_at self.now.offset self.now.bytes.now) (i + 1) ≡ Some (next.offset, next.text.now)) }
-    {
-        let end = word.offset - self.offset + word.text.len();
-        let Some((start, end)) = next_word(without_ending(self.bytes, b'\r'), end) else {
             return None;
         };
         Some(self.word_between(start, end))
