@@ -1,6 +1,6 @@
-ghost use Rattle.std.specs.Prelude.{◌≡◌, ◌≤◌, ◌⊎◌, ◌↔◌, ℕ, List, length, Some, None};
-ghost use Rattle.std.specs.List.{AllByRecursion};
-ghost use Rattle.mt_text.specs.Text.{lines_of};
+ghost use Rattle.std.specs.Prelude.{◌≡◌, ◌<◌, ◌≤◌, ◌⊎◌, ◌↔◌, ◌∷◌, ◌++◌, ℕ, List, length, not, true, Some, None};
+ghost use Rattle.std.specs.List.{AllByRecursion, list_all};
+ghost use Rattle.mt_text.specs.Text.{is_line_end, lines_of};
 ghost use Rattle.mt_regs.specs.RegisterFile.{RegisterFile, IsRegisterFile};
 ghost use Rattle.mt_regs.specs.Words.{HasWords};
 ghost use Rattle.mt_dump.specs.Canon.{canon};
@@ -42,4 +42,10 @@ pub fn a_register_file_is_shown_by_its_text(f: &RegFile)
 /// What a text shows in the plain form it shows, where each line keeps to the limit.
 pub fn what_is_plainly_shown_is_shown()
     ensures { (text : List ℕ) (file : RegisterFile) → PlainlyShown text file → AllByRecursion (λ line. length line ≤ 4096) (lines_of text) → Shown text file }
+{}
+
+/// A first line that is a comment and keeps to the limit changes nothing of what the text behind it shows.
+pub fn a_comment_shows_nothing()
+    ensures { (comment text : List ℕ) (file : RegisterFile) → list_all (λ b. not (is_line_end b)) comment ≡ true → length comment < 4096
+        → Shown text file → Shown (35 ∷ (comment ++ 10 ∷ text)) file }
 {}

@@ -12,9 +12,10 @@ mod worked;
 pub use canon::{number_text, value_text, write_dump};
 pub use fault::{DumpFault, DumpReason};
 pub use laws::{
-    a_register_file_is_shown_by_its_text, a_text_shows_a_file_or_has_an_offence,
-    a_text_shows_one_file, canonical_texts_are_equal_where_files_are,
-    the_canonical_text_shows_its_file, what_is_plainly_shown_is_shown,
+    a_comment_shows_nothing, a_register_file_is_shown_by_its_text,
+    a_text_shows_a_file_or_has_an_offence, a_text_shows_one_file,
+    canonical_texts_are_equal_where_files_are, the_canonical_text_shows_its_file,
+    what_is_plainly_shown_is_shown,
 };
 pub use reader::{DumpReader, read_dump};
 pub use worked::{
