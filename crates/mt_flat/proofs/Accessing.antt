@@ -32,7 +32,7 @@ use Rattle.mt_laws.proofs.Words.WordLaws.{entry_lines, entry_has, quiet_stands, 
 use Rattle.mt_laws.proofs.Words.ControlLaws.{paged}
 use Rattle.mt_laws.proofs.Words.Agreement.{stands_next, step_keeps_word}
 use Rattle.mt_flat.specs.Flat.{Flat, FlatEvent, Loads, Stores, empty_all, flat_answer, flat_next}
-use Rattle.mt_flat.specs.Seen.{flat_after, given, given_access, written_of}
+use Rattle.mt_flat.specs.Seen.{flat_after, given, given_access, given_control, written_of}
 use Rattle.mt_flat.proofs.Emptying.{Same, same_drain}
 use Rattle.mt_flat.proofs.Storing.{KeepsBuffers, buffers_kept, change_keeps, same_load, same_store, value_of_load}
 
@@ -168,24 +168,27 @@ module _ (ws : List Window) (aligned : AllAligned ws) where
 
   -- ---- control instructions
 
-  control_at_same : (s : System) (k : ℕ) (p : Processor) (c : Control) (o : Option Order) (f : Flat) → slice_get s.processors k ≡ Some p → Same ws s f → Same ws (control_at s k p c).after (after_given f (given (record { system = s; order = o }) (Controls k c)))
-  control_at_same s k p (Map m) o f at r = one (is_full_for m p.mappings)
+  control_at_same : (s : System) (k : ℕ) (p : Processor) (c : Control) (f : Flat) → slice_get s.processors k ≡ Some p → Same ws s f → Same ws (control_at s k p c).after (after_given f (given_control k c (control_at s k p c).answer))
+  control_at_same s k p (Map m) f at r = one (is_full_for m p.mappings)
     where
-      one : (b : Bool) → Same ws (pick {X = RuledAfter} b (record { answer = Full; after = s }) (record { answer = Okay; after = change (λ q. record q { mappings = set_mapping m q.mappings }) k s })).after f
+      picked : Bool → RuledAfter
+      picked b = pick b (record { answer = Full; after = s }) (record { answer = Okay; after = change (λ q. record q { mappings = set_mapping m q.mappings }) k s })
+
+      one : (b : Bool) → Same ws (picked b).after (after_given f (given_control k (Map m) (picked b).answer))
       one true = r
       one false = same_quiet (λ q. record q { mappings = set_mapping m q.mappings }) k s f (λ q. (refl, refl)) r
-  control_at_same s k p (Invlpg address) o f at r = same_quiet (drop_page (address / 4096)) k (drain k s) (empty_all k f) (λ q. (refl, refl)) (same_drain ws aligned k s f (p, at) r)
-  control_at_same s k p Cr3 o f at r = same_quiet reload_cr3 k (drain k s) (empty_all k f) (λ q. (refl, refl)) (same_drain ws aligned k s f (p, at) r)
-  control_at_same s k p (Pge on) o f at r = same_quiet (set_page_global on) k (drain k s) (empty_all k f) (paged on) (same_drain ws aligned k s f (p, at) r)
-  control_at_same s k p (Cd on) o f at r = same_quiet (λ q. record q { cache_disabled = on }) k (drain k s) (empty_all k f) (λ q. (refl, refl)) (same_drain ws aligned k s f (p, at) r)
+  control_at_same s k p (Invlpg address) f at r = same_quiet (drop_page (address / 4096)) k (drain k s) (empty_all k f) (λ q. (refl, refl)) (same_drain ws aligned k s f (p, at) r)
+  control_at_same s k p Cr3 f at r = same_quiet reload_cr3 k (drain k s) (empty_all k f) (λ q. (refl, refl)) (same_drain ws aligned k s f (p, at) r)
+  control_at_same s k p (Pge on) f at r = same_quiet (set_page_global on) k (drain k s) (empty_all k f) (paged on) (same_drain ws aligned k s f (p, at) r)
+  control_at_same s k p (Cd on) f at r = same_quiet (λ q. record q { cache_disabled = on }) k (drain k s) (empty_all k f) (λ q. (refl, refl)) (same_drain ws aligned k s f (p, at) r)
 
-  control_same : (s : System) (k : ℕ) (c : Control) (o : Option Order) (f : Flat) → option_map_or (λ p. is_running p.phase) (slice_get s.processors k) false ≡ true → Same ws s f → Same ws (control s k c).after (after_given f (given (record { system = s; order = o }) (Controls k c)))
-  control_same s k c o f h r =
+  control_same : (s : System) (k : ℕ) (c : Control) (f : Flat) → option_map_or (λ p. is_running p.phase) (slice_get s.processors k) false ≡ true → Same ws s f → Same ws (control s k c).after (after_given f (given_control k c (control s k c).answer))
+  control_same s k c f h r =
       let p = running_at s k h in
       let is : control s k c ≡ control_at s k p.0 c =
       ap (λ (q : Option Processor). option_map_or {U = RuledAfter} (λ x. if is_running x.phase then control_at s k x c else record { answer = RuledBusy; after = s }) q (record { answer = RuledBusy; after = s })) p.1
       ∙ ap (λ b. pick {X = RuledAfter} b (control_at s k p.0 c) (record { answer = RuledBusy; after = s })) p.2 in
-      subst (λ (x : RuledAfter). Same ws x.after (after_given f (given (record { system = s; order = o }) (Controls k c)))) (sym is) (control_at_same s k p.0 c o f p.1 r)
+      subst (λ (x : RuledAfter). Same ws x.after (after_given f (given_control k c x.answer))) (sym is) (control_at_same s k p.0 c f p.1 r)
 
   -- ---- the update's events
 
@@ -237,7 +240,7 @@ module _ (ws : List Window) (aligned : AllAligned ws) where
 
   event_same : (e : MachineEvent) (s : System) (o : Option Order) (f : Flat) → IsEnabled (record { system = s; order = o }) e → Same ws s f → Same ws (next (record { system = s; order = o }) e).system (flat_after (record { system = s; order = o }) e f)
   event_same (Accesses k op) s o f enabled r = access_same s k op f enabled.0 r
-  event_same (Controls k c) s o f enabled r = control_same s k c o f enabled.0 r
+  event_same (Controls k c) s o f enabled r = control_same s k c f enabled.0 r
   event_same (Calls goal) s o f enabled r = r
   event_same Goes s None f enabled r = r
   event_same Goes s (Some o) f enabled r = r

@@ -10,11 +10,15 @@ use Rattle.mt_machine.specs.declared.op.Op.{Op}
 use Rattle.mt_machine.specs.declared.op.Op.TheVariants.{Load, Store, Fence}
 use Rattle.mt_machine.specs.declared.done.Done.{Done}
 use Rattle.mt_machine.specs.declared.done.Done.TheVariants.{Value, Stored, Fenced}
+use Rattle.mt_machine.specs.declared.control.Control.{Control}
 use Rattle.mt_machine.specs.declared.control.Control.TheVariants.{Map}
+use Rattle.mt_machine.specs.declared.ruled.Ruled.{Ruled}
+use Rattle.mt_machine.specs.declared.ruled.Ruled.TheVariants.{Okay}
 use Rattle.mt_machine.specs.declared.event.Event.TheVariants.{Take}
 use Rattle.mt_machine.specs.Memory.{Window, word_at}
 use Rattle.mt_machine.specs.System.{System, IsSound, buffers_of, now}
 use Rattle.mt_machine.specs.Access.{access}
+use Rattle.mt_machine.specs.Control.{control}
 use Rattle.mt_machine.specs.Machine.{Machine, MachineEvent, Order, Accesses, Calls, Controls, Steps, IsEnabled, AreEnabled, next, run}
 use Rattle.mt_machine.specs.Start.{IsQuiet, IsStart, start_machine}
 use Rattle.mt_machine.specs.Update.{physical_of, stored_words, updated}
@@ -31,11 +35,20 @@ given_access s k (Store address value) (Stored kind) = option_map (λ word. Stor
 given_access s k Fence Fenced = Some (Empties k)
 given_access s k op other = None
 
--- each control instruction but Map empties, and so does Take
+-- each control instruction but Map empties
+abbrev pub emptied_by : ℕ → Control → Option FlatEvent
+emptied_by k (Map p) = None
+emptied_by k other = Some (Empties k)
+
+-- a control instruction that was answered Okay
+abbrev pub given_control : ℕ → Control → Ruled → Option FlatEvent
+given_control k c Okay = emptied_by k c
+given_control k c other = None
+
+-- Take empties too
 abbrev pub given : Machine → MachineEvent → Option FlatEvent
 given m (Accesses k op) = given_access m.system k op (access m.system k op).answer
-given m (Controls k (Map p)) = None
-given m (Controls k other) = Some (Empties k)
+given m (Controls k c) = given_control k c (control m.system k c).answer
 given m (Steps k Take) = Some (Empties k)
 given m other = None
 

@@ -5,10 +5,10 @@ ghost use Rattle.mt_machine.specs.declared.event.Event.TheVariants.{Arrive, Take
 ghost use Rattle.mt_machine.specs.declared.done.Done.TheVariants.{Value};
 ghost use Rattle.mt_machine.specs.declared.op.Op.TheVariants.{Fence, Load};
 ghost use Rattle.mt_machine.specs.Machine.{Accesses, Calls, Controls, Steps, run};
-ghost use Rattle.mt_machine.specs.WorkedRuns.{answer_of, goal_of, load, mapping, maps, palette, small, store};
+ghost use Rattle.mt_machine.specs.WorkedRuns.{answer_of, called, goal_of, load, mapping, maps, palette, small, store, walk};
 ghost use Rattle.mt_flat.specs.Courses.{Does, Updates, course, flat_course};
 ghost use Rattle.mt_flat.specs.Flat.{flat_answer, flat_start};
-ghost use Rattle.mt_flat.specs.Seen.{IsFlatAnswer, IsFlatOf, IsHeldFlat};
+ghost use Rattle.mt_flat.specs.Seen.{IsFlatAnswer, IsFlatOf, IsHeldFlat, given};
 ghost use Rattle.mt_flat.specs.WorkedRuns.{flat_of, four_lines, numbers, pending_words, seven_words};
 
 /// Words of write-combining stores, pending and then set.
@@ -38,6 +38,7 @@ pub fn worked_pending()
     ensures pge { numbers (flat_of (store 0 0x3008 7 ∷ Controls 0 (Pge false) ∷ [])) 0 ≡ [] }
     ensures cd { numbers (flat_of (store 0 0x3008 7 ∷ Controls 0 (Cd true) ∷ [])) 0 ≡ [] }
     ensures others_control { numbers (flat_of (store 0 0x3008 7 ∷ Controls 1 Cr3 ∷ [])) 0 ≡ 0x4000 ∷ [] }
+    ensures refused_control { given (walk 1 0 (called palette)) (Controls 0 Cr3) ≡ None }
     ensures map_empties_nothing { numbers (flat_of (store 0 0x3008 7 ∷ maps 0 (mapping 6 0x100 0) ∷ [])) 0 ≡ 0x4000 ∷ [] }
     ensures take { (flat_of (store 0 0x3008 7 ∷ Calls goal_of ∷ Steps 0 Take ∷ [])).values 0x100008 ≡ 7 }
     ensures take_leaves_none { numbers (flat_of (store 0 0x3008 7 ∷ Calls goal_of ∷ Steps 0 Take ∷ [])) 0 ≡ [] }

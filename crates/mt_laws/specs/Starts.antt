@@ -1,18 +1,17 @@
 -- The start, and the eras.
-use Rattle.std.specs.Prelude.{◌≡◌, ℕ, ◌%◌, true, List, None, Some, ◌≤◌, ◌<◌, ◌-◌, ◌^◌}
-use Rattle.std.specs.List.{All, AllPairs}
+use Rattle.std.specs.Prelude.{◌≡◌, ℕ, true, List, None, Some, ◌<◌, ◌-◌, ◌^◌}
+use Rattle.std.specs.List.{All}
 use Rattle.mt_machine.specs.Machine.{Machine, Order, Reached, MachineEvent, Calls, IsEnabled, next}
 use Rattle.mt_regs.specs.RegisterFile.{RegisterFile, IsRegisterFile}
 use Rattle.mt_machine.specs.Update.{is_call, updated}
-use Rattle.mt_machine.specs.Start.{IsQuiet, IsStart, HasEraRoom, start_machine}
+use Rattle.mt_machine.specs.Start.{IsQuiet, IsStart, HasEraRoom, start_machine, zero_memory}
 use Rattle.mt_regs.specs.Faults.{IsAccepted}
-use Rattle.mt_machine.specs.Memory.{Window, window_end, AreApart}
+use Rattle.mt_machine.specs.Memory.{IsMemory, Window}
 
 -- processors with one accepted file, over windows of zero words, are a quiet start
 abbrev pub StartIsQuiet : Type 0
 StartIsQuiet =
-    (count : ℕ) (f : RegisterFile) (ws : List Window) → IsRegisterFile f → IsAccepted f
-    → All (λ w. w.base % 64 ≡ 0) ws → All (λ w. window_end w ≤ 2 ^ 52) ws → AllPairs AreApart ws
+    (count : ℕ) (f : RegisterFile) (ws : List Window) → IsRegisterFile f → IsAccepted f → IsMemory (zero_memory ws)
     → IsQuiet (start_machine count f ws)
 
 -- the eras fit 64 bits, also once the update under way has ended

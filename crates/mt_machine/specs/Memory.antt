@@ -1,5 +1,5 @@
 -- Physical memory: windows of words, and the words of all windows in a row (own). Outside the windows there is no memory.
-use Rattle.std.specs.Prelude.{◌≡◌, ◌⊎◌, ◌≤◌, length, ℕ, ◌+◌, ◌-◌, ◌*◌, ◌/◌, ◌%◌, ◌^◌, ◌==◌, nat_lt, nat_le, ◌&&◌, List, [], ◌∷◌, map, if◌then◌else◌, slice_index, slice_set, Option, None, Some}
+use Rattle.std.specs.Prelude.{◌≡◌, ◌⊎◌, ◌<◌, ◌≤◌, length, ℕ, ◌+◌, ◌-◌, ◌*◌, ◌/◌, ◌%◌, ◌^◌, ◌==◌, nat_lt, nat_le, ◌&&◌, List, [], ◌∷◌, map, if◌then◌else◌, slice_index, slice_set, Option, None, Some}
 use Rattle.std.specs.Option.{option_map_or}
 use Rattle.std.specs.List.{filter, fold, All, AllPairs}
 use Rattle.mt_cache.specs.declared.line.CacheLine.{CacheLine}
@@ -25,8 +25,9 @@ window_end w = w.base + 64 * w.lines
 abbrev pub AreApart : Window → Window → Type 0
 AreApart v w = (window_end v ≤ w.base) ⊎ (window_end w ≤ v.base)
 
--- windows begin at a line, lie within the physical addresses and share none, and each of their words is there
+-- windows have a line, begin at one, lie within the physical addresses and share none, and each of their words is there
 pub record IsMemory (m : Memory) : Type 0 where
+  pub some_lines : All (λ w. 0 < w.lines) m.windows
   pub aligned : All (λ w. w.base % 64 ≡ 0) m.windows
   pub bounded : All (λ w. window_end w ≤ 2 ^ 52) m.windows
   pub apart : AllPairs AreApart m.windows

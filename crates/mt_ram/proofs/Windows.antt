@@ -4,7 +4,7 @@ use Rattle.std.proofs.lemmas.Bool.{eqb-true, ltb-false, leb-false, leb-true, ltb
 use Rattle.std.proofs.lemmas.List.{append_assoc, drop-drop, drop_more, length-append, length-drop, length-replicate, length-take, map-append, take-append-le, take_all}
 use Rattle.std.proofs.lemmas.List.Elements.{All-head, All-tail, All-push}
 use Rattle.std.proofs.lemmas.List.Quantifiers.{all_pairs_push}
-use Rattle.std.specs.List.{All}
+use Rattle.std.specs.List.{All, slice_range}
 use Rattle.std.specs.Vec.{with_items_from}
 use Rattle.mt_ram.specs.declared.fault.RamFault.TheVariants.{Misaligned, Overlaps, TooMuch}
 use Rattle.mt_ram.specs.declared.window.Window.{Window}
@@ -99,16 +99,17 @@ fits ws w h = one (w.base % 64 == 0) (is_overlap ws w) (nat_lt (8 * 4096) (machi
     one true false false false ea eb ec ed e = record { aligned = eqb-true _ _ ea; apart = eb; few = ltb-false _ _ ec; room = leb-false _ _ ed }
     one false b c d ea eb ec ed e = absurd (cc)
 
-words_pushed : (ws : List machine.Window) (w : machine.Window) → machine.word_count (ws ++ w ∷ []) ≡ machine.word_count ws + 8 * w.lines
+pub words_pushed : (ws : List machine.Window) (w : machine.Window) → machine.word_count (ws ++ w ∷ []) ≡ machine.word_count ws + 8 * w.lines
 words_pushed [] w = omega arith
 words_pushed (v ∷ vs) w = let e = words_pushed vs w in omega arith
 
-pub added : (m : machine.Memory) (w : machine.Window) → IsRam m → machine.window_end w ≤ 2 ^ 52 → Fits m.windows w → IsRam (with_window w m)
-added m w h bound f =
+pub added : (m : machine.Memory) (w : machine.Window) → IsRam m → 0 < w.lines → machine.window_end w ≤ 2 ^ 52 → Fits m.windows w → IsRam (with_window w m)
+added m w h some bound f =
     let long : length (m.words ++ replicate (8 * w.lines) 0) ≡ machine.word_count m.windows + 8 * w.lines =
     length-append m.words (replicate (8 * w.lines) 0) ∙ ap (λ n. length m.words + n) (length-replicate (8 * w.lines) 0) ∙ ap (λ n. n + 8 * w.lines) h.memory.counted in
     record {
       memory = record {
+        some_lines = All-push (λ v. 0 < v.lines) m.windows w h.memory.some_lines some;
         aligned = All-push (λ v. v.base % 64 ≡ 0) m.windows w h.memory.aligned f.aligned;
         bounded = All-push (λ v. machine.window_end v ≤ 2 ^ 52) m.windows w h.memory.bounded bound;
         apart = all_pairs_push machine.AreApart m.windows w h.memory.apart (apart_from_all m.windows w f.apart);
@@ -126,6 +127,9 @@ words_whole (w ∷ ws) = let e = words_whole ws in omega arith
 pub line_within : (m : machine.Memory) (i : ℕ) → machine.IsMemory m → i % 8 ≡ 0 → i < length m.words → i + 8 ≤ length m.words
 line_within m i h line within = let e = words_whole m.windows in let counted = h.counted in omega arith
 
+pub line_whole : (m : machine.Memory) (i : ℕ) → machine.IsMemory m → i % 8 ≡ 0 → i < length m.words → length (slice_range m.words i (i + 8)) ≡ 8
+line_whole m i h line within = let e = line_within m i h line within in simp (length-take, length-drop) (omega arith)
+
 pub line_written : {Z : Type 0} (v : Vec ℕ Z) (i : ℕ) (ws : List ℕ) → v.len ≡ length v.items → i ≤ length v.items
     → (with_items_from v i ws).items ≡ take (length v.items) (take i v.items ++ ws ++ drop (i + length ws) v.items)
 line_written v i ws full within =
@@ -139,11 +143,11 @@ line_written v i ws full within =
 -- ---- the lists of a memory whose words have grown
 
 pub added_lists : (ws more : List Window) (xs long : List ℕ) (base lines n held : ℕ) (done : Bool)
-    → IsRam (record { windows = map window_of ws; words = xs }) → refusal (map window_of ws) (window base lines) ≡ None → base + 64 * lines ≤ 2 ^ 52
+    → IsRam (record { windows = map window_of ws; words = xs }) → refusal (map window_of ws) (window base lines) ≡ None → 0 < lines → base + 64 * lines ≤ 2 ^ 52
     → more ≡ ws ++ record { base = base; lines = lines } ∷ [] → n ≡ held → held ≡ length xs → done ≡ true
     → long ≡ (if done then take (n + 8 * lines) xs ++ replicate (n + 8 * lines - held) 0 else xs)
     → IsRam (record { windows = map window_of more; words = long })
-added_lists ws more xs long base lines n held done h fit bound pushed same len ok grown =
+added_lists ws more xs long base lines n held done h fit some bound pushed same len ok grown =
     let words : long ≡ xs ++ replicate (8 * lines) 0 =
     grown
     ∙ ap (λ b. if b then take (n + 8 * lines) xs ++ replicate (n + 8 * lines - held) 0 else xs) ok
@@ -153,4 +157,4 @@ added_lists ws more xs long base lines n held done h fit bound pushed same len o
     ap (map window_of) pushed ∙ map-append window_of ws (record { base = base; lines = lines } ∷ []) in
     subst (λ (vs : List machine.Window). IsRam (record { windows = vs; words = long })) (sym windows)
     (subst (λ (ys : List ℕ). IsRam (record { windows = map window_of ws ++ window base lines ∷ []; words = ys })) (sym words)
-    (added (record { windows = map window_of ws; words = xs }) (window base lines) h bound (fits (map window_of ws) (window base lines) fit)))
+    (added (record { windows = map window_of ws; words = xs }) (window base lines) h some bound (fits (map window_of ws) (window base lines) fit)))

@@ -178,6 +178,7 @@ impl Ram {
         requires within { i < length self.old.words }
         ensures* writes_back { sem 𝓛 (Lends the_row (Array u64 0) self.entry result (with_line i self.old)) }
         ensures value { result.now ≡ slice_range self.old.words i (i + 8) }
+        ensures whole { length result.now ≡ 8 }
     {
         self.words.slice_mut(i..i + 8)
     }

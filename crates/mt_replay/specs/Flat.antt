@@ -10,10 +10,7 @@ use Rattle.mt_machine.specs.declared.done.Done.{Done}
 use Rattle.mt_machine.specs.declared.done.Done.TheVariants.{Value}
 use Rattle.mt_machine.specs.declared.control.Control.{Control}
 use Rattle.mt_machine.specs.declared.control.Control.TheVariants as control_of
-use Rattle.mt_machine.specs.declared.ruled.Ruled.{Ruled}
-use Rattle.mt_machine.specs.declared.ruled.Ruled.TheVariants.{Okay}
 use Rattle.mt_machine.specs.Access.{access}
-use Rattle.mt_machine.specs.Control.{control}
 use Rattle.mt_machine.specs.Machine.{Accesses, Controls, Machine, Steps, due_at}
 use Rattle.mt_machine.specs.Update.{physical_of}
 use Rattle.mt_flat.specs.Flat.{Flat, flat_answer, flat_start}
@@ -33,13 +30,8 @@ use Rattle.mt_replay.specs.Transcript.{Told, behind, told_at_end, told_from, tol
 abbrev pub flat_accessed : Machine → ℕ → Op → Flat → Flat
 flat_accessed m k o f = flat_after m (Accesses k o) f
 
--- a control instruction that is refused gives it nothing
-abbrev pub flat_ruled : Machine → ℕ → Control → Flat → Ruled → Flat
-flat_ruled m k c f Okay = flat_after m (Controls k c) f
-flat_ruled m k c f other = f
-
 abbrev pub flat_controlled : Machine → ℕ → Control → Flat → Flat
-flat_controlled m k c f = flat_ruled m k c f (control m.system k c).answer
+flat_controlled m k c f = flat_after m (Controls k c) f
 
 abbrev pub flat_stepped : Machine → ℕ → Flat → Flat
 flat_stepped m k f = option_map_or (λ e. flat_after m (Steps k e) f) (due_at m k) f

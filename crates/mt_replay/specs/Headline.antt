@@ -11,6 +11,7 @@ use Rattle.std.specs.Prelude.{ℕ, ◌≡◌, ◌⊎◌, ◌↔◌, ◌+◌, Boo
 use Rattle.std.specs.List.{All, Contains}
 use Rattle.std.specs.Option.{option_map_or}
 use Rattle.mt_text.specs.Text.{lines_of, words_of}
+use Rattle.mt_ports.specs.declared.status.Status.{Status}
 use Rattle.mt_ports.specs.declared.status.Status.TheVariants.{Done, Refused}
 use Rattle.mt_regs.specs.declared.fault.Fault.{Fault}
 use Rattle.mt_regs.specs.RegisterFile.{RegisterFile}
@@ -20,9 +21,9 @@ use Rattle.mt_dump.specs.Dump.{offence_of, offence_at_end}
 use Rattle.mt_dump.specs.Reader.{file_in, onto}
 use Rattle.mt_dump.specs.declared.fault.DumpFault.{DumpFault}
 use Rattle.mt_machine.specs.Memory.{place, word_at}
-use Rattle.mt_machine.specs.System.{Processor, now}
+use Rattle.mt_machine.specs.System.{now}
 use Rattle.mt_machine.specs.Machine.{Machine, common_era}
-use Rattle.mt_machine.specs.Update.{emptied}
+use Rattle.mt_machine.specs.Update.{IsSettled, emptied}
 use Rattle.mt_script.specs.Situation.{Situation, at_start}
 use Rattle.mt_script.specs.Stages.{is_in_dump}
 use Rattle.mt_script.specs.Words.{place_of}
@@ -37,6 +38,7 @@ use Rattle.mt_output.specs.Lines.{accepted_line, line, refused_line}
 use Rattle.mt_replay.specs.FirstFault.{first_fault}
 use Rattle.mt_replay.specs.Kept.{HoldsThrough, start_of}
 use Rattle.mt_replay.specs.ReplayState.{ReplayState, command_text, each_processor, first_file, first_state, state_after, with_register}
+use Rattle.mt_replay.specs.Running.{Replays, ReplaysAs}
 use Rattle.mt_replay.specs.Statuses.{ShowsDump, stored_by}
 use Rattle.mt_replay.specs.Texts.{called_line, complete_line}
 use Rattle.mt_replay.specs.Transcript.{Told, behind, told, told_offence, transcript}
@@ -127,10 +129,19 @@ abbrev pub ending : Option Offence → Told
 ending None = told [] Done
 ending (Some o) = told_offence o
 
--- the transcript is the line `accepted`, what the steps write, and the ending
+-- the line `accepted`, what the steps write, and the ending
+abbrev pub told_by_course : List ℕ → Told
+told_by_course text = behind accepted_line (behind (joined (course text)) (ending (script_offence text)))
+
+-- the transcript is that text, with its status
 abbrev pub TranscriptIsOfTheCourse : Type 0
-TranscriptIsOfTheCourse =
-    (text : List ℕ) → IsSome (beginning text) → transcript text ≡ behind accepted_line (behind (joined (course text)) (ending (script_offence text)))
+TranscriptIsOfTheCourse = (text : List ℕ) → IsSome (beginning text) → transcript text ≡ told_by_course text
+
+-- what a replay of a text leaves in the sink is that text, or a front of it
+abbrev pub ReplaysAreOfTheCourse : Type 0
+ReplaysAreOfTheCourse =
+    (text : List ℕ) (before after : Option (List ℕ)) (status : Status) → IsSome (beginning text)
+    → Replays text before after status → ReplaysAs (told_by_course text) before after status
 
 -- where no step begins it is one line, of an offence or of the refused dump
 abbrev pub TranscriptIsOneLine : Type 0
@@ -199,24 +210,30 @@ abbrev pub goal_of : RegisterFile → List Step → RegisterFile
 goal_of goal [] = goal
 goal_of goal (step ∷ steps) = goal_of (given goal step.command) steps
 
--- the goal at the end of a section is processor 0's registers where it begins, with those that its lines give
+-- The section that a call ends: the step that begins it, and its lines. The goal is processor 0's registers where it begins,
+-- with those that its lines give.
+pub record SectionOf (front : List Step) (call : Step) : Type 0 where
+  pub before : List Step
+  pub opens : Step
+  pub lines : List Step
+  pub stand : front ≡ before ++ opens ∷ lines
+  pub begins : (opens.command ≡ command.Update) ⊎ (opens.command ≡ command.Begin)
+  pub no_other_end : NoneOf (λ step. step.command ≡ command.End) lines
+  pub ends : call.command ≡ command.End
+  pub goal : call.before.goal ≡ goal_of (first_file opens.before) lines
+
+-- each call ends a section of this script, which gives its goal
 abbrev pub GoalsAreOfTheirSections : Type 0
 GoalsAreOfTheirSections =
-    (text : List ℕ) (front lines rest : List Step) (opens ends : Step) → course text ≡ front ++ opens ∷ (lines ++ ends ∷ rest)
-    → (opens.command ≡ command.Update) ⊎ (opens.command ≡ command.Begin) → NoneOf (λ step. step.command ≡ command.End) lines
-    → ends.before.goal ≡ goal_of (first_file opens.before) lines
+    (text : List ℕ) (front rest : List Step) (call : Step) → course text ≡ front ++ call ∷ rest → IsCall call → SectionOf front call
 
 -- ---- "every processor holds those register values, no cache, buffer or TLB entry is older than the update,
 -- ---- and memory holds every store cached before it, save words stored again since"
 
--- every line, buffer and TLB entry is of this era
-abbrev pub HoldsOnly : ℕ → Processor → Type 0
-HoldsOnly era p = All (λ l. l.era ≡ era) p.lines × All (λ l. l.era ≡ era) p.buffers × All (λ e. e.era ≡ era) p.entries
-
+-- each processor's file is the goal, and each line, buffer and TLB entry is of this era; each word in memory has this value, save those stored again
 pub record Keeps (goal : RegisterFile) (era : ℕ) (value : ℕ → ℕ) (stored : List ℕ) (m : Machine) : Type 0 where
-  pub every_processor_holds_those_register_values : All (λ p. p.file ≡ goal) m.system.processors
-  pub nothing_is_older_than_the_update : All (HoldsOnly era) m.system.processors
-  pub memory_holds_every_store : (address : ℕ) → IsSome (place m.system.memory address) → (Contains stored address → ⊥) → word_at m.system.memory address ≡ value address
+  pub settled : IsSettled m.system era goal
+  pub held : (address : ℕ) → IsSome (place m.system.memory address) → (Contains stored address → ⊥) → word_at m.system.memory address ≡ value address
 
 -- the words for which a store of these steps was answered `stored`
 abbrev pub stored_in : List Step → List ℕ

@@ -1,6 +1,6 @@
 -- What a part of a replay leaves in the sink and in the writer before it.
 --     Tells told waiting left before after result      what each result says
---     Replays text before after status      what the whole replay of a text leaves in the sink
+--     ReplaysAs told before after status      what a whole replay leaves in the sink; Replays text, of a text
 use Rattle.std.specs.Prelude.{ℕ, ◌≡◌, ◌⊎◌, List, ◌++◌, Option, Result, Ok, Err}
 use Rattle.std.specs.Io.KnownBytes.{Appends}
 use Rattle.mt_ports.specs.Puts.{AppendsFront}
@@ -34,8 +34,12 @@ pub record LeadsTo (from to : Told) (waiting left : List ℕ) (before after : Op
   pub led : from ≡ behind text to
   pub passed : Passes waiting text left before after
 
--- the sink took the transcript, or a front of it for want of memory or after a failed write
+-- the sink took all that is told, with its status, or a front of it for want of memory or after a failed write
+abbrev pub ReplaysAs : Told → Option (List ℕ) → Option (List ℕ) → Status → Type 0
+ReplaysAs t before after status =
+    ((status ≡ t.status) × Appends before after t.text)
+    ⊎ (((status ≡ NoMemory) ⊎ (status ≡ WriteFault)) × AppendsFront before after t.text)
+
+-- what is told is the transcript
 abbrev pub Replays : List ℕ → Option (List ℕ) → Option (List ℕ) → Status → Type 0
-Replays text before after status =
-    ((status ≡ (transcript text).status) × Appends before after (transcript text).text)
-    ⊎ (((status ≡ NoMemory) ⊎ (status ≡ WriteFault)) × AppendsFront before after (transcript text).text)
+Replays text before after status = ReplaysAs (transcript text) before after status

@@ -1,6 +1,6 @@
 ghost use Rattle.std.specs.Prelude.{◌≡◌, ◌∷◌, [], None, false, map, replicate};
 ghost use Rattle.mt_kinds.specs.declared.mem_type.MemType.TheVariants.{WB};
-ghost use Rattle.mt_replay.specs.Headline.{AcceptedWhereIdleAndWhole, CompleteUpdatesAreKept, GoalsAreOfTheirSections, IsCall, IsRefused, NoneOf, RefusedUpdatesChangeNothing, ReleasedUpdatesAreKept, StartsAsTheDumpShows, StatesAreOfTheCourse, StepsAreOfTheirLines, StepsFollow, TranscriptIsOfTheCourse, TranscriptIsOneLine, course, left, release_line, wrote};
+ghost use Rattle.mt_replay.specs.Headline.{AcceptedWhereIdleAndWhole, CompleteUpdatesAreKept, GoalsAreOfTheirSections, IsCall, IsRefused, NoneOf, RefusedUpdatesChangeNothing, ReleasedUpdatesAreKept, ReplaysAreOfTheCourse, StartsAsTheDumpShows, StatesAreOfTheCourse, StepsAreOfTheirLines, StepsFollow, TranscriptIsOfTheCourse, TranscriptIsOneLine, course, left, release_line, wrote};
 ghost use Rattle.mt_replay.specs.Kept.{HoldsThrough};
 ghost use Rattle.mt_replay.specs.Statuses.{AreWithoutCall};
 ghost use Rattle.mt_script.specs.declared.command.Command.TheVariants as command;
@@ -14,6 +14,7 @@ ghost use Rattle.mt_replay.specs.WorkedScript.{IsKept, IsQuietFrom, seven_stored
 /// words stored again since. A refused update changes no processor.
 pub fn the_headline_holds()
     ensures transcript { TranscriptIsOfTheCourse }
+    ensures written { ReplaysAreOfTheCourse }
     ensures one_line { TranscriptIsOneLine }
     ensures lines { StepsAreOfTheirLines }
     ensures starts { StartsAsTheDumpShows }

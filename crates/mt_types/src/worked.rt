@@ -3,7 +3,7 @@ ghost use Rattle.mt_kinds.specs.declared.mem_type.MemType.TheVariants.{UC, WB, W
 ghost use Rattle.mt_regs.specs.declared.page_type.PageType.TheVariants.{Kind, Undefined};
 ghost use Rattle.mt_types.specs.Follow.{Follows};
 ghost use Rattle.mt_types.specs.Runs.{IsLongestRun, IsRunsOf, IsTypeMap, kind_at, pages_end};
-ghost use Rattle.mt_types.specs.Tables.{HasPart, IsTypeTable, type_in};
+ghost use Rattle.mt_types.specs.Tables.{HasPart, IsPartsOf, IsTypeTable, type_in};
 ghost use Rattle.mt_types.specs.WorkedMaps.{off, run, three};
 
 /// A type map, and lists that are none for one thing.
@@ -58,5 +58,7 @@ pub fn worked_parts()
     ensures part { HasPart ((0, WB) ∷ (0x80, UC) ∷ []) 0 0x7f (0, UC) }
     ensures last_part { HasPart ((0, WB) ∷ (0x80, UC) ∷ []) 1 0x1000 (0, UC) }
     ensures before_the_part { HasPart ((0, WB) ∷ (0x80, UC) ∷ []) 1 0x7f (0, UC) → ⊥ }
+    ensures parts { IsPartsOf off ((0, UC) ∷ []) }
+    ensures other_parts { IsPartsOf off ((0, WB) ∷ []) → ⊥ }
     ensures past_the_part { HasPart ((0, WB) ∷ (0x80, UC) ∷ []) 0 0x80 (0, UC) → ⊥ }
 {}

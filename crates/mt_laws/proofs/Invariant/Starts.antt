@@ -1,18 +1,17 @@
 -- A system at its start is sound, and quiet.
-use Rattle.std.proofs.Common.{◌≡◌, ◌≢◌, ℕ, zero, suc, ◌<◌, ◌≤◌, ◌%◌, ◌^◌, List, [], true, false, refl, sym, subst, arith}
+use Rattle.std.proofs.Common.{◌≡◌, ◌≢◌, ℕ, zero, suc, ◌<◌, List, [], true, false, refl, sym, subst, arith}
 use Rattle.std.specs.Prelude.{slice_index, replicate, IsNone, IsSome}
-use Rattle.std.specs.List.{All, AllPairs}
+use Rattle.std.specs.List.{All}
 use Rattle.std.proofs.lemmas.List.Elements.{All-replicate}
 use Rattle.mt_regs.specs.RegisterFile.{RegisterFile, IsRegisterFile}
 use Rattle.mt_regs.specs.Faults.{IsAccepted}
 use Rattle.mt_cache.specs.declared.line.CacheLine.{CacheLine}
 use Rattle.mt_cache.specs.Lines.{find_line, is_dirty}
-use Rattle.std.proofs.lemmas.List.{length-replicate}
-use Rattle.mt_machine.specs.Memory.{Window, window_end, word_count, AreApart, word_at, word_address, place}
+use Rattle.mt_machine.specs.Memory.{IsMemory, Window, word_at, word_address, place}
 use Rattle.mt_machine.specs.System.{Processor, IsCoherent, IsProcessor, IsSound, start_processor}
 use Rattle.mt_machine.specs.Access.{is_running}
 use Rattle.mt_machine.specs.Machine.{FitsGoal, common_era}
-use Rattle.mt_machine.specs.Start.{start_machine}
+use Rattle.mt_machine.specs.Start.{start_machine, zero_memory}
 use Rattle.mt_laws.specs.Starts.{StartIsQuiet}
 use Rattle.mt_laws.proofs.Barrier.Claims.{all_get}
 
@@ -58,9 +57,9 @@ module _ (count : ℕ) (f : RegisterFile) (ws : List Window) where
     sole = λ i j p q apart at_p at_q. subst (λ (ls : List CacheLine). All (λ l. l.dirty ≢ 0 → IsNone (find_line l.number q.lines)) ls) (sym (all_get (λ r. r.lines ≡ []) (start_machine count f ws).system.processors (each (λ r. r.lines ≡ []) refl) i p at_p)) (λ k d within. absurd (omega arith));
   }
 
-  start_sound : All (λ w. w.base % 64 ≡ 0) ws → All (λ w. window_end w ≤ 2 ^ 52) ws → AllPairs AreApart ws → IsRegisterFile f → IsAccepted f → IsSound (start_machine count f ws).system
-  start_sound aligned bounded apart good accepted = record {
-    memory = record { aligned = aligned; bounded = bounded; apart = apart; counted = length-replicate (word_count ws) 0 };
+  start_sound : IsMemory (zero_memory ws) → IsRegisterFile f → IsAccepted f → IsSound (start_machine count f ws).system
+  start_sound memory good accepted = record {
+    memory = memory;
     coherent = start_coherent;
     lines_in_memory = each (Placed (λ p. p.lines)) (λ k d within. absurd (omega arith));
     buffers_in_memory = each (Placed (λ p. p.buffers)) (λ k d within. absurd (omega arith));
@@ -72,8 +71,8 @@ module _ (count : ℕ) (f : RegisterFile) (ws : List Window) where
   common (suc n) = refl
 
 pub start_is_quiet : StartIsQuiet
-start_is_quiet count f ws good accepted aligned bounded apart = record {
-  sound = start_sound count f ws aligned bounded apart good accepted;
+start_is_quiet count f ws good accepted memory = record {
+  sound = start_sound count f ws memory good accepted;
   running = each count f ws (λ p. is_running p.phase ≡ true) refl;
   one_era = each count f ws (λ p. p.era ≡ common_era (replicate count (start_processor f))) (sym (common count f ws count));
   one_kind = each count f ws (λ p. All (λ q. FitsGoal p.file q) (start_machine count f ws).system.processors) (each count f ws (λ q. FitsGoal f q) (record { width = refl; capabilities = refl }));

@@ -80,7 +80,7 @@ module _ (goal : RegisterFile) (ps : List Processor) (m : Memory) where
   }
 
 memory_after : (m : Memory) (f : ℕ → ℕ) → IsMemory m → IsMemory (record { windows = m.windows; words = map f (addresses m.windows) })
-memory_after m f h = record { aligned = h.aligned; bounded = h.bounded; apart = h.apart; counted = length-map (addresses m.windows) f ∙ length_addresses m.windows }
+memory_after m f h = record { some_lines = h.some_lines; aligned = h.aligned; bounded = h.bounded; apart = h.apart; counted = length-map (addresses m.windows) f ∙ length_addresses m.windows }
 
 one_era_after : (goal : RegisterFile) (ps : List Processor) → All (λ p. p.era ≡ common_era ps) ps → All (λ p. p.era ≡ common_era (map (settled_processor goal) ps)) (map (settled_processor goal) ps)
 one_era_after goal ps h =

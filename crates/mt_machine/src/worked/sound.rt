@@ -7,6 +7,7 @@ ghost use Rattle.mt_machine.specs.WorkedRuns.{alone, bare_file, dirty_lines, ent
 /// A memory, and what is none for one thing.
 pub fn worked_memory()
     ensures memory { IsMemory (alone idle).system.memory }
+    ensures window_without_lines { IsMemory (record { windows = record { base = 0; lines = 0 } ∷ []; words = [] }) → ⊥ }
     ensures within_a_line { IsMemory (record { windows = record { base = 0x20; lines = 1 } ∷ []; words = replicate 8 0 }) → ⊥ }
     ensures past_the_end { IsMemory (record { windows = record { base = 0xfffffffffffc0; lines = 2 } ∷ []; words = replicate 16 0 }) → ⊥ }
     ensures shared_line { IsMemory (record { windows = record { base = 0; lines = 2 } ∷ record { base = 0x40; lines = 1 } ∷ []; words = replicate 24 0 }) → ⊥ }

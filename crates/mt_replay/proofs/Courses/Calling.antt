@@ -1,6 +1,7 @@
 -- A release stands behind a call of this course, and a goal is that of its section.
 use Rattle.std.proofs.Common.{◌≡◌, ◌⊎◌, ◌∙◌, ap, sym, refl, subst, inl, inr, ℕ, Bool, true, false, List, [], ◌∷◌, ◌++◌, Option, None, Some}
 use Rattle.std.specs.Prelude.{IsSome, not}
+use Rattle.std.proofs.lemmas.List.{append_assoc}
 use Rattle.mt_regs.specs.RegisterFile.{RegisterFile}
 use Rattle.mt_machine.specs.declared.event.Event.TheVariants.{Release}
 use Rattle.mt_machine.specs.System.{System}
@@ -8,13 +9,14 @@ use Rattle.mt_machine.specs.Machine.{Accesses, Calls, Cancels, Controls, Goes, M
 use Rattle.mt_machine.specs.Update.{is_call}
 use Rattle.mt_core.specs.declared.fault.CallFault.{CallFault}
 use Rattle.mt_core.proofs.Arising.{machine}
-use Rattle.mt_script.specs.Stages.{is_in_dump, takes_commands, takes_cpus, takes_dump, takes_registers, takes_windows}
+use Rattle.mt_script.specs.Situation.{Situation}
+use Rattle.mt_script.specs.Stages.{is_in_dump, is_past_dump, takes_commands, takes_cpus, takes_dump, takes_end, takes_registers, takes_windows}
 use Rattle.mt_script.specs.Accept.{Fits, accepted}
 use Rattle.mt_script.specs.declared.command.Stage.{Stage}
-use Rattle.mt_script.specs.declared.command.Stage.TheVariants.{InUpdate, InBegin}
+use Rattle.mt_script.specs.declared.command.Stage.TheVariants.{InBegin, InDump, InUpdate, Rams}
 use Rattle.mt_script.specs.declared.command.Command.{Command}
 use Rattle.mt_script.specs.declared.command.Command.TheVariants as command
-use Rattle.mt_replay.specs.Headline.{AcceptedWhereIdleAndWhole, GoalsAreOfTheirSections, IsCall, NoneOf, Step, course, given, goal_of, last_of, left, release_line, wrote}
+use Rattle.mt_replay.specs.Headline.{AcceptedWhereIdleAndWhole, GoalsAreOfTheirSections, IsCall, NoneOf, SectionOf, Step, course, given, goal_of, last_of, left, release_line, wrote}
 use Rattle.mt_replay.specs.Kept.{IsReplayState}
 use Rattle.mt_replay.specs.ReplayState.{ReplayState, call_fault, command_text, first_file, goal_after, machine_after}
 use Rattle.mt_replay.specs.Texts.{called_line, complete_line}
@@ -180,8 +182,10 @@ section_goal (step ∷ lines) s is on none =
     ∙ ap (λ (g : RegisterFile). goal_of g lines) line.1
     ∙ ap (λ (x : ReplayState). goal_of (given x.goal step.command) lines) on.0
 
-pub goals_are_of_their_sections : GoalsAreOfTheirSections
-goals_are_of_their_sections text front lines rest opens ends same begun none =
+goal_of_section : (text : List ℕ) (front lines rest : List Step) (opens ends : Step) → course text ≡ front ++ opens ∷ (lines ++ ends ∷ rest)
+    → (opens.command ≡ command.Update) ⊎ (opens.command ≡ command.Begin) → NoneOf (λ step. step.command ≡ command.End) lines
+    → ends.before.goal ≡ goal_of (first_file opens.before) lines
+goal_of_section text front lines rest opens ends same begun none =
     let there = stands_in front (lines ++ ends ∷ rest) opens (course_is text front (lines ++ ends ∷ rest) opens same) in
     let first = begins begun in
     let on = behind_front lines (ends ∷ rest) (left opens) there.goes_on in
@@ -192,3 +196,76 @@ goals_are_of_their_sections text front lines rest opens ends same begun none =
     begins : (opens.command ≡ command.Update) ⊎ (opens.command ≡ command.Begin) → (takes_registers (left opens).now.stage ≡ true) × ((left opens).goal ≡ first_file opens.before)
     begins (inl is) = (ap (λ (c : Command). takes_registers (accepted opens.before.now c).stage) is, ap (goal_after opens.before) is)
     begins (inr is) = (ap (λ (c : Command). takes_registers (accepted opens.before.now c).stage) is, ap (goal_after opens.before) is)
+
+-- ---- sections
+
+-- a command that leads to a section begins it, or stands in it
+opens_or_stays : (now : Situation) (c : Command) → takes_registers (accepted now c).stage ≡ true
+    → ((c ≡ command.Update) ⊎ (c ≡ command.Begin)) ⊎ ((takes_registers now.stage ≡ true) × (c ≡ command.End → ⊥))
+opens_or_stays now command.Update is = inl (inl refl)
+opens_or_stays now command.Begin is = inl (inr refl)
+opens_or_stays now (command.Ram base lines) is = inr (is, λ e. cc e)
+opens_or_stays now command.Blank is = inr (is, λ e. cc e)
+opens_or_stays now command.DumpLine is = inr (is, λ e. cc e)
+opens_or_stays now (command.Register number value) is = inr (is, λ e. cc e)
+opens_or_stays now other is = absurd (cc is)
+
+abbrev OpenedIn : List Step → Type 0
+OpenedIn steps =
+    (before : List Step) × (opens : Step) × (lines : List Step)
+    × (steps ≡ before ++ opens ∷ lines) × ((opens.command ≡ command.Update) ⊎ (opens.command ≡ command.Begin)) × NoneOf (λ step. step.command ≡ command.End) lines
+
+abbrev InsideOrOpened : ReplayState → List Step → Type 0
+InsideOrOpened s steps = ((takes_registers s.now.stage ≡ true) × NoneOf (λ step. step.command ≡ command.End) steps) ⊎ OpenedIn steps
+
+opened_before : (steps : List Step) (s : ReplayState) → GoesOn s steps → takes_registers (last_of s steps).now.stage ≡ true → InsideOrOpened s steps
+opened_before [] s on is = inl (is, tt)
+opened_before (step ∷ steps) s on is =
+    subst (λ (x : ReplayState). InsideOrOpened x (step ∷ steps)) on.0 (one (opened_before steps (left step) on.2 is))
+  where
+    one : InsideOrOpened (left step) steps → InsideOrOpened step.before (step ∷ steps)
+    one (inr o) = inr (step ∷ o.0, o.1, o.2, ap (λ (rest : List Step). step ∷ rest) o.3, o.4, o.5)
+    one (inl inside) = by (opens_or_stays step.before.now step.command inside.0)
+      where
+        by : ((step.command ≡ command.Update) ⊎ (step.command ≡ command.Begin)) ⊎ ((takes_registers step.before.now.stage ≡ true) × (step.command ≡ command.End → ⊥)) → InsideOrOpened step.before (step ∷ steps)
+        by (inl opens) = inr ([], step, steps, refl, opens, inside.1)
+        by (inr stays) = inl (stays.0, (stays.1, inside.1))
+
+-- behind the dump only a section ends
+ends_section : (stage : Stage) → is_past_dump stage ≡ true → takes_end stage ≡ true → takes_registers stage ≡ true
+ends_section InUpdate past ends = refl
+ends_section InBegin past ends = refl
+ends_section InDump past ends = absurd (cc past)
+ends_section other past ends = absurd (cc ends)
+
+no_section : (stage : Stage) → takes_windows stage ≡ true → takes_registers stage ≡ true → ⊥
+no_section Rams windows registers = cc registers
+no_section other windows registers = cc windows
+
+pub goals_are_of_their_sections : GoalsAreOfTheirSections
+goals_are_of_their_sections text front rest call same called =
+    let c = course_is text front rest call same in
+    let there = stands_in front rest call c in
+    let on = behind_front front (call ∷ rest) c.first c.goes_on in
+    let inside = ends_section call.before.now.stage there.is.past (subst (Fits call.before.now) (ends called) there.fits) in
+    one c.first c.windows (opened_before front c.first (in_front front (call ∷ rest) c.first c.goes_on) (ap (λ (x : ReplayState). takes_registers x.now.stage) (sym on.0) ∙ inside))
+  where
+    ends : IsCall call → call.command ≡ command.End
+    ends (inl is) = (writes_called call.before call.command is).0
+    ends (inr is) = (writes_complete call.before call.command is.0 is.1).0
+
+    section : OpenedIn front → SectionOf front call
+    section o = record {
+      before = o.0;
+      opens = o.1;
+      lines = o.2;
+      stand = o.3;
+      begins = o.4;
+      no_other_end = o.5;
+      ends = ends called;
+      goal = goal_of_section text o.0 o.2 rest o.1 call (same ∙ ap (λ (steps : List Step). steps ++ call ∷ rest) o.3 ∙ append_assoc o.0 (o.1 ∷ o.2) (call ∷ rest)) o.4 o.5;
+    }
+
+    one : (s : ReplayState) → takes_windows s.now.stage ≡ true → InsideOrOpened s front → SectionOf front call
+    one s windows (inl inside) = absurd (no_section s.now.stage windows inside.0)
+    one s windows (inr opened) = section opened

@@ -107,11 +107,7 @@ is_aligned m address some = one (place m address) refl some
 pub keeps : (goal : RegisterFile) (era : ℕ) (value : ℕ → ℕ) (stored : List ℕ) (m : Machine) → IsSettled m.system era goal
     → ((address : ℕ) → IsSome (place m.system.memory address) → (Contains stored address → ⊥) → word_at m.system.memory address ≡ value address)
     → Keeps goal era value stored m
-keeps goal era value stored m settled held = record {
-  every_processor_holds_those_register_values = λ k d within. (settled k d within).file;
-  nothing_is_older_than_the_update = λ k d within. let p = settled k d within in (p.lines, p.buffers, p.entries);
-  memory_holds_every_store = held;
-}
+keeps goal era value stored m settled held = record { settled = settled; held = held }
 
 module _ (update : Step) (since : List Step) (h : IsReplayState update.before) (fits : Fits update.before.now update.command) (on : GoesOn (left update) since) (none : NoneOf IsCall since)
     (ends : update.command ≡ command.End) (section : is_update update.before.now.stage ≡ true) (accepts : call_fault update.before.machine update.before.goal ≡ None) where

@@ -30,9 +30,10 @@ use Rattle.mt_script.specs.declared.fault.Offence.TheVariants.{Script, Dump}
 use Rattle.mt_script.proofs.Keeping.{accepted_is, not_past_in_dump, start_is}
 use Rattle.mt_output.specs.Lines.{accepted_line, refused_line}
 use Rattle.mt_replay.specs.FirstFault.{first_fault}
-use Rattle.mt_replay.specs.Headline.{Beginning, Step, StepsFollow, TranscriptIsOfTheCourse, TranscriptIsOneLine, beginning, begins_at_command, begins_at_line, begins_from, begins_in_dump, begins_shown, begins_unless, begins_with, course, ending, joined, last_of, left, steps_in, steps_of}
+use Rattle.mt_replay.specs.Headline.{Beginning, ReplaysAreOfTheCourse, Step, StepsFollow, TranscriptIsOfTheCourse, TranscriptIsOneLine, beginning, begins_at_command, begins_at_line, begins_from, begins_in_dump, begins_shown, begins_unless, begins_with, course, ending, joined, last_of, left, steps_in, steps_of}
 use Rattle.mt_replay.specs.Kept.{IsReplayState}
 use Rattle.mt_replay.specs.ReplayState.{ReplayState, command_text, state_after}
+use Rattle.mt_replay.specs.Running.{ReplaysAs}
 use Rattle.mt_replay.specs.Transcript.{Told, behind, told, told_at_end, told_command, told_dump_line, told_file, told_from, told_head_command, told_head_line, told_in, told_offence, told_shown, told_unless, transcript}
 use Rattle.mt_replay.proofs.Keeping.First.{first_kept}
 use Rattle.mt_replay.proofs.Keeping.States.{accepted_of, command_known, state_kept}
@@ -202,6 +203,9 @@ transcript_is_of_the_course text some = one (beginning text) (whole text) some
         h.tells ∙ ap (behind accepted_line) (told_steps (end_of text) b.number b.lines b.state h.is)
         ∙ ap (λ (o : Option Offence). behind accepted_line (behind (joined (steps_in b.number b.lines b.state)) (ending o))) (sym h.follows)
 
+pub replays_are_of_the_course : ReplaysAreOfTheCourse
+replays_are_of_the_course text before after status some h = subst (λ (t : Told). ReplaysAs t before after status) (transcript_is_of_the_course text some) h
+
 pub transcript_is_one_line : TranscriptIsOneLine
 transcript_is_one_line text none = subst (Leads (end_of text) (script_offence text) (transcript text)) none (whole text)
 
@@ -210,6 +214,7 @@ pub record IsCourse (steps : List Step) : Type 0 where
   pub first : ReplayState
   pub is : IsReplayState first
   pub no_order : first.machine.order ≡ None
+  pub windows : takes_windows first.now.stage ≡ true
   pub goes_on : GoesOn first steps
 
 pub course_is : (text : List ℕ) (front rest : List Step) (step : Step) → course text ≡ front ++ step ∷ rest → IsCourse (front ++ step ∷ rest)
@@ -221,7 +226,7 @@ course_is text front rest step same = one (beginning text) (whole text) same
 
     one : (o : Option Beginning) → Leads (end_of text) (script_offence text) (transcript text) o → steps_from o ≡ front ++ step ∷ rest → IsCourse (front ++ step ∷ rest)
     one None h e = absurd (none front e)
-    one (Some b) h e = record { first = b.state; is = h.is; no_order = h.no_order; goes_on = subst (GoesOn b.state) e (steps_go_on b.number b.lines b.state) }
+    one (Some b) h e = record { first = b.state; is = h.is; no_order = h.no_order; windows = h.windows; goes_on = subst (GoesOn b.state) e (steps_go_on b.number b.lines b.state) }
 
 -- a step stands in its state, which is kept, and the steps behind go on from there
 pub record StandsIn (step : Step) (rest : List Step) : Type 0 where

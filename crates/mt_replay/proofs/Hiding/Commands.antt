@@ -7,14 +7,10 @@ use Rattle.mt_machine.specs.declared.op.Op.TheVariants as op
 use Rattle.mt_machine.specs.declared.done.Done.TheVariants as done
 use Rattle.mt_machine.specs.declared.control.Control.{Control}
 use Rattle.mt_machine.specs.declared.control.Control.TheVariants as control_of
-use Rattle.mt_machine.specs.declared.ruled.Ruled.{Ruled}
-use Rattle.mt_machine.specs.declared.ruled.Ruled.TheVariants as ruled
 use Rattle.mt_machine.specs.declared.event.Event.{Event}
 use Rattle.mt_machine.specs.declared.go.Go.TheVariants.{Pending}
 use Rattle.mt_machine.specs.Memory.{Window}
 use Rattle.mt_machine.specs.System.{Processor, System, now}
-use Rattle.mt_machine.specs.Access.{is_running}
-use Rattle.mt_machine.specs.Control.{RuledAfter, control, control_at}
 use Rattle.mt_machine.specs.Machine.{Accesses, Calls, Cancels, Controls, FitsControl, FitsOp, Goes, IsEnabled, Machine, MachineEvent, Steps, due_at, go_of, next}
 use Rattle.mt_machine.specs.Start.{start_machine}
 use Rattle.mt_machine.specs.Update.{updated}
@@ -33,7 +29,7 @@ use Rattle.mt_flat.proofs.Updating.{updated_is_flat}
 use Rattle.mt_script.specs.Accept.{Fits}
 use Rattle.mt_script.specs.declared.command.Command.{Command}
 use Rattle.mt_script.specs.declared.command.Command.TheVariants as command
-use Rattle.mt_replay.specs.Flat.{flat_accessed, flat_command, flat_controlled, flat_ruled, flat_stepped, flat_updated}
+use Rattle.mt_replay.specs.Flat.{flat_accessed, flat_command, flat_controlled, flat_stepped, flat_updated}
 use Rattle.mt_replay.specs.Kept.{IsReplayState, windows_of}
 use Rattle.mt_replay.specs.ReplayState.{ReplayState, after_call, after_update, after_word, call_fault, each_processor, is_undecided, is_update, machine_after, mapping}
 use Rattle.mt_replay.proofs.Hiding.Once.{each_once}
@@ -61,45 +57,12 @@ beside_access m k o f a r fits =
     (λ rests. let busy = access_busy m.system k rests o in
     rw busy (rw (busy_gives m.system k o) r))
 
--- ---- control instructions
-
-is_map : Control → Bool
-is_map (control_of.Map p) = true
-is_map other = false
-
-map_gives : (m : Machine) (k : ℕ) (c : Control) (f : Flat) (answer : Ruled) → is_map c ≡ true → flat_ruled m k c f answer ≡ flat_after m (Controls k c) f
-unfolding is_map
-map_gives m k (control_of.Map p) f ruled.Okay is = refl
-map_gives m k (control_of.Map p) f other is = refl
-map_gives m k other f answer is = absurd (cc is)
-
-abbrev answer_in : System → ℕ → Control → Option Processor → Ruled
-answer_in s k c o = (option_map_or {U = RuledAfter} (λ p. if is_running p.phase then control_at s k p c else record { answer = ruled.Busy; after = s }) o (record { answer = ruled.Busy; after = s })).answer
-
-okay_at : (s : System) (k : ℕ) (p : Processor) (c : Control) → is_map c ≡ false → (control_at s k p c).answer ≡ ruled.Okay
-unfolding is_map
-okay_at s k p (control_of.Map q) is = absurd (cc is)
-okay_at s k p other is = refl
-
-okay_in : (s : System) (k : ℕ) (c : Control) (o : Option Processor) → option_map_or (λ p. is_running p.phase) o false ≡ true → is_map c ≡ false → answer_in s k c o ≡ ruled.Okay
-okay_in s k c None runs is = absurd (cc runs)
-okay_in s k c (Some p) runs is = one (is_running p.phase) runs
-  where
-    one : (b : Bool) → b ≡ true → (if b then control_at s k p c else record { answer = ruled.Busy; after = s }).answer ≡ ruled.Okay
-    one true h = okay_at s k p c is
-    one false h = absurd (cc h)
-
-given_control : (m : Machine) (k : ℕ) (c : Control) (f : Flat) → option_map_or (λ p. is_running p.phase) (slice_get m.system.processors k) false ≡ true → flat_controlled m k c f ≡ flat_after m (Controls k c) f
-given_control m k c f runs = one (is_map c) refl
-  where
-    one : (b : Bool) → is_map c ≡ b → flat_controlled m k c f ≡ flat_after m (Controls k c) f
-    one true is = map_gives m k c f (control m.system k c).answer is
-    one false is = ap (flat_ruled m k c f) (okay_in m.system k c (slice_get m.system.processors k) runs is)
+-- ---- control instructions, of which it gives nothing either
 
 pub beside_control : (m : Machine) (k : ℕ) (c : Control) (f : Flat) → Arises m → IsBeside m f → ((p : Processor) → slice_get m.system.processors k ≡ Some p → FitsControl p c) → IsBeside (next m (Controls k c)) (flat_controlled m k c f)
 beside_control m k c f a r fits =
     runs_or_rests m.system k (IsBeside (next m (Controls k c)) (flat_controlled m k c f))
-    (λ runs. subst (IsBeside (next m (Controls k c))) (sym (given_control m k c f runs)) (beside_event m (Controls k c) f a r (runs, fits)))
+    (λ runs. beside_event m (Controls k c) f a r (runs, fits))
     (λ rests. rw (control_busy m.system k rests c) r)
 
 -- ---- steps, and the coordinator's words

@@ -6,10 +6,10 @@ use Rattle.std.proofs.lemmas.List.{length-replicate}
 use Rattle.std.proofs.lemmas.List.Elements.{All-replicate}
 use Rattle.mt_regs.specs.RegisterFile.{RegisterFile, IsRegisterFile}
 use Rattle.mt_regs.specs.Faults.{IsAccepted}
-use Rattle.mt_machine.specs.Memory.{Window}
+use Rattle.mt_machine.specs.Memory.{IsMemory}
 use Rattle.mt_machine.specs.System.{start_processor}
 use Rattle.mt_machine.specs.Machine.{FitsGoal, Machine, Reached, at_start}
-use Rattle.mt_machine.specs.Start.{IsQuiet, start_machine}
+use Rattle.mt_machine.specs.Start.{IsQuiet, start_machine, zero_memory}
 use Rattle.mt_laws.proofs.Invariant.Starts.{nothing, start_is_quiet}
 use Rattle.mt_ram.specs.Windows.{window}
 use Rattle.mt_core.specs.Arises.{from_start}
@@ -20,8 +20,17 @@ use Rattle.mt_script.proofs.Keeping.{finished_is, not_past_in_dump}
 use Rattle.mt_replay.specs.Kept.{IsReplayState, start_of, windows_of}
 use Rattle.mt_replay.specs.ReplayState.{first_state}
 
+no_windows : IsMemory (zero_memory [])
+no_windows = record {
+  some_lines = nothing _;
+  aligned = nothing _;
+  bounded = nothing _;
+  apart = λ i j d low within. absurd (omega arith);
+  counted = refl;
+}
+
 bare_is_quiet : (count : ℕ) (f : RegisterFile) → IsRegisterFile f → IsAccepted f → IsQuiet (start_machine count f [])
-bare_is_quiet count f good accepted = start_is_quiet count f [] good accepted (nothing (λ (w : Window). _)) (nothing (λ (w : Window). _)) (λ i j d low within. absurd (omega arith))
+bare_is_quiet count f good accepted = start_is_quiet count f [] good accepted no_windows
 
 start_fits : (count : ℕ) (f g : RegisterFile) → f ≡ g → All (FitsGoal g) (start_machine count f []).system.processors
 start_fits count f g same =

@@ -214,10 +214,10 @@ module _ (s : ReplayState) (h : IsReplayState s) where
       let wide = file.2.wide in
       (omega arith, page_in physical f.width p.file.width (omega arith) fits.width below, omega arith)
 
-  grows : (base lines : ℕ) → takes_windows s.now.stage ≡ true → base % 64 ≡ 0 → has_room s.now base lines ≡ true → IsSituation (accepted s.now (command.Ram base lines)) → IsReplayState (state_after s (command.Ram base lines))
-  grows base lines windows aligned room is =
+  grows : (base lines : ℕ) → takes_windows s.now.stage ≡ true → base % 64 ≡ 0 → 0 < lines → has_room s.now base lines ≡ true → IsSituation (accepted s.now (command.Ram base lines)) → IsReplayState (state_after s (command.Ram base lines))
+  grows base lines windows aligned some room is =
       let file = file_of s.now h.situation h.past in
-      let memory = room_memory s.now file.0 s.machine.system.memory base lines file.1 file.2 (stands h.arises).0 h.windows aligned room in
+      let memory = room_memory s.now file.0 s.machine.system.memory base lines file.1 file.2 (stands h.arises).0 h.windows some aligned room in
       let together : s.machine.system.memory.windows ++ window base lines ∷ [] ≡ windows_of (accepted s.now (command.Ram base lines)) =
       ap (λ ws. ws ++ window base lines ∷ []) h.windows ∙ sym (windows_then s.now base lines) in
       let started : (f : RegisterFile) → s.now.file ≡ Some f → grown (window base lines) s.machine ≡ start_of (accepted s.now (command.Ram base lines)) f =
@@ -243,7 +243,7 @@ module _ (s : ReplayState) (h : IsReplayState s) where
   kept : (c : Command) → Fits s.now c → IsSituation (accepted s.now c) → IsReplayState (state_after s c)
   kept (command.Cpus n) fits is = absurd (not_cpus s.now.stage h.past fits.0)
   kept command.Dump fits is = absurd (not_dump s.now.stage h.past fits)
-  kept (command.Ram base lines) fits is = grows base lines fits.0 fits.1 fits.4 is
+  kept (command.Ram base lines) fits is = grows base lines fits.0 fits.1 (omega (arith, fits.2)) fits.4 is
   kept (command.Load k address) fits is = accesses k (op.Load address) fits.1 is
   kept (command.Store k address value) fits is = accesses k (op.Store address value) (fits.1, fits.2) is
   kept (command.Fence k) fits is = accesses k op.Fence tt is

@@ -14,17 +14,15 @@ use Rattle.mt_machine.specs.Machine.{Machine}
 use Rattle.mt_machine.specs.Start.{IsQuiet, start_machine}
 use Rattle.mt_laws.proofs.Invariant.Starts.{start_is_quiet}
 use Rattle.mt_ram.specs.Windows.{window, with_window}
+use Rattle.mt_ram.proofs.Windows.{words_pushed}
 use Rattle.mt_core.specs.Arises.{grown}
 use Rattle.mt_script.specs.Situation.{Situation}
 use Rattle.mt_script.specs.Numbers.{address_limit, are_apart, has_room, lines_together}
 use Rattle.mt_replay.specs.Kept.{windows_of}
 
-words_pushed : (ws : List Window) (w : Window) → word_count (ws ++ w ∷ []) ≡ word_count ws + 8 * w.lines
-words_pushed [] w = omega arith
-words_pushed (v ∷ vs) w = let e = words_pushed vs w in omega arith
-
-grown_memory : (m : Memory) (w : Window) → IsMemory m → w.base % 64 ≡ 0 → window_end w ≤ 2 ^ 52 → ((k : ℕ) (d : Window) → k < length m.windows → AreApart (get_or m.windows k d) w) → IsMemory (with_window w m)
-grown_memory m w h aligned bounded apart = record {
+grown_memory : (m : Memory) (w : Window) → IsMemory m → 0 < w.lines → w.base % 64 ≡ 0 → window_end w ≤ 2 ^ 52 → ((k : ℕ) (d : Window) → k < length m.windows → AreApart (get_or m.windows k d) w) → IsMemory (with_window w m)
+grown_memory m w h some aligned bounded apart = record {
+  some_lines = All-push (λ v. 0 < v.lines) m.windows w h.some_lines some;
   aligned = All-push (λ v. v.base % 64 ≡ 0) m.windows w h.aligned aligned;
   bounded = All-push (λ v. window_end v ≤ 2 ^ 52) m.windows w h.bounded bounded;
   apart = all_pairs_push AreApart m.windows w h.apart apart;
@@ -58,21 +56,23 @@ pub file_limit : (file : Option RegisterFile) (f : RegisterFile) → file ≡ So
 file_limit file f is good = subst (λ (o : Option RegisterFile). address_limit o ≤ 2 ^ 52) (sym is) (pow_below f.width 52 good.narrow)
 
 -- what has room is a memory again
-pub room_memory : (now : Situation) (f : RegisterFile) (m : Memory) (base lines : ℕ) → now.file ≡ Some f → IsRegisterFile f → IsMemory m → m.windows ≡ windows_of now → base % 64 ≡ 0 → has_room now base lines ≡ true
+pub room_memory : (now : Situation) (f : RegisterFile) (m : Memory) (base lines : ℕ) → now.file ≡ Some f → IsRegisterFile f → IsMemory m → m.windows ≡ windows_of now → 0 < lines → base % 64 ≡ 0 → has_room now base lines ≡ true
     → IsMemory (with_window (window base lines) m)
-room_memory now f m base lines file good h windows aligned room =
+room_memory now f m base lines file good h windows some aligned room =
     let last = and_parts (nat_le (base + 64 * lines) (address_limit now.file) && list_all (are_apart base lines) now.windows && nat_lt (length now.windows) 16) (nat_le (lines_together now.windows + lines) 4096) room in
     let few = and_parts (nat_le (base + 64 * lines) (address_limit now.file) && list_all (are_apart base lines) now.windows) (nat_lt (length now.windows) 16) last.0 in
     let first = and_parts (nat_le (base + 64 * lines) (address_limit now.file)) (list_all (are_apart base lines) now.windows) few.0 in
     let low = leb-true (base + 64 * lines) (address_limit now.file) first.0 in
     let most = file_limit now.file f file good in
-    grown_memory m (window base lines) h aligned (omega arith)
+    grown_memory m (window base lines) h some aligned (omega arith)
     (subst (λ (ws : List Window). (k : ℕ) (d : Window) → k < length ws → AreApart (get_or ws k d) (window base lines)) (sym windows) (each_apart base lines now.windows first.1))
 
 -- the windows of a memory make a quiet start
 pub memory_is_quiet : (count : ℕ) (f : RegisterFile) (m : Memory) (ws : List Window) → IsMemory m → m.windows ≡ ws → IsRegisterFile f → IsAccepted f → IsQuiet (start_machine count f ws)
 memory_is_quiet count f m ws h same good accepted =
-    subst (λ (vs : List Window). IsQuiet (start_machine count f vs)) same (start_is_quiet count f m.windows good accepted h.aligned h.bounded h.apart)
+    subst (λ (vs : List Window). IsQuiet (start_machine count f vs)) same
+    (start_is_quiet count f m.windows good accepted
+    (record { some_lines = h.some_lines; aligned = h.aligned; bounded = h.bounded; apart = h.apart; counted = length-replicate (word_count m.windows) 0 }))
 
 pub windows_then : (now : Situation) (base lines : ℕ) → map of_pair (now.windows ++ (base, lines) ∷ []) ≡ windows_of now ++ window base lines ∷ []
 windows_then now base lines = map-append of_pair now.windows ((base, lines) ∷ [])

@@ -3,11 +3,14 @@ use Rattle.mt_replay.proofs.Courses.Numbers.{steps_are_of_their_lines}
 use Rattle.mt_replay.proofs.Courses.Releasing.{released_updates_are_kept}
 use Rattle.mt_replay.proofs.Courses.Since.{complete_updates_are_kept, refused_updates_change_nothing}
 use Rattle.mt_replay.proofs.Courses.States.{starts_as_the_dump_shows, states_are_of_the_course}
-use Rattle.mt_replay.proofs.Courses.Steps.{steps_follow, transcript_is_of_the_course, transcript_is_one_line}
+use Rattle.mt_replay.proofs.Courses.Steps.{replays_are_of_the_course, steps_follow, transcript_is_of_the_course, transcript_is_one_line}
 use Rattle.mt_replay.proofs.headline.the_headline_holds.Goals as goal
 
 pub returns-clause-transcript : goal.returns-clause-transcript
 returns-clause-transcript c = transcript_is_of_the_course
+
+pub returns-clause-written : goal.returns-clause-written
+returns-clause-written c = replays_are_of_the_course
 
 pub returns-clause-one_line : goal.returns-clause-one_line
 returns-clause-one_line c = transcript_is_one_line

@@ -5,43 +5,41 @@ use Rattle.std.proofs.lemmas.Bool.{eqb-true}
 use Rattle.mt_kinds.specs.declared.mem_type.MemType.TheVariants.{WB}
 use Rattle.mt_regs.specs.RegisterFile.{RegisterFile}
 use Rattle.mt_machine.specs.Memory.{word_at}
-use Rattle.mt_machine.specs.System.{Processor}
-use Rattle.mt_replay.specs.Headline.{HoldsOnly}
+use Rattle.mt_machine.specs.Update.{IsSettledOn}
 use Rattle.mt_replay.specs.WorkedScript.{machine_of, updated_processor, worked_file}
 use Rattle.mt_replay.proofs.Courses.Worked.{alone, nothing, zero_word}
 use Rattle.mt_replay.proofs.headline.worked_refusals.Goals as goal
 
 pub returns-clause-other_register : goal.returns-clause-other_register
 returns-clause-other_register c h =
-    let e = h.every_processor_holds_those_register_values 0 updated_processor (omega arith) in
+    let e = (h.settled 0 updated_processor (omega arith)).file in
     let d : 0x800 ≡ 0 = ap (λ (f : RegisterFile). f.default_type) e in
     cc d
 
 pub returns-clause-older_line : goal.returns-clause-older_line
 returns-clause-older_line c h =
-    let e : 0 ≡ 1 = (h.nothing_is_older_than_the_update 0 updated_processor (omega arith)).0 0 (record { number = 0; words = []; dirty = 0; era = 0 }) (omega arith) in
+    let e : 0 ≡ 1 = (h.settled 0 updated_processor (omega arith)).lines 0 (record { number = 0; words = []; dirty = 0; era = 0 }) (omega arith) in
     cc e
 
 pub returns-clause-older_buffer : goal.returns-clause-older_buffer
 returns-clause-older_buffer c h =
-    let e : 0 ≡ 1 = (h.nothing_is_older_than_the_update 0 updated_processor (omega arith)).1 0 (record { number = 0; words = []; dirty = 0; era = 0 }) (omega arith) in
+    let e : 0 ≡ 1 = (h.settled 0 updated_processor (omega arith)).buffers 0 (record { number = 0; words = []; dirty = 0; era = 0 }) (omega arith) in
     cc e
 
 pub returns-clause-older_entry : goal.returns-clause-older_entry
 returns-clause-older_entry c h =
-    let e : 0 ≡ 1 = (h.nothing_is_older_than_the_update 0 updated_processor (omega arith)).2 0 (record { vpage = 0; ppage = 0; kind = WB; global = false; era = 0 }) (omega arith) in
+    let e : 0 ≡ 1 = (h.settled 0 updated_processor (omega arith)).entries 0 (record { vpage = 0; ppage = 0; kind = WB; global = false; era = 0 }) (omega arith) in
     cc e
 
 pub returns-clause-lost_store : goal.returns-clause-lost_store
 returns-clause-lost_store c h =
-    let e : 0 ≡ 7 = h.memory_holds_every_store 0x100000 refl (λ stored. let low = stored.1 in omega (arith, low)) in
+    let e : 0 ≡ 7 = h.held 0x100000 refl (λ stored. let low = stored.1 in omega (arith, low)) in
     cc e
 
 pub returns-clause-stored_again : goal.returns-clause-stored_again
 returns-clause-stored_again c = record {
-  every_processor_holds_those_register_values = alone (λ (p : Processor). p.file ≡ worked_file) updated_processor refl;
-  nothing_is_older_than_the_update = alone (HoldsOnly 1) updated_processor (nothing (λ l. l.era ≡ 1), nothing (λ l. l.era ≡ 1), nothing (λ e. e.era ≡ 1));
-  memory_holds_every_store = λ address some other. one address other (address == 0x100000) refl;
+  settled = alone (IsSettledOn 1 worked_file) updated_processor (record { file = refl; lines = nothing (λ l. l.era ≡ 1); buffers = nothing (λ l. l.era ≡ 1); entries = nothing (λ e. e.era ≡ 1) });
+  held = λ address some other. one address other (address == 0x100000) refl;
 }
   where
     one : (address : ℕ) → (Contains (0x100000 ∷ []) address → ⊥) → (b : Bool) → (address == 0x100000) ≡ b

@@ -5,6 +5,9 @@ use Rattle.mt_machine.proofs.worked.sound.worked_memory.Goals as goal
 none : Window
 none = record { base = 0; lines = 0 }
 
+pub returns-clause-window_without_lines : goal.returns-clause-window_without_lines
+returns-clause-window_without_lines c = λ h. omega (arith, h.some_lines 0 none (omega arith))
+
 pub returns-clause-within_a_line : goal.returns-clause-within_a_line
 returns-clause-within_a_line c = λ h. omega (arith, h.aligned 0 none (omega arith))
 

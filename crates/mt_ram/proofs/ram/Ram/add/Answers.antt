@@ -8,5 +8,5 @@ pub invariant_of-self-2 : goal.invariant_of-self-2
 invariant_of-self-2 c =
     added_lists c.self.inside.windows.items _ c.self.inside.words.items _ c.args.base c.args.lines c.len.result _ _ c.self.invariant
     (ap (λ (m : machine.Memory). refusal m.windows (window c.args.base c.args.lines)) c.self.view_is ∙ sym c.refusal.ensures ∙ c.in_default.is)
-    c.requires.end c.push.ensures.items c.len.ensures (let full = c.self.inside.words.ok.0 in omega arith)
+    c.requires.some c.requires.end c.push.ensures.items c.len.ensures (let full = c.self.inside.words.ok.0 in omega arith)
     c.if-is_err.ensures.negation c.resize.ensures.items
