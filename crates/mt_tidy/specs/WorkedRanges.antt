@@ -1,13 +1,14 @@
 -- Ranges and files of worked examples.
 use Rattle.std.specs.Prelude.{ℕ, List, [], ◌∷◌}
 use Rattle.mt_kinds.specs.declared.mem_type.MemType.{MemType}
-use Rattle.mt_kinds.specs.declared.mem_type.MemType.TheVariants.{UC, WB}
+use Rattle.mt_kinds.specs.declared.mem_type.MemType.TheVariants.{UC, WB, WT}
 use Rattle.mt_regs.specs.declared.page_type.PageType.TheVariants.{Kind}
-use Rattle.mt_regs.specs.declared.registers.Register.TheVariants.{DefaultType}
+use Rattle.mt_regs.specs.declared.registers.Register.TheVariants.{DefaultType, PhysBase}
 use Rattle.mt_regs.specs.RegisterFile.{RegisterFile, blank_file}
 use Rattle.mt_regs.specs.Registers.{with_value}
 use Rattle.mt_types.specs.declared.run.Run.{Run}
 use Rattle.mt_tidy.specs.declared.range.Range.{Range}
+use Rattle.mt_tidy.specs.Tidied.{with_ranges}
 
 -- the 2 ^ log pages from first on
 abbrev pub range : ℕ → ℕ → MemType → Range
@@ -27,3 +28,30 @@ cached = with_value (blank_file 36 0x408) DefaultType 0x806
 -- all 2 ^ 24 pages of one type
 abbrev pub all_of : MemType → List Run
 all_of kind = record { first = 0; count = 0x1000000; kind = Kind kind } ∷ []
+
+-- pages 0 and 8 as WB, and all else as UC
+abbrev pub two_pages : List Run
+two_pages =
+    record { first = 0; count = 1; kind = Kind WB } ∷ record { first = 1; count = 7; kind = Kind UC }
+    ∷ record { first = 8; count = 1; kind = Kind WB } ∷ record { first = 9; count = 0xfffff7; kind = Kind UC } ∷ []
+
+-- four pages as WB, four as UC, and all else as WT
+abbrev pub side_by_side : List Run
+side_by_side =
+    record { first = 0; count = 4; kind = Kind WB } ∷ record { first = 4; count = 4; kind = Kind UC }
+    ∷ record { first = 8; count = 0xfffff8; kind = Kind WT } ∷ []
+
+-- all else is UC, with a range of eight pages, and with two of one page
+abbrev pub one_range : RegisterFile
+one_range = with_ranges (with_value cached DefaultType 0x800) (range 0 3 WB ∷ [])
+
+abbrev pub two_ranges : RegisterFile
+two_ranges = with_ranges (with_value cached DefaultType 0x800) (range 0 0 WB ∷ range 8 0 WB ∷ [])
+
+-- all else is WT: four pages of WB and four of UC side by side
+abbrev pub beside : RegisterFile
+beside = with_ranges (with_value cached DefaultType 0x804) (range 0 2 WB ∷ range 4 2 UC ∷ [])
+
+-- the base of the first pair, which isn't valid, has a reserved bit
+abbrev pub with_reserved_bit : RegisterFile
+with_reserved_bit = with_value cached (PhysBase 0) 0x100

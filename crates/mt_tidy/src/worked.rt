@@ -1,12 +1,17 @@
 ghost use Rattle.std.specs.Prelude.{◌≡◌, ◌∷◌, [], false, true};
 ghost use Rattle.mt_kinds.specs.declared.mem_type.MemType.TheVariants.{UC, WB, WC, WP, WT};
 ghost use Rattle.mt_regs.specs.WorkedRows.{clash, four_gigabytes, video_memory};
+ghost use Rattle.mt_regs.specs.declared.fault.Reason.TheVariants.{BrokenMask, ReservedBit};
+ghost use Rattle.mt_regs.specs.declared.page_type.PageType.TheVariants.{Kind, Undefined};
+ghost use Rattle.mt_tidy.specs.declared.faults.FitFault.TheVariants as fitting;
+ghost use Rattle.mt_tidy.specs.declared.faults.TidyFault.TheVariants.{Disabled, Refused, TooFew};
 ghost use Rattle.mt_tidy.specs.Keeps.{IsLeast, Keeps};
-ghost use Rattle.mt_tidy.specs.Kept.{IsTidy, NeedsMore};
+ghost use Rattle.mt_tidy.specs.Kept.{IsTidy, IsWhy};
+ghost use Rattle.mt_tidy.specs.LeastList.{IsLeastList};
 ghost use Rattle.mt_tidy.specs.Ranges.{InOrder, IsAllowed, Precedes, holds_page, types_at};
-ghost use Rattle.mt_tidy.specs.Tidied.{StandsFor, is_valid, pairs_for, valid_count, with_ranges};
-ghost use Rattle.mt_tidy.specs.Wanted.{Gives, IsBlock, IsLeastFor, IsRangeOf, is_free, is_supported_type};
-ghost use Rattle.mt_tidy.specs.WorkedRanges.{all_of, cached, holed, range, uncached};
+ghost use Rattle.mt_tidy.specs.Tidied.{Explains, IsTidied, StandsFor, is_valid, pairs_for, valid_count, with_ranges};
+ghost use Rattle.mt_tidy.specs.Wanted.{Gives, IsBlock, IsLeastFor, IsRangeOf, IsWanted, is_free, is_supported_type};
+ghost use Rattle.mt_tidy.specs.WorkedRanges.{all_of, beside, cached, holed, one_range, range, side_by_side, two_pages, two_ranges, uncached, with_reserved_bit};
 
 /// The pages of ranges, and which lists are allowed.
 pub fn worked_ranges()
@@ -90,13 +95,53 @@ pub fn worked_pairs()
     ensures stands_for_another_type { StandsFor 36 (range 0 20 WB) (4, 0xf00000800) → ⊥ }
 {}
 
-/// What isn't tidy, for one thing.
+/// A tidied file, and what isn't one for one thing. Where ranges are told they are those of its pairs.
 pub fn worked_tidy()
+    ensures tidy { IsTidy cached 0 8 cached 0 }
     ensures not_accepted { IsTidy clash 0 0 clash 2 → ⊥ }
+    ensures reserved_bit { IsTidy with_reserved_bit 0 0 cached 0 → ⊥ }
     ensures ranges_off { IsTidy (record cached { default_type = 6 }) 0 0 cached 0 → ⊥ }
-    ensures none_left { IsTidy cached 0 8 cached 1 → ⊥ }
+    ensures other_pat { IsTidy cached 0 0 (record cached { pat = 0x0007040600070407 }) 0 → ⊥ }
+    ensures not_in_order { (t : IsTidy two_ranges 0 0 (with_ranges two_ranges (range 8 0 WB ∷ range 0 0 WB ∷ [])) 2) → t.ranges ≡ range 8 0 WB ∷ range 0 0 WB ∷ [] → ⊥ }
+    ensures no_block { (t : IsTidy one_range 0 0 one_range 1) → t.ranges ≡ range 4 3 WB ∷ [] → ⊥ }
+    ensures not_allowed { (t : IsTidy beside 0 0 (with_ranges beside (range 0 3 WB ∷ range 4 2 UC ∷ [])) 2) → t.ranges ≡ range 0 3 WB ∷ range 4 2 UC ∷ [] → ⊥ }
+    ensures miscounted { (t : IsTidy cached 0 0 (with_ranges cached (range 0 24 WB ∷ [])) 0) → t.ranges ≡ range 0 24 WB ∷ [] → ⊥ }
+    ensures none_left { IsTidy four_gigabytes 0 8 four_gigabytes 1 → ⊥ }
     ensures more_than_least { IsTidy cached 0 0 (with_ranges cached (range 0 24 WB ∷ [])) 1 → ⊥ }
-    ensures enough { NeedsMore cached 0 0 8 8 → ⊥ }
-    ensures other_count { NeedsMore cached 0 2 9 8 → ⊥ }
-    ensures more_needed { NeedsMore cached 0 8 1 0 → ⊥ }
+{}
+
+/// Why nothing is tidied.
+pub fn worked_why()
+    ensures disabled { IsWhy (record cached { default_type = 6 }) 0 0 Disabled }
+    ensures enabled { IsWhy cached 0 0 Disabled → ⊥ }
+    ensures disabled_and_not_accepted { IsWhy (record with_reserved_bit { default_type = 6 }) 0 0 Disabled → ⊥ }
+    ensures refused { IsWhy with_reserved_bit 0 0 (Refused (record { msr = 0x200; reason = ReservedBit })) }
+    ensures other_register { IsWhy with_reserved_bit 0 0 (Refused (record { msr = 0x201; reason = ReservedBit })) → ⊥ }
+    ensures other_reason { IsWhy with_reserved_bit 0 0 (Refused (record { msr = 0x200; reason = BrokenMask })) → ⊥ }
+    ensures not_refused { IsWhy cached 0 0 (Refused (record { msr = 0x200; reason = ReservedBit })) → ⊥ }
+    ensures enough { IsWhy four_gigabytes 0 7 (TooFew 1 1) → ⊥ }
+    ensures other_count { IsWhy four_gigabytes 0 7 (TooFew 1 0) → ⊥ }
+    ensures fewer_needed { IsWhy cached 0 8 (TooFew 1 0) → ⊥ }
+    ensures not_accepted { IsWhy with_reserved_bit 0 8 (TooFew 1 0) → ⊥ }
+{}
+
+/// Wanted kinds, the least lists that give them, and why none fits.
+pub fn worked_fits()
+    ensures wanted { IsWanted cached (all_of WB) }
+    ensures late { IsWanted cached (record { first = 1; count = 0xffffff; kind = Kind WB } ∷ []) → ⊥ }
+    ensures short { IsWanted cached (record { first = 0; count = 0xffffff; kind = Kind WB } ∷ []) → ⊥ }
+    ensures unsupported { IsWanted uncached (all_of WC) → ⊥ }
+    ensures undefined { IsWanted cached (record { first = 0; count = 0x1000000; kind = Undefined } ∷ []) → ⊥ }
+    ensures least { IsLeastList cached (all_of WB) 0 [] }
+    ensures not_given { IsLeastList cached (all_of UC) 0 [] → ⊥ }
+    ensures longer { IsLeastList cached (all_of WB) 0 (range 0 24 WB ∷ []) → ⊥ }
+    ensures not_in_order { IsLeastList uncached two_pages 0 (range 8 0 WB ∷ range 0 0 WB ∷ []) → ⊥ }
+    ensures not_allowed { IsLeastList (record cached { default_type = 0x804 }) side_by_side 0 (range 0 3 WB ∷ range 4 2 UC ∷ []) → ⊥ }
+    ensures tidied { IsTidied cached (all_of WB) 0 8 cached 0 }
+    ensures other_pat { IsTidied cached (all_of WB) 0 0 (record cached { pat = 0x0007040600070407 }) 0 → ⊥ }
+    ensures miscounted { (t : IsTidied cached (all_of UC) 0 0 (with_ranges cached (range 0 24 UC ∷ [])) 0) → t.ranges ≡ range 0 24 UC ∷ [] → ⊥ }
+    ensures none_left { IsTidied cached (all_of UC) 0 8 (with_ranges cached (range 0 24 UC ∷ [])) 1 → ⊥ }
+    ensures enough { Explains cached (all_of UC) 0 7 (fitting.TooFew 1 1) → ⊥ }
+    ensures other_count { Explains cached (all_of UC) 0 7 (fitting.TooFew 1 0) → ⊥ }
+    ensures fewer_needed { Explains cached (all_of WB) 0 8 (fitting.TooFew 1 0) → ⊥ }
 {}
