@@ -1,6 +1,6 @@
 -- Each command that a line is read as fits the situation.
 use Rattle.std.proofs.Common.{◌≡◌, ℕ, ◌≤◌, ◌<◌, ◌%◌, ◌^◌, ◌==◌, ◌&&◌, ◌||◌, not, nat_le, nat_eq, nat_lt, Bool, true, false, List, length, Option, Some, None, Result, Ok, Err, refl, arith}
-use Rattle.std.specs.Prelude.{if◌then◌else◌}
+use Rattle.std.specs.Prelude.{if◌then◌else◌, codes, IfSome}
 use Rattle.std.specs.Set.{is_member}
 use Rattle.std.specs.Result.{IfOk}
 use Rattle.std.proofs.lemmas.Bool.{and_parts, leb-true, ltb-true, eqb-true}
@@ -13,19 +13,19 @@ use Rattle.mt_text.specs.declared.place.Place.{Place}
 use Rattle.mt_regs.specs.RegisterFile.{RegisterFile}
 use Rattle.mt_script.specs.Situation.{Situation}
 use Rattle.mt_script.specs.Words.{text_of, place_of}
-use Rattle.mt_script.specs.Numbers.{fault_at, tested, at_least, below, any, aligned, multiple, register, count_in, processor_in, value_in, aligned_in, register_in, base_in, has_room, is_register, is_writable, address_limit}
-use Rattle.mt_script.specs.Rows.{row_of, stands}
-use Rattle.mt_script.specs.Stages.{takes_commands, takes_registers, takes_end, is_in_dump}
+use Rattle.mt_script.specs.Numbers.{fault_at, tested, at_least, below, any, aligned, multiple, register, count_in, processor_in, value_in, aligned_in, physical_in, register_in, base_in, has_room, is_register, is_writable, address_limit}
+use Rattle.mt_script.specs.Rows.{is_word, row_of, stands}
+use Rattle.mt_script.specs.Stages.{takes_cpus, takes_windows, takes_commands, takes_registers, takes_end, is_in_dump}
 use Rattle.mt_script.specs.Shape.{shape_fault}
-use Rattle.mt_script.specs.Commands.{Answer, with, unless, cpus_in, ram_in, load_in, store_in, map_in, invlpg_in, msr_in, row_answer, row_line, outside, register_line, is_end, in_section, too_long, in_dump, not_too_long, in_stage, command_of}
-use Rattle.mt_script.specs.Accept.{Fits, IsAligned}
+use Rattle.mt_script.specs.Commands.{Answer, with, unless, cpus_in, ram_in, load_in, store_in, map_in, invlpg_in, msr_in, switch_in, verb_answer, row_line, outside, register_line, is_end, in_section, too_long, in_dump, not_too_long, in_stage, command_of}
+use Rattle.mt_script.specs.Accept.{Fits, IsAligned, IsFor}
+use Rattle.mt_script.proofs.Table.{row_all}
 use Rattle.mt_script.proofs.Values.{value_fact}
 use Rattle.mt_script.specs.declared.command.Stage.{Stage}
 use Rattle.mt_script.specs.declared.command.Stage.TheVariants.{NeedCpus, NeedDump, InDump, Rams, Commands, InUpdate, InBegin}
 use Rattle.mt_script.specs.declared.command.Command.{Command}
 use Rattle.mt_script.specs.declared.command.Command.TheVariants as command
 use Rattle.mt_script.specs.declared.row.Row.{Row}
-use Rattle.mt_script.specs.declared.row.Row.TheVariants as row
 use Rattle.mt_script.specs.declared.fault.ScriptReason.{ScriptReason}
 use Rattle.mt_script.specs.declared.fault.ScriptReason.TheVariants.{OutOfRange, NotNow}
 use Rattle.mt_script.specs.declared.fault.ScriptFault.{ScriptFault}
@@ -107,10 +107,10 @@ module _ (now : Situation) (line : ℕ) (words : List (ℕ × List ℕ)) where
   for_count i first last next all = fits_with (Fits now) (count_in line words i first last) next
       (λ n is. all n (count_fact line words i first last n is))
 
-  cpus_fits : stands row.Cpus now.stage ≡ true → IfOk (cpus_in line words) (Fits now)
+  cpus_fits : takes_cpus now.stage ≡ true → IfOk (cpus_in line words) (Fits now)
   cpus_fits stage = for_count 1 1 16 (λ n. Ok (command.Cpus n)) (λ n range. (stage, range.0, range.1))
 
-  ram_fits : stands row.Ram now.stage ≡ true → IfOk (ram_in now line words) (Fits now)
+  ram_fits : takes_windows now.stage ≡ true → IfOk (ram_in now line words) (Fits now)
   ram_fits stage = fits_with (Fits now) (base_in line words 1) _ (λ base is_base.
       for_count 2 1 4096 _ (λ lines range.
       fits_if (Fits now) (has_room now base lines) (Ok (command.Ram base lines)) (Err (fault_at OutOfRange (place_of line words 2)))
@@ -136,34 +136,44 @@ module _ (now : Situation) (line : ℕ) (words : List (ℕ × List ℕ)) where
   msr_fits stage = for_processor _ (λ k known. fits_with (Fits now) (register_in now line words 2) _ (λ msr is.
       ((stage, known), register_fact now.file (place_of line words 2) (hex_number (text_of words 2)) msr is)))
 
-  row_fits : (row : Row) → stands row now.stage ≡ true → IfOk (row_answer now line words row) (Fits now)
-  row_fits row.Cpus stage = cpus_fits stage
-  row_fits row.Dump stage = stage
-  row_fits row.Ram stage = ram_fits stage
-  row_fits row.Load stage = load_fits stage
-  row_fits row.Store stage = store_fits stage
-  row_fits row.Fence stage = for_processor _ (λ k known. (stage, known))
-  row_fits row.Map stage = map_fits stage
-  row_fits row.Invlpg stage = invlpg_fits stage
-  row_fits row.Cr3 stage = for_processor _ (λ k known. (stage, known))
-  row_fits row.Pge stage = for_processor _ (λ k known. (stage, known))
-  row_fits row.Cd stage = for_processor _ (λ k known. (stage, known))
-  row_fits row.Update stage = stage
-  row_fits row.Begin stage = stage
-  row_fits row.Go stage = stage
-  row_fits row.Cancel stage = stage
-  row_fits row.Report stage = stage
-  row_fits row.Step stage = for_processor _ (λ k known. (stage, known))
-  row_fits row.Word stage = for_aligned 1 8 (address_limit now.file) _ (λ address good. (stage, good))
-  row_fits row.Msr stage = msr_fits stage
+  one_fits : (make : ℕ → Command) → takes_commands now.stage ≡ true → ((k : ℕ) → IsFor now k → Fits now (make k)) → IfOk (with (processor_in now line words 1) (λ k. Ok (make k))) (Fits now)
+  one_fits make stage fits = for_processor _ (λ k known. fits k (stage, known))
 
-  row_line_fits : (row : Option Row) → IfOk (row_line now line words row) (Fits now)
-  row_line_fits None = tt
-  row_line_fits (Some row) = fits_unless (Fits now) (shape_fault line words row) _
-      (fits_if (Fits now) (stands row now.stage) (row_answer now line words row) (Err (fault_at NotNow (place_of line words 0))) (row_fits row) (λ miss. tt))
+  word_fits : takes_commands now.stage ≡ true → IfOk (with (physical_in now line words 1 8) (λ address. Ok (command.Word address))) (Fits now)
+  word_fits stage = for_aligned 1 8 (address_limit now.file) _ (λ address good. (stage, good))
+
+  -- a row leads to commands that fit in its stages
+  abbrev pub RowFits : Row → Type 0
+  RowFits row = stands row.turn now.stage ≡ true → IfOk (verb_answer now line words row.verb) (Fits now)
+
+  rows_fit : (word : List ℕ) → IfSome (row_of word) RowFits
+  rows_fit = row_all RowFits (cpus_fits, (λ stage. stage, (ram_fits, (load_fits, (store_fits, (fence, (map_fits, (invlpg_fits, (cr3, (pge, (cd, (bare, (bare, (bare, (bare, (bare, (step, (word_fits, (msr_fits, tt)))))))))))))))))))
+    where
+      bare : takes_commands now.stage ≡ true → takes_commands now.stage ≡ true
+      bare stage = stage
+
+      fence : takes_commands now.stage ≡ true → IfOk (with (processor_in now line words 1) (λ k. Ok (command.Fence k))) (Fits now)
+      fence stage = one_fits (λ k. command.Fence k) stage (λ k is. is)
+
+      cr3 : takes_commands now.stage ≡ true → IfOk (with (processor_in now line words 1) (λ k. Ok (command.Cr3 k))) (Fits now)
+      cr3 stage = one_fits (λ k. command.Cr3 k) stage (λ k is. is)
+
+      pge : takes_commands now.stage ≡ true → IfOk (switch_in command.Pge now line words) (Fits now)
+      pge stage = one_fits (λ k. command.Pge k (is_word (codes "on") (text_of words 2))) stage (λ k is. is)
+
+      cd : takes_commands now.stage ≡ true → IfOk (switch_in command.Cd now line words) (Fits now)
+      cd stage = one_fits (λ k. command.Cd k (is_word (codes "on") (text_of words 2))) stage (λ k is. is)
+
+      step : takes_commands now.stage ≡ true → IfOk (with (processor_in now line words 1) (λ k. Ok (command.Step k))) (Fits now)
+      step stage = one_fits (λ k. command.Step k) stage (λ k is. is)
+
+  row_line_fits : (row : Option Row) → IfSome row RowFits → IfOk (row_line now line words row) (Fits now)
+  row_line_fits None fits = tt
+  row_line_fits (Some row) fits = fits_unless (Fits now) (shape_fault line words row) _
+      (fits_if (Fits now) (stands row.turn now.stage) (verb_answer now line words row.verb) (Err (fault_at NotNow (place_of line words 0))) fits (λ miss. tt))
 
   outside_fits : is_in_dump now.stage ≡ false → IfOk (outside now line words) (Fits now)
-  outside_fits apart = fits_if (Fits now) (length words == 0) (Ok command.Blank) (row_line now line words (row_of (text_of words 0))) (λ blank. apart) (λ some. row_line_fits (row_of (text_of words 0)))
+  outside_fits apart = fits_if (Fits now) (length words == 0) (Ok command.Blank) (row_line now line words (row_of (text_of words 0))) (λ blank. apart) (λ some. row_line_fits (row_of (text_of words 0)) (rows_fit (text_of words 0)))
 
   register_fits : takes_registers now.stage ≡ true → IfOk (register_line now line words) (Fits now)
   register_fits stage = fits_with (Fits now) (any (place_of line words 0) (hex_number (without_ending 58 (text_of words 0)))) _ (λ number is_number.

@@ -1,8 +1,9 @@
+pub mod FirstWords
 pub mod Fitting
 pub mod Good
 pub mod Keeping
 pub mod Registers
 pub mod Sections
 pub mod Standing
+pub mod Table
 pub mod Values
-pub mod FirstWords

@@ -1,10 +1,10 @@
 -- Each fault of a line stands at a word that the line has, or past the limit of a line.
 use Rattle.std.proofs.Common.{◌≡◌, ℕ, ◌≤◌, ◌<◌, ◌-◌, ◌%◌, ◌^◌, ◌==◌, ◌&&◌, not, nat_eq, nat_lt, nat_le, Bool, true, false, List, length, Option, Some, None, Result, Ok, Err, refl, subst, [], ◌∷◌, zero, suc, arith, inl, inr}
-use Rattle.std.specs.Prelude.{if◌then◌else◌}
+use Rattle.std.specs.Prelude.{if◌then◌else◌, IfSome, ⊤}
 use Rattle.std.specs.Set.{is_member}
 use Rattle.std.specs.Result.{IfErr}
 use Rattle.std.specs.List.{slice_get}
-use Rattle.std.proofs.lemmas.Bool.{ltb-true}
+use Rattle.std.proofs.lemmas.Bool.{eqb-true, ltb-true}
 use Rattle.std.proofs.lemmas.Bool.Decides.{nat_tests}
 use Rattle.mt_text.specs.Number.{hex_number, decimal_number}
 use Rattle.mt_text.specs.Text.{words_of, without_ending}
@@ -14,15 +14,17 @@ use Rattle.mt_text.specs.declared.place.Place.{Place}
 use Rattle.mt_regs.specs.RegisterFile.{RegisterFile}
 use Rattle.mt_script.specs.Situation.{Situation}
 use Rattle.mt_script.specs.Words.{word_of, text_of, place_of}
-use Rattle.mt_script.specs.Numbers.{fault_at, tested, at_least, below, any, aligned, multiple, register, count_in, processor_in, value_in, aligned_in, register_in, base_in, has_room, is_register, is_writable, address_limit}
-use Rattle.mt_script.specs.Rows.{row_of, least, most, stands}
-use Rattle.mt_script.specs.Shape.{bad_line, fixed_word, fits, shape_fault}
+use Rattle.mt_script.specs.Numbers.{fault_at, tested, at_least, below, any, aligned, multiple, register, count_in, processor_in, value_in, aligned_in, physical_in, register_in, base_in, has_room, is_register, is_writable, address_limit}
+use Rattle.mt_script.specs.Rows.{row_of, stands, fits}
+use Rattle.mt_script.specs.Shape.{bad_line, shape_fault}
 use Rattle.mt_script.specs.Places.{StandsIn}
-use Rattle.mt_script.specs.Commands.{Answer, with, unless, row_answer, row_line, outside, is_end, in_section, too_long, in_dump, not_too_long, in_stage, command_of}
+use Rattle.mt_script.specs.Commands.{Answer, with, unless, cpus_in, ram_in, load_in, store_in, map_in, invlpg_in, msr_in, switch_in, verb_answer, row_line, outside, is_end, in_section, too_long, in_dump, not_too_long, in_stage, command_of}
 use Rattle.mt_script.specs.declared.command.Stage.{Stage}
 use Rattle.mt_script.specs.declared.command.Stage.TheVariants.{NeedCpus, NeedDump, InDump, Rams, Commands, InUpdate, InBegin}
 use Rattle.mt_script.specs.declared.row.Row.{Row}
-use Rattle.mt_script.specs.declared.row.Row.TheVariants as row
+use Rattle.mt_script.specs.declared.command.Command.{Command}
+use Rattle.mt_script.specs.declared.command.Command.TheVariants as command
+use Rattle.mt_script.proofs.Table.{row_all}
 use Rattle.mt_script.specs.declared.fault.ScriptReason.{ScriptReason}
 use Rattle.mt_script.specs.declared.fault.ScriptReason.TheVariants.{BadLine, OutOfRange, UnknownRegister, NotNow, Repeated}
 use Rattle.mt_script.specs.declared.fault.ScriptFault.{ScriptFault}
@@ -104,61 +106,80 @@ module _ (line : ℕ) (words : List (ℕ × List ℕ)) where
   register_fails : (now : Situation) → 2 < length words → IfErr (register_in now line words 2) AtWord
   register_fails now within = number_at 2 (register_in now line words 2) within (register_at now.file (place_of line words 2) (hex_number (text_of words 2)))
 
-  row_fails : (now : Situation) (row : Row) → least row ≤ length words → IfErr (row_answer now line words row) AtWord
-  row_fails now row.Cpus has = fails_with AtWord (count_in line words 1 1 16) _ (count_fails 1 1 16 (omega arith)) (λ n. tt)
-  row_fails now row.Dump has = tt
-  row_fails now row.Ram has =
+  cpus_fails : 2 ≤ length words → IfErr (cpus_in line words) AtWord
+  cpus_fails has = fails_with AtWord (count_in line words 1 1 16) _ (count_fails 1 1 16 (omega arith)) (λ n. tt)
+
+  ram_fails : (now : Situation) → 3 ≤ length words → IfErr (ram_in now line words) AtWord
+  ram_fails now has =
       fails_with AtWord (base_in line words 1) _ (base_fails (omega arith)) (λ base.
       fails_with AtWord (count_in line words 2 1 4096) _ (count_fails 2 1 4096 (omega arith)) (λ lines.
       fails_if AtWord (has_room now base lines) _ _ (λ room. tt) (λ miss. word_at 2 OutOfRange (omega arith))))
-  row_fails now row.Load has =
+
+  load_fails : (now : Situation) → 3 ≤ length words → IfErr (load_in now line words) AtWord
+  load_fails now has =
       fails_with AtWord (processor_in now line words 1) _ (processor_fails now (omega arith)) (λ k.
       fails_with AtWord (aligned_in line words 2 8 (2 ^ 48)) _ (aligned_fails 2 8 (2 ^ 48) (omega arith)) (λ address. tt))
-  row_fails now row.Store has =
+
+  store_fails : (now : Situation) → 4 ≤ length words → IfErr (store_in now line words) AtWord
+  store_fails now has =
       fails_with AtWord (processor_in now line words 1) _ (processor_fails now (omega arith)) (λ k.
       fails_with AtWord (aligned_in line words 2 8 (2 ^ 48)) _ (aligned_fails 2 8 (2 ^ 48) (omega arith)) (λ address.
       fails_with AtWord (value_in line words 3) _ (value_fails 3 (omega arith)) (λ value. tt)))
-  row_fails now row.Fence has = fails_with AtWord (processor_in now line words 1) _ (processor_fails now (omega arith)) (λ k. tt)
-  row_fails now row.Map has =
+
+  map_fails : (now : Situation) → 5 ≤ length words → IfErr (map_in now line words) AtWord
+  map_fails now has =
       fails_with AtWord (processor_in now line words 1) _ (processor_fails now (omega arith)) (λ k.
       fails_with AtWord (aligned_in line words 2 4096 (2 ^ 48)) _ (aligned_fails 2 4096 (2 ^ 48) (omega arith)) (λ address.
       fails_with AtWord (aligned_in line words 3 4096 (address_limit now.file)) _ (aligned_fails 3 4096 (address_limit now.file) (omega arith)) (λ physical.
       fails_with AtWord (count_in line words 4 0 7) _ (count_fails 4 0 7 (omega arith)) (λ index. tt))))
-  row_fails now row.Invlpg has =
+
+  invlpg_fails : (now : Situation) → 3 ≤ length words → IfErr (invlpg_in now line words) AtWord
+  invlpg_fails now has =
       fails_with AtWord (processor_in now line words 1) _ (processor_fails now (omega arith)) (λ k.
       fails_with AtWord (aligned_in line words 2 1 (2 ^ 48)) _ (aligned_fails 2 1 (2 ^ 48) (omega arith)) (λ address. tt))
-  row_fails now row.Cr3 has = fails_with AtWord (processor_in now line words 1) _ (processor_fails now (omega arith)) (λ k. tt)
-  row_fails now row.Pge has = fails_with AtWord (processor_in now line words 1) _ (processor_fails now (omega arith)) (λ k. tt)
-  row_fails now row.Cd has = fails_with AtWord (processor_in now line words 1) _ (processor_fails now (omega arith)) (λ k. tt)
-  row_fails now row.Update has = tt
-  row_fails now row.Begin has = tt
-  row_fails now row.Go has = tt
-  row_fails now row.Cancel has = tt
-  row_fails now row.Report has = tt
-  row_fails now row.Step has = fails_with AtWord (processor_in now line words 1) _ (processor_fails now (omega arith)) (λ k. tt)
-  row_fails now row.Word has = fails_with AtWord (aligned_in line words 1 8 (address_limit now.file)) _ (aligned_fails 1 8 (address_limit now.file) (omega arith)) (λ address. tt)
-  row_fails now row.Msr has =
+
+  word_fails : (now : Situation) → 2 ≤ length words → IfErr (with (physical_in now line words 1 8) (λ address. Ok (command.Word address))) AtWord
+  word_fails now has = fails_with AtWord (aligned_in line words 1 8 (address_limit now.file)) _ (aligned_fails 1 8 (address_limit now.file) (omega arith)) (λ address. tt)
+
+  msr_fails : (now : Situation) → 3 ≤ length words → IfErr (msr_in now line words) AtWord
+  msr_fails now has =
       fails_with AtWord (processor_in now line words 1) _ (processor_fails now (omega arith)) (λ k.
       fails_with AtWord (register_in now line words 2) _ (register_fails now (omega arith)) (λ msr. tt))
 
-  -- the words of a row, and then what follows
-  shape_fails : (row : Row) (answer : Answer) → 1 ≤ length words → (least row ≤ length words → IfErr answer AtWord) → IfErr (unless (shape_fault line words row) answer) AtWord
-  shape_fails row answer has later = by (nat_lt (length words) (least row)) (nat_lt (most row) (length words)) (nat_lt (fixed_word row) (length words)) (fits row (text_of words (fixed_word row))) refl refl refl
+  -- the numbers of a row's line fail at its words, where it has as many as it must
+  abbrev pub RowFails : Situation → Row → Type 0
+  RowFails now row = row.least ≤ length words → IfErr (verb_answer now line words row.verb) AtWord
+
+  rows_fail : (now : Situation) (word : List ℕ) → IfSome (row_of word) (RowFails now)
+  rows_fail now = row_all (RowFails now) (cpus_fails, (bare, (ram_fails now, (load_fails now, (store_fails now, (one command.Fence, (map_fails now, (invlpg_fails now, (one command.Cr3, (switch command.Pge, (switch command.Cd, (bare, (bare, (bare, (bare, (bare, (one command.Step, (word_fails now, (msr_fails now, tt)))))))))))))))))))
     where
-      by : (few many fixed fit : Bool) → nat_lt (length words) (least row) ≡ few → nat_lt (most row) (length words) ≡ many → nat_lt (fixed_word row) (length words) ≡ fixed
-          → IfErr (unless (if few then bad_line line words (length words - 1) else if many then bad_line line words (most row) else if fixed && not fit then bad_line line words (fixed_word row) else None) answer) AtWord
-      by true many fixed fit few_is many_is fixed_is = word_at (length words - 1) BadLine (omega arith)
-      by false true fixed fit few_is many_is fixed_is = word_at (most row) BadLine (ltb-true (most row) (length words) many_is)
-      by false false true false few_is many_is fixed_is = word_at (fixed_word row) BadLine (ltb-true (fixed_word row) (length words) fixed_is)
-      by false false true true few_is many_is fixed_is = later (grind (arith, nat_tests, few_is))
-      by false false false fit few_is many_is fixed_is = later (grind (arith, nat_tests, few_is))
+      bare : 1 ≤ length words → ⊤
+      bare has = tt
+
+      one : (make : ℕ → Command) → 2 ≤ length words → IfErr (with (processor_in now line words 1) (λ k. Ok (make k))) AtWord
+      one make has = fails_with AtWord (processor_in now line words 1) _ (processor_fails now (omega arith)) (λ k. tt)
+
+      switch : (make : ℕ → Bool → Command) → 3 ≤ length words → IfErr (switch_in make now line words) AtWord
+      switch make has = fails_with AtWord (processor_in now line words 1) _ (processor_fails now (omega arith)) (λ k. tt)
+
+  -- the words of a row, and then what follows
+  shape_fails : (row : Row) (answer : Answer) → 1 ≤ length words → (row.least ≤ length words → IfErr answer AtWord) → IfErr (unless (shape_fault line words row) answer) AtWord
+  shape_fails row answer has later = by (nat_lt (length words) row.least) (nat_lt row.most (length words)) (length words == row.most) (fits row.last (text_of words (row.most - 1))) refl refl refl
+    where
+      by : (few many full fit : Bool) → nat_lt (length words) row.least ≡ few → nat_lt row.most (length words) ≡ many → (length words == row.most) ≡ full
+          → IfErr (unless (if few then bad_line line words (length words - 1) else if many then bad_line line words row.most else if full && not fit then bad_line line words (row.most - 1) else None) answer) AtWord
+      by true many full fit few_is many_is full_is = word_at (length words - 1) BadLine (omega arith)
+      by false true full fit few_is many_is full_is = word_at row.most BadLine (ltb-true row.most (length words) many_is)
+      by false false true false few_is many_is full_is = word_at (row.most - 1) BadLine (let all = eqb-true (length words) row.most full_is in omega arith)
+      by false false true true few_is many_is full_is = later (grind (arith, nat_tests, few_is))
+      by false false false fit few_is many_is full_is = later (grind (arith, nat_tests, few_is))
 
   outside_fails : (now : Situation) → IfErr (outside now line words) AtWord
-  outside_fails now = fails_if AtWord (length words == 0) _ _ (λ blank. tt) (λ some. by (row_of (text_of words 0)) (grind (arith, nat_tests, some)))
+  outside_fails now = fails_if AtWord (length words == 0) _ _ (λ blank. tt) (λ some. by (row_of (text_of words 0)) (rows_fail now (text_of words 0)) (grind (arith, nat_tests, some)))
     where
-      by : (row : Option Row) → 1 ≤ length words → IfErr (row_line now line words row) AtWord
-      by None has = word_at 0 BadLine (omega arith)
-      by (Some row) has = shape_fails row _ has (λ enough. fails_if AtWord (stands row now.stage) _ _ (λ good. row_fails now row enough) (λ miss. word_at 0 NotNow (omega arith)))
+      by : (row : Option Row) → IfSome row (RowFails now) → 1 ≤ length words → IfErr (row_line now line words row) AtWord
+      by None fails has = word_at 0 BadLine (omega arith)
+      by (Some row) fails has = shape_fails row _ has (λ enough. fails_if AtWord (stands row.turn now.stage) _ _ (λ good. fails enough) (λ miss. word_at 0 NotNow (omega arith)))
 
   section_fails : (now : Situation) → IfErr (in_section now line words) AtWord
   section_fails now =

@@ -17,7 +17,8 @@ use Rattle.mt_script.specs.declared.command.Stage.TheVariants.{NeedCpus, NeedDum
 use Rattle.mt_script.specs.declared.command.Command.{Command}
 use Rattle.mt_script.specs.declared.command.Command.TheVariants as command
 use Rattle.mt_script.specs.declared.row.Row.{Row}
-use Rattle.mt_script.specs.declared.row.Row.TheVariants as row
+use Rattle.mt_script.specs.declared.row.Verb.{Verb}
+use Rattle.mt_script.specs.declared.row.Verb.TheVariants as verb
 use Rattle.mt_script.specs.declared.fault.ScriptReason.TheVariants.{BadLine, UnknownRegister, OutOfRange, NoEnd, NotNow, Repeated}
 use Rattle.mt_script.specs.declared.fault.ScriptFault.{ScriptFault}
 
@@ -34,7 +35,7 @@ abbrev pub unless : Option ScriptFault → Answer → Answer
 unless (Some fault) answer = Err fault
 unless None answer = answer
 
--- The numbers of a line of each row, from left to right, and the command that it asks for.
+-- The numbers of a line of each verb, from left to right, and the command that it asks for.
 abbrev pub cpus_in : ℕ → List (ℕ × List ℕ) → Answer
 cpus_in line words = with (count_in line words 1 1 16) (λ n. Ok (command.Cpus n))
 
@@ -80,33 +81,33 @@ msr_in now line words =
     with (register_in now line words 2) (λ register.
     Ok (command.Msr k register)))
 
-abbrev pub row_answer : Situation → ℕ → List (ℕ × List ℕ) → Row → Answer
-row_answer now line words row.Cpus = cpus_in line words
-row_answer now line words row.Dump = Ok command.Dump
-row_answer now line words row.Ram = ram_in now line words
-row_answer now line words row.Load = load_in now line words
-row_answer now line words row.Store = store_in now line words
-row_answer now line words row.Fence = with (processor_in now line words 1) (λ k. Ok (command.Fence k))
-row_answer now line words row.Map = map_in now line words
-row_answer now line words row.Invlpg = invlpg_in now line words
-row_answer now line words row.Cr3 = with (processor_in now line words 1) (λ k. Ok (command.Cr3 k))
-row_answer now line words row.Pge = switch_in command.Pge now line words
-row_answer now line words row.Cd = switch_in command.Cd now line words
-row_answer now line words row.Update = Ok command.Update
-row_answer now line words row.Begin = Ok command.Begin
-row_answer now line words row.Go = Ok command.Go
-row_answer now line words row.Cancel = Ok command.Cancel
-row_answer now line words row.Report = Ok command.Report
-row_answer now line words row.Step = with (processor_in now line words 1) (λ k. Ok (command.Step k))
-row_answer now line words row.Word = with (physical_in now line words 1 8) (λ address. Ok (command.Word address))
-row_answer now line words row.Msr = msr_in now line words
+abbrev pub verb_answer : Situation → ℕ → List (ℕ × List ℕ) → Verb → Answer
+verb_answer now line words verb.Cpus = cpus_in line words
+verb_answer now line words verb.Dump = Ok command.Dump
+verb_answer now line words verb.Ram = ram_in now line words
+verb_answer now line words verb.Load = load_in now line words
+verb_answer now line words verb.Store = store_in now line words
+verb_answer now line words verb.Fence = with (processor_in now line words 1) (λ k. Ok (command.Fence k))
+verb_answer now line words verb.Map = map_in now line words
+verb_answer now line words verb.Invlpg = invlpg_in now line words
+verb_answer now line words verb.Cr3 = with (processor_in now line words 1) (λ k. Ok (command.Cr3 k))
+verb_answer now line words verb.Pge = switch_in command.Pge now line words
+verb_answer now line words verb.Cd = switch_in command.Cd now line words
+verb_answer now line words verb.Update = Ok command.Update
+verb_answer now line words verb.Begin = Ok command.Begin
+verb_answer now line words verb.Go = Ok command.Go
+verb_answer now line words verb.Cancel = Ok command.Cancel
+verb_answer now line words verb.Report = Ok command.Report
+verb_answer now line words verb.Step = with (processor_in now line words 1) (λ k. Ok (command.Step k))
+verb_answer now line words verb.Word = with (physical_in now line words 1 8) (λ address. Ok (command.Word address))
+verb_answer now line words verb.Msr = msr_in now line words
 
 -- a line of a row: its words, its stage, its numbers
 abbrev pub row_line : Situation → ℕ → List (ℕ × List ℕ) → Option Row → Answer
 row_line now line words None = Err (fault_at BadLine (place_of line words 0))
 row_line now line words (Some row) =
     unless (shape_fault line words row)
-    (if stands row now.stage then row_answer now line words row else Err (fault_at NotNow (place_of line words 0)))
+    (if stands row.turn now.stage then verb_answer now line words row.verb else Err (fault_at NotNow (place_of line words 0)))
 
 -- a line outside the sections
 abbrev pub outside : Situation → ℕ → List (ℕ × List ℕ) → Answer

@@ -1,9 +1,9 @@
 ghost use Rattle.std.specs.Prelude.{◌≡◌};
-ghost use Rattle.mt_script.specs.Rows.{row_of, is_word, least, most, stands};
-ghost use Rattle.mt_script.specs.Stages.{takes_cpus, takes_dump, takes_windows, takes_commands};
+ghost use Rattle.mt_script.specs.Rows.{row_of, is_word, plain, stands};
+ghost use Rattle.mt_script.specs.Stages.{takes_commands};
 
 use crate::Stage;
-use crate::row::Row;
+use crate::row::{Last, Row, Turn, Verb};
 
 /// Whether a word has these bytes.
 pub fn is_word(word: &[u8], name: &[u8]) -> bool
@@ -12,76 +12,73 @@ pub fn is_word(word: &[u8], name: &[u8]) -> bool
     word == name
 }
 
+// Lines of so many words.
+fn plain(verb: Verb, count: usize, turn: Turn) -> Row
+    ensures { result ≡ plain verb count turn }
+{
+    Row {
+        verb,
+        least: count,
+        most: count,
+        last: Last::Any,
+        turn,
+    }
+}
+
 /// The row whose first word this is.
 pub fn row_of(word: &[u8]) -> Option<Row>
     ensures { result ≡ row_of word.now }
 {
     if is_word(word, b"cpus") {
-        Some(Row::Cpus)
+        Some(plain(Verb::Cpus, 2, Turn::Cpus))
     } else if is_word(word, b"dump") {
-        Some(Row::Dump)
+        Some(plain(Verb::Dump, 1, Turn::Dump))
     } else if is_word(word, b"ram") {
-        Some(Row::Ram)
+        Some(plain(Verb::Ram, 3, Turn::Windows))
     } else if is_word(word, b"load") {
-        Some(Row::Load)
+        Some(plain(Verb::Load, 3, Turn::Commands))
     } else if is_word(word, b"store") {
-        Some(Row::Store)
+        Some(plain(Verb::Store, 4, Turn::Commands))
     } else if is_word(word, b"fence") {
-        Some(Row::Fence)
+        Some(plain(Verb::Fence, 2, Turn::Commands))
     } else if is_word(word, b"map") {
-        Some(Row::Map)
+        Some(Row {
+            least: 5,
+            last: Last::Global,
+            ..plain(Verb::Map, 6, Turn::Commands)
+        })
     } else if is_word(word, b"invlpg") {
-        Some(Row::Invlpg)
+        Some(plain(Verb::Invlpg, 3, Turn::Commands))
     } else if is_word(word, b"cr3") {
-        Some(Row::Cr3)
+        Some(plain(Verb::Cr3, 2, Turn::Commands))
     } else if is_word(word, b"pge") {
-        Some(Row::Pge)
+        Some(Row {
+            last: Last::Switch,
+            ..plain(Verb::Pge, 3, Turn::Commands)
+        })
     } else if is_word(word, b"cd") {
-        Some(Row::Cd)
+        Some(Row {
+            last: Last::Switch,
+            ..plain(Verb::Cd, 3, Turn::Commands)
+        })
     } else if is_word(word, b"update") {
-        Some(Row::Update)
+        Some(plain(Verb::Update, 1, Turn::Commands))
     } else if is_word(word, b"begin") {
-        Some(Row::Begin)
+        Some(plain(Verb::Begin, 1, Turn::Commands))
     } else if is_word(word, b"go") {
-        Some(Row::Go)
+        Some(plain(Verb::Go, 1, Turn::Commands))
     } else if is_word(word, b"cancel") {
-        Some(Row::Cancel)
+        Some(plain(Verb::Cancel, 1, Turn::Commands))
     } else if is_word(word, b"report") {
-        Some(Row::Report)
+        Some(plain(Verb::Report, 1, Turn::Commands))
     } else if is_word(word, b"step") {
-        Some(Row::Step)
+        Some(plain(Verb::Step, 2, Turn::Commands))
     } else if is_word(word, b"word") {
-        Some(Row::Word)
+        Some(plain(Verb::Word, 2, Turn::Commands))
     } else if is_word(word, b"msr") {
-        Some(Row::Msr)
+        Some(plain(Verb::Msr, 3, Turn::Commands))
     } else {
         None
-    }
-}
-
-/// How few words a line of this row has.
-pub fn least(row: Row) -> usize
-    ensures { result ≡ least row }
-{
-    match row {
-        Row::Dump | Row::Update | Row::Begin | Row::Go | Row::Cancel | Row::Report => 1,
-        Row::Cpus | Row::Fence | Row::Cr3 | Row::Step | Row::Word => 2,
-        Row::Ram | Row::Load | Row::Invlpg | Row::Pge | Row::Cd | Row::Msr => 3,
-        Row::Store => 4,
-        Row::Map => 5,
-    }
-}
-
-/// How many words a line of this row has at most.
-pub fn most(row: Row) -> usize
-    ensures { result ≡ most row }
-{
-    match row {
-        Row::Dump | Row::Update | Row::Begin | Row::Go | Row::Cancel | Row::Report => 1,
-        Row::Cpus | Row::Fence | Row::Cr3 | Row::Step | Row::Word => 2,
-        Row::Ram | Row::Load | Row::Invlpg | Row::Pge | Row::Cd | Row::Msr => 3,
-        Row::Store => 4,
-        Row::Map => 6,
     }
 }
 
@@ -92,14 +89,14 @@ pub fn takes_commands(stage: Stage) -> bool
     matches!(stage, Stage::Rams | Stage::Commands)
 }
 
-/// Whether lines of this row may stand in this stage.
-pub fn stands(row: Row, stage: Stage) -> bool
-    ensures { result ≡ stands row stage }
+/// Whether lines of this turn may stand in this stage.
+pub fn stands(turn: Turn, stage: Stage) -> bool
+    ensures { result ≡ stands turn stage }
 {
-    match row {
-        Row::Cpus => matches!(stage, Stage::NeedCpus),
-        Row::Dump => matches!(stage, Stage::NeedDump),
-        Row::Ram => matches!(stage, Stage::Rams),
-        _ => takes_commands(stage),
+    match turn {
+        Turn::Cpus => matches!(stage, Stage::NeedCpus),
+        Turn::Dump => matches!(stage, Stage::NeedDump),
+        Turn::Windows => matches!(stage, Stage::Rams),
+        Turn::Commands => takes_commands(stage),
     }
 }

@@ -3,7 +3,7 @@ ghost use Rattle.std.specs.Set.{is_member};
 ghost use Rattle.std.specs.Result.{IfOk};
 ghost use Rattle.mt_script.specs.Accept.{Fits};
 ghost use Rattle.mt_text.specs.Text.{words_of};
-ghost use Rattle.mt_script.specs.Commands.{command_of, outside, in_section, in_dump, row_answer, cpus_in, load_in, store_in, map_in, invlpg_in, switch_in, msr_in, ram_in, register_line, register_value, is_end, too_long, end_fault};
+ghost use Rattle.mt_script.specs.Commands.{command_of, outside, in_section, in_dump, verb_answer, cpus_in, load_in, store_in, map_in, invlpg_in, switch_in, msr_in, ram_in, register_line, register_value, is_end, too_long, end_fault};
 ghost use Rattle.mt_script.specs.Numbers.{fault_at};
 ghost use Rattle.mt_script.specs.Words.{text_of};
 ghost use Rattle.mt_script.specs.Rows.{is_word};
@@ -15,7 +15,7 @@ use crate::number::{
     writable,
 };
 use crate::room::has_room;
-use crate::row::Row;
+use crate::row::Verb;
 use crate::shape::shape_fault;
 use crate::{Command, ScriptFault, ScriptReason, Setup, Stage};
 use mt_text::{Line, Place, Words, hex64, without_ending};
@@ -100,30 +100,30 @@ fn is_on(words: &Words<'_>) -> bool
     is_word(words.text(2), b"on")
 }
 
-// The numbers of a line of this row, and the command that it asks for.
-fn read_row(words: &Words<'_>, setup: &Setup, row: Row) -> Result<Command, ScriptFault>
-    ensures { result ≡ row_answer setup.now words.now.number words.now.words row }
+// The numbers of a line with this verb, and the command that it asks for.
+fn read_verb(words: &Words<'_>, setup: &Setup, verb: Verb) -> Result<Command, ScriptFault>
+    ensures { result ≡ verb_answer setup.now words.now.number words.now.words verb }
 {
-    match row {
-        Row::Cpus => read_cpus(words),
-        Row::Dump => Ok(Command::Dump),
-        Row::Ram => read_ram(words, setup),
-        Row::Load => read_load(words, setup),
-        Row::Store => read_store(words, setup),
-        Row::Fence => Ok(Command::Fence(processor_at(words, 1, setup)?)),
-        Row::Map => read_map(words, setup),
-        Row::Invlpg => read_invlpg(words, setup),
-        Row::Cr3 => Ok(Command::Cr3(processor_at(words, 1, setup)?)),
-        Row::Pge => Ok(Command::Pge(processor_at(words, 1, setup)?, is_on(words))),
-        Row::Cd => Ok(Command::Cd(processor_at(words, 1, setup)?, is_on(words))),
-        Row::Update => Ok(Command::Update),
-        Row::Begin => Ok(Command::Begin),
-        Row::Go => Ok(Command::Go),
-        Row::Cancel => Ok(Command::Cancel),
-        Row::Report => Ok(Command::Report),
-        Row::Step => Ok(Command::Step(processor_at(words, 1, setup)?)),
-        Row::Word => Ok(Command::Word(physical_at(words, 1, WORD, setup)?)),
-        Row::Msr => read_msr(words, setup),
+    match verb {
+        Verb::Cpus => read_cpus(words),
+        Verb::Dump => Ok(Command::Dump),
+        Verb::Ram => read_ram(words, setup),
+        Verb::Load => read_load(words, setup),
+        Verb::Store => read_store(words, setup),
+        Verb::Fence => Ok(Command::Fence(processor_at(words, 1, setup)?)),
+        Verb::Map => read_map(words, setup),
+        Verb::Invlpg => read_invlpg(words, setup),
+        Verb::Cr3 => Ok(Command::Cr3(processor_at(words, 1, setup)?)),
+        Verb::Pge => Ok(Command::Pge(processor_at(words, 1, setup)?, is_on(words))),
+        Verb::Cd => Ok(Command::Cd(processor_at(words, 1, setup)?, is_on(words))),
+        Verb::Update => Ok(Command::Update),
+        Verb::Begin => Ok(Command::Begin),
+        Verb::Go => Ok(Command::Go),
+        Verb::Cancel => Ok(Command::Cancel),
+        Verb::Report => Ok(Command::Report),
+        Verb::Step => Ok(Command::Step(processor_at(words, 1, setup)?)),
+        Verb::Word => Ok(Command::Word(physical_at(words, 1, WORD, setup)?)),
+        Verb::Msr => read_msr(words, setup),
     }
 }
 
@@ -139,10 +139,10 @@ fn read_outside(words: &Words<'_>, setup: &Setup) -> Result<Command, ScriptFault
     if let Some(fault) = shape_fault(words, row) {
         return Err(fault);
     }
-    if !stands(row, setup.stage()) {
+    if !stands(row.turn, setup.stage()) {
         return Err(fault(ScriptReason::NotNow, words.place(0)));
     }
-    read_row(words, setup, row)
+    read_verb(words, setup, row.verb)
 }
 
 fn was_seen(seen: &[u32], msr: u32) -> bool
