@@ -3,3 +3,4 @@ pub mod Follows
 pub mod Cleared
 pub mod Renewed
 pub mod Late
+pub mod Fresh

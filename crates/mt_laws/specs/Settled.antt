@@ -1,10 +1,13 @@
 -- What holds from the first release of an update on.
-use Rattle.std.specs.Prelude.{◌≡◌, ℕ, ◌+◌, true, false, not, List, [], ◌∷◌, Some, ◌++◌}
+use Rattle.std.specs.Prelude.{◌≡◌, ◌≤◌, ℕ, ◌+◌, true, false, not, List, [], ◌∷◌, Some, ◌++◌}
 use Rattle.std.specs.List.{list_all, All}
 use Rattle.mt_machine.specs.Machine.{Machine, Order, has_passed, has_released, Reached, MachineEvent, Steps, IsEnabled, next, run, AreEnabled}
 use Rattle.mt_machine.specs.declared.event.Event.TheVariants.{Pass, Release}
 use Rattle.mt_machine.specs.Update.{IsSettled, IsHeld, is_release, is_call}
-use Rattle.mt_machine.specs.Start.{IsStart}
+use Rattle.mt_regs.specs.RegisterFile.{RegisterFile}
+use Rattle.mt_machine.specs.Memory.{Window}
+use Rattle.mt_machine.specs.System.{Processor}
+use Rattle.mt_machine.specs.Start.{IsStart, start_machine}
 
 -- p stands before the first pass of its update, and the first release leads to r
 pub record IsFirstRelease (p r : Machine) (o : Order) : Type 0 where
@@ -49,3 +52,18 @@ SettledAfterEachRelease =
     (s m : Machine) (o : Order) (k : ℕ) (since : List MachineEvent) → IsStart s → Reached s m → m.order ≡ Some o
     → IsEnabled m (Steps k Release) → AreEnabled (next m (Steps k Release)) since → list_all (λ e. not (is_call e)) since ≡ true
     → IsSettled (run (next m (Steps k Release)) since).system (o.from_era + 1) o.goal
+
+-- ---- at all times
+
+-- nothing that the processor holds is of an earlier era than its own
+pub record IsFresh (p : Processor) : Type 0 where
+  pub lines : All (λ l. p.era ≤ l.era) p.lines
+  pub buffers : All (λ l. p.era ≤ l.era) p.buffers
+  pub entries : All (λ e. p.era ≤ e.era) p.entries
+
+-- where that holds at a start it holds in each reached state, within an update too
+abbrev pub NothingIsStale : Type 0
+NothingIsStale = (s m : Machine) → IsStart s → All IsFresh s.system.processors → Reached s m → All IsFresh m.system.processors
+
+abbrev pub StartsFresh : Type 0
+StartsFresh = (count : ℕ) (f : RegisterFile) (ws : List Window) → All IsFresh (start_machine count f ws).system.processors

@@ -11,7 +11,9 @@ pub use kept::{
     steps_keep_now, write_backs_have_places,
 };
 pub use runs::{led_is_reached, reached_is_run};
-pub use settled::{held_after_release, no_buffers_at_pass, settled_after_each_release};
+pub use settled::{
+    held_after_release, no_buffers_at_pass, nothing_is_stale, settled_after_each_release,
+};
 pub use starts::{eras_fit, reached_is_quiet, start_is_quiet, updated_is_quiet};
 pub use updates::{
     broadcast_update, cancelled_broadcast, cancelled_update, count_of_steps, led_cancelled,

@@ -11,8 +11,8 @@ pub use laws::{
     accesses_keep_sound, barriers_count, barriers_hold, broadcast_update, cancelled_broadcast,
     cancelled_update, count_of_steps, eras_fit, events_keep, held_after_release, led_cancelled,
     led_ends, led_is_reached, led_released, led_to_second_barrier, led_update, lines_are_low,
-    no_buffers_at_pass, orders_hold, reached_is_quiet, reached_is_run, settled_after_each_release,
-    start_is_quiet, stays_coherent, stays_sound, steps_keep_now, takes_broadcast, updated_is_quiet,
-    updated_words, whole_update, write_backs_have_places,
+    no_buffers_at_pass, nothing_is_stale, orders_hold, reached_is_quiet, reached_is_run,
+    settled_after_each_release, start_is_quiet, stays_coherent, stays_sound, steps_keep_now,
+    takes_broadcast, updated_is_quiet, updated_words, whole_update, write_backs_have_places,
 };
 pub use worked::{worked_counts, worked_first_release, worked_holdings};

@@ -104,7 +104,7 @@ unfolding is_take
 left_alone Take k s h = absurd (cc)
 left_alone other k s h = refl
 
-option_case : {X Y : Type 0} → (x : Option X) (f : X → Y) (d : Y) (P : Y → Type 0) → P d → ((y : X) → P (f y)) → P (option_map_or f x d)
+pub option_case : {X Y : Type 0} → (x : Option X) (f : X → Y) (d : Y) (P : Y → Type 0) → P d → ((y : X) → P (f y)) → P (option_map_or f x d)
 option_case None f d P none some = none
 option_case (Some y) f d P none some = some y
 

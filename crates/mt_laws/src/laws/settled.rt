@@ -1,4 +1,4 @@
-ghost use Rattle.mt_laws.specs.Settled.{FirstReleaseFollows, HeldAfterEachFirst, HeldAfterRelease, NoBuffersAtPass, SettledAfterEachRelease};
+ghost use Rattle.mt_laws.specs.Settled.{FirstReleaseFollows, HeldAfterEachFirst, HeldAfterRelease, NoBuffersAtPass, NothingIsStale, SettledAfterEachRelease, StartsFresh};
 
 /// From a release on, and up to the next call, each processor has the goal's registers and holds nothing older than the update.
 pub fn settled_after_each_release()
@@ -17,4 +17,11 @@ pub fn held_after_release()
     ensures from { HeldAfterRelease }
     ensures first { FirstReleaseFollows }
     ensures each { HeldAfterEachFirst }
+{}
+
+/// At no time does a processor hold a line, buffer or TLB entry of an earlier era than its own, where it
+/// holds none at the start.
+pub fn nothing_is_stale()
+    ensures reached { NothingIsStale }
+    ensures start { StartsFresh }
 {}
