@@ -22,7 +22,7 @@ pub fit_or_more : (f : RegisterFile) → IsRegisterFile f → IsAccepted f → i
     → ((new : RegisterFile) × (used : ℕ) × IsTidied f runs chunk spare new used) ⊎ ((needs : ℕ) × (has : ℕ) × IsTooFew f runs chunk spare needs has)
 fit_or_more f good accepted enabled runs wanted chunk spare =
     let (count, is) = finite (task_by (rules_of f chunk) runs) (f.width - 12) 0 in
-    let answer = reached (task_by (rules_of f chunk) runs) (usable_supported (rules_of f chunk) (f.width - 12) runs (usable_runs f runs chunk wanted)) (f.width - 12) 0 0 (omega arith) Untouched count is in
+    let answer = reached (task_by (rules_of f chunk) runs) (usable_supported (rules_of f chunk) runs (usable_runs f runs chunk wanted).supported) (f.width - 12) 0 0 (omega arith) Untouched count is in
     let least : IsLeastList f runs chunk answer.ranges = least_list f runs chunk enabled wanted answer.ranges answer.fits answer.in_order (is ∙ ap Some (sym answer.count)) in
     elim (cases_lt (pair_count f - spare) (length answer.ranges)) [
       | inl above ↦ inr (

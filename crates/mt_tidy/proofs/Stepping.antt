@@ -1,8 +1,8 @@
 -- The steps of a block by its wish, and the block whose step comes last.
-use Rattle.std.proofs.Common.{◌≡◌, ℕ, zero, suc, ◌+◌, ◌-◌, ◌%◌, ◌^◌, ◌<◌, length, length-append, List, [], ◌∷◌, ◌++◌, refl, sym, ap, ◌∙◌, arith, subst, append_assoc}
+use Rattle.std.proofs.Common.{◌≡◌, ℕ, zero, suc, ◌+◌, ◌-◌, ◌*◌, ◌%◌, false, ◌^◌, ◌<◌, length, length-append, List, [], ◌∷◌, ◌++◌, refl, sym, ap, ◌∙◌, arith, subst, append_assoc}
 use Rattle.std.specs.Prelude.{nat_le, nat_lt, Option, None, Some, IsTrue, if◌then◌else◌}
 use Rattle.std.proofs.lemmas.Bool.{and_from, and_parts, leb-true, ltb-true, lt-ltb, le-leb}
-use Rattle.std.proofs.lemmas.List.{same_from_push}
+use Rattle.std.proofs.lemmas.List.{append-nil, same_from_push}
 use Rattle.mt_kinds.specs.declared.mem_type.MemType.{MemType}
 use Rattle.mt_kinds.specs.declared.mem_type.MemType.TheVariants.{UC, WC, WT, WP, WB}
 use Rattle.mt_ranges.specs.declared.block.Block.{Block}
@@ -18,10 +18,10 @@ use Rattle.mt_trie.proofs.WishLaws.{one_wish, same_pages, same_wants}
 use Rattle.mt_tidy.specs.declared.rules.Rules.{Rules}
 use Rattle.mt_tidy.specs.declared.step.Step.{Step}
 use Rattle.mt_tidy.specs.declared.step.Step.TheVariants.{Free, Whole, Divided}
-use Rattle.mt_tidy.specs.declared.table.Costs.{Costs}
-use Rattle.mt_tidy.specs.Cost.{Task, cost, plus, task_by, wish, wish_of_page}
+use Rattle.mt_tidy.specs.declared.costs.Costs.{Costs}
+use Rattle.mt_tidy.specs.Cost.{Task, cost, plus, smaller, task_by, wish, wish_of_page}
 use Rattle.mt_tidy.specs.AllCosts.{cost_in}
-use Rattle.mt_tidy.specs.Fits.{Begun, IsFinite, Laid, Within}
+use Rattle.mt_tidy.specs.Fits.{Begun, IsFinite, Laid, WantsSupported, Within}
 use Rattle.mt_tidy.specs.declared.range.Range.{Range}
 use Rattle.mt_tidy.proofs.Laying.{AreHalves, finite_for, laid_for}
 use Rattle.mt_tidy.proofs.Sizes.{Halves, halves_from}
@@ -206,6 +206,28 @@ no_steps k log first rest steps is none =
     let some = some_steps k log first in
     let long : length steps ≡ length (rest ++ (some.0 ++ some.1 ∷ [])) = ap (λ xs. length xs) (is ∙ ap (λ xs. rest ++ xs) some.2) in
     absurd (omega (arith, long, none, length-append rest (some.0 ++ some.1 ∷ []), length-append some.0 (some.1 ∷ [])))
+
+without_ranges : (o : Option ℕ) → smaller o None ≡ o
+without_ranges None = refl
+without_ranges (Some n) = refl
+
+-- a list for each half of a block above the chunk is a list for the block
+pub laid_apart : (rules : Rules) (runs : List Run) → WantsSupported (task_by rules runs) → (log first half first_first second_log second_first : ℕ)
+    → AreHalves log first half first_first second_log second_first → first % 2 ^ log ≡ 0 → nat_le (4096 * 2 ^ log) rules.chunk ≡ false
+    → wish (task_by rules runs) log first ≡ Mixed → (old middle new : List Range) → Laid (task_by rules runs) half first_first Untouched old middle
+    → Laid (task_by rules runs) second_log second_first Untouched middle new → Laid (task_by rules runs) log first Untouched old new
+laid_apart rules runs good log first half first_first second_log second_first are aligned large mixed old middle new l r =
+    laid_for log first half first_first second_log second_first are rules runs good aligned (costs_of sum) halves mixed Untouched Untouched old old middle new
+    begun l r
+  where
+    sum : Context → Option ℕ
+    sum = halves_cost (task_by rules runs) half first
+
+    halves : Halves (task_by rules runs) log half first (costs_of sum)
+    halves = record { is_half = are.is_half; is_sum = cost_of_table sum }
+
+    begun : Begun (task_by rules []) first log (cost_in (costs_of sum)) Untouched old old Untouched
+    begun = record { choice = None; chosen = rw large (without_ranges (cost_in (costs_of sum) Untouched)); context = refl; after = sym (append-nil old) }
 
 -- what is left for the halves, once a range on the block was chosen
 module _ (log first half first_first second_log second_first : ℕ) (are : AreHalves log first half first_first second_log second_first)

@@ -5,7 +5,7 @@ use Rattle.mt_trie.specs.declared.context.Context.{Context}
 use Rattle.mt_trie.specs.declared.context.Context.TheVariants.{Untouched, Has, Clash}
 use Rattle.mt_trie.specs.declared.wish.Wish.{Wish}
 use Rattle.mt_trie.specs.declared.wish.Wish.TheVariants.{Any, Only, Mixed}
-use Rattle.mt_tidy.specs.declared.table.Costs.{Costs}
+use Rattle.mt_tidy.specs.declared.costs.Costs.{Costs}
 use Rattle.mt_tidy.specs.declared.step.Step.{Step}
 use Rattle.mt_tidy.specs.declared.step.Step.TheVariants.{Free, Whole, Divided}
 use Rattle.mt_tidy.specs.Cost.{Task, cost, plus, wish}

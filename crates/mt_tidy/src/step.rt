@@ -1,4 +1,4 @@
-use crate::table::Costs;
+use crate::costs::Costs;
 use mt_kinds::MemType;
 
 /// How a block is laid.

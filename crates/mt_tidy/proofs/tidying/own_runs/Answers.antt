@@ -1,6 +1,6 @@
 use Rattle.mt_tidy.proofs.Fitted.{checked_of}
 use Rattle.mt_tidy.proofs.Own.{own_runs}
-use Rattle.mt_tidy.proofs.keep.own_runs.Goals as goal
+use Rattle.mt_tidy.proofs.tidying.own_runs.Goals as goal
 
 pub page_runs-requires : goal.page_runs-requires
 page_runs-requires c = checked_of c.args.f.now c.requires.accepted
