@@ -1,11 +1,11 @@
 pub mod Arising
 pub mod Eras
-mod Progress
+pub mod Progress
 pub mod Reaching
 pub mod Settling
 pub mod Stepping
 mod Stopping
-mod Turns
+pub mod Turns
 pub mod Updated
 mod Waiting
 mod Work

@@ -105,7 +105,7 @@ inside (suc len) start k low high = one (inside len (start + 1) k) (start == k) 
         let rest = later (omega (arith, low, apart)) (omega arith) in
         omega arith
 
-each_once : (count : ℕ) → IsEachOnce count (ascending count)
+pub each_once : (count : ℕ) → IsEachOnce count (ascending count)
 each_once count k = one (nat_lt k count) refl
   where
     one : (b : Bool) → nat_lt k count ≡ b → mine k (range_with_len 0 count) ≡ (if b then 1 else 0)

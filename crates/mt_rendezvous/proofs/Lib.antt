@@ -1,3 +1,4 @@
+mod Broadcasts
 mod Keeps
 mod Local
 mod Steps

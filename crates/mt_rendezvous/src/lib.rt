@@ -1,12 +1,14 @@
 //! The update of the range registers on threads: processors that meet at two barriers, over atomic words.
 #![tactic(auto)]
 
+mod broadcast;
 mod gather;
 mod laws;
 mod station;
 mod view;
 mod worked;
 
+pub use broadcast::call_and_take;
 pub use gather::disband;
 pub use laws::{broadcast_begins, full_station_holds, station_is_led};
 pub use station::{Attendee, Outcome, Pass, Root, Station, attend};

@@ -1,0 +1,45 @@
+// From a call to the state in which all have taken.
+ghost use Rattle.std.specs.Prelude.{◌≡◌, ◌<◌, ◌↔◌, IsSome, Err, None, Some, length, OnOk, OnErr};
+ghost use Rattle.std.specs.List.{All};
+ghost use Rattle.mt_regs.specs.declared.fault.Fault.{Fault};
+ghost use Rattle.mt_regs.specs.Faults.{IsFirstFault};
+ghost use Rattle.mt_machine.specs.Machine.{FitsGoal};
+ghost use Rattle.mt_machine.specs.Start.{HasEraRoom};
+ghost use Rattle.mt_core.specs.Rounds.{each_steps};
+ghost use Rattle.mt_rendezvous.specs.Update.{HasTaken};
+
+use mt_core::{CallFault, Core};
+use mt_regs::RegFile;
+
+/// Calls, and lets each processor take, in ascending order.
+///
+/// # Errors
+///
+/// Those of `Core::call`; nothing then changes.
+pub fn call_and_take(core: &mut Core, goal: RegFile) -> Result<(), CallFault>
+    requires some { 0 < length core.old.system.processors }
+    requires fits { All (FitsGoal goal) core.old.system.processors }
+    requires room { HasEraRoom core.old }
+    ensures under_way { (result ≡ Err CallFault.UnderWay) ↔ IsSome core.old.order }
+    ensures refused { (fault : Fault) → result ≡ Err (CallFault.Refused fault) → (core.old.order ≡ None) × IsFirstFault goal (Some fault) }
+    ensures taken { OnOk result (HasTaken core.old goal core.new) }
+    ensures kept { OnErr result (core.new ≡ core.old) }
+{
+    goal.is_register_file();
+    core.is_core();
+    core.call(goal)?;
+    take_all(core);
+    Ok(())
+}
+
+// Each processor in ascending order does its event that is due.
+fn take_all(core: &mut Core)
+    ensures steps { core.new ≡ each_steps core.old }
+    ensures count { length core.new.system.processors ≡ length core.old.system.processors }
+{
+    core.is_core();
+    let count = core.system().cpus.len() as u32;
+    for k in 0..count {
+        core.step(k);
+    }
+}
