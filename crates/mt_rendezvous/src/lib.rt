@@ -6,9 +6,11 @@ mod gather;
 mod laws;
 mod station;
 mod view;
+mod worked;
 
 pub use broadcast::call_and_take;
 pub use gather::disband;
 pub use laws::{broadcast_begins, full_station_holds, station_is_led};
 pub use station::{Attendee, Outcome, Pass, Root, Station, attend};
 pub use view::{Held, Key, Start, View};
+pub use worked::{worked_fits, worked_machines, worked_views};
