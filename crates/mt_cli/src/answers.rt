@@ -1,5 +1,5 @@
 ghost use Rattle.std.specs.Prelude.{◌≡◌, ◌≢◌, ◌<◌, ◌≤◌, ◌^◌, None, Some};
-ghost use Rattle.mt_ports.specs.Causes.{Rose};
+ghost use Rattle.mt_ports.specs.Causes.{StatusHasCause};
 ghost use Rattle.mt_regs.specs.Faults.{IsAccepted, IsFirstFault};
 ghost use Rattle.mt_cli.specs.declared.command.Command.TheVariants.{Check, Show, Types, Page, Tidy, Gran};
 ghost use Rattle.mt_cli.specs.Output.{IsOfDump, IsTesting};
@@ -21,7 +21,7 @@ use std::alloc::Global;
 pub fn written<K: Sink>(sink: &mut K, text: &[u8], status: Status) -> Status
     requires { status ≢ Status.WriteFault }
     ensures bytes { Writes text.now status (K.taken sink.old) (K.taken sink.new) result }
-    ensures failed { result ≡ Status.WriteFault → Rose (K.faults sink.old) (K.faults sink.new) }
+    ensures cause { StatusHasCause Status.WriteFault (K.faults sink.old) (K.faults sink.new) result }
 {
     match put(sink, text) {
         Ok(()) => status,
@@ -34,7 +34,7 @@ fn refuse<K: Sink>(f: &RegFile, fault: &Fault, sink: &mut K, command: Command) -
     requires fault { IsFirstFault f.now (Some fault.now) }
     requires command { IsTesting command }
     ensures bytes { Answers f.now command (K.taken sink.old) (K.taken sink.new) result }
-    ensures failed { result ≡ Status.WriteFault → Rose (K.faults sink.old) (K.faults sink.new) }
+    ensures cause { StatusHasCause Status.WriteFault (K.faults sink.old) (K.faults sink.new) result }
 {
     f.is_register_file();
     written(sink, refused_line(fault).as_slice(), Status::Refused)
@@ -42,7 +42,7 @@ fn refuse<K: Sink>(f: &RegFile, fault: &Fault, sink: &mut K, command: Command) -
 
 fn show<K: Sink>(f: &RegFile, sink: &mut K) -> Status
     ensures bytes { Answers f.now Show (K.taken sink.old) (K.taken sink.new) result }
-    ensures failed { result ≡ Status.WriteFault → Rose (K.faults sink.old) (K.faults sink.new) }
+    ensures cause { StatusHasCause Status.WriteFault (K.faults sink.old) (K.faults sink.new) result }
 {
     written(sink, canonical_text(f).as_slice(), Status::Done)
 }
@@ -50,7 +50,7 @@ fn show<K: Sink>(f: &RegFile, sink: &mut K) -> Status
 fn types<K: Sink>(alloc: Global, f: &RegFile, sink: &mut K) -> Status
     requires { IsAccepted f.now }
     ensures bytes { Answers f.now Types (K.taken sink.old) (K.taken sink.new) result }
-    ensures failed { result ≡ Status.WriteFault → Rose (K.faults sink.old) (K.faults sink.new) }
+    ensures cause { StatusHasCause Status.WriteFault (K.faults sink.old) (K.faults sink.new) result }
 {
     let Ok(runs) = page_runs(alloc, f) else {
         return Status::NoMemory;
@@ -66,7 +66,7 @@ fn page<K: Sink>(f: &RegFile, address: u64, index: u8, sink: &mut K) -> Status
     requires address { address < 2 ^ 52 }
     requires index { index < 8 }
     ensures bytes { Answers f.now (Page address index) (K.taken sink.old) (K.taken sink.new) result }
-    ensures failed { result ≡ Status.WriteFault → Rose (K.faults sink.old) (K.faults sink.new) }
+    ensures cause { StatusHasCause Status.WriteFault (K.faults sink.old) (K.faults sink.new) result }
 {
     written(sink, page_text(f, address, index).as_slice(), Status::Done)
 }
@@ -74,7 +74,7 @@ fn page<K: Sink>(f: &RegFile, address: u64, index: u8, sink: &mut K) -> Status
 // Writes a file of the same types with the fewest pairs, or why there is none.
 fn tidied<K: Sink>(alloc: Global, f: &RegFile, spare: u8, chunk: u64, sink: &mut K) -> Status
     ensures bytes { Answers f.now (Tidy spare chunk) (K.taken sink.old) (K.taken sink.new) result }
-    ensures failed { result ≡ Status.WriteFault → Rose (K.faults sink.old) (K.faults sink.new) }
+    ensures cause { StatusHasCause Status.WriteFault (K.faults sink.old) (K.faults sink.new) result }
 {
     match tidy(alloc, f, spare, chunk) {
         Ok(tidied) => {
@@ -105,7 +105,7 @@ fn grained<K: Sink>(
 ) -> Status
     requires { log ≤ 28 }
     ensures bytes { Answers f.now (Gran log spare chunk) (K.taken sink.old) (K.taken sink.new) result }
-    ensures failed { result ≡ Status.WriteFault → Rose (K.faults sink.old) (K.faults sink.new) }
+    ensures cause { StatusHasCause Status.WriteFault (K.faults sink.old) (K.faults sink.new) result }
 {
     f.is_register_file();
     match gran(alloc, f, log, spare, chunk) {
@@ -136,7 +136,7 @@ fn answer_accepted<K: Sink>(alloc: Global, command: Command, f: &RegFile, sink: 
     requires command { IsSound command }
     requires of_dump { IsOfDump command }
     ensures bytes { Answers f.now command (K.taken sink.old) (K.taken sink.new) result }
-    ensures failed { result ≡ Status.WriteFault → Rose (K.faults sink.old) (K.faults sink.new) }
+    ensures cause { StatusHasCause Status.WriteFault (K.faults sink.old) (K.faults sink.new) result }
 {
     match command {
         Command::Check => written(sink, accepted_line(), Status::Done),
@@ -154,7 +154,7 @@ pub fn answer<K: Sink>(alloc: Global, command: Command, f: &RegFile, sink: &mut 
     requires sound { IsSound command }
     requires of_dump { IsOfDump command }
     ensures bytes { Answers f.now command (K.taken sink.old) (K.taken sink.new) result }
-    ensures failed { result ≡ Status.WriteFault → Rose (K.faults sink.old) (K.faults sink.new) }
+    ensures cause { StatusHasCause Status.WriteFault (K.faults sink.old) (K.faults sink.new) result }
 {
     if let Command::Show = command {
         return show(f, sink);

@@ -1,5 +1,5 @@
 ghost use Rattle.std.specs.Prelude.{◌≡◌, ◌⊎◌, ◌↔◌, List, ℕ, None, Some, map, string_bytes};
-ghost use Rattle.mt_ports.specs.Causes.{Rose};
+ghost use Rattle.mt_ports.specs.Causes.{StatusHasCause};
 ghost use Rattle.mt_cli.specs.CommandLine.{command_of};
 ghost use Rattle.mt_cli.specs.Reading.{GaveTooMuch};
 ghost use Rattle.mt_cli.specs.Tool.{Leaves, Reads};
@@ -37,9 +37,9 @@ pub fn tool<R: AllocGlobal, S: Source, K: Sink, G: Gate>(
     ensures no_command { command_of (map string_bytes words.now) ≡ None → (result ≡ Status.Usage) ⊎ (result ≡ Status.WriteFault) }
     ensures unread { command_of (map string_bytes words.now) ≡ None → source.new ≡ source.old }
 
-    // Each fault of a port has its cause.
-    ensures read_fault { result ≡ Status.ReadFault → Rose (S.faults source.old) (S.faults source.new) }
-    ensures write_fault { result ≡ Status.WriteFault → Rose (K.faults sink.old) (K.faults sink.new) }
+    // A port that failed did so once, and the status is its fault; at every other status none failed.
+    ensures read_fault { StatusHasCause Status.ReadFault (S.faults source.old) (S.faults source.new) result }
+    ensures write_fault { StatusHasCause Status.WriteFault (K.faults sink.old) (K.faults sink.new) result }
     ensures too_long { (result ≡ Status.TooLong) ↔ GaveTooMuch (S.given source.old) (S.given source.new) }
 {
     let Some(command) = command_of(words) else {

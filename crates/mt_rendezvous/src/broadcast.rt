@@ -8,7 +8,7 @@ ghost use Rattle.mt_machine.specs.Start.{HasEraRoom};
 ghost use Rattle.mt_core.specs.Rounds.{each_steps};
 ghost use Rattle.mt_rendezvous.specs.Update.{HasTaken};
 
-use mt_core::{CallFault, Core};
+use mt_core::{CallFault, Core, a_core_arises};
 use mt_regs::RegFile;
 
 /// Calls, and lets each processor take, in ascending order.
@@ -25,8 +25,8 @@ pub fn call_and_take(core: &mut Core, goal: RegFile) -> Result<(), CallFault>
     ensures taken { OnOk result (HasTaken core.old goal core.new) }
     ensures kept { OnErr result (core.new ≡ core.old) }
 {
-    goal.is_register_file();
-    core.is_core();
+    goal.is_register_file(); // a fact for the proof
+    a_core_arises(core); // a fact for the proof
     core.call(goal)?;
     take_all(core);
     Ok(())
@@ -37,7 +37,7 @@ fn take_all(core: &mut Core)
     ensures steps { core.new ≡ each_steps core.old }
     ensures count { length core.new.system.processors ≡ length core.old.system.processors }
 {
-    core.is_core();
+    a_core_arises(core); // a fact for the proof
     let count = core.system().cpus.len() as u32;
     for k in 0..count {
         core.step(k);

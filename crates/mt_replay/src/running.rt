@@ -1,6 +1,6 @@
 ghost use Rattle.std.specs.Prelude.{◌≡◌, ◌≤◌, ◌<◌, ◌+◌, ◌++◌, ℕ, drop, length, true, MatchOption, MatchResult, Some, Ok, Err};
 ghost use Rattle.mt_text.specs.Text.{end_of, lines_of};
-ghost use Rattle.mt_ports.specs.Causes.{HasCause, Rose};
+ghost use Rattle.mt_ports.specs.Causes.{HasCause, StatusHasCause};
 ghost use Rattle.mt_ports.specs.Puts.{AppendsFront};
 ghost use Rattle.mt_machine.specs.Start.{HasEraRoom};
 ghost use Rattle.mt_output.specs.Lines.{offence_line};
@@ -222,8 +222,7 @@ pub fn replay<R: AllocGlobal, K: Sink, G: Gate>(
     _gate: &G,
 ) -> Status
     ensures bytes { Replays source.now (K.taken sink.old) (K.taken sink.new) result }
-    ensures later { K.faults sink.old ≤ K.faults sink.new }
-    ensures failed { result ≡ Status.WriteFault → Rose (K.faults sink.old) (K.faults sink.new) }
+    ensures cause { StatusHasCause Status.WriteFault (K.faults sink.old) (K.faults sink.new) result }
 {
     let Ok(mut writer) = Writer::new(rt.alloc()) else {
         return Status::NoMemory;

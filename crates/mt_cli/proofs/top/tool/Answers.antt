@@ -28,7 +28,7 @@ pub returns-in-Replay-clause-usage : goal.returns-in-Replay-clause-usage
 returns-in-Replay-clause-usage g c = λ is. absurd ((never_replays c.deref.result.now _ _ _ c.replay.ensures.bytes).0 is)
 
 pub returns-in-Replay-clause-read_fault : goal.returns-in-Replay-clause-read_fault
-returns-in-Replay-clause-read_fault g c = λ is. absurd ((never_replays c.deref.result.now _ _ _ c.replay.ensures.bytes).1 is)
+returns-in-Replay-clause-read_fault g c = record { rose = λ is. absurd ((never_replays c.deref.result.now _ _ _ c.replay.ensures.bytes).1 is); stands = λ _. c.in-Ok.ensures.cause }
 
 pub returns-in-Replay-clause-too_long : goal.returns-in-Replay-clause-too_long
 returns-in-Replay-clause-too_long g c = (λ is. absurd ((never_replays c.deref.result.now _ _ _ c.replay.ensures.bytes).2 is), λ much. absurd (cc (c.in-Ok.ensures.too_long.1 much)))

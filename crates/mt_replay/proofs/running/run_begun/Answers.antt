@@ -1,5 +1,6 @@
 use Rattle.std.proofs.Common.{◌≡◌, ◌∙◌, ◌++◌, sym, ap, subst, ℕ, List, drop}
 use Rattle.mt_text.specs.Text.{end_of, lines_of}
+use Rattle.mt_ports.proofs.Causes.{cause_after}
 use Rattle.mt_ports.specs.Puts.{AppendsFront}
 use Rattle.mt_ports.specs.declared.status.Status.TheVariants.{Refused}
 use Rattle.mt_output.specs.Lines.{accepted_line, refused_line}
@@ -45,3 +46,7 @@ returns-clause-bytes g c =
     subst (λ (t : Told). AppendsFront (g.K.Sink.taken c.args.sink.now) (g.K.Sink.taken c.write.new.sink) (c.args.writer.now ++ t.text)) (sym (file_accepted c.args.begun.setup c.args.begun.file body accepted))
     (fails_longer c.args.writer.now accepted_line (body (first_state c.args.begun.setup c.args.begun.file)).text (g.K.Sink.taken c.args.sink.now) (g.K.Sink.taken c.write.new.sink)
     (subst (λ (l : List ℕ). AppendsFront (g.K.Sink.taken c.args.sink.now) (g.K.Sink.taken c.write.new.sink) (c.args.writer.now ++ l)) c.accepted_line.ensures c.in-Err.ensures.bytes))
+
+pub returns-in-Ok-write-clause-cause : goal.returns-in-Ok-write-clause-cause
+returns-in-Ok-write-clause-cause g c =
+    cause_after (g.K.Sink.faults c.args.sink.now) (g.K.Sink.faults c.write.new.sink) (g.K.Sink.faults c.run_lines.new.sink) c.run_lines.result c.in-Ok-write.ensures.cause c.run_lines.ensures.cause

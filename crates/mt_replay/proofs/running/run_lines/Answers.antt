@@ -1,4 +1,5 @@
-use Rattle.std.proofs.Common.{rules, ◌≡◌, ◌+◌, arith, sym, subst, ℕ, List, drop, length, Ok, Err}
+use Rattle.std.proofs.Common.{rules, ◌≡◌, ◌∙◌, ◌+◌, arith, sym, refl, subst, ℕ, List, drop, length, Ok, Err}
+use Rattle.mt_ports.proofs.Causes.{cause_after}
 use Rattle.mt_text.specs.Text.{end_of, lines_of}
 use Rattle.mt_replay.specs.Running.{LeadsTo, Tells}
 use Rattle.mt_replay.specs.Transcript.{Told, told_in}
@@ -11,7 +12,7 @@ lines-init g c = record {
   numbered = c.requires.numbered;
   eras = c.requires.eras;
   led = leads_here (told_in (end_of c.args.source.now) c.args.first (lines_of (drop c.args.from c.args.source.now)) c.args.replayer.now) c.args.writer.now (g.K.Sink.taken c.args.sink.now);
-  later = omega arith;
+  faults = refl;
 }
 
 pub returns-in-Ok-Some-clause-bytes : goal.returns-in-Ok-Some-clause-bytes
@@ -47,7 +48,7 @@ lines-preserved g c =
           c.args.writer.now c.lines.writer c.take_line.new.writer (g.K.Sink.taken c.args.sink.now) (g.K.Sink.taken c.lines.sink) (g.K.Sink.taken c.take_line.new.sink) c.lines.invariant.led
           (subst (λ (t : Told). LeadsTo t (rest c.take_line.new.replayer) c.lines.writer c.take_line.new.writer (g.K.Sink.taken c.lines.sink) (g.K.Sink.taken c.take_line.new.sink)) (sym here)
           (rw c.in-Ok-None.field-0-is at (c.in-Ok-None.ensures.bytes rest)));
-      later = omega (arith, c.lines.invariant.later, c.in-Ok-None.ensures.cause.later);
+      faults = c.in-Ok-None.ensures.cause ∙ c.lines.invariant.faults;
     }
 
 pub returns-clause-bytes : goal.returns-clause-bytes
@@ -59,3 +60,7 @@ returns-clause-bytes g c =
     c.args.writer.now c.lines.writer c.end_lines.new.writer (g.K.Sink.taken c.args.sink.now) (g.K.Sink.taken c.lines.sink) (g.K.Sink.taken c.end_lines.new.sink) c.end_lines.result c.lines.invariant.led
     (subst (λ (t : Told). Tells t c.lines.writer c.end_lines.new.writer (g.K.Sink.taken c.lines.sink) (g.K.Sink.taken c.end_lines.new.sink) c.end_lines.result) (sym here)
     (rw c.setup.ensures at c.end_lines.ensures.bytes))
+
+pub returns-clause-cause : goal.returns-clause-cause
+returns-clause-cause g c =
+    cause_after (g.K.Sink.faults c.args.sink.now) (g.K.Sink.faults c.lines.sink) (g.K.Sink.faults c.end_lines.new.sink) c.end_lines.result c.lines.invariant.faults c.end_lines.ensures.cause

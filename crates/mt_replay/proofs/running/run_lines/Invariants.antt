@@ -1,4 +1,4 @@
-use Rattle.std.proofs.Common.{◌≤◌, ◌+◌, ◌-◌, drop, length}
+use Rattle.std.proofs.Common.{◌≡◌, ◌≤◌, ◌+◌, ◌-◌, drop, length}
 use Rattle.mt_text.specs.Text.{end_of, lines_of}
 use Rattle.mt_replay.specs.Kept.{HasEras}
 use Rattle.mt_replay.specs.Running.{LeadsTo}
@@ -12,7 +12,7 @@ invariant-lines g l = record {
   eras : HasEras l.number l.replayer;
   led : LeadsTo (told_in (end_of l.source) l.first (lines_of (drop l.from l.source)) l.initial.replayer) (told_in (end_of l.source) l.number (lines_of (drop l.at l.source)) l.replayer)
       l.initial.writer l.writer (g.K.Sink.taken l.initial.sink) (g.K.Sink.taken l.sink);
-  later : g.K.Sink.faults l.initial.sink ≤ g.K.Sink.faults l.sink;
+  faults : g.K.Sink.faults l.sink ≡ g.K.Sink.faults l.initial.sink;
 }
 
 abbrev pub decreases-lines : goal.decreases-lines
