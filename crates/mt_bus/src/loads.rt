@@ -7,16 +7,10 @@ ghost use Rattle.mt_bus.specs.Parts.{cache_disabled_in, hit_in, lines_in, system
 use crate::buffers::{drain, drain_line, line_of};
 use crate::fills::fill_line;
 use crate::snoops::bus_read;
-use crate::words::read;
 use mt_cache::CacheLine;
 use mt_cpu::Cpu;
 use mt_kinds::MemType;
-use mt_ram::Ram;
-
-/// The bytes of a line, and of a word.
-pub(crate) const LINE_BYTES: u64 = 64;
-
-pub(crate) const WORD_BYTES: u64 = 8;
+use mt_ram::{LINE_BYTES, Ram, WORD_BYTES};
 
 /// Whether lines of this type are cached.
 fn is_cached(kind: MemType) -> bool
@@ -75,7 +69,7 @@ fn load_missed(cpus: &mut [Cpu], ram: &mut Ram, k: usize, kind: MemType, address
     let number = address / LINE_BYTES;
     let is_filled = fills(cpus, k, kind);
     bus_read(cpus, ram, number);
-    let v = read(ram, address);
+    let v = ram.read(address);
     if is_filled {
         fill_line(cpus, ram, k, number);
     }

@@ -13,7 +13,7 @@ ghost use Rattle.mt_core.specs.Steps.{pause, under_way, with_word_of};
 use crate::barriers::{first_count, is_cancelled, is_first_open, is_second_open, second_count};
 use crate::order::Order as CalledOrder;
 use crate::stepped::Stepped;
-use mt_bus::{System, store};
+use mt_bus::System;
 use mt_cpu::{Cpu, is_local};
 use mt_machine::{Event, Phase};
 use mt_ram::Ram;
@@ -89,7 +89,7 @@ fn write_word_of(ram: &mut Ram, e: Event)
     ensures { ram.new ≡ with_word_of e ram.old }
 {
     if let Event::WriteBack { address, value } = e {
-        store(ram, address, value);
+        ram.write(address, value);
     }
 }
 
