@@ -3,15 +3,15 @@ use Rattle.std.proofs.Common.{◌≡◌, ◌∙◌, ap, sym, refl, arith, ℕ, z
 use Rattle.std.proofs.lemmas.Bool.{eq-eqb}
 use Rattle.std.proofs.lemmas.List.{set-set}
 use Rattle.std.specs.Option.{option_map_or, option_or}
-use Rattle.mt_lists.proofs.Keys.{find_pushed, hit, none_filter}
+use Rattle.mt_lists.proofs.Keys.{filter_none, find_pushed, hit, none_filter}
 use Rattle.mt_cache.specs.declared.line.CacheLine.{CacheLine}
 use Rattle.mt_cache.specs.Lines.{change_line, clean_line, combined_with, find_line, oldest_of_full, without_line, write_dirty}
 use Rattle.mt_cache.specs.Calls.{full_buffer, handed_back, joined, left_by_combine, with_room, with_room_for}
 use Rattle.mt_machine.specs.Memory.{Memory, write_back, write_back_of}
 use Rattle.mt_machine.specs.System.{Processor, System, buffers_of, change}
-use Rattle.mt_machine.specs.Bus.{combine, empty_buffer, empty_if_whole, make_buffer_room, with_buffers, with_lines}
+use Rattle.mt_machine.specs.Bus.{combine, drain_line, empty_buffer, empty_if_whole, make_buffer_room, with_buffers, with_lines}
 use Rattle.mt_laws.proofs.Words.AccessLaws.{change_at}
-use Rattle.mt_bus.specs.Parts.{system, with_changed, written_back}
+use Rattle.mt_bus.specs.Parts.{buffers_in, system, with_changed, written_back}
 use Rattle.mt_bus.proofs.Changed.{changed_is, changed_later, changed_there, processor_of, set_there}
 
 -- ---- emptying a buffer and changing a processor's buffers commute
@@ -38,6 +38,29 @@ emptied_changed f k b ps m =
     ∙ ap (λ qs. system qs (write_back (written_back b.number m ps) b))
     (ap (map (with_lines (without_line b.number))) (lines_then_buffers clean f ps k) ∙ lines_then_buffers (without_line b.number) f (map (with_lines clean) ps) k)
     ∙ changed_is (with_buffers f) k (map (with_lines (without_line b.number)) (map (with_lines clean) ps)) (write_back (written_back b.number m ps) b)
+
+-- a buffer that is handed back is emptied
+abbrev pub emptied_if : System → Option CacheLine → System
+emptied_if s o = option_map_or (λ b. empty_buffer s b) o s
+
+-- a line without a buffer
+none_taken : (n : ℕ) (ps : List Processor) (k : ℕ) → find_line n (buffers_in k ps) ≡ None → with_changed (with_buffers (without_line n)) k ps ≡ ps
+none_taken n [] k none = refl
+none_taken n (p ∷ ps) zero none =
+    ap (λ (bs : List CacheLine). let q : Processor = record p { buffers = bs } in q ∷ ps) (filter_none (λ (x : CacheLine). x.number) n p.buffers none)
+none_taken n (p ∷ ps) (suc k) none = changed_later (with_buffers (without_line n)) p ps k ∙ ap (λ qs. p ∷ qs) (none_taken n ps k none)
+
+abbrev drained_by : ℕ → ℕ → System → Option CacheLine → System
+drained_by k n s o = option_map_or (λ b. change (with_buffers (without_line n)) k (empty_buffer s b)) o s
+
+pub taken : (k n : ℕ) (ps qs : List Processor) (m : Memory) (out : Option CacheLine) → out ≡ find_line n (buffers_in k ps) → qs ≡ with_changed (with_buffers (without_line n)) k ps
+    → emptied_if (system qs m) out ≡ drain_line k n (system ps m)
+taken k n ps qs m out handed left =
+    ap (λ xs. emptied_if (system xs m) out) left ∙ one out (sym handed) ∙ ap (drained_by k n (system ps m)) handed
+  where
+    one : (o : Option CacheLine) → find_line n (buffers_in k ps) ≡ o → emptied_if (system (with_changed (with_buffers (without_line n)) k ps) m) o ≡ drained_by k n (system ps m) o
+    one None none = ap (λ xs. system xs m) (none_taken n ps k none)
+    one (Some b) is = emptied_changed (without_line n) k b ps m
 
 -- ---- a word is combined
 
@@ -137,9 +160,6 @@ left_after n word v q = record q { buffers = left_by_combine n word v q.era q.bu
 
 abbrev pub out_of : ℕ → ℕ → ℕ → ℕ → List Processor → Option CacheLine
 out_of k n word v ps = option_map_or (λ p. handed_back n word v p.era p.buffers) (slice_get ps k) None
-
-abbrev pub emptied_if : System → Option CacheLine → System
-emptied_if s o = option_map_or (λ b. empty_buffer s b) o s
 
 module _ (k n word v : ℕ) (ps : List Processor) (m : Memory) (p : Processor) (within : word < 8) (at : slice_get ps k ≡ Some p) (none : giving_way n p.buffers ≡ None) where
   joined_there : slice_get (slice_set ps k (join_word n word v p)) k ≡ Some (join_word n word v p)

@@ -26,25 +26,6 @@ fn buffer_at(cpus: &[Cpu], k: usize, i: usize) -> CacheLine
     cpus[k].buffers().lines()[i]
 }
 
-/// The line of a number.
-pub(crate) fn line_of(lines: &[CacheLine], number: u64) -> Option<CacheLine>
-    ensures { result ≡ find_line number lines.now }
-{
-    for line in lines {
-        if line.number == number {
-            return Some(*line);
-        }
-    }
-    None
-}
-
-fn buffer_of(cpus: &[Cpu], k: usize, number: u64) -> Option<CacheLine>
-    requires { k < length cpus.now }
-    ensures { result ≡ find_line number (buffers_in k cpus.now) }
-{
-    line_of(cpus[k].buffers().lines(), number)
-}
-
 fn clear_buffers(cpus: &mut [Cpu], k: usize)
     requires { k < length cpus.old }
     ensures { cpus.new ≡ with_changed (with_buffers (λ _. [])) k cpus.old }
@@ -53,12 +34,13 @@ fn clear_buffers(cpus: &mut [Cpu], k: usize)
     *cpu.buffers_mut() = Buffers::new();
 }
 
-fn drop_buffer(cpus: &mut [Cpu], k: usize, number: u64)
+fn take_buffer(cpus: &mut [Cpu], k: usize, number: u64) -> Option<CacheLine>
     requires { k < length cpus.old }
-    ensures { cpus.new ≡ with_changed (with_buffers (without_line number)) k cpus.old }
+    ensures out { result ≡ find_line number (buffers_in k cpus.old) }
+    ensures cpus { cpus.new ≡ with_changed (with_buffers (without_line number)) k cpus.old }
 {
     let cpu = &mut cpus[k];
-    let _ = cpu.buffers_mut().take(number);
+    cpu.buffers_mut().take(number)
 }
 
 /// Empties all buffers of a processor, the oldest first.
@@ -78,9 +60,8 @@ pub(crate) fn drain_line(cpus: &mut [Cpu], ram: &mut Ram, k: usize, number: u64)
     requires { k < length cpus.old }
     ensures { system cpus.new ram.new ≡ drain_line k number (system cpus.old ram.old) }
 {
-    if let Some(buffer) = buffer_of(cpus, k, number) {
+    if let Some(buffer) = take_buffer(cpus, k, number) {
         empty_buffer(cpus, ram, &buffer);
-        drop_buffer(cpus, k, number);
     }
 }
 

@@ -20,9 +20,9 @@ use mt_ram::Ram;
 use mt_regs::RegFile;
 
 // A processor has at most one event that is due, and it is of one of two kinds. A local event
-// (`Cpu::local`) looks at nothing but the processor and the goal; it is always due in its phase. A
-// barrier event (`Cpu::shift`) moves the phase alone; whether it is due hangs on the other processors
-// and on the coordinator.
+// (`Cpu::local`) comes between the barriers: it is always due in its phase, and looks at nothing but the
+// processor and the goal. A barrier event (`Cpu::shift`) moves the phase, and whether it is due depends
+// on the other processors and on the coordinator.
 
 fn phase_of(cpus: &[Cpu], k: usize) -> Phase
     requires { k < length cpus.now }
