@@ -1,26 +1,18 @@
 -- A word that is combined into a processor's buffers, and a buffer that is emptied then.
-use Rattle.std.proofs.Common.{◌≡◌, ◌∙◌, ap, sym, refl, arith, ℕ, zero, suc, ◌+◌, ◌<◌, ◌≤◌, ◌==◌, Bool, true, false, not, ne_eqb, if◌then◌else◌, List, [], ◌∷◌, ◌++◌, map, length, Option, None, Some, is_some, slice_get, slice_set}
-use Rattle.std.proofs.lemmas.Bool.{eq-eqb, eqb-true}
+use Rattle.std.proofs.Common.{◌≡◌, ◌∙◌, ap, sym, refl, arith, ℕ, zero, suc, ◌<◌, ◌==◌, Bool, true, false, if◌then◌else◌, List, [], ◌∷◌, ◌++◌, map, length, Option, None, Some, is_some, slice_get, slice_set}
+use Rattle.std.proofs.lemmas.Bool.{eq-eqb}
 use Rattle.std.proofs.lemmas.List.{set-set}
-use Rattle.std.specs.List.{filter}
 use Rattle.std.specs.Option.{option_map_or, option_or}
-use Rattle.mt_lists.proofs.Keys.{find_pushed, hit}
+use Rattle.mt_lists.proofs.Keys.{filter_none, find_pushed, hit, none_filter}
 use Rattle.mt_cache.specs.declared.line.CacheLine.{CacheLine}
-use Rattle.mt_cache.specs.Lines.{change_line, combined_with, find_line, oldest_of_full, without_line, write_dirty}
+use Rattle.mt_cache.specs.Lines.{change_line, clean_line, combined_with, find_line, oldest_of_full, without_line, write_dirty}
 use Rattle.mt_cache.specs.Calls.{full_buffer, handed_back, joined, left_by_combine, with_room, with_room_for}
 use Rattle.mt_machine.specs.Memory.{Memory, write_back, write_back_of}
 use Rattle.mt_machine.specs.System.{Processor, System, buffers_of, change}
-use Rattle.mt_machine.specs.Bus.{combine, empty_buffer, empty_if_whole, make_buffer_room, with_buffers, with_lines}
-use Rattle.mt_bus.specs.Parts.{buffers_in, giving_way, system, with_changed, written_back}
-use Rattle.mt_bus.proofs.Emptying.{kept_buffers}
-use Rattle.mt_bus.proofs.Rooms.{changed_later}
-
-pub change_parts : (f : Processor → Processor) (k : ℕ) (ps : List Processor) (m : Memory) → change f k (system ps m) ≡ system (with_changed f k ps) m
-change_parts f k ps m = one (slice_get ps k)
-  where
-    one : (o : Option Processor) → option_map_or (λ p. system (slice_set ps k (f p)) m) o (system ps m) ≡ system (option_map_or (λ p. slice_set ps k (f p)) o ps) m
-    one None = refl
-    one (Some p) = refl
+use Rattle.mt_machine.specs.Bus.{combine, drain_line, empty_buffer, empty_if_whole, make_buffer_room, with_buffers, with_lines}
+use Rattle.mt_laws.proofs.Words.AccessLaws.{change_at}
+use Rattle.mt_bus.specs.Parts.{buffers_in, system, with_changed, written_back}
+use Rattle.mt_bus.proofs.Changed.{changed_is, changed_later, changed_there, processor_of, set_there}
 
 -- ---- emptying a buffer and changing a processor's buffers commute
 
@@ -45,7 +37,30 @@ emptied_changed f k b ps m =
     ap (λ v. system (map (with_lines (without_line b.number)) (map (with_lines clean) (with_changed (with_buffers f) k ps))) (write_back v b)) (same_written b.number f ps k m)
     ∙ ap (λ qs. system qs (write_back (written_back b.number m ps) b))
     (ap (map (with_lines (without_line b.number))) (lines_then_buffers clean f ps k) ∙ lines_then_buffers (without_line b.number) f (map (with_lines clean) ps) k)
-    ∙ sym (change_parts (with_buffers f) k (map (with_lines (without_line b.number)) (map (with_lines clean) ps)) (write_back (written_back b.number m ps) b))
+    ∙ changed_is (with_buffers f) k (map (with_lines (without_line b.number)) (map (with_lines clean) ps)) (write_back (written_back b.number m ps) b)
+
+-- a buffer that is handed back is emptied
+abbrev pub emptied_if : System → Option CacheLine → System
+emptied_if s o = option_map_or (λ b. empty_buffer s b) o s
+
+-- a line without a buffer
+none_taken : (n : ℕ) (ps : List Processor) (k : ℕ) → find_line n (buffers_in k ps) ≡ None → with_changed (with_buffers (without_line n)) k ps ≡ ps
+none_taken n [] k none = refl
+none_taken n (p ∷ ps) zero none =
+    ap (λ (bs : List CacheLine). let q : Processor = record p { buffers = bs } in q ∷ ps) (filter_none (λ (x : CacheLine). x.number) n p.buffers none)
+none_taken n (p ∷ ps) (suc k) none = changed_later (with_buffers (without_line n)) p ps k ∙ ap (λ qs. p ∷ qs) (none_taken n ps k none)
+
+abbrev drained_by : ℕ → ℕ → System → Option CacheLine → System
+drained_by k n s o = option_map_or (λ b. change (with_buffers (without_line n)) k (empty_buffer s b)) o s
+
+pub taken : (k n : ℕ) (ps qs : List Processor) (m : Memory) (out : Option CacheLine) → out ≡ find_line n (buffers_in k ps) → qs ≡ with_changed (with_buffers (without_line n)) k ps
+    → emptied_if (system qs m) out ≡ drain_line k n (system ps m)
+taken k n ps qs m out handed left =
+    ap (λ xs. emptied_if (system xs m) out) left ∙ one out (sym handed) ∙ ap (drained_by k n (system ps m)) handed
+  where
+    one : (o : Option CacheLine) → find_line n (buffers_in k ps) ≡ o → emptied_if (system (with_changed (with_buffers (without_line n)) k ps) m) o ≡ drained_by k n (system ps m) o
+    one None none = ap (λ xs. system xs m) (none_taken n ps k none)
+    one (Some b) is = emptied_changed (without_line n) k b ps m
 
 -- ---- a word is combined
 
@@ -66,82 +81,20 @@ one_word n (suc (suc (suc (suc (suc (suc (suc (suc word)))))))) value era within
 
 -- ---- room among the buffers
 
-filter_shorter : {X : Type 0} (test : X → Bool) (xs : List X) → length (filter test xs) ≤ length xs
-filter_shorter test [] = omega arith
-filter_shorter test (x ∷ xs) = one (test x) (filter_shorter test xs)
-  where
-    one : (b : Bool) → length (filter test xs) ≤ length xs → length (if b then x ∷ filter test xs else filter test xs) ≤ suc (length xs)
-    one true h = omega arith
-    one false h = omega arith
+-- the buffer that is emptied before a word of a line is combined
+abbrev giving_way : ℕ → List CacheLine → Option CacheLine
+giving_way n bs = if is_some (find_line n bs) then None else oldest_of_full 4 bs
 
-few_none : (ls : List CacheLine) → length ls < 4 → oldest_of_full 4 ls ≡ None
-few_none [] few = refl
-few_none (l ∷ ls) few = ap (λ b. if b then Some l else None) (ne_eqb (length ls + 1) 4 (λ e. absurd (omega arith)))
+-- what is done for room, by the buffer that gives way
+abbrev with_way : ℕ → System → Option CacheLine → System
+with_way k s o = option_map_or (λ b. change (with_buffers (without_line b.number)) k (empty_buffer s b)) o s
 
-no_way : (n : ℕ) (bs : List CacheLine) → oldest_of_full 4 bs ≡ None → giving_way n bs ≡ None
-no_way n bs none = one (is_some (find_line n bs))
-  where
-    one : (b : Bool) → (if b then None else oldest_of_full 4 bs) ≡ None
-    one true = refl
-    one false = none
-
-way_is_oldest : (n : ℕ) (bs : List CacheLine) (b : CacheLine) → giving_way n bs ≡ Some b → oldest_of_full 4 bs ≡ Some b
-way_is_oldest n bs b is = one (is_some (find_line n bs)) is
-  where
-    one : (x : Bool) → (if x then None else oldest_of_full 4 bs) ≡ Some b → oldest_of_full 4 bs ≡ Some b
-    one true e = absurd (cc)
-    one false e = e
-
-room_after : (n : ℕ) (bs : List CacheLine) (b : CacheLine) → oldest_of_full 4 bs ≡ Some b → giving_way n (without_line b.number bs) ≡ None
-room_after n [] b is = absurd (cc)
-room_after n (x ∷ xs) b is = one (length xs + 1 == 4) refl is
-  where
-    one : (y : Bool) → (length xs + 1 == 4) ≡ y → (if y then Some x else None) ≡ Some b → giving_way n (without_line b.number (x ∷ xs)) ≡ None
-    one false full e = absurd (cc)
-    one true full e =
-        let same : x ≡ b = cc in
-        let long = eqb-true _ _ full in
-        let out : without_line b.number (x ∷ xs) ≡ without_line b.number xs =
-        ap (λ z. if not z then x ∷ without_line b.number xs else without_line b.number xs) (eq-eqb x.number b.number (ap (λ (y : CacheLine). y.number) same)) in
-        let shorter = filter_shorter (λ (y : CacheLine). not (y.number == b.number)) xs in
-        ap (giving_way n) out ∙ no_way n (without_line b.number xs) (few_none (without_line b.number xs) (omega arith))
-
-buffers_changed : (f : List CacheLine → List CacheLine) (ps : List Processor) (k : ℕ) → k < length ps → buffers_in k (with_changed (with_buffers f) k ps) ≡ f (buffers_in k ps)
-buffers_changed f [] k within = absurd (omega arith)
-buffers_changed f (p ∷ ps) zero within = refl
-buffers_changed f (p ∷ ps) (suc k) within = ap (buffers_in (suc k)) (changed_later (with_buffers f) p ps k) ∙ buffers_changed f ps k (omega arith)
-
-room_is : (k n : ℕ) (s : System) → make_buffer_room k n s ≡ option_map_or (λ b. change (with_buffers (without_line b.number)) k (empty_buffer s b)) (giving_way n (buffers_of s k)) s
+room_is : (k n : ℕ) (s : System) → make_buffer_room k n s ≡ with_way k s (giving_way n (buffers_of s k))
 room_is k n s = one (is_some (find_line n (buffers_of s k)))
   where
-    one : (b : Bool)
-        → (if b then s else option_map_or (λ c. change (with_buffers (without_line c.number)) k (empty_buffer s c)) (oldest_of_full 4 (buffers_of s k)) s)
-        ≡ option_map_or (λ c. change (with_buffers (without_line c.number)) k (empty_buffer s c)) (if b then None else oldest_of_full 4 (buffers_of s k)) s
+    one : (b : Bool) → (if b then s else with_way k s (oldest_of_full 4 (buffers_of s k))) ≡ with_way k s (if b then None else oldest_of_full 4 (buffers_of s k))
     one true = refl
     one false = refl
-
--- a buffer that gives way
-pub record GivesWay (k n : ℕ) (ps qs rs : List Processor) (m v : Memory) : Type 0 where
-  pub after : system rs v ≡ make_buffer_room k n (system ps m)
-  pub room : giving_way n (buffers_in k rs) ≡ None
-
-pub gives_way : (k n : ℕ) (ps qs rs : List Processor) (m v : Memory) (b : CacheLine) → k < length qs → giving_way n (buffers_in k ps) ≡ Some b
-    → system qs v ≡ empty_buffer (system ps m) b → rs ≡ with_changed (with_buffers (without_line b.number)) k qs → GivesWay k n ps qs rs m v
-gives_way k n ps qs rs m v b within way emptied dropped = record {
-  after =
-      ap (λ xs. system xs v) dropped
-      ∙ sym (change_parts (with_buffers (without_line b.number)) k qs v)
-      ∙ ap (change (with_buffers (without_line b.number)) k) emptied
-      ∙ sym (room_is k n (system ps m) ∙ ap (λ o. option_map_or (λ c. change (with_buffers (without_line c.number)) k (empty_buffer (system ps m) c)) o (system ps m)) way);
-  room =
-      ap (λ xs. giving_way n (buffers_in k xs)) dropped
-      ∙ ap (giving_way n) (buffers_changed (without_line b.number) qs k within)
-      ∙ ap (λ bs. giving_way n (without_line b.number bs)) (ap (λ (s : System). buffers_of s k) emptied ∙ kept_buffers (system ps m) b k)
-      ∙ room_after n (buffers_in k ps) b (way_is_oldest n (buffers_in k ps) b way);
-}
-
-pub none_gives_way : (k n : ℕ) (s : System) → giving_way n (buffers_of s k) ≡ None → make_buffer_room k n s ≡ s
-none_gives_way k n s none = room_is k n s ∙ ap (λ o. option_map_or (λ c. change (with_buffers (without_line c.number)) k (empty_buffer s c)) o s) none
 
 -- ---- the buffers that are left
 
@@ -199,16 +152,6 @@ whole_is k n s js is =
 
 -- ---- the whole
 
-there : (ps : List Processor) (k : ℕ) → k < length ps → (p : Processor) × (slice_get ps k ≡ Some p)
-there [] k within = absurd (omega arith)
-there (p ∷ ps) zero within = (p, refl)
-there (p ∷ ps) (suc k) within = there ps k (omega arith)
-
-set_there : (ps : List Processor) (k : ℕ) (p q : Processor) → slice_get ps k ≡ Some p → slice_get (slice_set ps k q) k ≡ Some q
-set_there [] k p q at = absurd (cc)
-set_there (x ∷ ps) zero p q at = refl
-set_there (x ∷ ps) (suc k) p q at = set_there ps k p q at
-
 abbrev pub join_word : ℕ → ℕ → ℕ → Processor → Processor
 join_word n word v q = record q { buffers = combined_with n word v q.era q.buffers }
 
@@ -217,9 +160,6 @@ left_after n word v q = record q { buffers = left_by_combine n word v q.era q.bu
 
 abbrev pub out_of : ℕ → ℕ → ℕ → ℕ → List Processor → Option CacheLine
 out_of k n word v ps = option_map_or (λ p. handed_back n word v p.era p.buffers) (slice_get ps k) None
-
-abbrev pub emptied_if : System → Option CacheLine → System
-emptied_if s o = option_map_or (λ b. empty_buffer s b) o s
 
 module _ (k n word v : ℕ) (ps : List Processor) (m : Memory) (p : Processor) (within : word < 8) (at : slice_get ps k ≡ Some p) (none : giving_way n p.buffers ≡ None) where
   joined_there : slice_get (slice_set ps k (join_word n word v p)) k ≡ Some (join_word n word v p)
@@ -231,7 +171,7 @@ module _ (k n word v : ℕ) (ps : List Processor) (m : Memory) (p : Processor) (
   cases None = refl
   cases (Some b) =
       let once : with_changed (with_buffers (without_line n)) k (slice_set ps k (join_word n word v p)) ≡ slice_set ps k (record p { buffers = without_line n (combined_with n word v p.era p.buffers) }) =
-      ap (λ o. option_map_or (λ q. slice_set (slice_set ps k (join_word n word v p)) k (with_buffers (without_line n) q)) o (slice_set ps k (join_word n word v p))) joined_there
+      changed_there (with_buffers (without_line n)) k (slice_set ps k (join_word n word v p)) (join_word n word v p) joined_there
       ∙ set-set ps k (join_word n word v p) (with_buffers (without_line n) (join_word n word v p)) in
       ap (λ qs. empty_buffer (system qs m) b) (sym once) ∙ emptied_changed (without_line n) k b (slice_set ps k (join_word n word v p)) m
 
@@ -239,7 +179,7 @@ module _ (k n word v : ℕ) (ps : List Processor) (m : Memory) (p : Processor) (
   at_one =
       let left : with_changed (left_after n word v) k ps
       ≡ slice_set ps k (record p { buffers = if is_some (full_buffer n (combined_with n word v p.era p.buffers)) then without_line n (combined_with n word v p.era p.buffers) else combined_with n word v p.era p.buffers }) =
-      ap (λ o. option_map_or (λ q. slice_set ps k (left_after n word v q)) o ps) at ∙ ap (λ ls. slice_set ps k (record p { buffers = ls })) (left_is n word v p.era p.buffers none) in
+      changed_there (left_after n word v) k ps p at ∙ ap (λ ls. slice_set ps k (record p { buffers = ls })) (left_is n word v p.era p.buffers none) in
       let out : out_of k n word v ps ≡ full_buffer n (combined_with n word v p.era p.buffers) =
       ap (λ o. option_map_or (λ (q : Processor). handed_back n word v q.era q.buffers) o None) at ∙ out_is n word v p.era p.buffers within none in
       let now : change (join_word n word v) k (system ps m) ≡ system (slice_set ps k (join_word n word v p)) m =
@@ -250,13 +190,101 @@ module _ (k n word v : ℕ) (ps : List Processor) (m : Memory) (p : Processor) (
       ∙ sym (whole_is k n (system (slice_set ps k (join_word n word v p)) m) (combined_with n word v p.era p.buffers) (ap (λ o. option_map_or (λ (q : Processor). q.buffers) o []) joined_there))
       ∙ ap (empty_if_whole k n) (sym now)
 
-pub combine_done : (k n word v : ℕ) (ps qs rs : List Processor) (m w : Memory) (out : Option CacheLine) → word < 8 → k < length qs
-    → system qs w ≡ make_buffer_room k n (system ps m) → giving_way n (buffers_in k qs) ≡ None
-    → out ≡ out_of k n word v qs → rs ≡ with_changed (left_after n word v) k qs
-    → emptied_if (system rs w) out ≡ combine k n word v (system ps m)
-combine_done k n word v ps qs rs m w out within among made none handed left =
-    let p = there qs k among in
-    ap (emptied_if (system rs w)) handed
-    ∙ ap (λ xs. emptied_if (system xs w) (out_of k n word v qs)) left
-    ∙ at_one k n word v qs w p.0 within p.1 (ap (λ o. giving_way n (option_map_or (λ (q : Processor). q.buffers) o [])) (sym p.1) ∙ none)
-    ∙ ap (λ s. empty_if_whole k n (change (join_word n word v) k s)) made
+-- ---- the oldest of four gives way
+
+mapped_get : (f : Processor → Processor) (ps : List Processor) (k : ℕ) (p : Processor) → slice_get ps k ≡ Some p → slice_get (map f ps) k ≡ Some (f p)
+mapped_get f [] k p at = absurd (cc)
+mapped_get f (x ∷ ps) zero p at = let e : x ≡ p = cc in ap (λ (q : Processor). Some (f q)) e
+mapped_get f (x ∷ ps) (suc k) p at = mapped_get f ps k p at
+
+module _ (k n word v : ℕ) (ps : List Processor) (m : Memory) (p : Processor) (b : CacheLine) (within : word < 8) (at : slice_get ps k ≡ Some p) (absent : find_line n p.buffers ≡ None) (oldest : oldest_of_full 4 p.buffers ≡ Some b) where
+  abbrev rest : List CacheLine
+  rest = without_line b.number p.buffers
+
+  abbrev now : List CacheLine
+  now = combined_with n word v p.era rest
+
+  now_part : full_buffer n now ≡ None
+  now_part = not_whole n word v p.era rest within (none_filter (λ (x : CacheLine). x.number) _ n p.buffers absent)
+
+  room_made : with_room_for n p.buffers ≡ rest
+  room_made =
+      ap (λ (o : Option CacheLine). if is_some o then p.buffers else with_room 4 p.buffers) absent
+      ∙ ap (λ (o : Option CacheLine). option_map_or (λ (l : CacheLine). without_line l.number p.buffers) o p.buffers) oldest
+
+  left_now : left_by_combine n word v p.era p.buffers ≡ now
+  left_now =
+      ap (λ bs. if is_some (full_buffer n (combined_with n word v p.era bs)) then without_line n (combined_with n word v p.era bs) else combined_with n word v p.era bs) room_made
+      ∙ ap (λ (o : Option CacheLine). if is_some o then without_line n now else now) now_part
+
+  out_now : handed_back n word v p.era p.buffers ≡ Some b
+  out_now = ap (λ (o : Option CacheLine). if is_some o then full_buffer n (joined n word v p.era p.buffers) else oldest_of_full 4 p.buffers) absent ∙ oldest
+
+  abbrev t : System
+  t = empty_buffer (system ps m) b
+
+  abbrev q : Processor
+  q = with_lines (without_line b.number) (with_lines (change_line b.number clean_line) p)
+
+  at_t : slice_get t.processors k ≡ Some q
+  at_t =
+      mapped_get (with_lines (without_line b.number)) (map (with_lines (change_line b.number clean_line)) ps) k (with_lines (change_line b.number clean_line) p)
+      (mapped_get (with_lines (change_line b.number clean_line)) ps k p at)
+
+  abbrev set_now : System
+  set_now = record t { processors = slice_set t.processors k (with_buffers (λ _. now) q) }
+
+  -- the definition's way, and the code's
+  by_room : change (join_word n word v) k (make_buffer_room k n (system ps m)) ≡ set_now
+  by_room =
+      let r : System = record t { processors = slice_set t.processors k (with_buffers (without_line b.number) q) } in
+      ap (change (join_word n word v) k)
+      (room_is k n (system ps m)
+      ∙ ap (λ (o : Option Processor). with_way k (system ps m) (giving_way n (option_map_or (λ (x : Processor). x.buffers) o []))) at
+      ∙ ap (λ (o : Option CacheLine). with_way k (system ps m) (if is_some o then None else oldest_of_full 4 p.buffers)) absent
+      ∙ ap (with_way k (system ps m)) oldest
+      ∙ change_at (with_buffers (without_line b.number)) k t q at_t)
+      ∙ change_at (join_word n word v) k r (with_buffers (without_line b.number) q) (set_there t.processors k q (with_buffers (without_line b.number) q) at_t)
+      ∙ ap (λ (xs : List Processor). record t { processors = xs }) (set-set t.processors k (with_buffers (without_line b.number) q) (with_buffers (λ _. now) q))
+
+  by_hand : empty_buffer (system (slice_set ps k (record p { buffers = now })) m) b ≡ set_now
+  by_hand =
+      ap (λ xs. empty_buffer (system xs m) b) (sym (changed_there (with_buffers (λ _. now)) k ps p at))
+      ∙ emptied_changed (λ _. now) k b ps m
+      ∙ change_at (with_buffers (λ _. now)) k t q at_t
+
+  none_whole : empty_if_whole k n set_now ≡ set_now
+  none_whole =
+      whole_is k n set_now now (ap (λ (o : Option Processor). option_map_or (λ (x : Processor). x.buffers) o []) (set_there t.processors k q (with_buffers (λ _. now) q) at_t))
+      ∙ ap (λ (o : Option CacheLine). option_map_or (λ c. change (with_buffers (without_line n)) k (empty_buffer set_now c)) o set_now) now_part
+
+  at_oldest : emptied_if (system (with_changed (left_after n word v) k ps) m) (out_of k n word v ps) ≡ combine k n word v (system ps m)
+  at_oldest =
+      ap (λ (o : Option Processor). emptied_if (system (with_changed (left_after n word v) k ps) m) (option_map_or (λ (x : Processor). handed_back n word v x.era x.buffers) o None)) at
+      ∙ ap (λ xs. emptied_if (system xs m) (handed_back n word v p.era p.buffers)) (changed_there (left_after n word v) k ps p at)
+      ∙ ap (λ (bs : List CacheLine). emptied_if (system (slice_set ps k (record p { buffers = bs })) m) (handed_back n word v p.era p.buffers)) left_now
+      ∙ ap (emptied_if (system (slice_set ps k (record p { buffers = now })) m)) out_now
+      ∙ by_hand
+      ∙ sym none_whole
+      ∙ ap (empty_if_whole k n) (sym by_room)
+
+pub combined : (k n word v : ℕ) (ps qs : List Processor) (m : Memory) (out : Option CacheLine) → word < 8 → k < length ps
+    → out ≡ out_of k n word v ps → qs ≡ with_changed (left_after n word v) k ps
+    → emptied_if (system qs m) out ≡ combine k n word v (system ps m)
+combined k n word v ps qs m out within among handed left =
+    ap (λ xs. emptied_if (system xs m) out) left ∙ ap (emptied_if (system (with_changed (left_after n word v) k ps) m)) handed ∙ one (find_line n p.0.buffers) (oldest_of_full 4 p.0.buffers) refl refl
+  where
+    p : (p : Processor) × (slice_get ps k ≡ Some p)
+    p = processor_of ps k among
+
+    plain : giving_way n p.0.buffers ≡ None → emptied_if (system (with_changed (left_after n word v) k ps) m) (out_of k n word v ps) ≡ combine k n word v (system ps m)
+    plain none =
+        at_one k n word v ps m p.0 within p.1 none
+        ∙ ap (λ s. empty_if_whole k n (change (join_word n word v) k s))
+        (sym (room_is k n (system ps m) ∙ ap (λ (o : Option Processor). with_way k (system ps m) (giving_way n (option_map_or (λ (x : Processor). x.buffers) o []))) p.1 ∙ ap (with_way k (system ps m)) none))
+
+    one : (f o : Option CacheLine) → find_line n p.0.buffers ≡ f → oldest_of_full 4 p.0.buffers ≡ o
+        → emptied_if (system (with_changed (left_after n word v) k ps) m) (out_of k n word v ps) ≡ combine k n word v (system ps m)
+    one None None is full = plain (ap (λ (x : Option CacheLine). if is_some x then None else oldest_of_full 4 p.0.buffers) is ∙ full)
+    one None (Some b) is full = at_oldest k n word v ps m p.0 b within p.1 is full
+    one (Some l) o is full = plain (ap (λ (x : Option CacheLine). if is_some x then None else oldest_of_full 4 p.0.buffers) is)

@@ -1,3 +1,4 @@
+pub mod Changed
 mod Combining
 mod Emptying
 pub mod Grown

@@ -5,6 +5,7 @@ use Rattle.mt_tlb.specs.declared.entry.Entry.{Entry}
 use Rattle.mt_machine.specs.System.{Processor}
 use Rattle.mt_machine.specs.Access.{entry_of, keep_entry}
 use Rattle.mt_bus.specs.Parts.{entry_in, with_changed}
+use Rattle.mt_bus.proofs.Changed.{changed_there}
 
 set_same : (ps : List Processor) (k : ℕ) (p : Processor) → slice_get ps k ≡ Some p → slice_set ps k p ≡ ps
 set_same [] k p at = absurd (cc)
@@ -20,4 +21,4 @@ entered ps k va p q at made =
   where
     one : (o : Option Entry) → slice_set ps k (option_map_or (λ e. keep_entry e p) o p) ≡ option_map_or (λ e. with_changed (keep_entry e) k ps) o ps
     one None = set_same ps k p at
-    one (Some e) = sym (ap (λ o. option_map_or (λ x. slice_set ps k (keep_entry e x)) o ps) at)
+    one (Some e) = sym (changed_there (keep_entry e) k ps p at)

@@ -1,23 +1,19 @@
-ghost use Rattle.std.specs.Prelude.{◌≡◌, ◌<◌, ◌≤◌, [], length, slice_get, None, Some};
+ghost use Rattle.std.specs.Prelude.{◌≡◌, ◌<◌, [], length, slice_get, None, Some};
 ghost use Rattle.std.specs.Option.{option_map_or};
 ghost use Rattle.mt_cache.specs.declared.line.CacheLine.{CacheLine};
 ghost use Rattle.mt_cache.specs.Lines.{find_line, without_line};
 ghost use Rattle.mt_cache.specs.Calls.{handed_back, left_by_combine};
-ghost use Rattle.mt_machine.specs.Bus.{combine, drain, drain_line, make_buffer_room, with_buffers};
-ghost use Rattle.mt_bus.specs.Parts.{buffers_in, giving_way, system, with_changed};
+ghost use Rattle.mt_machine.specs.Bus.{combine, drain, drain_line, with_buffers};
+ghost use Rattle.mt_bus.specs.Parts.{buffers_in, system, with_changed};
 
 use crate::snoops::empty_buffer;
 use mt_cache::{Buffers, CacheLine};
 use mt_cpu::Cpu;
 use mt_ram::Ram;
 
-/// The buffers that a processor has.
-const BUFFERS: usize = 4;
-
 fn buffer_count(cpus: &[Cpu], k: usize) -> usize
     requires { k < length cpus.now }
-    ensures count { result ≡ length (buffers_in k cpus.now) }
-    ensures few { length (buffers_in k cpus.now) ≤ 4 }
+    ensures { result ≡ length (buffers_in k cpus.now) }
 {
     cpus[k].buffers().lines().len()
 }
@@ -30,25 +26,6 @@ fn buffer_at(cpus: &[Cpu], k: usize, i: usize) -> CacheLine
     cpus[k].buffers().lines()[i]
 }
 
-/// The line of a number.
-pub(crate) fn line_of(lines: &[CacheLine], number: u64) -> Option<CacheLine>
-    ensures { result ≡ find_line number lines.now }
-{
-    for line in lines {
-        if line.number == number {
-            return Some(*line);
-        }
-    }
-    None
-}
-
-fn buffer_of(cpus: &[Cpu], k: usize, number: u64) -> Option<CacheLine>
-    requires { k < length cpus.now }
-    ensures { result ≡ find_line number (buffers_in k cpus.now) }
-{
-    line_of(cpus[k].buffers().lines(), number)
-}
-
 fn clear_buffers(cpus: &mut [Cpu], k: usize)
     requires { k < length cpus.old }
     ensures { cpus.new ≡ with_changed (with_buffers (λ _. [])) k cpus.old }
@@ -57,12 +34,13 @@ fn clear_buffers(cpus: &mut [Cpu], k: usize)
     *cpu.buffers_mut() = Buffers::new();
 }
 
-fn drop_buffer(cpus: &mut [Cpu], k: usize, number: u64)
+fn take_buffer(cpus: &mut [Cpu], k: usize, number: u64) -> Option<CacheLine>
     requires { k < length cpus.old }
-    ensures { cpus.new ≡ with_changed (with_buffers (without_line number)) k cpus.old }
+    ensures out { result ≡ find_line number (buffers_in k cpus.old) }
+    ensures cpus { cpus.new ≡ with_changed (with_buffers (without_line number)) k cpus.old }
 {
     let cpu = &mut cpus[k];
-    let _ = cpu.buffers_mut().take(number);
+    cpu.buffers_mut().take(number)
 }
 
 /// Empties all buffers of a processor, the oldest first.
@@ -82,33 +60,8 @@ pub(crate) fn drain_line(cpus: &mut [Cpu], ram: &mut Ram, k: usize, number: u64)
     requires { k < length cpus.old }
     ensures { system cpus.new ram.new ≡ drain_line k number (system cpus.old ram.old) }
 {
-    if let Some(buffer) = buffer_of(cpus, k, number) {
+    if let Some(buffer) = take_buffer(cpus, k, number) {
         empty_buffer(cpus, ram, &buffer);
-        drop_buffer(cpus, k, number);
-    }
-}
-
-// The buffer that must be emptied before a word of this line is combined: the oldest of four, where
-// the line has none.
-fn oldest_for(cpus: &[Cpu], k: usize, number: u64) -> Option<CacheLine>
-    requires { k < length cpus.now }
-    ensures { result ≡ giving_way number (buffers_in k cpus.now) }
-{
-    if buffer_of(cpus, k, number).is_some() || buffer_count(cpus, k) < BUFFERS {
-        None
-    } else {
-        Some(buffer_at(cpus, k, 0))
-    }
-}
-
-fn make_buffer_room(cpus: &mut [Cpu], ram: &mut Ram, k: usize, number: u64)
-    requires { k < length cpus.old }
-    ensures after { system cpus.new ram.new ≡ make_buffer_room k number (system cpus.old ram.old) }
-    ensures room { giving_way number (buffers_in k cpus.new) ≡ None }
-{
-    if let Some(oldest) = oldest_for(cpus, k, number) {
-        empty_buffer(cpus, ram, &oldest);
-        drop_buffer(cpus, k, oldest.number);
     }
 }
 
@@ -124,13 +77,13 @@ fn join(cpus: &mut [Cpu], k: usize, number: u64, word: u8, v: u64) -> Option<Cac
     cpu.buffers_mut().combine(number, word, v, era)
 }
 
-/// Combines a word into a processor's buffers, and empties a buffer that gives way or is whole.
+/// Combines a word into a processor's buffers, and empties the buffer that is handed back: the oldest of
+/// four, where one is added, or the one that now has all its words.
 pub(crate) fn combine(cpus: &mut [Cpu], ram: &mut Ram, k: usize, number: u64, word: u8, v: u64)
     requires processor { k < length cpus.old }
     requires word { word < 8 }
     ensures { system cpus.new ram.new ≡ combine k number word v (system cpus.old ram.old) }
 {
-    make_buffer_room(cpus, ram, k, number);
     if let Some(buffer) = join(cpus, k, number, word, v) {
         empty_buffer(cpus, ram, &buffer);
     }

@@ -8,7 +8,7 @@ use crate::system::System;
 pub fn a_system_is_sound(system: &System)
     ensures { IsSound system.now }
 {
-    let _ = &system.ram;
+    let _ = &system.ram; // a fact for the proof
 }
 
 /// When each refusal of an access comes, and what it leaves.

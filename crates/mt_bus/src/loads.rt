@@ -4,19 +4,13 @@ ghost use Rattle.mt_cache.specs.Lines.{find_line};
 ghost use Rattle.mt_machine.specs.Access.{first_of_load, is_cached, load, load_after};
 ghost use Rattle.mt_bus.specs.Parts.{cache_disabled_in, hit_in, lines_in, system};
 
-use crate::buffers::{drain, drain_line, line_of};
+use crate::buffers::{drain, drain_line};
 use crate::fills::fill_line;
 use crate::snoops::bus_read;
-use crate::words::read;
-use mt_cache::CacheLine;
+use mt_cache::{Cache, CacheLine};
 use mt_cpu::Cpu;
 use mt_kinds::MemType;
-use mt_ram::Ram;
-
-/// The bytes of a line, and of a word.
-pub(crate) const LINE_BYTES: u64 = 64;
-
-pub(crate) const WORD_BYTES: u64 = 8;
+use mt_ram::{LINE_BYTES, Ram, WORD_BYTES};
 
 /// Whether lines of this type are cached.
 fn is_cached(kind: MemType) -> bool
@@ -28,12 +22,19 @@ fn is_cached(kind: MemType) -> bool
     }
 }
 
+fn line_of(cache: &Cache, number: u64) -> Option<CacheLine>
+    ensures { result ≡ find_line number cache.now }
+{
+    let i = cache.find(number)?;
+    Some(cache.lines()[i])
+}
+
 /// A processor's cached line.
 pub(crate) fn line_in(cpus: &[Cpu], k: usize, number: u64) -> Option<CacheLine>
     requires { k < length cpus.now }
     ensures { result ≡ find_line number (lines_in k cpus.now) }
 {
-    line_of(cpus[k].cache().lines(), number)
+    line_of(cpus[k].cache(), number)
 }
 
 fn first_of_load(cpus: &mut [Cpu], ram: &mut Ram, k: usize, kind: MemType, number: u64)
@@ -75,7 +76,7 @@ fn load_missed(cpus: &mut [Cpu], ram: &mut Ram, k: usize, kind: MemType, address
     let number = address / LINE_BYTES;
     let is_filled = fills(cpus, k, kind);
     bus_read(cpus, ram, number);
-    let v = read(ram, address);
+    let v = ram.read(address);
     if is_filled {
         fill_line(cpus, ram, k, number);
     }

@@ -9,13 +9,12 @@ ghost use Rattle.mt_bus.specs.Parts.{cache_disabled_in, lines_in, system, with_c
 
 use crate::buffers::{combine, drain, drain_line};
 use crate::fills::fill_line;
-use crate::loads::{LINE_BYTES, WORD_BYTES, line_in};
+use crate::loads::line_in;
 use crate::snoops::{bus_read, invalidate, invalidate_others, write_back_others};
-use crate::words::store as store_word;
 use mt_cache::Cache;
 use mt_cpu::Cpu;
 use mt_kinds::MemType;
-use mt_ram::Ram;
+use mt_ram::{LINE_BYTES, Ram, WORD_BYTES};
 
 // Writes a word into a cache's copy of its line, if it has one.
 fn write_copy(cache: &mut Cache, address: u64, v: u64, dirty: bool)
@@ -77,7 +76,7 @@ fn store_past(cpus: &mut [Cpu], ram: &mut Ram, k: usize, address: u64, v: u64)
     let number = address / LINE_BYTES;
     bus_read(cpus, ram, number);
     invalidate_others(cpus, k, number);
-    store_word(ram, address, v);
+    ram.write(address, v);
 }
 
 // One after which no cache keeps the line.
@@ -87,7 +86,7 @@ fn store_uncached(cpus: &mut [Cpu], ram: &mut Ram, address: u64, v: u64)
     let number = address / LINE_BYTES;
     bus_read(cpus, ram, number);
     invalidate(cpus, number);
-    store_word(ram, address, v);
+    ram.write(address, v);
 }
 
 fn store_through(cpus: &mut [Cpu], ram: &mut Ram, k: usize, address: u64, v: u64)

@@ -10,7 +10,6 @@ ghost use Rattle.mt_machine.specs.Access.{access};
 
 use crate::{accesses, buffers, controls};
 use mt_cpu::Cpu;
-use mt_laws::{accesses_keep_sound, start_is_quiet};
 use mt_machine::{Control, Done, Op, Ruled};
 use mt_ports::NoMemory;
 use mt_ram::{Ram, RamFault};
@@ -59,8 +58,7 @@ impl System {
         requires accepted { IsAccepted regs.now }
         ensures { IfOk result (λ s. s ≡ (start_machine cpus regs.now []).system) }
     {
-        start_is_quiet();
-        regs.is_register_file();
+        regs.is_register_file(); // a fact for the proof
         let cpus = start_cpus(alloc, cpus, regs)?;
         let ram = Ram::new(alloc);
         Ok(System { cpus, ram })
@@ -80,7 +78,7 @@ impl System {
         ensures kept { OnErr result (self.new ≡ self.old) }
     {
         self.ram.add(base, lines)?;
-        let _ = self.ram.words();
+        let _ = self.ram.words(); // a fact for the proof
         Ok(())
     }
 
@@ -92,7 +90,6 @@ impl System {
         ensures answer { result ≡ (control self.old k c).answer }
         ensures after { self.new ≡ (control self.old k c).after }
     {
-        accesses_keep_sound();
         controls::control(self.cpus.as_mut_slice(), &mut self.ram, k as usize, c)
     }
 
@@ -102,7 +99,6 @@ impl System {
         ensures answer { result ≡ (access self.old k op).answer }
         ensures after { self.new ≡ (access self.old k op).after }
     {
-        accesses_keep_sound();
         accesses::access(self.cpus.as_mut_slice(), &mut self.ram, k as usize, op)
     }
 
@@ -111,7 +107,6 @@ impl System {
         requires { k < length self.old.processors }
         ensures { self.new ≡ drain k self.old }
     {
-        accesses_keep_sound();
         buffers::drain(self.cpus.as_mut_slice(), &mut self.ram, k as usize);
     }
 }

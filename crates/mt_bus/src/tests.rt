@@ -57,11 +57,6 @@ fn access(system: &mut System, k: u32, op: Op) -> Option<Done> {
     }
 }
 
-fn word(system: &System, address: u64) -> Option<u64> {
-    let i = system.ram.place(address)?;
-    Some(system.ram.word(i))
-}
-
 #[test]
 fn a_store_takes_the_line_over(rt: HostRuntime) {
     let Some(mut system) = system(rt.alloc(), 2, 6) else {
@@ -74,11 +69,11 @@ fn a_store_takes_the_line_over(rt: HostRuntime) {
         );
     }
     assert!(rt; access(&mut system, 0, Op::Store(0x1000, 0x2a)) == Some(Done::Stored(MemType::WB)));
-    assert!(rt; word(&system, 0x10_0000) == Some(0));
+    assert!(rt; system.ram.read(0x10_0000) == 0);
     assert!(rt; access(&mut system, 1, Op::Load(0x1000)) == Some(Done::Value(0x2a, MemType::WB)));
-    assert!(rt; word(&system, 0x10_0000) == Some(0x2a));
+    assert!(rt; system.ram.read(0x10_0000) == 0x2a);
     assert!(rt; access(&mut system, 1, Op::Store(0x1000, 0x2b)) == Some(Done::Stored(MemType::WB)));
-    assert!(rt; word(&system, 0x10_0000) == Some(0x2a));
+    assert!(rt; system.ram.read(0x10_0000) == 0x2a);
     for (k, lines) in [(0, 0), (1, 1)] {
         assert!(rt;
             matches!(system.cpus.get(k), Some(cpu) if cpu.cache().lines().len() == lines),
@@ -99,13 +94,13 @@ fn the_oldest_of_four_buffers_gives_way(rt: HostRuntime) {
             "at {address}"
         );
     }
-    assert!(rt; word(&system, 0x10_0000) == Some(0));
+    assert!(rt; system.ram.read(0x10_0000) == 0);
     assert!(rt; access(&mut system, 0, Op::Store(0x1100, 11)) == Some(Done::Stored(MemType::WC)));
-    assert!(rt; word(&system, 0x10_0000) == Some(7));
-    assert!(rt; word(&system, 0x10_0040) == Some(0));
+    assert!(rt; system.ram.read(0x10_0000) == 7);
+    assert!(rt; system.ram.read(0x10_0040) == 0);
     assert!(rt; access(&mut system, 0, Op::Fence) == Some(Done::Fenced));
-    assert!(rt; word(&system, 0x10_0040) == Some(8));
-    assert!(rt; word(&system, 0x10_0100) == Some(11));
+    assert!(rt; system.ram.read(0x10_0040) == 8);
+    assert!(rt; system.ram.read(0x10_0100) == 11);
 }
 
 #[test]

@@ -1,64 +1,32 @@
-ghost use Rattle.std.specs.Prelude.{◌≡◌, ◌<◌, length, IfSome};
+ghost use Rattle.std.specs.Prelude.{◌≡◌, ℕ, ◌<◌, ◌^◌, nat_lt, false, None};
 ghost use Rattle.mt_cache.specs.declared.line.CacheLine.{CacheLine};
-ghost use Rattle.mt_machine.specs.Memory.{line_words, place, put_word, word_address, word_at, write_back, write_back_word};
+ghost use Rattle.mt_machine.specs.Memory.{line_words, place, word_address, word_at, write_back, write_back_word};
 
 use mt_cache::CacheLine;
 use mt_kinds::is_bit_set;
-use mt_ram::Ram;
+use mt_ram::{LINE_BYTES, Ram, WORD_BYTES};
 
 /// The lines below the end of the physical addresses.
-const LINES: u64 = 1 << 46;
+const PHYSICAL_LINES: u64 = 1 << 46;
 
-// The place of a word of a line.
-fn place_of(ram: &Ram, number: u64, word: u8) -> Option<usize>
-    requires { word < 8 }
-    ensures value { result ≡ place ram.now (word_address number word) }
-    ensures within { IfSome result (λ i. i < length ram.now.words) }
+// Whether a line lies below the end of the physical addresses. No other line has words in memory.
+fn is_physical(ram: &Ram, number: u64) -> bool
+    ensures value { result ≡ nat_lt number (2 ^ 46) }
+    ensures others { result ≡ false → (word : ℕ) → place ram.now (word_address number word) ≡ None }
 {
-    // No window lies above. What the memory's type keeps is for the proof alone.
-    let _ = ram.words();
-    if number < LINES {
-        ram.place(64 * number + 8 * word as u64)
-    } else {
-        None
-    }
+    let _ = ram.words(); // a fact for the proof
+    number < PHYSICAL_LINES
 }
 
-/// The word at a physical address; 0 where there is no memory.
-pub(crate) fn read(ram: &Ram, address: u64) -> u64
-    ensures { result ≡ word_at ram.now address }
-{
-    match ram.place(address) {
-        Some(i) => ram.word(i),
-        None => 0,
-    }
-}
-
-/// Stores a word at a physical address where there is memory.
-pub fn store(ram: &mut Ram, address: u64, v: u64)
-    ensures { ram.new ≡ put_word ram.old address v }
-{
-    if let Some(i) = ram.place(address) {
-        ram.put(i, v);
-    }
-}
-
+// The word of a line in memory.
 fn read_word(ram: &Ram, number: u64, word: u8) -> u64
     requires { word < 8 }
     ensures { result ≡ word_at ram.now (word_address number word) }
 {
-    match place_of(ram, number, word) {
-        Some(i) => ram.word(i),
-        None => 0,
-    }
-}
-
-fn store_word(ram: &mut Ram, number: u64, word: u8, v: u64)
-    requires { word < 8 }
-    ensures { ram.new ≡ put_word ram.old (word_address number word) v }
-{
-    if let Some(i) = place_of(ram, number, word) {
-        ram.put(i, v);
+    if is_physical(ram, number) {
+        ram.read(LINE_BYTES * number + WORD_BYTES * word as u64)
+    } else {
+        0
     }
 }
 
@@ -83,8 +51,9 @@ fn write_back_word(ram: &mut Ram, line: &CacheLine, word: u8)
     requires { word < 8 }
     ensures { ram.new ≡ write_back_word line.now ram.old word }
 {
-    if is_bit_set(line.dirty as u64, word) {
-        store_word(ram, line.number, word, line.words[word as usize]);
+    if is_bit_set(line.dirty as u64, word) && is_physical(ram, line.number) {
+        let address = LINE_BYTES * line.number + WORD_BYTES * word as u64;
+        ram.write(address, line.words[word as usize]);
     }
 }
 

@@ -24,7 +24,7 @@ use Rattle.mt_core.specs.Arises.{Arises, by_event, from_start}
 use Rattle.mt_core.specs.Rounds.{EndsByRelease, IsUpdateByEvents, Rounds, TurnsEnd, UpdatesAreReached, again, each_steps, ended, given_where, in_order}
 use Rattle.mt_core.proofs.Arising.{machine, step_length}
 use Rattle.mt_core.proofs.Progress.{IsDecided, all_true, arises_steps, each_decided, each_falls, lasts, remaining_decided}
-use Rattle.mt_core.proofs.Stepping.{processor_of}
+use Rattle.mt_bus.proofs.Changed.{processor_of}
 use Rattle.mt_core.proofs.Turns.{goes_on, over_empty, rounds_course, rounds_end, rounds_whole}
 use Rattle.mt_core.proofs.Work.{release_is, work_of}
 

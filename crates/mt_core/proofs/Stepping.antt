@@ -1,5 +1,5 @@
 -- What a step needs of the state that it starts from, and that its own is sound.
-use Rattle.std.proofs.Common.{◌≡◌, ◌≢◌, ◌∙◌, ap, sym, refl, subst, arith, ℕ, zero, suc, ◌+◌, ◌-◌, ◌<◌, ◌^◌, ⊎_elim, true, false, List, [], ◌∷◌, length, take, Option, None, Some, slice_get, slice_set, IsTrue}
+use Rattle.std.proofs.Common.{◌≡◌, ◌≢◌, ◌∙◌, ap, sym, refl, subst, arith, ℕ, zero, suc, ◌+◌, ◌-◌, ◌<◌, ◌^◌, ⊎_elim, true, false, List, [], ◌∷◌, length, take, Option, None, Some, slice_get, IsTrue}
 use Rattle.std.specs.Prelude.{nat_lt}
 use Rattle.std.specs.List.{All}
 use Rattle.std.specs.Option.{option_map_or}
@@ -14,7 +14,7 @@ use Rattle.mt_machine.specs.declared.phase.Phase.TheVariants.{Running}
 use Rattle.mt_machine.specs.declared.event.Event.{Event}
 use Rattle.mt_machine.specs.declared.event.Event.TheVariants.{Release, Take, WriteBack}
 use Rattle.mt_machine.specs.Memory.{IsMemory, Memory, Window, put_word}
-use Rattle.mt_machine.specs.System.{IsSound, Processor, System, change}
+use Rattle.mt_machine.specs.System.{IsSound, Processor, System}
 use Rattle.mt_machine.specs.Bus.{drain, with_buffers}
 use Rattle.mt_machine.specs.Access.{is_running}
 use Rattle.mt_machine.specs.Machine.{FitsGoal, Machine, MachineEvent, IsEnabled, Order, Steps, before_own, due, due_at, next, own_step, remaining_order, step}
@@ -30,6 +30,7 @@ use Rattle.mt_laws.proofs.Invariant.Parts.{memory_of}
 use Rattle.mt_laws.proofs.Invariant.Standing.{Standing, standing_next, standing_sound, start_standing}
 use Rattle.mt_laws.proofs.Registers.UnderWay.{lines_are_low}
 use Rattle.mt_laws.proofs.Words.Sound.{aligned_all, sound_agrees}
+use Rattle.mt_bus.proofs.Changed.{changed_is}
 use Rattle.mt_bus.proofs.Grown.{sound_grown}
 use Rattle.mt_ram.specs.Windows.{with_window}
 use Rattle.mt_core.specs.Arises.{Arises, IsCore, by_event, by_window, from_start, grown}
@@ -113,16 +114,6 @@ drained k s p at =
     (λ (e : (k ≢ k) × (slice_get _ k ≡ Some p)). absurd (e.0 refl))
     (at_change (with_buffers (λ _. [])) k _ k p at)
 
-abbrev Done : (Processor → Processor) → ℕ → List Processor → Memory → Type 0
-Done f k ps m = system (with_changed f k ps) m ≡ change f k (system ps m)
-
-pub changed_is : (f : Processor → Processor) (k : ℕ) (ps : List Processor) (m : Memory) → Done f k ps m
-changed_is f k ps m = one (slice_get ps k)
-  where
-    one : (o : Option Processor) → system (option_map_or (λ p. slice_set ps k (f p)) o ps) m ≡ option_map_or (λ p. record (system ps m) { processors = slice_set ps k (f p) }) o (system ps m)
-    one None = refl
-    one (Some p) = refl
-
 pub worked : (goal : RegisterFile) (e : Event) (k : ℕ) (ps : List Processor) (m : Memory) → e ≢ Take
     → system (with_changed (own_step goal e) k ps) (with_word_of e m) ≡ step goal e k (system ps m)
 worked goal Take k ps m other = absurd (other refl)
@@ -142,12 +133,6 @@ local_takes_not o ps p e h is same =
     let a : is_take e ≡ true = ap is_take same ∙ taken in
     let b : is_take e ≡ false = no_take o ps p p.phase e (local_rests p.phase h) is in
     absurd (cc)
-
--- the processor of a place within
-pub processor_of : (ps : List Processor) (k : ℕ) → k < length ps → (p : Processor) × (slice_get ps k ≡ Some p)
-processor_of [] k h = absurd (omega arith)
-processor_of (p ∷ ps) zero h = (p, refl)
-processor_of (p ∷ ps) (suc k) h = processor_of ps k (omega arith)
 
 take_runs : (o : Order) (ps : List Processor) (p : Processor) (ph : Phase) → due o ps p ph ≡ Some Take → is_shift Take ph ≡ true
 take_runs o ps p Running h = refl

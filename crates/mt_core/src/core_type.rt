@@ -92,7 +92,7 @@ impl Core {
         &self.system
     }
 
-    /// The update under way. There is none where all processors are outside an update.
+    /// The update under way, if there is one.
     pub fn order(&self) -> Option<&Order>
         ensures { MatchOption result (self.now.order ≡ None) (λ order. self.now.order ≡ Some order.now) }
     {

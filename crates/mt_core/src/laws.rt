@@ -10,7 +10,7 @@ use crate::core_type::Core;
 pub fn a_core_arises(core: &Core)
     ensures { IsCore core.now }
 {
-    let _ = &core.order;
+    let _ = &core.order; // a fact for the proof
 }
 
 /// A step answers `NoUpdate` exactly where the processor runs and no update is under way, or it is

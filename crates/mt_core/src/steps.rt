@@ -13,16 +13,16 @@ ghost use Rattle.mt_core.specs.Steps.{pause, under_way, with_word_of};
 use crate::barriers::{first_count, is_cancelled, is_first_open, is_second_open, second_count};
 use crate::order::Order as CalledOrder;
 use crate::stepped::Stepped;
-use mt_bus::{System, store};
+use mt_bus::System;
 use mt_cpu::{Cpu, is_local};
 use mt_machine::{Event, Phase};
 use mt_ram::Ram;
 use mt_regs::RegFile;
 
 // A processor has at most one event that is due, and it is of one of two kinds. A local event
-// (`Cpu::local`) looks at nothing but the processor and the goal; it is always due in its phase. A
-// barrier event (`Cpu::shift`) moves the phase alone; whether it is due hangs on the other processors
-// and on the coordinator.
+// (`Cpu::local`) comes between the barriers: it is always due in its phase, and looks at nothing but the
+// processor and the goal. A barrier event (`Cpu::shift`) moves the phase, and whether it is due depends
+// on the other processors and on the coordinator.
 
 fn phase_of(cpus: &[Cpu], k: usize) -> Phase
     requires { k < length cpus.now }
@@ -89,7 +89,7 @@ fn write_word_of(ram: &mut Ram, e: Event)
     ensures { ram.new ≡ with_word_of e ram.old }
 {
     if let Event::WriteBack { address, value } = e {
-        store(ram, address, value);
+        ram.write(address, value);
     }
 }
 

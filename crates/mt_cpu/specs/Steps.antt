@@ -1,4 +1,5 @@
--- The events of a processor that look at nothing but itself and the goal, and those that only move its phase.
+-- The two kinds of events of a processor: those that look at nothing but itself and the goal, and those of the barriers, which
+-- move its phase. Release raises its era too.
 use Rattle.std.specs.Prelude.{◌≡◌, ℕ, Bool, true, false, take, Some}
 use Rattle.std.specs.List.{All}
 use Rattle.mt_regs.specs.RegisterFile.{RegisterFile}

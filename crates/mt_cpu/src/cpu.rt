@@ -1,11 +1,11 @@
 ghost use Rattle.std.specs.Prelude.{◌≡◌, ◌<◌, ◌^◌, is_err, OnOk, OnErr};
 ghost use Rattle.std.specs.Borrow.{Lends, sem};
-ghost use Rattle.mt_regs.specs.RegisterFile.{IsRegisterFile, page_count};
+ghost use Rattle.mt_regs.specs.RegisterFile.{page_count};
 ghost use Rattle.mt_regs.specs.Faults.{IsAccepted};
 ghost use Rattle.mt_cache.specs.contracts.buffers.Buffers.{the_row as buffers_row};
 ghost use Rattle.mt_cache.specs.contracts.cache.Cache.{the_row as cache_row};
 ghost use Rattle.mt_tlb.specs.Entries.{is_full_for, set_mapping};
-ghost use Rattle.mt_machine.specs.System.{IsProcessor, Processor, start_processor};
+ghost use Rattle.mt_machine.specs.System.{Processor, start_processor};
 ghost use Rattle.mt_machine.specs.Control.{drop_page, reload_cr3, set_page_global};
 ghost use Rattle.mt_cpu.specs.contracts.cpu.Cpu.{the_row};
 ghost use Rattle.mt_cpu.specs.Facts.{KeepsFacts};
@@ -42,13 +42,6 @@ impl Model for Cpu {
     ghost invariant = { λ c. KeepsFacts (record { file = c.regs; cache_disabled = c.cd; page_global = c.pge; remembered_global = c.had_pge; mappings = c.maps; lines = c.cache; buffers = c.buffers; entries = c.tlb; phase = c.phase; era = c.era }) };
 }
 
-// What the type of a register file keeps, for the proof alone.
-pub(crate) fn width_of(f: &RegFile) -> u8
-    ensures { IsRegisterFile f.now }
-{
-    f.maxphy
-}
-
 impl Cpu {
     /// A processor that runs with these registers, its caches on, and holds nothing.
     pub fn new(regs: RegFile) -> Self
@@ -67,17 +60,6 @@ impl Cpu {
             phase: Phase::Running,
             era: 0,
         }
-    }
-
-    /// What the types of a processor and of its parts keep. The calls are for the proof alone.
-    pub fn is_processor(&self)
-        ensures { IsProcessor self.now }
-    {
-        let _ = width_of(&self.regs);
-        let _ = self.maps.list();
-        let _ = self.tlb.entries();
-        let _ = self.cache.lines();
-        let _ = self.buffers.lines();
     }
 
     /// The range registers.

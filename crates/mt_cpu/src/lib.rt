@@ -2,11 +2,13 @@
 #![tactic(auto)]
 
 mod cpu;
+mod laws;
 mod steps;
 #[cfg(test)]
 mod tests;
 mod translation;
 
 pub use cpu::Cpu;
+pub use laws::a_processor_is_whole;
 pub use mt_machine::{Event, Phase};
 pub use steps::is_local;

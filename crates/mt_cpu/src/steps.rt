@@ -9,7 +9,7 @@ ghost use Rattle.mt_machine.specs.System.{Processor};
 ghost use Rattle.mt_machine.specs.Machine.{FitsGoal, Order, due, own_step, write_back_or_drop, write_or_enable};
 ghost use Rattle.mt_cpu.specs.Steps.{HasFirst, HasWritten, is_local, is_shift, is_writing_back};
 
-use crate::cpu::{Cpu, width_of};
+use crate::cpu::Cpu;
 use mt_kinds::is_bit_set;
 use mt_machine::{Event, Phase};
 use mt_regs::{RegFile, Register};
@@ -120,8 +120,8 @@ impl Cpu {
         requires more { i + 1 < length (writable self.old.file) }
         ensures { self.new ≡ own_step goal.now (Event.Write i) self.old }
     {
-        let _ = width_of(goal);
-        let _ = width_of(&self.regs);
+        goal.is_register_file(); // a fact for the proof
+        self.regs.is_register_file(); // a fact for the proof
         let Some(register) = goal.register_at(i) else {
             unreachable!()
         };
@@ -138,8 +138,8 @@ impl Cpu {
         requires written { HasFirst i goal.now self.old.file }
         ensures { self.new ≡ own_step goal.now Event.Enable self.old }
     {
-        let _ = width_of(goal);
-        let _ = width_of(&self.regs);
+        goal.is_register_file(); // a fact for the proof
+        self.regs.is_register_file(); // a fact for the proof
         self.regs.put(Register::DefaultType, goal.deftype);
         self.phase = Phase::Enabled;
     }

@@ -1,7 +1,7 @@
 ghost use Rattle.std.specs.Prelude.{◌≡◌, ℕ, ◌<◌, ◌≤◌, ◌+◌, ◌*◌, ◌^◌, ◌%◌, [], length, map, slice_index, slice_range, slice_set, OnOk, OnErr, IfSome, None, nat_le, nat_lt, ◌&&◌};
 ghost use Rattle.std.specs.Borrow.{Array, Lends, sem, u64};
 ghost use Rattle.std.specs.List.{All};
-ghost use Rattle.mt_machine.specs.Memory.{IsMemory, Memory, place, place_in, window_end, word_count};
+ghost use Rattle.mt_machine.specs.Memory.{IsMemory, Memory, place, place_in, put_word, window_end, word_at, word_count};
 ghost use Rattle.mt_ram.specs.contracts.ram.Ram.{the_row};
 ghost use Rattle.mt_ram.specs.Windows.{is_overlap, refusal, refusal_in, shares_byte, window, window_of, with_line, with_window};
 
@@ -11,10 +11,11 @@ use arrayvec::ArrayVec;
 use std::alloc::Global;
 use std::marker::Model;
 
-/// The bytes of a line, and of a word.
-const LINE_BYTES: u64 = 64;
+/// The bytes of a line.
+pub const LINE_BYTES: u64 = 64;
 
-const WORD_BYTES: u64 = 8;
+/// The bytes of a word.
+pub const WORD_BYTES: u64 = 8;
 
 /// The words of all windows together are at most these, those of 4,096 lines.
 const MOST_WORDS: usize = 8 * 4096;
@@ -170,6 +171,25 @@ impl Ram {
         ensures { result ≡ slice_index self.now.words i }
     {
         self.words[i]
+    }
+
+    /// The word at this address, in bytes; 0 where no window has it.
+    pub fn read(&self, address: u64) -> u64
+        ensures { result ≡ word_at self.now address }
+    {
+        match self.place(address) {
+            Some(i) => self.word(i),
+            None => 0,
+        }
+    }
+
+    /// Writes the word at this address, in bytes. Nothing changes where no window has it.
+    pub fn write(&mut self, address: u64, v: u64)
+        ensures { self.new ≡ put_word self.old address v }
+    {
+        if let Some(i) = self.place(address) {
+            self.put(i, v);
+        }
     }
 
     /// Lends the eight words of a line, from the place of the first on, for writing.

@@ -12,7 +12,7 @@ use Rattle.mt_machine.specs.Machine.{FitsGoal, Machine, MachineEvent, next}
 use Rattle.mt_laws.proofs.Barrier.Claims.{all_get, all_of}
 use Rattle.mt_laws.proofs.Registers.Quiet.{Shape, next_shapes, shape}
 use Rattle.mt_core.specs.Headline.{HasRisenByOne}
-use Rattle.mt_core.proofs.Stepping.{processor_of}
+use Rattle.mt_bus.proofs.Changed.{processor_of}
 
 shape_of : (f : RegisterFile) (p : Processor) → FitsGoal f p → shape p.file ≡ shape f
 shape_of f p h = λ i. (sym h.width i, sym h.capabilities i)

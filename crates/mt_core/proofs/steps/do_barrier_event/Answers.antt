@@ -3,7 +3,8 @@ use Rattle.std.proofs.lemmas.List.{take_at}
 use Rattle.mt_machine.specs.System.{IsSound, System, change}
 use Rattle.mt_machine.specs.Machine.{before_own, own_step, step}
 use Rattle.mt_bus.specs.Parts.{system}
-use Rattle.mt_core.proofs.Stepping.{changed_is, prepared, prepared_length, step_sound}
+use Rattle.mt_bus.proofs.Changed.{changed_is}
+use Rattle.mt_core.proofs.Stepping.{prepared, prepared_length, step_sound}
 use Rattle.mt_core.proofs.steps.do_barrier_event.Goals as goal
 
 pub move_phase-requires-clause-processor : goal.move_phase-requires-clause-processor

@@ -7,7 +7,8 @@ use Rattle.mt_machine.specs.Machine.{FitsGoal, Order, due, due_at, own_step, ste
 use Rattle.mt_cpu.specs.Steps.{HasWritten}
 use Rattle.mt_bus.specs.Parts.{system, with_changed}
 use Rattle.mt_core.specs.Steps.{under_way}
-use Rattle.mt_core.proofs.Stepping.{fits_at, goal_accepted, local_takes_not, low_at, processor_of, step_sound, worked, written_at}
+use Rattle.mt_bus.proofs.Changed.{processor_of}
+use Rattle.mt_core.proofs.Stepping.{fits_at, goal_accepted, local_takes_not, low_at, step_sound, worked, written_at}
 use Rattle.mt_core.proofs.steps.do_local_event.Goals as goal
 
 pub do_own_part-e-requires-clause-accepted : goal.do_own_part-e-requires-clause-accepted

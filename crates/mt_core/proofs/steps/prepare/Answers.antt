@@ -1,4 +1,5 @@
-use Rattle.mt_core.proofs.Stepping.{processor_of, unprepared}
+use Rattle.mt_bus.proofs.Changed.{processor_of}
+use Rattle.mt_core.proofs.Stepping.{unprepared}
 use Rattle.mt_core.proofs.steps.prepare.Goals as goal
 
 pub returns-in_default : goal.returns-in_default

@@ -11,7 +11,7 @@ pub invariant_of-self : goal.invariant_of-self
 invariant_of-self c =
     let regs : c.self.inside.regs ≡ c.args.self.now.file = ap (λ (q : Processor). q.file) c.self.view_is in
     let phase = ap (λ (q : Processor). q.phase) c.self.view_is ∙ c.requires.phase in
-    let made = file_is_goal c.args.goal.now c.self.inside.regs c.args.i c.width_of.ensures c.width_of-2.ensures
+    let made = file_is_goal c.args.goal.now c.self.inside.regs c.args.i c.is_register_file.ensures c.is_register_file-2.ensures
     (c.requires.fits.width ∙ ap (λ (f : RegisterFile). f.width) (sym regs)) (c.requires.fits.capabilities ∙ ap (λ (f : RegisterFile). f.capabilities) (sym regs))
     (c.self.invariant.in_range c.args.i (ap is_writing phase))
     (subst (λ (f : RegisterFile). length (writable f) ≤ c.args.i + 1) (sym regs) c.requires.last)
