@@ -17,8 +17,8 @@ mod tests;
 pub use core_type::Core;
 pub use fault::CallFault;
 pub use laws::{
-    eras_rise, releases_settle, rests_quiet, steps_stop, steps_wait, updates_are_reached,
-    updates_settle, words_are_held,
+    eras_rise, releases_settle, rests_quiet, states_hold, steps_stop, steps_wait,
+    updates_are_reached, updates_settle, words_are_held,
 };
 pub use mt_machine::{Event, Go, Phase};
 pub use order::Order;
