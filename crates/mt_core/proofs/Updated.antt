@@ -1,8 +1,8 @@
 -- What holds from a whole update on, up to the next call.
-use Rattle.std.proofs.Common.{◌≡◌, ◌∙◌, ap, sym, refl, subst, arith, ℕ, suc, ◌+◌, ◌%◌, ◌<◌, inl, Bool, true, false, List, [], ◌∷◌, ◌++◌, length, Option, None, Some, slice_get}
+use Rattle.std.proofs.Common.{◌≡◌, ◌∙◌, ap, sym, refl, subst, arith, ℕ, ◌+◌, ◌%◌, ◌<◌, inl, Bool, true, false, List, [], ◌∷◌, ◌++◌, length, Option, None, Some, slice_get}
 use Rattle.std.specs.Prelude.{◌&&◌, if◌then◌else◌, map}
 use Rattle.std.specs.List.{Contains, list_all}
-use Rattle.std.specs.Option.{option_map, option_map_or}
+use Rattle.std.specs.Option.{option_map}
 use Rattle.std.proofs.lemmas.Option.{slice_get-map}
 use Rattle.mt_regs.specs.RegisterFile.{RegisterFile}
 use Rattle.mt_machine.specs.declared.event.Event.TheVariants.{Release}
@@ -10,14 +10,12 @@ use Rattle.mt_machine.specs.declared.go.Go.TheVariants.{Given}
 use Rattle.mt_machine.specs.Memory.{Window, word_at}
 use Rattle.mt_machine.specs.System.{Processor, System}
 use Rattle.mt_machine.specs.Machine.{AreEnabled, Calls, Goes, IsEnabled, Machine, MachineEvent, Order, Steps, due_at, is_over, next, run, step}
-use Rattle.mt_machine.specs.Update.{IsSettled, settled_processor, stored_word, stored_words, updated}
+use Rattle.mt_machine.specs.Update.{IsSettled, settled_processor, stored_words, updated}
 use Rattle.mt_laws.specs.Updates.{order_of_call}
 use Rattle.mt_laws.proofs.Barrier.Ranks.{and_left, and_right}
 use Rattle.mt_laws.proofs.Invariant.Runs.{run_join}
-use Rattle.mt_laws.proofs.Updates.Held.{settled_word}
+use Rattle.mt_laws.proofs.Updates.Held.{settled_word, stays_in_memory}
 use Rattle.mt_laws.proofs.Updates.Quiet.{updated_is_quiet}
-use Rattle.mt_laws.proofs.Words.Agreement.{word_next}
-use Rattle.mt_laws.proofs.Words.BusLaws.{Word}
 use Rattle.mt_laws.proofs.Words.Sound.{aligned_all}
 use Rattle.mt_core.specs.Arises.{Arises, by_event, from_start}
 use Rattle.mt_core.specs.Rounds.{UpdatedWordsAreHeld, UpdatesSettle, in_order}
@@ -93,30 +91,14 @@ updates_settle s goal since quiet enabled some more calls =
 
 -- ---- words
 
-stored_later : (o : Option ℕ) (rest : List ℕ) (a : ℕ) → Contains rest a → Contains (option_map_or (λ b. b ∷ rest) o rest) a
-stored_later None rest a h = h
-stored_later (Some b) rest a h = let low : h.0 < length rest = h.1 in (suc h.0, omega arith, h.2)
-
-stored_here : (o : Option ℕ) (rest : List ℕ) (a : ℕ) → o ≡ Some a → Contains (option_map_or (λ b. b ∷ rest) o rest) a
-stored_here None rest a h = absurd (cc h)
-stored_here (Some b) rest a h = let e : b ≡ a = cc h in (0, omega arith, e)
-
--- a word that no cache and no buffer has keeps its value while no access stores it
-word_stays : (es : List MachineEvent) (m : Machine) (a x : ℕ) → a % 8 ≡ 0 → Arises m → AreEnabled m es → (Contains (stored_words m es) a → ⊥) → Word false a x m.system → Word false a x (run m es).system
-word_stays [] m a x whole arises enabled other w = w
-word_stays (e ∷ es) m a x whole arises enabled other w =
-    let st = stands arises in
-    let ws : List Window = m.system.memory.windows in
-    let r = word_next ws (aligned_all ws st.0.aligned) m e enabled.0 st.1.agrees.stands false a x whole (λ h is. other (stored_here (stored_word m e) (stored_words (next m e) es) a is)) w in
-    word_stays es (next m e) a x whole (by_event e arises enabled.0) enabled.1 (λ h. other (stored_later (stored_word m e) (stored_words (next m e) es) a h))
-    (subst (λ (y : ℕ). Word false a y (next m e).system) (r.1 refl) r.2)
-
 held_where_none : (m : Machine) (since : List MachineEvent) (a : ℕ) → Arises m → ((j : ℕ) (q : Processor) → slice_get m.system.processors j ≡ Some q → (q.lines ≡ []) × (q.buffers ≡ [])) → AreEnabled m since → a % 8 ≡ 0
     → (Contains (stored_words m since) a → ⊥) → word_at (run m since).system.memory a ≡ word_at m.system.memory a
 held_where_none m since a arises none enabled whole other =
-    let w = (stands arises).1.agrees.words a whole in
+    let st = stands arises in
+    let ws : List Window = m.system.memory.windows in
+    let w = st.1.agrees.words a whole in
     let there = settled_word a w.0 m.system none w.1 in
-    let later = word_stays since m a w.0 whole arises enabled other there in
+    let later = stays_in_memory ws (aligned_all ws st.0.aligned) since m a w.0 whole st.1.agrees.stands enabled other there in
     later.shows.0 ∙ sym there.shows.0
 
 settled_holds_none : (goal : RegisterFile) (ps : List Processor) (j : ℕ) (q : Processor) → slice_get (map (settled_processor goal) ps) j ≡ Some q → (q.lines ≡ []) × (q.buffers ≡ [])

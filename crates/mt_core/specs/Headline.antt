@@ -1,12 +1,15 @@
 -- What holds in each state that arises.
-use Rattle.std.specs.Prelude.{◌≡◌, ◌⊎◌, ◌<◌, ◌≤◌, ◌+◌, ℕ, true, false, not, List, [], length, slice_get, None, Some}
+use Rattle.std.specs.Prelude.{◌≡◌, ◌⊎◌, ◌<◌, ◌≤◌, ◌+◌, ◌%◌, ℕ, true, false, not, ◌&&◌, ◌||◌, List, [], ◌∷◌, ◌++◌, length, slice_get, None, Some}
 use Rattle.std.specs.List.{All, list_all}
 use Rattle.mt_machine.specs.declared.phase.Phase.TheVariants.{Arrived, Arrived2}
-use Rattle.mt_machine.specs.declared.event.Event.TheVariants.{Pass, Release}
-use Rattle.mt_machine.specs.System.{Processor, System}
+use Rattle.mt_machine.specs.declared.event.Event.TheVariants.{Pass, Release, Take}
+use Rattle.mt_machine.specs.System.{Processor, System, now}
 use Rattle.mt_machine.specs.Machine.{AreEnabled, BarrierCount, IsEnabled, Machine, MachineEvent, Order, Steps, first_barrier_count, is_cancelled, next, run, second_barrier_count}
 use Rattle.mt_machine.specs.Start.{IsQuiet}
-use Rattle.mt_machine.specs.Update.{IsHeld, IsSettled, is_call}
+use Rattle.mt_machine.specs.Update.{IsHeld, IsSettled, is_call, is_release, is_step_of}
+use Rattle.mt_laws.specs.Barriers.{BarriersHold, NoneActsInChange, NoneRunsInChange}
+use Rattle.mt_laws.specs.Counts.{IsCounted}
+use Rattle.mt_laws.specs.Kept.{OrderHolds, is_of_update, is_take_step}
 use Rattle.mt_laws.specs.Settled.{IsFirstRelease}
 use Rattle.mt_core.specs.declared.stepped.Stepped.TheVariants.{Waits}
 use Rattle.mt_core.specs.Arises.{Arises}
@@ -38,6 +41,34 @@ pub record HasRisenByOne (s t : System) : Type 0 where
 
 abbrev pub ErasRise : Type 0
 ErasRise = (m : Machine) (e : MachineEvent) → IsEnabled m e → HasRisenByOne m.system (next m e).system
+
+-- ---- what holds of each reached state holds of each that arises
+
+abbrev pub BarriersHoldThroughout : Type 0
+BarriersHoldThroughout = (m : Machine) → Arises m → BarriersHold m
+
+abbrev pub NoneRunsThroughout : Type 0
+NoneRunsThroughout = (m : Machine) → Arises m → NoneRunsInChange m
+
+abbrev pub NoneActsThroughout : Type 0
+NoneActsThroughout = (m : Machine) → Arises m → NoneActsInChange m
+
+abbrev pub OrdersHoldThroughout : Type 0
+OrdersHoldThroughout = (m : Machine) (o : Order) → Arises m → m.order ≡ Some o → OrderHolds m o
+
+-- no event of an update but Take changes a word's value
+abbrev pub StepsKeepThroughout : Type 0
+StepsKeepThroughout =
+    (m : Machine) (e : MachineEvent) (address : ℕ) → Arises m → IsEnabled m e → is_of_update e ≡ true → is_take_step e ≡ false
+    → address % 8 ≡ 0 → now (next m e).system address ≡ now m.system address
+
+-- from a take to the release that follows it
+abbrev pub StepsCountThroughout : Type 0
+StepsCountThroughout =
+    (m : Machine) (k : ℕ) (between : List MachineEvent) → Arises m
+    → AreEnabled m (Steps k Take ∷ (between ++ Steps k Release ∷ []))
+    → list_all (λ e. not (is_step_of k e && (is_take_step e || is_release e))) between ≡ true
+    → IsCounted m k between
 
 -- ---- where a step waits
 

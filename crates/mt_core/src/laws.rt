@@ -1,5 +1,5 @@
 ghost use Rattle.mt_core.specs.Arises.{IsCore};
-ghost use Rattle.mt_core.specs.Headline.{ErasRise, HeldFromFirstRelease, IsQuietWithoutOrder, NoBuffersWhereOnePasses, SettledFromRelease, WaitsAtBarriers};
+ghost use Rattle.mt_core.specs.Headline.{BarriersHoldThroughout, ErasRise, HeldFromFirstRelease, IsQuietWithoutOrder, NoBuffersWhereOnePasses, NoneActsThroughout, NoneRunsThroughout, OrdersHoldThroughout, SettledFromRelease, StepsCountThroughout, StepsKeepThroughout, WaitsAtBarriers};
 ghost use Rattle.mt_core.specs.Rounds.{TurnsEnd, UpdatedWordsAreHeld, UpdatesAreReached, UpdatesSettle};
 ghost use Rattle.mt_core.specs.Stops.{StopsOutside};
 
@@ -41,6 +41,19 @@ pub fn words_are_held()
 /// A state without an update under way is quiet, so each law on one update holds from it on.
 pub fn rests_quiet()
     ensures { IsQuietWithoutOrder }
+{}
+
+/// What the laws say of each reached state holds of each state of a core, to which windows may have
+/// been added since the start: the barriers hold, no processor runs or acts while another changes
+/// its registers, an order's goal is whole and the registers before a writer's place have its values,
+/// no event of an update but Take changes a word's value, and events are as many as the laws count.
+pub fn states_hold()
+    ensures barriers { BarriersHoldThroughout }
+    ensures exclusive { NoneRunsThroughout }
+    ensures busy { NoneActsThroughout }
+    ensures orders { OrdersHoldThroughout }
+    ensures words { StepsKeepThroughout }
+    ensures counts { StepsCountThroughout }
 {}
 
 /// An event leaves the number of processors, and raises no era by more than one.

@@ -17,7 +17,7 @@ mod tests;
 pub use core_type::Core;
 pub use fault::CallFault;
 pub use laws::{
-    a_core_arises, eras_rise, releases_settle, rests_quiet, steps_stop, steps_wait,
+    a_core_arises, eras_rise, releases_settle, rests_quiet, states_hold, steps_stop, steps_wait,
     updates_are_reached, updates_settle, words_are_held,
 };
 pub use mt_machine::{Event, Go, Phase};

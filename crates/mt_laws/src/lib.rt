@@ -15,4 +15,7 @@ pub use laws::{
     settled_after_each_release, start_is_quiet, stays_coherent, stays_sound, steps_keep_now,
     takes_broadcast, updated_is_quiet, updated_words, whole_update, write_backs_have_places,
 };
-pub use worked::{worked_counts, worked_first_release, worked_holdings};
+pub use worked::{
+    worked_barriers, worked_counts, worked_eras, worked_first_release, worked_holdings,
+    worked_kinds, worked_nothing, worked_orders,
+};

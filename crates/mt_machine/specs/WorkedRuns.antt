@@ -1,5 +1,5 @@
 -- Machines of worked examples, and what is seen of them.
-use Rattle.std.specs.Prelude.{ℕ, zero, suc, ◌+◌, nat_lt, Bool, true, false, List, [], ◌∷◌, length, map, if◌then◌else◌, replicate, slice_get, None}
+use Rattle.std.specs.Prelude.{ℕ, zero, suc, ◌+◌, nat_lt, Bool, true, false, List, [], ◌∷◌, length, map, if◌then◌else◌, replicate, slice_get, None, Some}
 use Rattle.std.specs.Option.{option_map_or}
 use Rattle.std.specs.List.{count_by}
 use Rattle.mt_kinds.specs.declared.mem_type.MemType.TheVariants.{WB}
@@ -12,13 +12,15 @@ use Rattle.mt_tlb.specs.declared.entry.Entry.{Entry}
 use Rattle.mt_tlb.specs.declared.mapping.Mapping.{Mapping}
 use Rattle.mt_machine.specs.declared.control.Control.TheVariants.{Map, Cd}
 use Rattle.mt_machine.specs.declared.event.Event.{Event}
+use Rattle.mt_machine.specs.declared.go.Go.TheVariants.{Pending}
+use Rattle.mt_machine.specs.declared.phase.Phase.TheVariants.{Taken}
 use Rattle.mt_machine.specs.declared.op.Op.{Op}
 use Rattle.mt_machine.specs.declared.op.Op.TheVariants.{Load, Store}
 use Rattle.mt_machine.specs.declared.done.Done.{Done}
 use Rattle.mt_machine.specs.Memory.{Window, put_word, word_at}
 use Rattle.mt_machine.specs.System.{Processor, start_processor, lines_of, buffers_of}
 use Rattle.mt_machine.specs.Access.{access}
-use Rattle.mt_machine.specs.Machine.{Machine, MachineEvent, Accesses, Controls, Calls, Goes, Steps, due_at, next, run}
+use Rattle.mt_machine.specs.Machine.{Machine, MachineEvent, Order, Accesses, Controls, Calls, Goes, Steps, due_at, next, run}
 use Rattle.mt_machine.specs.Start.{start_machine, zero_memory}
 use Rattle.mt_machine.specs.Update.{dirty_count}
 
@@ -227,3 +229,13 @@ idle = start_processor (bare_file 0x800)
 -- over 64 lines whose first word is this number, and 0 everywhere else
 abbrev pub with_first_word : ℕ → Machine → Machine
 with_first_word value m = record m { system = record m.system { memory = put_word m.system.memory 0x100000 value } }
+
+-- a call for other registers, of processors that have taken
+abbrev pub call_order : Order
+call_order = record { goal = bare_file 0x806; from_era = 0; go = Pending }
+
+abbrev pub calling : Order → List Processor → Machine
+calling o ps = record (machine_of ps) { order = Some o }
+
+abbrev pub ready : Processor
+ready = record idle { phase = Taken }

@@ -21,8 +21,8 @@ pub use op::Op;
 pub use phase::Phase;
 pub use ruled::Ruled;
 pub use worked::{
-    worked_barrier, worked_buffers, worked_cancel, worked_combining, worked_controls, worked_held,
-    worked_kinds, worked_loads, worked_memory, worked_phases, worked_processors, worked_refusals,
-    worked_settled, worked_snoops, worked_sound, worked_steps, worked_stored_words, worked_stores,
-    worked_translations, worked_updates,
+    worked_barrier, worked_broadcast, worked_buffers, worked_cancel, worked_combining,
+    worked_controls, worked_held, worked_kinds, worked_loads, worked_memory, worked_phases,
+    worked_processors, worked_quiet, worked_refusals, worked_settled, worked_snoops, worked_sound,
+    worked_steps, worked_stored_words, worked_stores, worked_translations, worked_updates,
 };

@@ -3,6 +3,7 @@ mod loads;
 mod scripts;
 mod settled;
 mod sound;
+mod starts;
 mod steps;
 mod stores;
 
@@ -11,5 +12,6 @@ pub use loads::{worked_loads, worked_translations};
 pub use scripts::{worked_barrier, worked_buffers, worked_cancel, worked_snoops, worked_updates};
 pub use settled::{worked_held, worked_kinds, worked_settled, worked_stored_words};
 pub use sound::{worked_memory, worked_processors, worked_sound};
+pub use starts::{worked_broadcast, worked_quiet};
 pub use steps::{worked_phases, worked_steps};
 pub use stores::{worked_combining, worked_stores};

@@ -1,5 +1,6 @@
 -- States of worked examples.
-use Rattle.std.specs.Prelude.{List, [], ◌∷◌, Some}
+use Rattle.std.specs.Prelude.{ℕ, List, [], ◌∷◌, codes, slice_set, Some}
+use Rattle.mt_machine.specs.System.{Processor}
 use Rattle.mt_machine.specs.Machine.{Machine, MachineEvent, Calls, run}
 use Rattle.mt_machine.specs.Update.{updated}
 use Rattle.mt_machine.specs.WorkedRuns.{bare_file, idle, machine_of, palette, store}
@@ -38,3 +39,11 @@ at_end = state_of InUpdate (run palette (store 0 0x1000 7 ∷ []))
 -- the machine after its update
 abbrev pub after_end : Machine
 after_end = updated at_end.machine.system (0 ∷ 1 ∷ []) (bare_file 0x800)
+
+-- with another first processor
+abbrev pub with_first : Processor → Machine → Machine
+with_first p m = record m { system = record m.system { processors = slice_set m.system.processors 0 p } }
+
+-- a script that is no more than its dump
+abbrev pub small_dump : List ℕ
+small_dump = codes "cpus 1\ndump\n0fe 400\n2ff 806\nend\n"

@@ -5,7 +5,7 @@ ghost use Rattle.mt_replay.specs.Kept.{HoldsThrough};
 ghost use Rattle.mt_replay.specs.Statuses.{AreWithoutCall};
 ghost use Rattle.mt_script.specs.declared.command.Command.TheVariants as command;
 ghost use Rattle.mt_replay.specs.Texts.{complete_line};
-ghost use Rattle.mt_replay.specs.WorkedScript.{IsKept, IsQuietFrom, seven_stored, step_at, steps_at, updated_processor, worked_file, worked_lines, worked_script};
+ghost use Rattle.mt_replay.specs.WorkedScript.{IsKept, HasNoCallSince, seven_stored, step_at, steps_at, updated_processor, worked_file, worked_lines, worked_script};
 
 /// The headline: whatever bytes a script has, its transcript is what the steps of its course write.
 /// In whatever order the processors step, once any of them is told that an accepted update is
@@ -37,9 +37,9 @@ pub fn worked_course()
 pub fn worked_headline()
     ensures called { IsCall (step_at 6) }
     ensures release { wrote (step_at 37) ≡ release_line }
-    ensures since_release { IsQuietFrom 37 6 (0x100008 ∷ []) }
+    ensures since_release { HasNoCallSince 37 6 (0x100008 ∷ []) }
     ensures complete { wrote (step_at 44) ≡ complete_line 2 }
-    ensures since_complete { IsQuietFrom 44 5 (0x100000 ∷ []) }
+    ensures since_complete { HasNoCallSince 44 5 (0x100000 ∷ []) }
     ensures refused { IsRefused (step_at 50) }
     ensures goal { (step_at 6).before.goal.default_type ≡ 0x800 }
 {}

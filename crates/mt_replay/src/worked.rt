@@ -13,7 +13,10 @@ ghost use Rattle.mt_core.specs.declared.fault.CallFault.TheVariants.{Refused, Un
 ghost use Rattle.mt_core.specs.declared.stepped.Stepped.TheVariants.{Did, Waits, NoUpdate};
 ghost use Rattle.mt_replay.specs.Texts.{call_fault_line, called_line, cancel_line, complete_line, done_line, event_text, go_line, have_one_file, memory_line, phase_text, processor_line, register_line, registers_line, report_text, ruled_line, stepped_line};
 
-pub use states::{worked_each_state, worked_settled_states, worked_without_call, worked_words};
+pub use states::{
+    worked_dumps, worked_each_state, worked_kept, worked_settled_states, worked_without_call,
+    worked_words,
+};
 
 /// What accesses and control instructions are answered.
 #[tactic(auto, unfolding(hex::specs::Hex::encode_with))]

@@ -41,7 +41,7 @@ none_given before clean led =
     let count : times 0xfe (given (onto before [])) ≡ 0 = ap (times 0xfe) (given-onto before [] ∙ ap (λ gs. onto gs []) none) in
     rw count refl
 
-none_ends : (place : Place) (before : List Reading) → IsClean before → file_in before ≡ None → offence_at_end place (onto before []) ≡ None → ⊥
+pub none_ends : (place : Place) (before : List Reading) → IsClean before → file_in before ≡ None → offence_at_end place (onto before []) ≡ None → ⊥
 none_ends place before clean led end = cc (rw (none_given before clean led) at end)
 
 -- clean lines that show a file lead to it

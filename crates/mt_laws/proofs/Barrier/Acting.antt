@@ -19,7 +19,7 @@ use Rattle.mt_machine.specs.Access.{access, access_at, is_running, Answered}
 use Rattle.mt_machine.specs.Control.{control, control_at, RuledAfter}
 use Rattle.mt_machine.specs.Machine.{Machine, Order, Steps, IsEnabled, Reached, due, is_cancelled, first_barrier_open, second_barrier_open, write_back_event, write_back_or_drop}
 use Rattle.mt_machine.specs.Start.{IsStart}
-use Rattle.mt_laws.specs.Barriers.{NoneActsInChange}
+use Rattle.mt_laws.specs.Barriers.{NoneActsInChange, NoneRunsInChange}
 use Rattle.mt_laws.specs.Settled.{NoBuffersAtPass}
 use Rattle.mt_laws.proofs.Barrier.Stages.{stage_of, stages}
 use Rattle.mt_laws.proofs.Barrier.Ranks.{rank, rank_of, is_ahead, Guarded, stage_at, all_second}
@@ -48,10 +48,13 @@ module _ (s : System) (k : ℕ) (rests : (q : Processor) → slice_get s.process
       one None at = refl
       one (Some q) at = ap (λ (b : Bool). ruled b (control_at s k q c) (record { answer = RuledBusy; after = s })) (rests q at)
 
+pub none_acts_in : (m : Machine) → NoneRunsInChange m → NoneActsInChange m
+none_acts_in m none i k p op c at changing =
+    let rests : (q : Processor) → slice_get m.system.processors k ≡ Some q → is_running q.phase ≡ false = λ q at_q. none i k p q at at_q changing in
+    (access_busy m.system k rests op, control_busy m.system k rests c)
+
 pub none_acts_of : (s t : Machine) → IsStart s → Reached s t → NoneActsInChange t
-none_acts_of s t start r i k p op c at changing =
-    let rests : (q : Processor) → slice_get t.system.processors k ≡ Some q → is_running q.phase ≡ false = λ q at_q. none_runs_of s t start r i k p q at at_q changing in
-    (access_busy t.system k rests op, control_busy t.system k rests c)
+none_acts_of s t start r = none_acts_in t (none_runs_of s t start r)
 
 -- ---- at the pass
 

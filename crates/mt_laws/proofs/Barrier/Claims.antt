@@ -124,7 +124,7 @@ go_given Pending h = absurd (cc)
 go_given Given h = refl
 go_given Cancelled h = absurd (cc)
 
-barriers_of : (m : Machine) → Invariant m → BarriersHold m
+pub barriers_of : (m : Machine) → Invariant m → BarriersHold m
 barriers_of m inv = record { first = firsts; given = gives; second = seconds }
   where
     guard : (o : Order) → m.order ≡ Some o → Guarded o (stages m.system)
@@ -158,7 +158,7 @@ not_true : (b : Bool) → (b ≡ true → ⊥) → b ≡ false
 not_true true h = absurd (h refl)
 not_true false h = refl
 
-exclusive_in : (s : System) (o : Option Order) → Kept o (stages s) → NoneRunsInChange (record { system = s; order = o })
+pub exclusive_in : (s : System) (o : Option Order) → Kept o (stages s) → NoneRunsInChange (record { system = s; order = o })
 exclusive_in s None r i j p q at_p at_q h =
     let runs : is_running p.phase ≡ true = r.running i (stage_of p) (stage_at s.processors i p at_p) in
     let quiet : is_changing p.phase ≡ false = not_changing p.phase runs in

@@ -44,19 +44,20 @@ unfolding is_take
 not_take Take h = absurd (h refl)
 not_take other h = refl
 
-one_step_keeps : (s m : Machine) (k : ℕ) (e : Event) (a : ℕ) → IsStart s → Reached s m → IsEnabled m (Steps k e) → e ≢ Take → a % 8 ≡ 0 → now (next m (Steps k e)).system a ≡ now m.system a
-one_step_keeps s m k e a start r enabled apart whole =
-    let ws = s.system.memory.windows in
-    let aligned = start_aligned s start in
-    let g = agrees s m start r in
+one_step_keeps : (ws : List Window) → AllAligned ws → (m : Machine) (k : ℕ) (e : Event) (a : ℕ) → Agrees ws m → IsEnabled m (Steps k e) → e ≢ Take → a % 8 ≡ 0 → now (next m (Steps k e)).system a ≡ now m.system a
+one_step_keeps ws aligned m k e a g enabled apart whole =
     let w = g.words a whole in
     now_is ws (next m (Steps k e)).system a w.0 (stands_next ws aligned m (Steps k e) enabled g.stands) (step_keeps_word ws aligned m k e enabled (not_take e apart) g.stands true a w.0 whole w.1)
     ∙ sym (now_is ws m.system a w.0 g.stands w.1)
 
-pub steps_keep_now : StepsKeepNow
-steps_keep_now s m e a start r enabled is quiet whole =
+pub keeps_now : (ws : List Window) → AllAligned ws → (m : Machine) (e : MachineEvent) (a : ℕ) → Agrees ws m → IsEnabled m e → is_of_update e ≡ true → is_take_step e ≡ false → a % 8 ≡ 0
+    → now (next m e).system a ≡ now m.system a
+keeps_now ws aligned m e a g enabled is quiet whole =
     unchanged m.system m.order e a is
     (λ k w same.
     let there : IsEnabled m (Steps k w) = subst (IsEnabled m) same enabled in
     ap (λ (v : MachineEvent). now (next m v).system a) same
-    ∙ one_step_keeps s m k w a start r there (λ take. absurd (let on : is_take_step (Steps k w) ≡ true = ap (λ (v : Event). is_take_step (Steps k v)) take in let off : is_take_step (Steps k w) ≡ false = ap is_take_step (sym same) ∙ quiet in cc)) whole)
+    ∙ one_step_keeps ws aligned m k w a g there (λ take. absurd (let on : is_take_step (Steps k w) ≡ true = ap (λ (v : Event). is_take_step (Steps k v)) take in let off : is_take_step (Steps k w) ≡ false = ap is_take_step (sym same) ∙ quiet in cc)) whole)
+
+pub steps_keep_now : StepsKeepNow
+steps_keep_now s m e a start r = keeps_now s.system.memory.windows (start_aligned s start) m e a (agrees s m start r)

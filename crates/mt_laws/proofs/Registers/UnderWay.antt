@@ -26,7 +26,7 @@ agree_all goal f [] h k d within = absurd (omega arith)
 agree_all goal f (r ∷ rs) h zero d within = h.0
 agree_all goal f (r ∷ rs) h (suc k) d within = agree_all goal f rs h.1 k d (omega arith)
 
-holds : (m : Machine) (o : Order) → m.order ≡ Some o → (ws : List Window) → Standing ws m → OrderHolds m o
+pub holds : (m : Machine) (o : Order) → m.order ≡ Some o → (ws : List Window) → Standing ws m → OrderHolds m o
 holds m o is ws st =
     let filed : AllFiled (Some o) m.system.processors = subst (λ (v : Option Order). AllFiled v m.system.processors) is st.filed in
     record {

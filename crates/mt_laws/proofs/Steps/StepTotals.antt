@@ -283,7 +283,7 @@ module _ (ws : List Window) (aligned : AllAligned ws) (k : ℕ) where
       all [] h = refl
       all (e ∷ es) h = both _ _ (no_release_step (is_step_of k e) (is_take_step e) (is_release e) (and_left _ _ h)) (all es (and_right (Calm k e) _ h))
 
-  total : (between : List MachineEvent) (s : System) (v : Option Order) → Standing ws (record { system = s; order = v }) → AreEnabled (record { system = s; order = v }) (Steps k Take ∷ (between ++ Steps k Release ∷ []))
+  pub total : (between : List MachineEvent) (s : System) (v : Option Order) → Standing ws (record { system = s; order = v }) → AreEnabled (record { system = s; order = v }) (Steps k Take ∷ (between ++ Steps k Release ∷ []))
       → list_all (Calm k) between ≡ true → IsCounted (record { system = s; order = v }) k between
   total between s None st enabled calm = absurd (let h = enabled.0 in cc)
   total between s (Some o) st enabled calm =

@@ -43,7 +43,7 @@ contains_first None rest a h = absurd (cc)
 contains_first (Some b) rest a h = let e : b ≡ a = cc in (0, omega arith, e)
 
 module _ (ws : List Window) (aligned : AllAligned ws) where
-  stays_in_memory : (es : List MachineEvent) (m : Machine) (a x : ℕ) → a % 8 ≡ 0 → Stands ws m.system → AreEnabled m es → (Contains (stored_words m es) a → ⊥) → Word false a x m.system → Word false a x (run m es).system
+  pub stays_in_memory : (es : List MachineEvent) (m : Machine) (a x : ℕ) → a % 8 ≡ 0 → Stands ws m.system → AreEnabled m es → (Contains (stored_words m es) a → ⊥) → Word false a x m.system → Word false a x (run m es).system
   stays_in_memory [] m a x whole st enabled other w = w
   stays_in_memory (e ∷ es) m a x whole st enabled other w =
       let r = word_next ws aligned m e enabled.0 st false a x whole (λ h is. other (contains_first (stored_word m e) (stored_words (next m e) es) a is)) w in

@@ -29,6 +29,7 @@ use Rattle.mt_script.specs.declared.fault.Offence.{Offence}
 use Rattle.mt_script.specs.declared.fault.Offence.TheVariants.{Script, Dump}
 use Rattle.mt_script.proofs.Keeping.{accepted_is, not_past_in_dump, start_is}
 use Rattle.mt_output.specs.Lines.{accepted_line, refused_line}
+use Rattle.mt_script.proofs.Good.{none_ends}
 use Rattle.mt_replay.specs.FirstFault.{first_fault}
 use Rattle.mt_replay.specs.Headline.{Beginning, ReplaysAreOfTheCourse, Step, StepsFollow, TranscriptIsOfTheCourse, TranscriptIsOneLine, beginning, begins_at_command, begins_at_line, begins_from, begins_in_dump, begins_shown, begins_unless, begins_with, course, ending, joined, last_of, left, steps_in, steps_of}
 use Rattle.mt_replay.specs.Kept.{IsReplayState}
@@ -37,7 +38,7 @@ use Rattle.mt_replay.specs.Running.{ReplaysAs}
 use Rattle.mt_replay.specs.Transcript.{Told, behind, told, told_at_end, told_command, told_dump_line, told_file, told_from, told_head_command, told_head_line, told_in, told_offence, told_shown, told_unless, transcript}
 use Rattle.mt_replay.proofs.Keeping.First.{first_kept}
 use Rattle.mt_replay.proofs.Keeping.States.{accepted_of, command_known, state_kept}
-use Rattle.mt_replay.proofs.Refusals.Dumps.{file_after, none_ends, past_dump}
+use Rattle.mt_replay.proofs.Refusals.Dumps.{file_after, past_dump}
 
 -- ---- chains
 

@@ -5,12 +5,11 @@ use Rattle.mt_text.specs.Text.{words_of}
 use Rattle.mt_text.specs.declared.place.Place.{Place}
 use Rattle.mt_regs.specs.RegisterFile.{RegisterFile, IsRegisterFile}
 use Rattle.mt_dump.specs.Line.{Reading, said_of}
-use Rattle.mt_dump.specs.Dump.{ShownBy, given, is_given, offence_at_end, offence_of, times}
+use Rattle.mt_dump.specs.Dump.{ShownBy, offence_at_end, offence_of}
 use Rattle.mt_dump.specs.Reader.{IsClean, file_in, onto}
 use Rattle.mt_dump.specs.declared.fault.DumpFault.{DumpFault}
 use Rattle.mt_dump.proofs.OneLine.{is_sane}
-use Rattle.mt_dump.proofs.Readings.{given-onto}
-use Rattle.mt_dump.proofs.Stands.{clean_shown, clean_stands, shown_once}
+use Rattle.mt_dump.proofs.Stands.{clean_shown, shown_once}
 use Rattle.mt_script.specs.Situation.{Situation}
 use Rattle.mt_script.specs.Kept.{IsSituation}
 use Rattle.mt_script.specs.Stages.{is_in_dump, is_past_dump, takes_commands}
@@ -27,22 +26,12 @@ use Rattle.mt_script.specs.declared.fault.ScriptFault.{ScriptFault}
 use Rattle.mt_script.specs.declared.fault.ScriptReason.TheVariants.{NoEnd}
 use Rattle.mt_script.specs.declared.fault.Offence.{Offence}
 use Rattle.mt_script.specs.declared.fault.Offence.TheVariants.{Script, Dump}
-use Rattle.mt_script.proofs.Good.{shown_end}
+use Rattle.mt_script.proofs.Good.{none_ends, shown_end}
 use Rattle.mt_script.proofs.Keeping.{accepted_is}
 use Rattle.mt_replay.specs.FirstFault.{first_fault}
 use Rattle.mt_replay.specs.Statuses.{ShowsAfter, ShowsAt, ShowsIn}
 use Rattle.mt_replay.specs.Transcript.{Body, Told, told_at_end, told_dump_line, told_file, told_from, told_head_command, told_head_line, told_offence, told_shown, told_unless}
 use Rattle.mt_replay.proofs.Keeping.States.{command_known}
-
--- where clean lines lead to no file they gave no register, and the dump may not end
-none_given : (before : List Reading) → IsClean before → file_in before ≡ None → is_given 0xfe (onto before []) ≡ false
-none_given before clean led =
-    let none : given before ≡ [] = rw led at (clean_stands before clean) in
-    let count : times 0xfe (given (onto before [])) ≡ 0 = ap (times 0xfe) (given-onto before [] ∙ ap (λ gs. onto gs []) none) in
-    rw count refl
-
-pub none_ends : (at : Place) (before : List Reading) → IsClean before → file_in before ≡ None → offence_at_end at (onto before []) ≡ None → ⊥
-none_ends at before clean led end = cc (rw (none_given before clean led) at end)
 
 -- No file is shown: what is told is the offence alone.
 pub record NoDump (Showing : RegisterFile → Type 0) (first : Option Offence) (telling : Body → Told) : Type 0 where

@@ -1,5 +1,5 @@
 -- What a text's transcript is, by what its dump shows and its first offence.
-use Rattle.std.proofs.Common.{◌≡◌, ◌≢◌, ◌⊎◌, ◌↔◌, ◌∙◌, ap, sym, refl, subst, inl, inr, ℕ, ◌+◌, Bool, true, false, List, [], ◌∷◌, ◌++◌, Option, None, Some, Result, Ok, Err}
+use Rattle.std.proofs.Common.{◌≡◌, ◌≢◌, ◌⊎◌, ◌↔◌, ◌∙◌, ap, sym, refl, subst, inl, inr, ℕ, ◌+◌, Bool, true, false, List, [], ◌∷◌, ◌++◌, Option, None, Some, Result, Ok, Err, ◌==◌}
 use Rattle.std.proofs.lemmas.List.{append_assoc}
 use Rattle.mt_text.specs.Text.{lines_of, end_of}
 use Rattle.mt_text.specs.declared.place.Place.{Place}
@@ -20,7 +20,7 @@ use Rattle.mt_output.specs.Lines.{accepted_line, offence_line, refused_line}
 use Rattle.mt_replay.specs.FirstFault.{first_fault}
 use Rattle.mt_replay.specs.Kept.{IsReplayState}
 use Rattle.mt_replay.specs.ReplayState.{ReplayState, command_text, first_state, state_after}
-use Rattle.mt_replay.specs.Statuses.{AcceptedFirst, AcceptedUnlessRefused, BadTextEndsWithOffence, BadTextWhereOffence, DoneWhereNoOffence, EndsWith, HasRefusedFile, OffenceAlone, OneFileShown, OneOfThreeStatuses, RefusedAlone, RefusedWhereFileIsRefused, ShowsDump}
+use Rattle.mt_replay.specs.Statuses.{AcceptedFirst, AcceptedUnlessRefused, BadTextEndsWithOffence, BadTextWhereOffence, DoneWhereNoOffence, EndsWith, HasRefusedFile, OffenceAlone, OneFileShown, OneOfThreeStatuses, RefusedAlone, RefusedWhereFileIsRefused, ShowsDump, ShowsNoDump}
 use Rattle.mt_replay.specs.Transcript.{Told, behind, told, told_at_end, told_command, told_file, told_from, told_in, told_offence, transcript}
 use Rattle.mt_replay.proofs.FirstFault.{first_fault_is_first, is_first_fault}
 use Rattle.mt_replay.proofs.Keeping.First.{first_kept}
@@ -292,3 +292,19 @@ offence_alone text none = by (outcome_of text)
     by (of_none h) = (h.offence, h.is_first, h.is)
     by (of_refused h) = absurd (none h.file h.shows)
     by (of_accepted h) = absurd (none h.file h.shows)
+
+-- ---- no dump
+
+-- a text begins as an offence's line does
+abbrev pub tells_bad : List ℕ → Bool
+tells_bad [] = false
+tells_bad (a ∷ rest) = a == 98
+
+-- a text that is told an offence at once shows no dump
+pub shows_none : (text : List ℕ) → tells_bad (transcript text).text ≡ true → ShowsNoDump text
+shows_none text bad = by (outcome_of text)
+  where
+    by : Outcome text → ShowsNoDump text
+    by (of_none h) = h.none
+    by (of_refused h) = absurd (let e : tells_bad (transcript text).text ≡ false = ap (λ (t : Told). tells_bad t.text) h.is in cc (e, bad))
+    by (of_accepted h) = absurd (let e : tells_bad (transcript text).text ≡ false = ap (λ (t : Told). tells_bad t.text) h.is in cc (e, bad))

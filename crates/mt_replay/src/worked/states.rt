@@ -1,12 +1,12 @@
 ghost use Rattle.std.specs.Prelude.{◌≡◌, ◌∷◌, [], codes, false, None, Some};
 ghost use Rattle.mt_machine.specs.Machine.{Calls, run};
 ghost use Rattle.mt_machine.specs.Start.{zero_memory};
-ghost use Rattle.mt_machine.specs.WorkedRuns.{bare_file, one_window, palette, store};
+ghost use Rattle.mt_machine.specs.WorkedRuns.{bare_file, idle, line_of, one_window, palette, store};
 ghost use Rattle.mt_script.specs.declared.command.Command.TheVariants as asks;
 ghost use Rattle.mt_script.specs.declared.command.Stage.TheVariants as stage;
-ghost use Rattle.mt_replay.specs.Kept.{EachIn, EachOfFile, EachUnless};
-ghost use Rattle.mt_replay.specs.Statuses.{AreHeld, AreWithoutCall, IsSettledAfter, stored_by, stored_by_all};
-ghost use Rattle.mt_replay.specs.WorkedStates.{after_end, at_end, busy, painted, painted_by, resting};
+ghost use Rattle.mt_replay.specs.Kept.{EachIn, EachOfFile, EachUnless, HoldsThrough, IsReplayState};
+ghost use Rattle.mt_replay.specs.Statuses.{AreHeld, AreWithoutCall, IsSettledAfter, ShowsDump, ShowsNoDump, stored_by, stored_by_all};
+ghost use Rattle.mt_replay.specs.WorkedStates.{after_end, at_end, busy, painted, painted_by, resting, small_dump, state_of, two_processors, with_first};
 
 /// Commands among which no call is accepted, and such as one is among or one doesn't fit.
 pub fn worked_without_call()
@@ -40,10 +40,35 @@ pub fn worked_words()
     ensures emptied_since { AreHeld (λ address. 0) (painted_by (store 0 0x3000 7 ∷ [])) (asks.Fence 0 ∷ []) → ⊥ }
 {}
 
-/// What isn't settled after a whole update.
+/// What isn't settled after a whole update, for one thing.
 pub fn worked_settled_states()
+    ensures only_called { IsSettledAfter (record at_end { now = two_processors stage.InBegin }) after_end → ⊥ }
+    ensures other_register { IsSettledAfter at_end (with_first (record idle { file = bare_file 0x806; era = 1 }) after_end) → ⊥ }
+    ensures older_line { IsSettledAfter at_end (with_first (record idle { lines = line_of 0x4000 0 ∷ []; era = 1 }) after_end) → ⊥ }
+    ensures older_processor { IsSettledAfter at_end (with_first idle after_end) → ⊥ }
     ensures other_era { IsSettledAfter at_end palette → ⊥ }
     ensures order_stays { IsSettledAfter at_end (record after_end { order = (run palette (Calls (bare_file 0x800) ∷ [])).order }) → ⊥ }
     ensures windows_lost { IsSettledAfter at_end (record after_end { system = record after_end.system { memory = zero_memory [] } }) → ⊥ }
     ensures word_lost { IsSettledAfter at_end (record after_end { system = record after_end.system { memory = zero_memory one_window } }) → ⊥ }
+{}
+
+/// What a script's dump shows, and what holds from its end on.
+pub fn worked_dumps()
+    ensures shows { ShowsDump small_dump (bare_file 0x806) }
+    ensures shows_no_other { ShowsDump small_dump (bare_file 0x800) → ⊥ }
+    ensures no_end { ShowsNoDump (codes "cpus 1\ndump\n0fe 400\n") }
+    ensures offence_before_the_end { ShowsNoDump (codes "cpus 1\ndump\n0fe 400\n0fe 400\nend\n") }
+    ensures no_capabilities { ShowsNoDump (codes "cpus 1\ndump\nend\n") }
+    ensures first_state { HoldsThrough (λ s. s.now.stage ≡ stage.Rams) small_dump }
+    ensures not_of_the_first_state { HoldsThrough (λ s. s.now.stage ≡ stage.Commands) small_dump → ⊥ }
+{}
+
+/// What isn't kept in a state, for one thing.
+pub fn worked_kept()
+    ensures in_the_dump { IsReplayState (state_of stage.InDump painted.machine) → ⊥ }
+    ensures no_such_number { IsReplayState (record painted { now = record painted.now { cpus = 3 } }) → ⊥ }
+    ensures other_width { IsReplayState (record painted { goal = record (bare_file 0x800) { width = 40 } }) → ⊥ }
+    ensures no_file { IsReplayState (record painted { goal = record (bare_file 0x800) { width = 53 } }) → ⊥ }
+    ensures other_windows { IsReplayState (record painted { now = record painted.now { windows = [] } }) → ⊥ }
+    ensures something_happened { IsReplayState (state_of stage.Rams (run palette (store 0 0x1000 7 ∷ []))) → ⊥ }
 {}

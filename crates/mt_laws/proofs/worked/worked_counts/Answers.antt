@@ -1,6 +1,9 @@
-use Rattle.std.proofs.Common.{◌≡◌, List, [], ◌∷◌, ◌++◌, length, refl, ap, arith}
+use Rattle.std.proofs.Common.{◌≡◌, List, [], ◌∷◌, ◌++◌, ◌+◌, ℕ, length, refl, ap, subst, arith, Option, None, Some, slice_get}
 use Rattle.mt_machine.specs.declared.event.Event.TheVariants.{Arrive, Pass, Take}
+use Rattle.mt_regs.specs.Registers.{writable}
+use Rattle.mt_machine.specs.System.{Processor}
 use Rattle.mt_machine.specs.Machine.{MachineEvent, Steps, run}
+use Rattle.mt_machine.specs.Update.{dirty_count}
 use Rattle.mt_machine.specs.WorkedRuns.{own}
 use Rattle.mt_laws.specs.WorkedRuns.{bare_called, way_on}
 use Rattle.std.specs.Prelude.{map}
@@ -23,6 +26,17 @@ unlike (e ∷ before) rest is = omega (arith, ap length is)
 
 pub returns-clause-no_pass : goal.returns-clause-no_pass
 returns-clause-no_pass c = λ h. unlike h.before h.rest h.passes
+
+abbrev needed : Option Processor → ℕ
+needed None = 0
+needed (Some p) = length (writable p.file) + dirty_count p.lines
+
+pub returns-clause-one_step_more : goal.returns-clause-one_step_more
+returns-clause-one_step_more c = λ h before.
+    let at : Some (own (run bare_called (Steps 0 Take ∷ Steps 0 Arrive ∷ Steps 0 Pass ∷ [])) 0) ≡ Some h.passed =
+    subst (λ (es : List MachineEvent). slice_get (run bare_called (Steps 0 Take ∷ (es ++ Steps 0 Pass ∷ []))).system.processors 0 ≡ Some h.passed) before h.at_pass in
+    let few : 2 ≡ length (writable h.passed.file) + dirty_count h.passed.lines = ap needed at in
+    omega (arith, h.count, few)
 
 pub returns-clause-one_missing : goal.returns-clause-one_missing
 returns-clause-one_missing c = λ h. omega (arith, h 1)

@@ -1,0 +1,36 @@
+ghost use Rattle.std.specs.Prelude.{◌∷◌, []};
+ghost use Rattle.mt_regs.specs.RegisterFile.{blank_file};
+ghost use Rattle.mt_regs.specs.Registers.{with_value};
+ghost use Rattle.mt_regs.specs.declared.registers.Register.TheVariants.{DefaultType};
+ghost use Rattle.mt_machine.specs.declared.go.Go.TheVariants.{Given};
+ghost use Rattle.mt_machine.specs.declared.phase.Phase.TheVariants.{Arrived, Restored, Taken};
+ghost use Rattle.mt_machine.specs.Start.{HasEraRoom, IsBroadcast, IsQuiet};
+ghost use Rattle.mt_machine.specs.WorkedRuns.{alone, bare, bare_file, begun, call_order, calling, idle, line_of, machine_of, ready, whole, with_first_word};
+
+/// What is quiet, and what is not for one thing.
+pub fn worked_quiet()
+    ensures quiet { IsQuiet (machine_of (idle ∷ idle ∷ [])) }
+    ensures unsound { IsQuiet (with_first_word 9 (alone whole)) → ⊥ }
+    ensures not_running { IsQuiet (machine_of (idle ∷ record idle { phase = Restored } ∷ [])) → ⊥ }
+    ensures two_eras { IsQuiet (machine_of (idle ∷ record idle { era = 1 } ∷ [])) → ⊥ }
+    ensures two_widths { IsQuiet (machine_of (idle ∷ record idle { file = with_value (blank_file 40 0x400) DefaultType 0x800 } ∷ [])) → ⊥ }
+    ensures two_capabilities { IsQuiet (machine_of (idle ∷ record idle { file = with_value (blank_file 36 0) DefaultType 0x800 } ∷ [])) → ⊥ }
+    ensures under_way { IsQuiet (begun (bare_file 0x806) bare) → ⊥ }
+    ensures room { HasEraRoom (machine_of (idle ∷ record idle { era = 0xfffffffffffffffe } ∷ [])) }
+    ensures no_room { HasEraRoom (machine_of (idle ∷ record idle { era = 0xffffffffffffffff } ∷ [])) → ⊥ }
+{}
+
+/// Where all have taken, and where not, or not all else stands, for one thing.
+pub fn worked_broadcast()
+    ensures broadcast { IsBroadcast (calling call_order (ready ∷ ready ∷ [])) call_order }
+    ensures unsound { IsBroadcast (with_first_word 9 (calling call_order (record whole { phase = Taken; buffers = [] } ∷ []))) call_order → ⊥ }
+    ensures other_order { IsBroadcast (calling call_order (ready ∷ [])) (record call_order { goal = bare_file 0x800 }) → ⊥ }
+    ensures no_order { IsBroadcast (alone ready) call_order → ⊥ }
+    ensures given { IsBroadcast (calling (record call_order { go = Given }) (ready ∷ [])) (record call_order { go = Given }) → ⊥ }
+    ensures arrived { IsBroadcast (calling call_order (ready ∷ record ready { phase = Arrived } ∷ [])) call_order → ⊥ }
+    ensures buffer { IsBroadcast (calling call_order (ready ∷ record ready { buffers = line_of 0x4000 0 ∷ [] } ∷ [])) call_order → ⊥ }
+    ensures two_eras { IsBroadcast (calling call_order (ready ∷ record ready { era = 1 } ∷ [])) call_order → ⊥ }
+    ensures no_file { IsBroadcast (calling (record call_order { goal = record (bare_file 0x806) { fixed = [] } }) (ready ∷ [])) (record call_order { goal = record (bare_file 0x806) { fixed = [] } }) → ⊥ }
+    ensures not_accepted { IsBroadcast (calling (record call_order { goal = bare_file 0x802 }) (ready ∷ [])) (record call_order { goal = bare_file 0x802 }) → ⊥ }
+    ensures other_width { IsBroadcast (calling (record call_order { goal = with_value (blank_file 40 0x400) DefaultType 0x806 }) (ready ∷ [])) (record call_order { goal = with_value (blank_file 40 0x400) DefaultType 0x806 }) → ⊥ }
+{}

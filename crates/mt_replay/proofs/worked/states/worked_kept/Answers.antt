@@ -1,0 +1,28 @@
+use Rattle.std.proofs.Common.{ℕ, List, [], ◌∷◌, arith, refl, ap}
+use Rattle.std.specs.Prelude.{length}
+use Rattle.mt_machine.specs.Machine.{Machine}
+use Rattle.mt_machine.specs.WorkedRuns.{bare_file, idle}
+use Rattle.mt_machine.specs.System.{Processor}
+use Rattle.mt_replay.proofs.worked.states.worked_kept.Goals as goal
+
+abbrev entries_of_first : List Processor → ℕ
+entries_of_first [] = 0
+entries_of_first (p ∷ ps) = length p.entries
+
+pub returns-clause-in_the_dump : goal.returns-clause-in_the_dump
+returns-clause-in_the_dump c = λ h. absurd (cc h.past)
+
+pub returns-clause-no_such_number : goal.returns-clause-no_such_number
+returns-clause-no_such_number c = λ h. omega (arith, h.count)
+
+pub returns-clause-other_width : goal.returns-clause-other_width
+returns-clause-other_width c = λ h. omega (arith, (h.goal 0 idle (omega arith)).width)
+
+pub returns-clause-no_file : goal.returns-clause-no_file
+returns-clause-no_file c = λ h. omega (arith, h.goal_file.narrow)
+
+pub returns-clause-other_windows : goal.returns-clause-other_windows
+returns-clause-other_windows c = λ h. omega (arith, ap length h.windows)
+
+pub returns-clause-something_happened : goal.returns-clause-something_happened
+returns-clause-something_happened c = λ h. let fresh = h.fresh (bare_file 0x800) refl refl in omega (arith, ap (λ (m : Machine). entries_of_first m.system.processors) fresh.1)
