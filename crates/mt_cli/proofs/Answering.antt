@@ -2,11 +2,11 @@
 use Rattle.std.proofs.Common.{◌≡◌, ℕ, List, Option, subst}
 use Rattle.mt_ports.specs.declared.status.Status.{Status}
 use Rattle.mt_regs.specs.RegisterFile.{RegisterFile}
-use Rattle.mt_cli.specs.declared.command.Command.{Command}
+use Rattle.mt_cli.specs.declared.command.DumpCommand.{DumpCommand}
 use Rattle.mt_cli.specs.Output.{Answer}
 use Rattle.mt_cli.specs.Written.{Answers, Writes, writes}
 
-pub answers_with : (file : RegisterFile) (command : Command) (text written : List ℕ) (status : Status) (old new : Option (List ℕ)) (result : Status)
+pub answers_with : (file : RegisterFile) (command : DumpCommand) (text written : List ℕ) (status : Status) (old new : Option (List ℕ)) (result : Status)
     → Answer file command text status → written ≡ text → Writes written status old new result → Answers file command old new result
 answers_with file command text written status old new result answer same wrote =
     writes text status answer (subst (λ (t : List ℕ). Writes t status old new result) same wrote)

@@ -11,10 +11,10 @@ use Rattle.mt_dump.specs.declared.fault.DumpFault.{DumpFault}
 use Rattle.mt_replay.specs.Running.{Replays}
 use Rattle.mt_replay.specs.Transcript.{transcript}
 use Rattle.mt_replay.proofs.Refusals.Outcomes.{one_of_three}
-use Rattle.mt_cli.specs.declared.command.Command.{Command}
-use Rattle.mt_cli.specs.declared.command.Command.TheVariants.{Replay}
+use Rattle.mt_cli.specs.declared.command.Command.TheVariants.{Dump, Replay}
+use Rattle.mt_cli.specs.declared.command.DumpCommand.{DumpCommand}
 use Rattle.mt_cli.specs.CommandLine.{command_of}
-use Rattle.mt_cli.specs.Output.{Answer, IsOfDump, Output, usage, bad_text, answered, replayed, refused, accepted, shown, typed, paged, tidied, too_few, disabled, grained, gran_too_few, gran_disabled}
+use Rattle.mt_cli.specs.Output.{Answer, Output, usage, bad_text, answered, replayed, refused, accepted, shown, typed, paged, tidied, too_few, disabled, grained, gran_too_few, gran_disabled}
 use Rattle.mt_cli.specs.Reading.{ConsumesTooMuch, EndsReading}
 use Rattle.mt_cli.specs.Tool.{Answered, CutShort, Finished, Leaves, Reads}
 use Rattle.mt_cli.specs.Written.{Answers, Writes, writes, no_memory}
@@ -35,7 +35,7 @@ read_to_end (Some xs) (Some ys) bytes text is takes end = let e : xs ≡ bytes =
 IsFinal : Status → Type 0
 IsFinal status = (status ≡ Done) ⊎ (status ≡ Refused) ⊎ (status ≡ BadText) ⊎ (status ≡ TooFew) ⊎ (status ≡ Disabled)
 
-final : (file : RegisterFile) (command : Command) (text : List ℕ) (status : Status) → Answer file command text status → IsFinal status
+final : (file : RegisterFile) (command : DumpCommand) (text : List ℕ) (status : Status) → Answer file command text status → IsFinal status
 unfolding IsFinal
 final file command text status (refused other fault tests first) = inr (inl refl)
 final file command text status (accepted good) = inl refl
@@ -70,8 +70,8 @@ finished_leaves words bytes left before after status (inr (inr (inr (inr is)))) 
 whole : (words : List (List ℕ)) (bytes text : List ℕ) (status : Status) (left : Option (List ℕ)) (before : List ℕ) (after : Option (List ℕ))
     → Output words bytes text status → (status ≢ Usage → left ≡ Some []) → after ≡ Some (before ++ text) → Leaves words bytes left before after status
 whole words bytes text status left before after (usage other) = λ read taken. record { text = _; output = usage other; taken = taken; read = read }
-whole words bytes text status left before after (bad_text command fault says of_dump is) = λ read taken.
-    record { text = _; output = bad_text command fault says of_dump is; taken = taken; read = read }
+whole words bytes text status left before after (bad_text command fault says is) = λ read taken.
+    record { text = _; output = bad_text command fault says is; taken = taken; read = read }
 whole words bytes text status left before after (answered command file t s says shows answer) = λ read taken.
     let fin : IsFinal s = final file command t s answer in
     finished_leaves words bytes left before after s fin
@@ -89,8 +89,8 @@ written_leaves words bytes text status result left before old new output read to
     rw is (record { text = text; status = status; output = output; front = cut.0; back = cut.1; cut = cut.2; taken = appended before cut.0 old new told cut.3 })
 
 -- a run that has written an answer, a front of one, or nothing
-pub answers_leave : (words : List (List ℕ)) (bytes : List ℕ) (file : RegisterFile) (command : Command) (result : Status) (left : Option (List ℕ)) (before : List ℕ) (old new : Option (List ℕ))
-    → command_of words ≡ Some command → Shown bytes file → left ≡ Some [] → old ≡ Some before → Answers file command old new result → Leaves words bytes left before new result
+pub answers_leave : (words : List (List ℕ)) (bytes : List ℕ) (file : RegisterFile) (command : DumpCommand) (result : Status) (left : Option (List ℕ)) (before : List ℕ) (old new : Option (List ℕ))
+    → command_of words ≡ Some (Dump command) → Shown bytes file → left ≡ Some [] → old ≡ Some before → Answers file command old new result → Leaves words bytes left before new result
 answers_leave words bytes file command result left before old new says shows read told (writes text status answer wrote) =
     written_leaves words bytes text status result left before old new (answered command file text status says shows answer) (λ _. read) told wrote
 answers_leave words bytes file command result left before old new says shows read told (no_memory is same) = rw is (inl (same ∙ told))
@@ -135,8 +135,8 @@ answered_reads words bytes left status (inr (inr (inr (inl is)))) told = rw is (
 answered_reads words bytes left status (inr (inr (inr (inr is)))) told = rw is (subst (λ (s : Status). Answered words bytes left s) is told)
 
 -- the status of an answer
-pub answers_read : (words : List (List ℕ)) (bytes : List ℕ) (file : RegisterFile) (command : Command) (result : Status) (left old new : Option (List ℕ))
-    → command_of words ≡ Some command → Shown bytes file → left ≡ Some [] → Answers file command old new result → Reads words bytes left result
+pub answers_read : (words : List (List ℕ)) (bytes : List ℕ) (file : RegisterFile) (command : DumpCommand) (result : Status) (left old new : Option (List ℕ))
+    → command_of words ≡ Some (Dump command) → Shown bytes file → left ≡ Some [] → Answers file command old new result → Reads words bytes left result
 answers_read words bytes file command result left old new says shows read (writes text status answer (inl (is, takes))) =
     rw is (answered_reads words bytes left status (final file command text status answer) (record { text = text; output = answered command file text status says shows answer; read = read }))
 answers_read words bytes file command result left old new says shows read (writes text status answer (inr (is, cut))) = rw is tt
@@ -167,11 +167,11 @@ never_replays bytes result old new told = by told
     by (inr (inr is, cut)) = but WriteFault is (λ e. cc e, λ e. cc e, λ e. cc e)
 
 -- the status of a dump that is no dump
-pub offence_reads : (words : List (List ℕ)) (bytes : List ℕ) (command : Command) (fault : DumpFault) (written : List ℕ) (result : Status) (left old new : Option (List ℕ))
-    → command_of words ≡ Some command → IsOfDump command → dump_offence bytes ≡ Some fault → left ≡ Some [] → Writes written BadText old new result → Reads words bytes left result
-offence_reads words bytes command fault written result left old new says of_dump is read (inl (done, takes)) =
-    rw done (record { text = _; output = bad_text command fault says of_dump is; read = read })
-offence_reads words bytes command fault written result left old new says of_dump is read (inr (failed, cut)) = rw failed tt
+pub offence_reads : (words : List (List ℕ)) (bytes : List ℕ) (command : DumpCommand) (fault : DumpFault) (written : List ℕ) (result : Status) (left old new : Option (List ℕ))
+    → command_of words ≡ Some (Dump command) → dump_offence bytes ≡ Some fault → left ≡ Some [] → Writes written BadText old new result → Reads words bytes left result
+offence_reads words bytes command fault written result left old new says is read (inl (done, takes)) =
+    rw done (record { text = _; output = bad_text command fault says is; read = read })
+offence_reads words bytes command fault written result left old new says is read (inr (failed, cut)) = rw failed tt
 
 -- wrong usage
 pub usage_reads : (words : List (List ℕ)) (bytes : List ℕ) (written : List ℕ) (result : Status) (left old new : Option (List ℕ)) → left ≡ Some bytes → Writes written Usage old new result → Reads words bytes left result

@@ -17,17 +17,18 @@ use Rattle.mt_tidy.specs.Keeps.{IsLeast}
 use Rattle.mt_tidy.specs.Kept.{IsTidy, NeedsMore}
 use Rattle.mt_gran.specs.Grained.{IsGrained, NeedsMore as GranNeedsMore}
 use Rattle.mt_gran.proofs.RoundedFit.{needs_is_least, one_least as one_rounded, used_is_least}
-use Rattle.mt_cli.specs.declared.command.Command.{Command}
-use Rattle.mt_cli.specs.declared.command.Command.TheVariants.{Check, Show, Types, Page, Tidy, Gran, Replay}
+use Rattle.mt_cli.specs.declared.command.Command.TheVariants.{Dump, Replay}
+use Rattle.mt_cli.specs.declared.command.DumpCommand.{DumpCommand}
+use Rattle.mt_cli.specs.declared.command.DumpCommand.TheVariants.{Check, Show, Types, Page, Tidy, Gran}
 use Rattle.mt_cli.specs.CommandLine.{command_of}
 use Rattle.mt_output.specs.Lines.{accepted_line, bad_text_line, refused_line}
 use Rattle.mt_cli.specs.Lines.{disabled_line, page_text, too_few_line, types_text, used_line}
-use Rattle.mt_cli.specs.Output.{Answer, IsOfDump, IsTesting, MayChoose, Output, refused, accepted, shown, typed, paged, tidied, too_few, disabled, grained, gran_too_few, gran_disabled, usage, bad_text, answered, replayed}
+use Rattle.mt_cli.specs.Output.{Answer, MayChoose, Output, refused, accepted, shown, typed, paged, tidied, too_few, disabled, grained, gran_too_few, gran_disabled, usage, bad_text, answered, replayed}
 
 -- the answer names the file's first fault
-record Refusal (file : RegisterFile) (command : Command) (text : List ℕ) (status : Status) : Type 0 where
+record Refusal (file : RegisterFile) (command : DumpCommand) (text : List ℕ) (status : Status) : Type 0 where
   pub fault : Fault
-  pub tests : IsTesting command
+  pub tests : command ≢ Show
   pub first : IsFirstFault file (Some fault)
   pub is_text : text ≡ refused_line fault
   pub is_status : status ≡ Refused
@@ -80,16 +81,15 @@ record Plain (premise : Type 0) (line text : List ℕ) (status : Status) : Type 
   pub is_status : status ≡ Done
 
 -- the other answers of each command
-abbrev Own : RegisterFile → Command → List ℕ → Status → Type 0
+abbrev Own : RegisterFile → DumpCommand → List ℕ → Status → Type 0
 Own file Check text status = Plain (IsAccepted file) accepted_line text status
 Own file Show text status = Plain (Unit {0}) (canon file) text status
 Own file Types text status = Mapped file text status
 Own file (Page address index) text status = Plain (IsAccepted file) (page_text file address index) text status
 Own file (Tidy spare chunk) text status = Tidied file spare chunk text status ⊎ Lacking file spare chunk text status ⊎ Off file text status
 Own file (Gran log spare chunk) text status = Grained file log spare chunk text status ⊎ GranLacking file log spare chunk text status ⊎ Off file text status
-Own file Replay text status = ⊥
 
-taken_apart : (file : RegisterFile) (command : Command) (text : List ℕ) (status : Status) → Answer file command text status → Refusal file command text status ⊎ Own file command text status
+taken_apart : (file : RegisterFile) (command : DumpCommand) (text : List ℕ) (status : Status) → Answer file command text status → Refusal file command text status ⊎ Own file command text status
 taken_apart file command text status (refused other fault tests first) = inl (record { fault = fault; tests = tests; first = first; is_text = refl; is_status = refl })
 taken_apart file command text status (accepted good) = inr (record { good = good; is_text = refl; is_status = refl })
 taken_apart file command text status shown = inr (record { good = tt; is_text = refl; is_status = refl })
@@ -103,12 +103,12 @@ taken_apart file command text status (gran_too_few log spare chunk needs has is)
 taken_apart file command text status (gran_disabled log spare chunk good off) = inr (inr (inr (record { good = good; off = off; is_text = refl; is_status = refl })))
 
 -- what both answers have in common: the status, and the text unless a tidied or rounded file was written
-abbrev Agree : Command → List ℕ → List ℕ → Status → Status → Type 0
+abbrev Agree : DumpCommand → List ℕ → List ℕ → Status → Status → Type 0
 Agree command text other s t = (s ≡ t) × ((MayChoose command → s ≢ Done) → text ≡ other)
 
-own_good : (file : RegisterFile) (command : Command) (text : List ℕ) (status : Status) → IsTesting command → Own file command text status → IsAccepted file
+own_good : (file : RegisterFile) (command : DumpCommand) (text : List ℕ) (status : Status) → command ≢ Show → Own file command text status → IsAccepted file
 own_good file Check text status tests own = own.good
-own_good file Show text status tests own = absurd tests
+own_good file Show text status tests own = absurd (tests refl)
 own_good file Types text status tests own = own.good
 own_good file (Page address index) text status tests own = own.good
 own_good file (Tidy spare chunk) text status tests (inl own) = own.tidy.old_accepted
@@ -117,7 +117,6 @@ own_good file (Tidy spare chunk) text status tests (inr (inr own)) = own.good
 own_good file (Gran log spare chunk) text status tests (inl own) = own.is.old_accepted
 own_good file (Gran log spare chunk) text status tests (inr (inl own)) = own.more.accepted
 own_good file (Gran log spare chunk) text status tests (inr (inr own)) = own.good
-own_good file Replay text status tests own = absurd own
 
 no_fault : (file : RegisterFile) (fault : Fault) → IsFirstFault file (Some fault) → IsAccepted file → ⊥
 no_fault file fault first good = let e : Some fault ≡ None = one_first_fault_lem file (Some fault) None first good in cc e
@@ -174,16 +173,15 @@ agree_gran file log spare chunk text other s t (inr (inr a)) (inl b) = absurd (c
 agree_gran file log spare chunk text other s t (inr (inr a)) (inr (inl b)) = absurd (cc (sym b.more.enabled ∙ a.off))
 agree_gran file log spare chunk text other s t (inr (inr a)) (inr (inr b)) = (a.is_status ∙ sym b.is_status, λ not_done. a.is_text ∙ sym b.is_text)
 
-agree_own : (file : RegisterFile) (command : Command) (text other : List ℕ) (s t : Status) → Own file command text s → Own file command other t → Agree command text other s t
+agree_own : (file : RegisterFile) (command : DumpCommand) (text other : List ℕ) (s t : Status) → Own file command text s → Own file command other t → Agree command text other s t
 agree_own file Check text other s t a b = (a.is_status ∙ sym b.is_status, λ not_done. a.is_text ∙ sym b.is_text)
 agree_own file Show text other s t a b = (a.is_status ∙ sym b.is_status, λ not_done. a.is_text ∙ sym b.is_text)
 agree_own file Types text other s t a b = (a.is_status ∙ sym b.is_status, λ not_done. a.is_text ∙ ap types_text (one_type_map file a.runs b.runs a.are b.are) ∙ sym b.is_text)
 agree_own file (Page address index) text other s t a b = (a.is_status ∙ sym b.is_status, λ not_done. a.is_text ∙ sym b.is_text)
 agree_own file (Tidy spare chunk) text other s t a b = agree_tidy file spare chunk text other s t a b
 agree_own file (Gran log spare chunk) text other s t a b = agree_gran file log spare chunk text other s t a b
-agree_own file Replay text other s t a b = absurd a
 
-agree_parts : (file : RegisterFile) (command : Command) (text other : List ℕ) (s t : Status)
+agree_parts : (file : RegisterFile) (command : DumpCommand) (text other : List ℕ) (s t : Status)
     → Refusal file command text s ⊎ Own file command text s → Refusal file command other t ⊎ Own file command other t → Agree command text other s t
 agree_parts file command text other s t (inl a) (inl b) =
     let same : Some a.fault ≡ Some b.fault = one_first_fault_lem file (Some a.fault) (Some b.fault) a.first b.first in
@@ -193,71 +191,49 @@ agree_parts file command text other s t (inl a) (inr b) = absurd (no_fault file 
 agree_parts file command text other s t (inr a) (inl b) = absurd (no_fault file b.fault b.first (own_good file command text s b.tests a))
 agree_parts file command text other s t (inr a) (inr b) = agree_own file command text other s t a b
 
-pub agree_answers : (file : RegisterFile) (command : Command) (text other : List ℕ) (s t : Status) → Answer file command text s → Answer file command other t → Agree command text other s t
+pub agree_answers : (file : RegisterFile) (command : DumpCommand) (text other : List ℕ) (s t : Status) → Answer file command text s → Answer file command other t → Agree command text other s t
 agree_answers file command text other s t a b = agree_parts file command text other s t (taken_apart file command text s a) (taken_apart file command other t b)
 
 -- one status, and one text unless a tidied or rounded file was written
 abbrev pub AgreeFor : List (List ℕ) → List ℕ → List ℕ → Status → Status → Type 0
-AgreeFor words text other s t = (s ≡ t) × (((command : Command) → command_of words ≡ Some command → MayChoose command → s ≢ Done) → text ≡ other)
+AgreeFor words text other s t = (s ≡ t) × (((command : DumpCommand) → command_of words ≡ Some (Dump command) → MayChoose command → s ≢ Done) → text ≡ other)
 
-some_command : (words : List (List ℕ)) (a b : Command) → command_of words ≡ Some a → command_of words ≡ Some b → a ≡ b
-some_command words a b first second = let e : Some a ≡ Some b = sym first ∙ second in cc e
+some_command : (words : List (List ℕ)) (a b : DumpCommand) → command_of words ≡ Some (Dump a) → command_of words ≡ Some (Dump b) → a ≡ b
+some_command words a b first second = let e : Some (Dump a) ≡ Some (Dump b) = sym first ∙ second in cc e
 
-agree_answered : (words : List (List ℕ)) (bytes text other : List ℕ) (s t : Status) (a b : Command) (f g : RegisterFile)
-    → command_of words ≡ Some a → command_of words ≡ Some b → Shown bytes f → Shown bytes g → Answer f a text s → Answer g b other t → AgreeFor words text other s t
+agree_answered : (words : List (List ℕ)) (bytes text other : List ℕ) (s t : Status) (a b : DumpCommand) (f g : RegisterFile)
+    → command_of words ≡ Some (Dump a) → command_of words ≡ Some (Dump b) → Shown bytes f → Shown bytes g → Answer f a text s → Answer g b other t → AgreeFor words text other s t
 agree_answered words bytes text other s t a b f g says also shows too left right =
     let command : b ≡ a = some_command words b a also says in
     let file : g ≡ f = one_file bytes g f too shows in
-    let same : Answer f a other t = subst (λ (c : Command). Answer f c other t) command (subst (λ (h : RegisterFile). Answer h b other t) file right) in
+    let same : Answer f a other t = subst (λ (c : DumpCommand). Answer f c other t) command (subst (λ (h : RegisterFile). Answer h b other t) file right) in
     let agree = agree_answers f a text other s t left same in
     (agree.0, λ not_done. agree.1 (λ chooses. not_done a says chooses))
 
-testing_of_dump : (command : Command) → IsTesting command → IsOfDump command
-testing_of_dump Check tests = tt
-testing_of_dump Show tests = tt
-testing_of_dump Types tests = tt
-testing_of_dump (Page address index) tests = tt
-testing_of_dump (Tidy spare chunk) tests = tt
-testing_of_dump (Gran log spare chunk) tests = tt
-testing_of_dump Replay tests = absurd tests
-
-answer_of_dump : (file : RegisterFile) (command : Command) (text : List ℕ) (status : Status) → Answer file command text status → IsOfDump command
-answer_of_dump file command text status (refused other fault tests first) = testing_of_dump command tests
-answer_of_dump file command text status (accepted good) = tt
-answer_of_dump file command text status shown = tt
-answer_of_dump file command text status (typed runs good are) = tt
-answer_of_dump file command text status (paged address index good) = tt
-answer_of_dump file command text status (tidied spare chunk used new is) = tt
-answer_of_dump file command text status (too_few spare chunk needs has is) = tt
-answer_of_dump file command text status (disabled spare chunk good off) = tt
-answer_of_dump file command text status (grained log spare chunk used lost parts new is) = tt
-answer_of_dump file command text status (gran_too_few log spare chunk needs has is) = tt
-answer_of_dump file command text status (gran_disabled log spare chunk good off) = tt
-
 -- words of `replay` are those of no other command
-no_replay : (words : List (List ℕ)) (command : Command) → command_of words ≡ Some command → IsOfDump command → command_of words ≡ Some Replay → ⊥
-no_replay words command says of_dump is = subst IsOfDump (some_command words command Replay says is) of_dump
+no_replay : (words : List (List ℕ)) (command : DumpCommand) → command_of words ≡ Some (Dump command) → command_of words ≡ Some Replay → ⊥
+no_replay words command says is = let e : Some (Dump command) ≡ Some Replay = sym says ∙ is in cc e
 
 pub one_output : (words : List (List ℕ)) (bytes text other : List ℕ) (s t : Status) → Output words bytes text s → Output words bytes other t → AgreeFor words text other s t
 one_output words bytes text other s t (usage none_is) (usage also) = (refl, λ not_done. refl)
-one_output words bytes text other s t (usage none_is) (bad_text command fault says of_dump is) = absurd (cc (none_is, says))
+one_output words bytes text other s t (usage none_is) (bad_text command fault says is) = absurd (cc (none_is, says))
 one_output words bytes text other s t (usage none_is) (answered command file u v says shows answer) = absurd (cc (none_is, says))
 one_output words bytes text other s t (usage none_is) (replayed says) = absurd (cc (none_is, says))
-one_output words bytes text other s t (bad_text command fault says of_dump is) (usage none_is) = absurd (cc (none_is, says))
-one_output words bytes text other s t (bad_text command fault says of_dump is) (bad_text again offence also of_dump_too too) =
+one_output words bytes text other s t (bad_text command fault says is) (usage none_is) = absurd (cc (none_is, says))
+one_output words bytes text other s t (bad_text command fault says is) (bad_text again offence also too) =
     let e : Some fault ≡ Some offence = sym is ∙ too in
     let same : fault ≡ offence = cc e in
     (refl, λ not_done. ap bad_text_line same)
-one_output words bytes text other s t (bad_text command fault says of_dump is) (answered again file u v also shows answer) =
+one_output words bytes text other s t (bad_text command fault says is) (answered again file u v also shows answer) =
     let e : Some fault ≡ None = sym is ∙ shown_no_offence bytes file shows in absurd (cc e)
-one_output words bytes text other s t (bad_text command fault says of_dump is) (replayed also) = absurd (no_replay words command says of_dump also)
+one_output words bytes text other s t (bad_text command fault says is) (replayed also) = absurd (no_replay words command says also)
 one_output words bytes text other s t (answered command file u v says shows answer) (usage none_is) = absurd (cc (none_is, says))
-one_output words bytes text other s t (answered command file u v says shows answer) (bad_text again fault also of_dump is) =
+one_output words bytes text other s t (answered command file u v says shows answer) (bad_text again fault also is) =
     let e : Some fault ≡ None = sym is ∙ shown_no_offence bytes file shows in absurd (cc e)
 one_output words bytes text other s t (answered command file u v says shows answer) (answered again other_file w x also too reply) =
     agree_answered words bytes u w v x command again file other_file says also shows too answer reply
-one_output words bytes text other s t (answered command file u v says shows answer) (replayed also) = absurd (no_replay words command says (answer_of_dump file command u v answer) also)
+one_output words bytes text other s t (answered command file u v says shows answer) (replayed also) = absurd (no_replay words command says also)
 one_output words bytes text other s t (replayed says) (usage none_is) = absurd (cc (none_is, says))
-one_output words bytes text other s t (replayed says) (bad_text again fault also of_dump is) = absurd (no_replay words again also of_dump says)
-one_output words bytes text other s t (replayed says) (answered again file u v also shows answer) = absurd (no_replay words again also (answer_of_dump file again u v answer) says)
+one_output words bytes text other s t (replayed says) (bad_text again fault also is) = absurd (no_replay words again also says)
+one_output words bytes text other s t (replayed says) (answered again file u v also shows answer) = absurd (no_replay words again also says)
 one_output words bytes text other s t (replayed says) (replayed also) = (refl, λ not_done. refl)

@@ -1,17 +1,27 @@
--- A page's address that a command line names has 52 bits, and its index is one of eight. All commands but `replay` are of one dump.
-use Rattle.std.proofs.Common.{◌≡◌, ◌≢◌, ◌⊎◌, inl, inr, ℕ, zero, suc, ◌+◌, ◌-◌, ◌^◌, ◌<◌, ◌≤◌, ◌==◌, Bool, true, false, List, [], ◌∷◌, Option, Some, None, refl, arith}
+-- A page's address that a command line names has 52 bits, and its index is one of eight.
+use Rattle.std.proofs.Common.{◌≡◌, ℕ, zero, suc, ◌+◌, ◌-◌, ◌^◌, ◌<◌, ◌≤◌, ◌==◌, Bool, true, false, List, [], ◌∷◌, Option, Some, None, refl, arith}
 use Rattle.std.specs.Prelude.{◌&&◌, nat_le, nat_lt, codes, if◌then◌else◌, IfSome, Result, Ok, Err}
 use Rattle.std.proofs.lemmas.Bool.{and_parts, ltb-true}
 use Rattle.mt_text.specs.Number.{hex_number}
 use Rattle.mt_text.specs.declared.fault.NumberFault.{NumberFault}
 use Rattle.mt_cli.specs.declared.command.Command.{Command}
-use Rattle.mt_cli.specs.declared.command.Command.TheVariants.{Check, Show, Types, Page, Tidy, Gran, Replay}
+use Rattle.mt_cli.specs.declared.command.Command.TheVariants.{Dump, Replay}
+use Rattle.mt_cli.specs.declared.command.DumpCommand.{DumpCommand}
+use Rattle.mt_cli.specs.declared.command.DumpCommand.TheVariants.{Check, Show, Types, Page, Tidy, Gran}
 use Rattle.mt_cli.specs.declared.command.TidyOption.{TidyOption}
 use Rattle.mt_cli.specs.declared.command.TidyOption.TheVariants.{Spare, Chunk}
-use Rattle.mt_cli.specs.Output.{IsOfDump}
-use Rattle.mt_cli.specs.CommandLine.{IsSound, command_of, command_of_one, command_of_three, gran_as, gran_with, index_of, is_text, log_among, log_of, option_of, page_at, tidy_with, tidy_with_both, usual_chunk, usual_spare}
+use Rattle.mt_cli.specs.CommandLine.{IsSound, command_of, command_of_one, command_of_three, gran_as, gran_with, index_of, is_text, log_among, log_of, of_dump, option_of, page_at, tidy_with, tidy_with_both, usual_chunk, usual_spare}
 
-choice : (b : Bool) (x y : Option Command) → IfSome x IsSound → IfSome y IsSound → IfSome (if b then x else y) IsSound
+-- a command on a dump is sound
+abbrev IsSoundCommand : Command → Type 0
+IsSoundCommand (Dump command) = IsSound command
+IsSoundCommand Replay = Unit {0}
+
+on_dump : (command : Option DumpCommand) → IfSome command IsSound → IfSome (of_dump command) IsSoundCommand
+on_dump None sound = tt
+on_dump (Some command) sound = sound
+
+choice : (b : Bool) (x y : Option Command) → IfSome x IsSoundCommand → IfSome y IsSoundCommand → IfSome (if b then x else y) IsSoundCommand
 choice true x y first second = first
 choice false x y first second = second
 
@@ -62,7 +72,7 @@ log_below size log (suc more) g is = by_test (size == 2 ^ (12 + log)) is (λ lat
     by_test true found later = let same : log ≡ g = cc found in omega arith
     by_test false found later = later found
 
-sound_as : (log : Option ℕ) (command : Option Command) → ((g : ℕ) → log ≡ Some g → g ≤ 28) → IfSome (gran_as log command) IsSound
+sound_as : (log : Option ℕ) (command : Option DumpCommand) → ((g : ℕ) → log ≡ Some g → g ≤ 28) → IfSome (gran_as log command) IsSound
 sound_as None command small = tt
 sound_as (Some log) None small = tt
 sound_as (Some log) (Some Check) small = tt
@@ -71,51 +81,33 @@ sound_as (Some log) (Some Types) small = tt
 sound_as (Some log) (Some (Page address index)) small = tt
 sound_as (Some log) (Some (Tidy spare chunk)) small = small log refl
 sound_as (Some log) (Some (Gran other spare chunk)) small = tt
-sound_as (Some log) (Some Replay) small = tt
 
 small_log : (size : Result ℕ NumberFault) (g : ℕ) → log_of size ≡ Some g → g ≤ 28
 small_log (Ok size) g is = let h = log_below size 0 29 g is in omega (arith, h)
 small_log (Err fault) g is = absurd (cc is)
 
-sound_gran : (size : List ℕ) (command : Option Command) → IfSome (gran_with size command) IsSound
+sound_gran : (size : List ℕ) (command : Option DumpCommand) → IfSome (gran_with size command) IsSound
 sound_gran size command = sound_as (log_of (hex_number size)) command (small_log (hex_number size))
 
-sound_one : (name : List ℕ) → IfSome (command_of_one name) IsSound
+sound_one : (name : List ℕ) → IfSome (command_of_one name) IsSoundCommand
 sound_one name =
     choice (is_text name (codes "check")) _ _ tt
-    (choice (is_text name (codes "show")) _ _ tt (choice (is_text name (codes "types")) _ _ tt (choice (is_text name (codes "tidy")) (Some (Tidy usual_spare usual_chunk)) _ tt (choice (is_text name (codes "replay")) (Some Replay) None tt tt))))
+    (choice (is_text name (codes "show")) _ _ tt (choice (is_text name (codes "types")) _ _ tt (choice (is_text name (codes "tidy")) (Some (Dump (Tidy usual_spare usual_chunk))) _ tt (choice (is_text name (codes "replay")) (Some Replay) None tt tt))))
 
-sound_three : (name first second : List ℕ) → IfSome (command_of_three name first second) IsSound
+sound_three : (name first second : List ℕ) → IfSome (command_of_three name first second) IsSoundCommand
 sound_three name first second =
-    choice (is_text name (codes "page")) _ _ (sound_page (hex_number first) (index_of second) (index_below second))
-    (choice (is_text name (codes "tidy")) _ _ (sound_with_both (option_of first) (option_of second))
-    (choice (is_text name (codes "gran")) _ None (sound_gran first (tidy_with (option_of second))) tt))
+    choice (is_text name (codes "page")) _ _ (on_dump _ (sound_page (hex_number first) (index_of second) (index_below second)))
+    (choice (is_text name (codes "tidy")) _ _ (on_dump _ (sound_with_both (option_of first) (option_of second)))
+    (choice (is_text name (codes "gran")) _ None (on_dump _ (sound_gran first (tidy_with (option_of second)))) tt))
 
-sound : (words : List (List ℕ)) → IfSome (command_of words) IsSound
+sound : (words : List (List ℕ)) → IfSome (command_of words) IsSoundCommand
 sound [] = tt
 sound (name ∷ []) = sound_one name
 sound (name ∷ option ∷ []) =
-    choice (is_text name (codes "tidy")) _ _ (sound_with (option_of option)) (choice (is_text name (codes "gran")) _ None (sound_gran option (Some (Tidy usual_spare usual_chunk))) tt)
+    choice (is_text name (codes "tidy")) _ _ (on_dump _ (sound_with (option_of option))) (choice (is_text name (codes "gran")) _ None (on_dump _ (sound_gran option (Some (Tidy usual_spare usual_chunk)))) tt)
 sound (name ∷ first ∷ second ∷ []) = sound_three name first second
-sound (name ∷ first ∷ second ∷ third ∷ []) = choice (is_text name (codes "gran")) _ None (sound_gran first (tidy_with_both (option_of second) (option_of third))) tt
+sound (name ∷ first ∷ second ∷ third ∷ []) = choice (is_text name (codes "gran")) _ None (on_dump _ (sound_gran first (tidy_with_both (option_of second) (option_of third)))) tt
 sound (name ∷ first ∷ second ∷ third ∷ fourth ∷ more) = tt
 
-pub sound_command : (words : List (List ℕ)) (command : Command) → command_of words ≡ Some command → IsSound command
+pub sound_command : (words : List (List ℕ)) (command : DumpCommand) → command_of words ≡ Some (Dump command) → IsSound command
 sound_command words command is = let h = sound words in rw is at h
-
--- ---- commands of one dump
-
-pub of_dump_or_replay : (command : Command) → IsOfDump command ⊎ (command ≡ Replay)
-of_dump_or_replay Check = inl tt
-of_dump_or_replay Show = inl tt
-of_dump_or_replay Types = inl tt
-of_dump_or_replay (Page address index) = inl tt
-of_dump_or_replay (Tidy spare chunk) = inl tt
-of_dump_or_replay (Gran log spare chunk) = inl tt
-of_dump_or_replay Replay = inr refl
-
-pub of_dump_unless : (command : Command) → command ≢ Replay → IsOfDump command
-of_dump_unless command other = elim (of_dump_or_replay command) [
-  | inl of_dump ↦ of_dump
-  | inr is ↦ absurd (other is)
-]

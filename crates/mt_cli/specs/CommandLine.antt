@@ -5,7 +5,9 @@ use Rattle.std.specs.Cmp.Lexicographic.{pointwise}
 use Rattle.mt_text.specs.Number.{hex_number, decimal_number}
 use Rattle.mt_text.specs.declared.fault.NumberFault.{NumberFault}
 use Rattle.mt_cli.specs.declared.command.Command.{Command}
-use Rattle.mt_cli.specs.declared.command.Command.TheVariants.{Check, Show, Types, Page, Tidy, Gran, Replay}
+use Rattle.mt_cli.specs.declared.command.Command.TheVariants.{Dump, Replay}
+use Rattle.mt_cli.specs.declared.command.DumpCommand.{DumpCommand}
+use Rattle.mt_cli.specs.declared.command.DumpCommand.TheVariants.{Check, Show, Types, Page, Tidy, Gran}
 use Rattle.mt_cli.specs.declared.command.TidyOption.{TidyOption}
 use Rattle.mt_cli.specs.declared.command.TidyOption.TheVariants.{Spare, Chunk}
 
@@ -19,12 +21,16 @@ usual_spare = 1
 abbrev pub usual_chunk : ℕ
 usual_chunk = 0x10000000
 
+abbrev pub of_dump : Option DumpCommand → Option Command
+of_dump (Some command) = Some (Dump command)
+of_dump None = None
+
 abbrev pub command_of_one : List ℕ → Option Command
 command_of_one name =
-    if is_text name (codes "check") then Some Check
-    else if is_text name (codes "show") then Some Show
-    else if is_text name (codes "types") then Some Types
-    else if is_text name (codes "tidy") then Some (Tidy usual_spare usual_chunk)
+    if is_text name (codes "check") then Some (Dump Check)
+    else if is_text name (codes "show") then Some (Dump Show)
+    else if is_text name (codes "types") then Some (Dump Types)
+    else if is_text name (codes "tidy") then Some (Dump (Tidy usual_spare usual_chunk))
     else if is_text name (codes "replay") then Some Replay
     else None
 
@@ -52,13 +58,13 @@ spare_behind None word = chunk_behind (behind (codes "chunk=") word)
 abbrev pub option_of : List ℕ → Option TidyOption
 option_of word = spare_behind (behind (codes "spare=") word) word
 
-abbrev pub tidy_with : Option TidyOption → Option Command
+abbrev pub tidy_with : Option TidyOption → Option DumpCommand
 tidy_with (Some (Spare spare)) = Some (Tidy spare usual_chunk)
 tidy_with (Some (Chunk chunk)) = Some (Tidy usual_spare chunk)
 tidy_with None = None
 
 -- each option stands at most once
-abbrev pub tidy_with_both : Option TidyOption → Option TidyOption → Option Command
+abbrev pub tidy_with_both : Option TidyOption → Option TidyOption → Option DumpCommand
 tidy_with_both (Some (Spare spare)) (Some (Chunk chunk)) = Some (Tidy spare chunk)
 tidy_with_both (Some (Chunk chunk)) (Some (Spare spare)) = Some (Tidy spare chunk)
 tidy_with_both (Some (Spare spare)) (Some (Spare other)) = None
@@ -77,17 +83,17 @@ log_of (Ok size) = log_among size 0 29
 log_of (Err fault) = None
 
 -- `gran` has a size before the options of `tidy`
-abbrev pub gran_as : Option ℕ → Option Command → Option Command
+abbrev pub gran_as : Option ℕ → Option DumpCommand → Option DumpCommand
 gran_as (Some log) (Some (Tidy spare chunk)) = Some (Gran log spare chunk)
 gran_as log command = None
 
-abbrev pub gran_with : List ℕ → Option Command → Option Command
+abbrev pub gran_with : List ℕ → Option DumpCommand → Option DumpCommand
 gran_with size command = gran_as (log_of (hex_number size)) command
 
 abbrev pub command_of_two : List ℕ → List ℕ → Option Command
 command_of_two name option =
-    if is_text name (codes "tidy") then tidy_with (option_of option)
-    else if is_text name (codes "gran") then gran_with option (Some (Tidy usual_spare usual_chunk))
+    if is_text name (codes "tidy") then of_dump (tidy_with (option_of option))
+    else if is_text name (codes "gran") then of_dump (gran_with option (Some (Tidy usual_spare usual_chunk)))
     else None
 
 -- one decimal digit from 0 to 7
@@ -97,20 +103,20 @@ index_of (digit ∷ []) = if nat_le 48 digit && nat_lt digit 56 then Some (digit
 index_of (digit ∷ more ∷ word) = None
 
 -- a hexadecimal address below 2 ^ 52 and an index
-abbrev pub page_at : Result ℕ NumberFault → Option ℕ → Option Command
+abbrev pub page_at : Result ℕ NumberFault → Option ℕ → Option DumpCommand
 page_at (Ok address) (Some index) = if nat_lt address (2 ^ 52) then Some (Page address index) else None
 page_at (Ok address) None = None
 page_at (Err fault) index = None
 
 abbrev pub command_of_three : List ℕ → List ℕ → List ℕ → Option Command
 command_of_three name first second =
-    if is_text name (codes "page") then page_at (hex_number first) (index_of second)
-    else if is_text name (codes "tidy") then tidy_with_both (option_of first) (option_of second)
-    else if is_text name (codes "gran") then gran_with first (tidy_with (option_of second))
+    if is_text name (codes "page") then of_dump (page_at (hex_number first) (index_of second))
+    else if is_text name (codes "tidy") then of_dump (tidy_with_both (option_of first) (option_of second))
+    else if is_text name (codes "gran") then of_dump (gran_with first (tidy_with (option_of second)))
     else None
 
 abbrev pub command_of_four : List ℕ → List ℕ → List ℕ → List ℕ → Option Command
-command_of_four name first second third = if is_text name (codes "gran") then gran_with first (tidy_with_both (option_of second) (option_of third)) else None
+command_of_four name first second third = if is_text name (codes "gran") then of_dump (gran_with first (tidy_with_both (option_of second) (option_of third))) else None
 
 abbrev pub command_of : List (List ℕ) → Option Command
 command_of [] = None
@@ -121,11 +127,10 @@ command_of (name ∷ first ∷ second ∷ third ∷ []) = command_of_four name f
 command_of (name ∷ first ∷ second ∷ third ∷ fourth ∷ more) = None
 
 -- a page's address has 52 bits, an index is one of eight, and a granule has at most 2 ^ 28 pages
-abbrev pub IsSound : Command → Type 0
+abbrev pub IsSound : DumpCommand → Type 0
 IsSound Check = ⊤
 IsSound Show = ⊤
 IsSound Types = ⊤
 IsSound (Page address index) = (address < 2 ^ 52) × (index < 8)
 IsSound (Tidy spare chunk) = ⊤
 IsSound (Gran log spare chunk) = log ≤ 28
-IsSound Replay = ⊤

@@ -1,7 +1,7 @@
 -- What the program writes for a command line and an input, and the status that it ends with (own).
 --     Answer command file text status      what a command answers about a register file
 --     Output words bytes text status      what the program writes for these words and these bytes
-use Rattle.std.specs.Prelude.{ℕ, ◌≡◌, ◌++◌, false, List, Some, None, ⊤}
+use Rattle.std.specs.Prelude.{ℕ, ◌≡◌, ◌≢◌, ◌++◌, false, List, Some, None, ⊤}
 use Rattle.mt_ports.specs.declared.status.Status.{Status}
 use Rattle.mt_ports.specs.declared.status.Status.TheVariants.{Done, Refused, Usage, BadText, TooFew, Disabled}
 use Rattle.mt_regs.specs.RegisterFile.{RegisterFile, is_enabled}
@@ -15,46 +15,26 @@ use Rattle.mt_dump.specs.declared.fault.DumpFault.{DumpFault}
 use Rattle.mt_replay.specs.Transcript.{transcript}
 use Rattle.mt_tidy.specs.Kept.{IsTidy, NeedsMore}
 use Rattle.mt_gran.specs.Grained.{IsGrained, NeedsMore as GranNeedsMore}
-use Rattle.mt_cli.specs.declared.command.Command.{Command}
-use Rattle.mt_cli.specs.declared.command.Command.TheVariants.{Check, Show, Types, Page, Tidy, Gran, Replay}
+use Rattle.mt_cli.specs.declared.command.Command.TheVariants.{Dump, Replay}
+use Rattle.mt_cli.specs.declared.command.DumpCommand.{DumpCommand}
+use Rattle.mt_cli.specs.declared.command.DumpCommand.TheVariants.{Check, Show, Types, Page, Tidy, Gran}
 use Rattle.mt_cli.specs.CommandLine.{command_of}
 use Rattle.mt_output.specs.Lines.{accepted_line, bad_text_line, refused_line}
 use Rattle.mt_cli.specs.Lines.{disabled_line, lost_line, page_text, parts_text, too_few_line, types_text, usage_line, used_line}
 
--- the commands whose input is one dump
-abbrev pub IsOfDump : Command → Type 0
-IsOfDump Check = ⊤
-IsOfDump Show = ⊤
-IsOfDump Types = ⊤
-IsOfDump (Page address index) = ⊤
-IsOfDump (Tidy spare chunk) = ⊤
-IsOfDump (Gran log spare chunk) = ⊤
-IsOfDump Replay = ⊥
-
--- the commands of one dump that refuse a file that isn't accepted: all but `show`
-abbrev pub IsTesting : Command → Type 0
-IsTesting Check = ⊤
-IsTesting Show = ⊥
-IsTesting Types = ⊤
-IsTesting (Page address index) = ⊤
-IsTesting (Tidy spare chunk) = ⊤
-IsTesting (Gran log spare chunk) = ⊤
-IsTesting Replay = ⊥
-
 -- the commands that may answer with any of several least lists of ranges
-abbrev pub MayChoose : Command → Type 0
+abbrev pub MayChoose : DumpCommand → Type 0
 MayChoose Check = ⊥
 MayChoose Show = ⊥
 MayChoose Types = ⊥
 MayChoose (Page address index) = ⊥
 MayChoose (Tidy spare chunk) = ⊤
 MayChoose (Gran log spare chunk) = ⊤
-MayChoose Replay = ⊥
 
--- What a command of one dump answers about the file that the dump shows; `replay` has no answer of this kind. Where several lists of ranges have the least length,
+-- What a command on a dump answers about the file that the dump shows: each but `show` refuses a file that isn't accepted. Where several lists of ranges have the least length,
 -- `tidy` and `gran` may answer with any of them; every other answer is one text.
-pub data Answer (file : RegisterFile) : Command → List ℕ → Status → Type 0 where
-  refused : (command : Command) (fault : Fault) → IsTesting command → IsFirstFault file (Some fault) → Answer file command (refused_line fault) Refused
+pub data Answer (file : RegisterFile) : DumpCommand → List ℕ → Status → Type 0 where
+  refused : (command : DumpCommand) (fault : Fault) → command ≢ Show → IsFirstFault file (Some fault) → Answer file command (refused_line fault) Refused
   accepted : IsAccepted file → Answer file Check accepted_line Done
   shown : Answer file Show (canon file) Done
   typed : (runs : List Run) → IsAccepted file → IsRunsOf file runs → Answer file Types (types_text runs) Done
@@ -70,6 +50,6 @@ pub data Answer (file : RegisterFile) : Command → List ℕ → Status → Type
 -- The text and the status for a command line and an input.
 pub data Output (words : List (List ℕ)) (bytes : List ℕ) : List ℕ → Status → Type 0 where
   usage : command_of words ≡ None → Output words bytes usage_line Usage
-  bad_text : (command : Command) (fault : DumpFault) → command_of words ≡ Some command → IsOfDump command → dump_offence bytes ≡ Some fault → Output words bytes (bad_text_line fault) BadText
-  answered : (command : Command) (file : RegisterFile) (text : List ℕ) (status : Status) → command_of words ≡ Some command → Shown bytes file → Answer file command text status → Output words bytes text status
+  bad_text : (command : DumpCommand) (fault : DumpFault) → command_of words ≡ Some (Dump command) → dump_offence bytes ≡ Some fault → Output words bytes (bad_text_line fault) BadText
+  answered : (command : DumpCommand) (file : RegisterFile) (text : List ℕ) (status : Status) → command_of words ≡ Some (Dump command) → Shown bytes file → Answer file command text status → Output words bytes text status
   replayed : command_of words ≡ Some Replay → Output words bytes (transcript bytes).text (transcript bytes).status

@@ -5,7 +5,7 @@ use Rattle.mt_ports.specs.Puts.{AppendsFront}
 use Rattle.mt_ports.specs.declared.status.Status.{Status}
 use Rattle.mt_ports.specs.declared.status.Status.TheVariants.{WriteFault, NoMemory}
 use Rattle.mt_regs.specs.RegisterFile.{RegisterFile}
-use Rattle.mt_cli.specs.declared.command.Command.{Command}
+use Rattle.mt_cli.specs.declared.command.DumpCommand.{DumpCommand}
 use Rattle.mt_cli.specs.Output.{Answer}
 
 -- The sink took the text and the status is answered, or it took a front of it and failed.
@@ -14,6 +14,6 @@ Writes text status old new result =
     ((result ≡ status) × Appends old new text) ⊎ ((result ≡ WriteFault) × AppendsFront old new text)
 
 -- The sink took an answer, or a front of one, or nothing for want of memory.
-pub data Answers (file : RegisterFile) (command : Command) (old new : Option (List ℕ)) (result : Status) : Type 0 where
+pub data Answers (file : RegisterFile) (command : DumpCommand) (old new : Option (List ℕ)) (result : Status) : Type 0 where
   writes : (text : List ℕ) (status : Status) → Answer file command text status → Writes text status old new result → Answers file command old new result
   no_memory : result ≡ NoMemory → new ≡ old → Answers file command old new result

@@ -1,12 +1,11 @@
 ghost use Rattle.std.specs.Prelude.{◌≡◌, ◌≢◌, ◌<◌, ◌≤◌, ◌^◌, None, Some};
 ghost use Rattle.mt_ports.specs.Causes.{StatusHasCause};
 ghost use Rattle.mt_regs.specs.Faults.{IsAccepted, IsFirstFault};
-ghost use Rattle.mt_cli.specs.declared.command.Command.TheVariants.{Check, Show, Types, Page, Tidy, Gran};
-ghost use Rattle.mt_cli.specs.Output.{IsOfDump, IsTesting};
+ghost use Rattle.mt_cli.specs.declared.command.DumpCommand.TheVariants.{Check, Show, Types, Page, Tidy, Gran};
 ghost use Rattle.mt_cli.specs.CommandLine.{IsSound};
 ghost use Rattle.mt_cli.specs.Written.{Answers, Writes};
 
-use crate::Command;
+use crate::DumpCommand;
 use crate::lines::{disabled_line, page_text, too_few_line};
 use crate::texts::{canonical_text, grained_text, tidied_text, types_text};
 use mt_gran::{GranFault, gran};
@@ -30,9 +29,9 @@ pub fn written<K: Sink>(sink: &mut K, text: &[u8], status: Status) -> Status
 }
 
 // Names the register at fault.
-fn refuse<K: Sink>(f: &RegFile, fault: &Fault, sink: &mut K, command: Command) -> Status
+fn refuse<K: Sink>(f: &RegFile, fault: &Fault, sink: &mut K, command: DumpCommand) -> Status
     requires fault { IsFirstFault f.now (Some fault.now) }
-    requires command { IsTesting command }
+    requires command { command ≢ Show }
     ensures bytes { Answers f.now command (K.taken sink.old) (K.taken sink.new) result }
     ensures cause { StatusHasCause Status.WriteFault (K.faults sink.old) (K.faults sink.new) result }
 {
@@ -82,7 +81,7 @@ fn tidied<K: Sink>(alloc: Global, f: &RegFile, spare: u8, chunk: u64, sink: &mut
             written(sink, text.as_slice(), Status::Done)
         }
         Err(TidyFault::Refused(fault)) => {
-            refuse(f, &fault, sink, Command::Tidy { spare, chunk })
+            refuse(f, &fault, sink, DumpCommand::Tidy { spare, chunk })
         }
         Err(TidyFault::Disabled) => {
             written(sink, disabled_line(f.deftype).as_slice(), Status::Disabled)
@@ -118,7 +117,7 @@ fn grained<K: Sink>(
             }
         }
         Err(GranFault::Refused(fault)) => {
-            refuse(f, &fault, sink, Command::Gran { log, spare, chunk })
+            refuse(f, &fault, sink, DumpCommand::Gran { log, spare, chunk })
         }
         Err(GranFault::Disabled) => {
             written(sink, disabled_line(f.deftype).as_slice(), Status::Disabled)
@@ -131,32 +130,34 @@ fn grained<K: Sink>(
 }
 
 // Answers a command about an accepted file.
-fn answer_accepted<K: Sink>(alloc: Global, command: Command, f: &RegFile, sink: &mut K) -> Status
+fn answer_accepted<K: Sink>(
+    alloc: Global,
+    command: DumpCommand,
+    f: &RegFile,
+    sink: &mut K,
+) -> Status
     requires accepted { IsAccepted f.now }
     requires command { IsSound command }
-    requires of_dump { IsOfDump command }
     ensures bytes { Answers f.now command (K.taken sink.old) (K.taken sink.new) result }
     ensures cause { StatusHasCause Status.WriteFault (K.faults sink.old) (K.faults sink.new) result }
 {
     match command {
-        Command::Check => written(sink, accepted_line(), Status::Done),
-        Command::Show => show(f, sink),
-        Command::Types => types(alloc, f, sink),
-        Command::Page { address, index } => page(f, address, index, sink),
-        Command::Tidy { spare, chunk } => tidied(alloc, f, spare, chunk, sink),
-        Command::Gran { log, spare, chunk } => grained(alloc, f, log, spare, chunk, sink),
-        Command::Replay => unreachable!(),
+        DumpCommand::Check => written(sink, accepted_line(), Status::Done),
+        DumpCommand::Show => show(f, sink),
+        DumpCommand::Types => types(alloc, f, sink),
+        DumpCommand::Page { address, index } => page(f, address, index, sink),
+        DumpCommand::Tidy { spare, chunk } => tidied(alloc, f, spare, chunk, sink),
+        DumpCommand::Gran { log, spare, chunk } => grained(alloc, f, log, spare, chunk, sink),
     }
 }
 
-/// Writes what a command of one dump answers about its file, and answers the status.
-pub fn answer<K: Sink>(alloc: Global, command: Command, f: &RegFile, sink: &mut K) -> Status
+/// Writes what a command on a dump answers about its file, and answers the status.
+pub fn answer<K: Sink>(alloc: Global, command: DumpCommand, f: &RegFile, sink: &mut K) -> Status
     requires sound { IsSound command }
-    requires of_dump { IsOfDump command }
     ensures bytes { Answers f.now command (K.taken sink.old) (K.taken sink.new) result }
     ensures cause { StatusHasCause Status.WriteFault (K.faults sink.old) (K.faults sink.new) result }
 {
-    if let Command::Show = command {
+    if let DumpCommand::Show = command {
         return show(f, sink);
     }
     match f.first_fault() {

@@ -1,9 +1,19 @@
-/// What a command line asks for.
+/// What a command line asks for, by what is read: a dump or a script. A command that reads nothing
+/// gets a variant of its own.
 #[derive(Clone, Copy, Debug, PartialEq, Eq)]
 pub enum Command {
-    /// Whether the dump's register file is accepted.
+    /// An answer about the register file of a dump.
+    Dump(DumpCommand),
+    /// The transcript of a script.
+    Replay,
+}
+
+/// What is asked of a dump's register file.
+#[derive(Clone, Copy, Debug, PartialEq, Eq)]
+pub enum DumpCommand {
+    /// Whether it is accepted.
     Check,
-    /// The canonical text of the dump's register file.
+    /// Its canonical text.
     Show,
     /// The type of each page.
     Types,
@@ -14,8 +24,6 @@ pub enum Command {
     Tidy { spare: u8, chunk: u64 },
     /// The same for the types rounded to granules of `2^log` pages, and what is lost.
     Gran { log: u8, spare: u8, chunk: u64 },
-    /// The transcript of a script.
-    Replay,
 }
 
 /// An option of the commands `tidy` and `gran`.

@@ -1,7 +1,8 @@
 ghost use Rattle.std.specs.Prelude.{◌≡◌, ◌≢◌, ◌+◌, ◌^◌, ◌≤◌, ◌↔◌, ℕ, List, Some};
 ghost use Rattle.mt_ports.specs.declared.status.Status.{Status};
 ghost use Rattle.mt_ports.specs.declared.status.Status.TheVariants.{Done};
-ghost use Rattle.mt_cli.specs.declared.command.Command.{Command};
+ghost use Rattle.mt_cli.specs.declared.command.DumpCommand.{DumpCommand};
+ghost use Rattle.mt_cli.specs.declared.command.Command.TheVariants.{Dump};
 ghost use Rattle.mt_cli.specs.CommandLine.{command_of, log_among};
 ghost use Rattle.mt_cli.specs.Output.{MayChoose, Output};
 
@@ -10,7 +11,7 @@ ghost use Rattle.mt_cli.specs.Output.{MayChoose, Output};
 pub fn words_and_bytes_have_one_output()
     ensures status { (words : List (List ℕ)) (bytes text other : List ℕ) (s t : Status) → Output words bytes text s → Output words bytes other t → s ≡ t }
     ensures text { (words : List (List ℕ)) (bytes text other : List ℕ) (s t : Status) → Output words bytes text s → Output words bytes other t
-        → ((command : Command) → command_of words ≡ Some command → MayChoose command → s ≢ Done) → text ≡ other }
+        → ((command : DumpCommand) → command_of words ≡ Some (Dump command) → MayChoose command → s ≢ Done) → text ≡ other }
 {}
 
 /// A size is read as that of granules of `2^log` pages exactly where it is `2^(12 + log)` bytes, of at most `2^28` pages.

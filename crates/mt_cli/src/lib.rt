@@ -11,7 +11,7 @@ mod top;
 mod words;
 
 pub use answers::answer;
-pub use command::{Command, TidyOption};
+pub use command::{Command, DumpCommand, TidyOption};
 pub use laws::{
     a_size_is_a_power_of_two, words_and_bytes_have_an_output, words_and_bytes_have_one_output,
 };

@@ -49,11 +49,11 @@ pub fn tool<R: AllocGlobal, S: Source, K: Sink, G: Gate>(
         Ok(text) => text,
         Err(status) => return status,
     };
-    if let Command::Replay = command {
-        return replay(rt, &text, sink, gate);
-    }
-    match read_dump(&text) {
-        Err(fault) => written(sink, bad_text_line(&fault).as_slice(), Status::BadText),
-        Ok(file) => answer(rt.alloc(), command, &file, sink),
+    match command {
+        Command::Replay => replay(rt, &text, sink, gate),
+        Command::Dump(command) => match read_dump(&text) {
+            Err(fault) => written(sink, bad_text_line(&fault).as_slice(), Status::BadText),
+            Ok(file) => answer(rt.alloc(), command, &file, sink),
+        },
     }
 }

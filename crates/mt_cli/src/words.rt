@@ -1,13 +1,19 @@
 ghost use Rattle.std.specs.Prelude.{◌≡◌, ◌≤◌, ◌<◌, ◌+◌, ◌^◌, map, string_bytes, IfSome, MatchOption};
 ghost use Rattle.mt_text.specs.Number.{hex_number};
-ghost use Rattle.mt_cli.specs.CommandLine.{behind, command_of, command_of_four, command_of_one, command_of_three, command_of_two, gran_as, gran_with, index_of, log_among, log_of, option_of, tidy_with, tidy_with_both};
+ghost use Rattle.mt_cli.specs.CommandLine.{behind, command_of, command_of_four, command_of_one, command_of_three, command_of_two, gran_as, gran_with, index_of, log_among, log_of, of_dump, option_of, tidy_with, tidy_with_both};
 
-use crate::{Command, TidyOption};
+use crate::{Command, DumpCommand, TidyOption};
 use mt_text::{decimal, hex64};
 
 const USUAL_SPARE: u8 = 1;
 
 const USUAL_CHUNK: u64 = 0x1000_0000;
+
+// `tidy` without options.
+const USUAL_TIDY: DumpCommand = DumpCommand::Tidy {
+    spare: USUAL_SPARE,
+    chunk: USUAL_CHUNK,
+};
 
 const MOST_SPARE: u64 = 32;
 
@@ -15,20 +21,26 @@ const ADDRESSES: u64 = 1 << 52;
 
 const GRANULE_SIZES: u8 = 29;
 
+fn of_dump(command: Option<DumpCommand>) -> Option<Command>
+    ensures { result ≡ of_dump command }
+{
+    match command {
+        Some(command) => Some(Command::Dump(command)),
+        None => None,
+    }
+}
+
 fn command_of_one(name: &[u8]) -> Option<Command>
     ensures { result ≡ command_of_one name.now }
 {
     if name == b"check".as_slice() {
-        Some(Command::Check)
+        Some(Command::Dump(DumpCommand::Check))
     } else if name == b"show".as_slice() {
-        Some(Command::Show)
+        Some(Command::Dump(DumpCommand::Show))
     } else if name == b"types".as_slice() {
-        Some(Command::Types)
+        Some(Command::Dump(DumpCommand::Types))
     } else if name == b"tidy".as_slice() {
-        Some(Command::Tidy {
-            spare: USUAL_SPARE,
-            chunk: USUAL_CHUNK,
-        })
+        of_dump(Some(USUAL_TIDY))
     } else if name == b"replay".as_slice() {
         Some(Command::Replay)
     } else {
@@ -62,15 +74,15 @@ fn option_of(word: &[u8]) -> Option<TidyOption>
     }
 }
 
-fn tidy_with(option: Option<TidyOption>) -> Option<Command>
+fn tidy_with(option: Option<TidyOption>) -> Option<DumpCommand>
     ensures { result ≡ tidy_with option }
 {
     match option {
-        Some(TidyOption::Spare(spare)) => Some(Command::Tidy {
+        Some(TidyOption::Spare(spare)) => Some(DumpCommand::Tidy {
             spare,
             chunk: USUAL_CHUNK,
         }),
-        Some(TidyOption::Chunk(chunk)) => Some(Command::Tidy {
+        Some(TidyOption::Chunk(chunk)) => Some(DumpCommand::Tidy {
             spare: USUAL_SPARE,
             chunk,
         }),
@@ -78,15 +90,15 @@ fn tidy_with(option: Option<TidyOption>) -> Option<Command>
     }
 }
 
-fn tidy_with_both(first: Option<TidyOption>, second: Option<TidyOption>) -> Option<Command>
+fn tidy_with_both(first: Option<TidyOption>, second: Option<TidyOption>) -> Option<DumpCommand>
     ensures { result ≡ tidy_with_both first second }
 {
     match (first, second) {
         (Some(TidyOption::Spare(spare)), Some(TidyOption::Chunk(chunk))) => {
-            Some(Command::Tidy { spare, chunk })
+            Some(DumpCommand::Tidy { spare, chunk })
         }
         (Some(TidyOption::Chunk(chunk)), Some(TidyOption::Spare(spare))) => {
-            Some(Command::Tidy { spare, chunk })
+            Some(DumpCommand::Tidy { spare, chunk })
         }
         _ => None,
     }
@@ -122,18 +134,18 @@ fn log_of(size: &[u8]) -> Option<u8>
 }
 
 // `gran` has a size before the options of `tidy`.
-fn gran_as(log: Option<u8>, command: Option<Command>) -> Option<Command>
+fn gran_as(log: Option<u8>, command: Option<DumpCommand>) -> Option<DumpCommand>
     ensures { result ≡ gran_as log command }
 {
     match (log, command) {
-        (Some(log), Some(Command::Tidy { spare, chunk })) => {
-            Some(Command::Gran { log, spare, chunk })
+        (Some(log), Some(DumpCommand::Tidy { spare, chunk })) => {
+            Some(DumpCommand::Gran { log, spare, chunk })
         }
         _ => None,
     }
 }
 
-fn gran_with(size: &[u8], command: Option<Command>) -> Option<Command>
+fn gran_with(size: &[u8], command: Option<DumpCommand>) -> Option<DumpCommand>
     ensures { result ≡ gran_with size.now command }
 {
     gran_as(log_of(size), command)
@@ -143,13 +155,9 @@ fn command_of_two(name: &[u8], option: &[u8]) -> Option<Command>
     ensures { result ≡ command_of_two name.now option.now }
 {
     if name == b"tidy".as_slice() {
-        tidy_with(option_of(option))
+        of_dump(tidy_with(option_of(option)))
     } else if name == b"gran".as_slice() {
-        let usual = Command::Tidy {
-            spare: USUAL_SPARE,
-            chunk: USUAL_CHUNK,
-        };
-        gran_with(option, Some(usual))
+        of_dump(gran_with(option, Some(USUAL_TIDY)))
     } else {
         None
     }
@@ -171,15 +179,15 @@ fn command_of_three(name: &[u8], first: &[u8], second: &[u8]) -> Option<Command>
     if name == b"page".as_slice() {
         return match (hex64(first), index_of(second)) {
             (Ok(address), Some(index)) if address < ADDRESSES => {
-                Some(Command::Page { address, index })
+                Some(Command::Dump(DumpCommand::Page { address, index }))
             }
             _ => None,
         };
     }
     if name == b"tidy".as_slice() {
-        tidy_with_both(option_of(first), option_of(second))
+        of_dump(tidy_with_both(option_of(first), option_of(second)))
     } else if name == b"gran".as_slice() {
-        gran_with(first, tidy_with(option_of(second)))
+        of_dump(gran_with(first, tidy_with(option_of(second))))
     } else {
         None
     }
@@ -189,7 +197,8 @@ fn command_of_four(name: &[u8], first: &[u8], second: &[u8], third: &[u8]) -> Op
     ensures { result ≡ command_of_four name.now first.now second.now third.now }
 {
     if name == b"gran".as_slice() {
-        gran_with(first, tidy_with_both(option_of(second), option_of(third)))
+        let options = tidy_with_both(option_of(second), option_of(third));
+        of_dump(gran_with(first, options))
     } else {
         None
     }

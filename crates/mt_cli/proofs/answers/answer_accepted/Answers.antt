@@ -1,4 +1,4 @@
-use Rattle.mt_cli.specs.declared.command.Command.TheVariants.{Check}
+use Rattle.mt_cli.specs.declared.command.DumpCommand.TheVariants.{Check}
 use Rattle.mt_cli.specs.Output.{accepted}
 use Rattle.mt_cli.proofs.Answering.{answers_with}
 use Rattle.mt_cli.proofs.answers.answer_accepted.Goals as goal

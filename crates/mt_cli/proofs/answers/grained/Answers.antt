@@ -6,7 +6,7 @@ use Rattle.mt_types.specs.declared.run.Run.{Run}
 use Rattle.mt_dump.specs.Canon.{canon}
 use Rattle.mt_gran.specs.Granules.{pages_of}
 use Rattle.mt_cli.specs.Lines.{IsLine, disabled_line, lost_line, parts_text, used_line}
-use Rattle.mt_cli.specs.declared.command.Command.TheVariants.{Gran}
+use Rattle.mt_cli.specs.declared.command.DumpCommand.TheVariants.{Gran}
 use Rattle.mt_cli.specs.Output.{grained, gran_disabled, gran_too_few}
 use Rattle.mt_cli.proofs.Answering.{answers_with}
 use Rattle.mt_cli.proofs.Parting.{parts_have_lines, too_few}

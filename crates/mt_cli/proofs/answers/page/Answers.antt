@@ -1,5 +1,5 @@
 use Rattle.std.proofs.Common.{◌∙◌}
-use Rattle.mt_cli.specs.declared.command.Command.TheVariants.{Page}
+use Rattle.mt_cli.specs.declared.command.DumpCommand.TheVariants.{Page}
 use Rattle.mt_cli.specs.Output.{paged}
 use Rattle.mt_cli.proofs.Answering.{answers_with}
 use Rattle.mt_cli.proofs.answers.page.Goals as goal

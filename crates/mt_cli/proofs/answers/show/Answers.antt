@@ -1,5 +1,5 @@
 use Rattle.std.proofs.Common.{◌∙◌}
-use Rattle.mt_cli.specs.declared.command.Command.TheVariants.{Show}
+use Rattle.mt_cli.specs.declared.command.DumpCommand.TheVariants.{Show}
 use Rattle.mt_cli.specs.Output.{shown}
 use Rattle.mt_cli.proofs.Answering.{answers_with}
 use Rattle.mt_cli.proofs.answers.show.Goals as goal

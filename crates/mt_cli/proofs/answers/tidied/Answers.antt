@@ -1,7 +1,7 @@
 use Rattle.std.proofs.Common.{◌∙◌, ap}
 use Rattle.mt_regs.specs.RegisterFile.{RegisterFile}
 use Rattle.mt_cli.specs.Lines.{disabled_line}
-use Rattle.mt_cli.specs.declared.command.Command.TheVariants.{Tidy}
+use Rattle.mt_cli.specs.declared.command.DumpCommand.TheVariants.{Tidy}
 use Rattle.mt_cli.specs.Output.{tidied, disabled, too_few}
 use Rattle.mt_cli.proofs.Answering.{answers_with}
 use Rattle.mt_cli.proofs.answers.tidied.Goals as goal

@@ -1,5 +1,5 @@
 use Rattle.std.proofs.Common.{◌∙◌, ap}
-use Rattle.mt_cli.specs.declared.command.Command.TheVariants.{Types}
+use Rattle.mt_cli.specs.declared.command.DumpCommand.TheVariants.{Types}
 use Rattle.mt_cli.specs.Lines.{types_text}
 use Rattle.mt_cli.specs.Output.{typed}
 use Rattle.mt_cli.proofs.Answering.{answers_with}
