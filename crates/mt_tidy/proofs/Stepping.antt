@@ -1,5 +1,5 @@
 -- The steps of a block by its wish, and the block whose step comes last.
-use Rattle.std.proofs.Common.{◌≡◌, ℕ, zero, suc, ◌+◌, ◌-◌, ◌*◌, ◌%◌, false, ◌^◌, ◌<◌, length, length-append, List, [], ◌∷◌, ◌++◌, refl, sym, ap, ◌∙◌, arith, subst, append_assoc}
+use Rattle.std.proofs.Common.{◌≡◌, ℕ, zero, suc, ◌+◌, ◌-◌, ◌*◌, ◌%◌, ◌≤◌, false, ◌^◌, ◌<◌, length, length-append, List, [], ◌∷◌, ◌++◌, refl, sym, ap, ◌∙◌, arith, subst, append_assoc}
 use Rattle.std.specs.Prelude.{nat_le, nat_lt, Option, None, Some, IsTrue, if◌then◌else◌}
 use Rattle.std.proofs.lemmas.Bool.{and_from, and_parts, leb-true, ltb-true, lt-ltb, le-leb}
 use Rattle.std.proofs.lemmas.List.{append-nil, same_from_push}
@@ -19,12 +19,13 @@ use Rattle.mt_tidy.specs.declared.rules.Rules.{Rules}
 use Rattle.mt_tidy.specs.declared.step.Step.{Step}
 use Rattle.mt_tidy.specs.declared.step.Step.TheVariants.{Free, Whole, Divided}
 use Rattle.mt_tidy.specs.declared.costs.Costs.{Costs}
-use Rattle.mt_tidy.specs.Cost.{Task, cost, plus, smaller, task_by, wish, wish_of_page}
+use Rattle.mt_tidy.specs.Cost.{Task, cost, plus, task_by, wish, wish_of_page}
 use Rattle.mt_tidy.specs.AllCosts.{cost_in}
 use Rattle.mt_tidy.specs.Fits.{Begun, IsFinite, Laid, WantsSupported, Within}
 use Rattle.mt_tidy.specs.declared.range.Range.{Range}
 use Rattle.mt_tidy.proofs.Laying.{AreHalves, finite_for, laid_for}
-use Rattle.mt_tidy.proofs.Sizes.{Halves, halves_from}
+use Rattle.mt_tidy.proofs.Sizes.{Halves, half_small, halves_from}
+use Rattle.mt_tidy.proofs.Sums.{smaller_none}
 use Rattle.mt_tidy.specs.Steps.{CanLay, Priced, costs_of, halves_cost, steps_of}
 use Rattle.mt_tidy.proofs.Wishes.{wish_means}
 
@@ -207,10 +208,6 @@ no_steps k log first rest steps is none =
     let long : length steps ≡ length (rest ++ (some.0 ++ some.1 ∷ [])) = ap (λ xs. length xs) (is ∙ ap (λ xs. rest ++ xs) some.2) in
     absurd (omega (arith, long, none, length-append rest (some.0 ++ some.1 ∷ []), length-append some.0 (some.1 ∷ [])))
 
-without_ranges : (o : Option ℕ) → smaller o None ≡ o
-without_ranges None = refl
-without_ranges (Some n) = refl
-
 -- a list for each half of a block above the chunk is a list for the block
 pub laid_apart : (rules : Rules) (runs : List Run) → WantsSupported (task_by rules runs) → (log first half first_first second_log second_first : ℕ)
     → AreHalves log first half first_first second_log second_first → first % 2 ^ log ≡ 0 → nat_le (4096 * 2 ^ log) rules.chunk ≡ false
@@ -227,7 +224,7 @@ laid_apart rules runs good log first half first_first second_log second_first ar
     halves = record { is_half = are.is_half; is_sum = cost_of_table sum }
 
     begun : Begun (task_by rules []) first log (cost_in (costs_of sum)) Untouched old old Untouched
-    begun = record { choice = None; chosen = rw large (without_ranges (cost_in (costs_of sum) Untouched)); context = refl; after = sym (append-nil old) }
+    begun = record { choice = None; chosen = rw large (smaller_none (cost_in (costs_of sum) Untouched)); context = refl; after = sym (append-nil old) }
 
 -- what is left for the halves, once a range on the block was chosen
 module _ (log first half first_first second_log second_first : ℕ) (are : AreHalves log first half first_first second_log second_first)
@@ -240,13 +237,14 @@ module _ (log first half first_first second_log second_first : ℕ) (are : AreHa
 
   pub can_left : CanLay (task_by rules runs) half first_first y (rest ++ steps_of (task_by rules runs) second_log second_first) items
   can_left = record {
+    small = half_small half log rules.chunk are.is_half can.small;
     supported = can.supported;
     finite = both_finite.0;
     steps_are = left_steps log first half first_first second_log second_first are (task_by rules runs) rest items h o;
   }
 
   pub can_right : (later : List Step) → later ≡ rest ++ steps_of (task_by rules runs) second_log second_first → CanLay (task_by rules runs) second_log second_first y rest later
-  can_right later is = record { supported = can.supported; finite = both_finite.1; steps_are = is }
+  can_right later is = record { small = subst (λ n. 4096 * 2 ^ n ≤ rules.chunk) (sym are.is_log) (half_small half log rules.chunk are.is_half can.small); supported = can.supported; finite = both_finite.1; steps_are = is }
 
   pub laid_halves : first % 2 ^ log ≡ 0 → (middle new : List Range)
       → Laid (task_by rules runs) half first_first y begun middle → Laid (task_by rules runs) second_log second_first y middle new → Laid (task_by rules runs) log first x old new

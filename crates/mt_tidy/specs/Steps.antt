@@ -1,5 +1,5 @@
 -- The steps by which a block is laid: one for the block, behind those of its halves, the upper half's first (own).
-use Rattle.std.specs.Prelude.{◌≡◌, ℕ, zero, suc, ◌+◌, ◌^◌, List, [], ◌∷◌, ◌++◌, Option, None}
+use Rattle.std.specs.Prelude.{◌≡◌, ℕ, zero, suc, ◌+◌, ◌*◌, ◌^◌, ◌≤◌, List, [], ◌∷◌, ◌++◌, Option, None}
 use Rattle.mt_kinds.specs.declared.mem_type.MemType.TheVariants.{UC, WC, WT, WP, WB}
 use Rattle.mt_trie.specs.declared.context.Context.{Context}
 use Rattle.mt_trie.specs.declared.context.Context.TheVariants.{Untouched, Has, Clash}
@@ -52,6 +52,7 @@ pub record Priced (k : Task) (log first : ℕ) (costs : Costs) (old new : List S
 
 -- the steps end with those of a block, for which there is a list
 pub record CanLay (k : Task) (log first : ℕ) (x : Context) (rest steps : List Step) : Type 0 where
+  pub small : 4096 * 2 ^ log ≤ k.chunk
   pub supported : WantsSupported k
   pub finite : IsFinite (cost k log first x)
   pub steps_are : steps ≡ rest ++ steps_of k log first

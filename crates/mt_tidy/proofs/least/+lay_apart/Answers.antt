@@ -1,4 +1,5 @@
 use Rattle.std.proofs.Common.{◌∙◌, sym}
+use Rattle.std.proofs.lemmas.Bool.{leb-true}
 use Rattle.mt_trie.proofs.OverRuns.{part_defined}
 use Rattle.mt_tidy.specs.Cost.{task_by}
 use Rattle.mt_tidy.proofs.Laying.{AreHalves, laid_any, laid_only}
@@ -11,11 +12,15 @@ use Rattle.mt_tidy.proofs.least.+lay_apart.Goals as goal
 pub costs-requires-clause-defined : goal.costs-requires-clause-defined
 costs-requires-clause-defined t c = usable_defined c.args.rules.now c.args.wanted.now c.requires.usable
 
+pub costs-requires-clause-small : goal.costs-requires-clause-small
+costs-requires-clause-small t c = leb-true _ _ (sym c.is_small.ensures ∙ c.if-is_small.true)
+
 pub lay-requires : goal.lay-requires
 lay-requires t c = (
   c.args.wanted.now,
   c.args.steps.now.items,
   record {
+    small = leb-true _ _ (sym c.is_small.ensures ∙ c.if-is_small.true);
     supported = usable_supported c.args.rules.now c.args.wanted.now c.requires.usable;
     finite = finite (task_by c.args.rules.now c.args.wanted.now) c.args.b.now.log c.args.b.now.first;
     steps_are = c.in_ok-costs.ensures.steps;
@@ -25,6 +30,7 @@ lay-requires t c = (
 pub returns-then-is_small : goal.returns-then-is_small
 returns-then-is_small t c =
     let can : CanLay (task_by c.args.rules.now c.args.wanted.now) c.args.b.now.log c.args.b.now.first Untouched c.args.steps.now.items c.costs.new.steps.items = record {
+      small = leb-true _ _ (sym c.is_small.ensures ∙ c.if-is_small.true);
       supported = usable_supported c.args.rules.now c.args.wanted.now c.requires.usable;
       finite = finite (task_by c.args.rules.now c.args.wanted.now) c.args.b.now.log c.args.b.now.first;
       steps_are = c.in_ok-costs.ensures.steps;
