@@ -5,10 +5,12 @@ mod broadcast;
 mod gather;
 mod laws;
 mod station;
+mod threads;
 mod view;
 
 pub use broadcast::call_and_take;
 pub use gather::disband;
 pub use laws::{broadcast_begins, full_station_holds, station_is_led};
 pub use station::{Attendee, Outcome, Pass, Root, Station, attend};
+pub use threads::update;
 pub use view::{Held, Key, Start, View};
