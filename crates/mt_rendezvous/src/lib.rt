@@ -5,6 +5,8 @@ mod broadcast;
 mod gather;
 mod laws;
 mod station;
+#[cfg(test)]
+mod tests;
 mod threads;
 mod view;
 
