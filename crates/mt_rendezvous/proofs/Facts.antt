@@ -1,5 +1,5 @@
 -- What a processor that stands so in a led machine has for its next event.
-use Rattle.std.proofs.Common.{◌≡◌, ◌<◌, ◌+◌, ◌%◌, ◌^◌, ℕ, true, false, List, [], length, ap, ◌∙◌, inr, arith, Some, None}
+use Rattle.std.proofs.Common.{◌≡◌, ◌<◌, ◌+◌, ◌%◌, ◌^◌, ◌||◌, ℕ, Bool, true, false, List, [], length, refl, ap, ◌∙◌, subst, inr, arith, Option, Some, None}
 use Rattle.std.specs.Prelude.{if◌then◌else◌, nat_lt, ◌==◌}
 use Rattle.std.specs.List.{All}
 use Rattle.mt_regs.specs.Faults.{IsAccepted}
@@ -7,12 +7,12 @@ use Rattle.mt_regs.specs.Registers.{writable}
 use Rattle.mt_machine.specs.declared.phase.Phase.{Phase}
 use Rattle.mt_machine.specs.declared.phase.Phase.TheVariants.{Running, Taken, Arrived, NoFill, Writing, Enabled, Restored, Arrived2}
 use Rattle.mt_machine.specs.declared.event.Event.{Event}
-use Rattle.mt_machine.specs.declared.event.Event.TheVariants.{WriteBack, Write, Enable}
+use Rattle.mt_machine.specs.declared.event.Event.TheVariants.{SetNoFill, WriteBack, Write, Enable}
 use Rattle.mt_machine.specs.declared.go.Go.{Go}
-use Rattle.mt_machine.specs.declared.go.Go.TheVariants.{Pending}
+use Rattle.mt_machine.specs.declared.go.Go.TheVariants.{Given, Pending}
 use Rattle.mt_machine.specs.Memory.{Memory, Window, place, place_in, word_address}
 use Rattle.mt_machine.specs.System.{IsSound, Processor}
-use Rattle.mt_machine.specs.Machine.{FitsGoal, Order, Reached, due, write_back_or_drop}
+use Rattle.mt_machine.specs.Machine.{FitsGoal, Order, Reached, due, is_arrived_again, own_step, write_back_or_drop}
 use Rattle.mt_machine.specs.Start.{IsStart}
 use Rattle.mt_cpu.specs.Steps.{HasWritten, is_local}
 use Rattle.mt_laws.specs.Kept.{IsUnderWay, OrderHolds}
@@ -27,8 +27,10 @@ use Rattle.mt_laws.proofs.Words.LineLists.{found_passes}
 use Rattle.mt_laws.proofs.Words.StepLaws.{FirstDirty, drain_case}
 use Rattle.mt_rendezvous.specs.declared.view.Start.{Start}
 use Rattle.mt_rendezvous.specs.Station.{order_of, broadcast, Begins}
-use Rattle.mt_rendezvous.specs.Plays.{Stands, written}
-use Rattle.mt_rendezvous.proofs.Local.{written_is}
+use Rattle.mt_rendezvous.specs.Plays.{Stands, own_event, written}
+use Rattle.mt_laws.proofs.Steps.Counts.{Ready, is_past, left_of, one_less}
+use Rattle.mt_laws.proofs.Steps.StepCounts.{ready}
+use Rattle.mt_rendezvous.proofs.Local.{due_alone, local_changing, works_in, written_is}
 
 injected : (a b : Event) → Some a ≡ Some b → a ≡ b
 injected a b e = cc
@@ -83,6 +85,19 @@ module _ (t : Start) (begins : Begins t) (go : Go) (k : ℕ) (p : Processor) (st
 
   pub low_numbers : All (λ l. l.number < 2 ^ 46) p.lines
   low_numbers = (all_get (λ q. All (λ l. l.number < 2 ^ 46) q.lines × All (λ l. l.number < 2 ^ 46) q.buffers) st.machine.system.processors (lines_are_low st.machine.system sound) k p st.at).0
+
+  ready_for : Ready p
+  ready_for = ready t.ram.windows (start_aligned (broadcast t) start) k st.machine.system (order_of t go) p st.at
+      (subst (λ (x : Option Order). Standing t.ram.windows (record { system = st.machine.system; order = x })) st.order standing)
+
+  -- its own event brings it nearer to the second barrier
+  pub nearer : is_local p.phase ≡ true → left_of (own_step t.goal (own_event t p) p) < left_of p
+  nearer here =
+      let own : (o : Order) (ps : List Processor) → due o ps p p.phase ≡ Some (own_event t p) = (λ o ps. due_alone o (order_of t Given) ps [] p SetNoFill p.phase here) in
+      let past : is_past p.phase ≡ true = ap (λ (b : Bool). b || is_arrived_again p.phase) (local_changing p.phase here) in
+      let quiet = (works_in t.goal p (own_event t p) p.phase refl here own (order_of t go)).2 in
+      let falls = (one_less (order_of t go) [] p ready_for p.phase (own_event t p) refl past (own (order_of t go) []) quiet).0 in
+      omega arith
 
   -- the word that is written back has a place
   pub back_place : (e : Event) (a v : ℕ) → is_local p.phase ≡ true → ((o : Order) (ps : List Processor) → due o ps p p.phase ≡ Some e) → written e ≡ Some (a, v)

@@ -15,7 +15,8 @@ use Rattle.mt_machine.specs.declared.go.Go.{Go}
 use Rattle.mt_machine.specs.declared.go.Go.TheVariants.{Given, Cancelled}
 use Rattle.mt_machine.specs.Memory.{word_address}
 use Rattle.mt_machine.specs.System.{Processor, System}
-use Rattle.mt_machine.specs.Machine.{Order, due, own_step, before_own, is_changing, has_arrived, has_arrived_again, write_back_or_drop, write_back_event, write_or_enable, after_drop, after_flush, flush_tlb, common_era}
+use Rattle.mt_machine.specs.Update.{is_release}
+use Rattle.mt_machine.specs.Machine.{Order, Steps, due, own_step, before_own, is_changing, has_arrived, has_arrived_again, write_back_or_drop, write_back_event, write_or_enable, after_drop, after_flush, flush_tlb, common_era}
 use Rattle.mt_machine.specs.Control.{reload_cr3}
 use Rattle.mt_cpu.specs.Steps.{is_local}
 use Rattle.mt_rendezvous.specs.declared.view.Held.{Held}
@@ -99,7 +100,7 @@ again_of_held t go h f a = again_in t go h.cpu h.added h.again h.cpu.phase f.fit
 -- ---- local events
 
 abbrev pub IsWork : RegisterFile → Event → Processor → Type 0
-IsWork goal e p = (is_changing (own_step goal e p).phase ≡ true) × ((own_step goal e p).era ≡ p.era)
+IsWork goal e p = (is_changing (own_step goal e p).phase ≡ true) × ((own_step goal e p).era ≡ p.era) × (is_release (Steps 0 e) ≡ false)
 
 drop_changes : (p : Phase) → is_changing (after_drop p) ≡ true
 drop_changes Enabled = refl
@@ -133,36 +134,45 @@ dirty_or_drop p = by_line (first_dirty_line p.lines)
 
 back_works : (goal : RegisterFile) (p : Processor) → is_changing p.phase ≡ true → IsWork goal (write_back_or_drop p) p
 back_works goal p on = ⊎_elim
-    (λ (e : write_back_or_drop p ≡ DropLines). subst (λ (x : Event). IsWork goal x p) (sym e) (drop_changes p.phase, refl))
-    (λ (e : (a : ℕ) × (v : ℕ) × (write_back_or_drop p ≡ WriteBack a v)). subst (λ (x : Event). IsWork goal x p) (sym e.2) (on, refl))
+    (λ (e : write_back_or_drop p ≡ DropLines). subst (λ (x : Event). IsWork goal x p) (sym e) (drop_changes p.phase, refl, refl))
+    (λ (e : (a : ℕ) × (v : ℕ) × (write_back_or_drop p ≡ WriteBack a v)). subst (λ (x : Event). IsWork goal x p) (sym e.2) (on, refl, refl))
     (dirty_or_drop p)
 
 last_works : (goal : RegisterFile) (p : Processor) (i : ℕ) → IsWork goal (write_or_enable p i) p
 last_works goal p i = one (nat_lt (i + 1) (length (writable p.file)))
   where
     one : (b : Bool) → IsWork goal (if b then Write i else Enable) p
-    one true = (refl, refl)
-    one false = (refl, refl)
+    one true = (refl, refl, refl)
+    one false = (refl, refl, refl)
 
 injected : (a b : Event) → Some a ≡ Some b → a ≡ b
 injected a b e = cc
 
--- an event between the barriers leads to a phase between them, and leaves the era
+-- an event between the barriers leads to a phase between them, leaves the era, and is no release
 pub works_in : (goal : RegisterFile) (p : Processor) (e : Event) (ph : Phase) → ph ≡ p.phase → is_local ph ≡ true → ((o : Order) (ps : List Processor) → due o ps p ph ≡ Some e) → Order → IsWork goal e p
 works_in goal p e Running same here is o = absurd (cc)
 works_in goal p e Taken same here is o = absurd (cc)
 works_in goal p e Arrived same here is o = absurd (cc)
 works_in goal p e Arrived2 same here is o = absurd (cc)
 works_in goal p e Restored same here is o = absurd (cc)
-works_in goal p e Passed same here is o = subst (λ (x : Event). IsWork goal x p) (injected _ _ (is o [])) (refl, refl)
+works_in goal p e Passed same here is o = subst (λ (x : Event). IsWork goal x p) (injected _ _ (is o [])) (refl, refl, refl)
 works_in goal p e NoFill same here is o = subst (λ (x : Event). IsWork goal x p) (injected _ _ (is o [])) (back_works goal p (sym (ap is_changing same)))
-works_in goal p e Flushed same here is o = subst (λ (x : Event). IsWork goal x p) (injected _ _ (is o [])) (flush_changes p.phase, flush_era p.phase p)
-works_in goal p e TlbFlushed same here is o = subst (λ (x : Event). IsWork goal x p) (injected _ _ (is o [])) (refl, refl)
+works_in goal p e Flushed same here is o = subst (λ (x : Event). IsWork goal x p) (injected _ _ (is o [])) (flush_changes p.phase, flush_era p.phase p, refl)
+works_in goal p e TlbFlushed same here is o = subst (λ (x : Event). IsWork goal x p) (injected _ _ (is o [])) (refl, refl, refl)
 works_in goal p e (Writing i) same here is o = subst (λ (x : Event). IsWork goal x p) (injected _ _ (is o [])) (last_works goal p i)
 works_in goal p e Enabled same here is o = subst (λ (x : Event). IsWork goal x p) (injected _ _ (is o [])) (back_works goal p (sym (ap is_changing same)))
-works_in goal p e Flushed2 same here is o = subst (λ (x : Event). IsWork goal x p) (injected _ _ (is o [])) (flush_changes p.phase, flush_era p.phase p)
-works_in goal p e TlbFlushed2 same here is o = subst (λ (x : Event). IsWork goal x p) (injected _ _ (is o [])) (refl, refl)
-works_in goal p e Normal same here is o = subst (λ (x : Event). IsWork goal x p) (injected _ _ (is o [])) (refl, refl)
+works_in goal p e Flushed2 same here is o = subst (λ (x : Event). IsWork goal x p) (injected _ _ (is o [])) (flush_changes p.phase, flush_era p.phase p, refl)
+works_in goal p e TlbFlushed2 same here is o = subst (λ (x : Event). IsWork goal x p) (injected _ _ (is o [])) (refl, refl, refl)
+works_in goal p e Normal same here is o = subst (λ (x : Event). IsWork goal x p) (injected _ _ (is o [])) (refl, refl, refl)
+
+-- such an event looks at nothing but the processor
+pub due_alone : (o u : Order) (ps qs : List Processor) (p : Processor) (e : Event) (ph : Phase) → is_local ph ≡ true → due o ps p ph ≡ Some (option_map_or (λ x. x) (due u qs p ph) e)
+due_alone o u ps qs p e Running h = absurd (cc)
+due_alone o u ps qs p e Taken h = absurd (cc)
+due_alone o u ps qs p e Arrived h = absurd (cc)
+due_alone o u ps qs p e Arrived2 h = absurd (cc)
+due_alone o u ps qs p e Restored h = absurd (cc)
+due_alone o u ps qs p e other h = refl
 
 back_takes_not : (p : Processor) → write_back_or_drop p ≡ Take → ⊥
 back_takes_not p q = ⊎_elim (λ (e : write_back_or_drop p ≡ DropLines). let x = sym e ∙ q in cc) (λ (e : (a : ℕ) × (v : ℕ) × (write_back_or_drop p ≡ WriteBack a v)). let x = sym e.2 ∙ q in cc) (dirty_or_drop p)

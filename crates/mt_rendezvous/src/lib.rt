@@ -9,6 +9,7 @@ mod station;
 mod tests;
 mod threads;
 mod view;
+mod worked;
 
 pub use broadcast::call_and_take;
 pub use gather::disband;
@@ -16,3 +17,4 @@ pub use laws::{broadcast_begins, full_station_holds, station_is_led};
 pub use station::{Attendee, Outcome, Pass, Root, Station, attend};
 pub use threads::update;
 pub use view::{Held, Key, Start, View};
+pub use worked::{worked_fits, worked_machines, worked_views};

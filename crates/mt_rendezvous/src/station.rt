@@ -6,7 +6,7 @@ ghost use Rattle.mt_machine.specs.declared.event.Event.TheVariants.{Arrive, Arri
 ghost use Rattle.mt_machine.specs.Machine.{Cancels as CancelsUpdate, Goes, own_step, is_changing, common_era};
 ghost use Rattle.mt_cpu.specs.Steps.{is_local};
 ghost use Rattle.mt_rendezvous.specs.Station.{Begins, code, start_of};
-ghost use Rattle.mt_rendezvous.specs.Plays.{Decided, Stands, Took, written};
+ghost use Rattle.mt_rendezvous.specs.Plays.{Decided, Stands, Took, own_event, written};
 ghost use Rattle.mt_rendezvous.specs.Calls.{Attended, Carries, IsWaiting, Leads, Waited};
 
 use crate::view::{
@@ -190,6 +190,8 @@ impl Pass {
         ensures carries { Carries station.now.table.shared.table_id (start_of station.now.table.shared.key) self.new.seat.table_id self.new.seat.me self.new.number cpu.new true false }
         ensures stands { Stands (start_of station.now.table.shared.key) Given self.new.number cpu.new }
         ensures between { is_changing cpu.new.phase ≡ true }
+        ensures event { Took (start_of station.now.table.shared.key) self.old.number (own_event (start_of station.now.table.shared.key) cpu.old) cpu.old cpu.new }
+        ensures becomes { cpu.new ≡ own_step station.now.table.shared.key.goal.value (own_event (start_of station.now.table.shared.key) cpu.old) cpu.old }
     {
         let e = cpu.local(goal);
         match written(e) {
@@ -214,14 +216,7 @@ impl Pass {
     }
 
     // Does all events between the barriers.
-    pub(crate) fn work_all<R: Wait>(
-        &mut self,
-        rt: &R,
-        station: &Station,
-        ram: &Ram,
-        goal: &RegFile,
-        cpu: &mut Cpu,
-    )
+    pub(crate) fn work_all(&mut self, station: &Station, ram: &Ram, goal: &RegFile, cpu: &mut Cpu)
         requires carries { Carries station.now.table.shared.table_id (start_of station.now.table.shared.key) self.old.seat.table_id self.old.seat.me self.old.number cpu.old true false }
         requires stands { Stands (start_of station.now.table.shared.key) Given self.old.number cpu.old }
         requires between { is_changing cpu.old.phase ≡ true }
@@ -232,13 +227,9 @@ impl Pass {
         ensures carries { Carries station.now.table.shared.table_id (start_of station.now.table.shared.key) self.new.seat.table_id self.new.seat.me self.new.number cpu.new true false }
         ensures restored { cpu.new.phase ≡ Restored }
     {
-        for _ in rt.forever() {
-            if !is_local(cpu.phase()) {
-                return;
-            }
+        while is_local(cpu.phase()) {
             self.work(station, ram, goal, cpu);
         }
-        unreachable!()
     }
 
     pub(crate) fn arrive_again(&mut self, station: &Station, cpu: &mut Cpu)
@@ -309,7 +300,7 @@ pub fn attend<R: Wait, G: Gate>(
     if !pass.wait_first(rt, station, &mut cpu) {
         return (Attendee { cpu, pass }, Outcome::Cancelled);
     }
-    pass.work_all(rt, station, ram, goal, &mut cpu);
+    pass.work_all(station, ram, goal, &mut cpu);
     pass.arrive_again(station, &mut cpu);
     pass.wait_second(rt, station, &mut cpu);
     (Attendee { cpu, pass }, Outcome::Complete)

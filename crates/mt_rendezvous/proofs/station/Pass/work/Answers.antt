@@ -10,7 +10,10 @@ use Rattle.std.specs.Option.{option_map_or}
 use Rattle.mt_cpu.specs.Steps.{HasWritten}
 use Rattle.mt_rendezvous.specs.declared.view.Start.{Start}
 use Rattle.mt_rendezvous.specs.Station.{held, start_of, order_of, code}
-use Rattle.mt_rendezvous.specs.Plays.{Stands, work, own_event}
+use Rattle.mt_machine.specs.Machine.{Steps}
+use Rattle.mt_rendezvous.specs.declared.view.Held.{Held}
+use Rattle.mt_rendezvous.proofs.Keeps.{took_of}
+use Rattle.mt_rendezvous.specs.Plays.{PassSteps, Took, Stands, work, own_event}
 use Rattle.mt_rendezvous.proofs.Facts.{fits_goal, has_written, low_numbers, back_place, place_same}
 use Rattle.mt_rendezvous.proofs.Steps.{works, writes_back}
 use Rattle.mt_rendezvous.proofs.Carried.{of_it}
@@ -99,6 +102,34 @@ returns-in-Some-place-clause-stands c =
     let tells = c.store.ensures.2 in
     let now = of_it r (λ u h. Stands u Given h.number (work u h).cpu) tells.3 in
     subst (Stands t Given c.args.self.now.number) (sym (worked t c.args.goal.now c.local-e.result c.args.cpu.now c.local-e.new.self c.requires.goal c.local-e.ensures.event c.local-e.ensures.step)) now
+
+abbrev Done : Start → Held → ℕ → ℕ → Type 0
+Done u h i n = (was : ℕ) × PassSteps u i was n (Some (Steps h.number (own_event u h.cpu))) h (work u h)
+
+-- the event took place
+done : (t : Start) (i n number : ℕ) (p q : Processor) → Done t (held number p true false) i n → q ≡ own_step t.goal (own_event t p) p → Took t number (own_event t p) p q
+done t i n number p q d is =
+    subst (Took t number (own_event t p) p) (sym is) (took_of t i d.0 n (own_event t p) (held number p true false) (work t (held number p true false)) d.1)
+
+pub returns-in-Some-place-clause-becomes : goal.returns-in-Some-place-clause-becomes
+returns-in-Some-place-clause-becomes c = worked (start_of c.args.station.now.table.shared.key) c.args.goal.now c.local-e.result c.args.cpu.now c.local-e.new.self c.requires.goal c.local-e.ensures.event c.local-e.ensures.step
+
+pub returns-in-None-clause-becomes : goal.returns-in-None-clause-becomes
+returns-in-None-clause-becomes c = worked (start_of c.args.station.now.table.shared.key) c.args.goal.now c.local-e.result c.args.cpu.now c.local-e.new.self c.requires.goal c.local-e.ensures.event c.local-e.ensures.step
+
+pub returns-in-Some-place-clause-event : goal.returns-in-Some-place-clause-event
+returns-in-Some-place-clause-event c =
+    let t : Start = start_of c.args.station.now.table.shared.key in
+    let i : ℕ = c.args.station.now.count + 2 + c.in-Some-place.i in
+    done t i c.in-Some.value c.args.self.now.number c.args.cpu.now c.local-e.new.self (of_it c.requires.carries (λ u h. Done u h i c.in-Some.value) c.store.ensures.2.2)
+    (worked t c.args.goal.now c.local-e.result c.args.cpu.now c.local-e.new.self c.requires.goal c.local-e.ensures.event c.local-e.ensures.step)
+
+pub returns-in-None-clause-event : goal.returns-in-None-clause-event
+returns-in-None-clause-event c =
+    let t : Start = start_of c.args.station.now.table.shared.key in
+    let i : ℕ = c.args.self.now.number + 2 in
+    done t i c.code.result c.args.self.now.number c.args.cpu.now c.local-e.new.self (of_it c.requires.carries (λ u h. Done u h i c.code.result) c.store-in-None.ensures.2.2)
+    (worked t c.args.goal.now c.local-e.result c.args.cpu.now c.local-e.new.self c.requires.goal c.local-e.ensures.event c.local-e.ensures.step)
 
 pub returns-in-None-clause-stands : goal.returns-in-None-clause-stands
 returns-in-None-clause-stands c =

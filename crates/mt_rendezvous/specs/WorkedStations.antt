@@ -1,0 +1,50 @@
+-- A worked station: two processors without pairs that have taken, the first with a dirty word, over a memory of one line.
+use Rattle.std.specs.Prelude.{ℕ, Bool, true, List, [], ◌∷◌, None, Some, slice_set}
+use Rattle.mt_cache.specs.declared.line.CacheLine.{CacheLine}
+use Rattle.mt_machine.specs.declared.phase.Phase.{Phase}
+use Rattle.mt_machine.specs.declared.phase.Phase.TheVariants.{Taken}
+use Rattle.mt_machine.specs.declared.go.Go.TheVariants.{Pending}
+use Rattle.mt_machine.specs.System.{Processor, start_processor}
+use Rattle.mt_machine.specs.Memory.{Memory}
+use Rattle.mt_machine.specs.Machine.{Machine}
+use Rattle.mt_machine.specs.WorkedRuns.{bare_file, line_of}
+use Rattle.mt_rendezvous.specs.declared.view.Held.{Held}
+use Rattle.mt_rendezvous.specs.declared.view.Start.{Start}
+use Rattle.mt_rendezvous.specs.declared.view.View.{View}
+use Rattle.mt_rendezvous.specs.Station.{held, numbered}
+use Rattle.mt_rendezvous.specs.Calls.{gathered, opening_words}
+
+-- lines of the first have words 1 and 2 dirty
+abbrev pub first : Phase → Processor
+first phase = record (start_processor (bare_file 0x806)) { lines = line_of 0x4000 0 ∷ []; phase = phase }
+
+abbrev pub second : Phase → Processor
+second phase = record (start_processor (bare_file 0x806)) { phase = phase }
+
+abbrev pub one_line : List ℕ → Memory
+one_line words = record { windows = record { base = 0x100000; lines = 1 } ∷ []; words = words }
+
+abbrev pub zeros : List ℕ
+zeros = 0 ∷ 0 ∷ 0 ∷ 0 ∷ 0 ∷ 0 ∷ 0 ∷ 0 ∷ []
+
+abbrev pub start : Start
+start = gathered (first Taken ∷ second Taken ∷ []) (one_line zeros) (bare_file 0x800)
+
+-- the machine of two processors while the update is under way
+abbrev pub machine_of : Processor → Processor → Machine
+machine_of p q = record {
+  system = record { processors = p ∷ q ∷ []; memory = one_line zeros };
+  order = Some (record { goal = bare_file 0x800; from_era = 0; go = Pending });
+}
+
+-- both processors, with what their passes have added
+abbrev pub pair_of : Processor → Bool → Bool → Processor → Bool → Bool → List Held
+pair_of p first_added first_again q second_added second_again = held 0 p first_added first_again ∷ held 1 q second_added second_again ∷ []
+
+-- the words with these two counts, before any event between the barriers
+abbrev pub words_of : ℕ → ℕ → List ℕ
+words_of first second = slice_set (slice_set (opening_words 2 zeros) 0 first) 1 second
+
+-- the root's view before it gives a processor away
+abbrev pub root_view : View
+root_view = record { root = true; held = numbered 0 start.cpus; go = Pending; shown = None; start = start }
