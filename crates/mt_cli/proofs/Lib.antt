@@ -6,3 +6,4 @@ mod OneOutput
 mod SomeOutput
 mod SoundCommands
 mod Parting
+mod CommentLines

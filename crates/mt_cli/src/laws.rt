@@ -1,10 +1,16 @@
-ghost use Rattle.std.specs.Prelude.{◌≡◌, ◌≢◌, ◌+◌, ◌^◌, ◌≤◌, ◌↔◌, ℕ, List, Some};
+ghost use Rattle.std.specs.Prelude.{◌≡◌, ◌≢◌, ◌+◌, ◌++◌, ◌^◌, ◌<◌, ◌≤◌, ◌↔◌, ℕ, List, Some};
 ghost use Rattle.mt_ports.specs.declared.status.Status.{Status};
 ghost use Rattle.mt_ports.specs.declared.status.Status.TheVariants.{Done};
 ghost use Rattle.mt_cli.specs.declared.command.DumpCommand.{DumpCommand};
 ghost use Rattle.mt_cli.specs.declared.command.Command.TheVariants.{Dump};
 ghost use Rattle.mt_cli.specs.CommandLine.{command_of, log_among};
+ghost use Rattle.mt_cli.specs.Lines.{used_line};
 ghost use Rattle.mt_cli.specs.Output.{MayChoose, Output};
+ghost use Rattle.mt_dump.specs.Canon.{canon};
+ghost use Rattle.mt_dump.specs.Dump.{Shown};
+
+use mt_dump::a_register_file_is_shown_by_its_text;
+use mt_regs::RegFile;
 
 /// Words and bytes have one status, and one text: but for a tidied or rounded file, where
 /// several lists of ranges may be the least. So each cause of a status holds both ways.
@@ -23,3 +29,10 @@ pub fn a_size_is_a_power_of_two()
 pub fn words_and_bytes_have_an_output()
     ensures { (words : List (List ℕ)) (bytes : List ℕ) → (text : List ℕ) × (status : Status) × Output words bytes text status }
 {}
+
+/// What `tidy` writes is again a dump: the canonical text of a file behind the line of a number of pairs shows the file.
+pub fn a_tidied_text_is_a_dump(f: &RegFile)
+    ensures { (used : ℕ) → used < 2 ^ 64 → Shown (used_line used ++ canon f.now) f.now }
+{
+    a_register_file_is_shown_by_its_text(f);
+}

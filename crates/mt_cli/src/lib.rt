@@ -13,7 +13,8 @@ mod words;
 pub use answers::answer;
 pub use command::{Command, DumpCommand, TidyOption};
 pub use laws::{
-    a_size_is_a_power_of_two, words_and_bytes_have_an_output, words_and_bytes_have_one_output,
+    a_size_is_a_power_of_two, a_tidied_text_is_a_dump, words_and_bytes_have_an_output,
+    words_and_bytes_have_one_output,
 };
 pub use lines::{disabled_line, lost_line, page_text, run_line, too_few_line, used_line};
 pub use reading::read_all;

@@ -2,6 +2,7 @@ pub mod Asked
 pub mod Calls
 pub mod Courses
 mod DirtyCounts
+mod Fresh
 pub mod Eras
 pub mod FirstFault
 pub mod Heads

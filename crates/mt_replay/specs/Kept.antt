@@ -25,6 +25,7 @@ use Rattle.mt_script.specs.declared.command.Command.{Command}
 use Rattle.mt_script.specs.declared.fault.ScriptFault.{ScriptFault}
 use Rattle.mt_replay.specs.FirstFault.{first_fault}
 use Rattle.mt_replay.specs.ReplayState.{ReplayState, first_state, state_after}
+use Rattle.mt_replay.specs.Texts.{stale_count}
 
 abbrev pub windows_of : Situation → List Window
 windows_of now = map (λ w. window w.0 w.1) now.windows
@@ -51,6 +52,10 @@ pub record IsReplayState (s : ReplayState) : Type 0 where
 -- no processor has finished more updates than this
 abbrev pub HasEras : ℕ → ReplayState → Type 0
 HasEras most s = All (λ p. p.era ≤ most) s.machine.system.processors
+
+-- a report tells of nothing stale
+abbrev pub NothingIsStale : Type 0
+NothingIsStale = (s : ReplayState) (f : RegisterFile) → IsReplayState s → s.now.file ≡ Some f → All (λ p. stale_count p ≡ 0) s.machine.system.processors
 
 -- each command that fits keeps it, and finishes at most one update
 abbrev pub CommandsKeep : Type 0

@@ -1,4 +1,4 @@
-ghost use Rattle.mt_replay.specs.Kept.{CommandsFinishOne, CommandsKeep, ScriptsKeep};
+ghost use Rattle.mt_replay.specs.Kept.{CommandsFinishOne, CommandsKeep, NothingIsStale, ScriptsKeep};
 
 /// Each command that fits keeps what holds of each state of a script.
 pub fn commands_keep_a_state()
@@ -13,4 +13,9 @@ pub fn commands_finish_one_update()
 /// What holds of each state holds of each that a whole script comes to.
 pub fn scripts_keep_each_state()
     ensures { ScriptsKeep }
+{}
+
+/// In each state of a script the count `stale` of each processor is 0.
+pub fn nothing_is_stale_in_scripts()
+    ensures { NothingIsStale }
 {}

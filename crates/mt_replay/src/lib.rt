@@ -20,7 +20,10 @@ pub use headline::{
     the_headline_holds, worked_course, worked_headline, worked_refusals, worked_since,
 };
 pub use hidden::caches_are_never_seen_in_scripts;
-pub use kept::{commands_finish_one_update, commands_keep_a_state, scripts_keep_each_state};
+pub use kept::{
+    commands_finish_one_update, commands_keep_a_state, nothing_is_stale_in_scripts,
+    scripts_keep_each_state,
+};
 pub use laws::{same_files_are_equal, the_first_fault_is_first};
 pub use replayer::Replayer;
 pub use running::replay;
