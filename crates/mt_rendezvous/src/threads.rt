@@ -20,7 +20,7 @@ use crate::broadcast::call_and_take;
 use crate::gather::disband;
 use crate::station::{Attendee, Root, Station, attend};
 use mt_bus::System;
-use mt_core::{CallFault, Core};
+use mt_core::{CallFault, Core, a_core_arises};
 use mt_cpu::Cpu;
 use mt_machine::Event;
 use mt_ports::Gate;
@@ -391,7 +391,7 @@ fn lead<R: Threads + Wait + Sync, G: Gate>(
     requires begins { Begins (gathered core.old.system.processors core.old.system.memory goal.now) }
     ensures { core.new ≡ updated core.old.system [] goal.now }
 {
-    core.is_core();
+    a_core_arises(core); // a fact for the proof
     let system = mem::replace(core, stand_in(alloc)).into_system();
     *core = finished(rt, alloc, system, goal, gate);
 }
