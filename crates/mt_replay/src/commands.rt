@@ -97,7 +97,7 @@ fn begin(core: &mut Core, goal: &RegFile) -> Option<CallFault>
     ensures short { (own : Fault) → result ≡ Some (CallFault.Refused own) → own.msr < 0x1000 }
 {
     a_core_arises(core); // a fact for the proof
-    goal.is_register_file();
+    goal.is_register_file(); // a fact for the proof
     match core.call(goal.same()) {
         Ok(()) => None,
         Err(fault) => Some(fault),

@@ -103,7 +103,7 @@ pub(crate) fn read_head(source: &[u8]) -> Result<Begun, Offence>
             Err(offence) => return Err(offence),
         }
     }
-    setup.is_situation();
+    setup.is_situation(); // a fact for the proof
     match read_end(&setup, end_place(source)) {
         Ok(()) => unreachable!(),
         Err(fault) => Err(Offence::Script(fault)),

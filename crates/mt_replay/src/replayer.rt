@@ -161,8 +161,8 @@ impl Replayer {
         ensures { IfOk result (λ r. r ≡ first_state setup file) }
     {
         let mut setup = setup;
-        setup.is_situation();
-        file.is_register_file();
+        setup.is_situation(); // a fact for the proof
+        file.is_register_file(); // a fact for the proof
         let system = System::new(alloc, setup.cpus(), &file)?;
         let core = Core::new(system);
         setup.dumped(file.same());

@@ -179,7 +179,7 @@ fn run_begun<K: Sink>(
         next,
         number,
     } = begun;
-    file.is_register_file();
+    file.is_register_file(); // a fact for the proof
     if let Some(fault) = file.first_fault() {
         return tell(
             writer,
