@@ -66,6 +66,10 @@ pub record HasNoCallSince (k count : ℕ) (words : List ℕ) : Type 0 where
   pub quiet : NoneOf IsCall (steps_at (k + 1) count)
   pub stored : stored_in (steps_at (k + 1) count) ≡ words
 
+-- the end of the first section, with another goal
+abbrev pub with_other_goal : Step
+with_other_goal = record (step_at 6) { before = record (step_at 6).before { goal = (step_at 4).before.goal } }
+
 -- ---- what the relations refuse
 
 abbrev pub worked_file : RegisterFile

@@ -1,11 +1,11 @@
 ghost use Rattle.std.specs.Prelude.{◌≡◌, ◌∷◌, [], None, false, map, replicate};
 ghost use Rattle.mt_kinds.specs.declared.mem_type.MemType.TheVariants.{WB};
-ghost use Rattle.mt_replay.specs.Headline.{AcceptedWhereIdleAndWhole, CompleteUpdatesAreKept, GoalsAreOfTheirSections, IsCall, IsRefused, NoneOf, RefusedUpdatesChangeNothing, ReleasedUpdatesAreKept, ReplaysAreOfTheCourse, StartsAsTheDumpShows, StatesAreOfTheCourse, StepsAreOfTheirLines, StepsFollow, TranscriptIsOfTheCourse, TranscriptIsOneLine, course, left, release_line, wrote};
+ghost use Rattle.mt_replay.specs.Headline.{AcceptedWhereIdleAndWhole, CompleteUpdatesAreKept, GoalsAreOfTheirSections, IsCall, IsRefused, NoneOf, RefusedUpdatesChangeNothing, ReleasedUpdatesAreKept, ReplaysAreOfTheCourse, SectionOf, StartsAsTheDumpShows, StatesAreOfTheCourse, StepsAreOfTheirLines, StepsFollow, TranscriptIsOfTheCourse, TranscriptIsOneLine, UpdateOf, course, left, release_line, wrote};
 ghost use Rattle.mt_replay.specs.Kept.{HoldsThrough};
 ghost use Rattle.mt_replay.specs.Statuses.{AreWithoutCall};
 ghost use Rattle.mt_script.specs.declared.command.Command.TheVariants as command;
 ghost use Rattle.mt_replay.specs.Texts.{complete_line};
-ghost use Rattle.mt_replay.specs.WorkedScript.{IsKept, HasNoCallSince, seven_stored, step_at, steps_at, updated_processor, worked_file, worked_lines, worked_script};
+ghost use Rattle.mt_replay.specs.WorkedScript.{IsKept, HasNoCallSince, seven_stored, step_at, steps_at, updated_processor, with_other_goal, worked_file, worked_lines, worked_script};
 
 /// The headline: whatever bytes a script has, its transcript is what the steps of its course write.
 /// In whatever order the processors step, once any of them is told that an accepted update is
@@ -64,4 +64,17 @@ pub fn worked_since()
     ensures without_call { AreWithoutCall (left (step_at 37)) (map (λ step. step.command) (steps_at 38 6)) }
     ensures call { AreWithoutCall (step_at 6).before (command.End ∷ []) → ⊥ }
     ensures states { HoldsThrough (λ s. s.machine.order ≡ None) worked_script → ⊥ }
+{}
+
+/// The sections and updates of which calls and releases tell, and what isn't theirs for one thing.
+pub fn worked_updates_of_steps()
+    ensures other_goal { (u : SectionOf (steps_at 0 6) with_other_goal) → u.opens ≡ step_at 4 → u.lines ≡ steps_at 5 1 → ⊥ }
+    ensures two_sections { (u : SectionOf (steps_at 0 7) (step_at 6)) → u.lines ≡ steps_at 5 2 → ⊥ }
+    ensures begun_by_a_store { (u : SectionOf (steps_at 0 6) (step_at 6)) → u.opens ≡ step_at 3 → ⊥ }
+    ensures ended_by_a_register { SectionOf (steps_at 0 5) (step_at 5) → ⊥ }
+    ensures no_call { (u : UpdateOf (steps_at 0 37) (step_at 37)) → u.call ≡ step_at 7 → ⊥ }
+    ensures no_pass { (u : UpdateOf (steps_at 0 37) (step_at 37)) → u.pass ≡ step_at 14 → ⊥ }
+    ensures no_release { (u : UpdateOf (steps_at 0 37) (step_at 37)) → u.first ≡ step_at 36 → ⊥ }
+    ensures second_pass { (u : UpdateOf (steps_at 0 37) (step_at 37)) → u.waiting ≡ steps_at 7 6 → ⊥ }
+    ensures second_release { (u : UpdateOf (steps_at 0 39) (step_at 39)) → u.waiting ≡ steps_at 7 5 → u.pass ≡ step_at 12 → u.between ≡ steps_at 13 26 → ⊥ }
 {}

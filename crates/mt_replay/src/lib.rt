@@ -18,6 +18,7 @@ mod worked;
 
 pub use headline::{
     the_headline_holds, worked_course, worked_headline, worked_refusals, worked_since,
+    worked_updates_of_steps,
 };
 pub use hidden::caches_are_never_seen_in_scripts;
 pub use kept::{
