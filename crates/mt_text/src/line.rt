@@ -2,6 +2,7 @@ ghost use Rattle.std.specs.Prelude.{◌≡◌, ◌≤◌, ◌<◌, ◌+◌, ◌�
 ghost use Rattle.std.specs.List.{before_first, position_or_len};
 
 use crate::Place;
+use memchr::memchr;
 
 /// One line of a source, without its LF.
 #[derive(Clone, Copy)]
@@ -15,12 +16,13 @@ pub struct Line<'a> {
 
 ghost use Rattle.mt_text.specs.Text.{is_line_end, lines_of, end_of, words_at, StandInOrder};
 
-const LONGEST: usize = 4096;
+pub(crate) const LONGEST: usize = 4096;
 
-fn line_end(text: &[u8]) -> Option<usize>
+/// Where the first LF of a text stands.
+pub(crate) fn line_end(text: &[u8]) -> Option<usize>
     ensures { result ≡ position is_line_end text.now }
 {
-    text.iter().position(|b| *b == b'\n')
+    memchr(b'\n', text)
 }
 
 /// The line that begins at an offset. There is none exactly at the end.

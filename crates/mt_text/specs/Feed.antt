@@ -1,0 +1,136 @@
+-- Lines of a source out of one buffer (own).
+--     known_front bytes      how many bytes of the first line a call lends, and whether an LF stands behind them, where these bytes tell it
+--     moved_on feed front      the feed after it has lent them
+--     taken feed      how many bytes it has taken
+-- A line of more than 4,096 bytes is lent in its first 4,097; what follows them stays pending.
+use Rattle.std.specs.Prelude.{ℕ, ◌+◌, ◌≡◌, ◌≤◌, ◌<◌, ◌⊎◌, ◌↔◌, ◌++◌, nat_lt, Bool, true, false, List, [], length, take, drop, position, slice_range, if◌then◌else◌, Option, Some, None, Result, MatchResult, MatchOption}
+use Rattle.std.specs.Io.KnownBytes.{Consumes, IsAtEnd, Keeps}
+use Rattle.mt_text.specs.Text.{is_line_end}
+use Rattle.mt_text.specs.declared.line.Line.{Line}
+use Rattle.mt_text.specs.declared.place.Place.{Place}
+use Rattle.mt_text.specs.declared.fault.FeedFault.{FeedFault}
+use Rattle.mt_text.specs.declared.fault.FeedFault.TheVariants.{TooLong}
+use Rattle.mt_text.specs.declared.buffer.Buffer.{Buffer}
+use Rattle.mt_text.specs.declared.feed.Feed.TheInside.{Inside}
+
+abbrev pub known_at : ℕ → Option ℕ → Option (ℕ × Bool)
+known_at count (Some at) = if nat_lt 4096 at then Some (4097, false) else Some (at, true)
+known_at count None = if nat_lt 4096 count then Some (4097, false) else None
+
+abbrev pub known_front : List ℕ → Option (ℕ × Bool)
+known_front bytes = known_at (length bytes) (position is_line_end bytes)
+
+-- the line that was lent last
+pub record LentLine : Type 0 where
+  pub bytes : List ℕ
+  pub offset : ℕ  -- counted from the start of the feed
+  pub number : ℕ
+
+pub record Feeding : Type 0 where
+  pub line : LentLine
+  pub pending : List ℕ  -- bytes that were taken and not lent yet
+  pub offset : ℕ  -- where they begin
+  pub place : Place  -- and their place
+  pub fault : Option FeedFault  -- the fault that was answered
+
+abbrev pub taken : Feeding → ℕ
+taken feed = feed.offset + length feed.pending
+
+abbrev pub at_start : Feeding
+at_start = record {
+  line = record { bytes = []; offset = 0; number = 1 };
+  pending = [];
+  offset = 0;
+  place = record { line = 1; column = 1 };
+  fault = None;
+}
+
+-- the bytes of a front, and the LF that ends it
+abbrev pub with_end : ℕ × Bool → ℕ
+with_end front = front.0 + (if front.1 then 1 else 0)
+
+abbrev pub place_after : Place → ℕ × Bool → Place
+place_after place front =
+    if front.1 then record { line = place.line + 1; column = 1 }
+    else record { line = place.line; column = place.column + front.0 }
+
+abbrev pub moved_on : Feeding → ℕ × Bool → Feeding
+moved_on feed front = record {
+  line = record { bytes = take front.0 feed.pending; offset = feed.offset; number = feed.place.line };
+  pending = drop (with_end front) feed.pending;
+  offset = feed.offset + with_end front;
+  place = place_after feed.place front;
+  fault = feed.fault;
+}
+
+-- The front of these bytes, which are all that is left where they don't tell it.
+abbrev pub IsFront : List ℕ → Option (List ℕ) → ℕ × Bool → Type 0
+IsFront seen left front =
+    (known_front seen ≡ Some front) ⊎ ((known_front seen ≡ None) × IsAtEnd left × (1 ≤ length seen) × (front ≡ (length seen, false)))
+
+-- a call has lent a line of the bytes that it has seen, or there is none
+abbrev pub Moves : Feeding → Feeding → List ℕ → Option (List ℕ) → Bool → Type 0
+Moves old new seen left true = (front : ℕ × Bool) × IsFront seen left front × (new ≡ moved_on (record old { pending = seen }) front)
+Moves old new seen left false = (seen ≡ []) × IsAtEnd left × (new.pending ≡ []) × (new.offset ≡ old.offset) × (new.place ≡ old.place) × (new.fault ≡ old.fault)
+
+-- the bytes that it has seen are pending, and nothing is lent
+abbrev pub Stops : Feeding → Feeding → List ℕ → FeedFault → Type 0
+Stops old new seen fault = (new.pending ≡ seen) × (new.offset ≡ old.offset) × (new.place ≡ old.place) × (new.fault ≡ Some fault)
+
+-- after a call that took more bytes
+abbrev pub Advances : Feeding → Feeding → List ℕ → Option (List ℕ) → Result Bool FeedFault → Type 0
+Advances old new more left result = MatchResult result (Moves old new (old.pending ++ more) left) (Stops old new (old.pending ++ more))
+
+-- the line that a call lends is the one that the feed has moved on to
+abbrev pub IsLent : Feeding → Line → Type 0
+IsLent feed line = (line.bytes.now ≡ feed.line.bytes) × (line.offset ≡ feed.line.offset) × (line.number ≡ feed.line.number) × (line.next ≡ feed.offset)
+
+abbrev pub LinesAre : Feeding → Feeding → List ℕ → Option (List ℕ) → Result (Option Line) FeedFault → Type 0
+LinesAre old new seen left result = MatchResult result
+    (λ answer. MatchOption answer (Moves old new seen left false) (λ line. Moves old new seen left true × IsLent new line))
+    (Stops old new seen)
+
+-- A call that asks for the next line: what it has taken from the source, and what the feed is then.
+abbrev pub Lines : Feeding → Feeding → Option (List ℕ) → Option (List ℕ) → ℕ → ℕ → Result (Option Line) FeedFault → Type 0
+Lines old new left after given_before given_after result =
+    (more : List ℕ) × Consumes left after more × (given_after ≡ given_before + length more) × LinesAre old new (old.pending ++ more) after result
+
+-- a read has put more bytes behind the pending ones, none only at the end, or nothing where it failed
+abbrev pub Reads : {E : Type 0} → List ℕ → List ℕ → Option (List ℕ) → Option (List ℕ) → Result ℕ E → Type 0
+Reads old new left after result = MatchResult result
+    (λ count. (more : List ℕ) × (length more ≡ count) × (new ≡ old ++ more) × Consumes left after more × (count ≡ 0 → IsAtEnd after))
+    (λ _. (new ≡ old) × Keeps left after)
+
+-- more bytes are pending, or there are none, or a fault came
+abbrev pub Fills : Feeding → Feeding → List ℕ → Option (List ℕ) → Result Bool FeedFault → Type 0
+Fills old new more left result =
+    (new.pending ≡ old.pending ++ more) × (new.offset ≡ old.offset) × (new.place ≡ old.place)
+    × MatchResult result (λ some. (new.fault ≡ None) × (some ≡ nat_lt 0 (length more)) × (some ≡ false → IsAtEnd left) × (taken new ≤ 16777216)) (λ fault. new.fault ≡ Some fault)
+
+-- what holds of each feed
+pub record IsFeeding (feed : Feeding) : Type 0 where
+  pub room : length feed.pending ≤ 8192
+  pub behind : feed.line.offset + length feed.line.bytes ≤ feed.offset
+  pub lines : feed.place.line ≤ feed.offset + 1
+  pub columns : feed.place.column ≤ feed.offset + 1
+  pub bound : taken feed ≤ 16777216 + 8192
+  pub long : (feed.fault ≡ Some TooLong) ↔ (16777216 < taken feed)
+
+-- what a buffer holds: the line that was lent last, and what is pending
+abbrev pub lent : Buffer → List ℕ
+lent b = slice_range b.bytes b.line b.stop
+
+abbrev pub pending : Buffer → List ℕ
+pending b = slice_range b.bytes b.start b.end
+
+abbrev pub feed_seen : Inside → Feeding
+feed_seen inside = record {
+  line = record { bytes = lent inside.buffer; offset = inside.from; number = inside.number };
+  pending = pending inside.buffer;
+  offset = inside.offset;
+  place = inside.place;
+  fault = inside.fault;
+}
+
+abbrev pub IsFeedingInside : Inside → Type 0
+IsFeedingInside inside = IsFeeding (feed_seen inside)
