@@ -5,6 +5,8 @@ mod broadcast;
 mod gather;
 mod laws;
 mod station;
+#[cfg(test)]
+mod station_tests;
 mod view;
 mod worked;
 
