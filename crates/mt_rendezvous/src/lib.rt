@@ -6,6 +6,8 @@ mod gather;
 mod laws;
 mod station;
 #[cfg(test)]
+mod station_tests;
+#[cfg(test)]
 mod tests;
 mod threads;
 mod view;
