@@ -15,4 +15,4 @@ pub use laws::{
     settled_after_each_release, start_is_quiet, stays_coherent, stays_sound, steps_keep_now,
     takes_broadcast, updated_is_quiet, whole_update,
 };
-pub use worked::{worked_counts, worked_first_release, worked_holdings};
+pub use worked::{worked_counts, worked_first_release, worked_fresh, worked_holdings};

@@ -2,7 +2,7 @@ ghost use Rattle.std.specs.Prelude.{◌≡◌, ◌∷◌, [], map};
 ghost use Rattle.mt_machine.specs.WorkedRuns.{alone, called, goal_of, palette, walk, whole, with_first_word};
 ghost use Rattle.mt_laws.specs.Counts.{IsCounted, IsEachAtMostOnce, IsEachOnce};
 ghost use Rattle.mt_laws.specs.Kept.{SameHoldings};
-ghost use Rattle.mt_laws.specs.Settled.{IsFirstRelease};
+ghost use Rattle.mt_laws.specs.Settled.{IsFirstRelease, IsFresh};
 ghost use Rattle.mt_laws.specs.WorkedRuns.{bare_called, between_of_bare, pair_arrived, pair_order, pair_released};
 
 /// An update of two processors: where both have arrived none has passed, and the first release comes after
@@ -20,6 +20,14 @@ pub fn worked_holdings()
     ensures other_buffers { SameHoldings (alone whole).system (alone (record whole { buffers = [] })).system → ⊥ }
     ensures other_entries { SameHoldings (alone whole).system (alone (record whole { entries = [] })).system → ⊥ }
     ensures other_word { SameHoldings (alone whole).system (with_first_word 9 (alone whole)).system → ⊥ }
+{}
+
+/// A processor that holds a line, a buffer and an entry of its own era, and of an earlier one.
+pub fn worked_fresh()
+    ensures fresh { IsFresh whole }
+    ensures older_line { IsFresh (record whole { era = 1; buffers = []; entries = [] }) → ⊥ }
+    ensures older_buffer { IsFresh (record whole { era = 1; lines = []; entries = [] }) → ⊥ }
+    ensures older_entry { IsFresh (record whole { era = 1; lines = []; buffers = [] }) → ⊥ }
 {}
 
 /// The events of an update from a take to a release, and who takes.
