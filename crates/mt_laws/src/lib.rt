@@ -16,6 +16,6 @@ pub use laws::{
     takes_broadcast, updated_is_quiet, updated_words, whole_update, write_backs_have_places,
 };
 pub use worked::{
-    worked_barriers, worked_counts, worked_eras, worked_first_release, worked_holdings,
-    worked_kinds, worked_nothing, worked_orders,
+    worked_barriers, worked_counts, worked_eras, worked_first_release, worked_fresh,
+    worked_holdings, worked_kinds, worked_nothing, worked_orders,
 };

@@ -11,7 +11,7 @@ ghost use Rattle.mt_machine.specs.WorkedRuns.{alone, bare, bare_file, call_order
 ghost use Rattle.mt_laws.specs.Barriers.{BarriersHold, IsFull, NoneActsInChange, NoneRunsInChange};
 ghost use Rattle.mt_laws.specs.Counts.{IsCounted, IsEachAtMostOnce, IsEachOnce};
 ghost use Rattle.mt_laws.specs.Kept.{IsUnderWay, OrderHolds, SameHoldings, is_of_update, is_still, is_take_step};
-ghost use Rattle.mt_laws.specs.Settled.{IsFirstRelease};
+ghost use Rattle.mt_laws.specs.Settled.{IsFirstRelease, IsFresh};
 ghost use Rattle.mt_laws.specs.Starts.{HasEras};
 ghost use Rattle.mt_laws.specs.Updates.{HoldsNothing, LeadsToBroadcast, all_running, all_taken};
 ghost use Rattle.mt_laws.specs.WorkedRuns.{bare_called, between_of_bare, pair_arrived, pair_between, pair_order, pair_released};
@@ -36,6 +36,14 @@ pub fn worked_holdings()
     ensures other_buffers { SameHoldings (alone whole).system (alone (record whole { buffers = [] })).system → ⊥ }
     ensures other_entries { SameHoldings (alone whole).system (alone (record whole { entries = [] })).system → ⊥ }
     ensures other_word { SameHoldings (alone whole).system (with_first_word 9 (alone whole)).system → ⊥ }
+{}
+
+/// A processor that holds a line, a buffer and an entry of its own era, and of an earlier one.
+pub fn worked_fresh()
+    ensures fresh { IsFresh whole }
+    ensures older_line { IsFresh (record whole { era = 1; buffers = []; entries = [] }) → ⊥ }
+    ensures older_buffer { IsFresh (record whole { era = 1; lines = []; entries = [] }) → ⊥ }
+    ensures older_entry { IsFresh (record whole { era = 1; lines = []; buffers = [] }) → ⊥ }
 {}
 
 /// The events of an update from a take to a release, and who takes.
