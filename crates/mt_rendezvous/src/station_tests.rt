@@ -13,7 +13,7 @@ use crate::broadcast::call_and_take;
 use crate::gather::disband;
 use crate::station::{Attendee, Outcome, Root, Station, attend};
 use mt_bus::System;
-use mt_core::Core;
+use mt_core::{Core, a_core_arises};
 use mt_cpu::Cpu;
 use mt_kinds::MemType;
 use mt_laws::start_is_quiet;
@@ -116,7 +116,7 @@ fn take(core: &mut Core, goal: &RegFile) -> bool
     ensures some { IsTrue result → 0 < length core.new.system.processors }
     ensures few { IsTrue result → length core.new.system.processors ≤ 16 }
 {
-    core.is_core();
+    a_core_arises(core); // a fact for the proof
     let cpus = core.system().cpus.as_slice();
     if cpus.is_empty() || !fits(cpus, goal) || !has_room(cpus) {
         return false;
