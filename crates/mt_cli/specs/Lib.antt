@@ -1,6 +1,7 @@
 pub mod CommandLine
 pub mod Lines
 pub mod Output
+pub mod Program
 pub mod Reading
 pub mod Tool
 pub mod Written

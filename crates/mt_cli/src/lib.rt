@@ -5,6 +5,7 @@ mod answers;
 mod command;
 mod laws;
 mod lines;
+mod program;
 mod reading;
 mod texts;
 mod top;
@@ -17,6 +18,7 @@ pub use laws::{
     words_and_bytes_have_one_output,
 };
 pub use lines::{disabled_line, lost_line, page_text, run_line, too_few_line, used_line};
+pub use program::program_status;
 pub use reading::read_all;
 pub use texts::{canonical_text, grained_text, tidied_text, types_text};
 pub use top::tool;

@@ -40,7 +40,7 @@ fn command_of_one(name: &[u8]) -> Option<Command>
     } else if name == b"types".as_slice() {
         Some(Command::Dump(DumpCommand::Types))
     } else if name == b"tidy".as_slice() {
-        of_dump(Some(USUAL_TIDY))
+        Some(Command::Dump(USUAL_TIDY))
     } else if name == b"replay".as_slice() {
         Some(Command::Replay)
     } else {

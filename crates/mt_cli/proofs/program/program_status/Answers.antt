@@ -1,0 +1,4 @@
+use Rattle.mt_cli.proofs.program.program_status.Goals as goal
+
+pub returns-clause-leaves : goal.returns-clause-leaves
+returns-clause-leaves g c bytes before left taken = (c.run.result, c.exit_code.ensures, c.run.ensures.leaves bytes before left taken)

@@ -1,0 +1,13 @@
+//! The program of `mtrr`, with a stored run of several words that ends with a status other than 0.
+#![tactic(auto)]
+
+use mt_cli::program_status;
+use mt_ports::{OpenGate, StdSink, StdSource};
+use std::env;
+use std::process::ExitCode;
+
+fn main(rt: HostRuntime) -> ExitCode {
+    let mut source = StdSource::new(rt.stdin());
+    let mut sink = StdSink::new(rt.stdout());
+    program_status(&rt, env::args(&rt), &mut source, &mut sink, &OpenGate)
+}
