@@ -32,7 +32,7 @@ use Rattle.mt_laws.proofs.Words.WordLaws.{entry_lines, entry_has, quiet_stands, 
 use Rattle.mt_laws.proofs.Words.ControlLaws.{paged}
 use Rattle.mt_laws.proofs.Words.Agreement.{stands_next, step_keeps_word}
 use Rattle.mt_flat.specs.Flat.{Flat, FlatEvent, Loads, Stores, empty_all, flat_answer, flat_next}
-use Rattle.mt_flat.specs.Seen.{flat_after, given, given_access, given_control, written_of}
+use Rattle.mt_flat.specs.Seen.{flat_after, given_access, given_control, written_of}
 use Rattle.mt_flat.proofs.Emptying.{Same, same_drain}
 use Rattle.mt_flat.proofs.Storing.{KeepsBuffers, buffers_kept, change_keeps, same_load, same_store, value_of_load}
 

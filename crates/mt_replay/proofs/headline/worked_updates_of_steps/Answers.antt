@@ -1,4 +1,4 @@
-use Rattle.std.proofs.Common.{◌≡◌, ap, refl, subst, inl, inr, arith, ◌⊎◌, ℕ, zero, suc, true, List, [], ◌∷◌, ◌++◌, length, nat_lt, ⊎_elim}
+use Rattle.std.proofs.Common.{◌≡◌, ap, refl, subst, arith, ◌⊎◌, ℕ, zero, suc, true, List, [], ◌∷◌, ◌++◌, length, nat_lt, ⊎_elim}
 use Rattle.std.specs.Prelude.{slice_index_or}
 use Rattle.std.proofs.lemmas.Bool.{lt-ltb, ltb-true}
 use Rattle.mt_regs.specs.RegisterFile.{RegisterFile}

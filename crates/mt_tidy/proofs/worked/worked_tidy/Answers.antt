@@ -1,10 +1,9 @@
-use Rattle.std.proofs.Common.{◌≡◌, List, [], ◌∷◌, length, refl, arith, ap, subst, ⊎_elim}
-use Rattle.mt_kinds.specs.declared.mem_type.MemType.TheVariants.{UC, WB}
+use Rattle.std.proofs.Common.{[], ◌∷◌, length, refl, arith, ap, subst, ⊎_elim}
+use Rattle.mt_kinds.specs.declared.mem_type.MemType.TheVariants.{WB}
 use Rattle.mt_regs.specs.RegisterFile.{RegisterFile}
-use Rattle.mt_tidy.specs.declared.range.Range.{Range}
 use Rattle.mt_tidy.specs.Keeps.{Keeps}
 use Rattle.mt_tidy.specs.Ranges.{InOrder, IsAllowed}
-use Rattle.mt_tidy.specs.WorkedRanges.{cached, one_range, range, two_ranges}
+use Rattle.mt_tidy.specs.WorkedRanges.{cached, one_range, range}
 use Rattle.mt_tidy.proofs.worked.worked_tidy.Goals as goal
 
 by_default : Keeps cached []

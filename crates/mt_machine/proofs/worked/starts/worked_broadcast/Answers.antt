@@ -1,4 +1,4 @@
-use Rattle.std.proofs.Common.{◌≡◌, ℕ, arith, ap, refl, Option, Some, None}
+use Rattle.std.proofs.Common.{ℕ, arith, ap, refl, Option, Some, None}
 use Rattle.mt_machine.specs.Machine.{Order}
 use Rattle.mt_machine.specs.WorkedRuns.{line_of, ready}
 use Rattle.mt_machine.proofs.worked.starts.worked_broadcast.Goals as goal
