@@ -118,7 +118,7 @@ impl Feed {
         requires room { length self.old.pending ≤ 4096 }
         ensures bytes { (more : List ℕ) × Consumes (S.left source.old) (S.left source.new) more × (S.given source.new ≡ S.given source.old + length more) × Fills self.old self.new more (S.left source.new) result }
         ensures failed { IsErrOf result FeedFault.ReadFault → Rose (S.faults source.old) (S.faults source.new) × (self.new.pending ≡ self.old.pending) }
-        ensures later { S.faults source.old ≤ S.faults source.new }
+        ensures stands { (IsErrOf result FeedFault.ReadFault → ⊥) → S.faults source.new ≡ S.faults source.old }
     {
         match self.buffer.take_from(source) {
             Ok(count) => {
@@ -141,7 +141,7 @@ impl Feed {
         ensures stays { (fault : FeedFault) → self.old.fault ≡ Some fault → (result ≡ Err fault) × (self.new ≡ self.old) × (source.new ≡ source.old) }
         ensures unasked { (front : ℕ × Bool) → known_front self.old.pending ≡ Some front → source.new ≡ source.old }
         ensures failed { IsErrOf result FeedFault.ReadFault → self.old.fault ≡ None → Rose (S.faults source.old) (S.faults source.new) × (known_front self.new.pending ≡ None) }
-        ensures later { S.faults source.old ≤ S.faults source.new }
+        ensures stands { (IsErrOf result FeedFault.ReadFault → ⊥) → S.faults source.new ≡ S.faults source.old }
     {
         if let Some(fault) = self.fault {
             return Err(fault);
@@ -167,7 +167,7 @@ impl Feed {
         ensures stays { (fault : FeedFault) → self.old.fault ≡ Some fault → (result ≡ Err fault) × (source.new ≡ source.old) }
         ensures unasked { (front : ℕ × Bool) → known_front self.old.pending ≡ Some front → source.new ≡ source.old }
         ensures failed { IsErrOf result FeedFault.ReadFault → self.old.fault ≡ None → Rose (S.faults source.old) (S.faults source.new) }
-        ensures later { S.faults source.old ≤ S.faults source.new }
+        ensures stands { (IsErrOf result FeedFault.ReadFault → ⊥) → S.faults source.new ≡ S.faults source.old }
     {
         if self.advance(source)? {
             Ok(Some(self.current()))
@@ -183,7 +183,7 @@ impl Feed {
         ensures fault { IfErr result (λ fault. self.new.fault ≡ Some fault) }
         ensures stays { (fault : FeedFault) → self.old.fault ≡ Some fault → (result ≡ Err fault) × (self.new ≡ self.old) × (source.new ≡ source.old) }
         ensures failed { IsErrOf result FeedFault.ReadFault → self.old.fault ≡ None → Rose (S.faults source.old) (S.faults source.new) }
-        ensures later { S.faults source.old ≤ S.faults source.new }
+        ensures stands { (IsErrOf result FeedFault.ReadFault → ⊥) → S.faults source.new ≡ S.faults source.old }
     {
         if let Some(fault) = self.fault {
             return Err(fault);

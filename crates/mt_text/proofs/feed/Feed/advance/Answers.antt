@@ -36,7 +36,7 @@ returns-in_err-fill-clause-failed g c =
     let unknown = ap known_front (sym pending_is) ∙ sym c.known_front.ensures ∙ c.in_default-known_front.is in
     λ is none.
     let failed = c.in_err-fill.ensures.failed (rw (p.1, p.2) at is) in
-    (omega (arith, c.pieces.invariant.later, failed.0), ap known_front failed.1 ∙ unknown)
+    (rw c.pieces.invariant.stood at failed.0, ap known_front failed.1 ∙ unknown)
 
 pub returns-then-not-branch-clause-bytes : goal.returns-then-not-branch-clause-bytes
 returns-then-not-branch-clause-bytes g c =

@@ -10,7 +10,7 @@ invariant-pieces g l = record {
   place : l.self.place ≡ l.initial.self.place;
   took : (more : List ℕ) × Consumes (g.S.Source.left l.initial.source) (g.S.Source.left l.source) more × (g.S.Source.given l.source ≡ g.S.Source.given l.initial.source + length more) × (l.self.pending ≡ l.initial.self.pending ++ more);
   unasked : (front : ℕ × Bool) → known_front l.initial.self.pending ≡ Some front → (l.source ≡ l.initial.source) × (l.self.pending ≡ l.initial.self.pending);
-  later : g.S.Source.faults l.initial.source ≤ g.S.Source.faults l.source;
+  stood : g.S.Source.faults l.source ≡ g.S.Source.faults l.initial.source;
 }
 
 abbrev pub decreases-pieces : goal.decreases-pieces

@@ -42,5 +42,5 @@ pieces-preserved g c =
         omega (arith, took.2, more.2, length-append took.0 more.0),
         drains c.args.self.now c.pieces.self c.pass.new.self c.fill.new.self _ took.0 more.0 all c.pass.ensures took.3 parts.0 parts.1,
       );
-      later = omega (arith, c.pieces.invariant.later, c.in_ok-fill.ensures.later);
+      stood = c.in_ok-fill.ensures.stands (λ is. absurd (cc (is))) ∙ c.pieces.invariant.stood;
     }

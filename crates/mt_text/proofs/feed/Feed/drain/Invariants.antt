@@ -7,7 +7,7 @@ abbrev pub invariant-pieces : goal.invariant-pieces
 invariant-pieces g l = record {
   fault : l.self.fault ≡ None;
   took : (more : List ℕ) × Consumes (g.S.Source.left l.initial.source) (g.S.Source.left l.source) more × (g.S.Source.given l.source ≡ g.S.Source.given l.initial.source + length more) × (taken l.self ≡ taken l.initial.self + length more);
-  later : g.S.Source.faults l.initial.source ≤ g.S.Source.faults l.source;
+  stood : g.S.Source.faults l.source ≡ g.S.Source.faults l.initial.source;
 }
 
 abbrev pub decreases-pieces : goal.decreases-pieces
