@@ -1,7 +1,9 @@
 -- Lists of runs of worked examples.
-use Rattle.std.specs.Prelude.{ℕ, List, [], ◌∷◌}
+use Rattle.std.specs.Prelude.{ℕ, List, [], ◌∷◌, refl}
+use Rattle.std.proofs.Common.{arith}
 use Rattle.mt_kinds.specs.declared.mem_type.MemType.{MemType}
 use Rattle.mt_kinds.specs.declared.mem_type.MemType.TheVariants.{UC, WB, WP}
+use Rattle.mt_ranges.specs.declared.block.Block.{Block}
 use Rattle.mt_regs.specs.declared.page_type.PageType.TheVariants.{Kind}
 use Rattle.mt_regs.specs.RegisterFile.{RegisterFile, blank_file}
 use Rattle.mt_types.specs.declared.run.Run.{Run}
@@ -17,3 +19,7 @@ three = run 0 0x80 WB ∷ run 0x80 0x20 WP ∷ run 0xa0 0x60 UC ∷ []
 -- 2 ^ 24 pages, all of them UC, as the ranges are off
 abbrev pub off : RegisterFile
 off = blank_file 36 0x400
+
+-- the pages from 80H to 8FH
+abbrev pub sixteen : Block
+sixteen = record { first = 0x80; log = 4; small = omega arith; aligned = refl; within_memory = omega arith }

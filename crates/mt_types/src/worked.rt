@@ -1,10 +1,10 @@
-ghost use Rattle.std.specs.Prelude.{◌≡◌, ◌∷◌, [], None, Some};
+ghost use Rattle.std.specs.Prelude.{◌≡◌, ◌∷◌, [], None, Some, false, true};
 ghost use Rattle.mt_kinds.specs.declared.mem_type.MemType.TheVariants.{UC, WB, WP};
 ghost use Rattle.mt_regs.specs.declared.page_type.PageType.TheVariants.{Kind, Undefined};
 ghost use Rattle.mt_types.specs.Follow.{Follows};
-ghost use Rattle.mt_types.specs.Runs.{IsLongestRun, IsRunsOf, IsTypeMap, kind_at, pages_end};
+ghost use Rattle.mt_types.specs.Runs.{IsLongestRun, IsRunsOf, IsTypeMap, kind_at, pages_end, shares_page};
 ghost use Rattle.mt_types.specs.Tables.{HasPart, IsPartsOf, IsTypeTable, type_in};
-ghost use Rattle.mt_types.specs.WorkedMaps.{off, run, three};
+ghost use Rattle.mt_types.specs.WorkedMaps.{off, run, sixteen, three};
 
 /// A type map, and lists that are none for one thing.
 pub fn worked_maps()
@@ -26,6 +26,10 @@ pub fn worked_types()
     ensures second { kind_at three 0x80 ≡ Kind WP }
     ensures last { kind_at three 0xff ≡ Kind UC }
     ensures past_the_end { kind_at three 0x100 ≡ Undefined }
+    ensures shares_its_last { shares_page sixteen (run 0x8f 1 WB) ≡ true }
+    ensures shares_its_first { shares_page sixteen (run 0 0x81 WB) ≡ true }
+    ensures ends_before { shares_page sixteen (run 0 0x80 WB) ≡ false }
+    ensures begins_after { shares_page sixteen (run 0x90 1 WB) ≡ false }
     ensures in_no_part { type_in [] 0 ≡ UC }
     ensures before_the_second { type_in ((0, WB) ∷ (0x80, WP) ∷ (0xa0, UC) ∷ []) 0x7f ≡ WB }
     ensures at_the_second { type_in ((0, WB) ∷ (0x80, WP) ∷ (0xa0, UC) ∷ []) 0x80 ≡ WP }
