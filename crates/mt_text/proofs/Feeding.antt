@@ -9,6 +9,7 @@ use Rattle.std.specs.Io.KnownBytes.{IsAtEnd}
 use Rattle.mt_text.specs.declared.place.Place.{Place}
 use Rattle.mt_text.specs.Feed.{Feeding, Moves, Stops, known_at, known_front, moved_on, place_after, taken, with_end}
 use Rattle.mt_text.specs.declared.fault.FeedFault.{FeedFault}
+use Rattle.mt_text.specs.declared.fault.FeedFault.TheVariants.{ReadFault}
 
 position_below : (bytes : List ℕ) (at : ℕ) → position is_line_end bytes ≡ Some at → at < length bytes
 position_below bytes at is = by (nat_lt (position_or_len is_line_end bytes) (length bytes)) refl is
@@ -66,11 +67,17 @@ pub lends_known : (old now new : Feeding) (more : List ℕ) (left : Option (List
 lends_known old now new more left front pending offset place none still known is =
     (front, inl (ap known_front (sym pending) ∙ known), is ∙ moved_same old now (old.pending ++ more) front pending offset place (still ∙ sym none))
 
+-- a call after a fault
+pub stops_at_once : (feed : Feeding) (fault : FeedFault) → feed.fault ≡ Some fault → Stops feed feed (feed.pending ++ []) fault
+stops_at_once feed fault is = (sym (append-nil feed.pending), refl, refl, is, λ read none. let e : None ≡ Some fault = sym none ∙ is in cc e)
+
 -- a call that fails
 pub stops : (old now new : Feeding) (more piece : List ℕ) (fault : FeedFault) → now.pending ≡ old.pending ++ more → now.offset ≡ old.offset → now.place ≡ old.place
-    → new.pending ≡ now.pending ++ piece → new.offset ≡ now.offset → new.place ≡ now.place → new.fault ≡ Some fault → Stops old new (old.pending ++ (more ++ piece)) fault
-stops old now new more piece fault pending offset place more_pending same_offset same_place is =
-    (more_pending ∙ ap (λ l. l ++ piece) pending ∙ append_assoc old.pending more piece, same_offset ∙ offset, same_place ∙ place, is)
+    → new.pending ≡ now.pending ++ piece → new.offset ≡ now.offset → new.place ≡ now.place → new.fault ≡ Some fault
+    → known_front now.pending ≡ None → (fault ≡ ReadFault → new.pending ≡ now.pending) → Stops old new (old.pending ++ (more ++ piece)) fault
+stops old now new more piece fault pending offset place more_pending same_offset same_place is unknown failed =
+    let seen = more_pending ∙ ap (λ l. l ++ piece) pending ∙ append_assoc old.pending more piece in
+    (seen, same_offset ∙ offset, same_place ∙ place, is, λ read none. ap known_front (sym seen ∙ failed read) ∙ unknown)
 
 place_still : (place : Place) (count : ℕ) → count ≡ 0 → place_after place (count, false) ≡ place
 place_still place count none = let same : place.column + count ≡ place.column = omega arith in rw same refl

@@ -9,7 +9,7 @@ use Rattle.mt_text.specs.Text.{is_line_end}
 use Rattle.mt_text.specs.declared.line.Line.{Line}
 use Rattle.mt_text.specs.declared.place.Place.{Place}
 use Rattle.mt_text.specs.declared.fault.FeedFault.{FeedFault}
-use Rattle.mt_text.specs.declared.fault.FeedFault.TheVariants.{TooLong}
+use Rattle.mt_text.specs.declared.fault.FeedFault.TheVariants.{ReadFault, TooLong}
 use Rattle.mt_text.specs.declared.buffer.Buffer.{Buffer}
 use Rattle.mt_text.specs.declared.feed.Feed.TheInside.{Inside}
 
@@ -73,9 +73,11 @@ abbrev pub Moves : Feeding → Feeding → List ℕ → Option (List ℕ) → Bo
 Moves old new seen left true = (front : ℕ × Bool) × IsFront seen left front × (new ≡ moved_on (record old { pending = seen }) front)
 Moves old new seen left false = (seen ≡ []) × IsAtEnd left × (new.pending ≡ []) × (new.offset ≡ old.offset) × (new.place ≡ old.place) × (new.fault ≡ old.fault)
 
--- the bytes that it has seen are pending, and nothing is lent
+-- The bytes that it has seen are pending, and nothing is lent. After a failed read they tell no line, so each known line was lent.
 abbrev pub Stops : Feeding → Feeding → List ℕ → FeedFault → Type 0
-Stops old new seen fault = (new.pending ≡ seen) × (new.offset ≡ old.offset) × (new.place ≡ old.place) × (new.fault ≡ Some fault)
+Stops old new seen fault =
+    (new.pending ≡ seen) × (new.offset ≡ old.offset) × (new.place ≡ old.place) × (new.fault ≡ Some fault)
+    × (fault ≡ ReadFault → old.fault ≡ None → known_front seen ≡ None)
 
 -- after a call that took more bytes
 abbrev pub Advances : Feeding → Feeding → List ℕ → Option (List ℕ) → Result Bool FeedFault → Type 0

@@ -140,7 +140,7 @@ impl Feed {
         ensures bytes { (more : List ℕ) × Consumes (S.left source.old) (S.left source.new) more × (S.given source.new ≡ S.given source.old + length more) × Advances self.old self.new more (S.left source.new) result }
         ensures stays { (fault : FeedFault) → self.old.fault ≡ Some fault → (result ≡ Err fault) × (self.new ≡ self.old) × (source.new ≡ source.old) }
         ensures unasked { (front : ℕ × Bool) → known_front self.old.pending ≡ Some front → source.new ≡ source.old }
-        ensures failed { IsErrOf result FeedFault.ReadFault → self.old.fault ≡ None → Rose (S.faults source.old) (S.faults source.new) × (known_front self.new.pending ≡ None) }
+        ensures failed { IsErrOf result FeedFault.ReadFault → self.old.fault ≡ None → Rose (S.faults source.old) (S.faults source.new) }
         ensures stands { (IsErrOf result FeedFault.ReadFault → ⊥) → S.faults source.new ≡ S.faults source.old }
     {
         if let Some(fault) = self.fault {

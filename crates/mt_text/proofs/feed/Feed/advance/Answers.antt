@@ -1,10 +1,15 @@
-use Rattle.std.proofs.Common.{◌≡◌, ◌++◌, ◌∙◌, Some, None, false, length, sym, ap, rules, arith, length-append}
-use Rattle.std.proofs.KnownBytes.{Consumes-trans}
+use Rattle.std.proofs.Common.{◌≡◌, ◌++◌, ◌∙◌, Some, None, Err, [], false, length, sym, ap, rules, arith, length-append}
+use Rattle.std.proofs.KnownBytes.{Consumes-nil, Consumes-trans}
 use Rattle.std.proofs.lemmas.Bool.Decides.{nat_tests}
 use Rattle.std.proofs.lemmas.Result.{err_from_is_err_and}
 use Rattle.mt_text.specs.Feed.{known_front}
-use Rattle.mt_text.proofs.Feeding.{lends_known, lends_last, stops}
+use Rattle.mt_text.proofs.Feeding.{lends_known, lends_last, stops, stops_at_once}
 use Rattle.mt_text.proofs.feed.Feed.advance.Goals as goal
+
+pub returns-in-Some-clause-bytes : goal.returns-in-Some-clause-bytes
+returns-in-Some-clause-bytes g c =
+    let is : c.args.self.now.fault ≡ Some c.in-Some.fault = sym (ap (λ f. f.fault) c.self.view_is) ∙ c.in-Some.is in
+    ([], Consumes-nil _, omega arith, stops_at_once c.args.self.now c.in-Some.fault is)
 
 pub returns-in-Some-known_front-clause-bytes : goal.returns-in-Some-known_front-clause-bytes
 returns-in-Some-known_front-clause-bytes g c =
@@ -22,21 +27,21 @@ returns-in_err-fill-clause-bytes g c =
     let took = i.took in
     let more = c.in_err-fill.ensures.bytes in
     let parts = more.3 in
+    let pending_is = c.pending.ensures.value ∙ ap (λ f. f.pending) c.self-in-pieces.view_is in
+    let unknown = ap known_front (sym pending_is) ∙ sym c.known_front.ensures ∙ c.in_default-known_front.is in
     rw p.1 (
       took.0 ++ more.0,
       Consumes-trans _ _ _ took.0 more.0 took.1 more.1,
       omega (arith, took.2, more.2, length-append took.0 more.0),
-      stops c.args.self.now c.pieces.self c.fill.new.self took.0 more.0 _ took.3 i.offset i.place parts.0 parts.1 parts.2 (parts.3 ∙ ap Some (sym p.2)),
+      stops c.args.self.now c.pieces.self c.fill.new.self took.0 more.0 _ took.3 i.offset i.place parts.0 parts.1 parts.2 (parts.3 ∙ ap Some (sym p.2)) unknown (λ read. (c.in_err-fill.ensures.failed (ap Err (sym p.2 ∙ read))).1),
     )
 
 pub returns-in_err-fill-clause-failed : goal.returns-in_err-fill-clause-failed
 returns-in_err-fill-clause-failed g c =
     let p = err_from_is_err_and c.from_residual.result c.from_residual.ensures.1 in
-    let pending_is = c.pending.ensures.value ∙ ap (λ f. f.pending) c.self-in-pieces.view_is in
-    let unknown = ap known_front (sym pending_is) ∙ sym c.known_front.ensures ∙ c.in_default-known_front.is in
     λ is none.
     let failed = c.in_err-fill.ensures.failed (rw (p.1, p.2) at is) in
-    (rw c.pieces.invariant.stood at failed.0, ap known_front failed.1 ∙ unknown)
+    rw c.pieces.invariant.stood at failed.0
 
 pub returns-then-not-branch-clause-bytes : goal.returns-then-not-branch-clause-bytes
 returns-then-not-branch-clause-bytes g c =
