@@ -1,4 +1,6 @@
 mod Broadcasts
+mod Running
+mod Ended
 mod Keeps
 mod Local
 mod Steps

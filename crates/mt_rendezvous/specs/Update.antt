@@ -1,13 +1,28 @@
 -- What an update on threads comes to.
-use Rattle.std.specs.Prelude.{◌≡◌, length}
+use Rattle.std.specs.Prelude.{◌≡◌, ℕ, ◌<◌, ◌≤◌, Bool, true, false, List, [], length, None, Some, slice_get}
+use Rattle.std.specs.List.{All}
+use mathlib.Core.Option.{some}
+use lib.ListN.{get_elem?}
+use Rattle.atomic_table.specs.Table.{Me}
+use Rattle.atomic_table.specs.Seated.{TableId}
 use Rattle.mt_regs.specs.RegisterFile.{RegisterFile}
+use Rattle.mt_machine.specs.declared.phase.Phase.TheVariants.{Running, Taken}
+use Rattle.mt_machine.specs.declared.go.Go.{Go}
+use Rattle.mt_machine.specs.declared.go.Go.TheVariants.{Given, Cancelled}
+use Rattle.mt_machine.specs.System.{Processor, System}
 use Rattle.mt_machine.specs.Machine.{Calls, IsEnabled, Machine, run}
-use Rattle.mt_machine.specs.Start.{IsQuiet}
-use Rattle.mt_machine.specs.Update.{emptied}
-use Rattle.mt_laws.specs.Updates.{all_taken, call_and_takes}
+use Rattle.mt_machine.specs.Start.{HasEraRoom, IsQuiet}
+use Rattle.mt_machine.specs.Update.{emptied, updated}
+use Rattle.mt_laws.specs.Updates.{all_running, all_taken, call_and_takes}
 use Rattle.mt_core.specs.Rounds.{in_order}
+use Rattle.mt_rendezvous.specs.declared.station.Attendee.{Attendee}
+use Rattle.mt_rendezvous.specs.declared.view.Held.{Held}
+use Rattle.mt_rendezvous.specs.declared.view.Start.{Start}
+use Rattle.mt_rendezvous.specs.declared.view.View.{View}
 use Rattle.mt_rendezvous.specs.Station.{Begins}
-use Rattle.mt_rendezvous.specs.Calls.{gathered}
+use Rattle.mt_rendezvous.specs.Calls.{Carries, HoldsOne, IsRoot, gathered}
+
+-- ---- before the threads
 
 -- the first state is quiet, the goal may be called there, and the other is the one after the call and all takes in ascending order: the buffers are emptied in that order, all have taken, and a station can be gathered
 pub record HasTaken (s : Machine) (goal : RegisterFile) (m : Machine) : Type 0 where
@@ -17,3 +32,53 @@ pub record HasTaken (s : Machine) (goal : RegisterFile) (m : Machine) : Type 0 w
   pub system : m.system ≡ all_taken (emptied s.system (in_order s))
   pub count : length m.system.processors ≡ length s.system.processors
   pub begins : Begins (gathered m.system.processors m.system.memory goal)
+
+-- ---- the threads
+
+-- an attendee that has not begun
+pub record IsReady (table : TableId) (t : Start) (c : Processor) (its : TableId) (me : Me (Unit {0}) View) (number : ℕ) : Type 0 where
+  pub carries : Carries table t its me number c false false
+  pub taken : c.phase ≡ Taken
+
+-- an attendee that has ended
+abbrev pub Came : TableId → TableId → Me (Unit {0}) View → ℕ → Processor → Type 0
+Came table its me number c = HoldsOne table its me number c × (c.phase ≡ Running)
+
+-- attendees that have not begun, by their numbers
+pub record IsQueue (table : TableId) (t : Start) (items : List Attendee) : Type 0 where
+  pub ready : (k : ℕ) (a : Attendee) → get_elem? items k ≡ some a → IsReady table t a.cpu a.pass.seat.table_id a.pass.seat.me a.pass.number × (a.pass.number ≡ k)
+
+-- the root has each of these processors, by their numbers
+abbrev pub Tied : View → List Processor → Type 0
+Tied v done = (i : ℕ) (c : Processor) → slice_get done i ≡ Some c → (p : ℕ) × (h : Held) × (get_elem? v.held p ≡ some h) × (h.number ≡ i) × (h.cpu ≡ c)
+
+abbrev pub decided : Bool → Go
+decided true = Given
+decided false = Cancelled
+
+-- where the threads end: the root has so many processors, and each runs
+pub record Returned (table its : TableId) (me : Me (Unit {0}) View) (go : Go) (count : ℕ) (done : List Processor) : Type 0 where
+  pub root : IsRoot table its me
+  pub said : me.0.go ≡ go
+  pub tied : Tied me.0 done
+  pub ran : All (λ c. c.phase ≡ Running) done
+  pub whole : length done ≡ count
+
+abbrev pub running : Processor → Processor
+running p = record p { phase = Running }
+
+-- what is left of a broadcast state by an update whose go was given, and by one that was cancelled
+abbrev pub left_by : Bool → System → RegisterFile → System
+left_by true s goal = (updated s [] goal).system
+left_by false s goal = all_running s
+
+-- ---- without threads
+
+-- no update is under way, the goal may be called, and no processor has a buffer
+pub record CanUpdate (s : System) (goal : RegisterFile) : Type 0 where
+  pub quiet : IsQuiet (record { system = s; order = None })
+  pub enabled : IsEnabled (record { system = s; order = None }) (Calls goal)
+  pub no_buffers : All (λ p. p.buffers ≡ []) s.processors
+  pub room : HasEraRoom (record { system = s; order = None })
+  pub some : 0 < length s.processors
+  pub few : length s.processors ≤ 16

@@ -7,6 +7,9 @@ mod laws;
 mod station;
 #[cfg(test)]
 mod station_tests;
+#[cfg(test)]
+mod tests;
+mod threads;
 mod view;
 mod worked;
 
@@ -14,5 +17,6 @@ pub use broadcast::call_and_take;
 pub use gather::disband;
 pub use laws::{broadcast_begins, full_station_holds, station_is_led};
 pub use station::{Attendee, Outcome, Pass, Root, Station, attend};
+pub use threads::update;
 pub use view::{Held, Key, Start, View};
 pub use worked::{worked_fits, worked_machines, worked_views};

@@ -1,0 +1,113 @@
+-- What the threads hand back, and where the update ends.
+use Rattle.std.proofs.Common.{◌≡◌, ◌⊎◌, ◌∙◌, ap, sym, refl, subst, inl, inr, ⊎_elim, arith, ℕ, zero, suc, ◌+◌, Bool, true, false, List, [], ◌∷◌, ◌++◌, length, length-append, rules, Option, None, Some}
+use Rattle.std.specs.Prelude.{IfSome, option_to_list, slice_get}
+use Rattle.std.specs.List.{All}
+use mathlib.Core.Option.{some}
+use lib.ListN.{get_elem?}
+use Rattle.atomic_table.specs.Table.{Me}
+use Rattle.atomic_table.specs.Seated.{TableId}
+use Rattle.atomic_table.proofs.Lists.{at_last, at_longer}
+use Rattle.mt_bus.specs.Parts.{system}
+use Rattle.mt_machine.specs.declared.phase.Phase.TheVariants.{Running, Taken}
+use Rattle.mt_machine.specs.Memory.{Memory}
+use Rattle.mt_machine.specs.System.{Processor}
+use Rattle.mt_machine.specs.Machine.{Machine}
+use Rattle.mt_laws.proofs.Barrier.Claims.{all_get, all_of}
+use Rattle.mt_rendezvous.specs.declared.station.Attendee.{Attendee}
+use Rattle.mt_rendezvous.specs.declared.station.Outcome.{Outcome}
+use Rattle.mt_rendezvous.specs.declared.station.Outcome.TheVariants.{Complete, Cancelled}
+use Rattle.mt_rendezvous.specs.declared.view.Held.{Held}
+use Rattle.mt_rendezvous.specs.declared.view.Start.{Start}
+use Rattle.mt_rendezvous.specs.declared.view.View.{View}
+use Rattle.mt_rendezvous.specs.Station.{Begins, both, broadcast, held}
+use Rattle.mt_rendezvous.specs.Calls.{Attended, Attends, Carries, Ends, HoldsOne}
+use Rattle.mt_rendezvous.specs.Update.{Came, IsQueue, IsReady, Tied, decided, left_by}
+
+-- ---- one attendee
+
+module _ (table : TableId) (t : Start) (its : TableId) (me : Me (Unit {0}) View) (k : ℕ) (q : Processor) where
+  holds_one : (added again : Bool) → Carries table t its me k q added again → HoldsOne table its me k q
+  holds_one added again w = (held k q added again, w.same, w.bare, w.holds, refl, refl)
+
+  pub came : (o : Outcome) (p : Processor) → Attended o table t k p its me q → Came table its me k q
+  came Complete p a = (holds_one true true a.0, ap (λ r. r.phase) a.2)
+  came Cancelled p a = (holds_one true false a.0, ap (λ r. r.phase) a.1)
+
+-- ---- attendees in a row
+
+pub popped : (table : TableId) (t : Start) (old new : List Attendee) (o : Option Attendee) → old ≡ new ++ option_to_list o → IsQueue table t old
+    → IfSome o (λ a. IsReady table t a.cpu a.pass.seat.table_id a.pass.seat.me a.pass.number × (a.pass.number ≡ length new))
+popped table t old new None e q = search rules
+popped table t old new (Some a) e q = q.ready (length new) a (ap (λ l. get_elem? l (length new)) e ∙ at_last new a (length new) refl)
+
+pub left : (table : TableId) (t : Start) (old new : List Attendee) (o : Option Attendee) → old ≡ new ++ option_to_list o → IsQueue table t old
+    → IfSome o (λ a. (length old ≡ length new + 1) × IsQueue table t new)
+left table t old new None e q = search rules
+left table t old new (Some a) e q = (
+  omega (arith, ap (λ l. length l) e, length-append new (a ∷ [])),
+  record { ready = λ k b at. q.ready k b (ap (λ l. get_elem? l k) e ∙ at_longer new (a ∷ []) k b at) },
+)
+
+pub queue : (table : TableId) (t : Start) (items : List Attendee) → Begins t → ((k : ℕ) (a : Attendee) → get_elem? items k ≡ some a → Attends table t k a.cpu a.pass.seat.table_id a.pass.seat.me a.pass.number)
+    → IsQueue table t items
+queue table t items begins all = record {
+  ready = λ k a at.
+      let w = all k a at in (
+        record { carries = w.carries; taken = all_get (λ p. p.phase ≡ Taken) t.cpus begins.broadcasts.taken k a.cpu w.first },
+        w.numbered,
+      );
+}
+
+-- ---- processors that came back
+
+at_end : (l : List Processor) (a b : Processor) (j : ℕ) → slice_get (l ++ a ∷ []) j ≡ Some b → (slice_get l j ≡ Some b) ⊎ ((j ≡ length l) × (a ≡ b))
+at_end [] a b zero e = inr (refl, (let same : Some a ≡ Some b = e in cc))
+at_end [] a b (suc j) e = absurd (cc)
+at_end (x ∷ xs) a b zero e = inl e
+at_end (x ∷ xs) a b (suc j) e = ⊎_elim (λ t. inl t) (λ t. inr (ap suc t.0, t.1)) (at_end xs a b j e)
+
+pub tie : (v w new : View) (h : Held) (done now : List Processor) (c : Processor) → w.held ≡ h ∷ [] → h.cpu ≡ c → h.number ≡ length done → new ≡ both v w → now ≡ done ++ c ∷ []
+    → Tied v done → Tied new now
+tie v w new h done now c is cpu num same more old i d at =
+    let held : new.held ≡ h ∷ v.held = ap (λ u. u.held) same ∙ ap (λ l. l ++ v.held) is in ⊎_elim
+    (λ (t : slice_get done i ≡ Some d). let o = old i d t in (suc o.0, o.1, subst (λ l. get_elem? l (suc o.0) ≡ some o.1) (sym held) o.2, o.3, o.4))
+    (λ (t : (i ≡ length done) × (c ≡ d)). (0, h, subst (λ l. get_elem? l 0 ≡ some h) (sym held) refl, num ∙ sym t.0, cpu ∙ t.1))
+    (at_end done c d i (subst (λ l. slice_get l i ≡ Some d) more at))
+
+pub ran_too : (done now : List Processor) (c : Processor) → now ≡ done ++ c ∷ [] → c.phase ≡ Running → All (λ p. p.phase ≡ Running) done → All (λ p. p.phase ≡ Running) now
+ran_too done now c more runs old = all_of (λ p. p.phase ≡ Running) now (λ k d at. ⊎_elim
+    (λ (t : slice_get done k ≡ Some d). all_get (λ p. p.phase ≡ Running) done old k d t)
+    (λ (t : (k ≡ length done) × (c ≡ d)). subst (λ p. p.phase ≡ Running) t.1 runs)
+    (at_end done c d k (subst (λ l. slice_get l k ≡ Some d) more at)))
+
+-- ---- the end
+
+same_list : (xs ys : List Processor) → length xs ≡ length ys → ((k : ℕ) (c d : Processor) → slice_get xs k ≡ Some c → slice_get ys k ≡ Some d → c ≡ d) → xs ≡ ys
+same_list [] [] size same = refl
+same_list [] (y ∷ ys) size same = absurd (omega arith)
+same_list (x ∷ xs) [] size same = absurd (omega arith)
+same_list (x ∷ xs) (y ∷ ys) size same = λ i. same 0 x y refl refl i ∷ same_list xs ys (omega arith) (λ k. same (suc k)) i
+
+-- the processors that came back and the memory are what the update leaves
+pub whole : (t : Start) (done : List Processor) (ram : Memory) (given : Bool) (v : View) → Ends t v ram → Tied v done → All (λ p. p.phase ≡ Running) done → v.go ≡ decided given → length done ≡ length t.cpus
+    → system done ram ≡ left_by given (broadcast t).system t.goal
+whole t done ram given v end tied ran said size = by given said
+  where
+    each : (k : ℕ) (c d : Processor) → slice_get done k ≡ Some c → slice_get end.machine.system.processors k ≡ Some d → c ≡ d
+    each k c d at at' =
+        let w = tied k c at in
+        let there : Some c ≡ Some d = ap Some (sym w.4) ∙ sym (end.has w.0 w.1 w.2) ∙ ap (slice_get end.machine.system.processors) w.3 ∙ at' in
+        cc
+
+    same : done ≡ end.machine.system.processors
+    same = same_list done end.machine.system.processors (size ∙ sym end.size) each
+
+    parts : system done ram ≡ end.machine.system
+    parts = λ i. system (same i) (sym end.memory i)
+
+    runs : All (λ p. p.phase ≡ Running) end.machine.system.processors
+    runs = subst (All (λ p. p.phase ≡ Running)) same ran
+
+    by : (g : Bool) → v.go ≡ decided g → system done ram ≡ left_by g (broadcast t).system t.goal
+    by true is = parts ∙ ap (λ (m : Machine). m.system) (end.given is runs)
+    by false is = parts ∙ ap (λ (m : Machine). m.system) (end.cancelled is runs)

@@ -1,0 +1,18 @@
+use Rattle.std.proofs.Common.{◌∙◌, ap, []}
+use Rattle.mt_regs.specs.RegisterFile.{RegisterFile}
+use Rattle.mt_machine.specs.System.{System}
+use Rattle.mt_machine.specs.Update.{updated}
+use Rattle.mt_core.specs.Rounds.{in_order}
+use Rattle.mt_laws.proofs.Updates.ToBroadcast.{updated_from_broadcast}
+use Rattle.mt_rendezvous.proofs.threads.update.Goals as goal
+
+pub returns-clause-updated : goal.returns-clause-updated
+returns-clause-updated g c =
+    let h = c.in_ok-call_and_take.ensures.taken in (
+      h.enabled.0,
+      h.enabled.2,
+      c.lead.ensures
+          ∙ ap (λ (f : RegisterFile). updated c.call_and_take.new.core.system [] f) c.same-aim.ensures
+          ∙ ap (λ (s : System). updated s [] c.args.goal) h.system
+          ∙ (updated_from_broadcast c.args.core.now.system (in_order c.args.core.now) c.args.goal).from_taken,
+    )

@@ -1,0 +1,424 @@
+// An update on threads: one for each processor, in a scope.
+ghost use Rattle.std.specs.Prelude.{◌≡◌, ℕ, ◌+◌, ◌<◌, ◌≤◌, ◌↔◌, [], Bool, true, false, length, Err, None, Some, IsSome, map, OnOk, OnErr, IfOk, IfErr, IfSome, IfNone, vec_len, vec_capacity};
+ghost use Rattle.std.specs.List.{All};
+ghost use Rattle.std.specs.Thread.{IsSync};
+ghost use Rattle.mt_regs.specs.declared.fault.Fault.{Fault};
+ghost use Rattle.mt_regs.specs.Faults.{IsAccepted, IsFirstFault};
+ghost use Rattle.mt_machine.specs.declared.phase.Phase.TheVariants.{Running, Taken};
+ghost use Rattle.mt_machine.specs.declared.go.Go.TheVariants.{Cancelled, Pending};
+ghost use Rattle.mt_machine.specs.Machine.{FitsGoal};
+ghost use Rattle.mt_machine.specs.Start.{HasEraRoom, IsQuiet};
+ghost use Rattle.mt_machine.specs.System.{IsSound};
+ghost use Rattle.mt_machine.specs.Update.{updated};
+ghost use Rattle.mt_core.specs.Rounds.{in_order};
+ghost use Rattle.mt_rendezvous.specs.Station.{Begins, start_of};
+ghost use Rattle.mt_rendezvous.specs.Calls.{IsRoot, Leads, gathered};
+ghost use Rattle.mt_bus.specs.Parts.{system};
+ghost use Rattle.mt_rendezvous.specs.Update.{CanUpdate, Came, IsQueue, IsReady, Returned, Tied, decided, left_by, running};
+
+use crate::broadcast::call_and_take;
+use crate::gather::disband;
+use crate::station::{Attendee, Root, Station, attend};
+use mt_bus::System;
+use mt_core::{CallFault, Core};
+use mt_cpu::Cpu;
+use mt_machine::Event;
+use mt_ports::Gate;
+use mt_ram::Ram;
+use mt_regs::RegFile;
+use std::alloc::Global;
+use std::snapshot::Snapshot;
+use std::sync::Wait;
+use std::thread::{Promise, PromisedHandle, Scope, Threads};
+use std::{mem, thread};
+
+// What the thread of a processor promises: the processor comes back, and runs.
+#[derive(Drop)]
+struct Attends {
+    station: Snapshot<Station>,
+    number: u64,
+}
+
+impl Promise<Attendee> for Attends {
+    ghost use Rattle.std.specs.Prelude.{◌≡◌};
+    ghost use Rattle.mt_rendezvous.specs.Update.{Came};
+
+    ghost kept_by = { λ p a. Came p.station.value.table.shared.table_id a.pass.seat.table_id a.pass.seat.me a.pass.number a.cpu × (a.pass.number ≡ p.number) };
+}
+
+// Takes the attendee through the update, or out of it.
+fn attend_whole<R: Wait, G: Gate>(
+    rt: &R,
+    station: &Station,
+    ram: &Ram,
+    a: Attendee,
+    goal: &RegFile,
+    gate: &G,
+) -> Attendee
+    requires ready { IsReady station.now.table.shared.table_id (start_of station.now.table.shared.key) a.cpu a.pass.seat.table_id a.pass.seat.me a.pass.number }
+    requires goal { goal.now ≡ station.now.table.shared.key.goal.value }
+    requires windows { ram.now.windows ≡ station.now.table.shared.key.ram.value.windows }
+    ensures came { Came station.now.table.shared.table_id result.pass.seat.table_id result.pass.seat.me result.pass.number result.cpu }
+    ensures number { result.pass.number ≡ a.pass.number }
+{
+    attend(rt, station, ram, a, goal, gate).0
+}
+
+// Starts a thread for the attendee, where the gate lets it. Where it isn't started the root cancels, and the
+// attendee leaves.
+fn start<'s, E, R: Threads + Wait + Sync, G: Gate>(
+    rt: &'s R,
+    scope: &Scope<'s, E>,
+    station: &'s Station,
+    ram: &'s Ram,
+    root: &mut Root,
+    a: Attendee,
+    goal: &'s RegFile,
+    gate: &'s G,
+) -> Result<PromisedHandle<Attendee, Attends>, Attendee>
+    requires root { Leads station.now.table.shared.table_id (start_of station.now.table.shared.key) root.old.seat.table_id root.old.seat.me Pending }
+    requires ready { IsReady station.now.table.shared.table_id (start_of station.now.table.shared.key) a.cpu a.pass.seat.table_id a.pass.seat.me a.pass.number }
+    requires goal { goal.now ≡ station.now.table.shared.key.goal.value }
+    requires windows { ram.now.windows ≡ station.now.table.shared.key.ram.value.windows }
+    ensures held { root.new.seat.me.0.held ≡ root.old.seat.me.0.held }
+    ensures pending { IfOk result (λ h. Leads station.now.table.shared.table_id (start_of station.now.table.shared.key) root.new.seat.table_id root.new.seat.me Pending) }
+    ensures child { IfOk result (λ h. (h.promise.station.value ≡ station.now) × (h.promise.number ≡ a.pass.number)) }
+    ensures cancelled { IfErr result (λ b. Leads station.now.table.shared.table_id (start_of station.now.table.shared.key) root.new.seat.table_id root.new.seat.me Cancelled) }
+    ensures came { IfErr result (λ b. Came station.now.table.shared.table_id b.pass.seat.table_id b.pass.seat.me b.pass.number b.cpu × (b.pass.number ≡ a.pass.number)) }
+{
+    if !gate.may_start(a.pass.number as u32) {
+        root.cancel(station);
+        return Err(attend_whole(rt, station, ram, a, goal, gate));
+    }
+    let promise = Attends {
+        station: Snapshot::of(station),
+        number: a.pass.number,
+    };
+    match scope.spawn_with(
+        promise,
+        move || -> Attendee
+            requires { IsSync R.row × IsReady station.now.table.shared.table_id (start_of station.now.table.shared.key) a.cpu a.pass.seat.table_id a.pass.seat.me a.pass.number × (goal.now ≡ station.now.table.shared.key.goal.value) × (ram.now.windows ≡ station.now.table.shared.key.ram.value.windows) }
+            ensures { Came station.entry.now.table.shared.table_id result.pass.seat.table_id result.pass.seat.me result.pass.number result.cpu × (result.pass.number ≡ a.pass.number) }
+        { attend_whole(rt, station, ram, a, goal, gate) },
+    ) {
+        Ok(child) => Ok(child),
+        Err(refused) => {
+            root.cancel(station);
+            Err((refused.value)())
+        }
+    }
+}
+
+// The attendee's processor comes back.
+fn finish(station: &Station, a: Attendee, root: &mut Root, done: &mut Vec<Cpu>)
+    requires root { IsRoot station.now.table.shared.table_id root.old.seat.table_id root.old.seat.me }
+    requires came { Came station.now.table.shared.table_id a.pass.seat.table_id a.pass.seat.me a.pass.number a.cpu }
+    requires next { a.pass.number ≡ length done.old.items }
+    requires tied { Tied root.old.seat.me.0 done.old.items }
+    requires room { vec_len done.old < vec_capacity done.old }
+    ensures root { IsRoot station.now.table.shared.table_id root.new.seat.table_id root.new.seat.me }
+    ensures go { root.new.seat.me.0.go ≡ root.old.seat.me.0.go }
+    ensures room { (length done.new.items ≡ length done.old.items + 1) × (vec_capacity done.new ≡ vec_capacity done.old) }
+    ensures tied { Tied root.new.seat.me.0 done.new.items }
+    ensures ran { All (λ c. c.phase ≡ Running) done.old.items → All (λ c. c.phase ≡ Running) done.new.items }
+{
+    done.push_reserved(root.take_back(station, a));
+}
+
+// The last attendee.
+fn last(station: &Station, waiting: &mut Vec<Attendee>) -> Option<Attendee>
+    requires { IsQueue station.now.table.shared.table_id (start_of station.now.table.shared.key) waiting.old.items }
+    ensures none { IfNone result ((waiting.old.items ≡ []) × (length waiting.old.items ≡ 0)) }
+    ensures some { IfSome result (λ a. IsReady station.now.table.shared.table_id (start_of station.now.table.shared.key) a.cpu a.pass.seat.table_id a.pass.seat.me a.pass.number × (a.pass.number ≡ length waiting.new.items)) }
+    ensures rest { IfSome result (λ a. (length waiting.old.items ≡ length waiting.new.items + 1) × IsQueue station.now.table.shared.table_id (start_of station.now.table.shared.key) waiting.new.items) }
+{
+    let _ = station.count;
+    waiting.pop()
+}
+
+// With the cancel given, all of these leave.
+fn leave_all<R: Wait, G: Gate>(
+    rt: &R,
+    station: &Station,
+    ram: &Ram,
+    root: &mut Root,
+    goal: &RegFile,
+    gate: &G,
+    waiting: &mut Vec<Attendee>,
+    done: &mut Vec<Cpu>,
+)
+    requires root { IsRoot station.now.table.shared.table_id root.old.seat.table_id root.old.seat.me }
+    requires goal { goal.now ≡ station.now.table.shared.key.goal.value }
+    requires windows { ram.now.windows ≡ station.now.table.shared.key.ram.value.windows }
+    requires waiting { IsQueue station.now.table.shared.table_id (start_of station.now.table.shared.key) waiting.old.items }
+    requires room { length waiting.old.items ≤ vec_capacity done.old }
+    requires empty { done.old.items ≡ [] }
+    ensures returned { Returned station.now.table.shared.table_id root.new.seat.table_id root.new.seat.me root.old.seat.me.0.go (length waiting.old.items) done.new.items }
+    ensures capacity { vec_capacity done.new ≡ vec_capacity done.old }
+{
+    let Some(a) = last(station, waiting) else {
+        return;
+    };
+    leave_all(rt, station, ram, root, goal, gate, waiting, done);
+    let a = attend_whole(rt, station, ram, a, goal, gate);
+    finish(station, a, root, done);
+}
+
+// Starts a thread for each of these, gives the go, and takes all back. Where one isn't started it cancels, and
+// the answer is false.
+fn run_all<'s, E, R: Threads + Wait + Sync, G: Gate>(
+    rt: &'s R,
+    scope: &Scope<'s, E>,
+    station: &'s Station,
+    ram: &'s Ram,
+    root: &mut Root,
+    goal: &'s RegFile,
+    gate: &'s G,
+    waiting: &mut Vec<Attendee>,
+    done: &mut Vec<Cpu>,
+) -> bool
+    requires root { Leads station.now.table.shared.table_id (start_of station.now.table.shared.key) root.old.seat.table_id root.old.seat.me Pending }
+    requires goal { goal.now ≡ station.now.table.shared.key.goal.value }
+    requires windows { ram.now.windows ≡ station.now.table.shared.key.ram.value.windows }
+    requires waiting { IsQueue station.now.table.shared.table_id (start_of station.now.table.shared.key) waiting.old.items }
+    requires room { length waiting.old.items ≤ vec_capacity done.old }
+    requires empty { done.old.items ≡ [] }
+    ensures returned { Returned station.now.table.shared.table_id root.new.seat.table_id root.new.seat.me (decided result) (length waiting.old.items) done.new.items }
+    ensures capacity { vec_capacity done.new ≡ vec_capacity done.old }
+{
+    let Some(a) = last(station, waiting) else {
+        root.go(station);
+        return true;
+    };
+    match start(rt, scope, station, ram, root, a, goal, gate) {
+        Ok(child) => {
+            let given = run_all(rt, scope, station, ram, root, goal, gate, waiting, done);
+            let a = child.join(rt);
+            finish(station, a, root, done);
+            given
+        }
+        Err(a) => {
+            leave_all(rt, station, ram, root, goal, gate, waiting, done);
+            finish(station, a, root, done);
+            false
+        }
+    }
+}
+
+// Where the threads have ended: whether the go was given, the root, and the processors.
+struct Ended {
+    given: bool,
+    root: Root,
+    done: Vec<Cpu>,
+}
+
+// The scope of the threads.
+fn meet<R: Threads + Wait + Sync, G: Gate>(
+    rt: &R,
+    station: &Station,
+    ram: &Ram,
+    mut root: Root,
+    goal: &RegFile,
+    gate: &G,
+    mut waiting: Vec<Attendee>,
+    mut done: Vec<Cpu>,
+) -> Ended
+    requires root { Leads station.now.table.shared.table_id (start_of station.now.table.shared.key) root.seat.table_id root.seat.me Pending }
+    requires goal { goal.now ≡ station.now.table.shared.key.goal.value }
+    requires windows { ram.now.windows ≡ station.now.table.shared.key.ram.value.windows }
+    requires waiting { IsQueue station.now.table.shared.table_id (start_of station.now.table.shared.key) waiting.items }
+    requires room { length waiting.items ≤ vec_capacity done }
+    requires empty { done.items ≡ [] }
+    ensures { Returned station.now.table.shared.table_id result.root.seat.table_id result.root.seat.me (decided result.given) (length waiting.items) result.done.items }
+{
+    thread::scope(
+        thread::scope_env(),
+        rt,
+        move |scope| -> Ended
+            requires { Leads station.now.table.shared.table_id (start_of station.now.table.shared.key) root.seat.table_id root.seat.me Pending × (goal.now ≡ station.now.table.shared.key.goal.value) × (ram.now.windows ≡ station.now.table.shared.key.ram.value.windows) × IsQueue station.now.table.shared.table_id (start_of station.now.table.shared.key) waiting.items × (length waiting.items ≤ vec_capacity done) × (done.items ≡ []) }
+            ensures { Returned station.entry.now.table.shared.table_id result.root.seat.table_id result.root.seat.me (decided result.given) (length waiting.items) result.done.items }
+        {
+            let given = run_all(
+                rt,
+                scope,
+                station,
+                ram,
+                &mut root,
+                goal,
+                gate,
+                &mut waiting,
+                &mut done,
+            );
+            Ended { given, root, done }
+        },
+    )
+}
+
+// The processors, and whether the update is done. If not, they run and nothing else has changed.
+struct Led {
+    given: bool,
+    cpus: Vec<Cpu>,
+}
+
+// The processor leaves the update.
+fn leave(cpu: &mut Cpu)
+    requires { cpu.old.phase ≡ Taken }
+    ensures { cpu.new ≡ running cpu.old }
+{
+    cpu.shift(Event::Leave);
+}
+
+// All leave the update.
+fn leave_each(cpus: &mut [Cpu])
+    requires { All (λ c. c.phase ≡ Taken) cpus.old }
+    ensures { cpus.new ≡ map running cpus.old }
+{
+    for i in 0..cpus.len() {
+        leave(&mut cpus[i]);
+    }
+}
+
+// Without memory for the threads all leave.
+fn run_again(mut cpus: Vec<Cpu>) -> Led
+    requires { All (λ c. c.phase ≡ Taken) cpus.items }
+    ensures { (result.given ≡ false) × (result.cpus.items ≡ map running cpus.items) }
+{
+    leave_each(cpus.as_mut_slice());
+    Led { given: false, cpus }
+}
+
+// Leads taken processors through the update, on a thread each.
+fn lead_on_threads<R: Threads + Wait + Sync, G: Gate>(
+    rt: &R,
+    alloc: Global,
+    cpus: Vec<Cpu>,
+    ram: &mut Ram,
+    goal: &RegFile,
+    gate: &G,
+) -> Led
+    requires some { 0 < vec_len cpus }
+    requires few { vec_len cpus ≤ 16 }
+    requires begins { Begins (gathered cpus.items ram.old goal.now) }
+    ensures left { system result.cpus.items ram.new ≡ left_by result.given (system cpus.items ram.old) goal.now }
+    ensures count { length result.cpus.items ≡ length cpus.items }
+{
+    let Ok(done) = Vec::with_capacity(alloc, cpus.len()) else {
+        return run_again(cpus);
+    };
+    match Station::gather(alloc, cpus, ram, goal) {
+        Ok((station, root, waiting)) => {
+            let Ended { given, root, done } = meet(
+                rt, &station, ram, root, goal, gate, waiting, done,
+            );
+            disband(station, root, ram);
+            Led { given, cpus: done }
+        }
+        Err(cpus) => run_again(cpus),
+    }
+}
+
+// The update by the calls of a core.
+fn lead_alone(system: System, goal: &RegFile) -> Core
+    requires { CanUpdate system goal.now }
+    ensures { result ≡ updated system [] goal.now }
+{
+    let mut core = Core::new(system);
+    let Ok(()) = core.call(goal.same()) else {
+        unreachable!()
+    };
+    core.round();
+    core
+}
+
+fn put_together(cpus: Vec<Cpu>, ram: Ram) -> System
+    requires { IsSound (system cpus.items ram) }
+    ensures { result ≡ system cpus.items ram }
+{
+    System { cpus, ram }
+}
+
+// A core without an update under way.
+fn at_rest(system: System) -> Core
+    requires quiet { IsQuiet (record { system = system; order = None }) }
+    requires few { length system.processors ≤ 16 }
+    ensures { result ≡ record { system = system; order = None } }
+{
+    Core::new(system)
+}
+
+// From the state in which all have taken to the end of the update.
+fn finished<R: Threads + Wait + Sync, G: Gate>(
+    rt: &R,
+    alloc: Global,
+    system: System,
+    goal: &RegFile,
+    gate: &G,
+) -> Core
+    requires some { 0 < length system.processors }
+    requires few { length system.processors ≤ 16 }
+    requires begins { Begins (gathered system.processors system.memory goal.now) }
+    ensures { result ≡ updated system [] goal.now }
+{
+    let System { cpus, mut ram } = system;
+    let Led { given, cpus } = lead_on_threads(rt, alloc, cpus, &mut ram, goal, gate);
+    let system = put_together(cpus, ram);
+    if given {
+        at_rest(system)
+    } else {
+        lead_alone(system, goal)
+    }
+}
+
+// A core without processors and windows, which stands in for another.
+fn stand_in(alloc: Global) -> Core
+    ensures { result ≡ record { system = system [] (record { windows = []; words = [] }); order = None } }
+{
+    Core::new(System {
+        cpus: Vec::new(alloc),
+        ram: Ram::new(alloc),
+    })
+}
+
+// The core whose processors have taken comes to the end of the update.
+fn lead<R: Threads + Wait + Sync, G: Gate>(
+    rt: &R,
+    alloc: Global,
+    core: &mut Core,
+    goal: &RegFile,
+    gate: &G,
+)
+    requires some { 0 < length core.old.system.processors }
+    requires begins { Begins (gathered core.old.system.processors core.old.system.memory goal.now) }
+    ensures { core.new ≡ updated core.old.system [] goal.now }
+{
+    core.is_core();
+    let system = mem::replace(core, stand_in(alloc)).into_system();
+    *core = finished(rt, alloc, system, goal, gate);
+}
+
+/// Updates the range registers of all processors, on a thread for each. Where one isn't started, or memory isn't
+/// found, it is done on this thread.
+///
+/// # Errors
+///
+/// Those of `Core::call`; nothing then changes.
+pub fn update<R: Threads + Wait + Sync, G: Gate>(
+    rt: &R,
+    alloc: Global,
+    core: &mut Core,
+    goal: RegFile,
+    gate: &G,
+) -> Result<(), CallFault>
+    requires some { 0 < length core.old.system.processors }
+    requires fits { All (FitsGoal goal) core.old.system.processors }
+    requires room { HasEraRoom core.old }
+    ensures under_way { (result ≡ Err CallFault.UnderWay) ↔ IsSome core.old.order }
+    ensures refused { (fault : Fault) → result ≡ Err (CallFault.Refused fault) → (core.old.order ≡ None) × IsFirstFault goal (Some fault) }
+    ensures updated { OnOk result ((core.old.order ≡ None) × IsAccepted goal × (core.new ≡ updated core.old.system (in_order core.old) goal)) }
+    ensures kept { OnErr result (core.new ≡ core.old) }
+{
+    let aim = goal.same();
+    call_and_take(core, goal)?;
+    lead(rt, alloc, core, &aim, gate);
+    Ok(())
+}
