@@ -148,6 +148,7 @@ impl Pass {
         ensures waits { IsWaiting cpu.new.phase }
         ensures same { cpu.new ≡ record cpu.old { phase = cpu.new.phase } }
         ensures first { slice_get station.now.table.shared.key.cpus.value.items self.old.number ≡ Some cpu.old }
+        ensures shown { self.new.shown ≡ self.old.shown }
         ensures begins { Begins (start_of station.now.table.shared.key) }
         ensures number { self.new.number ≡ self.old.number }
     {
@@ -167,6 +168,7 @@ impl Pass {
         requires waits { IsWaiting cpu.old.phase }
         ensures number { self.new.number ≡ self.old.number }
         ensures carries { Carries station.now.table.shared.table_id (start_of station.now.table.shared.key) self.new.seat.table_id self.new.seat.me self.new.number cpu.new true false }
+        ensures shown { self.new.shown ≡ self.old.shown }
         ensures waited { Waited result (start_of station.now.table.shared.key) self.new.number cpu.old cpu.new }
     {
         for _ in rt.forever() {
@@ -302,6 +304,7 @@ pub fn attend<R: Wait, G: Gate>(
     requires windows { ram.now.windows ≡ station.now.table.shared.key.ram.value.windows }
     ensures attended { Attended result.1 station.now.table.shared.table_id (start_of station.now.table.shared.key) a.pass.number a.cpu result.0.pass.seat.table_id result.0.pass.seat.me result.0.cpu }
     ensures number { result.0.pass.number ≡ a.pass.number }
+    ensures unshown { result.1 ≡ Outcome.Cancelled → result.0.pass.shown ≡ a.pass.shown }
     ensures shown { result.1 ≡ Outcome.Complete → result.0.pass.shown ≡ Some (length station.now.table.shared.key.cpus.value.items) }
 {
     let Attendee { mut cpu, mut pass } = a;
