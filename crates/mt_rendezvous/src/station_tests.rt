@@ -2,26 +2,23 @@
 ghost use Rattle.std.specs.Prelude.{◌≡◌, ℕ, ◌<◌, ◌≤◌, ◌+◌, ◌-◌, ◌^◌, ◌↔◌, IsTrue, IfSome, IfNone, [], length, vec_len};
 ghost use mathlib.Core.Option.{some};
 ghost use lib.ListN.{get_elem?};
-ghost use Rattle.std.specs.List.{All};
 ghost use Rattle.std.specs.Thread.{IsSync};
 ghost use Rattle.mt_machine.specs.declared.go.Go.TheVariants.{Pending};
-ghost use Rattle.mt_machine.specs.Machine.{FitsGoal};
 ghost use Rattle.mt_rendezvous.specs.Station.{Begins, start_of};
 ghost use Rattle.mt_rendezvous.specs.Calls.{Attends, HoldsOne, IsRoot, Leads, gathered};
 
 use crate::broadcast::call_and_take;
 use crate::gather::disband;
 use crate::station::{Attendee, Outcome, Root, Station, attend};
+use crate::tests::{core_of, file, is_same_cpu, may_call, store};
 use mt_bus::System;
 use mt_core::{Core, a_core_arises};
 use mt_cpu::Cpu;
 use mt_kinds::MemType;
-use mt_laws::start_is_quiet;
-use mt_machine::{Control, Done, Op, Ruled};
+use mt_machine::Done;
 use mt_ports::Gate;
 use mt_ram::Ram;
 use mt_regs::RegFile;
-use mt_tlb::Mapping;
 use std::alloc::Global;
 use std::snapshot::Snapshot;
 use std::sync::Wait;
@@ -29,85 +26,16 @@ use std::sync::atomic::{AtomicU64, Ordering};
 use std::thread;
 use std::thread::{Promise, Scope, Threads};
 
-/// A file whose memory below 4 GB has a type, over UC: eight pairs, and 29 writable registers.
-fn file(kind: u64) -> Option<RegFile> {
-    let Ok(mut file) = RegFile::blank(36, 0x508) else {
-        return None;
-    };
-    for (msr, value) in [(0x200, kind), (0x201, 0xf_0000_0800), (0x2ff, 0x800)] {
-        if file.set(msr, value).is_err() {
+/// So many processors, each with one dirty line.
+fn dirty_row(alloc: Global, count: u32) -> Option<Core> {
+    let mut core = core_of(alloc, count, 6)?;
+    for k in 0..count {
+        let stored = store(&mut core, k, 0x40 * k as u64, 0x2a + k as u64)?;
+        if stored != Done::Stored(MemType::WB) {
             return None;
         }
     }
-    Some(file)
-}
-
-/// So many processors with these registers, and a window of 64 lines from 1 MB on.
-fn row_of(alloc: Global, count: u32, file: &RegFile) -> Option<Core>
-    requires some { 0 < count }
-    requires few { count ≤ 16 }
-{
-    if file.first_fault().is_some() {
-        return None;
-    }
-    start_is_quiet();
-    file.is_register_file();
-    let Ok(system) = System::new(alloc, count, file) else {
-        return None;
-    };
-    let mut core = Core::new(system);
-    if core.add_ram(0x10_0000, 64).is_err() {
-        return None;
-    }
     Some(core)
-}
-
-/// Stores a word into the processor's own line, which is dirty then.
-fn store_own(core: &mut Core, k: u32) -> Option<()> {
-    let x = Mapping {
-        vpage: 1,
-        ppage: 0x100,
-        index: 0,
-        global: false,
-    };
-    let pages = core.system().cpus.get(k as usize)?.regs().pages();
-    if x.ppage >= pages || k >= 16 {
-        return None;
-    }
-    if core.control(k, Control::Map(x)) != Ruled::Okay {
-        return None;
-    }
-    let op = Op::Store(0x1000 + 0x40 * k as u64, 0x2a + k as u64);
-    if core.access(k, op) != Done::Stored(MemType::WB) {
-        return None;
-    }
-    Some(())
-}
-
-/// So many processors, each with one dirty line.
-fn dirty_row(alloc: Global, count: u32) -> Option<Core>
-    requires some { 0 < count }
-    requires few { count ≤ 16 }
-{
-    let mut core = row_of(alloc, count, &file(6)?)?;
-    for k in 0..count {
-        store_own(&mut core, k)?;
-    }
-    Some(core)
-}
-
-/// Whether each processor has the goal's width and capabilities.
-fn fits(cpus: &[Cpu], goal: &RegFile) -> bool
-    ensures { IsTrue result ↔ All (FitsGoal goal.now) cpus.now }
-{
-    cpus.iter().all(|cpu| goal.maxphy == cpu.regs().maxphy && goal.cap == cpu.regs().cap)
-}
-
-/// Whether each era has room for an update.
-fn has_room(cpus: &[Cpu]) -> bool
-    ensures { IsTrue result ↔ All (λ p. p.era < 2 ^ 64 - 1) cpus.now }
-{
-    cpus.iter().all(|cpu| cpu.era() < u64::MAX)
 }
 
 /// Calls, and lets each take, where the call's conditions hold.
@@ -117,11 +45,7 @@ fn take(core: &mut Core, goal: &RegFile) -> bool
     ensures few { IsTrue result → length core.new.system.processors ≤ 16 }
 {
     a_core_arises(core); // a fact for the proof
-    let cpus = core.system().cpus.as_slice();
-    if cpus.is_empty() || !fits(cpus, goal) || !has_room(cpus) {
-        return false;
-    }
-    call_and_take(core, goal.same()).is_ok()
+    may_call(core, goal) && call_and_take(core, goal.same()).is_ok()
 }
 
 /// Counts what it is told of each processor, in four bits.
@@ -317,10 +241,12 @@ struct Row {
     told: u64,
 }
 
-fn ends_of<R: Threads + Wait + Sync>(rt: &R, alloc: Global, count: u32, given: bool) -> Option<Row>
-    requires some { 0 < count }
-    requires few { count ≤ 16 }
-{
+fn ends_of<R: Threads + Wait + Sync>(
+    rt: &R,
+    alloc: Global,
+    count: u32,
+    given: bool,
+) -> Option<Row> {
     let goal = file(0)?;
     let mut core = dirty_row(alloc, count)?;
     if !take(&mut core, &goal) {
@@ -373,17 +299,6 @@ fn two_leave(rt: HostRuntime) {
     assert!(rt; row.told == 0x11);
 }
 
-/// Whether both have the same registers and mappings, hold as much, and run in one era.
-fn is_alike(a: &Cpu, b: &Cpu) -> bool {
-    [0x200, 0x201, 0x277, 0x2ff]
-        .iter()
-        .all(|msr| a.regs().get(*msr) == b.regs().get(*msr))
-        && a.maps().list() == b.maps().list()
-        && a.cache().lines() == b.cache().lines()
-        && a.tlb().entries() == b.tlb().entries()
-        && (a.era(), a.phase(), a.cd(), a.pge()) == (b.era(), b.phase(), b.cd(), b.pge())
-}
-
 /// Whether the row ends with this outcome as the core does, each pass having told the gate once.
 fn ends_as(row: &Row, core: &Core, outcome: Outcome, shown: Option<u32>) -> bool {
     let cpus = core.system().cpus.as_slice();
@@ -391,7 +306,7 @@ fn ends_as(row: &Row, core: &Core, outcome: Outcome, shown: Option<u32>) -> bool
     row.done.len() == cpus.len()
         && row.told == 0x1111_1111_1111_1111
         && each.all(|(told, cpu)| {
-            told.outcome == outcome && told.shown == shown && is_alike(&told.cpu, cpu)
+            told.outcome == outcome && told.shown == shown && is_same_cpu(&told.cpu, cpu)
         })
         && (0..16u64).all(|k| {
             let address = 0x10_0000 + 0x40 * k;
