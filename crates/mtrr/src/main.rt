@@ -6,6 +6,8 @@ use mt_ports::{OpenGate, Status, StdSink, StdSource};
 use std::io::{Stdin, Stdout};
 use std::process::ExitCode;
 use std::rt::Env;
+use std::sync::Wait;
+use std::thread::Threads;
 use std::{env, io};
 
 // The words behind the program's name.
@@ -19,7 +21,12 @@ fn words(rt: &(impl Env + AllocGlobal)) -> io::Result<Vec<String>> {
     Ok(words)
 }
 
-fn run(rt: &impl AllocGlobal, words: &[String], input: Stdin, output: Stdout) -> Status {
+fn run<R: AllocGlobal + Threads + Wait + Sync>(
+    rt: &R,
+    words: &[String],
+    input: Stdin,
+    output: Stdout,
+) -> Status {
     let mut source = StdSource::new(input);
     let mut sink = StdSink::new(output);
     tool(rt, words, &mut source, &mut sink, &OpenGate)

@@ -1,7 +1,7 @@
-use Rattle.std.proofs.Common.{◌≡◌, ◌∙◌, ◌++◌, sym, ap, subst, ℕ, List, drop}
+use Rattle.std.proofs.Common.{◌≡◌, ◌∙◌, ◌++◌, refl, sym, ap, subst, ℕ, List, drop}
 use Rattle.mt_text.specs.Text.{end_of, lines_of}
 use Rattle.mt_ports.specs.Puts.{AppendsFront}
-use Rattle.mt_ports.specs.declared.status.Status.TheVariants.{Refused}
+use Rattle.mt_ports.specs.declared.status.Status.TheVariants.{NoMemory, Refused}
 use Rattle.mt_output.specs.Lines.{accepted_line, refused_line}
 use Rattle.mt_output.specs.Writing.{Passes}
 use Rattle.mt_output.proofs.Writing.{fails_longer}
@@ -11,7 +11,7 @@ use Rattle.mt_replay.specs.FirstFault.{first_fault}
 use Rattle.mt_replay.specs.Running.{LeadsTo, Tells}
 use Rattle.mt_replay.specs.ReplayState.{ReplayState, first_state}
 use Rattle.mt_replay.specs.Transcript.{Told, behind, told, told_file, told_in}
-use Rattle.mt_replay.proofs.Telling.{file_accepted, file_refused, leads_tells}
+use Rattle.mt_replay.proofs.Telling.{file_accepted, file_refused, leads_tells, tells_refused}
 use Rattle.mt_replay.proofs.running.run_begun.Goals as goal
 
 pub refused_line-requires : goal.refused_line-requires
@@ -45,3 +45,6 @@ returns-clause-bytes g c =
     subst (λ (t : Told). AppendsFront (g.K.Sink.taken c.args.sink.now) (g.K.Sink.taken c.write.new.sink) (c.args.writer.now ++ t.text)) (sym (file_accepted c.args.begun.setup c.args.begun.file body accepted))
     (fails_longer c.args.writer.now accepted_line (body (first_state c.args.begun.setup c.args.begun.file)).text (g.K.Sink.taken c.args.sink.now) (g.K.Sink.taken c.write.new.sink)
     (subst (λ (l : List ℕ). AppendsFront (g.K.Sink.taken c.args.sink.now) (g.K.Sink.taken c.write.new.sink) (c.args.writer.now ++ l)) c.accepted_line.ensures c.in-Err.ensures.bytes))
+
+pub returns-in_default-begin-clause-bytes : goal.returns-in_default-begin-clause-bytes
+returns-in_default-begin-clause-bytes g c = tells_refused _ c.args.writer.now c.args.writer.now (g.K.Sink.taken c.args.sink.now) (g.K.Sink.taken c.args.sink.now) NoMemory refl refl refl
