@@ -6,8 +6,10 @@ mod gather;
 mod laws;
 mod station;
 #[cfg(test)]
-mod tests;
+mod station_tests;
 mod threads;
+#[cfg(test)]
+mod update_tests;
 mod view;
 mod worked;
 

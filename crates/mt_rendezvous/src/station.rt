@@ -25,7 +25,7 @@ use std::thread;
 // What the root adds to the first word to cancel.
 const CANCEL: u64 = 0x1_0000_0000;
 
-/// The words of one update.
+/// The words of one update: the two counts, a phase word for each processor, and the words of memory.
 #[derive(Drop)]
 pub struct Station {
     pub table: Table<(), View, Key, Meeting, Global>,
@@ -47,11 +47,13 @@ pub struct Pass {
     pub ghost told: { shown ≡ seat.me.0.shown },
 }
 
+/// The coordinator's seat. It has the processors that aren't given away, and says whether go was given.
 #[derive(Drop)]
 pub struct Root {
     pub seat: Seat<(), View>,
 }
 
+/// How an update ended for one processor.
 #[derive(Clone, Copy, Debug, PartialEq, Eq)]
 pub enum Outcome {
     Complete,
@@ -96,6 +98,7 @@ fn is_local(phase: Phase) -> bool
 }
 
 impl Root {
+    /// Gives the go, once. Its addition to word 0 is the event Go.
     pub fn go(&mut self, station: &Station)
         requires { Leads station.now.table.shared.table_id (start_of station.now.table.shared.key) self.old.seat.table_id self.old.seat.me Pending }
         ensures leads { Leads station.now.table.shared.table_id (start_of station.now.table.shared.key) self.new.seat.table_id self.new.seat.me Given }
@@ -108,6 +111,7 @@ impl Root {
             .fetch_add::<Gives>(&mut self.seat, 0, 1);
     }
 
+    /// Cancels, once, in place of the go. Its addition to word 0 is the event Cancel.
     pub fn cancel(&mut self, station: &Station)
         requires { Leads station.now.table.shared.table_id (start_of station.now.table.shared.key) self.old.seat.table_id self.old.seat.me Pending }
         ensures leads { Leads station.now.table.shared.table_id (start_of station.now.table.shared.key) self.new.seat.table_id self.new.seat.me Cancelled }
@@ -136,6 +140,7 @@ impl Pass {
         self.shown
     }
 
+    // Adds to word 0: the event Arrive, or none where the word held the cancel before.
     pub(crate) fn arrive(&mut self, station: &Station, cpu: &mut Cpu)
         requires carries { Carries station.now.table.shared.table_id (start_of station.now.table.shared.key) self.old.seat.table_id self.old.seat.me self.old.number cpu.old false false }
         requires taken { cpu.old.phase ≡ Taken }
@@ -143,6 +148,7 @@ impl Pass {
         ensures waits { IsWaiting cpu.new.phase }
         ensures same { cpu.new ≡ record cpu.old { phase = cpu.new.phase } }
         ensures first { slice_get station.now.table.shared.key.cpus.value.items self.old.number ≡ Some cpu.old }
+        ensures shown { self.new.shown ≡ self.old.shown }
         ensures begins { Begins (start_of station.now.table.shared.key) }
         ensures number { self.new.number ≡ self.old.number }
     {
@@ -155,12 +161,14 @@ impl Pass {
         }
     }
 
-    // Waits for the others. The answer is whether the update goes on.
+    // Waits for the others. The load of word 0 that ends it is the event Pass, and the answer is true, or Leave.
+    // Each load before it is none.
     pub(crate) fn wait_first<R: Wait>(&mut self, rt: &R, station: &Station, cpu: &mut Cpu) -> bool
         requires carries { Carries station.now.table.shared.table_id (start_of station.now.table.shared.key) self.old.seat.table_id self.old.seat.me self.old.number cpu.old true false }
         requires waits { IsWaiting cpu.old.phase }
         ensures number { self.new.number ≡ self.old.number }
         ensures carries { Carries station.now.table.shared.table_id (start_of station.now.table.shared.key) self.new.seat.table_id self.new.seat.me self.new.number cpu.new true false }
+        ensures shown { self.new.shown ≡ self.old.shown }
         ensures waited { Waited result (start_of station.now.table.shared.key) self.new.number cpu.old cpu.new }
     {
         for _ in rt.forever() {
@@ -178,7 +186,8 @@ impl Pass {
         unreachable!()
     }
 
-    // Does the processor's next event between the barriers, and stores what others see of it.
+    // Does the processor's next event between the barriers. Its one store, of the word of memory that is written
+    // back or else of the own phase word, is that event.
     pub(crate) fn work(&mut self, station: &Station, ram: &Ram, goal: &RegFile, cpu: &mut Cpu)
         requires carries { Carries station.now.table.shared.table_id (start_of station.now.table.shared.key) self.old.seat.table_id self.old.seat.me self.old.number cpu.old true false }
         requires stands { Stands (start_of station.now.table.shared.key) Given self.old.number cpu.old }
@@ -215,7 +224,7 @@ impl Pass {
         }
     }
 
-    // Does all events between the barriers.
+    // Does all events between the barriers, which are so many as are left to do.
     pub(crate) fn work_all(&mut self, station: &Station, ram: &Ram, goal: &RegFile, cpu: &mut Cpu)
         requires carries { Carries station.now.table.shared.table_id (start_of station.now.table.shared.key) self.old.seat.table_id self.old.seat.me self.old.number cpu.old true false }
         requires stands { Stands (start_of station.now.table.shared.key) Given self.old.number cpu.old }
@@ -232,6 +241,7 @@ impl Pass {
         }
     }
 
+    // Adds to word 1: the event ArriveAgain.
     pub(crate) fn arrive_again(&mut self, station: &Station, cpu: &mut Cpu)
         requires carries { Carries station.now.table.shared.table_id (start_of station.now.table.shared.key) self.old.seat.table_id self.old.seat.me self.old.number cpu.old true false }
         requires restored { cpu.old.phase ≡ Restored }
@@ -246,6 +256,7 @@ impl Pass {
         cpu.shift(Event::ArriveAgain);
     }
 
+    // Waits for the others again. The load of word 1 that ends it is the event Release. Each load before it is none.
     pub(crate) fn wait_second<R: Wait>(&mut self, rt: &R, station: &Station, cpu: &mut Cpu)
         requires carries { Carries station.now.table.shared.table_id (start_of station.now.table.shared.key) self.old.seat.table_id self.old.seat.me self.old.number cpu.old true true }
         requires waits { cpu.old.phase ≡ Arrived2 }
@@ -277,7 +288,8 @@ pub struct Attendee {
     pub pass: Pass,
 }
 
-/// Takes the processor through the update. It waits for the others, and for the root.
+/// Takes the processor through the update, and tells the gate once that it has arrived. It waits for the others,
+/// and for the root.
 pub fn attend<R: Wait, G: Gate>(
     rt: &R,
     station: &Station,
@@ -292,6 +304,7 @@ pub fn attend<R: Wait, G: Gate>(
     requires windows { ram.now.windows ≡ station.now.table.shared.key.ram.value.windows }
     ensures attended { Attended result.1 station.now.table.shared.table_id (start_of station.now.table.shared.key) a.pass.number a.cpu result.0.pass.seat.table_id result.0.pass.seat.me result.0.cpu }
     ensures number { result.0.pass.number ≡ a.pass.number }
+    ensures unshown { result.1 ≡ Outcome.Cancelled → result.0.pass.shown ≡ a.pass.shown }
     ensures shown { result.1 ≡ Outcome.Complete → result.0.pass.shown ≡ Some (length station.now.table.shared.key.cpus.value.items) }
 {
     let Attendee { mut cpu, mut pass } = a;

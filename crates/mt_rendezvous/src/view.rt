@@ -1,4 +1,4 @@
-// What the seats of a station know, and what each step tells.
+// What the seats of a station know, and what each step tells. Each play names its event, or says that there is none.
 use atomic_table::{Join, Play, Split, TableRule};
 use mt_cpu::Cpu;
 use mt_machine::Go;
@@ -39,6 +39,7 @@ pub struct Key {
     pub goal: Snapshot<RegFile>,
 }
 
+/// The rule: between any two steps the words and the views stand for one machine, to which the broadcast state leads.
 pub struct Meeting;
 
 impl TableRule<(), View, Key> for Meeting {
@@ -49,6 +50,7 @@ impl TableRule<(), View, Key> for Meeting {
     ghost first = { first_view };
 }
 
+/// A pass adds to word 0. It is Arrive, or no event where the word held the cancel before.
 pub struct Arrives;
 
 impl Play<(), View> for Arrives {
@@ -57,6 +59,7 @@ impl Play<(), View> for Arrives {
     ghost then = { Tells };
 }
 
+/// A pass loads word 0. It is Pass where the count is full, Leave where the cancel stands there, else no event.
 pub struct Passes;
 
 impl Play<(), View> for Passes {
@@ -65,6 +68,7 @@ impl Play<(), View> for Passes {
     ghost then = { Tells };
 }
 
+/// A pass stores its phase word or a word of memory. It is the event that is due for its processor.
 pub struct Works;
 
 impl Play<(), View> for Works {
@@ -73,6 +77,7 @@ impl Play<(), View> for Works {
     ghost then = { Tells };
 }
 
+/// A pass adds to word 1. It is ArriveAgain.
 pub struct ArrivesAgain;
 
 impl Play<(), View> for ArrivesAgain {
@@ -81,6 +86,7 @@ impl Play<(), View> for ArrivesAgain {
     ghost then = { Tells };
 }
 
+/// A pass loads word 1. It is Release where the count is full, else no event. The view keeps the count.
 pub struct Releases;
 
 impl Play<(), View> for Releases {
@@ -89,6 +95,7 @@ impl Play<(), View> for Releases {
     ghost then = { Tells };
 }
 
+/// The root adds 1 to word 0. It is Go.
 pub struct Gives;
 
 impl Play<(), View> for Gives {
@@ -97,6 +104,7 @@ impl Play<(), View> for Gives {
     ghost then = { Tells };
 }
 
+/// The root adds 2^32 to word 0. It is Cancel.
 pub struct Cancels;
 
 impl Play<(), View> for Cancels {
@@ -105,7 +113,8 @@ impl Play<(), View> for Cancels {
     ghost then = { Tells };
 }
 
-/// The root gives its first processor away, and takes one back.
+/// The root gives its first processor away, and takes one back. Neither is an event: no word changes, and the
+/// processors stay as they are.
 pub struct HandsOver;
 
 impl Split<View> for HandsOver {

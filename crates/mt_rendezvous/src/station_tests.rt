@@ -1,0 +1,451 @@
+// Stations with one thread for each pass.
+ghost use Rattle.std.specs.Prelude.{◌≡◌, ℕ, ◌<◌, ◌≤◌, ◌+◌, ◌-◌, ◌^◌, ◌↔◌, IsTrue, IfSome, IfNone, [], length, vec_len};
+ghost use mathlib.Core.Option.{some};
+ghost use lib.ListN.{get_elem?};
+ghost use Rattle.std.specs.List.{All};
+ghost use Rattle.std.specs.Thread.{IsSync};
+ghost use Rattle.mt_machine.specs.declared.go.Go.TheVariants.{Pending};
+ghost use Rattle.mt_machine.specs.Machine.{FitsGoal};
+ghost use Rattle.mt_rendezvous.specs.Station.{Begins, start_of};
+ghost use Rattle.mt_rendezvous.specs.Calls.{Attends, HoldsOne, IsRoot, Leads, gathered};
+
+use crate::broadcast::call_and_take;
+use crate::gather::disband;
+use crate::station::{Attendee, Outcome, Root, Station, attend};
+use mt_bus::System;
+use mt_core::Core;
+use mt_cpu::Cpu;
+use mt_kinds::MemType;
+use mt_laws::start_is_quiet;
+use mt_machine::{Control, Done, Op, Ruled};
+use mt_ports::Gate;
+use mt_ram::Ram;
+use mt_regs::RegFile;
+use mt_tlb::Mapping;
+use std::alloc::Global;
+use std::snapshot::Snapshot;
+use std::sync::Wait;
+use std::sync::atomic::{AtomicU64, Ordering};
+use std::thread;
+use std::thread::{Promise, Scope, Threads};
+
+/// A file whose memory below 4 GB has a type, over UC: eight pairs, and 29 writable registers.
+fn file(kind: u64) -> Option<RegFile> {
+    let Ok(mut file) = RegFile::blank(36, 0x508) else {
+        return None;
+    };
+    for (msr, value) in [(0x200, kind), (0x201, 0xf_0000_0800), (0x2ff, 0x800)] {
+        if file.set(msr, value).is_err() {
+            return None;
+        }
+    }
+    Some(file)
+}
+
+/// So many processors with these registers, and a window of 64 lines from 1 MB on.
+fn row_of(alloc: Global, count: u32, file: &RegFile) -> Option<Core>
+    requires some { 0 < count }
+    requires few { count ≤ 16 }
+{
+    if file.first_fault().is_some() {
+        return None;
+    }
+    start_is_quiet();
+    file.is_register_file();
+    let Ok(system) = System::new(alloc, count, file) else {
+        return None;
+    };
+    let mut core = Core::new(system);
+    if core.add_ram(0x10_0000, 64).is_err() {
+        return None;
+    }
+    Some(core)
+}
+
+/// Stores a word into the processor's own line, which is dirty then.
+fn store_own(core: &mut Core, k: u32) -> Option<()> {
+    let x = Mapping {
+        vpage: 1,
+        ppage: 0x100,
+        index: 0,
+        global: false,
+    };
+    let pages = core.system().cpus.get(k as usize)?.regs().pages();
+    if x.ppage >= pages || k >= 16 {
+        return None;
+    }
+    if core.control(k, Control::Map(x)) != Ruled::Okay {
+        return None;
+    }
+    let op = Op::Store(0x1000 + 0x40 * k as u64, 0x2a + k as u64);
+    if core.access(k, op) != Done::Stored(MemType::WB) {
+        return None;
+    }
+    Some(())
+}
+
+/// So many processors, each with one dirty line.
+fn dirty_row(alloc: Global, count: u32) -> Option<Core>
+    requires some { 0 < count }
+    requires few { count ≤ 16 }
+{
+    let mut core = row_of(alloc, count, &file(6)?)?;
+    for k in 0..count {
+        store_own(&mut core, k)?;
+    }
+    Some(core)
+}
+
+/// Whether each processor has the goal's width and capabilities.
+fn fits(cpus: &[Cpu], goal: &RegFile) -> bool
+    ensures { IsTrue result ↔ All (FitsGoal goal.now) cpus.now }
+{
+    cpus.iter().all(|cpu| goal.maxphy == cpu.regs().maxphy && goal.cap == cpu.regs().cap)
+}
+
+/// Whether each era has room for an update.
+fn has_room(cpus: &[Cpu]) -> bool
+    ensures { IsTrue result ↔ All (λ p. p.era < 2 ^ 64 - 1) cpus.now }
+{
+    cpus.iter().all(|cpu| cpu.era() < u64::MAX)
+}
+
+/// Calls, and lets each take, where the call's conditions hold.
+fn take(core: &mut Core, goal: &RegFile) -> bool
+    ensures begins { IsTrue result → Begins (gathered core.new.system.processors core.new.system.memory goal.now) }
+    ensures some { IsTrue result → 0 < length core.new.system.processors }
+    ensures few { IsTrue result → length core.new.system.processors ≤ 16 }
+{
+    core.is_core();
+    let cpus = core.system().cpus.as_slice();
+    if cpus.is_empty() || !fits(cpus, goal) || !has_room(cpus) {
+        return false;
+    }
+    call_and_take(core, goal.same()).is_ok()
+}
+
+/// Counts what it is told of each processor, in four bits.
+#[derive(Drop)]
+struct Counter {
+    told: AtomicU64,
+}
+
+impl Gate for Counter {
+    fn may_start(&self, _k: u32) -> bool {
+        true
+    }
+
+    fn arrived(&self, k: u32) {
+        if k < 16 {
+            self.told.fetch_add(1u64 << (4 * k), Ordering::SeqCst);
+        }
+    }
+}
+
+/// What comes of an attendee.
+#[derive(Drop)]
+struct Told {
+    cpu: Cpu,
+    outcome: Outcome,
+    shown: Option<u32>,
+}
+
+// What the thread of a pass promises: the processor comes back in its pass.
+#[derive(Drop)]
+struct Comes {
+    station: Snapshot<Station>,
+    number: u64,
+}
+
+impl Promise<(Attendee, Outcome)> for Comes {
+    ghost use Rattle.mt_rendezvous.specs.Calls.{HoldsOne};
+
+    ghost kept_by = { λ p r. HoldsOne p.station.value.table.shared.table_id r.0.pass.seat.table_id r.0.pass.seat.me p.number r.0.cpu × (r.0.pass.number ≡ p.number) };
+}
+
+fn attend_whole<R: Wait>(
+    rt: &R,
+    station: &Station,
+    ram: &Ram,
+    k: u64,
+    a: Attendee,
+    goal: &RegFile,
+    gate: &Counter,
+) -> (Attendee, Outcome)
+    requires attends { Attends station.now.table.shared.table_id (start_of station.now.table.shared.key) k a.cpu a.pass.seat.table_id a.pass.seat.me a.pass.number }
+    requires begins { Begins (start_of station.now.table.shared.key) }
+    requires goal { goal.now ≡ station.now.table.shared.key.goal.value }
+    requires windows { ram.now.windows ≡ station.now.table.shared.key.ram.value.windows }
+    ensures came { HoldsOne station.now.table.shared.table_id result.0.pass.seat.table_id result.0.pass.seat.me k result.0.cpu }
+    ensures number { result.0.pass.number ≡ k }
+{
+    let _ = k;
+    attend(rt, station, ram, a, goal, gate)
+}
+
+// The last attendee.
+fn last(station: &Station, waiting: &mut Vec<Attendee>) -> Option<Attendee>
+    requires { (k : ℕ) (a : _) → get_elem? waiting.old.items k ≡ some a → Attends station.now.table.shared.table_id (start_of station.now.table.shared.key) k a.cpu a.pass.seat.table_id a.pass.seat.me a.pass.number }
+    ensures none { IfNone result (length waiting.old.items ≡ 0) }
+    ensures attends { IfSome result (λ a. Attends station.now.table.shared.table_id (start_of station.now.table.shared.key) (length waiting.new.items) a.cpu a.pass.seat.table_id a.pass.seat.me a.pass.number) }
+    ensures fewer { IfSome result (λ a. length waiting.old.items ≡ length waiting.new.items + 1) }
+    ensures rest { (k : ℕ) (a : _) → get_elem? waiting.new.items k ≡ some a → Attends station.now.table.shared.table_id (start_of station.now.table.shared.key) k a.cpu a.pass.seat.table_id a.pass.seat.me a.pass.number }
+{
+    let _ = station.count;
+    waiting.pop()
+}
+
+// A thread for each of these, and then the go or the cancel. The answer is false where a thread isn't started:
+// the root cancels, so that the others end.
+fn run_all<'s, E, R: Threads + Wait + Sync>(
+    rt: &'s R,
+    scope: &Scope<'s, E>,
+    station: &'s Station,
+    ram: &'s Ram,
+    root: &mut Root,
+    goal: &'s RegFile,
+    gate: &'s Counter,
+    given: bool,
+    waiting: &mut Vec<Attendee>,
+    done: &mut Vec<Told>,
+) -> bool
+    requires root { Leads station.now.table.shared.table_id (start_of station.now.table.shared.key) root.old.seat.table_id root.old.seat.me Pending }
+    requires goal { goal.now ≡ station.now.table.shared.key.goal.value }
+    requires windows { ram.now.windows ≡ station.now.table.shared.key.ram.value.windows }
+    requires waiting { (k : ℕ) (a : _) → get_elem? waiting.old.items k ≡ some a → Attends station.now.table.shared.table_id (start_of station.now.table.shared.key) k a.cpu a.pass.seat.table_id a.pass.seat.me a.pass.number }
+    requires begins { Begins (start_of station.now.table.shared.key) }
+    ensures { IsRoot station.now.table.shared.table_id root.new.seat.table_id root.new.seat.me }
+{
+    let Some(a) = last(station, waiting) else {
+        if given {
+            root.go(station);
+        } else {
+            root.cancel(station);
+        }
+        return true;
+    };
+    let k = waiting.len() as u64;
+    let promise = Comes {
+        station: Snapshot::of(station),
+        number: k,
+    };
+    let Ok(child) = scope.spawn_with(
+        promise,
+        move || -> (Attendee, Outcome)
+            requires { IsSync R.row × Attends station.now.table.shared.table_id (start_of station.now.table.shared.key) k a.cpu a.pass.seat.table_id a.pass.seat.me a.pass.number × Begins (start_of station.now.table.shared.key) × (goal.now ≡ station.now.table.shared.key.goal.value) × (ram.now.windows ≡ station.now.table.shared.key.ram.value.windows) }
+            ensures { HoldsOne station.entry.now.table.shared.table_id result.0.pass.seat.table_id result.0.pass.seat.me k result.0.cpu × (result.0.pass.number ≡ k) }
+        { attend_whole(rt, station, ram, k, a, goal, gate) },
+    ) else {
+        root.cancel(station);
+        return false;
+    };
+    let went = run_all(
+        rt, scope, station, ram, root, goal, gate, given, waiting, done,
+    );
+    let (a, outcome) = child.join(rt);
+    let shown = a.pass.shown();
+    let cpu = root.take_back(station, a);
+    done.push(Told {
+        cpu,
+        outcome,
+        shown,
+    })
+    .is_ok()
+        && went
+}
+
+// Where the threads have ended.
+#[derive(Drop)]
+struct Ended {
+    went: bool,
+    root: Root,
+    done: Vec<Told>,
+}
+
+// A station of these processors from its begin to its end.
+fn meet<R: Threads + Wait + Sync>(
+    rt: &R,
+    alloc: Global,
+    cpus: Vec<Cpu>,
+    ram: &mut Ram,
+    goal: &RegFile,
+    gate: &Counter,
+    given: bool,
+) -> Option<Vec<Told>>
+    requires some { 0 < vec_len cpus }
+    requires few { vec_len cpus ≤ 16 }
+    requires begins { Begins (gathered cpus.items ram.old goal.now) }
+{
+    let Ok((station, mut root, mut waiting)) = Station::gather(alloc, cpus, ram, goal) else {
+        return None;
+    };
+    let mut done = Vec::new(alloc);
+    let lent: &Ram = ram;
+    let all = &station;
+    let ended = thread::scope(
+        thread::scope_env(),
+        rt,
+        move |scope| -> Ended
+            requires { Leads all.now.table.shared.table_id (start_of all.now.table.shared.key) root.seat.table_id root.seat.me Pending × (goal.now ≡ all.now.table.shared.key.goal.value) × (lent.now.windows ≡ all.now.table.shared.key.ram.value.windows) × ((k : ℕ) (a : _) → get_elem? waiting.items k ≡ some a → Attends all.now.table.shared.table_id (start_of all.now.table.shared.key) k a.cpu a.pass.seat.table_id a.pass.seat.me a.pass.number) × Begins (start_of all.now.table.shared.key) }
+            ensures { IsRoot all.entry.now.table.shared.table_id result.root.seat.table_id result.root.seat.me }
+        {
+            let went = run_all(
+                rt,
+                scope,
+                all,
+                lent,
+                &mut root,
+                goal,
+                gate,
+                given,
+                &mut waiting,
+                &mut done,
+            );
+            Ended { went, root, done }
+        },
+    );
+    let Ended { went, root, done } = ended;
+    disband(station, root, ram);
+    if went { Some(done) } else { None }
+}
+
+/// What a row of processors comes to: what comes of each, the memory, and what the gate was told.
+#[derive(Drop)]
+struct Row {
+    done: Vec<Told>,
+    ram: Ram,
+    told: u64,
+}
+
+fn ends_of<R: Threads + Wait + Sync>(rt: &R, alloc: Global, count: u32, given: bool) -> Option<Row>
+    requires some { 0 < count }
+    requires few { count ≤ 16 }
+{
+    let goal = file(0)?;
+    let mut core = dirty_row(alloc, count)?;
+    if !take(&mut core, &goal) {
+        return None;
+    }
+    let System { cpus, mut ram } = core.into_system();
+    let gate = Counter {
+        told: AtomicU64::new(0),
+    };
+    let done = meet(rt, alloc, cpus, &mut ram, &goal, &gate, given)?;
+    let told = gate.told.load(Ordering::SeqCst);
+    Some(Row { done, ram, told })
+}
+
+fn word(ram: &Ram, address: u64) -> Option<u64> {
+    let i = ram.place(address)?;
+    Some(ram.word(i))
+}
+
+#[test]
+fn two_complete(rt: HostRuntime) {
+    let Some(row) = ends_of(&rt, rt.alloc(), 2, true) else {
+        panic!(rt; "the threads are started");
+    };
+    assert!(rt; row.done.len() == 2);
+    for told in row.done.iter() {
+        assert!(rt; told.outcome == Outcome::Complete);
+        assert!(rt; told.shown == Some(2));
+    }
+    assert!(rt; word(&row.ram, 0x10_0000) == Some(0x2a));
+    assert!(rt; word(&row.ram, 0x10_0040) == Some(0x2b));
+    assert!(rt; row.told == 0x11);
+}
+
+#[test]
+fn two_leave(rt: HostRuntime) {
+    let Some(row) = ends_of(&rt, rt.alloc(), 2, false) else {
+        panic!(rt; "the threads are started");
+    };
+    assert!(rt; row.done.len() == 2);
+    for told in row.done.iter() {
+        assert!(rt; told.outcome == Outcome::Cancelled);
+        assert!(rt; told.shown.is_none());
+        let lines = told.cpu.cache().lines();
+        assert!(rt; lines.len() == 1);
+        assert!(rt; lines.iter().all(|line| line.dirty == 1));
+    }
+    assert!(rt; word(&row.ram, 0x10_0000) == Some(0));
+    assert!(rt; word(&row.ram, 0x10_0040) == Some(0));
+    assert!(rt; row.told == 0x11);
+}
+
+/// Whether both have the same registers and mappings, hold as much, and run in one era.
+fn is_alike(a: &Cpu, b: &Cpu) -> bool {
+    [0x200, 0x201, 0x277, 0x2ff]
+        .iter()
+        .all(|msr| a.regs().get(*msr) == b.regs().get(*msr))
+        && a.maps().list() == b.maps().list()
+        && a.cache().lines() == b.cache().lines()
+        && a.tlb().entries() == b.tlb().entries()
+        && (a.era(), a.phase(), a.cd(), a.pge()) == (b.era(), b.phase(), b.cd(), b.pge())
+}
+
+/// Whether the row ends with this outcome as the core does, each pass having told the gate once.
+fn ends_as(row: &Row, core: &Core, outcome: Outcome, shown: Option<u32>) -> bool {
+    let cpus = core.system().cpus.as_slice();
+    let mut each = row.done.iter().zip(cpus.iter());
+    row.done.len() == cpus.len()
+        && row.told == 0x1111_1111_1111_1111
+        && each.all(|(told, cpu)| {
+            told.outcome == outcome && told.shown == shown && is_alike(&told.cpu, cpu)
+        })
+        && (0..16u64).all(|k| {
+            let address = 0x10_0000 + 0x40 * k;
+            word(&row.ram, address) == word(&core.system().ram, address)
+        })
+}
+
+/// Sixteen dirty processors that have taken.
+fn taken_row(alloc: Global) -> Option<Core> {
+    let mut core = dirty_row(alloc, 16)?;
+    if !take(&mut core, &file(0)?) {
+        return None;
+    }
+    Some(core)
+}
+
+#[test]
+fn sixteen_end_as_by_turns(rt: HostRuntime) {
+    let Some(mut core) = taken_row(rt.alloc()) else {
+        panic!(rt; "the files are accepted");
+    };
+    if core.order().is_some() {
+        core.round();
+    }
+    for round in 0..200u32 {
+        let Some(row) = ends_of(&rt, rt.alloc(), 16, true) else {
+            panic!(rt; "the threads are started");
+        };
+        assert!(rt;
+            ends_as(&row, &core, Outcome::Complete, Some(16)),
+            "in round {round}"
+        );
+    }
+}
+
+#[test]
+fn sixteen_leave_as_by_steps(rt: HostRuntime) {
+    let Some(mut core) = taken_row(rt.alloc()) else {
+        panic!(rt; "the files are accepted");
+    };
+    core.cancel();
+    for k in 0..16 {
+        if k < core.system().cpus.len() {
+            core.step(k as u32);
+        }
+    }
+    assert!(rt; core.order().is_none());
+    for round in 0..200u32 {
+        let Some(row) = ends_of(&rt, rt.alloc(), 16, false) else {
+            panic!(rt; "the threads are started");
+        };
+        assert!(rt;
+            ends_as(&row, &core, Outcome::Cancelled, None),
+            "in round {round}"
+        );
+    }
+}
