@@ -1,4 +1,4 @@
--- What a part of a replay leaves in the sink and in the writer before it.
+-- What a part of a replay leaves in the sink and in the writer before it (own).
 --     Tells told waiting left before after result      what each result says
 --     ReplaysAs told before after status      what a whole replay leaves in the sink; Replays text, of a text
 use Rattle.std.specs.Prelude.{ℕ, ◌≡◌, ◌⊎◌, List, ◌++◌, Option, Result, Ok, Err}
