@@ -1,4 +1,5 @@
 mod controls;
+mod enabled;
 mod loads;
 mod no_fill;
 mod scripts;
@@ -9,6 +10,7 @@ mod steps;
 mod stores;
 
 pub use controls::{worked_controls, worked_controls_alone, worked_refusals};
+pub use enabled::{worked_coordinator, worked_enabled};
 pub use loads::{worked_loads, worked_translations};
 pub use no_fill::{worked_no_fill_loads, worked_no_fill_stores};
 pub use scripts::{worked_barrier, worked_buffers, worked_cancel, worked_snoops, worked_updates};
