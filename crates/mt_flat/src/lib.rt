@@ -11,4 +11,4 @@ pub use laws::{
     caches_are_never_seen, courses_are_flat, events_are_flat, pending_stays_few, starts_are_flat,
     updates_are_flat,
 };
-pub use worked::{worked_beside, worked_course, worked_pending, worked_stores};
+pub use worked::{worked_beside, worked_course, worked_pending, worked_stores, worked_turns};

@@ -4,9 +4,9 @@ ghost use Rattle.mt_machine.specs.declared.control.Control.TheVariants.{Cd, Cr3,
 ghost use Rattle.mt_machine.specs.declared.event.Event.TheVariants.{Arrive, Take};
 ghost use Rattle.mt_machine.specs.declared.done.Done.TheVariants.{Value};
 ghost use Rattle.mt_machine.specs.declared.op.Op.TheVariants.{Fence, Load};
-ghost use Rattle.mt_machine.specs.Machine.{Accesses, Calls, Controls, Steps, run};
-ghost use Rattle.mt_machine.specs.WorkedRuns.{answer_of, called, goal_of, load, mapping, maps, palette, small, store, walk};
-ghost use Rattle.mt_flat.specs.Courses.{Does, Updates, course, flat_course};
+ghost use Rattle.mt_machine.specs.Machine.{Accesses, Calls, Controls, Goes, Steps, run};
+ghost use Rattle.mt_machine.specs.WorkedRuns.{answer_of, bare_file, called, goal_of, idle, load, machine_of, mapping, maps, palette, small, store, walk};
+ghost use Rattle.mt_flat.specs.Courses.{CanTurn, Does, IsCourse, Updates, course, flat_course};
 ghost use Rattle.mt_flat.specs.Flat.{flat_answer, flat_start};
 ghost use Rattle.mt_flat.specs.Seen.{IsFlatAnswer, IsFlatOf, IsHeldFlat, given};
 ghost use Rattle.mt_flat.specs.WorkedRuns.{flat_of, four_lines, numbers, pending_words, seven_words};
@@ -76,4 +76,14 @@ pub fn worked_beside()
     ensures another_answer { IsFlatAnswer palette (flat_of (store 0 0x1000 5 ∷ [])) 1 0x1000 0 WB → ⊥ }
     ensures still_pending { IsHeldFlat (flat_of (store 0 0x3000 7 ∷ [])) palette [] → ⊥ }
     ensures not_in_memory { IsHeldFlat (flat_of (store 0 0x1000 7 ∷ [])) palette [] → ⊥ }
+{}
+
+/// Events and whole updates in one course, and what is none for one thing.
+pub fn worked_turns()
+    ensures course { IsCourse (machine_of (idle ∷ idle ∷ [])) (Does (Accesses 1 Fence) ∷ Updates (bare_file 0x806) (1 ∷ 0 ∷ []) ∷ Does (Accesses 0 Fence) ∷ []) }
+    ensures no_processor { IsCourse (machine_of (idle ∷ idle ∷ [])) (Does (Accesses 2 Fence) ∷ []) → ⊥ }
+    ensures no_go { IsCourse (machine_of (idle ∷ idle ∷ [])) (Does (Accesses 1 Fence) ∷ Does Goes ∷ []) → ⊥ }
+    ensures one_takes_not { CanTurn (machine_of (idle ∷ idle ∷ [])) (Updates (bare_file 0x806) (0 ∷ [])) → ⊥ }
+    ensures one_takes_twice { CanTurn (machine_of (idle ∷ idle ∷ [])) (Updates (bare_file 0x806) (0 ∷ 1 ∷ 0 ∷ [])) → ⊥ }
+    ensures not_accepted { CanTurn (machine_of (idle ∷ idle ∷ [])) (Updates (bare_file 0x802) (0 ∷ 1 ∷ [])) → ⊥ }
 {}

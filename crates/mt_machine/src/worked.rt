@@ -1,5 +1,7 @@
 mod controls;
+mod enabled;
 mod loads;
+mod no_fill;
 mod scripts;
 mod settled;
 mod sound;
@@ -7,8 +9,10 @@ mod starts;
 mod steps;
 mod stores;
 
-pub use controls::{worked_controls, worked_refusals};
+pub use controls::{worked_controls, worked_controls_alone, worked_refusals};
+pub use enabled::{worked_coordinator, worked_enabled};
 pub use loads::{worked_loads, worked_translations};
+pub use no_fill::{worked_no_fill_loads, worked_no_fill_stores};
 pub use scripts::{worked_barrier, worked_buffers, worked_cancel, worked_snoops, worked_updates};
 pub use settled::{worked_held, worked_kinds, worked_settled, worked_stored_words};
 pub use sound::{worked_memory, worked_processors, worked_sound};

@@ -5,7 +5,7 @@ ghost use Rattle.mt_machine.specs.declared.op.Op.TheVariants.{Fence, Load, Store
 ghost use Rattle.mt_machine.specs.declared.ruled.Ruled.TheVariants.{Full, Okay, Busy as RuledBusy};
 ghost use Rattle.mt_machine.specs.Control.{control};
 ghost use Rattle.mt_machine.specs.Machine.{Accesses, Controls, run};
-ghost use Rattle.mt_machine.specs.WorkedRuns.{alone, answer_of, cached, called, crowded, entry, holder, load, mapping, maps, memory_at, own, palette, pending, setup, store, walk};
+ghost use Rattle.mt_machine.specs.WorkedRuns.{alone, answer_of, cached, called, crowded, entry, holder, load, mapping, maps, memory_at, no_fill, own, palette, pending, setup, store, walk};
 
 /// Refusals of accesses, and fences.
 pub fn worked_refusals()
@@ -50,4 +50,15 @@ pub fn worked_controls()
     ensures full_but_replaced { slice_get (own (run (alone crowded) (maps 0 (mapping 1 0x101 0) ∷ [])) 0).mappings 0 ≡ Some (mapping 1 0x101 0) }
     ensures busy { (control (walk 1 0 (called palette)).system 0 Cr3).answer ≡ RuledBusy }
     ensures okay { (control palette.system 0 Cr3).answer ≡ Okay }
+{}
+
+/// What else a fence and control instructions leave as it was.
+pub fn worked_controls_alone()
+    ensures fence { run (alone (holder true)) (Accesses 0 Fence ∷ []) ≡ alone (holder true) }
+    ensures map { run (alone (holder true)) (maps 0 (mapping 6 0x200 0) ∷ []) ≡ alone (record (holder true) { mappings = mapping 1 0x100 0 ∷ mapping 6 0x200 0 ∷ [] }) }
+    ensures invlpg { run (alone (holder true)) (Controls 0 (Invlpg 0x1000) ∷ []) ≡ alone (record (holder true) { entries = entry 2 false ∷ [] }) }
+    ensures cr3 { run (alone (holder true)) (Controls 0 Cr3 ∷ []) ≡ alone (record (holder true) { entries = entry 1 true ∷ [] }) }
+    ensures pge { run (alone (holder true)) (Controls 0 (Pge false) ∷ []) ≡ alone (record (holder true) { page_global = false; entries = [] }) }
+    ensures cd_set { run (alone (holder true)) (no_fill 0 ∷ []) ≡ alone (record (holder true) { cache_disabled = true }) }
+    ensures cd_cleared { run (alone (record (holder true) { cache_disabled = true })) (Controls 0 (Cd false) ∷ []) ≡ alone (holder true) }
 {}
