@@ -14,6 +14,8 @@ use std::alloc::{AllocError, Global};
 use std::env::Args;
 use std::io::{self, ErrorKind};
 use std::process::ExitCode;
+use std::sync::Wait;
+use std::thread::Threads;
 
 // The arguments behind the program's name.
 fn words_behind_name(alloc: Global, args: Args) -> Result<Vec<String>, AllocError>
@@ -30,7 +32,7 @@ fn exit_code(status: Status) -> ExitCode
 
 // Runs the tool. Arguments that are no text are wrong usage, and arguments that find no memory end
 // the program before the run.
-fn run<R: AllocGlobal, S: Source, K: Sink, G: Gate>(
+fn run<R: AllocGlobal + Threads + Wait + Sync, S: Source, K: Sink, G: Gate>(
     rt: &R,
     args: io::Result<Args>,
     source: &mut S,
@@ -57,7 +59,7 @@ fn run<R: AllocGlobal, S: Source, K: Sink, G: Gate>(
 
 /// Does all that the program does with its arguments, and answers what it ends with: the number of
 /// the status. The words of the command line are the arguments but the first.
-pub fn program_status<R: AllocGlobal, S: Source, K: Sink, G: Gate>(
+pub fn program_status<R: AllocGlobal + Threads + Wait + Sync, S: Source, K: Sink, G: Gate>(
     rt: &R,
     args: io::Result<Args>,
     source: &mut S,

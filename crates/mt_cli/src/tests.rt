@@ -2,7 +2,9 @@ use crate::tool;
 use mt_ports::{MemSink, MemSource, OpenGate, Status};
 use mt_vectors::{Row, dump_tables};
 use std::process::Abort;
+use std::sync::Wait;
 use std::test::Fail;
+use std::thread::Threads;
 
 const ROOM: usize = 131_072;
 
@@ -24,7 +26,7 @@ pub(crate) struct Ports<'a> {
     pub(crate) failing_writes: &'a [u64],
 }
 
-pub(crate) fn run<R: AllocGlobal + Abort>(
+pub(crate) fn run<R: AllocGlobal + Threads + Wait + Abort + Sync>(
     rt: &R,
     words: &[&str],
     ports: &Ports<'_>,
@@ -45,7 +47,7 @@ pub(crate) fn run<R: AllocGlobal + Abort>(
 }
 
 // Each row of a table gives its output and its status.
-pub(crate) fn expect_rows<R: AllocGlobal + Abort>(
+pub(crate) fn expect_rows<R: AllocGlobal + Threads + Wait + Abort + Sync>(
     rt: &R,
     rows: &[Row],
     piece: usize,

@@ -11,12 +11,14 @@ use mt_dump::read_dump;
 use mt_output::bad_text_line;
 use mt_ports::{Gate, Sink, Source, Status};
 use mt_replay::replay;
+use std::sync::Wait;
+use std::thread::Threads;
 
 /// Does all that the program does, and answers its status. The words are the command line without
 /// the program's name. Nothing is read where they are no command line; otherwise the input is read
 /// to its end, unless the source fails, memory is refused or there are more than 16,777,216 bytes.
 /// Nothing is written after a failed write.
-pub fn tool<R: AllocGlobal, S: Source, K: Sink, G: Gate>(
+pub fn tool<R: AllocGlobal + Threads + Wait + Sync, S: Source, K: Sink, G: Gate>(
     rt: &R,
     words: &[String],
     source: &mut S,

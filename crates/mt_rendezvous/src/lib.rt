@@ -7,9 +7,9 @@ mod laws;
 mod station;
 #[cfg(test)]
 mod station_tests;
-#[cfg(test)]
-mod tests;
 mod threads;
+#[cfg(test)]
+mod update_tests;
 mod view;
 mod worked;
 

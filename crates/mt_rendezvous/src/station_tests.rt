@@ -10,7 +10,7 @@ ghost use Rattle.mt_rendezvous.specs.Calls.{Attends, HoldsOne, IsRoot, Leads, ga
 use crate::broadcast::call_and_take;
 use crate::gather::disband;
 use crate::station::{Attendee, Outcome, Root, Station, attend};
-use crate::tests::{core_of, file, is_same_cpu, may_call, store};
+use crate::update_tests::{core_of, file, is_same_cpu, may_call, store};
 use mt_bus::System;
 use mt_core::{Core, a_core_arises};
 use mt_cpu::Cpu;

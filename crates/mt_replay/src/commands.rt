@@ -7,7 +7,9 @@ ghost use Rattle.mt_ram.specs.Windows.{refusal, window};
 ghost use Rattle.mt_regs.specs.RegisterFile.{RegisterFile};
 ghost use Rattle.mt_regs.specs.declared.fault.Fault.{Fault};
 ghost use Rattle.mt_core.specs.Arises.{grown};
+ghost use Rattle.mt_core.specs.Rounds.{in_order};
 ghost use Rattle.mt_core.specs.Steps.{step_after, step_answer};
+ghost use Rattle.mt_machine.specs.Update.{updated};
 ghost use Rattle.mt_replay.specs.ReplayState.{accessed_line, after_call, after_update, after_word, call_fault, call_line, controlled_line, file_at, is_undecided, memory_word, update_line};
 ghost use Rattle.mt_replay.specs.Texts.{cancel_line, go_line, memory_line, register_line, stepped_line};
 ghost use Rattle.mt_regs.specs.Registers.{value_at};
@@ -20,9 +22,12 @@ use crate::texts::{
 use mt_core::{CallFault, Core, a_core_arises};
 use mt_machine::{Control, Op};
 use mt_output::LineBuffer;
-use mt_ports::NoMemory;
+use mt_ports::{Gate, NoMemory};
 use mt_ram::RamFault;
 use mt_regs::RegFile;
+use std::alloc::Global;
+use std::sync::Wait;
+use std::thread::Threads;
 
 /// An access, and its line.
 pub(crate) fn access(core: &mut Core, k: u32, op: Op) -> LineBuffer
@@ -104,19 +109,44 @@ fn begin(core: &mut Core, goal: &RegFile) -> Option<CallFault>
     }
 }
 
+// Updates the processors to these registers, each on a thread of its own, and answers why it isn't begun.
+fn lead<R: Threads + Wait + Sync, G: Gate>(
+    rt: &R,
+    alloc: Global,
+    core: &mut Core,
+    goal: &RegFile,
+    gate: &G,
+) -> Option<CallFault>
+    requires some { 0 < length core.old.system.processors }
+    requires fits { All (FitsGoal goal.now) core.old.system.processors }
+    requires room { HasEraRoom core.old }
+    ensures fault { result ≡ call_fault core.old goal.now }
+    ensures updated { MatchOption result (core.new ≡ updated core.old.system (in_order core.old) goal.now) (λ _. core.new ≡ core.old) }
+    ensures short { (own : Fault) → result ≡ Some (CallFault.Refused own) → own.msr < 0x1000 }
+{
+    goal.is_register_file();
+    match mt_rendezvous::update(rt, alloc, core, goal.same(), gate) {
+        Ok(()) => None,
+        Err(fault) => Some(fault),
+    }
+}
+
 /// A whole update to these registers, and the era after it, or why it isn't begun.
-pub(crate) fn update(core: &mut Core, goal: &RegFile) -> LineBuffer
+pub(crate) fn update<R: Threads + Wait + Sync, G: Gate>(
+    rt: &R,
+    alloc: Global,
+    core: &mut Core,
+    goal: &RegFile,
+    gate: &G,
+) -> LineBuffer
     requires some { 0 < length core.old.system.processors }
     requires fits { All (FitsGoal goal.now) core.old.system.processors }
     requires room { HasEraRoom core.old }
     ensures text { result.items ≡ update_line core.old goal.now }
     ensures after { core.new ≡ after_update core.old goal.now }
 {
-    match begin(core, goal) {
-        None => {
-            core.round();
-            complete_line(common_era(core))
-        }
+    match lead(rt, alloc, core, goal, gate) {
+        None => complete_line(common_era(core)),
         Some(fault) => call_fault_line(&fault),
     }
 }

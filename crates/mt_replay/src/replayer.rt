@@ -21,12 +21,14 @@ use mt_bus::System;
 use mt_core::Core;
 use mt_machine::{Control, Op};
 use mt_output::{LineBuffer, Writer};
-use mt_ports::{Failed, NoMemory, Sink};
+use mt_ports::{Failed, Gate, NoMemory, Sink};
 use mt_regs::RegFile;
 use mt_script::{Command, Setup, Stage};
 use mt_tlb::Mapping;
 use std::alloc::Global;
 use std::marker::Model;
+use std::sync::Wait;
+use std::thread::Threads;
 
 /// A script between two lines after its dump: what stands set up, the machine, and the goal of the
 /// section that is read.
@@ -77,7 +79,14 @@ fn first_file(core: &Core) -> RegFile
 }
 
 // A section ends: an update, or a call for one.
-fn end_section(core: &mut Core, goal: &RegFile, stage: Stage) -> LineBuffer
+fn end_section<R: Threads + Wait + Sync, G: Gate>(
+    rt: &R,
+    alloc: Global,
+    core: &mut Core,
+    goal: &RegFile,
+    stage: Stage,
+    gate: &G,
+) -> LineBuffer
     requires some { 0 < length core.old.system.processors }
     requires fits { All (FitsGoal goal.now) core.old.system.processors }
     requires room { HasEraRoom core.old }
@@ -85,7 +94,7 @@ fn end_section(core: &mut Core, goal: &RegFile, stage: Stage) -> LineBuffer
     ensures after { core.new ≡ (if is_update stage then after_update core.old goal.now else after_call core.old goal.now) }
 {
     if stage == Stage::InUpdate {
-        update(core, goal)
+        update(rt, alloc, core, goal, gate)
     } else {
         call(core, goal)
     }
@@ -98,11 +107,14 @@ fn set(goal: &mut RegFile, msr: u32, value: u64)
 }
 
 // What a command other than a report writes, and what it does to the machine and the goal.
-fn act(
+fn act<R: Threads + Wait + Sync, G: Gate>(
+    rt: &R,
+    alloc: Global,
     setup: &Setup,
     core: &mut Core,
     goal: &mut RegFile,
     c: &Command,
+    gate: &G,
 ) -> Result<LineBuffer, NoMemory>
     requires state { IsReplayState (state setup.now core.old goal.old) }
     requires fits { Fits setup.now c.now }
@@ -134,7 +146,7 @@ fn act(
         Command::Step(k) => step(core, k),
         Command::Word(address) => word(core, address),
         Command::Msr(k, msr) => register(core, k, msr),
-        Command::End => end_section(core, goal, setup.stage()),
+        Command::End => end_section(rt, alloc, core, goal, setup.stage(), gate),
         Command::Ram(base, lines) => {
             add_window(core, base, lines)?;
             no_line()
@@ -188,8 +200,15 @@ impl Replayer {
     }
 
     /// Does a command other than a report, and answers its line. The error comes only where the
-    /// allocator has no room for a window; nothing then changes.
-    pub fn run(&mut self, c: &Command) -> Result<LineBuffer, NoMemory>
+    /// allocator has no room for a window; nothing then changes. An update runs each processor on a
+    /// thread of its own, where the gate and the allocator let it.
+    pub fn run<R: Threads + Wait + Sync, G: Gate>(
+        &mut self,
+        rt: &R,
+        alloc: Global,
+        c: &Command,
+        gate: &G,
+    ) -> Result<LineBuffer, NoMemory>
         requires fits { Fits self.old.now c.now }
         requires room { HasEraRoom self.old.machine }
         requires no_report { c.now ≢ Command.Report }
@@ -197,7 +216,15 @@ impl Replayer {
             (λ line. (line.items ≡ command_text self.old c.now) × (self.new ≡ state_after self.old c.now))
             (λ _. (self.new ≡ self.old) × IsWindow c.now) }
     {
-        let line = act(&self.setup, &mut self.core, &mut self.goal, c)?;
+        let line = act(
+            rt,
+            alloc,
+            &self.setup,
+            &mut self.core,
+            &mut self.goal,
+            c,
+            gate,
+        )?;
         self.setup.accept(c);
         Ok(line)
     }

@@ -22,6 +22,8 @@ use mt_ports::{Failed, Gate, Sink, Status};
 use mt_script::{Command, Offence, Setup, read_command, read_end};
 use mt_text::{Line, end_place, next_line};
 use std::alloc::Global;
+use std::sync::Wait;
+use std::thread::Threads;
 
 // Writes a last text, and answers the status.
 fn tell<K: Sink>(
@@ -57,11 +59,14 @@ fn tell_offence<K: Sink>(
 }
 
 // Does a command and writes what it says. There is a status where memory is refused to a window.
-fn do_command<K: Sink>(
+fn do_command<R: Threads + Wait + Sync, K: Sink, G: Gate>(
+    rt: &R,
+    alloc: Global,
     replayer: &mut Replayer,
     c: &Command,
     writer: &mut Writer,
     sink: &mut K,
+    gate: &G,
 ) -> Result<Option<Status>, Failed>
     requires fits { Fits replayer.old.now c.now }
     requires room { HasEraRoom replayer.old.machine }
@@ -79,7 +84,7 @@ fn do_command<K: Sink>(
             Err(failed) => Err(failed),
         };
     }
-    let Ok(line) = replayer.run(c) else {
+    let Ok(line) = replayer.run(rt, alloc, c, gate) else {
         return Ok(Some(Status::NoMemory));
     };
     match writer.write(sink, line.as_slice()) {
@@ -89,11 +94,14 @@ fn do_command<K: Sink>(
 }
 
 // Takes a line after the dump. There is a status where the replay ends with it.
-fn take_line<K: Sink>(
+fn take_line<R: Threads + Wait + Sync, K: Sink, G: Gate>(
+    rt: &R,
+    alloc: Global,
     replayer: &mut Replayer,
     line: &Line<'_>,
     writer: &mut Writer,
     sink: &mut K,
+    gate: &G,
 ) -> Result<Option<Status>, Failed>
     requires { HasEraRoom replayer.old.machine }
     ensures bytes { (rest : ReplayState → Told) → MatchResult result
@@ -106,7 +114,7 @@ fn take_line<K: Sink>(
 {
     replayer.is_replay_state(); // a fact for the proof
     match read_command(line, replayer.setup()) {
-        Ok(command) => do_command(replayer, &command, writer, sink),
+        Ok(command) => do_command(rt, alloc, replayer, &command, writer, sink, gate),
         Err(fault) => match tell_offence(writer, sink, &Offence::Script(fault)) {
             Ok(status) => Ok(Some(status)),
             Err(failed) => Err(failed),
@@ -131,13 +139,16 @@ fn end_lines<K: Sink>(
 }
 
 // Runs the lines after the dump, the first of which begins at an offset and has this number.
-fn run_lines<K: Sink>(
+fn run_lines<R: Threads + Wait + Sync, K: Sink, G: Gate>(
+    rt: &R,
+    alloc: Global,
     replayer: &mut Replayer,
     source: &[u8],
     from: usize,
     first: u64,
     writer: &mut Writer,
     sink: &mut K,
+    gate: &G,
 ) -> Result<Status, Failed>
     requires within { from ≤ length source.now }
     requires numbered { first ≤ from + 1 }
@@ -148,7 +159,7 @@ fn run_lines<K: Sink>(
     let mut at = from;
     let mut number = first;
     'lines: while let Some(line) = next_line(source, at, number) {
-        match take_line(replayer, &line, writer, sink) {
+        match take_line(rt, alloc, replayer, &line, writer, sink, gate) {
             Ok(None) => {}
             Ok(Some(status)) => return Ok(status),
             Err(failed) => return Err(failed),
@@ -160,12 +171,14 @@ fn run_lines<K: Sink>(
 }
 
 // Runs a script from its dump's end on.
-fn run_begun<K: Sink>(
+fn run_begun<R: Threads + Wait + Sync, K: Sink, G: Gate>(
+    rt: &R,
     alloc: Global,
     begun: Begun,
     source: &[u8],
     writer: &mut Writer,
     sink: &mut K,
+    gate: &G,
 ) -> Result<Status, Failed>
     requires stage { is_in_dump begun.setup.stage ≡ true }
     requires within { begun.next ≤ length source.now }
@@ -192,34 +205,48 @@ fn run_begun<K: Sink>(
         return Ok(Status::NoMemory);
     };
     match writer.write(sink, accepted_line()) {
-        Ok(()) => run_lines(&mut replayer, source, next, number, writer, sink),
+        Ok(()) => run_lines(
+            rt,
+            alloc,
+            &mut replayer,
+            source,
+            next,
+            number,
+            writer,
+            sink,
+            gate,
+        ),
         Err(failed) => Err(failed),
     }
 }
 
 // Runs a script. All that it says goes to the writer.
-fn run<K: Sink>(
+fn run<R: Threads + Wait + Sync, K: Sink, G: Gate>(
+    rt: &R,
     alloc: Global,
     source: &[u8],
     writer: &mut Writer,
     sink: &mut K,
+    gate: &G,
 ) -> Result<Status, Failed>
     ensures bytes { Tells (transcript source.now) writer.old writer.new (K.taken sink.old) (K.taken sink.new) result }
     ensures cause { HasCause (K.faults sink.old) (K.faults sink.new) result }
 {
     match read_head(source) {
-        Ok(begun) => run_begun(alloc, begun, source, writer, sink),
+        Ok(begun) => run_begun(rt, alloc, begun, source, writer, sink, gate),
         Err(offence) => tell_offence(writer, sink, &offence),
     }
 }
 
 /// Runs a script on one machine and writes its transcript, with the transcript's status. Where memory
-/// is refused, or a write fails, a front of it was written.
-pub fn replay<R: AllocGlobal, K: Sink, G: Gate>(
+/// is refused, or a write fails, a front of it was written. An update runs each processor on a thread
+/// of its own, or all on this one where it finds no memory, a start is refused or the gate answers
+/// false.
+pub fn replay<R: AllocGlobal + Threads + Wait + Sync, K: Sink, G: Gate>(
     rt: &R,
     source: &[u8],
     sink: &mut K,
-    _gate: &G,
+    gate: &G,
 ) -> Status
     ensures bytes { Replays source.now (K.taken sink.old) (K.taken sink.new) result }
     ensures cause { StatusHasCause Status.WriteFault (K.faults sink.old) (K.faults sink.new) result }
@@ -227,7 +254,7 @@ pub fn replay<R: AllocGlobal, K: Sink, G: Gate>(
     let Ok(mut writer) = Writer::new(rt.alloc()) else {
         return Status::NoMemory;
     };
-    match run(rt.alloc(), source, &mut writer, sink) {
+    match run(rt, rt.alloc(), source, &mut writer, sink, gate) {
         Ok(status) => match writer.flush(sink) {
             Ok(()) => status,
             Err(_) => Status::WriteFault,

@@ -2,7 +2,9 @@ use crate::replay;
 use mt_ports::{MemSink, OpenGate, Status};
 use std::alloc::Global;
 use std::process::Abort;
+use std::sync::Wait;
 use std::test::Fail;
+use std::thread::Threads;
 
 // Two processors whose memory below 4 GB has type WB, with a page of it.
 const PAIR: &[u8] =
@@ -22,7 +24,7 @@ struct Ran {
 }
 
 // A replay into a sink of so much room, which fails at these calls.
-fn run<R: AllocGlobal + Abort>(
+fn run<R: AllocGlobal + Threads + Wait + Abort + Sync>(
     rt: &R,
     script: &[u8],
     room: usize,

@@ -1,8 +1,8 @@
-use Rattle.std.proofs.Common.{◌≡◌, ◌∙◌, ◌++◌, sym, ap, subst, ℕ, List, drop}
+use Rattle.std.proofs.Common.{◌≡◌, ◌∙◌, ◌++◌, refl, sym, ap, subst, ℕ, List, drop}
 use Rattle.mt_text.specs.Text.{end_of, lines_of}
 use Rattle.mt_ports.proofs.Causes.{cause_after}
 use Rattle.mt_ports.specs.Puts.{AppendsFront}
-use Rattle.mt_ports.specs.declared.status.Status.TheVariants.{Refused}
+use Rattle.mt_ports.specs.declared.status.Status.TheVariants.{NoMemory, Refused}
 use Rattle.mt_output.specs.Lines.{accepted_line, refused_line}
 use Rattle.mt_output.specs.Writing.{Passes}
 use Rattle.mt_output.proofs.Writing.{fails_longer}
@@ -12,7 +12,7 @@ use Rattle.mt_replay.specs.FirstFault.{first_fault}
 use Rattle.mt_replay.specs.Running.{LeadsTo, Tells}
 use Rattle.mt_replay.specs.ReplayState.{ReplayState, first_state}
 use Rattle.mt_replay.specs.Transcript.{Told, behind, told, told_file, told_in}
-use Rattle.mt_replay.proofs.Telling.{file_accepted, file_refused, leads_tells}
+use Rattle.mt_replay.proofs.Telling.{file_accepted, file_refused, leads_tells, tells_refused}
 use Rattle.mt_replay.proofs.running.run_begun.Goals as goal
 
 pub refused_line-requires : goal.refused_line-requires
@@ -50,3 +50,6 @@ returns-clause-bytes g c =
 pub returns-in-Ok-write-clause-cause : goal.returns-in-Ok-write-clause-cause
 returns-in-Ok-write-clause-cause g c =
     cause_after (g.K.Sink.faults c.args.sink.now) (g.K.Sink.faults c.write.new.sink) (g.K.Sink.faults c.run_lines.new.sink) c.run_lines.result c.in-Ok-write.ensures.cause c.run_lines.ensures.cause
+
+pub returns-in_default-begin-clause-bytes : goal.returns-in_default-begin-clause-bytes
+returns-in_default-begin-clause-bytes g c = tells_refused _ c.args.writer.now c.args.writer.now (g.K.Sink.taken c.args.sink.now) (g.K.Sink.taken c.args.sink.now) NoMemory refl refl refl
