@@ -8,12 +8,10 @@ ghost use Rattle.mt_bus.specs.Parts.{is_running_in, mappings_in, ruled, system, 
 use crate::accesses::is_running;
 use crate::buffers::drain;
 use mt_cpu::Cpu;
+use mt_kinds::PAGE_BYTES;
 use mt_machine::{Control, Ruled};
 use mt_ram::Ram;
 use mt_tlb::{Full, Mapping};
-
-/// The bytes of a page.
-const PAGE_BYTES: u64 = 4096;
 
 fn map(cpus: &mut [Cpu], k: usize, x: Mapping) -> Result<(), Full>
     requires processor { k < length cpus.old }

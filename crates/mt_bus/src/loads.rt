@@ -9,8 +9,8 @@ use crate::fills::fill_line;
 use crate::snoops::bus_read;
 use mt_cache::{Cache, CacheLine};
 use mt_cpu::Cpu;
-use mt_kinds::MemType;
-use mt_ram::{LINE_BYTES, Ram, WORD_BYTES};
+use mt_kinds::{LINE_BYTES, MemType, WORD_BYTES};
+use mt_ram::Ram;
 
 /// Whether lines of this type are cached.
 fn is_cached(kind: MemType) -> bool

@@ -13,8 +13,8 @@ use crate::loads::line_in;
 use crate::snoops::{bus_read, invalidate, invalidate_others, write_back_others};
 use mt_cache::Cache;
 use mt_cpu::Cpu;
-use mt_kinds::MemType;
-use mt_ram::{LINE_BYTES, Ram, WORD_BYTES};
+use mt_kinds::{LINE_BYTES, MemType, WORD_BYTES};
+use mt_ram::Ram;
 
 // Writes a word into a cache's copy of its line, if it has one.
 fn write_copy(cache: &mut Cache, address: u64, v: u64, dirty: bool)

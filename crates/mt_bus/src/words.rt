@@ -3,8 +3,8 @@ ghost use Rattle.mt_cache.specs.declared.line.CacheLine.{CacheLine};
 ghost use Rattle.mt_machine.specs.Memory.{line_words, place, word_address, word_at, write_back, write_back_word};
 
 use mt_cache::CacheLine;
-use mt_kinds::is_bit_set;
-use mt_ram::{LINE_BYTES, Ram, WORD_BYTES};
+use mt_kinds::{LINE_BYTES, WORD_BYTES, is_bit_set};
+use mt_ram::Ram;
 
 /// The lines below the end of the physical addresses.
 const PHYSICAL_LINES: u64 = 1 << 46;

@@ -35,7 +35,7 @@ fn refuse<K: Sink>(f: &RegFile, fault: &Fault, sink: &mut K, command: DumpComman
     ensures bytes { Answers f.now command (K.taken sink.old) (K.taken sink.new) result }
     ensures cause { StatusHasCause Status.WriteFault (K.faults sink.old) (K.faults sink.new) result }
 {
-    f.is_register_file();
+    f.is_register_file(); // a fact for the proof
     written(sink, refused_line(fault).as_slice(), Status::Refused)
 }
 
@@ -106,7 +106,7 @@ fn grained<K: Sink>(
     ensures bytes { Answers f.now (Gran log spare chunk) (K.taken sink.old) (K.taken sink.new) result }
     ensures cause { StatusHasCause Status.WriteFault (K.faults sink.old) (K.faults sink.new) result }
 {
-    f.is_register_file();
+    f.is_register_file(); // a fact for the proof
     match gran(alloc, f, log, spare, chunk) {
         Ok(grained) => {
             let tidied = &grained.tidied;

@@ -10,13 +10,9 @@ ghost use Rattle.mt_machine.specs.Machine.{FitsGoal, Order, due, own_step, write
 ghost use Rattle.mt_cpu.specs.Steps.{HasFirst, HasWritten, is_local, is_shift, is_writing_back};
 
 use crate::cpu::Cpu;
-use mt_kinds::is_bit_set;
+use mt_kinds::{LINE_BYTES, WORD_BYTES, is_bit_set};
 use mt_machine::{Event, Phase};
 use mt_regs::{RegFile, Register};
-
-const LINE_BYTES: u64 = 64;
-
-const WORD_BYTES: u64 = 8;
 
 // The bit E of the default-type register.
 const ENABLE: u8 = 11;

@@ -5,7 +5,7 @@ ghost use Rattle.mt_tlb.specs.Entries.{add_entry, find_entry, find_mapping};
 ghost use Rattle.mt_machine.specs.Access.{entry_of, keep_entry, new_entry, physical};
 
 use crate::cpu::Cpu;
-use mt_kinds::{MemType, Pat, effective};
+use mt_kinds::{MemType, PAGE_BYTES, Pat, effective};
 use mt_machine::Phase;
 use mt_tlb::{Entry, Mapping};
 
@@ -27,8 +27,6 @@ impl Cpu {
         }
     }
 }
-
-const PAGE_BYTES: u64 = 4096;
 
 impl Cpu {
     // Fills the entry that the mapping of a page makes, where the page has a mapping.

@@ -3,9 +3,7 @@ ghost use Rattle.hex.specs.Hex.{lower_digits};
 ghost use Rattle.mt_dump.specs.Canon.{width_line, number_text, value_text, register_line, canon_lines};
 
 use arrayvec::ArrayVec;
-use mt_regs::RegFile;
-
-const CAP: u32 = 0xfe;
+use mt_regs::{CAPABILITIES, RegFile};
 
 const DIGITS: [u8; 16] = *b"0123456789abcdef";
 
@@ -79,7 +77,7 @@ fn canon_line(f: &RegFile, line: u32) -> ArrayVec<u8, 24>
 {
     match line {
         0 => width_line(f.maxphy),
-        1 => register_line(CAP, f.cap),
+        1 => register_line(CAPABILITIES, f.cap),
         _ => match f.register_at(line - 2) {
             Some(register) => register_line(register.number(), f.value_of(register)),
             None => ArrayVec::new(),

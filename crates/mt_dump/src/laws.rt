@@ -35,7 +35,7 @@ pub fn canonical_texts_are_equal_where_files_are()
 pub fn a_register_file_is_shown_by_its_text(f: &RegFile)
     ensures { Shown (canon f.now) f.now }
 {
-    f.has_words();
+    f.has_words(); // a fact for the proof
     let _ = &f.maxphy;
 }
 

@@ -8,13 +8,13 @@ ghost use Rattle.mt_dump.specs.Reader.{HasRead, onto};
 use crate::line::read_line;
 use crate::said::Said;
 use crate::{DumpFault, DumpReason};
-use mt_regs::RegFile;
+use mt_regs::{CAPABILITIES, FIRST_PAIR, RegFile};
 use mt_text::{Line, Place, end_place, next_line};
 use std::marker::Model;
 
-const CAP: u64 = 0xfe;
+const CAP: u64 = CAPABILITIES as u64;
 
-const FIRST: u64 = 0x200;
+const FIRST: u64 = FIRST_PAIR as u64;
 
 const MARKS: usize = 256;
 

@@ -46,7 +46,7 @@ pub fn gran(alloc: Global, f: &RegFile, g: u8, spare: u8, chunk: u64) -> Result<
     if !f.is_enabled() {
         return Err(GranFault::Disabled);
     }
-    f.is_register_file();
+    f.is_register_file(); // a fact for the proof
     let Ok(own) = page_runs(alloc, f) else {
         return Err(GranFault::NoMemory);
     };

@@ -92,7 +92,7 @@ pub fn lost_of(f: &RegFile, parts: &[Run], g: u8) -> u64
     requires { AreRunsOf (lost_mark (pages_of f.now) g) 0 (page_count f.now) parts.now }
     ensures { result ≡ lost_pages (pages_of f.now) g }
 {
-    f.is_register_file();
+    f.is_register_file(); // a fact for the proof
     let mut lost = 0;
     for part in parts {
         lost += part_loss(part);

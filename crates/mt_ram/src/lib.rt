@@ -10,4 +10,4 @@ mod window;
 
 pub use fault::RamFault;
 pub use laws::windows_overlap_by_bytes;
-pub use ram::{LINE_BYTES, Ram, WORD_BYTES};
+pub use ram::Ram;

@@ -8,14 +8,9 @@ ghost use Rattle.mt_ram.specs.Windows.{is_overlap, refusal, refusal_in, shares_b
 use crate::fault::RamFault;
 use crate::window::Window;
 use arrayvec::ArrayVec;
+use mt_kinds::{LINE_BYTES, WORD_BYTES};
 use std::alloc::Global;
 use std::marker::Model;
-
-/// The bytes of a line.
-pub const LINE_BYTES: u64 = 64;
-
-/// The bytes of a word.
-pub const WORD_BYTES: u64 = 8;
 
 /// The words of all windows together are at most these, those of 4,096 lines.
 const MOST_WORDS: usize = 8 * 4096;

@@ -3,9 +3,10 @@
 -- Variable Range MTRRs, IA32_PAT MSR and MTRR Precedences. That a mask with a gap is a fault, that FE is reserved without FIX, and
 -- the order in which a file's faults are looked for are this project's choices (own).
 use Rattle.std.specs.Prelude.{◌≡◌, ◌≢◌, ℕ, zero, suc, ◌-◌, ◌/◌, ◌%◌, ◌^◌, ◌<◌, ◌==◌, Bool, true, false, not, ◌&&◌, ◌||◌, List, [], ◌∷◌, if◌then◌else◌, MatchOption}
-use Rattle.std.specs.Prelude.{Option, None, Some}
+use Rattle.std.specs.Prelude.{Option, None, Some, is_some}
 use Rattle.std.specs.Option.{option_or}
 use Rattle.mt_kinds.specs.Bits.{bits, byte_at, is_bit_set}
+use Rattle.mt_kinds.specs.Types.{pat_type_of_byte, type_of_byte}
 use Rattle.mt_ranges.specs.Match.{is_run, matches_pair, page_field}
 use Rattle.mt_regs.specs.declared.fault.Fault.{Fault}
 use Rattle.mt_regs.specs.declared.fault.Reason.{Reason}
@@ -24,10 +25,10 @@ any_byte test value (suc i) = any_byte test value i || test (byte_at value i)
 
 -- a byte that is a memory type, and WC only where the processor has write combining
 abbrev pub is_supported : Bool → ℕ → Bool
-is_supported has_combining byte = byte == 0 || (byte == 1 && has_combining) || byte == 4 || byte == 5 || byte == 6
+is_supported has_combining byte = is_some (type_of_byte byte) && (not (byte == 1) || has_combining)
 
 abbrev pub is_pat_byte : ℕ → Bool
-is_pat_byte byte = byte == 0 || byte == 1 || byte == 4 || byte == 5 || byte == 6 || byte == 7
+is_pat_byte byte = is_some (pat_type_of_byte byte)
 
 abbrev pub has_reserved_bit : RegisterFile → Register → ℕ → Bool
 has_reserved_bit f (PhysBase n) v = not (bits v 8 4 == 0) || not (v / 2 ^ f.width == 0)

@@ -3,19 +3,19 @@ ghost use Rattle.mt_regs.specs.Faults.{any_byte, has_broken_mask, has_reserved_b
 ghost use Rattle.mt_regs.specs.Registers.{IsWithin};
 
 use crate::{Fault, Reason, RegFile, Register};
-use mt_kinds::{bits, byte_at, is_bit_set};
+use mt_kinds::{MemType, PatType, bits, byte_at, is_bit_set};
 use mt_ranges::block_of;
 
 fn is_supported(has_combining: bool, byte: u8) -> bool
     ensures { result ≡ is_supported has_combining byte }
 {
-    byte == 0 || (byte == 1 && has_combining) || byte == 4 || byte == 5 || byte == 6
+    MemType::of_byte(byte).is_some() && (byte != 1 || has_combining)
 }
 
 fn is_pat_byte(byte: u8) -> bool
     ensures { result ≡ is_pat_byte byte }
 {
-    byte == 0 || byte == 1 || byte == 4 || byte == 5 || byte == 6 || byte == 7
+    PatType::of_byte(byte).is_some()
 }
 
 // Whether a byte of a fixed-range register is no type of the processor.

@@ -5,9 +5,11 @@ ghost use Rattle.mt_regs.specs.Registers.{fixed_part_of, number_of, pair_registe
 
 use crate::{RegFile, Register};
 
-const CAPABILITIES: u32 = 0xfe;
+/// The number of the capability register.
+pub const CAPABILITIES: u32 = 0xfe;
 
-const FIRST_PAIR: u32 = 0x200;
+/// The number of the first pair's base register.
+pub const FIRST_PAIR: u32 = 0x200;
 
 const PAT: u32 = 0x277;
 

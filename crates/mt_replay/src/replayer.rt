@@ -19,6 +19,7 @@ use crate::report::write_report;
 use arrayvec::ArrayVec;
 use mt_bus::System;
 use mt_core::Core;
+use mt_kinds::PAGE_BYTES;
 use mt_machine::{Control, Op};
 use mt_output::{LineBuffer, Writer};
 use mt_ports::{Failed, Gate, NoMemory, Sink};
@@ -50,15 +51,13 @@ impl Model for Replayer {
     ghost invariant = { λ r. IsReplayState (record { now = r.setup; machine = r.core; goal = r.goal }) };
 }
 
-const PAGE: u64 = 4096;
-
 // Addresses are of bytes, and a mapping is of pages.
 fn mapping(address: u64, physical: u64, index: u8, global: bool) -> Mapping
     ensures { result ≡ mapping address physical index global }
 {
     Mapping {
-        vpage: address / PAGE,
-        ppage: physical / PAGE,
+        vpage: address / PAGE_BYTES,
+        ppage: physical / PAGE_BYTES,
         index,
         global,
     }

@@ -112,7 +112,7 @@ fn take_line<R: Threads + Wait + Sync, K: Sink, G: Gate>(
     ensures eras { (most : ℕ) → HasEras most replayer.old → MatchResult result (λ ended. MatchOption ended (HasEras (most + 1) replayer.new) (λ _. Unit {0})) (λ _. Unit {0}) }
     ensures cause { HasCause (K.faults sink.old) (K.faults sink.new) result }
 {
-    replayer.is_replay_state();
+    replayer.is_replay_state(); // a fact for the proof
     match read_command(line, replayer.setup()) {
         Ok(command) => do_command(rt, alloc, replayer, &command, writer, sink, gate),
         Err(fault) => match tell_offence(writer, sink, &Offence::Script(fault)) {

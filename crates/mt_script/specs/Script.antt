@@ -78,6 +78,10 @@ abbrev pub after_line : Situation → List Reading → ℕ → List ℕ → Rest
 after_line now before number line rest (Err fault) = Some (Script fault)
 after_line now before number line rest (Ok c) = after_command now before number line rest c (is_in_dump now.stage)
 
+-- a line's offence, or else the first of the lines behind it, which the rest answers
+abbrev pub offence_from : Situation → List Reading → ℕ → List ℕ → Rest → Option Offence
+offence_from now before number line rest = after_line now before number line rest (command_of now number line)
+
 abbrev pub at_end : Option ScriptFault → Option Offence
 at_end None = None
 at_end (Some fault) = Some (Script fault)
@@ -86,7 +90,7 @@ at_end (Some fault) = Some (Script fault)
 abbrev pub offence_in : Place → ℕ → List (List ℕ) → Rest
 offence_in end number [] now before = at_end (end_fault now.stage end)
 offence_in end number (line ∷ lines) now before =
-    after_line now before number line (offence_in end (number + 1) lines) (command_of now number line)
+    offence_from now before number line (offence_in end (number + 1) lines)
 
 abbrev pub script_offence : List ℕ → Option Offence
 script_offence text = offence_in (end_of text) 1 (lines_of text) at_start []

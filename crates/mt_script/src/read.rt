@@ -14,23 +14,16 @@ use crate::number::{
     any, base_at, count_at, fault, physical_at, processor_at, register_at, value_at, virtual_at,
     writable,
 };
-use crate::room::has_room;
+use crate::room::{MOST_LINES, has_room};
 use crate::row::Verb;
 use crate::shape::shape_fault;
 use crate::{Command, ScriptFault, ScriptReason, Setup, Stage};
-use mt_text::{Line, Place, Words, hex64, without_ending};
-
-const LIMIT_COLUMN: u64 = 4097;
+use mt_kinds::{PAGE_BYTES, WORD_BYTES};
+use mt_text::{LIMIT_COLUMN, Line, Place, Words, hex64, without_ending};
 
 const MOST_CPUS: u64 = 16;
 
-const MOST_LINES: u64 = 4096;
-
 const LAST_INDEX: u64 = 7;
-
-const PAGE: u64 = 4096;
-
-const WORD: u64 = 8;
 
 fn read_ram(words: &Words<'_>, setup: &Setup) -> Result<Command, ScriptFault>
     ensures { result ≡ ram_in setup.now words.now.number words.now.words }
@@ -48,7 +41,7 @@ fn read_load(words: &Words<'_>, setup: &Setup) -> Result<Command, ScriptFault>
     ensures { result ≡ load_in setup.now words.now.number words.now.words }
 {
     let k = processor_at(words, 1, setup)?;
-    let address = virtual_at(words, 2, WORD)?;
+    let address = virtual_at(words, 2, WORD_BYTES)?;
     Ok(Command::Load(k, address))
 }
 
@@ -56,7 +49,7 @@ fn read_store(words: &Words<'_>, setup: &Setup) -> Result<Command, ScriptFault>
     ensures { result ≡ store_in setup.now words.now.number words.now.words }
 {
     let k = processor_at(words, 1, setup)?;
-    let address = virtual_at(words, 2, WORD)?;
+    let address = virtual_at(words, 2, WORD_BYTES)?;
     let value = value_at(words, 3)?;
     Ok(Command::Store(k, address, value))
 }
@@ -65,8 +58,8 @@ fn read_map(words: &Words<'_>, setup: &Setup) -> Result<Command, ScriptFault>
     ensures { result ≡ map_in setup.now words.now.number words.now.words }
 {
     let k = processor_at(words, 1, setup)?;
-    let address = virtual_at(words, 2, PAGE)?;
-    let physical = physical_at(words, 3, PAGE, setup)?;
+    let address = virtual_at(words, 2, PAGE_BYTES)?;
+    let physical = physical_at(words, 3, PAGE_BYTES, setup)?;
     let index = count_at(words, 4, 0, LAST_INDEX)? as u8;
     let global = is_word(words.text(5), b"global");
     Ok(Command::Map(k, address, physical, index, global))
@@ -122,7 +115,7 @@ fn read_verb(words: &Words<'_>, setup: &Setup, verb: Verb) -> Result<Command, Sc
         Verb::Cancel => Ok(Command::Cancel),
         Verb::Report => Ok(Command::Report),
         Verb::Step => Ok(Command::Step(processor_at(words, 1, setup)?)),
-        Verb::Word => Ok(Command::Word(physical_at(words, 1, WORD, setup)?)),
+        Verb::Word => Ok(Command::Word(physical_at(words, 1, WORD_BYTES, setup)?)),
         Verb::Msr => read_msr(words, setup),
     }
 }

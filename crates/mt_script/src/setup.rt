@@ -133,7 +133,7 @@ impl Setup {
         requires goes_on { is_in_dump self.old.stage ≡ true → c.now ≢ Command.End }
         ensures { self.new ≡ accepted self.old c.now }
     {
-        self.is_situation();
+        self.is_situation(); // a fact for the proof
         match *c {
             Command::Cpus(n) => self.take_cpus(n),
             Command::Dump => self.move_to(Stage::InDump),

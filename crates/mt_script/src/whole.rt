@@ -5,9 +5,8 @@ ghost use Rattle.mt_dump.specs.Reader.{HasRead, onto};
 ghost use Rattle.mt_dump.specs.declared.fault.DumpFault.{DumpFault};
 ghost use Rattle.mt_regs.specs.RegisterFile.{RegisterFile};
 ghost use Rattle.mt_script.specs.Accept.{finished};
-ghost use Rattle.mt_script.specs.Commands.{command_of};
 ghost use Rattle.mt_script.specs.Stages.{is_in_dump};
-ghost use Rattle.mt_script.specs.Script.{Rest, after_line, script_offence};
+ghost use Rattle.mt_script.specs.Script.{Rest, offence_from, script_offence};
 
 use crate::token::first_place;
 use crate::{Command, Offence, Setup, Stage, read_command, read_end};
@@ -35,8 +34,8 @@ fn end_dump(setup: &mut Setup, dump: &mut DumpReader, at: Place) -> Result<(), O
 // Takes one line of a script.
 fn take_line(setup: &mut Setup, dump: &mut DumpReader, line: &Line<'_>) -> Result<(), Offence>
     ensures { (before : List Reading) → HasRead dump.old before → MatchResult result
-        (λ _. (after : List Reading) × HasRead dump.new after × ((rest : Rest) → after_line setup.old before line.now.number line.now.bytes.now rest (command_of setup.old line.now.number line.now.bytes.now) ≡ rest setup.new after))
-        (λ offence. (rest : Rest) → after_line setup.old before line.now.number line.now.bytes.now rest (command_of setup.old line.now.number line.now.bytes.now) ≡ Some offence) }
+        (λ _. (after : List Reading) × HasRead dump.new after × ((rest : Rest) → offence_from setup.old before line.now.number line.now.bytes.now rest ≡ rest setup.new after))
+        (λ offence. (rest : Rest) → offence_from setup.old before line.now.number line.now.bytes.now rest ≡ Some offence) }
 {
     let command = match read_command(line, setup) {
         Ok(command) => command,

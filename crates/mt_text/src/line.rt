@@ -16,7 +16,11 @@ pub struct Line<'a> {
 
 ghost use Rattle.mt_text.specs.Text.{is_line_end, lines_of, end_of, words_at, StandInOrder};
 
-pub(crate) const LONGEST: usize = 4096;
+/// The bytes of the longest line that is read.
+pub const LONGEST: usize = 4096;
+
+/// Where the offence of a longer line stands: just past the longest.
+pub const LIMIT_COLUMN: u64 = LONGEST as u64 + 1;
 
 /// Where the first LF of a text stands.
 pub(crate) fn line_end(text: &[u8]) -> Option<usize>

@@ -13,6 +13,6 @@ pub use context::Context;
 pub use laws::{
     a_block_has_one_wish, a_page_type_is_a_join, a_page_type_is_of_a_set, joins_are_free_of_order,
 };
-pub use wants::{same_type, want};
+pub use wants::want;
 pub use wish::Wish;
 pub use worked::{worked_joins, worked_wanted_types, worked_wishes, worked_wishes_of_blocks};

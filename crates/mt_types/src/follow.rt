@@ -5,7 +5,7 @@ ghost use Rattle.mt_types.specs.Follow.{Follows};
 use crate::Run;
 use mt_regs::PageType;
 
-// The number of pages of the largest width and one bit more than it needs.
+// The number of pages of the largest width, 52 bits.
 const MOST_PAGES: u64 = 1 << 40;
 
 // Whether a run may stand where the runs before it end at a page, the last of them with a type.

@@ -1,0 +1,8 @@
+/// The bytes of a page.
+pub const PAGE_BYTES: u64 = 4096;
+
+/// The bytes of a line.
+pub const LINE_BYTES: u64 = 64;
+
+/// The bytes of a word.
+pub const WORD_BYTES: u64 = 8;
