@@ -18,4 +18,6 @@ pub use laws::{
     a_second_rounding_loses_nothing, each_file_is_rounded_or_needs_more,
     each_size_has_one_least_number, the_rounded_file_keeps_its_types,
 };
-pub use worked::{worked_granules, worked_losses, worked_parts, worked_rounding};
+pub use worked::{
+    worked_grained, worked_granules, worked_losses, worked_parts, worked_rounding, worked_why,
+};

@@ -1,5 +1,10 @@
 ghost use Rattle.std.specs.Prelude.{◌≡◌, [], ◌∷◌, true, false};
+ghost use Rattle.mt_regs.specs.WorkedRows.{four_gigabytes};
+ghost use Rattle.mt_regs.specs.declared.fault.Reason.TheVariants.{BrokenMask, ReservedBit};
 ghost use Rattle.mt_regs.specs.declared.page_type.PageType.TheVariants.{Kind};
+ghost use Rattle.mt_tidy.specs.WorkedRanges.{cached, with_reserved_bit};
+ghost use Rattle.mt_gran.specs.declared.fault.GranFault.TheVariants.{Disabled, Refused, TooFew};
+ghost use Rattle.mt_gran.specs.Grained.{IsGrained, IsWhy};
 ghost use Rattle.mt_gran.specs.Granules.{is_whole, loses, lost_pages, rounded_kind};
 ghost use Rattle.mt_gran.specs.Parts.{ArePartsOf};
 ghost use Rattle.mt_gran.specs.WorkedGranules.{run, sixteen, with_free};
@@ -53,4 +58,27 @@ pub fn worked_parts()
     ensures not_uncacheable { ArePartsOf sixteen 2 (run 4 3 MemType.WB ∷ run 7 1 MemType.UC ∷ []) → ⊥ }
     ensures not_free { ArePartsOf sixteen 3 (run 0 2 MemType.WP ∷ run 2 5 MemType.WB ∷ run 8 4 MemType.WT ∷ run 12 4 MemType.WB ∷ []) → ⊥ }
     ensures not_joined { ArePartsOf sixteen 3 (run 2 5 MemType.WB ∷ run 8 8 MemType.WT ∷ []) → ⊥ }
+{}
+
+/// Why nothing is rounded.
+pub fn worked_why()
+    ensures disabled { IsWhy (record cached { default_type = 6 }) 0 0 0 Disabled }
+    ensures enabled { IsWhy cached 0 0 0 Disabled → ⊥ }
+    ensures disabled_and_not_accepted { IsWhy (record with_reserved_bit { default_type = 6 }) 0 0 0 Disabled → ⊥ }
+    ensures refused { IsWhy with_reserved_bit 0 0 0 (Refused (record { msr = 0x200; reason = ReservedBit })) }
+    ensures other_register { IsWhy with_reserved_bit 0 0 0 (Refused (record { msr = 0x201; reason = ReservedBit })) → ⊥ }
+    ensures other_reason { IsWhy with_reserved_bit 0 0 0 (Refused (record { msr = 0x200; reason = BrokenMask })) → ⊥ }
+    ensures not_refused { IsWhy cached 0 0 0 (Refused (record { msr = 0x200; reason = ReservedBit })) → ⊥ }
+    ensures enough { IsWhy four_gigabytes 0 0 7 (TooFew 1 1) → ⊥ }
+    ensures other_count { IsWhy four_gigabytes 0 0 7 (TooFew 1 0) → ⊥ }
+    ensures not_accepted { IsWhy with_reserved_bit 0 0 8 (TooFew 1 0) → ⊥ }
+    ensures ranges_off { IsWhy (record four_gigabytes { default_type = 6 }) 0 0 8 (TooFew 1 0) → ⊥ }
+{}
+
+/// What isn't a rounded file, for one thing.
+pub fn worked_grained()
+    ensures not_accepted { IsGrained with_reserved_bit 0 0 0 cached 0 0 [] → ⊥ }
+    ensures ranges_off { IsGrained (record cached { default_type = 6 }) 0 0 0 cached 0 0 [] → ⊥ }
+    ensures other_pat { IsGrained cached 0 0 0 (record cached { pat = 0x0007040600070407 }) 0 0 [] → ⊥ }
+    ensures none_left { IsGrained cached 0 0 8 cached 1 0 [] → ⊥ }
 {}
