@@ -3,14 +3,12 @@ ghost use Rattle.mt_types.specs.Runs.{run_end};
 ghost use Rattle.mt_cli.specs.Lines.{disabled_line, lost_line, outside_line, page_line, page_text, run_line, too_few_line, used_line};
 
 use arrayvec::ArrayVec;
-use mt_kinds::{MemType, Pat, PatType, effective};
+use mt_kinds::{MemType, PAGE_BYTES, Pat, PatType, effective};
 use mt_output::{
     LineBuffer, append, append_address, append_decimal, append_pat_type, append_type, append_value,
 };
 use mt_regs::RegFile;
 use mt_types::Run;
-
-const PAGE: u64 = 4096;
 
 /// The line of a run of pages.
 pub fn run_line(run: &Run) -> LineBuffer
@@ -19,9 +17,9 @@ pub fn run_line(run: &Run) -> LineBuffer
     ensures { result.items ≡ run_line run.now }
 {
     let mut line = ArrayVec::new();
-    append_address(&mut line, PAGE * run.first);
+    append_address(&mut line, PAGE_BYTES * run.first);
     append(&mut line, b"-");
-    append_address(&mut line, PAGE * (run.first + run.count) - 1);
+    append_address(&mut line, PAGE_BYTES * (run.first + run.count) - 1);
     append(&mut line, b" ");
     append_type(&mut line, run.kind.defined());
     append(&mut line, b"\n");
@@ -35,7 +33,7 @@ fn page_line(page: u64, kind: MemType, pat_kind: PatType) -> LineBuffer
 {
     let mut line = ArrayVec::new();
     append(&mut line, b"page ");
-    append_address(&mut line, PAGE * page);
+    append_address(&mut line, PAGE_BYTES * page);
     append(&mut line, b" mtrr ");
     append_type(&mut line, kind);
     append(&mut line, b" pat ");
@@ -52,7 +50,7 @@ fn outside_line(page: u64) -> LineBuffer
 {
     let mut line = ArrayVec::new();
     append(&mut line, b"page ");
-    append_address(&mut line, PAGE * page);
+    append_address(&mut line, PAGE_BYTES * page);
     append(&mut line, b" outside\n");
     line
 }
@@ -63,7 +61,7 @@ pub fn page_text(f: &RegFile, address: u64, index: u8) -> LineBuffer
     requires index { index < 8 }
     ensures { result.items ≡ page_text f.now address index }
 {
-    let page = address / PAGE;
+    let page = address / PAGE_BYTES;
     if page < f.pages() {
         let kind = f.page_type(page).defined();
         page_line(page, kind, Pat(f.pat).entry(index))
