@@ -1,4 +1,4 @@
-ghost use Rattle.std.specs.Prelude.{◌≡◌, ℕ, List, Some, None, drop, IfErr, IfOk};
+ghost use Rattle.std.specs.Prelude.{◌≡◌, ◌↔◌, ℕ, List, Some, None, drop, IfErr, IfOk};
 ghost use Rattle.std.specs.IoError.{error_kind};
 ghost use Rattle.std.specs.Process.{exit_status};
 ghost use Rattle.std.specs.Vec.Iter.{into_iter_items};
@@ -6,6 +6,7 @@ ghost use Rattle.mt_ports.specs.Causes.{StatusHasCause};
 ghost use Rattle.mt_ports.specs.Exit.{code};
 ghost use Rattle.mt_cli.specs.CommandLine.{command_of};
 ghost use Rattle.mt_cli.specs.Program.{Exits, words_of};
+ghost use Rattle.mt_cli.specs.Reading.{GaveTooMuch};
 ghost use Rattle.mt_cli.specs.Tool.{Leaves, Reads};
 
 use crate::tool;
@@ -43,8 +44,10 @@ fn run<R: AllocGlobal + Threads + Wait + Sync, S: Source, K: Sink, G: Gate>(
         Leaves (words_of args) bytes (S.left source.new) before (K.taken sink.new) result }
     ensures reads { (bytes : List ℕ) → S.left source.old ≡ Some bytes → Reads (words_of args) bytes (S.left source.new) result }
     ensures usage { result ≡ Status.Usage → command_of (words_of args) ≡ None }
+    ensures unread { command_of (words_of args) ≡ None → source.new ≡ source.old }
     ensures read_fault { StatusHasCause Status.ReadFault (S.faults source.old) (S.faults source.new) result }
     ensures write_fault { StatusHasCause Status.WriteFault (K.faults sink.old) (K.faults sink.new) result }
+    ensures too_long { (result ≡ Status.TooLong) ↔ GaveTooMuch (S.given source.old) (S.given source.new) }
     ensures no_memory { IfErr args (λ error. error_kind error ≡ ErrorKind.OutOfMemory → result ≡ Status.NoMemory) }
 {
     match args {
@@ -70,8 +73,10 @@ pub fn program_status<R: AllocGlobal + Threads + Wait + Sync, S: Source, K: Sink
         Exits result (Leaves (words_of args) bytes (S.left source.new) before (K.taken sink.new)) }
     ensures reads { (bytes : List ℕ) → S.left source.old ≡ Some bytes → Exits result (Reads (words_of args) bytes (S.left source.new)) }
     ensures usage { Exits result (λ status. status ≡ Status.Usage → command_of (words_of args) ≡ None) }
+    ensures unread { command_of (words_of args) ≡ None → source.new ≡ source.old }
     ensures read_fault { Exits result (StatusHasCause Status.ReadFault (S.faults source.old) (S.faults source.new)) }
     ensures write_fault { Exits result (StatusHasCause Status.WriteFault (K.faults sink.old) (K.faults sink.new)) }
+    ensures too_long { Exits result (λ status. (status ≡ Status.TooLong) ↔ GaveTooMuch (S.given source.old) (S.given source.new)) }
 
     // Where the arguments find no memory nothing is run.
     ensures no_memory { IfErr args (λ error. error_kind error ≡ ErrorKind.OutOfMemory → exit_status result ≡ code Status.NoMemory) }
