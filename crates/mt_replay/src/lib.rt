@@ -34,7 +34,7 @@ pub use statuses::{
     states_have_the_shown_file, statuses_tell_of_offences, stored_words_are_held,
 };
 pub use worked::{
-    worked_answers, worked_dumps, worked_each_state, worked_events, worked_kept, worked_phases,
-    worked_reports, worked_settled_states, worked_updates, worked_values, worked_without_call,
-    worked_words,
+    worked_answers, worked_commands, worked_dumps, worked_each_state, worked_effects,
+    worked_events, worked_kept, worked_phases, worked_reports, worked_settled_states,
+    worked_updates, worked_values, worked_without_call, worked_words,
 };

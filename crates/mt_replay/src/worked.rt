@@ -1,3 +1,4 @@
+mod commands;
 mod states;
 
 ghost use Rattle.std.specs.Prelude.{◌≡◌, ◌∷◌, [], codes, replicate, true, false, None, Some};
@@ -13,6 +14,7 @@ ghost use Rattle.mt_core.specs.declared.fault.CallFault.TheVariants.{Refused, Un
 ghost use Rattle.mt_core.specs.declared.stepped.Stepped.TheVariants.{Did, Waits, NoUpdate};
 ghost use Rattle.mt_replay.specs.Texts.{call_fault_line, called_line, cancel_line, complete_line, done_line, event_text, go_line, have_one_file, memory_line, phase_text, processor_line, register_line, registers_line, report_text, ruled_line, stepped_line};
 
+pub use commands::{worked_commands, worked_effects};
 pub use states::{
     worked_dumps, worked_each_state, worked_kept, worked_settled_states, worked_without_call,
     worked_words,
