@@ -1,8 +1,9 @@
 use crate::replay;
-use mt_ports::{MemSink, OpenGate, Status};
+use mt_ports::{Gate, MemSink, OpenGate, Status};
 use std::alloc::Global;
 use std::process::Abort;
 use std::sync::Wait;
+use std::sync::atomic::{AtomicU64, Ordering};
 use std::test::Fail;
 use std::thread::Threads;
 
@@ -30,10 +31,21 @@ fn run<R: AllocGlobal + Threads + Wait + Abort + Sync>(
     room: usize,
     failing: &[u64],
 ) -> Result<Ran, Fail> {
+    run_under(rt, script, room, failing, &OpenGate)
+}
+
+// The same under a gate.
+fn run_under<R: AllocGlobal + Threads + Wait + Abort + Sync, G: Gate>(
+    rt: &R,
+    script: &[u8],
+    room: usize,
+    failing: &[u64],
+    gate: &G,
+) -> Result<Ran, Fail> {
     let Ok(mut sink) = MemSink::new(rt.alloc(), room, failing.to_vec(rt.alloc())?) else {
         return Err(Fail::from("no memory"));
     };
-    let status = replay(rt, script, &mut sink, &OpenGate);
+    let status = replay(rt, script, &mut sink, gate);
     Ok(Ran { status, sink })
 }
 
@@ -52,6 +64,79 @@ fn a_dirty_line_and_an_update(rt: HostRuntime) -> Result<(), Fail> {
     let ran = run(&rt, &script, 4096, &[])?;
     assert_eq!(rt; ran.status, Status::Done);
     assert!(rt; ran.sink.bytes() == UPDATED);
+    Ok(())
+}
+
+// Lets no thread start for one processor.
+#[derive(Drop)]
+struct Without {
+    processor: u32,
+}
+
+impl Gate for Without {
+    fn may_start(&self, k: u32) -> bool {
+        k != self.processor
+    }
+
+    fn arrived(&self, _k: u32) {}
+}
+
+#[test]
+fn a_refused_start_changes_nothing_that_is_told(rt: HostRuntime) -> Result<(), Fail> {
+    let script = repeated(rt.alloc(), PAIR, UPDATE, 1)?;
+    for processor in 0..2 {
+        let ran = run_under(&rt, &script, 4096, &[], &Without { processor })?;
+        assert_eq!(rt; ran.status, Status::Done);
+        assert!(rt; ran.sink.bytes() == UPDATED);
+    }
+    Ok(())
+}
+
+// Each of two threads waits a while for the other.
+#[derive(Drop)]
+struct Meets {
+    arrived: [AtomicU64; 2],
+    seen: AtomicU64,
+}
+
+impl Gate for Meets {
+    fn may_start(&self, _k: u32) -> bool {
+        true
+    }
+
+    fn arrived(&self, k: u32) {
+        let (own, other) = if k == 0 { (0, 1) } else { (1, 0) };
+        self.arrived[own].store(1, Ordering::SeqCst);
+        for _ in 0..200_000_000u64 {
+            if self.arrived[other].load(Ordering::SeqCst) == 1 {
+                self.seen.fetch_add(1, Ordering::SeqCst);
+                return;
+            }
+        }
+    }
+}
+
+/// Both processors of an update see the other, so two threads run at once.
+#[test]
+fn two_processors_of_a_script_meet(rt: HostRuntime) -> Result<(), Fail> {
+    let gate = Meets {
+        arrived: [AtomicU64::new(0), AtomicU64::new(0)],
+        seen: AtomicU64::new(0),
+    };
+    let script = repeated(rt.alloc(), PAIR, b"update\n200 0\nend\n", 1)?;
+    let ran = run_under(&rt, &script, 4096, &[], &gate)?;
+    assert_eq!(rt; ran.status, Status::Done);
+    assert!(rt; ran.sink.bytes() == b"accepted\nok\nok\ncomplete 1\n".as_slice());
+    assert_eq!(rt; gate.seen.load(Ordering::SeqCst), 2);
+    Ok(())
+}
+
+#[test]
+fn a_thousand_updates(rt: HostRuntime) -> Result<(), Fail> {
+    let script = repeated(rt.alloc(), PAIR, b"update\n200 0\nend\n", 1000)?;
+    let ran = run(&rt, &script, 65536, &[])?;
+    assert_eq!(rt; ran.status, Status::Done);
+    assert!(rt; ran.sink.bytes().ends_with(b"complete 999\ncomplete 1000\n"));
     Ok(())
 }
 
