@@ -72,10 +72,14 @@ pub fn worked_course()
 /// What doesn't stand beside a system, isn't its answer and isn't held, for one thing.
 pub fn worked_beside()
     ensures other_value { IsFlatOf (run palette (store 0 0x1000 7 ∷ [])).system flat_start → ⊥ }
+    ensures other_value_of_the_second_word { IsFlatOf (run palette (store 0 0x1008 7 ∷ [])).system flat_start → ⊥ }
     ensures line_not_pending { IsFlatOf (run palette (store 0 0x3000 7 ∷ [])).system flat_start → ⊥ }
+    ensures line_of_the_second_not_pending { IsFlatOf (run palette (store 1 0x3000 7 ∷ [])).system flat_start → ⊥ }
     ensures another_answer { IsFlatAnswer palette (flat_of (store 0 0x1000 5 ∷ [])) 1 0x1000 0 WB → ⊥ }
     ensures still_pending { IsHeldFlat (flat_of (store 0 0x3000 7 ∷ [])) palette [] → ⊥ }
+    ensures still_pending_of_the_second { IsHeldFlat (flat_of (store 1 0x3000 7 ∷ [])) palette [] → ⊥ }
     ensures not_in_memory { IsHeldFlat (flat_of (store 0 0x1000 7 ∷ [])) palette [] → ⊥ }
+    ensures second_word_not_in_memory { IsHeldFlat (flat_of (store 0 0x1008 7 ∷ [])) palette [] → ⊥ }
 {}
 
 /// Events and whole updates in one course, and what is none for one thing.

@@ -11,3 +11,4 @@ pub mod RoundedFit
 mod OneList
 mod WorkedParts
 pub mod SomeRounding
+mod WorkedFile

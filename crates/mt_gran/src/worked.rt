@@ -2,7 +2,7 @@ ghost use Rattle.std.specs.Prelude.{◌≡◌, [], ◌∷◌, true, false};
 ghost use Rattle.mt_regs.specs.WorkedRows.{four_gigabytes};
 ghost use Rattle.mt_regs.specs.declared.fault.Reason.TheVariants.{BrokenMask, ReservedBit};
 ghost use Rattle.mt_regs.specs.declared.page_type.PageType.TheVariants.{Kind};
-ghost use Rattle.mt_tidy.specs.WorkedRanges.{cached, with_reserved_bit};
+ghost use Rattle.mt_tidy.specs.WorkedRanges.{cached, uncached, with_reserved_bit};
 ghost use Rattle.mt_gran.specs.declared.fault.GranFault.TheVariants.{Disabled, Refused, TooFew};
 ghost use Rattle.mt_gran.specs.Grained.{IsGrained, IsWhy};
 ghost use Rattle.mt_gran.specs.Granules.{is_whole, loses, lost_pages, rounded_kind};
@@ -75,8 +75,11 @@ pub fn worked_why()
     ensures ranges_off { IsWhy (record four_gigabytes { default_type = 6 }) 0 0 8 (TooFew 1 0) → ⊥ }
 {}
 
-/// What isn't a rounded file, for one thing.
+/// A rounded file, all of UC, and what isn't one for one thing.
 pub fn worked_grained()
+    ensures grained { IsGrained uncached 4 0 8 uncached 0 0 [] }
+    ensures lost_of_none { IsGrained uncached 4 0 8 uncached 0 1 [] → ⊥ }
+    ensures part_of_none { IsGrained uncached 4 0 8 uncached 0 0 (run 0 16 MemType.UC ∷ []) → ⊥ }
     ensures not_accepted { IsGrained with_reserved_bit 0 0 0 cached 0 0 [] → ⊥ }
     ensures ranges_off { IsGrained (record cached { default_type = 6 }) 0 0 0 cached 0 0 [] → ⊥ }
     ensures other_pat { IsGrained cached 0 0 0 (record cached { pat = 0x0007040600070407 }) 0 0 [] → ⊥ }

@@ -53,7 +53,7 @@ is_still other = false
 
 abbrev pub StillEventsKeep : Type 0
 StillEventsKeep =
-    (m : Machine) (e : MachineEvent) → IsEnabled m e → is_still e ≡ true → SameHoldings m.system (next m e).system
+    (m : Machine) (e : MachineEvent) → is_still e ≡ true → SameHoldings m.system (next m e).system
 
 -- the events of an update but Take
 abbrev pub is_take_step : MachineEvent → Bool

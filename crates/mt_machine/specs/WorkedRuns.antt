@@ -223,12 +223,20 @@ whole = record (start_processor (bare_file 0x800)) {
   entries = entry 1 false ∷ [];
 }
 
+-- the same with a clean line of zeros
+abbrev pub copier : Processor
+copier = record whole { lines = record (line_of 0x4000 0) { words = replicate 8 0; dirty = 0 } ∷ [] }
+
 abbrev pub idle : Processor
 idle = start_processor (bare_file 0x800)
 
--- over 64 lines whose first word is this number, and 0 everywhere else
+-- over 64 lines of which the word at an address is this number, and 0 everywhere else
+abbrev pub with_word : ℕ → ℕ → Machine → Machine
+with_word address value m = record m { system = record m.system { memory = put_word m.system.memory address value } }
+
+-- the same of the first word
 abbrev pub with_first_word : ℕ → Machine → Machine
-with_first_word value m = record m { system = record m.system { memory = put_word m.system.memory 0x100000 value } }
+with_first_word value m = with_word 0x100000 value m
 
 -- a call for other registers, of processors that have taken
 abbrev pub call_order : Order

@@ -7,7 +7,7 @@ ghost use Rattle.mt_machine.specs.declared.control.Control.TheVariants.{Cr3};
 ghost use Rattle.mt_machine.specs.declared.event.Event.TheVariants.{Arrive, Take};
 ghost use Rattle.mt_machine.specs.declared.op.Op.TheVariants.{Fence};
 ghost use Rattle.mt_machine.specs.Machine.{Accesses, Calls, Cancels, Controls, Goes, IsEnabled, Steps};
-ghost use Rattle.mt_machine.specs.WorkedRuns.{alone, bare, bare_file, begun, called, goal_of, holder, load, mapping, maps, palette, store, walk};
+ghost use Rattle.mt_machine.specs.WorkedRuns.{alone, bare, bare_file, begun, called, goal_of, holder, idle, load, machine_of, mapping, maps, palette, store, walk};
 
 /// Accesses and control instructions that are enabled, and that aren't for one thing.
 pub fn worked_enabled()
@@ -30,6 +30,7 @@ pub fn worked_enabled()
 /// Events of the coordinator and steps that are enabled, and that aren't for one thing.
 pub fn worked_coordinator()
     ensures call { IsEnabled bare (Calls (bare_file 0x806)) }
+    ensures call_of_a_later_era { IsEnabled (machine_of (record idle { era = 3 } ∷ record idle { era = 3 } ∷ [])) (Calls (bare_file 0x806)) }
     ensures under_way { IsEnabled (begun (bare_file 0x806) bare) (Calls (bare_file 0x806)) → ⊥ }
     ensures no_file { IsEnabled bare (Calls (record (bare_file 0x806) { fixed = [] })) → ⊥ }
     ensures not_accepted { IsEnabled bare (Calls (bare_file 0x802)) → ⊥ }
@@ -42,5 +43,6 @@ pub fn worked_coordinator()
     ensures no_cancel_behind_the_go { IsEnabled (called palette) Cancels → ⊥ }
     ensures nothing_to_cancel { IsEnabled palette Cancels → ⊥ }
     ensures step { IsEnabled (called palette) (Steps 0 Take) }
+    ensures step_of_the_second { IsEnabled (called (machine_of (record idle { era = 3 } ∷ record idle { era = 3 } ∷ []))) (Steps 1 Take) }
     ensures other_step { IsEnabled (called palette) (Steps 0 Arrive) → ⊥ }
 {}

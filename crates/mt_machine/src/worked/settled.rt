@@ -6,7 +6,7 @@ ghost use Rattle.mt_machine.specs.declared.op.Op.TheVariants.{Fence};
 ghost use Rattle.mt_machine.specs.Machine.{Accesses, Calls, Cancels, Controls, Goes, Reached, Steps, run};
 ghost use Rattle.mt_machine.specs.System.{now};
 ghost use Rattle.mt_machine.specs.Update.{IsHeld, IsSettled, IsSettledOn, Led, is_call, is_cancel, is_go, is_led, is_release, is_step_of, stored_word, stored_words, takes_of};
-ghost use Rattle.mt_machine.specs.WorkedRuns.{alone, bare_file, bare, begun, called, entry, goal_of, keeper, line_of, load, machine_of, mapping, maps, palette, store, walk, with_first_word};
+ghost use Rattle.mt_machine.specs.WorkedRuns.{alone, bare_file, bare, begun, called, entry, goal_of, keeper, line_of, load, machine_of, mapping, maps, palette, store, walk, with_first_word, with_word};
 
 /// What is settled, and what is not for one thing.
 pub fn worked_settled()
@@ -38,6 +38,7 @@ pub fn worked_stored_words()
 pub fn worked_held()
     ensures held { IsHeld palette.system palette [] }
     ensures changed { IsHeld palette.system (with_first_word 7 palette) [] → ⊥ }
+    ensures second_word { IsHeld palette.system (with_word 0x100008 7 palette) [] → ⊥ }
     ensures left_in_a_cache { IsHeld (run palette (store 1 0x1000 7 ∷ [])).system palette [] → ⊥ }
     ensures other_word_stored { IsHeld palette.system (with_first_word 7 palette) (store 0 0x4008 1 ∷ []) → ⊥ }
     ensures refused_store { IsHeld palette.system (with_first_word 7 palette) (store 0 0x6000 1 ∷ []) → ⊥ }

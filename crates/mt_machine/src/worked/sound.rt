@@ -2,7 +2,7 @@ ghost use Rattle.std.specs.Prelude.{◌≡◌, ◌∷◌, [], ◌++◌, Some, fa
 ghost use Rattle.mt_machine.specs.declared.phase.Phase.TheVariants.{Flushed, Flushed2, Normal, Restored, TlbFlushed, TlbFlushed2, Writing};
 ghost use Rattle.mt_machine.specs.Memory.{IsMemory};
 ghost use Rattle.mt_machine.specs.System.{IsCoherent, IsProcessor, IsSound, is_tlb_flushed};
-ghost use Rattle.mt_machine.specs.WorkedRuns.{alone, bare_file, dirty_lines, entries_from, entry, idle, line_of, machine_of, mapping, mappings_from, one_window, whole, with_first_word};
+ghost use Rattle.mt_machine.specs.WorkedRuns.{alone, bare_file, copier, dirty_lines, entries_from, entry, idle, line_of, machine_of, mapping, mappings_from, one_window, whole, with_first_word, with_word};
 
 /// A memory, and what is none for one thing.
 pub fn worked_memory()
@@ -13,6 +13,7 @@ pub fn worked_memory()
     ensures shared_line { IsMemory (record { windows = record { base = 0; lines = 2 } ∷ record { base = 0x40; lines = 1 } ∷ []; words = replicate 24 0 }) → ⊥ }
     ensures shared_line_of_the_second { IsMemory (record { windows = record { base = 0x40; lines = 1 } ∷ record { base = 0; lines = 2 } ∷ []; words = replicate 24 0 }) → ⊥ }
     ensures descending { IsMemory (record { windows = record { base = 0x40; lines = 1 } ∷ record { base = 0; lines = 1 } ∷ []; words = replicate 16 0 }) }
+    ensures at_the_end { IsMemory (record { windows = record { base = 0xfffffffffffc0; lines = 1 } ∷ []; words = replicate 8 0 }) }
     ensures word_missing { IsMemory (record { windows = record { base = 0; lines = 1 } ∷ []; words = replicate 7 0 }) → ⊥ }
 {}
 
@@ -20,8 +21,11 @@ pub fn worked_memory()
 pub fn worked_sound()
     ensures sound { IsSound (alone whole).system }
     ensures clean_word_differs { IsCoherent (with_first_word 9 (alone whole)).system → ⊥ }
+    ensures last_word_differs { IsCoherent (with_word 0x100038 9 (alone whole)).system → ⊥ }
     ensures dirty_and_copied { IsCoherent (machine_of (idle ∷ whole ∷ whole ∷ [])).system → ⊥ }
-    ensures clean_copies { IsCoherent (machine_of (record whole { lines = record (line_of 0x4000 0) { words = replicate 8 0; dirty = 0 } ∷ [] } ∷ record whole { lines = record (line_of 0x4000 0) { words = replicate 8 0; dirty = 0 } ∷ [] } ∷ [])).system }
+    ensures copied_by_the_next { IsCoherent (machine_of (whole ∷ copier ∷ [])).system → ⊥ }
+    ensures copied_by_the_one_before { IsCoherent (machine_of (copier ∷ whole ∷ [])).system → ⊥ }
+    ensures clean_copies { IsCoherent (machine_of (copier ∷ copier ∷ [])).system }
     ensures line_outside { IsSound (alone (record whole { lines = line_of 0x4040 0 ∷ [] })).system → ⊥ }
     ensures buffer_outside { IsSound (alone (record whole { buffers = line_of 0x3fff 0 ∷ [] })).system → ⊥ }
     ensures incoherent { IsSound (with_first_word 9 (alone whole)).system → ⊥ }

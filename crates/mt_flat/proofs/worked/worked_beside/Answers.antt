@@ -14,8 +14,14 @@ none a (k, within, is) = omega (arith, within)
 pub returns-clause-other_value : goal.returns-clause-other_value
 returns-clause-other_value c = λ h. omega (arith, h.values 0x100000 refl)
 
+pub returns-clause-other_value_of_the_second_word : goal.returns-clause-other_value_of_the_second_word
+returns-clause-other_value_of_the_second_word c = λ h. omega (arith, h.values 0x100008 refl)
+
 pub returns-clause-line_not_pending : goal.returns-clause-line_not_pending
 returns-clause-line_not_pending c = λ h. omega (arith, ap length (h.pending 0))
+
+pub returns-clause-line_of_the_second_not_pending : goal.returns-clause-line_of_the_second_not_pending
+returns-clause-line_of_the_second_not_pending c = λ h. omega (arith, ap length (h.pending 1))
 
 pub returns-clause-another_answer : goal.returns-clause-another_answer
 returns-clause-another_answer c = λ h.
@@ -25,6 +31,12 @@ returns-clause-another_answer c = λ h.
 
 pub returns-clause-still_pending : goal.returns-clause-still_pending
 returns-clause-still_pending c = λ h. omega (arith, ap length (h.nothing 0))
+
+pub returns-clause-still_pending_of_the_second : goal.returns-clause-still_pending_of_the_second
+returns-clause-still_pending_of_the_second c = λ h. omega (arith, ap length (h.nothing 1))
+
+pub returns-clause-second_word_not_in_memory : goal.returns-clause-second_word_not_in_memory
+returns-clause-second_word_not_in_memory c = λ h. omega (arith, h.held 0x100008 refl (none 0x100008))
 
 pub returns-clause-not_in_memory : goal.returns-clause-not_in_memory
 returns-clause-not_in_memory c = λ h. omega (arith, h.held 0x100000 refl (none 0x100000))

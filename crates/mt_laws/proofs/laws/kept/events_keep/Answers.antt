@@ -6,4 +6,4 @@ pub returns-clause-take : goal.returns-clause-take
 returns-clause-take c = take_fences
 
 pub returns-clause-still : goal.returns-clause-still
-returns-clause-still c = λ m e enabled is. still_keeps m e is
+returns-clause-still c = still_keeps

@@ -1,6 +1,6 @@
 use Rattle.std.proofs.Common.{arith, refl}
 use Rattle.mt_machine.specs.System.{IsCoherent}
-use Rattle.mt_machine.specs.WorkedRuns.{alone, idle, line_of, whole, with_first_word}
+use Rattle.mt_machine.specs.WorkedRuns.{alone, copier, idle, line_of, whole, with_first_word}
 use Rattle.mt_machine.proofs.worked.sound.worked_sound.Goals as goal
 
 clean_word : IsCoherent (with_first_word 9 (alone whole)).system → ⊥
@@ -8,6 +8,15 @@ clean_word h = omega (arith, h.clean 0 idle (omega arith) 0 (line_of 0 0) (omega
 
 pub returns-clause-clean_word_differs : goal.returns-clause-clean_word_differs
 returns-clause-clean_word_differs c = clean_word
+
+pub returns-clause-last_word_differs : goal.returns-clause-last_word_differs
+returns-clause-last_word_differs c = λ h. omega (arith, h.clean 0 idle (omega arith) 0 (line_of 0 0) (omega arith) 7 (omega arith) refl)
+
+pub returns-clause-copied_by_the_next : goal.returns-clause-copied_by_the_next
+returns-clause-copied_by_the_next c = λ h. absurd (cc (h.sole 0 1 whole copier (omega arith) refl refl 0 (line_of 0 0) (omega arith) (omega arith)))
+
+pub returns-clause-copied_by_the_one_before : goal.returns-clause-copied_by_the_one_before
+returns-clause-copied_by_the_one_before c = λ h. absurd (cc (h.sole 1 0 whole copier (omega arith) refl refl 0 (line_of 0 0) (omega arith) (omega arith)))
 
 pub returns-clause-dirty_and_copied : goal.returns-clause-dirty_and_copied
 returns-clause-dirty_and_copied c = λ h. absurd (cc (h.sole 1 2 whole whole (omega arith) refl refl 0 (line_of 0 0) (omega arith) (omega arith)))
