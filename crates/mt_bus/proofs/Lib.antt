@@ -7,5 +7,6 @@ mod Misses
 mod Places
 mod Refusing
 mod Rooms
+pub mod Tables
 mod Translated
 mod Ruling

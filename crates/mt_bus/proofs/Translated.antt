@@ -1,10 +1,17 @@
 -- A processor whose translation fills an entry.
 use Rattle.std.proofs.Common.{◌≡◌, ◌∙◌, ap, sym, ℕ, zero, suc, ◌/◌, List, [], ◌∷◌, Option, None, Some, slice_get, slice_set}
-use Rattle.std.specs.Option.{option_map_or}
+use Rattle.std.specs.Option.{option_map, option_map_or}
+use Rattle.mt_kinds.specs.declared.mem_type.MemType.{MemType}
+use Rattle.mt_regs.specs.RegisterFile.{RegisterFile}
+use Rattle.mt_regs.specs.PageTypes.{defined_type}
+use Rattle.mt_types.specs.Tables.{IsTableOf, TypeTable, type_in}
 use Rattle.mt_tlb.specs.declared.entry.Entry.{Entry}
 use Rattle.mt_machine.specs.System.{Processor}
-use Rattle.mt_machine.specs.Access.{entry_of, keep_entry}
+use Rattle.mt_machine.specs.Access.{entry_of, keep_entry, physical}
+use Rattle.mt_cpu.specs.Kinds.{AgreesWith, entry_by}
+use Rattle.mt_cpu.proofs.Translations.{entry_same}
 use Rattle.mt_bus.specs.Parts.{entry_in, with_changed}
+use Rattle.mt_bus.specs.Tables.{IsTranslatedBy}
 use Rattle.mt_bus.proofs.Changed.{changed_there}
 
 set_same : (ps : List Processor) (k : ℕ) (p : Processor) → slice_get ps k ≡ Some p → slice_set ps k p ≡ ps
@@ -22,3 +29,23 @@ entered ps k va p q at made =
     one : (o : Option Entry) → slice_set ps k (option_map_or (λ e. keep_entry e p) o p) ≡ option_map_or (λ e. with_changed (keep_entry e) k ps) o ps
     one None = set_same ps k p at
     one (Some e) = sym (changed_there (keep_entry e) k ps p at)
+
+-- ---- over a table
+
+agrees : (f : RegisterFile) (t : TypeTable) → IsTableOf f t → AgreesWith (type_in t.parts) f
+agrees f t h page within = sym (ap defined_type (h.types page within))
+
+same_entry : (p : Processor) (t : TypeTable) (page : ℕ) → IsTranslatedBy p t → entry_by (type_in t.parts) p page ≡ entry_of p page
+same_entry p t page h = entry_same (type_in t.parts) p page (agrees p.file t h.table) h.pages
+
+pub entered_by : (ps : List Processor) (k va : ℕ) (p q : Processor) (t : TypeTable) → slice_get ps k ≡ Some p → IsTranslatedBy p t
+    → q ≡ option_map_or (λ e. keep_entry e p) (entry_by (type_in t.parts) p (va / 4096)) p
+    → slice_set ps k q ≡ option_map_or (λ e. with_changed (keep_entry e) k ps) (entry_in k va ps) ps
+entered_by ps k va p q t at h made =
+    entered ps k va p q at (made ∙ ap (λ (o : Option Entry). option_map_or (λ e. keep_entry e p) o p) (same_entry p t (va / 4096) h))
+
+pub answered_by : (ps : List Processor) (k va : ℕ) (p : Processor) (t : TypeTable) (result : Option (ℕ × MemType)) → slice_get ps k ≡ Some p → IsTranslatedBy p t
+    → result ≡ option_map (λ e. (physical e va, e.kind)) (entry_by (type_in t.parts) p (va / 4096))
+    → result ≡ option_map (λ e. (physical e va, e.kind)) (entry_in k va ps)
+answered_by ps k va p t result at h is =
+    is ∙ ap (option_map (λ e. (physical e va, e.kind))) (same_entry p t (va / 4096) h ∙ sym (ap (λ o. option_map_or (λ (x : Processor). entry_of x (va / 4096)) o None) at))

@@ -1,8 +1,10 @@
-ghost use Rattle.std.specs.Prelude.{◌≡◌, ◌<◌, ◌/◌, length, slice_get, None, is_some, IsTrue};
+ghost use Rattle.std.specs.Prelude.{◌≡◌, ◌<◌, ◌/◌, length, slice_get, None, Some, is_some, IsTrue, true};
 ghost use Rattle.std.specs.Option.{option_map, option_map_or};
 ghost use Rattle.mt_machine.specs.Memory.{place};
 ghost use Rattle.mt_machine.specs.Access.{access, is_running, keep_entry, load, physical, store};
+ghost use Rattle.mt_machine.specs.System.{Processor};
 ghost use Rattle.mt_bus.specs.Parts.{answered, entry_in, is_running_in, system, with_changed};
+ghost use Rattle.mt_bus.specs.Tables.{IsTranslatedBy};
 
 use crate::buffers::drain;
 use crate::loads::load;
@@ -11,6 +13,7 @@ use mt_cpu::Cpu;
 use mt_kinds::MemType;
 use mt_machine::{Done, Op, Phase};
 use mt_ram::Ram;
+use mt_types::KindTable;
 
 /// Whether a processor runs, outside an update.
 pub(crate) fn is_running(cpus: &[Cpu], k: usize) -> bool
@@ -21,22 +24,24 @@ pub(crate) fn is_running(cpus: &[Cpu], k: usize) -> bool
 }
 
 // The physical address and the type of an address; an entry of its page then stands.
-fn translate(cpus: &mut [Cpu], k: usize, va: u64) -> Option<(u64, MemType)>
+fn translate(cpus: &mut [Cpu], table: &KindTable, k: usize, va: u64) -> Option<(u64, MemType)>
     requires processor { k < length cpus.old }
     requires running { IsTrue (is_running_in k cpus.old) }
+    requires table { (p : Processor) → slice_get cpus.old k ≡ Some p → IsTranslatedBy p table.now }
     ensures value { result ≡ option_map (λ e. (physical e va, e.kind)) (entry_in k va cpus.old) }
     ensures after { cpus.new ≡ option_map_or (λ e. with_changed (keep_entry e) k cpus.old) (entry_in k va cpus.old) cpus.old }
 {
     let cpu = &mut cpus[k];
-    cpu.translate(va)
+    cpu.translate(va, table)
 }
 
-fn load_at(cpus: &mut [Cpu], ram: &mut Ram, k: usize, va: u64) -> Done
+fn load_at(cpus: &mut [Cpu], table: &KindTable, ram: &mut Ram, k: usize, va: u64) -> Done
     requires processor { k < length cpus.old }
     requires running { IsTrue (is_running_in k cpus.old) }
+    requires table { (p : Processor) → slice_get cpus.old k ≡ Some p → IsTranslatedBy p table.now }
     ensures { answered result (system cpus.new ram.new) ≡ access (system cpus.old ram.old) k (Op.Load va) }
 {
-    let Some((address, kind)) = translate(cpus, k, va) else {
+    let Some((address, kind)) = translate(cpus, table, k, va) else {
         return Done::Unmapped;
     };
     if ram.place(address).is_none() {
@@ -45,12 +50,13 @@ fn load_at(cpus: &mut [Cpu], ram: &mut Ram, k: usize, va: u64) -> Done
     Done::Value(load(cpus, ram, k, kind, address), kind)
 }
 
-fn store_at(cpus: &mut [Cpu], ram: &mut Ram, k: usize, va: u64, v: u64) -> Done
+fn store_at(cpus: &mut [Cpu], table: &KindTable, ram: &mut Ram, k: usize, va: u64, v: u64) -> Done
     requires processor { k < length cpus.old }
     requires running { IsTrue (is_running_in k cpus.old) }
+    requires table { (p : Processor) → slice_get cpus.old k ≡ Some p → IsTranslatedBy p table.now }
     ensures { answered result (system cpus.new ram.new) ≡ access (system cpus.old ram.old) k (Op.Store va v) }
 {
-    let Some((address, kind)) = translate(cpus, k, va) else {
+    let Some((address, kind)) = translate(cpus, table, k, va) else {
         return Done::Unmapped;
     };
     if ram.place(address).is_none() {
@@ -61,16 +67,17 @@ fn store_at(cpus: &mut [Cpu], ram: &mut Ram, k: usize, va: u64, v: u64) -> Done
 }
 
 /// One access of one processor.
-pub(crate) fn access(cpus: &mut [Cpu], ram: &mut Ram, k: usize, op: Op) -> Done
-    requires { k < length cpus.old }
+pub(crate) fn access(cpus: &mut [Cpu], table: &KindTable, ram: &mut Ram, k: usize, op: Op) -> Done
+    requires processor { k < length cpus.old }
+    requires table { (p : Processor) → slice_get cpus.old k ≡ Some p → is_running p.phase ≡ true → IsTranslatedBy p table.now }
     ensures { answered result (system cpus.new ram.new) ≡ access (system cpus.old ram.old) k op }
 {
     if !is_running(cpus, k) {
         return Done::Busy;
     }
     match op {
-        Op::Load(va) => load_at(cpus, ram, k, va),
-        Op::Store(va, v) => store_at(cpus, ram, k, va, v),
+        Op::Load(va) => load_at(cpus, table, ram, k, va),
+        Op::Store(va, v) => store_at(cpus, table, ram, k, va, v),
         Op::Fence => {
             drain(cpus, ram, k);
             Done::Fenced

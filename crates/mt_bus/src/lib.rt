@@ -14,7 +14,9 @@ mod system;
 #[cfg(test)]
 mod tests;
 mod words;
+mod worked;
 
 pub use laws::{a_system_is_sound, accesses_refuse_in_order, controls_refuse_in_order};
 pub use mt_machine::{Control, Done, Op, Ruled};
 pub use system::System;
+pub use worked::worked_tables;

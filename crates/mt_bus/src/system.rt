@@ -1,5 +1,6 @@
 ghost use Rattle.std.specs.Prelude.{◌≡◌, ◌<◌, ◌≤◌, ◌+◌, ◌*◌, ◌^◌, [], length, replicate, slice_get, IfOk, OnOk, OnErr, Some};
 ghost use Rattle.mt_regs.specs.Faults.{IsAccepted};
+ghost use Rattle.mt_types.specs.Tables.{IsTableOf, TypeTable};
 ghost use Rattle.mt_ram.specs.Windows.{refusal, refusal_in, window, with_window};
 ghost use Rattle.mt_machine.specs.System.{IsSound, Processor, start_processor};
 ghost use Rattle.mt_machine.specs.Start.{start_machine};
@@ -14,25 +15,30 @@ use mt_machine::{Control, Done, Op, Ruled};
 use mt_ports::NoMemory;
 use mt_ram::{Ram, RamFault};
 use mt_regs::RegFile;
+use mt_types::KindTable;
 use std::alloc::Global;
 use std::marker::Model;
 
 /// Processors over one memory. Caches and memory agree, and each cached or buffered line lies in
-/// a window.
+/// a window. There is one table of types for each processor, by which it translates; it has the types of the
+/// processor's registers but while these are written. The tables are no part of the system's value.
 #[derive(Drop)]
 pub struct System {
     pub cpus: Vec<Cpu>,
     pub ram: Ram,
+    /// Each processor's table of types.
+    pub tables: Vec<KindTable>,
 }
 
 impl Model for System {
     ghost use Rattle.mt_machine.specs.System.{System as MachineSystem, IsSound};
+    ghost use Rattle.mt_bus.specs.Tables.{AreTablesOf};
 
     ghost Value = { MachineSystem };
 
     ghost view = { λ s. record { processors = s.cpus.items; memory = s.ram } };
 
-    ghost invariant = { λ s. IsSound (record { processors = s.cpus.items; memory = s.ram }) };
+    ghost invariant = { λ s. IsSound (record { processors = s.cpus.items; memory = s.ram }) × AreTablesOf s.cpus.items s.tables.items };
 }
 
 // So many processors at the start, with the same registers.
@@ -49,6 +55,21 @@ fn start_cpus(alloc: Global, count: u32, regs: &RegFile) -> Result<Vec<Cpu>, NoM
     Ok(cpus)
 }
 
+// So many tables of the file's types.
+fn start_tables(alloc: Global, count: u32, regs: &RegFile) -> Result<Vec<KindTable>, NoMemory>
+    requires { IsAccepted regs.now }
+    ensures { IfOk result (λ tables. (t : TypeTable) × IsTableOf regs.now t × (tables.items ≡ replicate count t)) }
+{
+    let table = KindTable::of(regs);
+    let mut tables = Vec::new(alloc);
+    for _i in 0..count {
+        if tables.push(table.same()).is_err() {
+            return Err(NoMemory);
+        }
+    }
+    Ok(tables)
+}
+
 impl System {
     /// So many processors that run with the same registers, over memory without windows. The
     /// error comes only where the allocator has no room.
@@ -59,9 +80,10 @@ impl System {
         ensures { IfOk result (λ s. s ≡ (start_machine cpus regs.now []).system) }
     {
         regs.is_register_file(); // a fact for the proof
+        let tables = start_tables(alloc, cpus, regs)?;
         let cpus = start_cpus(alloc, cpus, regs)?;
         let ram = Ram::new(alloc);
-        Ok(System { cpus, ram })
+        Ok(System { cpus, ram, tables })
     }
 
     /// Adds a window of zero words to the memory, from an address in bytes on.
@@ -99,7 +121,14 @@ impl System {
         ensures answer { result ≡ (access self.old k op).answer }
         ensures after { self.new ≡ (access self.old k op).after }
     {
-        accesses::access(self.cpus.as_mut_slice(), &mut self.ram, k as usize, op)
+        let table = &self.tables.as_slice()[k as usize];
+        accesses::access(
+            self.cpus.as_mut_slice(),
+            table,
+            &mut self.ram,
+            k as usize,
+            op,
+        )
     }
 
     /// Empties the buffers of a processor, the oldest first, in any phase.

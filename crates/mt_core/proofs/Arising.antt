@@ -19,13 +19,11 @@ use Rattle.std.proofs.lemmas.List.{length-map, length-set}
 use Rattle.mt_laws.proofs.Barrier.Acting.{access_busy, control_busy}
 use Rattle.mt_laws.proofs.Barrier.Stages.{access_stages, control_stages, stage_of, stages}
 use Rattle.mt_laws.proofs.Barrier.Barriers.{step_stages}
+use Rattle.mt_bus.proofs.Tables.{same_length}
 use Rattle.mt_core.specs.Arises.{IsCore, by_event, by_window, from_start}
 
 abbrev pub machine : System → Option Order → Machine
 machine s o = record { system = s; order = o }
-
-pub same_length : (s t : System) → stages t ≡ stages s → length t.processors ≡ length s.processors
-same_length s t same = sym (length-map t.processors stage_of) ∙ ap length same ∙ length-map s.processors stage_of
 
 pub step_length : (goal : RegisterFile) (e : Event) (k : ℕ) (s : System) (p : Processor) → slice_get s.processors k ≡ Some p → length (step goal e k s).processors ≡ length s.processors
 step_length goal e k s p at =

@@ -13,7 +13,8 @@ use Rattle.mt_laws.proofs.Barrier.Ranks.{At, at_set, stage_at}
 use Rattle.mt_laws.proofs.Barrier.Stages.{Stage, access_stages, control_stages, stage_of, stages}
 use Rattle.mt_laws.proofs.Clearing.Late.{at_same}
 use Rattle.mt_core.specs.Headline.{ErasRise, HasRisenByOne}
-use Rattle.mt_core.proofs.Arising.{machine, same_length, step_length}
+use Rattle.mt_bus.proofs.Tables.{same_length}
+use Rattle.mt_core.proofs.Arising.{machine, step_length}
 
 own_rise : (goal : RegisterFile) (e : Event) (p : Processor) → (own_step goal e p).era ≤ p.era + 1
 own_rise goal Release p = omega arith

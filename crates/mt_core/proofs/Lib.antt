@@ -5,6 +5,7 @@ pub mod Reaching
 pub mod Settling
 pub mod Stepping
 mod Stopping
+mod Tables
 mod Throughout
 pub mod Turns
 pub mod Updated

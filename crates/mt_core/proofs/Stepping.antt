@@ -23,7 +23,8 @@ use Rattle.mt_laws.proofs.Barrier.Claims.{all_get}
 use Rattle.mt_laws.proofs.Barrier.Ranks.{Guarded, stage_at}
 use Rattle.mt_laws.proofs.Barrier.Stages.{drain_stages, stage_of, stages}
 use Rattle.mt_laws.proofs.Clearing.Follows.{follows_drain}
-use Rattle.mt_core.proofs.Arising.{same_length, went}
+use Rattle.mt_bus.proofs.Tables.{same_length}
+use Rattle.mt_core.proofs.Arising.{went}
 use Rattle.mt_laws.proofs.Clearing.Renewed.{at_change, is_take, no_take}
 use Rattle.mt_laws.proofs.Invariant.Kept.{start_sound}
 use Rattle.mt_laws.proofs.Invariant.Parts.{memory_of}

@@ -4,3 +4,4 @@ pub mod Headline
 pub mod Rounds
 pub mod Steps
 pub mod Stops
+pub mod Tables

@@ -26,6 +26,7 @@ use mt_bus::{System, a_system_is_sound};
 use mt_machine::{Control, Done, Go, Op, Ruled};
 use mt_ram::RamFault;
 use mt_regs::RegFile;
+use mt_types::KindTable;
 use std::marker::Model;
 
 /// Processors over one memory with the update that is under way, if there is one.
@@ -188,11 +189,13 @@ impl Core {
             return Err(CallFault::Refused(fault));
         }
         goal.is_register_file(); // a fact for the proof
+        let kinds = KindTable::of(&goal);
         let from_era = common_era(&self.system);
         self.order = Some(Order {
             goal,
             from_era,
             go: Go::Pending,
+            kinds,
         });
         Ok(())
     }

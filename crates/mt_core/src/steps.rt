@@ -9,6 +9,7 @@ ghost use Rattle.mt_machine.specs.Machine.{FitsGoal, Order, before_own, due, due
 ghost use Rattle.mt_bus.specs.Parts.{with_changed};
 ghost use Rattle.mt_core.specs.Arises.{IsCore};
 ghost use Rattle.mt_core.specs.Steps.{pause, under_way, with_word_of};
+ghost use Rattle.mt_core.specs.Tables.{tables_after};
 
 use crate::barriers::{first_count, is_cancelled, is_first_open, is_second_open, second_count};
 use crate::order::Order as CalledOrder;
@@ -18,6 +19,7 @@ use mt_cpu::{Cpu, is_local};
 use mt_machine::{Event, Phase};
 use mt_ram::Ram;
 use mt_regs::RegFile;
+use mt_types::KindTable;
 
 // A processor has at most one event that is due, and it is of one of two kinds. A local event
 // (`Cpu::local`) comes between the barriers: it is always due in its phase, and looks at nothing but the
@@ -93,6 +95,17 @@ fn write_word_of(ram: &mut Ram, e: Event)
     }
 }
 
+// Puts the goal's types into a processor's place where its registers are the goal's.
+fn renew_table(tables: &mut [KindTable], k: usize, e: Event, kinds: &KindTable)
+    requires { k < length tables.old }
+    ensures { tables.new ≡ tables_after e k kinds.now tables.old }
+{
+    if let Event::Enable = e {
+        let table = &mut tables[k];
+        table.put(kinds);
+    }
+}
+
 // Does the local event of a processor between the barriers.
 fn do_local_event(system: &mut System, order: &CalledOrder, k: u32) -> Event
     requires processor { k < length system.old.processors }
@@ -103,6 +116,7 @@ fn do_local_event(system: &mut System, order: &CalledOrder, k: u32) -> Event
 {
     let e = do_own_part(system.cpus.as_mut_slice(), k as usize, &order.goal);
     write_word_of(&mut system.ram, e);
+    renew_table(system.tables.as_mut_slice(), k as usize, e, &order.kinds);
     e
 }
 

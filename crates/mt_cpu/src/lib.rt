@@ -7,8 +7,10 @@ mod steps;
 #[cfg(test)]
 mod tests;
 mod translation;
+mod worked;
 
 pub use cpu::Cpu;
 pub use laws::a_processor_is_whole;
 pub use mt_machine::{Event, Phase};
 pub use steps::is_local;
+pub use worked::worked_translations;

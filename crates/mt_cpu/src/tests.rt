@@ -1,8 +1,29 @@
 use crate::cpu::Cpu;
-use mt_kinds::MemType;
+use mt_kinds::{MemType, PageKinds};
 use mt_machine::{Event, Phase};
 use mt_regs::RegFile;
 use mt_tlb::Mapping;
+
+/// One type for all pages.
+#[derive(Drop)]
+struct OneKind {
+    pages: u64,
+    kind: MemType,
+}
+
+impl PageKinds for OneKind {
+    ghost page_count = { λ t. t.pages };
+
+    ghost type_at = { λ t page. t.kind };
+
+    fn pages(&self) -> u64 {
+        self.pages
+    }
+
+    fn kind(&self, _page: u64) -> MemType {
+        self.kind
+    }
+}
 
 /// A processor that has just started, with this default-type register.
 fn processor(deftype: u64) -> Option<Cpu> {
@@ -25,9 +46,13 @@ fn map(cpu: &mut Cpu, vpage: u64, ppage: u64, global: bool) -> bool {
     mapping.vpage < 1 << 36 && mapping.ppage < cpu.regs().pages() && cpu.map(mapping).is_ok()
 }
 
-fn translate(cpu: &mut Cpu, va: u64) -> Option<(u64, MemType)> {
+fn translate(cpu: &mut Cpu, va: u64, kind: MemType) -> Option<(u64, MemType)> {
+    let kinds = OneKind {
+        pages: cpu.regs().pages(),
+        kind,
+    };
     match cpu.phase() {
-        Phase::Running => cpu.translate(va),
+        Phase::Running => cpu.translate(va, &kinds),
         _ => None,
     }
 }
@@ -40,9 +65,9 @@ fn global_entries_stay_until_pge_is_cleared(rt: HostRuntime) {
     cpu.set_pge(true);
     assert!(rt; map(&mut cpu, 1, 0x100, true));
     assert!(rt; map(&mut cpu, 2, 0x200, false));
-    assert!(rt; translate(&mut cpu, 0x1008) == Some((0x100008, MemType::WB)));
-    assert!(rt; translate(&mut cpu, 0x2000) == Some((0x200000, MemType::WB)));
-    assert!(rt; translate(&mut cpu, 0x3000).is_none());
+    assert!(rt; translate(&mut cpu, 0x1008, MemType::WB) == Some((0x100008, MemType::WB)));
+    assert!(rt; translate(&mut cpu, 0x2000, MemType::WB) == Some((0x200000, MemType::WB)));
+    assert!(rt; translate(&mut cpu, 0x3000, MemType::WB).is_none());
     assert_eq!(rt; cpu.tlb().entries().len(), 2);
     cpu.reload_cr3();
     assert_eq!(rt; cpu.tlb().entries().len(), 1);
@@ -61,12 +86,12 @@ fn an_entry_stands_until_it_is_dropped(rt: HostRuntime) {
         panic!(rt; "the file is accepted");
     };
     assert!(rt; map(&mut cpu, 1, 0x100, true));
-    assert!(rt; translate(&mut cpu, 0x1000) == Some((0x100000, MemType::WT)));
+    assert!(rt; translate(&mut cpu, 0x1000, MemType::WT) == Some((0x100000, MemType::WT)));
     assert!(rt; matches!(cpu.tlb().entries().first(), Some(entry) if !entry.global));
     assert!(rt; map(&mut cpu, 1, 0x300, false));
-    assert!(rt; translate(&mut cpu, 0x1000) == Some((0x100000, MemType::WT)));
+    assert!(rt; translate(&mut cpu, 0x1000, MemType::WT) == Some((0x100000, MemType::WT)));
     cpu.invlpg(1);
-    assert!(rt; translate(&mut cpu, 0x1000) == Some((0x300000, MemType::WT)));
+    assert!(rt; translate(&mut cpu, 0x1000, MemType::WT) == Some((0x300000, MemType::WT)));
 }
 
 #[test]

@@ -42,6 +42,7 @@ has_taken s goal m arises some room enabled steps count =
       run = same;
       system = ap (λ (n : Machine). n.system) same ∙ leads.system;
       count = count;
+      order = ap (λ (n : Machine). n.order) same ∙ leads.broadcast.order;
       begins = subst (λ (n : Machine). Begins (gathered n.system.processors n.system.memory goal)) (sym same)
           (broadcast_begins (run s (call_and_takes goal (in_order s))) (order_of_call s goal) leads.broadcast (room_of s.system.processors 18446744073709551615 some room));
     }

@@ -11,3 +11,4 @@ mod Ends
 mod Unique
 mod Handed
 mod Begun
+mod Renewed

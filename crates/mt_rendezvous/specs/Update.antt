@@ -1,11 +1,12 @@
 -- What an update on threads comes to.
-use Rattle.std.specs.Prelude.{◌≡◌, ℕ, ◌<◌, ◌≤◌, Bool, true, false, List, [], length, None, Some, slice_get}
+use Rattle.std.specs.Prelude.{◌≡◌, ℕ, ◌<◌, ◌≤◌, Bool, true, false, List, [], length, map, None, Some, slice_get}
 use Rattle.std.specs.List.{All}
 use mathlib.Core.Option.{some}
 use lib.ListN.{get_elem?}
 use Rattle.atomic_table.specs.Table.{Me}
 use Rattle.atomic_table.specs.Seated.{TableId}
 use Rattle.mt_regs.specs.RegisterFile.{RegisterFile}
+use Rattle.mt_types.specs.Tables.{TypeTable}
 use Rattle.mt_machine.specs.declared.phase.Phase.TheVariants.{Running, Taken}
 use Rattle.mt_machine.specs.declared.go.Go.{Go}
 use Rattle.mt_machine.specs.declared.go.Go.TheVariants.{Given, Cancelled}
@@ -13,7 +14,7 @@ use Rattle.mt_machine.specs.System.{Processor, System}
 use Rattle.mt_machine.specs.Machine.{Calls, IsEnabled, Machine, run}
 use Rattle.mt_machine.specs.Start.{HasEraRoom, IsQuiet}
 use Rattle.mt_machine.specs.Update.{emptied, updated}
-use Rattle.mt_laws.specs.Updates.{all_running, all_taken, call_and_takes}
+use Rattle.mt_laws.specs.Updates.{all_running, all_taken, call_and_takes, order_of_call}
 use Rattle.mt_core.specs.Rounds.{in_order}
 use Rattle.mt_rendezvous.specs.declared.station.Attendee.{Attendee}
 use Rattle.mt_rendezvous.specs.declared.view.Held.{Held}
@@ -24,13 +25,14 @@ use Rattle.mt_rendezvous.specs.Calls.{Carries, HoldsOne, IsRoot, gathered}
 
 -- ---- before the threads
 
--- the first state is quiet, the goal may be called there, and the other is the one after the call and all takes in ascending order: the buffers are emptied in that order, all have taken, and a station can be gathered
+-- the first state is quiet, the goal may be called there, and the other is the one after the call and all takes in ascending order: the buffers are emptied in that order, all have taken, the order stands, and a station can be gathered
 pub record HasTaken (s : Machine) (goal : RegisterFile) (m : Machine) : Type 0 where
   pub quiet : IsQuiet s
   pub enabled : IsEnabled s (Calls goal)
   pub run : m ≡ run s (call_and_takes goal (in_order s))
   pub system : m.system ≡ all_taken (emptied s.system (in_order s))
   pub count : length m.system.processors ≡ length s.system.processors
+  pub order : m.order ≡ Some (order_of_call s goal)
   pub begins : Begins (gathered m.system.processors m.system.memory goal)
 
 -- ---- the threads
@@ -71,6 +73,11 @@ running p = record p { phase = Running }
 abbrev pub left_by : Bool → System → RegisterFile → System
 left_by true s goal = (updated s [] goal).system
 left_by false s goal = all_running s
+
+-- and of the tables of types: the goal's, or the old ones
+abbrev pub tables_left : Bool → TypeTable → List TypeTable → List TypeTable
+tables_left true kinds ts = map (λ t. kinds) ts
+tables_left false kinds ts = ts
 
 -- ---- without threads
 

@@ -252,7 +252,7 @@ fn ends_of<R: Threads + Wait + Sync>(
     if !take(&mut core, &goal) {
         return None;
     }
-    let System { cpus, mut ram } = core.into_system();
+    let System { cpus, mut ram, .. } = core.into_system();
     let gate = Counter {
         told: AtomicU64::new(0),
     };

@@ -6,15 +6,17 @@ ghost use Rattle.mt_regs.specs.declared.fault.Fault.{Fault};
 ghost use Rattle.mt_regs.specs.Faults.{IsAccepted, IsFirstFault};
 ghost use Rattle.mt_machine.specs.declared.phase.Phase.TheVariants.{Running, Taken};
 ghost use Rattle.mt_machine.specs.declared.go.Go.TheVariants.{Cancelled, Pending};
-ghost use Rattle.mt_machine.specs.Machine.{FitsGoal};
+ghost use Rattle.mt_machine.specs.Machine.{FitsGoal, Order};
 ghost use Rattle.mt_machine.specs.Start.{HasEraRoom, IsQuiet};
 ghost use Rattle.mt_machine.specs.System.{IsSound};
 ghost use Rattle.mt_machine.specs.Update.{updated};
 ghost use Rattle.mt_core.specs.Rounds.{in_order};
 ghost use Rattle.mt_rendezvous.specs.Station.{Begins, start_of};
 ghost use Rattle.mt_rendezvous.specs.Calls.{IsRoot, Leads, gathered};
+ghost use Rattle.mt_types.specs.Tables.{IsTableOf};
 ghost use Rattle.mt_bus.specs.Parts.{system};
-ghost use Rattle.mt_rendezvous.specs.Update.{CanUpdate, Came, IsQueue, IsReady, Returned, Tied, decided, left_by, running};
+ghost use Rattle.mt_bus.specs.Tables.{AreTablesOf};
+ghost use Rattle.mt_rendezvous.specs.Update.{CanUpdate, Came, IsQueue, IsReady, Returned, Tied, decided, left_by, running, tables_left};
 
 use crate::broadcast::call_and_take;
 use crate::gather::disband;
@@ -26,6 +28,7 @@ use mt_machine::Event;
 use mt_ports::Gate;
 use mt_ram::Ram;
 use mt_regs::RegFile;
+use mt_types::KindTable;
 use std::alloc::Global;
 use std::snapshot::Snapshot;
 use std::sync::Wait;
@@ -330,11 +333,31 @@ fn lead_alone(system: System, goal: &RegFile) -> Core
     core
 }
 
-fn put_together(cpus: Vec<Cpu>, ram: Ram) -> System
-    requires { IsSound (system cpus.items ram) }
+// The goal's types come into each place.
+fn renew_each(tables: &mut [KindTable], kinds: &KindTable)
+    ensures { tables.new ≡ map (λ t. kinds.now) tables.old }
+{
+    for i in 0..tables.len() {
+        let table = &mut tables[i];
+        table.put(kinds);
+    }
+}
+
+// They come there where the update is done.
+fn renew_tables(tables: &mut Vec<KindTable>, given: bool, kinds: &KindTable)
+    ensures { tables.new.items ≡ tables_left given kinds.now tables.old.items }
+{
+    if given {
+        renew_each(tables.as_mut_slice(), kinds);
+    }
+}
+
+fn put_together(cpus: Vec<Cpu>, ram: Ram, tables: Vec<KindTable>) -> System
+    requires sound { IsSound (system cpus.items ram) }
+    requires tables { AreTablesOf cpus.items tables.items }
     ensures { result ≡ system cpus.items ram }
 {
-    System { cpus, ram }
+    System { cpus, ram, tables }
 }
 
 // A core without an update under way.
@@ -352,16 +375,23 @@ fn finished<R: Threads + Wait + Sync, G: Gate>(
     alloc: Global,
     system: System,
     goal: &RegFile,
+    kinds: &KindTable,
     gate: &G,
 ) -> Core
     requires some { 0 < length system.processors }
     requires few { length system.processors ≤ 16 }
+    requires kinds { IsTableOf goal.now kinds.now }
     requires begins { Begins (gathered system.processors system.memory goal.now) }
     ensures { result ≡ updated system [] goal.now }
 {
-    let System { cpus, mut ram } = system;
+    let System {
+        cpus,
+        mut ram,
+        mut tables,
+    } = system;
     let Led { given, cpus } = lead_on_threads(rt, alloc, cpus, &mut ram, goal, gate);
-    let system = put_together(cpus, ram);
+    renew_tables(&mut tables, given, kinds);
+    let system = put_together(cpus, ram, tables);
     if given {
         at_rest(system)
     } else {
@@ -376,7 +406,19 @@ fn stand_in(alloc: Global) -> Core
     Core::new(System {
         cpus: Vec::new(alloc),
         ram: Ram::new(alloc),
+        tables: Vec::new(alloc),
     })
+}
+
+// The types of the goal of the update that is under way.
+fn kinds_of(core: &Core) -> KindTable
+    requires { IsSome core.now.order }
+    ensures { (o : Order) → core.now.order ≡ Some o → IsTableOf o.goal result }
+{
+    let Some(order) = core.order() else {
+        unreachable!()
+    };
+    order.kinds.same()
 }
 
 // The core whose processors have taken comes to the end of the update.
@@ -388,12 +430,14 @@ fn lead<R: Threads + Wait + Sync, G: Gate>(
     gate: &G,
 )
     requires some { 0 < length core.old.system.processors }
+    requires order { (o : Order) × (core.old.order ≡ Some o) × (o.goal ≡ goal.now) }
     requires begins { Begins (gathered core.old.system.processors core.old.system.memory goal.now) }
     ensures { core.new ≡ updated core.old.system [] goal.now }
 {
     a_core_arises(core); // a fact for the proof
+    let kinds = kinds_of(core);
     let system = mem::replace(core, stand_in(alloc)).into_system();
-    *core = finished(rt, alloc, system, goal, gate);
+    *core = finished(rt, alloc, system, goal, &kinds, gate);
 }
 
 /// Updates the range registers of all processors, on a thread for each. Where one isn't started, or memory isn't

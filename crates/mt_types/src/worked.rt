@@ -3,7 +3,7 @@ ghost use Rattle.mt_kinds.specs.declared.mem_type.MemType.TheVariants.{UC, WB, W
 ghost use Rattle.mt_regs.specs.declared.page_type.PageType.TheVariants.{Kind, Undefined};
 ghost use Rattle.mt_types.specs.Follow.{Follows};
 ghost use Rattle.mt_types.specs.Runs.{IsLongestRun, IsRunsOf, IsTypeMap, kind_at, pages_end, shares_page};
-ghost use Rattle.mt_types.specs.Tables.{HasPart, IsPartsOf, IsTypeTable, type_in};
+ghost use Rattle.mt_types.specs.Tables.{HasPart, IsPartsOf, IsTableOf, IsTypeTable, type_in};
 ghost use Rattle.mt_types.specs.WorkedMaps.{off, run, sixteen, three};
 
 /// A type map, and lists that are none for one thing.
@@ -64,5 +64,8 @@ pub fn worked_parts()
     ensures before_the_part { HasPart ((0, WB) ∷ (0x80, UC) ∷ []) 1 0x7f (0, UC) → ⊥ }
     ensures parts { IsPartsOf off ((0, UC) ∷ []) }
     ensures other_parts { IsPartsOf off ((0, WB) ∷ []) → ⊥ }
+    ensures table_of_a_file { IsTableOf off (record { parts = (0, UC) ∷ []; covered = 0x1000000 }) }
+    ensures fewer_pages { IsTableOf off (record { parts = (0, UC) ∷ []; covered = 0xffffff }) → ⊥ }
+    ensures other_types { IsTableOf off (record { parts = (0, UC) ∷ (0x80, WB) ∷ []; covered = 0x1000000 }) → ⊥ }
     ensures past_the_part { HasPart ((0, WB) ∷ (0x80, UC) ∷ []) 0 0x80 (0, UC) → ⊥ }
 {}

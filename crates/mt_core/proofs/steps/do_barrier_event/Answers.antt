@@ -4,7 +4,9 @@ use Rattle.mt_machine.specs.System.{IsSound, System, change}
 use Rattle.mt_machine.specs.Machine.{before_own, own_step, step}
 use Rattle.mt_bus.specs.Parts.{system}
 use Rattle.mt_bus.proofs.Changed.{changed_is}
+use Rattle.mt_bus.specs.Tables.{AreTablesOf}
 use Rattle.mt_core.proofs.Stepping.{prepared, prepared_length, step_sound}
+use Rattle.mt_core.proofs.Tables.{tables_shifted}
 use Rattle.mt_core.proofs.steps.do_barrier_event.Goals as goal
 
 pub move_phase-requires-clause-processor : goal.move_phase-requires-clause-processor
@@ -34,8 +36,13 @@ invariant_of-system c =
     ap (λ ps. system ps c.system.inside.ram) (c.move_phase.ensures c.args.order.now.goal)
     ∙ changed_is (own_step c.args.order.now.goal c.args.e) c.args.k c.as_mut_slice.result.now c.system.inside.ram
     ∙ ap (change (own_step c.args.order.now.goal c.args.e) c.args.k) is in
-    subst (λ ps. IsSound (system ps c.system.inside.ram)) (sym (take_at c.move_phase.new.cpus (drop (length c.move_phase.new.cpus) c.system.inside.cpus.items) c.system.inside.cpus.len (search rules)))
-    (subst IsSound (sym stepped) (step_sound c.args.order.now c.args.system.now c.requires.core c.args.k c.args.e c.requires.due))
+    let ts = c.system.inside.tables.items in
+    subst (λ ps. IsSound (system ps c.system.inside.ram) × AreTablesOf ps ts) (sym (take_at c.move_phase.new.cpus (drop (length c.move_phase.new.cpus) c.system.inside.cpus.items) c.system.inside.cpus.len (search rules)))
+    (subst (λ (s : System). IsSound s × AreTablesOf s.processors ts) (sym stepped) (
+      step_sound c.args.order.now c.args.system.now c.requires.core c.args.k c.args.e c.requires.due,
+      tables_shifted c.args.order.now c.args.system.now c.requires.core c.args.k c.args.e c.requires.due c.requires.processor c.requires.shift ts
+          (subst (λ (s : System). AreTablesOf s.processors ts) (c.system.view_is ∙ c.prepare.ensures) c.system.invariant.1),
+    ))
 
 pub returns : goal.returns
 returns c =

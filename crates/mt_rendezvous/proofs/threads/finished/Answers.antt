@@ -3,12 +3,25 @@ use Rattle.mt_machine.specs.System.{IsSound, System}
 use Rattle.mt_machine.specs.Start.{IsQuiet}
 use Rattle.mt_machine.specs.Update.{updated}
 use Rattle.mt_rendezvous.specs.Calls.{gathered}
-use Rattle.mt_rendezvous.specs.Update.{CanUpdate, left_by}
+use Rattle.mt_bus.specs.Tables.{AreTablesOf}
+use Rattle.mt_rendezvous.specs.Update.{CanUpdate, left_by, tables_left}
+use Rattle.mt_rendezvous.proofs.Renewed.{tables_are_left}
 use Rattle.mt_rendezvous.proofs.Running.{can_update, left_quiet, updated_again}
 use Rattle.mt_rendezvous.proofs.threads.finished.Goals as goal
 
-pub put_together-system-requires : goal.put_together-system-requires
-put_together-system-requires g c =
+pub put_together-system-requires-clause-tables : goal.put_together-system-requires-clause-tables
+put_together-system-requires-clause-tables g c =
+    let led = c.lead_on_threads-given in
+    let goal = c.args.goal.now in
+    let ts = c.system.inside.tables.items in
+    let left = led.ensures.left ∙ ap (λ (s : System). left_by led.result.given s goal) c.system.view_is in
+    subst (AreTablesOf led.result.cpus.items) (sym c.renew_tables.ensures)
+    (subst (λ (s : System). AreTablesOf s.processors (tables_left led.result.given c.args.kinds.now ts)) (sym left)
+    (tables_are_left led.result.given c.args.system goal c.args.kinds.now ts c.requires.kinds c.requires.begins.broadcasts.taken
+    (subst (λ (s : System). AreTablesOf s.processors ts) c.system.view_is c.system.invariant.1)))
+
+pub put_together-system-requires-clause-sound : goal.put_together-system-requires-clause-sound
+put_together-system-requires-clause-sound g c =
     let led = c.lead_on_threads-given in
     let goal = c.args.goal.now in
     let left = led.ensures.left ∙ ap (λ (s : System). left_by led.result.given s goal) c.system.view_is in

@@ -2,6 +2,7 @@ use Rattle.std.proofs.Common.{◌≡◌, ◌∙◌, ap, refl, ℕ, arith, rules,
 use Rattle.mt_kinds.specs.declared.mem_type.MemType.{MemType}
 use Rattle.mt_kinds.specs.declared.mem_type.MemType.TheVariants.{UC, WB}
 use Rattle.std.specs.Prelude.{map}
+use Rattle.mt_regs.specs.declared.page_type.PageType.TheVariants.{Kind}
 use Rattle.mt_types.specs.Runs.{IsRunsOf}
 use Rattle.mt_types.specs.Tables.{part_of}
 use Rattle.mt_types.specs.WorkedMaps.{off, run}
@@ -29,3 +30,6 @@ returns-clause-other_parts c = λ h.
     let same = one_type_map off h.runs.0 (run 0 0x1000000 UC ∷ []) h.runs.1 all_uncached in
     let e : WB ≡ UC = ap kind_of_first (h.runs.2 ∙ ap (map part_of) same) in
     absurd (cc e)
+
+pub returns-clause-other_types : goal.returns-clause-other_types
+returns-clause-other_types c = λ h. let e : Kind UC ≡ Kind WB = h.types 0x80 (omega arith) in absurd (cc)

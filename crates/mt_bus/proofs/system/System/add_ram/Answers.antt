@@ -8,6 +8,8 @@ use Rattle.mt_bus.proofs.system.System.add_ram.Goals as goal
 
 pub invariant_of-self-2 : goal.invariant_of-self-2
 invariant_of-self-2 c =
-    let grown : c.add.new.self ≡ with_window (window c.args.base c.args.lines) c.self.inside.ram = search rules in
-    subst (λ m. IsSound (system c.self.inside.cpus.items m)) (sym grown)
-    (sound_grown (system c.self.inside.cpus.items c.self.inside.ram) (window c.args.base c.args.lines) c.self.invariant (subst IsMemory grown c.words.ensures.memory))
+    let grown : c.add.new.self ≡ with_window (window c.args.base c.args.lines) c.self.inside.ram = search rules in (
+      subst (λ m. IsSound (system c.self.inside.cpus.items m)) (sym grown)
+          (sound_grown (system c.self.inside.cpus.items c.self.inside.ram) (window c.args.base c.args.lines) c.self.invariant.0 (subst IsMemory grown c.words.ensures.memory)),
+      c.self.invariant.1,
+    )

@@ -9,7 +9,10 @@ use Rattle.mt_core.proofs.Arising.{called, era_room}
 use Rattle.mt_core.proofs.core_type.Core.call.Goals as goal
 
 pub invariant_of-self : goal.invariant_of-self
-invariant_of-self c =
+invariant_of-self c = c.of-kinds.ensures.table
+
+pub invariant_of-self-2 : goal.invariant_of-self-2
+invariant_of-self-2 c =
     let none : c.self.inside.order ≡ None = search rules in
     let sound : c.first_fault.result ≡ None = search rules in
     subst (λ (n : ℕ). IsCore (record { system = c.self.inside.system; order = Some (record { goal = c.args.goal; from_era = n; go = Pending }) })) (sym c.common_era-from_era.ensures)

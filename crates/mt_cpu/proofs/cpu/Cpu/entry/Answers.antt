@@ -3,23 +3,24 @@ use Rattle.std.specs.Option.{option_map_or}
 use Rattle.mt_lists.proofs.Keys.{no_position, none_of}
 use Rattle.mt_tlb.specs.Entries.{find_entry, find_mapping, has_page}
 use Rattle.mt_machine.specs.System.{Processor}
-use Rattle.mt_machine.specs.Access.{entry_of, keep_entry}
+use Rattle.mt_machine.specs.Access.{keep_entry}
+use Rattle.mt_cpu.specs.Kinds.{entry_by}
 use Rattle.mt_cpu.proofs.Translations.{stands, kept_made}
 use Rattle.mt_cpu.proofs.cpu.Cpu.entry.Goals as goal
 
 pub returns-in-Some-clause-after : goal.returns-in-Some-clause-after
-returns-in-Some-clause-after c =
-    let s = stands _ c.args.vpage _ c.self.invariant c.in-Some.ensures.place c.in-Some.ensures.entry in
-    subst (λ (q : Processor). q ≡ option_map_or (λ e. keep_entry e q) (entry_of q c.args.vpage) q) c.self.view_is s.after
+returns-in-Some-clause-after g c =
+    let s = stands (g.P.PageKinds.type_at c.args.kinds.now) _ c.args.vpage _ c.self.invariant c.in-Some.ensures.place c.in-Some.ensures.entry in
+    subst (λ (q : Processor). q ≡ option_map_or (λ e. keep_entry e q) (entry_by (g.P.PageKinds.type_at c.args.kinds.now) q c.args.vpage) q) c.self.view_is s.after
 
 pub returns-in-Some-clause-unmapped : goal.returns-in-Some-clause-unmapped
-returns-in-Some-clause-unmapped c =
-    let s = stands _ c.args.vpage _ c.self.invariant c.in-Some.ensures.place c.in-Some.ensures.entry in
+returns-in-Some-clause-unmapped g c =
+    let s = stands (g.P.PageKinds.type_at c.args.kinds.now) _ c.args.vpage _ c.self.invariant c.in-Some.ensures.place c.in-Some.ensures.entry in
     (λ h. absurd (cc), λ none. absurd (s.mapped (ap (λ (q : Processor). find_mapping c.args.vpage q.mappings) c.self.view_is ∙ none)))
 
 pub returns-clause-after : goal.returns-clause-after
-returns-clause-after c =
-    kept_made c.args.self.now c.fill.new.self c.args.vpage c.fill.result
+returns-clause-after g c =
+    kept_made (g.P.PageKinds.type_at c.args.kinds.now) c.args.self.now c.fill.new.self c.args.vpage c.fill.result
     (ap (λ (q : Processor). find_entry c.args.vpage q.entries) (sym c.self.view_is)
     ∙ no_position (has_page c.args.vpage) c.self.inside.tlb (sym c.find.ensures.value ∙ none_of _ c.in_default.not-Some))
     c.fill.ensures.entry c.fill.ensures.filled c.fill.ensures.kept

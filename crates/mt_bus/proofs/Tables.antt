@@ -1,0 +1,83 @@
+-- Each processor keeps its table while its file stays, and translates by it where it runs.
+use Rattle.std.proofs.Common.{◌≡◌, ◌∙◌, ap, sym, refl, subst, ℕ, zero, suc, ◌<◌, List, length, replicate, None, Some, slice_get, slice_index_or, true}
+use Rattle.std.proofs.lemmas.List.{length-map}
+use Rattle.std.proofs.lemmas.Option.{slice_get-get_or}
+use Rattle.mt_regs.specs.RegisterFile.{RegisterFile}
+use Rattle.mt_types.specs.Tables.{IsTableOf, TypeTable}
+use Rattle.mt_machine.specs.declared.op.Op.{Op}
+use Rattle.mt_machine.specs.declared.control.Control.{Control}
+use Rattle.mt_machine.specs.declared.phase.Phase.{Phase}
+use Rattle.mt_machine.specs.declared.phase.Phase.TheVariants.{Running}
+use Rattle.mt_machine.specs.System.{IsProcessor, IsSound, Processor, System, is_writing, start_processor}
+use Rattle.mt_machine.specs.Bus.{drain}
+use Rattle.mt_machine.specs.Access.{access, is_running}
+use Rattle.mt_machine.specs.Control.{control}
+use Rattle.mt_laws.proofs.Barrier.Claims.{all_get}
+use Rattle.mt_laws.proofs.Barrier.Stages.{access_stages, control_stages, drain_stages, stage_of, stages}
+use Rattle.mt_laws.proofs.Clearing.Follows.{Follows, follows_access, follows_control, follows_drain}
+use Rattle.mt_bus.specs.Tables.{AreTablesOf, IsTranslatedBy}
+
+pub same_length : (s t : System) → stages t ≡ stages s → length t.processors ≡ length s.processors
+same_length s t same = sym (length-map t.processors stage_of) ∙ ap length same ∙ length-map s.processors stage_of
+
+-- no file and no phase changes
+pub tables_follow : (k : ℕ) (s t : System) (ts : List TypeTable) → stages t ≡ stages s → Follows k s t → AreTablesOf s.processors ts → AreTablesOf t.processors ts
+tables_follow k s t ts same follows h = record {
+  count = h.count ∙ sym (same_length s t same);
+  each = λ j q x at there rests.
+      let from = follows j q at in
+      subst (λ (f : RegisterFile). IsTableOf f x) (sym from.2.file)
+      (h.each j from.0 x from.1 there (ap is_writing (sym from.2.phase) ∙ rests));
+}
+
+pub tables_accessed : (s : System) (k : ℕ) (op : Op) (ts : List TypeTable) → AreTablesOf s.processors ts → AreTablesOf (access s k op).after.processors ts
+tables_accessed s k op ts h = tables_follow k s (access s k op).after ts (access_stages s k op) (follows_access s k op) h
+
+pub tables_controlled : (s : System) (k : ℕ) (c : Control) (ts : List TypeTable) → AreTablesOf s.processors ts → AreTablesOf (control s k c).after.processors ts
+tables_controlled s k c ts h = tables_follow k s (control s k c).after ts (control_stages s k c) (follows_control s k c) h
+
+pub tables_drained : (k : ℕ) (s : System) (ts : List TypeTable) → AreTablesOf s.processors ts → AreTablesOf (drain k s).processors ts
+tables_drained k s ts h = tables_follow k s (drain k s) ts (drain_stages k s) (follows_drain k s) h
+
+-- ---- at the start
+
+all_replicated : {X : Type 0} (n k : ℕ) (x y : X) → slice_get (replicate n x) k ≡ Some y → x ≡ y
+all_replicated zero k x y at = absurd (cc)
+all_replicated (suc n) zero x y at = cc
+all_replicated (suc n) (suc k) x y at = all_replicated n k x y at
+
+replicated_length : {X : Type 0} (n : ℕ) (x : X) → length (replicate n x) ≡ n
+replicated_length zero x = refl
+replicated_length (suc n) x = ap suc (replicated_length n x)
+
+pub tables_start : (f : RegisterFile) (n : ℕ) (t : TypeTable) → IsTableOf f t → AreTablesOf (replicate n (start_processor f)) (replicate n t)
+tables_start f n t h = record {
+  count = replicated_length n t ∙ sym (replicated_length n (start_processor f));
+  each = λ k p x at there rests.
+      subst (λ (y : TypeTable). IsTableOf p.file y) (all_replicated n k t x there)
+      (subst (λ (q : Processor). IsTableOf q.file t) (all_replicated n k (start_processor f) p at) h);
+}
+
+-- ---- a processor that runs
+
+running_rests : (ph : Phase) → is_running ph ≡ true → is_writing ph ≡ None
+running_rests Running h = refl
+running_rests other h = absurd (cc)
+
+table_of : (ts : List TypeTable) (k : ℕ) (d : TypeTable) → k < length ts → slice_get ts k ≡ Some (slice_index_or ts k d)
+table_of ts k d within = slice_get-get_or ts k d within
+
+translated_at : (s : System) (ts : List TypeTable) → IsSound s → AreTablesOf s.processors ts → (k : ℕ) (d : TypeTable) → k < length s.processors
+    → (p : Processor) → slice_get s.processors k ≡ Some p → is_running p.phase ≡ true → IsTranslatedBy p (slice_index_or ts k d)
+translated_at s ts sound h k d within p at runs = record {
+  table = h.each k p (slice_index_or ts k d) at (table_of ts k d (subst (λ n. k < n) (sym h.count) within)) (running_rests p.phase runs);
+  pages = let whole : IsProcessor p = all_get IsProcessor s.processors sound.each k p at in whole.mapped_pages;
+}
+
+-- the table is lent out of the list
+pub translated_by : (s : System) (ts shown : List TypeTable) (ps : List Processor) (t : TypeTable) → IsSound s → AreTablesOf s.processors ts → (k : ℕ) → k < length s.processors
+    → shown ≡ ts → ps ≡ s.processors → t ≡ slice_index_or shown k t
+    → (p : Processor) → slice_get ps k ≡ Some p → is_running p.phase ≡ true → IsTranslatedBy p t
+translated_by s ts shown ps t sound h k within seen same is p at runs =
+    subst (IsTranslatedBy p) (sym (is ∙ ap (λ (xs : List TypeTable). slice_index_or xs k t) seen))
+    (translated_at s ts sound h k t within p (subst (λ (qs : List Processor). slice_get qs k ≡ Some p) same at) runs)

@@ -1,0 +1,13 @@
+ghost use Rattle.std.specs.Prelude.{◌∷◌, []};
+ghost use Rattle.mt_kinds.specs.declared.mem_type.MemType.TheVariants.{UC, WB};
+ghost use Rattle.mt_machine.specs.declared.phase.Phase.TheVariants.{Running, Writing};
+ghost use Rattle.mt_bus.specs.Tables.{AreTablesOf};
+ghost use Rattle.mt_bus.specs.WorkedTables.{in_phase, one_kind};
+
+/// Tables of processors, and lists that are none for one thing. While its registers are written a
+/// processor may have any table.
+pub fn worked_tables()
+    ensures tables { AreTablesOf (in_phase Running ∷ in_phase (Writing 3) ∷ []) (one_kind UC ∷ one_kind WB ∷ []) }
+    ensures none_for_one { AreTablesOf (in_phase Running ∷ in_phase (Writing 3) ∷ []) (one_kind UC ∷ []) → ⊥ }
+    ensures other_types { AreTablesOf (in_phase Running ∷ []) (one_kind WB ∷ []) → ⊥ }
+{}
