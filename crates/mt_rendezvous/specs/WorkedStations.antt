@@ -1,6 +1,5 @@
 -- A worked station: two processors without pairs that have taken, the first with a dirty word, over a memory of one line.
 use Rattle.std.specs.Prelude.{ℕ, Bool, true, List, [], ◌∷◌, None, Some, slice_set}
-use Rattle.mt_cache.specs.declared.line.CacheLine.{CacheLine}
 use Rattle.mt_machine.specs.declared.phase.Phase.{Phase}
 use Rattle.mt_machine.specs.declared.phase.Phase.TheVariants.{Taken}
 use Rattle.mt_machine.specs.declared.go.Go.TheVariants.{Pending}
