@@ -1,4 +1,5 @@
-ghost use Rattle.mt_rendezvous.specs.Laws.{ArriveAgainFollows, ArriveFollows, BroadcastBegins, CancelFollows, GoFollows, HoldsWhereFull, IsLedTo, JoinFollows, PassFollows, ReleaseFollows, SplitFollows, StandsForOne, WorkFollows};
+ghost use Rattle.mt_rendezvous.specs.Laws.{BroadcastBegins, HoldsWhereFull, IsLedTo, StandsForOne};
+ghost use Rattle.mt_rendezvous.specs.Laws.{ArriveAgainFollows, ArriveFollows, CancelFollows, GoFollows, JoinFollows, PassFollows, ReleaseFollows, SplitFollows, WorkFollows};
 
 /// Between any two steps the words and the views stand for one state, to which the broadcast state leads.
 pub fn station_is_led()
