@@ -5,6 +5,7 @@ mod Keeps
 mod Local
 mod Steps
 mod RootSteps
+mod EachStep
 mod Facts
 mod Carried
 mod Ends

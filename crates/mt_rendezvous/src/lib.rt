@@ -15,7 +15,7 @@ mod worked;
 
 pub use broadcast::call_and_take;
 pub use gather::disband;
-pub use laws::{broadcast_begins, full_station_holds, station_is_led};
+pub use laws::{broadcast_begins, each_step_is_one_event, full_station_holds, station_is_led};
 pub use station::{Attendee, Outcome, Pass, Root, Station, attend};
 pub use threads::update;
 pub use view::{Held, Key, Start, View};

@@ -16,7 +16,7 @@ ghost use Rattle.mt_rendezvous.specs.Calls.{IsRoot, Leads, gathered};
 ghost use Rattle.mt_types.specs.Tables.{IsTableOf};
 ghost use Rattle.mt_bus.specs.Parts.{system};
 ghost use Rattle.mt_bus.specs.Tables.{AreTablesOf};
-ghost use Rattle.mt_rendezvous.specs.Update.{CanUpdate, Came, IsQueue, IsReady, Returned, Tied, decided, left_by, running, tables_left};
+ghost use Rattle.mt_rendezvous.specs.Update.{AreOf, CanUpdate, Came, IsQueue, IsReady, IsReadyAt, OneLess, Returned, Tied, decided, left_by, running, tables_left};
 
 use crate::broadcast::call_and_take;
 use crate::gather::disband;
@@ -100,7 +100,9 @@ fn start<'s, E, R: Threads + Wait + Sync, G: Gate>(
     match scope.spawn_with(
         promise,
         move || -> Attendee
-            requires { IsSync R.row × IsReady station.now.table.shared.table_id (start_of station.now.table.shared.key) a.cpu a.pass.seat.table_id a.pass.seat.me a.pass.number × (goal.now ≡ station.now.table.shared.key.goal.value) × (ram.now.windows ≡ station.now.table.shared.key.ram.value.windows) }
+            requires shared { IsSync R.row }
+            requires ready { IsReady station.now.table.shared.table_id (start_of station.now.table.shared.key) a.cpu a.pass.seat.table_id a.pass.seat.me a.pass.number }
+            requires same { AreOf (start_of station.now.table.shared.key) goal.now ram.now.windows }
             ensures { Came station.entry.now.table.shared.table_id result.pass.seat.table_id result.pass.seat.me result.pass.number result.cpu × (result.pass.number ≡ a.pass.number) }
         { attend_whole(rt, station, ram, a, goal, gate) },
     ) {
@@ -132,8 +134,8 @@ fn finish(station: &Station, a: Attendee, root: &mut Root, done: &mut Vec<Cpu>)
 fn last(station: &Station, waiting: &mut Vec<Attendee>) -> Option<Attendee>
     requires { IsQueue station.now.table.shared.table_id (start_of station.now.table.shared.key) waiting.old.items }
     ensures none { IfNone result ((waiting.old.items ≡ []) × (length waiting.old.items ≡ 0)) }
-    ensures some { IfSome result (λ a. IsReady station.now.table.shared.table_id (start_of station.now.table.shared.key) a.cpu a.pass.seat.table_id a.pass.seat.me a.pass.number × (a.pass.number ≡ length waiting.new.items)) }
-    ensures rest { IfSome result (λ a. (length waiting.old.items ≡ length waiting.new.items + 1) × IsQueue station.now.table.shared.table_id (start_of station.now.table.shared.key) waiting.new.items) }
+    ensures some { IfSome result (λ a. IsReadyAt station.now.table.shared.table_id (start_of station.now.table.shared.key) (length waiting.new.items) a) }
+    ensures rest { IfSome result (λ a. OneLess station.now.table.shared.table_id (start_of station.now.table.shared.key) waiting.old.items waiting.new.items) }
 {
     let _ = station.count;
     waiting.pop()
@@ -238,7 +240,10 @@ fn meet<R: Threads + Wait + Sync, G: Gate>(
         thread::scope_env(),
         rt,
         move |scope| -> Ended
-            requires { Leads station.now.table.shared.table_id (start_of station.now.table.shared.key) root.seat.table_id root.seat.me Pending × (goal.now ≡ station.now.table.shared.key.goal.value) × (ram.now.windows ≡ station.now.table.shared.key.ram.value.windows) × IsQueue station.now.table.shared.table_id (start_of station.now.table.shared.key) waiting.items × (length waiting.items ≤ vec_capacity done) × (done.items ≡ []) }
+            requires root { Leads station.now.table.shared.table_id (start_of station.now.table.shared.key) root.seat.table_id root.seat.me Pending }
+            requires same { AreOf (start_of station.now.table.shared.key) goal.now ram.now.windows }
+            requires waiting { IsQueue station.now.table.shared.table_id (start_of station.now.table.shared.key) waiting.items }
+            requires room { (length waiting.items ≤ vec_capacity done) × (done.items ≡ []) }
             ensures { Returned station.entry.now.table.shared.table_id result.root.seat.table_id result.root.seat.me (decided result.given) (length waiting.items) result.done.items }
         {
             let given = run_all(
