@@ -64,6 +64,7 @@ impl Cache {
         ensures place { IfSome result (λ i. i < length self.now) }
         ensures line { IfSome result (λ i. slice_get self.now i ≡ find_line number self.now) }
         ensures absent { IfNone result (find_line number self.now ≡ None) }
+        ensures distinct { AreDistinct self.now }
     {
         if self.counts.may_have(number) {
             self.lines.place_of(number)
