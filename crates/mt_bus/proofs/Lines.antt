@@ -1,13 +1,12 @@
 -- The line of a number in a list of lines with distinct numbers.
-use Rattle.std.proofs.Common.{◌≡◌, ◌∙◌, ap, sym, refl, ℕ, ◌==◌, Bool, true, false, List, [], ◌∷◌, if◌then◌else◌, Option, Some, None, slice_get, slice_index_or, length, ◌<◌}
-use Rattle.std.proofs.lemmas.Option.{slice_get-get_or}
+use Rattle.std.proofs.Common.{◌≡◌, ◌∙◌, ap, sym, refl, ℕ, ◌==◌, Bool, true, false, List, [], ◌∷◌, if◌then◌else◌, Option, Some, None, slice_get}
 use Rattle.std.proofs.lemmas.Bool.{eqb-true}
 use Rattle.std.specs.List.{filter, fold}
 use Rattle.std.specs.Option.{option_map_or}
 use Rattle.mt_lists.proofs.Keys.{Apart, change_none, filter_none, found_key, to_apart}
 use Rattle.mt_cache.specs.declared.line.CacheLine.{CacheLine}
 use Rattle.mt_cache.specs.Lines.{AreDistinct, change_line, find_line, has_number, without_line}
-use Rattle.mt_cache.specs.Calls.{change_at}
+use Rattle.mt_cache.specs.Calls.{change_at, without_at}
 use Rattle.mt_machine.specs.Memory.{Memory, write_back, write_back_of}
 
 abbrev number_of : CacheLine → ℕ
@@ -24,8 +23,12 @@ change_found n i f ls at = ap (λ o. option_map_or (λ (l : CacheLine). change_l
 pub change_absent : (n : ℕ) (f : CacheLine → CacheLine) (ls : List CacheLine) → find_line n ls ≡ None → change_line n f ls ≡ ls
 change_absent n f ls none = change_none number_of n f ls none
 
-pub without_found : (n i : ℕ) (l : CacheLine) (ls : List CacheLine) → slice_get ls i ≡ find_line n ls → slice_get ls i ≡ Some l → without_line l.number ls ≡ without_line n ls
-without_found n i l ls at is = ap (λ k. without_line k ls) (found_key number_of n ls l (sym at ∙ is))
+pub without_found : (n i : ℕ) (ls : List CacheLine) → slice_get ls i ≡ find_line n ls → without_at i ls ≡ without_line n ls
+without_found n i ls at = ap (λ o. option_map_or (λ (l : CacheLine). without_line l.number ls) o ls) at ∙ one (find_line n ls) refl
+  where
+    one : (o : Option CacheLine) → find_line n ls ≡ o → option_map_or (λ (l : CacheLine). without_line l.number ls) o ls ≡ without_line n ls
+    one None is = sym (filter_none number_of n ls is)
+    one (Some l) is = ap (λ k. without_line k ls) (found_key number_of n ls l is)
 
 pub without_absent : (n : ℕ) (ls : List CacheLine) → find_line n ls ≡ None → without_line n ls ≡ ls
 without_absent n ls none = filter_none number_of n ls none
@@ -46,8 +49,6 @@ back_found n m l ls apart is = ap (fold write_back m) (only_line n ls (to_apart 
 pub back_absent : (n : ℕ) (m : Memory) (ls : List CacheLine) → AreDistinct ls → find_line n ls ≡ None → write_back_of n m ls ≡ m
 back_absent n m ls apart none = ap (fold write_back m) (only_line n ls (to_apart number_of ls apart) ∙ ap (λ o. option_map_or (λ (k : CacheLine). k ∷ []) o []) none)
 
--- the line that is read at a place of the shown list
-pub back_at : (n i : ℕ) (m : Memory) (ls shown : List CacheLine) (d : CacheLine) → shown ≡ ls → AreDistinct ls → i < length ls → slice_get ls i ≡ find_line n ls
-    → write_back_of n m ls ≡ write_back m (slice_index_or shown i d)
-back_at n i m ls shown d same apart within at =
-    back_found n m (slice_index_or ls i d) ls apart (sym at ∙ slice_get-get_or ls i d within) ∙ ap (λ (xs : List CacheLine). write_back m (slice_index_or xs i d)) (sym same)
+-- the line at the place of this number
+pub back_at : (n i : ℕ) (m : Memory) (ls : List CacheLine) (l : CacheLine) → AreDistinct ls → slice_get ls i ≡ Some l → slice_get ls i ≡ find_line n ls → write_back_of n m ls ≡ write_back m l
+back_at n i m ls l apart here at = back_found n m l ls apart (sym at ∙ here)

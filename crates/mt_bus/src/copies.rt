@@ -11,9 +11,8 @@ use mt_ram::Ram;
 pub(crate) fn write_copy(cache: &Cache, ram: &mut Ram, number: u64)
     ensures { ram.new ≡ write_back_of number ram.old cache.now }
 {
-    let lines = cache.lines();
     if let Some(i) = cache.find(number) {
-        write_back(ram, &lines[i]);
+        write_back(ram, cache.nth(i));
     }
 }
 
@@ -22,8 +21,8 @@ pub(crate) fn clean_copy(cache: &mut Cache, ram: &mut Ram, number: u64)
     ensures cache { cache.new ≡ change_line number clean_line cache.old }
     ensures ram { ram.new ≡ write_back_of number ram.old cache.old }
 {
-    write_copy(cache, ram, number);
     if let Some(i) = cache.find(number) {
+        write_back(ram, cache.nth(i));
         cache.clean(i);
     }
 }
@@ -33,6 +32,6 @@ pub(crate) fn drop_copy(cache: &mut Cache, number: u64)
     ensures { cache.new ≡ without_line number cache.old }
 {
     if let Some(i) = cache.find(number) {
-        let _ = cache.invalidate(i);
+        cache.invalidate(i);
     }
 }

@@ -1,4 +1,4 @@
-ghost use Rattle.std.specs.Prelude.{◌≡◌, ◌<◌, ◌/◌, ◌&&◌, not, length, None};
+ghost use Rattle.std.specs.Prelude.{◌≡◌, ◌<◌, ◌/◌, ◌&&◌, not, length, None, Some, MatchOption};
 ghost use Rattle.mt_cache.specs.declared.line.CacheLine.{CacheLine};
 ghost use Rattle.mt_cache.specs.Lines.{find_line};
 ghost use Rattle.mt_machine.specs.Access.{first_of_load, is_cached, load, load_after};
@@ -22,17 +22,20 @@ fn is_cached(kind: MemType) -> bool
     }
 }
 
-fn line_of(cache: &Cache, number: u64) -> Option<CacheLine>
-    ensures { result ≡ find_line number cache.now }
+// The line of this number.
+fn line_of(cache: &Cache, number: u64) -> Option<&CacheLine>
+    ensures { MatchOption result (find_line number cache.now ≡ None) (λ l. find_line number cache.now ≡ Some l.now) }
 {
-    let i = cache.find(number)?;
-    Some(cache.lines()[i])
+    match cache.find(number) {
+        Some(i) => Some(cache.nth(i)),
+        None => None,
+    }
 }
 
 /// A processor's cached line.
-pub(crate) fn line_in(cpus: &[Cpu], k: usize, number: u64) -> Option<CacheLine>
+pub(crate) fn line_in(cpus: &[Cpu], k: usize, number: u64) -> Option<&CacheLine>
     requires { k < length cpus.now }
-    ensures { result ≡ find_line number (lines_in k cpus.now) }
+    ensures { MatchOption result (find_line number (lines_in k cpus.now) ≡ None) (λ l. find_line number (lines_in k cpus.now) ≡ Some l.now) }
 {
     line_of(cpus[k].cache(), number)
 }
@@ -48,9 +51,9 @@ fn first_of_load(cpus: &mut [Cpu], ram: &mut Ram, k: usize, kind: MemType, numbe
 }
 
 // The line that a load of this type hits.
-fn hit(cpus: &[Cpu], k: usize, kind: MemType, number: u64) -> Option<CacheLine>
+fn hit(cpus: &[Cpu], k: usize, kind: MemType, number: u64) -> Option<&CacheLine>
     requires { k < length cpus.now }
-    ensures { result ≡ hit_in kind k number cpus.now }
+    ensures { MatchOption result (hit_in kind k number cpus.now ≡ None) (λ l. hit_in kind k number cpus.now ≡ Some l.now) }
 {
     if is_cached(kind) {
         line_in(cpus, k, number)

@@ -76,7 +76,7 @@ fn a_store_takes_the_line_over(rt: HostRuntime) {
     assert!(rt; system.ram.read(0x10_0000) == 0x2a);
     for (k, lines) in [(0, 0), (1, 1)] {
         assert!(rt;
-            matches!(system.cpus.get(k), Some(cpu) if cpu.cache().lines().len() == lines),
+            matches!(system.cpus.get(k), Some(cpu) if cpu.cache().len() == lines),
             "at {k}"
         );
     }
@@ -117,6 +117,6 @@ fn refusals_and_no_fill_mode(rt: HostRuntime) {
     }
     assert!(rt; access(&mut system, 0, Op::Load(0x1000)) == Some(Done::Value(0, MemType::WB)));
     assert!(rt;
-        matches!(system.cpus.first(), Some(cpu) if cpu.cache().lines().is_empty() && cpu.tlb().entries().len() == 2)
+        matches!(system.cpus.first(), Some(cpu) if cpu.cache().len() == 0 && cpu.tlb().entries().len() == 2)
     );
 }

@@ -7,28 +7,21 @@ use Rattle.std.proofs.lemmas.Bool.{eq-eqb}
 use Rattle.mt_cache.specs.declared.line.CacheLine.{CacheLine}
 use Rattle.mt_cache.specs.Lines.{has_number, find_line, without_line, change_line, write_dirty}
 use Rattle.mt_cache.specs.Lines.{oldest_of_full, combined_with}
-use Rattle.mt_lists.proofs.Keys.{none_filter, at_position, position_within, found_key, find_changed, find_pushed, hit}
+use Rattle.mt_lists.proofs.Keys.{at_position, position_within, found_key, find_changed, find_pushed, hit}
 use Rattle.std.specs.List.{position}
 use Rattle.mt_cache.specs.Calls.{clean_line_of, with_room, with_room_for, change_at, write_word, joined, full_buffer, left_by_combine, handed_back}
-use Rattle.mt_cache.proofs.Lists.{number_of}
+use Rattle.mt_cache.proofs.Lists.{number_of, absent_in_room}
 
 -- ---- the line has no buffer
 
 abbrev first : ℕ → ℕ → ℕ → ℕ → CacheLine
 first n word value era = write_dirty word value (clean_line_of n (replicate 8 0) era)
 
-none_in_room : (n size : ℕ) (bs : List CacheLine) → find_line n bs ≡ None → find_line n (with_room size bs) ≡ None
-none_in_room n size bs none = one (oldest_of_full size bs)
-  where
-    one : (o : Option CacheLine) → find_line n (option_map_or (λ (l : CacheLine). without_line l.number bs) o bs) ≡ None
-    one None = none
-    one (Some l) = none_filter number_of _ n bs none
-
 joined_absent : (n word value era : ℕ) (bs : List CacheLine) → find_line n bs ≡ None → joined n word value era bs ≡ with_room 4 bs ++ first n word value era ∷ []
 joined_absent n word value era bs none =
     let room : with_room_for n bs ≡ with_room 4 bs = ap (λ (o : Option CacheLine). if is_some o then bs else with_room 4 bs) none in
     ap (combined_with n word value era) room
-    ∙ ap (λ (o : Option CacheLine). if is_some o then change_line n (write_dirty word value) (with_room 4 bs) else with_room 4 bs ++ first n word value era ∷ []) (none_in_room n 4 bs none)
+    ∙ ap (λ (o : Option CacheLine). if is_some o then change_line n (write_dirty word value) (with_room 4 bs) else with_room 4 bs ++ first n word value era ∷ []) (absent_in_room n 4 bs none)
 
 one_word : (word : ℕ) → word < 8 → (first 0 word 0 0).dirty == 0xff ≡ false
 one_word zero within = refl
@@ -54,7 +47,7 @@ absent_left n word value era bs within none =
     let whole : js ≡ with_room 4 bs ++ first n word value era ∷ [] = joined_absent n word value era bs none in
     let at : find_line n js ≡ Some (first n word value era) =
     ap (find_line n) whole ∙ find_pushed number_of n (with_room 4 bs) (first n word value era)
-    ∙ ap (λ (o : Option CacheLine). option_or o (find_line n (first n word value era ∷ []))) (none_in_room n 4 bs none)
+    ∙ ap (λ (o : Option CacheLine). option_or o (find_line n (first n word value era ∷ []))) (absent_in_room n 4 bs none)
     ∙ hit number_of n (first n word value era) [] (same n) in
     let part : full_buffer n js ≡ None =
     ap (λ (o : Option CacheLine). option_map_or (λ (b : CacheLine). if b.dirty == 0xff then Some b else None) o None) at

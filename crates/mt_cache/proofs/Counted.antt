@@ -1,17 +1,16 @@
 -- The counts of a cache's lines by residue, through each change of the lines.
-use Rattle.std.proofs.Common.{◌≡◌, ℕ, zero, suc, ◌+◌, ◌-◌, ◌%◌, ◌<◌, ◌≤◌, ◌==◌, List, [], ◌∷◌, ◌++◌, length, get_or, replicate, not, cond, Some, None, Option, Bool, true, false, refl, sym, ap, subst, ◌∙◌, arith, count_by}
-use Rattle.std.specs.Prelude.{slice_get, slice_index_or, if◌then◌else◌, IfSome}
+use Rattle.std.proofs.Common.{◌≡◌, ℕ, zero, suc, ◌+◌, ◌-◌, ◌%◌, ◌<◌, ◌≤◌, ◌==◌, List, [], ◌∷◌, ◌++◌, length, get_or, replicate, not, cond, Some, None, Bool, true, false, refl, sym, ap, subst, ◌∙◌, arith, count_by}
+use Rattle.std.specs.Prelude.{slice_get, slice_index_or}
 use Rattle.std.specs.List.{remove, position}
-use Rattle.std.specs.Option.{option_map_or}
 use Rattle.std.proofs.lemmas.Bool.{eq-eqb, eqb-true, eqb-false, not-false}
 use Rattle.std.proofs.lemmas.Option.{slice_get-get_or}
-use Rattle.std.proofs.lemmas.List.{get_or-set_same, get_or-set_other, get_or-replicate, length_push, length-set}
+use Rattle.std.proofs.lemmas.List.{get_or-set_same, get_or-set_other, get_or-replicate, length-set}
 use Rattle.std.proofs.lemmas.List.Sums.{sum_by_push, sum_by-remove, get_or-le-sum_by, count_by-le-length}
 use Rattle.mt_lists.proofs.Keys.{to_apart, removed, none_of, some_at, found_key, at_position, position_within}
 use Rattle.mt_cache.specs.declared.line.CacheLine.{CacheLine}
-use Rattle.mt_cache.specs.Lines.{AreDistinct, has_number, without_line, oldest_of_full}
-use Rattle.mt_cache.specs.Calls.{AreLines, with_room}
-use Rattle.mt_cache.specs.Counts.{AreCounted, has_residue, raised, lowered, lowered_by}
+use Rattle.mt_cache.specs.Lines.{AreDistinct, has_number, without_line}
+use Rattle.mt_cache.specs.Calls.{AreLines}
+use Rattle.mt_cache.specs.Counts.{AreCounted, has_residue, raised, lowered}
 use Rattle.mt_cache.proofs.Lists.{number_of}
 
 -- one line's part of a count
@@ -111,27 +110,6 @@ counted_less ls counts i l distinct counted place got = record { long = length-s
             ∙ counted.each r within
             ∙ omega (arith, less, part)
 
--- ---- a full cache hands back its oldest line
-
-oldest_at : (size : ℕ) (ls : List CacheLine) (l : CacheLine) → oldest_of_full size ls ≡ Some l → (0 < length ls) × (slice_get ls 0 ≡ Some l)
-oldest_at size [] l is = absurd (cc)
-oldest_at size (x ∷ ls) l is = one (length ls + 1 == size) is
-  where
-    one : (b : Bool) → (if b then Some x else None) ≡ Some l → (0 < suc (length ls)) × (Some x ≡ Some l)
-    one true e = (omega arith, e)
-    one false e = absurd (cc)
-
-pub counted_oldest : (size : ℕ) (ls : List CacheLine) (counts : List ℕ) (o : Option CacheLine) → AreCounted ls counts → o ≡ oldest_of_full size ls → IfSome o (λ l. 0 < slice_index_or counts (l.number % 4096) 0)
-counted_oldest size ls counts None counted is = tt
-counted_oldest size ls counts (Some l) counted is = let first = oldest_at size ls l (sym is) in counted_some ls counts 0 l counted first.0 first.1
-
-pub counted_room : (size : ℕ) (ls : List CacheLine) (counts left : List ℕ) (o : Option CacheLine) → AreDistinct ls → AreCounted ls counts → o ≡ oldest_of_full size ls → left ≡ lowered_by o counts → AreCounted (with_room size ls) left
-counted_room size ls counts left o distinct counted is after = subst (AreCounted (with_room size ls)) (sym after) (subst (λ (p : Option CacheLine). AreCounted (option_map_or (λ l. without_line l.number ls) p ls) (lowered_by o counts)) is (one o is))
-  where
-    one : (p : Option CacheLine) → p ≡ oldest_of_full size ls → AreCounted (option_map_or (λ l. without_line l.number ls) p ls) (lowered_by p counts)
-    one None e = counted
-    one (Some l) e = let first = oldest_at size ls l (sym e) in counted_less ls counts 0 l distinct counted first.0 first.1
-
 pub counted_below : (ls : List CacheLine) (counts : List ℕ) (n : ℕ) → AreCounted ls counts → length ls < 255 → slice_index_or counts (n % 4096) 0 < 255
 counted_below ls counts n counted few =
     let is : slice_index_or counts (n % 4096) 0 ≡ count_by (has_residue (n % 4096)) ls = counted.each (n % 4096) (residue_within n) in
@@ -166,6 +144,3 @@ pub within_of : (ls : List CacheLine) (i : ℕ) (l : CacheLine) → slice_get ls
 within_of [] i l is = absurd (cc)
 within_of (x ∷ ls) zero l is = omega arith
 within_of (x ∷ ls) (suc i) l is = let rest = within_of ls i l is in omega (arith, rest)
-
-pub few_before : (ls before : List CacheLine) (l : CacheLine) → ls ≡ before ++ l ∷ [] → length ls ≤ 64 → length before < 255
-few_before ls before l is few = let whole : length ls ≡ length before + 1 = ap (λ (xs : List CacheLine). length xs) is ∙ length_push before l in omega (arith, whole, few)

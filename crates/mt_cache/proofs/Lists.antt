@@ -4,6 +4,7 @@ use Rattle.std.specs.Prelude.{slice_get, slice_index_or, if◌then◌else◌, is
 use Rattle.std.specs.List.{All, refill, remove, position, find}
 use Rattle.std.specs.Option.{option_map_or, option_map}
 use Rattle.std.proofs.lemmas.Bool.{eq-eqb}
+use Rattle.std.proofs.lemmas.List.Edits.{length-remove}
 use Rattle.std.proofs.lemmas.List.Elements.{All-append, All-filter, All-set}
 use Rattle.std.proofs.lemmas.Option.{slice_get-get_or}
 use Rattle.std.specs.Int.{trailing_zeros}
@@ -14,7 +15,7 @@ use Rattle.mt_kinds.specs.Bits.{is_bit_set}
 use Rattle.mt_cache.specs.declared.line.CacheLine.{CacheLine}
 use Rattle.mt_cache.specs.Lines.{AreDistinct, IsLine, eight, has_number, find_line, without_line, change_line, first_dirty_word, first_dirty_line, oldest_of_full}
 use Rattle.mt_lists.proofs.Keys.{to_apart, from_apart, apart_filter, apart_change, apart_push, none_filter, removed, changed, at_position, no_position, position_within, filter_none, none_of, after_write}
-use Rattle.mt_cache.specs.Calls.{AreLines, with_room, change_at, write_word, has_dirty_word}
+use Rattle.mt_cache.specs.Calls.{AreLines, with_room, change_at, without_at, write_word, has_dirty_word}
 
 abbrev pub number_of : CacheLine → ℕ
 number_of l = l.number
@@ -24,14 +25,16 @@ KeepsNumber f = (l : CacheLine) → (f l).number ≡ l.number
 
 -- ---- one line is changed
 
+pub write_gives : (f : CacheLine → CacheLine) (ls : List CacheLine) (i : ℕ) (d : CacheLine) → i < length ls → AreDistinct ls → set ls i (f (get_or ls i d)) ≡ change_at i f ls
+write_gives f ls i d within distinct =
+    let at : slice_get ls i ≡ Some (get_or ls i d) = slice_get-get_or ls i d within in
+    changed number_of f ls i (get_or ls i d) (to_apart number_of ls distinct) at
+    ∙ ap (λ (o : Option CacheLine). option_map_or (λ l. change_line l.number f ls) o ls) (sym at)
+
 pub change_gives : (f : CacheLine → CacheLine) (ls shown : List CacheLine) (i : ℕ) (d line : CacheLine) → shown ≡ ls → i < length ls → line ≡ f (get_or shown i d) → AreDistinct ls → refill (length ls) ls (set shown i line) ≡ change_at i f ls
 change_gives f ls shown i d line same within is distinct =
-    let at : slice_get ls i ≡ Some (get_or ls i d) = slice_get-get_or ls i d within in
     let new : line ≡ f (get_or ls i d) = is ∙ ap (λ (xs : List CacheLine). f (get_or xs i d)) same in
-    after_write ls shown i line same
-    ∙ ap (set ls i) new
-    ∙ changed number_of f ls i (get_or ls i d) (to_apart number_of ls distinct) at
-    ∙ ap (λ (o : Option CacheLine). option_map_or (λ l. change_line l.number f ls) o ls) (sym at)
+    after_write ls shown i line same ∙ ap (set ls i) new ∙ write_gives f ls i d within distinct
 
 pub change_distinct : (f : CacheLine → CacheLine) → KeepsNumber f → (ls : List CacheLine) (i : ℕ) → AreDistinct ls → AreDistinct (change_at i f ls)
 change_distinct f keeps ls i distinct = one (slice_get ls i)
@@ -51,17 +54,23 @@ change_kept f keeps ls shown i d line same within is whole kept = record {
 pub line_at : (ls : List CacheLine) (i : ℕ) (l : CacheLine) → i < length ls → l ≡ slice_index_or ls i l → slice_get ls i ≡ Some l
 line_at ls i l within is = slice_get-get_or ls i l within ∙ ap Some (sym is)
 
+pub line_out : (ls : List CacheLine) (i : ℕ) (l : CacheLine) → slice_get ls i ≡ Some l → AreDistinct ls → remove ls i ≡ without_line l.number ls
+line_out ls i l at distinct = removed number_of ls i l (to_apart number_of ls distinct) at
+
 pub take_gives : (ls : List CacheLine) (i : ℕ) (l : CacheLine) → i < length ls → l ≡ slice_index_or ls i l → AreDistinct ls → remove ls i ≡ without_line l.number ls
-take_gives ls i l within is distinct = removed number_of ls i l (to_apart number_of ls distinct) (line_at ls i l within is)
+take_gives ls i l within is distinct = line_out ls i l (line_at ls i l within is) distinct
 
 pub without_distinct : (n : ℕ) (ls : List CacheLine) → AreDistinct ls → AreDistinct (without_line n ls)
 without_distinct n ls distinct = from_apart number_of (without_line n ls) (apart_filter number_of _ ls (to_apart number_of ls distinct))
 
+pub out_at : (ls : List CacheLine) (i : ℕ) (l : CacheLine) → slice_get ls i ≡ Some l → without_line l.number ls ≡ without_at i ls
+out_at ls i l at = ap (λ (o : Option CacheLine). option_map_or (λ k. without_line k.number ls) o ls) (sym at)
+
+pub out_kept : (ls : List CacheLine) (n : ℕ) → AreLines ls → AreLines (without_line n ls)
+out_kept ls n kept = record { distinct = without_distinct n ls kept.distinct; whole = All-filter _ IsLine ls kept.whole }
+
 pub take_kept : (ls : List CacheLine) (i : ℕ) (l : CacheLine) → i < length ls → l ≡ slice_index_or ls i l → AreLines ls → AreLines (remove ls i)
-take_kept ls i l within is kept = subst AreLines (sym (take_gives ls i l within is kept.distinct)) (record {
-  distinct = without_distinct l.number ls kept.distinct;
-  whole = All-filter _ IsLine ls kept.whole;
-})
+take_kept ls i l within is kept = subst AreLines (sym (take_gives ls i l within is kept.distinct)) (out_kept ls l.number kept)
 
 pub taken_whole : (ls : List CacheLine) (i : ℕ) (l : CacheLine) → i < length ls → l ≡ slice_index_or ls i l → AreLines ls → IsLine l
 taken_whole ls i l within is kept = subst IsLine (sym is) (kept.whole i l within)
@@ -81,29 +90,43 @@ room_free size (l ∷ ls) free =
     let is : (length ls + 1 == size) ≡ false = ne_eqb (length ls + 1) size (λ e. free (omega (arith, e))) in
     sym (ap (λ b. option_map_or (λ (x : CacheLine). without_line x.number (l ∷ ls)) (if b then Some l else None) (l ∷ ls)) is)
 
-pub add_distinct : (size : ℕ) (ls : List CacheLine) (l : CacheLine) → AreDistinct ls → find_line l.number ls ≡ None → AreDistinct (with_room size ls ++ l ∷ [])
-add_distinct size ls l distinct none = one (oldest_of_full size ls)
-  where
-    one : (o : Option CacheLine) → AreDistinct (option_map_or (λ (x : CacheLine). without_line x.number ls) o ls ++ l ∷ [])
-    one None = from_apart number_of (ls ++ l ∷ []) (apart_push number_of ls l (to_apart number_of ls distinct) none)
-    one (Some x) = from_apart number_of (without_line x.number ls ++ l ∷ []) (apart_push number_of (without_line x.number ls) l (apart_filter number_of _ ls (to_apart number_of ls distinct)) (none_filter number_of _ l.number ls none))
+pub full_out : (size : ℕ) (ls : List CacheLine) → 0 < size → length ls ≡ size → without_at 0 ls ≡ with_room size ls
+full_out size [] some full = refl
+full_out size (l ∷ ls) some full =
+    let is : (length ls + 1 == size) ≡ true = eq-eqb (length ls + 1) size (omega (arith, full)) in
+    sym (ap (λ b. option_map_or (λ (x : CacheLine). without_line x.number (l ∷ ls)) (if b then Some l else None) (l ∷ ls)) is)
 
-room_whole : (size : ℕ) (ls : List CacheLine) → All IsLine ls → All IsLine (with_room size ls)
-room_whole size ls whole = one (oldest_of_full size ls)
-  where
-    one : (o : Option CacheLine) → All IsLine (option_map_or (λ (x : CacheLine). without_line x.number ls) o ls)
-    one None = whole
-    one (Some x) = All-filter _ IsLine ls whole
+pub full_room : (size : ℕ) (ls : List CacheLine) → 0 < size → length ls ≡ size → AreDistinct ls → length (without_at 0 ls) < size
+full_room size ls some full distinct =
+    let rest : length (remove ls 0) + 1 ≡ length ls = length-remove ls 0 (omega (arith, some, full)) in
+    subst (λ (xs : List CacheLine). length xs < size) (room_full size ls some full distinct ∙ sym (full_out size ls some full)) (omega (arith, rest, full))
 
-pub add_kept : (size : ℕ) (ls : List CacheLine) (l : CacheLine) → AreLines ls → find_line l.number ls ≡ None → IsLine l → AreLines (with_room size ls ++ l ∷ [])
-add_kept size ls l kept none whole = record {
-  distinct = add_distinct size ls l kept.distinct none;
-  whole = All-append IsLine (with_room size ls) (l ∷ []) (room_whole size ls kept.whole) (λ k d below. one k d below);
+pub push_kept : (ls : List CacheLine) (l : CacheLine) → AreLines ls → find_line l.number ls ≡ None → IsLine l → AreLines (ls ++ l ∷ [])
+push_kept ls l kept none whole = record {
+  distinct = from_apart number_of (ls ++ l ∷ []) (apart_push number_of ls l (to_apart number_of ls kept.distinct) none);
+  whole = All-append IsLine ls (l ∷ []) kept.whole (λ k d below. one k d below);
 }
   where
     one : (k : ℕ) (d : CacheLine) → k < 1 → IsLine (get_or (l ∷ []) k d)
     one zero d below = whole
     one (suc k) d below = absurd (omega arith)
+
+pub room_kept : (size : ℕ) (ls : List CacheLine) → AreLines ls → AreLines (with_room size ls)
+room_kept size ls kept = one (oldest_of_full size ls)
+  where
+    one : (o : Option CacheLine) → AreLines (option_map_or (λ (x : CacheLine). without_line x.number ls) o ls)
+    one None = kept
+    one (Some x) = out_kept ls x.number kept
+
+pub absent_in_room : (n size : ℕ) (ls : List CacheLine) → find_line n ls ≡ None → find_line n (with_room size ls) ≡ None
+absent_in_room n size ls none = one (oldest_of_full size ls)
+  where
+    one : (o : Option CacheLine) → find_line n (option_map_or (λ (l : CacheLine). without_line l.number ls) o ls) ≡ None
+    one None = none
+    one (Some l) = none_filter number_of _ n ls none
+
+pub add_kept : (size : ℕ) (ls : List CacheLine) (l : CacheLine) → AreLines ls → find_line l.number ls ≡ None → IsLine l → AreLines (with_room size ls ++ l ∷ [])
+add_kept size ls l kept none whole = push_kept (with_room size ls) l (room_kept size ls kept) (absent_in_room l.number size ls none) whole
 
 pub write_keeps : (word value : ℕ) (dirty : Bool) → KeepsNumber (write_word word value dirty)
 write_keeps word value true l = refl
@@ -158,20 +181,18 @@ dirty_line ls i is = at_position has_dirty_word ls i is
 pub dirty_within : (ls : List CacheLine) (i : ℕ) → position has_dirty_word ls ≡ Some i → i < length ls
 dirty_within ls i is = position_within has_dirty_word ls i is
 
-pub dirty_word : (ls : List CacheLine) (i : ℕ) (d : CacheLine) → position has_dirty_word ls ≡ Some i → option_map first_dirty_word (first_dirty_line ls) ≡ Some (first_dirty_word (get_or ls i d))
-dirty_word ls i d is =
-    ap (option_map first_dirty_word) (sym (dirty_line ls i is) ∙ slice_get-get_or ls i d (dirty_within ls i is))
+read : (ls : List CacheLine) (i : ℕ) (l : CacheLine) → i < length ls → slice_get ls i ≡ Some l → get_or ls i l ≡ l
+read ls i l within at = let e : Some (get_or ls i l) ≡ Some l = sym (slice_get-get_or ls i l within) ∙ at in cc
 
-pub is_dirty_there : (ls : List CacheLine) (i : ℕ) (d : CacheLine) → position has_dirty_word ls ≡ Some i → has_dirty_word (get_or ls i d) ≡ true
-is_dirty_there ls i d is = (position-Some has_dirty_word ls i d is).1
+pub dirty_at_place : (ls : List CacheLine) (i : ℕ) (l : CacheLine) (o : Option ℕ) (word : ℕ) → position has_dirty_word ls ≡ Some i → slice_get ls i ≡ Some l → o ≡ find (is_bit_set l.dirty) eight → o ≡ Some word
+    → option_map first_dirty_word (first_dirty_line ls) ≡ Some (Some word)
+dirty_at_place ls i l o word at got is found =
+    ap (option_map first_dirty_word) (sym (dirty_line ls i at) ∙ got) ∙ ap (λ (x : Option ℕ). Some x) (sym is ∙ found)
 
-pub dirty_at_place : (ls shown : List CacheLine) (i : ℕ) (d : CacheLine) (o : Option ℕ) (word : ℕ) → position has_dirty_word ls ≡ Some i → shown ≡ ls → o ≡ find (is_bit_set (get_or shown i d).dirty) eight → o ≡ Some word → option_map first_dirty_word (first_dirty_line ls) ≡ Some (Some word)
-dirty_at_place ls shown i d o word at same is found =
-    dirty_word ls i d at ∙ ap (λ (xs : List CacheLine). Some (first_dirty_word (get_or xs i d))) (sym same) ∙ ap (λ (x : Option ℕ). Some x) (sym is ∙ found)
-
-pub dirty_after_all : (ls shown : List CacheLine) (i : ℕ) (d : CacheLine) (o : Option ℕ) → position has_dirty_word ls ≡ Some i → shown ≡ ls → o ≡ find (is_bit_set (get_or shown i d).dirty) eight → ((x : ℕ) → o ≡ Some x → ⊥) → first_dirty_line ls ≡ None
-dirty_after_all ls shown i d o at same is never =
-    let some : has_dirty_word (get_or ls i d) ≡ true = is_dirty_there ls i d at in
-    let none : first_dirty_word (get_or ls i d) ≡ None = ap (λ (xs : List CacheLine). first_dirty_word (get_or xs i d)) (sym same) ∙ sym is ∙ none_of o never in
-    let clash : false ≡ true = ap (λ (x : Option ℕ). is_some x) (sym none) ∙ some in
-    absurd (cc)
+pub dirty_after_all : (ls : List CacheLine) (i : ℕ) (l : CacheLine) (o : Option ℕ) → position has_dirty_word ls ≡ Some i → slice_get ls i ≡ Some l → o ≡ find (is_bit_set l.dirty) eight → ((x : ℕ) → o ≡ Some x → ⊥)
+    → first_dirty_line ls ≡ None
+dirty_after_all ls i l o at got is never =
+    let there : has_dirty_word (get_or ls i l) ≡ true = (position-Some has_dirty_word ls i l at).1 in
+    let some : has_dirty_word l ≡ true = ap has_dirty_word (sym (read ls i l (dirty_within ls i at) got)) ∙ there in
+    let none : has_dirty_word l ≡ false = ap (λ (x : Option ℕ). is_some x) (sym is ∙ none_of o never) in
+    absurd (let e : true ≡ false = sym some ∙ none in cc)

@@ -21,6 +21,10 @@ with_room size ls = option_map_or (λ l. without_line l.number ls) (oldest_of_fu
 abbrev pub change_at : ℕ → (CacheLine → CacheLine) → List CacheLine → List CacheLine
 change_at i f ls = option_map_or (λ l. change_line l.number f ls) (slice_get ls i) ls
 
+-- without the line that stands at this place
+abbrev pub without_at : ℕ → List CacheLine → List CacheLine
+without_at i ls = option_map_or (λ l. without_line l.number ls) (slice_get ls i) ls
+
 abbrev pub write_word : ℕ → ℕ → Bool → CacheLine → CacheLine
 write_word word value dirty l = if dirty then write_dirty word value l else write_clean word value l
 

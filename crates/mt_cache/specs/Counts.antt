@@ -1,7 +1,6 @@
 -- How many lines of a cache have a number with each residue modulo 4096.
-use Rattle.std.specs.Prelude.{◌≡◌, ℕ, ◌+◌, ◌-◌, ◌%◌, ◌<◌, ◌==◌, Bool, List, length, slice_index_or, slice_set, Option}
+use Rattle.std.specs.Prelude.{◌≡◌, ℕ, ◌+◌, ◌-◌, ◌%◌, ◌<◌, ◌==◌, Bool, List, length, slice_index_or, slice_set}
 use Rattle.std.specs.List.{count_by}
-use Rattle.std.specs.Option.{option_map_or}
 use Rattle.mt_cache.specs.declared.line.CacheLine.{CacheLine}
 
 abbrev pub has_residue : ℕ → CacheLine → Bool
@@ -18,7 +17,3 @@ raised n counts = slice_set counts (n % 4096) (slice_index_or counts (n % 4096) 
 
 abbrev pub lowered : ℕ → List ℕ → List ℕ
 lowered n counts = slice_set counts (n % 4096) (slice_index_or counts (n % 4096) 0 - 1)
-
--- without the line that was pushed out
-abbrev pub lowered_by : Option CacheLine → List ℕ → List ℕ
-lowered_by o counts = option_map_or (λ l. lowered l.number counts) o counts

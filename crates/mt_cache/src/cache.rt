@@ -1,16 +1,15 @@
-ghost use Rattle.std.specs.Prelude.{◌≡◌, ℕ, ◌<◌, ◌≤◌, List, [], ◌∷◌, ◌++◌, length, slice_get, None, Some, IfSome, IfNone};
+ghost use Rattle.std.specs.Prelude.{◌≡◌, ℕ, ◌<◌, ◌≤◌, List, [], ◌∷◌, ◌++◌, length, slice_get, None, Some, IfSome, IfNone, MatchOption};
 ghost use Rattle.std.specs.List.{All, position};
 ghost use Rattle.std.specs.Option.{option_map};
 ghost use Rattle.mt_cache.specs.declared.line.CacheLine.{CacheLine};
-ghost use Rattle.mt_cache.specs.Lines.{AreDistinct, IsLine, clean_line, clean_word, find_line, first_dirty_line, first_dirty_word, has_number, oldest_of_full, without_line};
+ghost use Rattle.mt_cache.specs.Lines.{AreDistinct, IsLine, clean_line, clean_word, find_line, first_dirty_line, first_dirty_word, has_number, oldest_of_full};
 ghost use Rattle.mt_cache.specs.Counts.{AreCounted};
-ghost use Rattle.mt_cache.specs.Calls.{AreLines, change_at, clean_line_of, has_dirty_word, with_room, write_word};
+ghost use Rattle.mt_cache.specs.Calls.{AreLines, change_at, clean_line_of, has_dirty_word, with_room, without_at, write_word};
 
 use crate::counts::LineCounts;
 use crate::line::CacheLine;
-use crate::places::{add, clean_at, clean_line_at, first_with_dirty, place_of, put_at, take_at};
+use crate::slots::{SLOTS, Slots};
 use crate::words::first_word;
-use arrayvec::ArrayVec;
 use std::marker::Model;
 
 /// The lines of a cache, the oldest first. No two have one number.
@@ -18,16 +17,16 @@ use std::marker::Model;
 /// The counts answer most searches for a line that isn't there without a look at the lines.
 #[derive(Drop)]
 pub struct Cache {
-    lines: ArrayVec<CacheLine, 64>,
+    lines: Slots,
     counts: LineCounts,
 }
 
 impl Model for Cache {
     ghost Value = { List CacheLine };
 
-    ghost view = { λ c. c.lines.items };
+    ghost view = { λ c. c.lines };
 
-    ghost invariant = { λ c. AreLines c.lines.items × AreCounted c.lines.items c.counts.counts };
+    ghost invariant = { λ c. AreLines c.lines × AreCounted c.lines c.counts.counts };
 }
 
 impl Cache {
@@ -36,19 +35,27 @@ impl Cache {
         ensures { result ≡ [] }
     {
         Cache {
-            lines: ArrayVec::new(),
+            lines: Slots::new(),
             counts: LineCounts::new(),
         }
     }
 
-    /// The lines, the oldest first.
-    pub fn lines(&self) -> &[CacheLine]
-        ensures value { result.now ≡ self.now }
+    /// The number of lines.
+    pub fn len(&self) -> usize
+        ensures count { result ≡ length self.now }
         ensures distinct { AreDistinct self.now }
         ensures room { length self.now ≤ 64 }
         ensures whole { All IsLine self.now }
     {
-        self.lines.as_slice()
+        self.lines.len()
+    }
+
+    /// The line at a place. The oldest line is at place 0.
+    pub fn nth(&self, i: usize) -> &CacheLine
+        requires { i < length self.now }
+        ensures { slice_get self.now i ≡ Some result.now }
+    {
+        self.lines.get(i)
     }
 
     /// The place of the line of this number.
@@ -57,32 +64,59 @@ impl Cache {
         ensures place { IfSome result (λ i. i < length self.now) }
         ensures line { IfSome result (λ i. slice_get self.now i ≡ find_line number self.now) }
         ensures absent { IfNone result (find_line number self.now ≡ None) }
+        ensures distinct { AreDistinct self.now }
     {
         if self.counts.may_have(number) {
-            place_of(self.lines.as_slice(), number)
+            self.lines.place_of(number)
         } else {
             None
         }
     }
 
-    /// Adds a clean line. Where 64 lines stood, it first takes out the oldest and hands it back.
-    pub fn fill(&mut self, number: u64, words: [u64; 8], era: u64) -> Option<CacheLine>
-        requires { find_line number self.old ≡ None }
-        ensures out { result ≡ oldest_of_full 64 self.old }
-        ensures lines { self.new ≡ with_room 64 self.old ++ clean_line_of number words era ∷ [] }
+    /// The line that the next fill pushes out: the oldest of 64.
+    pub fn oldest_of_full(&self) -> Option<&CacheLine>
+        ensures { MatchOption result (oldest_of_full 64 self.now ≡ None) (λ l. oldest_of_full 64 self.now ≡ Some l.now) }
     {
-        let oldest = add(
-            &mut self.lines,
-            CacheLine {
-                number,
-                words,
-                dirty: 0,
-                era,
-            },
-        );
-        self.counts.remove_pushed_out(oldest);
-        self.counts.add(number);
-        oldest
+        if self.lines.len() < SLOTS {
+            None
+        } else {
+            Some(self.lines.get(0))
+        }
+    }
+
+    // Drops the oldest of 64 lines.
+    fn make_room(&mut self)
+        ensures lines { self.new ≡ with_room 64 self.old }
+        ensures room { length self.new < 64 }
+    {
+        if self.lines.len() == SLOTS {
+            self.invalidate(0);
+        }
+    }
+
+    // Adds a line.
+    fn push(&mut self, line: CacheLine)
+        requires absent { find_line line.number self.old ≡ None }
+        requires whole { IsLine line }
+        requires room { length self.old < 64 }
+        ensures { self.new ≡ self.old ++ line ∷ [] }
+    {
+        self.lines.push(line);
+        self.counts.add(line.number);
+    }
+
+    /// Adds a clean line. Where 64 lines stood, it first drops the oldest.
+    pub fn fill(&mut self, number: u64, words: [u64; 8], era: u64)
+        requires { find_line number self.old ≡ None }
+        ensures { self.new ≡ with_room 64 self.old ++ clean_line_of number words era ∷ [] }
+    {
+        self.make_room();
+        self.push(CacheLine {
+            number,
+            words,
+            dirty: 0,
+            era,
+        });
     }
 
     /// Writes a word of the line at a place, and its dirty bit.
@@ -91,7 +125,7 @@ impl Cache {
         requires word { word < 8 }
         ensures { self.new ≡ change_at i (write_word word v dirty) self.old }
     {
-        put_at(&mut self.lines, i, word, v, dirty);
+        self.lines.put(i, word, v, dirty);
     }
 
     /// Clears the dirty bit of a word of the line at a place.
@@ -100,7 +134,7 @@ impl Cache {
         requires word { word < 8 }
         ensures { self.new ≡ change_at i (clean_word word) self.old }
     {
-        clean_at(&mut self.lines, i, word);
+        self.lines.clean(i, word);
     }
 
     /// Clears the dirty bits of all words of the line at a place.
@@ -108,18 +142,17 @@ impl Cache {
         requires { i < length self.old }
         ensures { self.new ≡ change_at i clean_line self.old }
     {
-        clean_line_at(&mut self.lines, i);
+        self.lines.clean_all(i);
     }
 
-    /// Takes out the line at a place.
-    pub fn invalidate(&mut self, i: usize) -> CacheLine
+    /// Drops the line at a place.
+    pub fn invalidate(&mut self, i: usize)
         requires { i < length self.old }
-        ensures line { slice_get self.old i ≡ Some result }
-        ensures lines { self.new ≡ without_line result.number self.old }
+        ensures { self.new ≡ without_at i self.old }
     {
-        let line = take_at(&mut self.lines, i);
-        self.counts.remove(line.number);
-        line
+        let number = self.lines.get(i).number;
+        self.lines.remove(i);
+        self.counts.remove(number);
     }
 
     /// The first dirty word of the first line that has one: the place of the line, and the word.
@@ -130,10 +163,10 @@ impl Cache {
         ensures within { IfSome result (λ found. (found.0 < length self.now) × (found.1 < 8)) }
         ensures clean { IfNone result (first_dirty_line self.now ≡ None) }
     {
-        let Some(i) = first_with_dirty(self.lines.as_slice()) else {
+        let Some(i) = self.lines.first_with_dirty() else {
             return None;
         };
-        let Some(word) = first_word(self.lines.as_slice()[i].dirty) else {
+        let Some(word) = first_word(self.lines.get(i).dirty) else {
             return None;
         };
         Some((i, word))

@@ -1,8 +1,5 @@
-ghost use Rattle.std.specs.Prelude.{◌≡◌, ℕ, ◌<◌, ◌%◌, ◌==◌, not, replicate, slice_index_or, IfSome};
-ghost use Rattle.mt_cache.specs.declared.line.CacheLine.{CacheLine};
-ghost use Rattle.mt_cache.specs.Counts.{lowered, lowered_by, raised};
-
-use crate::line::CacheLine;
+ghost use Rattle.std.specs.Prelude.{◌≡◌, ℕ, ◌<◌, ◌%◌, ◌==◌, not, replicate, slice_index_or};
+ghost use Rattle.mt_cache.specs.Counts.{lowered, raised};
 
 /// How many lines of a cache have a number with each residue modulo 4096.
 #[derive(Drop)]
@@ -39,16 +36,6 @@ impl LineCounts {
         ensures { self.new.counts ≡ lowered number self.old.counts }
     {
         self.counts[(number % 4096) as usize] -= 1;
-    }
-
-    /// Counts the line that was pushed out, if any, no more.
-    pub(crate) fn remove_pushed_out(&mut self, oldest: Option<CacheLine>)
-        requires { IfSome oldest (λ l. 0 < slice_index_or self.old.counts (l.number % 4096) 0) }
-        ensures { self.new.counts ≡ lowered_by oldest self.old.counts }
-    {
-        if let Some(line) = oldest {
-            self.remove(line.number);
-        }
     }
 
     /// Counts no line.

@@ -6,6 +6,7 @@ mod cache;
 mod counts;
 mod line;
 mod places;
+mod slots;
 #[cfg(test)]
 mod tests;
 mod words;

@@ -1,11 +1,11 @@
 ghost use Rattle.std.specs.Prelude.{◌≡◌, ℕ, ◌<◌, ◌≤◌, [], ◌∷◌, ◌++◌, length, slice_get, None, Some};
 ghost use Rattle.std.specs.List.{position};
 ghost use Rattle.mt_cache.specs.declared.line.CacheLine.{CacheLine};
-ghost use Rattle.mt_cache.specs.Lines.{IsLine, clean_line, clean_word, find_line, has_number, oldest_of_full, without_line};
-ghost use Rattle.mt_cache.specs.Calls.{AreLines, change_at, has_dirty_word, with_room, write_word};
+ghost use Rattle.mt_cache.specs.Lines.{IsLine, find_line, has_number, oldest_of_full, without_line};
+ghost use Rattle.mt_cache.specs.Calls.{AreLines, change_at, with_room, write_word};
 
 use crate::line::CacheLine;
-use crate::words::{clean, clean_all, first_word, put};
+use crate::words::put;
 use arrayvec::ArrayVec;
 
 /// The place of the line of this number.
@@ -13,13 +13,6 @@ pub(crate) fn place_of(lines: &[CacheLine], number: u64) -> Option<usize>
     ensures { result ≡ position (has_number number) lines.now }
 {
     lines.iter().position(|l| l.number == number)
-}
-
-/// The place of the first line that has a dirty word.
-pub(crate) fn first_with_dirty(lines: &[CacheLine]) -> Option<usize>
-    ensures { result ≡ position has_dirty_word lines.now }
-{
-    lines.iter().position(|l| first_word(l.dirty).is_some())
 }
 
 /// Writes a word of the line at a place.
@@ -37,27 +30,6 @@ pub(crate) fn put_at<const N: usize>(
     ensures kept { AreLines lines.new.items }
 {
     put(&mut lines.as_mut_slice()[i], word, v, dirty);
-}
-
-/// Clears the dirty bit of a word of the line at a place.
-pub(crate) fn clean_at<const N: usize>(lines: &mut ArrayVec<CacheLine, N>, i: usize, word: u8)
-    requires kept { AreLines lines.old.items }
-    requires place { i < length lines.old.items }
-    requires word { word < 8 }
-    ensures lines { lines.new.items ≡ change_at i (clean_word word) lines.old.items }
-    ensures kept { AreLines lines.new.items }
-{
-    clean(&mut lines.as_mut_slice()[i], word);
-}
-
-/// Clears all dirty bits of the line at a place.
-pub(crate) fn clean_line_at<const N: usize>(lines: &mut ArrayVec<CacheLine, N>, i: usize)
-    requires kept { AreLines lines.old.items }
-    requires place { i < length lines.old.items }
-    ensures lines { lines.new.items ≡ change_at i clean_line lines.old.items }
-    ensures kept { AreLines lines.new.items }
-{
-    clean_all(&mut lines.as_mut_slice()[i]);
 }
 
 /// Takes out the line at a place.

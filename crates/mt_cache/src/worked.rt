@@ -1,7 +1,7 @@
 ghost use Rattle.std.specs.Prelude.{◌≡◌, false, true, [], ◌∷◌, ◌++◌, None, Some, length, map, replicate, slice_get};
 ghost use Rattle.std.specs.Option.{option_map};
 ghost use Rattle.mt_cache.specs.Lines.{clean_word, first_dirty_line, first_dirty_word, oldest_of_full, without_line};
-ghost use Rattle.mt_cache.specs.Calls.{change_at, handed_back, left_by_combine, with_room, write_word};
+ghost use Rattle.mt_cache.specs.Calls.{change_at, handed_back, left_by_combine, with_room, without_at, write_word};
 ghost use Rattle.mt_cache.specs.WorkedLists.{four, mixed, numbers, seven_words, zeros, zeros_from};
 
 /// Worked fills: the oldest line goes exactly where 64 stand.
@@ -19,6 +19,8 @@ pub fn worked_writes()
     ensures value { map (λ l. l.words) (change_at 2 (write_word 7 9 false) mixed) ≡ replicate 8 0 ∷ (10 ∷ 11 ∷ 12 ∷ 13 ∷ 14 ∷ 15 ∷ 16 ∷ 17 ∷ []) ∷ (20 ∷ 21 ∷ 22 ∷ 23 ∷ 24 ∷ 25 ∷ 26 ∷ 9 ∷ []) ∷ [] }
     ensures cleaned { map (λ l. l.dirty) (change_at 1 (clean_word 0) mixed) ≡ 0 ∷ 0x04 ∷ 0x02 ∷ [] }
     ensures gone { numbers (without_line 5 mixed) ≡ 9 ∷ 7 ∷ [] }
+    ensures gone_at { numbers (without_at 1 mixed) ≡ 9 ∷ 7 ∷ [] }
+    ensures past_the_last { without_at 3 mixed ≡ mixed }
 {}
 
 /// Worked searches for the first dirty word.

@@ -3,7 +3,7 @@ use Rattle.std.proofs.Common.{◌≡◌, ℕ, suc, ◌+◌, ◌-◌, ◌*◌, �
 use Rattle.std.specs.Prelude.{if◌then◌else◌, slice_get}
 use Rattle.std.specs.List.{All}
 use Rattle.std.specs.Option.{option_map, option_map_or}
-use Rattle.std.proofs.lemmas.Option.{slice_get-get_or}
+use Rattle.std.proofs.lemmas.Option.{get_or_from_slice_get, slice_get_within}
 use Rattle.mt_regs.specs.RegisterFile.{IsRegisterFile, RegisterFile}
 use Rattle.mt_regs.specs.declared.registers.Register.{Register}
 use Rattle.mt_regs.specs.declared.registers.Register.TheVariants.{DefaultType}
@@ -27,42 +27,34 @@ use Rattle.mt_cpu.specs.Steps.{HasFirst}
 -- ---- a dirty word is written back
 
 -- what a list's element is past the end of the list
-abbrev pub no_line : CacheLine
-no_line = record { number = 0; words = []; dirty = 0; era = 0 }
-
 pub line_of_word : (n w : ℕ) → w < 8 → (64 * n + 8 * w) / 64 ≡ n
 line_of_word n w within = omega arith
 
 pub word_in_line : (n w : ℕ) → w < 8 → word_of (64 * n + 8 * w) ≡ w
 word_in_line n w within = omega arith
 
-pub event_of : (ls shown : List CacheLine) (i word : ℕ) (d : CacheLine) → shown ≡ ls → i < length ls → slice_get ls i ≡ first_dirty_line ls → option_map first_dirty_word (first_dirty_line ls) ≡ Some (Some word)
-    → WriteBack (64 * (get_or shown i d).number + 8 * word) (get_or (get_or shown i d).words word 0) ≡ option_map_or write_back_event (first_dirty_line ls) DropLines
-event_of ls shown i word d same within line dirty =
-    ap (λ (xs : List CacheLine). WriteBack (64 * (get_or xs i d).number + 8 * word) (get_or (get_or xs i d).words word 0)) same
-    ∙ sym (ap (λ (o : Option CacheLine). option_map_or write_back_event o DropLines) at
+pub event_of : (ls : List CacheLine) (i word : ℕ) (l : CacheLine) → slice_get ls i ≡ Some l → slice_get ls i ≡ first_dirty_line ls → option_map first_dirty_word (first_dirty_line ls) ≡ Some (Some word)
+    → WriteBack (64 * l.number + 8 * word) (get_or l.words word 0) ≡ option_map_or write_back_event (first_dirty_line ls) DropLines
+event_of ls i word l here line dirty =
+    sym (ap (λ (o : Option CacheLine). option_map_or write_back_event o DropLines) at
     ∙ ap (λ (o : Option ℕ). option_map_or (λ w. WriteBack (64 * l.number + 8 * w) (get_or l.words w 0)) o DropLines) first)
   where
-    l : CacheLine
-    l = get_or ls i d
-
     at : first_dirty_line ls ≡ Some l
-    at = sym line ∙ slice_get-get_or ls i d within
+    at = sym line ∙ here
 
     first : first_dirty_word l ≡ Some word
     first = let h : Some (first_dirty_word l) ≡ Some (Some word) = sym (ap (option_map first_dirty_word) at) ∙ dirty in cc
 
-pub cleaned : (ls shown : List CacheLine) (i word : ℕ) (d : CacheLine) → shown ≡ ls → i < length ls → word < 8
-    → change_at i (clean_word word) ls ≡ change_line ((64 * (get_or shown i d).number + 8 * word) / 64) (clean_word (word_of (64 * (get_or shown i d).number + 8 * word))) ls
-cleaned ls shown i word d same within small =
-    ap (λ (o : Option CacheLine). option_map_or (λ (l : CacheLine). change_line l.number (clean_word word) ls) o ls) (slice_get-get_or ls i d within)
-    ∙ ap (λ (xs : List CacheLine). change_line (get_or xs i d).number (clean_word word) ls) (sym same)
-    ∙ ap (λ n. change_line n (clean_word word) ls) (sym (line_of_word (get_or shown i d).number word small))
-    ∙ ap (λ w. change_line ((64 * (get_or shown i d).number + 8 * word) / 64) (clean_word w) ls) (sym (word_in_line (get_or shown i d).number word small))
+pub cleaned : (ls : List CacheLine) (i word : ℕ) (l : CacheLine) → slice_get ls i ≡ Some l → word < 8
+    → change_at i (clean_word word) ls ≡ change_line ((64 * l.number + 8 * word) / 64) (clean_word (word_of (64 * l.number + 8 * word))) ls
+cleaned ls i word l here small =
+    ap (λ (o : Option CacheLine). option_map_or (λ (k : CacheLine). change_line k.number (clean_word word) ls) o ls) here
+    ∙ ap (λ n. change_line n (clean_word word) ls) (sym (line_of_word l.number word small))
+    ∙ ap (λ w. change_line ((64 * l.number + 8 * word) / 64) (clean_word w) ls) (sym (word_in_line l.number word small))
 
-pub number_within : (ls now shown : List CacheLine) (i : ℕ) → ls ≡ now → shown ≡ ls → i < length ls → All (λ l. l.number < 2 ^ 46) now → (get_or shown i no_line).number < 2 ^ 46
-number_within ls now shown i seen same within small =
-    subst (λ (xs : List CacheLine). (get_or xs i no_line).number < 2 ^ 46) (sym same) (subst (λ (xs : List CacheLine). All (λ l. l.number < 2 ^ 46) xs) (sym seen) small i no_line within)
+pub number_within : (ls now : List CacheLine) (i : ℕ) (l : CacheLine) → ls ≡ now → slice_get ls i ≡ Some l → All (λ k. k.number < 2 ^ 46) now → l.number < 2 ^ 46
+number_within ls now i l seen here small =
+    subst (λ (k : CacheLine). k.number < 2 ^ 46) (get_or_from_slice_get ls i l l here) (subst (λ (xs : List CacheLine). All (λ k. k.number < 2 ^ 46) xs) (sym seen) small i l (slice_get_within ls i l here))
 
 -- ---- the TLB is flushed
 

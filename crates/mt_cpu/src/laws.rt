@@ -9,6 +9,6 @@ pub fn a_processor_is_whole(cpu: &Cpu)
     cpu.regs.is_register_file(); // a fact for the proof
     let _ = cpu.maps.list(); // a fact for the proof
     let _ = cpu.tlb.entries(); // a fact for the proof
-    let _ = cpu.cache.lines(); // a fact for the proof
+    let _ = cpu.cache.len(); // a fact for the proof
     let _ = cpu.buffers.lines(); // a fact for the proof
 }

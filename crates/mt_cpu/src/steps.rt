@@ -72,12 +72,11 @@ impl Cpu {
             self.drop_lines();
             return Event::DropLines;
         };
-        let line = self.cache.lines()[i];
+        let line = self.cache.nth(i);
+        let address = LINE_BYTES * line.number + WORD_BYTES * word as u64;
+        let value = line.words[word as usize];
         self.cache.clean_word(i, word);
-        Event::WriteBack {
-            address: LINE_BYTES * line.number + WORD_BYTES * word as u64,
-            value: line.words[word as usize],
-        }
+        Event::WriteBack { address, value }
     }
 
     // PGE is remembered and cleared, and all entries go. With PGE clear a reload of CR3 drops all.

@@ -107,14 +107,14 @@ fn the_cache_and_the_buffers_are_lent(rt: HostRuntime) {
     if cpu.cache().find(5).is_none() {
         cpu.cache_mut().fill(5, [0; 8], 0);
     }
-    assert_eq!(rt; cpu.cache().lines().len(), 1);
+    assert_eq!(rt; cpu.cache().len(), 1);
     assert_eq!(rt; cpu.maps().list().len(), 0);
 }
 
 /// The processor's next event, where it isn't past its first register.
 fn local(cpu: &mut Cpu, goal: &RegFile) -> Option<Event> {
     let fits = goal.maxphy == cpu.regs().maxphy && goal.cap == cpu.regs().cap;
-    if !fits || goal.first_fault().is_some() || !cpu.cache().lines().is_empty() {
+    if !fits || goal.first_fault().is_some() || cpu.cache().len() > 0 {
         return None;
     }
     match cpu.phase() {

@@ -4,8 +4,7 @@ use Rattle.mt_bus.proofs.copies.write_copy.Goals as goal
 
 pub returns-in-Some : goal.returns-in-Some
 returns-in-Some c =
-    c.write_back.ensures
-    ∙ sym (back_at c.args.number c.in-Some.i c.args.ram.now c.args.cache.now c.lines-lines.result.now _ c.lines-lines.ensures.value c.lines-lines.ensures.distinct c.in-Some.ensures.place c.in-Some.ensures.line)
+    c.write_back.ensures ∙ sym (back_at c.args.number c.in-Some.i c.args.ram.now c.args.cache.now _ c.in-Some.ensures.distinct c.nth.ensures c.in-Some.ensures.line)
 
 pub returns-in_default : goal.returns-in_default
-returns-in_default c = sym (back_absent c.args.number c.args.ram.now c.args.cache.now c.lines-lines.ensures.distinct c.in_default.ensures.absent)
+returns-in_default c = sym (back_absent c.args.number c.args.ram.now c.args.cache.now c.in_default.ensures.distinct c.in_default.ensures.absent)

@@ -1,10 +1,8 @@
-use Rattle.std.proofs.Common.{◌∙◌, ap, sym}
-use Rattle.std.specs.List.{fold}
-use Rattle.mt_machine.specs.Memory.{write_back_word}
-use Rattle.mt_bus.proofs.Places.{eight_more}
+use Rattle.mt_bus.proofs.Places.{clean_stays, nowhere_stays}
 use Rattle.mt_bus.proofs.words.write_back.Goals as goal
 
-pub loop-word-preserved : goal.loop-word-preserved
-loop-word-preserved c =
-    rw c.write_back_word.ensures
-    (sym (ap (fold (write_back_word c.args.line.now) c.loop-word.ram) (eight_more c.loop-word.word c.loop-word-test.true)) ∙ c.loop-word.invariant)
+pub returns-then-line-eq0 : goal.returns-then-line-eq0
+returns-then-line-eq0 c = clean_stays c.args.ram.now c.args.line.now c.if-line-eq0.true
+
+pub returns-in_default : goal.returns-in_default
+returns-in_default c = nowhere_stays c.args.ram.now c.args.line.now c.in_default.ensures.places

@@ -17,10 +17,10 @@ returns c = subst IsProcessor c.cpu.view_is (record {
   flushed = c.cpu.invariant.flushed;
   few_entries = c.entries.ensures.room;
   distinct_entries = c.entries.ensures.apart;
-  few_lines = c.lines.ensures.room;
-  distinct_lines = c.lines.ensures.distinct;
-  whole_lines = c.lines.ensures.whole;
-  few_buffers = c.lines-2.ensures.room;
-  distinct_buffers = c.lines-2.ensures.distinct;
-  whole_buffers = c.lines-2.ensures.whole;
+  few_lines = c.len.ensures.room;
+  distinct_lines = c.len.ensures.distinct;
+  whole_lines = c.len.ensures.whole;
+  few_buffers = c.lines.ensures.room;
+  distinct_buffers = c.lines.ensures.distinct;
+  whole_buffers = c.lines.ensures.whole;
 })
