@@ -101,6 +101,13 @@ ended_front rest count is = elim (told rest (count, true) is) [
   | inr away ↦ let e : true ≡ false = ap (λ (f : ℕ × Bool). f.1) away.0 in cc e
 ]
 
+-- a line that an LF ends isn't too long
+pub front_few : (bytes : List ℕ) (count : ℕ) → known_front bytes ≡ Some (count, true) → count ≤ 4096
+front_few bytes count is = elim (told bytes (count, true) is) [
+  | inl near_by ↦ let e : count ≡ reach bytes = ap (λ (f : ℕ × Bool). f.0) near_by.0 in omega (arith, e, near_by.2)
+  | inr away ↦ let e : true ≡ false = ap (λ (f : ℕ × Bool). f.1) away.0 in cc e
+]
+
 pub last_front : (rest : List ℕ) → known_front rest ≡ None → 1 ≤ length rest → lines_of rest ≡ rest ∷ []
 last_front rest is some =
     let all = untold rest is in

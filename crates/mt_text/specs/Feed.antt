@@ -3,9 +3,9 @@
 --     moved_on feed front      the feed after it has lent them
 --     taken feed      how many bytes it has taken
 -- A line of more than 4,096 bytes is lent in its first 4,097; what follows them stays pending.
-use Rattle.std.specs.Prelude.{ℕ, ◌+◌, ◌≡◌, ◌≤◌, ◌<◌, ◌⊎◌, ◌↔◌, ◌++◌, nat_lt, Bool, true, false, List, [], length, take, drop, position, slice_range, if◌then◌else◌, Option, Some, None, Result, MatchResult, MatchOption}
+use Rattle.std.specs.Prelude.{ℕ, ◌+◌, ◌≡◌, ◌≤◌, ◌<◌, ◌⊎◌, ◌↔◌, ◌++◌, nat_lt, Bool, true, false, List, [], ◌∷◌, length, take, drop, position, slice_range, if◌then◌else◌, Option, Some, None, Result, MatchResult, MatchOption}
 use Rattle.std.specs.Io.KnownBytes.{Consumes, IsAtEnd, Keeps}
-use Rattle.mt_text.specs.Text.{is_line_end}
+use Rattle.mt_text.specs.Text.{is_line_end, lines_of}
 use Rattle.mt_text.specs.declared.line.Line.{Line}
 use Rattle.mt_text.specs.declared.place.Place.{Place}
 use Rattle.mt_text.specs.declared.fault.FeedFault.{FeedFault}
@@ -96,6 +96,23 @@ LinesAre old new seen left result = MatchResult result
 abbrev pub Lines : Feeding → Feeding → Option (List ℕ) → Option (List ℕ) → ℕ → ℕ → Result (Option Line) FeedFault → Type 0
 Lines old new left after given_before given_after result =
     (more : List ℕ) × Consumes left after more × (given_after ≡ given_before + length more) × LinesAre old new (old.pending ++ more) after result
+
+-- A line that is lent is the first of all bytes that are left, which are those that are pending and those that the source has left behind them. A line too long is lent in its first
+-- 4,097 bytes, and a reader stops there. Behind any other the next lines are those of the bytes that are left then, and the next number is one more.
+pub record LendsFirst (old new : Feeding) (before after : List ℕ) (line : Line) : Type 0 where
+  pub first : List ℕ
+  pub others : List (List ℕ)
+  pub lines : lines_of (old.pending ++ before) ≡ first ∷ others
+  pub bytes : line.bytes.now ≡ take 4097 first
+  pub number : line.number ≡ old.place.line
+  pub rest : length first ≤ 4096 → lines_of (new.pending ++ after) ≡ others
+  pub next : length first ≤ 4096 → (others ≡ []) ⊎ (new.place.line ≡ old.place.line + 1)
+
+-- what a call lends of all bytes that are left; at a fault they stay as they were
+abbrev pub LendsLines : Feeding → Feeding → List ℕ → List ℕ → Result (Option Line) FeedFault → Type 0
+LendsLines old new before after result = MatchResult result
+    (λ answer. MatchOption answer ((old.pending ++ before ≡ []) × (new.pending ++ after ≡ [])) (LendsFirst old new before after))
+    (λ _. new.pending ++ after ≡ old.pending ++ before)
 
 -- a read has put more bytes behind the pending ones, none only at the end, or nothing where it failed
 abbrev pub Reads : {E : Type 0} → List ℕ → List ℕ → Option (List ℕ) → Option (List ℕ) → Result ℕ E → Type 0
