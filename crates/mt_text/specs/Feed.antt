@@ -45,6 +45,10 @@ at_start = record {
   fault = None;
 }
 
+-- a feed, for worked runs, with these bytes pending at the front of a line
+abbrev pub behind_a_line : ℕ → List ℕ → Feeding
+behind_a_line number bytes = record at_start { pending = bytes; place = record { line = number; column = 1 } }
+
 -- the bytes of a front, and the LF that ends it
 abbrev pub with_end : ℕ × Bool → ℕ
 with_end front = front.0 + (if front.1 then 1 else 0)
