@@ -36,6 +36,10 @@ pub record Feeding : Type 0 where
 abbrev pub taken : Feeding → ℕ
 taken feed = feed.offset + length feed.pending
 
+-- the fault that a feed has answered is TooLong exactly where it has taken more bytes than the limit
+abbrev pub IsLong : Feeding → Type 0
+IsLong feed = (feed.fault ≡ Some TooLong) ↔ (16777216 < taken feed)
+
 abbrev pub at_start : Feeding
 at_start = record {
   line = record { bytes = []; offset = 0; number = 1 };
@@ -99,7 +103,7 @@ LinesAre old new seen left result = MatchResult result
 -- A call that asks for the next line: what it has taken from the source, and what the feed is then.
 abbrev pub Lines : Feeding → Feeding → Option (List ℕ) → Option (List ℕ) → ℕ → ℕ → Result (Option Line) FeedFault → Type 0
 Lines old new left after given_before given_after result =
-    (more : List ℕ) × Consumes left after more × (given_after ≡ given_before + length more) × LinesAre old new (old.pending ++ more) after result
+    (more : List ℕ) × Consumes left after more × (given_after ≡ given_before + length more) × LinesAre old new (old.pending ++ more) after result × IsLong new
 
 -- A line that is lent is the first of all bytes that are left, which are those that are pending and those that the source has left behind them. A line too long is lent in its first
 -- 4,097 bytes, and a reader stops there. Behind any other the next lines are those of the bytes that are left then, and the next number is one more.
@@ -137,7 +141,7 @@ pub record IsFeeding (feed : Feeding) : Type 0 where
   pub lines : feed.place.line ≤ feed.offset + 1
   pub columns : feed.place.column ≤ feed.offset + 1
   pub bound : taken feed ≤ 16777216 + 8192
-  pub long : (feed.fault ≡ Some TooLong) ↔ (16777216 < taken feed)
+  pub long : IsLong feed
 
 -- what a buffer holds: the line that was lent last, and what is pending
 abbrev pub lent : Buffer → List ℕ
