@@ -9,7 +9,8 @@ use crate::line::read_line;
 use crate::said::Said;
 use crate::{DumpFault, DumpReason};
 use mt_regs::{CAPABILITIES, FIRST_PAIR, RegFile};
-use mt_text::{Line, Place, end_place, next_line};
+use mt_ports::Source;
+use mt_text::{Feed, FeedFault, Line, Place, end_place, next_line};
 use std::marker::Model;
 
 const CAP: u64 = CAPABILITIES as u64;
@@ -204,4 +205,29 @@ pub fn read_dump(source: &[u8]) -> Result<RegFile, DumpFault>
         end_place(source)
     };
     reader.finish(end)
+}
+
+/// The file that the bytes of a source show, or their first offence. The feed has taken nothing yet.
+/// Behind an offence the rest is read too, so that a fault of the feed comes before it.
+pub fn read_dump_from<S: Source>(
+    feed: &mut Feed,
+    source: &mut S,
+) -> Result<Result<RegFile, DumpFault>, FeedFault>
+    requires { feed.old ≡ at_start }
+    ensures answer { (bytes : List ℕ) → S.left source.old ≡ Some bytes → IfOk result (λ answer. MatchResult answer (λ file. Shown bytes file) (λ fault. dump_offence bytes ≡ Some fault)) }
+    ensures end { IfOk result (λ _. IsAtEnd (S.left source.new) × (feed.new.fault ≡ None)) }
+    ensures fault { IfErr result (λ fault. feed.new.fault ≡ Some fault) }
+    ensures counted { S.given source.new ≡ S.given source.old + taken feed.new }
+    ensures long { IsLong feed.new }
+    ensures failed { IsErrOf result FeedFault.ReadFault → Rose (S.faults source.old) (S.faults source.new) }
+    ensures stands { (IsErrOf result FeedFault.ReadFault → ⊥) → S.faults source.new ≡ S.faults source.old }
+{
+    let mut reader = DumpReader::new();
+    'lines: while let Some(line) = feed.line(source)? {
+        if let Err(fault) = reader.take(&line) {
+            feed.drain(source)?;
+            return Ok(Err(fault));
+        }
+    }
+    Ok(reader.finish(feed.end()))
 }
