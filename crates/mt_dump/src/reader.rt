@@ -12,8 +12,8 @@ ghost use Rattle.mt_dump.specs.Reader.{HasRead, onto};
 use crate::line::read_line;
 use crate::said::Said;
 use crate::{DumpFault, DumpReason};
-use mt_regs::{CAPABILITIES, FIRST_PAIR, RegFile};
 use mt_ports::Source;
+use mt_regs::{CAPABILITIES, FIRST_PAIR, RegFile};
 use mt_text::{Feed, FeedFault, Line, Place, end_place, next_line};
 use std::marker::Model;
 
@@ -234,4 +234,18 @@ fn read_lines<S: Source>(
         }
     }
     Ok(reader.finish(feed.end()))
+}
+
+/// The file that the bytes of a source show, or their first offence, line by line out of one
+/// buffer. Behind an offence the rest is read too, so that a failed read and too many bytes come
+/// before it.
+pub fn read_dump_from<S: Source>(source: &mut S) -> Result<Result<RegFile, DumpFault>, FeedFault>
+    ensures answer { (bytes : List ℕ) → S.left source.old ≡ Some bytes → IfOk result (λ answer. MatchResult answer (λ file. Shown bytes file) (λ fault. dump_offence bytes ≡ Some fault)) }
+    ensures end { IfOk result (λ _. IsAtEnd (S.left source.new)) }
+    ensures too_long { IsErrOf result FeedFault.TooLong ↔ GaveTooMuch (S.given source.old) (S.given source.new) }
+    ensures long { (bytes : List ℕ) → S.left source.old ≡ Some bytes → IsErrOf result FeedFault.TooLong → 16777216 < length bytes }
+    ensures failed { IsErrOf result FeedFault.ReadFault → Rose (S.faults source.old) (S.faults source.new) }
+    ensures stands { (IsErrOf result FeedFault.ReadFault → ⊥) → S.faults source.new ≡ S.faults source.old }
+{
+    read_lines(&mut Feed::new(), source)
 }
