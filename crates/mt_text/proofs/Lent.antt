@@ -3,13 +3,13 @@ use Rattle.std.proofs.Common.{◌≡◌, ℕ, ◌+◌, ◌<◌, ◌≤◌, Bool,
 use Rattle.std.specs.Prelude.{Result, Ok, Err}
 use Rattle.std.specs.List.{before_first, after_first, position_or_len}
 use Rattle.std.proofs.Math.Seq.{drop-length, take-length}
-use Rattle.std.proofs.lemmas.List.{append-nil, drop-append-le, length-take-le, take-append-le, take-take, take_all}
-use Rattle.mt_text.specs.Text.{is_line_end, lines_of}
-use Rattle.mt_text.specs.Feed.{Feeding, IsFront, IsLent, LendsFirst, LendsLines, Lines, LinesAre, known_front, moved_on}
+use Rattle.std.proofs.lemmas.List.{append-nil, drop-append-le, length-append, length-drop, take-append-drop, length-take-le, take-append-le, take-take, take_all}
+use Rattle.mt_text.specs.Text.{end_of, is_line_end, lines_of}
+use Rattle.mt_text.specs.Feed.{Feeding, IsFront, IsLent, LendsFirst, LendsLines, Lines, LinesAre, known_front, moved_on, place_after, taken, with_end}
 use Rattle.mt_text.specs.declared.line.Line.{Line}
 use Rattle.mt_text.specs.declared.fault.FeedFault.{FeedFault}
 use Rattle.mt_text.proofs.Feeding.{front_within, unknown_few}
-use Rattle.mt_text.proofs.Fronts.{ended_front, front_few, last_front, long_front, seen_tells}
+use Rattle.mt_text.proofs.Fronts.{ended_front, front_few, last_front, long_front, place_of_front, seen_tells}
 use Rattle.mt_text.proofs.LineSteps.{lines_of-first}
 use Rattle.mt_text.proofs.Places.{position_within}
 
@@ -100,6 +100,49 @@ lends_lines old new before None given_before given_after result lines = absurd l
 lends_lines old new before (Some after) given_before given_after result lines =
     let same : old.pending ++ before ≡ (old.pending ++ lines.0) ++ after = ap (λ l. old.pending ++ l) lines.1 ∙ sym (append_assoc old.pending lines.0 after) in
     (after, refl, lends old new before (old.pending ++ lines.0) after result same lines.3)
+
+-- a front that is lent lies in the bytes that were seen
+front_inside : (seen : List ℕ) (left : Option (List ℕ)) (front : ℕ × Bool) → IsFront seen left front → with_end front ≤ length seen
+front_inside seen left front (inl known) = front_within seen front known
+front_inside seen left front (inr end) = rw end.3 (omega arith)
+
+counts_moved : (old new : Feeding) (seen : List ℕ) (left : Option (List ℕ)) (front : ℕ × Bool) → IsFront seen left front → new ≡ moved old seen front → taken new ≡ old.offset + length seen
+counts_moved old new seen left front is moved_is = rw moved_is (omega (arith, front_inside seen left front is, length-drop (with_end front) seen))
+
+counts : (old new : Feeding) (seen : List ℕ) (left : Option (List ℕ)) (result : Result (Option Line) FeedFault) → LinesAre old new seen left result → taken new ≡ old.offset + length seen
+counts old new seen left (Ok None) are = omega (arith, ap length are.0, ap length are.2, are.3)
+counts old new seen left (Ok (Some line)) are = counts_moved old new seen left are.0.0 are.0.1 are.0.2
+counts old new seen left (Err fault) are = omega (arith, ap length are.0, are.1)
+
+-- what a feed has taken goes up with what the source has given
+pub counted : (old new : Feeding) (before left : Option (List ℕ)) (given_before given_after : ℕ) (result : Result (Option Line) FeedFault) → Lines old new before left given_before given_after result
+    → given_before + taken new ≡ given_after + taken old
+counted old new before left given_before given_after result lines =
+    omega (arith, lines.2, counts old new (old.pending ++ lines.0) left result lines.3, length-append old.pending lines.0)
+
+-- The bytes that a call has passed over, and the place behind them.
+abbrev pub Passes : Feeding → Feeding → List ℕ → List ℕ → List ℕ → Type 0
+Passes old new before after gone = (old.pending ++ before ≡ gone ++ (new.pending ++ after)) × ((past : List ℕ) → old.place ≡ end_of past → new.place ≡ end_of (past ++ gone))
+
+passes_none : (old new : Feeding) (before after : List ℕ) → old.pending ++ before ≡ new.pending ++ after → new.place ≡ old.place → Passes old new before after []
+passes_none old new before after same place = (same, λ past at. place ∙ at ∙ ap end_of (sym (append-nil past)))
+
+passes_front : (old new : Feeding) (before seen after : List ℕ) (front : ℕ × Bool) → old.pending ++ before ≡ seen ++ after → IsFront seen (Some after) front → new ≡ moved old seen front → Passes old new before after (take (with_end front) seen)
+passes_front old new before seen after front same is moved_is =
+    let parts = ap (λ l. l ++ after) (sym (take-append-drop (with_end front) seen)) ∙ append_assoc (take (with_end front) seen) (drop (with_end front) seen) after in (
+      same ∙ parts ∙ ap (λ f. take (with_end front) seen ++ (f.pending ++ after)) (sym moved_is),
+      λ past at. ap (λ f. f.place) moved_is ∙ ap (λ p. place_after p front) at ∙ place_of_front past seen (Some after) front is,
+    )
+
+passes_seen : (old new : Feeding) (before seen after : List ℕ) (result : Result (Option Line) FeedFault) → old.pending ++ before ≡ seen ++ after → LinesAre old new seen (Some after) result → (gone : List ℕ) × Passes old new before after gone
+passes_seen old new before seen after (Ok None) same are = ([], passes_none old new before after (same ∙ ap (λ l. l ++ after) (are.0 ∙ sym are.2)) are.4)
+passes_seen old new before seen after (Ok (Some line)) same are = (take (with_end are.0.0) seen, passes_front old new before seen after are.0.0 same are.0.1 are.0.2)
+passes_seen old new before seen after (Err fault) same are = ([], passes_none old new before after (same ∙ ap (λ l. l ++ after) (sym are.0)) are.2)
+
+pub passes : (old new : Feeding) (before after : List ℕ) (given_before given_after : ℕ) (result : Result (Option Line) FeedFault) → Lines old new (Some before) (Some after) given_before given_after result
+    → (gone : List ℕ) × Passes old new before after gone
+passes old new before after given_before given_after result lines =
+    passes_seen old new before (old.pending ++ lines.0) after result (ap (λ l. old.pending ++ l) lines.1 ∙ sym (append_assoc old.pending lines.0 after)) lines.3
 
 -- What is told of numbered lines, nothing of none whatever the number, is the same behind a line that isn't too long.
 module _ {A : Type 0} (told : ℕ → List (List ℕ) → A) (none : (m n : ℕ) → told m [] ≡ told n []) where

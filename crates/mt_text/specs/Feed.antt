@@ -3,7 +3,7 @@
 --     moved_on feed front      the feed after it has lent them
 --     taken feed      how many bytes it has taken
 -- A line of more than 4,096 bytes is lent in its first 4,097; what follows them stays pending.
-use Rattle.std.specs.Prelude.{ℕ, ◌+◌, ◌≡◌, ◌≤◌, ◌<◌, ◌⊎◌, ◌↔◌, ◌++◌, nat_lt, Bool, true, false, List, [], ◌∷◌, length, take, drop, position, slice_range, if◌then◌else◌, Option, Some, None, Result, MatchResult, MatchOption}
+use Rattle.std.specs.Prelude.{ℕ, ◌+◌, ◌≡◌, ◌≤◌, ◌<◌, ◌⊎◌, ◌↔◌, ◌++◌, ◌&&◌, ◌==◌, nat_lt, not, Bool, true, false, List, [], ◌∷◌, length, take, drop, position, slice_range, if◌then◌else◌, Option, Some, None, Result, MatchResult, MatchOption}
 use Rattle.std.specs.Io.KnownBytes.{Consumes, IsAtEnd, Keeps}
 use Rattle.mt_text.specs.Text.{is_line_end, lines_of}
 use Rattle.mt_text.specs.declared.line.Line.{Line}
@@ -35,6 +35,10 @@ pub record Feeding : Type 0 where
 
 abbrev pub taken : Feeding → ℕ
 taken feed = feed.offset + length feed.pending
+
+-- the fault that a feed has answered is TooLong exactly where it has taken more bytes than the limit
+abbrev pub IsLong : Feeding → Type 0
+IsLong feed = (feed.fault ≡ Some TooLong) ↔ (16777216 < taken feed)
 
 abbrev pub at_start : Feeding
 at_start = record {
@@ -77,6 +81,15 @@ abbrev pub Moves : Feeding → Feeding → List ℕ → Option (List ℕ) → Bo
 Moves old new seen left true = (front : ℕ × Bool) × IsFront seen left front × (new ≡ moved_on (record old { pending = seen }) front)
 Moves old new seen left false = (seen ≡ []) × IsAtEnd left × (new.pending ≡ []) × (new.offset ≡ old.offset) × (new.place ≡ old.place) × (new.fault ≡ old.fault)
 
+-- a call has moved on by a line whose end is pending, or there is none
+abbrev pub MovesPending : Feeding → Feeding → Bool → Type 0
+MovesPending old new true = (front : ℕ × Bool) × (known_front old.pending ≡ Some front) × (old.fault ≡ None) × (new ≡ moved_on old front)
+MovesPending old new false = (new ≡ old) × (old.fault ≡ None → known_front old.pending ≡ None)
+
+-- the line that was lent last has no LF behind it, and isn't too long
+abbrev pub is_last : Feeding → Bool
+is_last feed = not (nat_lt 4096 (length feed.line.bytes)) && (feed.offset == feed.line.offset + length feed.line.bytes)
+
 -- The bytes that it has seen are pending, and nothing is lent. After a failed read they tell no line, so each known line was lent.
 abbrev pub Stops : Feeding → Feeding → List ℕ → FeedFault → Type 0
 Stops old new seen fault =
@@ -99,7 +112,7 @@ LinesAre old new seen left result = MatchResult result
 -- A call that asks for the next line: what it has taken from the source, and what the feed is then.
 abbrev pub Lines : Feeding → Feeding → Option (List ℕ) → Option (List ℕ) → ℕ → ℕ → Result (Option Line) FeedFault → Type 0
 Lines old new left after given_before given_after result =
-    (more : List ℕ) × Consumes left after more × (given_after ≡ given_before + length more) × LinesAre old new (old.pending ++ more) after result
+    (more : List ℕ) × Consumes left after more × (given_after ≡ given_before + length more) × LinesAre old new (old.pending ++ more) after result × IsLong new
 
 -- A line that is lent is the first of all bytes that are left, which are those that are pending and those that the source has left behind them. A line too long is lent in its first
 -- 4,097 bytes, and a reader stops there. Behind any other the next lines are those of the bytes that are left then, and the next number is one more.
@@ -137,7 +150,7 @@ pub record IsFeeding (feed : Feeding) : Type 0 where
   pub lines : feed.place.line ≤ feed.offset + 1
   pub columns : feed.place.column ≤ feed.offset + 1
   pub bound : taken feed ≤ 16777216 + 8192
-  pub long : (feed.fault ≡ Some TooLong) ↔ (16777216 < taken feed)
+  pub long : IsLong feed
 
 -- what a buffer holds: the line that was lent last, and what is pending
 abbrev pub lent : Buffer → List ℕ
