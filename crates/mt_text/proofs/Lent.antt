@@ -4,8 +4,9 @@ use Rattle.std.specs.Prelude.{Result, Ok, Err}
 use Rattle.std.specs.List.{before_first, after_first, position_or_len}
 use Rattle.std.proofs.Math.Seq.{drop-length, take-length}
 use Rattle.std.proofs.lemmas.List.{append-nil, drop-append-le, length-append, length-drop, take-append-drop, length-take-le, take-append-le, take-take, take_all}
+use Rattle.std.proofs.lemmas.Bool.{cases_lt}
 use Rattle.mt_text.specs.Text.{end_of, is_line_end, lines_of}
-use Rattle.mt_text.specs.Feed.{Feeding, IsFront, IsLent, LendsFirst, LendsLines, Lines, LinesAre, known_front, moved_on, place_after, taken, with_end}
+use Rattle.mt_text.specs.Feed.{Feeding, IsFront, IsLent, IsLong, LendsFirst, LendsLines, Lines, LinesAre, known_front, moved_on, place_after, taken, with_end}
 use Rattle.mt_text.specs.declared.line.Line.{Line}
 use Rattle.mt_text.specs.declared.fault.FeedFault.{FeedFault}
 use Rattle.mt_text.proofs.Feeding.{front_within, unknown_few}
@@ -100,6 +101,27 @@ lends_lines old new before None given_before given_after result lines = absurd l
 lends_lines old new before (Some after) given_before given_after result lines =
     let same : old.pending ++ before ≡ (old.pending ++ lines.0) ++ after = ap (λ l. old.pending ++ l) lines.1 ∙ sym (append_assoc old.pending lines.0 after) in
     (after, refl, lends old new before (old.pending ++ lines.0) after result same lines.3)
+
+-- a feed without a fault has taken no more than the limit
+pub within_limit : (feed : Feeding) → IsLong feed → feed.fault ≡ None → taken feed ≤ 16777216
+within_limit feed long none = elim (cases_lt 16777216 (taken feed)) [
+  | inl more ↦ let e = sym none ∙ long.1 more in cc e
+  | inr few ↦ few
+]
+
+some_front : (seen : List ℕ) (left : Option (List ℕ)) (front : ℕ × Bool) → IsFront seen left front → 1 ≤ with_end front
+some_front seen left front (inl known) = by front known
+  where
+    by : (front : ℕ × Bool) → known_front seen ≡ Some front → 1 ≤ with_end front
+    by (count, true) known = omega arith
+    by (count, false) known = omega (arith, (long_front seen count known).0)
+some_front seen left front (inr end) = rw end.3 (omega (arith, end.2))
+
+-- each line that is lent moves a feed on
+pub moves_on : (old new : Feeding) (before left : Option (List ℕ)) (given_before given_after : ℕ) (line : Line) → Lines old new before left given_before given_after (Ok (Some line)) → old.offset < new.offset
+moves_on old new before left given_before given_after line lines =
+    let is : new.offset ≡ old.offset + with_end lines.3.0.0 = ap (λ f. f.offset) lines.3.0.2 in
+    omega (arith, is, some_front (old.pending ++ lines.0) left lines.3.0.0 lines.3.0.1)
 
 -- a front that is lent lies in the bytes that were seen
 front_inside : (seen : List ℕ) (left : Option (List ℕ)) (front : ℕ × Bool) → IsFront seen left front → with_end front ≤ length seen

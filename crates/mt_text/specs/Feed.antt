@@ -40,6 +40,10 @@ taken feed = feed.offset + length feed.pending
 abbrev pub IsLong : Feeding → Type 0
 IsLong feed = (feed.fault ≡ Some TooLong) ↔ (16777216 < taken feed)
 
+-- more bytes than a feed takes were given since
+abbrev pub GaveTooMuch : ℕ → ℕ → Type 0
+GaveTooMuch before now = before + 16777216 < now
+
 abbrev pub at_start : Feeding
 at_start = record {
   line = record { bytes = []; offset = 0; number = 1 };
