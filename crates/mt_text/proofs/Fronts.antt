@@ -16,7 +16,7 @@ use Rattle.mt_text.proofs.Places.{position_within}
 abbrev pub reach : List ℕ → ℕ
 reach bytes = position_or_len is_line_end bytes
 
-reach-more : (x : ℕ) (xs : List ℕ) → is_line_end x ≡ false → reach (x ∷ xs) ≡ suc (reach xs)
+pub reach-more : (x : ℕ) (xs : List ℕ) → is_line_end x ≡ false → reach (x ∷ xs) ≡ suc (reach xs)
 reach-more x xs miss = rw (miss, add_comm 1 (position_or_len is_line_end xs), add-one) refl
 
 reach-append : (xs ys : List ℕ) → reach xs < length xs → reach (xs ++ ys) ≡ reach xs
@@ -51,10 +51,10 @@ far bytes long = elim (cases_Bool (nat_lt (reach bytes) (length bytes))) [
 ]
 
 -- a front tells where the line ends
-abbrev Told : List ℕ → ℕ × Bool → Type 0
+abbrev pub Told : List ℕ → ℕ × Bool → Type 0
 Told bytes front = ((front ≡ (reach bytes, true)) × (reach bytes < length bytes) × (reach bytes ≤ 4096)) ⊎ ((front ≡ (4097, false)) × (4096 < reach bytes))
 
-told : (bytes : List ℕ) (front : ℕ × Bool) → known_front bytes ≡ Some front → Told bytes front
+pub told : (bytes : List ℕ) (front : ℕ × Bool) → known_front bytes ≡ Some front → Told bytes front
 told bytes front is = by (nat_lt (reach bytes) (length bytes)) refl (nat_lt 4096 (reach bytes)) refl (nat_lt 4096 (length bytes)) refl
   where
     one : (a b : ℕ × Bool) → Some a ≡ Some b → b ≡ a
@@ -66,7 +66,7 @@ told bytes front is = by (nat_lt (reach bytes) (length bytes)) refl (nat_lt 4096
     by false found many_is many true whole = inr (one _ _ (rw whole at (rw found at is)), grind (arith, nat_tests, whole, found))
     by false found many_is many false whole = cc (rw whole at (rw found at is))
 
-untold : (bytes : List ℕ) → known_front bytes ≡ None → reach bytes ≡ length bytes
+pub untold : (bytes : List ℕ) → known_front bytes ≡ None → reach bytes ≡ length bytes
 untold bytes is = by (nat_lt (reach bytes) (length bytes)) refl (nat_lt 4096 (reach bytes)) refl
   where
     by : (found : Bool) → nat_lt (reach bytes) (length bytes) ≡ found → (many : Bool) → nat_lt 4096 (reach bytes) ≡ many → reach bytes ≡ length bytes

@@ -3,7 +3,7 @@
 --     moved_on feed front      the feed after it has lent them
 --     taken feed      how many bytes it has taken
 -- A line of more than 4,096 bytes is lent in its first 4,097; what follows them stays pending.
-use Rattle.std.specs.Prelude.{ℕ, ◌+◌, ◌≡◌, ◌≤◌, ◌<◌, ◌⊎◌, ◌↔◌, ◌++◌, nat_lt, Bool, true, false, List, [], ◌∷◌, length, take, drop, position, slice_range, if◌then◌else◌, Option, Some, None, Result, MatchResult, MatchOption}
+use Rattle.std.specs.Prelude.{ℕ, ◌+◌, ◌≡◌, ◌≤◌, ◌<◌, ◌⊎◌, ◌↔◌, ◌++◌, ◌&&◌, ◌==◌, nat_lt, not, Bool, true, false, List, [], ◌∷◌, length, take, drop, position, slice_range, if◌then◌else◌, Option, Some, None, Result, MatchResult, MatchOption}
 use Rattle.std.specs.Io.KnownBytes.{Consumes, IsAtEnd, Keeps}
 use Rattle.mt_text.specs.Text.{is_line_end, lines_of}
 use Rattle.mt_text.specs.declared.line.Line.{Line}
@@ -84,6 +84,15 @@ IsFront seen left front =
 abbrev pub Moves : Feeding → Feeding → List ℕ → Option (List ℕ) → Bool → Type 0
 Moves old new seen left true = (front : ℕ × Bool) × IsFront seen left front × (new ≡ moved_on (record old { pending = seen }) front)
 Moves old new seen left false = (seen ≡ []) × IsAtEnd left × (new.pending ≡ []) × (new.offset ≡ old.offset) × (new.place ≡ old.place) × (new.fault ≡ old.fault)
+
+-- a call has moved on by a line whose end is pending, or there is none
+abbrev pub MovesPending : Feeding → Feeding → Bool → Type 0
+MovesPending old new true = (front : ℕ × Bool) × (known_front old.pending ≡ Some front) × (old.fault ≡ None) × (new ≡ moved_on old front)
+MovesPending old new false = (new ≡ old) × (old.fault ≡ None → known_front old.pending ≡ None)
+
+-- the line that was lent last has no LF behind it, and isn't too long
+abbrev pub is_last : Feeding → Bool
+is_last feed = not (nat_lt 4096 (length feed.line.bytes)) && (feed.offset == feed.line.offset + length feed.line.bytes)
 
 -- The bytes that it has seen are pending, and nothing is lent. After a failed read they tell no line, so each known line was lent.
 abbrev pub Stops : Feeding → Feeding → List ℕ → FeedFault → Type 0
