@@ -17,7 +17,7 @@ pub use laws::{
     canonical_texts_are_equal_where_files_are, the_canonical_text_shows_its_file,
     what_is_plainly_shown_is_shown,
 };
-pub use reader::{DumpReader, read_dump};
+pub use reader::{DumpReader, read_dump, read_dump_from};
 pub use worked::{
     worked_bad_lines, worked_bad_numbers, worked_file, worked_plain_lines, worked_registers,
     worked_shapes,

@@ -1,4 +1,8 @@
-ghost use Rattle.std.specs.Prelude.{◌≡◌, ◌≢◌, ◌≤◌, ◌<◌, ◌-◌, ◌∷◌, List, [], Some, None, Ok, Err, ◌↔◌, MatchResult, MatchOption};
+ghost use Rattle.std.specs.Prelude.{◌≡◌, ◌≢◌, ◌≤◌, ◌<◌, ◌+◌, ◌-◌, ◌∷◌, ℕ, List, [], length, Some, None, Ok, Err, ◌↔◌, IfErr, IfOk, IsErrOf, MatchResult, MatchOption};
+ghost use Rattle.std.specs.Io.KnownBytes.{Consumes, IsAtEnd};
+ghost use Rattle.mt_ports.specs.Causes.{Rose};
+ghost use Rattle.mt_text.specs.Feed.{GaveTooMuch, IsLong, at_start, taken};
+ghost use Rattle.mt_text.specs.declared.fault.FeedFault.{FeedFault};
 ghost use Rattle.mt_regs.specs.RegisterFile.{RegisterFile, low_byte};
 ghost use Rattle.mt_dump.specs.declared.fault.DumpFault.{DumpFault};
 ghost use Rattle.mt_dump.specs.Line.{Reading, said_of};
@@ -8,8 +12,9 @@ ghost use Rattle.mt_dump.specs.Reader.{HasRead, onto};
 use crate::line::read_line;
 use crate::said::Said;
 use crate::{DumpFault, DumpReason};
+use mt_ports::Source;
 use mt_regs::{CAPABILITIES, FIRST_PAIR, RegFile};
-use mt_text::{Line, Place, end_place, next_line};
+use mt_text::{Feed, FeedFault, Line, Place, end_place, next_line};
 use std::marker::Model;
 
 const CAP: u64 = CAPABILITIES as u64;
@@ -204,4 +209,43 @@ pub fn read_dump(source: &[u8]) -> Result<RegFile, DumpFault>
         end_place(source)
     };
     reader.finish(end)
+}
+
+// Reads the dump through a feed that has taken nothing. Behind an offence the rest is read too.
+fn read_lines<S: Source>(
+    feed: &mut Feed,
+    source: &mut S,
+) -> Result<Result<RegFile, DumpFault>, FeedFault>
+    requires { feed.old ≡ at_start }
+    ensures answer { (bytes : List ℕ) → S.left source.old ≡ Some bytes → IfOk result (λ answer. MatchResult answer (λ file. Shown bytes file) (λ fault. dump_offence bytes ≡ Some fault)) }
+    ensures end { IfOk result (λ _. IsAtEnd (S.left source.new)) }
+    ensures fault { MatchResult result (λ _. feed.new.fault ≡ None) (λ fault. feed.new.fault ≡ Some fault) }
+    ensures consumed { (taken_now : List ℕ) × Consumes (S.left source.old) (S.left source.new) taken_now × (taken feed.new ≡ length taken_now) }
+    ensures counted { S.given source.new ≡ S.given source.old + taken feed.new }
+    ensures long { IsLong feed.new }
+    ensures failed { IsErrOf result FeedFault.ReadFault → Rose (S.faults source.old) (S.faults source.new) }
+    ensures stands { (IsErrOf result FeedFault.ReadFault → ⊥) → S.faults source.new ≡ S.faults source.old }
+{
+    let mut reader = DumpReader::new();
+    'lines: while let Some(line) = feed.line(source)? {
+        if let Err(fault) = reader.take(&line) {
+            feed.drain(source)?;
+            return Ok(Err(fault));
+        }
+    }
+    Ok(reader.finish(feed.end()))
+}
+
+/// The file that the bytes of a source show, or their first offence, line by line out of one
+/// buffer. Behind an offence the rest is read too, so that a failed read and too many bytes come
+/// before it.
+pub fn read_dump_from<S: Source>(source: &mut S) -> Result<Result<RegFile, DumpFault>, FeedFault>
+    ensures answer { (bytes : List ℕ) → S.left source.old ≡ Some bytes → IfOk result (λ answer. MatchResult answer (λ file. Shown bytes file) (λ fault. dump_offence bytes ≡ Some fault)) }
+    ensures end { IfOk result (λ _. IsAtEnd (S.left source.new)) }
+    ensures too_long { IsErrOf result FeedFault.TooLong ↔ GaveTooMuch (S.given source.old) (S.given source.new) }
+    ensures long { (bytes : List ℕ) → S.left source.old ≡ Some bytes → IsErrOf result FeedFault.TooLong → 16777216 < length bytes }
+    ensures failed { IsErrOf result FeedFault.ReadFault → Rose (S.faults source.old) (S.faults source.new) }
+    ensures stands { (IsErrOf result FeedFault.ReadFault → ⊥) → S.faults source.new ≡ S.faults source.old }
+{
+    read_lines(&mut Feed::new(), source)
 }

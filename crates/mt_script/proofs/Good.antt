@@ -1,12 +1,12 @@
 -- A script has no offence exactly where each line is accepted in its turn and the end is good.
-use Rattle.std.proofs.Common.{◌≡◌, ◌+◌, ℕ, nat_lt, Bool, true, false, List, [], ◌∷◌, Option, Some, None, Result, refl, sym, ◌∙◌, ap, arith}
-use Rattle.std.specs.Prelude.{Ok, Err, ◌↔◌, if◌then◌else◌, MatchResult}
+use Rattle.std.proofs.Common.{◌≡◌, ◌+◌, ℕ, nat_lt, Bool, true, false, List, [], ◌∷◌, Option, Some, None, Result, refl, ◌∙◌, ap, arith}
+use Rattle.std.specs.Prelude.{Ok, Err, ◌↔◌, if◌then◌else◌}
 use Rattle.mt_text.specs.Text.{lines_of, words_of, end_of}
 use Rattle.mt_text.specs.declared.place.Place.{Place}
 use Rattle.mt_regs.specs.RegisterFile.{RegisterFile}
 use Rattle.mt_dump.specs.Line.{Reading, said_of}
 use Rattle.mt_dump.specs.Dump.{ShownBy, given, times, is_given, offence_of, offence_at_end}
-use Rattle.mt_dump.specs.Reader.{IsClean, HasRead, State, file_in, onto}
+use Rattle.mt_dump.specs.Reader.{IsClean, file_in, onto}
 use Rattle.mt_dump.specs.declared.fault.DumpFault.{DumpFault}
 use Rattle.mt_dump.proofs.OneLine.{is_sane}
 use Rattle.mt_dump.proofs.Readings.{given-onto}
@@ -19,9 +19,6 @@ use Rattle.mt_script.specs.Commands.{command_of}
 use Rattle.mt_script.specs.Accept.{accepted, finished}
 use Rattle.mt_script.specs.Script.{Rest, with_told_width, dump_ends, unless_dump, after_dump, is_end_command, after_command, after_line, at_end, offence_in, script_offence, GoesOn, Follows, AreGood, IsGoodScript}
 use Rattle.mt_script.specs.declared.command.Command.{Command}
-use Rattle.mt_script.specs.declared.command.Command.TheVariants as command
-use Rattle.mt_script.specs.declared.fault.Offence.{Offence}
-use Rattle.mt_script.specs.declared.fault.Offence.TheVariants.{Dump}
 use Rattle.mt_script.specs.declared.fault.ScriptFault.{ScriptFault}
 use Rattle.mt_script.specs.declared.fault.ScriptReason.TheVariants.{NoEnd}
 
@@ -108,19 +105,3 @@ no_offence end number (line ∷ lines) = λ now before clean good.
 
 pub good_exactly : (text : List ℕ) → (script_offence text ≡ None) ↔ IsGoodScript text
 good_exactly text = (good_lines (end_of text) 1 (lines_of text) at_start [] tt, no_offence (end_of text) 1 (lines_of text) at_start [] tt)
-
--- what is answered at the dump's end leads to what the rest of the text leads to, or is the offence
-module _ (now : Situation) (before : List Reading) (clean : IsClean before) (number : ℕ) (line : List ℕ) (dump : is_in_dump now.stage ≡ true) (asked : command_of now number line ≡ Ok command.End) where
-  end_shown : (file : RegisterFile) → ShownBy (onto before []) file → (rest : Rest) → after_line now before number line rest (command_of now number line) ≡ rest (finished now file) []
-  end_shown file shown rest =
-      let found = leads_to before file clean shown in
-      rw (asked, dump, shown_end (place_of number (words_of line) 0) (onto before []) file shown, found.1, found.2) refl
-
-  end_fails : (fault : DumpFault) → offence_at_end (place_of number (words_of line) 0) (onto before []) ≡ Some fault → (rest : Rest) → after_line now before number line rest (command_of now number line) ≡ Some (Dump fault)
-  end_fails fault is rest = rw (asked, dump, is) refl
-
-  pub dump_ended : {A : Type 0} (answer : Result A Offence) (new : Situation) (state : State)
-      → MatchResult answer (λ x. HasRead state [] × ((file : RegisterFile) × ShownBy (onto before []) file × (new ≡ finished now file))) (λ offence. (fault : DumpFault) × (offence ≡ Dump fault) × (offence_at_end (place_of number (words_of line) 0) (onto before []) ≡ Some fault))
-      → MatchResult answer (λ x. (after : List Reading) × HasRead state after × ((rest : Rest) → after_line now before number line rest (command_of now number line) ≡ rest new after)) (λ offence. (rest : Rest) → after_line now before number line rest (command_of now number line) ≡ Some offence)
-  dump_ended (Ok x) new state ends = ([], ends.0, λ rest. end_shown ends.1.0 ends.1.1 rest ∙ ap (λ next. rest next []) (sym ends.1.2))
-  dump_ended (Err offence) new state ends = λ rest. end_fails ends.0 ends.2 rest ∙ ap Some (sym ends.1)

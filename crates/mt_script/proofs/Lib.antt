@@ -1,6 +1,7 @@
 pub mod FirstWords
 pub mod Fitting
 pub mod Good
+pub mod Heads
 pub mod Keeping
 pub mod Registers
 pub mod Sections

@@ -1,5 +1,6 @@
 pub mod Accept
 pub mod Commands
+pub mod Head
 pub mod Kept
 pub mod Numbers
 pub mod Places

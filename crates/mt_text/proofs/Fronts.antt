@@ -16,7 +16,7 @@ use Rattle.mt_text.proofs.Places.{position_within}
 abbrev pub reach : List ℕ → ℕ
 reach bytes = position_or_len is_line_end bytes
 
-reach-more : (x : ℕ) (xs : List ℕ) → is_line_end x ≡ false → reach (x ∷ xs) ≡ suc (reach xs)
+pub reach-more : (x : ℕ) (xs : List ℕ) → is_line_end x ≡ false → reach (x ∷ xs) ≡ suc (reach xs)
 reach-more x xs miss = rw (miss, add_comm 1 (position_or_len is_line_end xs), add-one) refl
 
 reach-append : (xs ys : List ℕ) → reach xs < length xs → reach (xs ++ ys) ≡ reach xs
@@ -51,10 +51,10 @@ far bytes long = elim (cases_Bool (nat_lt (reach bytes) (length bytes))) [
 ]
 
 -- a front tells where the line ends
-abbrev Told : List ℕ → ℕ × Bool → Type 0
+abbrev pub Told : List ℕ → ℕ × Bool → Type 0
 Told bytes front = ((front ≡ (reach bytes, true)) × (reach bytes < length bytes) × (reach bytes ≤ 4096)) ⊎ ((front ≡ (4097, false)) × (4096 < reach bytes))
 
-told : (bytes : List ℕ) (front : ℕ × Bool) → known_front bytes ≡ Some front → Told bytes front
+pub told : (bytes : List ℕ) (front : ℕ × Bool) → known_front bytes ≡ Some front → Told bytes front
 told bytes front is = by (nat_lt (reach bytes) (length bytes)) refl (nat_lt 4096 (reach bytes)) refl (nat_lt 4096 (length bytes)) refl
   where
     one : (a b : ℕ × Bool) → Some a ≡ Some b → b ≡ a
@@ -66,7 +66,7 @@ told bytes front is = by (nat_lt (reach bytes) (length bytes)) refl (nat_lt 4096
     by false found many_is many true whole = inr (one _ _ (rw whole at (rw found at is)), grind (arith, nat_tests, whole, found))
     by false found many_is many false whole = cc (rw whole at (rw found at is))
 
-untold : (bytes : List ℕ) → known_front bytes ≡ None → reach bytes ≡ length bytes
+pub untold : (bytes : List ℕ) → known_front bytes ≡ None → reach bytes ≡ length bytes
 untold bytes is = by (nat_lt (reach bytes) (length bytes)) refl (nat_lt 4096 (reach bytes)) refl
   where
     by : (found : Bool) → nat_lt (reach bytes) (length bytes) ≡ found → (many : Bool) → nat_lt 4096 (reach bytes) ≡ many → reach bytes ≡ length bytes
@@ -98,6 +98,13 @@ ended_front rest count is = elim (told rest (count, true) is) [
       let found : nat_lt (reach rest) (length rest) ≡ true = grind (arith, nat_tests, near_by.1) in
       let at : position is_line_end rest ≡ Some count = rw found (ap Some (sym count_is)) in
       ended_line rest count at
+  | inr away ↦ let e : true ≡ false = ap (λ (f : ℕ × Bool). f.1) away.0 in cc e
+]
+
+-- a line that an LF ends isn't too long
+pub front_few : (bytes : List ℕ) (count : ℕ) → known_front bytes ≡ Some (count, true) → count ≤ 4096
+front_few bytes count is = elim (told bytes (count, true) is) [
+  | inl near_by ↦ let e : count ≡ reach bytes = ap (λ (f : ℕ × Bool). f.0) near_by.0 in omega (arith, e, near_by.2)
   | inr away ↦ let e : true ≡ false = ap (λ (f : ℕ × Bool). f.1) away.0 in cc e
 ]
 

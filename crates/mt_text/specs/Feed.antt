@@ -3,9 +3,9 @@
 --     moved_on feed front      the feed after it has lent them
 --     taken feed      how many bytes it has taken
 -- A line of more than 4,096 bytes is lent in its first 4,097; what follows them stays pending.
-use Rattle.std.specs.Prelude.{ℕ, ◌+◌, ◌≡◌, ◌≤◌, ◌<◌, ◌⊎◌, ◌↔◌, ◌++◌, nat_lt, Bool, true, false, List, [], length, take, drop, position, slice_range, if◌then◌else◌, Option, Some, None, Result, MatchResult, MatchOption}
+use Rattle.std.specs.Prelude.{ℕ, ◌+◌, ◌≡◌, ◌≤◌, ◌<◌, ◌⊎◌, ◌↔◌, ◌++◌, ◌&&◌, ◌==◌, nat_lt, not, Bool, true, false, List, [], ◌∷◌, length, take, drop, position, slice_range, if◌then◌else◌, Option, Some, None, Result, MatchResult, MatchOption}
 use Rattle.std.specs.Io.KnownBytes.{Consumes, IsAtEnd, Keeps}
-use Rattle.mt_text.specs.Text.{is_line_end}
+use Rattle.mt_text.specs.Text.{is_line_end, lines_of}
 use Rattle.mt_text.specs.declared.line.Line.{Line}
 use Rattle.mt_text.specs.declared.place.Place.{Place}
 use Rattle.mt_text.specs.declared.fault.FeedFault.{FeedFault}
@@ -36,6 +36,14 @@ pub record Feeding : Type 0 where
 abbrev pub taken : Feeding → ℕ
 taken feed = feed.offset + length feed.pending
 
+-- the fault that a feed has answered is TooLong exactly where it has taken more bytes than the limit
+abbrev pub IsLong : Feeding → Type 0
+IsLong feed = (feed.fault ≡ Some TooLong) ↔ (16777216 < taken feed)
+
+-- more bytes than a feed takes were given since
+abbrev pub GaveTooMuch : ℕ → ℕ → Type 0
+GaveTooMuch before now = before + 16777216 < now
+
 abbrev pub at_start : Feeding
 at_start = record {
   line = record { bytes = []; offset = 0; number = 1 };
@@ -44,6 +52,10 @@ at_start = record {
   place = record { line = 1; column = 1 };
   fault = None;
 }
+
+-- a feed, for worked runs, with these bytes pending at the front of a line
+abbrev pub behind_a_line : ℕ → List ℕ → Feeding
+behind_a_line number bytes = record at_start { pending = bytes; place = record { line = number; column = 1 } }
 
 -- the bytes of a front, and the LF that ends it
 abbrev pub with_end : ℕ × Bool → ℕ
@@ -73,6 +85,15 @@ abbrev pub Moves : Feeding → Feeding → List ℕ → Option (List ℕ) → Bo
 Moves old new seen left true = (front : ℕ × Bool) × IsFront seen left front × (new ≡ moved_on (record old { pending = seen }) front)
 Moves old new seen left false = (seen ≡ []) × IsAtEnd left × (new.pending ≡ []) × (new.offset ≡ old.offset) × (new.place ≡ old.place) × (new.fault ≡ old.fault)
 
+-- a call has moved on by a line whose end is pending, or there is none
+abbrev pub MovesPending : Feeding → Feeding → Bool → Type 0
+MovesPending old new true = (front : ℕ × Bool) × (known_front old.pending ≡ Some front) × (old.fault ≡ None) × (new ≡ moved_on old front)
+MovesPending old new false = (new ≡ old) × (old.fault ≡ None → known_front old.pending ≡ None)
+
+-- the line that was lent last has no LF behind it, and isn't too long
+abbrev pub is_last : Feeding → Bool
+is_last feed = not (nat_lt 4096 (length feed.line.bytes)) && (feed.offset == feed.line.offset + length feed.line.bytes)
+
 -- The bytes that it has seen are pending, and nothing is lent. After a failed read they tell no line, so each known line was lent.
 abbrev pub Stops : Feeding → Feeding → List ℕ → FeedFault → Type 0
 Stops old new seen fault =
@@ -95,7 +116,24 @@ LinesAre old new seen left result = MatchResult result
 -- A call that asks for the next line: what it has taken from the source, and what the feed is then.
 abbrev pub Lines : Feeding → Feeding → Option (List ℕ) → Option (List ℕ) → ℕ → ℕ → Result (Option Line) FeedFault → Type 0
 Lines old new left after given_before given_after result =
-    (more : List ℕ) × Consumes left after more × (given_after ≡ given_before + length more) × LinesAre old new (old.pending ++ more) after result
+    (more : List ℕ) × Consumes left after more × (given_after ≡ given_before + length more) × LinesAre old new (old.pending ++ more) after result × IsLong new
+
+-- A line that is lent is the first of all bytes that are left, which are those that are pending and those that the source has left behind them. A line too long is lent in its first
+-- 4,097 bytes, and a reader stops there. Behind any other the next lines are those of the bytes that are left then, and the next number is one more.
+pub record LendsFirst (old new : Feeding) (before after : List ℕ) (line : Line) : Type 0 where
+  pub first : List ℕ
+  pub others : List (List ℕ)
+  pub lines : lines_of (old.pending ++ before) ≡ first ∷ others
+  pub bytes : line.bytes.now ≡ take 4097 first
+  pub number : line.number ≡ old.place.line
+  pub rest : length first ≤ 4096 → lines_of (new.pending ++ after) ≡ others
+  pub next : length first ≤ 4096 → (others ≡ []) ⊎ (new.place.line ≡ old.place.line + 1)
+
+-- what a call lends of all bytes that are left; at a fault they stay as they were
+abbrev pub LendsLines : Feeding → Feeding → List ℕ → List ℕ → Result (Option Line) FeedFault → Type 0
+LendsLines old new before after result = MatchResult result
+    (λ answer. MatchOption answer ((old.pending ++ before ≡ []) × (new.pending ++ after ≡ [])) (LendsFirst old new before after))
+    (λ _. new.pending ++ after ≡ old.pending ++ before)
 
 -- a read has put more bytes behind the pending ones, none only at the end, or nothing where it failed
 abbrev pub Reads : {E : Type 0} → List ℕ → List ℕ → Option (List ℕ) → Option (List ℕ) → Result ℕ E → Type 0
@@ -116,7 +154,7 @@ pub record IsFeeding (feed : Feeding) : Type 0 where
   pub lines : feed.place.line ≤ feed.offset + 1
   pub columns : feed.place.column ≤ feed.offset + 1
   pub bound : taken feed ≤ 16777216 + 8192
-  pub long : (feed.fault ≡ Some TooLong) ↔ (16777216 < taken feed)
+  pub long : IsLong feed
 
 -- what a buffer holds: the line that was lent last, and what is pending
 abbrev pub lent : Buffer → List ℕ

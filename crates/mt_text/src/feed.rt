@@ -3,7 +3,7 @@ ghost use Rattle.std.specs.Borrow.{sem};
 ghost use Rattle.std.specs.Io.KnownBytes.{Consumes, IsAtEnd};
 ghost use Rattle.std.specs.Io.BufRead.{Rests};
 ghost use Rattle.mt_ports.specs.Causes.{Rose};
-ghost use Rattle.mt_text.specs.Feed.{Advances, Fills, Lines, at_start, known_front, moved_on, taken, with_end};
+ghost use Rattle.mt_text.specs.Feed.{Advances, Fills, IsLong, Lines, MovesPending, at_start, is_last, known_front, moved_on, taken, with_end};
 ghost use Rattle.mt_text.specs.contracts.feed.Feed.{the_row};
 ghost use Rattle.mt_text.specs.declared.fault.FeedFault.{FeedFault};
 
@@ -117,6 +117,7 @@ impl Feed {
         requires fault { self.old.fault ≡ None }
         requires room { length self.old.pending ≤ 4096 }
         ensures bytes { (more : List ℕ) × Consumes (S.left source.old) (S.left source.new) more × (S.given source.new ≡ S.given source.old + length more) × Fills self.old self.new more (S.left source.new) result }
+        ensures long { IsLong self.new }
         ensures failed { IsErrOf result FeedFault.ReadFault → Rose (S.faults source.old) (S.faults source.new) × (self.new.pending ≡ self.old.pending) }
         ensures stands { (IsErrOf result FeedFault.ReadFault → ⊥) → S.faults source.new ≡ S.faults source.old }
     {
@@ -135,9 +136,28 @@ impl Feed {
         }
     }
 
-    // Moves on to the next line, if there is one.
-    fn advance<S: Source>(&mut self, source: &mut S) -> Result<bool, FeedFault>
+    /// Moves on to the next line where the pending bytes tell its end, and says whether they do. The
+    /// source isn't asked.
+    pub fn advance_pending(&mut self) -> bool
+        ensures { MovesPending self.old self.new result }
+    {
+        if self.fault.is_some() {
+            return false;
+        }
+        match known_front(self.buffer.pending()) {
+            Some((count, ended)) => {
+                self.pass(count, ended);
+                true
+            }
+            None => false,
+        }
+    }
+
+    /// Moves on to the next line, and says whether there is one. After a fault each call answers that
+    /// fault, and the source isn't asked.
+    pub fn advance<S: Source>(&mut self, source: &mut S) -> Result<bool, FeedFault>
         ensures bytes { (more : List ℕ) × Consumes (S.left source.old) (S.left source.new) more × (S.given source.new ≡ S.given source.old + length more) × Advances self.old self.new more (S.left source.new) result }
+        ensures long { IsLong self.new }
         ensures stays { (fault : FeedFault) → self.old.fault ≡ Some fault → (result ≡ Err fault) × (self.new ≡ self.old) × (source.new ≡ source.old) }
         ensures unasked { (front : ℕ × Bool) → known_front self.old.pending ≡ Some front → source.new ≡ source.old }
         ensures failed { IsErrOf result FeedFault.ReadFault → self.old.fault ≡ None → Rose (S.faults source.old) (S.faults source.new) }
@@ -181,6 +201,7 @@ impl Feed {
         ensures bytes { (more : List ℕ) × Consumes (S.left source.old) (S.left source.new) more × (S.given source.new ≡ S.given source.old + length more) × (taken self.new ≡ taken self.old + length more) }
         ensures end { IfOk result (λ _. IsAtEnd (S.left source.new) × (self.new.pending ≡ []) × (self.new.fault ≡ None)) }
         ensures fault { IfErr result (λ fault. self.new.fault ≡ Some fault) }
+        ensures long { IsLong self.new }
         ensures stays { (fault : FeedFault) → self.old.fault ≡ Some fault → (result ≡ Err fault) × (self.new ≡ self.old) × (source.new ≡ source.old) }
         ensures failed { IsErrOf result FeedFault.ReadFault → self.old.fault ≡ None → Rose (S.faults source.old) (S.faults source.new) }
         ensures stands { (IsErrOf result FeedFault.ReadFault → ⊥) → S.faults source.new ≡ S.faults source.old }
@@ -197,8 +218,17 @@ impl Feed {
         }
     }
 
-    // The line that was lent last.
-    fn current(&self) -> Line<'_>
+    /// Whether the input ends with the line that was moved on to: no LF ends it, and it isn't too
+    /// long.
+    pub fn is_last(&self) -> bool
+        ensures { result ≡ is_last self.now }
+    {
+        let line = self.current();
+        line.bytes.len() <= LONGEST && line.next == line.offset + line.bytes.len()
+    }
+
+    /// The line that was moved on to last, which lies in the buffer.
+    pub fn current(&self) -> Line<'_>
         ensures bytes { result.bytes.now ≡ self.now.line.bytes }
         ensures offset { result.offset ≡ self.now.line.offset }
         ensures number { result.number ≡ self.now.line.number }

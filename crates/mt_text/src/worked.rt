@@ -1,4 +1,6 @@
 ghost use Rattle.std.specs.Prelude.{◌≡◌, ◌∷◌, [], codes, Ok, Err};
+ghost use Rattle.mt_text.specs.Feed.{LendsFirst, at_start, behind_a_line};
+ghost use Rattle.mt_text.specs.declared.line.Line.{Line};
 ghost use Rattle.mt_text.specs.Number.{hex_number, decimal_number};
 ghost use Rattle.mt_text.specs.Text.{end_of, lines_of, words_at, words_of};
 ghost use Rattle.mt_text.specs.declared.fault.NumberFault.TheVariants.{NotDigit, TooLarge};
@@ -51,4 +53,13 @@ pub fn worked_decimal()
     ensures too_large { decimal_number (codes "18446744073709551616") 0xffffffffffffffff ≡ Err TooLarge }
     ensures empty { decimal_number [] 52 ≡ Err NotDigit }
     ensures hexadecimal { decimal_number (codes "4a") 52 ≡ Err NotDigit }
+{}
+
+/// Worked examples of a line that a feed lends of the bytes that are left, and for each part one that fails in that alone.
+pub fn worked_lent_lines()
+    ensures line { (line : Line) → line.bytes.now ≡ codes "ab" → line.number ≡ 1 → LendsFirst at_start (behind_a_line 2 (codes "c")) (codes "ab\ncd") (codes "d") line }
+    ensures other_bytes { (line : Line) → line.bytes.now ≡ codes "a" → LendsFirst at_start (behind_a_line 2 (codes "c")) (codes "ab\ncd") (codes "d") line → ⊥ }
+    ensures other_number { (line : Line) → line.number ≡ 2 → LendsFirst at_start (behind_a_line 2 (codes "c")) (codes "ab\ncd") (codes "d") line → ⊥ }
+    ensures byte_lost { (line : Line) → LendsFirst at_start (behind_a_line 2 []) (codes "ab\ncd") (codes "d") line → ⊥ }
+    ensures other_next { (line : Line) → LendsFirst at_start (behind_a_line 3 (codes "c")) (codes "ab\ncd") (codes "d") line → ⊥ }
 {}

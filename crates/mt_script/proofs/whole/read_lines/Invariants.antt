@@ -9,7 +9,7 @@ abbrev pub invariant-lines : goal.invariant-lines
 invariant-lines l = record {
   within : l.at ≤ length l.source;
   numbered : l.number ≤ l.at + 1;
-  read : (before : List Reading) × HasRead l.dump before × (script_offence l.source ≡ offence_in (end_of l.source) l.number (lines_of (drop l.at l.source)) l.setup before);
+  read : (before : List Reading) × HasRead l.head.dump before × (script_offence l.source ≡ offence_in (end_of l.source) l.number (lines_of (drop l.at l.source)) l.head.setup before);
 }
 
 abbrev pub decreases-lines : goal.decreases-lines

@@ -1,4 +1,4 @@
-use Rattle.std.proofs.Common.{◌≡◌, ◌≤◌, ◌+◌, ◌-◌, ◌++◌, ℕ, Bool, List, None, Some, length}
+use Rattle.std.proofs.Common.{◌≡◌, ◌+◌, ◌-◌, ◌++◌, ℕ, Bool, List, None, Some, length}
 use Rattle.std.specs.Io.KnownBytes.{Consumes}
 use Rattle.mt_text.specs.Feed.{known_front, taken}
 use Rattle.mt_text.proofs.feed.Feed.advance.Given as goal

@@ -1,4 +1,4 @@
-use Rattle.std.proofs.Common.{◌≡◌, ◌≤◌, ◌+◌, ◌-◌, ℕ, List, None, length}
+use Rattle.std.proofs.Common.{◌≡◌, ◌+◌, ◌-◌, ℕ, List, None, length}
 use Rattle.std.specs.Io.KnownBytes.{Consumes}
 use Rattle.mt_text.specs.Feed.{taken}
 use Rattle.mt_text.proofs.feed.Feed.drain.Given as goal
