@@ -107,11 +107,14 @@ CachesAreNeverSeen =
     (s : Machine) (f : Flat) (es : List MachineEvent) (k address value : ℕ) (kind : MemType) → IsSound s.system → IsFlatOf s.system f → AreEnabled s es
     → (access (run s es).system k (Load address)).answer ≡ Value value kind → IsFlatAnswer (run s es) (flat_run s es f) k address value kind
 
+abbrev pub AreFew : List PendingLine → Type 0
+AreFew ps = length ps ≤ 4
+
 -- no processor ever has more than four pending lines
 abbrev pub PendingStaysFew : Type 0
 PendingStaysFew =
     (s : Machine) (f : Flat) (es : List MachineEvent) (k : ℕ) → IsSound s.system → IsFlatOf s.system f → AreEnabled s es
-    → length ((flat_run s es f).pending k) ≤ 4
+    → AreFew ((flat_run s es f).pending k)
 
 -- ---- updates
 

@@ -1,9 +1,9 @@
 -- What is seen of a flat machine.
-use Rattle.std.specs.Prelude.{ℕ, List, ◌∷◌, [], map, Option}
+use Rattle.std.specs.Prelude.{ℕ, List, ◌∷◌, [], map, None, Option}
 use Rattle.mt_cache.specs.Lines.{eight}
 use Rattle.mt_machine.specs.Machine.{MachineEvent}
 use Rattle.mt_machine.specs.WorkedRuns.{palette, store}
-use Rattle.mt_flat.specs.Flat.{Flat, flat_start}
+use Rattle.mt_flat.specs.Flat.{Flat, PendingLine, flat_start}
 use Rattle.mt_flat.specs.Seen.{flat_run}
 
 -- beside two processors that have one page with five types, from zeros on
@@ -15,6 +15,10 @@ numbers f k = map (λ p. p.number) (f.pending k)
 
 abbrev pub pending_words : Flat → ℕ → List (ℕ × List (Option ℕ))
 pending_words f k = map (λ p. (p.number, map p.written eight)) (f.pending k)
+
+-- one with no word written
+abbrev pub pending_line : ℕ → PendingLine
+pending_line number = record { number = number; written = λ word. None }
 
 -- stores to four lines of write-combining memory
 abbrev pub four_lines : List MachineEvent

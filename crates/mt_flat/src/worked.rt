@@ -8,8 +8,8 @@ ghost use Rattle.mt_machine.specs.Machine.{Accesses, Calls, Controls, Goes, Step
 ghost use Rattle.mt_machine.specs.WorkedRuns.{answer_of, bare_file, called, goal_of, idle, load, machine_of, mapping, maps, palette, small, store, walk};
 ghost use Rattle.mt_flat.specs.Courses.{CanTurn, Does, IsCourse, Updates, course, flat_course};
 ghost use Rattle.mt_flat.specs.Flat.{flat_answer, flat_start};
-ghost use Rattle.mt_flat.specs.Seen.{IsFlatAnswer, IsFlatOf, IsHeldFlat, given};
-ghost use Rattle.mt_flat.specs.WorkedRuns.{flat_of, four_lines, numbers, pending_words, seven_words};
+ghost use Rattle.mt_flat.specs.Seen.{AreFew, IsFlatAnswer, IsFlatOf, IsHeldFlat, given};
+ghost use Rattle.mt_flat.specs.WorkedRuns.{flat_of, four_lines, numbers, pending_line, pending_words, seven_words};
 
 /// Words of write-combining stores, pending and then set.
 pub fn worked_pending()
@@ -25,6 +25,8 @@ pub fn worked_pending()
     ensures wp_load_empties_its_line { numbers (flat_of (store 0 0x3008 7 ∷ store 0 0x3040 8 ∷ load 0 0x5000 ∷ [])) 0 ≡ 0x4001 ∷ [] }
     ensures others_loads_empty_nothing { numbers (flat_of (store 0 0x3008 7 ∷ load 1 0x4000 ∷ [])) 0 ≡ 0x4000 ∷ [] }
     ensures four { numbers (flat_of four_lines) 0 ≡ 0x4000 ∷ 0x4001 ∷ 0x4002 ∷ 0x4003 ∷ [] }
+    ensures four_are_few { AreFew ((flat_of four_lines).pending 0) }
+    ensures five_are_not { AreFew (pending_line 4 ∷ (flat_of four_lines).pending 0) → ⊥ }
     ensures fifth { numbers (flat_of (four_lines ++ store 0 0x3100 5 ∷ [])) 0 ≡ 0x4001 ∷ 0x4002 ∷ 0x4003 ∷ 0x4004 ∷ [] }
     ensures first_is_set { (flat_of (four_lines ++ store 0 0x3100 5 ∷ [])).values 0x100000 ≡ 1 }
     ensures second_is_not { (flat_of (four_lines ++ store 0 0x3100 5 ∷ [])).values 0x100040 ≡ 0 }
