@@ -117,3 +117,11 @@ set m p index page h = record {
 pub answered : {A B : Type 0} (r : Result A B) (m : Mapping) (p : Processor) (after : List Mapping) → OnOk r (after ≡ set_mapping m p.mappings) → OnErr r (after ≡ p.mappings) → m.index < 8 → m.ppage < page_count p.file → KeepsFacts p → KeepsFacts (record p { mappings = after })
 answered (Ok a) m p after done kept index page h = subst (λ (ms : List Mapping). KeepsFacts (record p { mappings = ms })) (sym done) (set m p index page h)
 answered (Err b) m p after done kept index page h = subst (λ (ms : List Mapping). KeepsFacts (record p { mappings = ms })) (sym kept) h
+
+-- ---- a search leaves a list as it was
+
+pub same_mappings : (p : Processor) (ms : List Mapping) → ms ≡ p.mappings → KeepsFacts p → KeepsFacts (record p { mappings = ms })
+same_mappings p ms same h = subst (λ (xs : List Mapping). KeepsFacts (record p { mappings = xs })) (sym same) h
+
+pub with_same_entries : (p : Processor) (es : List Entry) → es ≡ p.entries → record p { entries = es } ≡ p
+with_same_entries p es same = ap (λ (xs : List Entry). record p { entries = xs }) same

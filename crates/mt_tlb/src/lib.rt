@@ -2,6 +2,7 @@
 #![tactic(auto)]
 
 mod entry;
+mod hints;
 mod mapping;
 mod maps;
 #[cfg(test)]

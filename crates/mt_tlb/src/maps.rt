@@ -1,8 +1,9 @@
-ghost use Rattle.std.specs.Prelude.{◌≡◌, ℕ, ◌<◌, ◌≤◌, List, [], length, slice_get, None, IfSome, IfNone, is_err, OnOk, OnErr};
+ghost use Rattle.std.specs.Prelude.{◌≡◌, ℕ, ◌<◌, ◌≤◌, List, [], length, slice_get, None, Some, IfSome, IfNone, IsTrue, is_err, OnOk, OnErr};
 ghost use Rattle.std.specs.List.{position};
 ghost use Rattle.mt_tlb.specs.declared.mapping.Mapping.{Mapping};
 ghost use Rattle.mt_tlb.specs.Entries.{AreMappingsApart, find_mapping, is_full_for, maps_page, set_mapping};
 
+use crate::hints::Hints;
 use crate::mapping::Mapping;
 use arrayvec::ArrayVec;
 use std::marker::Model;
@@ -16,6 +17,7 @@ pub struct Full;
 #[derive(Drop)]
 pub struct Maps {
     pub list: ArrayVec<Mapping, 64>,
+    hints: Hints,
 }
 
 impl Model for Maps {
@@ -33,6 +35,14 @@ fn place_of(list: &[Mapping], vpage: u64) -> Option<usize>
     list.iter().position(|m| m.vpage == vpage)
 }
 
+// Whether the mapping at a place is that of this page.
+fn is_at(list: &[Mapping], i: usize, vpage: u64) -> bool
+    requires { AreMappingsApart list.now }
+    ensures { IsTrue result → position (maps_page vpage) list.now ≡ Some i }
+{
+    i < list.len() && list[i].vpage == vpage
+}
+
 impl Maps {
     /// No mapping.
     pub fn new() -> Self
@@ -40,6 +50,7 @@ impl Maps {
     {
         Maps {
             list: ArrayVec::new(),
+            hints: Hints::new(),
         }
     }
 
@@ -52,14 +63,29 @@ impl Maps {
         self.list.as_slice()
     }
 
-    /// The place of the mapping of this page.
-    pub fn find(&self, vpage: u64) -> Option<usize>
-        ensures value { result ≡ position (maps_page vpage) self.now }
-        ensures place { IfSome result (λ i. i < length self.now) }
-        ensures mapping { IfSome result (λ i. slice_get self.now i ≡ find_mapping vpage self.now) }
-        ensures absent { IfNone result (find_mapping vpage self.now ≡ None) }
+    // The place of the mapping of this page, where it was last or by a search.
+    fn look_up(&mut self, vpage: u64) -> Option<usize>
+        ensures value { result ≡ position (maps_page vpage) self.old }
+        ensures kept { self.new ≡ self.old }
     {
-        place_of(self.list.as_slice(), vpage)
+        let guess = self.hints.guess(vpage);
+        if is_at(self.list.as_slice(), guess, vpage) {
+            return Some(guess);
+        }
+        let i = place_of(self.list.as_slice(), vpage)?;
+        self.hints.keep(vpage, i);
+        Some(i)
+    }
+
+    /// The place of the mapping of this page.
+    pub fn find(&mut self, vpage: u64) -> Option<usize>
+        ensures value { result ≡ position (maps_page vpage) self.old }
+        ensures place { IfSome result (λ i. i < length self.old) }
+        ensures mapping { IfSome result (λ i. slice_get self.old i ≡ find_mapping vpage self.old) }
+        ensures absent { IfNone result (find_mapping vpage self.old ≡ None) }
+        ensures kept { self.new ≡ self.old }
+    {
+        self.look_up(vpage)
     }
 
     /// Replaces the mapping of a page in its place, or adds it at the end. The error comes where

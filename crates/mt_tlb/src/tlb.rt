@@ -1,9 +1,10 @@
-ghost use Rattle.std.specs.Prelude.{◌≡◌, ℕ, ◌<◌, ◌≤◌, List, [], length, slice_get, None, IfSome, IfNone};
+ghost use Rattle.std.specs.Prelude.{◌≡◌, ℕ, ◌<◌, ◌≤◌, List, [], length, slice_get, None, Some, IfSome, IfNone, IsTrue};
 ghost use Rattle.std.specs.List.{position};
 ghost use Rattle.mt_tlb.specs.declared.entry.Entry.{Entry};
 ghost use Rattle.mt_tlb.specs.Entries.{AreEntriesApart, add_entry, find_entry, global_entries, has_page, without_page};
 
 use crate::entry::Entry;
+use crate::hints::Hints;
 use arrayvec::ArrayVec;
 use std::marker::Model;
 
@@ -11,6 +12,7 @@ use std::marker::Model;
 #[derive(Drop)]
 pub struct Tlb {
     pub entries: ArrayVec<Entry, 64>,
+    hints: Hints,
 }
 
 impl Model for Tlb {
@@ -28,6 +30,14 @@ fn place_of(entries: &[Entry], vpage: u64) -> Option<usize>
     entries.iter().position(|e| e.vpage == vpage)
 }
 
+// Whether the entry at a place is that of this page.
+fn is_at(entries: &[Entry], i: usize, vpage: u64) -> bool
+    requires { AreEntriesApart entries.now }
+    ensures { IsTrue result → position (has_page vpage) entries.now ≡ Some i }
+{
+    i < entries.len() && entries[i].vpage == vpage
+}
+
 impl Tlb {
     /// A TLB without entries.
     pub fn new() -> Self
@@ -35,6 +45,7 @@ impl Tlb {
     {
         Tlb {
             entries: ArrayVec::new(),
+            hints: Hints::new(),
         }
     }
 
@@ -47,14 +58,29 @@ impl Tlb {
         self.entries.as_slice()
     }
 
-    /// The place of the entry of this page.
-    pub fn find(&self, vpage: u64) -> Option<usize>
-        ensures value { result ≡ position (has_page vpage) self.now }
-        ensures place { IfSome result (λ i. i < length self.now) }
-        ensures entry { IfSome result (λ i. slice_get self.now i ≡ find_entry vpage self.now) }
-        ensures absent { IfNone result (find_entry vpage self.now ≡ None) }
+    // The place of the entry of this page, where it was last or by a search.
+    fn look_up(&mut self, vpage: u64) -> Option<usize>
+        ensures value { result ≡ position (has_page vpage) self.old }
+        ensures kept { self.new ≡ self.old }
     {
-        place_of(self.entries.as_slice(), vpage)
+        let guess = self.hints.guess(vpage);
+        if is_at(self.entries.as_slice(), guess, vpage) {
+            return Some(guess);
+        }
+        let i = place_of(self.entries.as_slice(), vpage)?;
+        self.hints.keep(vpage, i);
+        Some(i)
+    }
+
+    /// The place of the entry of this page.
+    pub fn find(&mut self, vpage: u64) -> Option<usize>
+        ensures value { result ≡ position (has_page vpage) self.old }
+        ensures place { IfSome result (λ i. i < length self.old) }
+        ensures entry { IfSome result (λ i. slice_get self.old i ≡ find_entry vpage self.old) }
+        ensures absent { IfNone result (find_entry vpage self.old ≡ None) }
+        ensures kept { self.new ≡ self.old }
+    {
+        self.look_up(vpage)
     }
 
     /// Adds an entry. Where 64 stood, the oldest is dropped.
@@ -65,6 +91,7 @@ impl Tlb {
         if self.entries.is_full() {
             self.entries.remove(0);
         }
+        self.hints.keep(e.vpage, self.entries.len());
         self.entries.push(e);
     }
 

@@ -5,13 +5,15 @@ use Rattle.mt_tlb.specs.Entries.{find_entry, find_mapping, has_page}
 use Rattle.mt_machine.specs.System.{Processor}
 use Rattle.mt_machine.specs.Access.{keep_entry}
 use Rattle.mt_cpu.specs.Kinds.{entry_by}
+use Rattle.mt_cpu.proofs.Facts.{with_same_entries}
 use Rattle.mt_cpu.proofs.Translations.{stands, kept_made}
 use Rattle.mt_cpu.proofs.cpu.Cpu.entry.Goals as goal
 
 pub returns-in-Some-clause-after : goal.returns-in-Some-clause-after
 returns-in-Some-clause-after g c =
     let s = stands (g.P.PageKinds.type_at c.args.kinds.now) _ c.args.vpage _ c.self.invariant c.in-Some.ensures.place c.in-Some.ensures.entry in
-    subst (λ (q : Processor). q ≡ option_map_or (λ e. keep_entry e q) (entry_by (g.P.PageKinds.type_at c.args.kinds.now) q c.args.vpage) q) c.self.view_is s.after
+    with_same_entries _ c.find.new.self c.find.ensures.kept ∙ c.self.view_is
+    ∙ subst (λ (q : Processor). q ≡ option_map_or (λ e. keep_entry e q) (entry_by (g.P.PageKinds.type_at c.args.kinds.now) q c.args.vpage) q) c.self.view_is s.after
 
 pub returns-in-Some-clause-unmapped : goal.returns-in-Some-clause-unmapped
 returns-in-Some-clause-unmapped g c =
@@ -20,7 +22,8 @@ returns-in-Some-clause-unmapped g c =
 
 pub returns-clause-after : goal.returns-clause-after
 returns-clause-after g c =
-    kept_made (g.P.PageKinds.type_at c.args.kinds.now) c.args.self.now c.fill.new.self c.args.vpage c.fill.result
-    (ap (λ (q : Processor). find_entry c.args.vpage q.entries) (sym c.self.view_is)
-    ∙ no_position (has_page c.args.vpage) c.self.inside.tlb (sym c.find.ensures.value ∙ none_of _ c.in_default.not-Some))
-    c.fill.ensures.entry c.fill.ensures.filled c.fill.ensures.kept
+    let seen = with_same_entries _ c.find.new.self c.find.ensures.kept ∙ c.self.view_is in
+    subst (λ (q : Processor). c.fill.new.self ≡ option_map_or (λ e. keep_entry e q) (entry_by (g.P.PageKinds.type_at c.args.kinds.now) q c.args.vpage) q) seen
+    (kept_made (g.P.PageKinds.type_at c.args.kinds.now) _ c.fill.new.self c.args.vpage c.fill.result
+    (ap (find_entry c.args.vpage) c.find.ensures.kept ∙ no_position (has_page c.args.vpage) c.self.inside.tlb (sym c.find.ensures.value ∙ none_of _ c.in_default.not-Some))
+    c.fill.ensures.entry c.fill.ensures.filled c.fill.ensures.kept)
