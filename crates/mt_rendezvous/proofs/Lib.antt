@@ -12,3 +12,5 @@ mod Ends
 mod Unique
 mod Handed
 mod Begun
+mod WorkedStart
+mod OnWorked
