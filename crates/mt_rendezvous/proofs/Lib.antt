@@ -13,3 +13,5 @@ mod Unique
 mod Handed
 mod Begun
 mod Renewed
+mod WorkedStart
+mod OnWorked
