@@ -16,14 +16,15 @@ use Rattle.mt_machine.specs.declared.event.Event.{Event}
 use Rattle.mt_machine.specs.declared.go.Go.{Go}
 use Rattle.mt_machine.specs.declared.go.Go.TheVariants.{Pending, Given, Cancelled}
 use Rattle.mt_machine.specs.System.{Processor, System, change}
-use Rattle.mt_machine.specs.Machine.{Machine, Order, Steps, IsEnabled, due, next, own_step, before_own, step, stepped, is_over, has_released, is_cancelled, is_waiting_to_pass, common_era}
-use Rattle.mt_machine.specs.Update.{Led, led_on}
+use Rattle.mt_machine.specs.Machine.{Machine, MachineEvent, Order, Steps, IsEnabled, due, next, own_step, before_own, step, stepped, is_over, has_released, is_cancelled, is_waiting_to_pass, common_era}
+use Rattle.mt_machine.specs.Update.{Led, is_led, led_on}
 use Rattle.mt_rendezvous.specs.declared.view.Held.{Held}
 use Rattle.mt_rendezvous.specs.declared.view.Start.{Start}
 use Rattle.mt_rendezvous.specs.declared.view.View.{View}
 use Rattle.mt_rendezvous.specs.declared.view.Key.{Key}
 use Rattle.mt_rendezvous.specs.Station.{order_of, broadcast, cpu_of, first_memory_word, system_of, joined, start_of, view, weight, total, added_of, again_of, go_weight, phase_word_of, Fits, FitsHeld, rise, Sits, IsHeld, Meets}
-use Rattle.mt_rendezvous.specs.Plays.{PassSteps, Took}
+use Rattle.mt_rendezvous.specs.Plays.{CanFollow, PassSteps, Took, after_event}
+use Rattle.mt_rendezvous.specs.Laws.{Follows}
 
 -- ---- lists
 
@@ -158,14 +159,17 @@ acts t all go words after k e h w at order is own before = record {
         ∙ ap (λ (q : Processor). record (system_of t all after) { processors = set (map cpu_of all) k q }) (sym own)
         ∙ ap (λ (ps : List Processor). record (system_of t all after) { processors = ps }) (set_cpus all k h w at)
 
-pub led_acts : (t : Start) (all : List Held) (go : Go) (words after : List ℕ) (k : ℕ) (e : Event) (h w : Held) → Led (broadcast t) (joined t all go words) → Acts t all go words after k e h w
-    → Led (broadcast t) (joined t (set all k w) go after)
-led_acts t all go words after k e h w l a = subst (Led (broadcast t)) a.moves (led_on (Steps k e) l a.enabled refl)
+-- a machine becomes another by this event, which was enabled, or stays as it is
+abbrev pub Comes : Machine → Machine → Option MachineEvent → Type 0
+Comes m n e = CanFollow m e × (n ≡ after_event m e) × (option_map_or is_led e true ≡ true)
 
--- the step by which it acts
-pub event_step : (t : Start) (all : List Held) (go : Go) (words : List ℕ) (i n : ℕ) (e : Event) (h w : Held) → Led (broadcast t) (joined t all go words) → Acts t all go words (set words i n) h.number e h w
-    → get_elem? all h.number ≡ some h → PassSteps t i (slice_index words i) n (Some (Steps h.number e)) h w
-event_step t all go words i n e h w l a at = record { all = all; go = go; words = words; led = l; at = at; word = refl; enabled = a.enabled; becomes = sym a.moves }
+led_after : (b m n : Machine) (e : Option MachineEvent) → Led b m → Comes m n e → Led b n
+led_after b m n None l c = subst (Led b) (sym c.1) l
+led_after b m n (Some e) l c = subst (Led b) (sym c.1) (led_on e l c.0 c.2)
+
+pub comes_by : (t : Start) (all : List Held) (go : Go) (words after : List ℕ) (k : ℕ) (e : Event) (h w : Held) → Acts t all go words after k e h w
+    → Comes (joined t all go words) (joined t (set all k w) go after) (Some (Steps k e))
+comes_by t all go words after k e h w a = (a.enabled, sym a.moves, refl)
 
 -- an event that is enabled there has an order
 order_there : (t : Start) (s : System) (go : Go) (k : ℕ) (e : Event) → IsEnabled (stepped (order_of t go) s) (Steps k e) → (stepped (order_of t go) s).order ≡ Some (order_of t go)
@@ -188,20 +192,16 @@ took_of t i found new e h w r = record {
 }
 
 -- nothing happens to the machine
-pub unmoved : (t : Start) (all : List Held) (go : Go) (words after : List ℕ) (k : ℕ) (h w : Held) → get_elem? all k ≡ some h → w.cpu ≡ h.cpu
+unmoved : (t : Start) (all : List Held) (go : Go) (words after : List ℕ) (k : ℕ) (h w : Held) → get_elem? all k ≡ some h → w.cpu ≡ h.cpu
     → drop (first_memory_word t) words ≡ drop (first_memory_word t) after → joined t all go words ≡ joined t (set all k w) go after
 unmoved t all go words after k h w at is memory =
     ap (λ (x : List Processor × List ℕ). stepped (order_of t go) (record { processors = x.0; memory = record { windows = t.ram.windows; words = x.1 } }))
     (λ i. (same_cpus all k h w at is i, memory i))
 
-pub same_machine : (t : Start) (all : List Held) (go : Go) (words after : List ℕ) (k : ℕ) (h w : Held) → Led (broadcast t) (joined t all go words) → get_elem? all k ≡ some h → w.cpu ≡ h.cpu
-    → drop (first_memory_word t) words ≡ drop (first_memory_word t) after → Led (broadcast t) (joined t (set all k w) go after)
-same_machine t all go words after k h w l at is memory = subst (Led (broadcast t)) (unmoved t all go words after k h w at is memory) l
-
 -- the step that is no event
-pub still_step : (t : Start) (all : List Held) (go : Go) (words : List ℕ) (i n : ℕ) (h w : Held) → Led (broadcast t) (joined t all go words) → get_elem? all h.number ≡ some h → w.cpu ≡ h.cpu
-    → drop (first_memory_word t) words ≡ drop (first_memory_word t) (set words i n) → PassSteps t i (slice_index words i) n None h w
-still_step t all go words i n h w l at is memory = record { all = all; go = go; words = words; led = l; at = at; word = refl; enabled = tt; becomes = sym (unmoved t all go words (set words i n) h.number h w at is memory) }
+pub comes_still : (t : Start) (all : List Held) (go : Go) (words after : List ℕ) (k : ℕ) (h w : Held) → get_elem? all k ≡ some h → w.cpu ≡ h.cpu
+    → drop (first_memory_word t) words ≡ drop (first_memory_word t) after → Comes (joined t all go words) (joined t (set all k w) go after) None
+comes_still t all go words after k h w at is memory = (tt, sym (unmoved t all go words after k h w at is memory), refl)
 
 -- a word before those of memory is stored
 pub low_word : (t : Start) (all : List Held) (words : List ℕ) (i n : ℕ) → i < first_memory_word t → system_of t all words ≡ system_of t all (set words i n)
@@ -256,42 +256,57 @@ module _ (key : Key) where
   abbrev t : Start
   t = start_of key
 
-  -- A pass that holds h comes to hold w in its place
-  pub placed : (s : St) (m : Meets key s) (id : ℕ) (v : View) (h w : Held) (shown : Option ℕ) → get_elem? s.views id ≡ some v → v.held ≡ h ∷ [] → w.number ≡ h.number
-      → (words : List ℕ) → Led (broadcast t) (joined t (set m.all h.number w) m.go words) → FitsHeld t m.go w
-      → length words ≡ length s.words → slice_index words 0 ≡ total added_of (set m.all h.number w) + go_weight m.go → slice_index words 1 ≡ total again_of (set m.all h.number w)
-      → ((j : ℕ) (g : Held) → get_elem? (set m.all h.number w) j ≡ some g → slice_index words (j + 2) ≡ phase_word_of g)
-      → (homes : List _) → Meets key (record { words = words; homes = homes; views = set s.views id (view v.root (w ∷ []) v.go shown v) })
-  placed s m id v h w shown at is same words l fits wide first second codes homes =
+  -- a step of the pass that holds h, by which the word i becomes n and it holds w: the rule is kept, and the machine takes this event or none
+  pub record Placed (s : St) (m : Meets key s) (id i n : ℕ) (v : View) (h w : Held) (shown : Option ℕ) (e : Option MachineEvent) : Type 0 where
+    pub follows : Follows key s (record { words = set s.words i n; homes = s.homes; views = set s.views id (view v.root (w ∷ []) v.go shown v) }) m e
+    pub steps : PassSteps v.start i (slice_index s.words i) n e h w
+    pub led : Led (broadcast t) (joined t (set m.all h.number w) m.go (set s.words i n))
+
+  pub placed : (s : St) (m : Meets key s) (id i n : ℕ) (v : View) (h w : Held) (shown : Option ℕ) (e : Option MachineEvent) → get_elem? s.views id ≡ some v → v.held ≡ h ∷ [] → w.number ≡ h.number
+      → Comes (joined t m.all m.go s.words) (joined t (set m.all h.number w) m.go (set s.words i n)) e → FitsHeld t m.go w
+      → slice_index (set s.words i n) 0 ≡ total added_of (set m.all h.number w) + go_weight m.go → slice_index (set s.words i n) 1 ≡ total again_of (set m.all h.number w)
+      → ((j : ℕ) (g : Held) → get_elem? (set m.all h.number w) j ≡ some g → slice_index (set s.words i n) (j + 2) ≡ phase_word_of g)
+      → Placed s m id i n v h w shown e
+  placed s m id i n v h w shown e at is same comes fits first second codes =
       let seat = m.seats id v at in
       let mine = seat.holds zero h (subst (λ (hs : List Held). get_elem? hs zero ≡ some h) (sym is) refl) in
       let k : ℕ = h.number in
       let there : get_elem? m.all k ≡ some h = mine.0 in
       let told = told_of seat.told in
+      let l = led_after (broadcast t) (joined t m.all m.go s.words) (joined t (set m.all k w) m.go (set s.words i n)) e m.led_to comes in
       record {
-        all = set m.all k w;
-        go = m.go;
-        owner = m.owner;
-        begins = m.begins;
-        led_to = l;
-        size = length-set m.all k w ∙ m.size;
-        some_one = subst (λ (n : ℕ). 0 < n) (sym (length-set m.all k w)) m.some_one;
-        few = subst (λ (n : ℕ). n < 65536) (sym (length-set m.all k w)) m.few;
-        wide = wide ∙ m.wide;
-        first = first;
-        second = second;
-        codes = codes;
-        present = λ j b. moves_present s.views id v (view v.root (w ∷ []) v.go shown v) h w at is refl same j (m.present j (subst (λ (n : ℕ). j < n) (length-set m.all k w) b));
-        fits = λ j g e. ⊎_elim
-            (λ (x : (j ≡ k) × (w ≡ g)). subst (λ (u : Held). FitsHeld t m.go u × (u.number ≡ j)) x.1 (fits, same ∙ sym x.0))
-            (λ (x : (j ≢ k) × (get_elem? m.all j ≡ some g)). m.fits j g x.1)
-            (at_set m.all k j w g e);
-        seats = λ j u e. ⊎_elim
-            (λ (x : (j ≡ id) × (view v.root (w ∷ []) v.go shown v ≡ u)). subst (λ (y : ℕ × View). Sits t (set m.all k w) m.go m.owner y.0 y.1) (λ i. (sym x.0 i, x.1 i))
-            (record { root = seat.root; told = inr told; holds = own there mine.1; apart = ((λ i g none. absurd (some-ne-none g (sym none))), tt) }))
-            (λ (x : (j ≢ id) × (get_elem? s.views j ≡ some u)). let its = m.seats j u x.1 in
-            record { root = its.root; told = its.told; holds = λ i g e'. other j u g (its.holds i g e') x.0 mine.1; apart = its.apart })
-            (at_set s.views id j (view v.root (w ∷ []) v.go shown v) u e);
+        led = l;
+        steps = subst (λ (y : Start). PassSteps y i (slice_index s.words i) n e h w) (sym told)
+            (record { all = m.all; go = m.go; words = s.words; led = m.led_to; at = there; word = refl; enabled = comes.0; becomes = comes.1 });
+        follows = record {
+          enabled = comes.0;
+          becomes = comes.1;
+          kept = record {
+            all = set m.all k w;
+            go = m.go;
+            owner = m.owner;
+            begins = m.begins;
+            led_to = l;
+            size = length-set m.all k w ∙ m.size;
+            some_one = subst (λ (n : ℕ). 0 < n) (sym (length-set m.all k w)) m.some_one;
+            few = subst (λ (n : ℕ). n < 65536) (sym (length-set m.all k w)) m.few;
+            wide = length-set s.words i n ∙ m.wide;
+            first = first;
+            second = second;
+            codes = codes;
+            present = λ j b. moves_present s.views id v (view v.root (w ∷ []) v.go shown v) h w at is refl same j (m.present j (subst (λ (n : ℕ). j < n) (length-set m.all k w) b));
+            fits = λ j g e. ⊎_elim
+                (λ (x : (j ≡ k) × (w ≡ g)). subst (λ (u : Held). FitsHeld t m.go u × (u.number ≡ j)) x.1 (fits, same ∙ sym x.0))
+                (λ (x : (j ≢ k) × (get_elem? m.all j ≡ some g)). m.fits j g x.1)
+                (at_set m.all k j w g e);
+            seats = λ j u e. ⊎_elim
+                (λ (x : (j ≡ id) × (view v.root (w ∷ []) v.go shown v ≡ u)). subst (λ (y : ℕ × View). Sits t (set m.all k w) m.go m.owner y.0 y.1) (λ i. (sym x.0 i, x.1 i))
+                (record { root = seat.root; told = inr told; holds = own there mine.1; apart = ((λ i g none. absurd (some-ne-none g (sym none))), tt) }))
+                (λ (x : (j ≢ id) × (get_elem? s.views j ≡ some u)). let its = m.seats j u x.1 in
+                record { root = its.root; told = its.told; holds = λ i g e'. other j u g (its.holds i g e') x.0 mine.1; apart = its.apart })
+                (at_set s.views id j (view v.root (w ∷ []) v.go shown v) u e);
+          };
+        };
       }
     where
       told_of : ((v.held ≡ []) × (v.root ≡ false)) ⊎ (v.start ≡ t) → v.start ≡ t

@@ -5,9 +5,12 @@ mod Keeps
 mod Local
 mod Steps
 mod RootSteps
+mod EachStep
 mod Facts
 mod Carried
 mod Ends
 mod Unique
 mod Handed
 mod Begun
+mod WorkedStart
+mod OnWorked

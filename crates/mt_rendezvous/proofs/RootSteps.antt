@@ -1,6 +1,6 @@
 -- What the root's steps ask: the go and the cancel, a processor given away and taken back, and the start.
 use Rattle.std.proofs.Common.{◌≡◌, ◌≢◌, ◌⊎◌, ◌≤◌, ℕ, zero, suc, ◌+◌, ◌%◌, ◌^◌, ◌<◌, Bool, true, false, true≢false, List, [], ◌∷◌, ◌++◌, map, length, get_or, set, sym, refl, ap, ◌∙◌, subst, inl, inr, ⊎_elim, arith, length-set, get_or-set_same, get_or-set_other, replicate, eqb, eq-eqb, ne_eqb, drop, drop-cons}
-use Rattle.std.specs.Prelude.{slice_index, slice_get, Option, Some}
+use Rattle.std.specs.Prelude.{slice_index, slice_get, Option, Some, None}
 use Rattle.std.specs.Option.{option_map_or, option_map}
 use mathlib.Core.Option.{none, some, some-injective, some-ne-none}
 use mathlib.Core.Logic.{dite}
@@ -12,9 +12,9 @@ use Rattle.mt_machine.specs.declared.phase.Phase.{Phase}
 use Rattle.mt_machine.specs.declared.phase.Phase.TheVariants.{Taken, Arrived, Arrived2, Running}
 use Rattle.mt_machine.specs.declared.go.Go.{Go}
 use Rattle.mt_machine.specs.declared.go.Go.TheVariants.{Pending, Given, Cancelled}
-use Rattle.mt_machine.specs.System.{Processor, System}
+use Rattle.mt_machine.specs.System.{Processor}
 use Rattle.mt_machine.specs.Machine.{Machine, MachineEvent, Order, Goes, Cancels as CancelsUpdate, IsEnabled, next, remaining_order, stepped, common_era}
-use Rattle.mt_machine.specs.Update.{Led, led_start, led_on}
+use Rattle.mt_machine.specs.Update.{Led, is_led, led_start, led_on}
 use Rattle.mt_laws.proofs.Barrier.Claims.{all_get}
 use Rattle.mt_rendezvous.specs.declared.view.Held.{Held}
 use Rattle.mt_rendezvous.specs.declared.view.Start.{Start}
@@ -22,7 +22,8 @@ use Rattle.mt_rendezvous.specs.declared.view.View.{View}
 use Rattle.mt_rendezvous.specs.declared.view.Key.{Key}
 use Rattle.mt_rendezvous.specs.Station.{order_of, broadcast, Begins, cpu_of, first_memory_word, system_of, joined, start_of, held, numbered, first_view, total, added_of, again_of, go_weight, phase_word, phase_word_of, Fits, FitsHeld, rise, Apart, Sits, IsHeld, Meets, one, others, root_left, pass_right, both, spent}
 use Rattle.mt_rendezvous.specs.Calls.{opening_words}
-use Rattle.mt_rendezvous.specs.Plays.{Decided, with_go, Gives, Cancels}
+use Rattle.mt_rendezvous.specs.Plays.{Decided, after_event, with_go, Gives, Cancels}
+use Rattle.mt_rendezvous.specs.Laws.{Follows, machine_of}
 use Rattle.mt_rendezvous.proofs.Keeps.{total_small, weight_small, kept_present, IsUnderWay, stands_order, low_word}
 
 -- the coordinator's word changes once
@@ -152,46 +153,6 @@ module _ (key : Key) where
       subst (λ (g : Go). (joined start m.all g s.words).order ≡ Some (order_of start g)) was
       (stands_order start m.all m.go s.words 0 h.0 h.1 (pending_under_way m.go h.0.added h.0.again h.0.cpu.phase was f.fits) f)
 
-  led_pending : (s : St) (m : Meets key s) → m.go ≡ Pending → Led (broadcast start) (joined start m.all Pending s.words)
-  led_pending s m was = subst (λ (g : Go). Led (broadcast start) (joined start m.all g s.words)) was m.led_to
-
-  -- the coordinator's word, added to word 0
-  decides : (s : St) (m : Meets key s) (id : ℕ) (v : View) (new : Go) (n : ℕ) → get_elem? s.views id ≡ some v → v.root ≡ true → m.go ≡ Pending
-      → Led (broadcast start) (joined start m.all new s.words) → (total added_of m.all ≤ length m.all → n ≡ total added_of m.all + go_weight new) → (homes : List _)
-      → Meets key (record { words = set s.words 0 n; homes = homes; views = set s.views id (with_go v new) })
-  decides s m id v new n at root was l count homes =
-      let seat = m.seats id v at in
-      let r = seat.root root in
-      let wide = m.wide in
-      let y = m.second in
-      let here : get_or (set s.words 0 n) 0 0 ≡ n = get_or-set_same s.words 0 n 0 (omega arith) in
-      let there : get_or (set s.words 0 n) 1 0 ≡ get_or s.words 1 0 = get_or-set_other s.words 0 1 n 0 (λ (e : 1 ≡ 0). omega arith) in
-      record {
-        all = m.all;
-        go = new;
-        owner = m.owner;
-        begins = m.begins;
-        led_to = ap_led (low_word start m.all s.words 0 n (omega arith)) l;
-        size = m.size;
-        some_one = m.some_one;
-        few = m.few;
-        wide = length-set s.words 0 n ∙ wide;
-        first = here ∙ count (total_small added_of (λ g. weight_small g.added) m.all);
-        second = there ∙ y;
-        codes = λ k h e. get_or-set_other s.words 0 (k + 2) n 0 (λ (q : k + 2 ≡ 0). omega arith) ∙ m.codes k h e;
-        present = λ k b. kept_present s.views id v (with_go v new) at (λ i h e. (i, h, e, refl)) k (m.present k b);
-        fits = λ k h e. let f = m.fits k h e in (record { first = f.0.first; fits = turned m.go new h.added h.again h.cpu.phase was f.0.fits; era = f.0.era }, f.1);
-        seats = λ j u e. ⊎_elim
-            (λ (t : (j ≡ id) × (with_go v new ≡ u)). subst (λ (x : ℕ × View). Sits start m.all new m.owner x.0 x.1) (λ i. (sym t.0 i, t.1 i))
-            (record { root = λ _. (r.0, refl); told = seat.told; holds = seat.holds; apart = seat.apart }))
-            (λ (t : (j ≢ id) × (get_elem? s.views j ≡ some u)). let its = m.seats j u t.1 in
-            record { root = λ is. absurd (t.0 ((its.root is).0 ∙ sym r.0)); told = its.told; holds = its.holds; apart = its.apart })
-            (at_set s.views id j (with_go v new) u e);
-      }
-    where
-      ap_led : {x y : System} → x ≡ y → Led (broadcast start) (stepped (order_of start new) x) → Led (broadcast start) (stepped (order_of start new) y)
-      ap_led same l = subst (λ (x : System). Led (broadcast start) (stepped (order_of start new) x)) same l
-
   root_told : (s : St) (m : Meets key s) (id : ℕ) (v : View) → get_elem? s.views id ≡ some v → v.root ≡ true → v.start ≡ start
   root_told s m id v at root = by_case (m.seats id v at).told
     where
@@ -199,63 +160,87 @@ module _ (key : Key) where
       by_case (inl nothing) = absurd (let e = nothing.1 in cc)
       by_case (inr x) = x
 
-  decided : (go : Go) (e : MachineEvent) (all : List Held) (words : List ℕ) (n : ℕ) → Led (broadcast start) (joined start all Pending words) → Turns (joined start all Pending words) e (joined start all go words)
-      → Decided start 0 (get_or words 0 0) n e go
-  decided go e all words n l a = record {
-    all = all;
-    words = words;
-    led = l;
-    word = refl;
-    enabled = a.enabled;
-    becomes = ap (stepped (order_of start go)) (sym (low_word start all words 0 n (omega arith))) ∙ sym a.moves;
-  }
+  -- what comes of the coordinator's addition to word 0
+  pub record Turned (s : St) (m : Meets key s) (id : ℕ) (v : View) (new : Go) (n : ℕ) (e : MachineEvent) : Type 0 where
+    pub follows : Follows key s (record { words = set s.words 0 n; homes = s.homes; views = set s.views id (with_go v new) }) m (Some e)
+    pub steps : Decided v.start 0 (get_or s.words 0 0) n e new
+
+  decides : (s : St) (m : Meets key s) (id : ℕ) (v : View) (new : Go) (n : ℕ) (e : MachineEvent) → get_elem? s.views id ≡ some v → v.root ≡ true → (was : m.go ≡ Pending) → Word new e → is_led e ≡ true
+      → (total added_of m.all ≤ length m.all → n ≡ total added_of m.all + go_weight new) → Turned s m id v new n e
+  decides s m id v new n e at root was word leads count =
+      let seat = m.seats id v at in
+      let r = seat.root root in
+      let wide = m.wide in
+      let y = m.second in
+      let here : get_or (set s.words 0 n) 0 0 ≡ n = get_or-set_same s.words 0 n 0 (omega arith) in
+      let there : get_or (set s.words 0 n) 1 0 ≡ get_or s.words 1 0 = get_or-set_other s.words 0 1 n 0 (λ (e : 1 ≡ 0). omega arith) in
+      let a = word m.all s.words (pending s m was) in
+      let l : Led (broadcast start) (joined start m.all Pending s.words) = subst (λ (g : Go). Led (broadcast start) (joined start m.all g s.words)) was m.led_to in
+      let low : joined start m.all new (set s.words 0 n) ≡ joined start m.all new s.words = ap (stepped (order_of start new)) (sym (low_word start m.all s.words 0 n (omega arith))) in
+      let becomes : joined start m.all new (set s.words 0 n) ≡ next (joined start m.all Pending s.words) e = low ∙ sym a.moves in
+      record {
+        steps = subst (λ (y : Start). Decided y 0 (get_or s.words 0 0) n e new) (sym (root_told s m id v at root))
+            (record { all = m.all; words = s.words; led = l; word = refl; enabled = a.enabled; becomes = becomes });
+        follows = record {
+          enabled = subst (λ (g : Go). IsEnabled (joined start m.all g s.words) e) (sym was) a.enabled;
+          becomes = becomes ∙ ap (λ (g : Go). next (joined start m.all g s.words) e) (sym was);
+          kept = record {
+            all = m.all;
+            go = new;
+            owner = m.owner;
+            begins = m.begins;
+            led_to = subst (Led (broadcast start)) (sym becomes) (led_on e l a.enabled leads);
+            size = m.size;
+            some_one = m.some_one;
+            few = m.few;
+            wide = length-set s.words 0 n ∙ wide;
+            first = here ∙ count (total_small added_of (λ g. weight_small g.added) m.all);
+            second = there ∙ y;
+            codes = λ k h e. get_or-set_other s.words 0 (k + 2) n 0 (λ (q : k + 2 ≡ 0). omega arith) ∙ m.codes k h e;
+            present = λ k b. kept_present s.views id v (with_go v new) at (λ i h e. (i, h, e, refl)) k (m.present k b);
+            fits = λ k h e. let f = m.fits k h e in (record { first = f.0.first; fits = turned m.go new h.added h.again h.cpu.phase was f.0.fits; era = f.0.era }, f.1);
+            seats = λ j u e. ⊎_elim
+                (λ (t : (j ≡ id) × (with_go v new ≡ u)). subst (λ (x : ℕ × View). Sits start m.all new m.owner x.0 x.1) (λ i. (sym t.0 i, t.1 i))
+                (record { root = λ _. (r.0, refl); told = seat.told; holds = seat.holds; apart = seat.apart }))
+                (λ (t : (j ≢ id) × (get_elem? s.views j ≡ some u)). let its = m.seats j u t.1 in
+                record { root = λ is. absurd (t.0 ((its.root is).0 ∙ sym r.0)); told = its.told; holds = its.holds; apart = its.apart })
+                (at_set s.views id j (with_go v new) u e);
+          };
+        };
+      }
+
+  -- the go and the cancel
+  pub giving : (s : St) (m : Meets key s) (id : ℕ) (v : View) → get_elem? s.views id ≡ some v → v.root ≡ true → v.go ≡ Pending → Turned s m id v Given ((get_or s.words 0 0 + 1) % 18446744073709551616) Goes
+  giving s m id v at root is =
+      let x = m.first in
+      let few = m.few in
+      let was : m.go ≡ Pending = sym ((m.seats id v at).root root).1 ∙ is in
+      let w : go_weight m.go ≡ 0 = ap go_weight was in
+      decides s m id v Given ((get_or s.words 0 0 + 1) % 18446744073709551616) Goes at root was goes refl (λ le. omega arith)
+
+  pub cancelling : (s : St) (m : Meets key s) (id : ℕ) (v : View) → get_elem? s.views id ≡ some v → v.root ≡ true → v.go ≡ Pending → Turned s m id v Cancelled ((get_or s.words 0 0 + 4294967296) % 18446744073709551616) CancelsUpdate
+  cancelling s m id v at root is =
+      let x = m.first in
+      let few = m.few in
+      let was : m.go ≡ Pending = sym ((m.seats id v at).root root).1 ∙ is in
+      let w : go_weight m.go ≡ 0 = ap go_weight was in
+      decides s m id v Cancelled ((get_or s.words 0 0 + 4294967296) % 18446744073709551616) CancelsUpdate at root was gone refl (λ le. omega arith)
 
   pub gives : (slots id : ℕ) (me : Me (Unit {0}) View) → me.0.root ≡ true → me.0.go ≡ Pending
       → Allows (Meets key) slots id me 0 (λ n. (n + 1) % 2 ^ 64) (Gives (step slots 0 1 0 none) me)
-  gives slots id me root is s m _ at small =
-      let x = m.first in
-      let few = m.few in
-      let was : m.go ≡ Pending = sym ((m.seats id me.0 at).root root).1 ∙ is in
-      let a = goes m.all s.words (pending s m was) in
-      let l = led_pending s m was in
-      let w : go_weight m.go ≡ 0 = ap go_weight was in (
-        with_go me.0 Given,
-        keeps,
-        tt,
-        decides s m id me.0 Given ((get_or s.words 0 0 + 1) % 18446744073709551616) at root was (subst (Led (broadcast start)) a.moves (led_on Goes l a.enabled refl))
-            (λ le. omega arith) s.homes,
-        (
-          refl,
-          refl,
-          subst (λ (y : Start). Decided y 0 (get_or s.words 0 0) ((get_or s.words 0 0 + 1) % 18446744073709551616) Goes Given) (sym (root_told s m id me.0 at root)) (decided Given Goes m.all s.words ((get_or s.words 0 0 + 1) % 18446744073709551616) l a),
-        ),
-      )
+  gives slots id me root is s m _ at small = let p = giving s m id me.0 at root is in (with_go me.0 Given, keeps, tt, p.follows.kept, (refl, refl, p.steps))
 
   pub cancels : (slots id : ℕ) (me : Me (Unit {0}) View) → me.0.root ≡ true → me.0.go ≡ Pending
       → Allows (Meets key) slots id me 0 (λ n. (n + 4294967296) % 2 ^ 64) (Cancels (step slots 0 4294967296 0 none) me)
-  cancels slots id me root is s m _ at small =
-      let x = m.first in
-      let few = m.few in
-      let was : m.go ≡ Pending = sym ((m.seats id me.0 at).root root).1 ∙ is in
-      let a = gone m.all s.words (pending s m was) in
-      let l = led_pending s m was in
-      let w : go_weight m.go ≡ 0 = ap go_weight was in (
-        with_go me.0 Cancelled,
-        keeps,
-        tt,
-        decides s m id me.0 Cancelled ((get_or s.words 0 0 + 4294967296) % 18446744073709551616) at root was (subst (Led (broadcast start)) a.moves (led_on CancelsUpdate l a.enabled refl))
-            (λ le. omega arith) s.homes,
-        (
-          refl,
-          refl,
-          subst (λ (y : Start). Decided y 0 (get_or s.words 0 0) ((get_or s.words 0 0 + 4294967296) % 18446744073709551616) CancelsUpdate Cancelled) (sym (root_told s m id me.0 at root))
-              (decided Cancelled CancelsUpdate m.all s.words ((get_or s.words 0 0 + 4294967296) % 18446744073709551616) l a),
-        ),
-      )
+  cancels slots id me root is s m _ at small = let p = cancelling s m id me.0 at root is in (with_go me.0 Cancelled, keeps, tt, p.follows.kept, (refl, refl, p.steps))
+
+  same_machine : (s : St) (m : Meets key s) → machine_of key s m ≡ after_event (machine_of key s m) None
+  same_machine s m = refl
 
   -- a processor is given away to a new pass
-  pub splits : (id : ℕ) (v : View) (h : Held) (hs : List Held) → v.held ≡ h ∷ hs → Splits (Meets key) id v (root_left v) (pass_right v)
-  splits id v h hs is s m at =
+  pub splitting : (s : St) (m : Meets key s) (id : ℕ) (v : View) (h : Held) (hs : List Held) → get_elem? s.views id ≡ some v → v.held ≡ h ∷ hs
+      → Follows key s (record { words = s.words; homes = s.homes; views = set s.views id (root_left v) ++ pass_right v ∷ [] }) m None
+  splitting s m id v h hs at is =
       let seat = m.seats id v at in
       let new : ℕ = length s.views in
       let at_hs = λ (i : ℕ) (g : Held) (e : get_elem? hs i ≡ some g). subst (λ (l : List Held). get_elem? l (suc i) ≡ some g) (sym is) e in
@@ -267,46 +252,50 @@ module _ (key : Key) where
       let own' = owned m.owner h.number new in
       let length_l : length (set s.views id (root_left v)) ≡ length s.views = length-set s.views id (root_left v) in
       record {
-        all = m.all;
-        go = m.go;
-        owner = own';
-        begins = m.begins;
-        led_to = m.led_to;
-        size = m.size;
-        some_one = m.some_one;
-        few = m.few;
-        wide = m.wide;
-        first = m.first;
-        second = m.second;
-        codes = m.codes;
-        present = λ k b. split_present s.views id v h hs at is left_held right_held k (m.present k b);
-        fits = m.fits;
-        seats = λ j u e. ⊎_elim
-            (λ (t : get_elem? (set s.views id (root_left v)) j ≡ some u). ⊎_elim
-            (λ (t : (j ≡ id) × (root_left v ≡ u)). subst (λ (x : ℕ × View). Sits start m.all m.go own' x.0 x.1) (λ i. (sym t.0 i, t.1 i))
-            (record {
-              root = seat.root;
-              told = inr told;
-              holds = λ i g e'. let e'' : get_elem? hs i ≡ some g = subst (λ (l : List Held). get_elem? l i ≡ some g) left_held e' in
-                  let w = seat.holds (suc i) g (at_hs i g e'') in
-                  (w.0, owned_else m.owner h.number new g.number (apart.0 i g e'') ∙ w.1);
-              apart = subst Apart (sym left_held) apart.1;
-            }))
-            (λ (t : (j ≢ id) × (get_elem? s.views j ≡ some u)). let its = m.seats j u t.1 in record {
-              root = its.root;
-              told = its.told;
-              holds = λ i g e'. let w = its.holds i g e' in (w.0, owned_else m.owner h.number new g.number (λ same. t.0 (sym w.1 ∙ ap m.owner same ∙ mine.1)) ∙ w.1);
-              apart = its.apart;
-            })
-            (at_set s.views id j (root_left v) u t))
-            (λ (t : (j ≡ length (set s.views id (root_left v))) × (pass_right v ≡ u)). subst (λ (x : ℕ × View). Sits start m.all m.go own' x.0 x.1) (λ i. (sym (t.0 ∙ length_l) i, t.1 i))
-            (record {
-              root = λ no. absurd (true≢false (sym no));
-              told = inr told;
-              holds = λ i g e'. only m.all own' new i g (subst (λ (l : List Held). get_elem? l i ≡ some g) right_held e') mine.0 (owned_here m.owner h.number new);
-              apart = subst Apart (sym right_held) ((λ i g nothing. absurd (some-ne-none g (sym nothing))), tt);
-            }))
-            (at_end (set s.views id (root_left v)) (pass_right v) u j e);
+        enabled = tt;
+        becomes = same_machine s m;
+        kept = record {
+          all = m.all;
+          go = m.go;
+          owner = own';
+          begins = m.begins;
+          led_to = m.led_to;
+          size = m.size;
+          some_one = m.some_one;
+          few = m.few;
+          wide = m.wide;
+          first = m.first;
+          second = m.second;
+          codes = m.codes;
+          present = λ k b. split_present s.views id v h hs at is left_held right_held k (m.present k b);
+          fits = m.fits;
+          seats = λ j u e. ⊎_elim
+              (λ (t : get_elem? (set s.views id (root_left v)) j ≡ some u). ⊎_elim
+              (λ (t : (j ≡ id) × (root_left v ≡ u)). subst (λ (x : ℕ × View). Sits start m.all m.go own' x.0 x.1) (λ i. (sym t.0 i, t.1 i))
+              (record {
+                root = seat.root;
+                told = inr told;
+                holds = λ i g e'. let e'' : get_elem? hs i ≡ some g = subst (λ (l : List Held). get_elem? l i ≡ some g) left_held e' in
+                    let w = seat.holds (suc i) g (at_hs i g e'') in
+                    (w.0, owned_else m.owner h.number new g.number (apart.0 i g e'') ∙ w.1);
+                apart = subst Apart (sym left_held) apart.1;
+              }))
+              (λ (t : (j ≢ id) × (get_elem? s.views j ≡ some u)). let its = m.seats j u t.1 in record {
+                root = its.root;
+                told = its.told;
+                holds = λ i g e'. let w = its.holds i g e' in (w.0, owned_else m.owner h.number new g.number (λ same. t.0 (sym w.1 ∙ ap m.owner same ∙ mine.1)) ∙ w.1);
+                apart = its.apart;
+              })
+              (at_set s.views id j (root_left v) u t))
+              (λ (t : (j ≡ length (set s.views id (root_left v))) × (pass_right v ≡ u)). subst (λ (x : ℕ × View). Sits start m.all m.go own' x.0 x.1) (λ i. (sym (t.0 ∙ length_l) i, t.1 i))
+              (record {
+                root = λ no. absurd (true≢false (sym no));
+                told = inr told;
+                holds = λ i g e'. only m.all own' new i g (subst (λ (l : List Held). get_elem? l i ≡ some g) right_held e') mine.0 (owned_here m.owner h.number new);
+                apart = subst Apart (sym right_held) ((λ i g nothing. absurd (some-ne-none g (sym nothing))), tt);
+              }))
+              (at_end (set s.views id (root_left v)) (pass_right v) u j e);
+        };
       }
     where
       told_of : v.held ≡ h ∷ hs → ((v.held ≡ []) × (v.root ≡ false)) ⊎ (v.start ≡ start) → v.start ≡ start
@@ -317,51 +306,58 @@ module _ (key : Key) where
       only all own j zero g e x y = subst (λ (u : Held). (get_elem? all u.number ≡ some u) × (own u.number ≡ j)) (some-injective h g e) (x, y)
       only all own j (suc i) g e x y = absurd (some-ne-none g (sym e))
 
+  pub splits : (id : ℕ) (v : View) (h : Held) (hs : List Held) → v.held ≡ h ∷ hs → Splits (Meets key) id v (root_left v) (pass_right v)
+  splits id v h hs is s m at = (splitting s m id v h hs at is).kept
+
   -- a pass's processor is taken back
-  pub joins : (id other : ℕ) (v w : View) (h : Held) → v.root ≡ true → w.held ≡ h ∷ [] → Joins (Meets key) id v other w (both v w) spent
-  joins id other v w h root is s m at apart there =
+  pub joining : (s : St) (m : Meets key s) (id other : ℕ) (v w : View) (h : Held) → get_elem? s.views id ≡ some v → v.root ≡ true → ¬ (other ≡ id) → get_elem? s.views other ≡ some w → w.held ≡ h ∷ []
+      → Follows key s (record { words = s.words; homes = s.homes; views = set (set s.views id (both v w)) other spent }) m None
+  joining s m id other v w h at root apart there is =
       let seat = m.seats id v at in
-      let there' : get_elem? s.views other ≡ some w = ⊎_elim (λ (t : (other ≡ id) × (both v w ≡ w)). absurd (apart t.0)) (λ (t : (other ≢ id) × (get_elem? s.views other ≡ some w)). t.1) (at_set s.views id other (both v w) w there) in
-      let its = m.seats other w there' in
+      let its = m.seats other w there in
       let theirs = its.holds zero h (subst (λ (l : List Held). get_elem? l zero ≡ some h) (sym is) refl) in
       let told = told_of seat.told in
       let own' = owned m.owner h.number id in
       let joined : (both v w).held ≡ h ∷ v.held = ap (λ (l : List Held). l ++ v.held) is in
       let away = λ (i : ℕ) (g : Held) (e : get_elem? v.held i ≡ some g) (same : g.number ≡ h.number). apart (sym theirs.1 ∙ sym (ap m.owner same) ∙ (seat.holds i g e).1) in
       record {
-        all = m.all;
-        go = m.go;
-        owner = own';
-        begins = m.begins;
-        led_to = m.led_to;
-        size = m.size;
-        some_one = m.some_one;
-        few = m.few;
-        wide = m.wide;
-        first = m.first;
-        second = m.second;
-        codes = m.codes;
-        present = λ k b. join_present s.views id other v w h at apart there' is joined k (m.present k b);
-        fits = m.fits;
-        seats = λ j u e. ⊎_elim
-            (λ (t : (j ≡ other) × (spent ≡ u)). subst (Sits start m.all m.go own' j) t.1 (record { root = λ no. absurd (true≢false (sym no)); told = inl (refl, refl); holds = λ i g nothing. absurd (some-ne-none g (sym nothing)); apart = tt }))
-            (λ (t : (j ≢ other) × (get_elem? (set s.views id (both v w)) j ≡ some u)). ⊎_elim
-            (λ (r : (j ≡ id) × (both v w ≡ u)). subst (λ (x : ℕ × View). Sits start m.all m.go own' x.0 x.1) (λ i. (sym r.0 i, r.1 i))
-            (record {
-              root = seat.root;
-              told = inr told;
-              holds = λ i g e'. gained m.all own' id i g (subst (λ (l : List Held). get_elem? l i ≡ some g) joined e') (theirs.0, owned_here m.owner h.number id)
-                  (λ i' g' e''. let o = seat.holds i' g' e'' in (o.0, owned_else m.owner h.number id g'.number (away i' g' e'') ∙ o.1));
-              apart = subst Apart (sym joined) (away, seat.apart);
-            }))
-            (λ (r : (j ≢ id) × (get_elem? s.views j ≡ some u)). let us = m.seats j u r.1 in record {
-              root = us.root;
-              told = us.told;
-              holds = λ i g e'. let o = us.holds i g e' in (o.0, owned_else m.owner h.number id g.number (λ same. t.0 (sym o.1 ∙ ap m.owner same ∙ theirs.1)) ∙ o.1);
-              apart = us.apart;
-            })
-            (at_set s.views id j (both v w) u t.1))
-            (at_set (set s.views id (both v w)) other j spent u e);
+        enabled = tt;
+        becomes = same_machine s m;
+        kept = record {
+          all = m.all;
+          go = m.go;
+          owner = own';
+          begins = m.begins;
+          led_to = m.led_to;
+          size = m.size;
+          some_one = m.some_one;
+          few = m.few;
+          wide = m.wide;
+          first = m.first;
+          second = m.second;
+          codes = m.codes;
+          present = λ k b. join_present s.views id other v w h at apart there is joined k (m.present k b);
+          fits = m.fits;
+          seats = λ j u e. ⊎_elim
+              (λ (t : (j ≡ other) × (spent ≡ u)). subst (Sits start m.all m.go own' j) t.1 (record { root = λ no. absurd (true≢false (sym no)); told = inl (refl, refl); holds = λ i g nothing. absurd (some-ne-none g (sym nothing)); apart = tt }))
+              (λ (t : (j ≢ other) × (get_elem? (set s.views id (both v w)) j ≡ some u)). ⊎_elim
+              (λ (r : (j ≡ id) × (both v w ≡ u)). subst (λ (x : ℕ × View). Sits start m.all m.go own' x.0 x.1) (λ i. (sym r.0 i, r.1 i))
+              (record {
+                root = seat.root;
+                told = inr told;
+                holds = λ i g e'. gained m.all own' id i g (subst (λ (l : List Held). get_elem? l i ≡ some g) joined e') (theirs.0, owned_here m.owner h.number id)
+                    (λ i' g' e''. let o = seat.holds i' g' e'' in (o.0, owned_else m.owner h.number id g'.number (away i' g' e'') ∙ o.1));
+                apart = subst Apart (sym joined) (away, seat.apart);
+              }))
+              (λ (r : (j ≢ id) × (get_elem? s.views j ≡ some u)). let us = m.seats j u r.1 in record {
+                root = us.root;
+                told = us.told;
+                holds = λ i g e'. let o = us.holds i g e' in (o.0, owned_else m.owner h.number id g.number (λ same. t.0 (sym o.1 ∙ ap m.owner same ∙ theirs.1)) ∙ o.1);
+                apart = us.apart;
+              })
+              (at_set s.views id j (both v w) u t.1))
+              (at_set (set s.views id (both v w)) other j spent u e);
+        };
       }
     where
       told_of : ((v.held ≡ []) × (v.root ≡ false)) ⊎ (v.start ≡ start) → v.start ≡ start
@@ -372,6 +368,12 @@ module _ (key : Key) where
           → ((i' : ℕ) (g' : Held) → get_elem? v.held i' ≡ some g' → (get_elem? all g'.number ≡ some g') × (own g'.number ≡ j)) → (get_elem? all g.number ≡ some g) × (own g.number ≡ j)
       gained all own j zero g e x rest = subst (λ (u : Held). (get_elem? all u.number ≡ some u) × (own u.number ≡ j)) (some-injective h g e) x
       gained all own j (suc i) g e x rest = rest i g e
+
+  pub joins : (id other : ℕ) (v w : View) (h : Held) → v.root ≡ true → w.held ≡ h ∷ [] → Joins (Meets key) id v other w (both v w) spent
+  joins id other v w h root is s m at apart there = (joining s m id other v w h at root apart was is).kept
+    where
+      was : get_elem? s.views other ≡ some w
+      was = ⊎_elim (λ (t : (other ≡ id) × (both v w ≡ w)). absurd (apart t.0)) (λ (t : (other ≢ id) × (get_elem? s.views other ≡ some w)). t.1) (at_set s.views id other (both v w) w there)
 
 numbered_cpus : (k : ℕ) (cs : List Processor) → map cpu_of (numbered k cs) ≡ cs
 numbered_cpus k [] = refl

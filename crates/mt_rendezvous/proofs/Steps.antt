@@ -1,5 +1,5 @@
 -- What the steps of a pass ask.
-use Rattle.std.proofs.Common.{◌≡◌, ◌≢◌, ◌⊎◌, ◌≤◌, ℕ, zero, ◌+◌, ◌%◌, ◌^◌, ◌<◌, Bool, true, false, ◌&&◌, List, [], ◌∷◌, map, length, get_or, set, drop, sym, refl, ap, ◌∙◌, subst, inl, inr, ⊎_elim, arith, length-set, get_or-set_same, get_or-set_other}
+use Rattle.std.proofs.Common.{◌≡◌, ◌≢◌, ◌⊎◌, ◌≤◌, ℕ, zero, ◌+◌, ◌%◌, ◌^◌, ◌<◌, Bool, true, false, ◌&&◌, List, [], ◌∷◌, map, length, get_or, set, drop, sym, refl, ap, ◌∙◌, subst, inl, inr, ⊎_elim, arith, get_or-set_same, get_or-set_other}
 use Rattle.std.specs.Prelude.{Option, Some, None, if◌then◌else◌, slice_set, slice_get}
 use Rattle.std.specs.List.{list_all}
 use Rattle.std.specs.Option.{option_map_or}
@@ -7,9 +7,8 @@ use mathlib.Core.Option.{none, some}
 use mathlib.Core.Logic.{dite}
 use native.Mathlib.Decide.{ℕ_discrete}
 use lib.ListN.{get_elem?}
-use lib.Seq.{set-get_or}
 use Rattle.atomic_table.specs.Table.{State, Me, Act, Valid, carried_after, step, keeps, stepped, Allows}
-use Rattle.atomic_table.proofs.Lists.{set_here, set_again}
+use Rattle.atomic_table.proofs.Lists.{set_here}
 use Rattle.mt_machine.specs.declared.phase.Phase.{Phase}
 use Rattle.mt_machine.specs.declared.phase.Phase.TheVariants.{Taken, Arrived, Restored, Arrived2, Running}
 use Rattle.mt_machine.specs.declared.event.Event.{Event}
@@ -28,23 +27,26 @@ use Rattle.mt_rendezvous.specs.declared.view.Key.{Key}
 use Rattle.mt_rendezvous.specs.Station.{Begins, order_of, broadcast, cpu_of, first_memory_word, memory_of, system_of, joined, start_of, view, with_held, weight, total, added_of, again_of, go_weight, code, phase_word, phase_word_of, Fits, FitsHeld, Waits, Meets}
 use Rattle.mt_machine.specs.Machine.{MachineEvent, Steps as Does}
 use Rattle.mt_rendezvous.specs.Plays.{PassSteps, Stands, Of, does, arrive, late, arrive_again, own_event, work, with_shown, written, Arrives, Passes, Works, ArrivesAgain, Releases}
-use Rattle.mt_rendezvous.proofs.Keeps.{placed, total_set, total_small, total_full, weight_small, at_cpu, at_less, all_true, acts, Acts, led_acts, event_step, still_step, same_machine, low_word, stands_order, drop_set, codes_kept, codes_stored, IsUnderWay}
+use Rattle.mt_rendezvous.proofs.Keeps.{Placed, placed, Comes, comes_by, comes_still, total_set, total_small, total_full, weight_small, at_cpu, at_less, all_true, acts, low_word, stands_order, drop_set, codes_kept, codes_stored, IsUnderWay}
 use Rattle.mt_rendezvous.proofs.Local.{changing_under_way, local_changing, fits_changing, changing_fits, changing_waits_not, word_is_code, same_era, fits_on, arrived_of, again_of_held, IsWork, works_in, takes_not, written_not, written_is}
 
-only : (w g : Held) → w ∷ [] ≡ g ∷ [] → w ≡ g
+pub only : (w g : Held) → w ∷ [] ≡ g ∷ [] → w ≡ g
 only w g e = cc
 
 -- what is so of the one processor
-of_one : (v : View) (h : Held) (P : Held → Type 0) → v.held ≡ h ∷ [] → P h → Of v P
+pub of_one : (v : View) (h : Held) (P : Held → Type 0) → v.held ≡ h ∷ [] → P h → Of v P
 of_one v h P is p g same = subst P (only h g (sym is ∙ same)) p
 
-moved : (v : View) (f : Held → Held) (h : Held) → v.held ≡ h ∷ [] → view v.root (f h ∷ []) v.go v.shown v ≡ with_held v (map f v.held)
+pub moved : (v : View) (f : Held → Held) (h : Held) → v.held ≡ h ∷ [] → view v.root (f h ∷ []) v.go v.shown v ≡ with_held v (map f v.held)
 moved v f h is = ap (λ (hs : List Held). view v.root (map f hs) v.go v.shown v) (sym is)
 
-moved_shown : (v : View) (f : Held → Held) (h : Held) (n : ℕ) → v.held ≡ h ∷ [] → view v.root (f h ∷ []) v.go (Some n) v ≡ with_shown (with_held v (map f v.held)) n
+pub moved_shown : (v : View) (f : Held → Held) (h : Held) (n : ℕ) → v.held ≡ h ∷ [] → view v.root (f h ∷ []) v.go (Some n) v ≡ with_shown (with_held v (map f v.held)) n
 moved_shown v f h n is = ap (λ (hs : List Held). view v.root (map f hs) v.go (Some n) v) (sym is)
 
-shown_only : (v : View) (h : Held) (n : ℕ) → v.held ≡ h ∷ [] → view v.root (h ∷ []) v.go (Some n) v ≡ with_shown v n
+pub unmoved : (v : View) (h : Held) → v.held ≡ h ∷ [] → view v.root (h ∷ []) v.go v.shown v ≡ v
+unmoved v h is = ap (λ (hs : List Held). view v.root hs v.go v.shown v) (sym is)
+
+pub shown_only : (v : View) (h : Held) (n : ℕ) → v.held ≡ h ∷ [] → view v.root (h ∷ []) v.go (Some n) v ≡ with_shown v n
 shown_only v h n is = ap (λ (hs : List Held). view v.root hs v.go (Some n) v) (sym is)
 
 -- ---- the coordinator's word in word 0
@@ -136,10 +138,10 @@ module _ (key : Key) where
       by_case (inr x) = x
 
   -- The word 0 becomes n, which counts w in place of h
-  at_first : (s : St) (m : Meets key s) (id : ℕ) (v : View) (h w : Held) (shown : Option ℕ) (n : ℕ) → get_elem? s.views id ≡ some v → v.held ≡ h ∷ [] → w.number ≡ h.number → w.again ≡ h.again → phase_word_of w ≡ phase_word_of h
-      → Led (broadcast t) (joined t (set m.all h.number w) m.go (set s.words 0 n)) → FitsHeld t m.go w → n + weight h.added ≡ get_or s.words 0 0 + weight w.added
-      → (homes : List _) → Meets key (record { words = set s.words 0 n; homes = homes; views = set s.views id (view v.root (w ∷ []) v.go shown v) })
-  at_first s m id v h w shown n at is same same_again same_code l fits count homes =
+  at_first : (s : St) (m : Meets key s) (id : ℕ) (v : View) (h w : Held) (shown : Option ℕ) (n : ℕ) (e : Option MachineEvent) → get_elem? s.views id ≡ some v → v.held ≡ h ∷ [] → w.number ≡ h.number → w.again ≡ h.again
+      → phase_word_of w ≡ phase_word_of h → Comes (joined t m.all m.go s.words) (joined t (set m.all h.number w) m.go (set s.words 0 n)) e → FitsHeld t m.go w → n + weight h.added ≡ get_or s.words 0 0 + weight w.added
+      → Placed key s m id 0 n v h w shown e
+  at_first s m id v h w shown n e at is same same_again same_code comes fits count =
       let f = found s m id v h at is in
       let x = total_set added_of m.all h.number h w f.at in
       let u = total_set again_of m.all h.number h w f.at in
@@ -149,7 +151,7 @@ module _ (key : Key) where
       let here : get_or (set s.words 0 n) 0 0 ≡ n = get_or-set_same s.words 0 n 0 (omega arith) in
       let there : get_or (set s.words 0 n) 1 0 ≡ get_or s.words 1 0 = get_or-set_other s.words 0 1 n 0 (λ (e : 1 ≡ 0). omega arith) in
       let y = m.second in
-      placed key s m id v h w shown at is same (set s.words 0 n) l fits (length-set s.words 0 n) (omega arith) (omega arith) (codes_kept m.all s.words h.number 0 n h w m.codes f.at same_code (inl (omega arith))) homes
+      placed key s m id 0 n v h w shown e at is same comes fits (omega arith) (omega arith) (codes_kept m.all s.words h.number 0 n h w m.codes f.at same_code (inl (omega arith)))
 
   low_before : (s : St) (m : Meets key s) (i n : ℕ) → i < 2 → system_of t m.all s.words ≡ system_of t m.all (set s.words i n)
   low_before s m i n low = low_word t m.all s.words i n (omega arith)
@@ -158,70 +160,86 @@ module _ (key : Key) where
   low_memory s m i n low = ap (λ (y : System). y.memory.words) (low_before s m i n low)
 
   -- an event by which the words of memory stay
-  acts_low : (s : St) (m : Meets key s) (k i n : ℕ) (e : Event) (h w : Held) → get_elem? m.all k ≡ some h → IsUnderWay h.cpu.phase → FitsHeld t m.go h → i < 2
+  comes_low : (s : St) (m : Meets key s) (k i n : ℕ) (e : Event) (h w : Held) → get_elem? m.all k ≡ some h → IsUnderWay h.cpu.phase → FitsHeld t m.go h → i < 2
       → due (order_of t m.go) (map cpu_of m.all) h.cpu h.cpu.phase ≡ Some e → w.cpu ≡ own_step t.goal e h.cpu → (s' : System) → s' ≡ system_of t m.all s.words → before_own e k (system_of t m.all s.words) ≡ s'
-      → Acts t m.all m.go s.words (set s.words i n) k e h w
-  acts_low s m k i n e h w at u f low is own s' same before =
-      acts t m.all m.go s.words (set s.words i n) k e h w at (stands_order t m.all m.go s.words k h at u f) is own (before ∙ same ∙ low_before s m i n low)
+      → Comes (joined t m.all m.go s.words) (joined t (set m.all k w) m.go (set s.words i n)) (Some (Does k e))
+  comes_low s m k i n e h w at u f low is own s' same before =
+      comes_by t m.all m.go s.words (set s.words i n) k e h w (acts t m.all m.go s.words (set s.words i n) k e h w at (stands_order t m.all m.go s.words k h at u f) is own (before ∙ same ∙ low_before s m i n low))
 
-  -- an addition to word 0
-  pub arrives : (slots id : ℕ) (me : Me (Unit {0}) View) (h : Held) → me.0.held ≡ h ∷ [] → h.added ≡ false → h.again ≡ false → h.cpu.phase ≡ Taken
-      → Allows (Meets key) slots id me 0 (λ n. (n + 1) % 2 ^ 64) (Arrives (step slots 0 1 0 none) me)
-  arrives slots id me h is out first taken s m _ at small =
+  -- none
+  comes_none : (s : St) (m : Meets key s) (k i n : ℕ) (h w : Held) → get_elem? m.all k ≡ some h → w.cpu ≡ h.cpu → i < 2 → Comes (joined t m.all m.go s.words) (joined t (set m.all k w) m.go (set s.words i n)) None
+  comes_none s m k i n h w at same low = comes_still t m.all m.go s.words (set s.words i n) k h w at same (low_memory s m i n low)
+
+  -- what an addition to word 0 finds, and what comes of it
+  abbrev pub Arrival : (s : St) → Meets key s → ℕ → View → Held → Type 0
+  Arrival s m id v h =
+      ((4294967296 ≤ get_or s.words 0 0) × Placed key s m id 0 ((get_or s.words 0 0 + 1) % 18446744073709551616) v h (late h) v.shown None)
+      ⊎ ((get_or s.words 0 0 < 4294967296) × Placed key s m id 0 ((get_or s.words 0 0 + 1) % 18446744073709551616) v h (arrive v.start h) v.shown (Some (Does h.number Arrive)))
+
+  pub arrival : (s : St) (m : Meets key s) (id : ℕ) (v : View) (h : Held) → get_elem? s.views id ≡ some v → v.held ≡ h ∷ [] → h.added ≡ false → h.again ≡ false → h.cpu.phase ≡ Taken → Arrival s m id v h
+  arrival s m id v h at is out first taken =
       let x : ℕ = get_or s.words 0 0 in
       let n : ℕ = (x + 1) % 18446744073709551616 in
-      let f = found s m id me.0 h at is in
+      let f = found s m id v h at is in
       let few : total added_of m.all < 65536 = (let b = f.few_added in let c = m.few in omega arith) in
       let g = go_small m.go in
       let e = m.first in
       let o : weight h.added ≡ 0 = ap weight out in
       let count : n + weight h.added ≡ x + 1 = omega arith in
       let u : IsUnderWay h.cpu.phase = under_way h.cpu.phase Taken taken tt in
+      ⊎_elim
+      (λ (c : (m.go ≡ Cancelled) × (4294967296 ≤ get_or s.words 0 0)). inl (
+        c.1,
+        at_first s m id v h (late h) v.shown n None at is refl refl refl (comes_none s m h.number 0 n h (late h) f.at refl (omega arith))
+            (record { first = f.fits.first; fits = subst (λ p. Fits m.go true h.again p) (sym taken) (first, λ _. c.0); era = f.fits.era }) count,
+      ))
+      (λ (c : (m.go ≢ Cancelled) × (get_or s.words 0 0 < 4294967296)). let w = arrive v.start h in inr (
+        c.1,
+        at_first s m id v h w v.shown n (Some (Does h.number Arrive)) at is refl refl (sym (ap (phase_word h.again) taken))
+            (comes_low s m h.number 0 n Arrive h w f.at u f.fits (omega arith) (due_arrive t m.go (map cpu_of m.all) h.cpu taken c.0) refl (system_of t m.all s.words) refl refl)
+            (fits_on t m.go w (same_era t m.go h f.fits u) tt (first, refl) (λ _. f.fits.first (subst Waits (sym taken) tt))) count,
+      ))
+      (shows m.go (total added_of m.all) x e few)
+
+  -- an addition to word 0
+  pub arrives : (slots id : ℕ) (me : Me (Unit {0}) View) (h : Held) → me.0.held ≡ h ∷ [] → h.added ≡ false → h.again ≡ false → h.cpu.phase ≡ Taken
+      → Allows (Meets key) slots id me 0 (λ n. (n + 1) % 2 ^ 64) (Arrives (step slots 0 1 0 none) me)
+  arrives slots id me h is out first taken s m _ at small =
+      let n : ℕ = (get_or s.words 0 0 + 1) % 18446744073709551616 in
+      let f = found s m id me.0 h at is in
       let here : slice_get t.cpus h.number ≡ Some h.cpu = f.fits.first (subst Waits (sym taken) tt) ∙ ap (λ (ph : Phase). Some (record h.cpu { phase = ph })) (sym taken) in
       let told_first : Of me.0 (λ g. slice_get me.0.start.cpus g.number ≡ Some g.cpu) = of_one me.0 h (λ g. slice_get me.0.start.cpus g.number ≡ Some g.cpu) is (subst (λ (y : Start). slice_get y.cpus h.number ≡ Some h.cpu) (sym f.told) here) in
       ⊎_elim
-      (λ (c : (m.go ≡ Cancelled) × (4294967296 ≤ get_or s.words 0 0)). let w = late h in (
-        view me.0.root (w ∷ []) me.0.go me.0.shown me.0,
+      (λ (c : (4294967296 ≤ get_or s.words 0 0) × Placed key s m id 0 n me.0 h (late h) me.0.shown None). (
+        view me.0.root (late h ∷ []) me.0.go me.0.shown me.0,
         keeps,
         tt,
-        at_first s m id me.0 h w me.0.shown n at is refl refl refl (same_machine t m.all m.go s.words (set s.words 0 n) h.number h w m.led_to f.at refl (low_memory s m 0 n (omega arith)))
-            (record { first = f.fits.first; fits = subst (λ p. Fits m.go true h.again p) (sym taken) (first, λ _. c.0); era = f.fits.era }) count s.homes,
+        c.1.follows.kept,
         (
           refl,
           subst Begins (sym f.told) m.begins,
           told_first,
-          (λ (below : get_or s.words 0 0 < 4294967296). absurd (let b = c.1 in omega arith)),
-          (λ _. (
-            moved me.0 late h is,
-            of_one me.0 h (λ g. PassSteps me.0.start 0 (get_or s.words 0 0) n None g (late g)) is
-                (subst (λ (y : Start). PassSteps y 0 (get_or s.words 0 0) n None h w) (sym f.told) (still_step t m.all m.go s.words 0 n h w m.led_to f.at refl (low_memory s m 0 n (omega arith)))),
-          )),
+          (λ (below : get_or s.words 0 0 < 4294967296). absurd (let b = c.0 in omega arith)),
+          (λ _. (moved me.0 late h is, of_one me.0 h (λ g. PassSteps me.0.start 0 (get_or s.words 0 0) n None g (late g)) is c.1.steps)),
         ),
       ))
-      (λ (c : (m.go ≢ Cancelled) × (get_or s.words 0 0 < 4294967296)). let w = arrive me.0.start h in
-      let a = acts_low s m h.number 0 n Arrive h w f.at u f.fits (omega arith) (due_arrive t m.go (map cpu_of m.all) h.cpu taken c.0) refl (system_of t m.all s.words) refl refl in (
-        view me.0.root (w ∷ []) me.0.go me.0.shown me.0,
+      (λ (c : (get_or s.words 0 0 < 4294967296) × Placed key s m id 0 n me.0 h (arrive me.0.start h) me.0.shown (Some (Does h.number Arrive))). (
+        view me.0.root (arrive me.0.start h ∷ []) me.0.go me.0.shown me.0,
         keeps,
         tt,
-        at_first s m id me.0 h w me.0.shown n at is refl refl (sym (ap (phase_word h.again) taken)) (led_acts t m.all m.go s.words (set s.words 0 n) h.number Arrive h w m.led_to a)
-            (fits_on t m.go w (same_era t m.go h f.fits u) tt (first, refl) (λ _. f.fits.first (subst Waits (sym taken) tt))) count s.homes,
+        c.1.follows.kept,
         (
           refl,
           subst Begins (sym f.told) m.begins,
           told_first,
           (λ _. (
             moved me.0 (arrive me.0.start) h is,
-            of_one me.0 h (λ g. PassSteps me.0.start 0 (get_or s.words 0 0) n (Some (Does g.number Arrive)) g (arrive me.0.start g)) is
-                (subst (λ (y : Start). PassSteps y 0 (get_or s.words 0 0) n (Some (Does h.number Arrive)) h w) (sym f.told) (event_step t m.all m.go s.words 0 n Arrive h w m.led_to a f.at)),
+            of_one me.0 h (λ g. PassSteps me.0.start 0 (get_or s.words 0 0) n (Some (Does g.number Arrive)) g (arrive me.0.start g)) is c.1.steps,
           )),
-          (λ (above : 4294967296 ≤ get_or s.words 0 0). absurd (let b = c.1 in omega arith)),
+          (λ (above : 4294967296 ≤ get_or s.words 0 0). absurd (let b = c.0 in omega arith)),
         ),
       ))
-      (shows m.go (total added_of m.all) x e few)
-
-  -- nothing changes
-  same_state : (s : St) (m : Meets key s) (i id : ℕ) (me : Me (Unit {0}) View) → get_elem? s.views id ≡ some me.0 → Meets key (stepped s i (get_or s.words i 0) id me.1 me.0 keeps)
-  same_state s m i id me at = subst (λ (z : List ℕ × List View). Meets key (record { words = z.0; homes = s.homes; views = z.1 })) (λ j. (sym (set-get_or s.words i 0) j, sym (set_again s.views id me.0 at) j)) m
+      (arrival s m id me.0 h at is out first taken)
 
   stands : (all : List Held) (go g : Go) (words : List ℕ) (k : ℕ) (h : Held) → Led (broadcast t) (joined t all go words) → get_elem? all k ≡ some h → IsUnderWay h.cpu.phase → FitsHeld t go h → go ≡ g → Stands t g k h.cpu
   stands all go g words k h l at u f is = record {
@@ -248,87 +266,110 @@ module _ (key : Key) where
   left_word : (again : Bool) → again ≡ false → phase_word again Running ≡ 0
   left_word again e = ap (λ b. phase_word b Running) e
 
-  -- a load of word 0
-  pub passes : (slots id : ℕ) (me : Me (Unit {0}) View) (h : Held) → me.0.held ≡ h ∷ [] → h.added ≡ true → h.again ≡ false → (h.cpu.phase ≡ Taken) ⊎ (h.cpu.phase ≡ Arrived)
-      → Allows (Meets key) slots id me 0 (λ n. n) (Passes (step slots 0 0 0 none) me)
-  passes slots id me h is counted first waits s m _ at small =
+  -- what a load of word 0 finds, and what comes of it
+  abbrev pub Passing : (s : St) → Meets key s → ℕ → View → Held → Type 0
+  Passing s m id v h =
+      ((4294967296 ≤ get_or s.words 0 0) × Placed key s m id 0 (get_or s.words 0 0) v h (does v.start Leave h) v.shown (Some (Does h.number Leave)) × Stands v.start Cancelled h.number h.cpu
+      × (get_or s.words 0 0 ≢ length v.start.cpus + 1))
+      ⊎ (((get_or s.words 0 0 ≡ length v.start.cpus + 1) × Placed key s m id 0 (get_or s.words 0 0) v h (does v.start Pass h) v.shown (Some (Does h.number Pass))
+      × (h.cpu.phase ≡ Arrived) × Stands v.start Given h.number (does v.start Pass h).cpu × (4294967296 ≤ get_or s.words 0 0 → ⊥))
+      ⊎ ((get_or s.words 0 0 < 4294967296) × (get_or s.words 0 0 ≢ length v.start.cpus + 1) × Placed key s m id 0 (get_or s.words 0 0) v h h v.shown None))
+
+  pub passing : (s : St) (m : Meets key s) (id : ℕ) (v : View) (h : Held) → get_elem? s.views id ≡ some v → v.held ≡ h ∷ [] → h.added ≡ true → h.again ≡ false → (h.cpu.phase ≡ Taken) ⊎ (h.cpu.phase ≡ Arrived) → Passing s m id v h
+  passing s m id v h at is counted first waits =
       let x : ℕ = get_or s.words 0 0 in
-      let f = found s m id me.0 h at is in
+      let f = found s m id v h at is in
       let few : length m.all < 65536 = m.few in
-      let size : length m.all ≡ length me.0.start.cpus = f.size in
+      let size : length m.all ≡ length v.start.cpus = f.size in
       let least : total added_of m.all ≤ length m.all = f.few_added in
       let u : IsUnderWay h.cpu.phase = either_under_way h.cpu.phase waits in
       ⊎_elim
-      (λ (c : (m.go ≡ Cancelled) × (4294967296 ≤ get_or s.words 0 0)). let w = does me.0.start Leave h in
-      let a = acts_low s m h.number 0 x Leave h w f.at u f.fits (omega arith) (due_leave t m.go (map cpu_of m.all) h.cpu waits c.0) refl (system_of t m.all s.words) refl refl in (
-        view me.0.root (w ∷ []) me.0.go me.0.shown me.0,
-        keeps,
-        tt,
-        at_first s m id me.0 h w me.0.shown x at is refl refl (left_word h.again first ∙ waiting_word h.again h.cpu.phase waits) (led_acts t m.all m.go s.words (set s.words 0 x) h.number Leave h w m.led_to a)
-            (record { first = λ w. absurd w; fits = (counted, inl (first, c.0)); era = let e = same_era t m.go h f.fits u in let z : weight h.again ≡ 0 = ap weight first in omega arith }) refl s.homes,
-        (
-          refl,
-          (λ (e : get_or s.words 0 0 ≡ length me.0.start.cpus + 1). absurd (let above = c.1 in omega arith)),
-          (λ _. (
-            moved me.0 (does me.0.start Leave) h is,
-            of_one me.0 h (λ g. PassSteps me.0.start 0 x x (Some (Does g.number Leave)) g (does me.0.start Leave g)) is
-                (subst (λ (y : Start). PassSteps y 0 x x (Some (Does h.number Leave)) h w) (sym f.told) (event_step t m.all m.go s.words 0 x Leave h w m.led_to a f.at)),
-            of_one me.0 h (λ g. Stands me.0.start Cancelled g.number g.cpu) is
-                (subst (λ (y : Start). Stands y Cancelled h.number h.cpu) (sym f.told) (stands m.all m.go Cancelled s.words h.number h m.led_to f.at u f.fits c.0)),
-          )),
-          (λ (below : get_or s.words 0 0 < 4294967296) _. absurd (let above = c.1 in omega arith)),
-        ),
+      (λ (c : (m.go ≡ Cancelled) × (4294967296 ≤ get_or s.words 0 0)). let w = does v.start Leave h in inl (
+        c.1,
+        at_first s m id v h w v.shown x (Some (Does h.number Leave)) at is refl refl (left_word h.again first ∙ waiting_word h.again h.cpu.phase waits)
+            (comes_low s m h.number 0 x Leave h w f.at u f.fits (omega arith) (due_leave t m.go (map cpu_of m.all) h.cpu waits c.0) refl (system_of t m.all s.words) refl refl)
+            (record { first = λ w. absurd w; fits = (counted, inl (first, c.0)); era = let e = same_era t m.go h f.fits u in let z : weight h.again ≡ 0 = ap weight first in omega arith }) refl,
+        subst (λ (y : Start). Stands y Cancelled h.number h.cpu) (sym f.told) (stands m.all m.go Cancelled s.words h.number h m.led_to f.at u f.fits c.0),
+        (λ (e : get_or s.words 0 0 ≡ length v.start.cpus + 1). let above = c.1 in omega arith),
       ))
-      (λ (c : (m.go ≢ Cancelled) × (get_or s.words 0 0 < 4294967296)). dite (ℕ_discrete (get_or s.words 0 0) (length me.0.start.cpus + 1))
-      (λ (e : get_or s.words 0 0 ≡ length me.0.start.cpus + 1). let w = does me.0.start Pass h in
+      (λ (c : (m.go ≢ Cancelled) × (get_or s.words 0 0 < 4294967296)). dite (ℕ_discrete (get_or s.words 0 0) (length v.start.cpus + 1))
+      (λ (e : get_or s.words 0 0 ≡ length v.start.cpus + 1). let w = does v.start Pass h in
       let r = ready m.go (total added_of m.all) (get_or s.words 0 0) (length m.all) m.first least few (omega arith) in
       let all = all_arrived s m r.1 r.0 in
       let p : h.cpu.phase ≡ Arrived = its_phase m.go h.added h.again h.cpu.phase waits f.fits.fits counted r.0 in
-      let a = acts_low s m h.number 0 x Pass h w f.at u f.fits (omega arith) (due_pass t m.go (map cpu_of m.all) h.cpu p r.0 all) refl (system_of t m.all s.words) refl refl in
-      let l = led_acts t m.all m.go s.words (set s.words 0 x) h.number Pass h w m.led_to a in
-      let g = fits_on t m.go w (same_era t m.go h f.fits u) tt (first, counted, r.0) (λ w. absurd w) in (
-        view me.0.root (w ∷ []) me.0.go me.0.shown me.0,
+      let g = fits_on t m.go w (same_era t m.go h f.fits u) tt (first, counted, r.0) (λ w. absurd w) in
+      let there = at_first s m id v h w v.shown x (Some (Does h.number Pass)) at is refl refl (waiting_word h.again h.cpu.phase waits)
+      (comes_low s m h.number 0 x Pass h w f.at u f.fits (omega arith) (due_pass t m.go (map cpu_of m.all) h.cpu p r.0 all) refl (system_of t m.all s.words) refl refl) g refl in
+      inr (inl (
+        e,
+        there,
+        p,
+        subst (λ (y : Start). Stands y Given h.number w.cpu) (sym f.told) (stands (set m.all h.number w) m.go Given (set s.words 0 x) h.number w there.led (set_here m.all h.number w (at_less m.all h.number h f.at)) tt g r.0),
+        (λ (above : 4294967296 ≤ get_or s.words 0 0). let b = c.1 in omega arith),
+      )))
+      (λ (n : get_or s.words 0 0 ≢ length v.start.cpus + 1). inr (inr (
+        c.1,
+        n,
+        at_first s m id v h h v.shown x None at is refl refl refl (comes_none s m h.number 0 x h h f.at refl (omega arith)) f.fits refl,
+      ))))
+      (shows m.go (total added_of m.all) x m.first (omega arith))
+
+  -- a load of word 0
+  pub passes : (slots id : ℕ) (me : Me (Unit {0}) View) (h : Held) → me.0.held ≡ h ∷ [] → h.added ≡ true → h.again ≡ false → (h.cpu.phase ≡ Taken) ⊎ (h.cpu.phase ≡ Arrived)
+      → Allows (Meets key) slots id me 0 (λ n. n) (Passes (step slots 0 0 0 none) me)
+  passes slots id me h is counted first waits s m _ at small = by_case (passing s m id me.0 h at is counted first waits)
+    where
+      by_case : Passing s m id me.0 h → (w : View) × (a : Act (Unit {0})) × Valid s.homes me.1 a × Meets key (stepped s 0 (get_or s.words 0 0) id me.1 w a) × Passes (step slots 0 0 0 none) me (get_or s.words 0 0) (w, carried_after me.1 a)
+      by_case (inl c) = (
+        view me.0.root (does me.0.start Leave h ∷ []) me.0.go me.0.shown me.0,
         keeps,
         tt,
-        at_first s m id me.0 h w me.0.shown x at is refl refl (waiting_word h.again h.cpu.phase waits) l g refl s.homes,
+        c.1.follows.kept,
+        (
+          refl,
+          (λ full. absurd (c.3 full)),
+          (λ _. (
+            moved me.0 (does me.0.start Leave) h is,
+            of_one me.0 h (λ g. PassSteps me.0.start 0 (get_or s.words 0 0) (get_or s.words 0 0) (Some (Does g.number Leave)) g (does me.0.start Leave g)) is c.1.steps,
+            of_one me.0 h (λ g. Stands me.0.start Cancelled g.number g.cpu) is c.2,
+          )),
+          (λ (below : get_or s.words 0 0 < 4294967296) _. absurd (let above = c.0 in omega arith)),
+        ),
+      )
+      by_case (inr (inl c)) = (
+        view me.0.root (does me.0.start Pass h ∷ []) me.0.go me.0.shown me.0,
+        keeps,
+        tt,
+        c.1.follows.kept,
         (
           refl,
           (λ _. (
             moved me.0 (does me.0.start Pass) h is,
-            of_one me.0 h (λ g. PassSteps me.0.start 0 x x (Some (Does g.number Pass)) g (does me.0.start Pass g)) is
-                (subst (λ (y : Start). PassSteps y 0 x x (Some (Does h.number Pass)) h w) (sym f.told) (event_step t m.all m.go s.words 0 x Pass h w m.led_to a f.at)),
-            of_one me.0 h (λ g. (g.cpu.phase ≡ Arrived) × Stands me.0.start Given g.number (does me.0.start Pass g).cpu) is (
-              p,
-              subst (λ (y : Start). Stands y Given h.number w.cpu) (sym f.told) (stands (set m.all h.number w) m.go Given (set s.words 0 x) h.number w l (set_here m.all h.number w (at_less m.all h.number h f.at)) tt g r.0),
-            ),
+            of_one me.0 h (λ g. PassSteps me.0.start 0 (get_or s.words 0 0) (get_or s.words 0 0) (Some (Does g.number Pass)) g (does me.0.start Pass g)) is c.1.steps,
+            of_one me.0 h (λ g. (g.cpu.phase ≡ Arrived) × Stands me.0.start Given g.number (does me.0.start Pass g).cpu) is (c.2, c.3),
           )),
-          (λ (above : 4294967296 ≤ get_or s.words 0 0). absurd (let b = c.1 in omega arith)),
-          (λ _ (n : get_or s.words 0 0 ≢ length me.0.start.cpus + 1). absurd (n e)),
+          (λ above. absurd (c.4 above)),
+          (λ _ n. absurd (n c.0)),
         ),
-      ))
-      (λ (n : get_or s.words 0 0 ≢ length me.0.start.cpus + 1). (
-        me.0,
+      )
+      by_case (inr (inr c)) = (
+        view me.0.root (h ∷ []) me.0.go me.0.shown me.0,
         keeps,
         tt,
-        same_state s m 0 id me at,
+        c.2.follows.kept,
         (
           refl,
-          (λ (e : get_or s.words 0 0 ≡ length me.0.start.cpus + 1). absurd (n e)),
-          (λ (above : 4294967296 ≤ get_or s.words 0 0). absurd (let b = c.1 in omega arith)),
-          (λ _ _. (
-            refl,
-            of_one me.0 h (λ g. PassSteps me.0.start 0 x x None g g) is
-                (subst (λ (y : Start). PassSteps y 0 x x None h h) (sym f.told) (still_step t m.all m.go s.words 0 x h h m.led_to f.at refl (low_memory s m 0 x (omega arith)))),
-          )),
+          (λ full. absurd (c.1 full)),
+          (λ (above : 4294967296 ≤ get_or s.words 0 0). absurd (let b = c.0 in omega arith)),
+          (λ _ _. (unmoved me.0 h is, of_one me.0 h (λ g. PassSteps me.0.start 0 (get_or s.words 0 0) (get_or s.words 0 0) None g g) is c.2.steps)),
         ),
-      )))
-      (shows m.go (total added_of m.all) x m.first (omega arith))
+      )
 
   -- The word 1 becomes n, which counts w in place of h
-  at_second : (s : St) (m : Meets key s) (id : ℕ) (v : View) (h w : Held) (shown : Option ℕ) (n : ℕ) → get_elem? s.views id ≡ some v → v.held ≡ h ∷ [] → w.number ≡ h.number → w.added ≡ h.added → phase_word_of w ≡ phase_word_of h
-      → Led (broadcast t) (joined t (set m.all h.number w) m.go (set s.words 1 n)) → FitsHeld t m.go w → n + weight h.again ≡ get_or s.words 1 0 + weight w.again
-      → (homes : List _) → Meets key (record { words = set s.words 1 n; homes = homes; views = set s.views id (view v.root (w ∷ []) v.go shown v) })
-  at_second s m id v h w shown n at is same same_added same_code l fits count homes =
+  at_second : (s : St) (m : Meets key s) (id : ℕ) (v : View) (h w : Held) (shown : Option ℕ) (n : ℕ) (e : Option MachineEvent) → get_elem? s.views id ≡ some v → v.held ≡ h ∷ [] → w.number ≡ h.number → w.added ≡ h.added
+      → phase_word_of w ≡ phase_word_of h → Comes (joined t m.all m.go s.words) (joined t (set m.all h.number w) m.go (set s.words 1 n)) e → FitsHeld t m.go w → n + weight h.again ≡ get_or s.words 1 0 + weight w.again
+      → Placed key s m id 1 n v h w shown e
+  at_second s m id v h w shown n e at is same same_added same_code comes fits count =
       let f = found s m id v h at is in
       let x = total_set added_of m.all h.number h w f.at in
       let u = total_set again_of m.all h.number h w f.at in
@@ -338,7 +379,23 @@ module _ (key : Key) where
       let wide = m.wide in
       let here : get_or (set s.words 1 n) 1 0 ≡ n = get_or-set_same s.words 1 n 0 (omega arith) in
       let there : get_or (set s.words 1 n) 0 0 ≡ get_or s.words 0 0 = get_or-set_other s.words 1 0 n 0 (λ (e : 0 ≡ 1). omega arith) in
-      placed key s m id v h w shown at is same (set s.words 1 n) l fits (length-set s.words 1 n) (omega arith) (omega arith) (codes_kept m.all s.words h.number 1 n h w m.codes f.at same_code (inl (omega arith))) homes
+      placed key s m id 1 n v h w shown e at is same comes fits (omega arith) (omega arith) (codes_kept m.all s.words h.number 1 n h w m.codes f.at same_code (inl (omega arith)))
+
+  pub arriving_again : (s : St) (m : Meets key s) (id : ℕ) (v : View) (h : Held) → get_elem? s.views id ≡ some v → v.held ≡ h ∷ [] → h.added ≡ true → h.again ≡ false → h.cpu.phase ≡ Restored
+      → Placed key s m id 1 ((get_or s.words 1 0 + 1) % 18446744073709551616) v h (arrive_again v.start h) v.shown (Some (Does h.number ArriveAgain))
+  arriving_again s m id v h at is counted first restored =
+      let n : ℕ = (get_or s.words 1 0 + 1) % 18446744073709551616 in
+      let f = found s m id v h at is in
+      let least : total again_of m.all ≤ length m.all = f.few_again in
+      let few : length m.all < 65536 = m.few in
+      let e : get_or s.words 1 0 ≡ total again_of m.all = m.second in
+      let o : weight h.again ≡ 0 = ap weight first in
+      let old : Fits m.go h.added h.again Restored = subst (Fits m.go h.added h.again) restored f.fits.fits in
+      let u : IsUnderWay h.cpu.phase = under_way h.cpu.phase Restored restored tt in
+      let w = arrive_again v.start h in
+      at_second s m id v h w v.shown n (Some (Does h.number ArriveAgain)) at is refl refl (sym (ap (phase_word h.again) restored))
+      (comes_low s m h.number 1 n ArriveAgain h w f.at u f.fits (omega arith) (ap (due (order_of t m.go) (map cpu_of m.all) h.cpu) restored) refl (system_of t m.all s.words) refl refl)
+      (fits_on t m.go w (same_era t m.go h f.fits u) tt (refl, counted, old.2) (λ w. absurd w)) (omega arith)
 
   -- an addition to word 1
   pub arrives_again : (slots id : ℕ) (me : Me (Unit {0}) View) (h : Held) → me.0.held ≡ h ∷ [] → h.added ≡ true → h.again ≡ false → h.cpu.phase ≡ Restored
@@ -346,27 +403,41 @@ module _ (key : Key) where
   arrives_again slots id me h is counted first restored s m _ at small =
       let x : ℕ = get_or s.words 1 0 in
       let n : ℕ = (x + 1) % 18446744073709551616 in
-      let f = found s m id me.0 h at is in
-      let least : total again_of m.all ≤ length m.all = f.few_again in
-      let few : length m.all < 65536 = m.few in
-      let e : get_or s.words 1 0 ≡ total again_of m.all = m.second in
-      let o : weight h.again ≡ 0 = ap weight first in
-      let old : Fits m.go h.added h.again Restored = subst (Fits m.go h.added h.again) restored f.fits.fits in
-      let u : IsUnderWay h.cpu.phase = under_way h.cpu.phase Restored restored tt in
-      let w = arrive_again me.0.start h in
-      let a = acts_low s m h.number 1 n ArriveAgain h w f.at u f.fits (omega arith) (ap (due (order_of t m.go) (map cpu_of m.all) h.cpu) restored) refl (system_of t m.all s.words) refl refl in (
-        view me.0.root (w ∷ []) me.0.go me.0.shown me.0,
+      let p = arriving_again s m id me.0 h at is counted first restored in (
+        view me.0.root (arrive_again me.0.start h ∷ []) me.0.go me.0.shown me.0,
         keeps,
         tt,
-        at_second s m id me.0 h w me.0.shown n at is refl refl (sym (ap (phase_word h.again) restored)) (led_acts t m.all m.go s.words (set s.words 1 n) h.number ArriveAgain h w m.led_to a)
-            (fits_on t m.go w (same_era t m.go h f.fits u) tt (refl, counted, old.2) (λ w. absurd w)) (omega arith) s.homes,
+        p.follows.kept,
         (
           refl,
           moved me.0 (arrive_again me.0.start) h is,
-          of_one me.0 h (λ g. PassSteps me.0.start 1 x n (Some (Does g.number ArriveAgain)) g (arrive_again me.0.start g)) is
-              (subst (λ (y : Start). PassSteps y 1 x n (Some (Does h.number ArriveAgain)) h w) (sym f.told) (event_step t m.all m.go s.words 1 n ArriveAgain h w m.led_to a f.at)),
+          of_one me.0 h (λ g. PassSteps me.0.start 1 x n (Some (Does g.number ArriveAgain)) g (arrive_again me.0.start g)) is p.steps,
         ),
       )
+
+  -- what a load of word 1 finds, and what comes of it
+  abbrev pub Releasing : (s : St) → Meets key s → ℕ → View → Held → Type 0
+  Releasing s m id v h =
+      ((get_or s.words 1 0 ≡ length v.start.cpus) × Placed key s m id 1 (get_or s.words 1 0) v h (does v.start Release h) (Some (get_or s.words 1 0)) (Some (Does h.number Release)) × (h.cpu.era ≡ common_era v.start.cpus))
+      ⊎ ((get_or s.words 1 0 ≢ length v.start.cpus) × Placed key s m id 1 (get_or s.words 1 0) v h h (Some (get_or s.words 1 0)) None)
+
+  pub releasing : (s : St) (m : Meets key s) (id : ℕ) (v : View) (h : Held) → get_elem? s.views id ≡ some v → v.held ≡ h ∷ [] → h.added ≡ true → h.again ≡ true → h.cpu.phase ≡ Arrived2 → Releasing s m id v h
+  releasing s m id v h at is counted twice waits =
+      let x : ℕ = get_or s.words 1 0 in
+      let f = found s m id v h at is in
+      let size : length m.all ≡ length v.start.cpus = f.size in
+      let old : Fits m.go h.added h.again Arrived2 = subst (Fits m.go h.added h.again) waits f.fits.fits in
+      let u : IsUnderWay h.cpu.phase = under_way h.cpu.phase Arrived2 waits tt in
+      dite (ℕ_discrete (get_or s.words 1 0) (length v.start.cpus))
+      (λ (e : get_or s.words 1 0 ≡ length v.start.cpus). let w = does v.start Release h in
+      let all = all_again s m (e ∙ sym size) in inl (
+        e,
+        at_second s m id v h w (Some x) x (Some (Does h.number Release)) at is refl refl (ap (λ b. phase_word b Running) twice ∙ sym (ap (phase_word h.again) waits))
+            (comes_low s m h.number 1 x Release h w f.at u f.fits (omega arith) (due_release t m.go (map cpu_of m.all) h.cpu waits all) refl (system_of t m.all s.words) refl refl)
+            (record { first = λ w. absurd w; fits = (counted, inr (twice, old.2)); era = let e = same_era t m.go h f.fits u in let z : weight h.again ≡ 1 = ap weight twice in omega arith }) refl,
+        same_era t m.go h f.fits u ∙ ap (λ (y : Start). common_era y.cpus) (sym f.told),
+      ))
+      (λ (n : get_or s.words 1 0 ≢ length v.start.cpus). inr (n, at_second s m id v h h (Some x) x None at is refl refl refl (comes_none s m h.number 1 x h h f.at refl (omega arith)) f.fits refl))
 
   -- a load of word 1
   pub releases : (slots id : ℕ) (me : Me (Unit {0}) View) (h : Held) → me.0.held ≡ h ∷ [] → h.added ≡ true → h.again ≡ true → h.cpu.phase ≡ Arrived2
@@ -374,56 +445,46 @@ module _ (key : Key) where
   releases slots id me h is counted twice waits s m _ at small =
       let x : ℕ = get_or s.words 1 0 in
       let f = found s m id me.0 h at is in
-      let size : length m.all ≡ length me.0.start.cpus = f.size in
-      let old : Fits m.go h.added h.again Arrived2 = subst (Fits m.go h.added h.again) waits f.fits.fits in
-      let u : IsUnderWay h.cpu.phase = under_way h.cpu.phase Arrived2 waits tt in
       let below : get_or s.words 1 0 < 65536 = (let e = m.second in let least = f.few_again in let few = m.few in omega arith) in
-      dite (ℕ_discrete (get_or s.words 1 0) (length me.0.start.cpus))
-      (λ (e : get_or s.words 1 0 ≡ length me.0.start.cpus). let w = does me.0.start Release h in
-      let all = all_again s m (e ∙ sym size) in
-      let a = acts_low s m h.number 1 x Release h w f.at u f.fits (omega arith) (due_release t m.go (map cpu_of m.all) h.cpu waits all) refl (system_of t m.all s.words) refl refl in (
-        view me.0.root (w ∷ []) me.0.go (Some x) me.0,
+      ⊎_elim
+      (λ (c : (get_or s.words 1 0 ≡ length me.0.start.cpus) × Placed key s m id 1 x me.0 h (does me.0.start Release h) (Some x) (Some (Does h.number Release)) × (h.cpu.era ≡ common_era me.0.start.cpus)). (
+        view me.0.root (does me.0.start Release h ∷ []) me.0.go (Some x) me.0,
         keeps,
         tt,
-        at_second s m id me.0 h w (Some x) x at is refl refl (ap (λ b. phase_word b Running) twice ∙ sym (ap (phase_word h.again) waits)) (led_acts t m.all m.go s.words (set s.words 1 x) h.number Release h w m.led_to a)
-            (record { first = λ w. absurd w; fits = (counted, inr (twice, old.2)); era = let e = same_era t m.go h f.fits u in let z : weight h.again ≡ 1 = ap weight twice in omega arith }) refl s.homes,
+        c.1.follows.kept,
         (
           refl,
           below,
           (λ _. (
             moved_shown me.0 (does me.0.start Release) h x is,
-            of_one me.0 h (λ g. PassSteps me.0.start 1 x x (Some (Does g.number Release)) g (does me.0.start Release g)) is
-                (subst (λ (y : Start). PassSteps y 1 x x (Some (Does h.number Release)) h w) (sym f.told) (event_step t m.all m.go s.words 1 x Release h w m.led_to a f.at)),
-            of_one me.0 h (λ g. g.cpu.era ≡ common_era me.0.start.cpus) is (same_era t m.go h f.fits u ∙ ap (λ (y : Start). common_era y.cpus) (sym f.told)),
+            of_one me.0 h (λ g. PassSteps me.0.start 1 x x (Some (Does g.number Release)) g (does me.0.start Release g)) is c.1.steps,
+            of_one me.0 h (λ g. g.cpu.era ≡ common_era me.0.start.cpus) is c.2,
           )),
-          (λ (n : get_or s.words 1 0 ≢ length me.0.start.cpus). absurd (n e)),
+          (λ (n : get_or s.words 1 0 ≢ length me.0.start.cpus). absurd (n c.0)),
         ),
       ))
-      (λ (n : get_or s.words 1 0 ≢ length me.0.start.cpus). (
+      (λ (c : (get_or s.words 1 0 ≢ length me.0.start.cpus) × Placed key s m id 1 x me.0 h h (Some x) None). (
         view me.0.root (h ∷ []) me.0.go (Some x) me.0,
         keeps,
         tt,
-        at_second s m id me.0 h h (Some x) x at is refl refl refl (same_machine t m.all m.go s.words (set s.words 1 x) h.number h h m.led_to f.at refl (low_memory s m 1 x (omega arith))) f.fits refl s.homes,
+        c.1.follows.kept,
         (
           refl,
           below,
-          (λ (e : get_or s.words 1 0 ≡ length me.0.start.cpus). absurd (n e)),
-          (λ _. (
-            shown_only me.0 h x is,
-            of_one me.0 h (λ g. PassSteps me.0.start 1 x x None g g) is
-                (subst (λ (y : Start). PassSteps y 1 x x None h h) (sym f.told) (still_step t m.all m.go s.words 1 x h h m.led_to f.at refl (low_memory s m 1 x (omega arith)))),
-          )),
+          (λ (e : get_or s.words 1 0 ≡ length me.0.start.cpus). absurd (c.0 e)),
+          (λ _. (shown_only me.0 h x is, of_one me.0 h (λ g. PassSteps me.0.start 1 x x None g g) is c.1.steps)),
         ),
       ))
+      (releasing s m id me.0 h at is counted twice waits)
 
   -- ---- the stores
 
   -- a word behind the counts becomes n, and the processor does this event
-  at_store : (s : St) (m : Meets key s) (id i n : ℕ) (v : View) (h w : Held) → get_elem? s.views id ≡ some v → v.held ≡ h ∷ [] → w.number ≡ h.number → w.added ≡ h.added → w.again ≡ h.again → 2 ≤ i
-      → Led (broadcast t) (joined t (set m.all h.number w) m.go (set s.words i n)) → FitsHeld t m.go w
+  at_store : (s : St) (m : Meets key s) (id i n : ℕ) (v : View) (h w : Held) (e : Option MachineEvent) → get_elem? s.views id ≡ some v → v.held ≡ h ∷ [] → w.number ≡ h.number → w.added ≡ h.added → w.again ≡ h.again → 2 ≤ i
+      → Comes (joined t m.all m.go s.words) (joined t (set m.all h.number w) m.go (set s.words i n)) e → FitsHeld t m.go w
       → ((j : ℕ) (g : Held) → get_elem? (set m.all h.number w) j ≡ some g → get_or (set s.words i n) (j + 2) 0 ≡ phase_word_of g)
-      → (homes : List _) → Meets key (record { words = set s.words i n; homes = homes; views = set s.views id (view v.root (w ∷ []) v.go v.shown v) })
-  at_store s m id i n v h w at is same same_added same_again high l fits codes homes =
+      → Placed key s m id i n v h w v.shown e
+  at_store s m id i n v h w e at is same same_added same_again high comes fits codes =
       let f = found s m id v h at is in
       let x = total_set added_of m.all h.number h w f.at in
       let u = total_set again_of m.all h.number h w f.at in
@@ -433,7 +494,7 @@ module _ (key : Key) where
       let y = m.second in
       let zeroth : get_or (set s.words i n) 0 0 ≡ get_or s.words 0 0 = get_or-set_other s.words i 0 n 0 (λ (e : 0 ≡ i). omega arith) in
       let oneth : get_or (set s.words i n) 1 0 ≡ get_or s.words 1 0 = get_or-set_other s.words i 1 n 0 (λ (e : 1 ≡ i). omega arith) in
-      placed key s m id v h w v.shown at is same (set s.words i n) l fits (length-set s.words i n) (omega arith) (omega arith) codes homes
+      placed key s m id i n v h w v.shown e at is same comes fits (omega arith) (omega arith) codes
 
   -- what a store asks: a processor between the barriers whose event this is
   pub record IsDue (me : Me (Unit {0}) View) (h : Held) (e : Event) : Type 0 where
@@ -444,12 +505,15 @@ module _ (key : Key) where
   pub own_is : (st : Start) (me : Me (Unit {0}) View) (h : Held) (e : Event) → IsDue me h e → own_event st h.cpu ≡ e
   own_is st me h e d = ap (λ (x : Option Event). option_map_or (λ y. y) x SetNoFill) (d.due_is (order_of st Given) [])
 
-  -- a store of a word by which the event acts
-  stored : (slots id i n : ℕ) (me : Me (Unit {0}) View) (h : Held) (e : Event) → IsDue me h e → (s : St) (m : Meets key s) → (at : get_elem? s.views id ≡ some me.0) → 2 ≤ i
+  -- a store of a word by which the event acts, and where the processor stands then
+  abbrev pub Storing : (s : St) → Meets key s → ℕ → ℕ → ℕ → View → Held → Event → Type 0
+  Storing s m id i n v h e = Placed key s m id i n v h (does v.start e h) v.shown (Some (Does h.number e)) × Stands v.start Given h.number (does v.start e h).cpu
+
+  storing : (id i n : ℕ) (me : Me (Unit {0}) View) (h : Held) (e : Event) → IsDue me h e → (s : St) (m : Meets key s) → (at : get_elem? s.views id ≡ some me.0) → 2 ≤ i
       → before_own e h.number (system_of t m.all s.words) ≡ system_of t m.all (set s.words i n)
       → (let w = does me.0.start e h in (j : ℕ) (g : Held) → get_elem? (set m.all h.number w) j ≡ some g → get_or (set s.words i n) (j + 2) 0 ≡ phase_word_of g)
-      → (w : View) × (a : Act (Unit {0})) × Valid s.homes me.1 a × Meets key (stepped s i n id me.1 w a) × Works (step slots i n 0 none) me n (w, carried_after me.1 a)
-  stored slots id i n me h e d s m at high before codes =
+      → Storing s m id i n me.0 h e
+  storing id i n me h e d s m at high before codes =
       let f = found s m id me.0 h at d.is in
       let w = does me.0.start e h in
       let on : is_changing h.cpu.phase ≡ true = local_changing h.cpu.phase d.here in
@@ -460,44 +524,48 @@ module _ (key : Key) where
       let g : FitsHeld t m.go w = fits_on t m.go w (works.1 ∙ same_era t m.go h f.fits u) u' (fits_changing m.go h.added h.again w.cpu.phase works.0 old.0 old.1 old.2) (λ x. absurd (changing_waits_not w.cpu.phase works.0 x)) in
       let own : w.cpu ≡ own_step t.goal e h.cpu = ap (λ (y : Start). own_step y.goal e h.cpu) f.told in
       let a = acts t m.all m.go s.words (set s.words i n) h.number e h w f.at (stands_order t m.all m.go s.words h.number h f.at u f.fits) (d.due_is (order_of t m.go) (map cpu_of m.all)) own before in
-      let l = led_acts t m.all m.go s.words (set s.words i n) h.number e h w m.led_to a in
+      let p = at_store s m id i n me.0 h w (Some (Does h.number e)) at d.is refl refl refl high (comes_by t m.all m.go s.words (set s.words i n) h.number e h w a) g codes in (
+        p,
+        subst (λ (y : Start). Stands y Given h.number w.cpu) (sym f.told)
+            (stands (set m.all h.number w) m.go Given (set s.words i n) h.number w p.led (set_here m.all h.number w (at_less m.all h.number h f.at)) u' g old.2),
+      )
+
+  -- what such a store tells
+  works_by : (slots id i n : ℕ) (me : Me (Unit {0}) View) (h : Held) (e : Event) → IsDue me h e → (s : St) (m : Meets key s) → Storing s m id i n me.0 h e
+      → (w : View) × (a : Act (Unit {0})) × Valid s.homes me.1 a × Meets key (stepped s i n id me.1 w a) × Works (step slots i n 0 none) me n (w, carried_after me.1 a)
+  works_by slots id i n me h e d s m p =
       let own_e : e ≡ own_event me.0.start h.cpu = sym (own_is me.0.start me h e d) in (
-        view me.0.root (w ∷ []) me.0.go me.0.shown me.0,
+        view me.0.root (does me.0.start e h ∷ []) me.0.go me.0.shown me.0,
         keeps,
         tt,
-        at_store s m id i n me.0 h w at d.is refl refl refl high l g codes s.homes,
+        p.0.follows.kept,
         (
           refl,
           ap (λ (y : Event). view me.0.root (does me.0.start y h ∷ []) me.0.go me.0.shown me.0) own_e ∙ moved me.0 (work me.0.start) h d.is,
           of_one me.0 h (λ x. (was : ℕ) × PassSteps me.0.start i was n (Some (Does x.number (own_event me.0.start x.cpu))) x (work me.0.start x)) d.is
-              (subst (λ (y : Event). (was : ℕ) × PassSteps me.0.start i was n (Some (Does h.number y)) h (does me.0.start y h)) own_e
-              (subst (λ (y : Start). (was : ℕ) × PassSteps y i was n (Some (Does h.number e)) h w) (sym f.told)
-              (get_or s.words i 0, event_step t m.all m.go s.words i n e h w m.led_to a f.at))),
-          of_one me.0 h (λ x. Stands me.0.start Given x.number (work me.0.start x).cpu) d.is
-              (subst (λ (y : Event). Stands me.0.start Given h.number (does me.0.start y h).cpu) own_e
-              (subst (λ (y : Start). Stands y Given h.number w.cpu) (sym f.told)
-              (stands (set m.all h.number w) m.go Given (set s.words i n) h.number w l (set_here m.all h.number w (at_less m.all h.number h f.at)) u' g old.2))),
+              (subst (λ (y : Event). (was : ℕ) × PassSteps me.0.start i was n (Some (Does h.number y)) h (does me.0.start y h)) own_e (get_or s.words i 0, p.0.steps)),
+          of_one me.0 h (λ x. Stands me.0.start Given x.number (work me.0.start x).cpu) d.is (subst (λ (y : Event). Stands me.0.start Given h.number (does me.0.start y h).cpu) own_e p.1),
         ),
       )
 
   -- the store of the own phase word
-  pub works : (slots id n : ℕ) (me : Me (Unit {0}) View) (h : Held) (e : Event) → IsDue me h e → written e ≡ None → n ≡ code (own_step me.0.start.goal e h.cpu).phase
-      → Allows (Meets key) slots id me (h.number + 2) (λ _. n) (λ _. Works (step slots (h.number + 2) n 0 none) me n)
-  works slots id n me h e d no_word is_code s m _ at small =
+  pub phase_stored : (id n : ℕ) (me : Me (Unit {0}) View) (h : Held) (e : Event) → IsDue me h e → written e ≡ None → n ≡ code (own_step me.0.start.goal e h.cpu).phase
+      → (s : St) (m : Meets key s) → get_elem? s.views id ≡ some me.0 → Storing s m id (h.number + 2) n me.0 h e
+  phase_stored id n me h e d no_word is_code s m at =
       let f = found s m id me.0 h at d.is in
       let w = does me.0.start e h in
       let less = at_less m.all h.number h f.at in
       let size = m.size in
       let wide = m.wide in
       let on : IsWork me.0.start.goal e h.cpu = works_in me.0.start.goal h.cpu e h.cpu.phase refl d.here d.due_is (order_of t Given) in
-      stored slots id (h.number + 2) n me h e d s m at (omega arith)
+      storing id (h.number + 2) n me h e d s m at (omega arith)
       (written_not e h.number (system_of t m.all s.words) (takes_not h.cpu e h.cpu.phase d.here d.due_is (order_of t Given)) no_word ∙ low_word t m.all s.words (h.number + 2) n (omega arith))
       (codes_stored m.all s.words h.number n w m.codes (is_code ∙ sym (word_is_code h.again w.cpu.phase on.0)) (omega arith))
 
   -- the store of a word of memory
-  pub writes_back : (slots id i j address value : ℕ) (me : Me (Unit {0}) View) (h : Held) (e : Event) → IsDue me h e → written e ≡ Some (address, value) → place me.0.start.ram address ≡ Some j → i ≡ first_memory_word me.0.start + j
-      → Allows (Meets key) slots id me i (λ _. value) (λ _. Works (step slots i value 0 none) me value)
-  writes_back slots id i j address value me h e d word placed_at at_i s m _ at small =
+  pub word_stored : (id i j address value : ℕ) (me : Me (Unit {0}) View) (h : Held) (e : Event) → IsDue me h e → written e ≡ Some (address, value) → place me.0.start.ram address ≡ Some j → i ≡ first_memory_word me.0.start + j
+      → (s : St) (m : Meets key s) → get_elem? s.views id ≡ some me.0 → Storing s m id i value me.0 h e
+  word_stored id i j address value me h e d word placed_at at_i s m at =
       let f = found s m id me.0 h at d.is in
       let size = f.size in
       let is : e ≡ WriteBack address value = written_is e address value word in
@@ -506,6 +574,14 @@ module _ (key : Key) where
       ap (λ (x : Option ℕ). record { processors = map cpu_of m.all; memory = option_map_or (λ i. record (memory_of t s.words) { words = slice_set (drop (first_memory_word t) s.words) i value }) x (memory_of t s.words) }) there
       ∙ ap (λ (ws : List ℕ). record { processors = map cpu_of m.all; memory = record { windows = t.ram.windows; words = ws } }) (sym (drop_set s.words (first_memory_word t) j value)) in
       let at_place : first_memory_word t + j ≡ i = ap (λ (y : Start). first_memory_word y + j) (sym f.told) ∙ sym at_i in
-      stored slots id i value me h e d s m at (omega arith)
+      storing id i value me h e d s m at (omega arith)
       (ap (λ (y : Event). before_own y h.number (system_of t m.all s.words)) is ∙ back ∙ ap (λ (i : ℕ). system_of t m.all (set s.words i value)) at_place)
       (codes_kept m.all s.words h.number i value h (does me.0.start e h) m.codes f.at (ap (λ (y : Event). phase_word h.again (own_step me.0.start.goal y h.cpu).phase) is) (inr (omega arith)))
+
+  pub works : (slots id n : ℕ) (me : Me (Unit {0}) View) (h : Held) (e : Event) → IsDue me h e → written e ≡ None → n ≡ code (own_step me.0.start.goal e h.cpu).phase
+      → Allows (Meets key) slots id me (h.number + 2) (λ _. n) (λ _. Works (step slots (h.number + 2) n 0 none) me n)
+  works slots id n me h e d no_word is_code s m _ at small = works_by slots id (h.number + 2) n me h e d s m (phase_stored id n me h e d no_word is_code s m at)
+
+  pub writes_back : (slots id i j address value : ℕ) (me : Me (Unit {0}) View) (h : Held) (e : Event) → IsDue me h e → written e ≡ Some (address, value) → place me.0.start.ram address ≡ Some j → i ≡ first_memory_word me.0.start + j
+      → Allows (Meets key) slots id me i (λ _. value) (λ _. Works (step slots i value 0 none) me value)
+  writes_back slots id i j address value me h e d word placed_at at_i s m _ at small = works_by slots id i value me h e d s m (word_stored id i j address value me h e d word placed_at at_i s m at)

@@ -20,6 +20,8 @@ use Rattle.mt_laws.proofs.Updates.Broadcast.{led_ends}
 use Rattle.mt_rendezvous.specs.declared.view.Held.{Held}
 use Rattle.mt_rendezvous.specs.declared.view.Start.{Start}
 use Rattle.mt_rendezvous.specs.declared.view.View.{View}
+use Rattle.mt_rendezvous.specs.declared.view.Key.{Key}
+use Rattle.atomic_table.specs.Table.{State}
 use Rattle.mt_rendezvous.specs.Station.{Meets, broadcast, joined, start_of, order_of, total, added_of, again_of, go_weight, cpu_of, rise, weight}
 use Rattle.mt_rendezvous.specs.Laws.{HoldsWhereFull, StandsForOne, machine_of}
 use Rattle.mt_rendezvous.proofs.Keeps.{total_full, weight_small, at_cpu}
@@ -45,19 +47,23 @@ same_go Cancelled Pending n x e f = absurd (omega arith)
 same_go Cancelled Given n x e f = absurd (omega arith)
 same_go Cancelled Cancelled n x e f = refl
 
-pub stands_for_one : StandsForOne
-stands_for_one key s a b = λ i. joined (start_of key) (alls i) (goes i) s.words
+-- the views tell the processors, whatever the words are
+pub same_all : (key : Key) (s u : State (Unit {0}) View) (a : Meets key s) (b : Meets key u) → s.views ≡ u.views → a.all ≡ b.all
+same_all key s u a b same = same_lists a.all b.all (a.size ∙ sym b.size) each
   where
-    at : (m : Meets key s) (j : ℕ) (v : View) (i : ℕ) (h : Held) → get_elem? s.views j ≡ some v → get_elem? v.held i ≡ some h → get_elem? m.all h.number ≡ some h
-    at m j v i h e f = ((m.seats j v e).holds i h f).0
+    at : (z : State (Unit {0}) View) (m : Meets key z) (j : ℕ) (v : View) (i : ℕ) (h : Held) → get_elem? z.views j ≡ some v → get_elem? v.held i ≡ some h → get_elem? m.all h.number ≡ some h
+    at z m j v i h e f = ((m.seats j v e).holds i h f).0
 
     each : (k : ℕ) → k < length a.all → get_elem? a.all k ≡ get_elem? b.all k
     each k below =
         let x = a.present k below in
-        subst (λ (n : ℕ). get_elem? a.all n ≡ get_elem? b.all n) x.6 (at a x.0 x.1 x.2 x.3 x.4 x.5 ∙ sym (at b x.0 x.1 x.2 x.3 x.4 x.5))
+        subst (λ (n : ℕ). get_elem? a.all n ≡ get_elem? b.all n) x.6 (at s a x.0 x.1 x.2 x.3 x.4 x.5 ∙ sym (at u b x.0 x.1 x.2 x.3 (ap (λ (l : List View). get_elem? l x.0) (sym same) ∙ x.4) x.5))
 
+pub stands_for_one : StandsForOne
+stands_for_one key s a b = λ i. joined (start_of key) (alls i) (goes i) s.words
+  where
     alls : a.all ≡ b.all
-    alls = same_lists a.all b.all (a.size ∙ sym b.size) each
+    alls = same_all key s s a b refl
 
     goes : a.go ≡ b.go
     goes = same_go a.go b.go (total added_of a.all) (slice_index s.words 0) a.first (b.first ∙ ap (λ (l : List Held). total added_of l + go_weight b.go) (sym alls))

@@ -22,7 +22,7 @@ use Rattle.mt_rendezvous.specs.declared.station.Outcome.TheVariants.{Complete, C
 use Rattle.mt_rendezvous.specs.declared.view.Held.{Held}
 use Rattle.mt_rendezvous.specs.declared.view.Start.{Start}
 use Rattle.mt_rendezvous.specs.declared.view.View.{View}
-use Rattle.mt_rendezvous.specs.Station.{Begins, broadcast, held, numbered, order_of}
+use Rattle.mt_rendezvous.specs.Station.{broadcast, held, numbered, order_of}
 use Rattle.mt_rendezvous.specs.Plays.{Took, Stands}
 
 -- a seat of the table carries this one processor

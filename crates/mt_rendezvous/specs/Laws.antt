@@ -1,16 +1,25 @@
 -- What holds of a station between any two steps.
-use Rattle.std.specs.Prelude.{◌≡◌, ◌<◌, ◌-◌, ◌^◌, ℕ, ◌%◌, length, slice_index}
+use Rattle.std.specs.Prelude.{◌≡◌, ◌≢◌, ◌<◌, ◌≤◌, ◌+◌, ◌-◌, ◌^◌, ℕ, ◌%◌, true, false, List, [], ◌∷◌, ◌++◌, length, slice_index, slice_set, Option, Some, None, IsTrue}
 use Rattle.std.specs.List.{All}
-use Rattle.atomic_table.specs.Table.{State}
-use Rattle.mt_machine.specs.Memory.{word_at}
-use Rattle.mt_machine.specs.System.{now}
-use Rattle.mt_machine.specs.Machine.{Machine, Order}
+use mathlib.Core.Option.{none, some}
+use lib.ListN.{get_elem?}
+use Rattle.atomic_table.specs.Table.{State, keeps, step, stepped}
+use Rattle.mt_machine.specs.declared.phase.Phase.TheVariants.{Taken, Restored, Arrived2}
+use Rattle.mt_machine.specs.declared.go.Go.TheVariants.{Pending}
+use Rattle.mt_machine.specs.declared.event.Event.TheVariants.{Arrive, Leave, Pass, ArriveAgain, Release}
+use Rattle.mt_machine.specs.Memory.{place, word_at}
+use Rattle.mt_machine.specs.System.{Processor, now}
+use Rattle.mt_machine.specs.Machine.{Cancels as CancelsUpdate, Goes, Machine, MachineEvent, Order, Steps}
+use Rattle.mt_cpu.specs.Steps.{is_local}
 use Rattle.mt_machine.specs.Update.{Led}
 use Rattle.mt_laws.specs.Updates.{HoldsNothing}
+use Rattle.mt_rendezvous.specs.declared.view.Held.{Held}
+use Rattle.mt_rendezvous.specs.declared.view.Start.{Start}
 use Rattle.mt_rendezvous.specs.declared.view.View.{View}
 use Rattle.mt_rendezvous.specs.declared.view.Key.{Key}
-use Rattle.mt_rendezvous.specs.Station.{Begins, Meets, broadcast, joined, start_of}
-use Rattle.mt_rendezvous.specs.Calls.{gathered}
+use Rattle.mt_rendezvous.specs.Station.{Begins, Meets, both, broadcast, code, first_memory_word, held, joined, pass_right, root_left, spent, start_of}
+use Rattle.mt_rendezvous.specs.Plays.{Arrives, ArrivesAgain, Cancels, CanFollow, Gives, Passes, Releases, Sat, Works, after_event, own_event, work, written}
+use Rattle.mt_rendezvous.specs.Calls.{IsWaiting, gathered}
 use Rattle.mt_machine.specs.Start.{IsBroadcast}
 
 -- the machine that the words and the views stand for
@@ -36,3 +45,99 @@ abbrev pub BroadcastBegins : Type 0
 BroadcastBegins =
     (m : Machine) (o : Order) → IsBroadcast m o → o.from_era < 2 ^ 64 - 1
     → Begins (gathered m.system.processors m.system.memory o.goal)
+
+-- ---- each step
+
+-- a station's words and views
+abbrev pub Station : Type 0
+Station = State (Unit {0}) View
+
+-- the second state meets the rule too, and its machine is the one after this event, which was enabled, or the same machine if there is none
+pub record Follows (key : Key) (s after : Station) (m : Meets key s) (e : Option MachineEvent) : Type 0 where
+  pub kept : Meets key after
+  pub enabled : CanFollow (machine_of key s m) e
+  pub becomes : machine_of key after kept ≡ after_event (machine_of key s m) e
+
+-- a step of the seat id leaves it as `new` says, and the word i as it was found, or with k more, or with n
+abbrev pub loaded : Station → ℕ → Sat → ℕ → Station
+loaded s id new i = stepped s i (slice_index s.words i) id new.1 new.0 keeps
+
+abbrev pub raised : Station → ℕ → Sat → ℕ → ℕ → Station
+raised s id new i k = stepped s i ((slice_index s.words i + k) % 2 ^ 64) id new.1 new.0 keeps
+
+abbrev pub stored : Station → ℕ → Sat → ℕ → ℕ → Station
+stored s id new i n = stepped s i n id new.1 new.0 keeps
+
+-- the seat id is so, and it is the root's, which has said nothing yet
+pub record IsAsked (s : Station) (id : ℕ) (me : Sat) : Type 0 where
+  pub at : get_elem? s.views id ≡ some me.0
+  pub root : me.0.root ≡ true
+  pub unsaid : me.0.go ≡ Pending
+
+-- the seat id is so, and it is that of a pass with this one processor
+pub record HasPass (s : Station) (id : ℕ) (me : Sat) (h : Held) : Type 0 where
+  pub at : get_elem? s.views id ≡ some me.0
+  pub holds : me.0.held ≡ h ∷ []
+
+-- the root's first processor is given away: no event
+abbrev pub SplitFollows : Type 0
+SplitFollows =
+    (key : Key) (s : Station) (m : Meets key s) (id : ℕ) (v : View) (h : Held) (hs : List Held) → get_elem? s.views id ≡ some v → v.held ≡ h ∷ hs
+    → Follows key s (record { words = s.words; homes = s.homes; views = slice_set s.views id (root_left v) ++ pass_right v ∷ [] }) m None
+
+-- a pass is taken back: no event
+abbrev pub JoinFollows : Type 0
+JoinFollows =
+    (key : Key) (s : Station) (m : Meets key s) (id other : ℕ) (v w : View) (h : Held) → get_elem? s.views id ≡ some v → v.root ≡ true → ¬ (other ≡ id) → get_elem? s.views other ≡ some w → w.held ≡ h ∷ []
+    → Follows key s (record { words = s.words; homes = s.homes; views = slice_set (slice_set s.views id (both v w)) other spent }) m None
+
+-- the root's additions to word 0
+abbrev pub GoFollows : Type 0
+GoFollows =
+    (key : Key) (s : Station) (m : Meets key s) (id : ℕ) (me new : Sat) → IsAsked s id me → Gives (step 0 0 1 0 none) me (slice_index s.words 0) new
+    → Follows key s (raised s id new 0 1) m (Some Goes)
+
+abbrev pub CancelFollows : Type 0
+CancelFollows =
+    (key : Key) (s : Station) (m : Meets key s) (id : ℕ) (me new : Sat) → IsAsked s id me → Cancels (step 0 0 4294967296 0 none) me (slice_index s.words 0) new
+    → Follows key s (raised s id new 0 4294967296) m (Some CancelsUpdate)
+
+-- an addition of a pass to word 0
+abbrev pub ArriveFollows : Type 0
+ArriveFollows =
+    (key : Key) (s : Station) (m : Meets key s) (id k : ℕ) (c : Processor) (me new : Sat) → HasPass s id me (held k c false false) → c.phase ≡ Taken → Arrives (step 0 0 1 0 none) me (slice_index s.words 0) new
+    → (slice_index s.words 0 < 4294967296 → Follows key s (raised s id new 0 1) m (Some (Steps k Arrive)))
+    × (4294967296 ≤ slice_index s.words 0 → Follows key s (raised s id new 0 1) m None)
+
+-- a load of word 0
+abbrev pub PassFollows : Type 0
+PassFollows =
+    (key : Key) (s : Station) (m : Meets key s) (id k : ℕ) (c : Processor) (me new : Sat) → HasPass s id me (held k c true false) → IsWaiting c.phase → Passes (step 0 0 0 0 none) me (slice_index s.words 0) new
+    → (slice_index s.words 0 ≡ length me.0.start.cpus + 1 → Follows key s (loaded s id new 0) m (Some (Steps k Pass)))
+    × (4294967296 ≤ slice_index s.words 0 → Follows key s (loaded s id new 0) m (Some (Steps k Leave)))
+    × (slice_index s.words 0 < 4294967296 → slice_index s.words 0 ≢ length me.0.start.cpus + 1 → Follows key s (loaded s id new 0) m None)
+
+-- the word that a store goes to, and its value: of the word of memory that the event writes back, or else of the own phase
+abbrev pub GoesTo : Start → ℕ → Processor → Option (ℕ × ℕ) → ℕ → ℕ → Type 0
+GoesTo t k c None i n = (i ≡ k + 2) × (n ≡ code (work t (held k c true false)).cpu.phase)
+GoesTo t k c (Some back) i n = (n ≡ back.1) × (j : ℕ) × (place t.ram back.0 ≡ Some j) × (i ≡ first_memory_word t + j)
+
+-- a store
+abbrev pub WorkFollows : Type 0
+WorkFollows =
+    (key : Key) (s : Station) (m : Meets key s) (id k i n : ℕ) (c : Processor) (me new : Sat) → HasPass s id me (held k c true false) → IsTrue (is_local c.phase)
+    → GoesTo me.0.start k c (written (own_event me.0.start c)) i n → Works (step 0 i n 0 none) me n new
+    → Follows key s (stored s id new i n) m (Some (Steps k (own_event me.0.start c)))
+
+-- an addition to word 1
+abbrev pub ArriveAgainFollows : Type 0
+ArriveAgainFollows =
+    (key : Key) (s : Station) (m : Meets key s) (id k : ℕ) (c : Processor) (me new : Sat) → HasPass s id me (held k c true false) → c.phase ≡ Restored → ArrivesAgain (step 0 1 1 0 none) me (slice_index s.words 1) new
+    → Follows key s (raised s id new 1 1) m (Some (Steps k ArriveAgain))
+
+-- a load of word 1
+abbrev pub ReleaseFollows : Type 0
+ReleaseFollows =
+    (key : Key) (s : Station) (m : Meets key s) (id k : ℕ) (c : Processor) (me new : Sat) → HasPass s id me (held k c true true) → c.phase ≡ Arrived2 → Releases (step 0 1 0 0 none) me (slice_index s.words 1) new
+    → (slice_index s.words 1 ≡ length me.0.start.cpus → Follows key s (loaded s id new 1) m (Some (Steps k Release)))
+    × (slice_index s.words 1 ≢ length me.0.start.cpus → Follows key s (loaded s id new 1) m None)

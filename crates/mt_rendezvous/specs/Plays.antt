@@ -17,7 +17,7 @@ use Rattle.mt_rendezvous.specs.declared.view.Start.{Start}
 use Rattle.mt_rendezvous.specs.declared.view.View.{View}
 use Rattle.mt_rendezvous.specs.Station.{Begins, order_of, broadcast, held, joined, view, with_held}
 
-abbrev Sat : Type 0
+abbrev pub Sat : Type 0
 Sat = Me (Unit {0}) View
 
 -- ---- one event, or none

@@ -1,5 +1,5 @@
 -- What an update on threads comes to.
-use Rattle.std.specs.Prelude.{◌≡◌, ℕ, ◌<◌, ◌≤◌, Bool, true, false, List, [], length, None, Some, slice_get}
+use Rattle.std.specs.Prelude.{◌≡◌, ℕ, ◌+◌, ◌<◌, ◌≤◌, Bool, true, false, List, [], length, None, Some, slice_get}
 use Rattle.std.specs.List.{All}
 use mathlib.Core.Option.{some}
 use lib.ListN.{get_elem?}
@@ -9,6 +9,7 @@ use Rattle.mt_regs.specs.RegisterFile.{RegisterFile}
 use Rattle.mt_machine.specs.declared.phase.Phase.TheVariants.{Running, Taken}
 use Rattle.mt_machine.specs.declared.go.Go.{Go}
 use Rattle.mt_machine.specs.declared.go.Go.TheVariants.{Given, Cancelled}
+use Rattle.mt_machine.specs.Memory.{Window}
 use Rattle.mt_machine.specs.System.{Processor, System}
 use Rattle.mt_machine.specs.Machine.{Calls, IsEnabled, Machine, run}
 use Rattle.mt_machine.specs.Start.{HasEraRoom, IsQuiet}
@@ -20,7 +21,7 @@ use Rattle.mt_rendezvous.specs.declared.view.Held.{Held}
 use Rattle.mt_rendezvous.specs.declared.view.Start.{Start}
 use Rattle.mt_rendezvous.specs.declared.view.View.{View}
 use Rattle.mt_rendezvous.specs.Station.{Begins}
-use Rattle.mt_rendezvous.specs.Calls.{Carries, HoldsOne, IsRoot, gathered}
+use Rattle.mt_rendezvous.specs.Calls.{Attends, Carries, HoldsOne, IsRoot, gathered}
 
 -- ---- before the threads
 
@@ -35,6 +36,18 @@ pub record HasTaken (s : Machine) (goal : RegisterFile) (m : Machine) : Type 0 w
 
 -- ---- the threads
 
+-- the attendee carries the processor with this number as it was gathered, and its pass has added nothing
+abbrev pub IsNew : TableId → Start → ℕ → Attendee → Type 0
+IsNew table t k a = Attends table t k a.cpu a.pass.seat.table_id a.pass.seat.me a.pass.number
+
+-- so do these, by their places
+abbrev pub AllNew : TableId → Start → List Attendee → Type 0
+AllNew table t items = (k : ℕ) (a : Attendee) → get_elem? items k ≡ some a → IsNew table t k a
+
+-- the goal and the windows are those of the station
+abbrev pub AreOf : Start → RegisterFile → List Window → Type 0
+AreOf t goal windows = (goal ≡ t.goal) × (windows ≡ t.ram.windows)
+
 -- an attendee that has not begun
 pub record IsReady (table : TableId) (t : Start) (c : Processor) (its : TableId) (me : Me (Unit {0}) View) (number : ℕ) : Type 0 where
   pub carries : Carries table t its me number c false false
@@ -44,9 +57,17 @@ pub record IsReady (table : TableId) (t : Start) (c : Processor) (its : TableId)
 abbrev pub Came : TableId → TableId → Me (Unit {0}) View → ℕ → Processor → Type 0
 Came table its me number c = HoldsOne table its me number c × (c.phase ≡ Running)
 
+-- it has this number
+abbrev pub IsReadyAt : TableId → Start → ℕ → Attendee → Type 0
+IsReadyAt table t k a = IsReady table t a.cpu a.pass.seat.table_id a.pass.seat.me a.pass.number × (a.pass.number ≡ k)
+
 -- attendees that have not begun, by their numbers
 pub record IsQueue (table : TableId) (t : Start) (items : List Attendee) : Type 0 where
-  pub ready : (k : ℕ) (a : Attendee) → get_elem? items k ≡ some a → IsReady table t a.cpu a.pass.seat.table_id a.pass.seat.me a.pass.number × (a.pass.number ≡ k)
+  pub ready : (k : ℕ) (a : Attendee) → get_elem? items k ≡ some a → IsReadyAt table t k a
+
+-- one fewer are left of them
+abbrev pub OneLess : TableId → Start → List Attendee → List Attendee → Type 0
+OneLess table t items left = (length items ≡ length left + 1) × IsQueue table t left
 
 -- the root has each of these processors, by their numbers
 abbrev pub Tied : View → List Processor → Type 0

@@ -1,17 +1,18 @@
 -- A worked station: two processors without pairs that have taken, the first with a dirty word, over a memory of one line.
-use Rattle.std.specs.Prelude.{ℕ, Bool, true, List, [], ◌∷◌, None, Some, slice_set}
-use Rattle.mt_cache.specs.declared.line.CacheLine.{CacheLine}
+use Rattle.atomic_table.specs.Table.{State}
+use Rattle.std.specs.Prelude.{ℕ, Bool, true, false, List, [], ◌∷◌, None, Some, slice_set}
 use Rattle.mt_machine.specs.declared.phase.Phase.{Phase}
-use Rattle.mt_machine.specs.declared.phase.Phase.TheVariants.{Taken}
+use Rattle.mt_machine.specs.declared.phase.Phase.TheVariants.{Taken, Arrived}
 use Rattle.mt_machine.specs.declared.go.Go.TheVariants.{Pending}
 use Rattle.mt_machine.specs.System.{Processor, start_processor}
 use Rattle.mt_machine.specs.Memory.{Memory}
-use Rattle.mt_machine.specs.Machine.{Machine}
+use Rattle.mt_machine.specs.Machine.{Cancels, Machine, next}
 use Rattle.mt_machine.specs.WorkedRuns.{bare_file, line_of}
 use Rattle.mt_rendezvous.specs.declared.view.Held.{Held}
 use Rattle.mt_rendezvous.specs.declared.view.Start.{Start}
 use Rattle.mt_rendezvous.specs.declared.view.View.{View}
-use Rattle.mt_rendezvous.specs.Station.{held, numbered}
+use Rattle.mt_rendezvous.specs.declared.view.Key.{Key}
+use Rattle.mt_rendezvous.specs.Station.{first_view, held, numbered, pass_right, with_held}
 use Rattle.mt_rendezvous.specs.Calls.{gathered, opening_words}
 
 -- lines of the first have words 1 and 2 dirty
@@ -48,3 +49,30 @@ words_of first second = slice_set (slice_set (opening_words 2 zeros) 0 first) 1 
 -- the root's view before it gives a processor away
 abbrev pub root_view : View
 root_view = record { root = true; held = numbered 0 start.cpus; go = Pending; shown = None; start = start }
+
+-- the view of its first pass, which has added to word 0
+abbrev pub added_view : View
+added_view = with_held (pass_right root_view) (held 0 (first Taken) true false ∷ [])
+
+-- the machine after the cancel
+abbrev pub cancelled : Machine
+cancelled = next (machine_of (first Taken) (second Taken)) Cancels
+
+-- the first processor in a view, before and after its arrival
+abbrev pub waiting : Held
+waiting = held 0 (first Taken) false false
+
+abbrev pub come : Held
+come = held 0 (first Arrived) true false
+
+-- both, before any event
+abbrev pub both_taken : List Held
+both_taken = pair_of (first Taken) false false (second Taken) false false
+
+-- the station's words and views at the start, but for one word
+abbrev pub but_word : Key → ℕ → ℕ → State (Unit {0}) View
+but_word key i n = record { words = slice_set (opening_words 2 zeros) i n; homes = []; views = first_view key ∷ [] }
+
+-- a start of processors in these states
+abbrev pub start_in : Phase → ℕ → Start
+start_in phase era = gathered (record (first phase) { era = era } ∷ record (second phase) { era = era } ∷ []) (one_line zeros) (bare_file 0x800)

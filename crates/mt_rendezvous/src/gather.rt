@@ -1,10 +1,9 @@
 // A station is made, and closed.
 ghost use Rattle.std.specs.Prelude.{◌≡◌, ℕ, ◌+◌, ◌<◌, ◌≤◌, [], length, slice_get, None, Some, IfOk, IfErr, IfSome, vec_len, vec_capacity};
-ghost use mathlib.Core.Option.{some};
-ghost use lib.ListN.{get_elem?};
 ghost use Rattle.mt_machine.specs.declared.go.Go.TheVariants.{Pending};
 ghost use Rattle.mt_rendezvous.specs.Station.{Begins, both, start_of};
-ghost use Rattle.mt_rendezvous.specs.Calls.{Attends, Ends, HoldsOne, IsRoot, Leads, Offers, gathered, opening_words};
+ghost use Rattle.mt_rendezvous.specs.Calls.{Ends, HoldsOne, IsRoot, Leads, Offers, gathered, opening_words};
+ghost use Rattle.mt_rendezvous.specs.Update.{AllNew, IsNew};
 
 use crate::station::{Attendee, Pass, Root, Station};
 use crate::view::{HandsOver, Key};
@@ -65,7 +64,7 @@ fn give_away(station: &Station, root: &mut Root, cpu: Cpu, i: usize) -> Attendee
     ensures leads { Leads station.now.table.shared.table_id (start_of station.now.table.shared.key) root.new.seat.table_id root.new.seat.me Pending }
     ensures offers { Offers (start_of station.now.table.shared.key) (i + 1) root.new.seat.me }
     ensures shown { result.pass.shown ≡ None }
-    ensures attends { Attends station.now.table.shared.table_id (start_of station.now.table.shared.key) i result.cpu result.pass.seat.table_id result.pass.seat.me result.pass.number }
+    ensures attends { IsNew station.now.table.shared.table_id (start_of station.now.table.shared.key) i result }
 {
     let seat = station.table.shared.split_seat::<HandsOver>(&mut root.seat);
     Attendee {
@@ -89,7 +88,7 @@ fn give_all(station: &Station, root: &mut Root, cpus: &mut Vec<Cpu>, attendees: 
     ensures offers { Offers (start_of station.now.table.shared.key) (length cpus.old.items) root.new.seat.me }
     ensures count { length attendees.new.items ≡ length cpus.old.items }
     ensures room { vec_capacity attendees.new ≡ vec_capacity attendees.old }
-    ensures each { (k : ℕ) (a : _) → get_elem? attendees.new.items k ≡ some a → Attends station.now.table.shared.table_id (start_of station.now.table.shared.key) k a.cpu a.pass.seat.table_id a.pass.seat.me a.pass.number }
+    ensures each { AllNew station.now.table.shared.table_id (start_of station.now.table.shared.key) attendees.new.items }
 {
     let Some(cpu) = cpus.pop() else {
         return;
@@ -116,7 +115,7 @@ impl Station {
         ensures empty { IfOk result (λ t. t.1.seat.me.0.held ≡ []) }
         ensures key { IfOk result (λ t. start_of t.0.table.shared.key ≡ gathered cpus.items ram.now goal.now) }
         ensures count { IfOk result (λ t. length t.2.items ≡ length cpus.items) }
-        ensures attendees { IfOk result (λ t. (k : ℕ) (a : _) → get_elem? t.2.items k ≡ some a → Attends t.0.table.shared.table_id (start_of t.0.table.shared.key) k a.cpu a.pass.seat.table_id a.pass.seat.me a.pass.number) }
+        ensures attendees { IfOk result (λ t. AllNew t.0.table.shared.table_id (start_of t.0.table.shared.key) t.2.items) }
         ensures refused { IfErr result (λ v. v.items ≡ cpus.items) }
     {
         let Ok(mut attendees) = Vec::with_capacity(alloc, cpus.len()) else {

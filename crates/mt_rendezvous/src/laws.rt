@@ -1,9 +1,23 @@
 ghost use Rattle.mt_rendezvous.specs.Laws.{BroadcastBegins, HoldsWhereFull, IsLedTo, StandsForOne};
+ghost use Rattle.mt_rendezvous.specs.Laws.{ArriveAgainFollows, ArriveFollows, CancelFollows, GoFollows, JoinFollows, PassFollows, ReleaseFollows, SplitFollows, WorkFollows};
 
 /// Between any two steps the words and the views stand for one state, to which the broadcast state leads.
 pub fn station_is_led()
     ensures led { IsLedTo }
     ensures one { StandsForOne }
+{}
+
+/// Each step of a seat keeps the rule, and is one event of the station's machine, which was enabled, or none.
+pub fn each_step_is_one_event()
+    ensures split { SplitFollows }
+    ensures join { JoinFollows }
+    ensures go { GoFollows }
+    ensures cancel { CancelFollows }
+    ensures arrive { ArriveFollows }
+    ensures pass { PassFollows }
+    ensures work { WorkFollows }
+    ensures arrive_again { ArriveAgainFollows }
+    ensures release { ReleaseFollows }
 {}
 
 /// Where all have arrived again each processor has the goal's registers and holds nothing, and each

@@ -53,6 +53,19 @@ pub struct Root {
     pub seat: Seat<(), View>,
 }
 
+// That the gate is to be told of an arrival. It can't be let go, so that a body that doesn't tell is refused.
+pub(crate) struct Arrival {
+    number: u32,
+}
+
+impl Arrival {
+    // Tells the gate.
+    pub(crate) fn tell<G: Gate>(self, gate: &G) {
+        let Arrival { number } = self;
+        gate.arrived(number);
+    }
+}
+
 /// How an update ended for one processor.
 #[derive(Clone, Copy, Debug, PartialEq, Eq)]
 pub enum Outcome {
@@ -132,7 +145,7 @@ impl Pass {
     }
 
     // Adds to word 0: the event Arrive, or none where the word held the cancel before.
-    pub(crate) fn arrive(&mut self, station: &Station, cpu: &mut Cpu)
+    pub(crate) fn arrive(&mut self, station: &Station, cpu: &mut Cpu) -> Arrival
         requires carries { Carries station.now.table.shared.table_id (start_of station.now.table.shared.key) self.old.seat.table_id self.old.seat.me self.old.number cpu.old false false }
         requires taken { cpu.old.phase ≡ Taken }
         ensures carries { Carries station.now.table.shared.table_id (start_of station.now.table.shared.key) self.new.seat.table_id self.new.seat.me self.new.number cpu.new true false }
@@ -147,9 +160,12 @@ impl Pass {
             .table
             .shared
             .fetch_add::<Arrives>(&mut self.seat, 0, 1);
+        let number = self.number as u32;
         if found < CANCEL {
             cpu.shift(Event::Arrive);
+            return Arrival { number };
         }
+        Arrival { number }
     }
 
     // Waits for the others. The load of word 0 that ends it is the event Pass, and the answer is true, or Leave.
@@ -270,6 +286,35 @@ impl Pass {
         }
         unreachable!()
     }
+
+    // Takes the processor through the update where it stands, since it is large.
+    pub(crate) fn go_through<R: Wait, G: Gate>(
+        &mut self,
+        rt: &R,
+        station: &Station,
+        ram: &Ram,
+        goal: &RegFile,
+        gate: &G,
+        cpu: &mut Cpu,
+    ) -> Outcome
+        requires carries { Carries station.now.table.shared.table_id (start_of station.now.table.shared.key) self.old.seat.table_id self.old.seat.me self.old.number cpu.old false false }
+        requires taken { cpu.old.phase ≡ Taken }
+        requires goal { goal.now ≡ station.now.table.shared.key.goal.value }
+        requires windows { ram.now.windows ≡ station.now.table.shared.key.ram.value.windows }
+        ensures attended { Attended result station.now.table.shared.table_id (start_of station.now.table.shared.key) self.old.number cpu.old self.new.seat.table_id self.new.seat.me cpu.new }
+        ensures number { self.new.number ≡ self.old.number }
+        ensures unshown { result ≡ Outcome.Cancelled → self.new.shown ≡ self.old.shown }
+        ensures shown { result ≡ Outcome.Complete → self.new.shown ≡ Some (length station.now.table.shared.key.cpus.value.items) }
+    {
+        self.arrive(station, cpu).tell(gate);
+        if !self.wait_first(rt, station, cpu) {
+            return Outcome::Cancelled;
+        }
+        self.work_all(station, ram, goal, cpu);
+        self.arrive_again(station, cpu);
+        self.wait_second(rt, station, cpu);
+        Outcome::Complete
+    }
 }
 
 /// A processor with its pass.
@@ -299,13 +344,6 @@ pub fn attend<R: Wait, G: Gate>(
     ensures shown { result.1 ≡ Outcome.Complete → result.0.pass.shown ≡ Some (length station.now.table.shared.key.cpus.value.items) }
 {
     let Attendee { mut cpu, mut pass } = a;
-    pass.arrive(station, &mut cpu);
-    gate.arrived(pass.number as u32);
-    if !pass.wait_first(rt, station, &mut cpu) {
-        return (Attendee { cpu, pass }, Outcome::Cancelled);
-    }
-    pass.work_all(station, ram, goal, &mut cpu);
-    pass.arrive_again(station, &mut cpu);
-    pass.wait_second(rt, station, &mut cpu);
-    (Attendee { cpu, pass }, Outcome::Complete)
+    let outcome = pass.go_through(rt, station, ram, goal, gate, &mut cpu);
+    (Attendee { cpu, pass }, outcome)
 }

@@ -1,11 +1,10 @@
 // Stations with one thread for each pass.
 ghost use Rattle.std.specs.Prelude.{◌≡◌, ℕ, ◌<◌, ◌≤◌, ◌+◌, ◌-◌, ◌^◌, ◌↔◌, IsTrue, IfSome, IfNone, [], length, vec_len};
-ghost use mathlib.Core.Option.{some};
-ghost use lib.ListN.{get_elem?};
 ghost use Rattle.std.specs.Thread.{IsSync};
 ghost use Rattle.mt_machine.specs.declared.go.Go.TheVariants.{Pending};
 ghost use Rattle.mt_rendezvous.specs.Station.{Begins, start_of};
 ghost use Rattle.mt_rendezvous.specs.Calls.{Attends, HoldsOne, IsRoot, Leads, gathered};
+ghost use Rattle.mt_rendezvous.specs.Update.{AllNew, AreOf, IsNew};
 
 use crate::broadcast::call_and_take;
 use crate::gather::disband;
@@ -109,11 +108,11 @@ fn attend_whole<R: Wait>(
 
 // The last attendee.
 fn last(station: &Station, waiting: &mut Vec<Attendee>) -> Option<Attendee>
-    requires { (k : ℕ) (a : _) → get_elem? waiting.old.items k ≡ some a → Attends station.now.table.shared.table_id (start_of station.now.table.shared.key) k a.cpu a.pass.seat.table_id a.pass.seat.me a.pass.number }
+    requires { AllNew station.now.table.shared.table_id (start_of station.now.table.shared.key) waiting.old.items }
     ensures none { IfNone result (length waiting.old.items ≡ 0) }
-    ensures attends { IfSome result (λ a. Attends station.now.table.shared.table_id (start_of station.now.table.shared.key) (length waiting.new.items) a.cpu a.pass.seat.table_id a.pass.seat.me a.pass.number) }
+    ensures attends { IfSome result (λ a. IsNew station.now.table.shared.table_id (start_of station.now.table.shared.key) (length waiting.new.items) a) }
     ensures fewer { IfSome result (λ a. length waiting.old.items ≡ length waiting.new.items + 1) }
-    ensures rest { (k : ℕ) (a : _) → get_elem? waiting.new.items k ≡ some a → Attends station.now.table.shared.table_id (start_of station.now.table.shared.key) k a.cpu a.pass.seat.table_id a.pass.seat.me a.pass.number }
+    ensures rest { AllNew station.now.table.shared.table_id (start_of station.now.table.shared.key) waiting.new.items }
 {
     let _ = station.count;
     waiting.pop()
@@ -136,7 +135,7 @@ fn run_all<'s, E, R: Threads + Wait + Sync>(
     requires root { Leads station.now.table.shared.table_id (start_of station.now.table.shared.key) root.old.seat.table_id root.old.seat.me Pending }
     requires goal { goal.now ≡ station.now.table.shared.key.goal.value }
     requires windows { ram.now.windows ≡ station.now.table.shared.key.ram.value.windows }
-    requires waiting { (k : ℕ) (a : _) → get_elem? waiting.old.items k ≡ some a → Attends station.now.table.shared.table_id (start_of station.now.table.shared.key) k a.cpu a.pass.seat.table_id a.pass.seat.me a.pass.number }
+    requires waiting { AllNew station.now.table.shared.table_id (start_of station.now.table.shared.key) waiting.old.items }
     requires begins { Begins (start_of station.now.table.shared.key) }
     ensures { IsRoot station.now.table.shared.table_id root.new.seat.table_id root.new.seat.me }
 {
@@ -156,7 +155,9 @@ fn run_all<'s, E, R: Threads + Wait + Sync>(
     let Ok(child) = scope.spawn_with(
         promise,
         move || -> (Attendee, Outcome)
-            requires { IsSync R.row × Attends station.now.table.shared.table_id (start_of station.now.table.shared.key) k a.cpu a.pass.seat.table_id a.pass.seat.me a.pass.number × Begins (start_of station.now.table.shared.key) × (goal.now ≡ station.now.table.shared.key.goal.value) × (ram.now.windows ≡ station.now.table.shared.key.ram.value.windows) }
+            requires shared { IsSync R.row }
+            requires new { IsNew station.now.table.shared.table_id (start_of station.now.table.shared.key) k a }
+            requires begins { Begins (start_of station.now.table.shared.key) × AreOf (start_of station.now.table.shared.key) goal.now ram.now.windows }
             ensures { HoldsOne station.entry.now.table.shared.table_id result.0.pass.seat.table_id result.0.pass.seat.me k result.0.cpu × (result.0.pass.number ≡ k) }
         { attend_whole(rt, station, ram, k, a, goal, gate) },
     ) else {
@@ -210,7 +211,9 @@ fn meet<R: Threads + Wait + Sync>(
         thread::scope_env(),
         rt,
         move |scope| -> Ended
-            requires { Leads all.now.table.shared.table_id (start_of all.now.table.shared.key) root.seat.table_id root.seat.me Pending × (goal.now ≡ all.now.table.shared.key.goal.value) × (lent.now.windows ≡ all.now.table.shared.key.ram.value.windows) × ((k : ℕ) (a : _) → get_elem? waiting.items k ≡ some a → Attends all.now.table.shared.table_id (start_of all.now.table.shared.key) k a.cpu a.pass.seat.table_id a.pass.seat.me a.pass.number) × Begins (start_of all.now.table.shared.key) }
+            requires root { Leads all.now.table.shared.table_id (start_of all.now.table.shared.key) root.seat.table_id root.seat.me Pending }
+            requires waiting { AllNew all.now.table.shared.table_id (start_of all.now.table.shared.key) waiting.items }
+            requires begins { Begins (start_of all.now.table.shared.key) × AreOf (start_of all.now.table.shared.key) goal.now lent.now.windows }
             ensures { IsRoot all.entry.now.table.shared.table_id result.root.seat.table_id result.root.seat.me }
         {
             let went = run_all(

@@ -1,5 +1,5 @@
 // An update on threads: one for each processor, in a scope.
-ghost use Rattle.std.specs.Prelude.{◌≡◌, ℕ, ◌+◌, ◌<◌, ◌≤◌, ◌↔◌, [], Bool, true, false, length, Err, None, Some, IsSome, map, OnOk, OnErr, IfOk, IfErr, IfSome, IfNone, vec_len, vec_capacity};
+ghost use Rattle.std.specs.Prelude.{◌≡◌, ℕ, ◌+◌, ◌++◌, ◌∷◌, ◌<◌, ◌≤◌, ◌↔◌, [], Bool, true, false, length, Err, None, Some, IsSome, map, OnOk, OnErr, IfOk, IfErr, IfSome, IfNone, vec_len, vec_capacity};
 ghost use Rattle.std.specs.List.{All};
 ghost use Rattle.std.specs.Thread.{IsSync};
 ghost use Rattle.mt_regs.specs.declared.fault.Fault.{Fault};
@@ -14,11 +14,11 @@ ghost use Rattle.mt_core.specs.Rounds.{in_order};
 ghost use Rattle.mt_rendezvous.specs.Station.{Begins, start_of};
 ghost use Rattle.mt_rendezvous.specs.Calls.{IsRoot, Leads, gathered};
 ghost use Rattle.mt_bus.specs.Parts.{system};
-ghost use Rattle.mt_rendezvous.specs.Update.{CanUpdate, Came, IsQueue, IsReady, Returned, Tied, decided, left_by, running};
+ghost use Rattle.mt_rendezvous.specs.Update.{AreOf, CanUpdate, Came, IsQueue, IsReady, IsReadyAt, OneLess, Returned, Tied, decided, left_by, running};
 
 use crate::broadcast::call_and_take;
 use crate::gather::disband;
-use crate::station::{Attendee, Root, Station, attend};
+use crate::station::{Attendee, Root, Station};
 use mt_bus::System;
 use mt_core::{CallFault, Core, a_core_arises};
 use mt_cpu::Cpu;
@@ -39,11 +39,11 @@ struct Attends {
     number: u64,
 }
 
-impl Promise<Attendee> for Attends {
+impl Promise<Box<Attendee>> for Attends {
     ghost use Rattle.std.specs.Prelude.{◌≡◌};
     ghost use Rattle.mt_rendezvous.specs.Update.{Came};
 
-    ghost kept_by = { λ p a. Came p.station.value.table.shared.table_id a.pass.seat.table_id a.pass.seat.me a.pass.number a.cpu × (a.pass.number ≡ p.number) };
+    ghost kept_by = { λ p a. Came p.station.value.table.shared.table_id a.value.pass.seat.table_id a.value.pass.seat.me a.value.pass.number a.value.cpu × (a.value.pass.number ≡ p.number) };
 }
 
 // Takes the attendee through the update, or out of it.
@@ -51,17 +51,17 @@ fn attend_whole<R: Wait, G: Gate>(
     rt: &R,
     station: &Station,
     ram: &Ram,
-    a: Attendee,
+    a: &mut Attendee,
     goal: &RegFile,
     gate: &G,
-) -> Attendee
-    requires ready { IsReady station.now.table.shared.table_id (start_of station.now.table.shared.key) a.cpu a.pass.seat.table_id a.pass.seat.me a.pass.number }
+)
+    requires ready { IsReady station.now.table.shared.table_id (start_of station.now.table.shared.key) a.old.cpu a.old.pass.seat.table_id a.old.pass.seat.me a.old.pass.number }
     requires goal { goal.now ≡ station.now.table.shared.key.goal.value }
     requires windows { ram.now.windows ≡ station.now.table.shared.key.ram.value.windows }
-    ensures came { Came station.now.table.shared.table_id result.pass.seat.table_id result.pass.seat.me result.pass.number result.cpu }
-    ensures number { result.pass.number ≡ a.pass.number }
+    ensures came { Came station.now.table.shared.table_id a.new.pass.seat.table_id a.new.pass.seat.me a.new.pass.number a.new.cpu }
+    ensures number { a.new.pass.number ≡ a.old.pass.number }
 {
-    attend(rt, station, ram, a, goal, gate).0
+    a.pass.go_through(rt, station, ram, goal, gate, &mut a.cpu);
 }
 
 // Starts a thread for the attendee, where the gate lets it. Where it isn't started the root cancels, and the
@@ -72,23 +72,24 @@ fn start<'s, E, R: Threads + Wait + Sync, G: Gate>(
     station: &'s Station,
     ram: &'s Ram,
     root: &mut Root,
-    a: Attendee,
+    mut a: Box<Attendee>,
     goal: &'s RegFile,
     gate: &'s G,
-) -> Result<PromisedHandle<Attendee, Attends>, Attendee>
+) -> Result<PromisedHandle<Box<Attendee>, Attends>, Box<Attendee>>
     requires root { Leads station.now.table.shared.table_id (start_of station.now.table.shared.key) root.old.seat.table_id root.old.seat.me Pending }
-    requires ready { IsReady station.now.table.shared.table_id (start_of station.now.table.shared.key) a.cpu a.pass.seat.table_id a.pass.seat.me a.pass.number }
+    requires ready { IsReady station.now.table.shared.table_id (start_of station.now.table.shared.key) a.value.cpu a.value.pass.seat.table_id a.value.pass.seat.me a.value.pass.number }
     requires goal { goal.now ≡ station.now.table.shared.key.goal.value }
     requires windows { ram.now.windows ≡ station.now.table.shared.key.ram.value.windows }
     ensures held { root.new.seat.me.0.held ≡ root.old.seat.me.0.held }
     ensures pending { IfOk result (λ h. Leads station.now.table.shared.table_id (start_of station.now.table.shared.key) root.new.seat.table_id root.new.seat.me Pending) }
-    ensures child { IfOk result (λ h. (h.promise.station.value ≡ station.now) × (h.promise.number ≡ a.pass.number)) }
+    ensures child { IfOk result (λ h. (h.promise.station.value ≡ station.now) × (h.promise.number ≡ a.value.pass.number)) }
     ensures cancelled { IfErr result (λ b. Leads station.now.table.shared.table_id (start_of station.now.table.shared.key) root.new.seat.table_id root.new.seat.me Cancelled) }
-    ensures came { IfErr result (λ b. Came station.now.table.shared.table_id b.pass.seat.table_id b.pass.seat.me b.pass.number b.cpu × (b.pass.number ≡ a.pass.number)) }
+    ensures came { IfErr result (λ b. Came station.now.table.shared.table_id b.value.pass.seat.table_id b.value.pass.seat.me b.value.pass.number b.value.cpu × (b.value.pass.number ≡ a.value.pass.number)) }
 {
     if !gate.may_start(a.pass.number as u32) {
         root.cancel(station);
-        return Err(attend_whole(rt, station, ram, a, goal, gate));
+        attend_whole(rt, station, ram, &mut a, goal, gate);
+        return Err(a);
     }
     let promise = Attends {
         station: Snapshot::of(station),
@@ -96,10 +97,16 @@ fn start<'s, E, R: Threads + Wait + Sync, G: Gate>(
     };
     match scope.spawn_with(
         promise,
-        move || -> Attendee
-            requires { IsSync R.row × IsReady station.now.table.shared.table_id (start_of station.now.table.shared.key) a.cpu a.pass.seat.table_id a.pass.seat.me a.pass.number × (goal.now ≡ station.now.table.shared.key.goal.value) × (ram.now.windows ≡ station.now.table.shared.key.ram.value.windows) }
-            ensures { Came station.entry.now.table.shared.table_id result.pass.seat.table_id result.pass.seat.me result.pass.number result.cpu × (result.pass.number ≡ a.pass.number) }
-        { attend_whole(rt, station, ram, a, goal, gate) },
+        move || -> Box<Attendee>
+            requires shared { IsSync R.row }
+            requires ready { IsReady station.now.table.shared.table_id (start_of station.now.table.shared.key) a.value.cpu a.value.pass.seat.table_id a.value.pass.seat.me a.value.pass.number }
+            requires same { AreOf (start_of station.now.table.shared.key) goal.now ram.now.windows }
+            ensures { Came station.entry.now.table.shared.table_id result.value.pass.seat.table_id result.value.pass.seat.me result.value.pass.number result.value.cpu × (result.value.pass.number ≡ a.value.pass.number) }
+        {
+            let mut a = a;
+            attend_whole(rt, station, ram, &mut a, goal, gate);
+            a
+        },
     ) {
         Ok(child) => Ok(child),
         Err(refused) => {
@@ -125,15 +132,55 @@ fn finish(station: &Station, a: Attendee, root: &mut Root, done: &mut Vec<Cpu>)
     done.push_reserved(root.take_back(station, a));
 }
 
+// What a thread had comes back.
+fn finish_boxed(station: &Station, a: Box<Attendee>, root: &mut Root, done: &mut Vec<Cpu>)
+    requires root { IsRoot station.now.table.shared.table_id root.old.seat.table_id root.old.seat.me }
+    requires came { Came station.now.table.shared.table_id a.value.pass.seat.table_id a.value.pass.seat.me a.value.pass.number a.value.cpu }
+    requires next { a.value.pass.number ≡ length done.old.items }
+    requires tied { Tied root.old.seat.me.0 done.old.items }
+    requires room { vec_len done.old < vec_capacity done.old }
+    ensures root { IsRoot station.now.table.shared.table_id root.new.seat.table_id root.new.seat.me }
+    ensures go { root.new.seat.me.0.go ≡ root.old.seat.me.0.go }
+    ensures room { (length done.new.items ≡ length done.old.items + 1) × (vec_capacity done.new ≡ vec_capacity done.old) }
+    ensures tied { Tied root.new.seat.me.0 done.new.items }
+    ensures ran { All (λ c. c.phase ≡ Running) done.old.items → All (λ c. c.phase ≡ Running) done.new.items }
+{
+    finish(station, Box::into_inner(a), root, done);
+}
+
 // The last attendee.
 fn last(station: &Station, waiting: &mut Vec<Attendee>) -> Option<Attendee>
     requires { IsQueue station.now.table.shared.table_id (start_of station.now.table.shared.key) waiting.old.items }
     ensures none { IfNone result ((waiting.old.items ≡ []) × (length waiting.old.items ≡ 0)) }
-    ensures some { IfSome result (λ a. IsReady station.now.table.shared.table_id (start_of station.now.table.shared.key) a.cpu a.pass.seat.table_id a.pass.seat.me a.pass.number × (a.pass.number ≡ length waiting.new.items)) }
-    ensures rest { IfSome result (λ a. (length waiting.old.items ≡ length waiting.new.items + 1) × IsQueue station.now.table.shared.table_id (start_of station.now.table.shared.key) waiting.new.items) }
+    ensures some { IfSome result (λ a. IsReadyAt station.now.table.shared.table_id (start_of station.now.table.shared.key) (length waiting.new.items) a) }
+    ensures rest { IfSome result (λ a. OneLess station.now.table.shared.table_id (start_of station.now.table.shared.key) waiting.old.items waiting.new.items) }
+    ensures whole { IfSome result (λ a. waiting.old.items ≡ waiting.new.items ++ a ∷ []) }
+    ensures kept { IfNone result (waiting.new.items ≡ waiting.old.items) }
+    ensures capacity { vec_capacity waiting.new ≡ vec_capacity waiting.old }
 {
     let _ = station.count;
     waiting.pop()
+}
+
+// The last attendee, in a block that a thread takes without a copy, where there is memory.
+fn last_boxed(
+    station: &Station,
+    alloc: Global,
+    waiting: &mut Vec<Attendee>,
+) -> Option<Box<Attendee>>
+    requires { IsQueue station.now.table.shared.table_id (start_of station.now.table.shared.key) waiting.old.items }
+    ensures none { IfNone result (waiting.new.items ≡ waiting.old.items) }
+    ensures some { IfSome result (λ a. IsReadyAt station.now.table.shared.table_id (start_of station.now.table.shared.key) (length waiting.new.items) a.value) }
+    ensures rest { IfSome result (λ a. OneLess station.now.table.shared.table_id (start_of station.now.table.shared.key) waiting.old.items waiting.new.items) }
+{
+    let a = last(station, waiting)?;
+    match Box::new(alloc, a) {
+        Ok(boxed) => Some(boxed),
+        Err(refused) => {
+            waiting.push_reserved(refused.value);
+            None
+        }
+    }
 }
 
 // With the cancel given, all of these leave.
@@ -156,11 +203,11 @@ fn leave_all<R: Wait, G: Gate>(
     ensures returned { Returned station.now.table.shared.table_id root.new.seat.table_id root.new.seat.me root.old.seat.me.0.go (length waiting.old.items) done.new.items }
     ensures capacity { vec_capacity done.new ≡ vec_capacity done.old }
 {
-    let Some(a) = last(station, waiting) else {
+    let Some(mut a) = last(station, waiting) else {
         return;
     };
     leave_all(rt, station, ram, root, goal, gate, waiting, done);
-    let a = attend_whole(rt, station, ram, a, goal, gate);
+    attend_whole(rt, station, ram, &mut a, goal, gate);
     finish(station, a, root, done);
 }
 
@@ -168,6 +215,7 @@ fn leave_all<R: Wait, G: Gate>(
 // the answer is false.
 fn run_all<'s, E, R: Threads + Wait + Sync, G: Gate>(
     rt: &'s R,
+    alloc: Global,
     scope: &Scope<'s, E>,
     station: &'s Station,
     ram: &'s Ram,
@@ -186,20 +234,26 @@ fn run_all<'s, E, R: Threads + Wait + Sync, G: Gate>(
     ensures returned { Returned station.now.table.shared.table_id root.new.seat.table_id root.new.seat.me (decided result) (length waiting.old.items) done.new.items }
     ensures capacity { vec_capacity done.new ≡ vec_capacity done.old }
 {
-    let Some(a) = last(station, waiting) else {
+    if waiting.is_empty() {
         root.go(station);
         return true;
+    }
+    let Some(a) = last_boxed(station, alloc, waiting) else {
+        root.cancel(station);
+        leave_all(rt, station, ram, root, goal, gate, waiting, done);
+        return false;
     };
     match start(rt, scope, station, ram, root, a, goal, gate) {
         Ok(child) => {
-            let given = run_all(rt, scope, station, ram, root, goal, gate, waiting, done);
-            let a = child.join(rt);
-            finish(station, a, root, done);
+            let given = run_all(
+                rt, alloc, scope, station, ram, root, goal, gate, waiting, done,
+            );
+            finish_boxed(station, child.join(rt), root, done);
             given
         }
         Err(a) => {
             leave_all(rt, station, ram, root, goal, gate, waiting, done);
-            finish(station, a, root, done);
+            finish_boxed(station, a, root, done);
             false
         }
     }
@@ -215,6 +269,7 @@ struct Ended {
 // The scope of the threads.
 fn meet<R: Threads + Wait + Sync, G: Gate>(
     rt: &R,
+    alloc: Global,
     station: &Station,
     ram: &Ram,
     mut root: Root,
@@ -235,11 +290,15 @@ fn meet<R: Threads + Wait + Sync, G: Gate>(
         thread::scope_env(),
         rt,
         move |scope| -> Ended
-            requires { Leads station.now.table.shared.table_id (start_of station.now.table.shared.key) root.seat.table_id root.seat.me Pending × (goal.now ≡ station.now.table.shared.key.goal.value) × (ram.now.windows ≡ station.now.table.shared.key.ram.value.windows) × IsQueue station.now.table.shared.table_id (start_of station.now.table.shared.key) waiting.items × (length waiting.items ≤ vec_capacity done) × (done.items ≡ []) }
+            requires root { Leads station.now.table.shared.table_id (start_of station.now.table.shared.key) root.seat.table_id root.seat.me Pending }
+            requires same { AreOf (start_of station.now.table.shared.key) goal.now ram.now.windows }
+            requires waiting { IsQueue station.now.table.shared.table_id (start_of station.now.table.shared.key) waiting.items }
+            requires room { (length waiting.items ≤ vec_capacity done) × (done.items ≡ []) }
             ensures { Returned station.entry.now.table.shared.table_id result.root.seat.table_id result.root.seat.me (decided result.given) (length waiting.items) result.done.items }
         {
             let given = run_all(
                 rt,
+                alloc,
                 scope,
                 station,
                 ram,
@@ -308,7 +367,7 @@ fn lead_on_threads<R: Threads + Wait + Sync, G: Gate>(
     match Station::gather(alloc, cpus, ram, goal) {
         Ok((station, root, waiting)) => {
             let Ended { given, root, done } = meet(
-                rt, &station, ram, root, goal, gate, waiting, done,
+                rt, alloc, &station, ram, root, goal, gate, waiting, done,
             );
             disband(station, root, ram);
             Led { given, cpus: done }

@@ -5,10 +5,10 @@ ghost use Rattle.mt_machine.specs.declared.phase.Phase.TheVariants.{Running, Tak
 ghost use Rattle.mt_machine.specs.declared.event.Event.TheVariants.{Arrive, DropLines, Leave, WriteBack};
 ghost use Rattle.mt_machine.specs.Machine.{Cancels, Goes, Steps, next};
 ghost use Rattle.mt_machine.specs.WorkedRuns.{memory_at};
-ghost use Rattle.mt_rendezvous.specs.Station.{Fits, added_of, again_of, both, broadcast, code, go_weight, held, joined, numbered, pass_right, phase_word, root_left, total, with_held};
+ghost use Rattle.mt_rendezvous.specs.Station.{Fits, added_of, again_of, both, broadcast, code, go_weight, held, joined, numbered, pass_right, phase_word, root_left, total};
 ghost use Rattle.mt_rendezvous.specs.Plays.{written};
 ghost use Rattle.mt_rendezvous.specs.Calls.{gathered, opening_words};
-ghost use Rattle.mt_rendezvous.specs.WorkedStations.{first, machine_of, pair_of, root_view, second, start, words_of, zeros};
+ghost use Rattle.mt_rendezvous.specs.WorkedStations.{added_view, cancelled, first, machine_of, pair_of, root_view, second, start, words_of, zeros};
 
 /// What the words and the views stand for is the machine, before and after one event.
 pub fn worked_machines()
@@ -18,7 +18,7 @@ pub fn worked_machines()
     ensures go { joined start (pair_of (first Taken) false false (second Taken) false false) Given (words_of 1 0) ≡ next (machine_of (first Taken) (second Taken)) Goes }
     ensures cancel { joined start (pair_of (first Taken) false false (second Taken) false false) Cancelled (words_of 0x100000000 0) ≡ next (machine_of (first Taken) (second Taken)) Cancels }
     ensures late { joined start (pair_of (first Taken) true false (second Taken) false false) Cancelled (words_of 0x100000001 0) ≡ next (machine_of (first Taken) (second Taken)) Cancels }
-    ensures left { joined start (pair_of (first Running) true false (second Taken) true false) Cancelled (words_of 0x100000002 0) ≡ next (next (machine_of (first Taken) (second Taken)) Cancels) (Steps 0 Leave) }
+    ensures left { joined start (pair_of (first Running) true false (second Taken) true false) Cancelled (words_of 0x100000002 0) ≡ next cancelled (Steps 0 Leave) }
     ensures all_left { (joined start (pair_of (first Running) true false (second Running) true false) Cancelled (words_of 0x100000002 0)).order ≡ None }
     ensures one_released { is_some (joined start (pair_of (record (first Running) { era = 1 }) true true (second Arrived2) true true) Given (words_of 3 2)).order ≡ true }
     ensures all_released { (joined start (pair_of (record (first Running) { era = 1 }) true true (record (second Running) { era = 1 }) true true) Given (words_of 3 2)).order ≡ None }
@@ -44,7 +44,7 @@ pub fn worked_views()
     ensures kept { (root_left root_view).held ≡ held 1 (second Taken) false false ∷ [] }
     ensures no_root { (pass_right root_view).root ≡ false }
     ensures taken_back { both (root_left root_view) (pass_right root_view) ≡ root_view }
-    ensures added_stays { (both (root_left root_view) (with_held (pass_right root_view) (held 0 (first Taken) true false ∷ []))).held ≡ held 0 (first Taken) true false ∷ held 1 (second Taken) false false ∷ [] }
+    ensures added_stays { (both (root_left root_view) added_view).held ≡ pair_of (first Taken) true false (second Taken) false false }
 {}
 
 /// How a processor's phase and what its pass has added go together.

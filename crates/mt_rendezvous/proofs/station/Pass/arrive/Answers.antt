@@ -33,11 +33,11 @@ returns-then-found-lt-CANCEL-clause-same c =
 pub returns-then-found-lt-CANCEL-clause-first : goal.returns-then-found-lt-CANCEL-clause-first
 returns-then-found-lt-CANCEL-clause-first c = of_it c.requires.carries (λ t h. slice_get t.cpus h.number ≡ Some h.cpu) c.fetch_add-found.ensures.2.2
 
-pub returns-else-found-lt-CANCEL-clause-first : goal.returns-else-found-lt-CANCEL-clause-first
-returns-else-found-lt-CANCEL-clause-first c = of_it c.requires.carries (λ t h. slice_get t.cpus h.number ≡ Some h.cpu) c.fetch_add-found.ensures.2.2
+pub returns-clause-first : goal.returns-clause-first
+returns-clause-first c = of_it c.requires.carries (λ t h. slice_get t.cpus h.number ≡ Some h.cpu) c.fetch_add-found.ensures.2.2
 
 pub returns-then-found-lt-CANCEL-clause-begins : goal.returns-then-found-lt-CANCEL-clause-begins
 returns-then-found-lt-CANCEL-clause-begins c = subst Begins c.requires.carries.told c.fetch_add-found.ensures.2.1
 
-pub returns-else-found-lt-CANCEL-clause-begins : goal.returns-else-found-lt-CANCEL-clause-begins
-returns-else-found-lt-CANCEL-clause-begins c = subst Begins c.requires.carries.told c.fetch_add-found.ensures.2.1
+pub returns-clause-begins : goal.returns-clause-begins
+returns-clause-begins c = subst Begins c.requires.carries.told c.fetch_add-found.ensures.2.1
