@@ -25,6 +25,10 @@ pub use top::tool;
 pub use words::command_of;
 
 #[cfg(test)]
+mod cut_tests;
+#[cfg(test)]
+mod limits_tests;
+#[cfg(test)]
 mod script_tests;
 #[cfg(test)]
 mod tests;

@@ -3,12 +3,14 @@
 #![tactic(auto)]
 
 mod accesses;
+mod cancels;
 mod canonical_texts;
 mod capacities;
 mod dump_texts;
 mod dumps;
 mod effective_types;
 mod granules;
+mod limits;
 mod overlaps;
 mod pages;
 mod registers;
@@ -42,7 +44,7 @@ pub fn dump_tables() -> [&'static [Row]; 10] {
 }
 
 /// The tables of `replay`.
-pub fn script_tables() -> [&'static [Row]; 15] {
+pub fn script_tables() -> [&'static [Row]; 17] {
     [
         scripts::scripts(),
         accesses::loads(),
@@ -59,5 +61,7 @@ pub fn script_tables() -> [&'static [Row]; 15] {
         updates::updates(),
         updates::barriers(),
         steps::steps(),
+        cancels::cancels(),
+        limits::limits(),
     ]
 }
