@@ -1,12 +1,17 @@
--- What the emptying of a buffer leaves alone.
-use Rattle.std.proofs.Common.{◌≡◌, ◌∙◌, ap, refl, ℕ, zero, suc, ◌+◌, List, [], ◌∷◌, map, drop, Some, slice_get}
-use Rattle.std.proofs.lemmas.List.{drop_more}
+-- What the emptying of a buffer leaves alone, and that a processor without buffers stays as it is.
+use Rattle.std.proofs.Common.{◌≡◌, ◌∙◌, ap, sym, refl, ℕ, zero, suc, ◌+◌, ◌<◌, List, [], ◌∷◌, length, map, drop, Option, Some, slice_get, slice_set}
+use Rattle.std.proofs.lemmas.List.{drop_more, nil_from_length, set-get_or}
 use Rattle.std.proofs.lemmas.Option.{get_or_from_slice_get, slice_get_within}
+use Rattle.std.specs.List.{fold}
+use Rattle.std.specs.Option.{option_map_or}
 use Rattle.mt_cache.specs.declared.line.CacheLine.{CacheLine}
 use Rattle.mt_cache.specs.Lines.{change_line, clean_line, without_line}
-use Rattle.mt_machine.specs.System.{Processor, System, buffers_of}
-use Rattle.mt_machine.specs.Bus.{empty_buffer, with_lines}
-use Rattle.mt_bus.specs.Parts.{buffers_in}
+use Rattle.mt_machine.specs.Memory.{Memory}
+use Rattle.mt_machine.specs.System.{Processor, System, buffers_of, change}
+use Rattle.mt_machine.specs.Bus.{drain, empty_buffer, with_buffers, with_lines}
+use Rattle.mt_laws.proofs.Words.AccessLaws.{change_at}
+use Rattle.mt_bus.specs.Parts.{buffers_in, system}
+use Rattle.mt_bus.proofs.Changed.{processor_of}
 
 pub drop_at : {X : Type 0} (xs : List X) (i : ℕ) (x : X) → slice_get xs i ≡ Some x → drop i xs ≡ x ∷ drop (i + 1) xs
 drop_at xs i x at = drop_more xs i x (slice_get_within xs i x at) ∙ ap (λ y. y ∷ drop (i + 1) xs) (get_or_from_slice_get xs i x x at)
@@ -20,3 +25,23 @@ pub kept_buffers : (s : System) (b : CacheLine) (k : ℕ) → buffers_of (empty_
 kept_buffers s b k =
     kept_by_map (without_line b.number) (map (with_lines (change_line b.number clean_line)) s.processors) k
     ∙ kept_by_map (change_line b.number clean_line) s.processors k
+
+pub no_buffers : (ps : List Processor) (m : Memory) (k count : ℕ) → k < length ps → count ≡ length (buffers_in k ps) → count ≡ 0 → system ps m ≡ drain k (system ps m)
+no_buffers ps m k count within counted none =
+    sym
+    (ap (λ (bs : List CacheLine). change (with_buffers (λ _. [])) k (fold empty_buffer (system ps m) bs)) empty
+    ∙ change_at (with_buffers (λ _. [])) k (system ps m) p at
+    ∙ ap (λ (q : Processor). system (slice_set ps k q) m) (ap (λ (bs : List CacheLine). record p { buffers = bs }) (sym own) ∙ sym (get_or_from_slice_get ps k p p at))
+    ∙ ap (λ xs. system xs m) (set-get_or ps k p))
+  where
+    p : Processor
+    p = (processor_of ps k within).0
+
+    at : slice_get ps k ≡ Some p
+    at = (processor_of ps k within).1
+
+    empty : buffers_in k ps ≡ []
+    empty = nil_from_length (buffers_in k ps) (sym counted ∙ none)
+
+    own : p.buffers ≡ []
+    own = sym (ap (λ (o : Option Processor). option_map_or (λ (x : Processor). x.buffers) o []) at) ∙ empty

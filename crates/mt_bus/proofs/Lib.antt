@@ -4,6 +4,7 @@ mod Emptying
 pub mod Grown
 mod Lines
 mod Misses
+mod Others
 mod Places
 mod Refusing
 mod Rooms

@@ -1,11 +1,11 @@
 -- The line of a number in a list of lines with distinct numbers.
-use Rattle.std.proofs.Common.{◌≡◌, ◌∙◌, ap, sym, refl, ℕ, ◌==◌, Bool, true, false, List, [], ◌∷◌, if◌then◌else◌, Option, Some, None, slice_get}
+use Rattle.std.proofs.Common.{◌≡◌, ◌∙◌, ap, sym, refl, ℕ, ◌==◌, Bool, true, false, not, List, [], ◌∷◌, if◌then◌else◌, Option, Some, None, slice_get}
 use Rattle.std.proofs.lemmas.Bool.{eqb-true}
 use Rattle.std.specs.List.{filter, fold}
 use Rattle.std.specs.Option.{option_map_or}
 use Rattle.mt_lists.proofs.Keys.{Apart, change_none, filter_none, found_key, to_apart}
 use Rattle.mt_cache.specs.declared.line.CacheLine.{CacheLine}
-use Rattle.mt_cache.specs.Lines.{AreDistinct, change_line, find_line, has_number, without_line}
+use Rattle.mt_cache.specs.Lines.{AreDistinct, change_line, clean_line, find_line, has_number, without_line}
 use Rattle.mt_cache.specs.Calls.{change_at, without_at}
 use Rattle.mt_machine.specs.Memory.{Memory, write_back, write_back_of}
 
@@ -52,3 +52,13 @@ back_absent n m ls apart none = ap (fold write_back m) (only_line n ls (to_apart
 -- the line at the place of this number
 pub back_at : (n i : ℕ) (m : Memory) (ls : List CacheLine) (l : CacheLine) → AreDistinct ls → slice_get ls i ≡ Some l → slice_get ls i ≡ find_line n ls → write_back_of n m ls ≡ write_back m l
 back_at n i m ls l apart here at = back_found n m l ls apart (sym at ∙ here)
+
+-- a line that is dropped may have been cleaned first
+pub without_cleaned : (n : ℕ) (ls : List CacheLine) → without_line n (change_line n clean_line ls) ≡ without_line n ls
+without_cleaned n [] = refl
+without_cleaned n (l ∷ ls) = one (l.number == n) refl (without_cleaned n ls)
+  where
+    one : (b : Bool) → (l.number == n) ≡ b → without_line n (change_line n clean_line ls) ≡ without_line n ls
+        → without_line n ((if b then clean_line l else l) ∷ change_line n clean_line ls) ≡ (if not b then l ∷ without_line n ls else without_line n ls)
+    one true is rest = ap (λ x. if not x then clean_line l ∷ without_line n (change_line n clean_line ls) else without_line n (change_line n clean_line ls)) is ∙ rest
+    one false is rest = ap (λ x. if not x then l ∷ without_line n (change_line n clean_line ls) else without_line n (change_line n clean_line ls)) is ∙ ap (λ xs. l ∷ xs) rest

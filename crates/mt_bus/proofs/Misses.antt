@@ -4,10 +4,10 @@ use Rattle.std.proofs.lemmas.Bool.{eq-eqb}
 use Rattle.std.specs.Option.{option_map_or}
 use Rattle.mt_kinds.specs.declared.mem_type.MemType.{MemType}
 use Rattle.mt_cache.specs.declared.line.CacheLine.{CacheLine}
-use Rattle.mt_cache.specs.Lines.{change_line, clean_line, find_line}
+use Rattle.mt_cache.specs.Lines.{change_line, clean_line, find_line, without_line}
 use Rattle.mt_machine.specs.Memory.{Memory, word_at, word_of}
 use Rattle.mt_machine.specs.System.{Processor, System}
-use Rattle.mt_machine.specs.Bus.{bus_read, fill_line, others_from, with_lines}
+use Rattle.mt_machine.specs.Bus.{bus_read, fill_line, invalidate_others, others_from, with_lines}
 use Rattle.mt_machine.specs.Access.{is_cached, load_after}
 use Rattle.mt_bus.specs.Parts.{cache_disabled_in, hit_in, lines_in, system}
 use Rattle.mt_bus.proofs.Lines.{change_absent}
@@ -53,8 +53,13 @@ own_kept f i j k [] e = refl
 own_kept f i zero k (p ∷ ps) e = ap (λ b. Some (if b then p else f p)) (eq-eqb i k (omega arith))
 own_kept f i (suc j) k (p ∷ ps) e = own_kept f (i + 1) j k ps (omega arith)
 
-pub absent_others : (n k : ℕ) (f : Processor → Processor) (ps qs : List Processor) → qs ≡ others_from 0 k f ps → find_line n (lines_in k ps) ≡ None → find_line n (lines_in k qs) ≡ None
+absent_others : (n k : ℕ) (f : Processor → Processor) (ps qs : List Processor) → qs ≡ others_from 0 k f ps → find_line n (lines_in k ps) ≡ None → find_line n (lines_in k qs) ≡ None
 absent_others n k f ps qs is absent =
     ap (λ xs. find_line n (lines_in k xs)) is
     ∙ ap (λ o. find_line n (option_map_or (λ (p : Processor). p.lines) o [])) (own_kept f 0 k k ps (omega arith))
     ∙ absent
+
+pub absent_after : (n k : ℕ) (ps qs : List Processor) (m w : Memory) → system qs w ≡ invalidate_others k n (bus_read n (system ps m)) → find_line n (lines_in k ps) ≡ None → find_line n (lines_in k qs) ≡ None
+absent_after n k ps qs m w is absent =
+    let read : System = bus_read n (system ps m) in
+    absent_others n k (with_lines (without_line n)) read.processors qs (ap (λ (s : System). s.processors) is) (absent_read n k ps read.processors m read.memory refl absent)

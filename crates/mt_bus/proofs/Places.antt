@@ -127,9 +127,5 @@ nowhere_stays m l nowhere = nothing_written m l (λ word within. one (is_dirty l
     one true word within = ap (λ (o : Option ℕ). option_map_or (λ i. record m { words = slice_set m.words i (slice_index l.words word) }) o m) (nowhere word within)
     one false word within = refl
 
--- the place of an address depends on the windows alone
-pub same_place : (m now : Memory) (a : ℕ) → now.windows ≡ m.windows → place now a ≡ place m a
-same_place m now a same = ap (λ (ws : List Window). if a % 8 == 0 then place_in ws 0 a else None) same
-
 pub read_word : (m : Memory) (n word first v : ℕ) → place m (word_address n word) ≡ Some (first + word) → v ≡ slice_index m.words (first + word) → v ≡ word_at m (word_address n word)
 read_word m n word first v at is = is ∙ sym (ap (λ (o : Option ℕ). option_map_or (λ i. slice_index m.words i) o 0) at)

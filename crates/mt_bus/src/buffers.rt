@@ -48,7 +48,11 @@ pub(crate) fn drain(cpus: &mut [Cpu], ram: &mut Ram, k: usize)
     requires { k < length cpus.old }
     ensures { system cpus.new ram.new ≡ drain k (system cpus.old ram.old) }
 {
-    for i in 0..buffer_count(cpus, k) {
+    let count = buffer_count(cpus, k);
+    if count == 0 {
+        return;
+    }
+    for i in 0..count {
         let buffer = buffer_at(cpus, k, i);
         empty_buffer(cpus, ram, &buffer);
     }
@@ -60,6 +64,9 @@ pub(crate) fn drain_line(cpus: &mut [Cpu], ram: &mut Ram, k: usize, number: u64)
     requires { k < length cpus.old }
     ensures { system cpus.new ram.new ≡ drain_line k number (system cpus.old ram.old) }
 {
+    if buffer_count(cpus, k) == 0 {
+        return;
+    }
     if let Some(buffer) = take_buffer(cpus, k, number) {
         empty_buffer(cpus, ram, &buffer);
     }

@@ -1,12 +1,11 @@
-ghost use Rattle.std.specs.Prelude.{◌≡◌, ◌<◌, length, map, if◌then◌else◌};
-ghost use Rattle.std.specs.List.{remove};
+ghost use Rattle.std.specs.Prelude.{◌≡◌, ◌<◌, length, if◌then◌else◌};
 ghost use Rattle.mt_cache.specs.declared.line.CacheLine.{CacheLine};
 ghost use Rattle.mt_cache.specs.Lines.{change_line, clean_line, without_line};
 ghost use Rattle.mt_machine.specs.Memory.{write_back_of};
-ghost use Rattle.mt_machine.specs.Bus.{bus_read, empty_buffer, others_from, with_lines};
-ghost use Rattle.mt_bus.specs.Parts.{system, written_back};
+ghost use Rattle.mt_machine.specs.Bus.{bus_read, empty_buffer, invalidate, invalidate_others, with_lines, write_back_others};
+ghost use Rattle.mt_bus.specs.Parts.{system};
 
-use crate::copies::{clean_copy, drop_copy, write_copy};
+use crate::copies::{clean_copy, drop_copy};
 use crate::words::write_back;
 use mt_cache::CacheLine;
 use mt_cpu::Cpu;
@@ -19,17 +18,33 @@ fn clean_in(cpu: &mut Cpu, ram: &mut Ram, number: u64)
     clean_copy(cpu.cache_mut(), ram, number);
 }
 
-fn drop_in(cpu: &mut Cpu, number: u64)
-    ensures { cpu.new ≡ with_lines (without_line number) cpu.old }
+fn drop_in(cpu: &mut Cpu, ram: &mut Ram, number: u64)
+    ensures cpu { cpu.new ≡ with_lines (without_line number) cpu.old }
+    ensures read { cpu.new ≡ with_lines (without_line number) (with_lines (change_line number clean_line) cpu.old) }
+    ensures ram { ram.new ≡ write_back_of number ram.old cpu.old.lines }
 {
-    drop_copy(cpu.cache_mut(), number);
+    drop_copy(cpu.cache_mut(), ram, number);
 }
 
-fn drop_unless(cpu: &mut Cpu, number: u64, own: bool)
-    ensures { cpu.new ≡ (if own then cpu.old else with_lines (without_line number) cpu.old) }
+// The own copy stays, clean.
+fn clean_or_drop_in(cpu: &mut Cpu, ram: &mut Ram, number: u64, own: bool)
+    ensures cpu { cpu.new ≡ (if own then with_lines (change_line number clean_line) cpu.old else with_lines (without_line number) (with_lines (change_line number clean_line) cpu.old)) }
+    ensures ram { ram.new ≡ write_back_of number ram.old cpu.old.lines }
+{
+    if own {
+        clean_in(cpu, ram, number);
+    } else {
+        drop_in(cpu, ram, number);
+    }
+}
+
+// The own copy stays as it is.
+fn drop_unless(cpu: &mut Cpu, ram: &mut Ram, number: u64, own: bool)
+    ensures cpu { cpu.new ≡ (if own then cpu.old else with_lines (without_line number) cpu.old) }
+    ensures ram { ram.new ≡ (if own then ram.old else write_back_of number ram.old cpu.old.lines) }
 {
     if !own {
-        drop_in(cpu, number);
+        drop_in(cpu, ram, number);
     }
 }
 
@@ -42,42 +57,33 @@ pub(crate) fn bus_read(cpus: &mut [Cpu], ram: &mut Ram, number: u64)
     }
 }
 
-/// Drops the copies of a line in all caches.
-pub(crate) fn invalidate(cpus: &mut [Cpu], number: u64)
-    ensures { cpus.new ≡ map (with_lines (without_line number)) cpus.old }
+/// Reads a line on the bus, and drops the copies of it in all caches.
+pub(crate) fn read_and_drop(cpus: &mut [Cpu], ram: &mut Ram, number: u64)
+    ensures { system cpus.new ram.new ≡ invalidate number (bus_read number (system cpus.old ram.old)) }
 {
     for i in 0..cpus.len() {
-        drop_in(&mut cpus[i], number);
+        drop_in(&mut cpus[i], ram, number);
     }
 }
 
-/// Drops the copies of a line in the caches of all processors but one.
-pub(crate) fn invalidate_others(cpus: &mut [Cpu], k: usize, number: u64)
-    ensures { cpus.new ≡ others_from 0 k (with_lines (without_line number)) cpus.old }
+/// Reads a line on the bus, and drops the copies of it in the caches of all processors but one.
+pub(crate) fn read_and_drop_others(cpus: &mut [Cpu], ram: &mut Ram, k: usize, number: u64)
+    ensures { system cpus.new ram.new ≡ invalidate_others k number (bus_read number (system cpus.old ram.old)) }
 {
     for i in 0..cpus.len() {
-        drop_unless(&mut cpus[i], number, i == k);
+        clean_or_drop_in(&mut cpus[i], ram, number, i == k);
     }
 }
 
-/// Writes the dirty words of a line in these caches to memory.
-fn write_copies(cpus: &[Cpu], ram: &mut Ram, number: u64)
-    ensures { ram.new ≡ written_back number ram.old cpus.now }
+/// Takes a line over: the dirty words of it in the caches of all processors but one go to memory, and
+/// their copies are dropped.
+pub(crate) fn take_over(cpus: &mut [Cpu], ram: &mut Ram, k: usize, number: u64)
+    requires { k < length cpus.old }
+    ensures { system cpus.new ram.new ≡ invalidate_others k number (write_back_others k number (system cpus.old ram.old)) }
 {
-    for cpu in cpus {
-        write_copy(cpu.cache(), ram, number);
+    for i in 0..cpus.len() {
+        drop_unless(&mut cpus[i], ram, number, i == k);
     }
-}
-
-/// Writes the dirty words of a line in the caches of all processors but one to memory.
-pub(crate) fn write_back_others(cpus: &[Cpu], ram: &mut Ram, k: usize, number: u64)
-    requires { k < length cpus.now }
-    ensures { ram.new ≡ written_back number ram.old (remove cpus.now k) }
-{
-    let (before, _) = cpus.split_at(k);
-    let (_, after) = cpus.split_at(k + 1);
-    write_copies(before, ram, number);
-    write_copies(after, ram, number);
 }
 
 /// Empties a buffer: its line is read on the bus and dropped by all caches, and its written words
@@ -85,7 +91,6 @@ pub(crate) fn write_back_others(cpus: &[Cpu], ram: &mut Ram, k: usize, number: u
 pub(crate) fn empty_buffer(cpus: &mut [Cpu], ram: &mut Ram, buffer: &CacheLine)
     ensures { system cpus.new ram.new ≡ empty_buffer (system cpus.old ram.old) buffer.now }
 {
-    bus_read(cpus, ram, buffer.number);
-    invalidate(cpus, buffer.number);
+    read_and_drop(cpus, ram, buffer.number);
     write_back(ram, buffer);
 }

@@ -10,7 +10,7 @@ ghost use Rattle.mt_bus.specs.Parts.{cache_disabled_in, lines_in, system, with_c
 use crate::buffers::{combine, drain, drain_line};
 use crate::fills::fill_line;
 use crate::loads::line_in;
-use crate::snoops::{bus_read, invalidate, invalidate_others, write_back_others};
+use crate::snoops::{read_and_drop, read_and_drop_others, take_over};
 use mt_cache::Cache;
 use mt_cpu::Cpu;
 use mt_kinds::{LINE_BYTES, MemType, WORD_BYTES};
@@ -50,8 +50,7 @@ fn store_hit(cpus: &mut [Cpu], ram: &mut Ram, k: usize, address: u64, v: u64)
     ensures { system cpus.new ram.new ≡ store_hit k address v (system cpus.old ram.old) }
 {
     let number = address / LINE_BYTES;
-    write_back_others(cpus, ram, k, number);
-    invalidate_others(cpus, k, number);
+    take_over(cpus, ram, k, number);
     write_own(cpus, k, address, v, true);
 }
 
@@ -62,8 +61,7 @@ fn store_filling(cpus: &mut [Cpu], ram: &mut Ram, k: usize, address: u64, v: u64
     ensures { system cpus.new ram.new ≡ store_filling k address v (system cpus.old ram.old) }
 {
     let number = address / LINE_BYTES;
-    bus_read(cpus, ram, number);
-    invalidate_others(cpus, k, number);
+    read_and_drop_others(cpus, ram, k, number);
     fill_line(cpus, ram, k, number);
     write_own(cpus, k, address, v, true);
 }
@@ -74,8 +72,7 @@ fn store_past(cpus: &mut [Cpu], ram: &mut Ram, k: usize, address: u64, v: u64)
     ensures { system cpus.new ram.new ≡ store_past k address v (system cpus.old ram.old) }
 {
     let number = address / LINE_BYTES;
-    bus_read(cpus, ram, number);
-    invalidate_others(cpus, k, number);
+    read_and_drop_others(cpus, ram, k, number);
     ram.write(address, v);
 }
 
@@ -84,8 +81,7 @@ fn store_uncached(cpus: &mut [Cpu], ram: &mut Ram, address: u64, v: u64)
     ensures { system cpus.new ram.new ≡ store_uncached address v (system cpus.old ram.old) }
 {
     let number = address / LINE_BYTES;
-    bus_read(cpus, ram, number);
-    invalidate(cpus, number);
+    read_and_drop(cpus, ram, number);
     ram.write(address, v);
 }
 

@@ -3,8 +3,11 @@ use Rattle.std.specs.List.{fold}
 use Rattle.mt_machine.specs.System.{System, buffers_of}
 use Rattle.mt_machine.specs.Bus.{empty_buffer}
 use Rattle.mt_bus.specs.Parts.{buffers_in, system}
-use Rattle.mt_bus.proofs.Emptying.{drop_at, kept_buffers}
+use Rattle.mt_bus.proofs.Emptying.{drop_at, kept_buffers, no_buffers}
 use Rattle.mt_bus.proofs.buffers.drain.Goals as goal
+
+pub returns-then-count-eq0 : goal.returns-then-count-eq0
+returns-then-count-eq0 c = no_buffers c.args.cpus.now c.args.ram.now c.args.k c.buffer_count-count.result c.requires c.buffer_count-count.ensures c.if-count-eq0.true
 
 pub loop-i-preserved : goal.loop-i-preserved
 loop-i-preserved c = record {

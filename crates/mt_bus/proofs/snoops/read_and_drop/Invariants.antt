@@ -1,0 +1,11 @@
+use Rattle.std.proofs.Common.{◌≡◌, ◌++◌, drop, map, take}
+use Rattle.mt_cache.specs.Lines.{change_line, clean_line, without_line}
+use Rattle.mt_machine.specs.Bus.{with_lines}
+use Rattle.mt_bus.specs.Parts.{written_back}
+use Rattle.mt_bus.proofs.snoops.read_and_drop.Given as goal
+
+abbrev pub invariant-loop-i : goal.invariant-loop-i
+invariant-loop-i l = record {
+  cpus : take l.i l.cpus ++ map (with_lines (without_line l.number)) (map (with_lines (change_line l.number clean_line)) (drop l.i l.cpus)) ≡ map (with_lines (without_line l.number)) (map (with_lines (change_line l.number clean_line)) l.fn.cpus);
+  ram : written_back l.number l.ram (drop l.i l.cpus) ≡ written_back l.number l.fn.ram l.fn.cpus;
+}
