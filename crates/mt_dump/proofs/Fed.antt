@@ -1,7 +1,7 @@
 -- Reading a dump through a feed: what holds between two lines, and how each line keeps it.
 use Rattle.std.proofs.Common.{◌≡◌, ◌+◌, ◌≤◌, ℕ, Bool, true, false, nat_lt, List, [], ◌∷◌, ◌++◌, length, take, Option, Some, None, refl, sym, ◌∙◌, ap, arith, append_assoc, inl, inr, length-append}
-use Rattle.std.specs.Prelude.{Result, Ok, MatchResult}
-use Rattle.std.specs.Io.KnownBytes.{Consumes}
+use Rattle.std.specs.Prelude.{IfOk, Result, Ok, Err, MatchResult}
+use Rattle.std.specs.Io.KnownBytes.{Consumes, IsAtEnd}
 use Rattle.std.proofs.KnownBytes.{Consumes-nil, Consumes-trans}
 use Rattle.std.proofs.lemmas.Bool.{cases_lt}
 use Rattle.std.proofs.lemmas.Bool.Decides.{nat_tests}
@@ -68,6 +68,13 @@ module _ (left_first left after : Option (List ℕ)) (given_first given given_af
   module _ (result : Result (Option Line) FeedFault) (lines : Lines feed new left after given given_after result) where
     pub took : taken new ≡ taken feed + length lines.0
     took = omega (arith, lines.2, counted feed new left after given given_after result lines)
+
+-- a source that told its bytes tells that nothing is left
+pub nothing_left : {E : Type 0} {T : Type 0} (left_first left : Option (List ℕ)) (bytes gone : List ℕ) (result : Result T E) → left_first ≡ Some bytes → Consumes left_first left gone → IfOk result (λ _. IsAtEnd left) → IfOk result (λ _. left ≡ Some [])
+nothing_left None left bytes gone result is consumes end = cc is
+nothing_left (Some xs) None bytes gone result is consumes end = absurd consumes
+nothing_left (Some xs) (Some ys) bytes gone (Ok value) is consumes end = ap Some end
+nothing_left (Some xs) (Some ys) bytes gone (Err fault) is consumes end = tt
 
 -- what was consumed, and more behind it
 pub consumed_more : (left_first left after : Option (List ℕ)) (count total : ℕ) (more : List ℕ) → (gone : List ℕ) × Consumes left_first left gone × (count ≡ length gone) → Consumes left after more → total ≡ count + length more

@@ -241,7 +241,7 @@ fn read_lines<S: Source>(
 /// before it.
 pub fn read_dump_from<S: Source>(source: &mut S) -> Result<Result<RegFile, DumpFault>, FeedFault>
     ensures answer { (bytes : List ℕ) → S.left source.old ≡ Some bytes → IfOk result (λ answer. MatchResult answer (λ file. Shown bytes file) (λ fault. dump_offence bytes ≡ Some fault)) }
-    ensures end { IfOk result (λ _. IsAtEnd (S.left source.new)) }
+    ensures end { (bytes : List ℕ) → S.left source.old ≡ Some bytes → IfOk result (λ _. S.left source.new ≡ Some []) }
     ensures too_long { IsErrOf result FeedFault.TooLong ↔ GaveTooMuch (S.given source.old) (S.given source.new) }
     ensures long { (bytes : List ℕ) → S.left source.old ≡ Some bytes → IsErrOf result FeedFault.TooLong → 16777216 < length bytes }
     ensures failed { IsErrOf result FeedFault.ReadFault → Rose (S.faults source.old) (S.faults source.new) }
