@@ -59,7 +59,11 @@ pub record IsReady (table : TableId) (t : Start) (c : Processor) (its : TableId)
 abbrev pub Came : TableId → TableId → Me (Unit {0}) View → ℕ → Processor → Type 0
 Came table its me number c = HoldsOne table its me number c × (c.phase ≡ Running)
 
--- it has this number
+-- the attendee has ended, and has this number
+abbrev pub CameAs : TableId → ℕ → Attendee → Type 0
+CameAs table k a = Came table a.pass.seat.table_id a.pass.seat.me a.pass.number a.cpu × (a.pass.number ≡ k)
+
+-- it has not begun, and has this number
 abbrev pub IsReadyAt : TableId → Start → ℕ → Attendee → Type 0
 IsReadyAt table t k a = IsReady table t a.cpu a.pass.seat.table_id a.pass.seat.me a.pass.number × (a.pass.number ≡ k)
 

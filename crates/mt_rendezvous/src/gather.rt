@@ -22,6 +22,9 @@ fn opening_words(alloc: Global, count: usize, ram: &Ram) -> Option<Vec<u64>>
     let Ok(mut words) = vec![in alloc; 0u64; count + 2] else {
         return None;
     };
+    if words.reserve(ram.words()).is_err() {
+        return None;
+    }
     for i in 0..ram.words() {
         if words.push(ram.word(i)).is_err() {
             return None;

@@ -1,5 +1,6 @@
 // An update on threads: one for each processor, in a scope.
-ghost use Rattle.std.specs.Prelude.{◌≡◌, ℕ, ◌+◌, ◌++◌, ◌∷◌, ◌<◌, ◌≤◌, ◌↔◌, [], Bool, true, false, length, Err, None, Some, IsSome, map, OnOk, OnErr, IfOk, IfErr, IfSome, IfNone, vec_len, vec_capacity};
+ghost use Rattle.std.specs.Prelude.{◌≡◌, ℕ, ◌+◌, ◌++◌, ◌∷◌, ◌<◌, ◌≤◌, ◌↔◌, [], Bool, true, false, length, map};
+ghost use Rattle.std.specs.Prelude.{Err, None, Some, IsSome, OnOk, OnErr, IfOk, IfErr, IfSome, IfNone, vec_len, vec_capacity};
 ghost use Rattle.std.specs.List.{All};
 ghost use Rattle.std.specs.Thread.{IsSync};
 ghost use Rattle.mt_regs.specs.declared.fault.Fault.{Fault};
@@ -16,7 +17,7 @@ ghost use Rattle.mt_rendezvous.specs.Calls.{IsRoot, Leads, gathered};
 ghost use Rattle.mt_types.specs.Tables.{IsTableOf};
 ghost use Rattle.mt_bus.specs.Parts.{system};
 ghost use Rattle.mt_bus.specs.Tables.{AreTablesOf};
-ghost use Rattle.mt_rendezvous.specs.Update.{AreOf, CanUpdate, Came, IsQueue, IsReady, IsReadyAt, OneLess, Returned, Tied, decided, left_by, running, tables_left};
+ghost use Rattle.mt_rendezvous.specs.Update.{AreOf, CameAs, CanUpdate, Came, IsQueue, IsReady, IsReadyAt, OneLess, Returned, Tied, decided, left_by, running, tables_left};
 
 use crate::broadcast::call_and_take;
 use crate::gather::disband;
@@ -43,10 +44,9 @@ struct Attends {
 }
 
 impl Promise<Box<Attendee>> for Attends {
-    ghost use Rattle.std.specs.Prelude.{◌≡◌};
-    ghost use Rattle.mt_rendezvous.specs.Update.{Came};
+    ghost use Rattle.mt_rendezvous.specs.Update.{CameAs};
 
-    ghost kept_by = { λ p a. Came p.station.value.table.shared.table_id a.value.pass.seat.table_id a.value.pass.seat.me a.value.pass.number a.value.cpu × (a.value.pass.number ≡ p.number) };
+    ghost kept_by = { λ p a. CameAs p.station.value.table.shared.table_id p.number a.value };
 }
 
 // Takes the attendee through the update, or out of it.
@@ -87,7 +87,7 @@ fn start<'s, E, R: Threads + Wait + Sync, G: Gate>(
     ensures pending { IfOk result (λ h. Leads station.now.table.shared.table_id (start_of station.now.table.shared.key) root.new.seat.table_id root.new.seat.me Pending) }
     ensures child { IfOk result (λ h. (h.promise.station.value ≡ station.now) × (h.promise.number ≡ a.value.pass.number)) }
     ensures cancelled { IfErr result (λ b. Leads station.now.table.shared.table_id (start_of station.now.table.shared.key) root.new.seat.table_id root.new.seat.me Cancelled) }
-    ensures came { IfErr result (λ b. Came station.now.table.shared.table_id b.value.pass.seat.table_id b.value.pass.seat.me b.value.pass.number b.value.cpu × (b.value.pass.number ≡ a.value.pass.number)) }
+    ensures came { IfErr result (λ b. CameAs station.now.table.shared.table_id a.value.pass.number b.value) }
 {
     if !gate.may_start(a.pass.number as u32) {
         root.cancel(station);
@@ -104,7 +104,7 @@ fn start<'s, E, R: Threads + Wait + Sync, G: Gate>(
             requires shared { IsSync R.row }
             requires ready { IsReady station.now.table.shared.table_id (start_of station.now.table.shared.key) a.value.cpu a.value.pass.seat.table_id a.value.pass.seat.me a.value.pass.number }
             requires same { AreOf (start_of station.now.table.shared.key) goal.now ram.now.windows }
-            ensures { Came station.entry.now.table.shared.table_id result.value.pass.seat.table_id result.value.pass.seat.me result.value.pass.number result.value.cpu × (result.value.pass.number ≡ a.value.pass.number) }
+            ensures { CameAs station.entry.now.table.shared.table_id a.value.pass.number result.value }
         {
             let mut a = a;
             attend_whole(rt, station, ram, &mut a, goal, gate);
