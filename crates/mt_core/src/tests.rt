@@ -112,7 +112,7 @@ fn is_settled(core: &Core, k: usize, kind: u64, era: u64) -> bool {
     };
     cpu.regs().get(0x200) == Some(kind)
         && cpu.era() == era
-        && cpu.cache().lines().is_empty()
+        && cpu.cache().len() == 0
         && cpu.tlb().entries().is_empty()
 }
 

@@ -19,6 +19,14 @@ passes_both waiting first middle second left a b c p q = record {
   taken = Appends-trans a b c p.front q.front p.taken q.taken;
 }
 
+-- room was made, and then a text was added behind what waited
+pub passes_formed : (waiting middle text left : List ℕ) (a b : Option (List ℕ)) → Passes waiting [] middle a b → left ≡ middle ++ text → Passes waiting text left a b
+passes_formed waiting middle text left a b p is = record {
+  front = p.front;
+  cut = ap (λ (l : List ℕ). l ++ text) (sym (append-nil waiting) ∙ p.cut) ∙ append_assoc p.front middle text ∙ ap (λ (l : List ℕ). p.front ++ l) (sym is);
+  taken = p.taken;
+}
+
 -- a front of a text is one of a longer text
 pub front_of_longer : (text rest : List ℕ) (a b : Option (List ℕ)) → AppendsFront a b text → AppendsFront a b (text ++ rest)
 front_of_longer text rest a b (front, back, cut, taken) =

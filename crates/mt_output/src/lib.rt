@@ -2,6 +2,7 @@
 #![tactic(auto)]
 
 mod faults;
+mod forming;
 mod line;
 mod writer;
 

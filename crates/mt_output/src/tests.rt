@@ -90,6 +90,55 @@ fn more_lines_than_may_wait(rt: HostRuntime) -> Result<(), Fail> {
     Ok(())
 }
 
+// A line that is formed in the writer.
+fn form(writer: &mut Writer, sink: &mut MemSink, number: u32) -> bool {
+    if writer.make_room(sink).is_err() {
+        return false;
+    }
+    if number < 0x1000 {
+        writer.append_number(number);
+    }
+    writer.append(b" ");
+    writer.append_value(0xc06);
+    writer.append_address(0x8_0000_0000_0fff);
+    writer.append_decimal(40);
+    writer.append_type(MemType::WT);
+    writer.append(b"\n");
+    true
+}
+
+// What was formed in the writer comes whole and in order, past the writer's room.
+#[test]
+fn lines_are_formed_in_the_writer(rt: HostRuntime) -> Result<(), Fail> {
+    let alloc = rt.alloc();
+    let (mut writer, mut sink) = ports(alloc, 3 * WRITER_ROOM, &[])?;
+    let mut all = Vec::new(alloc);
+    for number in 0..4000 {
+        let mut line: LineBuffer = ArrayVec::new();
+        append_number(&mut line, number);
+        all.extend_from_slice(line.as_slice())?;
+        all.extend_from_slice(b" 0000000000000c068000000000fff40WT\n")?;
+        assert!(rt; form(&mut writer, &mut sink, number));
+    }
+    assert!(rt; 0 < sink.bytes().len() && sink.bytes().len() < all.len());
+    assert!(rt; writer.flush(&mut sink).is_ok());
+    assert!(rt; sink.bytes() == all.as_slice());
+    let (mut writer, mut sink) = ports(alloc, WRITER_ROOM, &[0])?;
+    let mut formed = 0;
+    for number in 0..4000 {
+        if !form(&mut writer, &mut sink, number) {
+            break;
+        }
+        formed += 1;
+    }
+    assert!(rt; 0 < formed && formed < 4000);
+    assert_eq!(rt; sink.bytes().len(), 0);
+    assert!(rt; form(&mut writer, &mut sink, 7));
+    assert!(rt; writer.flush(&mut sink).is_ok());
+    assert!(rt; sink.bytes().starts_with(b"007 0000000000000c06"));
+    Ok(())
+}
+
 // After a failure the sink has a front of what waited, and nothing more comes.
 #[test]
 fn a_sink_may_fail(rt: HostRuntime) -> Result<(), Fail> {

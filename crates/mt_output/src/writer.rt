@@ -1,7 +1,8 @@
-ghost use Rattle.std.specs.Prelude.{◌≡◌, ◌≤◌, [], length, IfOk, OnErr};
+ghost use Rattle.std.specs.Prelude.{◌≡◌, ◌≤◌, ◌+◌, [], ◌++◌, length, IfOk, OnErr};
 ghost use Rattle.mt_ports.specs.Causes.{HasCause};
 ghost use Rattle.mt_output.specs.Writing.{Adds};
 
+use crate::line::LINE_ROOM;
 use mt_ports::{Failed, NoMemory, Sink, put};
 use std::alloc::Global;
 use std::marker::Model;
@@ -60,6 +61,33 @@ impl Writer {
         }
         match self.text.extend_from_slice(text) {
             Ok(()) => Ok(()),
+            Err(_) => unreachable!(),
+        }
+    }
+
+    /// Sees to it that a line has room behind the bytes that wait: where there isn't, they go to the
+    /// sink. After a failure nothing waits.
+    pub fn make_room<K: Sink>(&mut self, sink: &mut K) -> Result<(), Failed>
+        ensures bytes { Adds self.old [] self.new (K.taken sink.old) (K.taken sink.new) result }
+        ensures room { length self.new + LINE_ROOM ≤ WRITER_ROOM }
+        ensures failed { OnErr result (self.new ≡ []) }
+        ensures cause { HasCause (K.faults sink.old) (K.faults sink.new) result }
+    {
+        if LINE_ROOM > WRITER_ROOM - self.text.len() {
+            self.flush(sink)
+        } else {
+            Ok(())
+        }
+    }
+
+    /// Adds a text for which there is room to the bytes that wait. No sink is needed.
+    pub fn append(&mut self, text: &[u8])
+        requires { length self.old + length text.now ≤ WRITER_ROOM }
+        ensures text { self.new ≡ self.old ++ text.now }
+        ensures size { length self.new ≡ length self.old + length text.now }
+    {
+        match self.text.extend_from_slice(text) {
+            Ok(()) => {}
             Err(_) => unreachable!(),
         }
     }

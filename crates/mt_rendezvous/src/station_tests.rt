@@ -293,9 +293,9 @@ fn two_leave(rt: HostRuntime) {
     for told in row.done.iter() {
         assert!(rt; told.outcome == Outcome::Cancelled);
         assert!(rt; told.shown.is_none());
-        let lines = told.cpu.cache().lines();
-        assert!(rt; lines.len() == 1);
-        assert!(rt; lines.iter().all(|line| line.dirty == 1));
+        let cache = told.cpu.cache();
+        assert_eq!(rt; cache.len(), 1);
+        assert!(rt; cache.nth(0).dirty == 1);
     }
     assert!(rt; word(&row.ram, 0x10_0000) == Some(0));
     assert!(rt; word(&row.ram, 0x10_0040) == Some(0));
