@@ -17,7 +17,7 @@ use Rattle.mt_cli.specs.CommandLine.{command_of}
 use Rattle.mt_cli.specs.Output.{Answer, Output, usage, bad_text, answered, replayed, refused, accepted, shown, typed, paged, tidied, too_few, disabled, grained, gran_too_few, gran_disabled}
 use Rattle.mt_cli.specs.Reading.{ConsumesTooMuch, EndsReading}
 use Rattle.mt_cli.specs.Tool.{Answered, CutShort, Finished, Leaves, Reads}
-use Rattle.mt_cli.specs.Written.{Answers, Writes, writes, no_memory}
+use Rattle.mt_cli.specs.Written.{Answers, AnswersInput, Writes, writes, no_memory, bad_input, good_input, no_input}
 
 -- what stands after the bytes that the sink had
 appended : (before text : List ℕ) (old new : Option (List ℕ)) → old ≡ Some before → Appends old new text → new ≡ Some (before ++ text)
@@ -48,6 +48,11 @@ final file command text status (disabled spare chunk good off) = inr (inr (inr (
 final file command text status (grained log spare chunk used lost parts new is) = inl refl
 final file command text status (gran_too_few log spare chunk needs has is) = inr (inr (inr (inl refl)))
 final file command text status (gran_disabled log spare chunk good off) = inr (inr (inr (inr refl)))
+
+final_cases : (file : RegisterFile) (command : DumpCommand) (text : List ℕ) (status : Status) → Answer file command text status
+    → (status ≡ Done) ⊎ (status ≡ Refused) ⊎ (status ≡ BadText) ⊎ (status ≡ TooFew) ⊎ (status ≡ Disabled)
+unfolding IsFinal
+final_cases file command text status answer = final file command text status answer
 
 final_of_transcript : (bytes : List ℕ) → IsFinal (transcript bytes).status
 unfolding IsFinal
@@ -94,6 +99,14 @@ pub answers_leave : (words : List (List ℕ)) (bytes : List ℕ) (file : Registe
 answers_leave words bytes file command result left before old new says shows read told (writes text status answer wrote) =
     written_leaves words bytes text status result left before old new (answered command file text status says shows answer) (λ _. read) told wrote
 answers_leave words bytes file command result left before old new says shows read told (no_memory is same) = rw is (inl (same ∙ told))
+
+-- a command on a dump
+pub input_leaves : (words : List (List ℕ)) (bytes : List ℕ) (command : DumpCommand) (result : Status) (left : Option (List ℕ)) (before : List ℕ) (old new : Option (List ℕ))
+    → command_of words ≡ Some (Dump command) → old ≡ Some before → AnswersInput bytes command left old new result → Leaves words bytes left before new result
+input_leaves words bytes command result left before old new says told (bad_input fault is read wrote) = written_leaves words bytes _ BadText result left before old new (bad_text command fault says is) (λ _. read) told wrote
+input_leaves words bytes command result left before old new says told (good_input file is read answers) = answers_leave words bytes file command result left before old new says is read told answers
+input_leaves words bytes command result left before old new says told (no_input same (inl failed)) = rw failed (same ∙ told)
+input_leaves words bytes command result left before old new says told (no_input same (inr long)) = rw long.0 (same ∙ told)
 
 -- the sink took a front of the transcript
 front_of_transcript : (words : List (List ℕ)) (bytes before : List ℕ) (old new : Option (List ℕ))
@@ -166,12 +179,38 @@ never_replays bytes result old new told = by told
     by (inr (inl is, cut)) = but NoMemory is (λ e. cc e, λ e. cc e, λ e. cc e)
     by (inr (inr is, cut)) = but WriteFault is (λ e. cc e, λ e. cc e, λ e. cc e)
 
+-- the statuses with which an answer never ends
+pub never_answers : (file : RegisterFile) (command : DumpCommand) (old new : Option (List ℕ)) (result : Status) → Answers file command old new result → (result ≢ Usage) × (result ≢ ReadFault) × (result ≢ TooLong)
+never_answers file command old new result answers = by answers
+  where
+    but : (status : Status) → result ≡ status → (status ≢ Usage) × (status ≢ ReadFault) × (status ≢ TooLong) → (result ≢ Usage) × (result ≢ ReadFault) × (result ≢ TooLong)
+    but status is others = rw is others
+
+    by : Answers file command old new result → (result ≢ Usage) × (result ≢ ReadFault) × (result ≢ TooLong)
+    by (writes text status answer (inl (is, takes))) = elim (final_cases file command text status answer) [
+      | inl ends ↦ but Done (is ∙ ends) (λ e. cc e, λ e. cc e, λ e. cc e)
+      | inr (inl ends) ↦ but Refused (is ∙ ends) (λ e. cc e, λ e. cc e, λ e. cc e)
+      | inr (inr (inl ends)) ↦ but BadText (is ∙ ends) (λ e. cc e, λ e. cc e, λ e. cc e)
+      | inr (inr (inr (inl ends))) ↦ but TooFew (is ∙ ends) (λ e. cc e, λ e. cc e, λ e. cc e)
+      | inr (inr (inr (inr ends))) ↦ but Disabled (is ∙ ends) (λ e. cc e, λ e. cc e, λ e. cc e)
+    ]
+    by (writes text status answer (inr (is, cut))) = but WriteFault is (λ e. cc e, λ e. cc e, λ e. cc e)
+    by (no_memory is same) = but NoMemory is (λ e. cc e, λ e. cc e, λ e. cc e)
+
 -- the status of a dump that is no dump
 pub offence_reads : (words : List (List ℕ)) (bytes : List ℕ) (command : DumpCommand) (fault : DumpFault) (written : List ℕ) (result : Status) (left old new : Option (List ℕ))
     → command_of words ≡ Some (Dump command) → dump_offence bytes ≡ Some fault → left ≡ Some [] → Writes written BadText old new result → Reads words bytes left result
 offence_reads words bytes command fault written result left old new says is read (inl (done, takes)) =
     rw done (record { text = _; output = bad_text command fault says is; read = read })
 offence_reads words bytes command fault written result left old new says is read (inr (failed, cut)) = rw failed tt
+
+-- the status of a command on a dump
+pub input_reads : (words : List (List ℕ)) (bytes : List ℕ) (command : DumpCommand) (result : Status) (left old new : Option (List ℕ))
+    → command_of words ≡ Some (Dump command) → AnswersInput bytes command left old new result → Reads words bytes left result
+input_reads words bytes command result left old new says (bad_input fault is read wrote) = offence_reads words bytes command fault _ result left old new says is read wrote
+input_reads words bytes command result left old new says (good_input file is read answers) = answers_read words bytes file command result left old new says is read answers
+input_reads words bytes command result left old new says (no_input same (inl failed)) = rw failed tt
+input_reads words bytes command result left old new says (no_input same (inr long)) = rw long.0 long.1
 
 -- wrong usage
 pub usage_reads : (words : List (List ℕ)) (bytes : List ℕ) (written : List ℕ) (result : Status) (left old new : Option (List ℕ)) → left ≡ Some bytes → Writes written Usage old new result → Reads words bytes left result

@@ -134,3 +134,13 @@ IsSound Types = ⊤
 IsSound (Page address index) = (address < 2 ^ 52) × (index < 8)
 IsSound (Tidy spare chunk) = ⊤
 IsSound (Gran log spare chunk) = log ≤ 28
+
+-- the commands that may take memory
+abbrev pub MayTakeMemory : Command → Type 0
+MayTakeMemory (Dump Check) = ⊥
+MayTakeMemory (Dump Show) = ⊥
+MayTakeMemory (Dump Types) = ⊤
+MayTakeMemory (Dump (Page address index)) = ⊥
+MayTakeMemory (Dump (Tidy spare chunk)) = ⊤
+MayTakeMemory (Dump (Gran log spare chunk)) = ⊤
+MayTakeMemory Replay = ⊤

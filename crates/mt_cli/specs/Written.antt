@@ -1,12 +1,15 @@
 -- What a call that writes one text and answers a status leaves in the sink.
-use Rattle.std.specs.Prelude.{ℕ, ◌≡◌, ◌⊎◌, List, Option}
+use Rattle.std.specs.Prelude.{ℕ, ◌≡◌, ◌<◌, ◌⊎◌, List, [], length, Option, Some}
 use Rattle.std.specs.Io.KnownBytes.{Appends}
 use Rattle.mt_ports.specs.Puts.{AppendsFront}
 use Rattle.mt_ports.specs.declared.status.Status.{Status}
-use Rattle.mt_ports.specs.declared.status.Status.TheVariants.{WriteFault, NoMemory}
+use Rattle.mt_ports.specs.declared.status.Status.TheVariants.{BadText, ReadFault, WriteFault, NoMemory, TooLong}
 use Rattle.mt_regs.specs.RegisterFile.{RegisterFile}
 use Rattle.mt_cli.specs.declared.command.DumpCommand.{DumpCommand}
 use Rattle.mt_cli.specs.Output.{Answer}
+use Rattle.mt_dump.specs.Dump.{Shown, dump_offence}
+use Rattle.mt_dump.specs.declared.fault.DumpFault.{DumpFault}
+use Rattle.mt_output.specs.Lines.{bad_text_line}
 
 -- The sink took the text and the status is answered, or it took a front of it and failed.
 abbrev pub Writes : List ℕ → Status → Option (List ℕ) → Option (List ℕ) → Status → Type 0
@@ -17,3 +20,9 @@ Writes text status old new result =
 pub data Answers (file : RegisterFile) (command : DumpCommand) (old new : Option (List ℕ)) (result : Status) : Type 0 where
   writes : (text : List ℕ) (status : Status) → Answer file command text status → Writes text status old new result → Answers file command old new result
   no_memory : result ≡ NoMemory → new ≡ old → Answers file command old new result
+
+-- A command on a dump wrote the line of the first offence, an answer about the file, or nothing where the input wasn't read to its end.
+pub data AnswersInput (bytes : List ℕ) (command : DumpCommand) (left old new : Option (List ℕ)) (result : Status) : Type 0 where
+  bad_input : (fault : DumpFault) → dump_offence bytes ≡ Some fault → left ≡ Some [] → Writes (bad_text_line fault) BadText old new result → AnswersInput bytes command left old new result
+  good_input : (file : RegisterFile) → Shown bytes file → left ≡ Some [] → Answers file command old new result → AnswersInput bytes command left old new result
+  no_input : new ≡ old → (result ≡ ReadFault) ⊎ ((result ≡ TooLong) × (16777216 < length bytes)) → AnswersInput bytes command left old new result

@@ -1,17 +1,21 @@
-ghost use Rattle.std.specs.Prelude.{◌≡◌, ◌≢◌, ◌<◌, ◌≤◌, ◌^◌, None, Some};
+ghost use Rattle.std.specs.Prelude.{◌≡◌, ◌≢◌, ◌<◌, ◌≤◌, ◌^◌, ◌⊎◌, ◌↔◌, ℕ, List, None, Some};
 ghost use Rattle.mt_ports.specs.Causes.{StatusHasCause};
 ghost use Rattle.mt_regs.specs.Faults.{IsAccepted, IsFirstFault};
+ghost use Rattle.mt_text.specs.Feed.{GaveTooMuch};
 ghost use Rattle.mt_cli.specs.declared.command.DumpCommand.TheVariants.{Check, Show, Types, Page, Tidy, Gran};
-ghost use Rattle.mt_cli.specs.CommandLine.{IsSound};
-ghost use Rattle.mt_cli.specs.Written.{Answers, Writes};
+ghost use Rattle.mt_cli.specs.CommandLine.{IsSound, MayTakeMemory};
+ghost use Rattle.mt_cli.specs.declared.command.Command.TheVariants.{Dump};
+ghost use Rattle.mt_cli.specs.Written.{Answers, AnswersInput, Writes};
 
 use crate::DumpCommand;
 use crate::lines::{disabled_line, page_text, too_few_line};
 use crate::texts::{canonical_text, grained_text, tidied_text, types_text};
+use mt_dump::read_dump_from;
 use mt_gran::{GranFault, gran};
-use mt_output::{accepted_line, refused_line};
-use mt_ports::{Sink, Status, put};
+use mt_output::{accepted_line, bad_text_line, refused_line};
+use mt_ports::{Sink, Source, Status, put};
 use mt_regs::{Fault, RegFile};
+use mt_text::FeedFault;
 use mt_tidy::{TidyFault, tidy};
 use mt_types::page_runs;
 use std::alloc::Global;
@@ -20,6 +24,7 @@ use std::alloc::Global;
 pub fn written<K: Sink>(sink: &mut K, text: &[u8], status: Status) -> Status
     requires { status ≢ Status.WriteFault }
     ensures bytes { Writes text.now status (K.taken sink.old) (K.taken sink.new) result }
+    ensures status { (result ≡ status) ⊎ (result ≡ Status.WriteFault) }
     ensures cause { StatusHasCause Status.WriteFault (K.faults sink.old) (K.faults sink.new) result }
 {
     match put(sink, text) {
@@ -33,6 +38,7 @@ fn refuse<K: Sink>(f: &RegFile, fault: &Fault, sink: &mut K, command: DumpComman
     requires fault { IsFirstFault f.now (Some fault.now) }
     requires command { command ≢ Show }
     ensures bytes { Answers f.now command (K.taken sink.old) (K.taken sink.new) result }
+    ensures no_memory { result ≢ Status.NoMemory }
     ensures cause { StatusHasCause Status.WriteFault (K.faults sink.old) (K.faults sink.new) result }
 {
     f.is_register_file(); // a fact for the proof
@@ -41,6 +47,7 @@ fn refuse<K: Sink>(f: &RegFile, fault: &Fault, sink: &mut K, command: DumpComman
 
 fn show<K: Sink>(f: &RegFile, sink: &mut K) -> Status
     ensures bytes { Answers f.now Show (K.taken sink.old) (K.taken sink.new) result }
+    ensures no_memory { result ≢ Status.NoMemory }
     ensures cause { StatusHasCause Status.WriteFault (K.faults sink.old) (K.faults sink.new) result }
 {
     written(sink, canonical_text(f).as_slice(), Status::Done)
@@ -65,6 +72,7 @@ fn page<K: Sink>(f: &RegFile, address: u64, index: u8, sink: &mut K) -> Status
     requires address { address < 2 ^ 52 }
     requires index { index < 8 }
     ensures bytes { Answers f.now (Page address index) (K.taken sink.old) (K.taken sink.new) result }
+    ensures no_memory { result ≢ Status.NoMemory }
     ensures cause { StatusHasCause Status.WriteFault (K.faults sink.old) (K.faults sink.new) result }
 {
     written(sink, page_text(f, address, index).as_slice(), Status::Done)
@@ -139,6 +147,7 @@ fn answer_accepted<K: Sink>(
     requires accepted { IsAccepted f.now }
     requires command { IsSound command }
     ensures bytes { Answers f.now command (K.taken sink.old) (K.taken sink.new) result }
+    ensures no_memory { result ≡ Status.NoMemory → MayTakeMemory (Dump command) }
     ensures cause { StatusHasCause Status.WriteFault (K.faults sink.old) (K.faults sink.new) result }
 {
     match command {
@@ -155,6 +164,7 @@ fn answer_accepted<K: Sink>(
 pub fn answer<K: Sink>(alloc: Global, command: DumpCommand, f: &RegFile, sink: &mut K) -> Status
     requires sound { IsSound command }
     ensures bytes { Answers f.now command (K.taken sink.old) (K.taken sink.new) result }
+    ensures no_memory { result ≡ Status.NoMemory → MayTakeMemory (Dump command) }
     ensures cause { StatusHasCause Status.WriteFault (K.faults sink.old) (K.faults sink.new) result }
 {
     if let DumpCommand::Show = command {
@@ -163,5 +173,29 @@ pub fn answer<K: Sink>(alloc: Global, command: DumpCommand, f: &RegFile, sink: &
     match f.first_fault() {
         None => answer_accepted(alloc, command, f, sink),
         Some(fault) => refuse(f, &fault, sink, command),
+    }
+}
+
+/// Reads a dump to its end, and writes what a command on it answers. Where the source fails or
+/// gives too much nothing is written.
+pub fn answer_input<S: Source, K: Sink>(
+    alloc: Global,
+    command: DumpCommand,
+    source: &mut S,
+    sink: &mut K,
+) -> Status
+    requires sound { IsSound command }
+    ensures bytes { (bytes : List ℕ) → S.left source.old ≡ Some bytes → AnswersInput bytes command (S.left source.new) (K.taken sink.old) (K.taken sink.new) result }
+    ensures usage { result ≢ Status.Usage }
+    ensures no_memory { result ≡ Status.NoMemory → MayTakeMemory (Dump command) }
+    ensures read_fault { StatusHasCause Status.ReadFault (S.faults source.old) (S.faults source.new) result }
+    ensures write_fault { StatusHasCause Status.WriteFault (K.faults sink.old) (K.faults sink.new) result }
+    ensures too_long { (result ≡ Status.TooLong) ↔ GaveTooMuch (S.given source.old) (S.given source.new) }
+{
+    match read_dump_from(source) {
+        Ok(Ok(file)) => answer(alloc, command, &file, sink),
+        Ok(Err(fault)) => written(sink, bad_text_line(&fault).as_slice(), Status::BadText),
+        Err(FeedFault::ReadFault) => Status::ReadFault,
+        Err(FeedFault::TooLong) => Status::TooLong,
     }
 }

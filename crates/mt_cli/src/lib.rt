@@ -11,7 +11,7 @@ mod texts;
 mod top;
 mod words;
 
-pub use answers::answer;
+pub use answers::{answer, answer_input};
 pub use command::{Command, DumpCommand, TidyOption};
 pub use laws::{
     a_size_is_a_power_of_two, a_tidied_text_is_a_dump, words_and_bytes_have_an_output,

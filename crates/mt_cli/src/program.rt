@@ -6,7 +6,7 @@ ghost use Rattle.mt_ports.specs.Causes.{StatusHasCause};
 ghost use Rattle.mt_ports.specs.Exit.{code};
 ghost use Rattle.mt_cli.specs.CommandLine.{command_of};
 ghost use Rattle.mt_cli.specs.Program.{Exits, words_of};
-ghost use Rattle.mt_cli.specs.Reading.{GaveTooMuch};
+ghost use Rattle.mt_text.specs.Feed.{GaveTooMuch};
 ghost use Rattle.mt_cli.specs.Tool.{Leaves, Reads};
 
 use crate::tool;

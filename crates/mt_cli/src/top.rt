@@ -1,14 +1,13 @@
 ghost use Rattle.std.specs.Prelude.{◌≡◌, ◌⊎◌, ◌↔◌, List, ℕ, None, Some, map, string_bytes};
 ghost use Rattle.mt_ports.specs.Causes.{StatusHasCause};
-ghost use Rattle.mt_cli.specs.CommandLine.{command_of};
-ghost use Rattle.mt_cli.specs.Reading.{GaveTooMuch};
+ghost use Rattle.mt_cli.specs.CommandLine.{MayTakeMemory, command_of};
+ghost use Rattle.mt_text.specs.Feed.{GaveTooMuch};
+ghost use Rattle.mt_cli.specs.declared.command.Command.{Command};
 ghost use Rattle.mt_cli.specs.Tool.{Leaves, Reads};
 
-use crate::answers::{answer, written};
+use crate::answers::{answer_input, written};
 use crate::reading::read_all;
 use crate::{Command, command_of};
-use mt_dump::read_dump;
-use mt_output::bad_text_line;
 use mt_ports::{Gate, Sink, Source, Status};
 use mt_replay::replay;
 use std::sync::Wait;
@@ -39,6 +38,9 @@ pub fn tool<R: AllocGlobal + Threads + Wait + Sync, S: Source, K: Sink, G: Gate>
     ensures no_command { command_of (map string_bytes words.now) ≡ None → (result ≡ Status.Usage) ⊎ (result ≡ Status.WriteFault) }
     ensures unread { command_of (map string_bytes words.now) ≡ None → source.new ≡ source.old }
 
+    // Memory is refused to no command that takes none.
+    ensures no_memory { result ≡ Status.NoMemory → (command : Command) × (command_of (map string_bytes words.now) ≡ Some command) × MayTakeMemory command }
+
     // A port that failed did so once, and the status is its fault; at every other status none failed.
     ensures read_fault { StatusHasCause Status.ReadFault (S.faults source.old) (S.faults source.new) result }
     ensures write_fault { StatusHasCause Status.WriteFault (K.faults sink.old) (K.faults sink.new) result }
@@ -47,15 +49,11 @@ pub fn tool<R: AllocGlobal + Threads + Wait + Sync, S: Source, K: Sink, G: Gate>
     let Some(command) = command_of(words) else {
         return written(sink, b"usage\n", Status::Usage);
     };
-    let text = match read_all(rt.alloc(), source) {
-        Ok(text) => text,
-        Err(status) => return status,
-    };
     match command {
-        Command::Replay => replay(rt, &text, sink, gate),
-        Command::Dump(command) => match read_dump(&text) {
-            Err(fault) => written(sink, bad_text_line(&fault).as_slice(), Status::BadText),
-            Ok(file) => answer(rt.alloc(), command, &file, sink),
+        Command::Dump(command) => answer_input(rt.alloc(), command, source, sink),
+        Command::Replay => match read_all(rt.alloc(), source) {
+            Ok(text) => replay(rt, &text, sink, gate),
+            Err(status) => status,
         },
     }
 }

@@ -1,0 +1,17 @@
+use Rattle.std.proofs.Common.{◌≡◌, ◌∙◌, List, ap, subst, ℕ}
+use Rattle.mt_ports.specs.declared.status.Status.TheVariants.{BadText}
+use Rattle.mt_cli.specs.Written.{Writes, bad_input, good_input}
+use Rattle.mt_cli.proofs.Leaving.{never_answers}
+use Rattle.mt_cli.proofs.answers.answer_input.Goals as goal
+
+pub returns-in-Ok-Ok-clause-bytes : goal.returns-in-Ok-Ok-clause-bytes
+returns-in-Ok-Ok-clause-bytes g c bytes is = good_input c.in-Ok-Ok.file (rw c.in-Ok-Ok.field-0-is at (c.in-Ok-Ok.ensures.answer bytes is)) (c.in-Ok-Ok.ensures.end bytes is) c.answer.ensures.bytes
+
+pub returns-in-Ok-Ok-clause-too_long : goal.returns-in-Ok-Ok-clause-too_long
+returns-in-Ok-Ok-clause-too_long g c =
+    (λ is. absurd ((never_answers c.in-Ok-Ok.file c.args.command _ _ _ c.answer.ensures.bytes).2 is), λ much. absurd (cc (c.in-Ok-Ok.ensures.too_long.1 much)))
+
+pub returns-in-Ok-Err-clause-bytes : goal.returns-in-Ok-Err-clause-bytes
+returns-in-Ok-Err-clause-bytes g c bytes is =
+    let wrote = subst (λ (t : List ℕ). Writes t BadText (g.K.Sink.taken c.args.sink.now) (g.K.Sink.taken c.written.new.sink) c.written.result) (c.as_slice.ensures.value ∙ c.bad_text_line.ensures) c.written.ensures.bytes in
+    bad_input c.in-Ok-Err.fault (rw c.in-Ok-Err.field-0-is at (c.in-Ok-Err.ensures.answer bytes is)) (c.in-Ok-Err.ensures.end bytes is) wrote
