@@ -1,5 +1,5 @@
 -- A worked station: two processors without pairs that have taken, the first with a dirty word, over a memory of one line.
-use Rattle.atomic_table.specs.Table.{State}
+use Rattle.atomic_table.specs.Table.{State, opening}
 use Rattle.std.specs.Prelude.{ℕ, Bool, true, false, List, [], ◌∷◌, None, Some, slice_set}
 use Rattle.mt_machine.specs.declared.phase.Phase.{Phase}
 use Rattle.mt_machine.specs.declared.phase.Phase.TheVariants.{Taken, Arrived}
@@ -76,3 +76,10 @@ but_word key i n = record { words = slice_set (opening_words 2 zeros) i n; homes
 -- a start of processors in these states
 abbrev pub start_in : Phase → ℕ → Start
 start_in phase era = gathered (record (first phase) { era = era } ∷ record (second phase) { era = era } ∷ []) (one_line zeros) (bare_file 0x800)
+
+abbrev pub at_start : Key → State (Unit {0}) View
+at_start key = opening (opening_words 2 zeros) [] (first_view key)
+
+-- two words and one view
+abbrev pub two_words : State (Unit {0}) View
+two_words = record { words = 5 ∷ 9 ∷ []; homes = []; views = root_view ∷ [] }

@@ -22,5 +22,6 @@ pub use threads::update;
 pub use view::{Held, Key, Start, View};
 pub use worked::{worked_fits, worked_machines, worked_views};
 pub use worked_steps::{
-    worked_begins, worked_decisions, worked_pass_steps, worked_rule, worked_stands,
+    worked_begins, worked_decisions, worked_follows, worked_pass_steps, worked_places, worked_rule,
+    worked_stands,
 };

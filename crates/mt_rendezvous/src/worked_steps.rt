@@ -7,10 +7,11 @@ ghost use Rattle.mt_machine.specs.declared.phase.Phase.TheVariants.{Running, Tak
 ghost use Rattle.mt_machine.specs.declared.event.Event.TheVariants.{Arrive, Pass};
 ghost use Rattle.mt_machine.specs.Machine.{Cancels as CancelsUpdate, Goes, Steps};
 ghost use Rattle.mt_rendezvous.specs.declared.view.Key.{Key};
-ghost use Rattle.mt_rendezvous.specs.Station.{Begins, Meets, broadcast, first_view, held, root_left, start_of};
-ghost use Rattle.mt_rendezvous.specs.Plays.{Decided, PassSteps, Stands, Took};
+ghost use Rattle.mt_rendezvous.specs.Station.{Begins, Meets, broadcast, first_view, held, root_left, spent, start_of};
+ghost use Rattle.mt_rendezvous.specs.Plays.{Decided, PassSteps, Stands, Took, with_go};
+ghost use Rattle.mt_rendezvous.specs.Laws.{Follows, GoesTo, loaded, raised, stored};
 ghost use Rattle.mt_rendezvous.specs.Calls.{opening_words};
-ghost use Rattle.mt_rendezvous.specs.WorkedStations.{both_taken, but_word, come, first, start, start_in, waiting, words_of, zeros};
+ghost use Rattle.mt_rendezvous.specs.WorkedStations.{at_start, both_taken, but_word, come, first, root_view, start, start_in, two_words, waiting, words_of, zeros};
 
 /// What a station begins with, and what it doesn't for one thing.
 pub fn worked_begins()
@@ -59,4 +60,24 @@ pub fn worked_rule()
     ensures coded { (key : Key) → start_of key ≡ start → Meets key (but_word key 3 1) → ⊥ }
     ensures short { (key : Key) → start_of key ≡ start → Meets key (opening (opening_words 2 []) [] (first_view key)) → ⊥ }
     ensures missing { (key : Key) → start_of key ≡ start → Meets key (opening (opening_words 2 zeros) [] (root_left (first_view key))) → ⊥ }
+{}
+
+/// Where a step leaves the words and views, and where a store goes to.
+pub fn worked_places()
+    ensures raised { raised two_words 0 (spent, []) 0 1 ≡ record { words = 6 ∷ 9 ∷ []; homes = []; views = spent ∷ [] } }
+    ensures wrapped { (raised two_words 0 (spent, []) 1 0xfffffffffffffff8).words ≡ 5 ∷ 1 ∷ [] }
+    ensures loaded { loaded two_words 0 (root_view, []) 1 ≡ record { words = 5 ∷ 9 ∷ []; homes = []; views = root_view ∷ [] } }
+    ensures stored { (stored two_words 0 (spent, []) 1 7).words ≡ 5 ∷ 7 ∷ [] }
+    ensures own_phase { GoesTo start 0 (first Passed) None 2 1 }
+    ensures other_word { GoesTo start 0 (first Passed) None 3 1 → ⊥ }
+    ensures other_code { GoesTo start 0 (first Passed) None 2 2 → ⊥ }
+    ensures word_back { GoesTo start 0 (first Passed) (Some (0x100008, 6)) 5 6 }
+    ensures other_value { GoesTo start 0 (first Passed) (Some (0x100008, 6)) 5 7 → ⊥ }
+    ensures other_place { GoesTo start 0 (first Passed) (Some (0x100008, 6)) 6 6 → ⊥ }
+{}
+
+/// What follows on the words and views at the start.
+pub fn worked_follows()
+    ensures go { (key : Key) → start_of key ≡ start → (m : Meets key (at_start key)) → Follows key (at_start key) (raised (at_start key) 0 (with_go (first_view key) Given, []) 0 1) m (Some Goes) }
+    ensures not_kept { (key : Key) → start_of key ≡ start → (m : Meets key (at_start key)) → Follows key (at_start key) (but_word key 0 1) m None → ⊥ }
 {}
