@@ -59,10 +59,8 @@ impl Writer {
         if text.len() > WRITER_ROOM - self.text.len() {
             self.flush(sink)?;
         }
-        match self.text.extend_from_slice(text) {
-            Ok(()) => Ok(()),
-            Err(_) => unreachable!(),
-        }
+        self.append(text);
+        Ok(())
     }
 
     /// Sees to it that a line has room behind the bytes that wait: where there isn't, they go to the

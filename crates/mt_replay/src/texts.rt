@@ -9,7 +9,7 @@ ghost use Rattle.mt_regs.specs.RegisterFile.{RegisterFile};
 ghost use Rattle.mt_replay.specs.Texts.{call_fault_line, called_line, cancel_line, complete_line, done_line, event_text, go_line, have_one_file, is_same_file, memory_line, number_at, phase_text, processor_line, register_line, registers_line, ruled_line, stale_count, stepped_line, switch_text};
 
 use arrayvec::ArrayVec;
-use mt_cache::CacheLine;
+use mt_cache::{Cache, CacheLine};
 use mt_core::{CallFault, Stepped};
 use mt_cpu::Cpu;
 use mt_kinds::{MemType, is_bit_set};
@@ -269,12 +269,25 @@ fn stale_entries(entries: &[Entry], era: u64) -> usize
     entries.iter().filter(|entry| entry.era < era).count()
 }
 
+fn stale_cached(cache: &Cache, era: u64) -> usize
+    ensures count { result ≡ count_by (λ l. nat_lt l.era era) cache.now }
+    ensures bound { result ≤ 64 }
+{
+    let mut count = 0;
+    'lines: for i in 0..cache.len() {
+        if cache.nth(i).era < era {
+            count += 1;
+        }
+    }
+    count
+}
+
 // How many lines, buffers and TLB entries are older than the processor's era.
 fn stale_count(cpu: &Cpu) -> usize
     ensures { result ≡ stale_count cpu.now }
 {
     let era = cpu.era();
-    let lines = stale_lines(cpu.cache().lines(), era);
+    let lines = stale_cached(cpu.cache(), era);
     let buffers = stale_lines(cpu.buffers().lines(), era);
     lines + buffers + stale_entries(cpu.tlb().entries(), era)
 }
@@ -293,13 +306,12 @@ fn dirty_words(line: &CacheLine) -> usize
 }
 
 #[tactic(auto, using(crate::proofs::DirtyCounts::dirty_more))]
-fn dirty_count(lines: &[CacheLine]) -> usize
-    requires { length lines.now ≤ 64 }
-    ensures { result ≡ dirty_count lines.now }
+fn dirty_count(cache: &Cache) -> usize
+    ensures { result ≡ dirty_count cache.now }
 {
     let mut count = 0;
-    'lines: for line in lines {
-        count += dirty_words(line);
+    'lines: for i in 0..cache.len() {
+        count += dirty_words(cache.nth(i));
     }
     count
 }
@@ -318,15 +330,15 @@ fn append_count(line: &mut LineBuffer, name: &[u8], count: usize)
 pub(crate) fn processor_line(k: u32, cpu: &Cpu) -> LineBuffer
     ensures { result.items ≡ processor_line k cpu.now }
 {
-    let lines = cpu.cache().lines();
+    let cache = cpu.cache();
     let mut line = ArrayVec::new();
     append_count(&mut line, b"cpu ", k as usize);
     append(&mut line, b" ");
     append(&mut line, phase_text(cpu.phase()));
     append(&mut line, b" era ");
     append_decimal(&mut line, cpu.era());
-    append_count(&mut line, b" lines ", lines.len());
-    append_count(&mut line, b" dirty ", dirty_count(lines));
+    append_count(&mut line, b" lines ", cache.len());
+    append_count(&mut line, b" dirty ", dirty_count(cache));
     append_count(&mut line, b" buffers ", cpu.buffers().lines().len());
     append_count(&mut line, b" entries ", cpu.tlb().entries().len());
     append_count(&mut line, b" stale ", stale_count(cpu));

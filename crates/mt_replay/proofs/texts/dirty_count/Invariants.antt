@@ -4,6 +4,6 @@ use Rattle.mt_replay.proofs.texts.dirty_count.Given as goal
 
 abbrev pub invariant-lines : goal.invariant-lines
 invariant-lines l = record {
-  value : l.count ≡ dirty_count (take l.line-index l.lines);
-  few : l.count ≤ 8 * l.line-index;
+  value : l.count ≡ dirty_count (take l.i l.cache);
+  few : l.count ≤ 8 * l.i;
 }
