@@ -25,6 +25,8 @@ use std::sync::atomic::{AtomicU64, Ordering};
 use std::thread;
 use std::thread::{Promise, Scope, Threads};
 
+mod cancelled;
+
 /// So many processors, each with one dirty line.
 fn dirty_row(alloc: Global, count: u32) -> Option<Core> {
     let mut core = core_of(alloc, count, 6)?;
