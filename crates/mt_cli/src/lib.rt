@@ -13,7 +13,7 @@ mod top;
 mod words;
 mod worked;
 
-pub use answers::{answer, answer_input};
+pub use answers::{answer, answer_input, make};
 pub use command::{Command, DumpCommand, TidyOption};
 pub use generator::make_text;
 pub use laws::{
