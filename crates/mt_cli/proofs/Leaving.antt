@@ -1,5 +1,5 @@
 -- From what the calls say of the bytes to what a run leaves.
-use Rattle.std.proofs.Common.{◌≡◌, ◌≢◌, ◌⊎◌, ℕ, ◌<◌, List, [], ◌++◌, length, length-append, Option, Some, None, refl, sym, subst, ◌∙◌, ap, inl, inr, arith}
+use Rattle.std.proofs.Common.{◌≡◌, ◌≢◌, ◌⊎◌, ℕ, ◌<◌, Bool, true, false, List, [], ◌++◌, length, length-append, Option, Some, None, refl, sym, subst, ◌∙◌, ap, inl, inr, arith}
 use Rattle.std.specs.Io.KnownBytes.{Appends, Consumes, IsAtEnd}
 use Rattle.std.proofs.lemmas.List.{append-nil}
 use Rattle.mt_ports.specs.Puts.{AppendsFront}
@@ -11,13 +11,15 @@ use Rattle.mt_dump.specs.declared.fault.DumpFault.{DumpFault}
 use Rattle.mt_replay.specs.Running.{Replays}
 use Rattle.mt_replay.specs.Transcript.{transcript}
 use Rattle.mt_replay.proofs.Refusals.Outcomes.{one_of_three}
-use Rattle.mt_cli.specs.declared.command.Command.TheVariants.{Dump, Replay}
+use Rattle.mt_cli.specs.declared.command.Command.TheVariants.{Dump, Replay, Make}
 use Rattle.mt_cli.specs.declared.command.DumpCommand.{DumpCommand}
-use Rattle.mt_cli.specs.CommandLine.{command_of}
-use Rattle.mt_cli.specs.Output.{Answer, Output, usage, bad_text, answered, replayed, refused, accepted, shown, typed, paged, tidied, too_few, disabled, grained, gran_too_few, gran_disabled}
+use Rattle.mt_cli.specs.CommandLine.{command_of, left_of, reads_input}
+use Rattle.mt_cli.specs.Generator.{make_text}
+use Rattle.mt_cli.specs.declared.command.Command.{Command}
+use Rattle.mt_cli.specs.Output.{Answer, Output, usage, bad_text, answered, replayed, made, refused, accepted, shown, typed, paged, tidied, too_few, disabled, grained, gran_too_few, gran_disabled}
 use Rattle.mt_cli.specs.Reading.{ConsumesTooMuch, EndsReading}
 use Rattle.mt_cli.specs.Tool.{Answered, CutShort, Finished, Leaves, Reads}
-use Rattle.mt_cli.specs.Written.{Answers, AnswersInput, Writes, writes, no_memory, bad_input, good_input, no_input}
+use Rattle.mt_cli.specs.Written.{Answers, AnswersInput, Makes, Writes, writes, no_memory, bad_input, good_input, no_input}
 
 -- what stands after the bytes that the sink had
 appended : (before text : List ℕ) (old new : Option (List ℕ)) → old ≡ Some before → Appends old new text → new ≡ Some (before ++ text)
@@ -71,9 +73,17 @@ finished_leaves words bytes left before after status (inr (inr (inl is))) done =
 finished_leaves words bytes left before after status (inr (inr (inr (inl is)))) done = rw is (subst (λ (s : Status). Finished words bytes left before after s) is done)
 finished_leaves words bytes left before after status (inr (inr (inr (inr is)))) done = rw is (subst (λ (s : Status). Finished words bytes left before after s) is done)
 
+-- what a command leaves of the input
+pub left_by : (words : List (List ℕ)) (bytes : List ℕ) (left : Option (List ℕ)) (command : Option Command) → command_of words ≡ command → left ≡ Some (left_of command bytes) → left ≡ Some (left_of (command_of words) bytes)
+left_by words bytes left command says read = read ∙ ap (λ c. Some (left_of c bytes)) (sym says)
+
+-- a command that reads the input
+pub must_read : (words : List (List ℕ)) (command : Command) → command_of words ≡ Some command → reads_input (Some command) ≡ true → reads_input (command_of words) ≡ false → ⊥
+must_read words command says reads not = let e : true ≡ false = sym reads ∙ ap reads_input (sym says) ∙ not in cc e
+
 -- a run that has written its whole output
 whole : (words : List (List ℕ)) (bytes text : List ℕ) (status : Status) (left : Option (List ℕ)) (before : List ℕ) (after : Option (List ℕ))
-    → Output words bytes text status → (status ≢ Usage → left ≡ Some []) → after ≡ Some (before ++ text) → Leaves words bytes left before after status
+    → Output words bytes text status → left ≡ Some (left_of (command_of words) bytes) → after ≡ Some (before ++ text) → Leaves words bytes left before after status
 whole words bytes text status left before after (usage other) = λ read taken. record { text = _; output = usage other; taken = taken; read = read }
 whole words bytes text status left before after (bad_text command fault says is) = λ read taken.
     record { text = _; output = bad_text command fault says is; taken = taken; read = read }
@@ -81,13 +91,14 @@ whole words bytes text status left before after (answered command file t s says 
     let fin : IsFinal s = final file command t s answer in
     finished_leaves words bytes left before after s fin
     (record { text = t; output = answered command file t s says shows answer; taken = taken; read = read })
+whole words bytes text status left before after (made n says) = λ read taken. record { text = _; output = made n says; taken = taken; read = read }
 whole words bytes text status left before after (replayed says) = λ read taken.
     finished_leaves words bytes left before after (transcript bytes).status (final_of_transcript bytes)
     (record { text = (transcript bytes).text; output = replayed says; taken = taken; read = read })
 
 -- a run whose last write is done or has failed
 pub written_leaves : (words : List (List ℕ)) (bytes text : List ℕ) (status result : Status) (left : Option (List ℕ)) (before : List ℕ) (old new : Option (List ℕ))
-    → Output words bytes text status → (status ≢ Usage → left ≡ Some []) → old ≡ Some before → Writes text status old new result → Leaves words bytes left before new result
+    → Output words bytes text status → left ≡ Some (left_of (command_of words) bytes) → old ≡ Some before → Writes text status old new result → Leaves words bytes left before new result
 written_leaves words bytes text status result left before old new output read told (inl (is, takes)) =
     rw is (whole words bytes text status left before new output read (appended before text old new told takes))
 written_leaves words bytes text status result left before old new output read told (inr (is, cut)) =
@@ -97,16 +108,23 @@ written_leaves words bytes text status result left before old new output read to
 pub answers_leave : (words : List (List ℕ)) (bytes : List ℕ) (file : RegisterFile) (command : DumpCommand) (result : Status) (left : Option (List ℕ)) (before : List ℕ) (old new : Option (List ℕ))
     → command_of words ≡ Some (Dump command) → Shown bytes file → left ≡ Some [] → old ≡ Some before → Answers file command old new result → Leaves words bytes left before new result
 answers_leave words bytes file command result left before old new says shows read told (writes text status answer wrote) =
-    written_leaves words bytes text status result left before old new (answered command file text status says shows answer) (λ _. read) told wrote
+    written_leaves words bytes text status result left before old new (answered command file text status says shows answer) (left_by words bytes left (Some (Dump command)) says read) told wrote
 answers_leave words bytes file command result left before old new says shows read told (no_memory is same) = rw is (inl (same ∙ told))
 
 -- a command on a dump
 pub input_leaves : (words : List (List ℕ)) (bytes : List ℕ) (command : DumpCommand) (result : Status) (left : Option (List ℕ)) (before : List ℕ) (old new : Option (List ℕ))
     → command_of words ≡ Some (Dump command) → old ≡ Some before → AnswersInput bytes command left old new result → Leaves words bytes left before new result
-input_leaves words bytes command result left before old new says told (bad_input fault is read wrote) = written_leaves words bytes _ BadText result left before old new (bad_text command fault says is) (λ _. read) told wrote
+input_leaves words bytes command result left before old new says told (bad_input fault is read wrote) = written_leaves words bytes _ BadText result left before old new (bad_text command fault says is) (left_by words bytes left (Some (Dump command)) says read) told wrote
 input_leaves words bytes command result left before old new says told (good_input file is read answers) = answers_leave words bytes file command result left before old new says is read told answers
 input_leaves words bytes command result left before old new says told (no_input same (inl failed)) = rw failed (same ∙ told)
 input_leaves words bytes command result left before old new says told (no_input same (inr long)) = rw long.0 (same ∙ told)
+
+-- a text that was made
+pub makes_leave : (words : List (List ℕ)) (bytes : List ℕ) (n : ℕ) (result : Status) (left : Option (List ℕ)) (before : List ℕ) (old new : Option (List ℕ))
+    → command_of words ≡ Some (Make n) → left ≡ Some bytes → old ≡ Some before → Makes n old new result → Leaves words bytes left before new result
+makes_leave words bytes n result left before old new says read told (inl wrote) =
+    written_leaves words bytes (make_text n) Done result left before old new (made n says) (left_by words bytes left (Some (Make n)) says read) told wrote
+makes_leave words bytes n result left before old new says read told (inr (is, same)) = rw is (inl (same ∙ told))
 
 -- the sink took a front of the transcript
 front_of_transcript : (words : List (List ℕ)) (bytes before : List ℕ) (old new : Option (List ℕ))
@@ -118,7 +136,7 @@ front_of_transcript words bytes before old new says told cut =
 pub replays_leave : (words : List (List ℕ)) (bytes : List ℕ) (result : Status) (left : Option (List ℕ)) (before : List ℕ) (old new : Option (List ℕ))
     → command_of words ≡ Some Replay → left ≡ Some [] → old ≡ Some before → Replays bytes old new result → Leaves words bytes left before new result
 replays_leave words bytes result left before old new says read told (inl (is, takes)) =
-    rw is (whole words bytes (transcript bytes).text (transcript bytes).status left before new (replayed says) (λ _. read) (appended before (transcript bytes).text old new told takes))
+    rw is (whole words bytes (transcript bytes).text (transcript bytes).status left before new (replayed says) (left_by words bytes left (Some Replay) says read) (appended before (transcript bytes).text old new told takes))
 replays_leave words bytes result left before old new says read told (inr (inl is, cut)) = rw is (inr (says, front_of_transcript words bytes before old new says told cut))
 replays_leave words bytes result left before old new says read told (inr (inr is, cut)) = rw is (front_of_transcript words bytes before old new says told cut)
 
@@ -151,7 +169,7 @@ answered_reads words bytes left status (inr (inr (inr (inr is)))) told = rw is (
 pub answers_read : (words : List (List ℕ)) (bytes : List ℕ) (file : RegisterFile) (command : DumpCommand) (result : Status) (left old new : Option (List ℕ))
     → command_of words ≡ Some (Dump command) → Shown bytes file → left ≡ Some [] → Answers file command old new result → Reads words bytes left result
 answers_read words bytes file command result left old new says shows read (writes text status answer (inl (is, takes))) =
-    rw is (answered_reads words bytes left status (final file command text status answer) (record { text = text; output = answered command file text status says shows answer; read = read }))
+    rw is (answered_reads words bytes left status (final file command text status answer) (record { text = text; output = answered command file text status says shows answer; read = left_by words bytes left (Some (Dump command)) says read }))
 answers_read words bytes file command result left old new says shows read (writes text status answer (inr (is, cut))) = rw is tt
 answers_read words bytes file command result left old new says shows read (no_memory is same) = rw is tt
 
@@ -159,7 +177,7 @@ answers_read words bytes file command result left old new says shows read (no_me
 pub replays_read : (words : List (List ℕ)) (bytes : List ℕ) (result : Status) (left old new : Option (List ℕ))
     → command_of words ≡ Some Replay → left ≡ Some [] → Replays bytes old new result → Reads words bytes left result
 replays_read words bytes result left old new says read (inl (is, takes)) =
-    rw is (answered_reads words bytes left (transcript bytes).status (final_of_transcript bytes) (record { text = (transcript bytes).text; output = replayed says; read = read }))
+    rw is (answered_reads words bytes left (transcript bytes).status (final_of_transcript bytes) (record { text = (transcript bytes).text; output = replayed says; read = left_by words bytes left (Some Replay) says read }))
 replays_read words bytes result left old new says read (inr (inl is, cut)) = rw is tt
 replays_read words bytes result left old new says read (inr (inr is, cut)) = rw is tt
 
@@ -201,7 +219,7 @@ never_answers file command old new result answers = by answers
 pub offence_reads : (words : List (List ℕ)) (bytes : List ℕ) (command : DumpCommand) (fault : DumpFault) (written : List ℕ) (result : Status) (left old new : Option (List ℕ))
     → command_of words ≡ Some (Dump command) → dump_offence bytes ≡ Some fault → left ≡ Some [] → Writes written BadText old new result → Reads words bytes left result
 offence_reads words bytes command fault written result left old new says is read (inl (done, takes)) =
-    rw done (record { text = _; output = bad_text command fault says is; read = read })
+    rw done (record { text = _; output = bad_text command fault says is; read = left_by words bytes left (Some (Dump command)) says read })
 offence_reads words bytes command fault written result left old new says is read (inr (failed, cut)) = rw failed tt
 
 -- the status of a command on a dump
@@ -211,6 +229,12 @@ input_reads words bytes command result left old new says (bad_input fault is rea
 input_reads words bytes command result left old new says (good_input file is read answers) = answers_read words bytes file command result left old new says is read answers
 input_reads words bytes command result left old new says (no_input same (inl failed)) = rw failed tt
 input_reads words bytes command result left old new says (no_input same (inr long)) = rw long.0 long.1
+
+-- the status of a text that was made
+pub makes_read : (words : List (List ℕ)) (bytes : List ℕ) (n : ℕ) (result : Status) (left old new : Option (List ℕ)) → command_of words ≡ Some (Make n) → left ≡ Some bytes → Makes n old new result → Reads words bytes left result
+makes_read words bytes n result left old new says read (inl (inl (is, takes))) = rw is (record { text = _; output = made n says; read = left_by words bytes left (Some (Make n)) says read })
+makes_read words bytes n result left old new says read (inl (inr (is, cut))) = rw is tt
+makes_read words bytes n result left old new says read (inr (is, same)) = rw is tt
 
 -- wrong usage
 pub usage_reads : (words : List (List ℕ)) (bytes : List ℕ) (written : List ℕ) (result : Status) (left old new : Option (List ℕ)) → left ≡ Some bytes → Writes written Usage old new result → Reads words bytes left result

@@ -7,3 +7,4 @@ mod SomeOutput
 mod SoundCommands
 mod Parting
 mod CommentLines
+mod Making

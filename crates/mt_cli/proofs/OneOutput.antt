@@ -17,13 +17,14 @@ use Rattle.mt_tidy.specs.Keeps.{IsLeast}
 use Rattle.mt_tidy.specs.Kept.{IsTidy, NeedsMore}
 use Rattle.mt_gran.specs.Grained.{IsGrained, NeedsMore as GranNeedsMore}
 use Rattle.mt_gran.proofs.RoundedFit.{needs_is_least, one_least as one_rounded, used_is_least}
-use Rattle.mt_cli.specs.declared.command.Command.TheVariants.{Dump, Replay}
+use Rattle.mt_cli.specs.declared.command.Command.TheVariants.{Dump, Replay, Make}
 use Rattle.mt_cli.specs.declared.command.DumpCommand.{DumpCommand}
 use Rattle.mt_cli.specs.declared.command.DumpCommand.TheVariants.{Check, Show, Types, Page, Tidy, Gran}
 use Rattle.mt_cli.specs.CommandLine.{command_of}
 use Rattle.mt_output.specs.Lines.{accepted_line, bad_text_line, refused_line}
 use Rattle.mt_cli.specs.Lines.{disabled_line, page_text, too_few_line, types_text, used_line}
-use Rattle.mt_cli.specs.Output.{Answer, MayChoose, Output, refused, accepted, shown, typed, paged, tidied, too_few, disabled, grained, gran_too_few, gran_disabled, usage, bad_text, answered, replayed}
+use Rattle.mt_cli.specs.Generator.{make_text}
+use Rattle.mt_cli.specs.Output.{Answer, MayChoose, Output, refused, accepted, shown, typed, paged, tidied, too_few, disabled, grained, gran_too_few, gran_disabled, usage, bad_text, answered, replayed, made}
 
 -- the answer names the file's first fault
 record Refusal (file : RegisterFile) (command : DumpCommand) (text : List ℕ) (status : Status) : Type 0 where
@@ -214,11 +215,22 @@ agree_answered words bytes text other s t a b f g says also shows too left right
 no_replay : (words : List (List ℕ)) (command : DumpCommand) → command_of words ≡ Some (Dump command) → command_of words ≡ Some Replay → ⊥
 no_replay words command says is = let e : Some (Dump command) ≡ Some Replay = sym says ∙ is in cc e
 
+-- nor are those of `make`
+no_make : (words : List (List ℕ)) (command : DumpCommand) (n : ℕ) → command_of words ≡ Some (Dump command) → command_of words ≡ Some (Make n) → ⊥
+no_make words command n says is = let e : Some (Dump command) ≡ Some (Make n) = sym says ∙ is in cc e
+
+no_made_replay : (words : List (List ℕ)) (n : ℕ) → command_of words ≡ Some Replay → command_of words ≡ Some (Make n) → ⊥
+no_made_replay words n says is = let e : Some Replay ≡ Some (Make n) = sym says ∙ is in cc e
+
+same_number : (words : List (List ℕ)) (m n : ℕ) → command_of words ≡ Some (Make m) → command_of words ≡ Some (Make n) → m ≡ n
+same_number words m n says is = let e : Some (Make m) ≡ Some (Make n) = sym says ∙ is in cc e
+
 pub one_output : (words : List (List ℕ)) (bytes text other : List ℕ) (s t : Status) → Output words bytes text s → Output words bytes other t → AgreeFor words text other s t
 one_output words bytes text other s t (usage none_is) (usage also) = (refl, λ not_done. refl)
 one_output words bytes text other s t (usage none_is) (bad_text command fault says is) = absurd (cc (none_is, says))
 one_output words bytes text other s t (usage none_is) (answered command file u v says shows answer) = absurd (cc (none_is, says))
 one_output words bytes text other s t (usage none_is) (replayed says) = absurd (cc (none_is, says))
+one_output words bytes text other s t (usage none_is) (made n says) = absurd (cc (none_is, says))
 one_output words bytes text other s t (bad_text command fault says is) (usage none_is) = absurd (cc (none_is, says))
 one_output words bytes text other s t (bad_text command fault says is) (bad_text again offence also too) =
     let e : Some fault ≡ Some offence = sym is ∙ too in
@@ -227,13 +239,21 @@ one_output words bytes text other s t (bad_text command fault says is) (bad_text
 one_output words bytes text other s t (bad_text command fault says is) (answered again file u v also shows answer) =
     let e : Some fault ≡ None = sym is ∙ shown_no_offence bytes file shows in absurd (cc e)
 one_output words bytes text other s t (bad_text command fault says is) (replayed also) = absurd (no_replay words command says also)
+one_output words bytes text other s t (bad_text command fault says is) (made n also) = absurd (no_make words command n says also)
 one_output words bytes text other s t (answered command file u v says shows answer) (usage none_is) = absurd (cc (none_is, says))
 one_output words bytes text other s t (answered command file u v says shows answer) (bad_text again fault also is) =
     let e : Some fault ≡ None = sym is ∙ shown_no_offence bytes file shows in absurd (cc e)
 one_output words bytes text other s t (answered command file u v says shows answer) (answered again other_file w x also too reply) =
     agree_answered words bytes u w v x command again file other_file says also shows too answer reply
 one_output words bytes text other s t (answered command file u v says shows answer) (replayed also) = absurd (no_replay words command says also)
+one_output words bytes text other s t (answered command file u v says shows answer) (made n also) = absurd (no_make words command n says also)
 one_output words bytes text other s t (replayed says) (usage none_is) = absurd (cc (none_is, says))
 one_output words bytes text other s t (replayed says) (bad_text again fault also is) = absurd (no_replay words again also says)
 one_output words bytes text other s t (replayed says) (answered again file u v also shows answer) = absurd (no_replay words again also says)
 one_output words bytes text other s t (replayed says) (replayed also) = (refl, λ not_done. refl)
+one_output words bytes text other s t (replayed says) (made n also) = absurd (no_made_replay words n says also)
+one_output words bytes text other s t (made n says) (usage none_is) = absurd (cc (none_is, says))
+one_output words bytes text other s t (made n says) (bad_text again fault also is) = absurd (no_make words again n also says)
+one_output words bytes text other s t (made n says) (answered again file u v also shows answer) = absurd (no_make words again n also says)
+one_output words bytes text other s t (made n says) (replayed also) = absurd (no_made_replay words n also says)
+one_output words bytes text other s t (made n says) (made m also) = (refl, λ not_done. ap make_text (same_number words n m says also))

@@ -2,20 +2,21 @@
 use Rattle.std.proofs.Common.{◌≡◌, ℕ, zero, suc, ◌+◌, ◌-◌, ◌^◌, ◌<◌, ◌≤◌, ◌==◌, Bool, true, false, List, [], ◌∷◌, Option, Some, None, refl, arith}
 use Rattle.std.specs.Prelude.{◌&&◌, nat_le, nat_lt, codes, if◌then◌else◌, IfSome, Result, Ok, Err}
 use Rattle.std.proofs.lemmas.Bool.{and_parts, ltb-true}
-use Rattle.mt_text.specs.Number.{hex_number}
+use Rattle.mt_text.specs.Number.{decimal_number, hex_number}
 use Rattle.mt_text.specs.declared.fault.NumberFault.{NumberFault}
 use Rattle.mt_cli.specs.declared.command.Command.{Command}
-use Rattle.mt_cli.specs.declared.command.Command.TheVariants.{Dump, Replay}
+use Rattle.mt_cli.specs.declared.command.Command.TheVariants.{Dump, Replay, Make}
 use Rattle.mt_cli.specs.declared.command.DumpCommand.{DumpCommand}
 use Rattle.mt_cli.specs.declared.command.DumpCommand.TheVariants.{Check, Show, Types, Page, Tidy, Gran}
 use Rattle.mt_cli.specs.declared.command.TidyOption.{TidyOption}
 use Rattle.mt_cli.specs.declared.command.TidyOption.TheVariants.{Spare, Chunk}
-use Rattle.mt_cli.specs.CommandLine.{IsSound, command_of, command_of_one, command_of_three, gran_as, gran_with, index_of, is_text, log_among, log_of, of_dump, option_of, page_at, tidy_with, tidy_with_both, usual_chunk, usual_spare}
+use Rattle.mt_cli.specs.CommandLine.{IsSound, command_of, command_of_one, command_of_three, gran_as, gran_with, index_of, is_text, log_among, log_of, greatest, make_with, of_dump, option_of, page_at, tidy_with, tidy_with_both, usual_chunk, usual_spare}
 
 -- a command on a dump is sound
 abbrev IsSoundCommand : Command → Type 0
 IsSoundCommand (Dump command) = IsSound command
 IsSoundCommand Replay = Unit {0}
+IsSoundCommand (Make n) = Unit {0}
 
 on_dump : (command : Option DumpCommand) → IfSome command IsSound → IfSome (of_dump command) IsSoundCommand
 on_dump None sound = tt
@@ -89,6 +90,10 @@ small_log (Err fault) g is = absurd (cc is)
 sound_gran : (size : List ℕ) (command : Option DumpCommand) → IfSome (gran_with size command) IsSound
 sound_gran size command = sound_as (log_of (hex_number size)) command (small_log (hex_number size))
 
+sound_make : (number : Result ℕ NumberFault) → IfSome (make_with number) IsSoundCommand
+sound_make (Ok n) = tt
+sound_make (Err fault) = tt
+
 sound_one : (name : List ℕ) → IfSome (command_of_one name) IsSoundCommand
 sound_one name =
     choice (is_text name (codes "check")) _ _ tt
@@ -104,7 +109,8 @@ sound : (words : List (List ℕ)) → IfSome (command_of words) IsSoundCommand
 sound [] = tt
 sound (name ∷ []) = sound_one name
 sound (name ∷ option ∷ []) =
-    choice (is_text name (codes "tidy")) _ _ (on_dump _ (sound_with (option_of option))) (choice (is_text name (codes "gran")) _ None (on_dump _ (sound_gran option (Some (Tidy usual_spare usual_chunk)))) tt)
+    choice (is_text name (codes "tidy")) _ _ (on_dump _ (sound_with (option_of option)))
+    (choice (is_text name (codes "gran")) _ _ (on_dump _ (sound_gran option (Some (Tidy usual_spare usual_chunk)))) (choice (is_text name (codes "make")) _ None (sound_make (decimal_number option greatest)) tt))
 sound (name ∷ first ∷ second ∷ []) = sound_three name first second
 sound (name ∷ first ∷ second ∷ third ∷ []) = choice (is_text name (codes "gran")) _ None (on_dump _ (sound_gran first (tidy_with_both (option_of second) (option_of third)))) tt
 sound (name ∷ first ∷ second ∷ third ∷ fourth ∷ more) = tt

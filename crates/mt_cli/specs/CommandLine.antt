@@ -1,11 +1,11 @@
 -- The command lines: what their words ask for (own). All other lists of words are wrong usage.
 --     command_of words      the command of these words, the program's name left out
-use Rattle.std.specs.Prelude.{ℕ, zero, suc, ◌+◌, ◌-◌, ◌^◌, ◌≤◌, ◌==◌, ◌<◌, ◌&&◌, nat_eq, nat_le, nat_lt, Bool, List, [], ◌∷◌, length, drop, take, codes, if◌then◌else◌, Option, Some, None, Result, Ok, Err, ⊤}
+use Rattle.std.specs.Prelude.{ℕ, zero, suc, ◌+◌, ◌-◌, ◌^◌, ◌≤◌, ◌==◌, ◌<◌, ◌&&◌, nat_eq, nat_le, nat_lt, Bool, true, false, List, [], ◌∷◌, length, drop, take, codes, if◌then◌else◌, Option, Some, None, Result, Ok, Err, ⊤}
 use Rattle.std.specs.Cmp.Lexicographic.{pointwise}
 use Rattle.mt_text.specs.Number.{hex_number, decimal_number}
 use Rattle.mt_text.specs.declared.fault.NumberFault.{NumberFault}
 use Rattle.mt_cli.specs.declared.command.Command.{Command}
-use Rattle.mt_cli.specs.declared.command.Command.TheVariants.{Dump, Replay}
+use Rattle.mt_cli.specs.declared.command.Command.TheVariants.{Dump, Replay, Make}
 use Rattle.mt_cli.specs.declared.command.DumpCommand.{DumpCommand}
 use Rattle.mt_cli.specs.declared.command.DumpCommand.TheVariants.{Check, Show, Types, Page, Tidy, Gran}
 use Rattle.mt_cli.specs.declared.command.TidyOption.{TidyOption}
@@ -90,10 +90,19 @@ gran_as log command = None
 abbrev pub gran_with : List ℕ → Option DumpCommand → Option DumpCommand
 gran_with size command = gran_as (log_of (hex_number size)) command
 
+-- the greatest number of 64 bits
+abbrev pub greatest : ℕ
+greatest = 0xffffffffffffffff
+
+abbrev pub make_with : Result ℕ NumberFault → Option Command
+make_with (Ok n) = Some (Make n)
+make_with (Err fault) = None
+
 abbrev pub command_of_two : List ℕ → List ℕ → Option Command
 command_of_two name option =
     if is_text name (codes "tidy") then of_dump (tidy_with (option_of option))
     else if is_text name (codes "gran") then of_dump (gran_with option (Some (Tidy usual_spare usual_chunk)))
+    else if is_text name (codes "make") then make_with (decimal_number option greatest)
     else None
 
 -- one decimal digit from 0 to 7
@@ -144,3 +153,15 @@ MayTakeMemory (Dump (Page address index)) = ⊥
 MayTakeMemory (Dump (Tidy spare chunk)) = ⊤
 MayTakeMemory (Dump (Gran log spare chunk)) = ⊤
 MayTakeMemory Replay = ⊤
+MayTakeMemory (Make n) = ⊤
+
+-- whether a command reads the input
+abbrev pub reads_input : Option Command → Bool
+reads_input None = false
+reads_input (Some (Dump command)) = true
+reads_input (Some Replay) = true
+reads_input (Some (Make n)) = false
+
+-- what a run to its end leaves of the input
+abbrev pub left_of : Option Command → List ℕ → List ℕ
+left_of command bytes = if reads_input command then [] else bytes

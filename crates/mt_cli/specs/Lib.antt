@@ -1,4 +1,5 @@
 pub mod CommandLine
+pub mod Generator
 pub mod Lines
 pub mod Output
 pub mod Program

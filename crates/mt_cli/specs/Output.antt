@@ -15,10 +15,11 @@ use Rattle.mt_dump.specs.declared.fault.DumpFault.{DumpFault}
 use Rattle.mt_replay.specs.Transcript.{transcript}
 use Rattle.mt_tidy.specs.Kept.{IsTidy, NeedsMore}
 use Rattle.mt_gran.specs.Grained.{IsGrained, NeedsMore as GranNeedsMore}
-use Rattle.mt_cli.specs.declared.command.Command.TheVariants.{Dump, Replay}
+use Rattle.mt_cli.specs.declared.command.Command.TheVariants.{Dump, Replay, Make}
 use Rattle.mt_cli.specs.declared.command.DumpCommand.{DumpCommand}
 use Rattle.mt_cli.specs.declared.command.DumpCommand.TheVariants.{Check, Show, Types, Page, Tidy, Gran}
 use Rattle.mt_cli.specs.CommandLine.{command_of}
+use Rattle.mt_cli.specs.Generator.{make_text}
 use Rattle.mt_output.specs.Lines.{accepted_line, bad_text_line, refused_line}
 use Rattle.mt_cli.specs.Lines.{disabled_line, lost_line, page_text, parts_text, too_few_line, types_text, usage_line, used_line}
 
@@ -52,4 +53,5 @@ pub data Output (words : List (List ℕ)) (bytes : List ℕ) : List ℕ → Stat
   usage : command_of words ≡ None → Output words bytes usage_line Usage
   bad_text : (command : DumpCommand) (fault : DumpFault) → command_of words ≡ Some (Dump command) → dump_offence bytes ≡ Some fault → Output words bytes (bad_text_line fault) BadText
   answered : (command : DumpCommand) (file : RegisterFile) (text : List ℕ) (status : Status) → command_of words ≡ Some (Dump command) → Shown bytes file → Answer file command text status → Output words bytes text status
+  made : (n : ℕ) → command_of words ≡ Some (Make n) → Output words bytes (make_text n) Done
   replayed : command_of words ≡ Some Replay → Output words bytes (transcript bytes).text (transcript bytes).status

@@ -1,17 +1,17 @@
 -- What a run of the program leaves in the source and the sink (own).
-use Rattle.std.specs.Prelude.{ℕ, ◌≡◌, ◌≢◌, ◌<◌, ◌⊎◌, List, [], ◌++◌, length, Option, Some, ⊤}
+use Rattle.std.specs.Prelude.{ℕ, ◌≡◌, ◌<◌, ◌⊎◌, List, ◌++◌, length, Option, Some, ⊤}
 use Rattle.mt_ports.specs.declared.status.Status.{Status}
 use Rattle.mt_ports.specs.declared.status.Status.TheVariants.{Done, Refused, Usage, BadText, ReadFault, WriteFault, NoMemory, TooLong, TooFew, Disabled}
 use Rattle.mt_cli.specs.declared.command.Command.TheVariants.{Replay}
-use Rattle.mt_cli.specs.CommandLine.{command_of}
+use Rattle.mt_cli.specs.CommandLine.{command_of, left_of}
 use Rattle.mt_cli.specs.Output.{Output}
 
--- The sink took the whole output, and nothing of the input is left, unless it wasn't to be read.
+-- The sink took the whole output, and nothing of the input is left, or all of it where the command reads nothing.
 pub record Finished (words : List (List ℕ)) (bytes : List ℕ) (left : Option (List ℕ)) (before : List ℕ) (after : Option (List ℕ)) (status : Status) : Type 0 where
   pub text : List ℕ
   pub output : Output words bytes text status
   pub taken : after ≡ Some (before ++ text)
-  pub read : status ≢ Usage → left ≡ Some []
+  pub read : left ≡ Some (left_of (command_of words) bytes)
 
 -- The sink took a front of an output for all bytes that the source held.
 pub record CutShort (words : List (List ℕ)) (bytes : List ℕ) (before : List ℕ) (after : Option (List ℕ)) : Type 0 where
@@ -44,11 +44,11 @@ Leaves words bytes left before after TooLong = Untouched before after
 Leaves words bytes left before after TooFew = Finished words bytes left before after TooFew
 Leaves words bytes left before after Disabled = Finished words bytes left before after Disabled
 
--- The status is that of the output for all bytes that the source held, of which nothing is left.
+-- The status is that of the output for all bytes that the source held. Nothing of them is left, or all where the command reads nothing.
 pub record Answered (words : List (List ℕ)) (bytes : List ℕ) (left : Option (List ℕ)) (status : Status) : Type 0 where
   pub text : List ℕ
   pub output : Output words bytes text status
-  pub read : left ≡ Some []
+  pub read : left ≡ Some (left_of (command_of words) bytes)
 
 -- what each status says of the bytes that the source held and has left, whether or not the sink tells its bytes
 abbrev pub Reads : List (List ℕ) → List ℕ → Option (List ℕ) → Status → Type 0

@@ -3,9 +3,10 @@ use Rattle.std.specs.Prelude.{ℕ, ◌≡◌, ◌<◌, ◌⊎◌, List, [], leng
 use Rattle.std.specs.Io.KnownBytes.{Appends}
 use Rattle.mt_ports.specs.Puts.{AppendsFront}
 use Rattle.mt_ports.specs.declared.status.Status.{Status}
-use Rattle.mt_ports.specs.declared.status.Status.TheVariants.{BadText, ReadFault, WriteFault, NoMemory, TooLong}
+use Rattle.mt_ports.specs.declared.status.Status.TheVariants.{Done, BadText, ReadFault, WriteFault, NoMemory, TooLong}
 use Rattle.mt_regs.specs.RegisterFile.{RegisterFile}
 use Rattle.mt_cli.specs.declared.command.DumpCommand.{DumpCommand}
+use Rattle.mt_cli.specs.Generator.{make_text}
 use Rattle.mt_cli.specs.Output.{Answer}
 use Rattle.mt_dump.specs.Dump.{Shown, dump_offence}
 use Rattle.mt_dump.specs.declared.fault.DumpFault.{DumpFault}
@@ -15,6 +16,10 @@ use Rattle.mt_output.specs.Lines.{bad_text_line}
 abbrev pub Writes : List ℕ → Status → Option (List ℕ) → Option (List ℕ) → Status → Type 0
 Writes text status old new result =
     ((result ≡ status) × Appends old new text) ⊎ ((result ≡ WriteFault) × AppendsFront old new text)
+
+-- The sink took the text that a number determines, or a front of it, or nothing for want of memory.
+abbrev pub Makes : ℕ → Option (List ℕ) → Option (List ℕ) → Status → Type 0
+Makes n old new result = Writes (make_text n) Done old new result ⊎ ((result ≡ NoMemory) × (new ≡ old))
 
 -- The sink took an answer, or a front of one, or nothing for want of memory.
 pub data Answers (file : RegisterFile) (command : DumpCommand) (old new : Option (List ℕ)) (result : Status) : Type 0 where

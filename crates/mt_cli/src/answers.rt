@@ -5,9 +5,10 @@ ghost use Rattle.mt_text.specs.Feed.{GaveTooMuch};
 ghost use Rattle.mt_cli.specs.declared.command.DumpCommand.TheVariants.{Check, Show, Types, Page, Tidy, Gran};
 ghost use Rattle.mt_cli.specs.CommandLine.{IsSound, MayTakeMemory};
 ghost use Rattle.mt_cli.specs.declared.command.Command.TheVariants.{Dump};
-ghost use Rattle.mt_cli.specs.Written.{Answers, AnswersInput, Writes};
+ghost use Rattle.mt_cli.specs.Written.{Answers, AnswersInput, Makes, Writes};
 
 use crate::DumpCommand;
+use crate::generator::make_text;
 use crate::lines::{disabled_line, page_text, too_few_line};
 use crate::texts::{canonical_text, grained_text, tidied_text, types_text};
 use mt_dump::read_dump_from;
@@ -173,6 +174,17 @@ pub fn answer<K: Sink>(alloc: Global, command: DumpCommand, f: &RegFile, sink: &
     match f.first_fault() {
         None => answer_accepted(alloc, command, f, sink),
         Some(fault) => refuse(f, &fault, sink, command),
+    }
+}
+
+/// Writes the text for measurements that a number determines.
+pub fn make<K: Sink>(alloc: Global, n: u64, sink: &mut K) -> Status
+    ensures bytes { Makes n (K.taken sink.old) (K.taken sink.new) result }
+    ensures cause { StatusHasCause Status.WriteFault (K.faults sink.old) (K.faults sink.new) result }
+{
+    match make_text(alloc, n) {
+        Ok(text) => written(sink, text.as_slice(), Status::Done),
+        Err(_) => Status::NoMemory,
     }
 }
 

@@ -1,11 +1,13 @@
 /// What a command line asks for, by what is read: a dump or a script. A command that reads nothing
-/// gets a variant of its own.
+/// has a variant of its own.
 #[derive(Clone, Copy, Debug, PartialEq, Eq)]
 pub enum Command {
     /// An answer about the register file of a dump.
     Dump(DumpCommand),
     /// The transcript of a script.
     Replay,
+    /// The text for measurements that a number determines.
+    Make(u64),
 }
 
 /// What is asked of a dump's register file.

@@ -3,6 +3,7 @@
 
 mod answers;
 mod command;
+mod generator;
 mod laws;
 mod lines;
 mod program;
@@ -10,9 +11,11 @@ mod reading;
 mod texts;
 mod top;
 mod words;
+mod worked;
 
-pub use answers::{answer, answer_input};
+pub use answers::{answer, answer_input, make};
 pub use command::{Command, DumpCommand, TidyOption};
+pub use generator::make_text;
 pub use laws::{
     a_size_is_a_power_of_two, a_tidied_text_is_a_dump, words_and_bytes_have_an_output,
     words_and_bytes_have_one_output,
@@ -23,6 +26,7 @@ pub use reading::read_all;
 pub use texts::{canonical_text, grained_text, tidied_text, types_text};
 pub use top::tool;
 pub use words::command_of;
+pub use worked::{worked_draws, worked_generated_lines};
 
 #[cfg(test)]
 mod cut_tests;

@@ -1,10 +1,10 @@
-ghost use Rattle.std.specs.Prelude.{◌≡◌, ◌⊎◌, ◌↔◌, ℕ, List, Some, None, drop, IfErr, IfOk};
+ghost use Rattle.std.specs.Prelude.{◌≡◌, ◌⊎◌, ◌↔◌, false, ℕ, List, Some, None, drop, IfErr, IfOk};
 ghost use Rattle.std.specs.IoError.{error_kind};
 ghost use Rattle.std.specs.Process.{exit_status};
 ghost use Rattle.std.specs.Vec.Iter.{into_iter_items};
 ghost use Rattle.mt_ports.specs.Causes.{StatusHasCause};
 ghost use Rattle.mt_ports.specs.Exit.{code};
-ghost use Rattle.mt_cli.specs.CommandLine.{command_of};
+ghost use Rattle.mt_cli.specs.CommandLine.{command_of, reads_input};
 ghost use Rattle.mt_cli.specs.Program.{Exits, words_of};
 ghost use Rattle.mt_text.specs.Feed.{GaveTooMuch};
 ghost use Rattle.mt_cli.specs.Tool.{Leaves, Reads};
@@ -45,7 +45,7 @@ fn run<R: AllocGlobal + Threads + Wait + Sync, S: Source, K: Sink, G: Gate>(
     ensures reads { (bytes : List ℕ) → S.left source.old ≡ Some bytes → Reads (words_of args) bytes (S.left source.new) result }
     ensures usage { result ≡ Status.Usage → command_of (words_of args) ≡ None }
     ensures no_command { command_of (words_of args) ≡ None → (result ≡ Status.Usage) ⊎ (result ≡ Status.WriteFault) ⊎ (result ≡ Status.NoMemory) }
-    ensures unread { command_of (words_of args) ≡ None → source.new ≡ source.old }
+    ensures unread { reads_input (command_of (words_of args)) ≡ false → source.new ≡ source.old }
     ensures read_fault { StatusHasCause Status.ReadFault (S.faults source.old) (S.faults source.new) result }
     ensures write_fault { StatusHasCause Status.WriteFault (K.faults sink.old) (K.faults sink.new) result }
     ensures too_long { (result ≡ Status.TooLong) ↔ GaveTooMuch (S.given source.old) (S.given source.new) }
@@ -75,7 +75,7 @@ pub fn program_status<R: AllocGlobal + Threads + Wait + Sync, S: Source, K: Sink
     ensures reads { (bytes : List ℕ) → S.left source.old ≡ Some bytes → Exits result (Reads (words_of args) bytes (S.left source.new)) }
     ensures usage { Exits result (λ status. status ≡ Status.Usage → command_of (words_of args) ≡ None) }
     ensures no_command { Exits result (λ status. command_of (words_of args) ≡ None → (status ≡ Status.Usage) ⊎ (status ≡ Status.WriteFault) ⊎ (status ≡ Status.NoMemory)) }
-    ensures unread { command_of (words_of args) ≡ None → source.new ≡ source.old }
+    ensures unread { reads_input (command_of (words_of args)) ≡ false → source.new ≡ source.old }
     ensures read_fault { Exits result (StatusHasCause Status.ReadFault (S.faults source.old) (S.faults source.new)) }
     ensures write_fault { Exits result (StatusHasCause Status.WriteFault (K.faults sink.old) (K.faults sink.new)) }
     ensures too_long { Exits result (λ status. (status ≡ Status.TooLong) ↔ GaveTooMuch (S.given source.old) (S.given source.new)) }

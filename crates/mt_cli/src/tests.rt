@@ -1,4 +1,4 @@
-use crate::tool;
+use crate::{make_text, tool};
 use mt_ports::{MemSink, MemSource, OpenGate, Status};
 use mt_vectors::{Row, dump_tables};
 use std::process::Abort;
@@ -128,5 +128,23 @@ fn an_input_has_a_limit(rt: HostRuntime) -> Result<(), Fail> {
     let ran = run(&rt, &["check"], &ports)?;
     assert_eq!(rt; ran.status, Status::TooLong);
     assert_eq!(rt; ran.sink.bytes().len(), 0);
+    Ok(())
+}
+
+// The text of 7 has its lines, each of which ends with LF.
+#[test]
+fn a_text_for_measurements(rt: HostRuntime) -> Result<(), Fail> {
+    let text = make_text(rt.alloc(), 7)?;
+    let mut lines = 0;
+    let mut first_access = &text[..0];
+    for line in text.split(|byte| *byte == b'\n') {
+        lines += 1;
+        if lines == 1042 {
+            first_access = line;
+        }
+    }
+    assert_eq!(rt; lines, 5_170);
+    assert!(rt; first_access == b"store 14 16988 e8155a62cd769fcc".as_slice());
+    assert!(rt; text.ends_with(b"report\n"));
     Ok(())
 }

@@ -1,11 +1,11 @@
-ghost use Rattle.std.specs.Prelude.{◌≡◌, ◌⊎◌, ◌↔◌, List, ℕ, None, Some, map, string_bytes};
+ghost use Rattle.std.specs.Prelude.{◌≡◌, ◌⊎◌, ◌↔◌, false, List, ℕ, None, Some, map, string_bytes};
 ghost use Rattle.mt_ports.specs.Causes.{StatusHasCause};
-ghost use Rattle.mt_cli.specs.CommandLine.{MayTakeMemory, command_of};
+ghost use Rattle.mt_cli.specs.CommandLine.{MayTakeMemory, command_of, reads_input};
 ghost use Rattle.mt_text.specs.Feed.{GaveTooMuch};
 ghost use Rattle.mt_cli.specs.declared.command.Command.{Command};
 ghost use Rattle.mt_cli.specs.Tool.{Leaves, Reads};
 
-use crate::answers::{answer_input, written};
+use crate::answers::{answer_input, make, written};
 use crate::reading::read_all;
 use crate::{Command, command_of};
 use mt_ports::{Gate, Sink, Source, Status};
@@ -14,8 +14,9 @@ use std::sync::Wait;
 use std::thread::Threads;
 
 /// Does all that the program does, and answers its status. The words are the command line without
-/// the program's name. Nothing is read where they are no command line; otherwise the input is read
-/// to its end, unless the source fails, memory is refused or there are more than 16,777,216 bytes.
+/// the program's name. Nothing is read where they are no command line, nor by `make`; otherwise the
+/// input is read to its end, unless the source fails, memory is refused or there are more than
+/// 16,777,216 bytes.
 /// Nothing is written after a failed write.
 pub fn tool<R: AllocGlobal + Threads + Wait + Sync, S: Source, K: Sink, G: Gate>(
     rt: &R,
@@ -33,10 +34,10 @@ pub fn tool<R: AllocGlobal + Threads + Wait + Sync, S: Source, K: Sink, G: Gate>
     // at most 16,777,216 bytes is not too long.
     ensures reads { (bytes : List ℕ) → S.left source.old ≡ Some bytes → Reads (map string_bytes words.now) bytes (S.left source.new) result }
 
-    // Usage comes exactly where the words are no command line, and then nothing is read.
+    // Usage comes exactly where the words are no command line. Then nothing is read, nor by `make`.
     ensures usage { result ≡ Status.Usage → command_of (map string_bytes words.now) ≡ None }
     ensures no_command { command_of (map string_bytes words.now) ≡ None → (result ≡ Status.Usage) ⊎ (result ≡ Status.WriteFault) }
-    ensures unread { command_of (map string_bytes words.now) ≡ None → source.new ≡ source.old }
+    ensures unread { reads_input (command_of (map string_bytes words.now)) ≡ false → source.new ≡ source.old }
 
     // Memory is refused to no command that takes none.
     ensures no_memory { result ≡ Status.NoMemory → (command : Command) × (command_of (map string_bytes words.now) ≡ Some command) × MayTakeMemory command }
@@ -51,6 +52,7 @@ pub fn tool<R: AllocGlobal + Threads + Wait + Sync, S: Source, K: Sink, G: Gate>
     };
     match command {
         Command::Dump(command) => answer_input(rt.alloc(), command, source, sink),
+        Command::Make(n) => make(rt.alloc(), n, sink),
         Command::Replay => match read_all(rt.alloc(), source) {
             Ok(text) => replay(rt, &text, sink, gate),
             Err(status) => status,

@@ -1,6 +1,6 @@
 ghost use Rattle.std.specs.Prelude.{◌≡◌, ◌≤◌, ◌<◌, ◌+◌, ◌^◌, map, string_bytes, IfSome, MatchOption};
-ghost use Rattle.mt_text.specs.Number.{hex_number};
-ghost use Rattle.mt_cli.specs.CommandLine.{behind, command_of, command_of_four, command_of_one, command_of_three, command_of_two, gran_as, gran_with, index_of, log_among, log_of, of_dump, option_of, tidy_with, tidy_with_both};
+ghost use Rattle.mt_text.specs.Number.{decimal_number, hex_number};
+ghost use Rattle.mt_cli.specs.CommandLine.{behind, greatest, command_of, command_of_four, command_of_one, command_of_three, command_of_two, gran_as, gran_with, index_of, log_among, log_of, make_with, of_dump, option_of, tidy_with, tidy_with_both};
 
 use crate::{Command, DumpCommand, TidyOption};
 use mt_text::{decimal, hex64};
@@ -151,6 +151,15 @@ fn gran_with(size: &[u8], command: Option<DumpCommand>) -> Option<DumpCommand>
     gran_as(log_of(size), command)
 }
 
+fn make_with(number: &[u8]) -> Option<Command>
+    ensures { result ≡ make_with (decimal_number number.now greatest) }
+{
+    match decimal(number, u64::MAX) {
+        Ok(n) => Some(Command::Make(n)),
+        Err(_) => None,
+    }
+}
+
 fn command_of_two(name: &[u8], option: &[u8]) -> Option<Command>
     ensures { result ≡ command_of_two name.now option.now }
 {
@@ -158,6 +167,8 @@ fn command_of_two(name: &[u8], option: &[u8]) -> Option<Command>
         of_dump(tidy_with(option_of(option)))
     } else if name == b"gran".as_slice() {
         of_dump(gran_with(option, Some(USUAL_TIDY)))
+    } else if name == b"make".as_slice() {
+        make_with(option)
     } else {
         None
     }

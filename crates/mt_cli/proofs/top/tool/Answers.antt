@@ -1,16 +1,16 @@
-use Rattle.std.proofs.Common.{◌≡◌, ◌∙◌, List, ℕ, Some, ap, map, refl, subst, sym, string_bytes}
+use Rattle.std.proofs.Common.{◌≡◌, ◌∙◌, List, ℕ, None, Some, ap, map, refl, subst, sym, string_bytes}
 use Rattle.mt_ports.specs.declared.status.Status.TheVariants.{BadText, Usage}
 use Rattle.mt_dump.specs.Dump.{Shown, dump_offence}
 use Rattle.mt_replay.specs.Running.{Replays}
 use Rattle.mt_cli.specs.Output.{usage, bad_text}
 use Rattle.mt_cli.specs.Written.{Writes}
-use Rattle.mt_cli.proofs.Leaving.{input_leaves, input_reads, never_replays, read_to_end, replays_leave, replays_read, written_leaves}
+use Rattle.mt_cli.proofs.Leaving.{input_leaves, input_reads, left_by, makes_leave, makes_read, must_read, never_replays, read_to_end, replays_leave, replays_read, written_leaves}
 use Rattle.mt_cli.proofs.SoundCommands.{sound_command}
 use Rattle.mt_cli.proofs.top.tool.Goals as goal
 
 pub returns-in_default-clause-leaves : goal.returns-in_default-clause-leaves
 returns-in_default-clause-leaves g c bytes before left taken =
-    written_leaves _ bytes _ Usage _ _ before _ _ (usage (sym c.in_default.ensures)) (λ is_usage. absurd (is_usage refl)) taken c.written.ensures.bytes
+    written_leaves _ bytes _ Usage _ _ before _ _ (usage (sym c.in_default.ensures)) (left_by (map string_bytes c.args.words.now) bytes (g.S.Source.left c.args.source.now) None (sym c.in_default.ensures) left) taken c.written.ensures.bytes
 
 pub returns-in-Ok-clause-leaves : goal.returns-in-Ok-clause-leaves
 returns-in-Ok-clause-leaves g c bytes before left taken =
@@ -41,3 +41,18 @@ returns-in-Dump-clause-leaves g c bytes before left taken = input_leaves _ bytes
 
 pub returns-in-Dump-clause-reads : goal.returns-in-Dump-clause-reads
 returns-in-Dump-clause-reads g c bytes left = input_reads _ bytes c.in-Dump.command _ _ _ _ (sym c.in-Some.ensures ∙ ap Some c.in-Dump.is) (c.answer_input.ensures.bytes bytes left)
+
+pub returns-in-Make-clause-leaves : goal.returns-in-Make-clause-leaves
+returns-in-Make-clause-leaves g c bytes before left taken = makes_leave _ bytes c.in-Make.n _ _ before _ _ (sym c.in-Some.ensures ∙ ap Some c.in-Make.is) left taken c.make.ensures.bytes
+
+pub returns-in-Make-clause-reads : goal.returns-in-Make-clause-reads
+returns-in-Make-clause-reads g c bytes left = makes_read _ bytes c.in-Make.n _ _ _ _ (sym c.in-Some.ensures ∙ ap Some c.in-Make.is) left c.make.ensures.bytes
+
+pub returns-in-Dump-clause-unread : goal.returns-in-Dump-clause-unread
+returns-in-Dump-clause-unread g c = λ not. absurd (must_read (map string_bytes c.args.words.now) _ (sym c.in-Some.ensures ∙ ap Some c.in-Dump.is) refl not)
+
+pub returns-in-Ok-clause-unread : goal.returns-in-Ok-clause-unread
+returns-in-Ok-clause-unread g c = λ not. absurd (must_read (map string_bytes c.args.words.now) _ (sym c.in-Some.ensures ∙ ap Some c.in-Replay.is) refl not)
+
+pub returns-in-Err-clause-unread : goal.returns-in-Err-clause-unread
+returns-in-Err-clause-unread g c = λ not. absurd (must_read (map string_bytes c.args.words.now) _ (sym c.in-Some.ensures ∙ ap Some c.in-Replay.is) refl not)
