@@ -1,4 +1,5 @@
-use crate::tests::{Ports, expect_rows, run};
+use crate::make_text;
+use crate::tests::{Ports, expect_long_rows, expect_rows, run};
 use mt_ports::Status;
 use mt_vectors::script_tables;
 use std::alloc::Global;
@@ -16,11 +17,36 @@ const UPDATE: &[u8] = b"cpus 1\ndump\n0fe 400\n2ff 800\nend\nupdate\n2ff 806\nen
 
 #[test]
 fn the_worked_scripts(rt: HostRuntime) -> Result<(), Fail> {
-    for piece in [1, 7, 4096] {
+    for piece in [1, 2, 7, 4096] {
         for rows in script_tables() {
             expect_rows(&rt, rows, piece)?;
         }
     }
+    for piece in [4095, 4097, 8192] {
+        for rows in script_tables() {
+            expect_long_rows(&rt, rows, piece)?;
+        }
+    }
+    Ok(())
+}
+
+// The text of 7 is a script without an offence, whose transcript has 5,273 lines.
+#[test]
+fn a_made_text_is_replayed(rt: HostRuntime) -> Result<(), Fail> {
+    let text = make_text(rt.alloc(), 7)?;
+    let ports = Ports {
+        input: text.as_slice(),
+        ..PLAIN
+    };
+    let ran = run(&rt, &["replay"], &ports)?;
+    assert_eq!(rt; ran.status, Status::Done);
+    let mut lines = 0;
+    for byte in ran.sink.bytes() {
+        if *byte == b'\n' {
+            lines += 1;
+        }
+    }
+    assert_eq!(rt; lines, 5_273);
     Ok(())
 }
 

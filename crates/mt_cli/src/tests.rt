@@ -6,7 +6,7 @@ use std::sync::Wait;
 use std::test::Fail;
 use std::thread::Threads;
 
-const ROOM: usize = 131_072;
+const ROOM: usize = 262_144;
 
 const LIMIT: usize = 16_777_216;
 
@@ -66,13 +66,48 @@ pub(crate) fn expect_rows<R: AllocGlobal + Threads + Wait + Abort + Sync>(
     Ok(())
 }
 
+// The same of those rows whose input has more than 4,000 bytes, since any other comes in one piece.
+pub(crate) fn expect_long_rows<R: AllocGlobal + Threads + Wait + Abort + Sync>(
+    rt: &R,
+    rows: &[Row],
+    piece: usize,
+) -> Result<(), Fail> {
+    for (place, row) in rows.iter().enumerate() {
+        if row.input.len() > 4000 {
+            expect_rows(rt, &rows[place..=place], piece)?;
+        }
+    }
+    Ok(())
+}
+
 #[test]
 fn the_worked_runs(rt: HostRuntime) -> Result<(), Fail> {
-    for piece in [1, 7, 4096] {
+    for piece in [1, 2, 7, 4096] {
         for rows in dump_tables() {
             expect_rows(&rt, rows, piece)?;
         }
     }
+    for piece in [4095, 4097, 8192] {
+        for rows in dump_tables() {
+            expect_long_rows(&rt, rows, piece)?;
+        }
+    }
+    Ok(())
+}
+
+// `make` reads nothing, not even from a source that fails.
+#[test]
+fn a_text_is_made(rt: HostRuntime) -> Result<(), Fail> {
+    let ports = Ports {
+        input: b"x",
+        piece: 1,
+        failing_reads: &[0],
+        failing_writes: &[],
+    };
+    let ran = run(&rt, &["make", "7"], &ports)?;
+    assert_eq!(rt; ran.status, Status::Done);
+    let text = make_text(rt.alloc(), 7)?;
+    assert!(rt; ran.sink.bytes() == text.as_slice());
     Ok(())
 }
 
@@ -111,8 +146,10 @@ fn each_read_and_write_may_fail(rt: HostRuntime) -> Result<(), Fail> {
 #[test]
 fn an_input_has_a_limit(rt: HostRuntime) -> Result<(), Fail> {
     let alloc = rt.alloc();
-    let mut input = vec![in alloc; b'\n'; LIMIT - 7]?;
-    input.extend_from_slice(b"\nfe 508")?;
+    let mut input = b"fe 508\n2ff c06\n".to_vec(alloc)?;
+    for place in 15..LIMIT {
+        input.push(if place % 4096 == 4095 { b'\n' } else { b'#' })?;
+    }
     assert_eq!(rt; input.len(), LIMIT);
     let mut ports = Ports {
         input: &input,

@@ -1,7 +1,10 @@
-use crate::{DumpFault, DumpReader, DumpReason, read_dump, write_dump};
+use crate::{DumpFault, DumpReader, DumpReason, read_dump, read_dump_from, write_dump};
+use mt_ports::MemSource;
 use mt_regs::RegFile;
-use mt_text::{Place, next_line};
+use mt_text::{FeedFault, Place, next_line};
+use std::alloc::AllocError;
 use std::process::Abort;
+use std::test::Fail;
 
 // What a plain and slow reader finds: the width and up to four registers, the last of them first.
 #[derive(Clone, Copy)]
@@ -272,4 +275,54 @@ fn the_canonical_text(rt: HostRuntime) {
         }
         Err(_) => panic!(rt; "the dump was refused"),
     }
+}
+
+// A comment of so many bytes, another of so many, and a dump.
+fn behind_comments<R: AllocGlobal>(
+    rt: &R,
+    first: usize,
+    second: usize,
+) -> Result<Vec<u8>, AllocError> {
+    let mut text = Vec::new(rt.alloc());
+    for length in [first, second] {
+        for _ in 0..length {
+            text.push(b'#')?;
+        }
+        text.push(b'\n')?;
+    }
+    text.extend_from_slice(b"0fe 508\n2ff c06\n")?;
+    Ok(text)
+}
+
+// Lines at the limit and one past it, at each offset near the edges of a feed's buffer.
+#[test]
+fn a_dump_in_pieces(rt: HostRuntime) -> Result<(), Fail> {
+    let alloc = rt.alloc();
+    for piece in [1, 4095, 4096, 4097, 8192] {
+        for first in 4090..4097 {
+            for second in [4096, 4097] {
+                let text = behind_comments(&rt, first, second)?;
+                let mut source = MemSource::new(text.to_vec(alloc)?, piece, Vec::new(alloc));
+                let Ok(read) = read_dump_from(&mut source) else {
+                    panic!(rt; "a fault in {piece}")
+                };
+                match (read, read_dump(&text)) {
+                    (Ok(file), Ok(wanted)) => assert_eq!(rt; file.deftype, wanted.deftype),
+                    (Err(fault), Err(wanted)) => assert_eq!(rt; fault, wanted),
+                    _ => panic!(rt; "{first} {second} in {piece}"),
+                }
+            }
+        }
+    }
+    Ok(())
+}
+
+// A read that fails behind an offence comes before it.
+#[test]
+fn a_fault_behind_an_offence(rt: HostRuntime) -> Result<(), Fail> {
+    let alloc = rt.alloc();
+    let text = b"x\n0fe 508\n".to_vec(alloc)?;
+    let mut source = MemSource::new(text, 4, [2].to_vec(alloc)?);
+    assert!(rt; matches!(read_dump_from(&mut source), Err(FeedFault::ReadFault)));
+    Ok(())
 }

@@ -68,5 +68,13 @@ pub fn usages() -> &'static [Row] {
             FIRST => Usage, b"usage\n";
         "a third option", ["tidy", "spare=1", "chunk=0", "x"],
             FIRST => Usage, b"usage\n";
+        "`make` alone", ["make"],
+            FIRST => Usage, b"usage\n";
+        "`make` with a number past 64 bits", ["make", "18446744073709551616"],
+            FIRST => Usage, b"usage\n";
+        "`make` with a hexadecimal number", ["make", "7f"],
+            FIRST => Usage, b"usage\n";
+        "a word after the number of `make`", ["make", "7", "7"],
+            FIRST => Usage, b"usage\n";
     }
 }
