@@ -53,7 +53,7 @@ pub struct Root {
     pub seat: Seat<(), View>,
 }
 
-// That the gate is to be told of an arrival. It can't be let go, so that a body that doesn't tell is refused.
+// That the gate is to be told of an arrival. It can't be let go, so a body that forgets to tell is refused.
 pub(crate) struct Arrival {
     number: u32,
 }
