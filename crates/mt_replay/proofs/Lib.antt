@@ -5,12 +5,15 @@ mod DirtyCounts
 mod Fresh
 pub mod Eras
 pub mod FirstFault
-pub mod Heads
 pub mod Hiding
 pub mod Keeping
+pub mod Fronts
 pub mod Lines
 pub mod Refusals
+pub mod Rounds
 pub mod SameFiles
 pub mod ShownFile
+pub mod Taking
 pub mod Telling
+pub mod Walks
 mod Whole

@@ -137,11 +137,11 @@ told_by_course text = behind accepted_line (behind (joined (course text)) (endin
 abbrev pub TranscriptIsOfTheCourse : Type 0
 TranscriptIsOfTheCourse = (text : List ℕ) → IsSome (beginning text) → transcript text ≡ told_by_course text
 
--- what a replay of a text leaves in the sink is that text, or a front of it
+-- what a replay of a text leaves in the source and the sink is told of that text
 abbrev pub ReplaysAreOfTheCourse : Type 0
 ReplaysAreOfTheCourse =
-    (text : List ℕ) (before after : Option (List ℕ)) (status : Status) → IsSome (beginning text)
-    → Replays text before after status → ReplaysAs (told_by_course text) before after status
+    (text : List ℕ) (left before after : Option (List ℕ)) (status : Status) → IsSome (beginning text)
+    → Replays text left before after status → ReplaysAs (told_by_course text) text left before after status
 
 -- where no step begins it is one line, of an offence or of the refused dump
 abbrev pub TranscriptIsOneLine : Type 0

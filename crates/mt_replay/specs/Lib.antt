@@ -2,6 +2,7 @@ pub mod FirstFault
 pub mod Headline
 pub mod Flat
 pub mod Kept
+pub mod Known
 pub mod Parts
 pub mod Running
 pub mod ReplayState

@@ -2,11 +2,11 @@
 #![tactic(auto)]
 
 mod commands;
-mod head;
 mod headline;
 mod hidden;
 mod kept;
 mod laws;
+mod line;
 mod replayer;
 mod report;
 mod running;

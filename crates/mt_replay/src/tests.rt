@@ -1,5 +1,5 @@
 use crate::replay;
-use mt_ports::{Gate, MemSink, OpenGate, Status};
+use mt_ports::{Gate, MemSink, MemSource, OpenGate, Status};
 use std::alloc::Global;
 use std::process::Abort;
 use std::sync::Wait;
@@ -42,10 +42,30 @@ fn run_under<R: AllocGlobal + Threads + Wait + Abort + Sync, G: Gate>(
     failing: &[u64],
     gate: &G,
 ) -> Result<Ran, Fail> {
+    let mut source = MemSource::new(script.to_vec(rt.alloc())?, 4096, Vec::new(rt.alloc()));
     let Ok(mut sink) = MemSink::new(rt.alloc(), room, failing.to_vec(rt.alloc())?) else {
         return Err(Fail::from("no memory"));
     };
-    let status = replay(rt, script, &mut sink, gate);
+    let status = replay(rt, &mut source, &mut sink, gate);
+    Ok(Ran { status, sink })
+}
+
+// A replay out of a source that gives so many bytes a call and fails at these calls.
+fn run_from<R: AllocGlobal + Threads + Wait + Abort + Sync>(
+    rt: &R,
+    script: &[u8],
+    piece: usize,
+    failing: &[u64],
+) -> Result<Ran, Fail> {
+    if piece == 0 {
+        return Err(Fail::from("no piece"));
+    }
+    let alloc = rt.alloc();
+    let mut source = MemSource::new(script.to_vec(alloc)?, piece, failing.to_vec(alloc)?);
+    let Ok(mut sink) = MemSink::new(alloc, 4096, Vec::new(alloc)) else {
+        return Err(Fail::from("no memory"));
+    };
+    let status = replay(rt, &mut source, &mut sink, &OpenGate);
     Ok(Ran { status, sink })
 }
 
@@ -172,7 +192,82 @@ fn the_first_offence_ends_a_replay(rt: HostRuntime) -> Result<(), Fail> {
     Ok(())
 }
 
-// The text waits for one write at the end.
+// All that a script tells is the same however its source cuts it.
+#[test]
+fn pieces_change_nothing(rt: HostRuntime) -> Result<(), Fail> {
+    let script = repeated(rt.alloc(), PAIR, UPDATE, 1)?;
+    for piece in [1, 2, 7, 4095, 4096, 4097, 8192] {
+        let ran = run_from(&rt, &script, piece, &[])?;
+        assert_eq!(rt; ran.status, Status::Done);
+        assert!(rt; ran.sink.bytes() == UPDATED);
+    }
+    Ok(())
+}
+
+// What is told of a line is written once its LF was taken, and not before.
+#[test]
+fn known_lines_are_told_before_a_failed_read(rt: HostRuntime) -> Result<(), Fail> {
+    let script = repeated(rt.alloc(), PAIR, UPDATE, 1)?;
+    let ran = run_from(&rt, &script, 1, &[121])?;
+    assert_eq!(rt; ran.status, Status::ReadFault);
+    assert!(rt; ran.sink.bytes() == b"accepted\nok\nok\n".as_slice());
+    let ran = run_from(&rt, &script, 1, &[122])?;
+    assert_eq!(rt; ran.status, Status::ReadFault);
+    assert!(rt; ran.sink.bytes() == b"accepted\nok\nok\nstored WB\n".as_slice());
+    Ok(())
+}
+
+#[test]
+fn each_read_may_fail(rt: HostRuntime) -> Result<(), Fail> {
+    let script = repeated(rt.alloc(), PAIR, UPDATE, 1)?;
+    let mut told = 0;
+    for call in 0..=script.len() {
+        let ran = run_from(&rt, &script, 1, &[call as u64])?;
+        assert_eq!(rt; ran.status, Status::ReadFault);
+        assert!(rt; told <= ran.sink.bytes().len());
+        assert!(rt; UPDATED.starts_with(ran.sink.bytes()));
+        told = ran.sink.bytes().len();
+    }
+    assert_eq!(rt; told, UPDATED.len());
+    Ok(())
+}
+
+// The rest behind an offence is dropped, and what fails there is told of by the status alone.
+#[test]
+fn a_read_may_fail_behind_an_offence(rt: HostRuntime) -> Result<(), Fail> {
+    let text = b"bad text 1:1 bad line\n".as_slice();
+    for (script, failing, status) in [
+        (b"end\ncpus 2\n".as_slice(), 99, Status::BadText),
+        (b"end\ncpus 2\n".as_slice(), 6, Status::ReadFault),
+        (b"end\ncpus 2\n".as_slice(), 4, Status::ReadFault),
+        (b"end".as_slice(), 4, Status::BadText),
+    ] {
+        let ran = run_from(&rt, script, 1, &[failing])?;
+        assert_eq!(rt; ran.status, status);
+        assert!(rt; ran.sink.bytes() == text);
+    }
+    Ok(())
+}
+
+#[test]
+fn a_line_may_be_too_long(rt: HostRuntime) -> Result<(), Fail> {
+    let alloc = rt.alloc();
+    for (size, text) in [
+        (4096, b"bad text 2:1 bad line\n".as_slice()),
+        (4097, b"bad text 2:4097 bad line\n".as_slice()),
+        (9000, b"bad text 2:4097 bad line\n".as_slice()),
+    ] {
+        let script = repeated(alloc, b"cpus 1\n", b"a", size)?;
+        for piece in [1, 4096, 8192] {
+            let ran = run_from(&rt, &script, piece, &[])?;
+            assert_eq!(rt; ran.status, Status::BadText);
+            assert!(rt; ran.sink.bytes() == text);
+        }
+    }
+    Ok(())
+}
+
+// The text of a script that comes in one piece waits for one write.
 #[test]
 fn a_sink_may_fail_or_be_full(rt: HostRuntime) -> Result<(), Fail> {
     let script = repeated(rt.alloc(), PAIR, UPDATE, 1)?;

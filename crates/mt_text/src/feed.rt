@@ -139,7 +139,8 @@ impl Feed {
     /// Moves on to the next line where the pending bytes tell its end, and says whether they do. The
     /// source isn't asked.
     pub fn advance_pending(&mut self) -> bool
-        ensures { MovesPending self.old self.new result }
+        ensures moves { MovesPending self.old self.new result }
+        ensures long { IsLong self.new }
     {
         if self.fault.is_some() {
             return false;

@@ -1,66 +1,133 @@
-use Rattle.std.proofs.Common.{rules, ◌≡◌, ◌∙◌, ◌+◌, arith, sym, refl, subst, ℕ, List, drop, length, Ok, Err}
-use Rattle.mt_ports.proofs.Causes.{cause_after}
-use Rattle.mt_text.specs.Text.{end_of, lines_of}
-use Rattle.mt_replay.specs.Running.{LeadsTo, Tells}
-use Rattle.mt_replay.specs.Transcript.{Told, told_in}
-use Rattle.mt_replay.proofs.Telling.{at_end, at_line, leads_here, leads_on, leads_tells}
+use Rattle.std.proofs.Common.{◌∙◌, ◌+◌, ◌++◌, arith, sym, refl, subst, ap, inl, inr, Ok}
+use Rattle.mt_text.specs.Feed.{Feeding, IsLong, Moves, taken}
+use Rattle.mt_script.specs.Commands.{end_fault}
+use Rattle.mt_replay.specs.Running.{Replays, setup_of}
+use Rattle.mt_replay.specs.declared.line.Run.TheVariants as run
+use Rattle.mt_replay.proofs.Rounds.{close_statuses, cut_enough, cut_long, eras_more, moved_taken, never_much}
+use Rattle.mt_replay.proofs.Telling.{UnderWay, closes, cuts, line_ends, line_fails, line_goes_last, line_goes_on, line_wants, moves_line, no_line, starts}
 use Rattle.mt_replay.proofs.running.run_lines.Goals as goal
 
 pub lines-init : goal.lines-init
 lines-init g c = record {
-  within = c.requires.within;
-  numbered = c.requires.numbered;
-  eras = c.requires.eras;
-  led = leads_here (told_in (end_of c.args.source.now) c.args.first (lines_of (drop c.args.from c.args.source.now)) c.args.replayer.now) c.args.writer.now (g.K.Sink.taken c.args.sink.now);
-  faults = refl;
+  no_fault = ap (λ f. f.fault) c.new-feed.ensures;
+  long = subst IsLong (sym c.new-feed.ensures) (λ is. absurd (cc is), λ many. absurd (omega (arith, many)));
+  given = omega (arith, ap taken c.new-feed.ensures);
+  source = refl;
+  sink = refl;
+  eras = tt;
+  told = λ bytes known.
+      subst (λ (f : Feeding). UnderWay bytes (g.S.Source.left c.args.source.now) f (run.Head c.new.result) c.args.writer.now (g.K.Sink.taken c.args.sink.now) (g.K.Sink.taken c.args.sink.now)) (sym c.new-feed.ensures)
+      (starts bytes (g.S.Source.left c.args.source.now) (run.Head c.new.result) c.args.writer.now (g.K.Sink.taken c.args.sink.now) known (c.new.ensures.setup, c.new.ensures.dump) c.requires);
 }
 
-pub returns-in-Ok-Some-clause-bytes : goal.returns-in-Ok-Some-clause-bytes
-returns-in-Ok-Some-clause-bytes g c =
-    let source : List ℕ = c.args.source.now in
-    let rest = told_in (end_of source) (c.lines.number + 1) (lines_of (drop c.in-Some.line.next source)) in
-    let here = at_line (end_of source) c.lines.number c.in-Some.line.number c.in-Some.line.next source (drop c.lines.at source) c.in-Some.line.bytes.now c.lines.replayer c.in-Some.ensures.lines c.in-Some.ensures.rest.1 in
-    leads_tells (told_in (end_of source) c.args.first (lines_of (drop c.args.from source)) c.args.replayer.now) (told_in (end_of source) c.lines.number (lines_of (drop c.lines.at source)) c.lines.replayer)
-    c.args.writer.now c.lines.writer c.take_line.new.writer (g.K.Sink.taken c.args.sink.now) (g.K.Sink.taken c.lines.sink) (g.K.Sink.taken c.take_line.new.sink) (Ok c.in-Ok-Some.status) c.lines.invariant.led
-    (subst (λ (t : Told). Tells t c.lines.writer c.take_line.new.writer (g.K.Sink.taken c.lines.sink) (g.K.Sink.taken c.take_line.new.sink) (Ok c.in-Ok-Some.status)) (sym here)
-    (rw c.in-Ok-Some.field-0-is at (c.in-Ok-Some.ensures.bytes rest)))
+pub returns-in-Ok-false-clause-bytes : goal.returns-in-Ok-false-clause-bytes
+returns-in-Ok-false-clause-bytes g c = λ bytes known.
+    let (more, takes, rises, next) = c.in-Ok-false.ensures.bytes in
+    let moves = subst (Moves c.lines.feed c.next_line.new.feed (c.lines.feed.pending ++ more) (g.S.Source.left c.next_line.new.source)) c.in-Ok-false.field-0-test next.0 in
+    closes bytes (g.S.Source.left c.next_line.new.source) c.next_line.new.feed.place c.lines.run c.next_line.new.writer (g.K.Sink.taken c.args.sink.now) (g.K.Sink.taken c.next_line.new.sink) (g.K.Sink.taken c.end_text.new.sink) c.end_text.result
+    (no_line bytes more (g.S.Source.left c.lines.source) (g.S.Source.left c.next_line.new.source) c.lines.feed c.next_line.new.feed c.lines.run c.lines.writer c.next_line.new.writer
+    (g.K.Sink.taken c.args.sink.now) (g.K.Sink.taken c.lines.sink) (g.K.Sink.taken c.next_line.new.sink) (c.lines.invariant.told bytes known) takes moves next.1)
+    c.end_text.ensures.bytes
 
 pub returns-in-Err-clause-bytes : goal.returns-in-Err-clause-bytes
-returns-in-Err-clause-bytes g c =
-    let source : List ℕ = c.args.source.now in
-    let rest = told_in (end_of source) (c.lines.number + 1) (lines_of (drop c.in-Some.line.next source)) in
-    let here = at_line (end_of source) c.lines.number c.in-Some.line.number c.in-Some.line.next source (drop c.lines.at source) c.in-Some.line.bytes.now c.lines.replayer c.in-Some.ensures.lines c.in-Some.ensures.rest.1 in
-    leads_tells (told_in (end_of source) c.args.first (lines_of (drop c.args.from source)) c.args.replayer.now) (told_in (end_of source) c.lines.number (lines_of (drop c.lines.at source)) c.lines.replayer)
-    c.args.writer.now c.lines.writer c.take_line.new.writer (g.K.Sink.taken c.args.sink.now) (g.K.Sink.taken c.lines.sink) (g.K.Sink.taken c.take_line.new.sink) (Err c.in-Err.failed) c.lines.invariant.led
-    (subst (λ (t : Told). Tells t c.lines.writer c.take_line.new.writer (g.K.Sink.taken c.lines.sink) (g.K.Sink.taken c.take_line.new.sink) (Err c.in-Err.failed)) (sym here)
-    (c.in-Err.ensures.bytes rest))
+returns-in-Err-clause-bytes g c = λ bytes known.
+    let (more, takes, rises, short) = c.in-Err.ensures.bytes in
+    let enough =
+    cut_enough c.lines.feed c.next_line.new.feed more c.lines.writer c.next_line.new.writer (g.K.Sink.taken c.lines.sink) (g.K.Sink.taken c.next_line.new.sink) (g.S.Source.given c.args.source.now) (g.S.Source.given c.lines.source) (g.S.Source.given c.next_line.new.source)
+    c.lines.invariant.given rises c.in-Err.ensures.long c.lines.invariant.no_fault c.in-Err.cut short in
+    subst (Replays bytes (g.S.Source.left c.next_line.new.source) (g.K.Sink.taken c.args.sink.now) (g.K.Sink.taken c.next_line.new.sink)) (sym c.cut_status.ensures)
+    (cuts bytes more (g.S.Source.left c.lines.source) (g.S.Source.left c.next_line.new.source) c.lines.feed c.next_line.new.feed c.lines.run c.lines.writer c.next_line.new.writer
+    (g.K.Sink.taken c.args.sink.now) (g.K.Sink.taken c.lines.sink) (g.K.Sink.taken c.next_line.new.sink) c.in-Err.cut (c.lines.invariant.told bytes known) takes short c.lines.invariant.no_fault enough)
+
+pub returns-in-Err-clause-too_long : goal.returns-in-Err-clause-too_long
+returns-in-Err-clause-too_long g c =
+    let (more, takes, rises, short) = c.in-Err.ensures.bytes in
+    let long =
+    cut_long c.lines.feed c.next_line.new.feed more c.lines.writer c.next_line.new.writer (g.K.Sink.taken c.lines.sink) (g.K.Sink.taken c.next_line.new.sink) (g.S.Source.given c.args.source.now) (g.S.Source.given c.lines.source) (g.S.Source.given c.next_line.new.source)
+    c.lines.invariant.given rises c.in-Err.ensures.long c.lines.invariant.no_fault c.in-Err.cut short in
+    (λ is. long.0 (sym c.cut_status.ensures ∙ is), λ much. c.cut_status.ensures ∙ long.1 much)
+
+pub returns-then-last-clause-bytes : goal.returns-then-last-clause-bytes
+returns-then-last-clause-bytes g c = λ bytes known.
+    let (more, takes, rises, next) = c.in-Ok-true.ensures.bytes in
+    let moves = subst (Moves c.lines.feed c.next_line.new.feed (c.lines.feed.pending ++ more) (g.S.Source.left c.next_line.new.source)) c.in-Ok-true.field-0-test next.0 in
+    let h =
+    moves_line bytes more (g.S.Source.left c.lines.source) (g.S.Source.left c.next_line.new.source) c.lines.feed c.next_line.new.feed c.lines.run c.lines.writer c.next_line.new.writer
+    (g.K.Sink.taken c.args.sink.now) (g.K.Sink.taken c.lines.sink) (g.K.Sink.taken c.next_line.new.sink) (c.lines.invariant.told bytes known) takes moves next.1 in
+    let goes = rw (c.in-Ok-None.field-0-is, c.current.ensures.bytes, c.current.ensures.number) at (c.in-Ok-None.ensures.bytes h.point h.at) in
+    closes bytes (g.S.Source.left c.next_line.new.source) c.next_line.new.feed.place c.take_line.new.run c.take_line.new.writer (g.K.Sink.taken c.args.sink.now) (g.K.Sink.taken c.take_line.new.sink) (g.K.Sink.taken c.end_text-then-last.new.sink) c.end_text-then-last.result
+    (line_goes_last bytes (g.S.Source.left c.next_line.new.source) c.next_line.new.feed c.lines.run c.next_line.new.writer (g.K.Sink.taken c.args.sink.now) (g.K.Sink.taken c.next_line.new.sink) h c.take_line.new.run c.take_line.new.writer (g.K.Sink.taken c.take_line.new.sink) goes
+    (sym c.is_last-last.ensures ∙ c.if-last.true))
+    c.end_text-then-last.ensures.bytes
+
+pub returns-then-last-clause-too_long : goal.returns-then-last-clause-too_long
+returns-then-last-clause-too_long g c =
+    let (more, takes, rises, next) = c.in-Ok-true.ensures.bytes in
+    let moves = subst (Moves c.lines.feed c.next_line.new.feed (c.lines.feed.pending ++ more) (g.S.Source.left c.next_line.new.source)) c.in-Ok-true.field-0-test next.0 in
+    let moved = moved_taken c.lines.feed c.next_line.new.feed more (g.S.Source.left c.next_line.new.source) moves in
+    never_much c.end_text-then-last.result (g.S.Source.given c.args.source.now) (g.S.Source.given c.next_line.new.source) c.next_line.new.feed
+    (close_statuses (end_fault (setup_of c.take_line.new.run).stage c.next_line.new.feed.place) c.take_line.new.writer (g.K.Sink.taken c.take_line.new.sink) (g.K.Sink.taken c.end_text-then-last.new.sink) c.end_text-then-last.result c.end_text-then-last.ensures.bytes).0
+    (omega (arith, c.lines.invariant.given, rises, moved.0)) c.in-Ok-true.ensures.long (moved.2 ∙ c.lines.invariant.no_fault)
 
 pub lines-preserved : goal.lines-preserved
 lines-preserved g c =
-    let source : List ℕ = c.args.source.now in
-    let rest = told_in (end_of source) (c.lines.number + 1) (lines_of (drop c.in-Some.line.next source)) in
-    let here = at_line (end_of source) c.lines.number c.in-Some.line.number c.in-Some.line.next source (drop c.lines.at source) c.in-Some.line.bytes.now c.lines.replayer c.in-Some.ensures.lines c.in-Some.ensures.rest.1 in
+    let (more, takes, rises, next) = c.in-Ok-true.ensures.bytes in
+    let moves = subst (Moves c.lines.feed c.next_line.new.feed (c.lines.feed.pending ++ more) (g.S.Source.left c.next_line.new.source)) c.in-Ok-true.field-0-test next.0 in
+    let moved = moved_taken c.lines.feed c.next_line.new.feed more (g.S.Source.left c.next_line.new.source) moves in
     record {
-      within = c.in-Some.ensures.rest.3;
-      numbered = omega (arith, c.lines.invariant.numbered, c.in-Some.ensures.rest.0, c.in-Some.ensures.rest.2);
-      eras = rw c.in-Ok-None.field-0-is at (c.in-Ok-None.ensures.eras c.lines.number c.lines.invariant.eras);
-      led = leads_on (told_in (end_of source) c.args.first (lines_of (drop c.args.from source)) c.args.replayer.now) (told_in (end_of source) c.lines.number (lines_of (drop c.lines.at source)) c.lines.replayer) (rest c.take_line.new.replayer)
-          c.args.writer.now c.lines.writer c.take_line.new.writer (g.K.Sink.taken c.args.sink.now) (g.K.Sink.taken c.lines.sink) (g.K.Sink.taken c.take_line.new.sink) c.lines.invariant.led
-          (subst (λ (t : Told). LeadsTo t (rest c.take_line.new.replayer) c.lines.writer c.take_line.new.writer (g.K.Sink.taken c.lines.sink) (g.K.Sink.taken c.take_line.new.sink)) (sym here)
-          (rw c.in-Ok-None.field-0-is at (c.in-Ok-None.ensures.bytes rest)));
-      faults = c.in-Ok-None.ensures.cause ∙ c.lines.invariant.faults;
+      no_fault = moved.2 ∙ c.lines.invariant.no_fault;
+      long = c.in-Ok-true.ensures.long;
+      given = omega (arith, c.lines.invariant.given, rises, moved.0);
+      source = c.in-Ok-true.ensures.source ∙ c.lines.invariant.source;
+      sink = c.in-Ok-None.ensures.cause ∙ c.in-Ok-true.ensures.sink ∙ c.lines.invariant.sink;
+      eras = eras_more (c.lines.feed.offset + 1) c.next_line.new.feed.offset c.take_line.new.run moved.1 (rw c.in-Ok-None.field-0-is at (c.in-Ok-None.ensures.eras c.lines.feed.offset c.lines.invariant.eras));
+      told = λ bytes known.
+          let h =
+          moves_line bytes more (g.S.Source.left c.lines.source) (g.S.Source.left c.next_line.new.source) c.lines.feed c.next_line.new.feed c.lines.run c.lines.writer c.next_line.new.writer
+          (g.K.Sink.taken c.args.sink.now) (g.K.Sink.taken c.lines.sink) (g.K.Sink.taken c.next_line.new.sink) (c.lines.invariant.told bytes known) takes moves next.1 in
+          let goes = rw (c.in-Ok-None.field-0-is, c.current.ensures.bytes, c.current.ensures.number) at (c.in-Ok-None.ensures.bytes h.point h.at) in
+          line_goes_on bytes (g.S.Source.left c.next_line.new.source) c.next_line.new.feed c.lines.run c.next_line.new.writer (g.K.Sink.taken c.args.sink.now) (g.K.Sink.taken c.next_line.new.sink) h c.take_line.new.run c.take_line.new.writer (g.K.Sink.taken c.take_line.new.sink) goes
+          (sym c.is_last-last.ensures ∙ c.if-last.false);
     }
 
-pub returns-clause-bytes : goal.returns-clause-bytes
-returns-clause-bytes g c =
-    let source : List ℕ = c.args.source.now in
-    let all : c.lines.at ≡ length source = search rules in
-    let here = at_end (end_of source) c.lines.at c.lines.number source c.lines.replayer all in
-    leads_tells (told_in (end_of source) c.args.first (lines_of (drop c.args.from source)) c.args.replayer.now) (told_in (end_of source) c.lines.number (lines_of (drop c.lines.at source)) c.lines.replayer)
-    c.args.writer.now c.lines.writer c.end_lines.new.writer (g.K.Sink.taken c.args.sink.now) (g.K.Sink.taken c.lines.sink) (g.K.Sink.taken c.end_lines.new.sink) c.end_lines.result c.lines.invariant.led
-    (subst (λ (t : Told). Tells t c.lines.writer c.end_lines.new.writer (g.K.Sink.taken c.lines.sink) (g.K.Sink.taken c.end_lines.new.sink) c.end_lines.result) (sym here)
-    (rw c.setup.ensures at c.end_lines.ensures.bytes))
+pub leave-requires-clause-status : goal.leave-requires-clause-status
+leave-requires-clause-status g c = c.in-Ok-Some.ensures.ending c.in-Ok-Some.status (ap Ok c.in-Ok-Some.field-0-is)
 
-pub returns-clause-cause : goal.returns-clause-cause
-returns-clause-cause g c =
-    cause_after (g.K.Sink.faults c.args.sink.now) (g.K.Sink.faults c.lines.sink) (g.K.Sink.faults c.end_lines.new.sink) c.end_lines.result c.lines.invariant.faults c.end_lines.ensures.cause
+pub returns-in-Ok-Some-clause-bytes : goal.returns-in-Ok-Some-clause-bytes
+returns-in-Ok-Some-clause-bytes g c = λ bytes known.
+    let (more, takes, rises, next) = c.in-Ok-true.ensures.bytes in
+    let moves = subst (Moves c.lines.feed c.next_line.new.feed (c.lines.feed.pending ++ more) (g.S.Source.left c.next_line.new.source)) c.in-Ok-true.field-0-test next.0 in
+    let h =
+    moves_line bytes more (g.S.Source.left c.lines.source) (g.S.Source.left c.next_line.new.source) c.lines.feed c.next_line.new.feed c.lines.run c.lines.writer c.next_line.new.writer
+    (g.K.Sink.taken c.args.sink.now) (g.K.Sink.taken c.lines.sink) (g.K.Sink.taken c.next_line.new.sink) (c.lines.invariant.told bytes known) takes moves next.1 in
+    let ends = rw (c.in-Ok-Some.field-0-is, c.current.ensures.bytes, c.current.ensures.number) at (c.in-Ok-Some.ensures.bytes h.point h.at) in
+    let (dropped, drains, given, counted, leaves) = c.leave.ensures.bytes in
+    let left = rw c.is_last-last.ensures at leaves in
+    elim ends [
+      | inl e ↦ line_ends bytes (g.S.Source.left c.next_line.new.source) c.next_line.new.feed c.lines.run c.next_line.new.writer (g.K.Sink.taken c.args.sink.now) (g.K.Sink.taken c.next_line.new.sink) h
+          c.in-Ok-Some.status c.leave.result dropped c.take_line.new.writer (g.S.Source.left c.leave.new.source) (g.K.Sink.taken c.take_line.new.sink) (g.K.Sink.taken c.leave.new.sink) drains
+          (λ is. let many = c.leave.ensures.long.0 is in omega (arith, many, counted)) left e
+      | inr w ↦ line_wants bytes (g.S.Source.left c.next_line.new.source) c.next_line.new.feed c.lines.run c.next_line.new.writer (g.K.Sink.taken c.args.sink.now) (g.K.Sink.taken c.next_line.new.sink) h
+          c.in-Ok-Some.status c.leave.result dropped c.take_line.new.writer (g.S.Source.left c.leave.new.source) (g.K.Sink.taken c.take_line.new.sink) (g.K.Sink.taken c.leave.new.sink) drains
+          (λ is. let many = c.leave.ensures.long.0 is in omega (arith, many, counted)) left w
+    ]
+
+pub returns-in-Ok-Some-clause-too_long : goal.returns-in-Ok-Some-clause-too_long
+returns-in-Ok-Some-clause-too_long g c =
+    let (more, takes, rises, next) = c.in-Ok-true.ensures.bytes in
+    let moves = subst (Moves c.lines.feed c.next_line.new.feed (c.lines.feed.pending ++ more) (g.S.Source.left c.next_line.new.source)) c.in-Ok-true.field-0-test next.0 in
+    let moved = moved_taken c.lines.feed c.next_line.new.feed more (g.S.Source.left c.next_line.new.source) moves in
+    let (dropped, drains, given, counted, leaves) = c.leave.ensures.bytes in (
+      λ is. let many = c.leave.ensures.long.0 is in omega (arith, c.lines.invariant.given, rises, moved.0, given, counted, many),
+      λ much. c.leave.ensures.long.1 (omega (arith, c.lines.invariant.given, rises, moved.0, given, counted, much)),
+    )
+
+pub returns-in-Err-take_line-clause-bytes : goal.returns-in-Err-take_line-clause-bytes
+returns-in-Err-take_line-clause-bytes g c = λ bytes known.
+    let (more, takes, rises, next) = c.in-Ok-true.ensures.bytes in
+    let moves = subst (Moves c.lines.feed c.next_line.new.feed (c.lines.feed.pending ++ more) (g.S.Source.left c.next_line.new.source)) c.in-Ok-true.field-0-test next.0 in
+    let h =
+    moves_line bytes more (g.S.Source.left c.lines.source) (g.S.Source.left c.next_line.new.source) c.lines.feed c.next_line.new.feed c.lines.run c.lines.writer c.next_line.new.writer
+    (g.K.Sink.taken c.args.sink.now) (g.K.Sink.taken c.lines.sink) (g.K.Sink.taken c.next_line.new.sink) (c.lines.invariant.told bytes known) takes moves next.1 in
+    line_fails bytes (g.S.Source.left c.next_line.new.source) c.next_line.new.feed c.lines.run c.next_line.new.writer (g.K.Sink.taken c.args.sink.now) (g.K.Sink.taken c.next_line.new.sink) h (g.K.Sink.taken c.take_line.new.sink)
+    (rw (c.current.ensures.bytes, c.current.ensures.number) at (c.in-Err-take_line.ensures.bytes h.point h.at))

@@ -1,0 +1,33 @@
+use Rattle.std.proofs.Common.{rules, ◌≡◌, ◌∙◌, inr, refl, subst, ℕ, List, Ok, Err}
+use Rattle.mt_ports.specs.declared.status.Status.TheVariants.{BadText}
+use Rattle.mt_output.specs.Lines.{offence_line}
+use Rattle.mt_output.specs.Writing.{Adds}
+use Rattle.mt_script.specs.Accept.{Fits}
+use Rattle.mt_script.specs.Situation.{Situation}
+use Rattle.mt_script.specs.Commands.{command_of}
+use Rattle.mt_script.specs.declared.fault.Offence.TheVariants.{Script}
+use Rattle.mt_replay.specs.Running.{from_line, in_body}
+use Rattle.mt_replay.proofs.Taking.{command_eras, command_takes, fault_leads, takes_last}
+use Rattle.mt_replay.proofs.line.take_command.Goals as goal
+
+pub returns-in-Ok-clause-bytes : goal.returns-in-Ok-clause-bytes
+returns-in-Ok-clause-bytes g c =
+    let is : command_of c.args.replayer.now.now c.args.line.now.number c.args.line.now.bytes.now ≡ Ok c.in-Ok.command = search rules in
+    let fits : Fits c.args.replayer.now.now c.in-Ok.command = subst (λ (now : Situation). Fits now c.in-Ok.command) c.setup.ensures c.in-Ok.ensures.fits in
+    command_takes c.args.replayer.now c.do_command.new.replayer c.in-Ok.command c.args.line.now.number c.args.line.now.bytes.now c.is_replay_state.ensures fits is
+    c.args.writer.now c.do_command.new.writer (g.K.Sink.taken c.args.sink.now) (g.K.Sink.taken c.do_command.new.sink) c.do_command.result c.do_command.ensures.bytes c.do_command.ensures.window
+
+pub returns-in-Ok-clause-eras : goal.returns-in-Ok-clause-eras
+returns-in-Ok-clause-eras g c = λ most eras.
+    let is : command_of c.args.replayer.now.now c.args.line.now.number c.args.line.now.bytes.now ≡ Ok c.in-Ok.command = search rules in
+    let fits : Fits c.args.replayer.now.now c.in-Ok.command = subst (λ (now : Situation). Fits now c.in-Ok.command) c.setup.ensures c.in-Ok.ensures.fits in
+    command_eras c.args.replayer.now c.do_command.new.replayer c.in-Ok.command c.args.line.now.number c.args.line.now.bytes.now c.is_replay_state.ensures fits is most
+    c.args.writer.now c.do_command.new.writer (g.K.Sink.taken c.args.sink.now) (g.K.Sink.taken c.do_command.new.sink) c.do_command.result eras c.do_command.ensures.bytes
+
+pub returns-in-Err-clause-bytes : goal.returns-in-Err-clause-bytes
+returns-in-Err-clause-bytes g c =
+    let is : command_of c.args.replayer.now.now c.args.line.now.number c.args.line.now.bytes.now ≡ Err c.in-Err.fault = search rules in
+    let line : c.as_slice.result.now ≡ offence_line (Script c.in-Err.fault) = c.as_slice.ensures.value ∙ c.offence_line.ensures in
+    takes_last (from_line c.args.line.now.number c.args.line.now.bytes.now (in_body c.args.replayer.now)) _ (in_body c.args.replayer.now) _ (offence_line (Script c.in-Err.fault)) c.args.writer.now c.tell.new.writer BadText
+    (g.K.Sink.taken c.args.sink.now) (g.K.Sink.taken c.tell.new.sink) c.tell.result (fault_leads c.args.replayer.now c.args.line.now.number c.args.line.now.bytes.now c.in-Err.fault is) (inr refl)
+    (subst (λ (l : List ℕ). Adds c.args.writer.now l c.tell.new.writer (g.K.Sink.taken c.args.sink.now) (g.K.Sink.taken c.tell.new.sink) c.tell.result) line c.tell.ensures.bytes) c.tell.ensures.status

@@ -1,0 +1,50 @@
+use Rattle.std.proofs.Common.{◌≡◌, ◌∙◌, inr, sym, refl, subst, ℕ, ◌+◌, List, None, Ok}
+use Rattle.mt_ports.specs.declared.status.Status.TheVariants.{BadText}
+use Rattle.mt_output.specs.Lines.{offence_line}
+use Rattle.mt_output.specs.Writing.{Adds}
+use Rattle.mt_script.specs.Head.{offends, shows}
+use Rattle.mt_script.specs.Situation.{Situation}
+use Rattle.mt_replay.specs.Running.{Point, Takes, from_line, in_head}
+use Rattle.mt_replay.specs.declared.line.Run.TheVariants as run
+use Rattle.mt_replay.proofs.Taking.{from_file, head_takes, in_the_head, takes_last, takes_same}
+use Rattle.mt_replay.proofs.Walks.{head_leads}
+use Rattle.mt_replay.proofs.line.take_line.Goals as goal
+
+pub returns-in-Ok-None-clause-bytes : goal.returns-in-Ok-None-clause-bytes
+returns-in-Ok-None-clause-bytes g c = λ was at.
+    let (before, read, is) = in_the_head c.args.run.now c.in-Head.head was c.in-Head.is at in
+    let (after, holds, step) = rw c.in-Ok-None.field-0-is at (c.in-Ok-None.ensures.step before read) in
+    subst
+    (λ (p : Point). Takes (from_line c.args.line.now.number c.args.line.now.bytes.now p) (c.args.line.now.number + 1) p (run.Head c.take.new.self) c.args.writer.now c.args.writer.now (g.K.Sink.taken c.args.sink.now) (g.K.Sink.taken c.args.sink.now) (Ok None))
+    (sym is)
+    (head_takes c.in-Head.head.setup c.take.new.self.setup before after c.args.line.now.number c.args.line.now.bytes.now c.args.writer.now (run.Head c.take.new.self) (g.K.Sink.taken c.args.sink.now) read.clean step (refl, holds))
+
+pub returns-in-Ok-Some-clause-bytes : goal.returns-in-Ok-Some-clause-bytes
+returns-in-Ok-Some-clause-bytes g c = λ was at.
+    let (before, read, is) = in_the_head c.args.run.now c.in-Head.head was c.in-Head.is at in
+    let (holds, step) = rw c.in-Ok-Some.field-0-is at (c.in-Ok-Some.ensures.step before read) in
+    let same = (rw c.in-Ok-Some.field-0-is at c.in-Ok-Some.ensures.shown).1 in
+    let setup : c.replace-setup.result ≡ c.in-Head.head.setup = c.replace-setup.ensures.value ∙ same in
+    let begun =
+    subst
+    (λ (now : Situation). Takes (from_file now c.in-Ok-Some.file (c.args.line.now.number + 1)) (c.args.line.now.number + 1) (in_head now before) c.begin.new.run c.args.writer.now c.begin.new.writer (g.K.Sink.taken c.args.sink.now) (g.K.Sink.taken c.begin.new.sink) c.begin.result)
+    setup (c.begin.ensures.bytes (c.args.line.now.number + 1) before) in
+    subst
+    (λ (p : Point). Takes (from_line c.args.line.now.number c.args.line.now.bytes.now p) (c.args.line.now.number + 1) p c.begin.new.run c.args.writer.now c.begin.new.writer (g.K.Sink.taken c.args.sink.now) (g.K.Sink.taken c.begin.new.sink) c.begin.result)
+    (sym is)
+    (takes_same (from_file c.in-Head.head.setup c.in-Ok-Some.file (c.args.line.now.number + 1)) (from_line c.args.line.now.number c.args.line.now.bytes.now (in_head c.in-Head.head.setup before)) (c.args.line.now.number + 1) (in_head c.in-Head.head.setup before) c.begin.new.run
+    c.args.writer.now c.begin.new.writer (g.K.Sink.taken c.args.sink.now) (g.K.Sink.taken c.begin.new.sink) c.begin.result
+    (head_leads c.in-Head.head.setup before c.args.line.now.number c.args.line.now.bytes.now read.clean (shows c.in-Ok-Some.file) step) begun)
+
+pub returns-in-Err-clause-bytes : goal.returns-in-Err-clause-bytes
+returns-in-Err-clause-bytes g c = λ was at.
+    let (before, read, is) = in_the_head c.args.run.now c.in-Head.head was c.in-Head.is at in
+    let step = c.in-Err.ensures.step before read in
+    let line : c.as_slice.result.now ≡ offence_line c.in-Err.offence = c.as_slice.ensures.value ∙ c.offence_line.ensures in
+    subst
+    (λ (p : Point). Takes (from_line c.args.line.now.number c.args.line.now.bytes.now p) (c.args.line.now.number + 1) p (run.Head c.take.new.self) c.args.writer.now c.tell.new.writer (g.K.Sink.taken c.args.sink.now) (g.K.Sink.taken c.tell.new.sink) c.tell.result)
+    (sym is)
+    (takes_last (from_line c.args.line.now.number c.args.line.now.bytes.now (in_head c.in-Head.head.setup before)) (c.args.line.now.number + 1) (in_head c.in-Head.head.setup before) (run.Head c.take.new.self) (offence_line c.in-Err.offence) c.args.writer.now c.tell.new.writer BadText
+    (g.K.Sink.taken c.args.sink.now) (g.K.Sink.taken c.tell.new.sink) c.tell.result
+    (head_leads c.in-Head.head.setup before c.args.line.now.number c.args.line.now.bytes.now read.clean (offends c.in-Err.offence) step) (inr refl)
+    (subst (λ (l : List ℕ). Adds c.args.writer.now l c.tell.new.writer (g.K.Sink.taken c.args.sink.now) (g.K.Sink.taken c.tell.new.sink) c.tell.result) line c.tell.ensures.bytes) c.tell.ensures.status)

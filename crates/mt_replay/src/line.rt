@@ -1,0 +1,200 @@
+ghost use Rattle.std.specs.Prelude.{◌≡◌, ◌≤◌, ◌+◌, ℕ, List, length, true, MatchOption, MatchResult, IfOk, Some, Ok, Err, ◌++◌};
+ghost use Rattle.mt_ports.specs.Causes.{HasCause};
+ghost use Rattle.mt_ports.specs.Puts.{AppendsFront};
+ghost use Rattle.mt_dump.specs.Line.{Reading};
+ghost use Rattle.mt_machine.specs.Start.{HasEraRoom};
+ghost use Rattle.mt_output.specs.Writing.{Adds, Passes};
+ghost use Rattle.mt_script.specs.Accept.{Fits};
+ghost use Rattle.mt_script.specs.Stages.{is_in_dump};
+ghost use Rattle.mt_replay.specs.FirstFault.{first_fault};
+ghost use Rattle.mt_replay.specs.Kept.{HasEras};
+ghost use Rattle.mt_replay.specs.Parts.{IsWindow};
+ghost use Rattle.mt_replay.specs.ReplayState.{command_text, state_after};
+ghost use Rattle.mt_replay.specs.Running.{HasEraRoomAt, HasErasAt, IsAt, IsEnding, Point, Takes, body_lines, from_line, in_body, in_head, setup_of};
+ghost use Rattle.mt_replay.specs.Transcript.{told_file};
+
+use crate::replayer::Replayer;
+use mt_output::{Writer, accepted_line, offence_line, refused_line};
+use mt_ports::{Failed, Gate, Sink, Status};
+use mt_regs::RegFile;
+use mt_script::{Command, Head, Offence, Setup, read_command};
+use mt_text::Line;
+use std::alloc::Global;
+use std::mem;
+use std::sync::Wait;
+use std::thread::Threads;
+
+/// A run of a script between two lines: up to the dump's end, or behind it.
+#[derive(Drop)]
+pub(crate) enum Run {
+    Head(Head),
+    Body(Replayer),
+}
+
+impl Run {
+    /// What stands set up.
+    pub(crate) fn setup(&self) -> &Setup
+        ensures { result.now ≡ setup_of self.now }
+    {
+        match self {
+            Run::Head(head) => &head.setup,
+            Run::Body(replayer) => replayer.setup(),
+        }
+    }
+}
+
+// Writes a last text, and answers the status.
+fn tell<K: Sink>(
+    writer: &mut Writer,
+    sink: &mut K,
+    text: &[u8],
+    status: Status,
+) -> Result<Option<Status>, Failed>
+    requires { length text.now ≤ 224 }
+    ensures bytes { Adds writer.old text.now writer.new (K.taken sink.old) (K.taken sink.new) result }
+    ensures status { IfOk result (λ ended. ended ≡ Some status) }
+    ensures answer { (answer : Status) → result ≡ Ok (Some answer) → answer ≡ status }
+    ensures cause { HasCause (K.faults sink.old) (K.faults sink.new) result }
+{
+    match writer.write(sink, text) {
+        Ok(()) => Ok(Some(status)),
+        Err(failed) => Err(failed),
+    }
+}
+
+// Goes on behind the dump's end, where its file is accepted.
+fn begin<K: Sink>(
+    alloc: Global,
+    run: &mut Run,
+    setup: Setup,
+    file: RegFile,
+    writer: &mut Writer,
+    sink: &mut K,
+) -> Result<Option<Status>, Failed>
+    requires { is_in_dump setup.stage ≡ true }
+    ensures bytes { (number : ℕ) (before : List Reading) →
+        Takes (λ end lines. told_file setup file (body_lines end number lines) (first_fault file)) number (in_head setup before) run.new writer.old writer.new (K.taken sink.old) (K.taken sink.new) result }
+    ensures ending { (status : Status) → result ≡ Ok (Some status) → IsEnding status }
+    ensures eras { (most : ℕ) → MatchResult result (λ ended. MatchOption ended (HasErasAt most run.new) (λ _. Unit {0})) (λ _. Unit {0}) }
+    ensures cause { HasCause (K.faults sink.old) (K.faults sink.new) result }
+{
+    file.is_register_file(); // a fact for the proof
+    if let Some(fault) = file.first_fault() {
+        return tell(
+            writer,
+            sink,
+            refused_line(&fault).as_slice(),
+            Status::Refused,
+        );
+    }
+    let Ok(replayer) = Replayer::begin(alloc, setup, file) else {
+        return Ok(Some(Status::NoMemory));
+    };
+    *run = Run::Body(replayer);
+    match writer.write(sink, accepted_line()) {
+        Ok(()) => Ok(None),
+        Err(failed) => Err(failed),
+    }
+}
+
+// Does a command and writes what it says. There is a status where memory is refused to a window.
+fn do_command<R: Threads + Wait + Sync, K: Sink, G: Gate>(
+    rt: &R,
+    alloc: Global,
+    replayer: &mut Replayer,
+    c: &Command,
+    writer: &mut Writer,
+    sink: &mut K,
+    gate: &G,
+) -> Result<Option<Status>, Failed>
+    requires fits { Fits replayer.old.now c.now }
+    requires room { HasEraRoom replayer.old.machine }
+    ensures bytes { MatchResult result
+        (λ ended. MatchOption ended
+        (Passes writer.old (command_text replayer.old c.now) writer.new (K.taken sink.old) (K.taken sink.new) × (replayer.new ≡ state_after replayer.old c.now))
+        (λ status. (status ≡ Status.NoMemory) × (writer.new ≡ writer.old) × (K.taken sink.new ≡ K.taken sink.old)))
+        (λ _. AppendsFront (K.taken sink.old) (K.taken sink.new) (writer.old ++ command_text replayer.old c.now)) }
+    ensures window { (status : Status) → result ≡ Ok (Some status) → IsWindow c.now }
+    ensures refused { (status : Status) → result ≡ Ok (Some status) → status ≡ Status.NoMemory }
+    ensures cause { HasCause (K.faults sink.old) (K.faults sink.new) result }
+{
+    if *c == Command::Report {
+        return match replayer.report(writer, sink) {
+            Ok(()) => Ok(None),
+            Err(failed) => Err(failed),
+        };
+    }
+    let Ok(line) = replayer.run(rt, alloc, c, gate) else {
+        return Ok(Some(Status::NoMemory));
+    };
+    match writer.write(sink, line.as_slice()) {
+        Ok(()) => Ok(None),
+        Err(failed) => Err(failed),
+    }
+}
+
+// Takes a line behind the dump's end.
+fn take_command<R: Threads + Wait + Sync, K: Sink, G: Gate>(
+    rt: &R,
+    alloc: Global,
+    replayer: &mut Replayer,
+    line: &Line<'_>,
+    writer: &mut Writer,
+    sink: &mut K,
+    gate: &G,
+) -> Result<Option<Status>, Failed>
+    requires { HasEraRoom replayer.old.machine }
+    ensures bytes { Takes (from_line line.now.number line.now.bytes.now (in_body replayer.old)) (line.now.number + 1) (in_body replayer.old) (Run.Body replayer.new) writer.old writer.new (K.taken sink.old) (K.taken sink.new) result }
+    ensures ending { (status : Status) → result ≡ Ok (Some status) → IsEnding status }
+    ensures eras { (most : ℕ) → HasEras most replayer.old → MatchResult result (λ ended. MatchOption ended (HasEras (most + 1) replayer.new) (λ _. Unit {0})) (λ _. Unit {0}) }
+    ensures cause { HasCause (K.faults sink.old) (K.faults sink.new) result }
+{
+    replayer.is_replay_state(); // a fact for the proof
+    match read_command(line, replayer.setup()) {
+        Ok(command) => do_command(rt, alloc, replayer, &command, writer, sink, gate),
+        Err(fault) => tell(
+            writer,
+            sink,
+            offence_line(&Offence::Script(fault)).as_slice(),
+            Status::BadText,
+        ),
+    }
+}
+
+/// Takes a line. There is a status where the replay ends with it.
+pub(crate) fn take_line<R: Threads + Wait + Sync, K: Sink, G: Gate>(
+    rt: &R,
+    alloc: Global,
+    run: &mut Run,
+    line: &Line<'_>,
+    writer: &mut Writer,
+    sink: &mut K,
+    gate: &G,
+) -> Result<Option<Status>, Failed>
+    requires { HasEraRoomAt run.old }
+    ensures bytes { (was : Point) → IsAt run.old was →
+        Takes (from_line line.now.number line.now.bytes.now was) (line.now.number + 1) was run.new writer.old writer.new (K.taken sink.old) (K.taken sink.new) result }
+    ensures ending { (status : Status) → result ≡ Ok (Some status) → IsEnding status }
+    ensures eras { (most : ℕ) → HasErasAt most run.old → MatchResult result (λ ended. MatchOption ended (HasErasAt (most + 1) run.new) (λ _. Unit {0})) (λ _. Unit {0}) }
+    ensures cause { HasCause (K.faults sink.old) (K.faults sink.new) result }
+{
+    let head = match run {
+        Run::Head(head) => head,
+        Run::Body(replayer) => {
+            return take_command(rt, alloc, replayer, line, writer, sink, gate);
+        }
+    };
+    match head.take(line) {
+        Ok(None) => Ok(None),
+        Ok(Some(file)) => {
+            let setup = mem::replace(&mut head.setup, Setup::new());
+            begin(alloc, run, setup, file, writer, sink)
+        }
+        Err(offence) => tell(
+            writer,
+            sink,
+            offence_line(&offence).as_slice(),
+            Status::BadText,
+        ),
+    }
+}
