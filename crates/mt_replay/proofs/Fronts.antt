@@ -67,7 +67,7 @@ none_any (x ∷ xs) all = elim (cases_Bool (is_line_end x)) [
   | inr miss ↦ let one = reach-more x xs miss in rw miss (none_any xs (omega (arith, all, one)))
 ]
 
-some_any : (bytes : List ℕ) → reach bytes < length bytes → list_any is_line_end bytes ≡ true
+pub some_any : (bytes : List ℕ) → reach bytes < length bytes → list_any is_line_end bytes ≡ true
 some_any [] some = absurd (omega arith)
 some_any (x ∷ xs) some = elim (cases_Bool (is_line_end x)) [
   | inl hit ↦ rw hit refl

@@ -8,6 +8,7 @@ pub mod FirstFault
 pub mod Hiding
 pub mod Keeping
 pub mod Fronts
+pub mod KnownLines
 pub mod Lines
 pub mod Refusals
 pub mod Rounds

@@ -5,6 +5,7 @@ mod commands;
 mod headline;
 mod hidden;
 mod kept;
+mod known;
 mod laws;
 mod line;
 mod replayer;
@@ -25,6 +26,7 @@ pub use kept::{
     commands_finish_one_update, commands_keep_a_state, nothing_is_stale_in_scripts,
     scripts_keep_each_state,
 };
+pub use known::{known_lines_write_a_front, worked_known_lines, worked_replays};
 pub use laws::{same_files_are_equal, the_first_fault_is_first};
 pub use replayer::Replayer;
 pub use running::replay;

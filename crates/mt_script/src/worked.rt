@@ -1,11 +1,15 @@
 ghost use Rattle.std.specs.Prelude.{◌≡◌, ◌∷◌, ◌++◌, [], codes, replicate, true, false, Some, None, Ok};
 ghost use Rattle.mt_dump.specs.declared.fault.DumpReason.TheVariants as dump;
+ghost use Rattle.mt_dump.specs.Line.{fault_at as dump_fault_at, said_of};
+ghost use Rattle.mt_regs.specs.RegisterFile.{blank_file};
+ghost use Rattle.mt_script.specs.Head.{goes_on, head_step, offends, shows};
 ghost use Rattle.mt_script.specs.Situation.{at_start};
 ghost use Rattle.mt_script.specs.Commands.{end_fault};
 ghost use Rattle.mt_script.specs.Numbers.{fault_at};
 ghost use Rattle.mt_script.specs.Worked.{after_start, dump_fault, fault_in, first_line, offence_of_lines, ready, script_fault, with_one};
 ghost use Rattle.mt_script.specs.declared.command.Stage.TheVariants as stage;
 ghost use Rattle.mt_script.specs.declared.command.Command.TheVariants as asks;
+ghost use Rattle.mt_script.specs.declared.fault.Offence.TheVariants as offence;
 ghost use Rattle.mt_script.specs.declared.fault.ScriptReason.TheVariants.{BadLine, BadNumber, UnknownRegister, OutOfRange, NoEnd, NotNow, Repeated};
 
 /// One good line of each row.
@@ -158,4 +162,14 @@ pub fn worked_scripts()
     ensures repeated { offence_of_lines (after_start (codes "begin" ∷ codes "2ff 0" ∷ codes "2FF: 0" ∷ [])) ≡ script_fault Repeated 7 1 }
     ensures width { offence_of_lines (codes "cpus 1" ∷ codes "dump" ∷ codes "maxphyaddr 32" ∷ codes "0fe 0" ∷ codes "end" ∷ codes "word 100000000" ∷ []) ≡ script_fault OutOfRange 6 6 }
     ensures first { offence_of_lines (codes "cpus 0" ∷ codes "nothing" ∷ []) ≡ script_fault OutOfRange 1 6 }
+{}
+
+/// What a line of the head leads to.
+pub fn worked_heads()
+    ensures goes_on { head_step at_start [] 1 (codes "cpus 2") ≡ goes_on (record at_start { stage = stage.NeedDump; cpus = 2 }) [] }
+    ensures offends { head_step at_start [] 1 (codes "end") ≡ offends (offence.Script (fault_at BadLine (record { line = 1; column = 1 }))) }
+    ensures dump_line { head_step (ready stage.InDump) [] 3 (codes "fe: 8") ≡ goes_on (ready stage.InDump) (said_of 3 (codes "fe 8") ∷ []) }
+    ensures shows { head_step (ready stage.InDump) (said_of 3 (codes "fe 8") ∷ []) 4 (codes "end") ≡ shows (blank_file 36 8) }
+    ensures given_twice { head_step (ready stage.InDump) (said_of 3 (codes "fe 8") ∷ []) 4 (codes "fe 8") ≡ offends (offence.Dump (dump_fault_at dump.Repeated (record { line = 4; column = 1 }))) }
+    ensures no_cap { head_step (ready stage.InDump) [] 3 (codes "end") ≡ offends (offence.Dump (dump_fault_at dump.NoCap (record { line = 3; column = 1 }))) }
 {}

@@ -1,0 +1,5 @@
+use Rattle.mt_replay.proofs.KnownLines.{known_is_front}
+use Rattle.mt_replay.proofs.known.known_lines_write_a_front.Goals as goal
+
+pub returns : goal.returns
+returns c = known_is_front
