@@ -8,7 +8,7 @@ use Rattle.mt_ports.specs.declared.status.Status.TheVariants.{Done, Refused, Usa
 use Rattle.mt_regs.specs.RegisterFile.{RegisterFile}
 use Rattle.mt_dump.specs.Dump.{Shown, dump_offence}
 use Rattle.mt_dump.specs.declared.fault.DumpFault.{DumpFault}
-use Rattle.mt_replay.specs.Running.{Replays}
+use Rattle.mt_replay.specs.Running.{Replays, TellsAll}
 use Rattle.mt_replay.specs.Transcript.{transcript}
 use Rattle.mt_replay.proofs.Refusals.Outcomes.{one_of_three}
 use Rattle.mt_cli.specs.declared.command.Command.TheVariants.{Dump, Replay, Make}
@@ -17,7 +17,6 @@ use Rattle.mt_cli.specs.CommandLine.{command_of, left_of, reads_input}
 use Rattle.mt_cli.specs.Generator.{make_text}
 use Rattle.mt_cli.specs.declared.command.Command.{Command}
 use Rattle.mt_cli.specs.Output.{Answer, Output, usage, bad_text, answered, replayed, made, refused, accepted, shown, typed, paged, tidied, too_few, disabled, grained, gran_too_few, gran_disabled}
-use Rattle.mt_cli.specs.Reading.{ConsumesTooMuch, EndsReading}
 use Rattle.mt_cli.specs.Tool.{Answered, CutShort, Finished, Leaves, Reads}
 use Rattle.mt_cli.specs.Written.{Answers, AnswersInput, Makes, Writes, writes, no_memory, bad_input, good_input, no_input}
 
@@ -26,12 +25,6 @@ appended : (before text : List ℕ) (old new : Option (List ℕ)) → old ≡ So
 appended before text None new is takes = cc is
 appended before text (Some xs) None is takes = absurd takes
 appended before text (Some xs) (Some ys) is takes = let e : xs ≡ before = cc is in ap Some (takes ∙ ap (λ (l : List ℕ). l ++ text) e)
-
--- a source that is read to its end
-pub read_to_end : (old new : Option (List ℕ)) (bytes text : List ℕ) → old ≡ Some bytes → Consumes old new text → IsAtEnd new → (bytes ≡ text) × (new ≡ Some [])
-read_to_end None new bytes text is takes end = cc is
-read_to_end (Some xs) None bytes text is takes end = absurd takes
-read_to_end (Some xs) (Some ys) bytes text is takes end = let e : xs ≡ bytes = cc is in (sym e ∙ takes ∙ ap (λ (l : List ℕ). text ++ l) end ∙ append-nil text, ap Some end)
 
 -- the statuses with which a command answers about a file, and with which a transcript ends
 IsFinal : Status → Type 0
@@ -111,13 +104,17 @@ answers_leave words bytes file command result left before old new says shows rea
     written_leaves words bytes text status result left before old new (answered command file text status says shows answer) (left_by words bytes left (Some (Dump command)) says read) told wrote
 answers_leave words bytes file command result left before old new says shows read told (no_memory is same) = rw is (inl (same ∙ told))
 
+-- words of `replay` are those of no command on a dump
+no_replay : (words : List (List ℕ)) (command : DumpCommand) → command_of words ≡ Some (Dump command) → command_of words ≡ Some Replay → ⊥
+no_replay words command says is = let e : Some (Dump command) ≡ Some Replay = sym says ∙ is in cc e
+
 -- a command on a dump
 pub input_leaves : (words : List (List ℕ)) (bytes : List ℕ) (command : DumpCommand) (result : Status) (left : Option (List ℕ)) (before : List ℕ) (old new : Option (List ℕ))
     → command_of words ≡ Some (Dump command) → old ≡ Some before → AnswersInput bytes command left old new result → Leaves words bytes left before new result
 input_leaves words bytes command result left before old new says told (bad_input fault is read wrote) = written_leaves words bytes _ BadText result left before old new (bad_text command fault says is) (left_by words bytes left (Some (Dump command)) says read) told wrote
 input_leaves words bytes command result left before old new says told (good_input file is read answers) = answers_leave words bytes file command result left before old new says is read told answers
-input_leaves words bytes command result left before old new says told (no_input same (inl failed)) = rw failed (same ∙ told)
-input_leaves words bytes command result left before old new says told (no_input same (inr long)) = rw long.0 (same ∙ told)
+input_leaves words bytes command result left before old new says told (no_input same (inl failed)) = rw failed (λ other. same ∙ told, λ is. absurd (no_replay words command says is))
+input_leaves words bytes command result left before old new says told (no_input same (inr long)) = rw long.0 (λ other. same ∙ told, λ is. absurd (no_replay words command says is))
 
 -- a text that was made
 pub makes_leave : (words : List (List ℕ)) (bytes : List ℕ) (n : ℕ) (result : Status) (left : Option (List ℕ)) (before : List ℕ) (old new : Option (List ℕ))
@@ -132,30 +129,31 @@ front_of_transcript : (words : List (List ℕ)) (bytes before : List ℕ) (old n
 front_of_transcript words bytes before old new says told cut =
     record { text = (transcript bytes).text; status = (transcript bytes).status; output = replayed says; front = cut.0; back = cut.1; cut = cut.2; taken = appended before cut.0 old new told cut.3 }
 
--- a run that has written a transcript, or a front of one
-pub replays_leave : (words : List (List ℕ)) (bytes : List ℕ) (result : Status) (left : Option (List ℕ)) (before : List ℕ) (old new : Option (List ℕ))
-    → command_of words ≡ Some Replay → left ≡ Some [] → old ≡ Some before → Replays bytes old new result → Leaves words bytes left before new result
-replays_leave words bytes result left before old new says read told (inl (is, takes)) =
-    rw is (whole words bytes (transcript bytes).text (transcript bytes).status left before new (replayed says) (left_by words bytes left (Some Replay) says read) (appended before (transcript bytes).text old new told takes))
-replays_leave words bytes result left before old new says read told (inr (inl is, cut)) = rw is (inr (says, front_of_transcript words bytes before old new says told cut))
-replays_leave words bytes result left before old new says read told (inr (inr is, cut)) = rw is (front_of_transcript words bytes before old new says told cut)
+-- a replay that has written its whole transcript
+tells_all : (words : List (List ℕ)) (bytes : List ℕ) (result : Status) (left : Option (List ℕ)) (before : List ℕ) (new : Option (List ℕ)) → command_of words ≡ Some Replay → TellsAll (transcript bytes) left (Some before) new result
+    → Finished words bytes left before new result
+tells_all words bytes result left before new says tells = record {
+  text = (transcript bytes).text;
+  output = subst (Output words bytes (transcript bytes).text) (sym tells.status_is) (replayed says);
+  taken = appended before (transcript bytes).text (Some before) new refl tells.taken;
+  read = left_by words bytes left (Some Replay) says tells.read;
+}
 
--- a run that has written nothing, since the reading ended
-pub unwritten_leaves : (words : List (List ℕ)) (bytes : List ℕ) (left : Option (List ℕ)) (before : List ℕ) (after : Option (List ℕ)) (status : Status)
-    → after ≡ Some before → EndsReading status → Leaves words bytes left before after status
-unwritten_leaves words bytes left before after status told (inl is) = rw is told
-unwritten_leaves words bytes left before after status told (inr (inl is)) = rw is told
-unwritten_leaves words bytes left before after status told (inr (inr is)) = rw is (inl told)
+-- what each status of a replay leaves
+pub replays_leave : (words : List (List ℕ)) (bytes : List ℕ) (result : Status) (left : Option (List ℕ)) (before : List ℕ) (new : Option (List ℕ))
+    → command_of words ≡ Some Replay → Replays bytes left (Some before) new result → Leaves words bytes left before new result
+replays_leave words bytes Done left before new says tells = tells_all words bytes Done left before new says tells
+replays_leave words bytes Refused left before new says tells = tells_all words bytes Refused left before new says tells
+replays_leave words bytes Usage left before new says tells = absurd tells
+replays_leave words bytes BadText left before new says tells = tells_all words bytes BadText left before new says tells
+replays_leave words bytes ReadFault left before new says tells = (λ other. absurd (other says), λ is. tells)
+replays_leave words bytes WriteFault left before new says tells = front_of_transcript words bytes before (Some before) new says refl tells
+replays_leave words bytes NoMemory left before new says tells = inr (says, tells.0, front_of_transcript words bytes before (Some before) new says refl tells.1)
+replays_leave words bytes TooLong left before new says tells = (λ other. absurd (other says), λ is. front_of_transcript words bytes before (Some before) new says refl tells.1)
+replays_leave words bytes TooFew left before new says tells = absurd tells
+replays_leave words bytes Disabled left before new says tells = absurd tells
 
 -- ---- what is said of the source alone
-
--- a source of which more was read than a tool takes
-pub longer : (old new : Option (List ℕ)) (bytes : List ℕ) → old ≡ Some bytes → ConsumesTooMuch old new → 16777216 < length bytes
-longer None new bytes is much = absurd (cc is)
-longer (Some xs) None bytes is (text, takes, long) = absurd takes
-longer (Some xs) (Some ys) bytes is (text, takes, long) =
-    let e : xs ≡ bytes = cc is in
-    omega (arith, ap length (sym e ∙ takes), length-append text ys)
 
 answered_reads : (words : List (List ℕ)) (bytes : List ℕ) (left : Option (List ℕ)) (status : Status) → IsFinal status → Answered words bytes left status → Reads words bytes left status
 unfolding IsFinal
@@ -174,28 +172,21 @@ answers_read words bytes file command result left old new says shows read (write
 answers_read words bytes file command result left old new says shows read (no_memory is same) = rw is tt
 
 -- the status of a transcript
-pub replays_read : (words : List (List ℕ)) (bytes : List ℕ) (result : Status) (left old new : Option (List ℕ))
-    → command_of words ≡ Some Replay → left ≡ Some [] → Replays bytes old new result → Reads words bytes left result
-replays_read words bytes result left old new says read (inl (is, takes)) =
-    rw is (answered_reads words bytes left (transcript bytes).status (final_of_transcript bytes) (record { text = (transcript bytes).text; output = replayed says; read = left_by words bytes left (Some Replay) says read }))
-replays_read words bytes result left old new says read (inr (inl is, cut)) = rw is tt
-replays_read words bytes result left old new says read (inr (inr is, cut)) = rw is tt
+tells_status : (words : List (List ℕ)) (bytes : List ℕ) (result : Status) (left old new : Option (List ℕ)) → command_of words ≡ Some Replay → TellsAll (transcript bytes) left old new result → Answered words bytes left result
+tells_status words bytes result left old new says tells =
+    record { text = (transcript bytes).text; output = subst (Output words bytes (transcript bytes).text) (sym tells.status_is) (replayed says); read = left_by words bytes left (Some Replay) says tells.read }
 
--- the statuses with which a replay never ends
-pub never_replays : (bytes : List ℕ) (result : Status) (old new : Option (List ℕ)) → Replays bytes old new result → (result ≢ Usage) × (result ≢ ReadFault) × (result ≢ TooLong)
-never_replays bytes result old new told = by told
-  where
-    but : (status : Status) → result ≡ status → (status ≢ Usage) × (status ≢ ReadFault) × (status ≢ TooLong) → (result ≢ Usage) × (result ≢ ReadFault) × (result ≢ TooLong)
-    but status is others = rw is others
-
-    by : Replays bytes old new result → (result ≢ Usage) × (result ≢ ReadFault) × (result ≢ TooLong)
-    by (inl (is, takes)) = elim (one_of_three bytes) [
-      | inl ends ↦ but Done (is ∙ ends) (λ e. cc e, λ e. cc e, λ e. cc e)
-      | inr (inl ends) ↦ but Refused (is ∙ ends) (λ e. cc e, λ e. cc e, λ e. cc e)
-      | inr (inr ends) ↦ but BadText (is ∙ ends) (λ e. cc e, λ e. cc e, λ e. cc e)
-    ]
-    by (inr (inl is, cut)) = but NoMemory is (λ e. cc e, λ e. cc e, λ e. cc e)
-    by (inr (inr is, cut)) = but WriteFault is (λ e. cc e, λ e. cc e, λ e. cc e)
+pub replays_read : (words : List (List ℕ)) (bytes : List ℕ) (result : Status) (left old new : Option (List ℕ)) → command_of words ≡ Some Replay → Replays bytes left old new result → Reads words bytes left result
+replays_read words bytes Done left old new says tells = tells_status words bytes Done left old new says tells
+replays_read words bytes Refused left old new says tells = tells_status words bytes Refused left old new says tells
+replays_read words bytes Usage left old new says tells = absurd tells
+replays_read words bytes BadText left old new says tells = tells_status words bytes BadText left old new says tells
+replays_read words bytes ReadFault left old new says tells = tt
+replays_read words bytes WriteFault left old new says tells = tt
+replays_read words bytes NoMemory left old new says tells = tt
+replays_read words bytes TooLong left old new says tells = tells.0
+replays_read words bytes TooFew left old new says tells = absurd tells
+replays_read words bytes Disabled left old new says tells = absurd tells
 
 -- the statuses with which an answer never ends
 pub never_answers : (file : RegisterFile) (command : DumpCommand) (old new : Option (List ℕ)) (result : Status) → Answers file command old new result → (result ≢ Usage) × (result ≢ ReadFault) × (result ≢ TooLong)
@@ -240,9 +231,3 @@ makes_read words bytes n result left old new says read (inr (is, same)) = rw is 
 pub usage_reads : (words : List (List ℕ)) (bytes : List ℕ) (written : List ℕ) (result : Status) (left old new : Option (List ℕ)) → left ≡ Some bytes → Writes written Usage old new result → Reads words bytes left result
 usage_reads words bytes written result left old new same (inl (done, takes)) = rw done same
 usage_reads words bytes written result left old new same (inr (failed, cut)) = rw failed tt
-
--- a reading that ended early
-pub unwritten_reads : (words : List (List ℕ)) (bytes : List ℕ) (left : Option (List ℕ)) (status : Status) → EndsReading status → (status ≡ TooLong → 16777216 < length bytes) → Reads words bytes left status
-unwritten_reads words bytes left status (inl is) long = rw is tt
-unwritten_reads words bytes left status (inr (inl is)) long = rw is (long is)
-unwritten_reads words bytes left status (inr (inr is)) long = rw is tt

@@ -3,6 +3,5 @@ pub mod Generator
 pub mod Lines
 pub mod Output
 pub mod Program
-pub mod Reading
 pub mod Tool
 pub mod Written

@@ -1,9 +1,12 @@
 -- What a run of the program leaves in the source and the sink (own).
-use Rattle.std.specs.Prelude.{ℕ, ◌≡◌, ◌<◌, ◌⊎◌, List, ◌++◌, length, Option, Some, ⊤}
+use Rattle.std.specs.Prelude.{ℕ, ◌≡◌, ◌≢◌, ◌<◌, ◌⊎◌, List, ◌++◌, length, Option, Some, ⊤}
 use Rattle.mt_ports.specs.declared.status.Status.{Status}
 use Rattle.mt_ports.specs.declared.status.Status.TheVariants.{Done, Refused, Usage, BadText, ReadFault, WriteFault, NoMemory, TooLong, TooFew, Disabled}
 use Rattle.mt_cli.specs.declared.command.Command.TheVariants.{Replay}
 use Rattle.mt_cli.specs.CommandLine.{command_of, left_of}
+use Rattle.mt_ports.specs.Puts.{AppendsFront}
+use Rattle.mt_output.specs.Lines.{accepted_line}
+use Rattle.mt_replay.specs.Running.{TellsKnown}
 use Rattle.mt_cli.specs.Output.{Output}
 
 -- The sink took the whole output, and nothing of the input is left, or all of it where the command reads nothing.
@@ -27,9 +30,20 @@ pub record CutShort (words : List (List ℕ)) (bytes : List ℕ) (before : List 
 abbrev pub Untouched : List ℕ → Option (List ℕ) → Type 0
 Untouched before after = after ≡ Some before
 
--- Memory was refused: the sink took nothing, but for `replay`, which may have written a front of its transcript.
+-- A read failed: the sink took nothing, but for `replay` exactly what the known lines of the bytes write that were taken.
+abbrev pub FailedRead : List (List ℕ) → List ℕ → Option (List ℕ) → List ℕ → Option (List ℕ) → Type 0
+FailedRead words bytes left before after =
+    (command_of words ≢ Some Replay → Untouched before after) × (command_of words ≡ Some Replay → TellsKnown bytes left (Some before) after)
+
+-- The input is too long: the sink took nothing, but for `replay`, which has written a front of its transcript.
+abbrev pub Overran : List (List ℕ) → List ℕ → List ℕ → Option (List ℕ) → Type 0
+Overran words bytes before after =
+    (command_of words ≢ Some Replay → Untouched before after) × (command_of words ≡ Some Replay → CutShort words bytes before after)
+
+-- Memory was refused: the sink took nothing, but for `replay`, which may have written a front of its first line.
 abbrev pub Starved : List (List ℕ) → List ℕ → List ℕ → Option (List ℕ) → Type 0
-Starved words bytes before after = Untouched before after ⊎ ((command_of words ≡ Some Replay) × CutShort words bytes before after)
+Starved words bytes before after =
+    Untouched before after ⊎ ((command_of words ≡ Some Replay) × AppendsFront (Some before) after accepted_line × CutShort words bytes before after)
 
 -- what each status says of the bytes: those that the source held and has left, and those that the sink had before and has after
 abbrev pub Leaves : List (List ℕ) → List ℕ → Option (List ℕ) → List ℕ → Option (List ℕ) → Status → Type 0
@@ -37,10 +51,10 @@ Leaves words bytes left before after Done = Finished words bytes left before aft
 Leaves words bytes left before after Refused = Finished words bytes left before after Refused
 Leaves words bytes left before after Usage = Finished words bytes left before after Usage
 Leaves words bytes left before after BadText = Finished words bytes left before after BadText
-Leaves words bytes left before after ReadFault = Untouched before after
+Leaves words bytes left before after ReadFault = FailedRead words bytes left before after
 Leaves words bytes left before after WriteFault = CutShort words bytes before after
 Leaves words bytes left before after NoMemory = Starved words bytes before after
-Leaves words bytes left before after TooLong = Untouched before after
+Leaves words bytes left before after TooLong = Overran words bytes before after
 Leaves words bytes left before after TooFew = Finished words bytes left before after TooFew
 Leaves words bytes left before after Disabled = Finished words bytes left before after Disabled
 

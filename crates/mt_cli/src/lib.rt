@@ -7,7 +7,6 @@ mod generator;
 mod laws;
 mod lines;
 mod program;
-mod reading;
 mod texts;
 mod top;
 mod words;
@@ -22,7 +21,6 @@ pub use laws::{
 };
 pub use lines::{disabled_line, lost_line, page_text, run_line, too_few_line, used_line};
 pub use program::program_status;
-pub use reading::read_all;
 pub use texts::{canonical_text, grained_text, tidied_text, types_text};
 pub use top::tool;
 pub use words::command_of;

@@ -62,8 +62,14 @@ fn each_read_may_fail(rt: HostRuntime) -> Result<(), Fail> {
         };
         let ran = run(&rt, &["replay"], &ports)?;
         if call < 8 {
+            // the known lines of the bytes before it are told
+            let told = match call {
+                0..=3 => b"".as_slice(),
+                4..=6 => b"accepted\n".as_slice(),
+                _ => b"accepted\ncomplete 1\n".as_slice(),
+            };
             assert_eq!(rt; ran.status, Status::ReadFault, "at {call}");
-            assert_eq!(rt; ran.sink.bytes().len(), 0);
+            assert!(rt; ran.sink.bytes() == told, "at {call}");
         } else {
             assert_eq!(rt; ran.status, Status::Done, "at {call}");
             assert!(rt; ran.sink.bytes() == b"accepted\ncomplete 1\n".as_slice());

@@ -6,7 +6,6 @@ ghost use Rattle.mt_cli.specs.declared.command.Command.{Command};
 ghost use Rattle.mt_cli.specs.Tool.{Leaves, Reads};
 
 use crate::answers::{answer_input, make, written};
-use crate::reading::read_all;
 use crate::{Command, command_of};
 use mt_ports::{Gate, Sink, Source, Status};
 use mt_replay::replay;
@@ -53,9 +52,6 @@ pub fn tool<R: AllocGlobal + Threads + Wait + Sync, S: Source, K: Sink, G: Gate>
     match command {
         Command::Dump(command) => answer_input(rt.alloc(), command, source, sink),
         Command::Make(n) => make(rt.alloc(), n, sink),
-        Command::Replay => match read_all(rt.alloc(), source) {
-            Ok(text) => replay(rt, &text, sink, gate),
-            Err(status) => status,
-        },
+        Command::Replay => replay(rt, source, sink, gate),
     }
 }

@@ -1,4 +1,4 @@
-ghost use Rattle.std.specs.Prelude.{◌≡◌, ◌≢◌, ◌≤◌, ◌<◌, ◌+◌, ◌↔◌, ◌++◌, ℕ, List, [], length, None, Some, MatchResult};
+ghost use Rattle.std.specs.Prelude.{◌≡◌, ◌≢◌, ◌⊎◌, ◌≤◌, ◌<◌, ◌+◌, ◌↔◌, ◌++◌, ℕ, List, [], length, None, Some, MatchResult};
 ghost use Rattle.std.specs.Io.KnownBytes.{Consumes, IsAtEnd};
 ghost use Rattle.mt_text.specs.Feed.{GaveTooMuch, IsLong, taken};
 ghost use Rattle.mt_ports.specs.Causes.{HasCause, Rose, StatusHasCause};
@@ -24,7 +24,8 @@ pub(crate) enum Cut {
 }
 
 fn cut_status(cut: &Cut) -> Status
-    ensures { result ≡ cut_status cut.now }
+    ensures value { result ≡ cut_status cut.now }
+    ensures usage { result ≢ Status.Usage }
 {
     match cut {
         Cut::Feed(FeedFault::ReadFault) => Status::ReadFault,
@@ -66,6 +67,7 @@ fn close<K: Sink>(writer: &mut Writer, sink: &mut K, text: &[u8], status: Status
     requires few { length text.now ≤ 224 }
     requires status { status ≢ Status.WriteFault }
     ensures bytes { Closes (told text.now status) writer.old (K.taken sink.old) (K.taken sink.new) result }
+    ensures statuses { (result ≡ status) ⊎ (result ≡ Status.WriteFault) }
     ensures cause { StatusHasCause Status.WriteFault (K.faults sink.old) (K.faults sink.new) result }
 {
     if let Err(_) = writer.write(sink, text) {
@@ -80,6 +82,7 @@ fn close<K: Sink>(writer: &mut Writer, sink: &mut K, text: &[u8], status: Status
 // Where the text ends.
 fn end_text<K: Sink>(run: &Run, feed: &Feed, writer: &mut Writer, sink: &mut K) -> Status
     ensures bytes { Closes (told_at_end (end_fault (setup_of run.now).stage feed.now.place)) writer.old (K.taken sink.old) (K.taken sink.new) result }
+    ensures usage { result ≢ Status.Usage }
     ensures cause { StatusHasCause Status.WriteFault (K.faults sink.old) (K.faults sink.new) result }
 {
     match read_end(run.setup(), feed.end()) {
@@ -106,6 +109,7 @@ fn leave<S: Source, K: Sink>(
     ensures bytes { (more : List ℕ) × Consumes (S.left source.old) (S.left source.new) more × (S.given source.new ≡ S.given source.old + length more) × (taken feed.new ≡ taken feed.old + length more)
         × Leaves status last more (S.left source.new) writer.old (K.taken sink.old) (K.taken sink.new) result }
     ensures long { (result ≡ Status.TooLong) ↔ (16777216 < taken feed.new) }
+    ensures usage { result ≢ Status.Usage }
     ensures read_fault { StatusHasCause Status.ReadFault (S.faults source.old) (S.faults source.new) result }
     ensures write_fault { StatusHasCause Status.WriteFault (K.faults sink.old) (K.faults sink.new) result }
 {
@@ -136,6 +140,7 @@ fn run_lines<R: Threads + Wait + Sync, S: Source, K: Sink, G: Gate>(
     ensures read_fault { StatusHasCause Status.ReadFault (S.faults source.old) (S.faults source.new) result }
     ensures write_fault { StatusHasCause Status.WriteFault (K.faults sink.old) (K.faults sink.new) result }
     ensures too_long { (result ≡ Status.TooLong) ↔ GaveTooMuch (S.given source.old) (S.given source.new) }
+    ensures usage { result ≢ Status.Usage }
 {
     let mut feed = Feed::new();
     let mut run = Run::Head(Head::new());
@@ -177,6 +182,7 @@ pub fn replay<R: AllocGlobal + Threads + Wait + Sync, S: Source, K: Sink, G: Gat
     ensures read_fault { StatusHasCause Status.ReadFault (S.faults source.old) (S.faults source.new) result }
     ensures write_fault { StatusHasCause Status.WriteFault (K.faults sink.old) (K.faults sink.new) result }
     ensures too_long { (result ≡ Status.TooLong) ↔ GaveTooMuch (S.given source.old) (S.given source.new) }
+    ensures usage { result ≢ Status.Usage }
 {
     let Ok(mut writer) = Writer::new(rt.alloc()) else {
         return Status::NoMemory;

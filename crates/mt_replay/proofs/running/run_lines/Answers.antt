@@ -35,7 +35,7 @@ returns-in-Err-clause-bytes g c = λ bytes known.
     let enough =
     cut_enough c.lines.feed c.next_line.new.feed more c.lines.writer c.next_line.new.writer (g.K.Sink.taken c.lines.sink) (g.K.Sink.taken c.next_line.new.sink) (g.S.Source.given c.args.source.now) (g.S.Source.given c.lines.source) (g.S.Source.given c.next_line.new.source)
     c.lines.invariant.given rises c.in-Err.ensures.long c.lines.invariant.no_fault c.in-Err.cut short in
-    subst (Replays bytes (g.S.Source.left c.next_line.new.source) (g.K.Sink.taken c.args.sink.now) (g.K.Sink.taken c.next_line.new.sink)) (sym c.cut_status.ensures)
+    subst (Replays bytes (g.S.Source.left c.next_line.new.source) (g.K.Sink.taken c.args.sink.now) (g.K.Sink.taken c.next_line.new.sink)) (sym c.cut_status.ensures.value)
     (cuts bytes more (g.S.Source.left c.lines.source) (g.S.Source.left c.next_line.new.source) c.lines.feed c.next_line.new.feed c.lines.run c.lines.writer c.next_line.new.writer
     (g.K.Sink.taken c.args.sink.now) (g.K.Sink.taken c.lines.sink) (g.K.Sink.taken c.next_line.new.sink) c.in-Err.cut (c.lines.invariant.told bytes known) takes short c.lines.invariant.no_fault enough)
 
@@ -45,7 +45,7 @@ returns-in-Err-clause-too_long g c =
     let long =
     cut_long c.lines.feed c.next_line.new.feed more c.lines.writer c.next_line.new.writer (g.K.Sink.taken c.lines.sink) (g.K.Sink.taken c.next_line.new.sink) (g.S.Source.given c.args.source.now) (g.S.Source.given c.lines.source) (g.S.Source.given c.next_line.new.source)
     c.lines.invariant.given rises c.in-Err.ensures.long c.lines.invariant.no_fault c.in-Err.cut short in
-    (λ is. long.0 (sym c.cut_status.ensures ∙ is), λ much. c.cut_status.ensures ∙ long.1 much)
+    (λ is. long.0 (sym c.cut_status.ensures.value ∙ is), λ much. c.cut_status.ensures.value ∙ long.1 much)
 
 pub returns-then-last-clause-bytes : goal.returns-then-last-clause-bytes
 returns-then-last-clause-bytes g c = λ bytes known.
