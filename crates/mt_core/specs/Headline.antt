@@ -1,18 +1,19 @@
 -- What holds in each state that arises.
-use Rattle.std.specs.Prelude.{◌≡◌, ◌⊎◌, ◌<◌, ◌≤◌, ◌+◌, ◌%◌, ℕ, true, false, not, ◌&&◌, ◌||◌, List, [], ◌∷◌, ◌++◌, length, slice_get, None, Some}
-use Rattle.std.specs.List.{All, list_all}
+use Rattle.std.specs.Prelude.{◌≡◌, ◌⊎◌, ◌<◌, ◌≤◌, ◌+◌, ℕ, true, false, not, ◌&&◌, ◌||◌, List, [], ◌∷◌, ◌++◌, length, slice_get, None, Some}
+use Rattle.std.specs.List.{list_all}
 use Rattle.mt_machine.specs.declared.phase.Phase.TheVariants.{Arrived, Arrived2}
 use Rattle.mt_machine.specs.declared.event.Event.TheVariants.{Pass, Release, Take}
-use Rattle.mt_machine.specs.System.{Processor, System, now}
-use Rattle.mt_machine.specs.Machine.{AreEnabled, BarrierCount, IsEnabled, Machine, MachineEvent, Order, Steps, first_barrier_count, is_cancelled, next, run, second_barrier_count}
+use Rattle.mt_machine.specs.System.{Processor, System}
+use Rattle.mt_machine.specs.Machine.{AreEnabled, BarrierCount, IsEnabled, Machine, MachineEvent, Order, Steps, first_barrier_count, is_cancelled, next, second_barrier_count}
 use Rattle.mt_machine.specs.Start.{IsQuiet}
-use Rattle.mt_machine.specs.Update.{IsHeld, IsSettled, is_call, is_release, is_step_of}
+use Rattle.mt_machine.specs.Update.{IsHeld, is_call, is_release, is_step_of}
 use Rattle.mt_laws.specs.Barriers.{BarriersHold, NoneActsInChange, NoneRunsInChange}
 use Rattle.mt_laws.specs.Counts.{IsCounted}
 use Rattle.mt_laws.specs.Kept.{OrderHolds, is_of_update, is_take_step}
 use Rattle.mt_laws.specs.Settled.{IsFirstRelease}
 use Rattle.mt_core.specs.declared.stepped.Stepped.TheVariants.{Waits}
 use Rattle.mt_core.specs.Arises.{Arises}
+use Rattle.mt_core.specs.Since.{HaveNoBuffers, IsSettledSince, KeepsWord}
 use Rattle.mt_core.specs.Steps.{step_answer}
 
 -- from each release on, up to the next call, each processor's file is the goal, and nothing is held that is older than the update
@@ -20,7 +21,7 @@ abbrev pub SettledFromRelease : Type 0
 SettledFromRelease =
     (m : Machine) (o : Order) (k : ℕ) (since : List MachineEvent) → Arises m → m.order ≡ Some o
     → IsEnabled m (Steps k Release) → AreEnabled (next m (Steps k Release)) since → list_all (λ e. not (is_call e)) since ≡ true
-    → IsSettled (run (next m (Steps k Release)) since).system (o.from_era + 1) o.goal
+    → IsSettledSince (next m (Steps k Release)) o.from_era o.goal since
 
 -- each word that no access stored since the first release is in memory as it was before the first pass
 abbrev pub HeldFromFirstRelease : Type 0
@@ -29,7 +30,7 @@ HeldFromFirstRelease =
 
 -- where some processor may pass the first barrier, none has a buffer
 abbrev pub NoBuffersWhereOnePasses : Type 0
-NoBuffersWhereOnePasses = (p : Machine) (k : ℕ) → Arises p → IsEnabled p (Steps k Pass) → All (λ q. q.buffers ≡ []) p.system.processors
+NoBuffersWhereOnePasses = (p : Machine) (k : ℕ) → Arises p → IsEnabled p (Steps k Pass) → HaveNoBuffers p.system.processors
 
 abbrev pub IsQuietWithoutOrder : Type 0
 IsQuietWithoutOrder = (m : Machine) → Arises m → m.order ≡ None → IsQuiet m
@@ -60,7 +61,7 @@ OrdersHoldThroughout = (m : Machine) (o : Order) → Arises m → m.order ≡ So
 abbrev pub StepsKeepThroughout : Type 0
 StepsKeepThroughout =
     (m : Machine) (e : MachineEvent) (address : ℕ) → Arises m → IsEnabled m e → is_of_update e ≡ true → is_take_step e ≡ false
-    → address % 8 ≡ 0 → now (next m e).system address ≡ now m.system address
+    → KeepsWord m.system (next m e).system address
 
 -- from a take to the release that follows it
 abbrev pub StepsCountThroughout : Type 0
@@ -81,9 +82,12 @@ WaitsFor o ps p c =
     ((p.phase ≡ Arrived) × (is_cancelled o.go ≡ false) × (c ≡ first_barrier_count o ps) × IsBelowFull c)
     ⊎ ((p.phase ≡ Arrived2) × (c ≡ second_barrier_count o ps) × IsBelowFull c)
 
--- a step answers Waits exactly there, with that count
+-- a step of processor k answers Waits with this count exactly where p waits for it
+abbrev pub WaitsWhereFor : Machine → ℕ → Processor → BarrierCount → Type 0
+WaitsWhereFor m k p c =
+    (step_answer m k ≡ Waits c.arrived c.awaited → (o : Order) × (m.order ≡ Some o) × WaitsFor o m.system.processors p c)
+    × ((o : Order) → m.order ≡ Some o → WaitsFor o m.system.processors p c → step_answer m k ≡ Waits c.arrived c.awaited)
+
 abbrev pub WaitsAtBarriers : Type 0
 WaitsAtBarriers =
-    (m : Machine) (k : ℕ) (p : Processor) (c : BarrierCount) → slice_get m.system.processors k ≡ Some p
-    → (step_answer m k ≡ Waits c.arrived c.awaited → (o : Order) × (m.order ≡ Some o) × WaitsFor o m.system.processors p c)
-    × ((o : Order) → m.order ≡ Some o → WaitsFor o m.system.processors p c → step_answer m k ≡ Waits c.arrived c.awaited)
+    (m : Machine) (k : ℕ) (p : Processor) (c : BarrierCount) → slice_get m.system.processors k ≡ Some p → WaitsWhereFor m k p c

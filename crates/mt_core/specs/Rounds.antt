@@ -1,15 +1,15 @@
 -- Whole turns of steps, until no update is under way (own).
-use Rattle.std.specs.Prelude.{◌≡◌, ◌<◌, ◌+◌, ◌%◌, ◌&&◌, ℕ, true, not, List, [], ◌∷◌, ◌++◌, length, IsSome, Option, None, Some}
-use Rattle.std.specs.List.{Contains, fold, list_all, range_with_len}
+use Rattle.std.specs.Prelude.{◌≡◌, ◌<◌, ◌&&◌, ℕ, true, not, List, [], ◌∷◌, ◌++◌, length, IsSome, Option, None, Some}
+use Rattle.std.specs.List.{fold, list_all, range_with_len}
 use Rattle.mt_machine.specs.declared.event.Event.TheVariants.{Release}
 use Rattle.mt_machine.specs.declared.go.Go.{Go}
 use Rattle.mt_machine.specs.declared.go.Go.TheVariants.{Pending}
 use Rattle.mt_machine.specs.Machine.{AreEnabled, Calls, Goes, IsEnabled, Machine, MachineEvent, Reached, Steps, common_era, go_of, next, run}
 use Rattle.mt_regs.specs.RegisterFile.{RegisterFile}
 use Rattle.mt_machine.specs.Start.{IsQuiet}
-use Rattle.mt_machine.specs.Memory.{word_at}
-use Rattle.mt_machine.specs.Update.{IsSettled, is_call, is_cancel, is_led, stored_words, updated}
+use Rattle.mt_machine.specs.Update.{is_call, is_cancel, is_led, updated}
 use Rattle.mt_core.specs.Arises.{Arises}
+use Rattle.mt_core.specs.Since.{IsHeldSince, IsSettledSince}
 use Rattle.mt_core.specs.Steps.{step_after}
 
 -- the numbers below a count, in order
@@ -69,13 +69,10 @@ abbrev pub UpdatesSettle : Type 0
 UpdatesSettle =
     (s : Machine) (goal : RegisterFile) (since : List MachineEvent) → IsQuiet s → IsEnabled s (Calls goal) → 0 < length s.system.processors
     → AreEnabled (updated s.system (in_order s) goal) since → list_all (λ e. not (is_call e)) since ≡ true
-    → IsSettled (run (updated s.system (in_order s) goal) since).system (common_era s.system.processors + 1) goal
+    → IsSettledSince (updated s.system (in_order s) goal) (common_era s.system.processors) goal since
 
 -- and each word that no access stored since is in memory as the update left it
 abbrev pub UpdatedWordsAreHeld : Type 0
 UpdatedWordsAreHeld =
     (s : Machine) (goal : RegisterFile) (since : List MachineEvent) (address : ℕ) → IsQuiet s → IsEnabled s (Calls goal)
-    → AreEnabled (updated s.system (in_order s) goal) since → address % 8 ≡ 0
-    → (Contains (stored_words (updated s.system (in_order s) goal) since) address → ⊥)
-    → word_at (run (updated s.system (in_order s) goal) since).system.memory address
-    ≡ word_at (updated s.system (in_order s) goal).system.memory address
+    → AreEnabled (updated s.system (in_order s) goal) since → IsHeldSince (updated s.system (in_order s) goal) since address

@@ -13,6 +13,7 @@ mod stepped;
 mod steps;
 #[cfg(test)]
 mod tests;
+mod worked;
 
 pub use core_type::Core;
 pub use fault::CallFault;
@@ -23,3 +24,7 @@ pub use laws::{
 pub use mt_machine::{Event, Go, Phase};
 pub use order::Order;
 pub use stepped::Stepped;
+pub use worked::{
+    worked_answers, worked_arises, worked_rises, worked_rounds, worked_since, worked_stops,
+    worked_turns, worked_updates_by_events, worked_waits,
+};
