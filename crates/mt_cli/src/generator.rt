@@ -1,6 +1,7 @@
 ghost use Rattle.std.specs.Prelude.{◌≡◌, ◌<◌, ◌≤◌, ◌^◌, ◌+◌, ◌*◌, ◌++◌, IfOk, string_bytes};
 ghost use Rattle.mt_cli.specs.Generator.{access_line, accesses, after_accesses, head_text, drawn, make_text, map_line, maps, processor_lines, processors, round_text, round_value, rounds, stepped};
 
+use mt_ports::NoMemory;
 use std::alloc::{AllocError, Global};
 
 const PROCESSORS: u64 = 16;
@@ -134,13 +135,22 @@ fn append_processors(text: &mut String) -> Result<(), AllocError>
     Ok(())
 }
 
-/// A script for measurements, which a number determines.
-pub fn make_text(alloc: Global, n: u64) -> Result<Vec<u8>, AllocError>
-    ensures { IfOk result (λ text. text.items ≡ make_text n) }
+fn made_text(alloc: Global, n: u64) -> Result<String, AllocError>
+    ensures { IfOk result (λ text. string_bytes text ≡ make_text n) }
 {
     let mut text = String::new(alloc);
     text.push_str(HEAD)?;
     append_processors(&mut text)?;
     append_rounds(&mut text, n)?;
-    Ok(text.into_bytes())
+    Ok(text)
+}
+
+/// A script for measurements, which a number determines.
+pub fn make_text(alloc: Global, n: u64) -> Result<Vec<u8>, NoMemory>
+    ensures { IfOk result (λ text. text.items ≡ make_text n) }
+{
+    match made_text(alloc, n) {
+        Ok(text) => Ok(text.into_bytes()),
+        Err(_) => Err(NoMemory),
+    }
 }
