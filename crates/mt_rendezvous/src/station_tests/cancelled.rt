@@ -190,7 +190,7 @@ fn three<R: Threads + Wait + Sync>(rt: &R, alloc: Global, late: usize, told: u64
     if !take(&mut core, &goal) {
         return None;
     }
-    let System { cpus, mut ram } = core.into_system();
+    let System { cpus, mut ram, .. } = core.into_system();
     let gate = Counter {
         told: AtomicU64::new(0),
     };
@@ -210,9 +210,9 @@ fn a_station_may_be_cancelled_at_each_arrival(rt: HostRuntime) {
         for told in row.done.iter() {
             assert!(rt; told.outcome == Outcome::Cancelled, "with {late} late");
             assert!(rt; told.shown.is_none());
-            let lines = told.cpu.cache().lines();
-            assert!(rt; lines.len() == 1);
-            assert!(rt; lines.iter().all(|line| line.dirty == 1));
+            let cache = told.cpu.cache();
+            assert_eq!(rt; cache.len(), 1);
+            assert!(rt; cache.nth(0).dirty == 1);
         }
         for address in [0x10_0000, 0x10_0040, 0x10_0080] {
             assert!(rt; word(&row.ram, address) == Some(0));
