@@ -16,7 +16,10 @@ mod worked_steps;
 
 pub use broadcast::call_and_take;
 pub use gather::disband;
-pub use laws::{broadcast_begins, each_step_is_one_event, full_station_holds, station_is_led};
+pub use laws::{
+    broadcast_begins, each_step_is_one_event, ended_seats_tell_of_the_station, full_station_holds,
+    station_is_led,
+};
 pub use station::{Attendee, Outcome, Pass, Root, Station, attend};
 pub use threads::update;
 pub use view::{Held, Key, Start, View};
