@@ -80,7 +80,7 @@ drop_set (x ∷ xs) (suc n) i v = let e : suc n + i ≡ suc (n + i) = omega arit
 
 -- ---- the order stands while a processor is on its way
 
-all_false : (f : Processor → Bool) (l : List Held) (k : ℕ) (h : Held) → get_elem? l k ≡ some h → f h.cpu ≡ false → list_all f (map cpu_of l) ≡ false
+pub all_false : (f : Processor → Bool) (l : List Held) (k : ℕ) (h : Held) → get_elem? l k ≡ some h → f h.cpu ≡ false → list_all f (map cpu_of l) ≡ false
 all_false f [] k h e off = absurd (some-ne-none h (sym e))
 all_false f (x ∷ xs) zero h e off = ap (λ b. b && list_all f (map cpu_of xs)) (ap (λ (y : Held). f y.cpu) (some-injective x h e) ∙ off)
 all_false f (x ∷ xs) (suc k) h e off = ap (λ b. f x.cpu && b) (all_false f xs k h e off) ∙ and_false (f x.cpu)

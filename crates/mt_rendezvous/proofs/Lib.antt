@@ -10,6 +10,7 @@ mod Facts
 mod Carried
 mod Ends
 mod Unique
+mod Seats
 mod Handed
 mod Begun
 mod Renewed

@@ -4,8 +4,8 @@ use Rattle.std.specs.List.{All}
 use mathlib.Core.Option.{none, some}
 use lib.ListN.{get_elem?}
 use Rattle.atomic_table.specs.Table.{State, keeps, step, stepped}
-use Rattle.mt_machine.specs.declared.phase.Phase.TheVariants.{Taken, Restored, Arrived2}
-use Rattle.mt_machine.specs.declared.go.Go.TheVariants.{Pending}
+use Rattle.mt_machine.specs.declared.phase.Phase.TheVariants.{Running, Taken, Restored, Arrived2}
+use Rattle.mt_machine.specs.declared.go.Go.TheVariants.{Pending, Given, Cancelled}
 use Rattle.mt_machine.specs.declared.event.Event.TheVariants.{Arrive, Leave, Pass, ArriveAgain, Release}
 use Rattle.mt_machine.specs.Memory.{place, word_at}
 use Rattle.mt_machine.specs.System.{Processor, now}
@@ -39,6 +39,18 @@ HoldsWhereFull =
     (key : Key) (s : State (Unit {0}) View) (m : Meets key s) → slice_index s.words 1 ≡ length key.cpus.value.items
     → All (HoldsNothing key.goal.value) (machine_of key s m).system.processors
     × ((address : ℕ) → address % 8 ≡ 0 → word_at (machine_of key s m).system.memory address ≡ now (broadcast (start_of key)).system address)
+
+-- a seat's one processor ended with one addition: this station's update is cancelled, and word 0 shows it
+abbrev pub LeftWhereCancelled : Type 0
+LeftWhereCancelled =
+    (key : Key) (s : State (Unit {0}) View) (m : Meets key s) (j k : ℕ) (v : View) (c : Processor) → get_elem? s.views j ≡ some v → v.held ≡ held k c true false ∷ [] → c.phase ≡ Running
+    → (m.go ≡ Cancelled) × (4294967296 ≤ slice_index s.words 0)
+
+-- it ended with both: this station's go is given, and word 1 shows all
+abbrev pub ReleasedWhereFull : Type 0
+ReleasedWhereFull =
+    (key : Key) (s : State (Unit {0}) View) (m : Meets key s) (j k : ℕ) (v : View) (c : Processor) → get_elem? s.views j ≡ some v → v.held ≡ held k c true true ∷ [] → c.phase ≡ Running
+    → (m.go ≡ Given) × (slice_index s.words 1 ≡ length key.cpus.value.items)
 
 -- a broadcast state whose era may rise is one from which a station can be gathered
 abbrev pub BroadcastBegins : Type 0

@@ -3,6 +3,7 @@ use Rattle.atomic_table.specs.Table.{State, opening}
 use Rattle.std.specs.Prelude.{ℕ, Bool, true, false, List, [], ◌∷◌, None, Some, slice_set}
 use Rattle.mt_machine.specs.declared.phase.Phase.{Phase}
 use Rattle.mt_machine.specs.declared.phase.Phase.TheVariants.{Taken, Arrived}
+use Rattle.mt_machine.specs.declared.go.Go.{Go}
 use Rattle.mt_machine.specs.declared.go.Go.TheVariants.{Pending}
 use Rattle.mt_machine.specs.System.{Processor, start_processor}
 use Rattle.mt_machine.specs.Memory.{Memory}
@@ -12,7 +13,8 @@ use Rattle.mt_rendezvous.specs.declared.view.Held.{Held}
 use Rattle.mt_rendezvous.specs.declared.view.Start.{Start}
 use Rattle.mt_rendezvous.specs.declared.view.View.{View}
 use Rattle.mt_rendezvous.specs.declared.view.Key.{Key}
-use Rattle.mt_rendezvous.specs.Station.{first_view, held, numbered, pass_right, with_held}
+use Rattle.mt_rendezvous.specs.Station.{first_view, held, numbered, pass_right, view, with_held}
+use Rattle.mt_rendezvous.specs.Plays.{Sat}
 use Rattle.mt_rendezvous.specs.Calls.{gathered, opening_words}
 
 -- lines of the first have words 1 and 2 dirty
@@ -83,3 +85,28 @@ at_start key = opening (opening_words 2 zeros) [] (first_view key)
 -- two words and one view
 abbrev pub two_words : State (Unit {0}) View
 two_words = record { words = 5 ∷ 9 ∷ []; homes = []; views = root_view ∷ [] }
+
+-- ---- seats
+
+-- the view of the first pass, with this processor
+abbrev pub pass_with : Held → View
+pass_with h = with_held (pass_right root_view) (h ∷ [])
+
+-- a seat to which nothing is lent, and one to which a word is
+abbrev pub bare : View → Sat
+bare v = (v, [])
+
+abbrev pub lent : View → Sat
+lent v = (v, (0, tt) ∷ [])
+
+-- one with the goal's registers, which holds nothing
+abbrev pub clean : Processor
+clean = record (start_processor (bare_file 0x800)) { phase = Taken }
+
+-- two such, with this goal
+abbrev pub clean_start : ℕ → Start
+clean_start default_type = gathered (clean ∷ clean ∷ []) (one_line zeros) (bare_file default_type)
+
+-- the root's view where it has said so, or holds these
+abbrev pub root_with : Go → List Held → View
+root_with go hs = view true hs go None root_view

@@ -1,4 +1,4 @@
-ghost use Rattle.mt_rendezvous.specs.Laws.{BroadcastBegins, HoldsWhereFull, IsLedTo, StandsForOne};
+ghost use Rattle.mt_rendezvous.specs.Laws.{BroadcastBegins, HoldsWhereFull, IsLedTo, LeftWhereCancelled, ReleasedWhereFull, StandsForOne};
 ghost use Rattle.mt_rendezvous.specs.Laws.{ArriveAgainFollows, ArriveFollows, CancelFollows, GoFollows, JoinFollows, PassFollows, ReleaseFollows, SplitFollows, WorkFollows};
 
 /// Between any two steps the words and the views stand for one state, to which the broadcast state leads.
@@ -24,6 +24,13 @@ pub fn each_step_is_one_event()
 /// word is in memory.
 pub fn full_station_holds()
     ensures { HoldsWhereFull }
+{}
+
+/// Where a seat's one processor runs again, what its pass has added tells of the station: after one
+/// addition the update is cancelled and word 0 shows it, after both the go is given and word 1 shows all.
+pub fn ended_seats_tell_of_the_station()
+    ensures left { LeftWhereCancelled }
+    ensures released { ReleasedWhereFull }
 {}
 
 /// A station can be gathered from each broadcast state whose era may rise.

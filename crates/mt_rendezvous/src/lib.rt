@@ -12,15 +12,22 @@ mod threads;
 mod update_tests;
 mod view;
 mod worked;
+mod worked_calls;
 mod worked_steps;
 
 pub use broadcast::call_and_take;
 pub use gather::disband;
-pub use laws::{broadcast_begins, each_step_is_one_event, full_station_holds, station_is_led};
+pub use laws::{
+    broadcast_begins, each_step_is_one_event, ended_seats_tell_of_the_station, full_station_holds,
+    station_is_led,
+};
 pub use station::{Attendee, Outcome, Pass, Root, Station, attend};
 pub use threads::update;
 pub use view::{Held, Key, Start, View};
 pub use worked::{worked_fits, worked_machines, worked_views};
+pub use worked_calls::{
+    worked_attends, worked_carries, worked_ends, worked_outcomes, worked_roots,
+};
 pub use worked_steps::{
     worked_begins, worked_decisions, worked_follows, worked_pass_steps, worked_places, worked_rule,
     worked_stands,
