@@ -37,6 +37,7 @@ pub fn worked_words()
     ensures loaded { stored_by painted (asks.Load 0 0x1000) ≡ None }
     ensures in_turn { stored_by_all painted (asks.Store 0 0x6000 1 ∷ asks.Map 0 0x6000 0x100000 0 false ∷ asks.Store 0 0x6010 1 ∷ asks.Load 0 0x1008 ∷ asks.Store 1 0x1000 2 ∷ []) ≡ 0x100010 ∷ 0x100000 ∷ [] }
     ensures other_value { AreHeld (λ address. 1) painted [] → ⊥ }
+    ensures emptied_since_of_the_second_word { AreHeld (λ address. 0) (painted_by (store 0 0x3008 7 ∷ [])) (asks.Fence 0 ∷ []) → ⊥ }
     ensures emptied_since { AreHeld (λ address. 0) (painted_by (store 0 0x3000 7 ∷ [])) (asks.Fence 0 ∷ []) → ⊥ }
 {}
 
