@@ -40,10 +40,10 @@ fn a_made_text_is_replayed(rt: HostRuntime) -> Result<(), Fail> {
     };
     let ran = run(&rt, &["replay"], &ports)?;
     assert_eq!(rt; ran.status, Status::Done);
-    let mut lines = 0;
+    let mut lines = 0u64;
     for byte in ran.sink.bytes() {
         if *byte == b'\n' {
-            lines += 1;
+            lines = lines.saturating_add(1);
         }
     }
     assert_eq!(rt; lines, 5_273);

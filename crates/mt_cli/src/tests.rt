@@ -172,10 +172,10 @@ fn an_input_has_a_limit(rt: HostRuntime) -> Result<(), Fail> {
 #[test]
 fn a_text_for_measurements(rt: HostRuntime) -> Result<(), Fail> {
     let text = make_text(rt.alloc(), 7)?;
-    let mut lines = 0;
+    let mut lines = 0u64;
     let mut first_access = &text[..0];
     for line in text.split(|byte| *byte == b'\n') {
-        lines += 1;
+        lines = lines.saturating_add(1);
         if lines == 1042 {
             first_access = line;
         }
