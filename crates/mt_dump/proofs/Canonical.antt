@@ -48,13 +48,13 @@ value_fits value (suc (suc (suc (suc (suc (suc zero)))))) = omega arith
 value_fits value (suc (suc (suc (suc (suc (suc (suc zero))))))) = omega arith
 value_fits value (suc (suc (suc (suc (suc (suc (suc (suc i)))))))) = omega arith
 
-value_digits : (value : ℕ) → list_all is_hex_digit (value_text value) ≡ true
+pub value_digits : (value : ℕ) → list_all is_hex_digit (value_text value) ≡ true
 value_digits value = encoded_digits (to_be_bytes w64 value) (value_fits value)
 
-value_length : (value : ℕ) → length (value_text value) ≡ 16
+pub value_length : (value : ℕ) → length (value_text value) ≡ 16
 value_length value = length-encode_with lower_digits (to_be_bytes w64 value)
 
-value_read : (value : ℕ) → value < 2 ^ 64 → hex_number (value_text value) ≡ Ok value
+pub value_read : (value : ℕ) → value < 2 ^ 64 → hex_number (value_text value) ≡ Ok value
 value_read value small =
     let size = value_length value in
     hex_number-digits (value_text value) (omega arith) (omega arith) (value_digits value)
@@ -89,7 +89,7 @@ module _ (number : ℕ) (small : number < 0x1000) where
   no_width_name : is_width_name (number_text number) ≡ false
   no_width_name = rw (digit_test (slice_index lower_digits (number / 256)) (rw high refl)).1 refl
 
-all_append : (p : ℕ → Bool) (xs ys : List ℕ) → list_all p xs ≡ true → list_all p ys ≡ true → list_all p (xs ++ ys) ≡ true
+pub all_append : (p : ℕ → Bool) (xs ys : List ℕ) → list_all p xs ≡ true → list_all p ys ≡ true → list_all p (xs ++ ys) ≡ true
 all_append p [] ys all later = later
 all_append p (x ∷ xs) ys all later = let parts = and_parts (p x) (list_all p xs) all in rw parts.0 (all_append p xs ys parts.1 later)
 

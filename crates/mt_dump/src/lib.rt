@@ -8,6 +8,7 @@ mod line;
 mod reader;
 mod said;
 mod worked;
+mod worked_plain;
 
 pub use canon::{number_text, value_text, write_dump};
 pub use fault::{DumpFault, DumpReason};
@@ -22,6 +23,7 @@ pub use worked::{
     worked_bad_lines, worked_bad_numbers, worked_file, worked_plain_lines, worked_registers,
     worked_shapes,
 };
+pub use worked_plain::worked_plain_texts;
 
 #[cfg(test)]
 mod tests;

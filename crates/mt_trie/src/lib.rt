@@ -8,6 +8,7 @@ mod tests;
 mod wants;
 mod wish;
 mod worked;
+mod worked_contexts;
 
 pub use context::Context;
 pub use laws::{
@@ -16,3 +17,4 @@ pub use laws::{
 pub use wants::want;
 pub use wish::Wish;
 pub use worked::{worked_joins, worked_wanted_types, worked_wishes, worked_wishes_of_blocks};
+pub use worked_contexts::{worked_lists, worked_two_parts, worked_types_left};
