@@ -1,14 +1,14 @@
 -- What the caches have is never seen.
-use Rattle.std.proofs.Common.{◌≡◌, ℕ, zero, suc, List, [], ◌∷◌, Some, None, Option, true, refl, sym, ap, subst, ◌∙◌}
+use Rattle.std.proofs.Common.{◌≡◌, ℕ, zero, suc, List, [], ◌∷◌, Some, None, Option, true, refl, sym, ap, subst, ◌∙◌, Bool}
 use Rattle.std.specs.Prelude.{map, replicate, slice_get, slice_index}
 use Rattle.std.specs.Option.{option_map_or}
 use Rattle.std.specs.List.{All}
 use Rattle.std.proofs.lemmas.List.Elements.{All-head, All-tail}
 use Rattle.mt_regs.specs.RegisterFile.{RegisterFile}
 use Rattle.mt_machine.specs.Memory.{Window, place, word_at, word_count}
-use Rattle.mt_machine.specs.System.{Processor, System, IsSound, dirty_word_in, start_processor}
+use Rattle.mt_machine.specs.System.{Processor, System, IsSound, dirty_word_in, start_processor, buffers_of}
 use Rattle.mt_machine.specs.Machine.{Machine, MachineEvent, AreEnabled, next, run}
-use Rattle.mt_machine.specs.Start.{zero_memory}
+use Rattle.mt_machine.specs.Start.{zero_memory, start_with}
 use Rattle.mt_laws.proofs.Words.MemoryLaws.{AllAligned}
 use Rattle.mt_laws.proofs.Words.BusLaws.{Word}
 use Rattle.mt_laws.proofs.Words.Sound.{aligned_all, now_is, sound_stands, sound_word}
@@ -69,14 +69,14 @@ no_buffers_at (p ∷ ps) (suc k) h = no_buffers_at ps k (All-tail (λ (q : Proce
 pub no_buffers_is_flat : NoBuffersIsFlat
 no_buffers_is_flat s none = record { values = λ a whole. refl; pending = λ k. ap (map written_of) (sym (no_buffers_at s.processors k none)) }
 
-start_buffers : (count k : ℕ) (file : RegisterFile) → option_map_or (λ p. p.buffers) (slice_get (replicate count (start_processor file)) k) [] ≡ []
-start_buffers zero k file = refl
-start_buffers (suc count) zero file = refl
-start_buffers (suc count) (suc k) file = start_buffers count k file
+start_buffers : (flags : List Bool) (k : ℕ) (file : RegisterFile) (ws : List Window) → buffers_of (start_with flags file ws).system k ≡ []
+start_buffers [] k file ws = refl
+start_buffers (b ∷ bs) zero file ws = refl
+start_buffers (b ∷ bs) (suc k) file ws = start_buffers bs k file ws
 
-start_dirty : (count a : ℕ) (file : RegisterFile) → dirty_word_in (replicate count (start_processor file)) a ≡ None
-start_dirty zero a file = refl
-start_dirty (suc count) a file = start_dirty count a file
+start_dirty : (flags : List Bool) (a : ℕ) (file : RegisterFile) (ws : List Window) → dirty_word_in (start_with flags file ws).system.processors a ≡ None
+start_dirty [] a file ws = refl
+start_dirty (b ∷ bs) a file ws = start_dirty bs a file ws
 
 zero_at : (count i : ℕ) → slice_index (replicate count 0) i ≡ 0
 zero_at zero i = refl
@@ -91,7 +91,7 @@ zero_word ws a = one (place (zero_memory ws) a)
     one (Some i) = zero_at (word_count ws) i
 
 pub start_is_flat : StartIsFlat
-start_is_flat count file ws = record {
-  values = λ a whole. ap (λ o. option_map_or (λ v. v) o (word_at (zero_memory ws) a)) (start_dirty count a file) ∙ zero_word ws a;
-  pending = λ k. ap (map written_of) (sym (start_buffers count k file));
+start_is_flat flags file ws = record {
+  values = λ a whole. ap (λ o. option_map_or (λ v. v) o (word_at (zero_memory ws) a)) (start_dirty flags a file ws) ∙ zero_word ws a;
+  pending = λ k. ap (map written_of) (sym (start_buffers flags k file ws));
 }

@@ -1,5 +1,5 @@
 -- The flat machine beside a machine with caches.
-use Rattle.std.specs.Prelude.{◌≡◌, ℕ, ◌%◌, ◌≤◌, List, [], ◌∷◌, length, map, if◌then◌else◌, slice_index, Option, None, Some}
+use Rattle.std.specs.Prelude.{◌≡◌, ℕ, ◌%◌, ◌≤◌, List, [], ◌∷◌, length, map, if◌then◌else◌, slice_index, Option, None, Some, Bool}
 use Rattle.std.specs.Option.{option_map_or, option_map}
 use Rattle.std.specs.List.{All, Contains, fold}
 use Rattle.mt_kinds.specs.declared.mem_type.MemType.{MemType}
@@ -20,7 +20,7 @@ use Rattle.mt_machine.specs.System.{System, IsSound, buffers_of, now}
 use Rattle.mt_machine.specs.Access.{access}
 use Rattle.mt_machine.specs.Control.{control}
 use Rattle.mt_machine.specs.Machine.{Machine, MachineEvent, Order, Accesses, Calls, Controls, Steps, IsEnabled, AreEnabled, next, run}
-use Rattle.mt_machine.specs.Start.{IsQuiet, IsStart, start_machine}
+use Rattle.mt_machine.specs.Start.{IsQuiet, IsStart, start_with}
 use Rattle.mt_machine.specs.Update.{physical_of, stored_words, updated}
 use Rattle.mt_laws.specs.Counts.{IsEachOnce}
 use Rattle.mt_laws.specs.Settled.{IsFirstRelease}
@@ -74,7 +74,7 @@ pub record IsFlatOf (s : System) (f : Flat) : Type 0 where
 
 -- the flat machine is at its start beside a machine at its start
 abbrev pub StartIsFlat : Type 0
-StartIsFlat = (count : ℕ) (file : RegisterFile) (ws : List Window) → IsFlatOf (start_machine count file ws).system flat_start
+StartIsFlat = (flags : List Bool) (file : RegisterFile) (ws : List Window) → IsFlatOf (start_with flags file ws).system flat_start
 
 -- and beside each system without buffers stands one with its words and nothing pending
 abbrev pub NoBuffersIsFlat : Type 0

@@ -26,9 +26,10 @@ pub fn pending_stays_few()
     ensures { PendingStaysFew }
 {}
 
-/// Where an update's first processor passes the first barrier nothing is pending, and after its first
-/// release memory has the flat machine's value of then for each word that was not stored since. Beside
-/// the state after a whole update stands the flat machine that was given its takes.
+/// Of an update that comes to a release: where its first processor passes the first barrier nothing is
+/// pending, and after its first release memory has the flat machine's value of then for each word that
+/// was not stored since. Beside the state after a whole update stands the flat machine that was given
+/// its takes.
 pub fn updates_are_flat()
     ensures held { HeldIsFlat }
     ensures outright { UpdatedIsFlat }

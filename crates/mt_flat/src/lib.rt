@@ -6,9 +6,11 @@
 
 mod laws;
 mod worked;
+mod worked_courses;
 
 pub use laws::{
     caches_are_never_seen, courses_are_flat, events_are_flat, pending_stays_few, starts_are_flat,
     updates_are_flat,
 };
 pub use worked::{worked_beside, worked_course, worked_pending, worked_stores, worked_turns};
+pub use worked_courses::worked_updates_by_events;

@@ -12,7 +12,11 @@ use Rattle.mt_machine.specs.Start.{IsQuiet, IsStart}
 use Rattle.mt_laws.specs.Barriers.{IsAt}
 use Rattle.mt_laws.specs.Kept.{is_take_step}
 
--- between its take and its release processor k passes the first barrier once; it does as many events as it has writable registers and dirty words then, and 13 more
+-- the events of a processor besides these: a self-snooping one leaves out the drop of the first flush
+abbrev pub other_events : Processor → ℕ
+other_events p = if p.self_snoop then 12 else 13
+
+-- between its take and its release processor k passes the first barrier once; it does as many events as it has writable registers and dirty words then, and 13 or 12 more
 pub record IsCounted (m : Machine) (k : ℕ) (between : List MachineEvent) : Type 0 where
   pub before : List MachineEvent
   pub rest : List MachineEvent
@@ -20,7 +24,7 @@ pub record IsCounted (m : Machine) (k : ℕ) (between : List MachineEvent) : Typ
   pub passed : Processor
   pub at_pass : IsAt (run m (Steps k Take ∷ (before ++ Steps k Pass ∷ []))) k passed
   pub phase : passed.phase ≡ Passed
-  pub count : count_by (is_step_of k) (Steps k Take ∷ (between ++ Steps k Release ∷ [])) ≡ length (writable passed.file) + dirty_count passed.lines + 13
+  pub count : count_by (is_step_of k) (Steps k Take ∷ (between ++ Steps k Release ∷ [])) ≡ length (writable passed.file) + dirty_count passed.lines + other_events passed
 
 -- from a take to the release that follows it
 abbrev pub CountOfSteps : Type 0

@@ -11,6 +11,7 @@ use Rattle.mt_cache.specs.declared.line.CacheLine.{CacheLine}
 use Rattle.mt_tlb.specs.declared.entry.Entry.{Entry}
 use Rattle.mt_machine.specs.declared.event.Event.TheVariants.{Take, Arrive, Leave}
 use Rattle.mt_machine.specs.Start.{IsStart}
+use Rattle.mt_machine.specs.Update.{updated}
 use Rattle.mt_machine.specs.declared.op.Op.TheVariants.{Fence}
 use Rattle.mt_regs.specs.Faults.{IsAccepted}
 
@@ -54,6 +55,19 @@ is_still other = false
 abbrev pub StillEventsKeep : Type 0
 StillEventsKeep =
     (m : Machine) (e : MachineEvent) → is_still e ≡ true → SameHoldings m.system (next m e).system
+
+-- no event changes which processors are self-snooping, and no whole update does
+abbrev pub is_self_snooping : Processor → Bool
+is_self_snooping p = p.self_snoop
+
+abbrev pub flags_of : System → List Bool
+flags_of s = map is_self_snooping s.processors
+
+abbrev pub FlagsStay : Type 0
+FlagsStay = (m : Machine) (e : MachineEvent) → flags_of (next m e).system ≡ flags_of m.system
+
+abbrev pub UpdatedKeepsFlags : Type 0
+UpdatedKeepsFlags = (s : System) (takes : List ℕ) (goal : RegisterFile) → flags_of (updated s takes goal).system ≡ flags_of s
 
 -- the events of an update but Take
 abbrev pub is_take_step : MachineEvent → Bool

@@ -1,5 +1,5 @@
 -- What holds from the first release of an update on.
-use Rattle.std.specs.Prelude.{◌≡◌, ◌≤◌, ℕ, ◌+◌, true, false, not, List, [], ◌∷◌, Some, ◌++◌}
+use Rattle.std.specs.Prelude.{◌≡◌, ◌≤◌, ℕ, ◌+◌, Bool, true, false, not, List, [], ◌∷◌, Some, ◌++◌}
 use Rattle.std.specs.List.{list_all, All}
 use Rattle.mt_machine.specs.Machine.{Machine, Order, has_passed, has_released, Reached, MachineEvent, Steps, IsEnabled, next, run, AreEnabled}
 use Rattle.mt_machine.specs.declared.event.Event.TheVariants.{Pass, Release}
@@ -7,7 +7,7 @@ use Rattle.mt_machine.specs.Update.{IsSettled, IsHeld, is_release, is_call}
 use Rattle.mt_regs.specs.RegisterFile.{RegisterFile}
 use Rattle.mt_machine.specs.Memory.{Window}
 use Rattle.mt_machine.specs.System.{Processor}
-use Rattle.mt_machine.specs.Start.{IsStart, start_machine}
+use Rattle.mt_machine.specs.Start.{IsStart, start_with}
 
 -- p stands before the first pass of its update, and the first release leads to r
 pub record IsFirstRelease (p r : Machine) (o : Order) : Type 0 where
@@ -66,4 +66,4 @@ abbrev pub NothingIsStale : Type 0
 NothingIsStale = (s m : Machine) → IsStart s → All IsFresh s.system.processors → Reached s m → All IsFresh m.system.processors
 
 abbrev pub StartsFresh : Type 0
-StartsFresh = (count : ℕ) (f : RegisterFile) (ws : List Window) → All IsFresh (start_machine count f ws).system.processors
+StartsFresh = (flags : List Bool) (f : RegisterFile) (ws : List Window) → All IsFresh (start_with flags f ws).system.processors

@@ -1,18 +1,37 @@
 -- The start, and the eras.
-use Rattle.std.specs.Prelude.{◌≡◌, ℕ, true, List, None, Some, ◌<◌, ◌-◌, ◌^◌}
+use Rattle.std.specs.Prelude.{◌≡◌, ℕ, Bool, true, List, None, Some, ◌<◌, ◌-◌, ◌^◌}
 use Rattle.std.specs.List.{All}
 use Rattle.mt_machine.specs.Machine.{Machine, Order, Reached, MachineEvent, Calls, IsEnabled, next}
 use Rattle.mt_regs.specs.RegisterFile.{RegisterFile, IsRegisterFile}
 use Rattle.mt_machine.specs.Update.{is_call, updated}
-use Rattle.mt_machine.specs.Start.{IsQuiet, IsStart, HasEraRoom, start_machine, zero_memory}
+use Rattle.mt_machine.specs.Start.{IsQuiet, IsStart, HasEraRoom, start_machine, start_with, zero_memory}
 use Rattle.mt_regs.specs.Faults.{IsAccepted}
 use Rattle.mt_machine.specs.Memory.{IsMemory, Window}
+use Rattle.mt_machine.specs.System.{System, IsSound, with_self_snoop}
+use Rattle.mt_laws.specs.Kept.{flags_of}
 
 -- processors with one accepted file, over windows of zero words, are a quiet start
 abbrev pub StartIsQuiet : Type 0
 StartIsQuiet =
     (count : ℕ) (f : RegisterFile) (ws : List Window) → IsRegisterFile f → IsAccepted f → IsMemory (zero_memory ws)
     → IsQuiet (start_machine count f ws)
+
+-- so are those of which some are self-snooping
+abbrev pub FlaggedStartIsQuiet : Type 0
+FlaggedStartIsQuiet =
+    (flags : List Bool) (f : RegisterFile) (ws : List Window) → IsRegisterFile f → IsAccepted f → IsMemory (zero_memory ws)
+    → IsQuiet (start_with flags f ws)
+
+-- without any flag they are the start of before
+abbrev pub NoFlagIsTheStart : Type 0
+NoFlagIsTheStart = (count : ℕ) (f : RegisterFile) (ws : List Window) → start_with (flags_of (start_machine count f ws).system) f ws ≡ start_machine count f ws
+
+-- a processor that becomes self-snooping leaves a system sound, and a quiet machine quiet
+abbrev pub SnoopingStaysSound : Type 0
+SnoopingStaysSound = (s : System) (k : ℕ) → IsSound s → IsSound (with_self_snoop k s)
+
+abbrev pub SnoopingStaysQuiet : Type 0
+SnoopingStaysQuiet = (m : Machine) (k : ℕ) → IsQuiet m → IsQuiet (record m { system = with_self_snoop k m.system })
 
 -- the eras fit 64 bits, also once the update under way has ended
 pub record HasEras (m : Machine) : Type 0 where

@@ -5,7 +5,7 @@ use Rattle.mt_machine.specs.declared.event.Event.TheVariants.{Arrive, Pass, SetN
 use Rattle.mt_machine.specs.declared.go.Go.TheVariants.{Given}
 use Rattle.mt_machine.specs.Machine.{Machine, Order, MachineEvent, Calls, Goes, Steps, run}
 use Rattle.mt_machine.specs.Start.{start_machine}
-use Rattle.mt_machine.specs.WorkedRuns.{bare_file, walk}
+use Rattle.mt_machine.specs.WorkedRuns.{bare_file, bare_snooper, walk}
 
 abbrev pub pair_order : Order
 pair_order = record { goal = bare_file 0x806; from_era = 0; go = Given }
@@ -29,6 +29,16 @@ pair_released = run pair_arrived (Steps 0 Pass ∷ pair_between ++ Steps 1 Relea
 -- one processor without pairs and fixed ranges whose go was given, and its events between its take and its release
 abbrev pub bare_called : Machine
 bare_called = run (start_machine 1 (bare_file 0x800) []) (Calls (bare_file 0x806) ∷ Goes ∷ [])
+
+-- the same of a self-snooping one, and its way to the second barrier
+abbrev pub snooper_called : Machine
+snooper_called = run bare_snooper (Calls (bare_file 0x806) ∷ Goes ∷ [])
+
+abbrev pub way_of_snooper : List Event
+way_of_snooper = SetNoFill ∷ FlushTlb ∷ Disable ∷ Write 0 ∷ Enable ∷ DropLines ∷ FlushTlb ∷ SetNormal ∷ RestorePge ∷ ArriveAgain ∷ []
+
+abbrev pub between_of_snooper : List MachineEvent
+between_of_snooper = map (Steps 0) (Arrive ∷ Pass ∷ way_of_snooper)
 
 abbrev pub between_of_bare : List MachineEvent
 between_of_bare = map (Steps 0) (Arrive ∷ Pass ∷ way_on)

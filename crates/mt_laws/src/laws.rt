@@ -7,14 +7,17 @@ mod updates;
 
 pub use barriers::{barriers_count, barriers_hold};
 pub use kept::{
-    accesses_keep_sound, events_keep, lines_are_low, orders_hold, stays_coherent, stays_sound,
-    steps_keep_now, write_backs_have_places,
+    accesses_keep_sound, events_keep, flags_stay, lines_are_low, orders_hold, stays_coherent,
+    stays_sound, steps_keep_now, write_backs_have_places,
 };
 pub use runs::{led_is_reached, reached_is_run};
 pub use settled::{
     held_after_release, no_buffers_at_pass, nothing_is_stale, settled_after_each_release,
 };
-pub use starts::{eras_fit, reached_is_quiet, start_is_quiet, updated_is_quiet};
+pub use starts::{
+    eras_fit, flagged_start_is_quiet, reached_is_quiet, snooping_stays_quiet, start_is_quiet,
+    updated_is_quiet,
+};
 pub use updates::{
     broadcast_update, cancelled_broadcast, cancelled_update, count_of_steps, led_cancelled,
     led_ends, led_released, led_to_second_barrier, led_update, takes_broadcast, updated_words,

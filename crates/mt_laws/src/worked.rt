@@ -14,7 +14,7 @@ ghost use Rattle.mt_laws.specs.Kept.{IsUnderWay, OrderHolds, SameHoldings, is_of
 ghost use Rattle.mt_laws.specs.Settled.{IsFirstRelease, IsFresh};
 ghost use Rattle.mt_laws.specs.Starts.{HasEras};
 ghost use Rattle.mt_laws.specs.Updates.{HoldsNothing, LeadsToBroadcast, all_running, all_taken};
-ghost use Rattle.mt_laws.specs.WorkedRuns.{bare_called, between_of_bare, pair_arrived, pair_between, pair_order, pair_released};
+ghost use Rattle.mt_laws.specs.WorkedRuns.{bare_called, between_of_bare, between_of_snooper, pair_arrived, pair_between, pair_order, pair_released, snooper_called};
 
 /// An update of two processors: where both have arrived none has passed, and the first release comes after
 /// each has made its way to the second barrier. What tells a first release, and doesn't for one thing.
@@ -49,6 +49,9 @@ pub fn worked_fresh()
 /// The events of an update from a take to a release, and who takes.
 pub fn worked_counts()
     ensures counted { IsCounted bare_called 0 between_of_bare }
+    ensures self_snooping { IsCounted snooper_called 0 between_of_snooper }
+    ensures all_the_same { (h : IsCounted snooper_called 0 between_of_bare) → h.before ≡ Steps 0 Arrive ∷ [] → ⊥ }
+    ensures first_flush_left_out { (h : IsCounted bare_called 0 between_of_snooper) → h.before ≡ Steps 0 Arrive ∷ [] → ⊥ }
     ensures no_pass { IsCounted bare_called 0 [] → ⊥ }
     ensures one_step_more { (h : IsCounted bare_called 0 (between_of_bare ++ Steps 0 Arrive ∷ [])) → h.before ≡ Steps 0 Arrive ∷ [] → ⊥ }
     ensures one_missing { IsEachOnce 2 (0 ∷ []) → ⊥ }

@@ -112,6 +112,10 @@ write_back_event l =
 abbrev pub write_back_or_drop : Processor → Event
 write_back_or_drop p = option_map_or write_back_event (first_dirty_line p.lines) DropLines
 
+-- the first flush, which a self-snooping processor leaves out: it goes on with its TLB
+abbrev pub first_flush : Processor → Event
+first_flush p = if p.self_snoop then FlushTlb else write_back_or_drop p
+
 -- the last writable register, the default type, is written by the event that turns the ranges on
 abbrev pub write_or_enable : Processor → ℕ → Event
 write_or_enable p i = if nat_lt (i + 1) (length (writable p.file)) then Write i else Enable
@@ -122,7 +126,7 @@ due o ps p Running = if (p.era == o.from_era) && not (is_cancelled o.go) then So
 due o ps p Taken = Some (if is_cancelled o.go then Leave else Arrive)
 due o ps p Arrived = if is_cancelled o.go then Some Leave else (if first_barrier_open o ps then Some Pass else None)
 due o ps p Passed = Some SetNoFill
-due o ps p NoFill = Some (write_back_or_drop p)
+due o ps p NoFill = Some (first_flush p)
 due o ps p Flushed = Some FlushTlb
 due o ps p TlbFlushed = Some Disable
 due o ps p (Writing i) = Some (write_or_enable p i)

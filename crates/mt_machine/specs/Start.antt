@@ -1,5 +1,5 @@
 -- The states from which the laws hold (own).
-use Rattle.std.specs.Prelude.{◌≡◌, ◌⊎◌, ℕ, ◌<◌, ◌-◌, ◌^◌, true, [], None, Some, replicate, List}
+use Rattle.std.specs.Prelude.{◌≡◌, ◌⊎◌, ℕ, ◌<◌, ◌-◌, ◌^◌, Bool, true, [], None, Some, map, replicate, List}
 use Rattle.std.specs.List.{All}
 use Rattle.mt_regs.specs.RegisterFile.{RegisterFile, IsRegisterFile}
 use Rattle.mt_regs.specs.Faults.{IsAccepted}
@@ -40,6 +40,13 @@ zero_memory ws = record { windows = ws; words = replicate (word_count ws) 0 }
 abbrev pub start_machine : ℕ → RegisterFile → List Window → Machine
 start_machine count f ws = record {
   system = record { processors = replicate count (start_processor f); memory = zero_memory ws };
+  order = None;
+}
+
+-- the same with one processor for each flag, which is self-snooping where the flag is set
+abbrev pub start_with : List Bool → RegisterFile → List Window → Machine
+start_with flags f ws = record {
+  system = record { processors = map (λ b. record (start_processor f) { self_snoop = b }) flags; memory = zero_memory ws };
   order = None;
 }
 

@@ -27,6 +27,7 @@ pub record Processor : Type 0 where
   pub entries : List Entry  -- of its TLB
   pub phase : Phase
   pub era : ℕ  -- the number of updates that it has finished
+  pub self_snoop : Bool  -- CPUID.1:EDX bit 27, which no event changes
 
 pub record System : Type 0 where
   pub processors : List Processor
@@ -45,11 +46,19 @@ start_processor f = record {
   entries = [];
   phase = Running;
   era = 0;
+  self_snoop = false;
 }
 
 -- processor k as f makes it
 abbrev pub change : (Processor → Processor) → ℕ → System → System
 change f k s = option_map_or (λ p. record s { processors = slice_set s.processors k (f p) }) (slice_get s.processors k) s
+
+-- processor k is a self-snooping one from here on. No event does this: a core allows it while no update is under way (own)
+abbrev pub snooping : Processor → Processor
+snooping p = record p { self_snoop = true }
+
+abbrev pub with_self_snoop : ℕ → System → System
+with_self_snoop k s = change snooping k s
 
 abbrev pub lines_of : System → ℕ → List CacheLine
 lines_of s k = option_map_or (λ p. p.lines) (slice_get s.processors k) []

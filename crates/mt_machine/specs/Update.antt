@@ -123,6 +123,7 @@ settled_processor goal p = record {
   entries = [];
   phase = Running;
   era = p.era + 1;
+  self_snoop = p.self_snoop;
 }
 
 abbrev pub updated : System → List ℕ → RegisterFile → Machine

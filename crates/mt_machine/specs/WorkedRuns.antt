@@ -172,6 +172,30 @@ holder on = record (mapped four_gigabytes) {
   lines = record { number = 0x4000; words = 5 ∷ 6 ∷ 7 ∷ 0 ∷ 0 ∷ 0 ∷ 0 ∷ 0 ∷ []; dirty = 6; era = 0 } ∷ [];
 }
 
+-- the same of a self-snooping processor
+abbrev pub snooper : Bool → Processor
+snooper on = record (holder on) { self_snoop = true }
+
+abbrev pub bare_snooper : Machine
+bare_snooper = alone (record (start_processor (bare_file 0x800)) { self_snoop = true })
+
+-- a self-snooping processor and one that isn't, over two lines of memory
+abbrev pub mixed : Machine
+mixed = record {
+  system = record {
+    processors = record (mapped (bare_file 0x806)) { self_snoop = true } ∷ mapped (bare_file 0x806) ∷ [];
+    memory = zero_memory (record { base = 0x100000; lines = 2 } ∷ []);
+  };
+  order = None;
+}
+
+-- each has a dirty word
+abbrev pub mixed_dirty : Machine
+mixed_dirty = run mixed (store 0 0x1000 0x2a ∷ store 1 0x1040 0x2b ∷ [])
+
+abbrev pub flags : Machine → List Bool
+flags m = map (λ p. p.self_snoop) m.system.processors
+
 -- so many lines from a number on, each with word 0 dirty
 abbrev pub dirty_lines : ℕ → ℕ → List CacheLine
 dirty_lines first zero = []

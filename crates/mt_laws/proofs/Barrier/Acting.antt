@@ -1,15 +1,12 @@
 -- While registers change nobody acts, and where a processor may pass, no buffer is left.
-use Rattle.std.proofs.Common.{◌≡◌, ℕ, ◌+◌, ◌≤◌, List, [], length, get_or, Some, None, Option, Bool, true, false, refl, ap, arith}
-use Rattle.std.specs.Prelude.{slice_get, if◌then◌else◌, not, nat_lt, ◌&&◌, ◌==◌}
+use Rattle.std.proofs.Common.{◌≡◌, ℕ, ◌≤◌, List, [], get_or, Some, None, Option, Bool, true, false, refl, ap, arith}
+use Rattle.std.specs.Prelude.{slice_get, if◌then◌else◌, not}
 use Rattle.std.specs.List.{All}
 use Rattle.std.specs.Option.{option_map_or}
 use Rattle.std.proofs.lemmas.Option.{slice_get-get_or}
-use Rattle.mt_regs.specs.Registers.{writable}
-use Rattle.mt_cache.specs.Lines.{first_dirty_line, first_dirty_word}
 use Rattle.mt_machine.specs.declared.phase.Phase.{Phase}
-use Rattle.mt_machine.specs.declared.phase.Phase.TheVariants.{Running, Taken, Arrived, NoFill, Enabled, Writing, Arrived2}
-use Rattle.mt_machine.specs.declared.event.Event.{Event}
-use Rattle.mt_machine.specs.declared.event.Event.TheVariants.{Take, Arrive, Leave, Pass, DropLines, Write, Enable, Release}
+use Rattle.mt_machine.specs.declared.phase.Phase.TheVariants.{Arrived}
+use Rattle.mt_machine.specs.declared.event.Event.TheVariants.{Leave, Pass}
 use Rattle.mt_machine.specs.declared.op.Op.{Op}
 use Rattle.mt_machine.specs.declared.done.Done.TheVariants.{Busy}
 use Rattle.mt_machine.specs.declared.control.Control.{Control}
@@ -17,8 +14,9 @@ use Rattle.mt_machine.specs.declared.ruled.Ruled.TheVariants.{Busy as RuledBusy}
 use Rattle.mt_machine.specs.System.{Processor, System}
 use Rattle.mt_machine.specs.Access.{access, access_at, is_running, Answered}
 use Rattle.mt_machine.specs.Control.{control, control_at, RuledAfter}
-use Rattle.mt_machine.specs.Machine.{Machine, Order, Steps, IsEnabled, Reached, due, is_cancelled, first_barrier_open, second_barrier_open, write_back_event, write_back_or_drop}
+use Rattle.mt_machine.specs.Machine.{Machine, Order, Steps, IsEnabled, Reached, due, is_cancelled, first_barrier_open}
 use Rattle.mt_machine.specs.Start.{IsStart}
+use Rattle.mt_machine.proofs.Rows.{due_row, is_row}
 use Rattle.mt_laws.specs.Barriers.{NoneActsInChange, NoneRunsInChange}
 use Rattle.mt_laws.specs.Settled.{NoBuffersAtPass}
 use Rattle.mt_laws.proofs.Barrier.Stages.{stage_of, stages}
@@ -58,57 +56,17 @@ none_acts_of s t start r = none_acts_in t (none_runs_of s t start r)
 
 -- ---- at the pass
 
-abbrev is_pass_event : Event → Bool
-is_pass_event Pass = true
-is_pass_event other = false
-
-option_case : {X Y : Type 0} → (o : Option X) (f : X → Y) (d : Y) (P : Y → Type 0) → P d → ((x : X) → P (f x)) → P (option_map_or f o d)
-option_case None f d P none some = none
-option_case (Some x) f d P none some = some x
-
-drain_no_pass : (p : Processor) → is_pass_event (write_back_or_drop p) ≡ false
-drain_no_pass p =
-    let P : Event → Type 0 = λ v. is_pass_event v ≡ false in
-    option_case (first_dirty_line p.lines) write_back_event DropLines P refl (λ l. option_case (first_dirty_word l) _ DropLines P refl (λ word. refl))
-
-drains_on : (p : Processor) → Some (write_back_or_drop p) ≡ Some Pass → ⊥
-drains_on p h =
-    let is : write_back_or_drop p ≡ Pass = cc in
-    let on : is_pass_event (write_back_or_drop p) ≡ true = ap is_pass_event is in
-    let off = drain_no_pass p in
-    absurd (cc)
-
 pass_opens : (o : Order) (ps : List Processor) (p : Processor) (ph : Phase) → due o ps p ph ≡ Some Pass → (ph ≡ Arrived) × (first_barrier_open o ps ≡ true)
-pass_opens o ps p Running h = one (p.era == o.from_era) (is_cancelled o.go) h
+pass_opens o ps p ph h = row ph h (due_row o ps p ph Pass h)
   where
-    one : (a b : Bool) → (if a && not b then Some Take else None) ≡ Some Pass → (Running ≡ Arrived) × (first_barrier_open o ps ≡ true)
-    one true false g = absurd (cc)
-    one true true g = absurd (cc)
-    one false b g = absurd (cc)
-pass_opens o ps p Taken h = one (is_cancelled o.go) h
-  where
-    one : (b : Bool) → Some (if b then Leave else Arrive) ≡ Some Pass → (Taken ≡ Arrived) × (first_barrier_open o ps ≡ true)
-    one true g = absurd (cc)
-    one false g = absurd (cc)
-pass_opens o ps p Arrived h = one (is_cancelled o.go) (first_barrier_open o ps) refl h
-  where
-    one : (b f : Bool) → first_barrier_open o ps ≡ f → (if b then Some Leave else (if f then Some Pass else None)) ≡ Some Pass → (Arrived ≡ Arrived) × (first_barrier_open o ps ≡ true)
+    one : (b f : Bool) → first_barrier_open o ps ≡ f → (if b then Some Leave else (if f then Some Pass else None)) ≡ Some Pass → first_barrier_open o ps ≡ true
     one true f is g = absurd (cc)
-    one false true is g = (refl, is)
+    one false true is g = is
     one false false is g = absurd (cc)
-pass_opens o ps p NoFill h = absurd (drains_on p h)
-pass_opens o ps p Enabled h = absurd (drains_on p h)
-pass_opens o ps p (Writing i) h = one (nat_lt (i + 1) (length (writable p.file))) h
-  where
-    one : (b : Bool) → Some (if b then Write i else Enable) ≡ Some Pass → (Writing i ≡ Arrived) × (first_barrier_open o ps ≡ true)
-    one true g = absurd (cc)
-    one false g = absurd (cc)
-pass_opens o ps p Arrived2 h = one (second_barrier_open o ps) h
-  where
-    one : (f : Bool) → (if f then Some Release else None) ≡ Some Pass → (Arrived2 ≡ Arrived) × (first_barrier_open o ps ≡ true)
-    one true g = absurd (cc)
-    one false g = absurd (cc)
-pass_opens o ps p other h = absurd (cc)
+
+    row : (ph : Phase) → due o ps p ph ≡ Some Pass → is_row Pass ph ≡ true → (ph ≡ Arrived) × (first_barrier_open o ps ≡ true)
+    row Arrived g on = (refl, one (is_cancelled o.go) (first_barrier_open o ps) refl g)
+    row other g on = absurd (cc)
 
 module _ (s : System) (o : Order) (k : ℕ) (g : Guarded o (stages s)) (clear : AllClear (Some o) s.processors) where
   none_runs : (p : Processor) → slice_get s.processors k ≡ Some p → due o s.processors p p.phase ≡ Some Pass → (i : ℕ) (q : Processor) → slice_get s.processors i ≡ Some q → is_running q.phase ≡ false

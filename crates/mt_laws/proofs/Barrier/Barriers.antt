@@ -18,6 +18,7 @@ use Rattle.mt_machine.specs.System.{Processor, System, change}
 use Rattle.mt_machine.specs.Control.{reload_cr3}
 use Rattle.mt_machine.specs.Access.{is_running}
 use Rattle.mt_machine.specs.Machine.{Machine, Order, MachineEvent, Accesses, Controls, Calls, Goes, Cancels, Steps, IsEnabled, next, Reached, at_start, after, is_given, is_cancelled, is_waiting_to_pass, has_released, first_barrier_open, second_barrier_open, due, write_back_event, write_back_or_drop, own_step, before_own, step, flush_tlb, after_flush, after_drop, is_over, remaining_order, common_era}
+use Rattle.mt_machine.proofs.Rows.{first_flush_case}
 use Rattle.mt_laws.proofs.Barrier.Stages.{Stage, stage_of, stages_of, stages, access_stages, control_stages, drain_stages}
 use Rattle.mt_laws.proofs.Barrier.Ranks.{rank, rank_of, is_ahead, At, Guarded, Moves, moved, processor_at, stage_at, all_at, not_both}
 
@@ -133,7 +134,8 @@ module _ (o : Order) (ps : List Processor) (p : Processor) (era : (p.era ≡ o.f
   step_moves Taken e same h behind = from_taken (is_cancelled o.go) e refl h (behind refl)
   step_moves Arrived e same h behind = from_arrived (is_cancelled o.go) (first_barrier_open o ps) e refl refl h (behind refl)
   step_moves Passed e same h behind = inside Passed NoFill SetNoFill e (cc) refl (λ _. refl) (λ _. refl) (behind refl)
-  step_moves NoFill e same h behind = drains NoFill e same refl (λ _. refl) (λ _. refl) h (behind refl)
+  step_moves NoFill e same h behind =
+      first_flush_case p e h (λ on is. flushes NoFill e same (λ _. refl) (λ _. refl) is (behind refl)) (λ off g. drains NoFill e same refl (λ _. refl) (λ _. refl) g (behind refl))
   step_moves Flushed e same h behind = flushes Flushed e same (λ _. refl) (λ _. refl) (cc) (behind refl)
   step_moves TlbFlushed e same h behind = inside TlbFlushed (Writing 0) Disable e (cc) refl (λ _. refl) (λ _. refl) (behind refl)
   step_moves (Writing i) e same h behind = writes_on i (nat_lt (i + 1) (length (writable p.file))) e h (behind refl)

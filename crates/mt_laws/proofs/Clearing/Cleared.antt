@@ -15,16 +15,17 @@ use Rattle.mt_machine.specs.System.{Processor}
 use Rattle.mt_machine.specs.Access.{is_running}
 use Rattle.mt_machine.specs.Control.{reload_cr3}
 use Rattle.mt_machine.specs.Machine.{Order, due, own_step, is_cancelled, has_released, first_barrier_open, second_barrier_open, write_back_event, write_back_or_drop, flush_tlb, after_flush, after_drop}
+use Rattle.mt_machine.proofs.Rows.{first_flush_case}
 use Rattle.mt_laws.proofs.Clearing.Follows.{passes, passes_entries, Grows, IsLocal, passes_change}
 
--- the phases in which a processor has no line, no buffer, no entry
+-- the phases in which a processor has no line, no buffer, no entry. A self-snooping one keeps its lines up to the second flush
 abbrev pub lines_gone : Phase → Bool
-lines_gone Running = false
-lines_gone Taken = false
-lines_gone Arrived = false
-lines_gone Passed = false
-lines_gone NoFill = false
-lines_gone other = true
+lines_gone Flushed2 = true
+lines_gone TlbFlushed2 = true
+lines_gone Normal = true
+lines_gone Restored = true
+lines_gone Arrived2 = true
+lines_gone other = false
 
 abbrev pub buffers_gone : Phase → Bool
 buffers_gone ph = not (is_running ph)
@@ -167,15 +168,18 @@ module _ (o : Order) (ps : List Processor) (p : Processor) (c : Clear o p) (behi
       one false g rest = rest g
 
   -- the first flush of the TLB leaves no entry
-  flushed_first : p.phase ≡ Flushed → Kept FlushTlb
-  flushed_first same = one p.page_global refl (flush_tlb p.phase p) (ap (λ ph. flush_tlb ph p) same)
+  flushed_first : (ph : Phase) → p.phase ≡ ph → is_running ph ≡ false → lines_gone (after_flush ph) ≡ false → flush_tlb ph p ≡ flush_tlb Flushed p → Kept FlushTlb
+  flushed_first ph same quiet kept first = one p.page_global refl (flush_tlb p.phase p) (ap (λ v. flush_tlb v p) same ∙ first)
     where
+      has_lines : lines_gone (after_flush p.phase) ≡ true → ⊥
+      has_lines h = let e : lines_gone (after_flush p.phase) ≡ false = ap (λ v. lines_gone (after_flush v)) same ∙ kept in cc
+
       one : (b : Bool) → p.page_global ≡ b → (q : Processor) → q ≡ (if b then record p { remembered_global = true; page_global = false; entries = [] } else record (reload_cr3 p) { remembered_global = false }) → Clear o (record q { phase = after_flush p.phase })
       one true is q e = subst (λ (x : Processor). Clear o (record x { phase = after_flush p.phase })) (sym e)
-          (inside_of _ (ap is_running same) refl (λ h. c.no_lines (ap lines_gone same)) (λ h. c.no_buffers (ap buffers_gone same)) (λ h. refl) (λ off. refl))
+          (inside_of _ (ap is_running same ∙ quiet) refl (λ h. absurd (has_lines h)) (λ h. c.no_buffers (ap not (ap is_running same ∙ quiet))) (λ h. refl) (λ off. refl))
       one false is q e = subst (λ (x : Processor). Clear o (record x { phase = after_flush p.phase })) (sym e)
           (let gone : filter (λ (x : Entry). x.global) p.entries ≡ [] = no_global p.entries (c.local is) in
-          inside_of _ (ap is_running same) refl (λ h. c.no_lines (ap lines_gone same)) (λ h. c.no_buffers (ap buffers_gone same)) (λ h. gone) (λ off. none_passes (λ (e : Entry). not e.global) _ gone))
+          inside_of _ (ap is_running same ∙ quiet) refl (λ h. absurd (has_lines h)) (λ h. c.no_buffers (ap not (ap is_running same ∙ quiet))) (λ h. gone) (λ off. none_passes (λ (e : Entry). not e.global) _ gone))
 
   -- the second has none to drop
   flushed_again : p.phase ≡ Flushed2 → Kept FlushTlb
@@ -218,8 +222,8 @@ module _ (o : Order) (ps : List Processor) (p : Processor) (c : Clear o p) (behi
   from_again true e same h = subst Kept (let is : Release ≡ e = cc in is) (releases same)
 
   writes_on : (i : ℕ) (b : Bool) (e : Event) → p.phase ≡ Writing i → Some (if b then Write i else Enable) ≡ Some e → Kept e
-  writes_on i true e same h = plain (Writing i) (Write i) e same (cc) refl refl refl refl refl (λ h. refl) (λ h. refl) (λ h. refl)
-  writes_on i false e same h = plain (Writing i) Enable e same (cc) refl refl refl refl refl (λ h. refl) (λ h. refl) (λ h. refl)
+  writes_on i true e same h = plain (Writing i) (Write i) e same (cc) refl refl refl refl refl (λ h. h) (λ h. refl) (λ h. refl)
+  writes_on i false e same h = plain (Writing i) Enable e same (cc) refl refl refl refl refl (λ h. h) (λ h. refl) (λ h. refl)
 
   -- each step but Take, which empties the buffers first
   pub step_clears : (ph : Phase) (e : Event) → p.phase ≡ ph → is_running ph ≡ false → due o ps p ph ≡ Some e → Kept e
@@ -227,9 +231,9 @@ module _ (o : Order) (ps : List Processor) (p : Processor) (c : Clear o p) (behi
   step_clears Taken e same quiet h = from_taken (is_cancelled o.go) e same h
   step_clears Arrived e same quiet h = from_arrived (is_cancelled o.go) (first_barrier_open o ps) e same h
   step_clears Passed e same quiet h = plain Passed SetNoFill e same (cc) refl refl refl refl refl (λ h. absurd (cc)) (λ h. refl) (λ h. absurd (cc))
-  step_clears NoFill e same quiet h = drains NoFill e same refl refl (λ h. absurd (cc)) h
-  step_clears Flushed e same quiet h = subst Kept (let is : FlushTlb ≡ e = cc in is) (flushed_first same)
-  step_clears TlbFlushed e same quiet h = plain TlbFlushed Disable e same (cc) refl refl refl refl refl (λ h. refl) (λ h. refl) (λ h. refl)
+  step_clears NoFill e same quiet h = first_flush_case p e h (λ on is. subst Kept is (flushed_first NoFill same refl refl refl)) (λ off. drains NoFill e same refl refl (λ h. absurd (cc)))
+  step_clears Flushed e same quiet h = subst Kept (let is : FlushTlb ≡ e = cc in is) (flushed_first Flushed same refl refl refl)
+  step_clears TlbFlushed e same quiet h = plain TlbFlushed Disable e same (cc) refl refl refl refl refl (λ h. h) (λ h. refl) (λ h. refl)
   step_clears (Writing i) e same quiet h = writes_on i _ e same h
   step_clears Enabled e same quiet h = drains Enabled e same refl refl (λ h. refl) h
   step_clears Flushed2 e same quiet h = subst Kept (let is : FlushTlb ≡ e = cc in is) (flushed_again same)

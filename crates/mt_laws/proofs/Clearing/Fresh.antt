@@ -1,28 +1,28 @@
 -- Nothing that a processor holds is of an earlier era than its own.
-use Rattle.std.proofs.Common.{◌≡◌, ◌≢◌, ◌≤◌, ◌+◌, ◌/◌, ℕ, List, [], Some, None, Option, Bool, true, false, refl, sym, ap, subst, ◌∙◌, arith, ⊎_elim}
-use Rattle.std.specs.Prelude.{slice_get, if◌then◌else◌, nat_lt, ◌==◌, not, ◌&&◌}
+use Rattle.std.proofs.Common.{◌≡◌, ◌≢◌, ◌≤◌, ◌+◌, ◌/◌, ℕ, List, [], Some, None, Option, Bool, true, false, refl, sym, ap, subst, ◌∙◌, arith, ⊎_elim, ◌∷◌, zero, suc}
+use Rattle.std.specs.Prelude.{slice_get, if◌then◌else◌, nat_lt, not}
 use Rattle.std.specs.Option.{option_map_or}
 use Rattle.std.proofs.lemmas.Bool.{le-ltb}
 use Rattle.std.proofs.lemmas.Bool.Decides.{nat_tests}
-use Rattle.std.proofs.lemmas.List.Elements.{All-replicate}
 use Rattle.std.proofs.lemmas.List.Sums.{AllPass-from_list_all, list_all-from_AllPass}
 use Rattle.mt_cache.specs.declared.line.CacheLine.{CacheLine}
-use Rattle.mt_cache.specs.Lines.{clean_word, first_dirty_line, first_dirty_word}
+use Rattle.mt_cache.specs.Lines.{clean_word}
 use Rattle.mt_tlb.specs.declared.entry.Entry.{Entry}
 use Rattle.mt_regs.specs.RegisterFile.{RegisterFile}
 use Rattle.mt_machine.specs.declared.phase.Phase.{Phase}
-use Rattle.mt_machine.specs.declared.phase.Phase.TheVariants.{Running, Taken, Arrived, NoFill, Writing, Enabled, Flushed2, Arrived2}
+use Rattle.mt_machine.specs.declared.phase.Phase.TheVariants.{Flushed2, Arrived2}
 use Rattle.mt_machine.specs.declared.event.Event.{Event}
-use Rattle.mt_machine.specs.declared.event.Event.TheVariants.{Take, Arrive, Leave, Pass, WriteBack, DropLines, FlushTlb, Write, Enable, Release}
+use Rattle.mt_machine.specs.declared.event.Event.TheVariants.{Take, WriteBack, DropLines, FlushTlb, Release}
 use Rattle.mt_machine.specs.Memory.{word_of}
-use Rattle.mt_machine.specs.System.{Processor, System, start_processor}
+use Rattle.mt_machine.specs.System.{Processor, System}
 use Rattle.mt_machine.specs.Control.{reload_cr3}
-use Rattle.mt_machine.specs.Machine.{Machine, Order, MachineEvent, Accesses, Controls, Calls, Goes, Cancels, Steps, IsEnabled, Reached, after, at_start, before_own, due, flush_tlb, is_cancelled, first_barrier_open, next, own_step, step, write_back_event, write_back_or_drop}
+use Rattle.mt_machine.specs.Machine.{Machine, Order, MachineEvent, Accesses, Controls, Calls, Goes, Cancels, Steps, IsEnabled, Reached, after, at_start, before_own, due, flush_tlb, next, own_step, step}
+use Rattle.mt_machine.proofs.Rows.{due_row, is_row}
 use Rattle.mt_laws.specs.Settled.{IsFresh, NothingIsStale, StartsFresh}
 use Rattle.mt_laws.proofs.Barrier.Claims.{all_get, all_of}
 use Rattle.mt_laws.proofs.Clearing.Follows.{FollowsIn, Grows, all_filter, follows_access, follows_control, follows_drain, passes, passes_change, passes_entries}
 use Rattle.mt_laws.proofs.Clearing.Cleared.{buffers_gone, entries_gone, lines_gone, none_passes}
-use Rattle.mt_laws.proofs.Clearing.Renewed.{AllClear, at_change, option_case}
+use Rattle.mt_laws.proofs.Clearing.Renewed.{AllClear, at_change}
 use Rattle.mt_laws.proofs.Clearing.Late.{IsKept, reached_kept, start_kept}
 
 -- the era is no earlier than one's own
@@ -87,55 +87,15 @@ own_fresh goal other p empty f = record { lines = f.lines; buffers = f.buffers; 
 
 -- ---- a release is due where all is gone
 
-unfoldable is_end : Event → Bool
-is_end Release = true
-is_end other = false
-
-drain_no_end : (p : Processor) → is_end (write_back_or_drop p) ≡ false
-unfolding is_end
-drain_no_end p =
-    let P : Event → Type 0 = λ v. is_end v ≡ false in
-    option_case (first_dirty_line p.lines) write_back_event DropLines P refl (λ l. option_case (first_dirty_word l) _ DropLines P refl (λ word. refl))
-
 abbrev AreGone : Phase → Type 0
 AreGone ph = (lines_gone ph ≡ true) × (buffers_gone ph ≡ true) × (entries_gone ph ≡ true)
 
-drain_ends_not : (p : Processor) → Some (write_back_or_drop p) ≡ Some Release → ⊥
-unfolding is_end
-drain_ends_not p h =
-    let is : write_back_or_drop p ≡ Release = cc in
-    let off : is_end (write_back_or_drop p) ≡ false = drain_no_end p in
-    let on : is_end (write_back_or_drop p) ≡ true = ap is_end is in
-    cc
-
 gone_at_release : (o : Order) (ps : List Processor) (p : Processor) (ph : Phase) → due o ps p ph ≡ Some Release → AreGone ph
-gone_at_release o ps p Running h = absurd (one ((p.era == o.from_era) && not (is_cancelled o.go)) h)
+gone_at_release o ps p ph h = row ph (due_row o ps p ph Release h)
   where
-    one : (b : Bool) → (if b then Some Take else None) ≡ Some Release → ⊥
-    one true g = cc
-    one false g = cc
-gone_at_release o ps p Taken h = absurd (one (is_cancelled o.go) h)
-  where
-    one : (b : Bool) → Some (if b then Leave else Arrive) ≡ Some Release → ⊥
-    one true g = cc
-    one false g = cc
-gone_at_release o ps p Arrived h = absurd (one (is_cancelled o.go) (first_barrier_open o ps) h)
-  where
-    one : (b f : Bool) → (if b then Some Leave else (if f then Some Pass else None)) ≡ Some Release → ⊥
-    one true f g = cc
-    one false true g = cc
-    one false false g = cc
-gone_at_release o ps p NoFill h = absurd (drain_ends_not p h)
-gone_at_release o ps p Enabled h = absurd (drain_ends_not p h)
-gone_at_release o ps p (Writing i) h = absurd (one _ h)
-  where
-    one : (b : Bool) → Some (if b then Write i else Enable) ≡ Some Release → ⊥
-    one true g = cc
-    one false g = cc
-gone_at_release o ps p Arrived2 h = (refl, refl, refl)
-gone_at_release o ps p other h = absurd (cc)
-
--- ---- all events
+    row : (ph : Phase) → is_row Release ph ≡ true → AreGone ph
+    row Arrived2 on = (refl, refl, refl)
+    row other on = absurd (cc)
 
 step_fresh : (o : Order) (s : System) (k : ℕ) (p : Processor) (e : Event) → slice_get s.processors k ≡ Some p → AllClear (Some o) s.processors → due o s.processors p p.phase ≡ Some e
     → AllFresh s.processors → AllFresh (step o.goal e k s).processors
@@ -203,6 +163,6 @@ nothing_is_stale s m start fresh reached =
     (reached_fresh reached (start_kept s start) (λ j q there. to_tests q (all_get IsFresh s.system.processors fresh j q there)) i p at))
 
 pub starts_fresh : StartsFresh
-starts_fresh count f ws =
-    All-replicate IsFresh count (start_processor f)
-    (record { lines = λ k d within. absurd (omega arith); buffers = λ k d within. absurd (omega arith); entries = λ k d within. absurd (omega arith) })
+starts_fresh [] f ws k d within = absurd (omega arith)
+starts_fresh (b ∷ bs) f ws zero d within = record { lines = λ k d within. absurd (omega arith); buffers = λ k d within. absurd (omega arith); entries = λ k d within. absurd (omega arith) }
+starts_fresh (b ∷ bs) f ws (suc k) d within = starts_fresh bs f ws k d (omega arith)

@@ -1,21 +1,20 @@
 -- From the first release on nothing is held that is older than the update.
-use Rattle.std.proofs.Common.{◌≡◌, ◌≢◌, ◌⊎◌, ℕ, zero, suc, ◌+◌, List, [], ◌∷◌, length, Some, None, Option, Bool, true, false, refl, sym, ap, subst, ◌∙◌, arith, inl, inr, ⊎_elim, eq-eqb}
+use Rattle.std.proofs.Common.{◌≡◌, ◌≢◌, ◌⊎◌, ℕ, zero, suc, ◌+◌, List, [], ◌∷◌, Some, None, Option, Bool, true, false, refl, sym, ap, subst, ◌∙◌, arith, inl, inr, ⊎_elim, eq-eqb}
 use Rattle.std.specs.Prelude.{slice_get, slice_set, if◌then◌else◌, nat_lt, ◌==◌, not, ◌&&◌}
 use Rattle.std.specs.Option.{option_map_or}
 use Rattle.std.proofs.lemmas.Bool.{eqb-true, ltb-true, le-ltb}
-use Rattle.mt_regs.specs.Registers.{writable}
-use Rattle.mt_cache.specs.Lines.{first_dirty_line, first_dirty_word}
 use Rattle.mt_machine.specs.declared.go.Go.{Go}
 use Rattle.mt_regs.specs.RegisterFile.{RegisterFile}
 use Rattle.mt_machine.specs.declared.phase.Phase.{Phase}
-use Rattle.mt_machine.specs.declared.phase.Phase.TheVariants.{Running, Taken, Arrived, Passed, NoFill, Flushed, TlbFlushed, Writing, Enabled, Flushed2, TlbFlushed2, Normal, Restored, Arrived2}
+use Rattle.mt_machine.specs.declared.phase.Phase.TheVariants.{Running, Taken, Arrived, Writing, Arrived2}
 use Rattle.mt_machine.specs.declared.event.Event.{Event}
-use Rattle.mt_machine.specs.declared.event.Event.TheVariants.{Take, Arrive, Leave, Pass, SetNoFill, DropLines, FlushTlb, Disable, Write, Enable, SetNormal, RestorePge, ArriveAgain, Release}
+use Rattle.mt_machine.specs.declared.event.Event.TheVariants.{Take}
 use Rattle.mt_machine.specs.declared.go.Go.TheVariants.{Pending, Given, Cancelled}
 use Rattle.mt_machine.specs.System.{Processor, System, change}
 use Rattle.mt_machine.specs.Bus.{drain, with_buffers}
 use Rattle.mt_machine.specs.Access.{is_running}
-use Rattle.mt_machine.specs.Machine.{Order, MachineEvent, Accesses, Controls, Calls, Goes, Cancels, Steps, IsEnabled, next, due, own_step, before_own, step, is_over, remaining_order, is_cancelled, has_released, common_era, first_barrier_open, second_barrier_open, write_back_event, write_back_or_drop}
+use Rattle.mt_machine.specs.Machine.{Order, MachineEvent, Accesses, Controls, Calls, Goes, Cancels, Steps, IsEnabled, next, due, own_step, before_own, step, is_over, remaining_order, is_cancelled, has_released, common_era}
+use Rattle.mt_machine.proofs.Rows.{due_row, is_row}
 use Rattle.mt_laws.proofs.Barrier.Stages.{stage_of, stages_of, stages}
 use Rattle.mt_laws.proofs.Barrier.Ranks.{Guarded, stage_at}
 use Rattle.mt_laws.proofs.Barrier.Barriers.{Rest, Kept, Invariant}
@@ -108,46 +107,14 @@ pub option_case : {X Y : Type 0} → (x : Option X) (f : X → Y) (d : Y) (P : Y
 option_case None f d P none some = none
 option_case (Some y) f d P none some = some y
 
-drain_no_take : (p : Processor) → is_take (write_back_or_drop p) ≡ false
-unfolding is_take
-drain_no_take p =
-    let P : Event → Type 0 = λ v. is_take v ≡ false in
-    option_case (first_dirty_line p.lines) write_back_event DropLines P refl (λ l. option_case (first_dirty_word l) _ DropLines P refl (λ word. refl))
-
 -- only a running processor takes
 pub no_take : (o : Order) (ps : List Processor) (p : Processor) (ph : Phase) (e : Event) → is_running ph ≡ false → due o ps p ph ≡ Some e → is_take e ≡ false
 unfolding is_take
-no_take o ps p Running e quiet h = absurd (cc)
-no_take o ps p Taken e quiet h = one (is_cancelled o.go) h
+no_take o ps p ph e quiet h = one e (due_row o ps p ph e h)
   where
-    one : (b : Bool) → Some (if b then Leave else Arrive) ≡ Some e → is_take e ≡ false
-    one true g = ap is_take (let is : e ≡ Leave = cc in is)
-    one false g = ap is_take (let is : e ≡ Arrive = cc in is)
-no_take o ps p Arrived e quiet h = one (is_cancelled o.go) (first_barrier_open o ps) h
-  where
-    one : (b f : Bool) → (if b then Some Leave else (if f then Some Pass else None)) ≡ Some e → is_take e ≡ false
-    one true f g = ap is_take (let is : e ≡ Leave = cc in is)
-    one false true g = ap is_take (let is : e ≡ Pass = cc in is)
-    one false false g = absurd (cc)
-no_take o ps p NoFill e quiet h = ap is_take (let is : e ≡ write_back_or_drop p = cc in is) ∙ drain_no_take p
-no_take o ps p Enabled e quiet h = ap is_take (let is : e ≡ write_back_or_drop p = cc in is) ∙ drain_no_take p
-no_take o ps p (Writing i) e quiet h = one (nat_lt (i + 1) (length (writable p.file))) h
-  where
-    one : (b : Bool) → Some (if b then Write i else Enable) ≡ Some e → is_take e ≡ false
-    one true g = ap is_take (let is : e ≡ Write i = cc in is)
-    one false g = ap is_take (let is : e ≡ Enable = cc in is)
-no_take o ps p Arrived2 e quiet h = one (second_barrier_open o ps) h
-  where
-    one : (f : Bool) → (if f then Some Release else None) ≡ Some e → is_take e ≡ false
-    one true g = ap is_take (let is : e ≡ Release = cc in is)
-    one false g = absurd (cc)
-no_take o ps p Passed e quiet h = ap is_take (let is : e ≡ SetNoFill = cc in is)
-no_take o ps p Flushed e quiet h = ap is_take (let is : e ≡ FlushTlb = cc in is)
-no_take o ps p TlbFlushed e quiet h = ap is_take (let is : e ≡ Disable = cc in is)
-no_take o ps p Flushed2 e quiet h = ap is_take (let is : e ≡ FlushTlb = cc in is)
-no_take o ps p TlbFlushed2 e quiet h = ap is_take (let is : e ≡ SetNormal = cc in is)
-no_take o ps p Normal e quiet h = ap is_take (let is : e ≡ RestorePge = cc in is)
-no_take o ps p Restored e quiet h = ap is_take (let is : e ≡ ArriveAgain = cc in is)
+    one : (e : Event) → is_row e ph ≡ true → is_take e ≡ false
+    one Take on = absurd (cc)
+    one other on = refl
 
 module _ (o : Order) (s : System) (k : ℕ) (p : Processor) (is_p : slice_get s.processors k ≡ Some p) (g : Guarded o (stages s)) (clear : AllClear (Some o) s.processors) where
   -- the interrupt empties the buffers, and a fence adds nothing to the others

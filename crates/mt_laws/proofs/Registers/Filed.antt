@@ -21,6 +21,7 @@ use Rattle.mt_machine.specs.System.{Processor, System, is_writing}
 use Rattle.mt_machine.specs.Access.{is_running}
 use Rattle.mt_machine.specs.Control.{reload_cr3}
 use Rattle.mt_machine.specs.Machine.{Order, MachineEvent, Accesses, Controls, Calls, Goes, Cancels, Steps, IsEnabled, FitsGoal, next, due, own_step, before_own, step, is_over, remaining_order, is_cancelled, has_released, common_era, first_barrier_open, second_barrier_open, write_back_event, write_back_or_drop, flush_tlb, after_flush, after_drop, with_goal, without_enable}
+use Rattle.mt_machine.proofs.Rows.{first_flush_case}
 use Rattle.mt_laws.proofs.Barrier.Stages.{Stage, stage_of, stages_of, stages}
 use Rattle.mt_laws.proofs.Barrier.Ranks.{is_ahead, stage_at}
 use Rattle.mt_laws.proofs.Barrier.Barriers.{Rest, Kept, Invariant}
@@ -178,7 +179,7 @@ module _ (o : Order) (ps : List Processor) (p : Processor) (is_file : IsRegister
   filed_step Taken e same h = from_taken (is_cancelled o.go) e same h
   filed_step Arrived e same h = from_arrived (is_cancelled o.go) (first_barrier_open o ps) e same h
   filed_step Passed e same h = subst Next (let v : SetNoFill ≡ e = cc in v) (keep Passed NoFill p.file p.era same refl refl refl (λ d. absurd (cc)))
-  filed_step NoFill e same h = drains NoFill e same refl refl (λ d. absurd (cc)) h
+  filed_step NoFill e same h = first_flush_case p e h (λ on is. subst Next is (flushes NoFill same refl (λ d. absurd (cc)))) (λ off. drains NoFill e same refl refl (λ d. absurd (cc)))
   filed_step Flushed e same h = subst Next (let v : FlushTlb ≡ e = cc in v) (flushes Flushed same refl (λ d. absurd (cc)))
   filed_step TlbFlushed e same h = subst Next (let v : Disable ≡ e = cc in v) (disables same)
   filed_step (Writing i) e same h = writes_on i (nat_lt (i + 1) (length (writable p.file))) e same refl h

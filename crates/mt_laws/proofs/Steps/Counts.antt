@@ -1,5 +1,5 @@
 -- How many steps a processor has still to do until its release.
-use Rattle.std.proofs.Common.{◌≡◌, ℕ, ◌+◌, ◌-◌, ◌/◌, ◌<◌, List, [], length, Some, None, Bool, true, false, refl, sym, ap, subst, ◌∙◌, arith}
+use Rattle.std.proofs.Common.{◌≡◌, ℕ, ◌+◌, ◌-◌, ◌/◌, ◌<◌, List, length, Some, None, Bool, true, false, refl, sym, ap, subst, ◌∙◌, arith}
 use Rattle.std.specs.Prelude.{slice_index_or, if◌then◌else◌, nat_lt, ◌||◌}
 use Rattle.std.proofs.lemmas.Bool.{ltb-true, ltb-false}
 use Rattle.mt_regs.specs.RegisterFile.{RegisterFile}
@@ -16,28 +16,34 @@ use Rattle.mt_cache.specs.Lines.{is_dirty, find_line, clean_word, change_line}
 use Rattle.mt_machine.specs.System.{Processor, is_writing}
 use Rattle.mt_machine.specs.Machine.{Order, due, own_step, is_changing, is_arrived_again, after_drop, after_flush, write_back_or_drop, with_goal, second_barrier_open, Steps}
 use Rattle.mt_machine.specs.Update.{dirty_count, is_release}
+use Rattle.mt_machine.proofs.Rows.{due_row, first_flush_case, is_row}
+use Rattle.mt_laws.proofs.Invariant.Flags.{flush_keeps, own_keeps_flag}
 use Rattle.mt_laws.proofs.Registers.Filed.{flush_file}
 use Rattle.mt_laws.proofs.Words.LineLists.{Apart}
 use Rattle.mt_laws.proofs.Words.StepLaws.{drain_case}
 use Rattle.mt_laws.proofs.Steps.DirtyCounts.{none_dirty_count, one_dirty_less}
 
--- from Passed on, with so many registers and dirty words
-abbrev pub left : Phase → ℕ → ℕ → ℕ
-left Passed registers words = registers + words + 10
-left NoFill registers words = registers + words + 9
-left Flushed registers words = registers + 8
-left TlbFlushed registers words = registers + 7
-left (Writing i) registers words = (registers - i) + 6
-left Enabled registers words = 6
-left Flushed2 registers words = 5
-left TlbFlushed2 registers words = 4
-left Normal registers words = 3
-left Restored registers words = 2
-left Arrived2 registers words = 1
-left other registers words = 0
+-- the drop of the first flush, which a self-snooping processor leaves out
+abbrev pub first_drop : Processor → ℕ
+first_drop p = if p.self_snoop then 0 else 1
+
+-- from Passed on, with so many registers, dirty words and drops of the first flush. No step but a write-back changes how many words are dirty
+abbrev pub left : Phase → ℕ → ℕ → ℕ → ℕ
+left Passed registers words drops = registers + words + drops + 9
+left NoFill registers words drops = registers + words + drops + 8
+left Flushed registers words drops = registers + words + 8
+left TlbFlushed registers words drops = registers + words + 7
+left (Writing i) registers words drops = (registers - i) + words + 6
+left Enabled registers words drops = words + 6
+left Flushed2 registers words drops = 5
+left TlbFlushed2 registers words drops = 4
+left Normal registers words drops = 3
+left Restored registers words drops = 2
+left Arrived2 registers words drops = 1
+left other registers words drops = 0
 
 abbrev pub left_of : Processor → ℕ
-left_of p = left p.phase (length (writable p.file)) (dirty_count p.lines)
+left_of p = left p.phase (length (writable p.file)) (dirty_count p.lines) (first_drop p)
 
 abbrev pub is_past : Phase → Bool
 is_past ph = is_changing ph || is_arrived_again ph
@@ -54,44 +60,60 @@ registers_of f g same = ap (λ (c : ℕ). length (writable (record f { capabilit
 
 pub record Ready (p : Processor) : Type 0 where
   pub apart : Apart p.lines
-  pub no_lines : p.phase ≡ Enabled → p.lines ≡ []
   pub in_range : (i : ℕ) → is_writing p.phase ≡ Some i → i < length (writable p.file)
 
 module _ (o : Order) (ps : List Processor) (p : Processor) (ready : Ready p) where
   abbrev Next : Event → Type 0
   Next e = (left_of (own_step o.goal e p) + 1 ≡ left_of p) × (is_past (own_step o.goal e p).phase ≡ true)
 
-  here : (ph : Phase) → p.phase ≡ ph → left_of p ≡ left ph (length (writable p.file)) (dirty_count p.lines)
-  here ph same = ap (λ v. left v (length (writable p.file)) (dirty_count p.lines)) same
+  here : (ph : Phase) → p.phase ≡ ph → left_of p ≡ left ph (length (writable p.file)) (dirty_count p.lines) (first_drop p)
+  here ph same = ap (λ v. left v (length (writable p.file)) (dirty_count p.lines) (first_drop p)) same
 
   simple : (ph to : Phase) (e : Event) → p.phase ≡ ph → (own_step o.goal e p).phase ≡ to → length (writable (own_step o.goal e p).file) ≡ length (writable p.file)
-      → left to (length (writable p.file)) (dirty_count (own_step o.goal e p).lines) + 1 ≡ left ph (length (writable p.file)) (dirty_count p.lines) → is_past to ≡ true → Next e
+      → left to (length (writable p.file)) (dirty_count (own_step o.goal e p).lines) (first_drop p) + 1 ≡ left ph (length (writable p.file)) (dirty_count p.lines) (first_drop p) → is_past to ≡ true → Next e
   simple ph to e same goes registers falls past = (
-    ap (λ (n : ℕ). n + 1) (ap (λ (v : Phase). left v (length (writable (own_step o.goal e p).file)) (dirty_count (own_step o.goal e p).lines)) goes ∙ ap (λ (n : ℕ). left to n (dirty_count (own_step o.goal e p).lines)) registers) ∙ falls ∙ sym (here ph same),
+    ap (λ (n : ℕ). n + 1)
+        (ap (λ (v : Phase). left v (length (writable (own_step o.goal e p).file)) (dirty_count (own_step o.goal e p).lines) (first_drop (own_step o.goal e p))) goes
+        ∙ (λ i. left to (registers i) (dirty_count (own_step o.goal e p).lines) (if own_keeps_flag o.goal e p i then 0 else 1)))
+        ∙ falls ∙ sym (here ph same),
     ap is_past goes ∙ past,
   )
 
-  empties : p.phase ≡ NoFill → Next (write_back_or_drop p)
-  empties same =
+  -- a flush writes the first dirty word back, or drops the lines
+  drains : (ph : Phase) → p.phase ≡ ph → is_past ph ≡ true → is_past (after_drop ph) ≡ true
+      → ((words : ℕ) → left ph (length (writable p.file)) words (first_drop p) + 1 ≡ left ph (length (writable p.file)) (words + 1) (first_drop p))
+      → left (after_drop ph) (length (writable p.file)) 0 (first_drop p) + 1 ≡ left ph (length (writable p.file)) 0 (first_drop p)
+      → Next (write_back_or_drop p)
+  drains ph same past after counts ends =
       drain_case Next p ready.apart
       (λ address value first.
       let number : address / 64 ≡ first.line.number = (let e = first.address_is in let b = first.within in omega arith) in
       let word : word_of address ≡ first.word = (let e = first.address_is in let b = first.within in omega arith) in
       let falls : dirty_count (change_line (address / 64) (clean_word (word_of address)) p.lines) + 1 ≡ dirty_count p.lines =
       one_dirty_less (address / 64) (word_of address) p.lines first.line ready.apart (ap (λ n. find_line n p.lines) number ∙ first.found) (let b = first.within in omega arith) (ap (is_dirty first.line) word ∙ first.dirty) in
-      simple NoFill NoFill (WriteBack address value) same same refl (omega arith) refl)
-      (λ none. let clean = none_dirty_count p.lines none in simple NoFill Flushed DropLines same (ap after_drop same) refl (omega arith) refl)
+      simple ph ph (WriteBack address value) same same refl
+      (counts (dirty_count (change_line (address / 64) (clean_word (word_of address)) p.lines)) ∙ ap (λ (n : ℕ). left ph (length (writable p.file)) n (first_drop p)) falls) past)
+      (λ none.
+      simple ph (after_drop ph) DropLines same (ap after_drop same) refl
+      (ends ∙ sym (ap (λ (n : ℕ). left ph (length (writable p.file)) n (first_drop p)) (none_dirty_count p.lines none))) after)
 
-  gone : p.phase ≡ Enabled → write_back_or_drop p ≡ DropLines
-  gone same = ap (λ (ls : List CacheLine). write_back_or_drop (record p { lines = ls })) (ready.no_lines same)
+  flushes : (ph to : Phase) → p.phase ≡ ph → after_flush ph ≡ to → left to (length (writable p.file)) (dirty_count p.lines) (first_drop p) + 1 ≡ left ph (length (writable p.file)) (dirty_count p.lines) (first_drop p) → is_past to ≡ true → Next FlushTlb
+  flushes ph to same goes falls past =
+      simple ph to FlushTlb same (ap after_flush same ∙ goes) (ap (λ f. length (writable f)) (flush_file p.phase p))
+      (ap (λ (ls : List CacheLine). left to (length (writable p.file)) (dirty_count ls) (first_drop p) + 1) (flush_keeps p.phase p).0 ∙ falls) past
 
   pub one_less : (ph : Phase) (e : Event) → p.phase ≡ ph → is_past ph ≡ true → due o ps p ph ≡ Some e → is_release (Steps 0 e) ≡ false → Next e
   one_less Running e same past h quiet = absurd (cc)
   one_less Taken e same past h quiet = absurd (cc)
   one_less Arrived e same past h quiet = absurd (cc)
   one_less Passed e same past h quiet = subst Next (let v : SetNoFill ≡ e = cc in v) (simple Passed NoFill SetNoFill same refl refl (omega arith) refl)
-  one_less NoFill e same past h quiet = subst Next (let v : write_back_or_drop p ≡ e = cc in v) (empties same)
-  one_less Flushed e same past h quiet = subst Next (let v : FlushTlb ≡ e = cc in v) (simple Flushed TlbFlushed FlushTlb same (ap after_flush same) (ap (λ f. length (writable f)) (flush_file p.phase p)) (omega arith) refl)
+  one_less NoFill e same past h quiet =
+      first_flush_case p e h
+      (λ on is. let none : first_drop p ≡ 0 = ap (λ (b : Bool). if b then 0 else 1) on in subst Next is (flushes NoFill TlbFlushed same refl (omega arith) refl))
+      (λ off g.
+      let once : first_drop p ≡ 1 = ap (λ (b : Bool). if b then 0 else 1) off in
+      subst Next (let v : write_back_or_drop p ≡ e = cc in v) (drains NoFill same refl refl (λ words. omega arith) (omega arith)))
+  one_less Flushed e same past h quiet = subst Next (let v : FlushTlb ≡ e = cc in v) (flushes Flushed TlbFlushed same refl (omega arith) refl)
   one_less TlbFlushed e same past h quiet = subst Next (let v : Disable ≡ e = cc in v) (simple TlbFlushed (Writing 0) Disable same refl refl (omega arith) refl)
   one_less (Writing i) e same past h quiet = one (nat_lt (i + 1) (length (writable p.file))) refl h
     where
@@ -104,10 +126,8 @@ module _ (o : Order) (ps : List Processor) (p : Processor) (ready : Ready p) whe
           let high = ltb-false (i + 1) (length (writable p.file)) is in
           let low = ready.in_range i (ap is_writing same) in
           subst Next (let v : Enable ≡ e = cc in v) (simple (Writing i) Enabled Enable same refl refl (omega arith) refl)
-  one_less Enabled e same past h quiet =
-      let is : write_back_or_drop p ≡ e = cc in
-      subst Next (sym (gone same) ∙ is) (simple Enabled Flushed2 DropLines same (ap after_drop same) refl (omega arith) refl)
-  one_less Flushed2 e same past h quiet = subst Next (let v : FlushTlb ≡ e = cc in v) (simple Flushed2 TlbFlushed2 FlushTlb same (ap after_flush same) (ap (λ f. length (writable f)) (flush_file p.phase p)) (omega arith) refl)
+  one_less Enabled e same past h quiet = subst Next (let v : write_back_or_drop p ≡ e = cc in v) (drains Enabled same refl refl (λ words. omega arith) (omega arith))
+  one_less Flushed2 e same past h quiet = subst Next (let v : FlushTlb ≡ e = cc in v) (flushes Flushed2 TlbFlushed2 same refl (omega arith) refl)
   one_less TlbFlushed2 e same past h quiet = subst Next (let v : SetNormal ≡ e = cc in v) (simple TlbFlushed2 Normal SetNormal same refl refl (omega arith) refl)
   one_less Normal e same past h quiet = subst Next (let v : RestorePge ≡ e = cc in v) (simple Normal Restored RestorePge same refl refl (omega arith) refl)
   one_less Restored e same past h quiet = subst Next (let v : ArriveAgain ≡ e = cc in v) (simple Restored Arrived2 ArriveAgain same refl refl (omega arith) refl)
@@ -119,15 +139,8 @@ module _ (o : Order) (ps : List Processor) (p : Processor) (ready : Ready p) whe
 
   -- the one that may release has nothing else to do
   pub last_one : (ph : Phase) → p.phase ≡ ph → is_past ph ≡ true → due o ps p ph ≡ Some Release → left_of p ≡ 1
-  last_one Arrived2 same past h = here Arrived2 same
-  last_one Running same past h = absurd (cc)
-  last_one Taken same past h = absurd (cc)
-  last_one Arrived same past h = absurd (cc)
-  last_one NoFill same past h = absurd (drain_case (λ e. e ≡ Release → ⊥) p ready.apart (λ a v f e. absurd (cc)) (λ n e. absurd (cc)) (let v : write_back_or_drop p ≡ Release = cc in v))
-  last_one Enabled same past h = absurd (drain_case (λ e. e ≡ Release → ⊥) p ready.apart (λ a v f e. absurd (cc)) (λ n e. absurd (cc)) (let v : write_back_or_drop p ≡ Release = cc in v))
-  last_one (Writing i) same past h = absurd (one (nat_lt (i + 1) (length (writable p.file))) h)
+  last_one ph same past h = row ph same (due_row o ps p ph Release h)
     where
-      one : (b : Bool) → Some (if b then Write i else Enable) ≡ Some Release → ⊥
-      one true g = absurd (cc)
-      one false g = absurd (cc)
-  last_one other same past h = absurd (cc)
+      row : (ph : Phase) → p.phase ≡ ph → is_row Release ph ≡ true → left_of p ≡ 1
+      row Arrived2 same on = here Arrived2 same
+      row other same on = absurd (cc)

@@ -16,13 +16,12 @@ use Rattle.mt_machine.specs.Machine.{Order, MachineEvent, Accesses, Controls, Ca
 use Rattle.mt_machine.specs.Update.{is_step_of, is_release, dirty_count}
 use Rattle.mt_laws.proofs.Barrier.Stages.{Stage, stage_of, stages, access_stages, control_stages}
 use Rattle.mt_laws.proofs.Barrier.Ranks.{rank, rank_of, is_ahead, Guarded, processor_at, stage_at, and_left, and_right}
-use Rattle.mt_laws.proofs.Clearing.Cleared.{lines_gone}
 use Rattle.mt_laws.proofs.Clearing.Renewed.{no_take, left_alone}
 use Rattle.mt_laws.proofs.Words.MemoryLaws.{AllAligned}
 use Rattle.mt_laws.proofs.Words.BusLaws.{fit_at}
 use Rattle.mt_laws.proofs.Words.AccessLaws.{changed_at}
 use Rattle.mt_laws.proofs.Invariant.Standing.{Standing, standing_next, processor_in}
-use Rattle.mt_laws.proofs.Steps.Counts.{left, left_of, is_past, Ready, one_less, last_one}
+use Rattle.mt_laws.proofs.Steps.Counts.{first_drop, left, left_of, is_past, Ready, one_less, last_one}
 
 -- ---- counts
 
@@ -122,8 +121,8 @@ module _ (o : Order) (s : System) (k : ℕ) (p : Processor) (at : slice_get s.pr
       let again : p.phase ≡ Arrived2 = ⊎_elim (λ (c : (ahead : Bool) → rank_of p.phase ahead ≡ 3). absurd (let three = c (is_ahead o (stage_of p)) in let four = (released j r at_r runs).1 in omega arith)) (λ (c : p.phase ≡ Arrived2). c) (changing_or_again p.phase past) in
       (q, found.1, one q.phase (phase ∙ again) q ∙ sym (one p.phase again p), ap is_past phase ∙ past)
     where
-      one : (ph : Phase) → ph ≡ Arrived2 → (q : Processor) → left ph (length (writable q.file)) (dirty_count q.lines) ≡ 1
-      one ph is q = ap (λ v. left v (length (writable q.file)) (dirty_count q.lines)) is
+      one : (ph : Phase) → ph ≡ Arrived2 → (q : Processor) → left ph (length (writable q.file)) (dirty_count q.lines) (first_drop q) ≡ 1
+      one ph is q = ap (λ v. left v (length (writable q.file)) (dirty_count q.lines) (first_drop q)) is
 
   other_step : (j : ℕ) (e : Event) → k ≢ j → (x : Option Processor) → slice_get s.processors j ≡ x → option_map_or (λ r. due o s.processors r r.phase) x None ≡ Some e → slice_get (step o.goal e j s).processors k ≡ Some p
   other_step j e apart None is h = absurd (cc)
@@ -148,7 +147,6 @@ module _ (ws : List Window) (aligned : AllAligned ws) (k : ℕ) where
   pub ready : (s : System) (o : Order) (p : Processor) → slice_get s.processors k ≡ Some p → Standing ws (record { system = s; order = Some o }) → Ready p
   ready s o p at st = record {
     apart = (fit_at ws s.processors k p st.agrees.stands.fit at).lines_apart;
-    no_lines = λ same. (st.kept.1 k p at).no_lines (ap lines_gone same);
     in_range = (processor_in ws (record { system = s; order = Some o }) st k p at).in_range;
   }
 

@@ -15,8 +15,9 @@ use Rattle.mt_machine.specs.Access.{access, is_running}
 use Rattle.mt_machine.specs.Control.{control}
 use Rattle.mt_machine.specs.Machine.{Machine, Order, MachineEvent, Accesses, Controls, Calls, Goes, Cancels, Steps, IsEnabled, next, due, own_step, before_own, step, is_cancelled, is_waiting_to_pass, first_barrier_open, remaining_order, run, AreEnabled}
 use Rattle.mt_machine.specs.Update.{dirty_count, is_step_of, is_release}
+use Rattle.mt_laws.proofs.Steps.Counts.{first_drop}
 use Rattle.mt_laws.specs.Barriers.{IsAt}
-use Rattle.mt_laws.specs.Counts.{CountOfSteps, IsCounted}
+use Rattle.mt_laws.specs.Counts.{CountOfSteps, IsCounted, other_events}
 use Rattle.mt_laws.specs.Kept.{is_take_step}
 use Rattle.mt_laws.proofs.Barrier.Stages.{Stage, stage_of, stages, access_stages, control_stages}
 use Rattle.mt_laws.proofs.Barrier.Ranks.{At, processor_at, stage_at, and_left, and_right}
@@ -258,7 +259,7 @@ module _ (ws : List Window) (aligned : AllAligned ws) (k : ℕ) where
     passed : Processor
     at_pass : IsAt (next m (Steps k Pass)) k passed
     phase : passed.phase ≡ Passed
-    count : count_by (is_step_of k) (rest ++ Steps k Release ∷ []) ≡ length (writable passed.file) + dirty_count passed.lines + 10
+    count : count_by (is_step_of k) (rest ++ Steps k Release ∷ []) ≡ length (writable passed.file) + dirty_count passed.lines + first_drop passed + 9
 
   after_pass : (rest : List MachineEvent) (s : System) (v : Option Order) (p : Processor) → slice_get s.processors k ≡ Some p → Standing ws (record { system = s; order = v }) → AreEnabled (record { system = s; order = v }) (Steps k Pass ∷ (rest ++ Steps k Release ∷ []))
       → list_all (λ e. not (is_step_of k e && is_release e)) rest ≡ true → After rest (record { system = s; order = v })
@@ -305,15 +306,22 @@ module _ (ws : List Window) (aligned : AllAligned ws) (k : ℕ) where
         passed = b.passed;
         at_pass = ap (λ (x : Machine). slice_get x.system.processors k) (run_join first w.before (Steps k Pass ∷ [])) ∙ b.at_pass;
         phase = b.phase;
-        count = add_up _ _ _ _ _ _ _
+        count = add_up _ _ _ _ _ _ _ _ _
             (count_more (is_step_of k) (Steps k Take) (between ++ Steps k Release ∷ []))
             (ap (count_by (is_step_of k)) joined ∙ count_append (is_step_of k) w.before (Steps k Pass ∷ (w.rest ++ Steps k Release ∷ [])))
             (count_more (is_step_of k) (Steps k Pass) (w.rest ++ Steps k Release ∷ []))
-            own (w.steps ∙ one) b.count;
+            own (w.steps ∙ one) b.count (counted b.passed);
       }
     where
-      add_up : (all some own before past after end : ℕ) → all ≡ own + some → some ≡ before + past → past ≡ own + after → own ≡ 1 → before ≡ 1 → after ≡ end + 10 → all ≡ end + 13
-      add_up all some own before past after end a b c d e f = omega arith
+      add_up : (all some own before past after end drops others : ℕ) → all ≡ own + some → some ≡ before + past → past ≡ own + after → own ≡ 1 → before ≡ 1 → after ≡ end + drops + 9 → others ≡ drops + 12 → all ≡ end + others
+      add_up all some own before past after end drops others a b c d e f g = omega arith
+
+      counted : (p : Processor) → other_events p ≡ first_drop p + 12
+      counted p = one p.self_snoop
+        where
+          one : (b : Bool) → (if b then 12 else 13) ≡ (if b then 0 else 1) + 12
+          one true = refl
+          one false = refl
 
 pub count_of_steps : CountOfSteps
 count_of_steps s m k between start reached enabled calm =

@@ -296,6 +296,7 @@ settled_view goal v = record {
   entries = [];
   phase = Running;
   era = v.2 + 1;
+  self_snoop = v.3;
 }
 
 settled_by_view : (goal : RegisterFile) (ps : List Processor) → map (settled_processor goal) ps ≡ map (settled_view goal) (map view ps)

@@ -55,10 +55,10 @@ fates_set o (p ∷ ps) (x ∷ qs) (suc k) q r at f h = (h.0, fates_set o ps qs k
 
 -- what a fence leaves of a processor
 abbrev pub View : Type 0
-View = List Mapping × Bool × ℕ
+View = List Mapping × Bool × ℕ × Bool
 
 abbrev pub view : Processor → View
-view p = (p.mappings, p.page_global, p.era)
+view p = (p.mappings, p.page_global, p.era, p.self_snoop)
 
 pub view_erased : (ps : List Processor) → map view (map erased ps) ≡ map view ps
 view_erased [] = refl
@@ -91,6 +91,7 @@ fates_arrived o (p ∷ ps) (q ∷ qs) same h =
         caching = λ g. absurd (let e = ap is_caching at.0 in cc);
         forgotten = λ g. absurd (let e = ap is_restored at.0 in cc);
         era = λ g. ap (λ (v : View). v.2) own;
+        self_snoop = ap (λ (v : View). v.3) own;
         settled = λ g. absurd (let e = at.1 in cc);
       },
       fates_arrived o ps qs rest (λ i r there. h (suc i) r there),
@@ -310,7 +311,7 @@ fates_go o go [] (q ∷ qs) h = absurd h
 fates_go o go (p ∷ ps) [] h = absurd h
 fates_go o go (p ∷ ps) (q ∷ qs) h =
     let f = h.0 in
-    (record { mappings = f.mappings; plain = f.plain; stripped = f.stripped; caching = f.caching; forgotten = f.forgotten; era = f.era; settled = f.settled }, fates_go o go ps qs h.1)
+    (record { mappings = f.mappings; plain = f.plain; stripped = f.stripped; caching = f.caching; forgotten = f.forgotten; era = f.era; self_snoop = f.self_snoop; settled = f.settled }, fates_go o go ps qs h.1)
 
 pub course_go : (o : Order) (go : Go) (ps : List Processor) (s t : System) → Course o ps s t → Course (record o { go = go }) ps s t
 course_go o go ps s t course =

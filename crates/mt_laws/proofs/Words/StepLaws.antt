@@ -1,22 +1,22 @@
 -- The update's own steps keep each word's copies in agreement; none but Take changes a word's value.
-use Rattle.std.proofs.Common.{◌≡◌, ◌≢◌, ℕ, zero, suc, ◌+◌, ◌/◌, ◌%◌, ◌<◌, ◌==◌, List, [], ◌∷◌, length, set, Some, None, Option, Bool, true, false, refl, sym, ap, subst, ◌∙◌, arith, eq-eqb}
+use Rattle.std.proofs.Common.{◌≡◌, ◌≢◌, ℕ, zero, suc, ◌/◌, ◌%◌, ◌<◌, ◌==◌, List, [], ◌∷◌, set, Some, None, Option, Bool, true, false, refl, sym, ap, subst, ◌∙◌, arith, eq-eqb}
 use Rattle.std.specs.Prelude.{slice_get, slice_index, if◌then◌else◌, ◌&&◌, not, is_some, nat_lt}
 use Rattle.std.specs.List.{list_all, find}
 use Rattle.std.specs.Option.{option_map_or, option_map}
 use Rattle.std.proofs.lemmas.Bool.{eqb-true, eqb-false, ltb-true}
 use Rattle.mt_cache.specs.declared.line.CacheLine.{CacheLine}
 use Rattle.mt_machine.specs.declared.phase.Phase.{Phase}
-use Rattle.mt_machine.specs.declared.phase.Phase.TheVariants.{Running, Taken, Arrived, Passed, NoFill, Flushed, TlbFlushed, Writing, Enabled, Flushed2, TlbFlushed2, Normal, Restored, Arrived2}
+use Rattle.mt_machine.specs.declared.phase.Phase.TheVariants.{NoFill, Enabled, Flushed2}
 use Rattle.mt_machine.specs.declared.event.Event.{Event}
-use Rattle.mt_machine.specs.declared.event.Event.TheVariants.{Take, Arrive, Leave, Pass, SetNoFill, WriteBack, DropLines, FlushTlb, Disable, Write, Enable, SetNormal, RestorePge, ArriveAgain, Release}
+use Rattle.mt_machine.specs.declared.event.Event.TheVariants.{Take, WriteBack, DropLines, FlushTlb}
 use Rattle.mt_machine.specs.Memory.{Window, word_count, word_at, put_word, word_address, line_of, word_of}
 use Rattle.mt_cache.specs.Lines.{eight, is_dirty, find_line, change_line, clean_word, first_dirty_word, first_dirty_line}
 use Rattle.mt_machine.specs.System.{Processor, System}
 use Rattle.mt_machine.specs.Bus.{drain}
 use Rattle.mt_machine.specs.Control.{reload_cr3}
-use Rattle.mt_machine.specs.Machine.{Order, due, own_step, before_own, step, flush_tlb, write_back_event, write_back_or_drop, is_cancelled, first_barrier_open, second_barrier_open}
+use Rattle.mt_machine.specs.Machine.{Order, due, own_step, before_own, step, flush_tlb, write_back_event, write_back_or_drop}
 use Rattle.mt_regs.specs.RegisterFile.{RegisterFile}
-use Rattle.mt_regs.specs.Registers.{writable}
+use Rattle.mt_machine.proofs.Rows.{due_row, first_flush_case, is_row}
 use Rattle.mt_laws.proofs.Barrier.Ranks.{and_left, and_right}
 use Rattle.mt_laws.proofs.Clearing.Renewed.{is_take}
 use Rattle.mt_laws.proofs.Words.MemoryLaws.{AllAligned, put_other}
@@ -97,42 +97,17 @@ is_drain other = false
 
 pub due_drains : (o : Order) (ps : List Processor) (p : Processor) (ph : Phase) (e : Event) → due o ps p ph ≡ Some e → is_drain e ≡ true → write_back_or_drop p ≡ e
 unfolding is_drain
-due_drains o ps p Running e h is = absurd (one (p.era == o.from_era) (is_cancelled o.go) h)
+due_drains o ps p ph e h is = one ph h (row e is (due_row o ps p ph e h))
   where
-    one : (b c : Bool) → (if b && not c then Some Take else None) ≡ Some e → ⊥
-    one false c g = absurd (cc)
-    one true true g = absurd (cc)
-    one true false g = let q : is_drain e ≡ false = ap is_drain (let r : e ≡ Take = cc in r) in absurd (cc)
-due_drains o ps p Taken e h is = absurd (one (is_cancelled o.go) h)
-  where
-    one : (b : Bool) → Some (if b then Leave else Arrive) ≡ Some e → ⊥
-    one true g = let q : is_drain e ≡ false = ap is_drain (let r : e ≡ Leave = cc in r) in absurd (cc)
-    one false g = let q : is_drain e ≡ false = ap is_drain (let r : e ≡ Arrive = cc in r) in absurd (cc)
-due_drains o ps p Arrived e h is = absurd (one (is_cancelled o.go) (first_barrier_open o ps) h)
-  where
-    one : (b f : Bool) → (if b then Some Leave else (if f then Some Pass else None)) ≡ Some e → ⊥
-    one true f g = let q : is_drain e ≡ false = ap is_drain (let r : e ≡ Leave = cc in r) in absurd (cc)
-    one false true g = let q : is_drain e ≡ false = ap is_drain (let r : e ≡ Pass = cc in r) in absurd (cc)
-    one false false g = absurd (cc)
-due_drains o ps p NoFill e h is = cc
-due_drains o ps p Enabled e h is = cc
-due_drains o ps p (Writing i) e h is = absurd (one (nat_lt (i + 1) (length (writable p.file))) h)
-  where
-    one : (b : Bool) → Some (if b then Write i else Enable) ≡ Some e → ⊥
-    one true g = let q : is_drain e ≡ false = ap is_drain (let r : e ≡ Write i = cc in r) in absurd (cc)
-    one false g = let q : is_drain e ≡ false = ap is_drain (let r : e ≡ Enable = cc in r) in absurd (cc)
-due_drains o ps p Arrived2 e h is = absurd (one (second_barrier_open o ps) h)
-  where
-    one : (f : Bool) → (if f then Some Release else None) ≡ Some e → ⊥
-    one true g = let q : is_drain e ≡ false = ap is_drain (let r : e ≡ Release = cc in r) in absurd (cc)
-    one false g = absurd (cc)
-due_drains o ps p Passed e h is = let q : is_drain e ≡ false = ap is_drain (let r : e ≡ SetNoFill = cc in r) in absurd (cc)
-due_drains o ps p Flushed e h is = let q : is_drain e ≡ false = ap is_drain (let r : e ≡ FlushTlb = cc in r) in absurd (cc)
-due_drains o ps p TlbFlushed e h is = let q : is_drain e ≡ false = ap is_drain (let r : e ≡ Disable = cc in r) in absurd (cc)
-due_drains o ps p Flushed2 e h is = let q : is_drain e ≡ false = ap is_drain (let r : e ≡ FlushTlb = cc in r) in absurd (cc)
-due_drains o ps p TlbFlushed2 e h is = let q : is_drain e ≡ false = ap is_drain (let r : e ≡ SetNormal = cc in r) in absurd (cc)
-due_drains o ps p Normal e h is = let q : is_drain e ≡ false = ap is_drain (let r : e ≡ RestorePge = cc in r) in absurd (cc)
-due_drains o ps p Restored e h is = let q : is_drain e ≡ false = ap is_drain (let r : e ≡ ArriveAgain = cc in r) in absurd (cc)
+    row : (e : Event) → is_drain e ≡ true → is_row e ph ≡ true → is_row DropLines ph ≡ true
+    row (WriteBack a v) is on = on
+    row DropLines is on = on
+    row other is on = absurd (cc)
+
+    one : (ph : Phase) → due o ps p ph ≡ Some e → is_row DropLines ph ≡ true → write_back_or_drop p ≡ e
+    one NoFill g on = first_flush_case p e g (λ snoops flush. absurd (let q : is_drain e ≡ false = ap is_drain (sym flush) in cc)) (λ flushes g. cc)
+    one Enabled g on = cc
+    one other g on = absurd (cc)
 
 -- no word of these lines is dirty
 abbrev pub NoDirty : List CacheLine → Type 0

@@ -1,10 +1,16 @@
 ghost use Rattle.mt_laws.specs.Sound.{AccessKeepsSound, ControlKeepsSound, DrainKeepsSound, LinesAreLow, StaysCoherent, StaysSound, WriteBacksHavePlaces};
-ghost use Rattle.mt_laws.specs.Kept.{OrdersHold, StepsKeepNow, StillEventsKeep, TakeFences};
+ghost use Rattle.mt_laws.specs.Kept.{FlagsStay, OrdersHold, StepsKeepNow, StillEventsKeep, TakeFences, UpdatedKeepsFlags};
 
 /// Take is a fence, and the events of the coordinator, Arrive and Leave keep all that is held.
 pub fn events_keep()
     ensures take { TakeFences }
     ensures still { StillEventsKeep }
+{}
+
+/// No event changes which processors are self-snooping, and no whole update does.
+pub fn flags_stay()
+    ensures events { FlagsStay }
+    ensures updated { UpdatedKeepsFlags }
 {}
 
 /// Caches and memory agree in each reached state.

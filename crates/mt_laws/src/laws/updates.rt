@@ -67,7 +67,7 @@ pub fn cancelled_update()
 {}
 
 /// From its take to its release a processor does as many events as it has writable registers and dirty
-/// words, and 13 more.
+/// words, and 13 more, or 12 where it is self-snooping.
 pub fn count_of_steps()
     ensures { CountOfSteps }
 {}

@@ -1,11 +1,12 @@
-use Rattle.std.proofs.Common.{◌≡◌, List, [], ◌∷◌, ◌++◌, ◌+◌, ℕ, length, refl, ap, subst, arith, Option, None, Some, slice_get}
+use Rattle.std.proofs.Common.{◌≡◌, List, [], ◌∷◌, ◌++◌, ◌+◌, ℕ, length, refl, sym, ap, ◌∙◌, arith, Option, None, Some, slice_get}
 use Rattle.mt_machine.specs.declared.event.Event.TheVariants.{Arrive, Pass, Take}
 use Rattle.mt_regs.specs.Registers.{writable}
 use Rattle.mt_machine.specs.System.{Processor}
-use Rattle.mt_machine.specs.Machine.{MachineEvent, Steps, run}
+use Rattle.mt_machine.specs.Machine.{Machine, MachineEvent, Steps, run}
 use Rattle.mt_machine.specs.Update.{dirty_count}
 use Rattle.mt_machine.specs.WorkedRuns.{own}
-use Rattle.mt_laws.specs.WorkedRuns.{bare_called, way_on}
+use Rattle.mt_laws.specs.Counts.{other_events}
+use Rattle.mt_laws.specs.WorkedRuns.{bare_called, snooper_called, way_of_snooper, way_on}
 use Rattle.std.specs.Prelude.{map}
 use Rattle.mt_laws.proofs.worked.worked_counts.Goals as goal
 
@@ -20,6 +21,17 @@ returns-clause-counted c = record {
   count = refl;
 }
 
+pub returns-clause-self_snooping : goal.returns-clause-self_snooping
+returns-clause-self_snooping c = record {
+  before = Steps 0 Arrive ∷ [];
+  rest = map (Steps 0) way_of_snooper;
+  passes = refl;
+  passed = own (run snooper_called (Steps 0 Take ∷ Steps 0 Arrive ∷ Steps 0 Pass ∷ [])) 0;
+  at_pass = refl;
+  phase = refl;
+  count = refl;
+}
+
 unlike : (before rest : List MachineEvent) → [] ≡ before ++ Steps 0 Pass ∷ rest → ⊥
 unlike [] rest is = omega (arith, ap length is)
 unlike (e ∷ before) rest is = omega (arith, ap length is)
@@ -29,14 +41,21 @@ returns-clause-no_pass c = λ h. unlike h.before h.rest h.passes
 
 abbrev needed : Option Processor → ℕ
 needed None = 0
-needed (Some p) = length (writable p.file) + dirty_count p.lines
+needed (Some p) = length (writable p.file) + dirty_count p.lines + other_events p
+
+-- what the processor is to do, where it passes after Arrive
+needs : (m : Machine) (before : List MachineEvent) (p : Processor) → before ≡ Steps 0 Arrive ∷ [] → slice_get (run m (Steps 0 Take ∷ (before ++ Steps 0 Pass ∷ []))).system.processors 0 ≡ Some p
+    → needed (slice_get (run m (Steps 0 Take ∷ Steps 0 Arrive ∷ Steps 0 Pass ∷ [])).system.processors 0) ≡ length (writable p.file) + dirty_count p.lines + other_events p
+needs m before p is at = ap needed (ap (λ (es : List MachineEvent). slice_get (run m (Steps 0 Take ∷ (es ++ Steps 0 Pass ∷ []))).system.processors 0) (sym is) ∙ at)
 
 pub returns-clause-one_step_more : goal.returns-clause-one_step_more
-returns-clause-one_step_more c = λ h before.
-    let at : Some (own (run bare_called (Steps 0 Take ∷ Steps 0 Arrive ∷ Steps 0 Pass ∷ [])) 0) ≡ Some h.passed =
-    subst (λ (es : List MachineEvent). slice_get (run bare_called (Steps 0 Take ∷ (es ++ Steps 0 Pass ∷ []))).system.processors 0 ≡ Some h.passed) before h.at_pass in
-    let few : 2 ≡ length (writable h.passed.file) + dirty_count h.passed.lines = ap needed at in
-    omega (arith, h.count, few)
+returns-clause-one_step_more c = λ h before. omega (arith, h.count, needs bare_called h.before h.passed before h.at_pass)
+
+pub returns-clause-all_the_same : goal.returns-clause-all_the_same
+returns-clause-all_the_same c = λ h before. omega (arith, h.count, needs snooper_called h.before h.passed before h.at_pass)
+
+pub returns-clause-first_flush_left_out : goal.returns-clause-first_flush_left_out
+returns-clause-first_flush_left_out c = λ h before. omega (arith, h.count, needs bare_called h.before h.passed before h.at_pass)
 
 pub returns-clause-one_missing : goal.returns-clause-one_missing
 returns-clause-one_missing c = λ h. omega (arith, h 1)
