@@ -1,5 +1,6 @@
 -- Each processor keeps its table while its file stays, and translates by it where it runs.
-use Rattle.std.proofs.Common.{◌≡◌, ◌∙◌, ap, sym, refl, subst, ℕ, zero, suc, ◌<◌, List, length, replicate, None, Some, slice_get, slice_index_or, true}
+use Rattle.std.proofs.Common.{◌≡◌, ◌∙◌, ap, sym, refl, subst, ℕ, zero, suc, ◌<◌, List, length, replicate, None, Some, slice_get, slice_index_or, true, ⊎_elim}
+use Rattle.mt_laws.proofs.Invariant.Snooping.{from}
 use Rattle.std.proofs.lemmas.List.{length-map}
 use Rattle.std.proofs.lemmas.Option.{slice_get-get_or}
 use Rattle.mt_regs.specs.RegisterFile.{RegisterFile}
@@ -8,12 +9,12 @@ use Rattle.mt_machine.specs.declared.op.Op.{Op}
 use Rattle.mt_machine.specs.declared.control.Control.{Control}
 use Rattle.mt_machine.specs.declared.phase.Phase.{Phase}
 use Rattle.mt_machine.specs.declared.phase.Phase.TheVariants.{Running}
-use Rattle.mt_machine.specs.System.{IsProcessor, IsSound, Processor, System, is_writing, start_processor}
+use Rattle.mt_machine.specs.System.{IsProcessor, IsSound, Processor, System, is_writing, start_processor, snooping, with_self_snoop}
 use Rattle.mt_machine.specs.Bus.{drain}
 use Rattle.mt_machine.specs.Access.{access, is_running}
 use Rattle.mt_machine.specs.Control.{control}
 use Rattle.mt_laws.proofs.Barrier.Claims.{all_get}
-use Rattle.mt_laws.proofs.Barrier.Stages.{access_stages, control_stages, drain_stages, stage_of, stages}
+use Rattle.mt_laws.proofs.Barrier.Stages.{access_stages, control_stages, drain_stages, stage_of, stages, change_stages}
 use Rattle.mt_laws.proofs.Clearing.Follows.{Follows, follows_access, follows_control, follows_drain}
 use Rattle.mt_bus.specs.Tables.{AreTablesOf, IsTranslatedBy}
 
@@ -38,6 +39,16 @@ tables_controlled s k c ts h = tables_follow k s (control s k c).after ts (contr
 
 pub tables_drained : (k : ℕ) (s : System) (ts : List TypeTable) → AreTablesOf s.processors ts → AreTablesOf (drain k s).processors ts
 tables_drained k s ts h = tables_follow k s (drain k s) ts (drain_stages k s) (follows_drain k s) h
+
+pub tables_snooping : (k : ℕ) (s : System) (ts : List TypeTable) → AreTablesOf s.processors ts → AreTablesOf (with_self_snoop k s).processors ts
+tables_snooping k s ts h = record {
+  count = h.count ∙ sym (same_length s (with_self_snoop k s) (change_stages snooping (λ p. refl) k s));
+  each = λ j q x at there rests.
+      let f = from k s j q at in
+      let same : (f.0.file ≡ q.file) × (f.0.phase ≡ q.phase) =
+      ⊎_elim (λ (e : f.0 ≡ q). (ap (λ (p : Processor). p.file) e, ap (λ (p : Processor). p.phase) e)) (λ (e : snooping f.0 ≡ q). (ap (λ (p : Processor). p.file) e, ap (λ (p : Processor). p.phase) e)) f.2 in
+      subst (λ (g : RegisterFile). IsTableOf g x) same.0 (h.each j f.0 x f.1 there (ap is_writing same.1 ∙ rests));
+}
 
 -- ---- at the start
 

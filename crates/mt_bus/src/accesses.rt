@@ -24,6 +24,7 @@ pub(crate) fn is_running(cpus: &[Cpu], k: usize) -> bool
 }
 
 // The physical address and the type of an address; an entry of its page then stands.
+#[inline(always)]
 fn translate(cpus: &mut [Cpu], table: &KindTable, k: usize, va: u64) -> Option<(u64, MemType)>
     requires processor { k < length cpus.old }
     requires running { IsTrue (is_running_in k cpus.old) }

@@ -1,7 +1,7 @@
 ghost use Rattle.std.specs.Prelude.{◌≡◌, ◌<◌, ◌/◌, length, slice_get, is_err, OnOk, OnErr, Some, IsTrue};
 ghost use Rattle.mt_tlb.specs.Entries.{is_full_for, set_mapping};
 ghost use Rattle.mt_machine.specs.Machine.{FitsControl};
-ghost use Rattle.mt_machine.specs.System.{Processor};
+ghost use Rattle.mt_machine.specs.System.{Processor, snooping};
 ghost use Rattle.mt_machine.specs.Control.{control, drop_page, reload_cr3, set_page_global};
 ghost use Rattle.mt_bus.specs.Parts.{is_running_in, mappings_in, ruled, system, with_changed};
 
@@ -49,6 +49,15 @@ fn set_pge(cpus: &mut [Cpu], k: usize, on: bool)
 {
     let cpu = &mut cpus[k];
     cpu.set_pge(on);
+}
+
+/// Makes a processor a self-snooping one.
+pub(crate) fn set_self_snoop(cpus: &mut [Cpu], k: usize)
+    requires { k < length cpus.old }
+    ensures { cpus.new ≡ with_changed snooping k cpus.old }
+{
+    let cpu = &mut cpus[k];
+    cpu.set_self_snoop();
 }
 
 fn set_cd(cpus: &mut [Cpu], k: usize, on: bool)

@@ -18,6 +18,7 @@ pub(crate) fn clean_copy(cache: &mut Cache, ram: &mut Ram, number: u64)
 }
 
 /// Writes the dirty words of a cache's copy of a line to memory, and drops the copy.
+#[inline(always)]
 pub(crate) fn drop_copy(cache: &mut Cache, ram: &mut Ram, number: u64)
     ensures cache { cache.new ≡ without_line number cache.old }
     ensures ram { ram.new ≡ write_back_of number ram.old cache.old }

@@ -18,6 +18,7 @@ fn clean_in(cpu: &mut Cpu, ram: &mut Ram, number: u64)
     clean_copy(cpu.cache_mut(), ram, number);
 }
 
+#[inline(always)] // most caches don't have the line, which one look tells
 fn drop_in(cpu: &mut Cpu, ram: &mut Ram, number: u64)
     ensures cpu { cpu.new ≡ with_lines (without_line number) cpu.old }
     ensures read { cpu.new ≡ with_lines (without_line number) (with_lines (change_line number clean_line) cpu.old) }

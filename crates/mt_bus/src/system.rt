@@ -2,7 +2,7 @@ ghost use Rattle.std.specs.Prelude.{◌≡◌, ◌<◌, ◌≤◌, ◌+◌, ◌*
 ghost use Rattle.mt_regs.specs.Faults.{IsAccepted};
 ghost use Rattle.mt_types.specs.Tables.{IsTableOf, TypeTable};
 ghost use Rattle.mt_ram.specs.Windows.{refusal, refusal_in, window, with_window};
-ghost use Rattle.mt_machine.specs.System.{IsSound, Processor, start_processor};
+ghost use Rattle.mt_machine.specs.System.{IsSound, Processor, start_processor, with_self_snoop};
 ghost use Rattle.mt_machine.specs.Start.{start_machine};
 ghost use Rattle.mt_machine.specs.Machine.{FitsControl};
 ghost use Rattle.mt_machine.specs.Control.{control};
@@ -102,6 +102,14 @@ impl System {
         self.ram.add(base, lines)?;
         let _ = self.ram.words(); // a fact for the proof
         Ok(())
+    }
+
+    /// Makes a processor a self-snooping one. No access, control instruction or event does so.
+    pub fn self_snoop(&mut self, k: u32)
+        requires { k < length self.old.processors }
+        ensures { self.new ≡ with_self_snoop k self.old }
+    {
+        controls::set_self_snoop(self.cpus.as_mut_slice(), k as usize);
     }
 
     /// One control instruction of a processor. A mapping that is set has an index below 8, a

@@ -1,9 +1,10 @@
 -- Lines in slots, in the order of their slots: what the calls on them make of the list.
 use Rattle.std.proofs.Common.{◌≡◌, ◌≢◌, ℕ, zero, suc, ◌+◌, ◌-◌, ◌<◌, ◌≤◌, List, [], ◌∷◌, ◌++◌, length, map, set, get_or, take, drop, Some, None, Bool, true, false, refl, sym, ap, subst, ◌∙◌, arith, inl, inr, ◌⊎◌}
 use Rattle.std.specs.Prelude.{if◌then◌else◌, nat_lt}
-use Rattle.std.specs.List.{All, AllPairs, remove, position, position_or_len, range_with_len, copy_within}
+use Rattle.std.specs.List.{All, AllPairs, remove, position, position_or_len, range_with_len}
 use Rattle.std.proofs.lemmas.Bool.{lt-ltb, le-ltb, cases_lt}
-use Rattle.std.proofs.lemmas.List.{get_or-set_same, get_or-set_other, get_or-take, get_or-map, length-map, length-take-le, length_push, map_push, take_more, take-append-le, take_rest, drop_more, drop_all, set_at, get_or_default}
+use borrow.Rule.Slice.PartMut.{mid_of, put_mid}
+use Rattle.std.proofs.lemmas.List.{append_assoc, append-nil, length-drop, take_all, get_or-set_same, get_or-set_other, get_or-take, get_or-map, length-map, length-take-le, length_push, map_push, take_more, take-append-le, drop_more, drop_all, get_or_default}
 use Rattle.std.proofs.lemmas.List.Edits.{length-remove, get_or-remove_below, get_or-remove_above}
 use Rattle.std.proofs.lemmas.List.Elements.{All-append, All-set}
 use Rattle.std.proofs.lemmas.List.Quantifiers.{all_pairs_push, all_pairs_remove}
@@ -69,18 +70,21 @@ kept_order order i s is within at = record { long = long; within = all; distinct
         all_pairs_push (λ a b. a ≢ b) (remove order i) s (all_pairs_remove (λ a b. a ≢ b) order i among is.distinct)
         (λ k d below e. let p = place k below in differ order is p.0 i (subst (λ n. p.0 < n) is.long p.1) within p.2 d 0 (sym (p.3 d) ∙ e ∙ at))
 
--- the order after the slots behind place i are moved down and its own slot is written to the end
-pub turned : (order moved : List ℕ) (i end s : ℕ) → i < length order → suc end ≡ length order → moved ≡ copy_within order (i + 1) (length order) i → set moved end s ≡ remove order i ++ s ∷ []
-turned order moved i end s within last is =
-    let rest : ℕ = length order - (i + 1) in
+-- the order after the slots from place i on are turned by one
+pub turned : (order piece : List ℕ) (i : ℕ) → length order ≡ 64 → i < 64 → piece ≡ drop 1 (mid_of i (64 - i) order) ++ take 1 (mid_of i (64 - i) order)
+    → put_mid i (64 - i) order piece ≡ remove order i ++ get_or order i 0 ∷ []
+turned order piece i long within is =
     let next : i + 1 ≡ suc i = omega arith in
-    let here : i + rest ≡ end = omega (arith, last) in
-    let front : take i order ++ take rest (drop (i + 1) order) ≡ remove order i =
-    ap (λ ys. take i order ++ ys) (take_rest order (i + 1)) ∙ ap (λ k. take i order ++ drop k order) next in
-    let back : drop (i + rest) order ≡ get_or order end 0 ∷ [] =
-    ap (λ k. drop k order) here ∙ drop_more order end 0 (omega (arith, last)) ∙ ap (λ ys. get_or order end 0 ∷ ys) (drop_all (end + 1) order (omega (arith, last))) in
-    ap (λ ys. set ys end s) (is ∙ ap (λ ys. ys ++ drop (i + rest) order) front ∙ ap (λ ys. remove order i ++ ys) back)
-    ∙ set_at (remove order i) (get_or order end 0) [] s end (let r = length-remove order i within in omega (arith, r, last))
+    let s : ℕ = get_or order i 0 in
+    let rest : List ℕ = drop (i + 1) order in
+    let size : length (drop i order) ≤ 64 - i = omega (arith, length-drop i order, long) in
+    let mid : mid_of i (64 - i) order ≡ s ∷ rest = take_all (64 - i) (drop i order) size ∙ drop_more order i 0 (omega (arith, long, within)) in
+    let none : drop (64 - i) (drop i order) ≡ [] = drop_all (64 - i) (drop i order) size in
+    ap (λ (ys : List ℕ). take i order ++ (ys ++ drop (64 - i) (drop i order))) (is ∙ ap (λ (ys : List ℕ). drop 1 ys ++ take 1 ys) mid)
+    ∙ ap (λ (zs : List ℕ). take i order ++ ((rest ++ (s ∷ [])) ++ zs)) none
+    ∙ ap (λ (ys : List ℕ). take i order ++ ys) (append-nil (rest ++ (s ∷ [])))
+    ∙ sym (append_assoc (take i order) rest (s ∷ []))
+    ∙ ap (λ (k : ℕ). (take i order ++ drop k order) ++ (s ∷ [])) next
 
 pub in_turn : (order : List ℕ) → order ≡ range_with_len 0 64 → IsOrder order
 in_turn order is = subst IsOrder (sym is) (record {

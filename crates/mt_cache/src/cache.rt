@@ -7,6 +7,7 @@ ghost use Rattle.mt_cache.specs.Counts.{AreCounted};
 ghost use Rattle.mt_cache.specs.Calls.{AreLines, change_at, clean_line_of, has_dirty_word, with_room, without_at, write_word};
 
 use crate::counts::LineCounts;
+use crate::hints::Hints;
 use crate::line::CacheLine;
 use crate::slots::{SLOTS, Slots};
 use crate::words::first_word;
@@ -14,11 +15,13 @@ use std::marker::Model;
 
 /// The lines of a cache, the oldest first. No two have one number.
 ///
-/// The counts answer most searches for a line that isn't there without a look at the lines.
+/// The counts answer most searches for a line that isn't there without a look at the lines, and the
+/// hints say where to begin a search for one that is.
 #[derive(Drop)]
 pub struct Cache {
     lines: Slots,
     counts: LineCounts,
+    hints: Hints,
 }
 
 impl Model for Cache {
@@ -29,6 +32,19 @@ impl Model for Cache {
     ghost invariant = { λ c. AreLines c.lines × AreCounted c.lines c.counts.counts };
 }
 
+// The place of the line of this number. The search begins at a guess.
+fn place_near(lines: &Slots, number: u64, guess: usize) -> Option<usize>
+    requires { AreDistinct lines.now }
+    ensures { result ≡ position (has_number number) lines.now }
+{
+    for i in guess..lines.len() {
+        if lines.get(i).number == number {
+            return Some(i);
+        }
+    }
+    lines.place_of(number)
+}
+
 impl Cache {
     /// A cache without lines.
     pub fn new() -> Self
@@ -37,6 +53,7 @@ impl Cache {
         Cache {
             lines: Slots::new(),
             counts: LineCounts::new(),
+            hints: Hints::new(),
         }
     }
 
@@ -67,7 +84,7 @@ impl Cache {
         ensures distinct { AreDistinct self.now }
     {
         if self.counts.may_have(number) {
-            self.lines.place_of(number)
+            place_near(&self.lines, number, self.hints.guess(number))
         } else {
             None
         }
@@ -101,6 +118,7 @@ impl Cache {
         requires room { length self.old < 64 }
         ensures { self.new ≡ self.old ++ line ∷ [] }
     {
+        self.hints.keep(line.number, self.lines.len());
         self.lines.push(line);
         self.counts.add(line.number);
     }
@@ -153,6 +171,7 @@ impl Cache {
         let number = self.lines.get(i).number;
         self.lines.remove(i);
         self.counts.remove(number);
+        self.hints.drop_one();
     }
 
     /// The first dirty word of the first line that has one: the place of the line, and the word.

@@ -4,6 +4,7 @@
 mod buffers;
 mod cache;
 mod counts;
+mod hints;
 mod line;
 mod places;
 mod slots;

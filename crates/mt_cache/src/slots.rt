@@ -102,9 +102,7 @@ impl Slots {
         requires { i < length self.old }
         ensures { self.new ≡ remove self.old i }
     {
-        let slot = self.order[i];
-        self.order.copy_within(i + 1.., i);
-        self.order[SLOTS - 1] = slot;
+        self.order[i..].rotate_left(1);
         self.count -= 1;
     }
 

@@ -9,7 +9,7 @@ use Rattle.mt_machine.specs.declared.op.Op.{Op}
 use Rattle.mt_machine.specs.declared.control.Control.{Control}
 use Rattle.mt_machine.specs.declared.event.Event.{Event}
 use Rattle.mt_machine.specs.Memory.{IsMemory, Window}
-use Rattle.mt_machine.specs.System.{IsSound, Processor, System}
+use Rattle.mt_machine.specs.System.{IsSound, Processor, System, snooping, with_self_snoop}
 use Rattle.mt_machine.specs.Access.{Answered, access, is_running}
 use Rattle.mt_machine.specs.Control.{RuledAfter, control}
 use Rattle.mt_machine.specs.Machine.{Accesses, Calls, Cancels, Controls, FitsControl, FitsGoal, FitsOp, Goes, IsEnabled, Machine, Order, Steps, common_era, due, is_over, next, own_step, step, remaining_order}
@@ -17,10 +17,10 @@ use Rattle.mt_regs.specs.RegisterFile.{RegisterFile, IsRegisterFile}
 use Rattle.mt_regs.specs.Faults.{IsAccepted}
 use Rattle.std.proofs.lemmas.List.{length-map, length-set}
 use Rattle.mt_laws.proofs.Barrier.Acting.{access_busy, control_busy}
-use Rattle.mt_laws.proofs.Barrier.Stages.{access_stages, control_stages, stage_of, stages}
+use Rattle.mt_laws.proofs.Barrier.Stages.{access_stages, control_stages, stage_of, stages, change_stages}
 use Rattle.mt_laws.proofs.Barrier.Barriers.{step_stages}
 use Rattle.mt_bus.proofs.Tables.{same_length}
-use Rattle.mt_core.specs.Arises.{IsCore, by_event, by_window, from_start}
+use Rattle.mt_core.specs.Arises.{IsCore, by_event, by_window, from_start, by_snooping}
 
 abbrev pub machine : System → Option Order → Machine
 machine s o = record { system = s; order = o }
@@ -108,6 +108,13 @@ went s o k e enabled h = record {
 
 pub wider : (s : System) (o : Option Order) (w : Window) → IsMemory (with_window w s.memory) → IsCore (machine s o) → IsCore (machine (record s { memory = with_window w s.memory }) o)
 wider s o w memory h = record { arises = by_window w h.arises memory; few = h.few; room = h.room }
+
+pub snoops : (s : System) (k : ℕ) → IsCore (machine s None) → IsCore (machine (with_self_snoop k s) None)
+snoops s k h = record {
+  arises = by_snooping k h.arises refl;
+  few = subst (λ n. n ≤ 16) (sym (same_length s (with_self_snoop k s) (change_stages snooping (λ p. refl) k s))) h.few;
+  room = h.room;
+}
 
 pub era_room : (ps : List Processor) → All (λ p. p.era < 2 ^ 64 - 1) ps → common_era ps < 2 ^ 64 - 1
 era_room [] h = omega arith

@@ -10,15 +10,15 @@ use Rattle.mt_machine.specs.Update.{IsSettled}
 use Rattle.mt_laws.specs.Barriers.{IsAt}
 use Rattle.mt_laws.proofs.Barrier.Acting.{no_buffers}
 use Rattle.mt_laws.proofs.Clearing.Late.{nothing_older_in}
-use Rattle.mt_laws.proofs.Registers.Quiet.{AllOf, Shape, next_shapes, quiet_of, start_shape}
+use Rattle.mt_laws.proofs.Registers.Quiet.{quiet_of}
 use Rattle.mt_laws.proofs.Registers.Settled.{files_in}
 use Rattle.mt_laws.proofs.Updates.Held.{held_of}
 use Rattle.mt_laws.proofs.Words.Sound.{aligned_all}
-use Rattle.mt_core.specs.Arises.{Arises, by_event, by_window, from_start}
+use Rattle.mt_core.specs.Arises.{Arises}
 use Rattle.mt_core.specs.Headline.{HeldFromFirstRelease, IsQuietWithoutOrder, NoBuffersWhereOnePasses, SettledFromRelease}
 use Rattle.mt_core.specs.Steps.{under_way}
 use Rattle.mt_core.specs.declared.stepped.Stepped.TheVariants.{Did}
-use Rattle.mt_core.proofs.Stepping.{is_sound, stands}
+use Rattle.mt_core.proofs.Stepping.{is_sound, stands, shapes}
 
 pub settled_from_release : SettledFromRelease
 settled_from_release m o k since a is enabled more quiet =
@@ -61,11 +61,6 @@ pub no_buffers_where_one_passes : NoBuffersWhereOnePasses
 no_buffers_where_one_passes p k a enabled = no_buffers p k (stands a).1.kept enabled
 
 -- ---- quiet
-
-shapes : {m : Machine} → Arises m → (v : Shape) × AllOf v m.system.processors
-shapes {m} (from_start s) = start_shape m s
-shapes (by_event {m = m} e a enabled) = let was = shapes a in (was.0, next_shapes was.0 e m.system m.order was.1)
-shapes (by_window w a memory) = shapes a
 
 pub is_quiet_without_order : IsQuietWithoutOrder
 is_quiet_without_order m a none =

@@ -1,5 +1,8 @@
 -- What a step needs of the state that it starts from, and that its own is sound.
-use Rattle.std.proofs.Common.{◌≡◌, ◌≢◌, ◌∙◌, ap, sym, refl, subst, arith, ℕ, zero, suc, ◌+◌, ◌-◌, ◌<◌, ◌^◌, ⊎_elim, true, false, List, [], ◌∷◌, length, take, Option, None, Some, slice_get, IsTrue}
+use Rattle.std.proofs.Common.{◌≡◌, ◌≢◌, ◌∙◌, ap, sym, refl, subst, arith, ℕ, zero, suc, ◌+◌, ◌-◌, ◌<◌, ◌^◌, ⊎_elim, true, false, List, [], ◌∷◌, length, take, Option, None, Some, slice_get, IsTrue, inl}
+use Rattle.mt_laws.proofs.Invariant.Snooping.{from, snooping_stays_quiet}
+use Rattle.mt_laws.proofs.Registers.Quiet.{AllOf, Shape, next_shapes, quiet_of, shape, start_shape}
+use Rattle.mt_machine.specs.Start.{IsQuiet, IsStart}
 use Rattle.std.specs.Prelude.{nat_lt}
 use Rattle.std.specs.List.{All}
 use Rattle.std.specs.Option.{option_map_or}
@@ -14,7 +17,7 @@ use Rattle.mt_machine.specs.declared.phase.Phase.TheVariants.{Running}
 use Rattle.mt_machine.specs.declared.event.Event.{Event}
 use Rattle.mt_machine.specs.declared.event.Event.TheVariants.{Release, Take, WriteBack}
 use Rattle.mt_machine.specs.Memory.{IsMemory, Memory, Window, put_word}
-use Rattle.mt_machine.specs.System.{IsSound, Processor, System}
+use Rattle.mt_machine.specs.System.{IsSound, Processor, System, snooping, with_self_snoop}
 use Rattle.mt_machine.specs.Bus.{drain, with_buffers}
 use Rattle.mt_machine.specs.Access.{is_running}
 use Rattle.mt_machine.specs.Machine.{FitsGoal, Machine, MachineEvent, IsEnabled, Order, Steps, before_own, due, due_at, next, own_step, remaining_order, step}
@@ -34,7 +37,7 @@ use Rattle.mt_laws.proofs.Words.Sound.{aligned_all, sound_agrees}
 use Rattle.mt_bus.proofs.Changed.{changed_is}
 use Rattle.mt_bus.proofs.Grown.{sound_grown}
 use Rattle.mt_ram.specs.Windows.{with_window}
-use Rattle.mt_core.specs.Arises.{Arises, IsCore, by_event, by_window, from_start, grown}
+use Rattle.mt_core.specs.Arises.{Arises, IsCore, by_event, by_window, from_start, grown, by_snooping, snooped}
 use Rattle.mt_bus.specs.Parts.{system, with_changed}
 use Rattle.mt_core.specs.Steps.{under_way, with_word_of}
 
@@ -63,10 +66,32 @@ stands_grown m w memory h =
       },
     )
 
+-- ---- one width and one value of the capabilities
+
+shapes_snooped : (v : Shape) (k : ℕ) (s : System) → AllOf v s.processors → AllOf v (with_self_snoop k s).processors
+shapes_snooped v k s all i q at =
+    let f = from k s i q at in
+    ⊎_elim (λ (e : f.0 ≡ q). ap (λ (p : Processor). shape p.file) (sym e)) (λ (e : snooping f.0 ≡ q). ap (λ (p : Processor). shape p.file) (sym e)) f.2 ∙ all i f.0 f.1
+
+pub shapes : {m : Machine} → Arises m → (v : Shape) × AllOf v m.system.processors
+shapes {m} (from_start s) = start_shape m s
+shapes (by_event {m = m} e a enabled) = let was = shapes a in (was.0, next_shapes was.0 e m.system m.order was.1)
+shapes (by_window w a memory) = shapes a
+shapes (by_snooping {m = m} k a none) = let was = shapes a in (was.0, shapes_snooped was.0 k m.system was.1)
+
+-- ---- where no update is under way it is quiet
+
+quiet_here : (m : Machine) (v : Shape) → AllOf v m.system.processors → m.order ≡ None → Stands m → IsQuiet m
+quiet_here m v all none h = quiet_of v m (standing_sound m.system.memory.windows m h.1 h.0) h.1.kept.0 all none
+
+stands_start : (m : Machine) → IsStart m → Stands m
+stands_start m s = ((start_sound m s).memory, start_standing m s)
+
 pub stands : {m : Machine} → Arises m → Stands m
-stands {m} (from_start s) = ((start_sound m s).memory, start_standing m s)
+stands {m} (from_start s) = stands_start m s
 stands (by_event e a enabled) = stands_next _ e enabled (stands a)
 stands (by_window w a memory) = stands_grown _ w memory (stands a)
+stands (by_snooping {m = m} k a none) = let shape = shapes a in stands_start (snooped k m) (inl (snooping_stays_quiet m k (quiet_here m shape.0 shape.1 none (stands a))))
 
 pub is_sound : (m : Machine) → Arises m → IsSound m.system
 is_sound m a = let st = stands a in standing_sound m.system.memory.windows m st.1 st.0

@@ -22,7 +22,7 @@ use Rattle.mt_laws.proofs.Barrier.Stages.{stage_of, stages}
 use Rattle.mt_laws.proofs.Clearing.Follows.{follows_drain}
 use Rattle.mt_laws.proofs.Clearing.Renewed.{at_change, is_take, left_alone, no_take}
 use Rattle.mt_laws.proofs.Invariant.Standing.{Standing}
-use Rattle.mt_laws.proofs.Steps.Counts.{Ready, is_past, last_one, left, left_of, one_less}
+use Rattle.mt_laws.proofs.Steps.Counts.{Ready, is_past, last_one, left, left_of, one_less, first_drop}
 use Rattle.mt_laws.proofs.Steps.StepCounts.{ready}
 use Rattle.mt_laws.proofs.Words.BusLaws.{fit_at}
 use Rattle.mt_laws.proofs.Words.Sound.{aligned_all}
@@ -91,6 +91,13 @@ few_words (l ∷ ls) =
     let rest = few_words ls in
     omega arith
 
+few_drops : (p : Processor) → first_drop p ≤ 1
+few_drops p = one p.self_snoop
+  where
+    one : (b : Bool) → (if b then 0 else 1) ≤ 1
+    one true = omega arith
+    one false = omega arith
+
 same_count : (f g : RegisterFile) → f.capabilities ≡ g.capabilities → length (writable f) ≡ length (writable g)
 same_count f g same = ap (λ (c : ℕ). length (writable (record f { capabilities = c }))) same
 
@@ -127,7 +134,7 @@ module _ (o : Order) (ps : List Processor) (p : Processor) (prepared : Ready p) 
   from_taken : (cancelled : Bool) (e : Event) → is_cancelled o.go ≡ cancelled → Some (if cancelled then Leave else Arrive) ≡ Some e → work o (own_step o.goal e p) < full o + 2
   from_taken true e go h =
       let leave : Leave ≡ e = cc in
-      let none : work o (own_step o.goal Leave p) ≡ 0 = ap (λ (c : Bool). work_in Running c (has_released o p) (full o) (left Running (length (writable p.file)) (dirty_count p.lines))) go in
+      let none : work o (own_step o.goal Leave p) ≡ 0 = ap (λ (c : Bool). work_in Running c (has_released o p) (full o) (left Running (length (writable p.file)) (dirty_count p.lines) (first_drop p))) go in
       subst (λ (v : Event). work o (own_step o.goal v p) < full o + 2) leave (omega arith)
   from_taken false e go h =
       let arrive : Arrive ≡ e = cc in
@@ -136,12 +143,12 @@ module _ (o : Order) (ps : List Processor) (p : Processor) (prepared : Ready p) 
   from_arrived : (cancelled opened : Bool) (e : Event) → is_cancelled o.go ≡ cancelled → (if cancelled then Some Leave else (if opened then Some Pass else None)) ≡ Some e → work o (own_step o.goal e p) < full o + 1
   from_arrived true opened e go h =
       let leave : Leave ≡ e = cc in
-      let none : work o (own_step o.goal Leave p) ≡ 0 = ap (λ (c : Bool). work_in Running c (has_released o p) (full o) (left Running (length (writable p.file)) (dirty_count p.lines))) go in
+      let none : work o (own_step o.goal Leave p) ≡ 0 = ap (λ (c : Bool). work_in Running c (has_released o p) (full o) (left Running (length (writable p.file)) (dirty_count p.lines) (first_drop p))) go in
       subst (λ (v : Event). work o (own_step o.goal v p) < full o + 1) leave (omega arith)
   from_arrived false false e go h = absurd (cc)
   from_arrived false true e go h =
       let pass : Pass ≡ e = cc in
-      subst (λ (v : Event). work o (own_step o.goal v p) < full o + 1) pass (omega (arith, most))
+      subst (λ (v : Event). work o (own_step o.goal v p) < full o + 1) pass (omega (arith, most, few_drops p))
 
   from_past : (ph : Phase) (e : Event) → p.phase ≡ ph → is_past ph ≡ true → due o ps p ph ≡ Some e → work o (own_step o.goal e p) < left_of p
   from_past ph e same past h = one (is_release (Steps 0 e)) refl
@@ -152,8 +159,8 @@ module _ (o : Order) (ps : List Processor) (p : Processor) (prepared : Ready p) 
           let last = last_one o ps p prepared ph same past (h ∙ ap Some release) in
           let above : nat_lt o.from_era (p.era + 1) ≡ true = lt-ltb o.from_era (p.era + 1) (⊎_elim (λ (g : p.era ≡ o.from_era). omega arith) (λ (g : p.era ≡ o.from_era + 1). omega arith) eras) in
           let none : work o (own_step o.goal Release p) ≡ 0 =
-          ap (λ (r : Bool). work_in Running (is_cancelled o.go) r (full o) (left Running (length (writable p.file)) (dirty_count p.lines))) above
-          ∙ released_work (is_cancelled o.go) (full o) (left Running (length (writable p.file)) (dirty_count p.lines)) in
+          ap (λ (r : Bool). work_in Running (is_cancelled o.go) r (full o) (left Running (length (writable p.file)) (dirty_count p.lines) (first_drop p))) above
+          ∙ released_work (is_cancelled o.go) (full o) (left Running (length (writable p.file)) (dirty_count p.lines) (first_drop p)) in
           subst (λ (v : Event). work o (own_step o.goal v p) < left_of p) (sym release) (omega arith)
       one false is =
           let falls = one_less o ps p prepared ph e same past h is in

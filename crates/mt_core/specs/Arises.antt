@@ -1,7 +1,8 @@
 -- The states that a core can be in, and what its calls leave (own).
-use Rattle.std.specs.Prelude.{◌≡◌, ◌<◌, ◌≤◌, ◌-◌, ◌^◌, length, Some}
+use Rattle.std.specs.Prelude.{◌≡◌, ℕ, ◌<◌, ◌≤◌, ◌-◌, ◌^◌, length, None, Some}
 use Rattle.mt_ram.specs.Windows.{with_window}
 use Rattle.mt_machine.specs.Memory.{IsMemory, Window}
+use Rattle.mt_machine.specs.System.{with_self_snoop}
 use Rattle.mt_machine.specs.Machine.{IsEnabled, Machine, MachineEvent, Order, next}
 use Rattle.mt_machine.specs.Start.{IsStart}
 
@@ -9,11 +10,16 @@ use Rattle.mt_machine.specs.Start.{IsStart}
 abbrev pub grown : Window → Machine → Machine
 grown w m = record m { system = record m.system { memory = with_window w m.system.memory } }
 
--- reached from a start by events and by new windows
+-- with processor k self-snooping; the order stays
+abbrev pub snooped : ℕ → Machine → Machine
+snooped k m = record m { system = with_self_snoop k m.system }
+
+-- reached from a start by events, by new windows, and by processors that become self-snooping while no update is under way
 pub data Arises : Machine → Type 0 where
   from_start : {m : Machine} → IsStart m → Arises m
   by_event : {m : Machine} → (e : MachineEvent) → Arises m → IsEnabled m e → Arises (next m e)
   by_window : {m : Machine} → (w : Window) → Arises m → IsMemory (with_window w m.system.memory) → Arises (grown w m)
+  by_snooping : {m : Machine} → (k : ℕ) → Arises m → m.order ≡ None → Arises (snooped k m)
 
 -- with at most 16 processors, and the update under way, if there is one, was called while the eras had room
 pub record IsCore (m : Machine) : Type 0 where

@@ -11,7 +11,7 @@ ghost use Rattle.mt_machine.specs.Machine.{BarrierCount, Calls, Cancels, FitsCon
 ghost use Rattle.mt_machine.specs.Update.{IsSettled};
 ghost use Rattle.mt_machine.specs.declared.event.Event.TheVariants.{Release};
 ghost use Rattle.mt_core.specs.declared.stepped.Stepped.TheVariants.{Did, NoUpdate, Waits};
-ghost use Rattle.mt_core.specs.Arises.{IsCore, grown};
+ghost use Rattle.mt_core.specs.Arises.{IsCore, grown, snooped};
 ghost use Rattle.mt_core.specs.Headline.{WaitsFor};
 ghost use Rattle.mt_core.specs.Rounds.{IsWholeUpdate, Rounds, each_steps, with_go_given};
 ghost use Rattle.mt_core.specs.Steps.{pause_at, step_after, step_answer, under_way};
@@ -126,6 +126,16 @@ impl Core {
         ensures after { self.new ≡ record self.old { system = (control self.old.system k c).after } }
     {
         self.system.control(k, c)
+    }
+
+    /// Makes a processor a self-snooping one, which leaves out the first flush of an update. All else stays.
+    /// No event takes it back.
+    pub fn self_snoop(&mut self, k: u32)
+        requires processor { k < length self.old.system.processors }
+        requires idle { self.old.order ≡ None }
+        ensures { self.new ≡ snooped k self.old }
+    {
+        self.system.self_snoop(k);
     }
 
     /// Gives the go. It is false, and nothing changes, where no update is under way or its go isn't

@@ -68,6 +68,15 @@ pub(crate) fn store(core: &mut Core, k: u32, offset: u64, v: u64) -> Option<Done
     Some(core.access(k, Op::Store(0x1000 + offset, v)))
 }
 
+/// Makes a processor self-snooping, where it is there and no update is under way.
+pub(crate) fn self_snoop(core: &mut Core, k: u32) -> bool {
+    let can = (k as usize) < core.system().cpus.len() && core.order().is_none();
+    if can {
+        core.self_snoop(k);
+    }
+    can
+}
+
 pub(crate) fn word(core: &Core, address: u64) -> Option<u64> {
     let ram = &core.system().ram;
     let i = ram.place(address)?;

@@ -1,6 +1,7 @@
 // Worked runs of what the laws and the calls speak of. A relation has a state that meets it, and for each of its
 // parts one that fails in just that, but of the last event of an update: the others imply it.
 ghost use Rattle.std.specs.Prelude.{◌≡◌, ◌++◌, ◌∷◌, [], None, Some, length, map, true, false};
+ghost use Rattle.mt_machine.specs.System.{with_self_snoop};
 ghost use Rattle.mt_machine.specs.declared.control.Control.TheVariants.{Cr3};
 ghost use Rattle.mt_machine.specs.declared.event.Event.TheVariants.{Arrive, Leave, Pass, Release, Take};
 ghost use Rattle.mt_machine.specs.declared.go.Go.TheVariants.{Given};
@@ -9,10 +10,10 @@ ghost use Rattle.mt_machine.specs.declared.phase.Phase.TheVariants.{Arrived, Pas
 ghost use Rattle.mt_machine.specs.Machine.{Accesses, Cancels, Controls, Goes, Steps, go_of, run};
 ghost use Rattle.mt_machine.specs.Start.{start_machine};
 ghost use Rattle.mt_machine.specs.Update.{updated};
-ghost use Rattle.mt_machine.specs.WorkedRuns.{alone, bare, bare_file, begun, call_order, called, calling, goal_of, idle, keeper, line_of, load, machine_of, mapping, memory_at, one_window, palette, ready, store, walk, with_first_word, with_word};
+ghost use Rattle.mt_machine.specs.WorkedRuns.{alone, bare, bare_file, begun, call_order, called, calling, goal_of, idle, keeper, line_of, load, machine_of, mapping, memory_at, one_window, palette, ready, store, walk, with_first_word, with_word, flags, mixed, mixed_dirty};
 ghost use Rattle.mt_laws.specs.WorkedRuns.{bare_called, pair_arrived, pair_order, pair_released, way_on};
 ghost use Rattle.mt_core.specs.declared.stepped.Stepped.TheVariants.{Did, NoUpdate, Waits};
-ghost use Rattle.mt_core.specs.Arises.{Arises, IsCore, grown};
+ghost use Rattle.mt_core.specs.Arises.{Arises, IsCore, grown, snooped};
 ghost use Rattle.mt_core.specs.Barriers.{barrier_count};
 ghost use Rattle.mt_core.specs.Headline.{HasRisenByOne, IsBelowFull, WaitsFor, WaitsWhereFor};
 ghost use Rattle.mt_core.specs.Rounds.{EndsByRelease, IsUpdateByEvents, IsWholeUpdate, Rounds, ascending, each_steps, in_order, with_go_given};
@@ -57,6 +58,10 @@ pub fn worked_turns()
     ensures zero { memory_at (grown (line_at 0) (with_first_word 7 palette)) 0 ≡ 0 }
     ensures processors { (grown (line_at 0) palette).system.processors ≡ palette.system.processors }
     ensures order { (grown (line_at 0) bare_called).order ≡ Some pair_order }
+    ensures snooped { snooped 1 mixed ≡ record mixed { system = with_self_snoop 1 mixed.system } }
+    ensures snooped_flags { flags (snooped 1 mixed) ≡ true ∷ true ∷ [] }
+    ensures snooped_memory { (snooped 1 mixed_dirty).system.memory ≡ mixed_dirty.system.memory }
+    ensures snooped_already { snooped 0 mixed_dirty ≡ mixed_dirty }
 {}
 
 /// Where a step waits, and doesn't for one thing.
@@ -146,6 +151,7 @@ pub fn worked_arises()
     ensures broadcast { Arises (calling call_order (ready ∷ ready ∷ [])) }
     ensures by_events { Arises (run bare (Accesses 0 Fence ∷ Controls 0 Cr3 ∷ [])) }
     ensures by_window { Arises (grown (line_at 0) bare) }
+    ensures by_snooping { Arises (snooped 0 bare) }
     ensures no_start { Arises (alone restored) → ⊥ }
     ensures not_enabled { Arises (run (begun (bare_file 0x806) bare) (Steps 0 Pass ∷ [])) → ⊥ }
     ensures no_memory { Arises (grown (line_at 0x20) bare) → ⊥ }

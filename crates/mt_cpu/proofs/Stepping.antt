@@ -1,6 +1,6 @@
 -- What the events of a processor make of its lines, its entries and its registers.
 use Rattle.std.proofs.Common.{◌≡◌, ℕ, suc, ◌+◌, ◌-◌, ◌*◌, ◌/◌, ◌<◌, ◌≤◌, ◌^◌, List, [], ◌∷◌, length, get_or, take, Some, Option, Bool, true, false, refl, sym, ap, subst, ◌∙◌, arith}
-use Rattle.std.specs.Prelude.{if◌then◌else◌, slice_get}
+use Rattle.std.specs.Prelude.{if◌then◌else◌, slice_get, IsTrue}
 use Rattle.std.specs.List.{All}
 use Rattle.std.specs.Option.{option_map, option_map_or}
 use Rattle.std.proofs.lemmas.Option.{get_or_from_slice_get, slice_get_within}
@@ -15,14 +15,15 @@ use Rattle.mt_cache.specs.Calls.{change_at}
 use Rattle.mt_tlb.specs.declared.entry.Entry.{Entry}
 use Rattle.mt_tlb.specs.Entries.{global_entries}
 use Rattle.mt_machine.specs.declared.event.Event.TheVariants.{WriteBack, DropLines, FlushTlb}
-use Rattle.mt_machine.specs.declared.phase.Phase.TheVariants.{Flushed, TlbFlushed, Enabled}
+use Rattle.mt_machine.specs.declared.phase.Phase.{Phase}
+use Rattle.mt_machine.specs.declared.phase.Phase.TheVariants.{NoFill, Flushed, TlbFlushed, Enabled}
 use Rattle.mt_machine.specs.Memory.{word_of}
 use Rattle.mt_machine.specs.System.{Processor, is_tlb_flushed}
 use Rattle.mt_machine.specs.Control.{reload_cr3}
 use Rattle.mt_machine.specs.Machine.{after_flush, flush_tlb, own_step, with_goal, write_back_event}
 use Rattle.mt_machine.proofs.Files.{AgreeAll, alike_files, last_written}
 use Rattle.mt_cpu.specs.Facts.{KeepsFacts}
-use Rattle.mt_cpu.specs.Steps.{HasFirst}
+use Rattle.mt_cpu.specs.Steps.{HasFirst, is_first_flushing}
 
 -- ---- a dirty word is written back
 
@@ -64,11 +65,16 @@ no_globals (e ∷ es) local =
     ap (λ b. if b then e ∷ global_entries es else global_entries es) (local 0 e (omega arith))
     ∙ no_globals es (λ k d within. local (suc k) d (omega arith))
 
-pub flushed_step : (goal : RegisterFile) (p : Processor) → p.phase ≡ Flushed → KeepsFacts p → record p { page_global = false; remembered_global = p.page_global; entries = []; phase = TlbFlushed } ≡ own_step goal FlushTlb p
-flushed_step goal p phase facts =
+pub flushed_step : (goal : RegisterFile) (p : Processor) → IsTrue (is_first_flushing p.phase) → KeepsFacts p → record p { page_global = false; remembered_global = p.page_global; entries = []; phase = TlbFlushed } ≡ own_step goal FlushTlb p
+flushed_step goal p flushing facts =
     one p.page_global refl
-    ∙ sym (ap (λ ph. record (flush_tlb ph p) { phase = after_flush ph }) phase)
+    ∙ by_phase p.phase flushing
   where
+    by_phase : (ph : Phase) → IsTrue (is_first_flushing ph) → record (flush_tlb Flushed p) { phase = TlbFlushed } ≡ record (flush_tlb ph p) { phase = after_flush ph }
+    by_phase NoFill on = refl
+    by_phase Flushed on = refl
+    by_phase other on = absurd (cc)
+
     one : (b : Bool) → p.page_global ≡ b → record p { page_global = false; remembered_global = p.page_global; entries = []; phase = TlbFlushed } ≡ record (flush_tlb Flushed p) { phase = TlbFlushed }
     one true is =
         ap (λ b. record p { page_global = false; remembered_global = b; entries = []; phase = TlbFlushed }) is

@@ -29,6 +29,12 @@ is_writing_back NoFill = true
 is_writing_back Enabled = true
 is_writing_back other = false
 
+-- the phases in which the TLB may be flushed for the first time
+abbrev pub is_first_flushing : Phase → Bool
+is_first_flushing NoFill = true
+is_first_flushing Flushed = true
+is_first_flushing other = false
+
 -- the first writable registers have the goal's values
 abbrev pub HasFirst : ℕ → RegisterFile → RegisterFile → Type 0
 HasFirst count goal f = All (λ r. value_of f r ≡ value_of goal r) (take count (writable goal))

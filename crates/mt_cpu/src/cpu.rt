@@ -1,4 +1,4 @@
-ghost use Rattle.std.specs.Prelude.{◌≡◌, ◌<◌, ◌^◌, is_err, OnOk, OnErr};
+ghost use Rattle.std.specs.Prelude.{◌≡◌, ◌<◌, ◌^◌, is_err, OnOk, OnErr, true};
 ghost use Rattle.std.specs.Borrow.{Lends, sem};
 ghost use Rattle.mt_regs.specs.RegisterFile.{page_count};
 ghost use Rattle.mt_regs.specs.Faults.{IsAccepted};
@@ -29,6 +29,7 @@ pub struct Cpu {
     pub(crate) tlb: Tlb,
     pub(crate) phase: Phase,
     pub(crate) era: u64,
+    pub(crate) self_snoop: bool,
 }
 
 impl Model for Cpu {
@@ -37,9 +38,9 @@ impl Model for Cpu {
 
     ghost Value = { Processor };
 
-    ghost view = { λ c. record { file = c.regs; cache_disabled = c.cd; page_global = c.pge; remembered_global = c.had_pge; mappings = c.maps; lines = c.cache; buffers = c.buffers; entries = c.tlb; phase = c.phase; era = c.era } };
+    ghost view = { λ c. record { file = c.regs; cache_disabled = c.cd; page_global = c.pge; remembered_global = c.had_pge; mappings = c.maps; lines = c.cache; buffers = c.buffers; entries = c.tlb; phase = c.phase; era = c.era; self_snoop = c.self_snoop } };
 
-    ghost invariant = { λ c. KeepsFacts (record { file = c.regs; cache_disabled = c.cd; page_global = c.pge; remembered_global = c.had_pge; mappings = c.maps; lines = c.cache; buffers = c.buffers; entries = c.tlb; phase = c.phase; era = c.era }) };
+    ghost invariant = { λ c. KeepsFacts (record { file = c.regs; cache_disabled = c.cd; page_global = c.pge; remembered_global = c.had_pge; mappings = c.maps; lines = c.cache; buffers = c.buffers; entries = c.tlb; phase = c.phase; era = c.era; self_snoop = c.self_snoop }) };
 }
 
 impl Cpu {
@@ -59,6 +60,7 @@ impl Cpu {
             tlb: Tlb::new(),
             phase: Phase::Running,
             era: 0,
+            self_snoop: false,
         }
     }
 
@@ -130,6 +132,21 @@ impl Cpu {
         ensures { result ≡ self.now.era }
     {
         self.era
+    }
+
+    /// Whether the processor snoops its own cache, which is CPUID.1:EDX bit 27. It leaves out the first of an
+    /// update's two flushes (Intel SDM, volume 3A, section "MTRR Considerations in MP Systems", step 5).
+    pub fn self_snoop(&self) -> bool
+        ensures { result ≡ self.now.self_snoop }
+    {
+        self.self_snoop
+    }
+
+    /// Makes the processor a self-snooping one; all else stays.
+    pub fn set_self_snoop(&mut self)
+        ensures { self.new ≡ record self.old { self_snoop = true } }
+    {
+        self.self_snoop = true;
     }
 
     /// Lends the cache for writing; all else stays.

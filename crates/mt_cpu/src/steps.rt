@@ -6,8 +6,8 @@ ghost use Rattle.mt_regs.specs.Registers.{writable};
 ghost use Rattle.mt_regs.specs.Faults.{IsAccepted};
 ghost use Rattle.mt_cache.specs.Lines.{first_dirty_line};
 ghost use Rattle.mt_machine.specs.System.{Processor};
-ghost use Rattle.mt_machine.specs.Machine.{FitsGoal, Order, due, own_step, write_back_or_drop, write_or_enable};
-ghost use Rattle.mt_cpu.specs.Steps.{HasFirst, HasWritten, is_local, is_shift, is_writing_back};
+ghost use Rattle.mt_machine.specs.Machine.{FitsGoal, Order, due, first_flush, own_step, write_back_or_drop, write_or_enable};
+ghost use Rattle.mt_cpu.specs.Steps.{HasFirst, HasWritten, is_first_flushing, is_local, is_shift, is_writing_back};
 
 use crate::cpu::Cpu;
 use mt_kinds::{LINE_BYTES, WORD_BYTES, is_bit_set};
@@ -81,13 +81,27 @@ impl Cpu {
 
     // PGE is remembered and cleared, and all entries go. With PGE clear a reload of CR3 drops all.
     fn flush_tlb(&mut self)
-        requires { self.old.phase ≡ Phase.Flushed }
+        requires { IsTrue (is_first_flushing self.old.phase) }
         ensures { (goal : RegisterFile) → self.new ≡ own_step goal Event.FlushTlb self.old }
     {
         self.had_pge = self.pge;
         self.pge = false;
         self.tlb.drop_all();
         self.phase = Phase::TlbFlushed;
+    }
+
+    // The first flush: the lines, or the TLB at once where the processor is self-snooping.
+    fn first_flush(&mut self) -> Event
+        requires phase { self.old.phase ≡ Phase.NoFill }
+        requires numbers { All (λ l. l.number < 2 ^ 46) self.old.lines }
+        ensures event { result ≡ first_flush self.old }
+        ensures step { (goal : RegisterFile) → self.new ≡ own_step goal result self.old }
+    {
+        if self.self_snoop {
+            self.flush_tlb();
+            return Event::FlushTlb;
+        }
+        self.write_back_or_drop()
     }
 
     fn flush_tlb_again(&mut self)
@@ -191,7 +205,8 @@ impl Cpu {
                 self.set_no_fill();
                 Event::SetNoFill
             }
-            Phase::NoFill | Phase::Enabled => self.write_back_or_drop(),
+            Phase::NoFill => self.first_flush(),
+            Phase::Enabled => self.write_back_or_drop(),
             Phase::Flushed => {
                 self.flush_tlb();
                 Event::FlushTlb

@@ -160,3 +160,26 @@ fn a_processor_goes_through_the_first_barrier(rt: HostRuntime) {
     assert!(rt; cpu.phase() == Phase::Writing(1));
     assert!(rt; cpu.cd() && cpu.regs().deftype == 0x006);
 }
+
+#[test]
+fn a_self_snooping_processor_leaves_the_first_flush_out(rt: HostRuntime) {
+    let Some(mut cpu) = processor(0x806) else {
+        panic!(rt; "the file is accepted");
+    };
+    assert!(rt; !cpu.self_snoop());
+    cpu.set_self_snoop();
+    cpu.set_self_snoop();
+    let goal = cpu.regs().same();
+    for _ in 0..3 {
+        shift(&mut cpu);
+    }
+    for want in [
+        Event::SetNoFill,
+        Event::FlushTlb,
+        Event::Disable,
+        Event::Write(0),
+    ] {
+        assert!(rt; local(&mut cpu, &goal) == Some(want));
+    }
+    assert!(rt; cpu.self_snoop());
+}

@@ -1,13 +1,11 @@
 -- What a processor that stands so in a led machine has for its next event.
-use Rattle.std.proofs.Common.{◌≡◌, ◌<◌, ◌+◌, ◌^◌, ◌||◌, ℕ, Bool, true, false, List, [], length, refl, sym, ap, ◌∙◌, subst, inr, arith, Option, Some}
-use Rattle.std.specs.Prelude.{if◌then◌else◌, nat_lt}
+use Rattle.std.proofs.Common.{◌≡◌, ◌<◌, ◌^◌, ◌||◌, ℕ, Bool, true, List, [], length, refl, sym, ap, ◌∙◌, subst, inr, arith, Option, Some}
+use Rattle.mt_laws.proofs.Words.StepLaws.{due_drains, is_drain}
 use Rattle.std.specs.List.{All}
 use Rattle.mt_regs.specs.Faults.{IsAccepted}
-use Rattle.mt_regs.specs.Registers.{writable}
 use Rattle.mt_machine.specs.declared.phase.Phase.{Phase}
-use Rattle.mt_machine.specs.declared.phase.Phase.TheVariants.{Running, Taken, Arrived, NoFill, Writing, Enabled, Restored, Arrived2}
 use Rattle.mt_machine.specs.declared.event.Event.{Event}
-use Rattle.mt_machine.specs.declared.event.Event.TheVariants.{SetNoFill, Write, Enable}
+use Rattle.mt_machine.specs.declared.event.Event.TheVariants.{SetNoFill, WriteBack}
 use Rattle.mt_machine.specs.declared.go.Go.{Go}
 use Rattle.mt_machine.specs.declared.go.Go.TheVariants.{Given, Pending}
 use Rattle.mt_machine.specs.Memory.{place, word_count}
@@ -30,24 +28,14 @@ use Rattle.mt_laws.proofs.Steps.Counts.{Ready, is_past, left_of, one_less}
 use Rattle.mt_laws.proofs.Steps.StepCounts.{ready}
 use Rattle.mt_rendezvous.proofs.Local.{due_alone, local_changing, works_in, written_is}
 
-injected : (a b : Event) → Some a ≡ Some b → a ≡ b
-injected a b e = cc
+written_drains : (e : Event) (a v : ℕ) → written e ≡ Some (a, v) → is_drain e ≡ true
+unfolding is_drain
+written_drains (WriteBack b w) a v h = refl
+written_drains other a v h = absurd (cc)
 
 -- only a cache that is emptied writes a word of memory
-writes_dirty : (p : Processor) (e : Event) (a v : ℕ) (ph : Phase) → is_local ph ≡ true → ((o : Order) (ps : List Processor) → due o ps p ph ≡ Some e) → Order → written e ≡ Some (a, v) → write_back_or_drop p ≡ e
-writes_dirty p e a v NoFill here is o w = injected _ _ (is o [])
-writes_dirty p e a v Enabled here is o w = injected _ _ (is o [])
-writes_dirty p e a v (Writing i) here is o w = absurd (one (nat_lt (i + 1) (length (writable p.file))) (ap written (injected _ _ (is o [])) ∙ w))
-  where
-    one : (b : _) → written (if b then Write i else Enable) ≡ Some (a, v) → ⊥
-    one true q = cc
-    one false q = cc
-writes_dirty p e a v Running here is o w = absurd (cc)
-writes_dirty p e a v Taken here is o w = absurd (cc)
-writes_dirty p e a v Arrived here is o w = absurd (cc)
-writes_dirty p e a v Arrived2 here is o w = absurd (cc)
-writes_dirty p e a v Restored here is o w = absurd (cc)
-writes_dirty p e a v other here is o w = absurd (let q = ap written (injected _ _ (is o [])) ∙ w in cc)
+writes_dirty : (p : Processor) (e : Event) (a v : ℕ) (ph : Phase) → ((o : Order) (ps : List Processor) → due o ps p ph ≡ Some e) → Order → written e ≡ Some (a, v) → write_back_or_drop p ≡ e
+writes_dirty p e a v ph is o w = due_drains o [] p ph e (is o []) (written_drains e a v w)
 
 module _ (t : Start) (begins : Begins t) (go : Go) (k : ℕ) (p : Processor) (st : Stands t go k p) where
   abbrev start : IsStart (broadcast t)
@@ -97,7 +85,7 @@ module _ (t : Start) (begins : Begins t) (go : Go) (k : ℕ) (p : Processor) (st
   pub back_place : (e : Event) (a v : ℕ) → is_local p.phase ≡ true → ((o : Order) (ps : List Processor) → due o ps p p.phase ≡ Some e) → written e ≡ Some (a, v)
       → (j : ℕ) × (place t.ram a ≡ Some j) × (j < length t.ram.words)
   back_place e a v here is word =
-      let written_here = writes_dirty p e a v p.phase here is (order_of t go) word ∙ written_is e a v word in
+      let written_here = writes_dirty p e a v p.phase is (order_of t go) word ∙ written_is e a v word in
       let r = write_backs_have_places st.machine.system k p a v sound st.at written_here in
       let m = standing.agrees.stands.memory in
       (r.0, place_same t.ram st.machine.system.memory a (sym m.windows) ∙ r.1, (let b = r.2 in let c = sound.memory.counted in let d = (start_sound (broadcast t) start).memory.counted in let w = ap word_count m.windows in omega arith))

@@ -1,22 +1,20 @@
 -- The events of a processor between the barriers, and how phases go with the rule.
-use Rattle.std.proofs.Common.{◌≡◌, ◌≢◌, ◌⊎◌, ◌+◌, ℕ, Bool, true, false, List, [], length, sym, refl, ap, ◌∙◌, subst, inl, inr, ⊎_elim, arith, Option, Some, None}
-use Rattle.std.specs.Prelude.{nat_lt, if◌then◌else◌, slice_index, slice_get}
+use Rattle.std.proofs.Common.{◌≡◌, ◌≢◌, ◌⊎◌, ◌+◌, ℕ, Bool, true, false, List, [], length, sym, refl, ap, ◌∙◌, subst, ⊎_elim, arith, Some, None}
+use Rattle.mt_machine.proofs.Rows.{back_case, due_row, first_flush_case, is_row}
+use Rattle.std.specs.Prelude.{nat_lt, if◌then◌else◌, slice_get}
 use Rattle.std.specs.Option.{option_map_or}
 use Rattle.std.proofs.lemmas.Bool.{lt-ltb}
-use Rattle.mt_cache.specs.declared.line.CacheLine.{CacheLine}
-use Rattle.mt_cache.specs.Lines.{first_dirty_line, first_dirty_word}
 use Rattle.mt_regs.specs.RegisterFile.{RegisterFile}
 use Rattle.mt_regs.specs.Registers.{writable}
 use Rattle.mt_machine.specs.declared.phase.Phase.{Phase}
 use Rattle.mt_machine.specs.declared.phase.Phase.TheVariants.{Running, Taken, Arrived, Passed, NoFill, Flushed, TlbFlushed, Writing, Enabled, Flushed2, TlbFlushed2, Normal, Restored, Arrived2}
 use Rattle.mt_machine.specs.declared.event.Event.{Event}
-use Rattle.mt_machine.specs.declared.event.Event.TheVariants.{Take, WriteBack, DropLines, Write, Enable}
+use Rattle.mt_machine.specs.declared.event.Event.TheVariants.{Take, WriteBack, Write, Enable}
 use Rattle.mt_machine.specs.declared.go.Go.{Go}
 use Rattle.mt_machine.specs.declared.go.Go.TheVariants.{Given, Cancelled}
-use Rattle.mt_machine.specs.Memory.{word_address}
 use Rattle.mt_machine.specs.System.{Processor, System}
 use Rattle.mt_machine.specs.Update.{is_release}
-use Rattle.mt_machine.specs.Machine.{Order, Steps, due, own_step, before_own, is_changing, has_arrived, has_arrived_again, write_back_or_drop, write_back_event, write_or_enable, after_drop, after_flush, flush_tlb, common_era}
+use Rattle.mt_machine.specs.Machine.{Order, Steps, due, own_step, before_own, is_changing, has_arrived, has_arrived_again, write_back_or_drop, write_or_enable, after_drop, after_flush, flush_tlb, common_era}
 use Rattle.mt_machine.specs.Control.{reload_cr3}
 use Rattle.mt_cpu.specs.Steps.{is_local}
 use Rattle.mt_rendezvous.specs.declared.view.Held.{Held}
@@ -118,25 +116,8 @@ flush_era other p = one p.page_global
     one true = refl
     one false = refl
 
-abbrev back_of : CacheLine → ℕ → Event
-back_of l w = WriteBack (word_address l.number w) (slice_index l.words w)
-
-dirty_or_drop : (p : Processor) → (write_back_or_drop p ≡ DropLines) ⊎ ((a : ℕ) × (v : ℕ) × (write_back_or_drop p ≡ WriteBack a v))
-dirty_or_drop p = by_line (first_dirty_line p.lines)
-  where
-    by_word : (l : CacheLine) (o : Option ℕ) → (option_map_or (back_of l) o DropLines ≡ DropLines) ⊎ ((a : ℕ) × (v : ℕ) × (option_map_or (back_of l) o DropLines ≡ WriteBack a v))
-    by_word l None = inl refl
-    by_word l (Some w) = inr (word_address l.number w, slice_index l.words w, refl)
-
-    by_line : (o : Option CacheLine) → (option_map_or write_back_event o DropLines ≡ DropLines) ⊎ ((a : ℕ) × (v : ℕ) × (option_map_or write_back_event o DropLines ≡ WriteBack a v))
-    by_line None = inl refl
-    by_line (Some l) = by_word l (first_dirty_word l)
-
 back_works : (goal : RegisterFile) (p : Processor) → is_changing p.phase ≡ true → IsWork goal (write_back_or_drop p) p
-back_works goal p on = ⊎_elim
-    (λ (e : write_back_or_drop p ≡ DropLines). subst (λ (x : Event). IsWork goal x p) (sym e) (drop_changes p.phase, refl, refl))
-    (λ (e : (a : ℕ) × (v : ℕ) × (write_back_or_drop p ≡ WriteBack a v)). subst (λ (x : Event). IsWork goal x p) (sym e.2) (on, refl, refl))
-    (dirty_or_drop p)
+back_works goal p on = back_case (λ (x : Event). IsWork goal x p) p (λ a v. (on, refl, refl)) (drop_changes p.phase, refl, refl)
 
 last_works : (goal : RegisterFile) (p : Processor) (i : ℕ) → IsWork goal (write_or_enable p i) p
 last_works goal p i = one (nat_lt (i + 1) (length (writable p.file)))
@@ -156,7 +137,9 @@ works_in goal p e Arrived same here is o = absurd (cc)
 works_in goal p e Arrived2 same here is o = absurd (cc)
 works_in goal p e Restored same here is o = absurd (cc)
 works_in goal p e Passed same here is o = subst (λ (x : Event). IsWork goal x p) (injected _ _ (is o [])) (refl, refl, refl)
-works_in goal p e NoFill same here is o = subst (λ (x : Event). IsWork goal x p) (injected _ _ (is o [])) (back_works goal p (sym (ap is_changing same)))
+works_in goal p e NoFill same here is o =
+    first_flush_case p e (is o []) (λ on v. subst (λ (x : Event). IsWork goal x p) v (flush_changes p.phase, flush_era p.phase p, refl))
+    (λ off g. subst (λ (x : Event). IsWork goal x p) (injected _ _ g) (back_works goal p (sym (ap is_changing same))))
 works_in goal p e Flushed same here is o = subst (λ (x : Event). IsWork goal x p) (injected _ _ (is o [])) (flush_changes p.phase, flush_era p.phase p, refl)
 works_in goal p e TlbFlushed same here is o = subst (λ (x : Event). IsWork goal x p) (injected _ _ (is o [])) (refl, refl, refl)
 works_in goal p e (Writing i) same here is o = subst (λ (x : Event). IsWork goal x p) (injected _ _ (is o [])) (last_works goal p i)
@@ -174,24 +157,13 @@ due_alone o u ps qs p e Arrived2 h = absurd (cc)
 due_alone o u ps qs p e Restored h = absurd (cc)
 due_alone o u ps qs p e other h = refl
 
-back_takes_not : (p : Processor) → write_back_or_drop p ≡ Take → ⊥
-back_takes_not p q = ⊎_elim (λ (e : write_back_or_drop p ≡ DropLines). let x = sym e ∙ q in cc) (λ (e : (a : ℕ) × (v : ℕ) × (write_back_or_drop p ≡ WriteBack a v)). let x = sym e.2 ∙ q in cc) (dirty_or_drop p)
-
 -- such an event is not Take
 pub takes_not : (p : Processor) (e : Event) (ph : Phase) → is_local ph ≡ true → ((o : Order) (ps : List Processor) → due o ps p ph ≡ Some e) → Order → e ≢ Take
-takes_not p e Running here is o take = absurd (cc)
-takes_not p e Taken here is o take = absurd (cc)
-takes_not p e Arrived here is o take = absurd (cc)
-takes_not p e Arrived2 here is o take = absurd (cc)
-takes_not p e Restored here is o take = absurd (cc)
-takes_not p e NoFill here is o take = back_takes_not p (injected _ _ (is o []) ∙ take)
-takes_not p e Enabled here is o take = back_takes_not p (injected _ _ (is o []) ∙ take)
-takes_not p e (Writing i) here is o take = one (nat_lt (i + 1) (length (writable p.file))) (injected _ _ (is o []) ∙ take)
+takes_not p e ph here is o take = absurd (runs ph here (ap (λ (x : Event). is_row x ph) (sym take) ∙ due_row o [] p ph e (is o [])))
   where
-    one : (b : Bool) → (if b then Write i else Enable) ≡ Take → ⊥
-    one true q = cc
-    one false q = cc
-takes_not p e other here is o take = let x = injected _ _ (is o []) ∙ take in cc
+    runs : (ph : Phase) → is_local ph ≡ true → is_row Take ph ≡ true → ⊥
+    runs Running h on = absurd (cc)
+    runs other h on = absurd (cc)
 
 -- an event that writes no word of memory, and one that does
 pub written_not : (e : Event) (k : ℕ) (s : System) → e ≢ Take → written e ≡ None → before_own e k s ≡ s

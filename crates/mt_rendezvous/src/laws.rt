@@ -33,7 +33,8 @@ pub fn ended_seats_tell_of_the_station()
     ensures released { ReleasedWhereFull }
 {}
 
-/// A station can be gathered from each broadcast state whose era may rise.
+/// Each broadcast state whose era may rise is one from which a station can be gathered, where it has
+/// 1 to 16 processors.
 pub fn broadcast_begins()
     ensures { BroadcastBegins }
 {}

@@ -5,7 +5,7 @@ use Rattle.mt_machine.specs.declared.op.Op.TheVariants.{Fence}
 use Rattle.mt_machine.specs.declared.phase.Phase.TheVariants.{Passed}
 use Rattle.mt_machine.specs.Machine.{Accesses, Controls}
 use Rattle.mt_machine.specs.WorkedRuns.{call_order, idle}
-use Rattle.mt_core.specs.Arises.{by_event, by_window, from_start}
+use Rattle.mt_core.specs.Arises.{by_event, by_snooping, by_window, from_start}
 use Rattle.mt_core.specs.WorkedRuns.{line_at}
 use Rattle.mt_core.proofs.OnWorked.{bare_arises, one_line_is_memory, pair_is_broadcast}
 use Rattle.mt_core.proofs.Settling.{is_quiet_without_order}
@@ -23,6 +23,9 @@ returns-clause-by_events c = by_event (Controls 0 Cr3) (by_event (Accesses 0 Fen
 
 pub returns-clause-by_window : goal.returns-clause-by_window
 returns-clause-by_window c = by_window (line_at 0) bare_arises one_line_is_memory
+
+pub returns-clause-by_snooping : goal.returns-clause-by_snooping
+returns-clause-by_snooping c = by_snooping 0 bare_arises refl
 
 pub returns-clause-no_start : goal.returns-clause-no_start
 returns-clause-no_start c = λ h. let e : false ≡ true = (is_quiet_without_order _ h refl).running 0 idle (omega arith) in absurd (cc e)

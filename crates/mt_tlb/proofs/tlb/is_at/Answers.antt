@@ -1,6 +1,6 @@
 use Rattle.std.proofs.lemmas.Bool.{eqb-true}
 use Rattle.mt_tlb.specs.declared.entry.Entry.{Entry}
-use Rattle.mt_tlb.proofs.Places.{place_is}
+use Rattle.mt_lists.proofs.Places.{place_is}
 use Rattle.mt_tlb.proofs.tlb.is_at.Goals as goal
 
 pub returns-then-i-entries : goal.returns-then-i-entries

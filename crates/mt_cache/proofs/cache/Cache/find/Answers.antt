@@ -7,10 +7,10 @@ use Rattle.mt_cache.proofs.cache.Cache.find.Goals as goal
 use Rattle.mt_cache.proofs.cache.Cache.find.Goals.{Else-may_have}
 
 pub returns-then-may_have-clause-line : goal.returns-then-may_have-clause-line
-returns-then-may_have-clause-line c = place_found (has_number c.args.number) c.args.self.now _ (c.place_of.ensures ∙ ap (position (has_number c.args.number)) c.self.view_is)
+returns-then-may_have-clause-line c = place_found (has_number c.args.number) c.args.self.now _ (c.place_near.ensures ∙ ap (position (has_number c.args.number)) c.self.view_is)
 
 pub returns-then-may_have-clause-absent : goal.returns-then-may_have-clause-absent
-returns-then-may_have-clause-absent c = place_missed (has_number c.args.number) c.args.self.now _ (c.place_of.ensures ∙ ap (position (has_number c.args.number)) c.self.view_is)
+returns-then-may_have-clause-absent c = place_missed (has_number c.args.number) c.args.self.now _ (c.place_near.ensures ∙ ap (position (has_number c.args.number)) c.self.view_is)
 
 absent : (c : Else-may_have) → position (has_number c.args.number) c.args.self.now ≡ None
 absent c =
