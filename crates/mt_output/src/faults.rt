@@ -67,8 +67,8 @@ pub fn script_reason_text(reason: ScriptReason) -> &'static [u8]
     }
 }
 
-// The line about an offence at a place.
-fn bad_text(place: Place, reason: &[u8]) -> LineBuffer
+/// The line about an offence at a place.
+pub fn bad_text(place: Place, reason: &[u8]) -> LineBuffer
     requires { length reason.now ≤ 20 }
     ensures { result.items ≡ bad_text place reason.now }
 {

@@ -43,7 +43,7 @@ impl Writer {
         ensures cause { HasCause (K.faults sink.old) (K.faults sink.new) result }
     {
         let result = put(sink, self.text.as_slice());
-        self.text.clear();
+        self.clear();
         result
     }
 
@@ -88,5 +88,19 @@ impl Writer {
             Ok(()) => {}
             Err(_) => unreachable!(),
         }
+    }
+
+    /// The bytes that wait.
+    pub fn waiting(&self) -> &[u8]
+        ensures { result.now ≡ self.now }
+    {
+        self.text.as_slice()
+    }
+
+    /// Lets go of all that waits.
+    pub fn clear(&mut self)
+        ensures { self.new ≡ [] }
+    {
+        self.text.clear();
     }
 }

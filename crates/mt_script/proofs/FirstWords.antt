@@ -35,10 +35,10 @@ bad_row : (now : Situation) (number : ℕ) (words : List (ℕ × List ℕ)) (row
 bad_row now number words row short many = rw (too_many number words row short many) refl
 
 module _ (words : List (ℕ × List ℕ)) (many : 7 ≤ length words) where
-  size : length (take 7 words) ≡ 7
+  pub size : length (take 7 words) ≡ 7
   size = length-take-le 7 words many
 
-  word_first : (i : ℕ) → i < 7 → word_of (take 7 words) i ≡ word_of words i
+  pub word_first : (i : ℕ) → i < 7 → word_of (take 7 words) i ≡ word_of words i
   word_first i below = ap (λ o. unwrap_or o (0, [])) (get_first 7 i words below)
 
   row_first : (now : Situation) (number : ℕ) (row : Option Row) → IfSome row IsShort → row_line now number (take 7 words) row ≡ row_line now number words row
@@ -62,7 +62,7 @@ module _ (words : List (ℕ × List ℕ)) (many : 7 ≤ length words) where
 
 -- what the first seven words lead to is what all of them lead to
 module _ (words : List (ℕ × List ℕ)) where
-  by_length : {X : Type 0} (f : List (ℕ × List ℕ) → X) → (7 ≤ length words → f (take 7 words) ≡ f words) → f (take 7 words) ≡ f words
+  pub by_length : {X : Type 0} (f : List (ℕ × List ℕ) → X) → (7 ≤ length words → f (take 7 words) ≡ f words) → f (take 7 words) ≡ f words
   by_length f many = elim (cases_Bool (nat_le (length words) 7)) [
     | inl short ↦ ap f (take_all 7 words (leb-true _ _ short))
     | inr long ↦ many (grind (arith, nat_tests, long))

@@ -4,8 +4,7 @@ use Rattle.std.specs.Prelude.{if◌then◌else◌, codes, IfSome}
 use Rattle.std.specs.Set.{is_member}
 use Rattle.std.specs.Result.{IfOk}
 use Rattle.std.proofs.lemmas.Bool.{and_parts, leb-true, ltb-true, eqb-true}
-use Rattle.std.proofs.lemmas.Bool.Decides.{nat_tests}
-use Rattle.mt_text.specs.Number.{hex_number, decimal_number, decimal_value, are_digits, is_decimal_digit}
+use Rattle.mt_text.specs.Number.{hex_number, decimal_number}
 use Rattle.mt_text.specs.Text.{words_of, without_ending}
 use Rattle.mt_text.specs.declared.fault.NumberFault.{NumberFault}
 use Rattle.mt_text.specs.declared.fault.NumberFault.TheVariants.{NotDigit, TooLarge}
@@ -19,6 +18,7 @@ use Rattle.mt_script.specs.Stages.{takes_cpus, takes_windows, takes_commands, ta
 use Rattle.mt_script.specs.Shape.{shape_fault}
 use Rattle.mt_script.specs.Commands.{Answer, with, unless, cpus_in, ram_in, load_in, store_in, map_in, invlpg_in, msr_in, switch_in, verb_answer, row_line, outside, register_line, is_end, in_section, too_long, in_dump, not_too_long, in_stage, command_of}
 use Rattle.mt_script.specs.Accept.{Fits, IsAligned, IsFor}
+use Rattle.mt_dump.proofs.OneLine.{decimal_within}
 use Rattle.mt_script.proofs.Table.{row_all}
 use Rattle.mt_script.proofs.Values.{value_fact}
 use Rattle.mt_script.specs.declared.command.Stage.{Stage}
@@ -73,15 +73,6 @@ register_fact file place (Err fault) n is = cc is
 register_fact file place (Ok m) n is =
     let parts = tested_fact (is_register file m) ScriptReason.UnknownRegister place m n is in
     rw parts.1 at parts.0
-
-decimal_within : (word : List ℕ) (max number : ℕ) → decimal_number word max ≡ Ok number → number ≤ max
-decimal_within word max number is = by (are_digits is_decimal_digit word) (nat_lt 20 (length word)) (nat_lt max (decimal_value word)) refl is
-  where
-    by : (digits long large : Bool) → nat_lt max (decimal_value word) ≡ large → (if not digits then Err NotDigit else if long || large then Err TooLarge else Ok (decimal_value word)) ≡ Ok number → number ≤ max
-    by false long large test is = cc is
-    by true true large test is = cc is
-    by true false true test is = cc is
-    by true false false test is = let e : decimal_value word ≡ number = cc is in let le : decimal_value word ≤ max = grind (arith, nat_tests, test) in omega arith
 
 count_fact : (line : ℕ) (words : List (ℕ × List ℕ)) (i first last n : ℕ) → count_in line words i first last ≡ Ok n → (first ≤ n) × (n ≤ last)
 count_fact line words i first last n is = by (decimal_number (text_of words i) last) refl is
@@ -147,13 +138,16 @@ module _ (now : Situation) (line : ℕ) (words : List (ℕ × List ℕ)) where
   RowFits row = stands row.turn now.stage ≡ true → IfOk (verb_answer now line words row.verb) (Fits now)
 
   rows_fit : (word : List ℕ) → IfSome (row_of word) RowFits
-  rows_fit = row_all RowFits (cpus_fits, (λ stage. stage, (ram_fits, (load_fits, (store_fits, (fence, (map_fits, (invlpg_fits, (cr3, (pge, (cd, (bare, (bare, (bare, (bare, (bare, (step, (word_fits, (msr_fits, tt)))))))))))))))))))
+  rows_fit = row_all RowFits (cpus_fits, (λ stage. stage, (ram_fits, (selfsnoop, (load_fits, (store_fits, (fence, (map_fits, (invlpg_fits, (cr3, (pge, (cd, (bare, (bare, (bare, (bare, (bare, (step, (word_fits, (msr_fits, tt))))))))))))))))))))
     where
       bare : takes_commands now.stage ≡ true → takes_commands now.stage ≡ true
       bare stage = stage
 
       fence : takes_commands now.stage ≡ true → IfOk (with (processor_in now line words 1) (λ k. Ok (command.Fence k))) (Fits now)
       fence stage = one_fits (λ k. command.Fence k) stage (λ k is. is)
+
+      selfsnoop : takes_windows now.stage ≡ true → IfOk (with (processor_in now line words 1) (λ k. Ok (command.Selfsnoop k))) (Fits now)
+      selfsnoop stage = for_processor _ (λ k known. (stage, known))
 
       cr3 : takes_commands now.stage ≡ true → IfOk (with (processor_in now line words 1) (λ k. Ok (command.Cr3 k))) (Fits now)
       cr3 stage = one_fits (λ k. command.Cr3 k) stage (λ k is. is)

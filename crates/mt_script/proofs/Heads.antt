@@ -9,21 +9,43 @@ use Rattle.mt_dump.specs.declared.fault.DumpFault.{DumpFault}
 use Rattle.mt_script.specs.Situation.{Situation}
 use Rattle.mt_script.specs.Stages.{is_in_dump}
 use Rattle.mt_script.specs.Words.{place_of}
-use Rattle.mt_script.specs.Commands.{command_of}
+use Rattle.mt_script.specs.Commands.{command_of, in_stage, is_end, too_long}
 use Rattle.mt_script.specs.Accept.{finished}
 use Rattle.mt_script.specs.Script.{Rest, after_command, after_dump, after_line, dump_ends, is_end_command, offence_from, unless_dump}
-use Rattle.mt_script.specs.Head.{HeadStep, goes_on, head_step, offends, shows, step_in_dump, step_of_answer, step_of_command, step_shown, step_unless}
+use Rattle.mt_script.specs.Head.{HeadStep, ends_dump, goes_on, head_step, offends, shows, step_in_dump, step_of_answer, step_of_command, step_shown, step_unless}
+use Rattle.std.specs.Prelude.{if◌then◌else◌}
+use Rattle.mt_script.specs.declared.command.Stage.{Stage}
+use Rattle.mt_script.specs.declared.command.Stage.TheVariants.{NeedCpus, NeedDump, InDump, Rams, Commands, InUpdate, InBegin}
 use Rattle.mt_script.specs.declared.command.Command.{Command}
 use Rattle.mt_script.specs.declared.command.Command.TheVariants as command
 use Rattle.mt_script.specs.declared.fault.ScriptFault.{ScriptFault}
 use Rattle.mt_script.specs.declared.fault.Offence.{Offence}
 use Rattle.mt_script.proofs.Good.{leads_to, none_ends, shown_end}
 
-pub dump_shows : (now : Situation) (before : List Reading) (number : ℕ) (line : List ℕ) (file : RegisterFile) → IsClean before → is_in_dump now.stage ≡ true
-    → command_of now number line ≡ Ok command.End → ShownBy (onto before []) file → head_step now before number line ≡ shows file
-dump_shows now before number line file clean dump asked shown =
+pub dump_shows : (now : Situation) (before : List Reading) (number : ℕ) (line : List ℕ) (file : RegisterFile) → IsClean before → ends_dump line ≡ true → ShownBy (onto before []) file
+    → step_in_dump now before number line (ends_dump line) ≡ shows file
+dump_shows now before number line file clean ends shown =
     let found = leads_to before file clean shown in
-    rw (asked, dump, shown_end (place_of number (words_of line) 0) (onto before []) file shown, found.1, found.2) refl
+    rw (ends, shown_end (place_of number (words_of line) 0) (onto before []) file shown, found.1, found.2) refl
+
+-- in the dump each line is one of the dump
+pub head_in_dump : (now : Situation) (before : List Reading) (number : ℕ) (line : List ℕ) → is_in_dump now.stage ≡ true → head_step now before number line ≡ step_in_dump now before number line (ends_dump line)
+head_in_dump now before number line dump = of_stage now.stage dump
+  where
+    of_line : (long ends : Bool) → step_of_answer now before number line (if long then Ok command.DumpLine else if ends then Ok command.End else Ok command.DumpLine)
+        ≡ step_in_dump now before number line (if long then false else ends)
+    of_line true ends = rw dump refl
+    of_line false true = rw dump refl
+    of_line false false = rw dump refl
+
+    of_stage : (stage : Stage) → is_in_dump stage ≡ true → step_of_answer now before number line (in_stage now number line stage) ≡ step_in_dump now before number line (ends_dump line)
+    of_stage InDump is = of_line (too_long line) (is_end (words_of line))
+    of_stage NeedCpus is = cc is
+    of_stage NeedDump is = cc is
+    of_stage Rams is = cc is
+    of_stage Commands is = cc is
+    of_stage InUpdate is = cc is
+    of_stage InBegin is = cc is
 
 -- the first offence from a step on
 abbrev pub offence_after : Situation → Rest → HeadStep → Option Offence

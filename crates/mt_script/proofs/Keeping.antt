@@ -205,6 +205,7 @@ module _ (now : Situation) (is : IsSituation now) where
   accepted_is (command.Cpus n) fits goes_on = cpus_is n (not_past_of_cpus now.stage fits.0) fits.1 fits.2
   accepted_is command.Dump fits goes_on = dump_is fits
   accepted_is (command.Ram base lines) fits goes_on = window_is base lines fits.0 fits.4
+  accepted_is (command.Selfsnoop k) fits goes_on = is
   accepted_is (command.Load k address) fits goes_on = given fits.0.0
   accepted_is (command.Store k address value) fits goes_on = given fits.0.0
   accepted_is (command.Fence k) fits goes_on = given fits.0
@@ -231,31 +232,32 @@ module _ (now : Situation) (is : IsSituation now) where
 
   -- each of the other commands moves on among the commands
   pub others_is : (c : Command) → Fits now c → (is_in_dump now.stage ≡ true → c ≢ command.End)
-      → ((n : ℕ) → c ≢ command.Cpus n) → c ≢ command.Dump → ((base lines : ℕ) → c ≢ command.Ram base lines) → c ≢ command.Update → c ≢ command.Begin
+      → ((n : ℕ) → c ≢ command.Cpus n) → c ≢ command.Dump → ((base lines : ℕ) → c ≢ command.Ram base lines) → ((k : ℕ) → c ≢ command.Selfsnoop k) → c ≢ command.Update → c ≢ command.Begin
       → c ≢ command.Blank → c ≢ command.DumpLine → ((msr value : ℕ) → c ≢ command.Register msr value) → c ≢ command.End → IsSituation (in_commands now)
-  others_is (command.Cpus n) fits goes_on cpus dump ram update begin blank line register end = absurd (cpus n refl)
-  others_is command.Dump fits goes_on cpus dump ram update begin blank line register end = absurd (dump refl)
-  others_is (command.Ram base lines) fits goes_on cpus dump ram update begin blank line register end = absurd (ram base lines refl)
-  others_is (command.Load k address) fits goes_on cpus dump ram update begin blank line register end = given fits.0.0
-  others_is (command.Store k address value) fits goes_on cpus dump ram update begin blank line register end = given fits.0.0
-  others_is (command.Fence k) fits goes_on cpus dump ram update begin blank line register end = given fits.0
-  others_is (command.Map k address physical index global) fits goes_on cpus dump ram update begin blank line register end = given fits.0.0
-  others_is (command.Invlpg k address) fits goes_on cpus dump ram update begin blank line register end = given fits.0.0
-  others_is (command.Cr3 k) fits goes_on cpus dump ram update begin blank line register end = given fits.0
-  others_is (command.Pge k on) fits goes_on cpus dump ram update begin blank line register end = given fits.0
-  others_is (command.Cd k on) fits goes_on cpus dump ram update begin blank line register end = given fits.0
-  others_is command.Update fits goes_on cpus dump ram update begin blank line register end = absurd (update refl)
-  others_is command.Begin fits goes_on cpus dump ram update begin blank line register end = absurd (begin refl)
-  others_is command.Go fits goes_on cpus dump ram update begin blank line register end = given fits
-  others_is command.Cancel fits goes_on cpus dump ram update begin blank line register end = given fits
-  others_is command.Report fits goes_on cpus dump ram update begin blank line register end = given fits
-  others_is (command.Step k) fits goes_on cpus dump ram update begin blank line register end = given fits.0
-  others_is (command.Word address) fits goes_on cpus dump ram update begin blank line register end = given fits.0
-  others_is (command.Msr k msr) fits goes_on cpus dump ram update begin blank line register end = given fits.0.0
-  others_is command.Blank fits goes_on cpus dump ram update begin blank line register end = absurd (blank refl)
-  others_is command.DumpLine fits goes_on cpus dump ram update begin blank line register end = absurd (line refl)
-  others_is (command.Register msr value) fits goes_on cpus dump ram update begin blank line register end = absurd (register msr value refl)
-  others_is command.End fits goes_on cpus dump ram update begin blank line register end = absurd (end refl)
+  others_is (command.Cpus n) fits goes_on cpus dump ram snoop update begin blank line register end = absurd (cpus n refl)
+  others_is command.Dump fits goes_on cpus dump ram snoop update begin blank line register end = absurd (dump refl)
+  others_is (command.Ram base lines) fits goes_on cpus dump ram snoop update begin blank line register end = absurd (ram base lines refl)
+  others_is (command.Selfsnoop k) fits goes_on cpus dump ram snoop update begin blank line register end = absurd (snoop k refl)
+  others_is (command.Load k address) fits goes_on cpus dump ram snoop update begin blank line register end = given fits.0.0
+  others_is (command.Store k address value) fits goes_on cpus dump ram snoop update begin blank line register end = given fits.0.0
+  others_is (command.Fence k) fits goes_on cpus dump ram snoop update begin blank line register end = given fits.0
+  others_is (command.Map k address physical index global) fits goes_on cpus dump ram snoop update begin blank line register end = given fits.0.0
+  others_is (command.Invlpg k address) fits goes_on cpus dump ram snoop update begin blank line register end = given fits.0.0
+  others_is (command.Cr3 k) fits goes_on cpus dump ram snoop update begin blank line register end = given fits.0
+  others_is (command.Pge k on) fits goes_on cpus dump ram snoop update begin blank line register end = given fits.0
+  others_is (command.Cd k on) fits goes_on cpus dump ram snoop update begin blank line register end = given fits.0
+  others_is command.Update fits goes_on cpus dump ram snoop update begin blank line register end = absurd (update refl)
+  others_is command.Begin fits goes_on cpus dump ram snoop update begin blank line register end = absurd (begin refl)
+  others_is command.Go fits goes_on cpus dump ram snoop update begin blank line register end = given fits
+  others_is command.Cancel fits goes_on cpus dump ram snoop update begin blank line register end = given fits
+  others_is command.Report fits goes_on cpus dump ram snoop update begin blank line register end = given fits
+  others_is (command.Step k) fits goes_on cpus dump ram snoop update begin blank line register end = given fits.0
+  others_is (command.Word address) fits goes_on cpus dump ram snoop update begin blank line register end = given fits.0
+  others_is (command.Msr k msr) fits goes_on cpus dump ram snoop update begin blank line register end = given fits.0.0
+  others_is command.Blank fits goes_on cpus dump ram snoop update begin blank line register end = absurd (blank refl)
+  others_is command.DumpLine fits goes_on cpus dump ram snoop update begin blank line register end = absurd (line refl)
+  others_is (command.Register msr value) fits goes_on cpus dump ram snoop update begin blank line register end = absurd (register msr value refl)
+  others_is command.End fits goes_on cpus dump ram snoop update begin blank line register end = absurd (end refl)
 
   -- the end of the dump
   pub finished_is : (file : RegisterFile) → is_in_dump now.stage ≡ true → IsRegisterFile file → IsSituation (finished now file)

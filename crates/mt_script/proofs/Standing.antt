@@ -151,7 +151,7 @@ module _ (line : ℕ) (words : List (ℕ × List ℕ)) where
   RowFails now row = row.least ≤ length words → IfErr (verb_answer now line words row.verb) AtWord
 
   rows_fail : (now : Situation) (word : List ℕ) → IfSome (row_of word) (RowFails now)
-  rows_fail now = row_all (RowFails now) (cpus_fails, (bare, (ram_fails now, (load_fails now, (store_fails now, (one command.Fence, (map_fails now, (invlpg_fails now, (one command.Cr3, (switch command.Pge, (switch command.Cd, (bare, (bare, (bare, (bare, (bare, (one command.Step, (word_fails now, (msr_fails now, tt)))))))))))))))))))
+  rows_fail now = row_all (RowFails now) (cpus_fails, (bare, (ram_fails now, (one command.Selfsnoop, (load_fails now, (store_fails now, (one command.Fence, (map_fails now, (invlpg_fails now, (one command.Cr3, (switch command.Pge, (switch command.Cd, (bare, (bare, (bare, (bare, (bare, (one command.Step, (word_fails now, (msr_fails now, tt))))))))))))))))))))
     where
       bare : 1 ≤ length words → ⊤
       bare has = tt

@@ -21,7 +21,7 @@ abbrev pub IsShort : Row → Type 0
 IsShort row = (row.least ≤ 6) × (row.most ≤ 6)
 
 pub rows_short : (word : List ℕ) → IfSome (row_of word) IsShort
-rows_short = row_all IsShort (two, (one, (three, (three, (four, (two, (six, (three, (two, (three, (three, (one, (one, (one, (one, (one, (two, (two, (three, tt)))))))))))))))))))
+rows_short = row_all IsShort (two, (one, (three, (two, (three, (four, (two, (six, (three, (two, (three, (three, (one, (one, (one, (one, (one, (two, (two, (three, tt))))))))))))))))))))
   where
     one : (1 ≤ 6) × (1 ≤ 6)
     one = (lit≤ tt, lit≤ tt)

@@ -25,6 +25,7 @@ abbrev pub Fits : Situation → Command → Type 0
 Fits now (command.Cpus n) = (takes_cpus now.stage ≡ true) × (1 ≤ n) × (n ≤ 16)
 Fits now command.Dump = takes_dump now.stage ≡ true
 Fits now (command.Ram base lines) = (takes_windows now.stage ≡ true) × (base % 64 ≡ 0) × (1 ≤ lines) × (lines ≤ 4096) × (has_room now base lines ≡ true)
+Fits now (command.Selfsnoop k) = (takes_windows now.stage ≡ true) × (k < now.cpus)
 Fits now (command.Load k address) = IsFor now k × IsAligned 8 (2 ^ 48) address
 Fits now (command.Store k address value) = IsFor now k × IsAligned 8 (2 ^ 48) address × (value < 2 ^ 64)
 Fits now (command.Fence k) = IsFor now k
@@ -59,6 +60,7 @@ abbrev pub accepted : Situation → Command → Situation
 accepted now (command.Cpus n) = record now { stage = NeedDump; cpus = n }
 accepted now command.Dump = record now { stage = InDump }
 accepted now (command.Ram base lines) = record now { windows = now.windows ++ (base, lines) ∷ [] }
+accepted now (command.Selfsnoop k) = now
 accepted now (command.Load k address) = in_commands now
 accepted now (command.Store k address value) = in_commands now
 accepted now (command.Fence k) = in_commands now

@@ -85,6 +85,7 @@ abbrev pub verb_answer : Situation → ℕ → List (ℕ × List ℕ) → Verb �
 verb_answer now line words verb.Cpus = cpus_in line words
 verb_answer now line words verb.Dump = Ok command.Dump
 verb_answer now line words verb.Ram = ram_in now line words
+verb_answer now line words verb.Selfsnoop = with (processor_in now line words 1) (λ k. Ok (command.Selfsnoop k))
 verb_answer now line words verb.Load = load_in now line words
 verb_answer now line words verb.Store = store_in now line words
 verb_answer now line words verb.Fence = with (processor_in now line words 1) (λ k. Ok (command.Fence k))

@@ -27,6 +27,7 @@ table =
     (codes "cpus", plain verb.Cpus 2 Cpus)
     ∷ (codes "dump", plain verb.Dump 1 Dump)
     ∷ (codes "ram", plain verb.Ram 3 Windows)
+    ∷ (codes "selfsnoop", plain verb.Selfsnoop 2 Windows)
     ∷ (codes "load", plain verb.Load 3 Commands)
     ∷ (codes "store", plain verb.Store 4 Commands)
     ∷ (codes "fence", plain verb.Fence 2 Commands)

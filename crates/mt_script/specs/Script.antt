@@ -49,6 +49,7 @@ abbrev pub is_end_command : Command → Bool
 is_end_command (command.Cpus n) = false
 is_end_command command.Dump = false
 is_end_command (command.Ram base lines) = false
+is_end_command (command.Selfsnoop k) = false
 is_end_command (command.Load k address) = false
 is_end_command (command.Store k address value) = false
 is_end_command (command.Fence k) = false

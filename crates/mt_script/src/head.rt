@@ -3,12 +3,14 @@ ghost use Rattle.mt_dump.specs.Line.{Reading};
 ghost use Rattle.mt_dump.specs.Dump.{ShownBy, offence_at_end};
 ghost use Rattle.mt_dump.specs.Reader.{HasRead, onto};
 ghost use Rattle.mt_dump.specs.declared.fault.DumpFault.{DumpFault};
-ghost use Rattle.mt_script.specs.Situation.{at_start};
+ghost use Rattle.mt_script.specs.Situation.{Situation, at_start};
 ghost use Rattle.mt_script.specs.Stages.{is_in_dump};
-ghost use Rattle.mt_script.specs.Head.{goes_on, head_step, offends, shows};
+ghost use Rattle.mt_script.specs.Head.{TakesLine, ends_dump, head_step, step_in_dump};
 
+use crate::name::is_in_dump;
+use crate::read::ends_dump;
 use crate::token::first_place;
-use crate::{Command, Offence, Setup, Stage, read_command};
+use crate::{Offence, Setup, read_command};
 use mt_dump::DumpReader;
 use mt_regs::RegFile;
 use mt_text::{Line, Place};
@@ -35,6 +37,23 @@ fn end_dump(dump: &mut DumpReader, at: Place) -> Result<RegFile, Offence>
     }
 }
 
+/// Takes a line of a dump. The file is what the lines so far show, where this line's only word is
+/// `end`; the reader has then read nothing.
+pub fn take_dump_line(dump: &mut DumpReader, line: &Line<'_>) -> Result<Option<RegFile>, Offence>
+    ensures { (now : Situation) (before : List Reading) → HasRead dump.old before → TakesLine now dump.new (step_in_dump now before line.now.number line.now.bytes.now (ends_dump line.now.bytes.now)) result }
+{
+    if ends_dump(line) {
+        return match end_dump(dump, first_place(line)) {
+            Ok(file) => Ok(Some(file)),
+            Err(offence) => Err(offence),
+        };
+    }
+    match dump.take(line) {
+        Ok(()) => Ok(None),
+        Err(fault) => Err(Offence::Dump(fault)),
+    }
+}
+
 impl Head {
     /// A reader that has taken no line.
     pub fn new() -> Head
@@ -50,29 +69,17 @@ impl Head {
     /// Takes the next line. The file is what the dump shows, where this line ends it.
     pub fn take(&mut self, line: &Line<'_>) -> Result<Option<RegFile>, Offence>
         ensures shown { IfOk result (λ shown. IfSome shown (λ file. (is_in_dump self.old.setup.stage ≡ true) × (self.new.setup ≡ self.old.setup))) }
-        ensures step { (before : List Reading) → HasRead self.old.dump before → MatchResult result
-            (λ shown. MatchOption shown
-            ((after : List Reading) × HasRead self.new.dump after × (head_step self.old.setup before line.now.number line.now.bytes.now ≡ goes_on self.new.setup after))
-            (λ file. HasRead self.new.dump [] × (head_step self.old.setup before line.now.number line.now.bytes.now ≡ shows file)))
-            (λ offence. head_step self.old.setup before line.now.number line.now.bytes.now ≡ offends offence) }
+        ensures step { (before : List Reading) → HasRead self.old.dump before → TakesLine self.new.setup self.new.dump (head_step self.old.setup before line.now.number line.now.bytes.now) result }
     {
-        let command = match read_command(line, &self.setup) {
-            Ok(command) => command,
-            Err(fault) => return Err(Offence::Script(fault)),
-        };
-        if self.setup.stage() != Stage::InDump {
-            self.setup.accept(&command);
-            return Ok(None);
+        if is_in_dump(self.setup.stage()) {
+            return take_dump_line(&mut self.dump, line);
         }
-        if command == Command::End {
-            return match end_dump(&mut self.dump, first_place(line)) {
-                Ok(file) => Ok(Some(file)),
-                Err(offence) => Err(offence),
-            };
-        }
-        match self.dump.take(line) {
-            Ok(()) => Ok(None),
-            Err(fault) => Err(Offence::Dump(fault)),
+        match read_command(line, &self.setup) {
+            Ok(command) => {
+                self.setup.accept(&command);
+                Ok(None)
+            }
+            Err(fault) => Err(Offence::Script(fault)),
         }
     }
 }

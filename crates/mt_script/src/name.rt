@@ -1,6 +1,6 @@
 ghost use Rattle.std.specs.Prelude.{◌≡◌};
 ghost use Rattle.mt_script.specs.Rows.{row_of, is_word, plain, stands};
-ghost use Rattle.mt_script.specs.Stages.{takes_commands};
+ghost use Rattle.mt_script.specs.Stages.{is_in_dump, takes_commands};
 
 use crate::Stage;
 use crate::row::{Last, Row, Turn, Verb};
@@ -25,8 +25,24 @@ fn plain(verb: Verb, count: usize, turn: Turn) -> Row
     }
 }
 
-/// The row whose first word this is.
+/// The row whose first word this is. Those of which scripts have the most are tried first.
 pub fn row_of(word: &[u8]) -> Option<Row>
+    ensures { result ≡ row_of word.now }
+{
+    if is_word(word, b"load") {
+        Some(plain(Verb::Load, 3, Turn::Commands))
+    } else if is_word(word, b"store") {
+        Some(plain(Verb::Store, 4, Turn::Commands))
+    } else if is_word(word, b"step") {
+        Some(plain(Verb::Step, 2, Turn::Commands))
+    } else {
+        find_row(word)
+    }
+}
+
+// The row whose first word this is, by a search of the table.
+#[inline(never)]
+fn find_row(word: &[u8]) -> Option<Row>
     ensures { result ≡ row_of word.now }
 {
     if is_word(word, b"cpus") {
@@ -35,6 +51,8 @@ pub fn row_of(word: &[u8]) -> Option<Row>
         Some(plain(Verb::Dump, 1, Turn::Dump))
     } else if is_word(word, b"ram") {
         Some(plain(Verb::Ram, 3, Turn::Windows))
+    } else if is_word(word, b"selfsnoop") {
+        Some(plain(Verb::Selfsnoop, 2, Turn::Windows))
     } else if is_word(word, b"load") {
         Some(plain(Verb::Load, 3, Turn::Commands))
     } else if is_word(word, b"store") {
@@ -80,6 +98,13 @@ pub fn row_of(word: &[u8]) -> Option<Row>
     } else {
         None
     }
+}
+
+/// Whether the lines of the dump are read.
+pub fn is_in_dump(stage: Stage) -> bool
+    ensures { result ≡ is_in_dump stage }
+{
+    matches!(stage, Stage::InDump)
 }
 
 /// Whether commands may be given, and the text may end.

@@ -4,6 +4,7 @@ ghost use Rattle.std.specs.Result.{IfOk};
 ghost use Rattle.mt_script.specs.Accept.{Fits};
 ghost use Rattle.mt_text.specs.Text.{words_of};
 ghost use Rattle.mt_script.specs.Commands.{command_of, outside, in_section, in_dump, verb_answer, cpus_in, load_in, store_in, map_in, invlpg_in, switch_in, msr_in, ram_in, register_line, register_value, is_end, too_long, end_fault};
+ghost use Rattle.mt_script.specs.Head.{ends_dump};
 ghost use Rattle.mt_script.specs.Numbers.{fault_at};
 ghost use Rattle.mt_script.specs.Words.{text_of};
 ghost use Rattle.mt_script.specs.Rows.{is_word};
@@ -101,6 +102,7 @@ fn read_verb(words: &Words<'_>, setup: &Setup, verb: Verb) -> Result<Command, Sc
         Verb::Cpus => read_cpus(words),
         Verb::Dump => Ok(Command::Dump),
         Verb::Ram => read_ram(words, setup),
+        Verb::Selfsnoop => Ok(Command::Selfsnoop(processor_at(words, 1, setup)?)),
         Verb::Load => read_load(words, setup),
         Verb::Store => read_store(words, setup),
         Verb::Fence => Ok(Command::Fence(processor_at(words, 1, setup)?)),
@@ -185,11 +187,18 @@ fn read_in_section(words: &Words<'_>, setup: &Setup) -> Result<Command, ScriptFa
     }
 }
 
+/// Whether a line ends the dump.
 #[tactic(auto, using(crate::proofs::FirstWords::is_end_first))]
+pub(crate) fn ends_dump(line: &Line<'_>) -> bool
+    ensures { result ≡ ends_dump line.now.bytes.now }
+{
+    !line.too_long() && is_end(&line.first_words())
+}
+
 fn read_in_dump(line: &Line<'_>) -> Command
     ensures { in_dump line.now.bytes.now ≡ Ok result }
 {
-    if !line.too_long() && is_end(&line.first_words()) {
+    if ends_dump(line) {
         Command::End
     } else {
         Command::DumpLine

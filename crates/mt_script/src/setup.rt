@@ -128,6 +128,7 @@ impl Setup {
     }
 
     /// Moves on by a command that a line was read as, unless it ends the dump.
+    #[inline(always)]
     pub fn accept(&mut self, c: &Command)
         requires fits { Fits self.old c.now }
         requires goes_on { is_in_dump self.old.stage ≡ true → c.now ≢ Command.End }
@@ -142,7 +143,7 @@ impl Setup {
             Command::Begin => self.begin_section(Stage::InBegin),
             Command::End => self.begin_section(Stage::Commands),
             Command::Register { msr, .. } => self.add_register(msr),
-            Command::Blank | Command::DumpLine => {}
+            Command::Selfsnoop(_) | Command::Blank | Command::DumpLine => {}
             _ => self.move_to(Stage::Commands),
         }
     }

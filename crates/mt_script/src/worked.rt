@@ -17,6 +17,7 @@ pub fn worked_rows()
     ensures cpus { first_line at_start (codes "cpus 16 # all") ≡ Ok (asks.Cpus 16) }
     ensures dump { first_line (ready stage.NeedDump) (codes " dump\r") ≡ Ok asks.Dump }
     ensures ram { first_line (ready stage.Rams) (codes "ram 0x800 4080") ≡ Ok (asks.Ram 0x800 4080) }
+    ensures selfsnoop { first_line (ready stage.Rams) (codes "selfsnoop 1") ≡ Ok (asks.Selfsnoop 1) }
     ensures load { first_line (ready stage.Rams) (codes "load 1 fffffffffff8") ≡ Ok (asks.Load 1 0xfffffffffff8) }
     ensures store { first_line (ready stage.Commands) (codes "store 00 8 ffffffffffffffff") ≡ Ok (asks.Store 0 8 0xffffffffffffffff) }
     ensures fence { first_line (ready stage.Commands) (codes "fence 1") ≡ Ok (asks.Fence 1) }
@@ -90,6 +91,9 @@ pub fn worked_shapes()
     ensures load_before_the_dump { first_line (ready stage.NeedDump) (codes " load 0 8") ≡ fault_in NotNow 2 }
     ensures cpus_again { first_line (ready stage.NeedDump) (codes "cpus 1") ≡ fault_in NotNow 1 }
     ensures dump_again { first_line (ready stage.Rams) (codes "dump") ≡ fault_in NotNow 1 }
+    ensures selfsnoop_early { first_line (ready stage.NeedDump) (codes "selfsnoop 0") ≡ fault_in NotNow 1 }
+    ensures selfsnoop_late { first_line (ready stage.Commands) (codes "selfsnoop 0") ≡ fault_in NotNow 1 }
+    ensures selfsnoop_of_two { first_line (ready stage.Rams) (codes "selfsnoop 0 1") ≡ fault_in BadLine 13 }
     ensures ram_late { first_line (ready stage.Commands) (codes "ram 0 1") ≡ fault_in NotNow 1 }
 {}
 
@@ -101,6 +105,8 @@ pub fn worked_numbers()
     ensures many_digits { first_line at_start (codes "cpus 000000000000000000001") ≡ fault_in OutOfRange 6 }
     ensures processor { first_line (ready stage.Rams) (codes "fence 2") ≡ fault_in OutOfRange 7 }
     ensures hexadecimal_processor { first_line (ready stage.Rams) (codes "step a") ≡ fault_in BadNumber 6 }
+    ensures no_snooping_processor { first_line (ready stage.Rams) (codes "selfsnoop 2") ≡ fault_in OutOfRange 11 }
+    ensures hexadecimal_snooping_processor { first_line (ready stage.Rams) (codes "selfsnoop a") ≡ fault_in BadNumber 11 }
     ensures large_processor { first_line (ready stage.Rams) (codes "cr3 18446744073709551616") ≡ fault_in OutOfRange 5 }
     ensures first_number_first { first_line (ready stage.Rams) (codes "load 9 zz") ≡ fault_in OutOfRange 6 }
     ensures bad_second_number { first_line (ready stage.Rams) (codes "load 1 zz") ≡ fault_in BadNumber 8 }
@@ -159,6 +165,8 @@ pub fn worked_scripts()
     ensures repeated_in_dump { offence_of_lines (codes "cpus 1" ∷ codes "dump" ∷ codes "0fe 0" ∷ codes "0fe 0" ∷ []) ≡ dump_fault dump.Repeated 4 1 }
     ensures overlap { offence_of_lines (after_start (codes "ram 0 16" ∷ codes "ram 3c0 1" ∷ [])) ≡ script_fault OutOfRange 6 9 }
     ensures windows_late { offence_of_lines (after_start (codes "report" ∷ codes "ram 0 1" ∷ [])) ≡ script_fault NotNow 6 1 }
+    ensures snooping_keeps_the_stage { offence_of_lines (after_start (codes "selfsnoop 0" ∷ codes "ram 0 1" ∷ codes "selfsnoop 0" ∷ codes "ram 40 1" ∷ codes "report" ∷ [])) ≡ None }
+    ensures snooping_late { offence_of_lines (after_start (codes "report" ∷ codes "selfsnoop 0" ∷ [])) ≡ script_fault NotNow 6 1 }
     ensures repeated { offence_of_lines (after_start (codes "begin" ∷ codes "2ff 0" ∷ codes "2FF: 0" ∷ [])) ≡ script_fault Repeated 7 1 }
     ensures width { offence_of_lines (codes "cpus 1" ∷ codes "dump" ∷ codes "maxphyaddr 32" ∷ codes "0fe 0" ∷ codes "end" ∷ codes "word 100000000" ∷ []) ≡ script_fault OutOfRange 6 6 }
     ensures first { offence_of_lines (codes "cpus 0" ∷ codes "nothing" ∷ []) ≡ script_fault OutOfRange 1 6 }

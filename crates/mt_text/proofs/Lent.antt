@@ -15,7 +15,7 @@ use Rattle.mt_text.proofs.LineSteps.{lines_of-first}
 use Rattle.mt_text.proofs.Places.{position_within}
 
 -- the feed that has seen these bytes and lends their front
-abbrev moved : Feeding → List ℕ → ℕ × Bool → Feeding
+abbrev pub moved : Feeding → List ℕ → ℕ × Bool → Feeding
 moved old seen front = moved_on (record old { pending = seen }) front
 
 -- the first line of bytes, where it has many
@@ -124,7 +124,7 @@ moves_on old new before left given_before given_after line lines =
     omega (arith, is, some_front (old.pending ++ lines.0) left lines.3.0.0 lines.3.0.1)
 
 -- a front that is lent lies in the bytes that were seen
-front_inside : (seen : List ℕ) (left : Option (List ℕ)) (front : ℕ × Bool) → IsFront seen left front → with_end front ≤ length seen
+pub front_inside : (seen : List ℕ) (left : Option (List ℕ)) (front : ℕ × Bool) → IsFront seen left front → with_end front ≤ length seen
 front_inside seen left front (inl known) = front_within seen front known
 front_inside seen left front (inr end) = rw end.3 (omega arith)
 
@@ -149,7 +149,7 @@ Passes old new before after gone = (old.pending ++ before ≡ gone ++ (new.pendi
 passes_none : (old new : Feeding) (before after : List ℕ) → old.pending ++ before ≡ new.pending ++ after → new.place ≡ old.place → Passes old new before after []
 passes_none old new before after same place = (same, λ past at. place ∙ at ∙ ap end_of (sym (append-nil past)))
 
-passes_front : (old new : Feeding) (before seen after : List ℕ) (front : ℕ × Bool) → old.pending ++ before ≡ seen ++ after → IsFront seen (Some after) front → new ≡ moved old seen front → Passes old new before after (take (with_end front) seen)
+pub passes_front : (old new : Feeding) (before seen after : List ℕ) (front : ℕ × Bool) → old.pending ++ before ≡ seen ++ after → IsFront seen (Some after) front → new ≡ moved old seen front → Passes old new before after (take (with_end front) seen)
 passes_front old new before seen after front same is moved_is =
     let parts = ap (λ l. l ++ after) (sym (take-append-drop (with_end front) seen)) ∙ append_assoc (take (with_end front) seen) (drop (with_end front) seen) after in (
       same ∙ parts ∙ ap (λ f. take (with_end front) seen ++ (f.pending ++ after)) (sym moved_is),

@@ -57,6 +57,10 @@ at_start = record {
 abbrev pub behind_a_line : ℕ → List ℕ → Feeding
 behind_a_line number bytes = record at_start { pending = bytes; place = record { line = number; column = 1 } }
 
+-- a feed, for worked runs, that has lent this many bytes and has these pending
+abbrev pub at_offset : ℕ → List ℕ → Feeding
+at_offset offset bytes = record at_start { pending = bytes; offset = offset }
+
 -- the bytes of a front, and the LF that ends it
 abbrev pub with_end : ℕ × Bool → ℕ
 with_end front = front.0 + (if front.1 then 1 else 0)
@@ -134,6 +138,16 @@ abbrev pub LendsLines : Feeding → Feeding → List ℕ → List ℕ → Result
 LendsLines old new before after result = MatchResult result
     (λ answer. MatchOption answer ((old.pending ++ before ≡ []) × (new.pending ++ after ≡ [])) (LendsFirst old new before after))
     (λ _. new.pending ++ after ≡ old.pending ++ before)
+
+-- Of all bytes of a source these are gone: they were lent before, and behind them stand those that are pending and those that the source has left. A line that is lent is the slice
+-- of all bytes at its offset, and what is gone then ends where the next line begins.
+pub record LendsSlice (old new : Feeding) (gone before after : List ℕ) (line : Line) : Type 0 where
+  pub slice : line.bytes.now ≡ take (length line.bytes.now) (drop line.offset (gone ++ (old.pending ++ before)))
+  pub offset : line.offset ≡ length gone
+  pub passed : List ℕ  -- the line and the LF behind it, where there is one
+  pub same : gone ++ (old.pending ++ before) ≡ (gone ++ passed) ++ (new.pending ++ after)
+  pub next : line.next ≡ length (gone ++ passed)
+  pub reach : new.offset ≡ length (gone ++ passed)
 
 -- a read has put more bytes behind the pending ones, none only at the end, or nothing where it failed
 abbrev pub Reads : {E : Type 0} → List ℕ → List ℕ → Option (List ℕ) → Option (List ℕ) → Result ℕ E → Type 0

@@ -39,6 +39,7 @@ impl Model for Feed {
 }
 
 // How many bytes of the first line are lent, and whether an LF ends them, where these bytes tell it.
+#[inline(always)]
 fn known_front(bytes: &[u8]) -> Option<(usize, bool)>
     ensures { result ≡ known_front bytes.now }
 {

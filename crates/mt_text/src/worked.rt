@@ -1,5 +1,6 @@
-ghost use Rattle.std.specs.Prelude.{◌≡◌, ◌∷◌, [], codes, Ok, Err};
-ghost use Rattle.mt_text.specs.Feed.{LendsFirst, at_start, behind_a_line};
+ghost use Rattle.std.specs.Prelude.{◌≡◌, ◌∷◌, ℕ, List, [], codes, true, false, Some, None, Ok, Err};
+ghost use Rattle.mt_text.specs.Feed.{Feeding, LendsFirst, LendsSlice, Moves, Stops, at_offset, at_start, behind_a_line, moved_on};
+ghost use Rattle.mt_text.specs.declared.fault.FeedFault.TheVariants.{ReadFault, TooLong};
 ghost use Rattle.mt_text.specs.declared.line.Line.{Line};
 ghost use Rattle.mt_text.specs.Number.{hex_number, decimal_number};
 ghost use Rattle.mt_text.specs.Text.{end_of, lines_of, words_at, words_of};
@@ -62,4 +63,41 @@ pub fn worked_lent_lines()
     ensures other_number { (line : Line) → line.number ≡ 2 → LendsFirst at_start (behind_a_line 2 (codes "c")) (codes "ab\ncd") (codes "d") line → ⊥ }
     ensures byte_lost { (line : Line) → LendsFirst at_start (behind_a_line 2 []) (codes "ab\ncd") (codes "d") line → ⊥ }
     ensures other_next { (line : Line) → LendsFirst at_start (behind_a_line 3 (codes "c")) (codes "ab\ncd") (codes "d") line → ⊥ }
+{}
+
+/// Worked examples of the slice of all bytes that a line is, and for each part one that fails in that alone.
+pub fn worked_slices()
+    ensures line { (line : Line) → line.bytes.now ≡ codes "cd" → line.offset ≡ 3 → line.next ≡ 6 → LendsSlice (at_offset 3 (codes "cd")) (at_offset 6 []) (codes "ab\n") (codes "\nef") (codes "ef") line }
+    ensures other_bytes { (line : Line) → line.bytes.now ≡ codes "ef" → line.offset ≡ 3 → LendsSlice (at_offset 3 (codes "cd")) (at_offset 6 []) (codes "ab\n") (codes "\nef") (codes "ef") line → ⊥ }
+    ensures other_offset { (line : Line) → line.offset ≡ 2 → LendsSlice (at_offset 3 (codes "cd")) (at_offset 6 []) (codes "ab\n") (codes "\nef") (codes "ef") line → ⊥ }
+    ensures byte_lost { (line : Line) → LendsSlice (at_offset 3 (codes "cd")) (at_offset 6 []) (codes "ab\n") (codes "\nef") (codes "f") line → ⊥ }
+    ensures other_next { (line : Line) → line.next ≡ 5 → LendsSlice (at_offset 3 (codes "cd")) (at_offset 6 []) (codes "ab\n") (codes "\nef") (codes "ef") line → ⊥ }
+{}
+
+/// Worked examples of a call that lends a line or finds none, and for each part one that fails in that alone.
+pub fn worked_moves()
+    ensures ended { Moves (behind_a_line 2 (codes "a")) (record (at_offset 3 (codes "c")) { line = record { bytes = codes "ab"; offset = 0; number = 2 }; place = record { line = 3; column = 1 } }) (codes "ab\nc") None true }
+    ensures last { Moves (behind_a_line 2 (codes "a")) (moved_on (behind_a_line 2 (codes "ab")) (2, false)) (codes "ab") (Some []) true }
+    ensures more_may_come { (new : Feeding) → Moves (behind_a_line 2 (codes "a")) new (codes "ab") (Some (codes "c")) true → ⊥ }
+    ensures no_bytes { (new : Feeding) → Moves (behind_a_line 2 []) new [] (Some []) true → ⊥ }
+    ensures end_is_pending { Moves (behind_a_line 2 (codes "a")) (moved_on (behind_a_line 2 (codes "ab\nc")) (2, false)) (codes "ab\nc") None true → ⊥ }
+    ensures none { Moves (behind_a_line 2 []) (behind_a_line 2 []) [] (Some []) false }
+    ensures bytes_are_left { Moves (behind_a_line 2 (codes "a")) (behind_a_line 2 []) (codes "a") (Some []) false → ⊥ }
+    ensures source_has_more { Moves (behind_a_line 2 []) (behind_a_line 2 []) [] (Some (codes "a")) false → ⊥ }
+    ensures other_pending { Moves (behind_a_line 2 []) (behind_a_line 2 (codes "a")) [] (Some []) false → ⊥ }
+    ensures other_offset { Moves (behind_a_line 1 []) (at_offset 1 []) [] (Some []) false → ⊥ }
+    ensures other_place { Moves (behind_a_line 2 []) (behind_a_line 3 []) [] (Some []) false → ⊥ }
+    ensures a_fault_comes { Moves (behind_a_line 2 []) (record (behind_a_line 2 []) { fault = Some ReadFault }) [] (Some []) false → ⊥ }
+{}
+
+/// Worked examples of a call that a fault stops, and for each part one that fails in that alone.
+pub fn worked_stops()
+    ensures read { Stops (behind_a_line 2 []) (record (behind_a_line 2 (codes "a")) { fault = Some ReadFault }) (codes "a") ReadFault }
+    ensures long { Stops (behind_a_line 2 []) (record (behind_a_line 2 (codes "a\n")) { fault = Some TooLong }) (codes "a\n") TooLong }
+    ensures bytes_lost { Stops (behind_a_line 2 []) (record (behind_a_line 2 []) { fault = Some ReadFault }) (codes "a") ReadFault → ⊥ }
+    ensures other_offset { Stops (at_offset 1 []) (record (at_offset 2 (codes "a")) { fault = Some ReadFault }) (codes "a") ReadFault → ⊥ }
+    ensures other_place { Stops (behind_a_line 2 []) (record (behind_a_line 3 (codes "a")) { fault = Some ReadFault }) (codes "a") ReadFault → ⊥ }
+    ensures no_fault { Stops (behind_a_line 2 []) (behind_a_line 2 (codes "a")) (codes "a") ReadFault → ⊥ }
+    ensures other_fault { Stops (behind_a_line 2 []) (record (behind_a_line 2 (codes "a")) { fault = Some TooLong }) (codes "a") ReadFault → ⊥ }
+    ensures known_line_kept_back { Stops (behind_a_line 2 []) (record (behind_a_line 2 (codes "a\n")) { fault = Some ReadFault }) (codes "a\n") ReadFault → ⊥ }
 {}

@@ -37,4 +37,4 @@ pub add_register-requires-clause-is : goal.add_register-requires-clause-is
 add_register-requires-clause-is c = subst (λ asked. IsSituation (accepted c.args.self.now asked)) c.in-Register.is (accepted_is c.args.self.now c.is_situation.ensures c.args.c.now c.requires.fits c.requires.goes_on)
 
 pub move_to-requires-in_default : goal.move_to-requires-in_default
-move_to-requires-in_default c = others_is c.args.self.now c.is_situation.ensures c.args.c.now c.requires.fits c.requires.goes_on c.in_default.not-Cpus c.in_default.not-Dump c.in_default.not-Ram c.in_default.not-Update c.in_default.not-Begin c.in_default.not-Blank c.in_default.not-DumpLine c.in_default.not-Register c.in_default.not-End
+move_to-requires-in_default c = others_is c.args.self.now c.is_situation.ensures c.args.c.now c.requires.fits c.requires.goes_on c.in_default.not-Cpus c.in_default.not-Dump c.in_default.not-Ram c.in_default.not-Selfsnoop c.in_default.not-Update c.in_default.not-Begin c.in_default.not-Blank c.in_default.not-DumpLine c.in_default.not-Register c.in_default.not-End
