@@ -1,5 +1,6 @@
 -- A command finishes at most one update of each processor.
 use Rattle.mt_machine.specs.declared.op.Op.TheVariants as op
+use Rattle.mt_replay.proofs.Keeping.Snooping.{snooped_risen}
 use Rattle.mt_machine.specs.declared.control.Control.TheVariants as control_of
 use Rattle.mt_machine.specs.Machine.{Cancels, Goes}
 use Rattle.mt_ram.specs.Windows.{window, with_window}
@@ -15,6 +16,7 @@ use Rattle.mt_replay.proofs.Keeping.States.{follows_end, mapping_fits}
 
 risen : (s : ReplayState) (c : Command) → IsReplayState s → Fits s.now c → HasRisenByOne s.machine.system (machine_after s c).system
 risen s (command.Ram base lines) h fits = risen_same s.machine.system (with_window (window base lines) s.machine.system.memory)
+risen s (command.Selfsnoop k) h fits = snooped_risen k s.machine.system
 risen s (command.Load k address) h fits = (follows_access s.machine k (op.Load address) h.arises fits.1).risen
 risen s (command.Store k address value) h fits = (follows_access s.machine k (op.Store address value) h.arises (fits.1, fits.2)).risen
 risen s (command.Fence k) h fits = (follows_access s.machine k op.Fence h.arises tt).risen

@@ -1,5 +1,6 @@
 -- In the states of a script nothing that is held is of an earlier era than its processor's.
 use Rattle.std.proofs.Common.{◌≡◌, ◌≤◌, ℕ, List, [], ◌∷◌, Bool, true, false, refl, ap, inl}
+use Rattle.mt_laws.specs.Kept.{flags_of}
 use Rattle.std.specs.Prelude.{count_by, nat_lt, not}
 use Rattle.std.specs.List.{All, list_all}
 use Rattle.std.proofs.lemmas.Bool.{and_parts, le-ltb}
@@ -10,7 +11,7 @@ use Rattle.mt_machine.specs.System.{Processor}
 use Rattle.mt_laws.specs.Settled.{IsFresh}
 use Rattle.mt_laws.proofs.Clearing.Fresh.{nothing_is_stale, starts_fresh}
 use Rattle.mt_replay.specs.Texts.{stale_count}
-use Rattle.mt_replay.specs.Kept.{NothingIsStale, start_of, windows_of}
+use Rattle.mt_replay.specs.Kept.{NothingIsStale, start_like, windows_of}
 
 none_counted : {X : Type 0} → (test : X → Bool) (xs : List X) → list_all (λ x. not (test x)) xs ≡ true → count_by test xs ≡ 0
 none_counted test [] none = refl
@@ -37,4 +38,4 @@ none_stale p f = rw (lines_counted p.era p.lines f.lines, lines_counted p.era p.
 
 pub nothing_stale : NothingIsStale
 nothing_stale s f is file k d within =
-    none_stale _ (nothing_is_stale (start_of s.now f) s.machine (inl (is.quiet f file)) (starts_fresh s.now.cpus f (windows_of s.now)) (is.reached f file) k d within)
+    none_stale _ (nothing_is_stale (start_like s f) s.machine (inl (is.quiet f file)) (starts_fresh (flags_of s.machine.system) f (windows_of s.now)) (is.reached f file) k d within)

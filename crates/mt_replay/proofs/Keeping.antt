@@ -2,5 +2,6 @@
 pub mod Kinds
 pub mod Machines
 pub mod Windows
+pub mod Snooping
 pub mod States
 pub mod First

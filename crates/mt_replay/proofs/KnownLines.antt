@@ -120,6 +120,7 @@ past_kept : (now : Situation) (c : Command) → is_past_dump now.stage ≡ true 
 past_kept now (command.Cpus n) past fits = absurd (no_cpus_past now.stage fits.0 past)
 past_kept now command.Dump past fits = absurd (no_dump_past now.stage fits past)
 past_kept now (command.Ram base lines) past fits = past
+past_kept now (command.Selfsnoop k) past fits = past
 past_kept now command.Blank past fits = past
 past_kept now command.DumpLine past fits = past
 past_kept now (command.Register msr value) past fits = past

@@ -13,6 +13,7 @@ pub mod Lines
 pub mod Refusals
 pub mod Rounds
 pub mod SameFiles
+pub mod Sums
 pub mod ShownFile
 pub mod Taking
 pub mod Telling

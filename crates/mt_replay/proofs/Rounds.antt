@@ -1,5 +1,5 @@
 -- What a round of a replay's loop keeps, whether or not the source tells its bytes.
-use Rattle.std.proofs.Common.{◌≡◌, ◌∙◌, ap, sym, refl, subst, arith, inl, inr, ℕ, ◌+◌, ◌≤◌, ◌<◌, nat_lt, Bool, true, false, List, ◌++◌, length, Option, None, Some, Ok, Err}
+use Rattle.std.proofs.Common.{◌≡◌, ◌∙◌, ap, sym, refl, subst, arith, inl, inr, ℕ, ◌+◌, ◌^◌, ◌≤◌, ◌<◌, nat_lt, Bool, true, false, List, ◌++◌, length, Option, None, Some, Ok, Err}
 use Rattle.std.specs.Prelude.{◌≢◌, ◌↔◌}
 use Rattle.std.proofs.lemmas.Bool.Decides.{nat_tests}
 use Rattle.std.proofs.lemmas.List.{length-append, length-drop}
@@ -59,7 +59,7 @@ pub eras_more : (m n : ℕ) (now : Run) → m ≤ n → HasErasAt m now → HasE
 eras_more m n (run.Head h) le eras = tt
 eras_more m n (run.Body r) le eras = λ k d within. omega (arith, le, eras k d within)
 
-pub eras_room : (m : ℕ) (now : Run) → m ≤ 16777216 → HasErasAt m now → HasEraRoomAt now
+pub eras_room : (m : ℕ) (now : Run) → m + 1 < 2 ^ 64 → HasErasAt m now → HasEraRoomAt now
 eras_room m (run.Head h) le eras = tt
 eras_room m (run.Body r) le eras = λ k d within. omega (arith, le, eras k d within)
 

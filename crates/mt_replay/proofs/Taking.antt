@@ -108,6 +108,7 @@ file_fails now file number waiting text a b is line failed = record {
 -- A command after which windows may be added stands where they may be added, and writes nothing.
 quiet_command : (s : ReplayState) (c : Command) → Fits s.now c → takes_windows (accepted s.now c).stage ≡ true → (takes_windows s.now.stage ≡ true) × (command_text s c ≡ [])
 quiet_command s (command.Ram base lines) fits takes = (takes, refl)
+quiet_command s (command.Selfsnoop k) fits takes = (takes, refl)
 quiet_command s command.Blank fits takes = (takes, refl)
 quiet_command s command.DumpLine fits takes = (takes, refl)
 quiet_command s (command.Register msr value) fits takes = (takes, refl)

@@ -33,7 +33,7 @@ use Rattle.mt_replay.proofs.Walks.{IsSound, long_never_goes, long_stops}
 
 -- ---- texts
 
-behind_both : (a b : List ℕ) (t : Told) → behind a (behind b t) ≡ behind (a ++ b) t
+pub behind_both : (a b : List ℕ) (t : Told) → behind a (behind b t) ≡ behind (a ++ b) t
 behind_both a b t = λ i. record { text = sym (append_assoc a b t.text) i; status = t.status }
 
 -- a text was passed, and what waited went to the sink with another
@@ -190,13 +190,13 @@ sound_at (run.Body r) (in_head s before) at = absurd at
 sound_at (run.Body r) (in_body s) at = at.1
 
 -- where no line is left
-none_told : (place : Place) (number : ℕ) (now : Run) (point : Point) → IsAt now point → told_lines (Some place) number [] point ≡ told_at_end (end_fault (setup_of now).stage place)
+pub none_told : (place : Place) (number : ℕ) (now : Run) (point : Point) → IsAt now point → told_lines (Some place) number [] point ≡ told_at_end (end_fault (setup_of now).stage place)
 none_told place number (run.Head h) (in_head s before) at = ap (λ (x : Situation). told_at_end (end_fault x.stage place)) (sym at.0)
 none_told place number (run.Head h) (in_body s) at = absurd at
 none_told place number (run.Body r) (in_head s before) at = absurd at
 none_told place number (run.Body r) (in_body s) at = ap (λ x. told_at_end (end_fault x.now.stage place)) (sym at.0)
 
-none_known : (number : ℕ) (point : Point) → told_lines None number [] point ≡ told [] Done
+pub none_known : (number : ℕ) (point : Point) → told_lines None number [] point ≡ told [] Done
 none_known number (in_head now before) = refl
 none_known number (in_body s) = refl
 

@@ -1,5 +1,6 @@
 -- What holds of each state that a script comes to (own).
 use Rattle.std.specs.Prelude.{ℕ, ◌≡◌, ◌+◌, ◌≤◌, Bool, true, false, List, [], ◌∷◌, length, map, Option, None, Some, Result, Ok, Err, ⊤}
+use Rattle.mt_laws.specs.Kept.{flags_of}
 use Rattle.std.specs.List.{All}
 use Rattle.mt_text.specs.Text.{lines_of, words_of}
 use Rattle.mt_regs.specs.declared.fault.Fault.{Fault}
@@ -8,7 +9,7 @@ use Rattle.mt_regs.specs.Faults.{IsAccepted}
 use Rattle.mt_ram.specs.Windows.{window}
 use Rattle.mt_machine.specs.Memory.{Window}
 use Rattle.mt_machine.specs.Machine.{FitsGoal, Machine, Reached}
-use Rattle.mt_machine.specs.Start.{IsQuiet, start_machine}
+use Rattle.mt_machine.specs.Start.{IsQuiet, start_machine, start_with}
 use Rattle.mt_core.specs.Arises.{Arises}
 use Rattle.mt_dump.specs.Line.{Reading, said_of}
 use Rattle.mt_dump.specs.Dump.{offence_of, offence_at_end}
@@ -34,8 +35,12 @@ windows_of now = map (λ w. window w.0 w.1) now.windows
 abbrev pub start_of : Situation → RegisterFile → Machine
 start_of now f = start_machine now.cpus f (windows_of now)
 
+-- the same, where a processor is self-snooping exactly where it is so now
+abbrev pub start_like : ReplayState → RegisterFile → Machine
+start_like s f = start_with (flags_of s.machine.system) f (windows_of s.now)
+
 -- The machine is reached by events from its start, the processors with the dump's file over zero words, which is quiet: so each
--- law on what is reached from a start holds of it. Nothing has happened to it before the first command.
+-- law on what is reached from a start holds of it. Before the first command nothing has happened to it.
 pub record IsReplayState (s : ReplayState) : Type 0 where
   pub situation : IsSituation s.now
   pub past : is_past_dump s.now.stage ≡ true
@@ -45,9 +50,9 @@ pub record IsReplayState (s : ReplayState) : Type 0 where
   pub goal_file : IsRegisterFile s.goal
   pub goal : All (FitsGoal s.goal) s.machine.system.processors
   pub windows : s.machine.system.memory.windows ≡ windows_of s.now
-  pub quiet : (f : RegisterFile) → s.now.file ≡ Some f → IsQuiet (start_of s.now f)
-  pub reached : (f : RegisterFile) → s.now.file ≡ Some f → Reached (start_of s.now f) s.machine
-  pub fresh : (f : RegisterFile) → s.now.file ≡ Some f → takes_windows s.now.stage ≡ true → IsAccepted f × (s.machine ≡ start_of s.now f)
+  pub quiet : (f : RegisterFile) → s.now.file ≡ Some f → IsQuiet (start_like s f)
+  pub reached : (f : RegisterFile) → s.now.file ≡ Some f → Reached (start_like s f) s.machine
+  pub fresh : (f : RegisterFile) → s.now.file ≡ Some f → takes_windows s.now.stage ≡ true → IsAccepted f × (s.machine ≡ start_like s f)
 
 -- no processor has finished more updates than this
 abbrev pub HasEras : ℕ → ReplayState → Type 0

@@ -7,7 +7,11 @@ pub mod Parts
 pub mod Running
 pub mod ReplayState
 pub mod Statuses
+pub mod Summary
+pub mod Summing
 pub mod Texts
 pub mod Transcript
 pub mod WorkedScript
 pub mod WorkedStates
+pub mod WorkedSteps
+pub mod WorkedSummary

@@ -20,7 +20,7 @@ use Rattle.mt_machine.specs.Machine.{Accesses, Calls, Cancels, Controls, Goes, M
 use Rattle.mt_machine.specs.Start.{start_machine}
 use Rattle.mt_machine.specs.Update.{updated}
 use Rattle.mt_ram.specs.Windows.{window}
-use Rattle.mt_core.specs.Arises.{grown}
+use Rattle.mt_core.specs.Arises.{grown, snooped}
 use Rattle.mt_core.specs.Rounds.{ascending}
 use Rattle.mt_core.specs.Steps.{step_after, step_answer}
 use Rattle.mt_core.specs.declared.fault.CallFault.{CallFault}
@@ -119,6 +119,7 @@ abbrev pub command_text : ReplayState → Command → List ℕ
 command_text s (command.Cpus n) = []
 command_text s command.Dump = []
 command_text s (command.Ram base lines) = []
+command_text s (command.Selfsnoop k) = []
 command_text s (command.Load k address) = accessed_line s.machine k (op.Load address)
 command_text s (command.Store k address value) = accessed_line s.machine k (op.Store address value)
 command_text s (command.Fence k) = accessed_line s.machine k op.Fence
@@ -144,6 +145,7 @@ abbrev pub machine_after : ReplayState → Command → Machine
 machine_after s (command.Cpus n) = s.machine
 machine_after s command.Dump = s.machine
 machine_after s (command.Ram base lines) = grown (window base lines) s.machine
+machine_after s (command.Selfsnoop k) = snooped k s.machine
 machine_after s (command.Load k address) = next s.machine (Accesses k (op.Load address))
 machine_after s (command.Store k address value) = next s.machine (Accesses k (op.Store address value))
 machine_after s (command.Fence k) = next s.machine (Accesses k op.Fence)

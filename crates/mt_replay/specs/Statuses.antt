@@ -31,7 +31,7 @@ use Rattle.mt_script.specs.declared.command.Command.{Command}
 use Rattle.mt_script.specs.declared.command.Command.TheVariants as command
 use Rattle.mt_script.specs.declared.fault.Offence.{Offence}
 use Rattle.mt_output.specs.Lines.{accepted_line, line, offence_line, refused_line}
-use Rattle.mt_replay.specs.Kept.{HoldsThrough, IsReplayState, start_of}
+use Rattle.mt_replay.specs.Kept.{HoldsThrough, IsReplayState, start_like}
 use Rattle.mt_replay.specs.ReplayState.{ReplayState, call_fault, command_text, each_processor, is_update, machine_after, state_after}
 use Rattle.mt_replay.specs.Texts.{called_line, complete_line}
 use Rattle.mt_replay.specs.Transcript.{told, told_offence, transcript}
@@ -203,4 +203,4 @@ ReleasedWordsAreHeld =
     (s : ReplayState) (f : RegisterFile) (o : Order) (k : ℕ) (since : List Command) → IsReplayState s → s.now.file ≡ Some f → Fits s.now (command.Step k)
     → step_answer s.machine k ≡ Did Release → s.machine.order ≡ Some o → All (λ q. has_released o q ≡ false) s.machine.system.processors
     → AreWithoutCall (state_after s (command.Step k)) since
-    → (p : Machine) × Reached (start_of s.now f) p × IsFirstRelease p (machine_after s (command.Step k)) o × AreHeld (now p.system) (state_after s (command.Step k)) since
+    → (p : Machine) × Reached (start_like s f) p × IsFirstRelease p (machine_after s (command.Step k)) o × AreHeld (now p.system) (state_after s (command.Step k)) since

@@ -1,4 +1,4 @@
-ghost use Rattle.std.specs.Prelude.{◌≡◌, ◌<◌, ◌≤◌, ◌+◌, ◌*◌, ◌^◌, length, slice_get, MatchOption, OnOk, OnErr, None, Some};
+ghost use Rattle.std.specs.Prelude.{◌≡◌, ◌<◌, ◌≤◌, ◌+◌, ◌*◌, ◌^◌, ◌++◌, length, slice_get, MatchOption, OnOk, OnErr, None, Some};
 ghost use Rattle.std.specs.List.{All};
 ghost use Rattle.mt_machine.specs.Machine.{Accesses, Calls, Cancels, Controls, IsEnabled, FitsControl, FitsGoal, FitsOp, Goes, common_era, go_of, next};
 ghost use Rattle.mt_machine.specs.System.{Processor};
@@ -16,12 +16,12 @@ ghost use Rattle.mt_regs.specs.Registers.{value_at};
 ghost use Rattle.std.specs.Option.{option_map_or};
 
 use crate::texts::{
-    call_fault_line, called_line, cancel_line, complete_line, done_line, go_line, memory_line,
-    register_line, ruled_line, stepped_line,
+    append_done, append_ruled, append_stepped, call_fault_line, called_line, cancel_line,
+    complete_line, go_line, memory_line, register_line,
 };
 use mt_core::{CallFault, Core, a_core_arises};
 use mt_machine::{Control, Op};
-use mt_output::LineBuffer;
+use mt_output::{LINE_ROOM, WRITER_ROOM, Writer};
 use mt_ports::{Gate, NoMemory};
 use mt_ram::RamFault;
 use mt_regs::RegFile;
@@ -29,40 +29,51 @@ use std::alloc::Global;
 use std::sync::Wait;
 use std::thread::Threads;
 
-/// An access, and its line.
-pub(crate) fn access(core: &mut Core, k: u32, op: Op) -> LineBuffer
+// Each of these does a command, and adds its line to the bytes that wait.
+
+/// An access.
+pub(crate) fn access(writer: &mut Writer, core: &mut Core, k: u32, op: Op)
+    requires line { length writer.old + LINE_ROOM ≤ WRITER_ROOM }
     requires processor { k < length core.old.system.processors }
     requires fits { FitsOp op }
-    ensures text { result.items ≡ accessed_line core.old k op }
+    ensures text { writer.new ≡ writer.old ++ accessed_line core.old k op }
     ensures after { core.new ≡ next core.old (Accesses k op) }
 {
-    done_line(&core.access(k, op))
+    let done = core.access(k, op);
+    append_done(writer, &done);
 }
 
-/// A control instruction, and its line.
-pub(crate) fn control(core: &mut Core, k: u32, c: Control) -> LineBuffer
+/// A control instruction.
+#[inline(never)]
+pub(crate) fn control(writer: &mut Writer, core: &mut Core, k: u32, c: Control)
+    requires line { length writer.old + LINE_ROOM ≤ WRITER_ROOM }
     requires processor { k < length core.old.system.processors }
     requires fits { (p : Processor) → slice_get core.old.system.processors k ≡ Some p → FitsControl p c }
-    ensures text { result.items ≡ controlled_line core.old k c }
+    ensures text { writer.new ≡ writer.old ++ controlled_line core.old k c }
     ensures after { core.new ≡ next core.old (Controls k c) }
 {
-    ruled_line(&core.control(k, c))
+    let ruled = core.control(k, c);
+    append_ruled(writer, &ruled);
 }
 
 /// Gives the go, and says whether it was given.
-pub(crate) fn go(core: &mut Core) -> LineBuffer
-    ensures text { result.items ≡ go_line (is_undecided (go_of core.old)) }
+#[inline(never)]
+pub(crate) fn go(writer: &mut Writer, core: &mut Core)
+    requires line { length writer.old + LINE_ROOM ≤ WRITER_ROOM }
+    ensures text { writer.new ≡ writer.old ++ go_line (is_undecided (go_of core.old)) }
     ensures after { core.new ≡ after_word Goes core.old }
 {
-    go_line(core.go())
+    writer.append(go_line(core.go()).as_slice());
 }
 
 /// Gives the update up, and says whether it was.
-pub(crate) fn cancel(core: &mut Core) -> LineBuffer
-    ensures text { result.items ≡ cancel_line (is_undecided (go_of core.old)) }
+#[inline(never)]
+pub(crate) fn cancel(writer: &mut Writer, core: &mut Core)
+    requires line { length writer.old + LINE_ROOM ≤ WRITER_ROOM }
+    ensures text { writer.new ≡ writer.old ++ cancel_line (is_undecided (go_of core.old)) }
     ensures after { core.new ≡ after_word Cancels core.old }
 {
-    cancel_line(core.cancel())
+    writer.append(cancel_line(core.cancel()).as_slice());
 }
 
 fn file_at(core: &Core, k: u32) -> &RegFile
@@ -73,14 +84,15 @@ fn file_at(core: &Core, k: u32) -> &RegFile
 }
 
 /// A step of a processor, and what it did.
-pub(crate) fn step(core: &mut Core, k: u32) -> LineBuffer
-    requires { k < length core.old.system.processors }
-    ensures text { (f : RegisterFile) → result.items ≡ stepped_line (file_at (step_after core.old k).system.processors k f) (step_answer core.old k) }
+pub(crate) fn step(writer: &mut Writer, core: &mut Core, k: u32)
+    requires line { length writer.old + LINE_ROOM ≤ WRITER_ROOM }
+    requires processor { k < length core.old.system.processors }
+    ensures text { (f : RegisterFile) → writer.new ≡ writer.old ++ stepped_line (file_at (step_after core.old k).system.processors k f) (step_answer core.old k) }
     ensures after { core.new ≡ step_after core.old k }
 {
     a_core_arises(core); // a fact for the proof
     let stepped = core.step(k);
-    stepped_line(file_at(core, k), &stepped)
+    append_stepped(writer, file_at(core, k), &stepped);
 }
 
 fn common_era(core: &Core) -> u64
@@ -132,60 +144,70 @@ fn lead<R: Threads + Wait + Sync, G: Gate>(
 }
 
 /// A whole update to these registers, and the era after it, or why it isn't begun.
+#[inline(never)]
 pub(crate) fn update<R: Threads + Wait + Sync, G: Gate>(
     rt: &R,
     alloc: Global,
+    writer: &mut Writer,
     core: &mut Core,
     goal: &RegFile,
     gate: &G,
-) -> LineBuffer
+)
+    requires line { length writer.old + LINE_ROOM ≤ WRITER_ROOM }
     requires some { 0 < length core.old.system.processors }
     requires fits { All (FitsGoal goal.now) core.old.system.processors }
     requires room { HasEraRoom core.old }
-    ensures text { result.items ≡ update_line core.old goal.now }
+    ensures text { writer.new ≡ writer.old ++ update_line core.old goal.now }
     ensures after { core.new ≡ after_update core.old goal.now }
 {
     match lead(rt, alloc, core, goal, gate) {
-        None => complete_line(common_era(core)),
-        Some(fault) => call_fault_line(&fault),
+        None => writer.append(complete_line(common_era(core)).as_slice()),
+        Some(fault) => writer.append(call_fault_line(&fault).as_slice()),
     }
 }
 
 /// The call of an update to these registers, or why it isn't begun.
-pub(crate) fn call(core: &mut Core, goal: &RegFile) -> LineBuffer
+#[inline(never)]
+pub(crate) fn call(writer: &mut Writer, core: &mut Core, goal: &RegFile)
+    requires line { length writer.old + LINE_ROOM ≤ WRITER_ROOM }
     requires some { 0 < length core.old.system.processors }
     requires fits { All (FitsGoal goal.now) core.old.system.processors }
     requires room { HasEraRoom core.old }
-    ensures text { result.items ≡ call_line core.old goal.now }
+    ensures text { writer.new ≡ writer.old ++ call_line core.old goal.now }
     ensures after { core.new ≡ after_call core.old goal.now }
 {
     match begin(core, goal) {
-        None => called_line(),
-        Some(fault) => call_fault_line(&fault),
+        None => writer.append(called_line().as_slice()),
+        Some(fault) => writer.append(call_fault_line(&fault).as_slice()),
     }
 }
 
 /// Memory's own word at an address.
-pub(crate) fn word(core: &Core, address: u64) -> LineBuffer
-    ensures { result.items ≡ memory_line (memory_word core.now.system.memory address) }
+#[inline(never)]
+pub(crate) fn word(writer: &mut Writer, core: &Core, address: u64)
+    requires line { length writer.old + LINE_ROOM ≤ WRITER_ROOM }
+    ensures { writer.new ≡ writer.old ++ memory_line (memory_word core.now.system.memory address) }
 {
     let ram = &core.system().ram;
     match ram.place(address) {
-        Some(place) => memory_line(Some(ram.word(place))),
-        None => memory_line(None),
+        Some(place) => writer.append(memory_line(Some(ram.word(place))).as_slice()),
+        None => writer.append(memory_line(None).as_slice()),
     }
 }
 
 /// The value of a register of a processor, 0 where it has none of this number.
-pub(crate) fn register(core: &Core, k: u32, msr: u32) -> LineBuffer
+#[inline(never)]
+pub(crate) fn register(writer: &mut Writer, core: &Core, k: u32, msr: u32)
+    requires line { length writer.old + LINE_ROOM ≤ WRITER_ROOM }
     requires processor { k < length core.now.system.processors }
     requires short { msr < 0x1000 }
-    ensures { (f : RegisterFile) → result.items ≡ register_line msr (option_map_or (λ value. value) (value_at (file_at core.now.system.processors k f) msr) 0) }
+    ensures { (f : RegisterFile) → writer.new ≡ writer.old ++ register_line msr (option_map_or (λ value. value) (value_at (file_at core.now.system.processors k f) msr) 0) }
 {
-    register_line(msr, file_at(core, k).get(msr).unwrap_or(0))
+    let value = file_at(core, k).get(msr).unwrap_or(0);
+    writer.append(register_line(msr, value).as_slice());
 }
 
-/// A window for which there is room. The error comes only where the allocator has none; nothing
+/// A window for which there is room. It has no line. The error comes only where the allocator has none; nothing
 /// then changes.
 pub(crate) fn add_window(core: &mut Core, base: u64, lines: u32) -> Result<(), NoMemory>
     requires some { 0 < lines }

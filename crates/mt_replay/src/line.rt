@@ -1,16 +1,18 @@
-ghost use Rattle.std.specs.Prelude.{◌≡◌, ◌≤◌, ◌+◌, ℕ, List, length, true, MatchOption, MatchResult, IfOk, Some, Ok, Err, ◌++◌};
+ghost use Rattle.std.specs.Prelude.{◌≡◌, ◌≢◌, ◌≤◌, ◌+◌, ℕ, List, length, true, MatchOption, MatchResult, IfOk, OnOk, Some, Ok, Err, ◌++◌};
 ghost use Rattle.mt_ports.specs.Causes.{HasCause};
 ghost use Rattle.mt_ports.specs.Puts.{AppendsFront};
 ghost use Rattle.mt_dump.specs.Line.{Reading};
 ghost use Rattle.mt_machine.specs.Start.{HasEraRoom};
+ghost use Rattle.mt_output.specs.Lines.{offence_line};
 ghost use Rattle.mt_output.specs.Writing.{Adds, Passes};
 ghost use Rattle.mt_script.specs.Accept.{Fits};
 ghost use Rattle.mt_script.specs.Stages.{is_in_dump};
 ghost use Rattle.mt_replay.specs.FirstFault.{first_fault};
 ghost use Rattle.mt_replay.specs.Kept.{HasEras};
 ghost use Rattle.mt_replay.specs.Parts.{IsWindow};
-ghost use Rattle.mt_replay.specs.ReplayState.{command_text, state_after};
+ghost use Rattle.mt_replay.specs.ReplayState.{ReplayState, command_text, state_after};
 ghost use Rattle.mt_replay.specs.Running.{HasEraRoomAt, HasErasAt, IsAt, IsEnding, Point, Takes, body_lines, from_line, in_body, in_head, setup_of};
+ghost use Rattle.mt_replay.specs.Summing.{Begins, Lasts, state_in};
 ghost use Rattle.mt_replay.specs.Transcript.{told_file};
 
 use crate::replayer::Replayer;
@@ -44,6 +46,7 @@ impl Run {
 }
 
 // Writes a last text, and answers the status.
+#[inline(never)]
 fn tell<K: Sink>(
     writer: &mut Writer,
     sink: &mut K,
@@ -62,7 +65,28 @@ fn tell<K: Sink>(
     }
 }
 
+// Writes the line about an offence, which is the last.
+#[inline(never)]
+fn tell_offence<K: Sink>(
+    writer: &mut Writer,
+    sink: &mut K,
+    offence: &Offence,
+) -> Result<Option<Status>, Failed>
+    ensures bytes { Adds writer.old (offence_line offence.now) writer.new (K.taken sink.old) (K.taken sink.new) result }
+    ensures status { IfOk result (λ ended. ended ≡ Some Status.BadText) }
+    ensures answer { (answer : Status) → result ≡ Ok (Some answer) → answer ≡ Status.BadText }
+    ensures cause { HasCause (K.faults sink.old) (K.faults sink.new) result }
+{
+    tell(
+        writer,
+        sink,
+        offence_line(offence).as_slice(),
+        Status::BadText,
+    )
+}
+
 // Goes on behind the dump's end, where its file is accepted.
+#[inline(never)]
 fn begin<K: Sink>(
     alloc: Global,
     run: &mut Run,
@@ -71,11 +95,13 @@ fn begin<K: Sink>(
     writer: &mut Writer,
     sink: &mut K,
 ) -> Result<Option<Status>, Failed>
-    requires { is_in_dump setup.stage ≡ true }
+    requires stage { is_in_dump setup.stage ≡ true }
+    requires head { state_in run.old ≡ None }
     ensures bytes { (number : ℕ) (before : List Reading) →
         Takes (λ end lines. told_file setup file (body_lines end number lines) (first_fault file)) number (in_head setup before) run.new writer.old writer.new (K.taken sink.old) (K.taken sink.new) result }
     ensures ending { (status : Status) → result ≡ Ok (Some status) → IsEnding status }
     ensures eras { (most : ℕ) → MatchResult result (λ ended. MatchOption ended (HasErasAt most run.new) (λ _. Unit {0})) (λ _. Unit {0}) }
+    ensures state { Begins setup file run.new result }
     ensures cause { HasCause (K.faults sink.old) (K.faults sink.new) result }
 {
     file.is_register_file(); // a fact for the proof
@@ -93,6 +119,34 @@ fn begin<K: Sink>(
     *run = Run::Body(replayer);
     match writer.write(sink, accepted_line()) {
         Ok(()) => Ok(None),
+        Err(failed) => Err(failed),
+    }
+}
+
+// Does a command other than a report or a window. Its line is formed behind the bytes that wait, once
+// there is room for it.
+fn form<R: Threads + Wait + Sync, K: Sink, G: Gate>(
+    rt: &R,
+    alloc: Global,
+    replayer: &mut Replayer,
+    c: &Command,
+    writer: &mut Writer,
+    sink: &mut K,
+    gate: &G,
+) -> Result<(), Failed>
+    requires fits { Fits replayer.old.now c.now }
+    requires room { HasEraRoom replayer.old.machine }
+    requires no_report { c.now ≢ Command.Report }
+    requires no_window { (base : ℕ) → (lines : ℕ) → c.now ≢ Command.Ram base lines }
+    ensures bytes { Adds writer.old (command_text replayer.old c.now) writer.new (K.taken sink.old) (K.taken sink.new) result }
+    ensures after { OnOk result (replayer.new ≡ state_after replayer.old c.now) }
+    ensures cause { HasCause (K.faults sink.old) (K.faults sink.new) result }
+{
+    match writer.make_room(sink) {
+        Ok(()) => {
+            replayer.run(rt, alloc, c, writer, gate);
+            Ok(())
+        }
         Err(failed) => Err(failed),
     }
 }
@@ -118,18 +172,19 @@ fn do_command<R: Threads + Wait + Sync, K: Sink, G: Gate>(
     ensures refused { (status : Status) → result ≡ Ok (Some status) → status ≡ Status.NoMemory }
     ensures cause { HasCause (K.faults sink.old) (K.faults sink.new) result }
 {
-    if *c == Command::Report {
-        return match replayer.report(writer, sink) {
+    match *c {
+        Command::Report => match replayer.report(writer, sink) {
             Ok(()) => Ok(None),
             Err(failed) => Err(failed),
-        };
-    }
-    let Ok(line) = replayer.run(rt, alloc, c, gate) else {
-        return Ok(Some(Status::NoMemory));
-    };
-    match writer.write(sink, line.as_slice()) {
-        Ok(()) => Ok(None),
-        Err(failed) => Err(failed),
+        },
+        Command::Ram(base, lines) => match replayer.add_window(base, lines) {
+            Ok(()) => Ok(None),
+            Err(_) => Ok(Some(Status::NoMemory)),
+        },
+        _ => match form(rt, alloc, replayer, c, writer, sink, gate) {
+            Ok(()) => Ok(None),
+            Err(failed) => Err(failed),
+        },
     }
 }
 
@@ -147,17 +202,44 @@ fn take_command<R: Threads + Wait + Sync, K: Sink, G: Gate>(
     ensures bytes { Takes (from_line line.now.number line.now.bytes.now (in_body replayer.old)) (line.now.number + 1) (in_body replayer.old) (Run.Body replayer.new) writer.old writer.new (K.taken sink.old) (K.taken sink.new) result }
     ensures ending { (status : Status) → result ≡ Ok (Some status) → IsEnding status }
     ensures eras { (most : ℕ) → HasEras most replayer.old → MatchResult result (λ ended. MatchOption ended (HasEras (most + 1) replayer.new) (λ _. Unit {0})) (λ _. Unit {0}) }
+    ensures last { Lasts line.now.number line.now.bytes.now (in_body replayer.old) (Run.Body replayer.new) result }
     ensures cause { HasCause (K.faults sink.old) (K.faults sink.new) result }
 {
     replayer.is_replay_state(); // a fact for the proof
     match read_command(line, replayer.setup()) {
         Ok(command) => do_command(rt, alloc, replayer, &command, writer, sink, gate),
-        Err(fault) => tell(
-            writer,
-            sink,
-            offence_line(&Offence::Script(fault)).as_slice(),
-            Status::BadText,
-        ),
+        Err(fault) => tell_offence(writer, sink, &Offence::Script(fault)),
+    }
+}
+
+// Takes a line up to the dump's end.
+#[inline(never)]
+fn take_in_head<K: Sink>(
+    alloc: Global,
+    run: &mut Run,
+    line: &Line<'_>,
+    writer: &mut Writer,
+    sink: &mut K,
+) -> Result<Option<Status>, Failed>
+    requires { (replayer : ReplayState) → run.old ≢ Run.Body replayer }
+    ensures bytes { (was : Point) → IsAt run.old was →
+        Takes (from_line line.now.number line.now.bytes.now was) (line.now.number + 1) was run.new writer.old writer.new (K.taken sink.old) (K.taken sink.new) result }
+    ensures ending { (status : Status) → result ≡ Ok (Some status) → IsEnding status }
+    ensures eras { (most : ℕ) → HasErasAt most run.old → MatchResult result (λ ended. MatchOption ended (HasErasAt (most + 1) run.new) (λ _. Unit {0})) (λ _. Unit {0}) }
+    ensures last { (was : Point) → IsAt run.old was → Lasts line.now.number line.now.bytes.now was run.new result }
+    ensures cause { HasCause (K.faults sink.old) (K.faults sink.new) result }
+{
+    let head = match run {
+        Run::Head(head) => head,
+        Run::Body(_) => unreachable!(),
+    };
+    match head.take(line) {
+        Ok(None) => Ok(None),
+        Ok(Some(file)) => {
+            let setup = mem::replace(&mut head.setup, Setup::new());
+            begin(alloc, run, setup, file, writer, sink)
+        }
+        Err(offence) => tell_offence(writer, sink, &offence),
     }
 }
 
@@ -176,25 +258,11 @@ pub(crate) fn take_line<R: Threads + Wait + Sync, K: Sink, G: Gate>(
         Takes (from_line line.now.number line.now.bytes.now was) (line.now.number + 1) was run.new writer.old writer.new (K.taken sink.old) (K.taken sink.new) result }
     ensures ending { (status : Status) → result ≡ Ok (Some status) → IsEnding status }
     ensures eras { (most : ℕ) → HasErasAt most run.old → MatchResult result (λ ended. MatchOption ended (HasErasAt (most + 1) run.new) (λ _. Unit {0})) (λ _. Unit {0}) }
+    ensures last { (was : Point) → IsAt run.old was → Lasts line.now.number line.now.bytes.now was run.new result }
     ensures cause { HasCause (K.faults sink.old) (K.faults sink.new) result }
 {
-    let head = match run {
-        Run::Head(head) => head,
-        Run::Body(replayer) => {
-            return take_command(rt, alloc, replayer, line, writer, sink, gate);
-        }
-    };
-    match head.take(line) {
-        Ok(None) => Ok(None),
-        Ok(Some(file)) => {
-            let setup = mem::replace(&mut head.setup, Setup::new());
-            begin(alloc, run, setup, file, writer, sink)
-        }
-        Err(offence) => tell(
-            writer,
-            sink,
-            offence_line(&offence).as_slice(),
-            Status::BadText,
-        ),
+    match run {
+        Run::Body(replayer) => take_command(rt, alloc, replayer, line, writer, sink, gate),
+        Run::Head(_) => take_in_head(alloc, run, line, writer, sink),
     }
 }

@@ -1,4 +1,4 @@
-ghost use Rattle.std.specs.Prelude.{◌≡◌, ◌≢◌, ◌<◌, true, [], length, IfOk, OnOk, OnErr, MatchResult, if◌then◌else◌};
+ghost use Rattle.std.specs.Prelude.{◌≡◌, ◌≢◌, ℕ, ◌≤◌, ◌<◌, ◌+◌, ◌++◌, true, length, IfOk, OnOk, OnErr, if◌then◌else◌};
 ghost use Rattle.std.specs.List.{All};
 ghost use Rattle.mt_regs.specs.Faults.{IsAccepted};
 ghost use Rattle.mt_regs.specs.RegisterFile.{RegisterFile};
@@ -9,20 +9,20 @@ ghost use Rattle.mt_script.specs.Accept.{Fits, accepted};
 ghost use Rattle.mt_ports.specs.Causes.{HasCause};
 ghost use Rattle.mt_output.specs.Writing.{Adds};
 ghost use Rattle.mt_replay.specs.Kept.{IsReplayState};
-ghost use Rattle.mt_replay.specs.Parts.{IsWindow, state};
+ghost use Rattle.mt_replay.specs.Parts.{state};
 ghost use Rattle.mt_replay.specs.ReplayState.{after_call, after_update, call_line, command_text, file_at, first_state, goal_after, is_update, machine_after, mapping, state_after, update_line, with_register};
 
 use crate::commands::{
     access, add_window, call, cancel, control, go, register, step, update, word,
 };
 use crate::report::write_report;
-use arrayvec::ArrayVec;
 use mt_bus::System;
 use mt_core::Core;
 use mt_kinds::PAGE_BYTES;
 use mt_machine::{Control, Op};
-use mt_output::{LineBuffer, Writer};
+use mt_output::{LINE_ROOM, WRITER_ROOM, Writer};
 use mt_ports::{Failed, Gate, NoMemory, Sink};
+use mt_ram::Ram;
 use mt_regs::RegFile;
 use mt_script::{Command, Setup, Stage};
 use mt_tlb::Mapping;
@@ -63,12 +63,6 @@ fn mapping(address: u64, physical: u64, index: u8, global: bool) -> Mapping
     }
 }
 
-fn no_line() -> LineBuffer
-    ensures { result.items ≡ [] }
-{
-    ArrayVec::new()
-}
-
 // The registers of the first processor, with which the goal of a section begins.
 fn first_file(core: &Core) -> RegFile
     requires { 0 < length core.now.system.processors }
@@ -77,25 +71,36 @@ fn first_file(core: &Core) -> RegFile
     core.system().cpus.as_slice()[0].regs().same()
 }
 
+// A section begins with the registers of the first processor.
+#[inline(never)]
+fn begin_goal(core: &Core, goal: &mut RegFile)
+    requires { 0 < length core.now.system.processors }
+    ensures { goal.new ≡ file_at core.now.system.processors 0 goal.old }
+{
+    *goal = first_file(core);
+}
+
 // A section ends: an update, or a call for one.
 fn end_section<R: Threads + Wait + Sync, G: Gate>(
     rt: &R,
     alloc: Global,
+    writer: &mut Writer,
     core: &mut Core,
     goal: &RegFile,
     stage: Stage,
     gate: &G,
-) -> LineBuffer
+)
+    requires line { length writer.old + LINE_ROOM ≤ WRITER_ROOM }
     requires some { 0 < length core.old.system.processors }
     requires fits { All (FitsGoal goal.now) core.old.system.processors }
     requires room { HasEraRoom core.old }
-    ensures text { result.items ≡ (if is_update stage then update_line core.old goal.now else call_line core.old goal.now) }
+    ensures text { writer.new ≡ writer.old ++ (if is_update stage then update_line core.old goal.now else call_line core.old goal.now) }
     ensures after { core.new ≡ (if is_update stage then after_update core.old goal.now else after_call core.old goal.now) }
 {
     if stage == Stage::InUpdate {
-        update(rt, alloc, core, goal, gate)
+        update(rt, alloc, writer, core, goal, gate);
     } else {
-        call(core, goal)
+        call(writer, core, goal);
     }
 }
 
@@ -105,62 +110,51 @@ fn set(goal: &mut RegFile, msr: u32, value: u64)
     let _ = goal.set(msr, value);
 }
 
-// What a command other than a report writes, and what it does to the machine and the goal.
+// What a command other than a report or a window writes, and what it does to the machine and the goal.
 fn act<R: Threads + Wait + Sync, G: Gate>(
     rt: &R,
     alloc: Global,
+    writer: &mut Writer,
     setup: &Setup,
     core: &mut Core,
     goal: &mut RegFile,
     c: &Command,
     gate: &G,
-) -> Result<LineBuffer, NoMemory>
+)
+    requires line { length writer.old + LINE_ROOM ≤ WRITER_ROOM }
     requires state { IsReplayState (state setup.now core.old goal.old) }
     requires fits { Fits setup.now c.now }
     requires room { HasEraRoom core.old }
     requires no_report { c.now ≢ Command.Report }
-    ensures text { IfOk result (λ line. line.items ≡ command_text (state setup.now core.old goal.old) c.now) }
-    ensures machine { OnOk result (core.new ≡ machine_after (state setup.now core.old goal.old) c.now) }
-    ensures goal { OnOk result (goal.new ≡ goal_after (state setup.now core.old goal.old) c.now) }
-    ensures kept { OnErr result ((core.new ≡ core.old) × (goal.new ≡ goal.old)) }
-    ensures window { OnErr result (IsWindow c.now) }
+    requires no_window { (base : ℕ) → (lines : ℕ) → c.now ≢ Command.Ram base lines }
+    ensures text { writer.new ≡ writer.old ++ command_text (state setup.now core.old goal.old) c.now }
+    ensures machine { core.new ≡ machine_after (state setup.now core.old goal.old) c.now }
+    ensures goal { goal.new ≡ goal_after (state setup.now core.old goal.old) c.now }
 {
-    Ok(match *c {
-        Command::Load(k, address) => access(core, k, Op::Load(address)),
-        Command::Store(k, address, value) => access(core, k, Op::Store(address, value)),
-        Command::Fence(k) => access(core, k, Op::Fence),
+    match *c {
+        Command::Load(k, address) => access(writer, core, k, Op::Load(address)),
+        Command::Store(k, address, value) => access(writer, core, k, Op::Store(address, value)),
+        Command::Fence(k) => access(writer, core, k, Op::Fence),
         Command::Map(k, address, physical, index, global) => {
-            control(
-                core,
-                k,
-                Control::Map(mapping(address, physical, index, global)),
-            )
+            let x = mapping(address, physical, index, global);
+            control(writer, core, k, Control::Map(x));
         }
-        Command::Invlpg(k, address) => control(core, k, Control::Invlpg(address)),
-        Command::Cr3(k) => control(core, k, Control::Cr3),
-        Command::Pge(k, on) => control(core, k, Control::Pge(on)),
-        Command::Cd(k, on) => control(core, k, Control::Cd(on)),
-        Command::Go => go(core),
-        Command::Cancel => cancel(core),
-        Command::Step(k) => step(core, k),
-        Command::Word(address) => word(core, address),
-        Command::Msr(k, msr) => register(core, k, msr),
-        Command::End => end_section(rt, alloc, core, goal, setup.stage(), gate),
-        Command::Ram(base, lines) => {
-            add_window(core, base, lines)?;
-            no_line()
-        }
-        Command::Update | Command::Begin => {
-            *goal = first_file(core);
-            no_line()
-        }
-        Command::Register { msr, value } => {
-            set(goal, msr, value);
-            no_line()
-        }
-        Command::Cpus(_) | Command::Dump | Command::Blank | Command::DumpLine => no_line(),
-        Command::Report => unreachable!(),
-    })
+        Command::Invlpg(k, address) => control(writer, core, k, Control::Invlpg(address)),
+        Command::Cr3(k) => control(writer, core, k, Control::Cr3),
+        Command::Pge(k, on) => control(writer, core, k, Control::Pge(on)),
+        Command::Cd(k, on) => control(writer, core, k, Control::Cd(on)),
+        Command::Go => go(writer, core),
+        Command::Cancel => cancel(writer, core),
+        Command::Step(k) => step(writer, core, k),
+        Command::Word(address) => word(writer, core, address),
+        Command::Msr(k, msr) => register(writer, core, k, msr),
+        Command::Selfsnoop(k) => core.self_snoop(k),
+        Command::End => end_section(rt, alloc, writer, core, goal, setup.stage(), gate),
+        Command::Update | Command::Begin => begin_goal(core, goal),
+        Command::Register { msr, value } => set(goal, msr, value),
+        Command::Cpus(_) | Command::Dump | Command::Blank | Command::DumpLine => {}
+        Command::Report | Command::Ram(..) => unreachable!(),
+    }
 }
 
 impl Replayer {
@@ -191,6 +185,13 @@ impl Replayer {
         &self.setup
     }
 
+    /// The machine's memory.
+    pub(crate) fn ram(&self) -> &Ram
+        ensures { result.now ≡ self.now.machine.system.memory }
+    {
+        &self.core.system().ram
+    }
+
     /// What every replayer keeps. This does nothing.
     pub fn is_replay_state(&self)
         ensures { IsReplayState self.now }
@@ -198,37 +199,52 @@ impl Replayer {
         let _ = &self.goal;
     }
 
-    /// Does a command other than a report, and answers its line. The error comes only where the
-    /// allocator has no room for a window; nothing then changes. An update runs each processor on a
-    /// thread of its own, where the gate and the allocator let it.
+    /// Does a command other than a report or a window, and adds its line to the bytes that wait. An
+    /// update runs each processor on a thread of its own, where the gate and the allocator let it.
     pub fn run<R: Threads + Wait + Sync, G: Gate>(
         &mut self,
         rt: &R,
         alloc: Global,
         c: &Command,
+        writer: &mut Writer,
         gate: &G,
-    ) -> Result<LineBuffer, NoMemory>
+    )
+        requires line { length writer.old + LINE_ROOM ≤ WRITER_ROOM }
         requires fits { Fits self.old.now c.now }
         requires room { HasEraRoom self.old.machine }
         requires no_report { c.now ≢ Command.Report }
-        ensures { MatchResult result
-            (λ line. (line.items ≡ command_text self.old c.now) × (self.new ≡ state_after self.old c.now))
-            (λ _. (self.new ≡ self.old) × IsWindow c.now) }
+        requires no_window { (base : ℕ) → (lines : ℕ) → c.now ≢ Command.Ram base lines }
+        ensures text { writer.new ≡ writer.old ++ command_text self.old c.now }
+        ensures after { self.new ≡ state_after self.old c.now }
     {
-        let line = act(
+        act(
             rt,
             alloc,
+            writer,
             &self.setup,
             &mut self.core,
             &mut self.goal,
             c,
             gate,
-        )?;
+        );
         self.setup.accept(c);
-        Ok(line)
+    }
+
+    /// Adds a window of memory, which has no line. The error comes only where the allocator has no
+    /// room; nothing then changes.
+    #[inline(never)]
+    pub fn add_window(&mut self, base: u64, lines: u32) -> Result<(), NoMemory>
+        requires fits { Fits self.old.now (Command.Ram base lines) }
+        ensures added { OnOk result (self.new ≡ state_after self.old (Command.Ram base lines)) }
+        ensures kept { OnErr result (self.new ≡ self.old) }
+    {
+        add_window(&mut self.core, base, lines)?;
+        self.setup.accept(&Command::Ram(base, lines));
+        Ok(())
     }
 
     /// Does a report: writes a line for each processor, and whether all have the same registers.
+    #[inline(never)]
     pub fn report<K: Sink>(&mut self, writer: &mut Writer, sink: &mut K) -> Result<(), Failed>
         requires { Fits self.old.now Command.Report }
         ensures bytes { Adds writer.old (command_text self.old Command.Report) writer.new (K.taken sink.old) (K.taken sink.new) result }

@@ -1,21 +1,23 @@
-ghost use Rattle.std.specs.Prelude.{◌≡◌, ◌≤◌, ◌<◌, ◌+◌, ◌++◌, length, decimal, nat_lt};
+ghost use Rattle.std.specs.Prelude.{◌≡◌, ◌≤◌, ◌<◌, ◌+◌, ◌++◌, codes, length, decimal, nat_lt};
+ghost use Rattle.mt_dump.specs.Canon.{number_text};
 ghost use Rattle.std.specs.List.{count_by, list_all};
 ghost use Rattle.arrayvec.specs.ArrayVec.{array_vec_len};
 ghost use Rattle.mt_cache.specs.Lines.{eight, is_dirty};
 ghost use Rattle.mt_machine.specs.Update.{dirty_count};
-ghost use Rattle.mt_output.specs.Lines.{line};
+ghost use Rattle.mt_output.specs.Lines.{address_text, line};
 ghost use Rattle.mt_regs.specs.declared.fault.Fault.{Fault};
 ghost use Rattle.mt_regs.specs.RegisterFile.{RegisterFile};
-ghost use Rattle.mt_replay.specs.Texts.{call_fault_line, called_line, cancel_line, complete_line, done_line, event_text, go_line, have_one_file, is_same_file, memory_line, number_at, phase_text, processor_line, register_line, registers_line, ruled_line, stale_count, stepped_line, switch_text};
+ghost use Rattle.mt_replay.specs.Texts.{call_fault_line, called_line, cancel_line, complete_line, done_line, go_line, have_one_file, is_same_file, memory_line, number_at, phase_text, processor_line, register_line, registers_line, ruled_line, stale_count, stepped_line, switch_text};
 
 use arrayvec::ArrayVec;
 use mt_cache::{Cache, CacheLine};
 use mt_core::{CallFault, Stepped};
 use mt_cpu::Cpu;
+use mt_dump::{number_text, value_text};
 use mt_kinds::{MemType, is_bit_set};
 use mt_machine::{Done, Event, Phase, Ruled};
 use mt_output::{
-    LINE_ROOM, LineBuffer, append, append_address, append_decimal, append_number, append_type,
+    LINE_ROOM, LineBuffer, WRITER_ROOM, Writer, append, append_decimal, append_number,
     append_value, refused_line,
 };
 use mt_regs::{RegFile, Register};
@@ -32,50 +34,47 @@ fn text_line(text: &[u8]) -> LineBuffer
     line
 }
 
-fn value_line(value: u64, kind: MemType) -> LineBuffer
-    ensures { result.items ≡ done_line (Done.Value value kind) }
+fn value_line(value: u64, kind: MemType) -> [u8; 26]
+    ensures { result ≡ done_line (Done.Value value kind) }
 {
-    let mut line = ArrayVec::new();
-    append(&mut line, b"value ");
-    append_value(&mut line, value);
-    append(&mut line, b" ");
-    append_type(&mut line, kind);
-    append(&mut line, b"\n");
+    let mut line = *b"value 0000000000000000 UC\n";
+    line[23..25].copy_from_slice(kind.name().as_bytes());
+    line[6..22].copy_from_slice(&value_text(value));
     line
 }
 
-fn stored_line(kind: MemType) -> LineBuffer
-    ensures { result.items ≡ done_line (Done.Stored kind) }
+fn stored_line(kind: MemType) -> [u8; 10]
+    ensures { result ≡ done_line (Done.Stored kind) }
 {
-    let mut line = ArrayVec::new();
-    append(&mut line, b"stored ");
-    append_type(&mut line, kind);
-    append(&mut line, b"\n");
+    let mut line = *b"stored UC\n";
+    line[7..9].copy_from_slice(kind.name().as_bytes());
     line
 }
 
-/// What an access is answered.
-pub(crate) fn done_line(done: &Done) -> LineBuffer
-    ensures { result.items ≡ done_line done.now }
+/// Adds what an access is answered.
+pub(crate) fn append_done(writer: &mut Writer, done: &Done)
+    requires { length writer.old + LINE_ROOM ≤ WRITER_ROOM }
+    ensures { writer.new ≡ writer.old ++ done_line done.now }
 {
     match *done {
-        Done::Value(value, kind) => value_line(value, kind),
-        Done::Stored(kind) => stored_line(kind),
-        Done::Fenced => text_line(b"fenced"),
-        Done::Unmapped => text_line(b"unmapped"),
-        Done::NoRam => text_line(b"no ram"),
-        Done::Busy => text_line(b"busy"),
+        Done::Value(value, kind) => writer.append(&value_line(value, kind)),
+        Done::Stored(kind) => writer.append(&stored_line(kind)),
+        Done::Fenced => writer.append(b"fenced\n"),
+        Done::Unmapped => writer.append(b"unmapped\n"),
+        Done::NoRam => writer.append(b"no ram\n"),
+        Done::Busy => writer.append(b"busy\n"),
     }
 }
 
-/// What a control instruction is answered.
-pub(crate) fn ruled_line(ruled: &Ruled) -> LineBuffer
-    ensures { result.items ≡ ruled_line ruled.now }
+/// Adds what a control instruction is answered.
+pub(crate) fn append_ruled(writer: &mut Writer, ruled: &Ruled)
+    requires { length writer.old + LINE_ROOM ≤ WRITER_ROOM }
+    ensures { writer.new ≡ writer.old ++ ruled_line ruled.now }
 {
     match ruled {
-        Ruled::Okay => text_line(b"ok"),
-        Ruled::Full => text_line(b"full"),
-        Ruled::Busy => text_line(b"busy"),
+        Ruled::Okay => writer.append(b"ok\n"),
+        Ruled::Full => writer.append(b"full\n"),
+        Ruled::Busy => writer.append(b"busy\n"),
     }
 }
 
@@ -135,44 +134,47 @@ fn number_at(f: &RegFile, i: u32) -> u32
     register.number()
 }
 
-// Adds what an event did. A processor with this file did it.
-fn append_event(line: &mut LineBuffer, f: &RegFile, event: Event)
-    requires { array_vec_len line.old + 24 ≤ LINE_ROOM }
-    ensures text { line.new.items ≡ line.old.items ++ event_text f.now event }
-    ensures short { array_vec_len line.new ≤ array_vec_len line.old + 24 }
+// The line of a word that was written back from this address.
+fn written_back_line(address: u64) -> [u8; 25]
+    ensures { result ≡ line (codes "write-back " ++ address_text address) }
 {
-    match event {
-        Event::Take => append(line, b"take"),
-        Event::Arrive => append(line, b"arrive"),
-        Event::Leave => append(line, b"leave"),
-        Event::Pass => append(line, b"pass"),
-        Event::SetNoFill => append(line, b"no-fill"),
-        Event::WriteBack { address, .. } => {
-            append(line, b"write-back ");
-            append_address(line, address);
-        }
-        Event::DropLines => append(line, b"drop"),
-        Event::FlushTlb => append(line, b"flush-tlb"),
-        Event::Disable => append(line, b"disable"),
-        Event::Write(i) => {
-            append(line, b"write ");
-            append_number(line, number_at(f, i));
-        }
-        Event::Enable => append(line, b"enable"),
-        Event::SetNormal => append(line, b"normal"),
-        Event::RestorePge => append(line, b"restore"),
-        Event::ArriveAgain => append(line, b"arrive-again"),
-        Event::Release => append(line, b"release"),
-    }
+    let mut line = *b"write-back 0000000000000\n";
+    line[11..24].copy_from_slice(&value_text(address)[3..]);
+    line
 }
 
-fn event_line(f: &RegFile, event: Event) -> LineBuffer
-    ensures { result.items ≡ stepped_line f.now (Stepped.Did event) }
+// The line of a register of this number that was written.
+fn written_line(number: u32) -> [u8; 10]
+    requires { number < 0x1000 }
+    ensures { result ≡ line (codes "write " ++ number_text number) }
 {
-    let mut line = ArrayVec::new();
-    append_event(&mut line, f, event);
-    append(&mut line, b"\n");
+    let mut line = *b"write 000\n";
+    line[6..9].copy_from_slice(&number_text(number));
     line
+}
+
+// Adds what an event did. A processor with this file did it.
+fn append_event(writer: &mut Writer, f: &RegFile, event: Event)
+    requires { length writer.old + LINE_ROOM ≤ WRITER_ROOM }
+    ensures { writer.new ≡ writer.old ++ stepped_line f.now (Stepped.Did event) }
+{
+    match event {
+        Event::Take => writer.append(b"take\n"),
+        Event::Arrive => writer.append(b"arrive\n"),
+        Event::Leave => writer.append(b"leave\n"),
+        Event::Pass => writer.append(b"pass\n"),
+        Event::SetNoFill => writer.append(b"no-fill\n"),
+        Event::WriteBack { address, .. } => writer.append(&written_back_line(address)),
+        Event::DropLines => writer.append(b"drop\n"),
+        Event::FlushTlb => writer.append(b"flush-tlb\n"),
+        Event::Disable => writer.append(b"disable\n"),
+        Event::Write(i) => writer.append(&written_line(number_at(f, i))),
+        Event::Enable => writer.append(b"enable\n"),
+        Event::SetNormal => writer.append(b"normal\n"),
+        Event::RestorePge => writer.append(b"restore\n"),
+        Event::ArriveAgain => writer.append(b"arrive-again\n"),
+        Event::Release => writer.append(b"release\n"),
+    }
 }
 
 fn waits_line(arrived: u32, awaited: u32) -> LineBuffer
@@ -187,14 +189,23 @@ fn waits_line(arrived: u32, awaited: u32) -> LineBuffer
     line
 }
 
-/// What a step of a processor with this file did.
-pub(crate) fn stepped_line(f: &RegFile, stepped: &Stepped) -> LineBuffer
-    ensures { result.items ≡ stepped_line f.now stepped.now }
+#[inline(never)]
+fn append_waits(writer: &mut Writer, arrived: u32, awaited: u32)
+    requires { length writer.old + LINE_ROOM ≤ WRITER_ROOM }
+    ensures { (f : RegisterFile) → writer.new ≡ writer.old ++ stepped_line f (Stepped.Waits arrived awaited) }
+{
+    writer.append(waits_line(arrived, awaited).as_slice());
+}
+
+/// Adds what a step of a processor with this file did.
+pub(crate) fn append_stepped(writer: &mut Writer, f: &RegFile, stepped: &Stepped)
+    requires { length writer.old + LINE_ROOM ≤ WRITER_ROOM }
+    ensures { writer.new ≡ writer.old ++ stepped_line f.now stepped.now }
 {
     match *stepped {
-        Stepped::Did(event) => event_line(f, event),
-        Stepped::Waits { arrived, of } => waits_line(arrived, of),
-        Stepped::NoUpdate => text_line(b"no update"),
+        Stepped::Did(event) => append_event(writer, f, event),
+        Stepped::Waits { arrived, of } => append_waits(writer, arrived, of),
+        Stepped::NoUpdate => writer.append(b"no update\n"),
     }
 }
 

@@ -1,5 +1,7 @@
 mod commands;
 mod states;
+mod steps;
+mod summaries;
 
 ghost use Rattle.std.specs.Prelude.{◌≡◌, ◌∷◌, [], codes, replicate, true, false, None, Some};
 ghost use Rattle.mt_kinds.specs.declared.mem_type.MemType.TheVariants.{UC, WC, WB};
@@ -19,6 +21,8 @@ pub use states::{
     worked_dumps, worked_each_state, worked_kept, worked_settled_states, worked_without_call,
     worked_words,
 };
+pub use steps::{worked_flat_values, worked_last_states, worked_line_ends, worked_short_updates};
+pub use summaries::{worked_summaries, worked_told_lines, worked_told_texts};
 
 /// What accesses and control instructions are answered.
 #[tactic(auto, unfolding(hex::specs::Hex::encode_with))]

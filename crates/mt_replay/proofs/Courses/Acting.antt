@@ -82,17 +82,20 @@ end_acts s text some = one (call_fault s.machine s.goal) refl some
     one None is some = absurd (cc some)
     one (Some fault) is some = inl (ends_idle s fault is).1
 
--- windows come before all other commands
+-- windows, and processors that become self-snooping, come before all other commands
 abbrev pub IsNoWindow : Command → Type 0
 IsNoWindow (command.Ram base lines) = ⊥
+IsNoWindow (command.Selfsnoop k) = ⊥
 IsNoWindow other = Unit {0}
 
 is_no_window : (now : Situation) (c : Command) → Fits now c → takes_windows now.stage ≡ false → IsNoWindow c
 is_no_window now (command.Ram base lines) fits past = let takes = fits.0 in cc (takes, past)
+is_no_window now (command.Selfsnoop k) fits past = let takes = fits.0 in cc (takes, past)
 is_no_window now other fits past = tt
 
 pub acts : (s : ReplayState) (c : Command) → IsReplayState s → Fits s.now c → (c ≡ command.End → IsSome (call_fault s.machine s.goal)) → IsNoWindow c → Acts s.machine (machine_after s c) (command_text s c)
 acts s (command.Ram base lines) h fits calls past = absurd past
+acts s (command.Selfsnoop k) h fits calls past = absurd past
 acts s (command.Load k address) h fits calls past = access_acts s.machine k (op.Load address) (command_text s (command.Load k address)) fits.1
 acts s (command.Store k address value) h fits calls past = access_acts s.machine k (op.Store address value) (command_text s (command.Store k address value)) (fits.1, fits.2)
 acts s (command.Fence k) h fits calls past = access_acts s.machine k op.Fence (command_text s (command.Fence k)) tt

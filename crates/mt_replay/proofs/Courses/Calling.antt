@@ -46,6 +46,7 @@ none_acts m n text (inr (e, enabled, quiet, same, tells)) none =
 
 none_stays : (s : ReplayState) (c : Command) → IsReplayState s → Fits s.now c → (c ≡ command.End → IsSome (call_fault s.machine s.goal)) → s.machine.order ≡ None → (machine_after s c).order ≡ None
 none_stays s (command.Ram base lines) h fits calls none = none
+none_stays s (command.Selfsnoop k) h fits calls none = none
 none_stays s other h fits calls none = none_acts s.machine (machine_after s other) (command_text s other) (acts s other h fits calls tt) none
 
 -- ---- calls
@@ -152,6 +153,7 @@ in_section : (s : ReplayState) (c : Command) → takes_registers s.now.stage ≡
 in_section s (command.Cpus n) is h fits other = goes_wrong (takes_cpus s.now.stage) fits.0 h.cpus
 in_section s command.Dump is h fits other = goes_wrong (takes_dump s.now.stage) fits h.dump
 in_section s (command.Ram base lines) is h fits other = goes_wrong (takes_windows s.now.stage) fits.0 h.windows
+in_section s (command.Selfsnoop k) is h fits other = goes_wrong (takes_windows s.now.stage) fits.0 h.windows
 in_section s (command.Load k address) is h fits other = goes_wrong (takes_commands s.now.stage) fits.0.0 h.commands
 in_section s (command.Store k address value) is h fits other = goes_wrong (takes_commands s.now.stage) fits.0.0 h.commands
 in_section s (command.Fence k) is h fits other = goes_wrong (takes_commands s.now.stage) fits.0 h.commands
@@ -205,6 +207,7 @@ opens_or_stays : (now : Situation) (c : Command) → takes_registers (accepted n
 opens_or_stays now command.Update is = inl (inl refl)
 opens_or_stays now command.Begin is = inl (inr refl)
 opens_or_stays now (command.Ram base lines) is = inr (is, λ e. cc e)
+opens_or_stays now (command.Selfsnoop k) is = inr (is, λ e. cc e)
 opens_or_stays now command.Blank is = inr (is, λ e. cc e)
 opens_or_stays now command.DumpLine is = inr (is, λ e. cc e)
 opens_or_stays now (command.Register number value) is = inr (is, λ e. cc e)

@@ -78,6 +78,7 @@ without_call (step ∷ steps) s h on none =
 
 no_window : (now : Situation) (c : Command) → Fits now c → takes_windows now.stage ≡ false → (accepted now c).windows ≡ now.windows
 no_window now (command.Ram base lines) fits past = absurd (let takes = fits.0 in cc (takes, past))
+no_window now (command.Selfsnoop k) fits past = refl
 no_window now command.Blank fits past = refl
 no_window now other fits past = refl
 

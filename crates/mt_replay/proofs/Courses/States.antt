@@ -146,4 +146,4 @@ starts_as_the_dump_shows text file shows accepted = one (beginning text) refl (w
     one None none h = absurd (no_line text (accepted_first text file shows accepted) h)
     one (Some b) begins h =
         let has = first_of (λ s. s.now.file ≡ Some file) b.number b.lines b.state (carries (λ s. s.now.file ≡ Some file) 1 (lines_of text) at_start [] b (states_have_the_shown_file text file shows) begins) in
-        (b, refl, (h.is.fresh file has h.windows).1, first_step b)
+        (b, refl, (h.is.fresh file has h.windows).1 ∙ h.plain file has, first_step b)

@@ -1,5 +1,8 @@
 -- The course of a text: its transcript is what the steps write, and each step finds what the one before it left.
 use Rattle.std.proofs.Common.{◌≡◌, ◌⊎◌, ◌∙◌, ap, sym, refl, subst, inl, inr, ℕ, ◌+◌, Bool, true, false, List, [], ◌∷◌, ◌++◌, Option, None, Some, Result, Ok, Err}
+use Rattle.mt_laws.proofs.Invariant.Starts.{no_flag_is_the_start}
+use Rattle.mt_laws.specs.Kept.{flags_of}
+use Rattle.mt_machine.specs.Start.{start_machine, start_with}
 use Rattle.std.specs.Prelude.{IsSome, is_some, if◌then◌else◌}
 use Rattle.std.specs.Option.{option_map_or}
 use Rattle.std.proofs.lemmas.List.{append_assoc}
@@ -32,7 +35,7 @@ use Rattle.mt_output.specs.Lines.{accepted_line, refused_line}
 use Rattle.mt_script.proofs.Good.{none_ends}
 use Rattle.mt_replay.specs.FirstFault.{first_fault}
 use Rattle.mt_replay.specs.Headline.{Beginning, ReplaysAreOfTheCourse, Step, StepsFollow, TranscriptIsOfTheCourse, TranscriptIsOneLine, beginning, begins_at_command, begins_at_line, begins_from, begins_in_dump, begins_shown, begins_unless, begins_with, course, ending, joined, last_of, left, steps_in, steps_of}
-use Rattle.mt_replay.specs.Kept.{IsReplayState}
+use Rattle.mt_replay.specs.Kept.{IsReplayState, start_like, start_of, windows_of}
 use Rattle.mt_replay.specs.ReplayState.{ReplayState, command_text, state_after}
 use Rattle.mt_replay.specs.Running.{ReplaysAs}
 use Rattle.mt_replay.specs.Transcript.{Told, behind, told, told_at_end, told_command, told_dump_line, told_file, told_from, told_head_command, told_head_line, told_in, told_offence, told_shown, told_unless, transcript}
@@ -112,6 +115,7 @@ pub record Begins (end : Place) (first : Option Offence) (telling : Told) (b : B
   pub is : IsReplayState b.state
   pub no_order : b.state.machine.order ≡ None
   pub windows : takes_windows b.state.now.stage ≡ true
+  pub plain : (f : RegisterFile) → b.state.now.file ≡ Some f → start_like b.state f ≡ start_of b.state.now f  -- no processor is self-snooping yet
   pub follows : first ≡ offence_in end b.number b.lines b.state.now []
   pub tells : telling ≡ behind accepted_line (told_in end b.number b.lines b.state)
 
@@ -133,7 +137,15 @@ module _ (end : Place) (number : ℕ) (line : List ℕ) (lines : List (List ℕ)
       → Leads end (offence_in end (number + 1) lines (finished now file) []) (told_file now file (told_in end (number + 1) lines) fault) (begins_with now file (number + 1) lines fault)
   file_leads dump file good (Some fault) first = inr (fault, refl)
   file_leads dump file good None first =
-      record { is = first_kept now file is dump good (accepted_of file first); no_order = refl; windows = refl; follows = refl; tells = refl }
+      record {
+        is = first_kept now file is dump good (accepted_of file first);
+        no_order = refl;
+        windows = refl;
+        plain = λ f same. let e : file ≡ f = cc same in
+            subst (λ (g : RegisterFile). start_with (flags_of (start_machine now.cpus file []).system) g (windows_of now) ≡ start_machine now.cpus g (windows_of now)) e (no_flag_is_the_start now.cpus file (windows_of now));
+        follows = refl;
+        tells = refl;
+      }
 
   shown_leads : is_in_dump now.stage ≡ true → (found : Option RegisterFile) → file_in before ≡ found → offence_at_end (place_of number (words_of line) 0) (onto before []) ≡ None
       → Leads end (dump_ends now before found (offence_in end (number + 1) lines)) (told_shown now before (told_in end (number + 1) lines) found) (begins_shown now before (number + 1) lines found)

@@ -1,5 +1,8 @@
 -- Each command keeps a flat machine beside the machine.
 use Rattle.std.proofs.Common.{◌≡◌, ◌∙◌, ap, sym, refl, subst, ℕ, Bool, true, false, if◌then◌else◌, List, [], ◌∷◌, ◌++◌, length, Option, None, Some, slice_get}
+use Rattle.std.specs.Prelude.{map}
+use Rattle.mt_replay.proofs.Keeping.Snooping.{snooped_start}
+use Rattle.mt_laws.specs.Kept.{flags_of}
 use Rattle.std.specs.Option.{option_map_or}
 use Rattle.mt_regs.specs.RegisterFile.{RegisterFile}
 use Rattle.mt_machine.specs.declared.op.Op.{Op}
@@ -10,20 +13,20 @@ use Rattle.mt_machine.specs.declared.control.Control.TheVariants as control_of
 use Rattle.mt_machine.specs.declared.event.Event.{Event}
 use Rattle.mt_machine.specs.declared.go.Go.TheVariants.{Pending}
 use Rattle.mt_machine.specs.Memory.{Window}
-use Rattle.mt_machine.specs.System.{Processor, System, now}
+use Rattle.mt_machine.specs.System.{Processor, System, now, buffers_of}
 use Rattle.mt_machine.specs.Machine.{Accesses, Calls, Cancels, Controls, FitsControl, FitsOp, Goes, IsEnabled, Machine, MachineEvent, Steps, due_at, go_of, next}
-use Rattle.mt_machine.specs.Start.{start_machine}
+use Rattle.mt_machine.specs.Start.{start_with}
 use Rattle.mt_machine.specs.Update.{updated}
 use Rattle.mt_laws.proofs.Barrier.Acting.{access_busy, control_busy}
 use Rattle.mt_ram.specs.Windows.{window}
-use Rattle.mt_core.specs.Arises.{Arises, grown}
+use Rattle.mt_core.specs.Arises.{Arises, grown, snooped}
 use Rattle.mt_core.specs.Steps.{step_after}
 use Rattle.mt_core.specs.declared.fault.CallFault.{CallFault}
 use Rattle.mt_core.proofs.Arising.{runs_or_rests}
 use Rattle.mt_core.proofs.Settling.{is_quiet_without_order}
 use Rattle.mt_core.proofs.Stepping.{is_sound}
 use Rattle.mt_flat.specs.Flat.{Flat}
-use Rattle.mt_flat.specs.Seen.{IsFlatOf, flat_after, flat_takes, given_access}
+use Rattle.mt_flat.specs.Seen.{IsFlatOf, flat_after, flat_takes, given_access, written_of}
 use Rattle.mt_flat.proofs.Seeing.{events_keep_flat, start_is_flat}
 use Rattle.mt_flat.proofs.Updating.{updated_is_flat}
 use Rattle.mt_script.specs.Accept.{Fits}
@@ -107,12 +110,23 @@ beside_end s f h r = one (is_update s.now.stage)
 
 -- ---- windows, at the start, where each word is zero
 
-beside_window : (count : ℕ) (file : RegisterFile) (ws : List Window) (w : Window) (m : Machine) (f : Flat) → m ≡ start_machine count file ws → IsBeside m f → IsBeside (grown w m) f
-beside_window count file ws w m f is r = record {
+beside_window : (flags : List Bool) (file : RegisterFile) (ws : List Window) (w : Window) (m : Machine) (f : Flat) → m ≡ start_with flags file ws → IsBeside m f → IsBeside (grown w m) f
+beside_window flags file ws w m f is r = record {
   values = λ a whole.
-      ap (λ (n : Machine). now (grown w n).system a) is ∙ ap (λ (n : Machine). now n.system a) (grown_start count file ws w) ∙ (start_is_flat count file (ws ++ w ∷ [])).values a whole
-      ∙ sym ((start_is_flat count file ws).values a whole) ∙ ap (λ (n : Machine). now n.system a) (sym is) ∙ r.values a whole;
+      ap (λ (n : Machine). now (grown w n).system a) is ∙ ap (λ (n : Machine). now n.system a) (grown_start flags file ws w) ∙ (start_is_flat flags file (ws ++ w ∷ [])).values a whole
+      ∙ sym ((start_is_flat flags file ws).values a whole) ∙ ap (λ (n : Machine). now n.system a) (sym is) ∙ r.values a whole;
   pending = r.pending;
+}
+
+-- two starts show the same
+beside_start : (cs bs : List Bool) (file : RegisterFile) (ws : List Window) (n m : Machine) (f : Flat) → n ≡ start_with cs file ws → m ≡ start_with bs file ws → IsBeside m f → IsBeside n f
+beside_start cs bs file ws n m f new is r = record {
+  values = λ a whole.
+      ap (λ (x : Machine). now x.system a) new ∙ (start_is_flat cs file ws).values a whole
+      ∙ sym ((start_is_flat bs file ws).values a whole) ∙ ap (λ (x : Machine). now x.system a) (sym is) ∙ r.values a whole;
+  pending = λ k.
+      r.pending k ∙ ap (λ (x : Machine). map written_of (buffers_of x.system k)) is ∙ sym ((start_is_flat bs file ws).pending k)
+      ∙ (start_is_flat cs file ws).pending k ∙ ap (λ (x : Machine). map written_of (buffers_of x.system k)) (sym new);
 }
 
 -- ---- commands
@@ -120,7 +134,11 @@ beside_window count file ws w m f is r = record {
 pub command_beside : (s : ReplayState) (c : Command) (f : Flat) → IsReplayState s → Fits s.now c → IsBeside s.machine f → IsBeside (machine_after s c) (flat_command s c f)
 command_beside s (command.Ram base lines) f h fits r =
     let file = file_of s.now h.situation h.past in
-    beside_window s.now.cpus file.0 (windows_of s.now) (window base lines) s.machine f (h.fresh file.0 file.1 fits.0).1 r
+    beside_window (flags_of s.machine.system) file.0 (windows_of s.now) (window base lines) s.machine f (h.fresh file.0 file.1 fits.0).1 r
+command_beside s (command.Selfsnoop k) f h fits r =
+    let file = file_of s.now h.situation h.past in
+    let fresh = (h.fresh file.0 file.1 fits.0).1 in
+    beside_start (flags_of (snooped k s.machine).system) (flags_of s.machine.system) file.0 (windows_of s.now) (snooped k s.machine) s.machine f (snooped_start k s.machine file.0 (windows_of s.now) fresh) fresh r
 command_beside s (command.Load k address) f h fits r = beside_access s.machine k (op.Load address) f h.arises r fits.1
 command_beside s (command.Store k address value) f h fits r = beside_access s.machine k (op.Store address value) f h.arises r (fits.1, fits.2)
 command_beside s (command.Fence k) f h fits r = beside_access s.machine k op.Fence f h.arises r tt

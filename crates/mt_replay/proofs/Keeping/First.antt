@@ -1,5 +1,6 @@
 -- The first state, after the dump.
-use Rattle.std.proofs.Common.{◌≡◌, ap, sym, refl, subst, arith, inl, ℕ, true, []}
+use Rattle.std.proofs.Common.{◌≡◌, ap, sym, refl, subst, arith, inl, ℕ, true, [], ◌∙◌}
+use Rattle.mt_laws.specs.Kept.{flags_of}
 use Rattle.std.specs.Prelude.{map}
 use Rattle.std.specs.List.{All}
 use Rattle.std.proofs.lemmas.List.{length-replicate}
@@ -9,15 +10,15 @@ use Rattle.mt_regs.specs.Faults.{IsAccepted}
 use Rattle.mt_machine.specs.Memory.{IsMemory}
 use Rattle.mt_machine.specs.System.{start_processor}
 use Rattle.mt_machine.specs.Machine.{FitsGoal, Machine, Reached, at_start}
-use Rattle.mt_machine.specs.Start.{IsQuiet, start_machine, zero_memory}
-use Rattle.mt_laws.proofs.Invariant.Starts.{nothing, start_is_quiet}
+use Rattle.mt_machine.specs.Start.{IsQuiet, start_machine, zero_memory, start_with}
+use Rattle.mt_laws.proofs.Invariant.Starts.{nothing, start_is_quiet, no_flag_is_the_start}
 use Rattle.mt_ram.specs.Windows.{window}
 use Rattle.mt_core.specs.Arises.{from_start}
 use Rattle.mt_script.specs.Situation.{Situation}
 use Rattle.mt_script.specs.Kept.{IsSituation}
 use Rattle.mt_script.specs.Stages.{is_in_dump}
 use Rattle.mt_script.proofs.Keeping.{finished_is, not_past_in_dump}
-use Rattle.mt_replay.specs.Kept.{IsReplayState, start_of, windows_of}
+use Rattle.mt_replay.specs.Kept.{IsReplayState, windows_of}
 use Rattle.mt_replay.specs.ReplayState.{first_state}
 
 no_windows : IsMemory (zero_memory [])
@@ -41,7 +42,8 @@ pub first_kept : (now : Situation) (f : RegisterFile) → IsSituation now → is
 first_kept now f is dump good accepted =
     let quiet = bare_is_quiet now.cpus f good accepted in
     let none : [] ≡ windows_of now = ap (map (λ (w : ℕ × ℕ). window w.0 w.1)) (sym (is.early (not_past_in_dump now.stage dump))) in
-    let started : (g : RegisterFile) → f ≡ g → start_machine now.cpus f [] ≡ start_of now g = λ g e. (λ i. start_machine now.cpus (e i) (none i)) in
+    let started : (g : RegisterFile) → f ≡ g → start_machine now.cpus f [] ≡ start_with (flags_of (start_machine now.cpus f []).system) g (windows_of now) =
+    λ g e. sym (no_flag_is_the_start now.cpus f []) ∙ (λ i. start_with (flags_of (start_machine now.cpus f []).system) (e i) (none i)) in
     record {
       situation = finished_is now is f dump good;
       past = refl;

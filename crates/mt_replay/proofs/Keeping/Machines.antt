@@ -1,5 +1,7 @@
 -- What events, windows and updates leave of a machine that a state has.
 use Rattle.std.proofs.Common.{◌≡◌, ◌∙◌, ap, sym, refl, subst, ℕ, Bool, true, false, if◌then◌else◌, List, Option, None, Some, slice_get, inl, arith}
+use Rattle.mt_laws.proofs.Invariant.Flags.{flags_stay, updated_keeps_flags}
+use Rattle.mt_laws.specs.Kept.{flags_of}
 use Rattle.std.specs.Prelude.{map}
 use Rattle.std.specs.Option.{option_map, option_map_or}
 use Rattle.std.specs.List.{All}
@@ -41,9 +43,10 @@ pub record Follows (m n : Machine) : Type 0 where
   pub risen : HasRisenByOne m.system n.system
   pub fits : (f : RegisterFile) → All (FitsGoal f) m.system.processors → All (FitsGoal f) n.system.processors
   pub windows : n.system.memory.windows ≡ m.system.memory.windows
+  pub flags : flags_of n.system ≡ flags_of m.system
 
 pub follows_same : (m : Machine) → Arises m → Follows m m
-follows_same m a = record { arises = a; reached = λ p r. r; risen = risen_same m.system m.system.memory; fits = λ f all. all; windows = refl }
+follows_same m a = record { arises = a; reached = λ p r. r; risen = risen_same m.system m.system.memory; fits = λ f all. all; windows = refl; flags = refl }
 
 pub follows_event : (m : Machine) (e : MachineEvent) → Arises m → IsEnabled m e → Follows m (next m e)
 follows_event m e a enabled =
@@ -55,6 +58,7 @@ follows_event m e a enabled =
       risen = eras_rise m e enabled;
       fits = λ f. fits_next f m e;
       windows = (standing_next ws (aligned_all ws st.0.aligned) m e enabled st.1).agrees.stands.memory.windows;
+      flags = flags_stay m e;
     }
 
 -- ---- accesses and control instructions, which change nothing where the processor is in an update
@@ -126,4 +130,5 @@ follows_update m goal a enabled =
       risen = updated_risen m goal ks;
       fits = λ f. updated_fits f goal m.system.processors enabled.3;
       windows = refl;
+      flags = updated_keeps_flags m.system ks goal;
     }

@@ -1,5 +1,9 @@
 -- Each command that fits keeps what every state keeps.
 use Rattle.std.proofs.Common.{◌≡◌, ◌≢◌, ◌∙◌, ap, sym, refl, subst, arith, ℕ, ◌-◌, ◌/◌, ◌%◌, ◌^◌, ◌<◌, ◌≤◌, Bool, true, false, if◌then◌else◌, List, [], ◌∷◌, ◌++◌, Option, None, Some, slice_get, Ok}
+use Rattle.mt_replay.proofs.Keeping.Snooping.{snooped_risen, snooped_start}
+use Rattle.mt_laws.proofs.Invariant.Snooping.{each_snooping, snooping_stays_quiet}
+use Rattle.mt_laws.proofs.Barrier.Still.{change_memory}
+use Rattle.mt_laws.specs.Kept.{flags_of}
 use Rattle.std.specs.Prelude.{IfSome, is_some, map}
 use Rattle.std.specs.Option.{option_map, option_map_or}
 use Rattle.std.specs.List.{All}
@@ -15,14 +19,14 @@ use Rattle.mt_machine.specs.declared.op.Op.{Op}
 use Rattle.mt_machine.specs.declared.op.Op.TheVariants as op
 use Rattle.mt_machine.specs.declared.control.Control.{Control}
 use Rattle.mt_machine.specs.declared.control.Control.TheVariants as control_of
-use Rattle.mt_machine.specs.Memory.{Window}
-use Rattle.mt_machine.specs.System.{IsProcessor, Processor}
+use Rattle.mt_machine.specs.Memory.{Window, Memory}
+use Rattle.mt_machine.specs.System.{IsProcessor, Processor, snooping}
 use Rattle.mt_machine.specs.Machine.{Accesses, Calls, Cancels, Controls, FitsControl, FitsGoal, FitsOp, Goes, IsEnabled, Machine, Order, Reached, at_start, next}
-use Rattle.mt_machine.specs.Start.{IsQuiet, start_machine}
+use Rattle.mt_machine.specs.Start.{IsQuiet, start_machine, start_with}
 use Rattle.mt_machine.specs.Update.{updated}
 use Rattle.mt_laws.proofs.Barrier.Claims.{all_get, all_of}
 use Rattle.mt_ram.specs.Windows.{window, with_window}
-use Rattle.mt_core.specs.Arises.{by_window, grown}
+use Rattle.mt_core.specs.Arises.{by_window, grown, by_snooping, snooped}
 use Rattle.mt_core.specs.Steps.{step_after}
 use Rattle.mt_core.specs.declared.fault.CallFault.{CallFault}
 use Rattle.mt_core.specs.declared.fault.CallFault.TheVariants.{Refused, UnderWay}
@@ -40,7 +44,7 @@ use Rattle.mt_script.specs.Commands.{command_of}
 use Rattle.mt_script.proofs.Fitting.{command_fits}
 use Rattle.mt_script.proofs.Keeping.{accepted_is}
 use Rattle.mt_replay.specs.FirstFault.{first_fault}
-use Rattle.mt_replay.specs.Kept.{CommandsKeep, IsReplayState, start_of, windows_of}
+use Rattle.mt_replay.specs.Kept.{CommandsKeep, IsReplayState, start_of, windows_of, start_like}
 use Rattle.mt_replay.specs.ReplayState.{ReplayState, after_call, after_update, after_word, call_fault, each_processor, first_file, is_update, machine_after, mapping, state_after, with_register}
 use Rattle.mt_replay.proofs.FirstFault.{first_fault_is_first}
 use Rattle.mt_replay.proofs.Keeping.Kinds.{fits_with_value}
@@ -82,9 +86,9 @@ file_of now is past = one now.file refl (is.has_file ∙ past) is.file
     one None same some file = absurd (cc some)
     one (Some f) same some file = (f, same, file)
 
--- the start stays the same while no window is added
-same_start : (now was : Situation) (f : RegisterFile) → now.cpus ≡ was.cpus → now.windows ≡ was.windows → start_of was f ≡ start_of now f
-same_start now was f cpus windows = λ i. start_machine (sym cpus i) f (map (λ (w : ℕ × ℕ). window w.0 w.1) (sym windows i))
+-- the start stays the same while no window is added, and no processor becomes self-snooping
+same_start : (now was : Situation) (m n : Machine) (f : RegisterFile) → now.windows ≡ was.windows → flags_of n.system ≡ flags_of m.system → start_with (flags_of m.system) f (windows_of was) ≡ start_with (flags_of n.system) f (windows_of now)
+same_start now was m n f windows flags = λ i. start_with (sym flags i) f (map (λ (w : ℕ × ℕ). window w.0 w.1) (sym windows i))
 
 -- with the same windows, and no window to come
 state_on : (s : ReplayState) (now : Situation) (n : Machine) (goal : RegisterFile) → IsReplayState s → IsSituation now → is_past_dump now.stage ≡ true
@@ -99,8 +103,8 @@ state_on s now n goal h is past cpus file windows none follows good fits = recor
   goal_file = good;
   goal = follows.fits goal fits;
   windows = follows.windows ∙ h.windows ∙ ap windows_in (sym windows);
-  quiet = λ f same. subst IsQuiet (same_start now s.now f cpus windows) (h.quiet f (sym file ∙ same));
-  reached = λ f same. subst (λ (m : Machine). Reached m n) (same_start now s.now f cpus windows) (follows.reached (start_of s.now f) (h.reached f (sym file ∙ same)));
+  quiet = λ f same. subst IsQuiet (same_start now s.now s.machine n f windows follows.flags) (h.quiet f (sym file ∙ same));
+  reached = λ f same. subst (λ (m : Machine). Reached m n) (same_start now s.now s.machine n f windows follows.flags) (follows.reached (start_like s f) (h.reached f (sym file ∙ same)));
   fresh = λ f same takes. absurd (none takes);
 }
   where
@@ -220,10 +224,10 @@ module _ (s : ReplayState) (h : IsReplayState s) where
       let memory = room_memory s.now file.0 s.machine.system.memory base lines file.1 file.2 (stands h.arises).0 h.windows some aligned room in
       let together : s.machine.system.memory.windows ++ window base lines ∷ [] ≡ windows_of (accepted s.now (command.Ram base lines)) =
       ap (λ ws. ws ++ window base lines ∷ []) h.windows ∙ sym (windows_then s.now base lines) in
-      let started : (f : RegisterFile) → s.now.file ≡ Some f → grown (window base lines) s.machine ≡ start_of (accepted s.now (command.Ram base lines)) f =
+      let started : (f : RegisterFile) → s.now.file ≡ Some f → grown (window base lines) s.machine ≡ start_with (flags_of s.machine.system) f (windows_of (accepted s.now (command.Ram base lines))) =
       λ f same.
-      ap (grown (window base lines)) (h.fresh f same windows).1 ∙ grown_start s.now.cpus f (windows_of s.now) (window base lines)
-      ∙ ap (start_machine s.now.cpus f) (sym (windows_then s.now base lines)) in
+      ap (grown (window base lines)) (h.fresh f same windows).1 ∙ grown_start (flags_of s.machine.system) f (windows_of s.now) (window base lines)
+      ∙ ap (start_with (flags_of s.machine.system) f) (sym (windows_then s.now base lines)) in
       record {
         situation = is;
         past = h.past;
@@ -235,8 +239,31 @@ module _ (s : ReplayState) (h : IsReplayState s) where
         windows = together;
         quiet = λ f same.
             let good : IsRegisterFile f = subst (λ (o : Option RegisterFile). IfSome o IsRegisterFile) same h.situation.file in
-            memory_is_quiet s.now.cpus f (with_window (window base lines) s.machine.system.memory) (windows_of (accepted s.now (command.Ram base lines))) memory together good (h.fresh f same windows).0;
-        reached = λ f same. subst (Reached (start_of (accepted s.now (command.Ram base lines)) f)) (sym (started f same)) at_start;
+            memory_is_quiet (flags_of s.machine.system) f (with_window (window base lines) s.machine.system.memory) (windows_of (accepted s.now (command.Ram base lines))) memory together good (h.fresh f same windows).0;
+        reached = λ f same. subst (Reached (start_with (flags_of s.machine.system) f (windows_of (accepted s.now (command.Ram base lines))))) (sym (started f same)) at_start;
+        fresh = λ f same takes. ((h.fresh f same windows).0, started f same);
+      }
+
+  -- a processor that becomes self-snooping before the first command
+  snoops : (k : ℕ) → takes_windows s.now.stage ≡ true → IsReplayState (state_after s (command.Selfsnoop k))
+  snoops k windows =
+      let file = file_of s.now h.situation h.past in
+      let fresh : (f : RegisterFile) → s.now.file ≡ Some f → s.machine ≡ start_like s f = λ f same. (h.fresh f same windows).1 in
+      let none : s.machine.order ≡ None = ap (λ (m : Machine). m.order) (fresh file.0 file.1) in
+      let fits : (f : RegisterFile) → All (FitsGoal f) s.machine.system.processors → All (FitsGoal f) (snooped k s.machine).system.processors =
+      λ f all. each_snooping (FitsGoal f) (λ p c. record { width = c.width; capabilities = c.capabilities }) k s.machine.system all in
+      let started : (f : RegisterFile) → s.now.file ≡ Some f → snooped k s.machine ≡ start_like (state_after s (command.Selfsnoop k)) f = λ f same. snooped_start k s.machine f (windows_of s.now) (fresh f same) in
+      record {
+        situation = h.situation;
+        past = h.past;
+        arises = by_snooping k h.arises none;
+        count = (snooped_risen k s.machine.system).same_number ∙ h.count;
+        kind = λ f same. fits f (h.kind f same);
+        goal_file = h.goal_file;
+        goal = fits s.goal h.goal;
+        windows = ap (λ (m : Memory). m.windows) (change_memory snooping k s.machine.system) ∙ h.windows;
+        quiet = λ f same. subst IsQuiet (started f same) (snooping_stays_quiet s.machine k (subst IsQuiet (sym (fresh f same)) (h.quiet f same)));
+        reached = λ f same. subst (λ (m : Machine). Reached m (snooped k s.machine)) (started f same) at_start;
         fresh = λ f same takes. ((h.fresh f same windows).0, started f same);
       }
 
@@ -244,6 +271,7 @@ module _ (s : ReplayState) (h : IsReplayState s) where
   kept (command.Cpus n) fits is = absurd (not_cpus s.now.stage h.past fits.0)
   kept command.Dump fits is = absurd (not_dump s.now.stage h.past fits)
   kept (command.Ram base lines) fits is = grows base lines fits.0 fits.1 (omega (arith, fits.2)) fits.4 is
+  kept (command.Selfsnoop k) fits is = snoops k fits.0
   kept (command.Load k address) fits is = accesses k (op.Load address) fits.1 is
   kept (command.Store k address value) fits is = accesses k (op.Store address value) (fits.1, fits.2) is
   kept (command.Fence k) fits is = accesses k op.Fence tt is

@@ -16,7 +16,7 @@ use Rattle.mt_core.specs.Steps.{pause, pause_at, step_after, step_answer}
 use Rattle.mt_core.specs.declared.stepped.Stepped.TheVariants.{Did, NoUpdate, Waits}
 use Rattle.mt_core.proofs.Settling.{settled_from_release}
 use Rattle.mt_script.specs.declared.command.Command.TheVariants as command
-use Rattle.mt_replay.specs.Kept.{start_of}
+use Rattle.mt_replay.specs.Kept.{start_like}
 use Rattle.mt_replay.specs.ReplayState.{state_after}
 use Rattle.mt_replay.specs.Statuses.{ReleasedStatesSettle, ReleasedWordsAreHeld, state_after_all, stored_by_all}
 use Rattle.mt_replay.proofs.Keeping.States.{state_kept}
@@ -73,7 +73,7 @@ released_states_settle s k since h fits released without =
 pub released_words_are_held : ReleasedWordsAreHeld
 released_words_are_held s f o k since h file fits released order none without =
     let due = answered_due s.machine k Release released in
-    let start = start_of s.now f in
+    let start = start_like s f in
     let last : Machine = (state_after_all (state_after s (command.Step k)) since).machine in
     let words : List ℕ = stored_by_all (state_after s (command.Step k)) since in
     let after : step_after s.machine k ≡ next s.machine (Steps k Release) = ap (λ (o : Option Event). option_map_or (λ e. next s.machine (Steps k e)) o s.machine) due in

@@ -80,6 +80,7 @@ end_moves s some = one (call_fault s.machine s.goal) refl some
 -- windows come before all other commands
 moves : (s : ReplayState) (c : Command) → IsReplayState s → Fits s.now c → (c ≡ command.End → IsSome (call_fault s.machine s.goal)) → takes_windows s.now.stage ≡ false → Moves s.machine (machine_after s c) (stored_by s c)
 moves s (command.Ram base lines) h fits calls past = absurd (let takes = fits.0 in cc (takes, past))
+moves s (command.Selfsnoop k) h fits calls past = absurd (let takes = fits.0 in cc (takes, past))
 moves s (command.Load k address) h fits calls past = access_moves s.machine k (op.Load address) fits.1
 moves s (command.Store k address value) h fits calls past = access_moves s.machine k (op.Store address value) (fits.1, fits.2)
 moves s (command.Fence k) h fits calls past = access_moves s.machine k op.Fence tt
@@ -97,6 +98,7 @@ moves s other h fits calls past = inl (refl, refl)
 
 pub stays_past : (now : Situation) (c : Command) → takes_windows now.stage ≡ false → takes_windows (accepted now c).stage ≡ false
 stays_past now (command.Ram base lines) past = past
+stays_past now (command.Selfsnoop k) past = past
 stays_past now command.Blank past = past
 stays_past now command.DumpLine past = past
 stays_past now (command.Register number value) past = past

@@ -3,7 +3,7 @@ ghost use Rattle.mt_machine.specs.declared.control.Control.TheVariants.{Cd, Pge}
 ghost use Rattle.mt_machine.specs.declared.go.Go.TheVariants.{Given};
 ghost use Rattle.mt_machine.specs.declared.phase.Phase.TheVariants.{Taken};
 ghost use Rattle.mt_machine.specs.Machine.{Controls, go_of};
-ghost use Rattle.mt_machine.specs.WorkedRuns.{bare_file, begun, called, goal_of, idle, load, machine_of, own, palette, pending, store, walk};
+ghost use Rattle.mt_machine.specs.WorkedRuns.{bare_file, begun, called, flags, goal_of, idle, load, machine_of, own, palette, pending, store, walk};
 ghost use Rattle.mt_script.specs.declared.command.Command.TheVariants as asks;
 ghost use Rattle.mt_script.specs.declared.command.Stage.TheVariants as stage;
 ghost use Rattle.mt_replay.specs.ReplayState.{command_text, goal_after, machine_after};
@@ -36,6 +36,7 @@ pub fn worked_commands()
     ensures step { command_text (busy stage.Commands) (asks.Step 1) ≡ codes "take\n" }
     ensures no_step { command_text (resting stage.Commands) (asks.Step 1) ≡ codes "no update\n" }
     ensures waits { command_text (state_of stage.Commands (walk 2 0 (begun goal_of palette))) (asks.Step 0) ≡ stepped_line (bare_file 0x800) (Waits 1 3) }
+    ensures selfsnoop { command_text painted (asks.Selfsnoop 1) ≡ [] }
     ensures begin { command_text painted asks.Begin ≡ [] }
     ensures line_of_a_section { command_text painted (asks.Register 0x2ff 0x806) ≡ [] }
     ensures under_way { command_text (busy stage.InUpdate) asks.End ≡ codes "under way\n" }
@@ -45,6 +46,7 @@ pub fn worked_commands()
 
 /// What commands do to the machine, and to the goal of a section.
 pub fn worked_effects()
+    ensures selfsnoop { flags (machine_after (resting stage.Rams) (asks.Selfsnoop 1)) ≡ false ∷ true ∷ [] }
     ensures fence { pending (machine_after (painted_by (store 1 0x3000 7 ∷ [])) (asks.Fence 1)) 1 ≡ [] }
     ensures map { (own (machine_after (resting stage.Commands) (asks.Map 1 0x6123 0x200456 3 true)) 1).mappings ≡ record { vpage = 6; ppage = 0x200; index = 3; global = true } ∷ [] }
     ensures invlpg { length (own (machine_after (painted_by (load 0 0x1000 ∷ load 0 0x2000 ∷ [])) (asks.Invlpg 0 0x1abc)) 0).entries ≡ 1 }

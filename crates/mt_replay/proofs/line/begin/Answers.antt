@@ -1,4 +1,4 @@
-use Rattle.std.proofs.Common.{◌≡◌, ◌∙◌, inl, refl, subst, ℕ, List}
+use Rattle.std.proofs.Common.{◌≡◌, ◌∙◌, ap, inl, refl, subst, sym, ℕ, List, None, Some}
 use Rattle.mt_regs.proofs.FaultNumbers.{fault_number}
 use Rattle.mt_regs.specs.Faults.{IsAccepted, IsFirstFault}
 use Rattle.mt_output.specs.Lines.{refused_line}
@@ -6,6 +6,9 @@ use Rattle.mt_output.specs.Writing.{Adds}
 use Rattle.mt_ports.specs.declared.status.Status.TheVariants.{Refused}
 use Rattle.mt_replay.specs.Running.{in_head}
 use Rattle.mt_replay.proofs.Taking.{file_fails, file_goes, file_refused, from_file, takes_last}
+use Rattle.mt_replay.proofs.FirstFault.{is_first_fault}
+use Rattle.mt_replay.proofs.Sums.Last.{begins_refused}
+use Rattle.mt_replay.specs.declared.line.Run.TheVariants as run
 use Rattle.mt_replay.proofs.line.begin.Goals as goal
 
 pub refused_line-requires : goal.refused_line-requires
@@ -27,3 +30,12 @@ pub returns-in-Err-clause-bytes : goal.returns-in-Err-clause-bytes
 returns-in-Err-clause-bytes g c = λ number before.
     let accepted : IsAccepted c.args.file = subst (IsFirstFault c.args.file) c.in_default.is c.first_fault.ensures in
     file_fails c.args.setup c.args.file number c.args.writer.now c.accepted_line.result.now (g.K.Sink.taken c.args.sink.now) (g.K.Sink.taken c.write.new.sink) accepted c.accepted_line.ensures c.in-Err.ensures.bytes
+
+pub returns-in-Some-clause-state : goal.returns-in-Some-clause-state
+returns-in-Some-clause-state g c =
+    begins_refused c.args.setup c.args.file c.in-Some.fault c.args.run.now Refused c.tell.result c.tell.ensures.status (sym (is_first_fault c.args.file (Some c.in-Some.fault) c.in-Some.ensures)) c.requires.head
+
+pub returns-in-Ok-write-clause-state : goal.returns-in-Ok-write-clause-state
+returns-in-Ok-write-clause-state g c =
+    let accepted : IsAccepted c.args.file = subst (IsFirstFault c.args.file) c.in_default.is c.first_fault.ensures in
+    (sym (is_first_fault c.args.file None accepted), ap run.Body c.in-Ok.ensures)

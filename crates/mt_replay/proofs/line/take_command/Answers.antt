@@ -8,6 +8,8 @@ use Rattle.mt_script.specs.Commands.{command_of}
 use Rattle.mt_script.specs.declared.fault.Offence.TheVariants.{Script}
 use Rattle.mt_replay.specs.Running.{from_line, in_body}
 use Rattle.mt_replay.proofs.Taking.{command_eras, command_takes, fault_leads, takes_last}
+use Rattle.mt_replay.proofs.Sums.Last.{command_lasts, fault_lasts, last_told}
+use Rattle.mt_replay.specs.declared.line.Run.TheVariants as run
 use Rattle.mt_replay.proofs.line.take_command.Goals as goal
 
 pub returns-in-Ok-clause-bytes : goal.returns-in-Ok-clause-bytes
@@ -27,7 +29,19 @@ returns-in-Ok-clause-eras g c = λ most eras.
 pub returns-in-Err-clause-bytes : goal.returns-in-Err-clause-bytes
 returns-in-Err-clause-bytes g c =
     let is : command_of c.args.replayer.now.now c.args.line.now.number c.args.line.now.bytes.now ≡ Err c.in-Err.fault = search rules in
-    let line : c.as_slice.result.now ≡ offence_line (Script c.in-Err.fault) = c.as_slice.ensures.value ∙ c.offence_line.ensures in
-    takes_last (from_line c.args.line.now.number c.args.line.now.bytes.now (in_body c.args.replayer.now)) _ (in_body c.args.replayer.now) _ (offence_line (Script c.in-Err.fault)) c.args.writer.now c.tell.new.writer BadText
-    (g.K.Sink.taken c.args.sink.now) (g.K.Sink.taken c.tell.new.sink) c.tell.result (fault_leads c.args.replayer.now c.args.line.now.number c.args.line.now.bytes.now c.in-Err.fault is) (inr refl)
-    (subst (λ (l : List ℕ). Adds c.args.writer.now l c.tell.new.writer (g.K.Sink.taken c.args.sink.now) (g.K.Sink.taken c.tell.new.sink) c.tell.result) line c.tell.ensures.bytes) c.tell.ensures.status
+    takes_last (from_line c.args.line.now.number c.args.line.now.bytes.now (in_body c.args.replayer.now)) _ (in_body c.args.replayer.now) _ (offence_line (Script c.in-Err.fault)) c.args.writer.now c.tell_offence.new.writer BadText
+    (g.K.Sink.taken c.args.sink.now) (g.K.Sink.taken c.tell_offence.new.sink) c.tell_offence.result (fault_leads c.args.replayer.now c.args.line.now.number c.args.line.now.bytes.now c.in-Err.fault is) (inr refl)
+    c.tell_offence.ensures.bytes c.tell_offence.ensures.status
+
+pub returns-in-Ok-clause-last : goal.returns-in-Ok-clause-last
+returns-in-Ok-clause-last g c =
+    let is : command_of c.args.replayer.now.now c.args.line.now.number c.args.line.now.bytes.now ≡ Ok c.in-Ok.command = search rules in
+    let fits : Fits c.args.replayer.now.now c.in-Ok.command = subst (λ (now : Situation). Fits now c.in-Ok.command) c.setup.ensures c.in-Ok.ensures.fits in
+    command_lasts c.args.replayer.now c.do_command.new.replayer c.in-Ok.command c.args.line.now.number c.args.line.now.bytes.now c.is_replay_state.ensures fits is
+    c.args.writer.now c.do_command.new.writer (g.K.Sink.taken c.args.sink.now) (g.K.Sink.taken c.do_command.new.sink) c.do_command.result c.do_command.ensures.bytes
+
+pub returns-in-Err-clause-last : goal.returns-in-Err-clause-last
+returns-in-Err-clause-last g c =
+    let is : command_of c.args.replayer.now.now c.args.line.now.number c.args.line.now.bytes.now ≡ Err c.in-Err.fault = search rules in
+    last_told c.args.line.now.number c.args.line.now.bytes.now (in_body c.args.replayer.now) (run.Body c.args.replayer.now) BadText c.tell_offence.result c.tell_offence.ensures.status
+    (fault_lasts c.args.replayer.now c.args.line.now.number c.args.line.now.bytes.now c.in-Err.fault is)

@@ -8,7 +8,9 @@ use Rattle.mt_replay.specs.Running.{Point, Takes, from_line, in_head}
 use Rattle.mt_replay.specs.declared.line.Run.TheVariants as run
 use Rattle.mt_replay.proofs.Taking.{from_file, head_takes, in_the_head, takes_last, takes_same}
 use Rattle.mt_replay.proofs.Walks.{head_leads}
-use Rattle.mt_replay.proofs.line.take_line.Goals as goal
+use Rattle.mt_replay.specs.Summing.{Lasts, LastsOn}
+use Rattle.mt_replay.proofs.Sums.Last.{head_goes_on, head_offends, head_shows, last_told}
+use Rattle.mt_replay.proofs.line.take_in_head.Goals as goal
 
 pub returns-in-Ok-None-clause-bytes : goal.returns-in-Ok-None-clause-bytes
 returns-in-Ok-None-clause-bytes g c = λ was at.
@@ -40,11 +42,34 @@ pub returns-in-Err-clause-bytes : goal.returns-in-Err-clause-bytes
 returns-in-Err-clause-bytes g c = λ was at.
     let (before, read, is) = in_the_head c.args.run.now c.in-Head.head was c.in-Head.is at in
     let step = c.in-Err.ensures.step before read in
-    let line : c.as_slice.result.now ≡ offence_line c.in-Err.offence = c.as_slice.ensures.value ∙ c.offence_line.ensures in
     subst
-    (λ (p : Point). Takes (from_line c.args.line.now.number c.args.line.now.bytes.now p) (c.args.line.now.number + 1) p (run.Head c.take.new.self) c.args.writer.now c.tell.new.writer (g.K.Sink.taken c.args.sink.now) (g.K.Sink.taken c.tell.new.sink) c.tell.result)
+    (λ (p : Point). Takes (from_line c.args.line.now.number c.args.line.now.bytes.now p) (c.args.line.now.number + 1) p (run.Head c.take.new.self) c.args.writer.now c.tell_offence.new.writer (g.K.Sink.taken c.args.sink.now) (g.K.Sink.taken c.tell_offence.new.sink) c.tell_offence.result)
     (sym is)
-    (takes_last (from_line c.args.line.now.number c.args.line.now.bytes.now (in_head c.in-Head.head.setup before)) (c.args.line.now.number + 1) (in_head c.in-Head.head.setup before) (run.Head c.take.new.self) (offence_line c.in-Err.offence) c.args.writer.now c.tell.new.writer BadText
-    (g.K.Sink.taken c.args.sink.now) (g.K.Sink.taken c.tell.new.sink) c.tell.result
+    (takes_last (from_line c.args.line.now.number c.args.line.now.bytes.now (in_head c.in-Head.head.setup before)) (c.args.line.now.number + 1) (in_head c.in-Head.head.setup before) (run.Head c.take.new.self) (offence_line c.in-Err.offence) c.args.writer.now c.tell_offence.new.writer BadText
+    (g.K.Sink.taken c.args.sink.now) (g.K.Sink.taken c.tell_offence.new.sink) c.tell_offence.result
     (head_leads c.in-Head.head.setup before c.args.line.now.number c.args.line.now.bytes.now read.clean (offends c.in-Err.offence) step) (inr refl)
-    (subst (λ (l : List ℕ). Adds c.args.writer.now l c.tell.new.writer (g.K.Sink.taken c.args.sink.now) (g.K.Sink.taken c.tell.new.sink) c.tell.result) line c.tell.ensures.bytes) c.tell.ensures.status)
+    c.tell_offence.ensures.bytes c.tell_offence.ensures.status)
+
+pub returns-in-Ok-None-clause-last : goal.returns-in-Ok-None-clause-last
+returns-in-Ok-None-clause-last g c = λ was at.
+    let (before, read, is) = in_the_head c.args.run.now c.in-Head.head was c.in-Head.is at in
+    let (after, holds, step) = rw c.in-Ok-None.field-0-is at (c.in-Ok-None.ensures.step before read) in
+    subst (λ (p : Point). LastsOn c.args.line.now.number c.args.line.now.bytes.now p (run.Head c.take.new.self)) (sym is)
+    (head_goes_on c.in-Head.head.setup before read.clean c.args.line.now.number c.args.line.now.bytes.now c.take.new.self.setup after (run.Head c.take.new.self) step (refl, holds))
+
+pub returns-in-Ok-Some-clause-last : goal.returns-in-Ok-Some-clause-last
+returns-in-Ok-Some-clause-last g c = λ was at.
+    let (before, read, is) = in_the_head c.args.run.now c.in-Head.head was c.in-Head.is at in
+    let (holds, step) = rw c.in-Ok-Some.field-0-is at (c.in-Ok-Some.ensures.step before read) in
+    let shown = rw c.in-Ok-Some.field-0-is at c.in-Ok-Some.ensures.shown in
+    let setup : c.replace-setup.result ≡ c.in-Head.head.setup = c.replace-setup.ensures.value ∙ shown.1 in
+    subst (λ (p : Point). Lasts c.args.line.now.number c.args.line.now.bytes.now p c.begin.new.run c.begin.result) (sym is)
+    (head_shows c.in-Head.head.setup before read.clean c.args.line.now.number c.args.line.now.bytes.now c.in-Ok-Some.file c.begin.new.run c.begin.result step c.replace-setup.result setup c.begin.ensures.state)
+
+pub returns-in-Err-clause-last : goal.returns-in-Err-clause-last
+returns-in-Err-clause-last g c = λ was at.
+    let (before, read, is) = in_the_head c.args.run.now c.in-Head.head was c.in-Head.is at in
+    let step = c.in-Err.ensures.step before read in
+    subst (λ (p : Point). Lasts c.args.line.now.number c.args.line.now.bytes.now p (run.Head c.take.new.self) c.tell_offence.result) (sym is)
+    (last_told c.args.line.now.number c.args.line.now.bytes.now (in_head c.in-Head.head.setup before) (run.Head c.take.new.self) BadText c.tell_offence.result c.tell_offence.ensures.status
+    (head_offends c.in-Head.head.setup before read.clean c.args.line.now.number c.args.line.now.bytes.now c.in-Err.offence (run.Head c.take.new.self) step refl))

@@ -1,0 +1,4 @@
+pub mod Last
+pub mod Lines
+pub mod Numbers
+pub mod Texts

@@ -1,0 +1,115 @@
+-- A summary's loop over the lines of a script.
+use Rattle.std.proofs.Common.{◌≡◌, ◌∙◌, ap, sym, refl, subst, arith, ℕ, ◌+◌, ◌^◌, ◌≤◌, ◌<◌, List, [], ◌∷◌, ◌++◌, append-nil, drop, None, Some}
+use Rattle.mt_text.specs.Text.{end_of, lines_of}
+use Rattle.mt_ports.specs.declared.status.Status.{Status}
+use Rattle.mt_ports.specs.declared.status.Status.TheVariants.{Done}
+use Rattle.mt_output.specs.Lines.{offence_line}
+use Rattle.mt_output.specs.Writing.{Passes}
+use Rattle.mt_script.specs.Situation.{at_start}
+use Rattle.mt_script.specs.Commands.{end_fault}
+use Rattle.mt_script.specs.declared.fault.ScriptFault.{ScriptFault}
+use Rattle.mt_script.specs.declared.fault.Offence.TheVariants.{Script}
+use Rattle.mt_replay.specs.Running.{Ends, GoesOn, IsAt, Point, from_line, in_body, in_head, setup_of, told_lines}
+use Rattle.mt_replay.specs.Summary.{last_state, summary, totals, updates_in}
+use Rattle.mt_replay.specs.Summing.{LastsHere, LastsOn, last_lines, no_totals, state_in, with_memory, with_text}
+use Rattle.mt_replay.specs.Transcript.{Told, behind, told, told_at_end, transcript}
+use Rattle.mt_replay.specs.declared.line.Run.{Run}
+use Rattle.mt_replay.specs.declared.line.Run.TheVariants as run
+use Rattle.mt_replay.specs.declared.summing.Totals.{Totals}
+use Rattle.mt_replay.proofs.Telling.{behind_both, none_known, none_told}
+use Rattle.mt_replay.proofs.Sums.Numbers.{IsWhole, both_whole, none_whole, texts_both, totals_are, updates_both}
+use Rattle.mt_replay.proofs.Sums.Texts.{Writes, alone, line_writes, offence_writes}
+
+-- The lines before a place of a script were taken, and what they write was counted.
+pub record Summed (source : List ℕ) (at number : ℕ) (now : Run) (t : Totals) : Type 0 where
+  pub text : List ℕ
+  pub point : Point
+  pub stands : IsAt now point
+  pub led : transcript source ≡ behind text (told_lines (Some (end_of source)) number (lines_of (drop at source)) point)
+  pub whole : IsWhole text
+  pub few : updates_in text ≤ at
+  pub counted : t ≡ with_text no_totals text
+  pub last_point : Point
+  pub last_stands : IsAt now last_point
+  pub last : last_state source ≡ last_lines number (lines_of (drop at source)) last_point
+
+pub starts : (source : List ℕ) (now : Run) → IsAt now (in_head at_start []) → Summed source 0 1 now no_totals
+starts source now stands = record {
+  text = [];
+  point = in_head at_start [];
+  stands = stands;
+  led = refl;
+  whole = none_whole;
+  few = omega arith;
+  counted = refl;
+  last_point = in_head at_start [];
+  last_stands = stands;
+  last = refl;
+}
+
+-- what waits behind a sink that takes nothing
+waits : (text waiting left : List ℕ) → waiting ≡ [] → Passes waiting text left (Some []) (Some []) → left ≡ text
+waits text waiting left none p = sym (ap (λ l. l ++ text) (sym none) ∙ p.cut ∙ ap (λ l. l ++ left) (sym p.taken))
+
+-- a text with its numbers, behind which nothing is told
+ended : (source text : List ℕ) (now : Run) (t : Totals) (rest : Told) → updates_in text < 2 ^ 64 → t ≡ with_text no_totals text → transcript source ≡ rest → rest.text ≡ text → last_state source ≡ state_in now
+    → with_memory t (state_in now) ≡ summary source
+ended source text now t rest few counted led is last =
+    totals_are text (state_in now) t few counted ∙ ap (λ l. totals l (state_in now)) (sym (ap (λ (x : Told). x.text) led ∙ is)) ∙ ap (totals (transcript source).text) (sym last)
+
+module _ (source : List ℕ) (at next number : ℕ) (bytes : List ℕ) (now : Run) (t : Totals) (h : Summed source at number now t) (cut : lines_of (drop at source) ≡ bytes ∷ lines_of (drop next source)) (waiting left : List ℕ) (none : waiting ≡ []) where
+  from_here : transcript source ≡ behind h.text (from_line number bytes h.point (Some (end_of source)) (lines_of (drop next source)))
+  from_here = h.led ∙ ap (λ ls. behind h.text (told_lines (Some (end_of source)) number ls h.point)) cut
+
+  module _ (later : Run) where
+    pub summed_on : GoesOn (from_line number bytes h.point) (number + 1) h.point later waiting left (Some []) (Some []) → LastsOn number bytes h.last_point later → at + 1 ≤ next → Summed source next (number + 1) later (with_text t left)
+    summed_on g lasts on =
+        let known : alone number bytes h.point ≡ behind g.text (told [] Done) = g.goes None [] ∙ ap (behind g.text) (none_known (number + 1) g.next) in
+        let writes : Writes 1 g.text = subst (Writes 1) (ap (λ (x : Told). x.text) known ∙ append-nil g.text) (line_writes number bytes now h.point h.stands) in
+        record {
+          text = h.text ++ g.text;
+          point = g.next;
+          stands = g.at;
+          led = from_here ∙ ap (behind h.text) (g.goes (Some (end_of source)) (lines_of (drop next source)))
+              ∙ behind_both h.text g.text (told_lines (Some (end_of source)) (number + 1) (lines_of (drop next source)) g.next);
+          whole = both_whole h.text g.text h.whole writes.whole;
+          few = omega (arith, updates_both h.text g.text h.whole, h.few, writes.few, on);
+          counted = ap (λ l. with_text t l) (waits g.text waiting left none g.passed) ∙ ap (λ (x : Totals). with_text x g.text) h.counted ∙ texts_both no_totals h.text g.text h.whole;
+          last_point = lasts.next;
+          last_stands = lasts.at;
+          last = h.last ∙ ap (λ ls. last_lines number ls h.last_point) cut ∙ lasts.same (lines_of (drop next source));
+        }
+
+    pub summed_ends : (status : Status) → Ends (from_line number bytes h.point) waiting left (Some []) (Some []) status → LastsHere number bytes h.last_point later → at + 1 < 2 ^ 64
+        → with_memory (with_text t left) (state_in later) ≡ summary source
+    summed_ends status e lasts low =
+        let writes : Writes 1 e.telling.text = subst (λ (x : Told). Writes 1 x.text) (e.stops None []) (line_writes number bytes now h.point h.stands) in
+        let counted : with_text t left ≡ with_text no_totals (h.text ++ e.telling.text) =
+        ap (λ l. with_text t l) (waits e.telling.text waiting left none e.passed) ∙ ap (λ (x : Totals). with_text x e.telling.text) h.counted ∙ texts_both no_totals h.text e.telling.text h.whole in
+        ended source (h.text ++ e.telling.text) later (with_text t left) (behind h.text e.telling) (omega (arith, updates_both h.text e.telling.text h.whole, h.few, writes.few, low)) counted
+        (from_here ∙ ap (behind h.text) (e.stops (Some (end_of source)) (lines_of (drop next source)))) refl (h.last ∙ ap (λ ls. last_lines number ls h.last_point) cut ∙ lasts (lines_of (drop next source)))
+
+-- no line is left
+module _ (source : List ℕ) (at number : ℕ) (now : Run) (t : Totals) (h : Summed source at number now t) (none : lines_of (drop at source) ≡ []) (low : at < 2 ^ 64) where
+  at_end : transcript source ≡ behind h.text (told_at_end (end_fault (setup_of now).stage (end_of source)))
+  at_end = h.led ∙ ap (λ ls. behind h.text (told_lines (Some (end_of source)) number ls h.point)) none ∙ ap (behind h.text) (none_told (end_of source) number now h.point h.stands)
+
+  state_left : (now : Run) (point : Point) → IsAt now point → last_lines number [] point ≡ state_in now
+  state_left (run.Head r) (in_head s before) stands = refl
+  state_left (run.Head r) (in_body s) stands = absurd stands
+  state_left (run.Body r) (in_head s before) stands = absurd stands
+  state_left (run.Body r) (in_body s) stands = ap Some (sym stands.0)
+
+  last_is : last_state source ≡ state_in now
+  last_is = h.last ∙ ap (λ ls. last_lines number ls h.last_point) none ∙ state_left now h.last_point h.last_stands
+
+  pub summed_done : end_fault (setup_of now).stage (end_of source) ≡ None → with_memory t (state_in now) ≡ summary source
+  summed_done good =
+      ended source h.text now t (behind h.text (told [] Done)) (omega (arith, h.few, low)) h.counted (at_end ∙ ap (λ f. behind h.text (told_at_end f)) good) (append-nil h.text) last_is
+
+  pub summed_bad : (fault : ScriptFault) → end_fault (setup_of now).stage (end_of source) ≡ Some fault → with_memory (with_text t (offence_line (Script fault))) (state_in now) ≡ summary source
+  summed_bad fault bad =
+      let text : List ℕ = offence_line (Script fault) in
+      let writes : Writes 0 text = offence_writes (Script fault) in
+      ended source (h.text ++ text) now (with_text t text) (behind h.text (told_at_end (Some fault))) (omega (arith, updates_both h.text text h.whole, h.few, writes.few, low))
+      (ap (λ (x : Totals). with_text x text) h.counted ∙ texts_both no_totals h.text text h.whole) (at_end ∙ ap (λ f. behind h.text (told_at_end f)) bad) refl last_is
