@@ -1,0 +1,72 @@
+-- What a run of `proc` keeps to.
+use Rattle.std.proofs.Common.{◌≡◌, ◌∙◌, ap, sym, refl, subst, inl, inr, arith, ℕ, ◌≤◌, ◌<◌, nat_lt, true, List, [], ◌++◌, length, None, Some, Err}
+use Rattle.std.specs.Prelude.{◌⊎◌}
+use Rattle.std.proofs.lemmas.Bool.Decides.{nat_tests}
+use Rattle.mt_ports.specs.declared.status.Status.TheVariants.{BadText, Done}
+use Rattle.mt_text.specs.declared.place.Place.{Place}
+use Rattle.mt_dump.specs.Line.{fault_at as dump_fault_at}
+use Rattle.mt_dump.specs.declared.fault.DumpReason.TheVariants as dump_reason
+use Rattle.mt_script.specs.declared.fault.Offence.TheVariants.{Dump}
+use Rattle.mt_output.specs.Lines.{offence_line}
+use Rattle.mt_stream.specs.Laws.{AreLaws, IsLongTold}
+use Rattle.mt_stream.specs.Told.{Telling, Told, told}
+use Rattle.mt_stream.proofs.KnownLines.{TellsLong, long_told}
+use Rattle.mt_proc.specs.declared.running.Run.{Run}
+use Rattle.mt_proc.specs.declared.running.Run.TheVariants as run
+use Rattle.mt_proc.specs.declared.request.ProcReason.TheVariants.{BadLine}
+use Rattle.mt_proc.specs.Proc.{Point, in_dump, in_requests, proc_end, proc_step, request_fault_line}
+use Rattle.mt_proc.specs.Requests.{fault_at}
+use Rattle.mt_proc.specs.Running.{HasCount, HasRoom, IsAt, IsEarly, IsQuiet, end_of_run, proc_running}
+
+-- the offence of a line too long
+abbrev pub long_offence : ℕ → Point → Told
+long_offence number (in_dump before) = told (offence_line (Dump (dump_fault_at dump_reason.BadLine (record { line = number; column = 4097 })))) BadText
+long_offence number (in_requests now) = told (request_fault_line (fault_at BadLine (record { line = number; column = 4097 }))) BadText
+
+long_step : (number : ℕ) (line : List ℕ) (p : Point) → 4096 < length line → proc_step number line p ≡ Err (long_offence number p)
+long_step number line (in_dump before) long =
+    let test : nat_lt 4096 (length line) ≡ true = grind (arith, nat_tests, long) in
+    rw test (rw test refl)
+long_step number line (in_requests now) long =
+    let test : nat_lt 4096 (length line) ≡ true = grind (arith, nat_tests, long) in
+    rw test refl
+
+long_is_bad : (number : ℕ) (p : Point) → (long_offence number p).status ≡ BadText
+long_is_bad number (in_dump before) = refl
+long_is_bad number (in_requests now) = refl
+
+pub tells_long : TellsLong proc_step long_offence
+tells_long = record { long = long_step; bad = long_is_bad }
+
+none_ends : (place : Place) (now : Run) (p : Point) → IsAt now p → proc_end place p ≡ end_of_run now place
+none_ends place (run.Dump reader) (in_dump before) at = refl
+none_ends place (run.Dump reader) (in_requests now) at = absurd at
+none_ends place (run.Requests m) (in_dump before) at = absurd at
+none_ends place (run.Requests m) (in_requests now) at = ap (λ s. proc_end place (in_requests s)) (sym at)
+
+ending : (now : Run) (place : Place) → ((end_of_run now place).status ≡ Done) ⊎ ((end_of_run now place).status ≡ BadText)
+ending (run.Dump reader) place = inr refl
+ending (run.Requests m) place = inl refl
+
+early_front : (now : Run) (text : List ℕ) → IsQuiet now text → IsEarly now → (rest : List ℕ) × ([] ≡ text ++ rest)
+early_front (run.Dump reader) text quiet early = ([], ap (λ (l : List ℕ). l ++ []) (sym quiet))
+early_front (run.Requests m) text quiet early = absurd early
+
+pub proc_laws : AreLaws proc_running []
+proc_laws = record {
+  long = λ now was number at. subst (λ (t : Telling). IsLongTold t number) (sym at.2) (long_told Point proc_step proc_end long_offence tells_long at.0 number);
+  unknown = λ now was number at. ap (λ (t : Telling). t None number []) at.2;
+  ended = λ now was place number at. ap (λ (t : Telling). t (Some place) number []) at.2 ∙ none_ends place now at.0 at.1;
+  ending = ending;
+  front = early_front;
+}
+
+-- ---- how many requests were carried out
+
+pub count_more : (m n : ℕ) (now : Run) → m ≤ n → HasCount m now → HasCount n now
+count_more m n (run.Dump reader) le few = tt
+count_more m n (run.Requests r) le few = omega arith
+
+pub count_room : (m : ℕ) (now : Run) → m ≤ 16777216 → HasCount m now → HasRoom now
+count_room m (run.Dump reader) le few = tt
+count_room m (run.Requests r) le few = omega arith

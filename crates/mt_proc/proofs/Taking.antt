@@ -1,0 +1,56 @@
+-- What a run of `proc` makes of one line.
+use Rattle.std.proofs.Common.{◌≡◌, ap, sym, refl, subst, ℕ, ◌+◌, List, [], ◌++◌, Option, None, Some, Result, Ok, Err}
+use Rattle.std.specs.Prelude.{◌⊎◌, IfOk}
+use Rattle.mt_ports.specs.Puts.{AppendsFront}
+use Rattle.mt_ports.specs.declared.status.Failed.{Failed}
+use Rattle.mt_ports.specs.declared.status.Status.{Status}
+use Rattle.mt_ports.specs.declared.status.Status.TheVariants.{BadText, Refused}
+use Rattle.mt_output.specs.Writing.{Adds, Passes}
+use Rattle.mt_dump.specs.Line.{Reading}
+use Rattle.mt_dump.specs.Reader.{HasRead, State}
+use Rattle.mt_stream.specs.Lines.{Fails, GoesOn, Leading, Takes, from_line}
+use Rattle.mt_stream.specs.Told.{Told, told}
+use Rattle.mt_stream.proofs.Taking.{takes_last}
+use Rattle.mt_proc.specs.declared.running.Run.{Run}
+use Rattle.mt_proc.specs.declared.running.Run.TheVariants as run
+use Rattle.mt_proc.specs.Proc.{Answer, Point, from_point, in_dump, in_requests, proc_step}
+use Rattle.mt_proc.specs.Running.{IsAt, IsDump, IsQuiet, LeadsBy, proc_running}
+
+-- a line leads on by its step
+pub leads_by : (p : Point) (number : ℕ) (line : List ℕ) → LeadsBy (from_line number line (from_point p)) (proc_step number line p) (number + 1)
+leads_by p number line (Some end) lines = refl
+leads_by p number line None lines = refl
+
+pub leads_as : (from : Leading) (number : ℕ) (answer other : Answer) → answer ≡ other → LeadsBy from answer number → LeadsBy from other number
+leads_as from number answer other is leads = subst (λ (a : Answer). LeadsBy from a number) is leads
+
+module _ (from : Leading) (number : ℕ) (was now : Run) (waiting left : List ℕ) (a b : Option (List ℕ)) where
+  pub goes : (text : List ℕ) (next : Point) → LeadsBy from (Ok (text, next)) number → IsAt now next → ((so_far : List ℕ) → IsQuiet was so_far → IsQuiet now (so_far ++ text)) → Passes waiting text left a b
+      → GoesOn proc_running from number was now waiting left a b
+  goes text next leads at quiet passed = record { next = from_point next; at = (next, at, refl); text = text; goes = leads; quiet = quiet; passed = passed }
+
+  pub ends : (text : List ℕ) (status : Status) (result : Result (Option Status) Failed) → LeadsBy from (Err (told text status)) number → (status ≡ Refused) ⊎ (status ≡ BadText) → Adds waiting text left a b result
+      → IfOk result (λ ended. ended ≡ Some status) → Takes proc_running from number was now waiting left a b result
+  ends text status result leads one adds is = takes_last proc_running from number was now text waiting left status a b result leads one adds is
+
+  pub fails : (text : List ℕ) (next : Point) → LeadsBy from (Ok (text, next)) number → AppendsFront a b (waiting ++ text) → Fails from waiting a b
+  fails text next leads failed = record {
+    text = text;
+    front = λ end lines. ((from_point next end number lines).text, ap (λ (t : Told). t.text) (leads end lines));
+    failed = failed;
+  }
+
+-- a run in the dump stands at what its reader has read
+pub in_the_dump : (r : Run) (reader : State) (p : Point) → r ≡ run.Dump reader → IsAt r p → (before : List Reading) × HasRead reader before × (p ≡ in_dump before)
+in_the_dump r reader p is at = by p (subst (λ (x : Run). IsAt x p) is at)
+  where
+    by : (p : Point) → IsAt (run.Dump reader) p → (before : List Reading) × HasRead reader before × (p ≡ in_dump before)
+    by (in_dump before) at = (before, at, refl)
+    by (in_requests now) at = absurd at
+
+pub is_dump : (r : Run) (reader : State) → r ≡ run.Dump reader → IsDump r
+is_dump r reader is = subst IsDump (sym is) tt
+
+pub quiet_dump : (r : Run) (text : List ℕ) → IsDump r → IsQuiet r text → text ≡ []
+quiet_dump (run.Dump reader) text is quiet = quiet
+quiet_dump (run.Requests m) text is quiet = absurd is

@@ -1,0 +1,8 @@
+use Rattle.std.proofs.Common.{[]}
+use Rattle.mt_stream.proofs.KnownLines.{known_is_front}
+use Rattle.mt_proc.specs.Proc.{Point, in_dump, proc_end, proc_step}
+use Rattle.mt_proc.proofs.RunningLaws.{long_offence, tells_long}
+use Rattle.mt_proc.proofs.laws.known_lines_tell_a_front.Goals as goal
+
+pub returns : goal.returns
+returns c = known_is_front Point proc_step proc_end long_offence tells_long (in_dump [])

@@ -1,0 +1,55 @@
+-- A run of `proc` between two lines, as its code keeps it (own).
+use Rattle.std.specs.Prelude.{ℕ, ◌≡◌, ◌≤◌, ◌<◌, ◌-◌, ◌^◌, List, [], ⊤, Option}
+use Rattle.mt_text.specs.declared.place.Place.{Place}
+use Rattle.mt_dump.specs.Reader.{HasRead}
+use Rattle.mt_stream.specs.Lines.{Leading, Running}
+use Rattle.mt_stream.specs.Told.{Telling, Told, told_step}
+use Rattle.mt_proc.specs.declared.running.Run.{Run}
+use Rattle.mt_proc.specs.declared.running.Run.TheVariants as run
+use Rattle.mt_proc.specs.Proc.{Answer, Point, from_point, in_dump, in_requests, proc_end}
+use Rattle.mt_proc.specs.Serving.{served}
+
+-- the run stands at this point
+abbrev pub IsAt : Run → Point → Type 0
+IsAt (run.Dump reader) (in_dump before) = HasRead reader before
+IsAt (run.Dump reader) (in_requests now) = ⊥
+IsAt (run.Requests m) (in_dump before) = ⊥
+IsAt (run.Requests m) (in_requests now) = served m ≡ now
+
+abbrev pub StandsAt : Run → Telling → Type 0
+StandsAt now was = (p : Point) × IsAt now p × (was ≡ from_point p)
+
+-- what is told where the text ends
+abbrev pub end_of_run : Run → Place → Told
+end_of_run (run.Dump reader) place = proc_end place (in_dump [])
+end_of_run (run.Requests m) place = proc_end place (in_requests (served m))
+
+-- nothing is written before the dump's end
+abbrev pub IsQuiet : Run → List ℕ → Type 0
+IsQuiet (run.Dump reader) text = text ≡ []
+IsQuiet (run.Requests m) text = ⊤
+
+-- memory is asked for up to there
+abbrev pub IsEarly : Run → Type 0
+IsEarly (run.Dump reader) = ⊤
+IsEarly (run.Requests m) = ⊥
+
+abbrev pub proc_running : Running
+proc_running = record { Run = Run; At = StandsAt; ends = end_of_run; Quiet = IsQuiet; Early = IsEarly }
+
+-- what a line and those behind it, of which the first has this number, lead to by the line's answer
+abbrev pub LeadsBy : Leading → Answer → ℕ → Type 0
+LeadsBy from answer number = (end : Option Place) (lines : List (List ℕ)) → from end lines ≡ told_step (λ p. from_point p end number lines) answer
+
+-- no more requests were carried out
+abbrev pub HasCount : ℕ → Run → Type 0
+HasCount most (run.Dump reader) = ⊤
+HasCount most (run.Requests m) = (served m).count ≤ most
+
+abbrev pub HasRoom : Run → Type 0
+HasRoom (run.Dump reader) = ⊤
+HasRoom (run.Requests m) = (served m).count < 2 ^ 64 - 1
+
+abbrev pub IsDump : Run → Type 0
+IsDump (run.Dump reader) = ⊤
+IsDump (run.Requests m) = ⊥

@@ -1,0 +1,26 @@
+ghost use Rattle.std.specs.Prelude.{◌≡◌, ◌++◌, ℕ, List};
+ghost use Rattle.mt_text.specs.Text.{lines_of};
+ghost use Rattle.mt_regs.specs.RegisterFile.{IsRegisterFile, RegisterFile};
+ghost use Rattle.mt_stream.specs.Known.{known_text};
+ghost use Rattle.mt_stream.specs.Told.{transcript};
+ghost use Rattle.mt_proc.specs.Proc.{LinesTellRequests, proc_told};
+ghost use Rattle.mt_proc.specs.Listing.{all_asked, listing, ranges_of, requests_from};
+
+/// The lines of a file's valid pairs are read as requests for exactly the blocks and types of these
+/// pairs, in order, wherever the lines stand.
+pub fn listings_ask_for_their_ranges()
+    ensures { (f : RegisterFile) (number : ℕ) → IsRegisterFile f → requests_from number (lines_of (listing f)) ≡ all_asked (ranges_of f) }
+{}
+
+/// Where no line behind the dump has a fault, the text is the fold's: what each request is answered by
+/// the file that those before it left, and at the end the ranges of the last file and the number of
+/// requests that were carried out.
+pub fn lines_tell_of_their_requests()
+    ensures { LinesTellRequests }
+{}
+
+/// What the known lines of a front tell is a front of what the whole text tells, whatever bytes come
+/// behind.
+pub fn known_lines_tell_a_front()
+    ensures { (front more : List ℕ) → (rest : List ℕ) × ((transcript proc_told (front ++ more)).text ≡ known_text proc_told front ++ rest) }
+{}

@@ -1,0 +1,185 @@
+ghost use Rattle.std.specs.Prelude.{◌≡◌, ◌≤◌, ◌<◌, ◌+◌, ◌-◌, ◌^◌, ◌++◌, ◌∷◌, [], ℕ, length, codes, decimal, IfOk, IfSome, None, Some};
+ghost use Rattle.mt_regs.specs.declared.fault.Fault.{Fault as GoalFault};
+ghost use Rattle.mt_regs.specs.Faults.{IsAccepted};
+ghost use Rattle.mt_regs.specs.FirstFault.{first_fault};
+ghost use Rattle.mt_machine.specs.Update.{IsSettled};
+ghost use Rattle.mt_output.specs.Lines.{line};
+ghost use Rattle.mt_proc.specs.After.{answer_text, asked, at_first, done_text};
+ghost use Rattle.mt_proc.specs.Applied.{applied};
+ghost use Rattle.mt_proc.specs.Serving.{Serves, changed, goal_after, served, standing};
+
+use crate::{Applied, Request, apply};
+use arrayvec::ArrayVec;
+use mt_bus::System;
+use mt_core::{CallFault, Core};
+use mt_output::{LineBuffer, append, append_decimal, refused_line};
+use mt_ports::{Gate, NoMemory};
+use mt_regs::{Fault, RegFile};
+use std::alloc::Global;
+use std::marker::Model;
+use std::sync::Wait;
+use std::thread::Threads;
+
+/// Processors that have one file of registers, which requests change on all of them.
+#[derive(Drop)]
+pub struct Processors {
+    core: Core,
+}
+
+impl Model for Processors {
+    ghost use Rattle.mt_machine.specs.Machine.{Machine};
+    ghost use Rattle.mt_proc.specs.Serving.{Serves};
+
+    ghost Value = { Machine };
+
+    ghost view = { λ p. p.core };
+
+    ghost invariant = { λ p. Serves p.core };
+}
+
+// A line that was put together of a text and a number.
+fn numbered_line(text: &[u8], n: u32) -> LineBuffer
+    requires { length text.now ≤ 20 }
+    ensures { result.items ≡ line (text.now ++ decimal n) }
+{
+    let mut line = ArrayVec::new();
+    append(&mut line, text);
+    append_decimal(&mut line, n as u64);
+    append(&mut line, b"\n");
+    line
+}
+
+fn text_line(text: &[u8]) -> LineBuffer
+    requires { length text.now ≤ 20 }
+    ensures { result.items ≡ text.now }
+{
+    let mut line = ArrayVec::new();
+    append(&mut line, text);
+    line
+}
+
+// The line of a request that was carried out on a pair.
+fn done_line(request: &Request, n: u32) -> LineBuffer
+    ensures { result.items ≡ done_text request.now n }
+{
+    match request {
+        Request::Range { .. } => numbered_line(b"set ", n),
+        Request::Disable(_) => numbered_line(b"cleared ", n),
+    }
+}
+
+// The fault of a goal that was refused.
+fn refusal(fault: CallFault) -> Option<Fault>
+    ensures { (own : GoalFault) → fault ≡ CallFault.Refused own → result ≡ Some own }
+{
+    match fault {
+        CallFault::Refused(own) => Some(own),
+        CallFault::UnderWay => None,
+    }
+}
+
+// Updates all processors to a goal, or answers its first fault.
+fn update<R: Threads + Wait + Sync, G: Gate>(
+    rt: &R,
+    alloc: Global,
+    core: &mut Core,
+    goal: RegFile,
+    gate: &G,
+) -> Option<Fault>
+    requires serves { Serves core.old }
+    requires width { goal.width ≡ (served core.old).file.width }
+    requires capabilities { goal.capabilities ≡ (served core.old).file.capabilities }
+    requires room { (served core.old).count < 2 ^ 64 - 1 }
+    ensures fault { result ≡ first_fault goal }
+    ensures after { core.new ≡ goal_after core.old goal }
+    ensures serves { Serves core.new }
+    ensures short { IfSome result (λ fault. fault.msr < 4096) }
+{
+    goal.is_register_file(); // a fact for the proof
+    match mt_rendezvous::update(rt, alloc, core, goal, gate) {
+        Ok(()) => None,
+        Err(fault) => refusal(fault),
+    }
+}
+
+impl Processors {
+    /// So many processors at the start, with this file. The error comes only where the allocator has
+    /// no room.
+    pub fn new(alloc: Global, cpus: u32, file: &RegFile) -> Result<Processors, NoMemory>
+        requires some { 0 < cpus }
+        requires few { cpus ≤ 16 }
+        requires accepted { IsAccepted file.now }
+        ensures { IfOk result (λ p. p ≡ standing cpus (at_first file.now)) }
+    {
+        file.is_register_file(); // a fact for the proof
+        let system = System::new(alloc, cpus, file)?;
+        Ok(Processors {
+            core: Core::new(system),
+        })
+    }
+
+    /// What all processors keep: their number, their file and their state. This does nothing.
+    pub fn serve(&self)
+        ensures { Serves self.now }
+    {
+        let _ = &self.core;
+    }
+
+    /// The registers of all of them.
+    pub fn file(&self) -> &RegFile
+        ensures { result.now ≡ (served self.now).file }
+    {
+        self.core.system().cpus.as_slice()[0].regs()
+    }
+
+    /// How many requests were carried out.
+    pub fn count(&self) -> u64
+        ensures { result ≡ (served self.now).count }
+    {
+        self.core.system().cpus.as_slice()[0].era()
+    }
+
+    // Does what a request asks for, and answers what is written of it.
+    fn change<R: Threads + Wait + Sync, G: Gate>(
+        &mut self,
+        rt: &R,
+        alloc: Global,
+        request: &Request,
+        gate: &G,
+    ) -> LineBuffer
+        requires { (served self.old).count < 2 ^ 64 - 1 }
+        ensures text { result.items ≡ answer_text (served self.old) request.now }
+        ensures changed { self.new ≡ changed self.old (applied (served self.old).file request.now) }
+    {
+        match apply(self.file(), request) {
+            Applied::Goal(goal, n) => match update(rt, alloc, &mut self.core, goal, gate) {
+                Some(fault) => refused_line(&fault),
+                None => done_line(request, n),
+            },
+            Applied::BadRange => text_line(b"bad range\n"),
+            Applied::NoneFree => text_line(b"full\n"),
+            Applied::NotUsed => text_line(b"not used\n"),
+        }
+    }
+
+    /// Asks for a change of all processors, and answers what is written of it. An update runs each
+    /// processor on a thread of its own, where the gate and the allocator let it. A request that isn't
+    /// carried out changes no processor.
+    pub fn ask<R: Threads + Wait + Sync, G: Gate>(
+        &mut self,
+        rt: &R,
+        alloc: Global,
+        request: &Request,
+        gate: &G,
+    ) -> LineBuffer
+        requires { (served self.old).count < 2 ^ 64 - 1 }
+        ensures text { result.items ≡ answer_text (served self.old) request.now }
+        ensures changed { self.new ≡ changed self.old (applied (served self.old).file request.now) }
+        ensures stands { self.new ≡ standing (length self.old.system.processors) (asked (served self.old) request.now) }
+        ensures served { served self.new ≡ asked (served self.old) request.now }
+        ensures settled { IsSettled self.new.system (asked (served self.old) request.now).count (asked (served self.old) request.now).file }
+    {
+        self.serve(); // a fact for the proof
+        self.change(rt, alloc, request, gate)
+    }
+}

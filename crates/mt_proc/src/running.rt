@@ -1,0 +1,302 @@
+ghost use Rattle.std.specs.Prelude.{◌≡◌, ◌≢◌, ◌≤◌, ◌<◌, ◌+◌, ◌-◌, ◌^◌, ◌↔◌, ◌⊎◌, ℕ, List, [], length, MatchOption, MatchResult, Ok, Some};
+ghost use Rattle.mt_text.specs.Feed.{GaveTooMuch};
+ghost use Rattle.mt_ports.specs.Causes.{HasCause, StatusHasCause};
+ghost use Rattle.mt_output.specs.Lines.{bad_text};
+ghost use Rattle.mt_output.specs.Writing.{Adds};
+ghost use Rattle.mt_regs.specs.Faults.{IsAccepted};
+ghost use Rattle.mt_regs.specs.FirstFault.{first_fault};
+ghost use Rattle.mt_stream.specs.Lines.{Closes, IsEnding, Leading, Takes, from_line};
+ghost use Rattle.mt_stream.specs.Runs.{Runs};
+ghost use Rattle.mt_stream.specs.Told.{Telling};
+ghost use Rattle.mt_proc.specs.After.{era_line};
+ghost use Rattle.mt_proc.specs.Listing.{listing};
+ghost use Rattle.mt_proc.specs.Proc.{begins, no_end, of_request, proc_told, reason_text, request_fault_line};
+ghost use Rattle.mt_proc.specs.Requests.{request_of};
+ghost use Rattle.mt_proc.specs.Running.{HasCount, HasRoom, IsDump, LeadsBy, StandsAt, end_of_run, proc_running};
+ghost use Rattle.mt_proc.specs.Serving.{served};
+
+use crate::listing::line_of;
+use crate::{ProcFault, ProcReason, Processors, read_request};
+use arrayvec::ArrayVec;
+use mt_dump::DumpReader;
+use mt_output::{LineBuffer, Writer, append, append_decimal, bad_text, offence_line, refused_line};
+use mt_ports::{Failed, Gate, Sink, Source, Status};
+use mt_regs::RegFile;
+use mt_script::{Offence, ScriptFault, ScriptReason, take_dump_line};
+use mt_stream::{close, cut_status, leave, next_line, tell};
+use mt_text::{Feed, Line, Place};
+use std::alloc::Global;
+use std::sync::Wait;
+use std::thread::Threads;
+
+/// A run between two lines: up to the dump's end, or behind it.
+#[derive(Drop)]
+pub(crate) enum Run {
+    Dump(DumpReader),
+    Requests(Processors),
+}
+
+fn reason_text(reason: ProcReason) -> &'static [u8]
+    ensures text { result.now ≡ reason_text reason }
+    ensures short { length result.now ≤ 20 }
+{
+    match reason {
+        ProcReason::BadLine => b"bad line",
+        ProcReason::BadNumber => b"bad number",
+        ProcReason::UnknownType => b"unknown type",
+    }
+}
+
+// The line about an offence of a request line.
+fn request_fault_line(fault: &ProcFault) -> LineBuffer
+    ensures { result.items ≡ request_fault_line fault.now }
+{
+    bad_text(fault.place, reason_text(fault.reason))
+}
+
+// Goes on behind the dump's end, where its file is accepted.
+fn begin<K: Sink>(
+    alloc: Global,
+    cpus: u32,
+    run: &mut Run,
+    file: RegFile,
+    writer: &mut Writer,
+    sink: &mut K,
+) -> Result<Option<Status>, Failed>
+    requires some { 0 < cpus }
+    requires few { cpus ≤ 16 }
+    requires dump { IsDump run.old }
+    ensures bytes { (from : Leading) (number : ℕ) → LeadsBy from (begins file (first_fault file)) number → Takes proc_running from number run.old run.new writer.old writer.new (K.taken sink.old) (K.taken sink.new) result }
+    ensures ending { (status : Status) → result ≡ Ok (Some status) → IsEnding status }
+    ensures counts { (most : ℕ) → MatchResult result (λ ended. MatchOption ended (HasCount most run.new) (λ _. Unit {0})) (λ _. Unit {0}) }
+    ensures cause { HasCause (K.faults sink.old) (K.faults sink.new) result }
+{
+    file.is_register_file(); // a fact for the proof
+    if let Some(fault) = file.first_fault() {
+        return tell(
+            writer,
+            sink,
+            refused_line(&fault).as_slice(),
+            Status::Refused,
+        );
+    }
+    let Ok(processors) = Processors::new(alloc, cpus, &file) else {
+        return Ok(Some(Status::NoMemory));
+    };
+    *run = Run::Requests(processors);
+    Ok(None)
+}
+
+// Takes a line behind the dump's end.
+fn take_request<R: Threads + Wait + Sync, K: Sink, G: Gate>(
+    rt: &R,
+    alloc: Global,
+    processors: &mut Processors,
+    line: &Line<'_>,
+    writer: &mut Writer,
+    sink: &mut K,
+    gate: &G,
+) -> Result<Option<Status>, Failed>
+    requires { (served processors.old).count < 2 ^ 64 - 1 }
+    ensures bytes { (from : Leading) (number : ℕ) → LeadsBy from (of_request (served processors.old) (request_of line.now.number line.now.bytes.now)) number → Takes proc_running from number (Run.Requests processors.old) (Run.Requests processors.new) writer.old writer.new (K.taken sink.old) (K.taken sink.new) result }
+    ensures ending { (status : Status) → result ≡ Ok (Some status) → IsEnding status }
+    ensures counts { (most : ℕ) → (served processors.old).count ≤ most → MatchResult result (λ ended. MatchOption ended ((served processors.new).count ≤ most + 1) (λ _. Unit {0})) (λ _. Unit {0}) }
+    ensures cause { HasCause (K.faults sink.old) (K.faults sink.new) result }
+{
+    match read_request(line) {
+        Ok(None) => Ok(None),
+        Ok(Some(request)) => {
+            let answer = processors.ask(rt, alloc, &request, gate);
+            match writer.write(sink, answer.as_slice()) {
+                Ok(()) => Ok(None),
+                Err(failed) => Err(failed),
+            }
+        }
+        Err(fault) => tell(
+            writer,
+            sink,
+            request_fault_line(&fault).as_slice(),
+            Status::BadText,
+        ),
+    }
+}
+
+// Takes a line. There is a status where the run ends with it.
+fn take_line<R: Threads + Wait + Sync, K: Sink, G: Gate>(
+    rt: &R,
+    alloc: Global,
+    cpus: u32,
+    run: &mut Run,
+    line: &Line<'_>,
+    writer: &mut Writer,
+    sink: &mut K,
+    gate: &G,
+) -> Result<Option<Status>, Failed>
+    requires some { 0 < cpus }
+    requires few { cpus ≤ 16 }
+    requires room { HasRoom run.old }
+    ensures bytes { (was : Telling) → StandsAt run.old was →
+        Takes proc_running (from_line line.now.number line.now.bytes.now was) (line.now.number + 1) run.old run.new writer.old writer.new (K.taken sink.old) (K.taken sink.new) result }
+    ensures ending { (status : Status) → result ≡ Ok (Some status) → IsEnding status }
+    ensures counts { (most : ℕ) → HasCount most run.old → MatchResult result (λ ended. MatchOption ended (HasCount (most + 1) run.new) (λ _. Unit {0})) (λ _. Unit {0}) }
+    ensures cause { HasCause (K.faults sink.old) (K.faults sink.new) result }
+{
+    let reader = match run {
+        Run::Dump(reader) => reader,
+        Run::Requests(processors) => {
+            return take_request(rt, alloc, processors, line, writer, sink, gate);
+        }
+    };
+    match take_dump_line(reader, line) {
+        Ok(None) => Ok(None),
+        Ok(Some(file)) => begin(alloc, cpus, run, file, writer, sink),
+        Err(offence) => tell(
+            writer,
+            sink,
+            offence_line(&offence).as_slice(),
+            Status::BadText,
+        ),
+    }
+}
+
+// Writes the lines of the valid pairs.
+fn write_listing<K: Sink>(file: &RegFile, writer: &mut Writer, sink: &mut K) -> Result<(), Failed>
+    requires { IsAccepted file.now }
+    ensures bytes { Adds writer.old (listing file.now) writer.new (K.taken sink.old) (K.taken sink.new) result }
+    ensures cause { HasCause (K.faults sink.old) (K.faults sink.new) result }
+{
+    'pairs: for n in 0..file.pairs.len() {
+        let line = line_of(file, n as u32);
+        match writer.write(sink, line.as_slice()) {
+            Ok(()) => {}
+            Err(failed) => return Err(failed),
+        }
+    }
+    Ok(())
+}
+
+fn era_line(count: u64) -> LineBuffer
+    ensures { result.items ≡ era_line count }
+{
+    let mut line = ArrayVec::new();
+    append(&mut line, b"era ");
+    append_decimal(&mut line, count);
+    append(&mut line, b"\n");
+    line
+}
+
+// The fault of a text that ends before the dump does.
+fn no_end(at: Place) -> Offence
+    ensures { result ≡ no_end at }
+{
+    Offence::Script(ScriptFault {
+        reason: ScriptReason::NoEnd,
+        place: at,
+    })
+}
+
+// Where the text ends.
+fn end_text<K: Sink>(run: &Run, feed: &Feed, writer: &mut Writer, sink: &mut K) -> Status
+    ensures bytes { Closes (end_of_run run.now feed.now.place) writer.old (K.taken sink.old) (K.taken sink.new) result }
+    ensures usage { result ≢ Status.Usage }
+    ensures cause { StatusHasCause Status.WriteFault (K.faults sink.old) (K.faults sink.new) result }
+{
+    let processors = match run {
+        Run::Dump(_) => {
+            let line = offence_line(&no_end(feed.end()));
+            return close(writer, sink, line.as_slice(), Status::BadText);
+        }
+        Run::Requests(processors) => processors,
+    };
+    processors.serve(); // a fact for the proof
+    match write_listing(processors.file(), writer, sink) {
+        Ok(()) => close(
+            writer,
+            sink,
+            era_line(processors.count()).as_slice(),
+            Status::Done,
+        ),
+        Err(_) => Status::WriteFault,
+    }
+}
+
+// Runs the lines of a source to their end, to an offence or a refused dump, or to a fault.
+fn run_lines<R: Threads + Wait + Sync, S: Source, K: Sink, G: Gate>(
+    rt: &R,
+    alloc: Global,
+    source: &mut S,
+    writer: &mut Writer,
+    sink: &mut K,
+    gate: &G,
+    cpus: u32,
+) -> Status
+    requires waiting { writer.old ≡ [] }
+    requires some { 0 < cpus }
+    requires few { cpus ≤ 16 }
+    ensures bytes { (bytes : List ℕ) → S.left source.old ≡ Some bytes → Runs proc_told [] bytes (S.left source.new) (K.taken sink.old) (K.taken sink.new) result }
+    ensures read_fault { StatusHasCause Status.ReadFault (S.faults source.old) (S.faults source.new) result }
+    ensures write_fault { StatusHasCause Status.WriteFault (K.faults sink.old) (K.faults sink.new) result }
+    ensures too_long { (result ≡ Status.TooLong) ↔ GaveTooMuch (S.given source.old) (S.given source.new) }
+    ensures usage { result ≢ Status.Usage }
+{
+    let mut feed = Feed::new();
+    let mut run = Run::Dump(DumpReader::new());
+    'lines: loop {
+        match next_line(&mut feed, source, writer, sink) {
+            Ok(true) => {}
+            Ok(false) => return end_text(&run, &feed, writer, sink),
+            Err(cut) => return cut_status(&cut),
+        }
+        let last = feed.is_last();
+        match take_line(
+            rt,
+            alloc,
+            cpus,
+            &mut run,
+            &feed.current(),
+            writer,
+            sink,
+            gate,
+        ) {
+            Ok(None) => {
+                if last {
+                    return end_text(&run, &feed, writer, sink);
+                }
+            }
+            Ok(Some(status)) => return leave(status, last, &mut feed, source, writer, sink),
+            Err(_) => return Status::WriteFault,
+        }
+    }
+}
+
+/// Reads a dump, a line `end` and requests in the form of Linux's mtrr document, carries each request
+/// out on so many processors that have the dump's file, and writes what became of it, and at the end
+/// the ranges of the valid pairs and the number of requests that were carried out. All that is told of
+/// the lines is written before the source is asked for more, and the rest behind an offence or a refused
+/// dump is dropped. At ReadFault what the known lines tell was written, at each other fault a front of
+/// what is told, for want of memory nothing. An update runs each processor on a thread of its own, or
+/// all on this one where it finds no memory, a start is refused or the gate answers false.
+pub fn proc<R: AllocGlobal + Threads + Wait + Sync, S: Source, K: Sink, G: Gate>(
+    rt: &R,
+    source: &mut S,
+    sink: &mut K,
+    gate: &G,
+    cpus: u32,
+) -> Status
+    requires some { 0 < cpus }
+    requires few { cpus ≤ 16 }
+
+    // Where the source tells its bytes, what each status says of them and of what the sink took.
+    ensures bytes { (bytes : List ℕ) → S.left source.old ≡ Some bytes → Runs proc_told [] bytes (S.left source.new) (K.taken sink.old) (K.taken sink.new) result }
+
+    // A port that failed did so once, and the status is its fault; at every other status none failed.
+    ensures read_fault { StatusHasCause Status.ReadFault (S.faults source.old) (S.faults source.new) result }
+    ensures write_fault { StatusHasCause Status.WriteFault (K.faults sink.old) (K.faults sink.new) result }
+    ensures too_long { (result ≡ Status.TooLong) ↔ GaveTooMuch (S.given source.old) (S.given source.new) }
+    ensures usage { result ≢ Status.Usage }
+{
+    let Ok(mut writer) = Writer::new(rt.alloc()) else {
+        return Status::NoMemory;
+    };
+    run_lines(rt, rt.alloc(), source, &mut writer, sink, gate, cpus)
+}

@@ -1,0 +1,165 @@
+use crate::proc;
+use mt_ports::{Gate, MemSink, MemSource, OpenGate, Status};
+use std::alloc::Global;
+use std::process::Abort;
+use std::sync::Wait;
+use std::sync::atomic::{AtomicU64, Ordering};
+use std::test::Fail;
+use std::thread::Threads;
+
+// WB below 4 GB.
+const FOUR_GIGABYTES: &[u8] = b"0fe 508\n200 6\n201 f00000800\n2ff 800\nend\n";
+
+const REQUESTS: &[u8] = b"0fe 508\n200 6\n201 f00000800\n2ff 800\nend\n\
+    base=0xf8000000 size=0x400000 type=write-combining\n\
+    base=0x80000000 size=0x80000000 type=uncachable\n\
+    base=0xf8000000 size=0x400000 type=write-combining\n\
+    base=0x100000000 size=0x1000 type=write-through\n\
+    disable=1\n\
+    disable=7\n";
+
+const TOLD: &[u8] =
+    b"refused 200 undefined overlap\nset 1\nset 2\nset 3\nrefused 200 undefined overlap\nnot used\n\
+    base=0x0 size=0x100000000 type=write-back # 0\n\
+    base=0x80000000 size=0x80000000 type=uncachable # 1\n\
+    base=0xf8000000 size=0x400000 type=write-combining # 2\n\
+    base=0x100000000 size=0x1000 type=write-through # 3\n\
+    era 3\n";
+
+// What a run ended with, and what the sink took.
+#[derive(Drop)]
+struct Ran {
+    status: Status,
+    sink: MemSink,
+}
+
+fn run<R: AllocGlobal + Threads + Wait + Abort + Sync, G: Gate>(
+    rt: &R,
+    text: &[u8],
+    cpus: u32,
+    gate: &G,
+) -> Result<Ran, Fail> {
+    assert!(rt; cpus > 0 && cpus <= 16);
+    let alloc = rt.alloc();
+    let mut source = MemSource::new(text.to_vec(alloc)?, 4096, Vec::new(alloc));
+    let Ok(mut sink) = MemSink::new(alloc, 65536, Vec::new(alloc)) else {
+        return Err(Fail::from("no memory"));
+    };
+    let status = proc(rt, &mut source, &mut sink, gate, cpus);
+    Ok(Ran { status, sink })
+}
+
+// Each number of processors tells the same.
+#[test]
+fn up_to_16_processors(rt: HostRuntime) -> Result<(), Fail> {
+    for cpus in [1, 2, 3, 15, 16] {
+        let ran = run(&rt, REQUESTS, cpus, &OpenGate)?;
+        assert_eq!(rt; ran.status, Status::Done, "{cpus} processors");
+        assert!(rt; ran.sink.bytes() == TOLD, "{cpus} processors");
+    }
+    Ok(())
+}
+
+// Lets no thread start for one processor.
+#[derive(Drop)]
+struct Without {
+    processor: u32,
+}
+
+impl Gate for Without {
+    fn may_start(&self, k: u32) -> bool {
+        k != self.processor
+    }
+
+    fn arrived(&self, _k: u32) {}
+}
+
+#[test]
+fn a_refused_start_changes_nothing_that_is_told(rt: HostRuntime) -> Result<(), Fail> {
+    for processor in 0..2 {
+        let ran = run(&rt, REQUESTS, 2, &Without { processor })?;
+        assert_eq!(rt; ran.status, Status::Done);
+        assert!(rt; ran.sink.bytes() == TOLD);
+    }
+    Ok(())
+}
+
+// Each of two threads waits a while for the other.
+#[derive(Drop)]
+struct Meets {
+    arrived: [AtomicU64; 2],
+    seen: AtomicU64,
+}
+
+impl Gate for Meets {
+    fn may_start(&self, _k: u32) -> bool {
+        true
+    }
+
+    fn arrived(&self, k: u32) {
+        let (own, other) = if k == 0 { (0, 1) } else { (1, 0) };
+        self.arrived[own].store(1, Ordering::SeqCst);
+        for _ in 0..200_000_000u64 {
+            if self.arrived[other].load(Ordering::SeqCst) == 1 {
+                self.seen.fetch_add(1, Ordering::SeqCst);
+                return;
+            }
+        }
+    }
+}
+
+/// Both processors that carry out a request see the other, so two threads run at once.
+#[test]
+fn two_processors_of_a_request_meet(rt: HostRuntime) -> Result<(), Fail> {
+    let gate = Meets {
+        arrived: [AtomicU64::new(0), AtomicU64::new(0)],
+        seen: AtomicU64::new(0),
+    };
+    let mut text = FOUR_GIGABYTES.to_vec(rt.alloc())?;
+    text.extend_from_slice(b"disable=0\n")?;
+    let ran = run(&rt, &text, 2, &gate)?;
+    assert_eq!(rt; ran.status, Status::Done);
+    assert!(rt; ran.sink.bytes() == b"cleared 0\nera 1\n".as_slice());
+    assert_eq!(rt; gate.seen.load(Ordering::SeqCst), 2);
+    Ok(())
+}
+
+// So many requests one after the other.
+fn changes(alloc: Global, times: usize) -> Result<Vec<u8>, Fail> {
+    let mut text = FOUR_GIGABYTES.to_vec(alloc)?;
+    for _ in 0..times {
+        text.extend_from_slice(b"disable=0\nbase=0 size=0x100000000 type=write-back\n")?;
+    }
+    Ok(text)
+}
+
+#[test]
+fn a_thousand_changes(rt: HostRuntime) -> Result<(), Fail> {
+    let text = changes(rt.alloc(), 500)?;
+    let ran = run(&rt, &text, 2, &OpenGate)?;
+    assert_eq!(rt; ran.status, Status::Done);
+    assert!(rt;
+        ran.sink.bytes().ends_with(
+            b"cleared 0\nset 0\nbase=0x0 size=0x100000000 type=write-back # 0\nera 1000\n"
+        )
+    );
+    Ok(())
+}
+
+#[test]
+fn a_line_may_be_too_long(rt: HostRuntime) -> Result<(), Fail> {
+    for (size, told) in [
+        (4096, b"bad text 6:1 bad line\n".as_slice()),
+        (4097, b"bad text 6:4097 bad line\n".as_slice()),
+        (9000, b"bad text 6:4097 bad line\n".as_slice()),
+    ] {
+        let mut text = FOUR_GIGABYTES.to_vec(rt.alloc())?;
+        for _ in 0..size {
+            text.push(b'a')?;
+        }
+        let ran = run(&rt, &text, 1, &OpenGate)?;
+        assert_eq!(rt; ran.status, Status::BadText);
+        assert!(rt; ran.sink.bytes() == told);
+    }
+    Ok(())
+}

@@ -1,0 +1,109 @@
+-- What a round of a loop over lines keeps, whether or not the source tells its bytes.
+use Rattle.std.proofs.Common.{◌≡◌, ◌∙◌, ap, sym, refl, subst, arith, inl, inr, ℕ, ◌+◌, ◌≤◌, ◌<◌, nat_lt, Bool, true, false, List, ◌++◌, length, Option, None, Some, Ok, Err}
+use Rattle.std.specs.Prelude.{◌≢◌, ◌↔◌, ◌⊎◌}
+use Rattle.std.proofs.lemmas.Bool.Decides.{nat_tests}
+use Rattle.std.proofs.lemmas.List.{length-append, length-drop}
+use Rattle.mt_ports.specs.Causes.{Rose, StatusHasCause}
+use Rattle.mt_ports.specs.declared.status.Status.{Status}
+use Rattle.mt_ports.specs.declared.status.Status.TheVariants.{BadText, Done, ReadFault, TooLong, WriteFault}
+use Rattle.mt_text.specs.Feed.{Feeding, GaveTooMuch, IsFront, IsLong, Moves, Stops, taken, with_end}
+use Rattle.mt_text.specs.declared.fault.FeedFault.{FeedFault}
+use Rattle.mt_text.specs.declared.fault.FeedFault.TheVariants as fault
+use Rattle.mt_text.proofs.Feeding.{front_within}
+use Rattle.mt_text.proofs.Fronts.{long_front}
+use Rattle.mt_stream.specs.Lines.{Closes, CutShort, IsEnding, Leading, Running, SinkHasCause, SourceHasCause, Takes, cut_status}
+use Rattle.mt_stream.specs.Told.{Told}
+use Rattle.mt_stream.specs.declared.running.Cut.{Cut}
+use Rattle.mt_stream.specs.declared.running.Cut.TheVariants as cut
+
+-- ---- how much was taken
+
+front_bounds : (seen : List ℕ) (left : Option (List ℕ)) (front : ℕ × Bool) → IsFront seen left front → (1 ≤ with_end front) × (with_end front ≤ length seen)
+front_bounds seen left (count, true) (inl known) = (omega arith, front_within seen (count, true) known)
+front_bounds seen left (count, false) (inl known) = let many : count ≡ 4097 = (long_front seen count known).0 in (omega (arith, many), front_within seen (count, false) known)
+front_bounds seen left front (inr last) = let is : with_end front ≡ length seen + 0 = ap (λ (f : ℕ × Bool). with_end f) last.3 in (omega (arith, is, last.2), omega (arith, is))
+
+module _ (old new : Feeding) (more : List ℕ) (left : Option (List ℕ)) where
+  pub moved_taken : Moves old new (old.pending ++ more) left true → (taken new ≡ taken old + length more) × (old.offset + 1 ≤ new.offset) × (new.fault ≡ old.fault)
+  moved_taken moves =
+      let (front, is, moved) = moves in
+      let bounds = front_bounds (old.pending ++ more) left front is in
+      let offset : new.offset ≡ old.offset + with_end front = ap (λ f. f.offset) moved in
+      let pending = ap (λ f. length f.pending) moved ∙ length-drop (with_end front) (old.pending ++ more) in
+      let seen = length-append old.pending more in
+      (omega (arith, bounds.0, bounds.1, offset, pending, seen), omega (arith, bounds.0, offset), ap (λ f. f.fault) moved)
+
+  pub unmoved_taken : Moves old new (old.pending ++ more) left false → (taken new ≡ taken old + length more) × (new.fault ≡ old.fault)
+  unmoved_taken moves = (omega (arith, ap length moves.0, ap length moves.2, moves.3, length-append old.pending more), moves.5)
+
+  pub stopped_taken : (why : FeedFault) → Stops old new (old.pending ++ more) why → taken new ≡ taken old + length more
+  stopped_taken why stops = omega (arith, ap length stops.0, stops.1, length-append old.pending more)
+
+-- without a fault not too much was taken
+pub not_much : (feed : Feeding) → IsLong feed → feed.fault ≡ None → 16777216 < taken feed → ⊥
+not_much feed long none many = let e : None ≡ Some fault.TooLong = sym none ∙ long.1 many in cc e
+
+pub few_taken : (feed : Feeding) → IsLong feed → feed.fault ≡ None → feed.offset ≤ 16777216
+few_taken feed long none = by (nat_lt 16777216 (taken feed)) refl
+  where
+    by : (many : Bool) → nat_lt 16777216 (taken feed) ≡ many → feed.offset ≤ 16777216
+    by true test = absurd (not_much feed long none (grind (arith, nat_tests, test)))
+    by false test = grind (arith, nat_tests, test)
+
+-- ---- statuses
+
+pub close_statuses : (t : Told) (waiting : List ℕ) (a b : Option (List ℕ)) (status : Status) → (t.status ≡ Done) ⊎ (t.status ≡ BadText) → Closes t waiting a b status → (status ≢ TooLong) × (status ≢ ReadFault)
+close_statuses t waiting a b status (inl done) (inl all) =
+    (λ is. let e : Done ≡ TooLong = sym done ∙ sym all.0 ∙ is in cc e, λ is. let e : Done ≡ ReadFault = sym done ∙ sym all.0 ∙ is in cc e)
+close_statuses t waiting a b status (inr bad) (inl all) =
+    (λ is. let e : BadText ≡ TooLong = sym bad ∙ sym all.0 ∙ is in cc e, λ is. let e : BadText ≡ ReadFault = sym bad ∙ sym all.0 ∙ is in cc e)
+close_statuses t waiting a b status one (inr failed) = (λ is. let e : WriteFault ≡ TooLong = sym failed.0 ∙ is in cc e, λ is. let e : WriteFault ≡ ReadFault = sym failed.0 ∙ is in cc e)
+
+pub never_much : (status : Status) (before now : ℕ) (feed : Feeding) → status ≢ TooLong → now ≡ before + taken feed → IsLong feed → feed.fault ≡ None → (status ≡ TooLong) ↔ GaveTooMuch before now
+never_much status before now feed other given long none = (λ is. absurd (other is), λ much. absurd (not_much feed long none (omega (arith, given, much))))
+
+pub never_read : (status : Status) (before now : ℕ) → status ≢ ReadFault → now ≡ before → StatusHasCause ReadFault before now status
+never_read status before now other same = record { rose = λ is. absurd (other is); stands = λ _. same }
+
+pub cause_behind : (fault status : Status) (first before now : ℕ) → before ≡ first → StatusHasCause fault before now status → StatusHasCause fault first now status
+cause_behind fault status first before now same cause = subst (λ n. StatusHasCause fault n now status) same cause
+
+-- a line ends a run with one of three statuses
+pub ending_status : (R : Running) (from : Leading) (number : ℕ) (was now : R.Run) (waiting left : List ℕ) (a b : Option (List ℕ)) (status : Status) → Takes R from number was now waiting left a b (Ok (Some status)) → IsEnding status
+ending_status R from number was now waiting left a b status (inl e) = elim e.last [
+  | inl refused ↦ inl refused
+  | inr bad ↦ inr (inl bad)
+]
+ending_status R from number was now waiting left a b status (inr w) = inr (inr w.refused)
+
+-- ---- cuts
+
+pub cut_read : (first before now : ℕ) (why : Cut) → before ≡ first → SourceHasCause {T = Bool} before now (Err why) → StatusHasCause ReadFault first now (cut_status why)
+cut_read first before now (cut.Feed fault.ReadFault) same cause = record { rose = λ _. subst (λ n. Rose n now) same cause; stands = λ other. absurd (other refl) }
+cut_read first before now (cut.Feed fault.TooLong) same cause = record { rose = λ is. absurd (cc is); stands = λ _. cause ∙ same }
+cut_read first before now cut.Write same cause = record { rose = λ is. absurd (cc is); stands = λ _. cause ∙ same }
+
+pub cut_write : (first before now : ℕ) (why : Cut) → before ≡ first → SinkHasCause {T = Bool} before now (Err why) → StatusHasCause WriteFault first now (cut_status why)
+cut_write first before now (cut.Feed fault.ReadFault) same cause = record { rose = λ is. absurd (cc is); stands = λ _. cause ∙ same }
+cut_write first before now (cut.Feed fault.TooLong) same cause = record { rose = λ is. absurd (cc is); stands = λ _. cause ∙ same }
+cut_write first before now cut.Write same cause = record { rose = λ _. subst (λ n. Rose n now) same cause; stands = λ other. absurd (other refl) }
+
+module _ (old new : Feeding) (more waiting left : List ℕ) (a b : Option (List ℕ)) (first before now : ℕ) (given : before ≡ first + taken old) (rises : now ≡ before + length more) (long : IsLong new) (none : old.fault ≡ None) where
+  pub cut_long : (why : Cut) → CutShort old new (old.pending ++ more) waiting left a b why → (cut_status why ≡ TooLong) ↔ GaveTooMuch first now
+  cut_long cut.Write short =
+      let count : length more ≡ 0 = omega (arith, ap length short.1, length-append old.pending more) in
+      let kept : IsLong old = subst IsLong short.0 long in
+      (λ is. absurd (cc is), λ much. absurd (not_much old kept none (omega (arith, given, rises, count, much))))
+  cut_long (cut.Feed fault.ReadFault) short =
+      let count = stopped_taken old new more None fault.ReadFault short.0 in
+      (λ is. absurd (cc is), λ much. let e : Some fault.ReadFault ≡ Some fault.TooLong = sym short.0.3 ∙ long.1 (omega (arith, given, rises, count, much)) in absurd (cc e))
+  cut_long (cut.Feed fault.TooLong) short =
+      let count = stopped_taken old new more None fault.TooLong short.0 in
+      (λ is. let many = long.0 short.0.3 in omega (arith, given, rises, count, many), λ much. refl)
+
+  pub cut_enough : (why : Cut) → CutShort old new (old.pending ++ more) waiting left a b why → why ≡ cut.Feed fault.TooLong → 16777216 < taken old + length more
+  cut_enough why short is =
+      let said : CutShort old new (old.pending ++ more) waiting left a b (cut.Feed fault.TooLong) = subst (CutShort old new (old.pending ++ more) waiting left a b) is short in
+      let count = stopped_taken old new more None fault.TooLong said.0 in
+      let many = long.0 said.0.3 in
+      omega (arith, count, many)

@@ -1,0 +1,6 @@
+pub mod Known
+pub mod Laws
+pub mod Lines
+pub mod Runs
+pub mod Told
+pub mod WorkedTexts

@@ -1,0 +1,116 @@
+-- What a run over a text makes of one line, and of the end (own).
+use Rattle.std.specs.Prelude.{ℕ, ◌≡◌, ◌≢◌, ◌⊎◌, Bool, true, false, List, [], ◌∷◌, ◌++◌, Option, None, Some, Result, Ok, Err, MatchOption, MatchResult}
+use Rattle.std.specs.Io.KnownBytes.{Appends, IsAtEnd}
+use Rattle.mt_text.specs.Feed.{Feeding, Moves, Stops}
+use Rattle.mt_text.specs.declared.place.Place.{Place}
+use Rattle.mt_text.specs.declared.fault.FeedFault.TheVariants as feed
+use Rattle.mt_ports.specs.Causes.{Rose}
+use Rattle.mt_ports.specs.Puts.{AppendsFront}
+use Rattle.mt_ports.specs.declared.status.Failed.{Failed}
+use Rattle.mt_ports.specs.declared.status.Status.{Status}
+use Rattle.mt_ports.specs.declared.status.Status.TheVariants.{BadText, NoMemory, ReadFault, Refused, TooLong, WriteFault}
+use Rattle.mt_output.specs.Writing.{Passes}
+use Rattle.mt_stream.specs.Told.{Telling, Told, behind}
+use Rattle.mt_stream.specs.declared.running.Cut.{Cut}
+use Rattle.mt_stream.specs.declared.running.Cut.TheVariants as cut
+
+-- A run between two lines, as its code keeps it.
+pub record Running : Type 1 where
+  pub Run : Type 0
+  pub At : Run → Telling → Type 0  -- it stands where the lines that come tell this
+  pub ends : Run → Place → Told  -- what is told where the text ends at a place
+  pub Quiet : Run → List ℕ → Type 0  -- what may have been written so far
+  pub Early : Run → Type 0  -- memory may be asked for
+
+-- what a line and those behind it lead to
+abbrev pub Leading : Type 0
+Leading = Option Place → List (List ℕ) → Told
+
+-- of a line of this number
+abbrev pub from_line : ℕ → List ℕ → Telling → Leading
+from_line number line was end lines = was end number (line ∷ lines)
+
+-- A text is written, and the lines behind, the first of which has this number, lead on from another point.
+pub record GoesOn (R : Running) (from : Leading) (number : ℕ) (was now : R.Run) (waiting left : List ℕ) (before after : Option (List ℕ)) : Type 0 where
+  pub next : Telling
+  pub at : R.At now next
+  pub text : List ℕ
+  pub goes : (end : Option Place) (lines : List (List ℕ)) → from end lines ≡ behind text (next end number lines)
+  pub quiet : (so_far : List ℕ) → R.Quiet was so_far → R.Quiet now (so_far ++ text)
+  pub passed : Passes waiting text left before after
+
+-- The transcript ends, whatever stands behind.
+pub record Ends (from : Leading) (waiting left : List ℕ) (before after : Option (List ℕ)) (status : Status) : Type 0 where
+  pub telling : Told
+  pub stops : (end : Option Place) (lines : List (List ℕ)) → from end lines ≡ telling
+  pub status_is : status ≡ telling.status
+  pub last : (status ≡ Refused) ⊎ (status ≡ BadText)
+  pub passed : Passes waiting telling.text left before after
+
+-- Memory was refused, and nothing was written.
+pub record Wants (R : Running) (was : R.Run) (waiting left : List ℕ) (before after : Option (List ℕ)) (status : Status) : Type 0 where
+  pub refused : status ≡ NoMemory
+  pub early : R.Early was
+  pub waits : left ≡ waiting
+  pub kept : after ≡ before
+
+-- The sink failed, and took a front.
+pub record Fails (from : Leading) (waiting : List ℕ) (before after : Option (List ℕ)) : Type 0 where
+  pub text : List ℕ
+  pub front : (end : Option Place) (lines : List (List ℕ)) → (rest : List ℕ) × ((from end lines).text ≡ text ++ rest)
+  pub failed : AppendsFront before after (waiting ++ text)
+
+abbrev pub Takes : (R : Running) → Leading → ℕ → R.Run → R.Run → List ℕ → List ℕ → Option (List ℕ) → Option (List ℕ) → Result (Option Status) Failed → Type 0
+Takes R from number was now waiting left before after result =
+    MatchResult result
+    (λ ended. MatchOption ended (GoesOn R from number was now waiting left before after)
+    (λ status. Ends from waiting left before after status ⊎ Wants R was waiting left before after status))
+    (λ _. Fails from waiting before after)
+
+-- ---- the next line
+
+-- Why there is no next line. All that waits was written before the source was asked.
+abbrev pub CutShort : Feeding → Feeding → List ℕ → List ℕ → List ℕ → Option (List ℕ) → Option (List ℕ) → Cut → Type 0
+CutShort old new seen waiting left before after (cut.Feed fault) = Stops old new seen fault × (left ≡ []) × Appends before after waiting
+CutShort old new seen waiting left before after cut.Write = (new ≡ old) × (seen ≡ old.pending) × AppendsFront before after waiting
+
+abbrev pub Next : Feeding → Feeding → List ℕ → Option (List ℕ) → List ℕ → List ℕ → Option (List ℕ) → Option (List ℕ) → Result Bool Cut → Type 0
+Next old new seen source waiting left before after result =
+    MatchResult result (λ moved. Moves old new seen source moved × Passes waiting [] left before after) (CutShort old new seen waiting left before after)
+
+-- A port that failed did so once, and the cut is its fault.
+abbrev pub SourceHasCause : {T : Type 0} → ℕ → ℕ → Result T Cut → Type 0
+SourceHasCause before after (Ok x) = after ≡ before
+SourceHasCause before after (Err (cut.Feed feed.ReadFault)) = Rose before after
+SourceHasCause before after (Err (cut.Feed feed.TooLong)) = after ≡ before
+SourceHasCause before after (Err cut.Write) = after ≡ before
+
+abbrev pub SinkHasCause : {T : Type 0} → ℕ → ℕ → Result T Cut → Type 0
+SinkHasCause before after (Ok x) = after ≡ before
+SinkHasCause before after (Err (cut.Feed fault)) = after ≡ before
+SinkHasCause before after (Err cut.Write) = Rose before after
+
+-- the status of a cut
+abbrev pub cut_status : Cut → Status
+cut_status cut.Write = WriteFault
+cut_status (cut.Feed feed.ReadFault) = ReadFault
+cut_status (cut.Feed feed.TooLong) = TooLong
+
+-- ---- the end
+
+-- the last text goes to the sink with all that waits, or a front of them
+abbrev pub Closes : Told → List ℕ → Option (List ℕ) → Option (List ℕ) → Status → Type 0
+Closes t waiting before after status =
+    ((status ≡ t.status) × Appends before after (waiting ++ t.text)) ⊎ ((status ≡ WriteFault) × AppendsFront before after (waiting ++ t.text))
+
+-- the statuses with which a line ends a run
+abbrev pub IsEnding : Status → Type 0
+IsEnding status = (status ≡ Refused) ⊎ (status ≡ BadText) ⊎ (status ≡ NoMemory)
+
+-- All that waits is written, or a front of it. Nothing more is read behind the last line or for want of memory, and else all that is left.
+abbrev pub Leaves : Status → Bool → List ℕ → Option (List ℕ) → List ℕ → Option (List ℕ) → Option (List ℕ) → Status → Type 0
+Leaves status last more left waiting before after result =
+    ((result ≡ WriteFault) × AppendsFront before after waiting)
+    ⊎ (Appends before after waiting
+    × (((result ≡ status) × ((last ≡ true) ⊎ (status ≡ NoMemory)) × (more ≡ []))
+    ⊎ ((last ≡ false) × (status ≢ NoMemory) × (((result ≡ status) × IsAtEnd left) ⊎ (result ≡ ReadFault) ⊎ (result ≡ TooLong)))))

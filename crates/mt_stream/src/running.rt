@@ -1,0 +1,126 @@
+ghost use Rattle.std.specs.Prelude.{◌≡◌, ◌≢◌, ◌⊎◌, ◌≤◌, ◌<◌, ◌+◌, ◌↔◌, ◌++◌, ℕ, List, [], length, None, Some, Ok, IfOk};
+ghost use Rattle.std.specs.Io.KnownBytes.{Consumes};
+ghost use Rattle.mt_text.specs.Feed.{IsLong, taken};
+ghost use Rattle.mt_ports.specs.Causes.{HasCause, StatusHasCause};
+ghost use Rattle.mt_output.specs.Writing.{Adds};
+ghost use Rattle.mt_stream.specs.Lines.{Closes, IsEnding, Leaves, Next, SinkHasCause, SourceHasCause, cut_status};
+ghost use Rattle.mt_stream.specs.Told.{told};
+
+use mt_output::Writer;
+use mt_ports::{Failed, Sink, Source, Status};
+use mt_text::{Feed, FeedFault};
+
+/// Why a run ends before its text does.
+#[derive(Drop)]
+pub enum Cut {
+    Feed(FeedFault),
+    Write,
+}
+
+/// The status of a run that was cut.
+pub fn cut_status(cut: &Cut) -> Status
+    ensures value { result ≡ cut_status cut.now }
+    ensures usage { result ≢ Status.Usage }
+{
+    match cut {
+        Cut::Feed(FeedFault::ReadFault) => Status::ReadFault,
+        Cut::Feed(FeedFault::TooLong) => Status::TooLong,
+        Cut::Write => Status::WriteFault,
+    }
+}
+
+/// Moves on to the next line, and says whether there is one. All that waits is written before the
+/// source is asked.
+pub fn next_line<S: Source, K: Sink>(
+    feed: &mut Feed,
+    source: &mut S,
+    writer: &mut Writer,
+    sink: &mut K,
+) -> Result<bool, Cut>
+    requires { feed.old.fault ≡ None }
+    ensures bytes { (more : List ℕ) × Consumes (S.left source.old) (S.left source.new) more × (S.given source.new ≡ S.given source.old + length more)
+        × Next feed.old feed.new (feed.old.pending ++ more) (S.left source.new) writer.old writer.new (K.taken sink.old) (K.taken sink.new) result }
+    ensures long { IsLong feed.new }
+    ensures source { SourceHasCause (S.faults source.old) (S.faults source.new) result }
+    ensures sink { SinkHasCause (K.faults sink.old) (K.faults sink.new) result }
+{
+    if feed.advance_pending() {
+        return Ok(true);
+    }
+    let flushed = writer.flush(sink);
+    if let Err(_) = flushed {
+        return Err(Cut::Write);
+    }
+    match feed.advance(source) {
+        Ok(moved) => Ok(moved),
+        Err(fault) => Err(Cut::Feed(fault)),
+    }
+}
+
+/// Writes a last text, and answers the status.
+pub fn tell<K: Sink>(
+    writer: &mut Writer,
+    sink: &mut K,
+    text: &[u8],
+    status: Status,
+) -> Result<Option<Status>, Failed>
+    requires { length text.now ≤ 224 }
+    ensures bytes { Adds writer.old text.now writer.new (K.taken sink.old) (K.taken sink.new) result }
+    ensures status { IfOk result (λ ended. ended ≡ Some status) }
+    ensures answer { (answer : Status) → result ≡ Ok (Some answer) → answer ≡ status }
+    ensures cause { HasCause (K.faults sink.old) (K.faults sink.new) result }
+{
+    match writer.write(sink, text) {
+        Ok(()) => Ok(Some(status)),
+        Err(failed) => Err(failed),
+    }
+}
+
+/// Writes a last text with all that waits, and answers the status.
+pub fn close<K: Sink>(writer: &mut Writer, sink: &mut K, text: &[u8], status: Status) -> Status
+    requires few { length text.now ≤ 224 }
+    requires status { status ≢ Status.WriteFault }
+    ensures bytes { Closes (told text.now status) writer.old (K.taken sink.old) (K.taken sink.new) result }
+    ensures statuses { (result ≡ status) ⊎ (result ≡ Status.WriteFault) }
+    ensures cause { StatusHasCause Status.WriteFault (K.faults sink.old) (K.faults sink.new) result }
+{
+    if let Err(_) = writer.write(sink, text) {
+        return Status::WriteFault;
+    }
+    match writer.flush(sink) {
+        Ok(()) => status,
+        Err(_) => Status::WriteFault,
+    }
+}
+
+/// Ends a run with a status that a line gave it: writes all that waits, and drops what is left of
+/// the source, unless that line was the last or memory was refused.
+pub fn leave<S: Source, K: Sink>(
+    status: Status,
+    last: bool,
+    feed: &mut Feed,
+    source: &mut S,
+    writer: &mut Writer,
+    sink: &mut K,
+) -> Status
+    requires fault { feed.old.fault ≡ None }
+    requires status { IsEnding status }
+    ensures bytes { (more : List ℕ) × Consumes (S.left source.old) (S.left source.new) more × (S.given source.new ≡ S.given source.old + length more) × (taken feed.new ≡ taken feed.old + length more)
+        × Leaves status last more (S.left source.new) writer.old (K.taken sink.old) (K.taken sink.new) result }
+    ensures long { (result ≡ Status.TooLong) ↔ (16777216 < taken feed.new) }
+    ensures usage { result ≢ Status.Usage }
+    ensures read_fault { StatusHasCause Status.ReadFault (S.faults source.old) (S.faults source.new) result }
+    ensures write_fault { StatusHasCause Status.WriteFault (K.faults sink.old) (K.faults sink.new) result }
+{
+    feed.fault(); // a fact for the proof
+    if let Err(_) = writer.flush(sink) {
+        return Status::WriteFault;
+    }
+    if last || status == Status::NoMemory {
+        return status;
+    }
+    match feed.drain(source) {
+        Ok(()) => status,
+        Err(fault) => cut_status(&Cut::Feed(fault)),
+    }
+}
