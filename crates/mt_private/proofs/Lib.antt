@@ -1,0 +1,4 @@
+mod Accessed
+mod Causes
+mod Lists
+mod Walk

@@ -1,0 +1,28 @@
+-- Elements of lists by their places.
+use Rattle.std.proofs.Common.{◌≡◌, ◌≢◌, ◌∙◌, ap, refl, ℕ, zero, suc, ◌+◌, List, [], ◌∷◌, ◌++◌, drop, length, Some, inl, inr, ⊎_elim, arith}
+use Rattle.std.specs.Prelude.{◌⊎◌, slice_get, slice_set}
+use Rattle.std.proofs.lemmas.List.{drop_more}
+use Rattle.std.proofs.lemmas.Option.{get_or_from_slice_get, slice_get_within}
+
+pub drop_at : {X : Type 0} (xs : List X) (i : ℕ) (x : X) → slice_get xs i ≡ Some x → drop i xs ≡ x ∷ drop (i + 1) xs
+drop_at xs i x at = drop_more xs i x (slice_get_within xs i x at) ∙ ap (λ y. y ∷ drop (i + 1) xs) (get_or_from_slice_get xs i x x at)
+
+-- what stands at a place after a list was changed at one
+pub at_put : {X : Type 0} (xs : List X) (k i : ℕ) (y q : X) → slice_get (slice_set xs k y) i ≡ Some q → ((i ≡ k) × (y ≡ q)) ⊎ ((i ≢ k) × (slice_get xs i ≡ Some q))
+at_put [] k i y q h = absurd (cc)
+at_put (x ∷ xs) zero zero y q h = inl (refl, cc)
+at_put (x ∷ xs) zero (suc i) y q h = inr ((λ e. absurd (cc)), h)
+at_put (x ∷ xs) (suc k) zero y q h = inr ((λ e. absurd (cc)), h)
+at_put (x ∷ xs) (suc k) (suc i) y q h =
+    ⊎_elim
+    (λ (e : (i ≡ k) × (y ≡ q)). inl (ap suc e.0, e.1))
+    (λ (e : (i ≢ k) × (slice_get xs i ≡ Some q)). inr ((λ same. e.0 (omega arith)), e.1))
+    (at_put xs k i y q h)
+
+-- and after one more stands at the end
+pub at_end : {X : Type 0} (xs : List X) (y : X) (i : ℕ) (q : X) → slice_get (xs ++ y ∷ []) i ≡ Some q → ((i ≡ length xs) × (y ≡ q)) ⊎ (slice_get xs i ≡ Some q)
+at_end [] y zero q h = inl (refl, cc)
+at_end [] y (suc i) q h = absurd (cc)
+at_end (x ∷ xs) y zero q h = inr h
+at_end (x ∷ xs) y (suc i) q h =
+    ⊎_elim (λ (e : (i ≡ length xs) × (y ≡ q)). inl (ap suc e.0, e.1)) (λ (e : slice_get xs i ≡ Some q). inr e) (at_end xs y i q h)

@@ -1,0 +1,46 @@
+use Rattle.std.proofs.Common.{◌≡◌, rules, subst, sym, None, Some, ℕ, List}
+use Rattle.mt_regs.specs.declared.fault.Fault.{Fault}
+use Rattle.mt_regs.specs.Faults.{IsAccepted, IsFirstFault}
+use Rattle.mt_private.specs.declared.job.Job.{Job}
+use Rattle.mt_private.specs.declared.job.Part.{Part}
+use Rattle.mt_private.specs.declared.job.Told.{Told}
+use Rattle.mt_private.specs.Jobs.{AreOpen}
+use Rattle.mt_private.proofs.Causes.{accepted, private_where_none, refused, shared, unshared}
+use Rattle.mt_private.proofs.runs.run_private.Goals as goal
+
+pub returns-in-Some-clause-refused : goal.returns-in-Some-clause-refused
+returns-in-Some-clause-refused g c =
+    let none : c.args.core.now.order ≡ None = search rules in
+    let first : IsFirstFault c.args.goal (Some c.in-Some.fault) = search rules in
+    refused c.args.core.now.order c.args.goal c.in-Some.fault none first
+
+pub returns-in-Some-shared_page-clause-shared : goal.returns-in-Some-shared_page-clause-shared
+returns-in-Some-shared_page-clause-shared g c =
+    let none : c.args.core.now.order ≡ None = search rules in
+    let good : IsAccepted c.args.goal = search rules in
+    shared c.args.core.now.order c.args.goal c.args.core.now.system c.shared_page.result c.in-Some-shared_page.page none good c.in-Some-shared_page.is c.shared_page.ensures.least
+
+pub returns-in_default-room_for-clause-shared : goal.returns-in_default-room_for-clause-shared
+returns-in_default-room_for-clause-shared g c =
+    unshared c.args.core.now.order c.args.goal _ c.args.core.now.system c.shared_page.result (λ n is. absurd (cc)) c.in_default-shared_page.not-Some c.shared_page.ensures.least
+
+pub returns-in_default-room_for-clause-no_memory : goal.returns-in_default-room_for-clause-no_memory
+returns-in_default-room_for-clause-no_memory g c is =
+    let none : c.args.core.now.order ≡ None = search rules in
+    let good : IsAccepted c.args.goal = search rules in
+    (none, good, private_where_none c.args.core.now.system c.shared_page.result c.in_default-shared_page.not-Some c.shared_page.ensures.none)
+
+pub do_all-requires-clause-open : goal.do_all-requires-clause-open
+do_all-requires-clause-open g c κs within =
+    subst (λ (js : List Job). (part : Part) → AreOpen part js c.as_mut_slice.result.now) (sym c.as_slice-2.ensures.value)
+    (subst (λ (ts : List Told). (part : Part) → AreOpen part c.args.jobs.items ts) (sym c.as_mut_slice.ensures.value)
+    (subst (λ (js : List Job). (part : Part) → AreOpen part js c.in-Ok.told.items) c.as_slice.ensures.value c.in-Ok.ensures.open))
+
+pub returns-clause-refused : goal.returns-clause-refused
+returns-clause-refused g c =
+    let good : IsAccepted c.args.goal = search rules in
+    accepted c.args.core.now.order c.args.goal _ (λ fault is. absurd (cc)) good
+
+pub returns-clause-shared : goal.returns-clause-shared
+returns-clause-shared g c =
+    unshared c.args.core.now.order c.args.goal _ c.args.core.now.system c.shared_page.result (λ n is. absurd (cc)) c.in_default-shared_page.not-Some c.shared_page.ensures.least

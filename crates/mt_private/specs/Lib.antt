@@ -1,0 +1,4 @@
+pub mod Pages
+pub mod Jobs
+pub mod OneByOne
+pub mod Worked

@@ -1,0 +1,50 @@
+ghost use Rattle.std.specs.Prelude.{IfOk};
+ghost use Rattle.mt_private.specs.Jobs.{IsOpen};
+ghost use Rattle.mt_private.specs.declared.job.Part.{Part as JobPart};
+
+use mt_machine::{Done, Op};
+use mt_ports::NoMemory;
+use std::alloc::Global;
+
+/// What a processor accesses before it takes the update, and after it is released. Addresses are as for
+/// `Core::access`.
+#[derive(Drop)]
+pub struct Job {
+    pub before: Vec<Op>,
+    pub after: Vec<Op>,
+}
+
+/// The answers to a job's accesses, in order.
+#[derive(Drop)]
+pub struct Told {
+    pub before: Vec<Done>,
+    pub after: Vec<Done>,
+}
+
+/// A part of a job.
+#[derive(Clone, Copy, Debug, PartialEq, Eq)]
+pub enum Part {
+    /// Before the update.
+    Before,
+    /// After it.
+    After,
+}
+
+impl Told {
+    /// No answers, and room for those of a job.
+    ///
+    /// # Errors
+    ///
+    /// The allocator has no room.
+    pub fn new(alloc: Global, job: &Job) -> Result<Told, NoMemory>
+        ensures { IfOk result (λ told. (part : JobPart) → IsOpen part job.now told) }
+    {
+        let Ok(before) = Vec::with_capacity(alloc, job.before.len()) else {
+            return Err(NoMemory);
+        };
+        let Ok(after) = Vec::with_capacity(alloc, job.after.len()) else {
+            return Err(NoMemory);
+        };
+        Ok(Told { before, after })
+    }
+}

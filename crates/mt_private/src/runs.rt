@@ -1,0 +1,206 @@
+// Jobs of processors and one update, as they are done one after the other.
+ghost use Rattle.std.specs.Prelude.{◌≡◌, ℕ, ◌+◌, ◌++◌, ◌<◌, ◌≤◌, ◌↔◌, [], None, Some, IsSome, Err, OnErr, IfOk, length, map, slice_get, vec_len, vec_capacity};
+ghost use Rattle.std.specs.List.{All};
+ghost use Rattle.mt_regs.specs.declared.fault.Fault.{Fault};
+ghost use Rattle.mt_regs.specs.Faults.{IsAccepted, IsFirstFault};
+ghost use Rattle.mt_machine.specs.Machine.{FitsGoal, FitsOp};
+ghost use Rattle.mt_machine.specs.Start.{HasEraRoom};
+ghost use Rattle.mt_machine.specs.Update.{updated};
+ghost use Rattle.mt_core.specs.Rounds.{in_order};
+ghost use Rattle.mt_private.specs.Jobs.{AreOpen, FitsJob, IsOpen, answers_in, ops_in, other_part, room_in};
+ghost use Rattle.mt_private.specs.OneByOne.{jobs_one_by_one, ran, ran_each};
+ghost use Rattle.mt_private.specs.Pages.{IsLeastShared, IsPrivate};
+ghost use Rattle.mt_private.specs.declared.job.Part.{Part as JobPart};
+ghost use Rattle.mt_private.specs.declared.job.Part.TheVariants.{Before, After};
+
+use crate::fault::PrivateFault;
+use crate::job::{Job, Part, Told};
+use crate::pages::shared_page;
+use mt_core::{Core, a_core_arises};
+use mt_machine::{Done, Op};
+use mt_ports::{Gate, NoMemory};
+use mt_regs::RegFile;
+use mt_rendezvous::update;
+use std::alloc::Global;
+use std::sync::Wait;
+use std::thread::Threads;
+
+fn op_at(ops: &[Op], i: usize) -> Op
+    requires place { i < length ops.now }
+    requires fits { All FitsOp ops.now }
+    ensures at { slice_get ops.now i ≡ Some result }
+    ensures fits { FitsOp result }
+{
+    ops[i]
+}
+
+// The accesses of processor k, in order.
+fn do_ops(core: &mut Core, k: u32, ops: &[Op], told: &mut Vec<Done>)
+    requires processor { k < length core.old.system.processors }
+    requires fits { All FitsOp ops.now }
+    requires empty { told.old.items ≡ [] }
+    requires room { length ops.now ≤ vec_capacity told.old }
+    ensures after { core.new ≡ record core.old { system = (ran k ops.now core.old.system).after } }
+    ensures answers { told.new.items ≡ (ran k ops.now core.old.system).answers }
+    ensures count { length core.new.system.processors ≡ length core.old.system.processors }
+{
+    for i in 0..ops.len() {
+        told.push_reserved(core.access(k, op_at(ops, i)));
+    }
+}
+
+// Those of one part of its job.
+fn do_part(core: &mut Core, k: u32, part: Part, job: &Job, told: &mut Told)
+    requires processor { k < length core.old.system.processors }
+    requires fits { FitsJob job.now }
+    requires open { IsOpen part job.now told.old }
+    ensures after { core.new ≡ record core.old { system = (ran k (ops_in part job.now) core.old.system).after } }
+    ensures answers { answers_in part told.new ≡ (ran k (ops_in part job.now) core.old.system).answers }
+    ensures other { (answers_in (other_part part) told.new ≡ answers_in (other_part part) told.old) × (room_in (other_part part) told.new ≡ room_in (other_part part) told.old) }
+    ensures count { length core.new.system.processors ≡ length core.old.system.processors }
+{
+    match part {
+        Part::Before => do_ops(core, k, job.before.as_slice(), &mut told.before),
+        Part::After => do_ops(core, k, job.after.as_slice(), &mut told.after),
+    }
+}
+
+// Those of one part of all jobs, processor by processor.
+fn do_parts(core: &mut Core, part: Part, jobs: &[Job], told: &mut [Told])
+    requires processors { length jobs.now ≡ length core.old.system.processors }
+    requires few { length jobs.now ≤ 16 }
+    requires one_each { length told.old ≡ length jobs.now }
+    requires fits { All FitsJob jobs.now }
+    requires open { AreOpen part jobs.now told.old }
+    ensures after { core.new ≡ record core.old { system = (ran_each 0 (map (ops_in part) jobs.now) core.old.system).after } }
+    ensures answers { map (answers_in part) told.new ≡ (ran_each 0 (map (ops_in part) jobs.now) core.old.system).answers }
+    ensures other { map (answers_in (other_part part)) told.new ≡ map (answers_in (other_part part)) told.old }
+    ensures open { AreOpen (other_part part) jobs.now told.old → AreOpen (other_part part) jobs.now told.new }
+    ensures count { length core.new.system.processors ≡ length core.old.system.processors }
+{
+    for k in 0..jobs.len() {
+        let answers = &mut told[k];
+        do_part(core, k as u32, part, &jobs[k], answers);
+    }
+}
+
+// Room for the answers to all jobs.
+fn room_for(alloc: Global, jobs: &[Job]) -> Result<Vec<Told>, NoMemory>
+    ensures count { IfOk result (λ told. length told.items ≡ length jobs.now) }
+    ensures open { IfOk result (λ told. (part : JobPart) → AreOpen part jobs.now told.items) }
+{
+    let Ok(mut told) = Vec::with_capacity(alloc, jobs.len()) else {
+        return Err(NoMemory);
+    };
+    for k in 0..jobs.len() {
+        let Ok(answers) = Told::new(alloc, &jobs[k]) else {
+            return Err(NoMemory);
+        };
+        told.push_reserved(answers);
+    }
+    Ok(told)
+}
+
+// The update, which isn't refused here.
+fn update_all<R: Threads + Wait + Sync, G: Gate>(
+    rt: &R,
+    alloc: Global,
+    core: &mut Core,
+    goal: RegFile,
+    gate: &G,
+)
+    requires none { core.old.order ≡ None }
+    requires accepted { IsAccepted goal }
+    requires some { 0 < length core.old.system.processors }
+    requires fits { All (FitsGoal goal) core.old.system.processors }
+    requires room { HasEraRoom core.old }
+    ensures { core.new ≡ updated core.old.system (in_order core.old) goal }
+{
+    let Ok(()) = update(rt, alloc, core, goal, gate) else {
+        unreachable!()
+    };
+}
+
+// The accesses before, the update, and the accesses after.
+fn do_all<R: Threads + Wait + Sync, G: Gate>(
+    rt: &R,
+    alloc: Global,
+    core: &mut Core,
+    goal: RegFile,
+    jobs: &[Job],
+    told: &mut [Told],
+    gate: &G,
+)
+    requires none { core.old.order ≡ None }
+    requires accepted { IsAccepted goal }
+    requires some { 0 < length core.old.system.processors }
+    requires few { length core.old.system.processors ≤ 16 }
+    requires fits { All (FitsGoal goal) core.old.system.processors }
+    requires room { HasEraRoom core.old }
+    requires processors { length jobs.now ≡ length core.old.system.processors }
+    requires one_each { length told.old ≡ length jobs.now }
+    requires addresses { All FitsJob jobs.now }
+    requires open { (part : JobPart) → AreOpen part jobs.now told.old }
+    ensures left { core.new ≡ (jobs_one_by_one core.old.system goal jobs.now).left }
+    ensures before { map (answers_in Before) told.new ≡ (jobs_one_by_one core.old.system goal jobs.now).before }
+    ensures after { map (answers_in After) told.new ≡ (jobs_one_by_one core.old.system goal jobs.now).after }
+{
+    do_parts(core, Part::Before, jobs, told);
+    update_all(rt, alloc, core, goal, gate);
+    do_parts(core, Part::After, jobs, told);
+}
+
+/// Runs a job for each processor and one update: the accesses before it, processor by processor, the whole update, on a
+/// thread for each processor as `update` of mt_rendezvous does it, and the accesses after it, processor by processor. The
+/// answers are those of each job. Memory is taken before the first access.
+///
+/// # Errors
+///
+/// An update is under way; or else the goal has a fault; or else two processors name a page; or else memory was
+/// refused. Nothing then changes.
+pub fn run_private<R: Threads + Wait + Sync, G: Gate>(
+    rt: &R,
+    alloc: Global,
+    core: &mut Core,
+    goal: RegFile,
+    jobs: Vec<Job>,
+    gate: &G,
+) -> Result<Vec<Told>, PrivateFault>
+    requires some { 0 < length core.old.system.processors }
+    requires one_each { vec_len jobs ≡ length core.old.system.processors }
+    requires addresses { All FitsJob jobs.items }
+    requires fits { All (FitsGoal goal) core.old.system.processors }
+    requires room { HasEraRoom core.old }
+    ensures under_way { (result ≡ Err PrivateFault.UnderWay) ↔ IsSome core.old.order }
+    ensures refused { (fault : Fault) → (result ≡ Err (PrivateFault.Refused fault)) ↔ ((core.old.order ≡ None) × IsFirstFault goal (Some fault)) }
+    ensures shared { (page : ℕ) → (result ≡ Err (PrivateFault.Shared page)) ↔ ((core.old.order ≡ None) × IsAccepted goal × IsLeastShared core.old.system page) }
+    ensures no_memory { result ≡ Err PrivateFault.NoMemory → (core.old.order ≡ None) × IsAccepted goal × IsPrivate core.old.system }
+    ensures left { IfOk result (λ told. core.new ≡ (jobs_one_by_one core.old.system goal jobs.items).left) }
+    ensures before { IfOk result (λ told. map (answers_in Before) told.items ≡ (jobs_one_by_one core.old.system goal jobs.items).before) }
+    ensures after { IfOk result (λ told. map (answers_in After) told.items ≡ (jobs_one_by_one core.old.system goal jobs.items).after) }
+    ensures kept { OnErr result (core.new ≡ core.old) }
+{
+    if core.order().is_some() {
+        return Err(PrivateFault::UnderWay);
+    }
+    if let Some(fault) = goal.first_fault() {
+        return Err(PrivateFault::Refused(fault));
+    }
+    if let Some(page) = shared_page(core) {
+        return Err(PrivateFault::Shared(page));
+    }
+    let Ok(mut told) = room_for(alloc, jobs.as_slice()) else {
+        return Err(PrivateFault::NoMemory);
+    };
+    a_core_arises(core); // a fact for the proof
+    do_all(
+        rt,
+        alloc,
+        core,
+        goal,
+        jobs.as_slice(),
+        told.as_mut_slice(),
+        gate,
+    );
+    Ok(told)
+}

@@ -1,0 +1,327 @@
+//! Jobs of processors and one update, run on threads.
+ghost use Rattle.std.specs.Prelude.{◌≡◌, ◌↔◌, ◌<◌, ◌≤◌, ◌-◌, ◌^◌, IsTrue, length};
+ghost use Rattle.std.specs.List.{All};
+ghost use Rattle.mt_machine.specs.Machine.{FitsGoal, FitsOp};
+ghost use Rattle.mt_machine.specs.Start.{HasEraRoom};
+ghost use Rattle.mt_private.specs.Jobs.{FitsJob};
+
+use crate::fault::PrivateFault;
+use crate::job::{Job, Told};
+use crate::pages::shared_page;
+use crate::runs::run_private;
+use mt_bus::System;
+use mt_core::Core;
+use mt_cpu::Cpu;
+use mt_kinds::MemType;
+use mt_laws::start_is_quiet;
+use mt_machine::{Control, Done, Op, Ruled};
+use mt_ports::{Gate, OpenGate};
+use mt_regs::RegFile;
+use mt_tlb::Mapping;
+use std::alloc::Global;
+use std::sync::Wait;
+use std::sync::atomic::{AtomicU64, Ordering};
+use std::thread::Threads;
+
+/// A file whose memory below 4 GB has a type, over UC.
+fn file(kind: u64) -> Option<RegFile> {
+    let Ok(mut file) = RegFile::blank(36, 0x508) else {
+        return None;
+    };
+    for (msr, value) in [(0x200, kind), (0x201, 0xf_0000_0800), (0x2ff, 0x800)] {
+        if file.set(msr, value).is_err() {
+            return None;
+        }
+    }
+    Some(file)
+}
+
+/// So many processors whose memory is of type WB, without windows.
+fn bare_core(alloc: Global, count: u32) -> Option<Core> {
+    let file = file(6)?;
+    if count < 1 || count > 16 || file.first_fault().is_some() {
+        return None;
+    }
+    start_is_quiet();
+    file.is_register_file();
+    let Ok(system) = System::new(alloc, count, &file) else {
+        return None;
+    };
+    Some(Core::new(system))
+}
+
+/// Maps page 1 of processor k to this physical page.
+fn map(core: &mut Core, k: u32, ppage: u64) -> Option<()> {
+    let x = Mapping {
+        vpage: 1,
+        ppage,
+        index: 0,
+        global: false,
+    };
+    let pages = core.system().cpus.get(k as usize)?.regs().pages();
+    if ppage >= pages || core.control(k, Control::Map(x)) != Ruled::Okay {
+        return None;
+    }
+    Some(())
+}
+
+/// So many processors, each with a window of 64 lines of its own to which its page 1 is mapped.
+fn core_of(alloc: Global, count: u32) -> Option<Core> {
+    let mut core = bare_core(alloc, count)?;
+    for k in 0..count {
+        if k < 16 {
+            if core.add_ram((k as u64 + 1) * 0x10_0000, 64).is_err() {
+                return None;
+            }
+            map(&mut core, k, (k as u64 + 1) * 0x100)?;
+        }
+    }
+    Some(core)
+}
+
+/// Two processors that have a page in common.
+fn common_core(alloc: Global) -> Option<Core> {
+    let mut core = bare_core(alloc, 2)?;
+    if core.add_ram(0x10_0000, 64).is_err() {
+        return None;
+    }
+    map(&mut core, 0, 0x100)?;
+    map(&mut core, 1, 0x100)?;
+    Some(core)
+}
+
+fn one(alloc: Global, op: Op) -> Option<Vec<Op>> {
+    let mut ops = Vec::new(alloc);
+    if ops.push(op).is_err() {
+        return None;
+    }
+    Some(ops)
+}
+
+/// For each of so many processors a store of 2AH and its number before, and a load of it after.
+fn jobs_of(alloc: Global, count: u32) -> Option<Vec<Job>> {
+    let mut jobs = Vec::new(alloc);
+    for k in 0..count {
+        let before = one(alloc, Op::Store(0x1000, 0x2a_u64.saturating_add(k as u64)))?;
+        let after = one(alloc, Op::Load(0x1000))?;
+        if jobs.push(Job { before, after }).is_err() {
+            return None;
+        }
+    }
+    Some(jobs)
+}
+
+/// So many jobs without accesses.
+fn empty_jobs(alloc: Global, count: u32) -> Option<Vec<Job>> {
+    let mut jobs = Vec::new(alloc);
+    for _k in 0..count {
+        let before = Vec::new(alloc);
+        let after = Vec::new(alloc);
+        if jobs.push(Job { before, after }).is_err() {
+            return None;
+        }
+    }
+    Some(jobs)
+}
+
+/// Whether each processor has the goal's width and capabilities.
+fn fits(cpus: &[Cpu], goal: &RegFile) -> bool
+    ensures { IsTrue result ↔ All (FitsGoal goal.now) cpus.now }
+{
+    cpus.iter().all(|cpu| goal.maxphy == cpu.regs().maxphy && goal.cap == cpu.regs().cap)
+}
+
+/// Whether each era has room for an update.
+fn has_room(cpus: &[Cpu]) -> bool
+    ensures { IsTrue result ↔ All (λ p. p.era < 2 ^ 64 - 1) cpus.now }
+{
+    cpus.iter().all(|cpu| cpu.era() < u64::MAX)
+}
+
+/// Whether an update's conditions hold.
+fn may_call(core: &Core, goal: &RegFile) -> bool
+    ensures { IsTrue result → (0 < length core.now.system.processors) × All (FitsGoal goal.now) core.now.system.processors × HasEraRoom core.now }
+{
+    let cpus = core.system().cpus.as_slice();
+    !cpus.is_empty() && fits(cpus, goal) && has_room(cpus)
+}
+
+fn fits_op(op: Op) -> bool
+    ensures { IsTrue result ↔ FitsOp op }
+{
+    match op {
+        Op::Load(address) => address % 8 == 0 && address < 0x1_0000_0000_0000,
+        Op::Store(address, _) => address % 8 == 0 && address < 0x1_0000_0000_0000,
+        Op::Fence => true,
+    }
+}
+
+fn fits_ops(ops: &[Op]) -> bool
+    ensures { IsTrue result ↔ All FitsOp ops.now }
+{
+    ops.iter().all(|op| fits_op(*op))
+}
+
+fn fits_job(job: &Job) -> bool
+    ensures { IsTrue result ↔ FitsJob job.now }
+{
+    fits_ops(job.before.as_slice()) && fits_ops(job.after.as_slice())
+}
+
+fn all_fit(jobs: &[Job]) -> bool
+    ensures { IsTrue result → All FitsJob jobs.now }
+{
+    for i in 0..jobs.len() {
+        if !fits_job(&jobs[i]) {
+            return false;
+        }
+    }
+    true
+}
+
+/// The jobs on threads, where their conditions hold.
+fn on_threads<R: Threads + Wait + Sync, G: Gate>(
+    rt: &R,
+    alloc: Global,
+    core: &mut Core,
+    goal: RegFile,
+    jobs: Vec<Job>,
+    gate: &G,
+) -> Option<Result<Vec<Told>, PrivateFault>> {
+    let is_one_each = jobs.len() == core.system().cpus.len();
+    if !may_call(core, &goal) || !is_one_each || !all_fit(jobs.as_slice()) {
+        return None;
+    }
+    Some(run_private(rt, alloc, core, goal, jobs, gate))
+}
+
+fn word(core: &Core, address: u64) -> Option<u64> {
+    let ram = &core.system().ram;
+    let i = ram.place(address)?;
+    Some(ram.word(i))
+}
+
+/// Whether this processor stored its word as WB before the update and loaded it as UC after it, and the word is
+/// in memory, the processor's era is 1 and it has no line.
+fn is_done(core: &Core, told: &[Told], k: u32) -> Option<bool> {
+    let v = 0x2a_u64.saturating_add(k as u64);
+    let answers = told.get(k as usize)?;
+    let cpu = core.system().cpus.get(k as usize)?;
+    let base = 0x10_0000u64.saturating_mul((k as u64).saturating_add(1));
+    Some(
+        answers.before.as_slice() == [Done::Stored(MemType::WB)].as_slice()
+            && answers.after.as_slice() == [Done::Value(v, MemType::UC)].as_slice()
+            && word(core, base)? == v
+            && cpu.era() == 1
+            && cpu.cache().len() == 0,
+    )
+}
+
+/// So many processors store a word each, turn all memory to UC and load it.
+fn store_and_load<R: Threads + Wait + Sync, G: Gate>(
+    rt: &R,
+    alloc: Global,
+    count: u32,
+    gate: &G,
+) -> Option<bool> {
+    let mut core = core_of(alloc, count)?;
+    let jobs = jobs_of(alloc, count)?;
+    let Ok(told) = on_threads(rt, alloc, &mut core, file(0)?, jobs, gate)? else {
+        return None;
+    };
+    let mut done = told.len() == count as usize;
+    for k in 0..count {
+        done = is_done(&core, told.as_slice(), k)? && done;
+    }
+    Some(done)
+}
+
+#[test]
+fn each_loads_what_it_stored(rt: HostRuntime) {
+    for count in [1, 2, 3, 16] {
+        let done = store_and_load(&rt, rt.alloc(), count, &OpenGate);
+        assert!(rt; done == Some(true), "{count}");
+    }
+}
+
+/// Lets all start but one.
+#[derive(Drop)]
+struct AllBut {
+    k: u32,
+}
+
+impl Gate for AllBut {
+    fn may_start(&self, k: u32) -> bool {
+        k != self.k
+    }
+
+    fn arrived(&self, _k: u32) {}
+}
+
+#[test]
+fn each_refused_start_ends_so_too(rt: HostRuntime) {
+    for count in [1, 2, 3] {
+        for k in 0..count {
+            let done = store_and_load(&rt, rt.alloc(), count, &AllBut { k });
+            assert!(rt; done == Some(true), "{k} of {count}");
+        }
+    }
+}
+
+#[test]
+fn a_common_page_is_named(rt: HostRuntime) {
+    let alloc = rt.alloc();
+    let (Some(mut core), Some(goal), Some(jobs)) = (
+        common_core(alloc),
+        file(4),
+        empty_jobs(alloc, 2),
+    ) else {
+        panic!(rt; "the file is accepted");
+    };
+    assert!(rt; shared_page(&core) == Some(0x100));
+    let answer = on_threads(&rt, alloc, &mut core, goal, jobs, &OpenGate);
+    assert!(rt; matches!(answer, Some(Err(PrivateFault::Shared(0x100)))));
+}
+
+#[test]
+fn own_pages_are_private(rt: HostRuntime) {
+    let Some(core) = core_of(rt.alloc(), 16) else {
+        panic!(rt; "the file is accepted");
+    };
+    assert!(rt; shared_page(&core).is_none());
+}
+
+/// Each of two says that it has arrived, and looks for the other.
+#[derive(Drop)]
+struct Meets {
+    arrived: [AtomicU64; 2],
+    seen: AtomicU64,
+}
+
+impl Gate for Meets {
+    fn may_start(&self, _k: u32) -> bool {
+        true
+    }
+
+    fn arrived(&self, k: u32) {
+        let (own, other) = if k == 0 { (0, 1) } else { (1, 0) };
+        self.arrived[own].store(1, Ordering::SeqCst);
+        for _ in 0..200_000_000u64 {
+            if self.arrived[other].load(Ordering::SeqCst) == 1 {
+                self.seen.fetch_add(1, Ordering::SeqCst);
+                return;
+            }
+        }
+    }
+}
+
+/// Both calls of the gate see the other's flag, so two threads run at once.
+#[test]
+fn two_processors_meet(rt: HostRuntime) {
+    let gate = Meets {
+        arrived: [AtomicU64::new(0), AtomicU64::new(0)],
+        seen: AtomicU64::new(0),
+    };
+    assert!(rt; store_and_load(&rt, rt.alloc(), 2, &gate) == Some(true));
+    assert!(rt; gate.seen.load(Ordering::SeqCst) == 2);
+}
