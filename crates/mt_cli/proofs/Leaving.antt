@@ -1,24 +1,28 @@
 -- From what the calls say of the bytes to what a run leaves.
-use Rattle.std.proofs.Common.{◌≡◌, ◌≢◌, ◌⊎◌, ℕ, ◌<◌, Bool, true, false, List, [], ◌++◌, length, length-append, Option, Some, None, refl, sym, subst, ◌∙◌, ap, inl, inr, arith}
-use Rattle.std.specs.Io.KnownBytes.{Appends, Consumes, IsAtEnd}
+use Rattle.std.proofs.Common.{◌≡◌, ◌≢◌, ◌⊎◌, ℕ, true, false, List, [], ◌++◌, Option, Some, None, refl, sym, subst, ◌∙◌, ap, inl, inr, ◌∷◌}
 use Rattle.std.proofs.lemmas.List.{append-nil}
+use Rattle.std.specs.Io.KnownBytes.{Appends}
 use Rattle.mt_ports.specs.Puts.{AppendsFront}
 use Rattle.mt_ports.specs.declared.status.Status.{Status}
 use Rattle.mt_ports.specs.declared.status.Status.TheVariants.{Done, Refused, Usage, BadText, ReadFault, WriteFault, NoMemory, TooLong, TooFew, Disabled}
 use Rattle.mt_regs.specs.RegisterFile.{RegisterFile}
 use Rattle.mt_dump.specs.Dump.{Shown, dump_offence}
 use Rattle.mt_dump.specs.declared.fault.DumpFault.{DumpFault}
+use Rattle.mt_stream.specs.Runs.{Runs}
+use Rattle.mt_stream.specs.Runs as stream
+use Rattle.mt_proc.specs.Proc.{proc_told, proc_transcript}
+use Rattle.mt_proc.proofs.Endings.{one_of_three as one_of_three_of_proc}
 use Rattle.mt_replay.specs.Running.{Replays, TellsAll}
 use Rattle.mt_replay.specs.Transcript.{transcript}
 use Rattle.mt_replay.proofs.Refusals.Outcomes.{one_of_three}
-use Rattle.mt_cli.specs.declared.command.Command.TheVariants.{Dump, Replay, Make}
+use Rattle.mt_cli.specs.declared.command.Command.TheVariants.{Dump, Replay, Private, Proc}
 use Rattle.mt_cli.specs.declared.command.DumpCommand.{DumpCommand}
 use Rattle.mt_cli.specs.CommandLine.{command_of, left_of, reads_input}
-use Rattle.mt_cli.specs.Generator.{make_text}
+use Rattle.mt_cli.specs.Measured.{measured_text}
 use Rattle.mt_cli.specs.declared.command.Command.{Command}
-use Rattle.mt_cli.specs.Output.{Answer, Output, usage, bad_text, answered, replayed, made, refused, accepted, shown, typed, paged, tidied, too_few, disabled, grained, gran_too_few, gran_disabled}
-use Rattle.mt_cli.specs.Tool.{Answered, CutShort, Finished, Leaves, Reads}
-use Rattle.mt_cli.specs.Written.{Answers, AnswersInput, Makes, Writes, writes, no_memory, bad_input, good_input, no_input}
+use Rattle.mt_cli.specs.Output.{Answer, Output, usage, bad_text, answered, replayed, made, summed, measured, refused, accepted, shown, typed, paged, tidied, too_few, disabled, grained, gran_too_few, gran_disabled, requested}
+use Rattle.mt_cli.specs.Tool.{Answered, CutShort, Finished, Leaves, Reads, FailedRead, Overran, Untouched}
+use Rattle.mt_cli.specs.Written.{Answers, AnswersInput, Makes, Sums, Writes, writes, no_memory, bad_input, good_input, no_input}
 
 -- what stands after the bytes that the sink had
 appended : (before text : List ℕ) (old new : Option (List ℕ)) → old ≡ Some before → Appends old new text → new ≡ Some (before ++ text)
@@ -57,6 +61,14 @@ final_of_transcript bytes = elim (one_of_three bytes) [
   | inr (inr is) ↦ inr (inr (inl is))
 ]
 
+final_of_proc : (bytes : List ℕ) → IsFinal (proc_transcript bytes).status
+unfolding IsFinal
+final_of_proc bytes = elim (one_of_three_of_proc bytes) [
+  | inl is ↦ inl is
+  | inr (inl is) ↦ inr (inl is)
+  | inr (inr is) ↦ inr (inr (inl is))
+]
+
 finished_leaves : (words : List (List ℕ)) (bytes : List ℕ) (left : Option (List ℕ)) (before : List ℕ) (after : Option (List ℕ)) (status : Status)
     → IsFinal status → Finished words bytes left before after status → Leaves words bytes left before after status
 unfolding IsFinal
@@ -85,9 +97,14 @@ whole words bytes text status left before after (answered command file t s says 
     finished_leaves words bytes left before after s fin
     (record { text = t; output = answered command file t s says shows answer; taken = taken; read = read })
 whole words bytes text status left before after (made n says) = λ read taken. record { text = _; output = made n says; taken = taken; read = read }
+whole words bytes text status left before after (summed n says) = λ read taken. record { text = _; output = summed n says; taken = taken; read = read }
+whole words bytes text status left before after (measured cpus n accesses says) = λ read taken. record { text = _; output = measured cpus n accesses says; taken = taken; read = read }
 whole words bytes text status left before after (replayed says) = λ read taken.
     finished_leaves words bytes left before after (transcript bytes).status (final_of_transcript bytes)
     (record { text = (transcript bytes).text; output = replayed says; taken = taken; read = read })
+whole words bytes text status left before after (requested cpus says) = λ read taken.
+    finished_leaves words bytes left before after (proc_transcript bytes).status (final_of_proc bytes)
+    (record { text = (proc_transcript bytes).text; output = requested cpus says; taken = taken; read = read })
 
 -- a run whose last write is done or has failed
 pub written_leaves : (words : List (List ℕ)) (bytes text : List ℕ) (status result : Status) (left : Option (List ℕ)) (before : List ℕ) (old new : Option (List ℕ))
@@ -104,24 +121,36 @@ answers_leave words bytes file command result left before old new says shows rea
     written_leaves words bytes text status result left before old new (answered command file text status says shows answer) (left_by words bytes left (Some (Dump command)) says read) told wrote
 answers_leave words bytes file command result left before old new says shows read told (no_memory is same) = rw is (inl (same ∙ told))
 
--- words of `replay` are those of no command on a dump
-no_replay : (words : List (List ℕ)) (command : DumpCommand) → command_of words ≡ Some (Dump command) → command_of words ≡ Some Replay → ⊥
-no_replay words command says is = let e : Some (Dump command) ≡ Some Replay = sym says ∙ is in cc e
+-- what a failed read, or too long an input, leaves of the sink by the command
+read_failed : (words : List (List ℕ)) (command : Command) (bytes : List ℕ) (left : Option (List ℕ)) (before : List ℕ) (after : Option (List ℕ))
+    → command_of words ≡ Some command → FailedRead (Some command) bytes left before after → FailedRead (command_of words) bytes left before after
+read_failed words command bytes left before after says is = rw says is
+
+too_much : (words : List (List ℕ)) (command : Command) (bytes before : List ℕ) (after : Option (List ℕ))
+    → command_of words ≡ Some command → Overran (Some command) words bytes before after → Overran (command_of words) words bytes before after
+too_much words command bytes before after says is = subst (λ (o : Option Command). Overran o words bytes before after) (sym says) is
 
 -- a command on a dump
 pub input_leaves : (words : List (List ℕ)) (bytes : List ℕ) (command : DumpCommand) (result : Status) (left : Option (List ℕ)) (before : List ℕ) (old new : Option (List ℕ))
     → command_of words ≡ Some (Dump command) → old ≡ Some before → AnswersInput bytes command left old new result → Leaves words bytes left before new result
 input_leaves words bytes command result left before old new says told (bad_input fault is read wrote) = written_leaves words bytes _ BadText result left before old new (bad_text command fault says is) (left_by words bytes left (Some (Dump command)) says read) told wrote
 input_leaves words bytes command result left before old new says told (good_input file is read answers) = answers_leave words bytes file command result left before old new says is read told answers
-input_leaves words bytes command result left before old new says told (no_input same (inl failed)) = rw failed (λ other. same ∙ told, λ is. absurd (no_replay words command says is))
-input_leaves words bytes command result left before old new says told (no_input same (inr long)) = rw long.0 (λ other. same ∙ told, λ is. absurd (no_replay words command says is))
+input_leaves words bytes command result left before old new says told (no_input same (inl failed)) = rw failed (read_failed words (Dump command) bytes left before new says (same ∙ told))
+input_leaves words bytes command result left before old new says told (no_input same (inr long)) = rw long.0 (too_much words (Dump command) bytes before new says (same ∙ told))
 
--- a text that was made
-pub makes_leave : (words : List (List ℕ)) (bytes : List ℕ) (n : ℕ) (result : Status) (left : Option (List ℕ)) (before : List ℕ) (old new : Option (List ℕ))
-    → command_of words ≡ Some (Make n) → left ≡ Some bytes → old ≡ Some before → Makes n old new result → Leaves words bytes left before new result
-makes_leave words bytes n result left before old new says read told (inl wrote) =
-    written_leaves words bytes (make_text n) Done result left before old new (made n says) (left_by words bytes left (Some (Make n)) says read) told wrote
-makes_leave words bytes n result left before old new says read told (inr (is, same)) = rw is (inl (same ∙ told))
+-- a text that a number determines
+pub makes_leave : (words : List (List ℕ)) (bytes text : List ℕ) (command : Command) (result : Status) (left : Option (List ℕ)) (before : List ℕ) (old new : Option (List ℕ))
+    → command_of words ≡ Some command → Output words bytes text Done → left ≡ Some (left_of (Some command) bytes) → old ≡ Some before → Makes text old new result → Leaves words bytes left before new result
+makes_leave words bytes text command result left before old new says output read told (inl wrote) =
+    written_leaves words bytes text Done result left before old new output (left_by words bytes left (Some command) says read) told wrote
+makes_leave words bytes text command result left before old new says output read told (inr (is, same)) = rw is (inl (same ∙ told))
+
+-- sums of jobs
+pub sums_leave : (words : List (List ℕ)) (bytes : List ℕ) (cpus n accesses : ℕ) (result : Status) (left : Option (List ℕ)) (before : List ℕ) (old new : Option (List ℕ))
+    → command_of words ≡ Some (Private cpus n accesses) → left ≡ Some bytes → old ≡ Some before → Sums cpus n accesses old new result → Leaves words bytes left before new result
+sums_leave words bytes cpus n accesses result left before old new says read told (inl wrote) =
+    written_leaves words bytes (measured_text cpus n accesses) Done result left before old new (measured cpus n accesses says) (left_by words bytes left (Some (Private cpus n accesses)) says read) told wrote
+sums_leave words bytes cpus n accesses result left before old new says read told (inr (is, same)) = rw is (inl (same ∙ told))
 
 -- the sink took a front of the transcript
 front_of_transcript : (words : List (List ℕ)) (bytes before : List ℕ) (old new : Option (List ℕ))
@@ -146,12 +175,45 @@ replays_leave words bytes Done left before new says tells = tells_all words byte
 replays_leave words bytes Refused left before new says tells = tells_all words bytes Refused left before new says tells
 replays_leave words bytes Usage left before new says tells = absurd tells
 replays_leave words bytes BadText left before new says tells = tells_all words bytes BadText left before new says tells
-replays_leave words bytes ReadFault left before new says tells = (λ other. absurd (other says), λ is. tells)
+replays_leave words bytes ReadFault left before new says tells = read_failed words Replay bytes left before new says tells
 replays_leave words bytes WriteFault left before new says tells = front_of_transcript words bytes before (Some before) new says refl tells
 replays_leave words bytes NoMemory left before new says tells = inr (says, tells.0, front_of_transcript words bytes before (Some before) new says refl tells.1)
-replays_leave words bytes TooLong left before new says tells = (λ other. absurd (other says), λ is. front_of_transcript words bytes before (Some before) new says refl tells.1)
+replays_leave words bytes TooLong left before new says tells = too_much words Replay bytes before new says (front_of_transcript words bytes before (Some before) new says refl tells.1)
 replays_leave words bytes TooFew left before new says tells = absurd tells
 replays_leave words bytes Disabled left before new says tells = absurd tells
+
+-- the same of a `proc`
+front_of_proc : (words : List (List ℕ)) (bytes before : List ℕ) (cpus : ℕ) (old new : Option (List ℕ))
+    → command_of words ≡ Some (Proc cpus) → old ≡ Some before → AppendsFront old new (proc_transcript bytes).text → CutShort words bytes before new
+front_of_proc words bytes before cpus old new says told cut =
+    record { text = (proc_transcript bytes).text; status = (proc_transcript bytes).status; output = requested cpus says; front = cut.0; back = cut.1; cut = cut.2; taken = appended before cut.0 old new told cut.3 }
+
+proc_tells_all : (words : List (List ℕ)) (bytes : List ℕ) (cpus : ℕ) (result : Status) (left : Option (List ℕ)) (before : List ℕ) (new : Option (List ℕ))
+    → command_of words ≡ Some (Proc cpus) → stream.TellsAll (proc_transcript bytes) left (Some before) new result → Finished words bytes left before new result
+proc_tells_all words bytes cpus result left before new says tells = record {
+  text = (proc_transcript bytes).text;
+  output = subst (Output words bytes (proc_transcript bytes).text) (sym tells.status_is) (requested cpus says);
+  taken = appended before (proc_transcript bytes).text (Some before) new refl tells.taken;
+  read = left_by words bytes left (Some (Proc cpus)) says tells.read;
+}
+
+-- a front of nothing
+nothing_taken : (before : List ℕ) (new : Option (List ℕ)) → AppendsFront (Some before) new [] → Untouched before new
+nothing_taken before new ([], back, is, takes) = appended before [] (Some before) new refl takes ∙ ap Some (append-nil before)
+nothing_taken before new (byte ∷ front, back, is, takes) = absurd (cc is)
+
+pub proc_leaves : (words : List (List ℕ)) (bytes : List ℕ) (cpus : ℕ) (result : Status) (left : Option (List ℕ)) (before : List ℕ) (new : Option (List ℕ))
+    → command_of words ≡ Some (Proc cpus) → Runs proc_told [] bytes left (Some before) new result → Leaves words bytes left before new result
+proc_leaves words bytes cpus Done left before new says tells = proc_tells_all words bytes cpus Done left before new says tells
+proc_leaves words bytes cpus Refused left before new says tells = proc_tells_all words bytes cpus Refused left before new says tells
+proc_leaves words bytes cpus Usage left before new says tells = absurd tells
+proc_leaves words bytes cpus BadText left before new says tells = proc_tells_all words bytes cpus BadText left before new says tells
+proc_leaves words bytes cpus ReadFault left before new says tells = read_failed words (Proc cpus) bytes left before new says tells
+proc_leaves words bytes cpus WriteFault left before new says tells = front_of_proc words bytes before cpus (Some before) new says refl tells
+proc_leaves words bytes cpus NoMemory left before new says tells = inl (nothing_taken before new tells.0)
+proc_leaves words bytes cpus TooLong left before new says tells = too_much words (Proc cpus) bytes before new says (front_of_proc words bytes before cpus (Some before) new says refl tells.1)
+proc_leaves words bytes cpus TooFew left before new says tells = absurd tells
+proc_leaves words bytes cpus Disabled left before new says tells = absurd tells
 
 -- ---- what is said of the source alone
 
@@ -188,6 +250,25 @@ replays_read words bytes TooLong left old new says tells = tells.0
 replays_read words bytes TooFew left old new says tells = absurd tells
 replays_read words bytes Disabled left old new says tells = absurd tells
 
+-- the status of a `proc`
+proc_status : (words : List (List ℕ)) (bytes : List ℕ) (cpus : ℕ) (result : Status) (left old new : Option (List ℕ))
+    → command_of words ≡ Some (Proc cpus) → stream.TellsAll (proc_transcript bytes) left old new result → Answered words bytes left result
+proc_status words bytes cpus result left old new says tells =
+    record { text = (proc_transcript bytes).text; output = subst (Output words bytes (proc_transcript bytes).text) (sym tells.status_is) (requested cpus says); read = left_by words bytes left (Some (Proc cpus)) says tells.read }
+
+pub proc_reads : (words : List (List ℕ)) (bytes : List ℕ) (cpus : ℕ) (result : Status) (left old new : Option (List ℕ))
+    → command_of words ≡ Some (Proc cpus) → Runs proc_told [] bytes left old new result → Reads words bytes left result
+proc_reads words bytes cpus Done left old new says tells = proc_status words bytes cpus Done left old new says tells
+proc_reads words bytes cpus Refused left old new says tells = proc_status words bytes cpus Refused left old new says tells
+proc_reads words bytes cpus Usage left old new says tells = absurd tells
+proc_reads words bytes cpus BadText left old new says tells = proc_status words bytes cpus BadText left old new says tells
+proc_reads words bytes cpus ReadFault left old new says tells = tt
+proc_reads words bytes cpus WriteFault left old new says tells = tt
+proc_reads words bytes cpus NoMemory left old new says tells = tt
+proc_reads words bytes cpus TooLong left old new says tells = tells.0
+proc_reads words bytes cpus TooFew left old new says tells = absurd tells
+proc_reads words bytes cpus Disabled left old new says tells = absurd tells
+
 -- the statuses with which an answer never ends
 pub never_answers : (file : RegisterFile) (command : DumpCommand) (old new : Option (List ℕ)) (result : Status) → Answers file command old new result → (result ≢ Usage) × (result ≢ ReadFault) × (result ≢ TooLong)
 never_answers file command old new result answers = by answers
@@ -221,11 +302,19 @@ input_reads words bytes command result left old new says (good_input file is rea
 input_reads words bytes command result left old new says (no_input same (inl failed)) = rw failed tt
 input_reads words bytes command result left old new says (no_input same (inr long)) = rw long.0 long.1
 
--- the status of a text that was made
-pub makes_read : (words : List (List ℕ)) (bytes : List ℕ) (n : ℕ) (result : Status) (left old new : Option (List ℕ)) → command_of words ≡ Some (Make n) → left ≡ Some bytes → Makes n old new result → Reads words bytes left result
-makes_read words bytes n result left old new says read (inl (inl (is, takes))) = rw is (record { text = _; output = made n says; read = left_by words bytes left (Some (Make n)) says read })
-makes_read words bytes n result left old new says read (inl (inr (is, cut))) = rw is tt
-makes_read words bytes n result left old new says read (inr (is, same)) = rw is tt
+-- its status
+pub makes_read : (words : List (List ℕ)) (bytes text : List ℕ) (command : Command) (result : Status) (left old new : Option (List ℕ))
+    → command_of words ≡ Some command → Output words bytes text Done → left ≡ Some (left_of (Some command) bytes) → Makes text old new result → Reads words bytes left result
+makes_read words bytes text command result left old new says output read (inl (inl (is, takes))) = rw is (record { text = text; output = output; read = left_by words bytes left (Some command) says read })
+makes_read words bytes text command result left old new says output read (inl (inr (is, cut))) = rw is tt
+makes_read words bytes text command result left old new says output read (inr (is, same)) = rw is tt
+
+-- the status of sums of jobs
+pub sums_read : (words : List (List ℕ)) (bytes : List ℕ) (cpus n accesses : ℕ) (result : Status) (left old new : Option (List ℕ)) → command_of words ≡ Some (Private cpus n accesses) → left ≡ Some bytes → Sums cpus n accesses old new result → Reads words bytes left result
+sums_read words bytes cpus n accesses result left old new says read (inl (inl (is, takes))) =
+    rw is (record { text = _; output = measured cpus n accesses says; read = left_by words bytes left (Some (Private cpus n accesses)) says read })
+sums_read words bytes cpus n accesses result left old new says read (inl (inr (is, cut))) = rw is tt
+sums_read words bytes cpus n accesses result left old new says read (inr (is, same)) = rw is tt
 
 -- wrong usage
 pub usage_reads : (words : List (List ℕ)) (bytes : List ℕ) (written : List ℕ) (result : Status) (left old new : Option (List ℕ)) → left ≡ Some bytes → Writes written Usage old new result → Reads words bytes left result

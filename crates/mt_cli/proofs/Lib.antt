@@ -1,6 +1,7 @@
 mod Answering
 mod CanonicalLines
 mod Leaving
+mod Made
 mod LongLines
 mod OneOutput
 mod SomeOutput
@@ -8,3 +9,5 @@ mod SoundCommands
 mod Parting
 mod CommentLines
 mod Making
+mod Drawing
+mod Owning

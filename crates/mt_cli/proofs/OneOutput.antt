@@ -1,5 +1,5 @@
 -- Words and bytes have one status, and one text but where several lists of ranges are least.
-use Rattle.std.proofs.Common.{◌≡◌, ◌≢◌, ℕ, ◌++◌, false, List, Some, None, refl, sym, subst, ap, ◌∙◌, inl, inr, arith}
+use Rattle.std.proofs.Common.{◌≡◌, ◌≢◌, ℕ, ◌++◌, false, List, [], Some, None, refl, sym, subst, ap, ◌∙◌, inl, inr, arith}
 use Rattle.std.specs.Prelude.{◌⊎◌}
 use Rattle.mt_ports.specs.declared.status.Status.{Status}
 use Rattle.mt_ports.specs.declared.status.Status.TheVariants.{Done, Refused, TooFew, Disabled}
@@ -17,14 +17,16 @@ use Rattle.mt_tidy.specs.Keeps.{IsLeast}
 use Rattle.mt_tidy.specs.Kept.{IsTidy, NeedsMore}
 use Rattle.mt_gran.specs.Grained.{IsGrained, NeedsMore as GranNeedsMore}
 use Rattle.mt_gran.proofs.RoundedFit.{needs_is_least, one_least as one_rounded, used_is_least}
-use Rattle.mt_cli.specs.declared.command.Command.TheVariants.{Dump, Replay, Make}
+use Rattle.mt_cli.specs.declared.command.Command.TheVariants.{Dump, Replay, Make, Big, Private, Proc}
+use Rattle.mt_cli.specs.declared.command.Command.{Command}
 use Rattle.mt_cli.specs.declared.command.DumpCommand.{DumpCommand}
 use Rattle.mt_cli.specs.declared.command.DumpCommand.TheVariants.{Check, Show, Types, Page, Tidy, Gran}
+use Rattle.mt_cli.specs.Measured.{measured_text}
 use Rattle.mt_cli.specs.CommandLine.{command_of}
 use Rattle.mt_output.specs.Lines.{accepted_line, bad_text_line, refused_line}
 use Rattle.mt_cli.specs.Lines.{disabled_line, page_text, too_few_line, types_text, used_line}
 use Rattle.mt_cli.specs.Generator.{make_text}
-use Rattle.mt_cli.specs.Output.{Answer, MayChoose, Output, refused, accepted, shown, typed, paged, tidied, too_few, disabled, grained, gran_too_few, gran_disabled, usage, bad_text, answered, replayed, made}
+use Rattle.mt_cli.specs.Output.{Answer, MayChoose, Output, big_text, refused, accepted, shown, typed, paged, tidied, too_few, disabled, grained, gran_too_few, gran_disabled, usage, bad_text, answered, replayed, made, summed, measured, requested}
 
 -- the answer names the file's first fault
 record Refusal (file : RegisterFile) (command : DumpCommand) (text : List ℕ) (status : Status) : Type 0 where
@@ -222,8 +224,52 @@ no_make words command n says is = let e : Some (Dump command) ≡ Some (Make n) 
 no_made_replay : (words : List (List ℕ)) (n : ℕ) → command_of words ≡ Some Replay → command_of words ≡ Some (Make n) → ⊥
 no_made_replay words n says is = let e : Some Replay ≡ Some (Make n) = sym says ∙ is in cc e
 
+-- nor are those of `proc` words of another command
+no_proc : (words : List (List ℕ)) (command : DumpCommand) (cpus : ℕ) → command_of words ≡ Some (Dump command) → command_of words ≡ Some (Proc cpus) → ⊥
+no_proc words command cpus says is = let e : Some (Dump command) ≡ Some (Proc cpus) = sym says ∙ is in cc e
+
+no_proc_replay : (words : List (List ℕ)) (cpus : ℕ) → command_of words ≡ Some Replay → command_of words ≡ Some (Proc cpus) → ⊥
+no_proc_replay words cpus says is = let e : Some Replay ≡ Some (Proc cpus) = sym says ∙ is in cc e
+
+no_proc_big : (words : List (List ℕ)) (cpus n : ℕ) → command_of words ≡ Some (Proc cpus) → command_of words ≡ Some (Big n) → ⊥
+no_proc_big words cpus n says is = let e : Some (Proc cpus) ≡ Some (Big n) = sym says ∙ is in cc e
+
+no_proc_jobs : (words : List (List ℕ)) (number cpus n accesses : ℕ) → command_of words ≡ Some (Proc number) → command_of words ≡ Some (Private cpus n accesses) → ⊥
+no_proc_jobs words number cpus n accesses says is = let e : Some (Proc number) ≡ Some (Private cpus n accesses) = sym says ∙ is in cc e
+
+no_made_proc : (words : List (List ℕ)) (cpus n : ℕ) → command_of words ≡ Some (Proc cpus) → command_of words ≡ Some (Make n) → ⊥
+no_made_proc words cpus n says is = let e : Some (Proc cpus) ≡ Some (Make n) = sym says ∙ is in cc e
+
 same_number : (words : List (List ℕ)) (m n : ℕ) → command_of words ≡ Some (Make m) → command_of words ≡ Some (Make n) → m ≡ n
 same_number words m n says is = let e : Some (Make m) ≡ Some (Make n) = sym says ∙ is in cc e
+
+same_big : (words : List (List ℕ)) (m n : ℕ) → command_of words ≡ Some (Big m) → command_of words ≡ Some (Big n) → m ≡ n
+same_big words m n says is = let e : Some (Big m) ≡ Some (Big n) = sym says ∙ is in cc e
+
+-- words are one command
+one_command : (words : List (List ℕ)) (command other : Command) → command_of words ≡ Some command → command_of words ≡ Some other → command ≡ other
+one_command words command other says is = let e : Some command ≡ Some other = sym says ∙ is in cc e
+
+no_sums : (words : List (List ℕ)) (command : DumpCommand) (cpus n accesses : ℕ) → command_of words ≡ Some (Dump command) → command_of words ≡ Some (Private cpus n accesses) → ⊥
+no_sums words command cpus n accesses says is = let e = one_command words (Dump command) (Private cpus n accesses) says is in cc e
+
+no_measured_replay : (words : List (List ℕ)) (cpus n accesses : ℕ) → command_of words ≡ Some Replay → command_of words ≡ Some (Private cpus n accesses) → ⊥
+no_measured_replay words cpus n accesses says is = let e = one_command words Replay (Private cpus n accesses) says is in cc e
+
+no_measured_big : (words : List (List ℕ)) (m cpus n accesses : ℕ) → command_of words ≡ Some (Big m) → command_of words ≡ Some (Private cpus n accesses) → ⊥
+no_measured_big words m cpus n accesses says is = let e = one_command words (Big m) (Private cpus n accesses) says is in cc e
+
+no_measured_make : (words : List (List ℕ)) (m cpus n accesses : ℕ) → command_of words ≡ Some (Make m) → command_of words ≡ Some (Private cpus n accesses) → ⊥
+no_measured_make words m cpus n accesses says is = let e = one_command words (Make m) (Private cpus n accesses) says is in cc e
+
+-- the text of a command that sums
+sums_of : Command → List ℕ
+sums_of (Private cpus n accesses) = measured_text cpus n accesses
+sums_of other = []
+
+same_sums : (words : List (List ℕ)) (cpus n accesses p m a : ℕ) → command_of words ≡ Some (Private cpus n accesses) → command_of words ≡ Some (Private p m a) → measured_text cpus n accesses ≡ measured_text p m a
+unfolding sums_of
+same_sums words cpus n accesses p m a says is = ap sums_of (one_command words (Private cpus n accesses) (Private p m a) says is)
 
 pub one_output : (words : List (List ℕ)) (bytes text other : List ℕ) (s t : Status) → Output words bytes text s → Output words bytes other t → AgreeFor words text other s t
 one_output words bytes text other s t (usage none_is) (usage also) = (refl, λ not_done. refl)
@@ -231,6 +277,8 @@ one_output words bytes text other s t (usage none_is) (bad_text command fault sa
 one_output words bytes text other s t (usage none_is) (answered command file u v says shows answer) = absurd (cc (none_is, says))
 one_output words bytes text other s t (usage none_is) (replayed says) = absurd (cc (none_is, says))
 one_output words bytes text other s t (usage none_is) (made n says) = absurd (cc (none_is, says))
+one_output words bytes text other s t (usage none_is) (measured cpus n accesses says) = absurd (cc (none_is, says))
+one_output words bytes text other s t (usage none_is) (requested cpus says) = absurd (cc (none_is, says))
 one_output words bytes text other s t (bad_text command fault says is) (usage none_is) = absurd (cc (none_is, says))
 one_output words bytes text other s t (bad_text command fault says is) (bad_text again offence also too) =
     let e : Some fault ≡ Some offence = sym is ∙ too in
@@ -240,6 +288,8 @@ one_output words bytes text other s t (bad_text command fault says is) (answered
     let e : Some fault ≡ None = sym is ∙ shown_no_offence bytes file shows in absurd (cc e)
 one_output words bytes text other s t (bad_text command fault says is) (replayed also) = absurd (no_replay words command says also)
 one_output words bytes text other s t (bad_text command fault says is) (made n also) = absurd (no_make words command n says also)
+one_output words bytes text other s t (bad_text command fault says is) (measured cpus n accesses also) = absurd (no_sums words command cpus n accesses says also)
+one_output words bytes text other s t (bad_text command fault says is) (requested cpus also) = absurd (no_proc words command cpus says also)
 one_output words bytes text other s t (answered command file u v says shows answer) (usage none_is) = absurd (cc (none_is, says))
 one_output words bytes text other s t (answered command file u v says shows answer) (bad_text again fault also is) =
     let e : Some fault ≡ None = sym is ∙ shown_no_offence bytes file shows in absurd (cc e)
@@ -247,13 +297,48 @@ one_output words bytes text other s t (answered command file u v says shows answ
     agree_answered words bytes u w v x command again file other_file says also shows too answer reply
 one_output words bytes text other s t (answered command file u v says shows answer) (replayed also) = absurd (no_replay words command says also)
 one_output words bytes text other s t (answered command file u v says shows answer) (made n also) = absurd (no_make words command n says also)
+one_output words bytes text other s t (answered command file u v says shows answer) (measured cpus n accesses also) = absurd (no_sums words command cpus n accesses says also)
+one_output words bytes text other s t (answered command file u v says shows answer) (requested cpus also) = absurd (no_proc words command cpus says also)
 one_output words bytes text other s t (replayed says) (usage none_is) = absurd (cc (none_is, says))
 one_output words bytes text other s t (replayed says) (bad_text again fault also is) = absurd (no_replay words again also says)
 one_output words bytes text other s t (replayed says) (answered again file u v also shows answer) = absurd (no_replay words again also says)
 one_output words bytes text other s t (replayed says) (replayed also) = (refl, λ not_done. refl)
 one_output words bytes text other s t (replayed says) (made n also) = absurd (no_made_replay words n says also)
+one_output words bytes text other s t (replayed says) (measured cpus n accesses also) = absurd (no_measured_replay words cpus n accesses says also)
+one_output words bytes text other s t (replayed says) (requested cpus also) = absurd (no_proc_replay words cpus says also)
 one_output words bytes text other s t (made n says) (usage none_is) = absurd (cc (none_is, says))
 one_output words bytes text other s t (made n says) (bad_text again fault also is) = absurd (no_make words again n also says)
 one_output words bytes text other s t (made n says) (answered again file u v also shows answer) = absurd (no_make words again n also says)
 one_output words bytes text other s t (made n says) (replayed also) = absurd (no_made_replay words n also says)
 one_output words bytes text other s t (made n says) (made m also) = (refl, λ not_done. ap make_text (same_number words n m says also))
+one_output words bytes text other s t (usage none_is) (summed n says) = absurd (cc (none_is, says))
+one_output words bytes text other s t (bad_text command fault says is) (summed n also) = absurd (cc (says, also))
+one_output words bytes text other s t (answered command file u v says shows answer) (summed n also) = absurd (cc (says, also))
+one_output words bytes text other s t (replayed says) (summed n also) = absurd (cc (says, also))
+one_output words bytes text other s t (made n says) (summed m also) = absurd (cc (says, also))
+one_output words bytes text other s t (summed n says) (usage none_is) = absurd (cc (none_is, says))
+one_output words bytes text other s t (summed n says) (bad_text again fault also is) = absurd (cc (says, also))
+one_output words bytes text other s t (summed n says) (answered again file u v also shows answer) = absurd (cc (says, also))
+one_output words bytes text other s t (summed n says) (replayed also) = absurd (cc (says, also))
+one_output words bytes text other s t (summed n says) (made m also) = absurd (cc (says, also))
+one_output words bytes text other s t (summed n says) (summed m also) = (refl, λ not_done. ap big_text (same_big words n m says also))
+one_output words bytes text other s t (summed n says) (measured cpus m accesses also) = absurd (no_measured_big words n cpus m accesses says also)
+one_output words bytes text other s t (made m says) (measured cpus n accesses also) = absurd (no_measured_make words m cpus n accesses says also)
+one_output words bytes text other s t (measured cpus n accesses says) (usage none_is) = absurd (cc (none_is, says))
+one_output words bytes text other s t (measured cpus n accesses says) (bad_text again fault also is) = absurd (no_sums words again cpus n accesses also says)
+one_output words bytes text other s t (measured cpus n accesses says) (answered again file u v also shows answer) = absurd (no_sums words again cpus n accesses also says)
+one_output words bytes text other s t (measured cpus n accesses says) (replayed also) = absurd (no_measured_replay words cpus n accesses also says)
+one_output words bytes text other s t (measured cpus n accesses says) (made m also) = absurd (no_measured_make words m cpus n accesses also says)
+one_output words bytes text other s t (measured cpus n accesses says) (summed m also) = absurd (no_measured_big words m cpus n accesses also says)
+one_output words bytes text other s t (measured cpus n accesses says) (measured p m a also) = (refl, λ not_done. same_sums words cpus n accesses p m a says also)
+one_output words bytes text other s t (made n says) (requested cpus also) = absurd (no_made_proc words cpus n also says)
+one_output words bytes text other s t (requested cpus says) (usage none_is) = absurd (cc (none_is, says))
+one_output words bytes text other s t (requested cpus says) (bad_text again fault also is) = absurd (no_proc words again cpus also says)
+one_output words bytes text other s t (requested cpus says) (answered again file u v also shows answer) = absurd (no_proc words again cpus also says)
+one_output words bytes text other s t (requested cpus says) (replayed also) = absurd (no_proc_replay words cpus also says)
+one_output words bytes text other s t (requested cpus says) (made n also) = absurd (no_made_proc words cpus n says also)
+one_output words bytes text other s t (requested cpus says) (requested number also) = (refl, λ not_done. refl)
+one_output words bytes text other s t (requested cpus says) (summed n also) = absurd (no_proc_big words cpus n says also)
+one_output words bytes text other s t (summed n says) (requested cpus also) = absurd (no_proc_big words cpus n also says)
+one_output words bytes text other s t (requested number says) (measured cpus n accesses also) = absurd (no_proc_jobs words number cpus n accesses says also)
+one_output words bytes text other s t (measured cpus n accesses says) (requested number also) = absurd (no_proc_jobs words number cpus n accesses also says)

@@ -10,11 +10,11 @@ use Rattle.mt_dump.proofs.Ends.{shown_or_offence}
 use Rattle.mt_tidy.proofs.SomeTidy.{tidy_or_more}
 use Rattle.mt_gran.proofs.SomeRounding.{rounded_or_more}
 use Rattle.mt_cli.specs.declared.command.Command.{Command}
-use Rattle.mt_cli.specs.declared.command.Command.TheVariants.{Dump, Replay, Make}
+use Rattle.mt_cli.specs.declared.command.Command.TheVariants.{Dump, Replay, Make, Big, Private, Proc}
 use Rattle.mt_cli.specs.declared.command.DumpCommand.{DumpCommand}
 use Rattle.mt_cli.specs.declared.command.DumpCommand.TheVariants.{Check, Show, Types, Page, Tidy, Gran}
 use Rattle.mt_cli.specs.CommandLine.{command_of}
-use Rattle.mt_cli.specs.Output.{Answer, Output, refused, accepted, shown, typed, paged, tidied, too_few, disabled, grained, gran_too_few, gran_disabled, usage, bad_text, answered, replayed, made}
+use Rattle.mt_cli.specs.Output.{Answer, Output, refused, accepted, shown, typed, paged, tidied, too_few, disabled, grained, gran_too_few, gran_disabled, usage, bad_text, answered, replayed, made, summed, measured, requested}
 
 SomeAnswer : RegisterFile → DumpCommand → Type 0
 SomeAnswer file command = (text : List ℕ) × (status : Status) × Answer file command text status
@@ -80,4 +80,7 @@ some_output words bytes = by_command (command_of words) refl
     by_command None none_is = (_, _, usage none_is)
     by_command (Some (Dump command)) says = of_dump_output command says
     by_command (Some Replay) says = (_, _, replayed says)
+    by_command (Some (Proc cpus)) says = (_, _, requested cpus says)
     by_command (Some (Make n)) says = (_, _, made n says)
+    by_command (Some (Big n)) says = (_, _, summed n says)
+    by_command (Some (Private cpus n accesses)) says = (_, _, measured cpus n accesses says)

@@ -1,22 +1,26 @@
 -- A page's address that a command line names has 52 bits, and its index is one of eight.
 use Rattle.std.proofs.Common.{◌≡◌, ℕ, zero, suc, ◌+◌, ◌-◌, ◌^◌, ◌<◌, ◌≤◌, ◌==◌, Bool, true, false, List, [], ◌∷◌, Option, Some, None, refl, arith}
 use Rattle.std.specs.Prelude.{◌&&◌, nat_le, nat_lt, codes, if◌then◌else◌, IfSome, Result, Ok, Err}
-use Rattle.std.proofs.lemmas.Bool.{and_parts, ltb-true}
+use Rattle.std.proofs.lemmas.Bool.{and_parts, leb-true, ltb-true}
 use Rattle.mt_text.specs.Number.{decimal_number, hex_number}
 use Rattle.mt_text.specs.declared.fault.NumberFault.{NumberFault}
+use Rattle.mt_dump.proofs.OneLine.{decimal_within}
 use Rattle.mt_cli.specs.declared.command.Command.{Command}
-use Rattle.mt_cli.specs.declared.command.Command.TheVariants.{Dump, Replay, Make}
+use Rattle.mt_cli.specs.declared.command.Command.TheVariants.{Dump, Replay, Make, Big, Private, Proc}
 use Rattle.mt_cli.specs.declared.command.DumpCommand.{DumpCommand}
 use Rattle.mt_cli.specs.declared.command.DumpCommand.TheVariants.{Check, Show, Types, Page, Tidy, Gran}
 use Rattle.mt_cli.specs.declared.command.TidyOption.{TidyOption}
 use Rattle.mt_cli.specs.declared.command.TidyOption.TheVariants.{Spare, Chunk}
-use Rattle.mt_cli.specs.CommandLine.{IsSound, command_of, command_of_one, command_of_three, gran_as, gran_with, index_of, is_text, log_among, log_of, greatest, make_with, of_dump, option_of, page_at, tidy_with, tidy_with_both, usual_chunk, usual_spare}
+use Rattle.mt_cli.specs.CommandLine.{IsSound, command_of, command_of_one, command_of_three, gran_as, gran_with, big_with, index_of, is_text, log_among, log_of, greatest, make_with, of_dump, option_of, page_at, private_with, proc_with, tidy_with, tidy_with_both, usual_chunk, usual_spare}
 
 -- a command on a dump is sound
 abbrev IsSoundCommand : Command → Type 0
 IsSoundCommand (Dump command) = IsSound command
 IsSoundCommand Replay = Unit {0}
+IsSoundCommand (Proc cpus) = (0 < cpus) × (cpus ≤ 16)
 IsSoundCommand (Make n) = Unit {0}
+IsSoundCommand (Big n) = Unit {0}
+IsSoundCommand (Private cpus n accesses) = (1 ≤ cpus) × (cpus ≤ 16)
 
 on_dump : (command : Option DumpCommand) → IfSome command IsSound → IfSome (of_dump command) IsSoundCommand
 on_dump None sound = tt
@@ -94,6 +98,28 @@ sound_make : (number : Result ℕ NumberFault) → IfSome (make_with number) IsS
 sound_make (Ok n) = tt
 sound_make (Err fault) = tt
 
+sound_big : (number : Result ℕ NumberFault) → IfSome (big_with number) IsSoundCommand
+sound_big (Ok n) = tt
+sound_big (Err fault) = tt
+
+sound_private : (cpus number accesses : Result ℕ NumberFault) → IfSome (private_with cpus number accesses) IsSoundCommand
+sound_private (Err fault) number accesses = tt
+sound_private (Ok cpus) (Err fault) accesses = tt
+sound_private (Ok cpus) (Ok n) (Err fault) = tt
+sound_private (Ok cpus) (Ok n) (Ok accesses) = by_count (nat_le 1 cpus && nat_le cpus 16) refl
+  where
+    by_count : (b : Bool) → (nat_le 1 cpus && nat_le cpus 16) ≡ b → IfSome (if b then Some (Private cpus n accesses) else None) IsSoundCommand
+    by_count true test = let parts = and_parts _ _ test in (leb-true _ _ parts.0, leb-true _ _ parts.1)
+    by_count false test = tt
+
+sound_proc : (number : Result ℕ NumberFault) → ((cpus : ℕ) → number ≡ Ok cpus → cpus ≤ 16) → IfSome (proc_with number) IsSoundCommand
+sound_proc (Err fault) small = tt
+sound_proc (Ok cpus) small = by_test (nat_lt 0 cpus) refl
+  where
+    by_test : (b : Bool) → nat_lt 0 cpus ≡ b → IfSome (if b then Some (Proc cpus) else None) IsSoundCommand
+    by_test true test = (ltb-true _ _ test, small cpus refl)
+    by_test false test = tt
+
 sound_one : (name : List ℕ) → IfSome (command_of_one name) IsSoundCommand
 sound_one name =
     choice (is_text name (codes "check")) _ _ tt
@@ -110,10 +136,19 @@ sound [] = tt
 sound (name ∷ []) = sound_one name
 sound (name ∷ option ∷ []) =
     choice (is_text name (codes "tidy")) _ _ (on_dump _ (sound_with (option_of option)))
-    (choice (is_text name (codes "gran")) _ _ (on_dump _ (sound_gran option (Some (Tidy usual_spare usual_chunk)))) (choice (is_text name (codes "make")) _ None (sound_make (decimal_number option greatest)) tt))
+    (choice (is_text name (codes "gran")) _ _ (on_dump _ (sound_gran option (Some (Tidy usual_spare usual_chunk)))) (choice (is_text name (codes "make")) _ _ (sound_make (decimal_number option greatest))
+    (choice (is_text name (codes "big")) _ _ (sound_big (decimal_number option greatest)) (choice (is_text name (codes "proc")) _ None (sound_proc (decimal_number option 16) (decimal_within option 16)) tt))))
 sound (name ∷ first ∷ second ∷ []) = sound_three name first second
-sound (name ∷ first ∷ second ∷ third ∷ []) = choice (is_text name (codes "gran")) _ None (on_dump _ (sound_gran first (tidy_with_both (option_of second) (option_of third)))) tt
+sound (name ∷ first ∷ second ∷ third ∷ []) =
+    choice (is_text name (codes "gran")) _ _ (on_dump _ (sound_gran first (tidy_with_both (option_of second) (option_of third))))
+    (choice (is_text name (codes "private")) _ None (sound_private (decimal_number first greatest) (decimal_number second greatest) (decimal_number third 4096)) tt)
 sound (name ∷ first ∷ second ∷ third ∷ fourth ∷ more) = tt
 
 pub sound_command : (words : List (List ℕ)) (command : DumpCommand) → command_of words ≡ Some (Dump command) → IsSound command
 sound_command words command is = let h = sound words in rw is at h
+
+pub sound_counts : (words : List (List ℕ)) (cpus n accesses : ℕ) → command_of words ≡ Some (Private cpus n accesses) → (1 ≤ cpus) × (cpus ≤ 16)
+sound_counts words cpus n accesses is = let h = sound words in rw is at h
+
+pub sound_cpus : (words : List (List ℕ)) (cpus : ℕ) → command_of words ≡ Some (Proc cpus) → (0 < cpus) × (cpus ≤ 16)
+sound_cpus words cpus is = let h = sound words in rw is at h

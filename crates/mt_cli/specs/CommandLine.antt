@@ -5,7 +5,7 @@ use Rattle.std.specs.Cmp.Lexicographic.{pointwise}
 use Rattle.mt_text.specs.Number.{hex_number, decimal_number}
 use Rattle.mt_text.specs.declared.fault.NumberFault.{NumberFault}
 use Rattle.mt_cli.specs.declared.command.Command.{Command}
-use Rattle.mt_cli.specs.declared.command.Command.TheVariants.{Dump, Replay, Make}
+use Rattle.mt_cli.specs.declared.command.Command.TheVariants.{Dump, Replay, Make, Big, Private, Proc}
 use Rattle.mt_cli.specs.declared.command.DumpCommand.{DumpCommand}
 use Rattle.mt_cli.specs.declared.command.DumpCommand.TheVariants.{Check, Show, Types, Page, Tidy, Gran}
 use Rattle.mt_cli.specs.declared.command.TidyOption.{TidyOption}
@@ -98,11 +98,29 @@ abbrev pub make_with : Result ℕ NumberFault → Option Command
 make_with (Ok n) = Some (Make n)
 make_with (Err fault) = None
 
+abbrev pub big_with : Result ℕ NumberFault → Option Command
+big_with (Ok n) = Some (Big n)
+big_with (Err fault) = None
+
+-- of 1 to 16 processors, and at most 4,096 accesses before the update and as many after it
+abbrev pub private_with : Result ℕ NumberFault → Result ℕ NumberFault → Result ℕ NumberFault → Option Command
+private_with (Ok cpus) (Ok n) (Ok accesses) = if nat_le 1 cpus && nat_le cpus 16 then Some (Private cpus n accesses) else None
+private_with (Ok cpus) (Ok n) (Err fault) = None
+private_with (Ok cpus) (Err fault) accesses = None
+private_with (Err fault) n accesses = None
+
+-- one processor to 16
+abbrev pub proc_with : Result ℕ NumberFault → Option Command
+proc_with (Ok cpus) = if nat_lt 0 cpus then Some (Proc cpus) else None
+proc_with (Err fault) = None
+
 abbrev pub command_of_two : List ℕ → List ℕ → Option Command
 command_of_two name option =
     if is_text name (codes "tidy") then of_dump (tidy_with (option_of option))
     else if is_text name (codes "gran") then of_dump (gran_with option (Some (Tidy usual_spare usual_chunk)))
     else if is_text name (codes "make") then make_with (decimal_number option greatest)
+    else if is_text name (codes "big") then big_with (decimal_number option greatest)
+    else if is_text name (codes "proc") then proc_with (decimal_number option 16)
     else None
 
 -- one decimal digit from 0 to 7
@@ -125,7 +143,10 @@ command_of_three name first second =
     else None
 
 abbrev pub command_of_four : List ℕ → List ℕ → List ℕ → List ℕ → Option Command
-command_of_four name first second third = if is_text name (codes "gran") then of_dump (gran_with first (tidy_with_both (option_of second) (option_of third))) else None
+command_of_four name first second third =
+    if is_text name (codes "gran") then of_dump (gran_with first (tidy_with_both (option_of second) (option_of third)))
+    else if is_text name (codes "private") then private_with (decimal_number first greatest) (decimal_number second greatest) (decimal_number third 4096)
+    else None
 
 abbrev pub command_of : List (List ℕ) → Option Command
 command_of [] = None
@@ -153,14 +174,20 @@ MayTakeMemory (Dump (Page address index)) = ⊥
 MayTakeMemory (Dump (Tidy spare chunk)) = ⊤
 MayTakeMemory (Dump (Gran log spare chunk)) = ⊤
 MayTakeMemory Replay = ⊤
+MayTakeMemory (Proc cpus) = ⊤
 MayTakeMemory (Make n) = ⊤
+MayTakeMemory (Big n) = ⊤
+MayTakeMemory (Private cpus n accesses) = ⊤
 
 -- whether a command reads the input
 abbrev pub reads_input : Option Command → Bool
 reads_input None = false
 reads_input (Some (Dump command)) = true
 reads_input (Some Replay) = true
+reads_input (Some (Proc cpus)) = true
 reads_input (Some (Make n)) = false
+reads_input (Some (Big n)) = false
+reads_input (Some (Private cpus n accesses)) = false
 
 -- what a run to its end leaves of the input
 abbrev pub left_of : Option Command → List ℕ → List ℕ

@@ -5,3 +5,4 @@ pub mod Output
 pub mod Program
 pub mod Tool
 pub mod Written
+pub mod Measured

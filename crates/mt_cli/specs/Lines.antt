@@ -11,6 +11,7 @@ use Rattle.mt_types.specs.declared.run.Run.{Run}
 use Rattle.mt_types.specs.Runs.{run_end}
 use Rattle.mt_dump.specs.Canon.{value_text}
 use Rattle.mt_output.specs.Lines.{address_text, line}
+use Rattle.mt_replay.specs.declared.summing.Totals.{Totals}
 
 abbrev pub usage_line : List ℕ
 usage_line = line (codes "usage")
@@ -60,3 +61,9 @@ too_few_line needs has = line (codes "too few needs " ++ decimal needs ++ codes 
 -- with the value of the default-type register
 abbrev pub disabled_line : ℕ → List ℕ
 disabled_line value = line (codes "disabled 2ff " ++ value_text value)
+
+-- the numbers of a transcript
+abbrev pub summary_text : Totals → List ℕ
+summary_text t =
+    line (codes "lines " ++ decimal t.lines) ++ line (codes "updates " ++ decimal t.updates)
+    ++ line (codes "values " ++ value_text t.values) ++ line (codes "memory " ++ value_text t.memory)

@@ -12,16 +12,19 @@ use Rattle.mt_types.specs.Runs.{IsRunsOf}
 use Rattle.mt_dump.specs.Canon.{canon}
 use Rattle.mt_dump.specs.Dump.{Shown, dump_offence}
 use Rattle.mt_dump.specs.declared.fault.DumpFault.{DumpFault}
+use Rattle.mt_replay.specs.Summary.{summary}
 use Rattle.mt_replay.specs.Transcript.{transcript}
+use Rattle.mt_proc.specs.Proc.{proc_transcript}
 use Rattle.mt_tidy.specs.Kept.{IsTidy, NeedsMore}
 use Rattle.mt_gran.specs.Grained.{IsGrained, NeedsMore as GranNeedsMore}
-use Rattle.mt_cli.specs.declared.command.Command.TheVariants.{Dump, Replay, Make}
+use Rattle.mt_cli.specs.declared.command.Command.TheVariants.{Dump, Replay, Make, Big, Private, Proc}
 use Rattle.mt_cli.specs.declared.command.DumpCommand.{DumpCommand}
 use Rattle.mt_cli.specs.declared.command.DumpCommand.TheVariants.{Check, Show, Types, Page, Tidy, Gran}
 use Rattle.mt_cli.specs.CommandLine.{command_of}
 use Rattle.mt_cli.specs.Generator.{make_text}
+use Rattle.mt_cli.specs.Measured.{measured_text}
 use Rattle.mt_output.specs.Lines.{accepted_line, bad_text_line, refused_line}
-use Rattle.mt_cli.specs.Lines.{disabled_line, lost_line, page_text, parts_text, too_few_line, types_text, usage_line, used_line}
+use Rattle.mt_cli.specs.Lines.{disabled_line, lost_line, page_text, parts_text, summary_text, too_few_line, types_text, usage_line, used_line}
 
 -- the commands that may answer with any of several least lists of ranges
 abbrev pub MayChoose : DumpCommand → Type 0
@@ -48,10 +51,17 @@ pub data Answer (file : RegisterFile) : DumpCommand → List ℕ → Status → 
   gran_too_few : (log spare chunk needs has : ℕ) → GranNeedsMore file log chunk spare needs has → Answer file (Gran log spare chunk) (too_few_line needs has) TooFew
   gran_disabled : (log spare chunk : ℕ) → IsAccepted file → is_enabled file ≡ false → Answer file (Gran log spare chunk) (disabled_line file.default_type) Disabled
 
+-- the numbers of the transcript of the text for measurements that a number determines
+unfoldable pub big_text : ℕ → List ℕ
+big_text n = summary_text (summary (make_text n))
+
 -- The text and the status for a command line and an input.
 pub data Output (words : List (List ℕ)) (bytes : List ℕ) : List ℕ → Status → Type 0 where
   usage : command_of words ≡ None → Output words bytes usage_line Usage
   bad_text : (command : DumpCommand) (fault : DumpFault) → command_of words ≡ Some (Dump command) → dump_offence bytes ≡ Some fault → Output words bytes (bad_text_line fault) BadText
   answered : (command : DumpCommand) (file : RegisterFile) (text : List ℕ) (status : Status) → command_of words ≡ Some (Dump command) → Shown bytes file → Answer file command text status → Output words bytes text status
   made : (n : ℕ) → command_of words ≡ Some (Make n) → Output words bytes (make_text n) Done
+  summed : (n : ℕ) → command_of words ≡ Some (Big n) → Output words bytes (big_text n) Done
+  measured : (cpus n accesses : ℕ) → command_of words ≡ Some (Private cpus n accesses) → Output words bytes (measured_text cpus n accesses) Done
   replayed : command_of words ≡ Some Replay → Output words bytes (transcript bytes).text (transcript bytes).status
+  requested : (cpus : ℕ) → command_of words ≡ Some (Proc cpus) → Output words bytes (proc_transcript bytes).text (proc_transcript bytes).status

@@ -1,12 +1,15 @@
 -- What a run of the program leaves in the source and the sink (own).
-use Rattle.std.specs.Prelude.{ℕ, ◌≡◌, ◌≢◌, ◌<◌, ◌⊎◌, List, ◌++◌, length, Option, Some, ⊤}
+use Rattle.std.specs.Prelude.{ℕ, ◌≡◌, ◌<◌, ◌⊎◌, List, ◌++◌, length, Option, None, Some, ⊤}
 use Rattle.mt_ports.specs.declared.status.Status.{Status}
 use Rattle.mt_ports.specs.declared.status.Status.TheVariants.{Done, Refused, Usage, BadText, ReadFault, WriteFault, NoMemory, TooLong, TooFew, Disabled}
-use Rattle.mt_cli.specs.declared.command.Command.TheVariants.{Replay}
+use Rattle.mt_cli.specs.declared.command.Command.{Command}
+use Rattle.mt_cli.specs.declared.command.Command.TheVariants.{Dump, Replay, Proc, Make, Big, Private}
 use Rattle.mt_cli.specs.CommandLine.{command_of, left_of}
 use Rattle.mt_ports.specs.Puts.{AppendsFront}
 use Rattle.mt_output.specs.Lines.{accepted_line}
-use Rattle.mt_replay.specs.Running.{TellsKnown}
+use Rattle.mt_stream.specs.Runs.{TellsKnown}
+use Rattle.mt_proc.specs.Proc.{proc_told}
+use Rattle.mt_replay.specs.Running as replay
 use Rattle.mt_cli.specs.Output.{Output}
 
 -- The sink took the whole output, and nothing of the input is left, or all of it where the command reads nothing.
@@ -30,15 +33,25 @@ pub record CutShort (words : List (List ℕ)) (bytes : List ℕ) (before : List 
 abbrev pub Untouched : List ℕ → Option (List ℕ) → Type 0
 Untouched before after = after ≡ Some before
 
--- A read failed: the sink took nothing, but for `replay` exactly what the known lines of the bytes write that were taken.
-abbrev pub FailedRead : List (List ℕ) → List ℕ → Option (List ℕ) → List ℕ → Option (List ℕ) → Type 0
-FailedRead words bytes left before after =
-    (command_of words ≢ Some Replay → Untouched before after) × (command_of words ≡ Some Replay → TellsKnown bytes left (Some before) after)
+-- A read failed: the sink took nothing, but for `replay` and `proc` exactly what the known lines of the bytes tell that were taken.
+abbrev pub FailedRead : Option Command → List ℕ → Option (List ℕ) → List ℕ → Option (List ℕ) → Type 0
+FailedRead None bytes left before after = Untouched before after
+FailedRead (Some (Dump command)) bytes left before after = Untouched before after
+FailedRead (Some Replay) bytes left before after = replay.TellsKnown bytes left (Some before) after
+FailedRead (Some (Proc cpus)) bytes left before after = TellsKnown proc_told bytes left (Some before) after
+FailedRead (Some (Make n)) bytes left before after = Untouched before after
+FailedRead (Some (Big n)) bytes left before after = Untouched before after
+FailedRead (Some (Private cpus n accesses)) bytes left before after = Untouched before after
 
--- The input is too long: the sink took nothing, but for `replay`, which has written a front of its transcript.
-abbrev pub Overran : List (List ℕ) → List ℕ → List ℕ → Option (List ℕ) → Type 0
-Overran words bytes before after =
-    (command_of words ≢ Some Replay → Untouched before after) × (command_of words ≡ Some Replay → CutShort words bytes before after)
+-- The input is too long: the sink took nothing, but for `replay` and `proc`, which have written a front of their output.
+abbrev pub Overran : Option Command → List (List ℕ) → List ℕ → List ℕ → Option (List ℕ) → Type 0
+Overran None words bytes before after = Untouched before after
+Overran (Some (Dump command)) words bytes before after = Untouched before after
+Overran (Some Replay) words bytes before after = CutShort words bytes before after
+Overran (Some (Proc cpus)) words bytes before after = CutShort words bytes before after
+Overran (Some (Make n)) words bytes before after = Untouched before after
+Overran (Some (Big n)) words bytes before after = Untouched before after
+Overran (Some (Private cpus n accesses)) words bytes before after = Untouched before after
 
 -- Memory was refused: the sink took nothing, but for `replay`, which may have written a front of its first line.
 abbrev pub Starved : List (List ℕ) → List ℕ → List ℕ → Option (List ℕ) → Type 0
@@ -51,10 +64,10 @@ Leaves words bytes left before after Done = Finished words bytes left before aft
 Leaves words bytes left before after Refused = Finished words bytes left before after Refused
 Leaves words bytes left before after Usage = Finished words bytes left before after Usage
 Leaves words bytes left before after BadText = Finished words bytes left before after BadText
-Leaves words bytes left before after ReadFault = FailedRead words bytes left before after
+Leaves words bytes left before after ReadFault = FailedRead (command_of words) bytes left before after
 Leaves words bytes left before after WriteFault = CutShort words bytes before after
 Leaves words bytes left before after NoMemory = Starved words bytes before after
-Leaves words bytes left before after TooLong = Overran words bytes before after
+Leaves words bytes left before after TooLong = Overran (command_of words) words bytes before after
 Leaves words bytes left before after TooFew = Finished words bytes left before after TooFew
 Leaves words bytes left before after Disabled = Finished words bytes left before after Disabled
 

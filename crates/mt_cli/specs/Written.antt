@@ -6,7 +6,7 @@ use Rattle.mt_ports.specs.declared.status.Status.{Status}
 use Rattle.mt_ports.specs.declared.status.Status.TheVariants.{Done, BadText, ReadFault, WriteFault, NoMemory, TooLong}
 use Rattle.mt_regs.specs.RegisterFile.{RegisterFile}
 use Rattle.mt_cli.specs.declared.command.DumpCommand.{DumpCommand}
-use Rattle.mt_cli.specs.Generator.{make_text}
+use Rattle.mt_cli.specs.Measured.{measured_text}
 use Rattle.mt_cli.specs.Output.{Answer}
 use Rattle.mt_dump.specs.Dump.{Shown, dump_offence}
 use Rattle.mt_dump.specs.declared.fault.DumpFault.{DumpFault}
@@ -17,9 +17,13 @@ abbrev pub Writes : List ℕ → Status → Option (List ℕ) → Option (List �
 Writes text status old new result =
     ((result ≡ status) × Appends old new text) ⊎ ((result ≡ WriteFault) × AppendsFront old new text)
 
--- The sink took the text that a number determines, or a front of it, or nothing for want of memory.
-abbrev pub Makes : ℕ → Option (List ℕ) → Option (List ℕ) → Status → Type 0
-Makes n old new result = Writes (make_text n) Done old new result ⊎ ((result ≡ NoMemory) × (new ≡ old))
+-- The sink took a text that a number determines, or a front of it, or nothing for want of memory.
+abbrev pub Makes : List ℕ → Option (List ℕ) → Option (List ℕ) → Status → Type 0
+Makes text old new result = Writes text Done old new result ⊎ ((result ≡ NoMemory) × (new ≡ old))
+
+-- The same of the text of jobs that three numbers determine.
+abbrev pub Sums : ℕ → ℕ → ℕ → Option (List ℕ) → Option (List ℕ) → Status → Type 0
+Sums cpus n accesses old new result = Writes (measured_text cpus n accesses) Done old new result ⊎ ((result ≡ NoMemory) × (new ≡ old))
 
 -- The sink took an answer, or a front of one, or nothing for want of memory.
 pub data Answers (file : RegisterFile) (command : DumpCommand) (old new : Option (List ℕ)) (result : Status) : Type 0 where

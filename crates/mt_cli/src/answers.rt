@@ -4,22 +4,28 @@ ghost use Rattle.mt_regs.specs.Faults.{IsAccepted, IsFirstFault};
 ghost use Rattle.mt_text.specs.Feed.{GaveTooMuch};
 ghost use Rattle.mt_cli.specs.declared.command.DumpCommand.TheVariants.{Check, Show, Types, Page, Tidy, Gran};
 ghost use Rattle.mt_cli.specs.CommandLine.{IsSound, MayTakeMemory};
+ghost use Rattle.mt_cli.specs.Generator.{make_text};
+ghost use Rattle.mt_cli.specs.Output.{big_text};
 ghost use Rattle.mt_cli.specs.declared.command.Command.TheVariants.{Dump};
-ghost use Rattle.mt_cli.specs.Written.{Answers, AnswersInput, Makes, Writes};
+ghost use Rattle.mt_cli.specs.Written.{Answers, AnswersInput, Makes, Sums, Writes};
 
 use crate::DumpCommand;
 use crate::generator::make_text;
-use crate::lines::{disabled_line, page_text, too_few_line};
+use crate::lines::{disabled_line, page_text, summary_text, too_few_line};
+use crate::measured::measured_text;
 use crate::texts::{canonical_text, grained_text, tidied_text, types_text};
 use mt_dump::read_dump_from;
 use mt_gran::{GranFault, gran};
 use mt_output::{accepted_line, bad_text_line, refused_line};
-use mt_ports::{Sink, Source, Status, put};
+use mt_ports::{Gate, Sink, Source, Status, put};
 use mt_regs::{Fault, RegFile};
+use mt_replay::summary;
 use mt_text::FeedFault;
 use mt_tidy::{TidyFault, tidy};
 use mt_types::page_runs;
 use std::alloc::Global;
+use std::sync::Wait;
+use std::thread::Threads;
 
 /// Writes a text, and answers this status unless the sink fails.
 pub fn written<K: Sink>(sink: &mut K, text: &[u8], status: Status) -> Status
@@ -179,10 +185,49 @@ pub fn answer<K: Sink>(alloc: Global, command: DumpCommand, f: &RegFile, sink: &
 
 /// Writes the text for measurements that a number determines.
 pub fn make<K: Sink>(alloc: Global, n: u64, sink: &mut K) -> Status
-    ensures bytes { Makes n (K.taken sink.old) (K.taken sink.new) result }
+    ensures bytes { Makes (make_text n) (K.taken sink.old) (K.taken sink.new) result }
     ensures cause { StatusHasCause Status.WriteFault (K.faults sink.old) (K.faults sink.new) result }
 {
     match make_text(alloc, n) {
+        Ok(text) => written(sink, text.as_slice(), Status::Done),
+        Err(_) => Status::NoMemory,
+    }
+}
+
+/// Writes the numbers of the transcript of that text, which is run as a script.
+pub fn big<R: AllocGlobal + Threads + Wait + Sync, K: Sink, G: Gate>(
+    rt: &R,
+    n: u64,
+    sink: &mut K,
+    gate: &G,
+) -> Status
+    ensures bytes { Makes (big_text n) (K.taken sink.old) (K.taken sink.new) result }
+    ensures cause { StatusHasCause Status.WriteFault (K.faults sink.old) (K.faults sink.new) result }
+{
+    let Ok(text) = make_text(rt.alloc(), n) else {
+        return Status::NoMemory;
+    };
+    match summary(rt, text.as_slice(), gate) {
+        Ok(totals) => written(sink, summary_text(&totals).as_slice(), Status::Done),
+        Err(_) => Status::NoMemory,
+    }
+}
+
+/// Writes what the jobs sum to that three numbers determine.
+pub fn private<R: AllocGlobal + Threads + Wait + Sync, K: Sink, G: Gate>(
+    rt: &R,
+    cpus: u32,
+    n: u64,
+    accesses: u32,
+    sink: &mut K,
+    gate: &G,
+) -> Status
+    requires some { 1 ≤ cpus }
+    requires few { cpus ≤ 16 }
+    ensures bytes { Sums cpus n accesses (K.taken sink.old) (K.taken sink.new) result }
+    ensures cause { StatusHasCause Status.WriteFault (K.faults sink.old) (K.faults sink.new) result }
+{
+    match measured_text(rt, rt.alloc(), cpus, n, accesses, gate) {
         Ok(text) => written(sink, text.as_slice(), Status::Done),
         Err(_) => Status::NoMemory,
     }

@@ -6,8 +6,15 @@ pub enum Command {
     Dump(DumpCommand),
     /// The transcript of a script.
     Replay,
+    /// What becomes of requests behind a dump, on so many processors.
+    Proc(u32),
     /// The text for measurements that a number determines.
     Make(u64),
+    /// The numbers of that text's transcript.
+    Big(u64),
+    /// What the jobs of so many processors sum to, which begin with this number and make so many
+    /// accesses before one update and as many after it.
+    Private { cpus: u32, n: u64, accesses: u32 },
 }
 
 /// What is asked of a dump's register file.

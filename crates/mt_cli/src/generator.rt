@@ -18,16 +18,16 @@ const WORDS: u64 = 32_768;
 const HEAD: &str =
     "cpus 16\ndump\nmaxphyaddr 36\n0fe 508\n200 6\n201 f00000800\n2ff 800\nend\nram 0 4096\n";
 
-// The number that a draw leaves.
-fn stepped(x: u64) -> u64
+/// The number that a draw leaves.
+pub(crate) fn stepped(x: u64) -> u64
     ensures { result ≡ stepped x }
 {
     x.wrapping_mul(6_364_136_223_846_793_005)
         .wrapping_add(1_442_695_040_888_963_407)
 }
 
-// What a draw gives of the number that it has left.
-fn drawn(x: u64, count: u64) -> u64
+/// What a draw gives of the number that it has left.
+pub(crate) fn drawn(x: u64, count: u64) -> u64
     requires { 0 < count }
     ensures value { result ≡ drawn x count }
     ensures below { result < count }

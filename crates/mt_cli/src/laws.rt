@@ -1,4 +1,4 @@
-ghost use Rattle.std.specs.Prelude.{◌≡◌, ◌≢◌, ◌+◌, ◌++◌, ◌^◌, ◌<◌, ◌≤◌, ◌↔◌, ℕ, List, Some};
+ghost use Rattle.std.specs.Prelude.{◌≡◌, ◌≢◌, ◌+◌, ◌++◌, ◌^◌, ◌<◌, ◌≤◌, ◌↔◌, ℕ, List, None, Some};
 ghost use Rattle.mt_ports.specs.declared.status.Status.{Status};
 ghost use Rattle.mt_ports.specs.declared.status.Status.TheVariants.{Done};
 ghost use Rattle.mt_cli.specs.declared.command.DumpCommand.{DumpCommand};
@@ -8,6 +8,12 @@ ghost use Rattle.mt_cli.specs.Lines.{used_line};
 ghost use Rattle.mt_cli.specs.Output.{MayChoose, Output};
 ghost use Rattle.mt_dump.specs.Canon.{canon};
 ghost use Rattle.mt_dump.specs.Dump.{Shown};
+ghost use Rattle.mt_regs.specs.RegisterFile.{RegisterFile};
+ghost use Rattle.mt_regs.specs.Faults.{IsAccepted};
+ghost use Rattle.mt_script.specs.Script.{script_offence};
+ghost use Rattle.mt_replay.specs.Statuses.{ShowsDump};
+ghost use Rattle.mt_replay.specs.Transcript.{transcript};
+ghost use Rattle.mt_cli.specs.Generator.{make_text};
 
 use mt_dump::a_register_file_is_shown_by_its_text;
 use mt_regs::RegFile;
@@ -36,3 +42,11 @@ pub fn a_tidied_text_is_a_dump(f: &RegFile)
 {
     a_register_file_is_shown_by_its_text(f);
 }
+
+/// Each text for measurements is a script without an offence, and the file that its dump shows is
+/// accepted. So its transcript ends with Done.
+pub fn a_made_text_is_a_script()
+    ensures offence { (n : ℕ) → script_offence (make_text n) ≡ None }
+    ensures dump { (n : ℕ) → (file : RegisterFile) × ShowsDump (make_text n) file × IsAccepted file }
+    ensures status { (n : ℕ) → (transcript (make_text n)).status ≡ Done }
+{}

@@ -6,30 +6,40 @@ mod command;
 mod generator;
 mod laws;
 mod lines;
+mod measured;
 mod program;
 mod texts;
 mod top;
 mod words;
 mod worked;
+mod worked_outputs;
 
-pub use answers::{answer, answer_input, make};
+pub use answers::{answer, answer_input, big, make, private};
 pub use command::{Command, DumpCommand, TidyOption};
 pub use generator::make_text;
 pub use laws::{
-    a_size_is_a_power_of_two, a_tidied_text_is_a_dump, words_and_bytes_have_an_output,
-    words_and_bytes_have_one_output,
+    a_made_text_is_a_script, a_size_is_a_power_of_two, a_tidied_text_is_a_dump,
+    words_and_bytes_have_an_output, words_and_bytes_have_one_output,
 };
-pub use lines::{disabled_line, lost_line, page_text, run_line, too_few_line, used_line};
+pub use lines::{
+    disabled_line, lost_line, page_text, run_line, summary_text, too_few_line, used_line,
+};
+pub use measured::measured_text;
 pub use program::program_status;
 pub use texts::{canonical_text, grained_text, tidied_text, types_text};
 pub use top::tool;
 pub use words::command_of;
 pub use worked::{worked_draws, worked_generated_lines};
+pub use worked_outputs::{worked_command_lines, worked_endings};
 
 #[cfg(test)]
 mod cut_tests;
 #[cfg(test)]
+mod jobs_tests;
+#[cfg(test)]
 mod limits_tests;
+#[cfg(test)]
+mod proc_tests;
 #[cfg(test)]
 mod script_tests;
 #[cfg(test)]

@@ -1,6 +1,6 @@
 ghost use Rattle.std.specs.Prelude.{◌≡◌, ◌≤◌, ◌<◌, ◌^◌};
 ghost use Rattle.mt_types.specs.Runs.{run_end};
-ghost use Rattle.mt_cli.specs.Lines.{disabled_line, lost_line, outside_line, page_line, page_text, run_line, too_few_line, used_line};
+ghost use Rattle.mt_cli.specs.Lines.{disabled_line, lost_line, outside_line, page_line, page_text, run_line, summary_text, too_few_line, used_line};
 
 use arrayvec::ArrayVec;
 use mt_kinds::{MemType, PAGE_BYTES, Pat, PatType, effective};
@@ -8,6 +8,7 @@ use mt_output::{
     LineBuffer, append, append_address, append_decimal, append_pat_type, append_type, append_value,
 };
 use mt_regs::RegFile;
+use mt_replay::Totals;
 use mt_types::Run;
 
 /// The line of a run of pages.
@@ -114,4 +115,21 @@ pub fn disabled_line(value: u64) -> LineBuffer
     append_value(&mut line, value);
     append(&mut line, b"\n");
     line
+}
+
+/// The four lines with the numbers of a transcript.
+pub fn summary_text(totals: &Totals) -> LineBuffer
+    ensures { result.items ≡ summary_text totals.now }
+{
+    let mut text = ArrayVec::new();
+    append(&mut text, b"lines ");
+    append_decimal(&mut text, totals.lines);
+    append(&mut text, b"\nupdates ");
+    append_decimal(&mut text, totals.updates);
+    append(&mut text, b"\nvalues ");
+    append_value(&mut text, totals.values);
+    append(&mut text, b"\nmemory ");
+    append_value(&mut text, totals.memory);
+    append(&mut text, b"\n");
+    text
 }

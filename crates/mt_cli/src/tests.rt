@@ -1,6 +1,6 @@
 use crate::{make_text, tool};
 use mt_ports::{MemSink, MemSource, OpenGate, Status};
-use mt_vectors::{Row, dump_tables};
+use mt_vectors::{Row, dump_tables, made_tables};
 use std::process::Abort;
 use std::sync::Wait;
 use std::test::Fail;
@@ -91,6 +91,14 @@ fn the_worked_runs(rt: HostRuntime) -> Result<(), Fail> {
         for rows in dump_tables() {
             expect_long_rows(&rt, rows, piece)?;
         }
+    }
+    Ok(())
+}
+
+#[test]
+fn the_worked_summaries(rt: HostRuntime) -> Result<(), Fail> {
+    for rows in made_tables() {
+        expect_rows(&rt, rows, 1)?;
     }
     Ok(())
 }

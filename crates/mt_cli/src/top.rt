@@ -5,18 +5,18 @@ ghost use Rattle.mt_text.specs.Feed.{GaveTooMuch};
 ghost use Rattle.mt_cli.specs.declared.command.Command.{Command};
 ghost use Rattle.mt_cli.specs.Tool.{Leaves, Reads};
 
-use crate::answers::{answer_input, make, written};
+use crate::answers::{answer_input, big, make, private, written};
 use crate::{Command, command_of};
 use mt_ports::{Gate, Sink, Source, Status};
+use mt_proc::proc;
 use mt_replay::replay;
 use std::sync::Wait;
 use std::thread::Threads;
 
 /// Does all that the program does, and answers its status. The words are the command line without
-/// the program's name. Nothing is read where they are no command line, nor by `make`; otherwise the
-/// input is read to its end, unless the source fails, memory is refused or there are more than
-/// 16,777,216 bytes.
-/// Nothing is written after a failed write.
+/// the program's name. Nothing is read where they are no command line, nor by `make`, `big` and
+/// `private`; otherwise the input is read to its end, unless the source or the sink fails, memory is refused or
+/// there are more than 16,777,216 bytes. Nothing is read or written after a failed read or write.
 pub fn tool<R: AllocGlobal + Threads + Wait + Sync, S: Source, K: Sink, G: Gate>(
     rt: &R,
     words: &[String],
@@ -33,7 +33,7 @@ pub fn tool<R: AllocGlobal + Threads + Wait + Sync, S: Source, K: Sink, G: Gate>
     // at most 16,777,216 bytes is not too long.
     ensures reads { (bytes : List ℕ) → S.left source.old ≡ Some bytes → Reads (map string_bytes words.now) bytes (S.left source.new) result }
 
-    // Usage comes exactly where the words are no command line. Then nothing is read, nor by `make`.
+    // Usage comes exactly where the words are no command line. Then nothing is read, nor by `make`, `big` and `private`.
     ensures usage { result ≡ Status.Usage → command_of (map string_bytes words.now) ≡ None }
     ensures no_command { command_of (map string_bytes words.now) ≡ None → (result ≡ Status.Usage) ⊎ (result ≡ Status.WriteFault) }
     ensures unread { reads_input (command_of (map string_bytes words.now)) ≡ false → source.new ≡ source.old }
@@ -52,6 +52,9 @@ pub fn tool<R: AllocGlobal + Threads + Wait + Sync, S: Source, K: Sink, G: Gate>
     match command {
         Command::Dump(command) => answer_input(rt.alloc(), command, source, sink),
         Command::Make(n) => make(rt.alloc(), n, sink),
+        Command::Big(n) => big(rt, n, sink, gate),
+        Command::Private { cpus, n, accesses } => private(rt, cpus, n, accesses, sink, gate),
         Command::Replay => replay(rt, source, sink, gate),
+        Command::Proc(cpus) => proc(rt, source, sink, gate, cpus),
     }
 }

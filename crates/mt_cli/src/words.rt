@@ -1,6 +1,6 @@
 ghost use Rattle.std.specs.Prelude.{◌≡◌, ◌≤◌, ◌<◌, ◌+◌, ◌^◌, map, string_bytes, IfSome, MatchOption};
 ghost use Rattle.mt_text.specs.Number.{decimal_number, hex_number};
-ghost use Rattle.mt_cli.specs.CommandLine.{behind, greatest, command_of, command_of_four, command_of_one, command_of_three, command_of_two, gran_as, gran_with, index_of, log_among, log_of, make_with, of_dump, option_of, tidy_with, tidy_with_both};
+ghost use Rattle.mt_cli.specs.CommandLine.{behind, greatest, command_of, command_of_four, command_of_one, command_of_three, command_of_two, gran_as, gran_with, big_with, index_of, log_among, log_of, make_with, of_dump, option_of, private_with, proc_with, tidy_with, tidy_with_both};
 
 use crate::{Command, DumpCommand, TidyOption};
 use mt_text::{decimal, hex64};
@@ -17,9 +17,13 @@ const USUAL_TIDY: DumpCommand = DumpCommand::Tidy {
 
 const MOST_SPARE: u64 = 32;
 
+const MOST_PROCESSORS: u64 = 16;
+
 const ADDRESSES: u64 = 1 << 52;
 
 const GRANULE_SIZES: u8 = 29;
+
+const MOST_ACCESSES: u64 = 4096;
 
 fn of_dump(command: Option<DumpCommand>) -> Option<Command>
     ensures { result ≡ of_dump command }
@@ -160,6 +164,45 @@ fn make_with(number: &[u8]) -> Option<Command>
     }
 }
 
+fn big_with(number: &[u8]) -> Option<Command>
+    ensures { result ≡ big_with (decimal_number number.now greatest) }
+{
+    match decimal(number, u64::MAX) {
+        Ok(n) => Some(Command::Big(n)),
+        Err(_) => None,
+    }
+}
+
+fn private_with(cpus: &[u8], number: &[u8], accesses: &[u8]) -> Option<Command>
+    ensures { result ≡ private_with (decimal_number cpus.now greatest) (decimal_number number.now greatest) (decimal_number accesses.now 4096) }
+{
+    let (Ok(cpus), Ok(n), Ok(accesses)) = (
+        decimal(cpus, u64::MAX),
+        decimal(number, u64::MAX),
+        decimal(accesses, MOST_ACCESSES),
+    ) else {
+        return None;
+    };
+    if cpus >= 1 && cpus <= MOST_PROCESSORS {
+        Some(Command::Private {
+            cpus: cpus as u32,
+            n,
+            accesses: accesses as u32,
+        })
+    } else {
+        None
+    }
+}
+
+fn proc_with(number: &[u8]) -> Option<Command>
+    ensures { result ≡ proc_with (decimal_number number.now 16) }
+{
+    match decimal(number, MOST_PROCESSORS) {
+        Ok(cpus) if cpus > 0 => Some(Command::Proc(cpus as u32)),
+        _ => None,
+    }
+}
+
 fn command_of_two(name: &[u8], option: &[u8]) -> Option<Command>
     ensures { result ≡ command_of_two name.now option.now }
 {
@@ -169,6 +212,10 @@ fn command_of_two(name: &[u8], option: &[u8]) -> Option<Command>
         of_dump(gran_with(option, Some(USUAL_TIDY)))
     } else if name == b"make".as_slice() {
         make_with(option)
+    } else if name == b"big".as_slice() {
+        big_with(option)
+    } else if name == b"proc".as_slice() {
+        proc_with(option)
     } else {
         None
     }
@@ -210,6 +257,8 @@ fn command_of_four(name: &[u8], first: &[u8], second: &[u8], third: &[u8]) -> Op
     if name == b"gran".as_slice() {
         let options = tidy_with_both(option_of(second), option_of(third));
         of_dump(gran_with(first, options))
+    } else if name == b"private".as_slice() {
+        private_with(first, second, third)
     } else {
         None
     }

@@ -10,16 +10,20 @@ mod dump_texts;
 mod dumps;
 mod effective_types;
 mod granules;
+mod jobs;
 mod limits;
 mod overlaps;
 mod pages;
 mod registers;
+mod requests;
 mod row;
 mod script_lines;
 mod script_numbers;
 mod script_sections;
 mod scripts;
+mod self_snoops;
 mod steps;
+mod summaries;
 mod tidied;
 mod type_maps;
 mod updates;
@@ -43,8 +47,13 @@ pub fn dump_tables() -> [&'static [Row]; 10] {
     ]
 }
 
+/// The table of `private`.
+pub fn job_table() -> &'static [Row] {
+    jobs::jobs()
+}
+
 /// The tables of `replay`.
-pub fn script_tables() -> [&'static [Row]; 17] {
+pub fn script_tables() -> [&'static [Row]; 18] {
     [
         scripts::scripts(),
         accesses::loads(),
@@ -62,6 +71,17 @@ pub fn script_tables() -> [&'static [Row]; 17] {
         updates::barriers(),
         steps::steps(),
         cancels::cancels(),
+        self_snoops::self_snoops(),
         limits::limits(),
     ]
+}
+
+/// The tables of the commands that read nothing.
+pub fn made_tables() -> [&'static [Row]; 1] {
+    [summaries::summaries()]
+}
+
+/// The tables of `proc`.
+pub fn proc_tables() -> [&'static [Row]; 1] {
+    [requests::requests()]
 }

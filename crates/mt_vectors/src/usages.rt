@@ -76,5 +76,23 @@ pub fn usages() -> &'static [Row] {
             FIRST => Usage, b"usage\n";
         "a word after the number of `make`", ["make", "7", "7"],
             FIRST => Usage, b"usage\n";
+        "`big` alone", ["big"],
+            FIRST => Usage, b"usage\n";
+        "`big` with a number past 64 bits", ["big", "18446744073709551616"],
+            FIRST => Usage, b"usage\n";
+        "a word after the number of `big`", ["big", "7", "7"],
+            FIRST => Usage, b"usage\n";
+        "`proc` alone", ["proc"],
+            FIRST => Usage, b"usage\n";
+        "`proc` without a processor", ["proc", "0"],
+            FIRST => Usage, b"usage\n";
+        "`proc` with 17 processors", ["proc", "17"],
+            FIRST => Usage, b"usage\n";
+        "`proc` with a hexadecimal number", ["proc", "0x2"],
+            FIRST => Usage, b"usage\n";
+        "a number of processors of 21 digits", ["proc", "000000000000000000002"],
+            FIRST => Usage, b"usage\n";
+        "a word after the number of `proc`", ["proc", "2", "2"],
+            FIRST => Usage, b"usage\n";
     }
 }

@@ -1,11 +1,12 @@
-use Rattle.std.proofs.Common.{◌≡◌, ◌∙◌, List, ℕ, Option, None, Some, ap, map, refl, subst, sym, string_bytes}
-use Rattle.mt_ports.specs.declared.status.Status.TheVariants.{BadText, Usage}
-use Rattle.mt_dump.specs.Dump.{Shown, dump_offence}
+use Rattle.std.proofs.Common.{◌∙◌, List, ℕ, Option, None, Some, ap, map, refl, subst, sym, string_bytes, []}
+use Rattle.mt_ports.specs.declared.status.Status.TheVariants.{Usage}
 use Rattle.mt_replay.specs.Running.{Replays}
-use Rattle.mt_cli.specs.Output.{usage, bad_text}
-use Rattle.mt_cli.specs.Written.{Writes}
-use Rattle.mt_cli.proofs.Leaving.{input_leaves, input_reads, left_by, makes_leave, makes_read, must_read, replays_leave, replays_read, written_leaves}
-use Rattle.mt_cli.proofs.SoundCommands.{sound_command}
+use Rattle.mt_cli.specs.declared.command.Command.TheVariants.{Big, Make}
+use Rattle.mt_cli.specs.Output.{usage, made, summed}
+use Rattle.mt_cli.proofs.Leaving.{input_leaves, input_reads, left_by, makes_leave, makes_read, must_read, replays_leave, replays_read, sums_leave, sums_read, written_leaves, proc_leaves, proc_reads}
+use Rattle.mt_cli.proofs.SoundCommands.{sound_command, sound_counts, sound_cpus}
+use Rattle.mt_stream.specs.Runs.{Runs}
+use Rattle.mt_proc.specs.Proc.{proc_told}
 use Rattle.mt_cli.proofs.top.tool.Goals as goal
 
 pub returns-in_default-clause-leaves : goal.returns-in_default-clause-leaves
@@ -23,6 +24,23 @@ returns-in-Replay-clause-reads g c bytes left = replays_read _ bytes c.replay.re
 pub returns-in-Replay-clause-unread : goal.returns-in-Replay-clause-unread
 returns-in-Replay-clause-unread g c = λ not. absurd (must_read (map string_bytes c.args.words.now) _ (sym c.in-Some.ensures ∙ ap Some c.in-Replay.is) refl not)
 
+pub proc-requires-clause-some : goal.proc-requires-clause-some
+proc-requires-clause-some g c κs within = (sound_cpus (map string_bytes c.args.words.now) c.in-Proc.cpus (sym c.in-Some.ensures ∙ ap Some c.in-Proc.is)).0
+
+pub proc-requires-clause-few : goal.proc-requires-clause-few
+proc-requires-clause-few g c κs within = (sound_cpus (map string_bytes c.args.words.now) c.in-Proc.cpus (sym c.in-Some.ensures ∙ ap Some c.in-Proc.is)).1
+
+pub returns-in-Proc-clause-leaves : goal.returns-in-Proc-clause-leaves
+returns-in-Proc-clause-leaves g c bytes before left taken =
+    proc_leaves _ bytes c.in-Proc.cpus c.proc.result _ before _ (sym c.in-Some.ensures ∙ ap Some c.in-Proc.is)
+    (subst (λ (o : Option (List ℕ)). Runs proc_told [] bytes (g.S.Source.left c.proc.new.source) o (g.K.Sink.taken c.proc.new.sink) c.proc.result) taken (c.proc.ensures.bytes bytes left))
+
+pub returns-in-Proc-clause-reads : goal.returns-in-Proc-clause-reads
+returns-in-Proc-clause-reads g c bytes left = proc_reads _ bytes c.in-Proc.cpus c.proc.result _ _ _ (sym c.in-Some.ensures ∙ ap Some c.in-Proc.is) (c.proc.ensures.bytes bytes left)
+
+pub returns-in-Proc-clause-unread : goal.returns-in-Proc-clause-unread
+returns-in-Proc-clause-unread g c = λ not. absurd (must_read (map string_bytes c.args.words.now) _ (sym c.in-Some.ensures ∙ ap Some c.in-Proc.is) refl not)
+
 pub answer_input-requires : goal.answer_input-requires
 answer_input-requires g c = record { sound = sound_command (map string_bytes c.args.words.now) c.in-Dump.command (sym c.in-Some.ensures ∙ ap Some c.in-Dump.is) }
 
@@ -33,10 +51,37 @@ pub returns-in-Dump-clause-reads : goal.returns-in-Dump-clause-reads
 returns-in-Dump-clause-reads g c bytes left = input_reads _ bytes c.in-Dump.command _ _ _ _ (sym c.in-Some.ensures ∙ ap Some c.in-Dump.is) (c.answer_input.ensures.bytes bytes left)
 
 pub returns-in-Make-clause-leaves : goal.returns-in-Make-clause-leaves
-returns-in-Make-clause-leaves g c bytes before left taken = makes_leave _ bytes c.in-Make.n _ _ before _ _ (sym c.in-Some.ensures ∙ ap Some c.in-Make.is) left taken c.make.ensures.bytes
+returns-in-Make-clause-leaves g c bytes before left taken =
+    let says = sym c.in-Some.ensures ∙ ap Some c.in-Make.is in
+    makes_leave _ bytes _ (Make c.in-Make.n) _ _ before _ _ says (made c.in-Make.n says) left taken c.make.ensures.bytes
 
 pub returns-in-Make-clause-reads : goal.returns-in-Make-clause-reads
-returns-in-Make-clause-reads g c bytes left = makes_read _ bytes c.in-Make.n _ _ _ _ (sym c.in-Some.ensures ∙ ap Some c.in-Make.is) left c.make.ensures.bytes
+returns-in-Make-clause-reads g c bytes left =
+    let says = sym c.in-Some.ensures ∙ ap Some c.in-Make.is in
+    makes_read _ bytes _ (Make c.in-Make.n) _ _ _ _ says (made c.in-Make.n says) left c.make.ensures.bytes
+
+pub returns-in-Big-clause-leaves : goal.returns-in-Big-clause-leaves
+returns-in-Big-clause-leaves g c bytes before left taken =
+    let says = sym c.in-Some.ensures ∙ ap Some c.in-Big.is in
+    makes_leave _ bytes _ (Big c.in-Big.n) _ _ before _ _ says (summed c.in-Big.n says) left taken c.big.ensures.bytes
+
+pub returns-in-Big-clause-reads : goal.returns-in-Big-clause-reads
+returns-in-Big-clause-reads g c bytes left =
+    let says = sym c.in-Some.ensures ∙ ap Some c.in-Big.is in
+    makes_read _ bytes _ (Big c.in-Big.n) _ _ _ _ says (summed c.in-Big.n says) left c.big.ensures.bytes
 
 pub returns-in-Dump-clause-unread : goal.returns-in-Dump-clause-unread
 returns-in-Dump-clause-unread g c = λ not. absurd (must_read (map string_bytes c.args.words.now) _ (sym c.in-Some.ensures ∙ ap Some c.in-Dump.is) refl not)
+
+pub private-requires-clause-some : goal.private-requires-clause-some
+private-requires-clause-some g c κs within = (sound_counts (map string_bytes c.args.words.now) c.in-Private.cpus c.in-Private.n c.in-Private.accesses (sym c.in-Some.ensures ∙ ap Some c.in-Private.is)).0
+
+pub private-requires-clause-few : goal.private-requires-clause-few
+private-requires-clause-few g c κs within = (sound_counts (map string_bytes c.args.words.now) c.in-Private.cpus c.in-Private.n c.in-Private.accesses (sym c.in-Some.ensures ∙ ap Some c.in-Private.is)).1
+
+pub returns-in-Private-clause-leaves : goal.returns-in-Private-clause-leaves
+returns-in-Private-clause-leaves g c bytes before left taken =
+    sums_leave _ bytes c.in-Private.cpus c.in-Private.n c.in-Private.accesses _ _ before _ _ (sym c.in-Some.ensures ∙ ap Some c.in-Private.is) left taken c.private.ensures.bytes
+
+pub returns-in-Private-clause-reads : goal.returns-in-Private-clause-reads
+returns-in-Private-clause-reads g c bytes left = sums_read _ bytes c.in-Private.cpus c.in-Private.n c.in-Private.accesses _ _ _ _ (sym c.in-Some.ensures ∙ ap Some c.in-Private.is) left c.private.ensures.bytes

@@ -1,0 +1,54 @@
+-- The dump of a text for measurements: the file that it shows is accepted.
+use Rattle.std.proofs.Common.{◌≢◌, refl, inl, inr, ℕ, List, [], ◌∷◌, ◌++◌, codes, Some}
+use Rattle.std.specs.Prelude.{replicate}
+use Rattle.std.proofs.lemmas.Bool.{cases_Bool}
+use Rattle.mt_ranges.specs.Match.{matches_pair}
+use Rattle.mt_regs.specs.declared.page_type.PageType.TheVariants.{Undefined}
+use Rattle.mt_regs.specs.RegisterFile.{RegisterFile}
+use Rattle.mt_regs.specs.Faults.{IsAccepted}
+use Rattle.mt_regs.specs.PageTypes.{page_type}
+use Rattle.mt_dump.specs.Line.{Reading, said_of}
+use Rattle.mt_dump.specs.Reader.{IsClean}
+use Rattle.mt_dump.proofs.OneLine.{is_sane}
+use Rattle.mt_dump.proofs.Stands.{clean_shown}
+use Rattle.mt_script.specs.Situation.{Situation}
+use Rattle.mt_script.specs.declared.command.Stage.TheVariants.{Commands}
+use Rattle.mt_script.specs.declared.command.Command.TheVariants as command
+use Rattle.mt_replay.specs.Statuses.{ShowsDump}
+use Rattle.mt_cli.specs.Generator.{head_text}
+
+-- the registers of all processors
+abbrev pub made_file : RegisterFile
+made_file = record {
+  width = 36;
+  capabilities = 0x508;
+  pairs = (6, 0xf00000800) ∷ replicate 7 (0, 0);
+  fixed = replicate 11 0;
+  pat = 0x0007040600070406;
+  default_type = 0x800;
+}
+
+-- behind a command outside the sections
+abbrev pub ready : Situation
+ready = record { stage = Commands; cpus = 16; file = Some made_file; windows = (0, 4096) ∷ []; seen = [] }
+
+-- one valid pair overlaps with no other
+defined : (page : ℕ) → page_type made_file page ≢ Undefined
+defined page is = elim (cases_Bool (matches_pair 36 (6, 0xf00000800) page)) [
+  | inl hit ↦ let e = rw hit at is in cc e
+  | inr miss ↦ let e = rw miss at is in cc e
+]
+
+pub made_accepted : IsAccepted made_file
+made_accepted = λ page within. defined page
+
+-- the lines of the dump, the last first, have no offence
+abbrev made_readings : List Reading
+made_readings = said_of 7 (codes "2ff 800") ∷ said_of 6 (codes "201 f00000800") ∷ said_of 5 (codes "200 6") ∷ said_of 4 (codes "0fe 508") ∷ said_of 3 (codes "maxphyaddr 36") ∷ []
+
+made_clean : IsClean made_readings
+made_clean =
+    (is_sane 7 (codes "2ff 800"), refl, (is_sane 6 (codes "201 f00000800"), refl, (is_sane 5 (codes "200 6"), refl, (is_sane 4 (codes "0fe 508"), refl, (is_sane 3 (codes "maxphyaddr 36"), refl, tt)))))
+
+pub made_shown : (rest : List ℕ) → ShowsDump (head_text ++ rest) made_file
+made_shown rest = (command.Cpus 16, refl, (command.Dump, refl, (command.DumpLine, refl, (refl, (command.DumpLine, refl, (refl, (command.DumpLine, refl, (refl, (command.DumpLine, refl, (refl, (command.DumpLine, refl, (refl, (command.End, refl, clean_shown made_readings made_file made_clean refl)))))))))))))

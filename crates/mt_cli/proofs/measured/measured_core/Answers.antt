@@ -1,0 +1,34 @@
+use Rattle.std.proofs.Common.{◌≡◌, ◌∙◌, ap, sym, subst, arith, ◌+◌, ◌-◌, ℕ, []}
+use Rattle.std.specs.List.{fold, range_with_len}
+use Rattle.mt_machine.specs.Machine.{Machine}
+use Rattle.mt_machine.specs.Start.{start_machine}
+use Rattle.mt_core.proofs.Progress.{range_more}
+use Rattle.mt_cli.specs.Measured.{IsSetUp, file_of, measured_machine, with_own}
+use Rattle.mt_cli.proofs.Owning.{own_set_up, start_set_up}
+use Rattle.mt_cli.proofs.measured.measured_core.Goals as goal
+
+pub loop-k-init : goal.loop-k-init
+loop-k-init c =
+    let cpus = c.args.cpus in
+    record {
+      machine =
+          ap (λ (m : Machine). fold with_own m (range_with_len 0 (cpus - 0))) c.in-Ok.ensures
+          ∙ (let all : cpus - 0 ≡ cpus = omega arith in ap (λ (n : ℕ). fold with_own (start_machine cpus (file_of 6) []) (range_with_len 0 n)) all);
+      set_up = subst (IsSetUp cpus) (sym c.in-Ok.ensures) (start_set_up cpus);
+    }
+
+pub loop-k-preserved : goal.loop-k-preserved
+loop-k-preserved c =
+    let cpus = c.args.cpus in
+    let k = c.loop-k.k in
+    record {
+      machine =
+          ap (λ (m : Machine). fold with_own m (range_with_len (k + 1) (cpus - (k + 1)))) c.in-Ok-add_own.ensures.added
+          ∙ sym (ap (fold with_own c.loop-k.core) (range_more k cpus c.loop-k-test.true)) ∙ c.loop-k.invariant.machine;
+      set_up = subst (IsSetUp cpus) (sym c.in-Ok-add_own.ensures.added) (own_set_up cpus c.loop-k.core k c.loop-k.invariant.set_up);
+    }
+
+pub returns-clause-machine : goal.returns-clause-machine
+returns-clause-machine c =
+    let none : c.args.cpus - c.loop-k.k ≡ 0 = omega arith in
+    subst (λ (n : ℕ). fold with_own c.loop-k.core (range_with_len c.loop-k.k n) ≡ measured_machine c.args.cpus) none c.loop-k.invariant.machine
