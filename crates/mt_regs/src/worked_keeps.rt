@@ -3,7 +3,8 @@ ghost use Rattle.mt_regs.specs.declared.registers.Register.TheVariants.{DefaultT
 ghost use Rattle.mt_regs.specs.RegisterFile.{IsRegisterFile, RegisterFile, blank_file};
 ghost use Rattle.mt_regs.specs.Registers.{ChangesOnly, HasNumber, IsWithin, with_value};
 ghost use Rattle.mt_regs.specs.Words.{HasWords};
-ghost use Rattle.mt_regs.specs.WorkedRows.{plain};
+ghost use Rattle.mt_regs.specs.StartFiles.{AreStartFiles, SameKind};
+ghost use Rattle.mt_regs.specs.WorkedRows.{four_gigabytes, plain};
 
 /// Register files, and what is none for one thing.
 pub fn worked_files()
@@ -31,4 +32,16 @@ pub fn worked_changes()
     ensures no_place { IsWithin plain (FixedRange 11) → ⊥ }
     ensures no_fixed { IsWithin (blank_file 36 0x408) (FixedRange 0) → ⊥ }
     ensures no_number { HasNumber (FixedRange 11) → ⊥ }
+{}
+
+/// Files with which the processors of one system may begin, and may not for one thing.
+pub fn worked_start_files()
+    ensures same { SameKind plain four_gigabytes }
+    ensures other_width { SameKind plain (record plain { width = 40 }) → ⊥ }
+    ensures other_capabilities { SameKind plain (record plain { capabilities = 0x108 }) → ⊥ }
+    ensures files { AreStartFiles (blank_file 36 0x400 ∷ record (blank_file 36 0x400) { default_type = 0x806 } ∷ record (blank_file 36 0x400) { default_type = 0x800 } ∷ []) }
+    ensures no_file { AreStartFiles (blank_file 36 0x400 ∷ record (blank_file 36 0x400) { fixed = [] } ∷ []) → ⊥ }
+    ensures not_accepted { AreStartFiles (blank_file 36 0x400 ∷ record (blank_file 36 0x400) { default_type = 0x802 } ∷ []) → ⊥ }
+    ensures two_widths { AreStartFiles (blank_file 36 0x400 ∷ record (blank_file 36 0x400) { width = 40 } ∷ []) → ⊥ }
+    ensures two_capabilities { AreStartFiles (blank_file 36 0x400 ∷ record (blank_file 36 0x400) { capabilities = 0x500 } ∷ []) → ⊥ }
 {}
