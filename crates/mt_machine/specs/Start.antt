@@ -1,12 +1,12 @@
 -- The states from which the laws hold (own).
-use Rattle.std.specs.Prelude.{◌≡◌, ◌⊎◌, ℕ, ◌<◌, ◌-◌, ◌^◌, Bool, true, [], None, Some, map, replicate, List}
+use Rattle.std.specs.Prelude.{◌≡◌, ◌⊎◌, ◌<◌, ◌-◌, ◌^◌, Bool, true, [], ◌∷◌, None, Some, map, replicate, List}
 use Rattle.std.specs.List.{All}
 use Rattle.mt_regs.specs.RegisterFile.{RegisterFile, IsRegisterFile}
 use Rattle.mt_regs.specs.Faults.{IsAccepted}
 use Rattle.mt_machine.specs.declared.phase.Phase.TheVariants.{Taken}
 use Rattle.mt_machine.specs.declared.go.Go.TheVariants.{Pending}
 use Rattle.mt_machine.specs.Memory.{Memory, Window, word_count}
-use Rattle.mt_machine.specs.System.{IsSound, start_processor}
+use Rattle.mt_machine.specs.System.{IsSound, Processor, start_processor}
 use Rattle.mt_machine.specs.Access.{is_running}
 use Rattle.mt_machine.specs.Machine.{FitsGoal, Machine, Order, common_era}
 
@@ -33,20 +33,27 @@ pub record IsBroadcast (m : Machine) (o : Order) : Type 0 where
 abbrev pub IsStart : Machine → Type 0
 IsStart m = IsQuiet m ⊎ ((o : Order) × IsBroadcast m o)
 
--- so many processors with one file, over windows of zero words
+-- windows of zero words
 abbrev pub zero_memory : List Window → Memory
 zero_memory ws = record { windows = ws; words = replicate (word_count ws) 0 }
 
-abbrev pub start_machine : ℕ → RegisterFile → List Window → Machine
-start_machine count f ws = record {
-  system = record { processors = replicate count (start_processor f); memory = zero_memory ws };
+-- a processor for each file, over such a memory
+abbrev pub start_machine : List RegisterFile → List Window → Machine
+start_machine files ws = record {
+  system = record { processors = map start_processor files; memory = zero_memory ws };
   order = None;
 }
 
--- the same with one processor for each flag, which is self-snooping where the flag is set
-abbrev pub start_with : List Bool → RegisterFile → List Window → Machine
-start_with flags f ws = record {
-  system = record { processors = map (λ b. record (start_processor f) { self_snoop = b }) flags; memory = zero_memory ws };
+-- a processor for each file, which is self-snooping where a flag stands at its place and is set
+abbrev pub flagged_processors : List RegisterFile → List Bool → List Processor
+flagged_processors [] flags = []
+flagged_processors (f ∷ fs) [] = start_processor f ∷ flagged_processors fs []
+flagged_processors (f ∷ fs) (b ∷ bs) = record (start_processor f) { self_snoop = b } ∷ flagged_processors fs bs
+
+-- the start with these flags
+abbrev pub start_with : List Bool → List RegisterFile → List Window → Machine
+start_with flags files ws = record {
+  system = record { processors = flagged_processors files flags; memory = zero_memory ws };
   order = None;
 }
 

@@ -136,7 +136,7 @@ abbrev pub bare_file : ℕ → RegisterFile
 bare_file default_type = with_value (blank_file 36 0x400) DefaultType default_type
 
 abbrev pub bare : Machine
-bare = start_machine 1 (bare_file 0x800) []
+bare = start_machine (bare_file 0x800 ∷ []) []
 
 -- two processors, and one page mapped five times: WB at 1000H, WT at 2000H, WC at 3000H, UC at 4000H, WP at 5000H
 abbrev pub painter : Processor

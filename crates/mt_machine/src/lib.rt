@@ -26,6 +26,6 @@ pub use worked::{
     worked_kinds, worked_loads, worked_memory, worked_no_fill_loads, worked_no_fill_stores,
     worked_phases, worked_processors, worked_quiet, worked_reached, worked_refusals,
     worked_self_snoop, worked_self_snoop_flags, worked_settled, worked_snoops, worked_sound,
-    worked_starts, worked_steps, worked_stored_words, worked_stores, worked_translations,
-    worked_updates,
+    worked_start_files, worked_starts, worked_steps, worked_stored_words, worked_stores,
+    worked_translations, worked_updates,
 };

@@ -20,6 +20,6 @@ pub use scripts::{worked_barrier, worked_buffers, worked_cancel, worked_snoops, 
 pub use self_snoop::{worked_self_snoop, worked_self_snoop_flags};
 pub use settled::{worked_held, worked_kinds, worked_settled, worked_stored_words};
 pub use sound::{worked_memory, worked_processors, worked_sound};
-pub use starts::{worked_broadcast, worked_quiet};
+pub use starts::{worked_broadcast, worked_quiet, worked_start_files};
 pub use steps::{worked_phases, worked_steps};
 pub use stores::{worked_combining, worked_stores};

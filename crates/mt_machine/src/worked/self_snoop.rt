@@ -1,4 +1,4 @@
-ghost use Rattle.std.specs.Prelude.{◌≡◌, ◌∷◌, [], Some, false, true};
+ghost use Rattle.std.specs.Prelude.{◌≡◌, ◌∷◌, [], Some, false, map, true};
 ghost use Rattle.mt_machine.specs.declared.control.Control.TheVariants.{Cd, Cr3, Invlpg, Pge};
 ghost use Rattle.mt_machine.specs.declared.event.Event.TheVariants.{Arrive, ArriveAgain, Disable, DropLines, Enable, FlushTlb, Pass, Release, RestorePge, SetNoFill, SetNormal, Take, Write, WriteBack};
 ghost use Rattle.mt_machine.specs.declared.op.Op.TheVariants.{Fence};
@@ -46,6 +46,9 @@ pub fn worked_self_snoop_flags()
     ensures controls_of_the_other { flags (run mixed (maps 1 (mapping 6 0x200 0) ∷ Controls 1 (Invlpg 0) ∷ Controls 1 Cr3 ∷ Controls 1 (Pge true) ∷ Controls 1 (Cd true) ∷ Controls 1 (Cd false) ∷ [])) ≡ true ∷ false ∷ [] }
     ensures update { flags (rounds 18 (run mixed (Calls (bare_file 0x800) ∷ Goes ∷ []))) ≡ true ∷ false ∷ [] }
     ensures cancelled { flags (walk 1 1 (walk 1 0 (run (walk 2 1 (walk 1 0 (begun (bare_file 0x800) mixed))) (Cancels ∷ [])))) ≡ true ∷ false ∷ [] }
-    ensures starts { flags (start_with (true ∷ false ∷ []) (bare_file 0x806) []) ≡ true ∷ false ∷ [] }
+    ensures starts { flags (start_with (true ∷ false ∷ []) (bare_file 0x806 ∷ bare_file 0x800 ∷ []) []) ≡ true ∷ false ∷ [] }
+    ensures one_flag_alone { flags (start_with (true ∷ []) (bare_file 0x806 ∷ bare_file 0x800 ∷ []) []) ≡ true ∷ false ∷ [] }
+    ensures one_file_alone { flags (start_with (true ∷ true ∷ []) (bare_file 0x806 ∷ []) []) ≡ true ∷ [] }
+    ensures starts_with_its_file { map (λ p. p.file) (start_with (true ∷ false ∷ []) (bare_file 0x806 ∷ bare_file 0x800 ∷ []) []).system.processors ≡ bare_file 0x806 ∷ bare_file 0x800 ∷ [] }
     ensures outright { flags (updated mixed.system (0 ∷ 1 ∷ []) (bare_file 0x800)) ≡ true ∷ false ∷ [] }
 {}

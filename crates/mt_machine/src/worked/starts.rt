@@ -1,10 +1,11 @@
-ghost use Rattle.std.specs.Prelude.{◌∷◌, []};
+ghost use Rattle.std.specs.Prelude.{◌≡◌, ◌∷◌, []};
 ghost use Rattle.mt_regs.specs.RegisterFile.{blank_file};
 ghost use Rattle.mt_regs.specs.Registers.{with_value};
 ghost use Rattle.mt_regs.specs.declared.registers.Register.TheVariants.{DefaultType};
 ghost use Rattle.mt_machine.specs.declared.go.Go.TheVariants.{Given};
 ghost use Rattle.mt_machine.specs.declared.phase.Phase.TheVariants.{Arrived, Restored, Taken};
-ghost use Rattle.mt_machine.specs.Start.{HasEraRoom, IsBroadcast, IsQuiet};
+ghost use Rattle.mt_machine.specs.Start.{HasEraRoom, IsBroadcast, IsQuiet, start_machine};
+ghost use Rattle.mt_machine.specs.System.{start_processor};
 ghost use Rattle.mt_machine.specs.WorkedRuns.{alone, bare, bare_file, begun, call_order, calling, idle, line_of, machine_of, ready, whole, with_first_word};
 
 /// What is quiet, and what is not for one thing.
@@ -33,4 +34,11 @@ pub fn worked_broadcast()
     ensures no_file { IsBroadcast (calling (record call_order { goal = record (bare_file 0x806) { fixed = [] } }) (ready ∷ [])) (record call_order { goal = record (bare_file 0x806) { fixed = [] } }) → ⊥ }
     ensures not_accepted { IsBroadcast (calling (record call_order { goal = bare_file 0x802 }) (ready ∷ [])) (record call_order { goal = bare_file 0x802 }) → ⊥ }
     ensures other_width { IsBroadcast (calling (record call_order { goal = with_value (blank_file 40 0x400) DefaultType 0x806 }) (ready ∷ [])) (record call_order { goal = with_value (blank_file 40 0x400) DefaultType 0x806 }) → ⊥ }
+{}
+
+/// Each of two processors has its own file.
+pub fn worked_start_files()
+    ensures starts { (start_machine (bare_file 0x800 ∷ bare_file 0x806 ∷ []) []).system.processors ≡ start_processor (bare_file 0x800) ∷ start_processor (bare_file 0x806) ∷ [] }
+    ensures is_quiet { IsQuiet (start_machine (bare_file 0x800 ∷ bare_file 0x806 ∷ []) []) }
+    ensures two_widths { IsQuiet (start_machine (bare_file 0x800 ∷ with_value (blank_file 40 0x400) DefaultType 0x800 ∷ []) []) → ⊥ }
 {}
