@@ -66,4 +66,4 @@ abbrev pub NothingIsStale : Type 0
 NothingIsStale = (s m : Machine) → IsStart s → All IsFresh s.system.processors → Reached s m → All IsFresh m.system.processors
 
 abbrev pub StartsFresh : Type 0
-StartsFresh = (flags : List Bool) (f : RegisterFile) (ws : List Window) → All IsFresh (start_with flags f ws).system.processors
+StartsFresh = (flags : List Bool) (files : List RegisterFile) (ws : List Window) → All IsFresh (start_with flags files ws).system.processors

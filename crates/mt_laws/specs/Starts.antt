@@ -2,29 +2,27 @@
 use Rattle.std.specs.Prelude.{◌≡◌, ℕ, Bool, true, List, None, Some, ◌<◌, ◌-◌, ◌^◌}
 use Rattle.std.specs.List.{All}
 use Rattle.mt_machine.specs.Machine.{Machine, Order, Reached, MachineEvent, Calls, IsEnabled, next}
-use Rattle.mt_regs.specs.RegisterFile.{RegisterFile, IsRegisterFile}
+use Rattle.mt_regs.specs.RegisterFile.{RegisterFile}
 use Rattle.mt_machine.specs.Update.{is_call, updated}
 use Rattle.mt_machine.specs.Start.{IsQuiet, IsStart, HasEraRoom, start_machine, start_with, zero_memory}
-use Rattle.mt_regs.specs.Faults.{IsAccepted}
+use Rattle.mt_regs.specs.StartFiles.{AreStartFiles}
 use Rattle.mt_machine.specs.Memory.{IsMemory, Window}
 use Rattle.mt_machine.specs.System.{System, IsSound, with_self_snoop}
 use Rattle.mt_laws.specs.Kept.{flags_of}
 
--- processors with one accepted file, over windows of zero words, are a quiet start
+-- processors with accepted files of one kind, over windows of zero words, are a quiet start
 abbrev pub StartIsQuiet : Type 0
-StartIsQuiet =
-    (count : ℕ) (f : RegisterFile) (ws : List Window) → IsRegisterFile f → IsAccepted f → IsMemory (zero_memory ws)
-    → IsQuiet (start_machine count f ws)
+StartIsQuiet = (files : List RegisterFile) (ws : List Window) → AreStartFiles files → IsMemory (zero_memory ws) → IsQuiet (start_machine files ws)
 
 -- so are those of which some are self-snooping
 abbrev pub FlaggedStartIsQuiet : Type 0
 FlaggedStartIsQuiet =
-    (flags : List Bool) (f : RegisterFile) (ws : List Window) → IsRegisterFile f → IsAccepted f → IsMemory (zero_memory ws)
-    → IsQuiet (start_with flags f ws)
+    (flags : List Bool) (files : List RegisterFile) (ws : List Window) → AreStartFiles files → IsMemory (zero_memory ws)
+    → IsQuiet (start_with flags files ws)
 
 -- without any flag they are the start of before
 abbrev pub NoFlagIsTheStart : Type 0
-NoFlagIsTheStart = (count : ℕ) (f : RegisterFile) (ws : List Window) → start_with (flags_of (start_machine count f ws).system) f ws ≡ start_machine count f ws
+NoFlagIsTheStart = (files : List RegisterFile) (ws : List Window) → start_with (flags_of (start_machine files ws).system) files ws ≡ start_machine files ws
 
 -- a processor that becomes self-snooping leaves a system sound, and a quiet machine quiet
 abbrev pub SnoopingStaysSound : Type 0

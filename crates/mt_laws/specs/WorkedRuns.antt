@@ -1,18 +1,29 @@
 -- A worked update of two processors without pairs and fixed ranges.
 use Rattle.std.specs.Prelude.{List, [], ◌∷◌, ◌++◌, map}
+use Rattle.mt_regs.specs.RegisterFile.{RegisterFile}
 use Rattle.mt_machine.specs.declared.event.Event.{Event}
 use Rattle.mt_machine.specs.declared.event.Event.TheVariants.{Arrive, Pass, SetNoFill, DropLines, FlushTlb, Disable, Write, Enable, SetNormal, RestorePge, ArriveAgain, Release}
 use Rattle.mt_machine.specs.declared.go.Go.TheVariants.{Given}
 use Rattle.mt_machine.specs.Machine.{Machine, Order, MachineEvent, Calls, Goes, Steps, run}
 use Rattle.mt_machine.specs.Start.{start_machine}
-use Rattle.mt_machine.specs.WorkedRuns.{bare_file, bare_snooper, walk}
+use Rattle.mt_machine.specs.WorkedRuns.{bare, bare_file, bare_snooper, walk}
 
 abbrev pub pair_order : Order
 pair_order = record { goal = bare_file 0x806; from_era = 0; go = Given }
 
+-- two processors at their start, and two whose files differ
+abbrev pub pair : Machine
+pair = start_machine (bare_file 0x800 ∷ bare_file 0x800 ∷ []) []
+
+abbrev pub unlike_pair : Machine
+unlike_pair = start_machine (bare_file 0x800 ∷ bare_file 0x801 ∷ []) []
+
+abbrev pub files_of : Machine → List RegisterFile
+files_of m = map (λ p. p.file) m.system.processors
+
 -- both have arrived, and the go is given
 abbrev pub pair_arrived : Machine
-pair_arrived = walk 2 1 (walk 2 0 (run (start_machine 2 (bare_file 0x800) []) (Calls (bare_file 0x806) ∷ Goes ∷ [])))
+pair_arrived = walk 2 1 (walk 2 0 (run pair (Calls (bare_file 0x806) ∷ Goes ∷ [])))
 
 -- a processor's events from its pass to the second barrier
 abbrev pub way_on : List Event
@@ -28,7 +39,7 @@ pair_released = run pair_arrived (Steps 0 Pass ∷ pair_between ++ Steps 1 Relea
 
 -- one processor without pairs and fixed ranges whose go was given, and its events between its take and its release
 abbrev pub bare_called : Machine
-bare_called = run (start_machine 1 (bare_file 0x800) []) (Calls (bare_file 0x806) ∷ Goes ∷ [])
+bare_called = run bare (Calls (bare_file 0x806) ∷ Goes ∷ [])
 
 -- the same of a self-snooping one, and its way to the second barrier
 abbrev pub snooper_called : Machine

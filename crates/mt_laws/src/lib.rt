@@ -7,6 +7,7 @@
 mod laws;
 mod worked;
 mod worked_others;
+mod worked_unlike;
 
 pub use laws::{
     accesses_keep_sound, barriers_count, barriers_hold, broadcast_update, cancelled_broadcast,
@@ -22,3 +23,4 @@ pub use worked::{
     worked_holdings, worked_kinds, worked_nothing, worked_orders,
 };
 pub use worked_others::{worked_other_parts, worked_second_processors};
+pub use worked_unlike::worked_unlike_files;

@@ -1,5 +1,5 @@
 -- Nothing that a processor holds is of an earlier era than its own.
-use Rattle.std.proofs.Common.{◌≡◌, ◌≢◌, ◌≤◌, ◌+◌, ◌/◌, ℕ, List, [], Some, None, Option, Bool, true, false, refl, sym, ap, subst, ◌∙◌, arith, ⊎_elim, ◌∷◌, zero, suc}
+use Rattle.std.proofs.Common.{◌≡◌, ◌≢◌, ◌≤◌, ◌+◌, ◌/◌, ℕ, List, [], Some, None, Option, Bool, true, false, refl, sym, ap, subst, ◌∙◌, arith, ⊎_elim}
 use Rattle.std.specs.Prelude.{slice_get, if◌then◌else◌, nat_lt, not}
 use Rattle.std.specs.Option.{option_map_or}
 use Rattle.std.proofs.lemmas.Bool.{le-ltb}
@@ -20,6 +20,7 @@ use Rattle.mt_machine.specs.Machine.{Machine, Order, MachineEvent, Accesses, Con
 use Rattle.mt_machine.proofs.Rows.{due_row, is_row}
 use Rattle.mt_laws.specs.Settled.{IsFresh, NothingIsStale, StartsFresh}
 use Rattle.mt_laws.proofs.Barrier.Claims.{all_get, all_of}
+use Rattle.mt_laws.proofs.Invariant.Starts.{each_start, nothing}
 use Rattle.mt_laws.proofs.Clearing.Follows.{FollowsIn, Grows, all_filter, follows_access, follows_control, follows_drain, passes, passes_change, passes_entries}
 use Rattle.mt_laws.proofs.Clearing.Cleared.{buffers_gone, entries_gone, lines_gone, none_passes}
 use Rattle.mt_laws.proofs.Clearing.Renewed.{AllClear, at_change}
@@ -163,6 +164,4 @@ nothing_is_stale s m start fresh reached =
     (reached_fresh reached (start_kept s start) (λ j q there. to_tests q (all_get IsFresh s.system.processors fresh j q there)) i p at))
 
 pub starts_fresh : StartsFresh
-starts_fresh [] f ws k d within = absurd (omega arith)
-starts_fresh (b ∷ bs) f ws zero d within = record { lines = λ k d within. absurd (omega arith); buffers = λ k d within. absurd (omega arith); entries = λ k d within. absurd (omega arith) }
-starts_fresh (b ∷ bs) f ws (suc k) d within = starts_fresh bs f ws k d (omega arith)
+starts_fresh flags files ws = each_start IsFresh files flags (λ k d within b. record { lines = nothing _; buffers = nothing _; entries = nothing _ })

@@ -1,6 +1,6 @@
 ghost use Rattle.mt_laws.specs.Starts.{ErasFit, FlaggedStartIsQuiet, NoFlagIsTheStart, ReachedIsQuiet, SnoopingStaysQuiet, SnoopingStaysSound, StartIsQuiet, UpdatedIsQuiet};
 
-/// A system at its start is one from which the laws hold, whatever accepted file its processors have.
+/// A system at its start is one from which the laws hold, whatever accepted files of one kind its processors have.
 pub fn start_is_quiet()
     ensures { StartIsQuiet }
 {}

@@ -1,8 +1,7 @@
-use Rattle.std.proofs.Common.{◌∷◌, refl, ap, arith}
-use Rattle.mt_regs.specs.RegisterFile.{RegisterFile}
+use Rattle.std.proofs.Common.{refl, ap, arith}
 use Rattle.mt_machine.specs.declared.op.Op.TheVariants.{Fence}
 use Rattle.mt_machine.specs.declared.control.Control.TheVariants.{Cr3}
-use Rattle.mt_machine.specs.declared.phase.Phase.TheVariants.{Arrived, NoFill, Passed, Restored, Taken}
+use Rattle.mt_machine.specs.declared.phase.Phase.TheVariants.{NoFill, Passed, Restored, Taken}
 use Rattle.mt_machine.specs.Access.{Answered}
 use Rattle.mt_machine.specs.WorkedRuns.{call_order, idle}
 use Rattle.mt_laws.specs.WorkedRuns.{pair_order}
