@@ -6,9 +6,10 @@ use Rattle.std.specs.List.{All}
 use Rattle.std.proofs.lemmas.List.Elements.{All-head, All-tail}
 use Rattle.mt_regs.specs.RegisterFile.{RegisterFile}
 use Rattle.mt_machine.specs.Memory.{Window, place, word_at, word_count}
-use Rattle.mt_machine.specs.System.{Processor, System, IsSound, dirty_word_in, start_processor, buffers_of}
+use Rattle.mt_machine.specs.System.{Processor, System, IsSound, dirty_word_in}
 use Rattle.mt_machine.specs.Machine.{Machine, MachineEvent, AreEnabled, next, run}
-use Rattle.mt_machine.specs.Start.{zero_memory, start_with}
+use Rattle.mt_machine.specs.Start.{flagged_processors, zero_memory}
+use Rattle.mt_laws.proofs.Invariant.Starts.{each_start}
 use Rattle.mt_laws.proofs.Words.MemoryLaws.{AllAligned}
 use Rattle.mt_laws.proofs.Words.BusLaws.{Word}
 use Rattle.mt_laws.proofs.Words.Sound.{aligned_all, now_is, sound_stands, sound_word}
@@ -69,14 +70,10 @@ no_buffers_at (p ∷ ps) (suc k) h = no_buffers_at ps k (All-tail (λ (q : Proce
 pub no_buffers_is_flat : NoBuffersIsFlat
 no_buffers_is_flat s none = record { values = λ a whole. refl; pending = λ k. ap (map written_of) (sym (no_buffers_at s.processors k none)) }
 
-start_buffers : (flags : List Bool) (k : ℕ) (file : RegisterFile) (ws : List Window) → buffers_of (start_with flags file ws).system k ≡ []
-start_buffers [] k file ws = refl
-start_buffers (b ∷ bs) zero file ws = refl
-start_buffers (b ∷ bs) (suc k) file ws = start_buffers bs k file ws
-
-start_dirty : (flags : List Bool) (a : ℕ) (file : RegisterFile) (ws : List Window) → dirty_word_in (start_with flags file ws).system.processors a ≡ None
-start_dirty [] a file ws = refl
-start_dirty (b ∷ bs) a file ws = start_dirty bs a file ws
+start_dirty : (files : List RegisterFile) (flags : List Bool) (a : ℕ) → dirty_word_in (flagged_processors files flags) a ≡ None
+start_dirty [] flags a = refl
+start_dirty (f ∷ fs) [] a = start_dirty fs [] a
+start_dirty (f ∷ fs) (b ∷ bs) a = start_dirty fs bs a
 
 zero_at : (count i : ℕ) → slice_index (replicate count 0) i ≡ 0
 zero_at zero i = refl
@@ -91,7 +88,7 @@ zero_word ws a = one (place (zero_memory ws) a)
     one (Some i) = zero_at (word_count ws) i
 
 pub start_is_flat : StartIsFlat
-start_is_flat flags file ws = record {
-  values = λ a whole. ap (λ o. option_map_or (λ v. v) o (word_at (zero_memory ws) a)) (start_dirty flags a file ws) ∙ zero_word ws a;
-  pending = λ k. ap (map written_of) (sym (start_buffers flags k file ws));
+start_is_flat flags files ws = record {
+  values = λ a whole. ap (λ o. option_map_or (λ v. v) o (word_at (zero_memory ws) a)) (start_dirty files flags a) ∙ zero_word ws a;
+  pending = λ k. ap (map written_of) (sym (no_buffers_at (flagged_processors files flags) k (each_start (λ p. p.buffers ≡ []) files flags (λ i d within b. refl))));
 }

@@ -74,7 +74,7 @@ pub record IsFlatOf (s : System) (f : Flat) : Type 0 where
 
 -- the flat machine is at its start beside a machine at its start
 abbrev pub StartIsFlat : Type 0
-StartIsFlat = (flags : List Bool) (file : RegisterFile) (ws : List Window) → IsFlatOf (start_with flags file ws).system flat_start
+StartIsFlat = (flags : List Bool) (files : List RegisterFile) (ws : List Window) → IsFlatOf (start_with flags files ws).system flat_start
 
 -- and beside each system without buffers stands one with its words and nothing pending
 abbrev pub NoBuffersIsFlat : Type 0
