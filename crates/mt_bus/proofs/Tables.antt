@@ -1,8 +1,9 @@
 -- Each processor keeps its table while its file stays, and translates by it where it runs.
-use Rattle.std.proofs.Common.{◌≡◌, ◌∙◌, ap, sym, refl, subst, ℕ, zero, suc, ◌<◌, List, length, replicate, None, Some, slice_get, slice_index_or, true, ⊎_elim}
+use Rattle.std.proofs.Common.{◌≡◌, ◌∙◌, ◌⊎◌, ap, sym, refl, subst, arith, inl, inr, ℕ, zero, suc, ◌+◌, ◌<◌, List, [], ◌∷◌, ◌++◌, length, take, get_or, None, Some, slice_get, slice_index_or, true, ⊎_elim}
+use Rattle.std.specs.Prelude.{map}
 use Rattle.mt_laws.proofs.Invariant.Snooping.{from}
-use Rattle.std.proofs.lemmas.List.{length-map}
-use Rattle.std.proofs.lemmas.Option.{slice_get-get_or}
+use Rattle.std.proofs.lemmas.List.{length-append, length-map, map-append, take_more}
+use Rattle.std.proofs.lemmas.Option.{slice_get-get_or, slice_get_within}
 use Rattle.mt_regs.specs.RegisterFile.{RegisterFile}
 use Rattle.mt_types.specs.Tables.{IsTableOf, TypeTable}
 use Rattle.mt_machine.specs.declared.op.Op.{Op}
@@ -52,22 +53,43 @@ tables_snooping k s ts h = record {
 
 -- ---- at the start
 
-all_replicated : {X : Type 0} (n k : ℕ) (x y : X) → slice_get (replicate n x) k ≡ Some y → x ≡ y
-all_replicated zero k x y at = absurd (cc)
-all_replicated (suc n) zero x y at = cc
-all_replicated (suc n) (suc k) x y at = all_replicated n k x y at
+-- an element of a list with one more is of the list, or the new one
+pushed_at : {X : Type 0} (xs : List X) (x y : X) (k : ℕ) → slice_get (xs ++ x ∷ []) k ≡ Some y → (slice_get xs k ≡ Some y) ⊎ ((k ≡ length xs) × (x ≡ y))
+pushed_at [] x y zero at = inr (refl, cc)
+pushed_at [] x y (suc k) at = absurd (cc)
+pushed_at (z ∷ zs) x y zero at = inl at
+pushed_at (z ∷ zs) x y (suc k) at = ⊎_elim (λ (old : slice_get zs k ≡ Some y). inl old) (λ (new : (k ≡ length zs) × (x ≡ y)). inr (omega (arith, new.0), new.1)) (pushed_at zs x y k at)
 
-replicated_length : {X : Type 0} (n : ℕ) (x : X) → length (replicate n x) ≡ n
-replicated_length zero x = refl
-replicated_length (suc n) x = ap suc (replicated_length n x)
+pub tables_none : AreTablesOf [] []
+tables_none = record { count = refl; each = λ k p t at there rests. absurd (cc at) }
 
-pub tables_start : (f : RegisterFile) (n : ℕ) (t : TypeTable) → IsTableOf f t → AreTablesOf (replicate n (start_processor f)) (replicate n t)
-tables_start f n t h = record {
-  count = replicated_length n t ∙ sym (replicated_length n (start_processor f));
-  each = λ k p x at there rests.
-      subst (λ (y : TypeTable). IsTableOf p.file y) (all_replicated n k t x there)
-      (subst (λ (q : Processor). IsTableOf q.file t) (all_replicated n k (start_processor f) p at) h);
+tables_push : (ps : List Processor) (ts : List TypeTable) (p : Processor) (t : TypeTable) → IsTableOf p.file t → AreTablesOf ps ts → AreTablesOf (ps ++ p ∷ []) (ts ++ t ∷ [])
+tables_push ps ts p t table h = record {
+  count =
+      let more = length-append ts (t ∷ []) in
+      let longer = length-append ps (p ∷ []) in
+      let same = h.count in
+      omega arith;
+  each = λ k q x at there rests.
+      ⊎_elim
+      (λ (old : slice_get ps k ≡ Some q).
+      ⊎_elim (λ (known : slice_get ts k ≡ Some x). h.each k q x old known rests)
+      (λ (new : (k ≡ length ts) × (t ≡ x)). absurd (omega (arith, slice_get_within ps k q old, new.0, h.count)))
+      (pushed_at ts t x k there))
+      (λ (last : (k ≡ length ps) × (p ≡ q)).
+      ⊎_elim (λ (known : slice_get ts k ≡ Some x). absurd (omega (arith, slice_get_within ts k x known, last.0, h.count)))
+      (λ (new : (k ≡ length ts) × (t ≡ x)). subst (λ (z : Processor). IsTableOf z.file x) last.1 (subst (λ (y : TypeTable). IsTableOf p.file y) new.1 table))
+      (pushed_at ts t x k there))
+      (pushed_at ps p q k at);
 }
+
+-- one more file of a list, and its table
+pub tables_more : (files : List RegisterFile) (i : ℕ) (d : RegisterFile) (ts : List TypeTable) (t : TypeTable) → i < length files → IsTableOf (get_or files i d) t
+    → AreTablesOf (map start_processor (take i files)) ts → AreTablesOf (map start_processor (take (i + 1) files)) (ts ++ t ∷ [])
+tables_more files i d ts t within table h =
+    subst (λ (ps : List Processor). AreTablesOf ps (ts ++ t ∷ []))
+    (sym (ap (map start_processor) (take_more files i d within) ∙ map-append start_processor (take i files) (get_or files i d ∷ [])))
+    (tables_push (map start_processor (take i files)) ts (start_processor (get_or files i d)) t table h)
 
 -- ---- a processor that runs
 

@@ -1,6 +1,7 @@
-ghost use Rattle.std.specs.Prelude.{◌≡◌, ◌<◌, ◌≤◌, ◌+◌, ◌*◌, ◌^◌, [], length, replicate, slice_get, IfOk, OnOk, OnErr, Some};
+ghost use Rattle.std.specs.Prelude.{◌≡◌, ◌<◌, ◌≤◌, ◌+◌, ◌*◌, ◌^◌, [], length, map, slice_get, IfOk, OnOk, OnErr, Some};
+ghost use Rattle.std.specs.List.{All};
 ghost use Rattle.mt_regs.specs.Faults.{IsAccepted};
-ghost use Rattle.mt_types.specs.Tables.{IsTableOf, TypeTable};
+ghost use Rattle.mt_regs.specs.StartFiles.{AreStartFiles};
 ghost use Rattle.mt_ram.specs.Windows.{refusal, refusal_in, window, with_window};
 ghost use Rattle.mt_machine.specs.System.{IsSound, Processor, start_processor, with_self_snoop};
 ghost use Rattle.mt_machine.specs.Start.{start_machine};
@@ -8,6 +9,7 @@ ghost use Rattle.mt_machine.specs.Machine.{FitsControl};
 ghost use Rattle.mt_machine.specs.Control.{control};
 ghost use Rattle.mt_machine.specs.Bus.{drain};
 ghost use Rattle.mt_machine.specs.Access.{access};
+ghost use Rattle.mt_bus.specs.Tables.{AreTablesOf};
 
 use crate::{accesses, buffers, controls};
 use mt_cpu::Cpu;
@@ -41,29 +43,28 @@ impl Model for System {
     ghost invariant = { λ s. IsSound (record { processors = s.cpus.items; memory = s.ram }) × AreTablesOf s.cpus.items s.tables.items };
 }
 
-// So many processors at the start, with the same registers.
-fn start_cpus(alloc: Global, count: u32, regs: &RegFile) -> Result<Vec<Cpu>, NoMemory>
-    requires { IsAccepted regs.now }
-    ensures { IfOk result (λ cpus. cpus.items ≡ replicate count (start_processor regs.now)) }
+// A processor at the start for each file.
+fn start_cpus(alloc: Global, files: &[RegFile]) -> Result<Vec<Cpu>, NoMemory>
+    requires { All IsAccepted files.now }
+    ensures { IfOk result (λ cpus. cpus.items ≡ map start_processor files.now) }
 {
     let mut cpus = Vec::new(alloc);
-    for _i in 0..count {
-        if cpus.push(Cpu::new(regs.same())).is_err() {
+    for file in files {
+        if cpus.push(Cpu::new(file.same())).is_err() {
             return Err(NoMemory);
         }
     }
     Ok(cpus)
 }
 
-// So many tables of the file's types.
-fn start_tables(alloc: Global, count: u32, regs: &RegFile) -> Result<Vec<KindTable>, NoMemory>
-    requires { IsAccepted regs.now }
-    ensures { IfOk result (λ tables. (t : TypeTable) × IsTableOf regs.now t × (tables.items ≡ replicate count t)) }
+// A table of each file's types.
+fn start_tables(alloc: Global, files: &[RegFile]) -> Result<Vec<KindTable>, NoMemory>
+    requires { All IsAccepted files.now }
+    ensures { IfOk result (λ tables. AreTablesOf (map start_processor files.now) tables.items) }
 {
-    let table = KindTable::of(regs);
     let mut tables = Vec::new(alloc);
-    for _i in 0..count {
-        if tables.push(table.same()).is_err() {
+    for file in files {
+        if tables.push(KindTable::of(file)).is_err() {
             return Err(NoMemory);
         }
     }
@@ -71,17 +72,16 @@ fn start_tables(alloc: Global, count: u32, regs: &RegFile) -> Result<Vec<KindTab
 }
 
 impl System {
-    /// So many processors that run with the same registers, over memory without windows. The
-    /// error comes only where the allocator has no room.
-    pub fn new(alloc: Global, cpus: u32, regs: &RegFile) -> Result<System, NoMemory>
-        requires some { 0 < cpus }
-        requires few { cpus ≤ 16 }
-        requires accepted { IsAccepted regs.now }
-        ensures { IfOk result (λ s. s ≡ (start_machine cpus regs.now []).system) }
+    /// A processor for each file, which runs with it, over memory without windows. The error comes
+    /// only where the allocator has no room.
+    pub fn new(alloc: Global, files: &[RegFile]) -> Result<System, NoMemory>
+        requires some { 0 < length files.now }
+        requires few { length files.now ≤ 16 }
+        requires start { AreStartFiles files.now }
+        ensures { IfOk result (λ s. s ≡ (start_machine files.now []).system) }
     {
-        regs.is_register_file(); // a fact for the proof
-        let tables = start_tables(alloc, cpus, regs)?;
-        let cpus = start_cpus(alloc, cpus, regs)?;
+        let tables = start_tables(alloc, files)?;
+        let cpus = start_cpus(alloc, files)?;
         let ram = Ram::new(alloc);
         Ok(System { cpus, ram, tables })
     }

@@ -1,3 +1,6 @@
+ghost use Rattle.std.specs.Prelude.{◌<◌, ◌≤◌, length};
+ghost use Rattle.mt_regs.specs.StartFiles.{AreStartFiles};
+
 use crate::system::System;
 use mt_kinds::MemType;
 use mt_machine::{Control, Done, Op, Ruled};
@@ -18,19 +21,45 @@ fn file(kind: u64) -> Option<RegFile> {
     Some(file)
 }
 
-/// A system with a window of 64 lines from 1 MB on.
-fn system(alloc: Global, cpus: u32, kind: u64) -> Option<System> {
-    let file = file(kind)?;
-    if cpus == 0 || cpus > 16 || file.first_fault().is_some() {
-        return None;
-    }
-    let Ok(mut system) = System::new(alloc, cpus, &file) else {
+/// A system whose processors have these files, with a window of 64 lines from 1 MB on.
+fn system_of(alloc: Global, files: &[RegFile]) -> Option<System>
+    requires some { 0 < length files.now }
+    requires few { length files.now ≤ 16 }
+    requires start { AreStartFiles files.now }
+{
+    let Ok(mut system) = System::new(alloc, files) else {
         return None;
     };
     if system.add_ram(0x10_0000, 64).is_err() {
         return None;
     }
     Some(system)
+}
+
+/// So many processors whose memory below 4 GB has a type.
+fn system(alloc: Global, cpus: u32, kind: u64) -> Option<System> {
+    let file = file(kind)?;
+    if cpus == 0 || cpus > 16 || file.first_fault().is_some() {
+        return None;
+    }
+    let files = file.copies(cpus);
+    system_of(alloc, files.as_slice())
+}
+
+/// Two processors of which each has a type of its own there.
+fn unlike_pair(alloc: Global, kind: u64, other: u64) -> Option<System> {
+    let first = file(kind)?;
+    let second = file(other)?;
+    if first.first_fault().is_some() || second.first_fault().is_some() {
+        return None;
+    }
+    if first.maxphy != second.maxphy || first.cap != second.cap {
+        return None;
+    }
+    first.is_register_file();
+    second.is_register_file();
+    let files = [first, second];
+    system_of(alloc, &files)
 }
 
 /// Maps a page, where the processor has the physical page.
@@ -119,4 +148,20 @@ fn refusals_and_no_fill_mode(rt: HostRuntime) {
     assert!(rt;
         matches!(system.cpus.first(), Some(cpu) if cpu.cache().len() == 0 && cpu.tlb().entries().len() == 2)
     );
+}
+
+#[test]
+fn each_processor_has_the_types_of_its_own_file(rt: HostRuntime) {
+    let Some(mut system) = unlike_pair(rt.alloc(), 6, 4) else {
+        panic!(rt; "the files are accepted");
+    };
+    for k in 0..2 {
+        assert!(rt;
+            map(&mut system, k, 1, 0x100) == Some(Ruled::Okay),
+            "at {k}"
+        );
+    }
+    assert!(rt; access(&mut system, 0, Op::Store(0x1000, 0x2a)) == Some(Done::Stored(MemType::WB)));
+    assert!(rt; access(&mut system, 1, Op::Load(0x1000)) == Some(Done::Value(0x2a, MemType::WT)));
+    assert!(rt; access(&mut system, 0, Op::Load(0x1000)) == Some(Done::Value(0x2a, MemType::WB)));
 }

@@ -1,6 +1,7 @@
-use Rattle.std.proofs.Common.{◌≡◌, replicate}
+use Rattle.std.proofs.Common.{◌≡◌, take}
+use Rattle.std.specs.Prelude.{map}
 use Rattle.mt_machine.specs.System.{start_processor}
 use Rattle.mt_bus.proofs.system.start_cpus.Given as goal
 
-abbrev pub invariant-loop-i : goal.invariant-loop-i
-invariant-loop-i l = l.cpus.items ≡ replicate l._i (start_processor l.regs)
+abbrev pub invariant-loop-file : goal.invariant-loop-file
+invariant-loop-file l = l.cpus.items ≡ map start_processor (take l.file-index l.files)
