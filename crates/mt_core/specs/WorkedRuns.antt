@@ -5,14 +5,13 @@ use Rattle.mt_machine.specs.declared.go.Go.TheVariants.{Cancelled}
 use Rattle.mt_machine.specs.declared.phase.Phase.TheVariants.{Arrived, Arrived2, Restored}
 use Rattle.mt_machine.specs.Machine.{BarrierCount, Goes, Machine, MachineEvent, Order, Steps}
 use Rattle.mt_machine.specs.Memory.{Window}
-use Rattle.mt_machine.specs.Start.{start_machine}
 use Rattle.mt_machine.specs.System.{Processor}
 use Rattle.mt_machine.specs.WorkedRuns.{bare_file, begun, call_order, calling, idle, ready}
-use Rattle.mt_laws.specs.WorkedRuns.{between_of_bare, pair_between, way_on}
+use Rattle.mt_laws.specs.WorkedRuns.{between_of_bare, pair, pair_between, way_on}
 
 -- two processors whose update was called
 abbrev pub pair_begun : Machine
-pair_begun = begun (bare_file 0x806) (start_machine 2 (bare_file 0x800) [])
+pair_begun = begun (bare_file 0x806) pair
 
 abbrev pub count : ℕ → ℕ → BarrierCount
 count arrived awaited = record { arrived = arrived; awaited = awaited }

@@ -34,8 +34,8 @@ pub(crate) fn pair_of(alloc: Global, file: &RegFile) -> Option<Core> {
         return None;
     }
     start_is_quiet();
-    file.is_register_file();
-    let Ok(system) = System::new(alloc, 2, file) else {
+    let files = file.copies(2);
+    let Ok(system) = System::new(alloc, files.as_slice()) else {
         return None;
     };
     let mut core = Core::new(system);

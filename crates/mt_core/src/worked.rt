@@ -1,6 +1,6 @@
 // Worked runs of what the laws and the calls speak of. A relation has a state that meets it, and for each of its
 // parts one that fails in just that, but of the last event of an update: the others imply it.
-ghost use Rattle.std.specs.Prelude.{◌≡◌, ◌++◌, ◌∷◌, [], None, Some, length, map, true, false};
+ghost use Rattle.std.specs.Prelude.{◌≡◌, ◌++◌, ◌∷◌, [], None, Some, length, map, replicate, true, false};
 ghost use Rattle.mt_machine.specs.System.{with_self_snoop};
 ghost use Rattle.mt_machine.specs.declared.control.Control.TheVariants.{Cr3};
 ghost use Rattle.mt_machine.specs.declared.event.Event.TheVariants.{Arrive, Leave, Pass, Release, Take};
@@ -11,7 +11,7 @@ ghost use Rattle.mt_machine.specs.Machine.{Accesses, Cancels, Controls, Goes, St
 ghost use Rattle.mt_machine.specs.Start.{start_machine};
 ghost use Rattle.mt_machine.specs.Update.{updated};
 ghost use Rattle.mt_machine.specs.WorkedRuns.{alone, bare, bare_file, begun, call_order, called, calling, goal_of, idle, keeper, line_of, load, machine_of, mapping, memory_at, one_window, palette, ready, store, walk, with_first_word, with_word, flags, mixed, mixed_dirty};
-ghost use Rattle.mt_laws.specs.WorkedRuns.{bare_called, pair_arrived, pair_order, pair_released, way_on};
+ghost use Rattle.mt_laws.specs.WorkedRuns.{bare_called, pair, pair_arrived, pair_order, pair_released, unlike_pair, way_on};
 ghost use Rattle.mt_core.specs.declared.stepped.Stepped.TheVariants.{Did, NoUpdate, Waits};
 ghost use Rattle.mt_core.specs.Arises.{Arises, IsCore, grown, snooped};
 ghost use Rattle.mt_core.specs.Barriers.{barrier_count};
@@ -116,7 +116,8 @@ pub fn worked_updates_by_events()
     ensures not_enabled { IsUpdateByEvents bare (bare_file 0x806) without_arrive → ⊥ }
     ensures access { IsUpdateByEvents bare (bare_file 0x806) (Accesses 0 Fence ∷ events_of_bare) → ⊥ }
     ensures cancel { IsUpdateByEvents bare (bare_file 0x806) (Cancels ∷ []) → ⊥ }
-    ensures one_alone { IsUpdateByEvents (start_machine 2 (bare_file 0x800) []) (bare_file 0x806) to_first_release → ⊥ }
+    ensures one_alone { IsUpdateByEvents pair (bare_file 0x806) to_first_release → ⊥ }
+    ensures files_that_differ { IsUpdateByEvents unlike_pair (bare_file 0x806) (to_first_release ++ Steps 0 Release ∷ []) }
     ensures no_release { IsUpdateByEvents bare (bare_file 0x806) (Goes ∷ []) → ⊥ }
 {}
 
@@ -157,6 +158,6 @@ pub fn worked_arises()
     ensures no_memory { Arises (grown (line_at 0x20) bare) → ⊥ }
     ensures core { IsCore bare }
     ensures not_arisen { IsCore (alone restored) → ⊥ }
-    ensures too_many { IsCore (start_machine 17 (bare_file 0x800) []) → ⊥ }
+    ensures too_many { IsCore (start_machine (replicate 17 (bare_file 0x800)) []) → ⊥ }
     ensures no_room { IsCore (begun (bare_file 0x806) (alone (record idle { era = 0xffffffffffffffff }))) → ⊥ }
 {}

@@ -5,7 +5,8 @@ use Rattle.mt_machine.specs.Machine.{Goes, Machine, MachineEvent, Steps}
 use Rattle.mt_machine.specs.Update.{is_release}
 use Rattle.mt_laws.specs.WorkedRuns.{between_of_bare}
 use Rattle.mt_core.specs.Rounds.{EndsByRelease}
-use Rattle.mt_core.proofs.OnWorked.{call_is_enabled}
+use Rattle.mt_core.specs.WorkedRuns.{to_first_release}
+use Rattle.mt_core.proofs.OnWorked.{call_is_enabled, unlike_call_is_enabled}
 use Rattle.mt_core.proofs.worked.worked_updates_by_events.Goals as goal
 
 abbrev is_last_release : List MachineEvent → Bool
@@ -52,6 +53,14 @@ returns-clause-cancel c = λ h. let e : false ≡ true = h.led in absurd (cc e)
 
 pub returns-clause-one_alone : goal.returns-clause-one_alone
 returns-clause-one_alone c = λ h. true≢false (ap (λ (m : Machine). is_some m.order) h.leads)
+
+pub returns-clause-files_that_differ : goal.returns-clause-files_that_differ
+returns-clause-files_that_differ c = record {
+  enabled = (unlike_call_is_enabled, (refl, (refl, (refl, (refl, (refl, (refl, (refl, (refl, (refl, (refl, (refl, (refl, (refl, (refl, (refl, (refl, (refl, (refl, (refl, (refl, (refl, (refl, (refl, (refl, (refl, (refl, (refl, (refl, (refl, (refl, (refl, tt))))))))))))))))))))))))))))))));
+  led = refl;
+  leads = refl;
+  last = λ some. (to_first_release, 0, refl);
+}
 
 pub returns-clause-no_release : goal.returns-clause-no_release
 returns-clause-no_release c = λ h. not_by (Goes ∷ []) refl (h.last (omega arith))

@@ -1,5 +1,5 @@
 use Rattle.std.proofs.Common.{◌≡◌, ◌∙◌, ap, sym, subst, Option, None}
-use Rattle.mt_machine.specs.System.{System, with_self_snoop}
+use Rattle.mt_machine.specs.System.{System}
 use Rattle.mt_machine.specs.Machine.{Machine, Order}
 use Rattle.mt_core.specs.Arises.{IsCore}
 use Rattle.mt_core.proofs.Arising.{snoops}
