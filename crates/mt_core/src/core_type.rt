@@ -1,4 +1,4 @@
-ghost use Rattle.std.specs.Prelude.{◌≡◌, ◌≢◌, ◌<◌, ◌≤◌, ◌+◌, ◌*◌, ◌^◌, ◌↔◌, true, false, IsTrue, IsSome, Err, length, slice_get, MatchOption, OnOk, OnErr, None, Some};
+ghost use Rattle.std.specs.Prelude.{◌≡◌, ◌≢◌, ◌<◌, ◌≤◌, ◌+◌, ◌*◌, ◌^◌, ◌↔◌, [], true, false, IfOk, IsTrue, IsSome, Err, length, slice_get, MatchOption, OnOk, OnErr, None, Some};
 ghost use Rattle.std.specs.List.{All};
 ghost use Rattle.mt_ram.specs.Windows.{refusal, refusal_in, window};
 ghost use Rattle.mt_machine.specs.Access.{access, is_running};
@@ -6,7 +6,8 @@ ghost use Rattle.mt_machine.specs.Control.{control};
 ghost use Rattle.mt_machine.specs.System.{Processor};
 ghost use Rattle.mt_regs.specs.declared.fault.Fault.{Fault};
 ghost use Rattle.mt_regs.specs.Faults.{IsAccepted, IsFirstFault};
-ghost use Rattle.mt_machine.specs.Start.{HasEraRoom};
+ghost use Rattle.mt_regs.specs.StartFiles.{AreStartFiles};
+ghost use Rattle.mt_machine.specs.Start.{HasEraRoom, start_machine};
 ghost use Rattle.mt_machine.specs.Machine.{BarrierCount, Calls, Cancels, FitsControl, FitsGoal, FitsOp, Goes, Order as MachineOrder, common_era, go_of, is_over, next, with_go};
 ghost use Rattle.mt_machine.specs.Update.{IsSettled};
 ghost use Rattle.mt_machine.specs.declared.event.Event.TheVariants.{Release};
@@ -24,9 +25,11 @@ use crate::stepped::Stepped;
 use crate::steps::{do_due_event, pause};
 use mt_bus::{System, a_system_is_sound};
 use mt_machine::{Control, Done, Go, Op, Ruled};
+use mt_ports::NoMemory;
 use mt_ram::RamFault;
 use mt_regs::RegFile;
 use mt_types::KindTable;
+use std::alloc::Global;
 use std::marker::Model;
 
 /// Processors over one memory with the update that is under way, if there is one.
@@ -84,6 +87,18 @@ impl Core {
             system,
             order: None,
         }
+    }
+
+    /// A processor for each file, which runs with it, over memory without windows. The error comes
+    /// only where the allocator has no room.
+    pub fn start(alloc: Global, files: &[RegFile]) -> Result<Core, NoMemory>
+        requires some { 0 < length files.now }
+        requires few { length files.now ≤ 16 }
+        requires start { AreStartFiles files.now }
+        ensures { IfOk result (λ core. core ≡ start_machine files.now []) }
+    {
+        let system = System::new(alloc, files)?;
+        Ok(Core::new(system))
     }
 
     /// The processors and the memory.

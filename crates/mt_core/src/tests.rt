@@ -5,10 +5,8 @@ ghost use Rattle.mt_machine.specs.Machine.{FitsGoal};
 use crate::core_type::Core;
 use crate::fault::CallFault;
 use crate::stepped::Stepped;
-use mt_bus::System;
 use mt_cpu::Cpu;
 use mt_kinds::MemType;
-use mt_laws::start_is_quiet;
 use mt_machine::{Control, Done, Event, Op, Ruled};
 use mt_ram::RamFault;
 use mt_regs::RegFile;
@@ -33,12 +31,10 @@ pub(crate) fn pair_of(alloc: Global, file: &RegFile) -> Option<Core> {
     if file.first_fault().is_some() {
         return None;
     }
-    start_is_quiet();
     let files = file.copies(2);
-    let Ok(system) = System::new(alloc, files.as_slice()) else {
+    let Ok(mut core) = Core::start(alloc, files.as_slice()) else {
         return None;
     };
-    let mut core = Core::new(system);
     if core.add_ram(0x10_0000, 64).is_err() {
         return None;
     }
