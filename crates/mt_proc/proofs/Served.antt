@@ -1,5 +1,5 @@
 -- Processors that stand idle with one file, and an update of them.
-use Rattle.std.proofs.Common.{◌≡◌, ◌∙◌, ap, sym, refl, subst, arith, ℕ, zero, suc, ◌+◌, ◌-◌, ◌^◌, ◌<◌, ◌≤◌, List, ◌∷◌, length, map, Option, None, Some}
+use Rattle.std.proofs.Common.{◌≡◌, ◌∙◌, ap, sym, refl, subst, arith, ℕ, zero, suc, ◌+◌, ◌-◌, ◌^◌, ◌<◌, ◌≤◌, List, [], ◌∷◌, length, map, Option, None, Some}
 use Rattle.std.specs.Prelude.{IsSome, replicate}
 use Rattle.std.specs.List.{All}
 use Rattle.std.specs.Option.{option_map_or}
@@ -9,8 +9,8 @@ use Rattle.mt_regs.specs.Faults.{IsAccepted, IsFirstFault}
 use Rattle.mt_regs.specs.FirstFault.{first_fault}
 use Rattle.mt_regs.specs.RegisterFile.{RegisterFile, IsRegisterFile}
 use Rattle.mt_machine.specs.Machine.{FitsGoal, Machine, Order}
-use Rattle.mt_machine.specs.Start.{HasEraRoom}
-use Rattle.mt_machine.specs.System.{Processor}
+use Rattle.mt_machine.specs.Start.{HasEraRoom, start_machine}
+use Rattle.mt_machine.specs.System.{Processor, start_processor}
 use Rattle.mt_machine.specs.Update.{IsSettled, IsSettledOn, settled_processor, updated}
 use Rattle.mt_core.specs.Rounds.{in_order}
 use Rattle.mt_core.specs.declared.fault.CallFault.{CallFault}
@@ -18,7 +18,7 @@ use Rattle.mt_core.specs.declared.fault.CallFault.TheVariants.{Refused, UnderWay
 use Rattle.mt_regs.proofs.FirstFault.{is_first_fault}
 use Rattle.mt_proc.specs.declared.applying.Applied.{Applied}
 use Rattle.mt_proc.specs.declared.applying.Applied.TheVariants.{BadRange, Goal, NoneFree, NotUsed}
-use Rattle.mt_proc.specs.After.{Served, with_change, with_goal}
+use Rattle.mt_proc.specs.After.{Served, at_first, with_change, with_goal}
 use Rattle.mt_proc.specs.Serving.{Serves, changed, goal_after, idle, served, standing}
 
 map_replicate : {A B : Type 0} (f : A → B) (n : ℕ) (x : A) → map f (replicate n x) ≡ replicate n (f x)
@@ -48,6 +48,12 @@ serves_standing n now some few is_file accepted =
       is_file = subst (λ (s : Served). IsRegisterFile s.file) (sym same) is_file;
       accepted = subst (λ (s : Served). IsAccepted s.file) (sym same) accepted;
     }
+
+-- a start with copies of one file
+pub copies_stand : (n : ℕ) (f : RegisterFile) → start_machine (replicate n f) [] ≡ standing n (at_first f)
+copies_stand n f =
+    ap (λ (ps : List Processor). record (standing n (at_first f)) { system = record (standing n (at_first f)).system { processors = ps } })
+    (map_replicate start_processor n f)
 
 -- the state after an update
 pub updated_standing : (n : ℕ) (now : Served) (takes : List ℕ) (goal : RegisterFile) → updated (standing n now).system takes goal ≡ standing n (record { file = goal; count = now.count + 1 })

@@ -10,7 +10,6 @@ ghost use Rattle.mt_proc.specs.Serving.{Serves, changed, goal_after, served, sta
 
 use crate::{Applied, Request, apply};
 use arrayvec::ArrayVec;
-use mt_bus::System;
 use mt_core::{CallFault, Core};
 use mt_output::{LineBuffer, append, append_decimal, refused_line};
 use mt_ports::{Gate, NoMemory};
@@ -112,9 +111,9 @@ impl Processors {
         ensures { IfOk result (λ p. p ≡ standing cpus (at_first file.now)) }
     {
         file.is_register_file(); // a fact for the proof
-        let system = System::new(alloc, cpus, file)?;
+        let files = file.copies(cpus);
         Ok(Processors {
-            core: Core::new(system),
+            core: Core::start(alloc, files.as_slice())?,
         })
     }
 
