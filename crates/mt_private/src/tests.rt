@@ -9,11 +9,9 @@ use crate::fault::PrivateFault;
 use crate::job::{Job, Told};
 use crate::pages::shared_page;
 use crate::runs::run_private;
-use mt_bus::System;
 use mt_core::Core;
 use mt_cpu::Cpu;
 use mt_kinds::MemType;
-use mt_laws::start_is_quiet;
 use mt_machine::{Control, Done, Op, Ruled};
 use mt_ports::{Gate, OpenGate};
 use mt_regs::RegFile;
@@ -42,12 +40,8 @@ fn bare_core(alloc: Global, count: u32) -> Option<Core> {
     if count < 1 || count > 16 || file.first_fault().is_some() {
         return None;
     }
-    start_is_quiet();
-    file.is_register_file();
-    let Ok(system) = System::new(alloc, count, &file) else {
-        return None;
-    };
-    Some(Core::new(system))
+    let files = file.copies(count);
+    Core::start(alloc, files.as_slice()).ok()
 }
 
 /// Maps page 1 of processor k to this physical page.
