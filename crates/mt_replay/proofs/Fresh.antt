@@ -1,7 +1,7 @@
 -- In the states of a script nothing that is held is of an earlier era than its processor's.
 use Rattle.std.proofs.Common.{◌≡◌, ◌≤◌, ℕ, List, [], ◌∷◌, Bool, true, false, refl, ap, inl}
 use Rattle.mt_laws.specs.Kept.{flags_of}
-use Rattle.std.specs.Prelude.{count_by, nat_lt, not}
+use Rattle.std.specs.Prelude.{count_by, nat_lt, not, replicate}
 use Rattle.std.specs.List.{All, list_all}
 use Rattle.std.proofs.lemmas.Bool.{and_parts, le-ltb}
 use Rattle.std.proofs.lemmas.List.Sums.{list_all-from_AllPass}
@@ -38,4 +38,4 @@ none_stale p f = rw (lines_counted p.era p.lines f.lines, lines_counted p.era p.
 
 pub nothing_stale : NothingIsStale
 nothing_stale s f is file k d within =
-    none_stale _ (nothing_is_stale (start_like s f) s.machine (inl (is.quiet f file)) (starts_fresh (flags_of s.machine.system) f (windows_of s.now)) (is.reached f file) k d within)
+    none_stale _ (nothing_is_stale (start_like s f) s.machine (inl (is.quiet f file)) (starts_fresh (flags_of s.machine.system) (replicate s.now.cpus f) (windows_of s.now)) (is.reached f file) k d within)

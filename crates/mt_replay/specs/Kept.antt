@@ -1,5 +1,5 @@
 -- What holds of each state that a script comes to (own).
-use Rattle.std.specs.Prelude.{ℕ, ◌≡◌, ◌+◌, ◌≤◌, Bool, true, false, List, [], ◌∷◌, length, map, Option, None, Some, Result, Ok, Err, ⊤}
+use Rattle.std.specs.Prelude.{ℕ, ◌≡◌, ◌+◌, ◌≤◌, Bool, true, false, List, [], ◌∷◌, length, map, replicate, Option, None, Some, Result, Ok, Err, ⊤}
 use Rattle.mt_laws.specs.Kept.{flags_of}
 use Rattle.std.specs.List.{All}
 use Rattle.mt_text.specs.Text.{lines_of, words_of}
@@ -33,11 +33,11 @@ windows_of now = map (λ w. window w.0 w.1) now.windows
 
 -- the processors with this file, over zero words
 abbrev pub start_of : Situation → RegisterFile → Machine
-start_of now f = start_machine now.cpus f (windows_of now)
+start_of now f = start_machine (replicate now.cpus f) (windows_of now)
 
 -- the same, where a processor is self-snooping exactly where it is so now
 abbrev pub start_like : ReplayState → RegisterFile → Machine
-start_like s f = start_with (flags_of s.machine.system) f (windows_of s.now)
+start_like s f = start_with (flags_of s.machine.system) (replicate s.now.cpus f) (windows_of s.now)
 
 -- The machine is reached by events from its start, the processors with the dump's file over zero words, which is quiet: so each
 -- law on what is reached from a start holds of it. Before the first command nothing has happened to it.

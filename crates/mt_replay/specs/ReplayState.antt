@@ -1,7 +1,7 @@
 -- A script between two lines after its dump: what stands set up, the machine, and what a command writes and leaves (own).
 --     command_text state command      what the command writes
 --     state_after state command      what it leaves
-use Rattle.std.specs.Prelude.{ℕ, ◌/◌, Bool, true, false, List, [], length, if◌then◌else◌, slice_get, Option, None, Some, is_some}
+use Rattle.std.specs.Prelude.{ℕ, ◌/◌, Bool, true, false, List, [], length, replicate, if◌then◌else◌, slice_get, Option, None, Some, is_some}
 use Rattle.std.specs.Option.{option_map, option_map_or}
 use Rattle.mt_regs.specs.RegisterFile.{RegisterFile}
 use Rattle.mt_regs.specs.Registers.{value_at, written}
@@ -41,7 +41,7 @@ pub record ReplayState : Type 0 where
 
 -- after the dump, whose file is accepted
 abbrev pub first_state : Situation → RegisterFile → ReplayState
-first_state now file = record { now = finished now file; machine = start_machine now.cpus file []; goal = file }
+first_state now file = record { now = finished now file; machine = start_machine (replicate now.cpus file) []; goal = file }
 
 -- ---- accesses and control instructions
 

@@ -16,7 +16,6 @@ use crate::commands::{
     access, add_window, call, cancel, control, go, register, step, update, word,
 };
 use crate::report::write_report;
-use mt_bus::System;
 use mt_core::Core;
 use mt_kinds::PAGE_BYTES;
 use mt_machine::{Control, Op};
@@ -168,8 +167,8 @@ impl Replayer {
         let mut setup = setup;
         setup.is_situation(); // a fact for the proof
         file.is_register_file(); // a fact for the proof
-        let system = System::new(alloc, setup.cpus(), &file)?;
-        let core = Core::new(system);
+        let files = file.copies(setup.cpus());
+        let core = Core::start(alloc, files.as_slice())?;
         setup.dumped(file.same());
         Ok(Replayer {
             setup,

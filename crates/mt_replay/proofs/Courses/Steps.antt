@@ -3,7 +3,7 @@ use Rattle.std.proofs.Common.{◌≡◌, ◌⊎◌, ◌∙◌, ap, sym, refl, su
 use Rattle.mt_laws.proofs.Invariant.Starts.{no_flag_is_the_start}
 use Rattle.mt_laws.specs.Kept.{flags_of}
 use Rattle.mt_machine.specs.Start.{start_machine, start_with}
-use Rattle.std.specs.Prelude.{IsSome, is_some, if◌then◌else◌}
+use Rattle.std.specs.Prelude.{IsSome, is_some, if◌then◌else◌, replicate}
 use Rattle.std.specs.Option.{option_map_or}
 use Rattle.std.proofs.lemmas.List.{append_assoc}
 use Rattle.mt_text.specs.Text.{lines_of, words_of, end_of}
@@ -142,7 +142,8 @@ module _ (end : Place) (number : ℕ) (line : List ℕ) (lines : List (List ℕ)
         no_order = refl;
         windows = refl;
         plain = λ f same. let e : file ≡ f = cc same in
-            subst (λ (g : RegisterFile). start_with (flags_of (start_machine now.cpus file []).system) g (windows_of now) ≡ start_machine now.cpus g (windows_of now)) e (no_flag_is_the_start now.cpus file (windows_of now));
+            subst (λ (g : RegisterFile). start_with (flags_of (start_machine (replicate now.cpus file) []).system) (replicate now.cpus g) (windows_of now) ≡ start_machine (replicate now.cpus g) (windows_of now)) e
+            (no_flag_is_the_start (replicate now.cpus file) (windows_of now));
         follows = refl;
         tells = refl;
       }

@@ -1,6 +1,6 @@
 -- Each command keeps a flat machine beside the machine.
 use Rattle.std.proofs.Common.{◌≡◌, ◌∙◌, ap, sym, refl, subst, ℕ, Bool, true, false, if◌then◌else◌, List, [], ◌∷◌, ◌++◌, length, Option, None, Some, slice_get}
-use Rattle.std.specs.Prelude.{map}
+use Rattle.std.specs.Prelude.{map, replicate}
 use Rattle.mt_replay.proofs.Keeping.Snooping.{snooped_start}
 use Rattle.mt_laws.specs.Kept.{flags_of}
 use Rattle.std.specs.Option.{option_map_or}
@@ -110,23 +110,23 @@ beside_end s f h r = one (is_update s.now.stage)
 
 -- ---- windows, at the start, where each word is zero
 
-beside_window : (flags : List Bool) (file : RegisterFile) (ws : List Window) (w : Window) (m : Machine) (f : Flat) → m ≡ start_with flags file ws → IsBeside m f → IsBeside (grown w m) f
-beside_window flags file ws w m f is r = record {
+beside_window : (flags : List Bool) (files : List RegisterFile) (ws : List Window) (w : Window) (m : Machine) (f : Flat) → m ≡ start_with flags files ws → IsBeside m f → IsBeside (grown w m) f
+beside_window flags files ws w m f is r = record {
   values = λ a whole.
-      ap (λ (n : Machine). now (grown w n).system a) is ∙ ap (λ (n : Machine). now n.system a) (grown_start flags file ws w) ∙ (start_is_flat flags file (ws ++ w ∷ [])).values a whole
-      ∙ sym ((start_is_flat flags file ws).values a whole) ∙ ap (λ (n : Machine). now n.system a) (sym is) ∙ r.values a whole;
+      ap (λ (n : Machine). now (grown w n).system a) is ∙ ap (λ (n : Machine). now n.system a) (grown_start flags files ws w) ∙ (start_is_flat flags files (ws ++ w ∷ [])).values a whole
+      ∙ sym ((start_is_flat flags files ws).values a whole) ∙ ap (λ (n : Machine). now n.system a) (sym is) ∙ r.values a whole;
   pending = r.pending;
 }
 
 -- two starts show the same
-beside_start : (cs bs : List Bool) (file : RegisterFile) (ws : List Window) (n m : Machine) (f : Flat) → n ≡ start_with cs file ws → m ≡ start_with bs file ws → IsBeside m f → IsBeside n f
-beside_start cs bs file ws n m f new is r = record {
+beside_start : (cs bs : List Bool) (files : List RegisterFile) (ws : List Window) (n m : Machine) (f : Flat) → n ≡ start_with cs files ws → m ≡ start_with bs files ws → IsBeside m f → IsBeside n f
+beside_start cs bs files ws n m f new is r = record {
   values = λ a whole.
-      ap (λ (x : Machine). now x.system a) new ∙ (start_is_flat cs file ws).values a whole
-      ∙ sym ((start_is_flat bs file ws).values a whole) ∙ ap (λ (x : Machine). now x.system a) (sym is) ∙ r.values a whole;
+      ap (λ (x : Machine). now x.system a) new ∙ (start_is_flat cs files ws).values a whole
+      ∙ sym ((start_is_flat bs files ws).values a whole) ∙ ap (λ (x : Machine). now x.system a) (sym is) ∙ r.values a whole;
   pending = λ k.
-      r.pending k ∙ ap (λ (x : Machine). map written_of (buffers_of x.system k)) is ∙ sym ((start_is_flat bs file ws).pending k)
-      ∙ (start_is_flat cs file ws).pending k ∙ ap (λ (x : Machine). map written_of (buffers_of x.system k)) (sym new);
+      r.pending k ∙ ap (λ (x : Machine). map written_of (buffers_of x.system k)) is ∙ sym ((start_is_flat bs files ws).pending k)
+      ∙ (start_is_flat cs files ws).pending k ∙ ap (λ (x : Machine). map written_of (buffers_of x.system k)) (sym new);
 }
 
 -- ---- commands
@@ -134,11 +134,11 @@ beside_start cs bs file ws n m f new is r = record {
 pub command_beside : (s : ReplayState) (c : Command) (f : Flat) → IsReplayState s → Fits s.now c → IsBeside s.machine f → IsBeside (machine_after s c) (flat_command s c f)
 command_beside s (command.Ram base lines) f h fits r =
     let file = file_of s.now h.situation h.past in
-    beside_window (flags_of s.machine.system) file.0 (windows_of s.now) (window base lines) s.machine f (h.fresh file.0 file.1 fits.0).1 r
+    beside_window (flags_of s.machine.system) (replicate s.now.cpus file.0) (windows_of s.now) (window base lines) s.machine f (h.fresh file.0 file.1 fits.0).1 r
 command_beside s (command.Selfsnoop k) f h fits r =
     let file = file_of s.now h.situation h.past in
     let fresh = (h.fresh file.0 file.1 fits.0).1 in
-    beside_start (flags_of (snooped k s.machine).system) (flags_of s.machine.system) file.0 (windows_of s.now) (snooped k s.machine) s.machine f (snooped_start k s.machine file.0 (windows_of s.now) fresh) fresh r
+    beside_start (flags_of (snooped k s.machine).system) (flags_of s.machine.system) (replicate s.now.cpus file.0) (windows_of s.now) (snooped k s.machine) s.machine f (snooped_start k s.machine (replicate s.now.cpus file.0) (windows_of s.now) fresh) fresh r
 command_beside s (command.Load k address) f h fits r = beside_access s.machine k (op.Load address) f h.arises r fits.1
 command_beside s (command.Store k address value) f h fits r = beside_access s.machine k (op.Store address value) f h.arises r (fits.1, fits.2)
 command_beside s (command.Fence k) f h fits r = beside_access s.machine k op.Fence f h.arises r tt

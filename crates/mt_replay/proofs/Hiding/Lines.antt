@@ -3,6 +3,7 @@ use Rattle.std.proofs.Common.{◌≡◌, ◌∙◌, ap, sym, refl, ℕ, ◌+◌,
 use Rattle.mt_machine.specs.Start.{start_machine}
 use Rattle.mt_laws.specs.Kept.{flags_of}
 use Rattle.mt_laws.proofs.Invariant.Starts.{no_flag_is_the_start}
+use Rattle.std.specs.Prelude.{replicate}
 use Rattle.std.specs.Option.{option_map_or}
 use Rattle.mt_text.specs.Text.{lines_of, words_of, end_of}
 use Rattle.mt_text.specs.declared.place.Place.{Place}
@@ -128,5 +129,5 @@ pub scripts_hide_caches : ScriptsHideCaches
 scripts_hide_caches text =
     head_same (λ number lines s. flat_told_in (end_of text) number lines s flat_start) (told_in (end_of text))
     (λ number lines now file is dump good accepted.
-    told_same (end_of text) number lines (first_state now file) flat_start (first_kept now file is dump good accepted) (subst (λ (m : Machine). IsFlatOf m.system flat_start) (no_flag_is_the_start now.cpus file []) (start_is_flat (flags_of (start_machine now.cpus file []).system) file [])))
+    told_same (end_of text) number lines (first_state now file) flat_start (first_kept now file is dump good accepted) (subst (λ (m : Machine). IsFlatOf m.system flat_start) (no_flag_is_the_start (replicate now.cpus file) []) (start_is_flat (flags_of (start_machine (replicate now.cpus file) []).system) (replicate now.cpus file) [])))
     (end_of text) 1 (lines_of text) at_start [] start_is tt

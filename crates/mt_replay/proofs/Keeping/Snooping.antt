@@ -1,11 +1,11 @@
 -- A processor that becomes self-snooping where nothing has happened yet.
-use Rattle.std.proofs.Common.{◌≡◌, ◌∙◌, ap, sym, refl, ℕ, zero, suc, ◌+◌, ◌≤◌, Bool, List, [], ◌∷◌, Some, slice_get, arith, ⊎_elim, None}
+use Rattle.std.proofs.Common.{◌≡◌, ◌∙◌, ap, sym, refl, ℕ, zero, suc, ◌+◌, ◌≤◌, Bool, false, List, [], ◌∷◌, length, Some, slice_get, arith, ⊎_elim, None}
 use Rattle.std.specs.Prelude.{map}
 use Rattle.mt_regs.specs.RegisterFile.{RegisterFile}
 use Rattle.mt_machine.specs.Memory.{Window}
 use Rattle.mt_machine.specs.System.{Processor, System, snooping, start_processor, with_self_snoop}
 use Rattle.mt_machine.specs.Machine.{Machine}
-use Rattle.mt_machine.specs.Start.{start_with}
+use Rattle.mt_machine.specs.Start.{flagged_processors, start_with}
 use Rattle.mt_laws.specs.Kept.{flags_of, is_self_snooping}
 use Rattle.mt_laws.proofs.Barrier.Stages.{change_stages}
 use Rattle.mt_laws.proofs.Barrier.Still.{change_memory}
@@ -29,34 +29,49 @@ snooped_risen k s = record {
 abbrev Fresh : RegisterFile → Processor → Type 0
 Fresh f p = p ≡ record (start_processor f) { self_snoop = p.self_snoop }
 
-fresh_at : (f : RegisterFile) (flags : List Bool) (i : ℕ) (p : Processor) → slice_get (map (λ b. record (start_processor f) { self_snoop = b }) flags) i ≡ Some p → Fresh f p
-fresh_at f [] i p at = absurd (cc)
-fresh_at f (b ∷ bs) zero p at =
-    let e : record (start_processor f) { self_snoop = b } ≡ p = cc in
-    sym e ∙ ap (λ (x : Processor). record (start_processor f) { self_snoop = x.self_snoop }) e
-fresh_at f (b ∷ bs) (suc i) p at = fresh_at f bs i p at
+-- of a processor that is the one of this file with either flag
+fresh_as : (f g : RegisterFile) (b : Bool) (p : Processor) → g ≡ f → record (start_processor g) { self_snoop = b } ≡ p → Fresh f p
+fresh_as f g b p same is =
+    sym is ∙ ap (λ (h : RegisterFile). record (start_processor h) { self_snoop = b }) same
+    ∙ ap (λ (x : Processor). record (start_processor f) { self_snoop = x.self_snoop }) is
 
--- processors at their start are told by their flags
-by_flags : (f : RegisterFile) (ps : List Processor) → ((i : ℕ) (p : Processor) → slice_get ps i ≡ Some p → Fresh f p) → ps ≡ map (λ b. record (start_processor f) { self_snoop = b }) (map is_self_snooping ps)
-by_flags f [] h = refl
-by_flags f (p ∷ ps) h = λ i. h 0 p refl i ∷ by_flags f ps (λ j q at. h (suc j) q at) i
+fresh_at : (files : List RegisterFile) (flags : List Bool) (i : ℕ) (f : RegisterFile) (p : Processor) → slice_get files i ≡ Some f → slice_get (flagged_processors files flags) i ≡ Some p → Fresh f p
+fresh_at [] flags i f p of_file at = absurd (cc)
+fresh_at (g ∷ gs) [] zero f p of_file at = fresh_as f g false p (cc) (cc)
+fresh_at (g ∷ gs) [] (suc i) f p of_file at = fresh_at gs [] i f p of_file at
+fresh_at (g ∷ gs) (b ∷ bs) zero f p of_file at = fresh_as f g b p (cc) (cc)
+fresh_at (g ∷ gs) (b ∷ bs) (suc i) f p of_file at = fresh_at gs bs i f p of_file at
 
-still_start : (k : ℕ) (flags : List Bool) (f : RegisterFile) (ws : List Window) → snooped k (start_with flags f ws) ≡ start_with (flags_of (snooped k (start_with flags f ws)).system) f ws
-still_start k flags f ws =
-    let s : System = (start_with flags f ws).system in
-    let each : (i : ℕ) (q : Processor) → slice_get (with_self_snoop k s).processors i ≡ Some q → Fresh f q =
-    λ i q at.
+flagged_length : (files : List RegisterFile) (flags : List Bool) → length (flagged_processors files flags) ≡ length files
+flagged_length [] flags = refl
+flagged_length (f ∷ fs) [] = ap suc (flagged_length fs [])
+flagged_length (f ∷ fs) (b ∷ bs) = ap suc (flagged_length fs bs)
+
+-- processors at their start are told by their files and flags
+by_flags : (files : List RegisterFile) (ps : List Processor) → length ps ≡ length files → ((i : ℕ) (f : RegisterFile) (p : Processor) → slice_get files i ≡ Some f → slice_get ps i ≡ Some p → Fresh f p)
+    → ps ≡ flagged_processors files (map is_self_snooping ps)
+by_flags [] [] same h = refl
+by_flags [] (p ∷ ps) same h = absurd (omega arith)
+by_flags (f ∷ fs) [] same h = absurd (omega arith)
+by_flags (f ∷ fs) (p ∷ ps) same h = λ i. h 0 f p refl refl i ∷ by_flags fs ps (omega arith) (λ j g q of_file at. h (suc j) g q of_file at) i
+
+still_start : (k : ℕ) (flags : List Bool) (files : List RegisterFile) (ws : List Window) → snooped k (start_with flags files ws) ≡ start_with (flags_of (snooped k (start_with flags files ws)).system) files ws
+still_start k flags files ws =
+    let s : System = (start_with flags files ws).system in
+    let each : (i : ℕ) (f : RegisterFile) (q : Processor) → slice_get files i ≡ Some f → slice_get (with_self_snoop k s).processors i ≡ Some q → Fresh f q =
+    λ i f q of_file at.
     let own = from k s i q at in
-    let was : Fresh f own.0 = fresh_at f flags i own.0 own.1 in
+    let was : Fresh f own.0 = fresh_at files flags i f own.0 of_file own.1 in
     ⊎_elim
     (λ (e : own.0 ≡ q). sym e ∙ was ∙ ap (λ (x : Processor). record (start_processor f) { self_snoop = x.self_snoop }) e)
     (λ (e : snooping own.0 ≡ q). sym e ∙ ap snooping was ∙ ap (λ (x : Processor). record (start_processor f) { self_snoop = x.self_snoop }) e)
     own.2 in
-    let processors = by_flags f (with_self_snoop k s).processors each in
+    let long : length (with_self_snoop k s).processors ≡ length files = (snooped_risen k s).same_number ∙ flagged_length files flags in
+    let processors = by_flags files (with_self_snoop k s).processors long each in
     let memory = change_memory snooping k s in
     λ i. record { system = record { processors = processors i; memory = memory i }; order = None }
 
-pub snooped_start : (k : ℕ) (m : Machine) (f : RegisterFile) (ws : List Window) → m ≡ start_with (flags_of m.system) f ws → snooped k m ≡ start_with (flags_of (snooped k m).system) f ws
-snooped_start k m f ws is =
-    ap (snooped k) is ∙ still_start k (flags_of m.system) f ws
-    ∙ ap (λ (x : Machine). start_with (flags_of (snooped k x).system) f ws) (sym is)
+pub snooped_start : (k : ℕ) (m : Machine) (files : List RegisterFile) (ws : List Window) → m ≡ start_with (flags_of m.system) files ws → snooped k m ≡ start_with (flags_of (snooped k m).system) files ws
+snooped_start k m files ws is =
+    ap (snooped k) is ∙ still_start k (flags_of m.system) files ws
+    ∙ ap (λ (x : Machine). start_with (flags_of (snooped k x).system) files ws) (sym is)

@@ -4,7 +4,7 @@ use Rattle.mt_replay.proofs.Keeping.Snooping.{snooped_risen, snooped_start}
 use Rattle.mt_laws.proofs.Invariant.Snooping.{each_snooping, snooping_stays_quiet}
 use Rattle.mt_laws.proofs.Barrier.Still.{change_memory}
 use Rattle.mt_laws.specs.Kept.{flags_of}
-use Rattle.std.specs.Prelude.{IfSome, is_some, map}
+use Rattle.std.specs.Prelude.{IfSome, is_some, map, replicate}
 use Rattle.std.specs.Option.{option_map, option_map_or}
 use Rattle.std.specs.List.{All}
 use Rattle.std.specs.Result.{IfOk}
@@ -12,6 +12,7 @@ use Rattle.mt_ranges.proofs.Powers.{split}
 use Rattle.mt_regs.specs.declared.fault.Fault.{Fault}
 use Rattle.mt_regs.specs.RegisterFile.{RegisterFile, IsRegisterFile}
 use Rattle.mt_regs.specs.Registers.{register_of, with_value, written}
+use Rattle.mt_regs.proofs.StartFiles.{copies_start}
 use Rattle.mt_regs.specs.Faults.{IsAccepted, IsFirstFault}
 use Rattle.mt_regs.specs.declared.registers.Register.{Register}
 use Rattle.mt_regs.proofs.ByNumber.{is_file-written}
@@ -87,8 +88,9 @@ file_of now is past = one now.file refl (is.has_file ∙ past) is.file
     one (Some f) same some file = (f, same, file)
 
 -- the start stays the same while no window is added, and no processor becomes self-snooping
-same_start : (now was : Situation) (m n : Machine) (f : RegisterFile) → now.windows ≡ was.windows → flags_of n.system ≡ flags_of m.system → start_with (flags_of m.system) f (windows_of was) ≡ start_with (flags_of n.system) f (windows_of now)
-same_start now was m n f windows flags = λ i. start_with (sym flags i) f (map (λ (w : ℕ × ℕ). window w.0 w.1) (sym windows i))
+same_start : (now was : Situation) (m n : Machine) (f : RegisterFile) → now.cpus ≡ was.cpus → now.windows ≡ was.windows → flags_of n.system ≡ flags_of m.system
+    → start_with (flags_of m.system) (replicate was.cpus f) (windows_of was) ≡ start_with (flags_of n.system) (replicate now.cpus f) (windows_of now)
+same_start now was m n f cpus windows flags = λ i. start_with (sym flags i) (replicate (sym cpus i) f) (map (λ (w : ℕ × ℕ). window w.0 w.1) (sym windows i))
 
 -- with the same windows, and no window to come
 state_on : (s : ReplayState) (now : Situation) (n : Machine) (goal : RegisterFile) → IsReplayState s → IsSituation now → is_past_dump now.stage ≡ true
@@ -103,8 +105,8 @@ state_on s now n goal h is past cpus file windows none follows good fits = recor
   goal_file = good;
   goal = follows.fits goal fits;
   windows = follows.windows ∙ h.windows ∙ ap windows_in (sym windows);
-  quiet = λ f same. subst IsQuiet (same_start now s.now s.machine n f windows follows.flags) (h.quiet f (sym file ∙ same));
-  reached = λ f same. subst (λ (m : Machine). Reached m n) (same_start now s.now s.machine n f windows follows.flags) (follows.reached (start_like s f) (h.reached f (sym file ∙ same)));
+  quiet = λ f same. subst IsQuiet (same_start now s.now s.machine n f cpus windows follows.flags) (h.quiet f (sym file ∙ same));
+  reached = λ f same. subst (λ (m : Machine). Reached m n) (same_start now s.now s.machine n f cpus windows follows.flags) (follows.reached (start_like s f) (h.reached f (sym file ∙ same)));
   fresh = λ f same takes. absurd (none takes);
 }
   where
@@ -224,10 +226,10 @@ module _ (s : ReplayState) (h : IsReplayState s) where
       let memory = room_memory s.now file.0 s.machine.system.memory base lines file.1 file.2 (stands h.arises).0 h.windows some aligned room in
       let together : s.machine.system.memory.windows ++ window base lines ∷ [] ≡ windows_of (accepted s.now (command.Ram base lines)) =
       ap (λ ws. ws ++ window base lines ∷ []) h.windows ∙ sym (windows_then s.now base lines) in
-      let started : (f : RegisterFile) → s.now.file ≡ Some f → grown (window base lines) s.machine ≡ start_with (flags_of s.machine.system) f (windows_of (accepted s.now (command.Ram base lines))) =
+      let started : (f : RegisterFile) → s.now.file ≡ Some f → grown (window base lines) s.machine ≡ start_with (flags_of s.machine.system) (replicate s.now.cpus f) (windows_of (accepted s.now (command.Ram base lines))) =
       λ f same.
-      ap (grown (window base lines)) (h.fresh f same windows).1 ∙ grown_start (flags_of s.machine.system) f (windows_of s.now) (window base lines)
-      ∙ ap (start_with (flags_of s.machine.system) f) (sym (windows_then s.now base lines)) in
+      ap (grown (window base lines)) (h.fresh f same windows).1 ∙ grown_start (flags_of s.machine.system) (replicate s.now.cpus f) (windows_of s.now) (window base lines)
+      ∙ ap (start_with (flags_of s.machine.system) (replicate s.now.cpus f)) (sym (windows_then s.now base lines)) in
       record {
         situation = is;
         past = h.past;
@@ -239,8 +241,8 @@ module _ (s : ReplayState) (h : IsReplayState s) where
         windows = together;
         quiet = λ f same.
             let good : IsRegisterFile f = subst (λ (o : Option RegisterFile). IfSome o IsRegisterFile) same h.situation.file in
-            memory_is_quiet (flags_of s.machine.system) f (with_window (window base lines) s.machine.system.memory) (windows_of (accepted s.now (command.Ram base lines))) memory together good (h.fresh f same windows).0;
-        reached = λ f same. subst (Reached (start_with (flags_of s.machine.system) f (windows_of (accepted s.now (command.Ram base lines))))) (sym (started f same)) at_start;
+            memory_is_quiet (flags_of s.machine.system) (replicate s.now.cpus f) (with_window (window base lines) s.machine.system.memory) (windows_of (accepted s.now (command.Ram base lines))) memory together (copies_start s.now.cpus f good (h.fresh f same windows).0);
+        reached = λ f same. subst (Reached (start_with (flags_of s.machine.system) (replicate s.now.cpus f) (windows_of (accepted s.now (command.Ram base lines))))) (sym (started f same)) at_start;
         fresh = λ f same takes. ((h.fresh f same windows).0, started f same);
       }
 
@@ -252,7 +254,7 @@ module _ (s : ReplayState) (h : IsReplayState s) where
       let none : s.machine.order ≡ None = ap (λ (m : Machine). m.order) (fresh file.0 file.1) in
       let fits : (f : RegisterFile) → All (FitsGoal f) s.machine.system.processors → All (FitsGoal f) (snooped k s.machine).system.processors =
       λ f all. each_snooping (FitsGoal f) (λ p c. record { width = c.width; capabilities = c.capabilities }) k s.machine.system all in
-      let started : (f : RegisterFile) → s.now.file ≡ Some f → snooped k s.machine ≡ start_like (state_after s (command.Selfsnoop k)) f = λ f same. snooped_start k s.machine f (windows_of s.now) (fresh f same) in
+      let started : (f : RegisterFile) → s.now.file ≡ Some f → snooped k s.machine ≡ start_like (state_after s (command.Selfsnoop k)) f = λ f same. snooped_start k s.machine (replicate s.now.cpus f) (windows_of s.now) (fresh f same) in
       record {
         situation = h.situation;
         past = h.past;

@@ -8,7 +8,7 @@ use Rattle.std.proofs.lemmas.List.Elements.{All-push}
 use Rattle.std.proofs.lemmas.List.Quantifiers.{all_pairs_push}
 use Rattle.mt_ranges.proofs.Powers.{pow_below}
 use Rattle.mt_regs.specs.RegisterFile.{RegisterFile, IsRegisterFile}
-use Rattle.mt_regs.specs.Faults.{IsAccepted}
+use Rattle.mt_regs.specs.StartFiles.{AreStartFiles}
 use Rattle.mt_machine.specs.Memory.{AreApart, IsMemory, Memory, Window, window_end, word_count}
 use Rattle.mt_machine.specs.Machine.{Machine}
 use Rattle.mt_machine.specs.Start.{IsQuiet, start_with}
@@ -68,20 +68,20 @@ room_memory now f m base lines file good h windows some aligned room =
     (subst (λ (ws : List Window). (k : ℕ) (d : Window) → k < length ws → AreApart (get_or ws k d) (window base lines)) (sym windows) (each_apart base lines now.windows first.1))
 
 -- the windows of a memory make a quiet start
-pub memory_is_quiet : (flags : List Bool) (f : RegisterFile) (m : Memory) (ws : List Window) → IsMemory m → m.windows ≡ ws → IsRegisterFile f → IsAccepted f → IsQuiet (start_with flags f ws)
-memory_is_quiet flags f m ws h same good accepted =
-    subst (λ (vs : List Window). IsQuiet (start_with flags f vs)) same
-    (flagged_start_is_quiet flags f m.windows good accepted
+pub memory_is_quiet : (flags : List Bool) (files : List RegisterFile) (m : Memory) (ws : List Window) → IsMemory m → m.windows ≡ ws → AreStartFiles files → IsQuiet (start_with flags files ws)
+memory_is_quiet flags files m ws h same starts =
+    subst (λ (vs : List Window). IsQuiet (start_with flags files vs)) same
+    (flagged_start_is_quiet flags files m.windows starts
     (record { some_lines = h.some_lines; aligned = h.aligned; bounded = h.bounded; apart = h.apart; counted = length-replicate (word_count m.windows) 0 }))
 
 pub windows_then : (now : Situation) (base lines : ℕ) → map of_pair (now.windows ++ (base, lines) ∷ []) ≡ windows_of now ++ window base lines ∷ []
 windows_then now base lines = map-append of_pair now.windows ((base, lines) ∷ [])
 
-pub grown_start : (flags : List Bool) (f : RegisterFile) (ws : List Window) (w : Window) → grown w (start_with flags f ws) ≡ start_with flags f (ws ++ w ∷ [])
-grown_start flags f ws w =
+pub grown_start : (flags : List Bool) (files : List RegisterFile) (ws : List Window) (w : Window) → grown w (start_with flags files ws) ≡ start_with flags files (ws ++ w ∷ [])
+grown_start flags files ws w =
     let words : replicate (word_count ws) 0 ++ replicate (8 * w.lines) 0 ≡ replicate (word_count (ws ++ w ∷ [])) 0 =
     replicate-append-replicate (word_count ws) (8 * w.lines) 0 ∙ ap (λ n. replicate n 0) (sym (words_pushed ws w)) in
-    ap (λ (xs : List ℕ). with_words flags f (ws ++ w ∷ []) xs) words
+    ap (λ (xs : List ℕ). with_words flags files (ws ++ w ∷ []) xs) words
   where
-    with_words : List Bool → RegisterFile → List Window → List ℕ → Machine
-    with_words flags f ws xs = record (start_with flags f ws) { system = record (start_with flags f ws).system { memory = record { windows = ws; words = xs } } }
+    with_words : List Bool → List RegisterFile → List Window → List ℕ → Machine
+    with_words flags files ws xs = record (start_with flags files ws) { system = record (start_with flags files ws).system { memory = record { windows = ws; words = xs } } }
