@@ -1,7 +1,7 @@
-ghost use Rattle.std.specs.Prelude.{◌≡◌, ◌∷◌, [], map};
+ghost use Rattle.std.specs.Prelude.{◌≡◌, ◌∷◌, []};
 ghost use Rattle.mt_regs.specs.StartFiles.{AreStartFiles};
 ghost use Rattle.mt_machine.specs.Machine.{Calls, Cancels, Goes, run};
-ghost use Rattle.mt_machine.specs.Start.{IsQuiet, start_machine, start_with};
+ghost use Rattle.mt_machine.specs.Start.{IsQuiet, start_with};
 ghost use Rattle.mt_machine.specs.Update.{updated};
 ghost use Rattle.mt_machine.specs.WorkedRuns.{bare_file, rounds, walk};
 ghost use Rattle.mt_laws.specs.Kept.{flags_of};
