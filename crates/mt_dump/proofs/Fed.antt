@@ -11,7 +11,7 @@ use Rattle.mt_text.specs.Feed.{Feeding, IsLong, LendsFirst, Lines, at_start, tak
 use Rattle.mt_text.specs.declared.line.Line.{Line}
 use Rattle.mt_text.specs.declared.fault.FeedFault.{FeedFault}
 use Rattle.mt_text.proofs.Lent.{counted, lends_lines, passes, told_next}
-use Rattle.mt_regs.specs.RegisterFile.{RegisterFile}
+use Rattle.mt_dump.specs.Dumps.{Dump}
 use Rattle.mt_dump.specs.Line.{Reading, said_of}
 use Rattle.mt_dump.specs.Dump.{Shown, ShownBy, dump_offence, offence_at_end, offence_of, said_by, said_from}
 use Rattle.mt_dump.specs.Reader.{HasRead, State, onto}
@@ -164,9 +164,9 @@ module _ (left_first left after : Option (List ℕ)) (given_first given given_af
 -- at the end of all lines
 module _ (left_first left after : Option (List ℕ)) (given_first given given_after : ℕ) (feed new : Feeding) (reader : State) (reading : IsReading left_first left given_first given feed reader)
     (lines : Lines feed new left after given given_after (Ok None)) where
-  pub ends : (bytes : List ℕ) (answer : Result RegisterFile DumpFault) → left_first ≡ Some bytes
-      → ((before : List Reading) → HasRead reader before → MatchResult answer (λ file. ShownBy (onto before []) file) (λ fault. offence_at_end new.place (onto before []) ≡ Some fault))
-      → MatchResult answer (λ file. Shown bytes file) (λ fault. dump_offence bytes ≡ Some fault)
+  pub ends : (bytes : List ℕ) (answer : Result Dump DumpFault) → left_first ≡ Some bytes
+      → ((before : List Reading) → HasRead reader before → MatchResult answer (λ dump. ShownBy (onto before []) dump) (λ fault. offence_at_end new.place (onto before []) ≡ Some fault))
+      → MatchResult answer (λ dump. Shown bytes dump) (λ fault. dump_offence bytes ≡ Some fault)
   ends bytes answer is finished =
       let told = reading.told bytes is in
       let next = lends_lines feed new told.after after given given_after (Ok None) (rw told.left_is at lines) in

@@ -11,10 +11,10 @@ use Rattle.mt_text.specs.Words.{text_of}
 use Rattle.mt_text.specs.Words as word
 use Rattle.mt_text.specs.declared.place.Place.{Place}
 use Rattle.mt_regs.specs.RegisterFile.{low_byte}
-use Rattle.mt_dump.specs.Line.{said_of, said_words, said_pair, said_width, said_register, is_width_name, fault_at, place_of}
+use Rattle.mt_dump.specs.Line.{said_of, said_words, said_pair, said_width, said_version, said_section, said_register, is_width_name, is_version_name, is_section_name, fault_at, place_of}
 use Rattle.mt_dump.specs.Reader.{IsSane}
-use Rattle.mt_dump.specs.declared.fault.DumpReason.TheVariants.{BadLine, BadWidth, TooManyPairs}
-use Rattle.mt_dump.specs.declared.said.Said.TheVariants.{Nothing, Width, Register}
+use Rattle.mt_dump.specs.declared.fault.DumpReason.TheVariants.{BadLine, BadWidth, TooManyPairs, BadVersion}
+use Rattle.mt_dump.specs.declared.said.Said.TheVariants.{Nothing, Version, Section, Width, Register}
 
 -- words by their number
 pub said_none : (number : ℕ) (words : List (ℕ × List ℕ)) → length words ≡ 0 → said_words number words ≡ Ok Nothing
@@ -60,7 +60,7 @@ decimal_within word max number is = by (are_digits is_decimal_digit word) (nat_l
 sane_width : (first second : Place) (word : List ℕ) → IsSane (said_width first second (decimal_number word 52))
 sane_width first second word = by (decimal_number word 52) refl
   where
-    at_least : (width : ℕ) → width ≤ 52 → (small : Bool) → nat_lt width 32 ≡ small → IsSane (if small then Err (fault_at BadWidth second) else Ok (Width width first))
+    at_least : (width : ℕ) → width ≤ 52 → (small : Bool) → nat_lt width 32 ≡ small → IsSane (if small then Err (fault_at BadWidth second) else Ok (Width width first second))
     at_least width narrow true test = tt
     at_least width narrow false test = (grind (arith, nat_tests, test), narrow)
 
@@ -69,22 +69,45 @@ sane_width first second word = by (decimal_number word 52) refl
     by (Err TooLarge) is = tt
     by (Ok width) is = at_least width (decimal_within word 52 width is) (nat_lt width 32) refl
 
+sane_version : (first second : Place) (word : List ℕ) → IsSane (said_version first second (decimal_number word 2))
+sane_version first second word = by (decimal_number word 2) refl
+  where
+    at_least : (version : ℕ) → version ≤ 2 → (none : Bool) → (version == 0) ≡ none → IsSane (if none then Err (fault_at BadVersion second) else Ok (Version version first))
+    at_least version few true test = tt
+    at_least version few false test = (grind (arith, nat_tests, test), few)
+
+    by : (answer : Result ℕ NumberFault) → decimal_number word 2 ≡ answer → IsSane (said_version first second answer)
+    by (Err NotDigit) is = tt
+    by (Err TooLarge) is = tt
+    by (Ok version) is = at_least version (decimal_within word 2 version is) (version == 0) refl
+
+sane_section : (first second : Place) (word : List ℕ) → IsSane (said_section first second (decimal_number word 15))
+sane_section first second word = by (decimal_number word 15) refl
+  where
+    by : (answer : Result ℕ NumberFault) → decimal_number word 15 ≡ answer → IsSane (said_section first second answer)
+    by (Err NotDigit) is = tt
+    by (Err TooLarge) is = tt
+    by (Ok number) is = decimal_within word 15 number is
+
 sane_register : (first second : Place) (number value : Result ℕ NumberFault) → IsSane (said_register first second number value)
 sane_register first second (Err fault) value = tt
 sane_register first second (Ok number) (Err fault) = tt
 sane_register first second (Ok number) (Ok value) = by (number == 0xfe) (nat_lt 32 (low_byte value)) refl refl
   where
-    by : (cap many : Bool) → (number == 0xfe) ≡ cap → nat_lt 32 (low_byte value) ≡ many → IsSane (if cap && many then Err (fault_at TooManyPairs second) else Ok (Register number value first))
+    by : (cap many : Bool) → (number == 0xfe) ≡ cap → nat_lt 32 (low_byte value) ≡ many → IsSane (if cap && many then Err (fault_at TooManyPairs second) else Ok (Register number value first second))
     by true true is test = tt
     by true false is test = λ same. grind (arith, nat_tests, test)
     by false many is test = λ same. absurd (eqb-false _ _ is same)
 
 sane_pair : (first second : Place) (name value : List ℕ) → IsSane (said_pair first second name value)
-sane_pair first second name value = by (is_width_name name)
+sane_pair first second name value = by (is_width_name name) (is_version_name name) (is_section_name name)
   where
-    by : (width : Bool) → IsSane (if width then said_width first second (decimal_number value 52) else said_register first second (hex_number name) (hex_number value))
-    by true = sane_width first second value
-    by false = sane_register first second (hex_number name) (hex_number value)
+    by : (width version section : Bool) → IsSane (if width then said_width first second (decimal_number value 52) else if version then said_version first second (decimal_number value 2)
+        else if section then said_section first second (decimal_number value 15) else said_register first second (hex_number name) (hex_number value))
+    by true version section = sane_width first second value
+    by false true section = sane_version first second value
+    by false false true = sane_section first second value
+    by false false false = sane_register first second (hex_number name) (hex_number value)
 
 sane_words : (number : ℕ) (words : List (ℕ × List ℕ)) → IsSane (said_words number words)
 sane_words number [] = tt

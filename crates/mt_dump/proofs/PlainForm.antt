@@ -1,5 +1,5 @@
 -- What a dump of the plain form shows.
-use Rattle.std.proofs.Common.{◌≡◌, ◌∙◌, ◌≤◌, ◌+◌, ℕ, Bool, true, false, not, ◌==◌, ◌&&◌, nat_le, nat_lt, List, [], ◌∷◌, length, map, Option, Some, None, Ok, refl, sym, ap, subst, arith, inl, inr}
+use Rattle.std.proofs.Common.{◌≡◌, ◌∙◌, ◌≤◌, ◌+◌, ℕ, Bool, true, false, not, ◌==◌, ◌&&◌, nat_eq, nat_le, nat_lt, List, [], ◌∷◌, length, map, Option, Some, None, Ok, refl, sym, ap, subst, arith, inl, inr}
 use Rattle.std.specs.Prelude.{codes, is_ok, if◌then◌else◌}
 use Rattle.std.specs.Cmp.Lexicographic.{same_text}
 use Rattle.std.specs.List.{AllByRecursion, slice_split, onto_first, list_all}
@@ -14,9 +14,11 @@ use Rattle.mt_text.specs.declared.place.Place.{Place}
 use Rattle.mt_text.proofs.Plain.{is_plain, plain_content, digits_plain, hex_number-digits}
 use Rattle.mt_regs.specs.RegisterFile.{RegisterFile, low_byte}
 use Rattle.mt_regs.specs.Registers.{value_at}
-use Rattle.mt_dump.specs.Line.{Reading, said_of, said_words, said_pair, said_width, said_register, is_width_name, place_of}
-use Rattle.mt_dump.specs.Dump.{said_from, given, widths, width_of, Shown}
+use Rattle.mt_dump.specs.Line.{Reading, said_of, said_words, said_pair, said_width, said_register, is_width_name, is_version_name, is_section_name, place_of}
+use Rattle.mt_dump.specs.Dump.{said_from, given, widths, versions, section_numbers, width_of, Shown}
+use Rattle.mt_dump.specs.Dumps.{dump_of}
 use Rattle.mt_dump.specs.Plain.{PlainLine, Empty, OfRegister, OfWidth, plain_number, plain_width, plain_pair, plain_line, plain_registers, plain_widths, PlainlyShown}
+use Rattle.mt_dump.proofs.Stands.{one_section}
 use Rattle.mt_dump.specs.declared.said.Said.{Said}
 use Rattle.mt_dump.specs.declared.said.Said.TheVariants.{Nothing, Width, Register}
 
@@ -128,11 +130,11 @@ digits_no_colon : (digits : List ℕ) → list_all is_hex_digit digits ≡ true 
 digits_no_colon [] all = refl
 digits_no_colon (d ∷ ds) all = let both = and_parts (is_hex_digit d) (list_all is_hex_digit ds) all in rw (digit_no_colon d both.0, digits_no_colon ds both.1) refl
 
--- what is said at the place of the first word
-abbrev said_with : Place → PlainLine → Said
-said_with place Empty = Nothing
-said_with place (OfRegister number value) = Register number value place
-said_with place (OfWidth width) = Width width place
+-- what is said at the places of the words
+abbrev said_with : Place → Place → PlainLine → Said
+said_with first second Empty = Nothing
+said_with first second (OfRegister number value) = Register number value first second
+said_with first second (OfWidth width) = Width width first second
 
 -- 0FEH has few pairs
 abbrev IsSound : PlainLine → Type 0
@@ -152,7 +154,7 @@ module _ (number : ℕ) (line : List ℕ) (few : length line ≤ 4096) where
   said_two a b name value two bare =
       rw (short line few) (ap (said_words number) two ∙ ap (λ n. said_pair (place_of number (a, name)) (place_of number (b, value)) n value) bare)
 
-width_said : (first second : Place) (name value : List ℕ) (w : ℕ) → is_width_name name ≡ true → plain_width value ≡ Some w → said_pair first second name value ≡ Ok (Width w first)
+width_said : (first second : Place) (name value : List ℕ) (w : ℕ) → is_width_name name ≡ true → plain_width value ≡ Some w → said_pair first second name value ≡ Ok (Width w first second)
 width_said first second name value w named is =
     let read = width_read value w is in
     rw named (ap (said_width first second) read.1 ∙ rw read.2 refl)
@@ -168,21 +170,44 @@ register_test n v sound = by (n == 0xfe) refl (nat_lt 32 (low_byte v)) refl
         too_many : (k : ℕ) → nat_lt 32 k ≡ true → k ≤ 32 → ⊥
         too_many k test le = grind (arith, nat_tests)
 
+-- a number is no name of another line
+other_digit : (byte : ℕ) → is_hex_digit byte ≡ true → (nat_eq byte 118 ≡ false) × (nat_eq byte 112 ≡ false)
+other_digit byte digit = (grind (arith, nat_tests), grind (arith, nat_tests))
+
+no_version_name : (name : List ℕ) → list_all is_hex_digit name ≡ true → is_version_name name ≡ false
+no_version_name [] all = refl
+no_version_name (x ∷ xs) all = rw (other_digit x (and_parts (is_hex_digit x) (list_all is_hex_digit xs) all).0).0 refl
+
+no_section_name : (name : List ℕ) → list_all is_hex_digit name ≡ true → is_section_name name ≡ false
+no_section_name [] all = refl
+no_section_name (x ∷ []) all = by (nat_eq x 99)
+  where
+    by : (test : Bool) → (test && false) ≡ false
+    by true = refl
+    by false = refl
+no_section_name (x ∷ y ∷ ys) all =
+    let rest = (and_parts (is_hex_digit x) (list_all is_hex_digit (y ∷ ys)) all).1 in
+    rw (other_digit y (and_parts (is_hex_digit y) (list_all is_hex_digit ys) rest).0).1 (by (nat_eq x 99))
+  where
+    by : (test : Bool) → (test && false) ≡ false
+    by true = refl
+    by false = refl
+
 register_said : (first second : Place) (name value : List ℕ) (n v : ℕ) → is_width_name name ≡ false → plain_number name ≡ Some n → plain_number value ≡ Some v → (n ≡ 0xfe → low_byte v ≤ 32)
-    → said_pair first second name value ≡ Ok (Register n v first)
+    → said_pair first second name value ≡ Ok (Register n v first second)
 register_said first second name value n v other is_number is_value sound =
     let read = number_read name n is_number in
     let read_value = number_read value v is_value in
-    rw other (ap (λ r. said_register first second r (hex_number value)) read.1 ∙ ap (said_register first second (Ok n)) read_value.1 ∙ rw (register_test n v sound) refl)
+    rw (other, no_version_name name read.0, no_section_name name read.0) (ap (λ r. said_register first second r (hex_number value)) read.1 ∙ ap (said_register first second (Ok n)) read_value.1 ∙ rw (register_test n v sound) refl)
 
 -- what a plain line says
-line_said : (number : ℕ) (line : List ℕ) (told : PlainLine) → length line ≤ 4096 → plain_line (between_blanks line) ≡ Some told → IsSound told → (place : Place) × (said_of number line ≡ Ok (said_with place told))
+line_said : (number : ℕ) (line : List ℕ) (told : PlainLine) → length line ≤ 4096 → plain_line (between_blanks line) ≡ Some told → IsSound told → (first : Place) × (second : Place) × (said_of number line ≡ Ok (said_with first second told))
 line_said number line told few is sound = by (between_blanks line) refl is
   where
-    pair : (name value : List ℕ) → between_blanks line ≡ name ∷ value ∷ [] → (named : Bool) → is_width_name name ≡ named → plain_pair name value ≡ Some told → (place : Place) × (said_of number line ≡ Ok (said_with place told))
+    pair : (name value : List ℕ) → between_blanks line ≡ name ∷ value ∷ [] → (named : Bool) → is_width_name name ≡ named → plain_pair name value ≡ Some told → (first : Place) × (second : Place) × (said_of number line ≡ Ok (said_with first second told))
     pair name value words true named is = width (plain_width value) refl (rw named at is)
       where
-        width : (found : Option ℕ) → plain_width value ≡ found → option_map OfWidth found ≡ Some told → (place : Place) × (said_of number line ≡ Ok (said_with place told))
+        width : (found : Option ℕ) → plain_width value ≡ found → option_map OfWidth found ≡ Some told → (first : Place) × (second : Place) × (said_of number line ≡ Ok (said_with first second told))
         width None none is = cc is
         width (Some w) some is =
             let name_is : name ≡ codes "maxphyaddr" = same_text name (codes "maxphyaddr") (sym named) in
@@ -190,11 +215,12 @@ line_said number line told few is sound = by (between_blanks line) refl is
             let bare : without_ending 58 name ≡ name = rw name_is refl in
             let first : Place = place_of number (two.0, name) in
             let told_is : OfWidth w ≡ told = cc is in
-            (first, said_two number line few two.0 two.1 name value two.2 bare ∙ width_said first (place_of number (two.1, value)) name value w named some ∙ ap (λ t. Ok (said_with first t)) told_is)
+            let second : Place = place_of number (two.1, value) in
+            (first, second, said_two number line few two.0 two.1 name value two.2 bare ∙ width_said first second name value w named some ∙ ap (λ t. Ok (said_with first second t)) told_is)
     pair name value words false other is = register (plain_number name) refl (plain_number value) refl (rw other at is)
       where
         register : (first_found : Option ℕ) → plain_number name ≡ first_found → (found : Option ℕ) → plain_number value ≡ found → option_and_then (λ n. option_map (OfRegister n) found) first_found ≡ Some told
-            → (place : Place) × (said_of number line ≡ Ok (said_with place told))
+            → (first : Place) × (second : Place) × (said_of number line ≡ Ok (said_with first second told))
         register None none found later is = cc is
         register (Some n) some None none is = cc is
         register (Some n) some (Some v) more is =
@@ -204,31 +230,45 @@ line_said number line told few is sound = by (between_blanks line) refl is
             let first : Place = place_of number (two.0, name) in
             let told_is : OfRegister n v ≡ told = cc is in
             let fits : n ≡ 0xfe → low_byte v ≤ 32 = subst IsSound (sym told_is) sound in
-            (first, said_two number line few two.0 two.1 name value two.2 bare ∙ register_said first (place_of number (two.1, value)) name value n v other some more fits ∙ ap (λ t. Ok (said_with first t)) told_is)
+            let second : Place = place_of number (two.1, value) in
+            (first, second, said_two number line few two.0 two.1 name value two.2 bare ∙ register_said first second name value n v other some more fits ∙ ap (λ t. Ok (said_with first second t)) told_is)
 
-    by : (words : List (List ℕ)) → between_blanks line ≡ words → plain_line words ≡ Some told → (place : Place) × (said_of number line ≡ Ok (said_with place told))
+    by : (words : List (List ℕ)) → between_blanks line ≡ words → plain_line words ≡ Some told → (first : Place) × (second : Place) × (said_of number line ≡ Ok (said_with first second told))
     by [] none is =
         let told_is : Empty ≡ told = cc is in
         let place : Place = record { line = number; column = 1 } in
-        (place, said_nothing number line few (no_words line none) ∙ ap (λ t. Ok (said_with place t)) told_is)
+        (place, place, said_nothing number line few (no_words line none) ∙ ap (λ t. Ok (said_with place place t)) told_is)
     by (name ∷ []) one is = cc is
     by (name ∷ value ∷ []) two is = pair name value two (is_width_name name) refl is
     by (name ∷ value ∷ third ∷ more) many is = cc is
 
-given-told : (place : Place) (told : PlainLine) (says : List Reading) (tells : List PlainLine) → given says ≡ plain_registers tells → given (Ok (said_with place told) ∷ says) ≡ plain_registers (told ∷ tells)
-given-told place Empty says tells same = same
-given-told place (OfRegister number value) says tells same = ap (λ gs. let g : ℕ × ℕ = (number, value) in g ∷ gs) same
-given-told place (OfWidth width) says tells same = same
+given-told : (first second : Place) (told : PlainLine) (says : List Reading) (tells : List PlainLine) → given says ≡ plain_registers tells → given (Ok (said_with first second told) ∷ says) ≡ plain_registers (told ∷ tells)
+given-told first second Empty says tells same = same
+given-told first second (OfRegister number value) says tells same = ap (λ gs. let g : ℕ × ℕ = (number, value) in g ∷ gs) same
+given-told first second (OfWidth width) says tells same = same
 
-widths-told : (place : Place) (told : PlainLine) (says : List Reading) (tells : List PlainLine) → widths says ≡ plain_widths tells → widths (Ok (said_with place told) ∷ says) ≡ plain_widths (told ∷ tells)
-widths-told place Empty says tells same = same
-widths-told place (OfRegister number value) says tells same = same
-widths-told place (OfWidth width) says tells same = ap (λ ws. width ∷ ws) same
+widths-told : (first second : Place) (told : PlainLine) (says : List Reading) (tells : List PlainLine) → widths says ≡ plain_widths tells → widths (Ok (said_with first second told) ∷ says) ≡ plain_widths (told ∷ tells)
+widths-told first second Empty says tells same = same
+widths-told first second (OfRegister number value) says tells same = same
+widths-told first second (OfWidth width) says tells same = ap (λ ws. width ∷ ws) same
+
+-- no version and no section is told
+neither-told : (first second : Place) (told : PlainLine) (says : List Reading) → versions says ≡ [] → section_numbers says ≡ [] → (versions (Ok (said_with first second told) ∷ says) ≡ []) × (section_numbers (Ok (said_with first second told) ∷ says) ≡ [])
+neither-told first second Empty says none zero = (none, zero)
+neither-told first second (OfRegister number value) says none zero = (none, zero)
+neither-told first second (OfWidth width) says none zero = (none, zero)
 
 -- what plain lines say
+record LinesSaid (says : List Reading) (tells : List PlainLine) : Type 0 where
+  good : list_all is_ok says ≡ true
+  gives : given says ≡ plain_registers tells
+  has_widths : widths says ≡ plain_widths tells
+  has_versions : versions says ≡ []
+  has_sections : section_numbers says ≡ []
+
 lines_said : (number : ℕ) (lines : List (List ℕ)) (tells : List PlainLine) → map (λ line. plain_line (between_blanks line)) lines ≡ map Some tells → AllByRecursion (λ line. length line ≤ 4096) lines → AllByRecursion IsSound tells
-    → (list_all is_ok (said_from number lines) ≡ true) × (given (said_from number lines) ≡ plain_registers tells) × (widths (said_from number lines) ≡ plain_widths tells)
-lines_said number [] [] same few sound = (refl, refl, refl)
+    → LinesSaid (said_from number lines) tells
+lines_said number [] [] same few sound = record { good = refl; gives = refl; has_widths = refl; has_versions = refl; has_sections = refl }
 lines_said number [] (told ∷ tells) same few sound = cc same
 lines_said number (line ∷ lines) [] same few sound = cc same
 lines_said number (line ∷ lines) (told ∷ tells) same few sound =
@@ -236,11 +276,15 @@ lines_said number (line ∷ lines) (told ∷ tells) same few sound =
     let rest : map (λ l. plain_line (between_blanks l)) lines ≡ map Some tells = cc same in
     let said = line_said number line told few.0 here sound.0 in
     let later = lines_said (number + 1) lines tells rest few.1 sound.1 in
-    let whole : said_from number (line ∷ lines) ≡ Ok (said_with said.0 told) ∷ said_from (number + 1) lines = ap (λ r. r ∷ said_from (number + 1) lines) said.1 in (
-      ap (list_all is_ok) whole ∙ later.0,
-      ap given whole ∙ given-told said.0 told (said_from (number + 1) lines) tells later.1,
-      ap widths whole ∙ widths-told said.0 told (said_from (number + 1) lines) tells later.2,
-    )
+    let whole : said_from number (line ∷ lines) ≡ Ok (said_with said.0 said.1 told) ∷ said_from (number + 1) lines = ap (λ r. r ∷ said_from (number + 1) lines) said.2 in
+    let neither = neither-told said.0 said.1 told (said_from (number + 1) lines) later.has_versions later.has_sections in
+    record {
+      good = ap (list_all is_ok) whole ∙ later.good;
+      gives = ap given whole ∙ given-told said.0 said.1 told (said_from (number + 1) lines) tells later.gives;
+      has_widths = ap widths whole ∙ widths-told said.0 said.1 told (said_from (number + 1) lines) tells later.has_widths;
+      has_versions = ap versions whole ∙ neither.0;
+      has_sections = ap section_numbers whole ∙ neither.1;
+    }
 
 -- each value of 0FEH is the file's
 sound_lines : (file : RegisterFile) → low_byte file.capabilities ≤ 32 → (tells : List PlainLine) → AllByRecursion (λ register. value_at file register.0 ≡ Some register.1) (plain_registers tells) → AllByRecursion IsSound tells
@@ -250,16 +294,17 @@ sound_lines file few (OfWidth width ∷ tells) values = (tt, sound_lines file fe
 sound_lines file few (OfRegister number value ∷ tells) values =
     ((λ is. let e : Some file.capabilities ≡ Some value = rw is at values.0 in let same : file.capabilities ≡ value = cc e in rw (← same) few), sound_lines file few tells values.1)
 
-pub plainly_shown : (text : List ℕ) (file : RegisterFile) → PlainlyShown text file → AllByRecursion (λ line. length line ≤ 4096) (lines_of text) → Shown text file
+pub plainly_shown : (text : List ℕ) (file : RegisterFile) → PlainlyShown text file → AllByRecursion (λ line. length line ≤ 4096) (lines_of text) → Shown text (dump_of file)
 plainly_shown text file shown few =
     let says = lines_said 1 (lines_of text) shown.lines shown.plain few (sound_lines file shown.is_file.few_pairs shown.lines shown.values) in
-    record {
-      good = says.0;
-      capabilities = (shown.capabilities.0, says.1 ∙ shown.capabilities.1);
-      once = λ number. rw says.1 (shown.once number);
-      one_width = rw says.2 shown.one_width;
-      values = rw says.1 shown.values;
-      defaults = λ number none. shown.defaults number (rw says.1 at none);
-      width = shown.width ∙ ap width_of (sym says.2);
-      is_file = shown.is_file;
-    }
+    one_section (said_from 1 (lines_of text)) file says.good says.has_versions says.has_sections (record {
+      section = record {
+        once = λ number. rw says.gives (shown.once number);
+        one_width = rw says.has_widths shown.one_width;
+        values = rw says.gives shown.values;
+        defaults = λ number none. shown.defaults number (rw says.gives at none);
+        is_file = shown.is_file;
+      };
+      capabilities = (shown.capabilities.0, says.gives ∙ shown.capabilities.1);
+      width = shown.width ∙ ap width_of (sym says.has_widths);
+    })

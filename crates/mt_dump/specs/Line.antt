@@ -9,10 +9,10 @@ use Rattle.mt_text.specs.declared.fault.NumberFault.TheVariants.{NotDigit, TooLa
 use Rattle.mt_text.specs.declared.place.Place.{Place}
 use Rattle.mt_regs.specs.RegisterFile.{low_byte}
 use Rattle.mt_dump.specs.declared.fault.DumpReason.{DumpReason}
-use Rattle.mt_dump.specs.declared.fault.DumpReason.TheVariants.{BadLine, BadNumber, BadWidth, TooManyPairs}
+use Rattle.mt_dump.specs.declared.fault.DumpReason.TheVariants.{BadLine, BadNumber, BadWidth, TooManyPairs, BadVersion, BadSection}
 use Rattle.mt_dump.specs.declared.fault.DumpFault.{DumpFault}
 use Rattle.mt_dump.specs.declared.said.Said.{Said}
-use Rattle.mt_dump.specs.declared.said.Said.TheVariants.{Nothing, Width, Register}
+use Rattle.mt_dump.specs.declared.said.Said.TheVariants.{Nothing, Version, Section, Width, Register}
 
 abbrev pub Reading : Type 0
 Reading = Result Said DumpFault
@@ -28,21 +28,42 @@ place_of number word = record { line = number; column = word.0 + 1 }
 abbrev pub is_width_name : List ℕ → Bool
 is_width_name word = pointwise nat_eq word (codes "maxphyaddr")
 
+-- the word `version`
+abbrev pub is_version_name : List ℕ → Bool
+is_version_name word = pointwise nat_eq word (codes "version")
+
+-- the word `cpu`
+abbrev pub is_section_name : List ℕ → Bool
+is_section_name word = pointwise nat_eq word (codes "cpu")
+
 abbrev pub said_width : Place → Place → Result ℕ NumberFault → Reading
 said_width first second (Err NotDigit) = Err (fault_at BadNumber second)
 said_width first second (Err TooLarge) = Err (fault_at BadWidth second)
-said_width first second (Ok width) = if nat_lt width 32 then Err (fault_at BadWidth second) else Ok (Width width first)
+said_width first second (Ok width) = if nat_lt width 32 then Err (fault_at BadWidth second) else Ok (Width width first second)
+
+abbrev pub said_version : Place → Place → Result ℕ NumberFault → Reading
+said_version first second (Err NotDigit) = Err (fault_at BadNumber second)
+said_version first second (Err TooLarge) = Err (fault_at BadVersion second)
+said_version first second (Ok version) = if version == 0 then Err (fault_at BadVersion second) else Ok (Version version first)
+
+-- A number that passes 15 is no section's, whatever stands before.
+abbrev pub said_section : Place → Place → Result ℕ NumberFault → Reading
+said_section first second (Err NotDigit) = Err (fault_at BadNumber second)
+said_section first second (Err TooLarge) = Err (fault_at BadSection first)
+said_section first second (Ok number) = Ok (Section number first)
 
 abbrev pub said_register : Place → Place → Result ℕ NumberFault → Result ℕ NumberFault → Reading
 said_register first second (Err fault) value = Err (fault_at BadNumber first)
 said_register first second (Ok number) (Err fault) = Err (fault_at BadNumber second)
 said_register first second (Ok number) (Ok value) =
     if number == 0xfe && nat_lt 32 (low_byte value) then Err (fault_at TooManyPairs second)
-    else Ok (Register number value first)
+    else Ok (Register number value first second)
 
 abbrev pub said_pair : Place → Place → List ℕ → List ℕ → Reading
 said_pair first second name value =
     if is_width_name name then said_width first second (decimal_number value 52)
+    else if is_version_name name then said_version first second (decimal_number value 2)
+    else if is_section_name name then said_section first second (decimal_number value 15)
     else said_register first second (hex_number name) (hex_number value)
 
 -- One `:` at the end of the first word is no part of it.

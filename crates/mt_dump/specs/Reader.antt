@@ -1,58 +1,100 @@
 -- What a reader of a dump keeps of the lines that it has read, of which the last stands first (own).
-use Rattle.std.specs.Prelude.{ℕ, ◌≡◌, ◌≤◌, ◌<◌, ◌-◌, ◌==◌, nat_lt, Bool, false, List, [], ◌∷◌, length, ⊤, if◌then◌else◌, Option, Some, None, option_and_then, Ok, Err}
+--     dump_in before      the dump that the lines lead to
+use Rattle.std.specs.Prelude.{ℕ, ◌≡◌, ◌≤◌, ◌<◌, ◌-◌, ◌==◌, nat_lt, Bool, false, List, [], ◌∷◌, ◌++◌, length, ⊤, if◌then◌else◌, Option, Some, None, Ok, Err}
 use Rattle.std.specs.List.{slice_index_or}
+use Rattle.std.specs.Option.{option_map}
 use Rattle.mt_regs.specs.RegisterFile.{RegisterFile, low_byte, blank_file}
 use Rattle.mt_regs.specs.Registers.{written}
 use Rattle.mt_dump.specs.Line.{Reading}
-use Rattle.mt_dump.specs.Dump.{given, widths, times, width_of, offence_of}
-use Rattle.mt_dump.specs.declared.said.Said.TheVariants.{Nothing, Width, Register}
+use Rattle.mt_dump.specs.Dumps.{Dump}
+use Rattle.mt_dump.specs.Dump.{given, widths, times, version_of, is_given, is_spoken, present, section_count, first_width, offence_of}
+use Rattle.mt_dump.specs.declared.said.Said.TheVariants.{Nothing, Version, Section, Width, Register}
 
 -- what a line that is good by itself can't say otherwise
 abbrev pub IsSane : Reading → Type 0
 IsSane (Err fault) = ⊤
 IsSane (Ok Nothing) = ⊤
-IsSane (Ok (Width width place)) = (32 ≤ width) × (width ≤ 52)
-IsSane (Ok (Register number value place)) = number ≡ 0xfe → low_byte value ≤ 32
+IsSane (Ok (Version version place)) = (1 ≤ version) × (version ≤ 2)
+IsSane (Ok (Section number place)) = number ≤ 15
+IsSane (Ok (Width width first second)) = (32 ≤ width) × (width ≤ 52)
+IsSane (Ok (Register number value first second)) = number ≡ 0xfe → low_byte value ≤ 32
 
 -- no line has an offence after those before it
 abbrev pub IsClean : List Reading → Type 0
 IsClean [] = ⊤
 IsClean (line ∷ before) = IsSane line × (offence_of before line ≡ None) × IsClean before
 
--- the file after a register
-abbrev pub after_register : Option RegisterFile → ℕ → ℕ → Option RegisterFile
-after_register file number value =
-    if number == 0xfe then Some (blank_file 36 value) else option_and_then (λ f. written f number value) file
+abbrev pub with_width : RegisterFile → ℕ → RegisterFile
+with_width file width = record file { width = width }
 
--- the file that the lines lead to, but for its width
+-- The file after a register. A section that has a file keeps it where 0FEH is given again.
+abbrev pub after_register : Option RegisterFile → ℕ → ℕ → Option RegisterFile
+after_register None number value = if number == 0xfe then Some (blank_file 36 value) else None
+after_register (Some file) number value = if number == 0xfe then Some file else written file number value
+
+-- the file of the next section
+abbrev pub after_section : Option RegisterFile → Option RegisterFile
+after_section file = option_map (λ f. blank_file 36 f.capabilities) file
+
+-- the file that the lines of the present section lead to, but for its width
 abbrev pub file_in : List Reading → Option RegisterFile
 file_in [] = None
-file_in (Ok (Register number value place) ∷ before) = after_register (file_in before) number value
+file_in (Ok (Register number value first second) ∷ before) = after_register (file_in before) number value
 file_in (Ok Nothing ∷ before) = file_in before
-file_in (Ok (Width width place) ∷ before) = file_in before
+file_in (Ok (Version version place) ∷ before) = file_in before
+file_in (Ok (Section number place) ∷ before) = after_section (file_in before)
+file_in (Ok (Width width first second) ∷ before) = file_in before
 file_in (Err fault ∷ before) = file_in before
 
--- the width that is given or usual, and whether it is given
-abbrev pub told_width : List ℕ → ℕ × Bool
-told_width widths = (width_of widths, nat_lt 0 (length widths))
+-- the present section's file with this width, where there is one
+abbrev pub file_with : ℕ → Option RegisterFile → List RegisterFile
+file_with width None = []
+file_with width (Some file) = with_width file width ∷ []
 
--- A reader with these parts has read these lines.
-pub record Holds (file : Option RegisterFile) (width : ℕ × Bool) (marks : List Bool) (before : List Reading) : Type 0 where
-  pub clean : IsClean before
-  pub file_is : file ≡ file_in before
-  pub width_is : width ≡ told_width (widths before)
-  pub size : length marks ≡ 256
-  pub marked : (number : ℕ) → 0x200 ≤ number → number < 0x300 → slice_index_or marks (number - 0x200) false ≡ nat_lt 0 (times number (given before))
+-- the files of the sections behind the present one, in order
+abbrev pub files_in : List Reading → List RegisterFile
+files_in [] = []
+files_in (Ok (Section number place) ∷ before) = files_in before ++ file_with (first_width before) (file_in before)
+files_in (Ok Nothing ∷ before) = files_in before
+files_in (Ok (Version version place) ∷ before) = files_in before
+files_in (Ok (Width width first second) ∷ before) = files_in before
+files_in (Ok (Register number value first second) ∷ before) = files_in before
+files_in (Err fault ∷ before) = files_in before
+
+-- a dump whose last file is this one with this width
+abbrev pub dump_with : ℕ → List RegisterFile → ℕ → Option RegisterFile → Option Dump
+dump_with version files width None = None
+dump_with version files width (Some file) = Some (record { version = version; files = files ++ with_width file width ∷ [] })
+
+-- the dump that the lines lead to
+abbrev pub dump_in : List Reading → Option Dump
+dump_in before = dump_with (version_of before) (files_in before) (first_width before) (file_in before)
 
 -- A reader between two lines.
 pub record State : Type 0 where
-  pub file : Option RegisterFile  -- the file of the registers that were given
-  pub width : ℕ  -- the width that is given, or else the usual one
-  pub has_width : Bool
-  pub marks : List Bool  -- whether each register from 200H on was given
+  pub version : ℕ  -- the version that is told, or else 1
+  pub spoken : Bool  -- whether a line had words
+  pub sections : ℕ  -- the number of `cpu` lines
+  pub files : List RegisterFile  -- the files of the sections behind the present one
+  pub file : Option RegisterFile  -- the file of the registers that the present section gave
+  pub width : ℕ  -- the width that section 0 gives, or else the usual one
+  pub has_width : Bool  -- whether the present section gave it
+  pub has_capabilities : Bool  -- whether the present section gave 0FEH
+  pub marks : List Bool  -- whether it gave each register from 200H on
 
-abbrev pub HasRead : State → List Reading → Type 0
-HasRead state before = Holds state.file (state.width, state.has_width) state.marks before
+-- A reader has read these lines.
+pub record HasRead (state : State) (before : List Reading) : Type 0 where
+  pub clean : IsClean before
+  pub version_is : state.version ≡ version_of before
+  pub spoken_is : state.spoken ≡ is_spoken before
+  pub sections_is : state.sections ≡ section_count before
+  pub files_is : state.files ≡ files_in before
+  pub file_is : state.file ≡ file_in before
+  pub width_is : state.width ≡ first_width before
+  pub has_width_is : state.has_width ≡ nat_lt 0 (length (widths (present before)))
+  pub has_capabilities_is : state.has_capabilities ≡ is_given 0xfe (present before)
+  pub size : length state.marks ≡ 256
+  pub marked : (number : ℕ) → 0x200 ≤ number → number < 0x300 → slice_index_or state.marks (number - 0x200) false ≡ nat_lt 0 (times number (given (present before)))
 
 -- the lines in their order, before others
 abbrev pub onto : {X : Type 0} → List X → List X → List X

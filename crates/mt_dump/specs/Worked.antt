@@ -1,6 +1,8 @@
 -- Worked dumps.
-use Rattle.std.specs.Prelude.{ℕ, List, codes, Option, Some}
+use Rattle.std.specs.Prelude.{ℕ, List, [], ◌∷◌, codes, Option, Some}
 use Rattle.mt_regs.specs.RegisterFile.{RegisterFile, blank_file}
+use Rattle.mt_text.specs.declared.place.Place.{Place}
+use Rattle.mt_dump.specs.Dumps.{Dump}
 use Rattle.mt_dump.specs.Line.{fault_at}
 use Rattle.mt_dump.specs.Dump.{dump_offence}
 use Rattle.mt_dump.specs.Canon.{ended}
@@ -21,3 +23,11 @@ two_registers = codes "0xFE: 400\r\n0x2FF: 0X0000000000000C00 # x\r\n"
 
 abbrev pub two_registers_file : RegisterFile
 two_registers_file = record (blank_file 36 0x400) { default_type = 0xc00 }
+
+-- some place
+abbrev pub here : Place
+here = record { line = 1; column = 1 }
+
+-- two sections, of which the second has another default type
+abbrev pub two_sections_dump : Dump
+two_sections_dump = record { version = 2; files = blank_file 36 0 ∷ record (blank_file 36 0) { default_type = 0xc00 } ∷ [] }

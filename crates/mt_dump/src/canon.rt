@@ -1,7 +1,8 @@
-ghost use Rattle.std.specs.Prelude.{◌≡◌, ◌≤◌, ◌<◌, ◌+◌, ◌++◌, ◌∷◌, [], length, take, drop, slice_index, slice_get, MatchOption};
+ghost use Rattle.std.specs.Prelude.{◌≡◌, ◌≤◌, ◌<◌, ◌+◌, ◌++◌, ◌∷◌, [], codes, length, take, drop, slice_index, slice_get, MatchOption};
 ghost use Rattle.hex.specs.Hex.{lower_digits};
-ghost use Rattle.mt_dump.specs.Canon.{width_line, number_text, value_text, register_line, canon_lines};
+ghost use Rattle.mt_dump.specs.Canon.{width_line, number_text, value_text, register_line, file_lines, section_line, section_lines, canon_lines};
 
+use crate::dumps::Dump;
 use arrayvec::ArrayVec;
 use mt_regs::{CAPABILITIES, RegFile};
 
@@ -71,9 +72,9 @@ fn register_line(number: u32, value: u64) -> ArrayVec<u8, 24>
     text
 }
 
-// The line of this number with its LF, or nothing past the last.
-fn canon_line(f: &RegFile, line: u32) -> ArrayVec<u8, 24>
-    ensures { MatchOption (slice_get (canon_lines f.now) line) (result.items ≡ []) (λ text. result.items ≡ text ++ 10 ∷ []) }
+// The line of a file of this number with its LF, or nothing past the last.
+fn file_line(f: &RegFile, line: u32) -> ArrayVec<u8, 24>
+    ensures { MatchOption (slice_get (file_lines f.now) line) (result.items ≡ []) (λ text. result.items ≡ text ++ 10 ∷ []) }
 {
     match line {
         0 => width_line(f.maxphy),
@@ -85,12 +86,65 @@ fn canon_line(f: &RegFile, line: u32) -> ArrayVec<u8, 24>
     }
 }
 
+fn section_line(number: u8) -> ArrayVec<u8, 24>
+    requires { number < 100 }
+    ensures { result.items ≡ section_line number ++ 10 ∷ [] }
+{
+    let mut text = ArrayVec::new();
+    put(&mut text, b"cpu ");
+    if number >= 10 {
+        text.push(b'0' + number / 10);
+    }
+    text.push(b'0' + number % 10);
+    text.push(b'\n');
+    text
+}
+
+// The line of the sections of this number with its LF. All files have equally many lines.
+fn line_of_sections(d: &Dump, line: u32) -> ArrayVec<u8, 24>
+    ensures { MatchOption (slice_get (section_lines 0 d.now.files) line) (result.items ≡ []) (λ text. result.items ≡ text ++ 10 ∷ []) }
+{
+    d.is_dump(); // a fact for the proof
+    let count = d.first_file().count() + 3;
+    let number = line / count;
+    let place = line % count;
+    let Some(f) = d.file_at(number) else {
+        return ArrayVec::new();
+    };
+    if place == 0 {
+        section_line(number as u8)
+    } else {
+        file_line(f, place - 1)
+    }
+}
+
+fn version_line() -> ArrayVec<u8, 24>
+    ensures { result.items ≡ codes "version 2" ++ 10 ∷ [] }
+{
+    let mut text = ArrayVec::new();
+    put(&mut text, b"version 2\n");
+    text
+}
+
+// The line of this number with its LF, or nothing past the last.
+fn canon_line(d: &Dump, line: u32) -> ArrayVec<u8, 24>
+    ensures { MatchOption (slice_get (canon_lines d.now) line) (result.items ≡ []) (λ text. result.items ≡ text ++ 10 ∷ []) }
+{
+    if d.version != 2 {
+        file_line(d.first_file(), line)
+    } else if line == 0 {
+        version_line()
+    } else {
+        line_of_sections(d, line - 1)
+    }
+}
+
 /// Puts one line of the canonical text into the front and answers its length, which is 0 past the last line.
-pub fn write_dump(f: &RegFile, line: u32, into: &mut [u8; 24]) -> usize
-    ensures text { MatchOption (slice_get (canon_lines f.now) line) (result ≡ 0) (λ text. (result ≡ length text + 1) × (take result into.new ≡ text ++ 10 ∷ [])) }
+pub fn write_dump(d: &Dump, line: u32, into: &mut [u8; 24]) -> usize
+    ensures text { MatchOption (slice_get (canon_lines d.now) line) (result ≡ 0) (λ text. (result ≡ length text + 1) × (take result into.new ≡ text ++ 10 ∷ [])) }
     ensures rest { drop result into.new ≡ drop result into.old }
 {
-    let text = canon_line(f, line);
+    let text = canon_line(d, line);
     let count = text.len();
     into[..count].copy_from_slice(text.as_slice());
     count

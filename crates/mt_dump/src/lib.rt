@@ -2,6 +2,7 @@
 #![tactic(auto)]
 
 mod canon;
+mod dumps;
 mod fault;
 mod laws;
 mod line;
@@ -9,21 +10,25 @@ mod reader;
 mod said;
 mod worked;
 mod worked_plain;
+mod worked_records;
 
 pub use canon::{number_text, value_text, write_dump};
+pub use dumps::Dump;
 pub use fault::{DumpFault, DumpReason};
 pub use laws::{
-    a_comment_shows_nothing, a_register_file_is_shown_by_its_text,
-    a_text_shows_a_file_or_has_an_offence, a_text_shows_one_file,
-    canonical_texts_are_equal_where_files_are, the_canonical_text_shows_its_file,
-    what_is_plainly_shown_is_shown,
+    a_comment_shows_nothing, a_dump_is_of_version_1_where_no_other_is_told,
+    a_dump_is_shown_by_its_text, a_register_file_is_shown_by_its_text,
+    a_text_shows_a_dump_or_has_an_offence, a_text_shows_one_dump,
+    canonical_texts_are_equal_where_dumps_are, the_canonical_text_shows_its_dump,
+    what_a_text_shows_is_a_dump, what_is_plainly_shown_is_shown,
 };
 pub use reader::{DumpReader, read_dump, read_dump_from};
 pub use worked::{
-    worked_bad_lines, worked_bad_numbers, worked_file, worked_plain_lines, worked_registers,
-    worked_shapes,
+    worked_bad_lines, worked_bad_numbers, worked_file, worked_later_sections, worked_plain_lines,
+    worked_registers, worked_sections, worked_shapes, worked_versions,
 };
 pub use worked_plain::worked_plain_texts;
+pub use worked_records::{worked_dumps, worked_shown_dumps};
 
 #[cfg(test)]
 mod tests;

@@ -1,17 +1,20 @@
-ghost use Rattle.std.specs.Prelude.{◌≡◌, ◌≢◌, ◌≤◌, ◌<◌, ◌+◌, ◌-◌, ◌∷◌, ℕ, List, [], length, Some, None, Ok, Err, ◌↔◌, IfErr, IfOk, IsErrOf, MatchResult, MatchOption};
+ghost use Rattle.std.specs.Prelude.{◌≡◌, ◌≢◌, ◌≤◌, ◌<◌, ◌+◌, ◌-◌, ◌==◌, ◌&&◌, nat_lt, not, ◌∷◌, ℕ, List, [], length, Some, None, Ok, Err, ◌↔◌, IfErr, IfOk, IsErrOf, MatchResult, MatchOption};
 ghost use Rattle.std.specs.Io.KnownBytes.{Consumes, IsAtEnd};
 ghost use Rattle.mt_ports.specs.Causes.{Rose};
 ghost use Rattle.mt_text.specs.Feed.{GaveTooMuch, IsLong, at_start, taken};
 ghost use Rattle.mt_text.specs.declared.fault.FeedFault.{FeedFault};
-ghost use Rattle.mt_regs.specs.RegisterFile.{RegisterFile, low_byte};
+ghost use Rattle.mt_regs.specs.RegisterFile.{blank_file, low_byte};
 ghost use Rattle.mt_dump.specs.declared.fault.DumpFault.{DumpFault};
-ghost use Rattle.mt_dump.specs.Line.{Reading, said_of};
-ghost use Rattle.mt_dump.specs.Dump.{Shown, ShownBy, offence_of, offence_said, offence_at_end, dump_offence, is_given};
-ghost use Rattle.mt_dump.specs.Reader.{HasRead, onto};
+ghost use Rattle.mt_dump.specs.Line.{Reading, fault_at, said_of};
+ghost use Rattle.mt_dump.specs.Dumps.{Dump as DumpValue};
+ghost use Rattle.mt_dump.specs.Dump.{Shown, ShownBy, offence_of, offence_said, offence_at_end, dump_offence, is_given, is_outside};
+ghost use Rattle.mt_dump.specs.Reader.{HasRead, onto, with_width};
 
+use crate::dumps::Dump;
 use crate::line::read_line;
 use crate::said::Said;
 use crate::{DumpFault, DumpReason};
+use arrayvec::ArrayVec;
 use mt_ports::Source;
 use mt_regs::{CAPABILITIES, FIRST_PAIR, RegFile};
 use mt_text::{Feed, FeedFault, Line, Place, end_place, next_line};
@@ -30,11 +33,22 @@ const FIRST_PLACE: Place = Place { line: 1, column: 1 };
 /// Reads the lines of a dump one after the other.
 #[derive(Drop)]
 pub struct DumpReader {
+    // the version that is told, or else 1
+    version: u8,
+    // whether a line had words
+    spoken: bool,
+    // the number of `cpu` lines
+    sections: u8,
+    // the files of the sections behind the present one
+    files: ArrayVec<RegFile, 16>,
+    // the file of the registers that the present section gave
     file: Option<RegFile>,
-    // the width that is given, or else the usual one
+    // the width that section 0 gives, or else the usual one
     width: u8,
+    // whether the present section gave the width, and 0FEH
     has_width: bool,
-    // whether each register from 200H on was given
+    has_capabilities: bool,
+    // whether it gave each register from 200H on
     given: [bool; 256],
 }
 
@@ -60,90 +74,183 @@ fn mark_of(number: u64) -> Option<usize>
     }
 }
 
+fn fault(reason: DumpReason, place: Place) -> DumpFault
+    ensures { result ≡ fault_at reason place }
+{
+    DumpFault { reason, place }
+}
+
+// A later section than the first, of so many, tells something else than the first.
+fn differs(sections: u8, value: u64, first: u64) -> bool
+    ensures { result ≡ (nat_lt 1 sections && not (value == first)) }
+{
+    sections > 1 && value != first
+}
+
+// The file of a section that ends, with the width. In its place stands the next section's.
+fn end_section(file: &mut RegFile, width: u8) -> RegFile
+    requires { (32 ≤ width) × (width ≤ 52) }
+    ensures ended { result ≡ with_width file.old width }
+    ensures next { file.new ≡ blank_file 36 file.old.capabilities }
+{
+    let Ok(next) = RegFile::blank(USUAL_WIDTH, file.cap) else {
+        unreachable!()
+    };
+    let mut ended = std::mem::replace(file, next);
+    match ended.set_width(width) {
+        Ok(()) => ended,
+        Err(_) => unreachable!(),
+    }
+}
+
 impl DumpReader {
     /// A reader that has read nothing.
     pub fn new() -> DumpReader
         ensures { HasRead result [] }
     {
         DumpReader {
+            version: 1,
+            spoken: false,
+            sections: 0,
+            files: ArrayVec::new(),
             file: None,
             width: USUAL_WIDTH,
             has_width: false,
+            has_capabilities: false,
             given: [false; 256],
         }
     }
 
-    fn take_width(&mut self, width: u8, place: Place) -> Result<(), DumpFault>
+    fn take_version(&mut self, version: u8, place: Place) -> Result<(), DumpFault>
+        requires { (1 ≤ version) × (version ≤ 2) }
+        ensures { (before : List Reading) → HasRead self.old before → MatchResult result
+            (λ _. HasRead self.new (Ok (Said.Version version place) ∷ before))
+            (λ fault. (offence_said before (Said.Version version place) ≡ Some fault) × (self.new ≡ self.old)) }
+    {
+        if self.spoken {
+            return Err(fault(DumpReason::BadSection, place));
+        }
+        self.version = version;
+        self.spoken = true;
+        Ok(())
+    }
+
+    // A line stands before the first section of version 2.
+    fn is_outside(&self) -> bool
+        ensures { (before : List Reading) → HasRead self.now before → result ≡ is_outside before }
+    {
+        self.version == 2 && self.sections == 0
+    }
+
+    fn take_section(&mut self, number: u8, place: Place) -> Result<(), DumpFault>
+        requires { number ≤ 15 }
+        ensures { (before : List Reading) → HasRead self.old before → MatchResult result
+            (λ _. HasRead self.new (Ok (Said.Section number place) ∷ before))
+            (λ fault. (offence_said before (Said.Section number place) ≡ Some fault) × (self.new ≡ self.old)) }
+    {
+        if self.version != 2 || number != self.sections {
+            return Err(fault(DumpReason::BadSection, place));
+        }
+        if number > 0 {
+            let Some(file) = &mut self.file else {
+                return Err(fault(DumpReason::NoCap, place));
+            };
+            self.files.push(end_section(file, self.width));
+        }
+        self.spoken = true;
+        self.sections += 1;
+        self.has_width = false;
+        self.has_capabilities = false;
+        self.given = [false; 256];
+        Ok(())
+    }
+
+    fn take_width(&mut self, width: u8, first: Place, second: Place) -> Result<(), DumpFault>
         requires { (32 ≤ width) × (width ≤ 52) }
         ensures { (before : List Reading) → HasRead self.old before → MatchResult result
-            (λ _. HasRead self.new (Ok (Said.Width width place) ∷ before))
-            (λ fault. (offence_said before (Said.Width width place) ≡ Some fault) × (self.new ≡ self.old)) }
+            (λ _. HasRead self.new (Ok (Said.Width width first second) ∷ before))
+            (λ fault. (offence_said before (Said.Width width first second) ≡ Some fault) × (self.new ≡ self.old)) }
     {
-        if self.has_width {
-            return Err(DumpFault {
-                reason: DumpReason::Repeated,
-                place,
-            });
+        if self.is_outside() {
+            return Err(fault(DumpReason::BadSection, first));
         }
+        if differs(self.sections, width as u64, self.width as u64) {
+            return Err(fault(DumpReason::Differs, second));
+        }
+        if self.has_width {
+            return Err(fault(DumpReason::Repeated, first));
+        }
+        self.spoken = true;
         self.width = width;
         self.has_width = true;
         Ok(())
     }
 
-    fn take_capabilities(&mut self, value: u64, place: Place) -> Result<(), DumpFault>
+    fn take_capabilities(
+        &mut self,
+        value: u64,
+        first: Place,
+        second: Place,
+    ) -> Result<(), DumpFault>
         requires { low_byte value ≤ 32 }
         ensures { (before : List Reading) → HasRead self.old before → MatchResult result
-            (λ _. HasRead self.new (Ok (Said.Register 0xfe value place) ∷ before))
-            (λ fault. (offence_said before (Said.Register 0xfe value place) ≡ Some fault) × (self.new ≡ self.old)) }
+            (λ _. HasRead self.new (Ok (Said.Register 0xfe value first second) ∷ before))
+            (λ fault. (offence_said before (Said.Register 0xfe value first second) ≡ Some fault) × (self.new ≡ self.old)) }
     {
-        if self.file.is_some() {
-            return Err(DumpFault {
-                reason: DumpReason::Repeated,
-                place,
-            });
+        if self.is_outside() {
+            return Err(fault(DumpReason::BadSection, first));
         }
-        match RegFile::blank(USUAL_WIDTH, value) {
-            Ok(file) => {
-                self.file = Some(file);
-                Ok(())
+        let Some(file) = &self.file else {
+            match RegFile::blank(USUAL_WIDTH, value) {
+                Ok(file) => self.file = Some(file),
+                Err(_) => unreachable!(),
             }
-            Err(_) => unreachable!(),
+            self.spoken = true;
+            self.has_capabilities = true;
+            return Ok(());
+        };
+        if differs(self.sections, value, file.cap) {
+            return Err(fault(DumpReason::Differs, second));
         }
+        if self.has_capabilities {
+            return Err(fault(DumpReason::Repeated, first));
+        }
+        self.spoken = true;
+        self.has_capabilities = true;
+        Ok(())
     }
 
-    fn take_register(&mut self, number: u64, value: u64, place: Place) -> Result<(), DumpFault>
+    fn take_register(
+        &mut self,
+        number: u64,
+        value: u64,
+        first: Place,
+        second: Place,
+    ) -> Result<(), DumpFault>
         requires { number ≢ 0xfe }
         ensures { (before : List Reading) → HasRead self.old before → MatchResult result
-            (λ _. HasRead self.new (Ok (Said.Register number value place) ∷ before))
-            (λ fault. (offence_said before (Said.Register number value place) ≡ Some fault) × (self.new ≡ self.old)) }
+            (λ _. HasRead self.new (Ok (Said.Register number value first second) ∷ before))
+            (λ fault. (offence_said before (Said.Register number value first second) ≡ Some fault) × (self.new ≡ self.old)) }
     {
+        if self.is_outside() {
+            return Err(fault(DumpReason::BadSection, first));
+        }
         let Some(file) = &mut self.file else {
-            return Err(DumpFault {
-                reason: DumpReason::NoCap,
-                place,
-            });
+            return Err(fault(DumpReason::NoCap, first));
         };
         let Some(mark) = mark_of(number) else {
-            return Err(DumpFault {
-                reason: DumpReason::UnknownRegister,
-                place,
-            });
+            return Err(fault(DumpReason::UnknownRegister, first));
         };
         if self.given[mark] {
-            return Err(DumpFault {
-                reason: DumpReason::Repeated,
-                place,
-            });
+            return Err(fault(DumpReason::Repeated, first));
         }
         match file.set(number as u32, value) {
             Ok(()) => {
+                self.spoken = true;
                 self.given[mark] = true;
                 Ok(())
             }
-            Err(_) => Err(DumpFault {
-                reason: DumpReason::UnknownRegister,
-                place,
-            }),
+            Err(_) => Err(fault(DumpReason::UnknownRegister, first)),
         }
     }
 
@@ -155,9 +262,15 @@ impl DumpReader {
     {
         match read_line(line)? {
             Said::Nothing => Ok(()),
-            Said::Width(width, place) => self.take_width(width, place),
-            Said::Register(CAP, value, place) => self.take_capabilities(value, place),
-            Said::Register(number, value, place) => self.take_register(number, value, place),
+            Said::Version(version, place) => self.take_version(version, place),
+            Said::Section(number, place) => self.take_section(number, place),
+            Said::Width(width, first, second) => self.take_width(width, first, second),
+            Said::Register(CAP, value, first, second) => self.take_capabilities(
+                value, first, second,
+            ),
+            Said::Register(number, value, first, second) => {
+                self.take_register(number, value, first, second)
+            }
         }
     }
 
@@ -168,31 +281,32 @@ impl DumpReader {
         self.file.is_some()
     }
 
-    /// The file of all lines that were read. Where none of them gave 0FEH the fault stands at the place.
-    pub fn finish(self, at: Place) -> Result<RegFile, DumpFault>
+    /// The dump of all lines that were read. Where none of them gave 0FEH the fault stands at the place.
+    pub fn finish(self, at: Place) -> Result<Dump, DumpFault>
         ensures { (before : List Reading) → HasRead self before → MatchResult result
-            (λ file. ShownBy (onto before []) file)
+            (λ dump. ShownBy (onto before []) dump)
             (λ fault. offence_at_end at (onto before []) ≡ Some fault) }
     {
+        let version = self.version;
         let width = self.width;
-        let file = self.file;
-        let Some(mut file) = file else {
-            return Err(DumpFault {
-                reason: DumpReason::NoCap,
-                place: at,
-            });
+        let mut files = self.files;
+        let Some(mut file) = self.file else {
+            return Err(fault(DumpReason::NoCap, at));
         };
         match file.set_width(width) {
-            Ok(()) => Ok(file),
+            Ok(()) => {
+                files.push(file);
+                Ok(Dump { version, files })
+            }
             Err(_) => unreachable!(),
         }
     }
 }
 
-/// The file that a text shows, or its first offence.
-pub fn read_dump(source: &[u8]) -> Result<RegFile, DumpFault>
-    ensures answer { MatchResult result (λ file. Shown source.now file) (λ fault. dump_offence source.now ≡ Some fault) }
-    ensures ok { (file : RegisterFile) → (result ≡ Ok file) ↔ Shown source.now file }
+/// The dump that a text shows, or its first offence.
+pub fn read_dump(source: &[u8]) -> Result<Dump, DumpFault>
+    ensures answer { MatchResult result (λ dump. Shown source.now dump) (λ fault. dump_offence source.now ≡ Some fault) }
+    ensures ok { (dump : DumpValue) → (result ≡ Ok dump) ↔ Shown source.now dump }
     ensures err { (fault : DumpFault) → (result ≡ Err fault) ↔ (dump_offence source.now ≡ Some fault) }
 {
     let mut reader = DumpReader::new();
@@ -215,9 +329,9 @@ pub fn read_dump(source: &[u8]) -> Result<RegFile, DumpFault>
 fn read_lines<S: Source>(
     feed: &mut Feed,
     source: &mut S,
-) -> Result<Result<RegFile, DumpFault>, FeedFault>
+) -> Result<Result<Dump, DumpFault>, FeedFault>
     requires { feed.old ≡ at_start }
-    ensures answer { (bytes : List ℕ) → S.left source.old ≡ Some bytes → IfOk result (λ answer. MatchResult answer (λ file. Shown bytes file) (λ fault. dump_offence bytes ≡ Some fault)) }
+    ensures answer { (bytes : List ℕ) → S.left source.old ≡ Some bytes → IfOk result (λ answer. MatchResult answer (λ dump. Shown bytes dump) (λ fault. dump_offence bytes ≡ Some fault)) }
     ensures end { IfOk result (λ _. IsAtEnd (S.left source.new)) }
     ensures fault { MatchResult result (λ _. feed.new.fault ≡ None) (λ fault. feed.new.fault ≡ Some fault) }
     ensures consumed { (taken_now : List ℕ) × Consumes (S.left source.old) (S.left source.new) taken_now × (taken feed.new ≡ length taken_now) }
@@ -236,11 +350,11 @@ fn read_lines<S: Source>(
     Ok(reader.finish(feed.end()))
 }
 
-/// The file that the bytes of a source show, or their first offence, line by line out of one
+/// The dump that the bytes of a source show, or their first offence, line by line out of one
 /// buffer. Behind an offence the rest is read too, so that a failed read and too many bytes come
 /// before it.
-pub fn read_dump_from<S: Source>(source: &mut S) -> Result<Result<RegFile, DumpFault>, FeedFault>
-    ensures answer { (bytes : List ℕ) → S.left source.old ≡ Some bytes → IfOk result (λ answer. MatchResult answer (λ file. Shown bytes file) (λ fault. dump_offence bytes ≡ Some fault)) }
+pub fn read_dump_from<S: Source>(source: &mut S) -> Result<Result<Dump, DumpFault>, FeedFault>
+    ensures answer { (bytes : List ℕ) → S.left source.old ≡ Some bytes → IfOk result (λ answer. MatchResult answer (λ dump. Shown bytes dump) (λ fault. dump_offence bytes ≡ Some fault)) }
     ensures end { (bytes : List ℕ) → S.left source.old ≡ Some bytes → IfOk result (λ _. S.left source.new ≡ Some []) }
     ensures too_long { IsErrOf result FeedFault.TooLong ↔ GaveTooMuch (S.given source.old) (S.given source.new) }
     ensures long { (bytes : List ℕ) → S.left source.old ≡ Some bytes → IsErrOf result FeedFault.TooLong → 16777216 < length bytes }

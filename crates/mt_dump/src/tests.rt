@@ -1,4 +1,4 @@
-use crate::{DumpFault, DumpReader, DumpReason, read_dump, read_dump_from, write_dump};
+use crate::{Dump, DumpFault, DumpReader, DumpReason, read_dump, read_dump_from, write_dump};
 use mt_ports::MemSource;
 use mt_regs::RegFile;
 use mt_text::{FeedFault, Place, next_line};
@@ -6,11 +6,25 @@ use std::alloc::AllocError;
 use std::process::Abort;
 use std::test::Fail;
 
-// What a plain and slow reader finds: the width and up to four registers, the last of them first.
+// What one section gives to a plain and slow reader: the width and up to four registers, the last of them first.
 #[derive(Clone, Copy)]
 struct Plain {
     width: Option<u64>,
     given: [Option<(u64, u64)>; 4],
+}
+
+const NOTHING: Plain = Plain {
+    width: None,
+    given: [None; 4],
+};
+
+// All that it finds: the version, the number of `cpu` lines, and the first sections.
+#[derive(Clone, Copy)]
+struct PlainDump {
+    version: Option<u64>,
+    spoken: bool,
+    sections: usize,
+    plains: [Plain; 4],
 }
 
 const FIXED: [u64; 11] = [
@@ -66,6 +80,72 @@ impl Plain {
             || number == 0x277
             || number == 0x2ff
     }
+}
+
+impl PlainDump {
+    // The place of the present section.
+    fn present(&self) -> usize {
+        self.sections.saturating_sub(1).min(3)
+    }
+
+    // The `version` line and `cpu` lines.
+    fn take_order(
+        &mut self,
+        name: &[u8],
+        value: &[u8],
+        at: u64,
+        then: u64,
+    ) -> Option<(DumpReason, u64)> {
+        let Some(number) = plain_number(value, 10) else {
+            return Some((DumpReason::BadNumber, then));
+        };
+        let large = value.len() > 20;
+        if name == b"version".as_slice() {
+            if large || number < 1 || number > 2 {
+                return Some((DumpReason::BadVersion, then));
+            }
+            if self.spoken {
+                return Some((DumpReason::BadSection, at));
+            }
+            self.version = Some(number);
+            return None;
+        }
+        if large || self.version != Some(2) || number != self.sections as u64 || number > 15 {
+            return Some((DumpReason::BadSection, at));
+        }
+        if number > 0 && self.plains[0].value(0xfe).is_none() {
+            return Some((DumpReason::NoCap, at));
+        }
+        self.sections = self.sections.wrapping_add(1);
+        let present = self.present();
+        if present < 4 {
+            self.plains[present] = NOTHING;
+        }
+        None
+    }
+
+    fn take_width(&mut self, value: &[u8], at: u64, then: u64) -> Option<(DumpReason, u64)> {
+        let Some(width) = plain_number(value, 10) else {
+            return Some((DumpReason::BadNumber, then));
+        };
+        if value.len() > 20 || width < 32 || width > 52 {
+            return Some((DumpReason::BadWidth, then));
+        }
+        if self.version == Some(2) && self.sections == 0 {
+            return Some((DumpReason::BadSection, at));
+        }
+        if self.sections > 1 && width != self.plains[0].width.unwrap_or(36) {
+            return Some((DumpReason::Differs, then));
+        }
+        let present = self.present();
+        if present < 4 {
+            if self.plains[present].width.is_some() {
+                return Some((DumpReason::Repeated, at));
+            }
+            self.plains[present].width = Some(width);
+        }
+        None
+    }
 
     // Takes two words, which begin at these columns.
     fn take(&mut self, name: &[u8], value: &[u8], at: u64, then: u64) -> Option<(DumpReason, u64)> {
@@ -73,18 +153,11 @@ impl Plain {
             [front @ .., b':'] => front,
             _ => name,
         };
+        if name == b"version".as_slice() || name == b"cpu".as_slice() {
+            return self.take_order(name, value, at, then);
+        }
         if name == b"maxphyaddr".as_slice() {
-            let Some(width) = plain_number(value, 10) else {
-                return Some((DumpReason::BadNumber, then));
-            };
-            if value.len() > 20 || width < 32 || width > 52 {
-                return Some((DumpReason::BadWidth, then));
-            }
-            if self.width.is_some() {
-                return Some((DumpReason::Repeated, at));
-            }
-            self.width = Some(width);
-            return None;
+            return self.take_width(value, at, then);
         }
         let Some(number) = plain_hexadecimal(name) else {
             return Some((DumpReason::BadNumber, at));
@@ -95,19 +168,29 @@ impl Plain {
         if number == 0xfe && value % 256 > 32 {
             return Some((DumpReason::TooManyPairs, then));
         }
+        if self.version == Some(2) && self.sections == 0 {
+            return Some((DumpReason::BadSection, at));
+        }
+        let capabilities = self.plains[0].value(0xfe);
+        if number == 0xfe && self.sections > 1 && capabilities != Some(value) {
+            return Some((DumpReason::Differs, then));
+        }
         if number != 0xfe {
-            let Some(capabilities) = self.value(0xfe) else {
+            let Some(capabilities) = capabilities else {
                 return Some((DumpReason::NoCap, at));
             };
-            if !self.is_writable(capabilities, number) {
+            if !self.plains[0].is_writable(capabilities, number) {
                 return Some((DumpReason::UnknownRegister, at));
             }
         }
-        if self.value(number).is_some() {
-            return Some((DumpReason::Repeated, at));
+        let present = self.present();
+        if present < 4 {
+            if self.plains[present].value(number).is_some() {
+                return Some((DumpReason::Repeated, at));
+            }
+            let [first, second, third, _] = self.plains[present].given;
+            self.plains[present].given = [Some((number, value)), first, second, third];
         }
-        let [first, second, third, _] = self.given;
-        self.given = [Some((number, value)), first, second, third];
         None
     }
 
@@ -139,15 +222,19 @@ impl Plain {
         let Some((value, then)) = second else {
             return Some((DumpReason::BadLine, at));
         };
-        self.take(name, value, at, then)
+        let fault = self.take(name, value, at, then);
+        self.spoken = true;
+        fault
     }
 }
 
 // The plain reader's answer.
-fn plain_reading(text: &[u8]) -> Result<Plain, DumpFault> {
-    let mut plain = Plain {
-        width: None,
-        given: [None; 4],
+fn plain_reading(text: &[u8]) -> Result<PlainDump, DumpFault> {
+    let mut plain = PlainDump {
+        version: None,
+        spoken: false,
+        sections: 0,
+        plains: [NOTHING; 4],
     };
     let mut line: u64 = 0;
     let mut column: u64 = 1;
@@ -161,7 +248,7 @@ fn plain_reading(text: &[u8]) -> Result<Plain, DumpFault> {
             });
         }
     }
-    if plain.value(0xfe).is_some() {
+    if plain.plains[0].value(0xfe).is_some() {
         Ok(plain)
     } else {
         Err(DumpFault {
@@ -171,23 +258,128 @@ fn plain_reading(text: &[u8]) -> Result<Plain, DumpFault> {
     }
 }
 
+// A file has what a plain section gave.
+fn expect_file<R: Abort>(rt: &R, file: &RegFile, plain: &Plain) {
+    for register in plain.given {
+        if let Some((number, value)) = register {
+            match u32::try_from(number) {
+                Ok(number) => assert_eq!(rt; file.get(number), Some(value)),
+                Err(_) => panic!(rt; "no register has this number"),
+            }
+        }
+    }
+}
+
 // Both readers agree on a text.
 fn expect_agreement<R: Abort>(rt: &R, text: &[u8]) {
     match (read_dump(text), plain_reading(text)) {
-        (Ok(file), Ok(plain)) => {
-            assert_eq!(rt; file.maxphy as u64, plain.width.unwrap_or(36));
-            for register in plain.given {
-                if let Some((number, value)) = register {
-                    match u32::try_from(number) {
-                        Ok(number) => assert_eq!(rt; file.get(number), Some(value)),
-                        Err(_) => panic!(rt; "no register has this number"),
-                    }
+        (Ok(dump), Ok(plain)) => {
+            assert_eq!(rt; dump.version as u64, plain.version.unwrap_or(1));
+            assert_eq!(rt; dump.files.len(), plain.sections.max(1));
+            for k in 0..4_usize {
+                if let Some(file) = dump.file_at(k as u32) {
+                    assert_eq!(rt; file.maxphy as u64, plain.plains[0].width.unwrap_or(36));
+                    assert_eq!(rt; Some(file.cap), plain.plains[0].value(0xfe));
+                    expect_file(rt, file, &plain.plains[k]);
                 }
             }
         }
         (Err(fault), Err(plain)) => assert_eq!(rt; fault, plain),
         _ => panic!(rt; "one reader refuses what the other takes"),
     }
+}
+
+#[test]
+fn any_byte_at_any_place_of_version_2(rt: HostRuntime) {
+    let mut text =
+        *b"version 2\ncpu 0\n0fe 101\n200 1\n# x\ncpu 1\nmaxphyaddr 36\n0fe: 101\ncpu 2\n2ff c";
+    for place in 0..text.len() {
+        let kept = text[place];
+        for byte in 0..=255 {
+            text[place] = byte;
+            expect_agreement(&rt, &text);
+        }
+        text[place] = kept;
+    }
+}
+
+// A text has this fault.
+fn expect_fault<R: Abort>(rt: &R, text: &[u8], reason: DumpReason, line: u64, column: u64) {
+    expect_agreement(rt, text);
+    match read_dump(text) {
+        Ok(_) => panic!(rt; "the dump was taken"),
+        Err(fault) => assert_eq!(rt;
+            fault,
+            DumpFault {
+                reason,
+                place: Place { line, column }
+            }
+        ),
+    }
+}
+
+#[test]
+fn faults_of_versions_and_sections(rt: HostRuntime) {
+    expect_fault(&rt, b"version 3", DumpReason::BadVersion, 1, 9);
+    expect_fault(&rt, b"cpu 0", DumpReason::BadSection, 1, 1);
+    expect_fault(&rt, b"version 1\ncpu 0", DumpReason::BadSection, 2, 1);
+    expect_fault(
+        &rt,
+        b"version 2\ncpu 0\n0fe 508\ncpu 1\n0fe 500",
+        DumpReason::Differs,
+        5,
+        5,
+    );
+    expect_fault(&rt, b"version 2\ncpu 0\ncpu 1", DumpReason::NoCap, 3, 1);
+    expect_fault(
+        &rt,
+        b"version 2\nmaxphyaddr 36",
+        DumpReason::BadSection,
+        2,
+        1,
+    );
+    expect_fault(&rt, b"version 2\ncpu 0\n", DumpReason::NoCap, 3, 1);
+    expect_fault(&rt, b"0fe 0\nversion 1", DumpReason::BadSection, 2, 1);
+    expect_agreement(&rt, b"# x\n\nversion 1\n0fe 500");
+    expect_agreement(&rt, b"\n \n# x\r\nversion: 2\ncpu: 0\n0fe 500\ncpu 1");
+}
+
+// So many sections.
+fn sections<R: AllocGlobal>(rt: &R, count: u32) -> Result<Vec<u8>, AllocError> {
+    let mut text = Vec::new(rt.alloc());
+    text.extend_from_slice(b"version 2\n")?;
+    for k in 0..count {
+        text.extend_from_slice(b"cpu ")?;
+        if k >= 10 {
+            text.push(b'1')?;
+        }
+        text.push(b'0'.wrapping_add((k % 10) as u8))?;
+        text.push(b'\n')?;
+        if k == 0 {
+            text.extend_from_slice(b"0fe 500\n2ff c06\n")?;
+        }
+    }
+    Ok(text)
+}
+
+#[test]
+fn sixteen_sections_and_one_more(rt: HostRuntime) -> Result<(), Fail> {
+    match read_dump(&sections(&rt, 16)?) {
+        Ok(dump) => {
+            assert_eq!(rt; dump.files.len(), 16);
+            assert_eq!(rt; dump.first_file().deftype, 0xc06);
+            match dump.file_at(15) {
+                Some(file) => assert_eq!(rt; file.deftype, 0),
+                None => panic!(rt; "a file is missing"),
+            }
+        }
+        Err(_) => panic!(rt; "the dump was refused"),
+    }
+    match read_dump(&sections(&rt, 17)?) {
+        Ok(_) => panic!(rt; "the dump was taken"),
+        Err(fault) => assert_eq!(rt; fault.reason, DumpReason::BadSection),
+    }
+    Ok(())
 }
 
 #[test]
@@ -238,7 +430,7 @@ fn lines_of_any_length(rt: HostRuntime) {
 }
 
 // A line of the canonical text is this, which ends with LF, or nothing.
-fn expect_line<R: Abort>(rt: &R, file: &RegFile, line: u32, text: &[u8]) {
+fn expect_line<R: Abort>(rt: &R, file: &Dump, line: u32, text: &[u8]) {
     let mut into = [0; 24];
     let count = write_dump(file, line, &mut into);
     assert_eq!(rt; count, text.len());
@@ -263,7 +455,7 @@ fn the_canonical_text(rt: HostRuntime) {
     }
     match reader.finish(Place { line: 4, column: 8 }) {
         Ok(file) => {
-            assert_eq!(rt; file.count(), 77);
+            assert_eq!(rt; file.first_file().count(), 77);
             expect_line(&rt, &file, 0, b"maxphyaddr 52\n");
             expect_line(&rt, &file, 1, b"0fe 0000000000000520\n");
             expect_line(&rt, &file, 65, b"23f 0000000000000800\n");
@@ -272,6 +464,25 @@ fn the_canonical_text(rt: HostRuntime) {
             expect_line(&rt, &file, 77, b"277 0007040600070406\n");
             expect_line(&rt, &file, 78, b"2ff 0000000000000000\n");
             expect_line(&rt, &file, 79, b"");
+        }
+        Err(_) => panic!(rt; "the dump was refused"),
+    }
+}
+
+#[test]
+fn the_canonical_text_of_version_2(rt: HostRuntime) {
+    match read_dump(b"version 2\ncpu 0\n0fe 400\ncpu 1\n2ff 800") {
+        Ok(dump) => {
+            expect_line(&rt, &dump, 0, b"version 2\n");
+            expect_line(&rt, &dump, 1, b"cpu 0\n");
+            expect_line(&rt, &dump, 2, b"maxphyaddr 36\n");
+            expect_line(&rt, &dump, 5, b"2ff 0000000000000000\n");
+            expect_line(&rt, &dump, 6, b"cpu 1\n");
+            expect_line(&rt, &dump, 8, b"0fe 0000000000000400\n");
+            expect_line(&rt, &dump, 10, b"2ff 0000000000000800\n");
+            expect_line(&rt, &dump, 11, b"");
+            expect_line(&rt, &Dump::of(dump.first_file()), 4, b"");
+            expect_line(&rt, &dump.copy(), 10, b"2ff 0000000000000800\n");
         }
         Err(_) => panic!(rt; "the dump was refused"),
     }
@@ -307,7 +518,9 @@ fn a_dump_in_pieces(rt: HostRuntime) -> Result<(), Fail> {
                     panic!(rt; "a fault in {piece}")
                 };
                 match (read, read_dump(&text)) {
-                    (Ok(file), Ok(wanted)) => assert_eq!(rt; file.deftype, wanted.deftype),
+                    (Ok(dump), Ok(wanted)) => {
+                        assert_eq!(rt; dump.first_file().deftype, wanted.first_file().deftype)
+                    }
                     (Err(fault), Err(wanted)) => assert_eq!(rt; fault, wanted),
                     _ => panic!(rt; "{first} {second} in {piece}"),
                 }

@@ -18,7 +18,7 @@ returns-in_err-take c =
     let is = rw c.in-Some.ensures.lines at read.2 in
     let found = rw c.in-Some.ensures.rest.1 at (c.in_err-take.ensures read.0 read.1).0 in
     let offence = ends_at_line c.args.source.now read.0 _ _ c.in_err-take.field-0.0 read.1.clean is found in
-    let answer : MatchResult c.from_residual.result (λ file. Shown c.args.source.now file) (λ fault. dump_offence c.args.source.now ≡ Some fault) = rw (p.1, p.2) offence in
+    let answer : MatchResult c.from_residual.result (λ dump. Shown c.args.source.now dump) (λ fault. dump_offence c.args.source.now ≡ Some fault) = rw (p.1, p.2) offence in
     record { answer = answer; ok = exactly_shown c.args.source.now c.from_residual.result answer; err = exactly_offence c.args.source.now c.from_residual.result answer }
 
 pub returns : goal.returns
@@ -34,6 +34,6 @@ returns c =
       | then-is_complete w ↦ same_end c.if-is_complete.end (end_of source) says (sym (c.is_complete.ensures read.0 read.1) ∙ w.if-is_complete.true)
       | else-is_complete w ↦ ap (λ p. offence_at_end p says) (w.end-is ∙ w.end_place-end.ensures)
     ] in
-    let at_end = subst (λ (o : Option DumpFault). MatchResult c.finish.result (λ file. ShownBy says file) (λ fault. o ≡ Some fault)) end_is (c.finish.ensures read.0 read.1) in
+    let at_end = subst (λ (o : Option DumpFault). MatchResult c.finish.result (λ dump. ShownBy says dump) (λ fault. o ≡ Some fault)) end_is (c.finish.ensures read.0 read.1) in
     let answer = ends_at_end source read.0 c.finish.result read.1.clean is at_end in
     record { answer = answer; ok = exactly_shown source c.finish.result answer; err = exactly_offence source c.finish.result answer }

@@ -1,14 +1,30 @@
-use Rattle.std.proofs.Common.{sym, subst}
+use Rattle.std.proofs.Common.{◌∷◌, ◌∙◌, sym, subst, refl, ap, arith, Ok, Some}
 use Rattle.mt_dump.specs.Reader.{HasRead}
-use Rattle.mt_dump.proofs.Held.{shown_at_end, no_file_at_end}
+use Rattle.mt_dump.specs.Seen.{state_of}
+use Rattle.mt_dump.specs.declared.said.Said.TheVariants.{Section}
+use Rattle.mt_dump.specs.Dumps.{IsDump}
+use Rattle.mt_dump.specs.Dump.{ShownBy}
+use Rattle.mt_dump.specs.Reader.{onto, with_width}
+use Rattle.mt_dump.proofs.Held.{no_file_at_end, shown_at_end, dump_at_end, few_files, width_bounds}
 use Rattle.mt_dump.proofs.reader.DumpReader.finish.Goals as goal
 
 pub returns-in_default : goal.returns-in_default
-returns-in_default c = λ before read.
-    let held = rw c.in_default.is at (subst (λ s. HasRead s before) (sym c.self.view_is) read) in
-    no_file_at_end (c.self.inside.width, c.self.inside.has_width) c.self.inside.given before c.args.at held
+returns-in_default c = λ before read. rw c.fault.ensures (no_file_at_end (state_of c.self.inside) before c.args.at (subst (λ s. HasRead s before) (sym c.self.view_is) read) c.in_default.is)
+
+pub push-requires : goal.push-requires
+push-requires c =
+    let few = few_files (state_of c.self.inside) c.self.invariant.0 c.in-Some.file c.self.invariant.1 c.in-Some.is in
+    (omega arith, omega (arith, few))
+
+pub invariant_of-result : goal.invariant_of-result
+invariant_of-result c = rw (c.push.ensures.items, c.in-Ok.ensures.ok ∙ ap (λ f. with_width f c.self.inside.width) c.in-Some.file-is) (dump_at_end (state_of c.self.inside) c.self.invariant.0 c.in-Some.file c.self.invariant.1 c.in-Some.is)
+
+pub unreachable-requires : goal.unreachable-requires
+unreachable-requires c =
+    let bounds = width_bounds (state_of c.self.inside) c.self.invariant.0 c.self.invariant.1 in
+    let ok = c.in-Err.ensures.width.1 bounds in
+    cc ok
 
 pub returns : goal.returns
 returns c = λ before read.
-    let held = rw c.in-Some.is at (subst (λ s. HasRead s before) (sym c.self.view_is) read) in
-    shown_at_end c.in-Some.file c.set_width.new.self c.self.inside.width c.self.inside.has_width c.self.inside.given before held c.in-Ok.ensures.ok
+    rw (c.push.ensures.items, c.in-Ok.ensures.ok ∙ ap (λ f. with_width f c.self.inside.width) c.in-Some.file-is) (shown_at_end (state_of c.self.inside) before c.in-Some.file (subst (λ s. HasRead s before) (sym c.self.view_is) read) c.in-Some.is)
