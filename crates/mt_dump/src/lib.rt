@@ -4,11 +4,13 @@
 mod canon;
 mod dumps;
 mod fault;
+mod for_processors;
 mod laws;
 mod line;
 mod reader;
 mod said;
 mod worked;
+mod worked_for_processors;
 mod worked_plain;
 mod worked_records;
 
@@ -27,6 +29,7 @@ pub use worked::{
     worked_bad_lines, worked_bad_numbers, worked_file, worked_later_sections, worked_plain_lines,
     worked_registers, worked_sections, worked_shapes, worked_versions,
 };
+pub use worked_for_processors::worked_files_for;
 pub use worked_plain::worked_plain_texts;
 pub use worked_records::{worked_dumps, worked_shown_dumps};
 
