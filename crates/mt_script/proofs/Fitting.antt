@@ -1,5 +1,5 @@
 -- Each command that a line is read as fits the situation.
-use Rattle.std.proofs.Common.{◌≡◌, ℕ, ◌≤◌, ◌<◌, ◌%◌, ◌^◌, ◌==◌, ◌&&◌, ◌||◌, not, nat_le, nat_eq, nat_lt, Bool, true, false, List, length, Option, Some, None, Result, Ok, Err, refl, arith}
+use Rattle.std.proofs.Common.{◌≡◌, ℕ, ◌≤◌, ◌<◌, ◌%◌, ◌^◌, ◌==◌, ◌&&◌, nat_le, nat_eq, nat_lt, Bool, true, false, List, length, Option, Some, None, Result, Ok, Err, refl}
 use Rattle.std.specs.Prelude.{if◌then◌else◌, codes, IfSome}
 use Rattle.std.specs.Set.{is_member}
 use Rattle.std.specs.Result.{IfOk}
@@ -10,7 +10,7 @@ use Rattle.mt_text.specs.declared.fault.NumberFault.{NumberFault}
 use Rattle.mt_text.specs.declared.fault.NumberFault.TheVariants.{NotDigit, TooLarge}
 use Rattle.mt_text.specs.declared.place.Place.{Place}
 use Rattle.mt_regs.specs.RegisterFile.{RegisterFile}
-use Rattle.mt_script.specs.Situation.{Situation}
+use Rattle.mt_script.specs.Situation.{Situation, file_of}
 use Rattle.mt_script.specs.Words.{text_of, place_of}
 use Rattle.mt_script.specs.Numbers.{fault_at, tested, at_least, below, any, aligned, multiple, register, count_in, processor_in, value_in, aligned_in, physical_in, register_in, base_in, has_room, is_register, is_writable, address_limit}
 use Rattle.mt_script.specs.Rows.{is_word, row_of, stands}
@@ -117,7 +117,7 @@ module _ (now : Situation) (line : ℕ) (words : List (ℕ × List ℕ)) where
 
   map_fits : takes_commands now.stage ≡ true → IfOk (map_in now line words) (Fits now)
   map_fits stage = for_processor _ (λ k known. for_aligned 2 4096 (2 ^ 48) _ (λ address good.
-      for_aligned 3 4096 (address_limit now.file) _ (λ physical fine.
+      for_aligned 3 4096 (address_limit (file_of now)) _ (λ physical fine.
       for_count 4 0 7 _ (λ index range. ((stage, known), good, fine, range.1)))))
 
   invlpg_fits : takes_commands now.stage ≡ true → IfOk (invlpg_in now line words) (Fits now)
@@ -125,13 +125,13 @@ module _ (now : Situation) (line : ℕ) (words : List (ℕ × List ℕ)) where
 
   msr_fits : takes_commands now.stage ≡ true → IfOk (msr_in now line words) (Fits now)
   msr_fits stage = for_processor _ (λ k known. fits_with (Fits now) (register_in now line words 2) _ (λ msr is.
-      ((stage, known), register_fact now.file (place_of line words 2) (hex_number (text_of words 2)) msr is)))
+      ((stage, known), register_fact (file_of now) (place_of line words 2) (hex_number (text_of words 2)) msr is)))
 
   one_fits : (make : ℕ → Command) → takes_commands now.stage ≡ true → ((k : ℕ) → IsFor now k → Fits now (make k)) → IfOk (with (processor_in now line words 1) (λ k. Ok (make k))) (Fits now)
   one_fits make stage fits = for_processor _ (λ k known. fits k (stage, known))
 
   word_fits : takes_commands now.stage ≡ true → IfOk (with (physical_in now line words 1 8) (λ address. Ok (command.Word address))) (Fits now)
-  word_fits stage = for_aligned 1 8 (address_limit now.file) _ (λ address good. (stage, good))
+  word_fits stage = for_aligned 1 8 (address_limit (file_of now)) _ (λ address good. (stage, good))
 
   -- a row leads to commands that fit in its stages
   abbrev pub RowFits : Row → Type 0
@@ -172,7 +172,7 @@ module _ (now : Situation) (line : ℕ) (words : List (ℕ × List ℕ)) where
   register_fits : takes_registers now.stage ≡ true → IfOk (register_line now line words) (Fits now)
   register_fits stage = fits_with (Fits now) (any (place_of line words 0) (hex_number (without_ending 58 (text_of words 0)))) _ (λ number is_number.
       fits_with (Fits now) (value_in line words 1) _ (λ value is_value.
-      fits_if (Fits now) (is_writable now.file number) _ _
+      fits_if (Fits now) (is_writable (file_of now) number) _ _
       (λ known. fits_if (Fits now) (is_member nat_eq now.seen number) _ _ (λ again. tt) (λ new. (stage, known, new)))
       (λ unknown. tt)))
 

@@ -1,76 +1,58 @@
 -- A script has no offence exactly where each line is accepted in its turn and the end is good.
-use Rattle.std.proofs.Common.{◌≡◌, ◌+◌, ℕ, nat_lt, Bool, true, false, List, [], ◌∷◌, Option, Some, None, Result, refl, ◌∙◌, ap, arith}
+use Rattle.std.proofs.Common.{◌≡◌, ◌+◌, ℕ, Bool, true, false, List, [], ◌∷◌, Option, None, Some, Result, refl}
 use Rattle.std.specs.Prelude.{Ok, Err, ◌↔◌, if◌then◌else◌}
+use Rattle.std.specs.Option.{option_map}
 use Rattle.mt_text.specs.Text.{lines_of, words_of, end_of}
 use Rattle.mt_text.specs.declared.place.Place.{Place}
-use Rattle.mt_regs.specs.RegisterFile.{RegisterFile}
+use Rattle.mt_dump.specs.Dumps.{Dump}
 use Rattle.mt_dump.specs.Line.{Reading, said_of}
-use Rattle.mt_dump.specs.Dump.{ShownBy, given, times, is_given, offence_of, offence_at_end}
-use Rattle.mt_dump.specs.Reader.{IsClean, file_in, onto}
+use Rattle.mt_dump.specs.Dump.{offence_of}
+use Rattle.mt_dump.specs.Reader.{IsClean, dump_in}
 use Rattle.mt_dump.specs.declared.fault.DumpFault.{DumpFault}
 use Rattle.mt_dump.proofs.OneLine.{is_sane}
-use Rattle.mt_dump.proofs.Readings.{given-onto}
-use Rattle.mt_dump.proofs.Stands.{clean_stands, clean_shown, shown_once, positive}
 use Rattle.mt_script.specs.Situation.{Situation, at_start}
 use Rattle.mt_script.specs.Stages.{is_in_dump, takes_commands}
 use Rattle.mt_script.specs.Words.{place_of}
 use Rattle.mt_script.specs.Numbers.{fault_at}
 use Rattle.mt_script.specs.Commands.{command_of}
 use Rattle.mt_script.specs.Accept.{accepted, finished}
-use Rattle.mt_script.specs.Script.{Rest, with_told_width, dump_ends, unless_dump, after_dump, is_end_command, after_command, after_line, at_end, offence_in, script_offence, GoesOn, Follows, AreGood, IsGoodScript}
+use Rattle.mt_script.specs.Head.{goes_on, end_offence, step_unless, step_shown, step_in_dump, is_end_command, step_of_command, step_of_answer}
+use Rattle.mt_script.specs.Script.{Rest, offence_after, at_end, offence_in, script_offence, GoesOn, Follows, AreGood, IsGoodScript}
 use Rattle.mt_script.specs.declared.command.Command.{Command}
 use Rattle.mt_script.specs.declared.fault.ScriptFault.{ScriptFault}
 use Rattle.mt_script.specs.declared.fault.ScriptReason.TheVariants.{NoEnd}
-
--- where the lines show a file they gave 0FEH
-shown_given : (says : List Reading) (file : RegisterFile) → ShownBy says file → is_given 0xfe says ≡ true
-shown_given says file shown =
-    let one : times 0xfe (given says) ≡ times 0xfe ((0xfe, file.capabilities) ∷ shown.capabilities.0) = ap (times 0xfe) shown.capabilities.1 in
-    ap (nat_lt 0) one ∙ positive (times 0xfe shown.capabilities.0 + 1) (omega arith)
-
-pub shown_end : (place : Place) (says : List Reading) (file : RegisterFile) → ShownBy says file → offence_at_end place says ≡ None
-shown_end place says file shown = rw (shown_given says file shown) refl
-
--- where clean lines lead to no file they gave no register
-none_given : (before : List Reading) → IsClean before → file_in before ≡ None → is_given 0xfe (onto before []) ≡ false
-none_given before clean led =
-    let none : given before ≡ [] = rw led at (clean_stands before clean) in
-    let count : times 0xfe (given (onto before [])) ≡ 0 = ap (times 0xfe) (given-onto before [] ∙ ap (λ gs. onto gs []) none) in
-    rw count refl
-
-pub none_ends : (place : Place) (before : List Reading) → IsClean before → file_in before ≡ None → offence_at_end place (onto before []) ≡ None → ⊥
-none_ends place before clean led end = cc (rw (none_given before clean led) at end)
-
--- clean lines that show a file lead to it
-pub leads_to : (before : List Reading) (file : RegisterFile) → IsClean before → ShownBy (onto before []) file → (found : RegisterFile) × (file_in before ≡ Some found) × (with_told_width before found ≡ file)
-leads_to before file clean shown = by (file_in before) refl
-  where
-    by : (found : Option RegisterFile) → file_in before ≡ found → (found : RegisterFile) × (file_in before ≡ Some found) × (with_told_width before found ≡ file)
-    by None led = absurd (none_ends (record { line = 1; column = 1 }) before clean led (shown_end (record { line = 1; column = 1 }) (onto before []) file shown))
-    by (Some found) led = (found, led, shown_once (onto before []) (with_told_width before found) file (clean_shown before found clean led) shown)
+use Rattle.mt_script.specs.declared.fault.Offence.{Offence}
+use Rattle.mt_script.specs.declared.fault.Offence.TheVariants as offence
+use Rattle.mt_script.proofs.Ends.{ended, ends_well, leads_to}
 
 -- no offence, and so good
 module _ (rest : Rest) (Good : Situation → List Reading → Type 0) (later : (now : Situation) (before : List Reading) → IsClean before → rest now before ≡ None → Good now before)
     (now : Situation) (before : List Reading) (clean : IsClean before) (number : ℕ) (line : List ℕ) where
-  end_good : (fault : Option DumpFault) (found : Option RegisterFile) → offence_at_end (place_of number (words_of line) 0) (onto before []) ≡ fault → file_in before ≡ found
-      → unless_dump fault (dump_ends now before found rest) ≡ None → GoesOn now before (said_of number line) Good true
-  end_good (Some fault) found end led none = absurd (cc none)
-  end_good None None end led none = absurd (none_ends (place_of number (words_of line) 0) before clean led end)
-  end_good None (Some file) end led none = (with_told_width before file, clean_shown before file clean led, later (finished now (with_told_width before file)) [] tt none)
+  shown_good : (dump : Dump) → dump_in before ≡ Some dump → (found : Option Dump) → dump_in before ≡ found → offence_after now rest (step_shown now before found) ≡ None → rest (finished now dump) [] ≡ None
+  shown_good dump led None other none = cc (led, other)
+  shown_good dump led (Some d) other none = let same : d ≡ dump = cc (led, other) in rw (← same) none
 
-  line_good : (fault : Option DumpFault) → offence_of before (said_of number line) ≡ fault → unless_dump fault (rest now (said_of number line ∷ before)) ≡ None → GoesOn now before (said_of number line) Good false
+  end_good : (o : Option Offence) → end_offence now (place_of number (words_of line) 0) before ≡ o
+      → offence_after now rest (step_unless o (step_shown now before (dump_in before))) ≡ None → GoesOn now before (said_of number line) Good true
+  end_good (Some o) is none = absurd (cc none)
+  end_good None is none =
+      let (dump, led, shown, each) = ended now (place_of number (words_of line) 0) before clean is in
+      (dump, shown, each, later (finished now dump) [] tt (shown_good dump led (dump_in before) refl none))
+
+  line_good : (fault : Option DumpFault) → offence_of before (said_of number line) ≡ fault
+      → offence_after now rest (step_unless (option_map offence.Dump fault) (goes_on now (said_of number line ∷ before))) ≡ None → GoesOn now before (said_of number line) Good false
   line_good (Some fault) is none = absurd (cc none)
   line_good None is none = (is, later now (said_of number line ∷ before) (is_sane number line, is, clean) none)
 
-  dump_good : (end : Bool) → after_dump now before number line rest end ≡ None → GoesOn now before (said_of number line) Good end
-  dump_good true none = end_good (offence_at_end (place_of number (words_of line) 0) (onto before [])) (file_in before) refl refl none
+  dump_good : (end : Bool) → offence_after now rest (step_in_dump now before number line end) ≡ None → GoesOn now before (said_of number line) Good end
+  dump_good true none = end_good (end_offence now (place_of number (words_of line) 0) before) refl none
   dump_good false none = line_good (offence_of before (said_of number line)) refl none
 
-  command_good : (c : Command) (dump : Bool) → after_command now before number line rest c dump ≡ None → Follows now before (said_of number line) Good c dump
+  command_good : (c : Command) (dump : Bool) → offence_after now rest (step_of_command now before number line c dump) ≡ None → Follows now before (said_of number line) Good c dump
   command_good c true none = dump_good (is_end_command c) none
   command_good c false none = later (accepted now c) before clean none
 
-  step_good : (answer : Result Command ScriptFault) → command_of now number line ≡ answer → after_line now before number line rest answer ≡ None
+  step_good : (answer : Result Command ScriptFault) → command_of now number line ≡ answer → offence_after now rest (step_of_answer now before number line answer) ≡ None
       → (c : Command) × (command_of now number line ≡ Ok c) × Follows now before (said_of number line) Good c (is_in_dump now.stage)
   step_good (Err fault) is none = absurd (cc none)
   step_good (Ok c) is none = (c, is, command_good c (is_in_dump now.stage) none)
@@ -87,14 +69,20 @@ good_lines end number (line ∷ lines) = λ now before clean none.
 -- good, and so without an offence
 module _ (rest : Rest) (Good : Situation → List Reading → Type 0) (later : (now : Situation) (before : List Reading) → IsClean before → Good now before → rest now before ≡ None)
     (now : Situation) (before : List Reading) (clean : IsClean before) (number : ℕ) (line : List ℕ) where
-  dump_none : (end : Bool) → GoesOn now before (said_of number line) Good end → after_dump now before number line rest end ≡ None
-  dump_none true (file, shown, good) =
-      let found = leads_to before file clean shown in
-      let none : rest (finished now file) [] ≡ None = later (finished now file) [] tt good in
-      rw (shown_end (place_of number (words_of line) 0) (onto before []) file shown, found.1, found.2) none
-  dump_none false (is, good) = rw is (later now (said_of number line ∷ before) (is_sane number line, is, clean) good)
+  end_none : (dump : Dump) (o : Option Offence) → o ≡ None → (found : Option Dump) → found ≡ Some dump → rest (finished now dump) [] ≡ None → offence_after now rest (step_unless o (step_shown now before found)) ≡ None
+  end_none dump o is found led none = rw (is, led) none
 
-  command_none : (c : Command) (dump : Bool) → Follows now before (said_of number line) Good c dump → after_command now before number line rest c dump ≡ None
+  line_none : (fault : Option DumpFault) → fault ≡ None → rest now (said_of number line ∷ before) ≡ None → offence_after now rest (step_unless (option_map offence.Dump fault) (goes_on now (said_of number line ∷ before))) ≡ None
+  line_none fault is none = rw is none
+
+  dump_none : (end : Bool) → GoesOn now before (said_of number line) Good end → offence_after now rest (step_in_dump now before number line end) ≡ None
+  dump_none true (dump, shown, each, good) =
+      let place = place_of number (words_of line) 0 in
+      end_none dump (end_offence now place before) (ends_well now place before dump clean shown each) (dump_in before) (leads_to before dump clean shown) (later (finished now dump) [] tt good)
+  dump_none false (is, good) =
+      line_none (offence_of before (said_of number line)) is (later now (said_of number line ∷ before) (is_sane number line, is, clean) good)
+
+  command_none : (c : Command) (dump : Bool) → Follows now before (said_of number line) Good c dump → offence_after now rest (step_of_command now before number line c dump) ≡ None
   command_none c true good = dump_none (is_end_command c) good
   command_none c false good = later (accepted now c) before clean good
 

@@ -1,81 +1,131 @@
--- What a line of the head leads to.
+-- What a line leads to.
 use Rattle.std.proofs.Common.{◌≡◌, refl, ℕ, Bool, true, false, List, [], ◌∷◌, Option, None, Some, Result, Ok, Err}
+use Rattle.std.specs.Prelude.{if◌then◌else◌, ⊤}
+use Rattle.std.specs.Option.{option_map}
+use Rattle.std.specs.Result.{IfOk}
 use Rattle.mt_text.specs.Text.{words_of}
-use Rattle.mt_regs.specs.RegisterFile.{RegisterFile}
+use Rattle.mt_dump.specs.Dumps.{Dump}
+use Rattle.mt_dump.specs.ForProcessors.{has_each}
 use Rattle.mt_dump.specs.Line.{Reading, said_of}
-use Rattle.mt_dump.specs.Dump.{ShownBy, offence_at_end, offence_of}
-use Rattle.mt_dump.specs.Reader.{IsClean, file_in, onto}
+use Rattle.mt_dump.specs.Dump.{ShownBy, offence_of}
+use Rattle.mt_dump.specs.Reader.{IsClean, dump_in, onto}
 use Rattle.mt_dump.specs.declared.fault.DumpFault.{DumpFault}
+use Rattle.mt_dump.proofs.OneLine.{is_sane}
 use Rattle.mt_script.specs.Situation.{Situation}
 use Rattle.mt_script.specs.Stages.{is_in_dump}
 use Rattle.mt_script.specs.Words.{place_of}
+use Rattle.mt_script.specs.Kept.{IsSituation}
+use Rattle.mt_script.specs.Accept.{Fits, accepted}
 use Rattle.mt_script.specs.Commands.{command_of, in_stage, is_end, too_long}
-use Rattle.mt_script.specs.Accept.{finished}
-use Rattle.mt_script.specs.Script.{Rest, after_command, after_dump, after_line, dump_ends, is_end_command, offence_from, unless_dump}
-use Rattle.mt_script.specs.Head.{HeadStep, ends_dump, goes_on, head_step, offends, shows, step_in_dump, step_of_answer, step_of_command, step_shown, step_unless}
-use Rattle.std.specs.Prelude.{if◌then◌else◌}
+use Rattle.mt_script.specs.Head.{HeadStep, end_offence, ends_dump, goes_on, head_step, is_end_command, offends, shows, step_in_dump, step_of_answer, step_of_command, step_shown, step_unless}
 use Rattle.mt_script.specs.declared.command.Stage.{Stage}
 use Rattle.mt_script.specs.declared.command.Stage.TheVariants.{NeedCpus, NeedDump, InDump, Rams, Commands, InUpdate, InBegin}
 use Rattle.mt_script.specs.declared.command.Command.{Command}
 use Rattle.mt_script.specs.declared.command.Command.TheVariants as command
 use Rattle.mt_script.specs.declared.fault.ScriptFault.{ScriptFault}
 use Rattle.mt_script.specs.declared.fault.Offence.{Offence}
-use Rattle.mt_script.proofs.Good.{leads_to, none_ends, shown_end}
+use Rattle.mt_script.specs.declared.fault.Offence.TheVariants as offence
+use Rattle.mt_script.proofs.Ends.{ended, ends_well, leads_to}
+use Rattle.mt_script.proofs.Fitting.{command_fits}
+use Rattle.mt_script.proofs.Keeping.{accepted_is}
 
-pub dump_shows : (now : Situation) (before : List Reading) (number : ℕ) (line : List ℕ) (file : RegisterFile) → IsClean before → ends_dump line ≡ true → ShownBy (onto before []) file
-    → step_in_dump now before number line (ends_dump line) ≡ shows file
-dump_shows now before number line file clean ends shown =
-    let found = leads_to before file clean shown in
-    rw (ends, shown_end (place_of number (words_of line) 0) (onto before []) file shown, found.1, found.2) refl
+module _ (now : Situation) (before : List Reading) (number : ℕ) (line : List ℕ) where
+  shown_step : (dump : Dump) (o : Option Offence) → o ≡ None → (found : Option Dump) → found ≡ Some dump → step_unless o (step_shown now before found) ≡ shows dump
+  shown_step dump o is found led = rw (is, led) refl
 
--- in the dump each line is one of the dump
-pub head_in_dump : (now : Situation) (before : List Reading) (number : ℕ) (line : List ℕ) → is_in_dump now.stage ≡ true → head_step now before number line ≡ step_in_dump now before number line (ends_dump line)
-head_in_dump now before number line dump = of_stage now.stage dump
-  where
-    of_line : (long ends : Bool) → step_of_answer now before number line (if long then Ok command.DumpLine else if ends then Ok command.End else Ok command.DumpLine)
-        ≡ step_in_dump now before number line (if long then false else ends)
-    of_line true ends = rw dump refl
-    of_line false true = rw dump refl
-    of_line false false = rw dump refl
+  pub dump_shows : (dump : Dump) → IsClean before → ends_dump line ≡ true → ShownBy (onto before []) dump → has_each now.cpus dump ≡ true
+      → step_in_dump now before number line (ends_dump line) ≡ shows dump
+  dump_shows dump clean ends shown each =
+      let place = place_of number (words_of line) 0 in
+      rw ends (shown_step dump (end_offence now place before) (ends_well now place before dump clean shown each) (dump_in before) (leads_to before dump clean shown))
 
-    of_stage : (stage : Stage) → is_in_dump stage ≡ true → step_of_answer now before number line (in_stage now number line stage) ≡ step_in_dump now before number line (ends_dump line)
-    of_stage InDump is = of_line (too_long line) (is_end (words_of line))
-    of_stage NeedCpus is = cc is
-    of_stage NeedDump is = cc is
-    of_stage Rams is = cc is
-    of_stage Commands is = cc is
-    of_stage InUpdate is = cc is
-    of_stage InBegin is = cc is
+  -- in the dump each line is one of the dump
+  pub head_in_dump : is_in_dump now.stage ≡ true → head_step now before number line ≡ step_in_dump now before number line (ends_dump line)
+  head_in_dump dump = of_stage now.stage dump
+    where
+      of_line : (long ends : Bool) → step_of_answer now before number line (if long then Ok command.DumpLine else if ends then Ok command.End else Ok command.DumpLine)
+          ≡ step_in_dump now before number line (if long then false else ends)
+      of_line true ends = rw dump refl
+      of_line false true = rw dump refl
+      of_line false false = rw dump refl
 
--- the first offence from a step on
-abbrev pub offence_after : Situation → Rest → HeadStep → Option Offence
-offence_after now rest (goes_on next after) = rest next after
-offence_after now rest (shows file) = rest (finished now file) []
-offence_after now rest (offends o) = Some o
+      of_stage : (stage : Stage) → is_in_dump stage ≡ true → step_of_answer now before number line (in_stage now number line stage) ≡ step_in_dump now before number line (ends_dump line)
+      of_stage InDump is = of_line (too_long line) (is_end (words_of line))
+      of_stage NeedCpus is = cc is
+      of_stage NeedDump is = cc is
+      of_stage Rams is = cc is
+      of_stage Commands is = cc is
+      of_stage InUpdate is = cc is
+      of_stage InBegin is = cc is
 
--- the offence of a line and of those behind it is read off its step
-module _ (now : Situation) (before : List Reading) (clean : IsClean before) (number : ℕ) (line : List ℕ) (rest : Rest) where
-  at_end : (fault : Option DumpFault) → offence_at_end (place_of number (words_of line) 0) (onto before []) ≡ fault → (found : Option RegisterFile) → file_in before ≡ found
-      → unless_dump fault (dump_ends now before found rest) ≡ offence_after now rest (step_unless fault (step_shown now before found))
-  at_end (Some fault) bad found led = refl
-  at_end None good None led = absurd (none_ends (place_of number (words_of line) 0) before clean led good)
-  at_end None good (Some file) led = refl
+-- The text goes on from a situation with as much of a dump, and from clean lines of it.
+pub record IsNext (now next : Situation) (after : List Reading) : Type 0 where
+  pub clean : IsClean after
+  pub same_dump : next.dump ≡ now.dump
+  pub is : IsSituation now → IsSituation next
 
-  at_line : (fault : Option DumpFault) → unless_dump fault (rest now (said_of number line ∷ before)) ≡ offence_after now rest (step_unless fault (goes_on now (said_of number line ∷ before)))
-  at_line (Some fault) = refl
-  at_line None = refl
+-- The dump ends in its stage, with a file for each processor.
+pub record IsShown (now : Situation) (before : List Reading) (dump : Dump) : Type 0 where
+  pub stage : is_in_dump now.stage ≡ true
+  pub shown : ShownBy (onto before []) dump
+  pub each : has_each now.cpus dump ≡ true
 
-  in_dump : (ends : Bool) → after_dump now before number line rest ends ≡ offence_after now rest (step_in_dump now before number line ends)
-  in_dump true = at_end (offence_at_end (place_of number (words_of line) 0) (onto before [])) refl (file_in before) refl
-  in_dump false = at_line (offence_of before (said_of number line))
+-- what holds of the step of a line behind clean lines
+abbrev pub IsStep : Situation → List Reading → HeadStep → Type 0
+IsStep now before (goes_on next after) = IsNext now next after
+IsStep now before (shows dump) = IsShown now before dump
+IsStep now before (offends o) = ⊤
 
-  of_command : (c : Command) (dump : Bool) → after_command now before number line rest c dump ≡ offence_after now rest (step_of_command now before number line c dump)
-  of_command c true = in_dump (is_end_command c)
-  of_command c false = refl
+-- no command brings another dump
+pub accepted_dump : (now : Situation) (c : Command) → (accepted now c).dump ≡ now.dump
+accepted_dump now (command.Cpus n) = refl
+accepted_dump now command.Dump = refl
+accepted_dump now (command.Ram base lines) = refl
+accepted_dump now (command.Selfsnoop k) = refl
+accepted_dump now (command.Load k address) = refl
+accepted_dump now (command.Store k address value) = refl
+accepted_dump now (command.Fence k) = refl
+accepted_dump now (command.Map k address physical index global) = refl
+accepted_dump now (command.Invlpg k address) = refl
+accepted_dump now (command.Cr3 k) = refl
+accepted_dump now (command.Pge k on) = refl
+accepted_dump now (command.Cd k on) = refl
+accepted_dump now command.Update = refl
+accepted_dump now command.Begin = refl
+accepted_dump now command.Go = refl
+accepted_dump now command.Cancel = refl
+accepted_dump now command.Report = refl
+accepted_dump now (command.Step k) = refl
+accepted_dump now (command.Word address) = refl
+accepted_dump now (command.Msr k msr) = refl
+accepted_dump now command.Blank = refl
+accepted_dump now command.DumpLine = refl
+accepted_dump now (command.Register msr value) = refl
+accepted_dump now command.End = refl
 
-  of_answer : (answer : Result Command ScriptFault) → after_line now before number line rest answer ≡ offence_after now rest (step_of_answer now before number line answer)
-  of_answer (Err fault) = refl
-  of_answer (Ok c) = of_command c (is_in_dump now.stage)
+module _ (now : Situation) (before : List Reading) (clean : IsClean before) (number : ℕ) (line : List ℕ) where
+  end_is : is_in_dump now.stage ≡ true → (o : Option Offence) → end_offence now (place_of number (words_of line) 0) before ≡ o → IsStep now before (step_unless o (step_shown now before (dump_in before)))
+  end_is stage (Some o) is = tt
+  end_is stage None is = by (ended now (place_of number (words_of line) 0) before clean is)
+    where
+      by : (dump : Dump) × (dump_in before ≡ Some dump) × ShownBy (onto before []) dump × (has_each now.cpus dump ≡ true) → IsStep now before (step_shown now before (dump_in before))
+      by (dump, led, shown, each) = rw led (record { stage = stage; shown = shown; each = each })
 
-  pub offence_of_step : offence_from now before number line rest ≡ offence_after now rest (head_step now before number line)
-  offence_of_step = of_answer (command_of now number line)
+  line_is : (fault : Option DumpFault) → offence_of before (said_of number line) ≡ fault → IsStep now before (step_unless (option_map offence.Dump fault) (goes_on now (said_of number line ∷ before)))
+  line_is (Some fault) is = tt
+  line_is None is = record { clean = (is_sane number line, is, clean); same_dump = refl; is = λ was. was }
+
+  dump_is : is_in_dump now.stage ≡ true → (end : Bool) → IsStep now before (step_in_dump now before number line end)
+  dump_is stage true = end_is stage (end_offence now (place_of number (words_of line) 0) before) refl
+  dump_is stage false = line_is (offence_of before (said_of number line)) refl
+
+  command_is : (c : Command) → Fits now c → (dump : Bool) → is_in_dump now.stage ≡ dump → IsStep now before (step_of_command now before number line c dump)
+  command_is c fits true stage = dump_is stage (is_end_command c)
+  command_is c fits false stage = record { clean = clean; same_dump = accepted_dump now c; is = λ was. accepted_is now was c fits (λ dump. absurd (cc (stage, dump))) }
+
+  answer_is : (answer : Result Command ScriptFault) → IfOk answer (Fits now) → IsStep now before (step_of_answer now before number line answer)
+  answer_is (Err fault) fits = tt
+  answer_is (Ok c) fits = command_is c fits (is_in_dump now.stage) refl
+
+  pub step_is : IsStep now before (head_step now before number line)
+  step_is = answer_is (command_of now number line) (command_fits now number line)

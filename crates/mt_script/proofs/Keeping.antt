@@ -1,10 +1,14 @@
 -- Each command that fits leaves what every setup keeps.
 use Rattle.std.proofs.Common.{◌≡◌, ◌≢◌, ℕ, ◌≤◌, ◌<◌, ◌+◌, ◌*◌, ◌&&◌, nat_eq, nat_lt, nat_le, true, false, List, [], ◌∷◌, ◌++◌, length, refl, sym, ◌∙◌, arith, lit≤}
+use Rattle.std.specs.Prelude.{Option, None, Some, IfSome, is_some}
+use Rattle.std.specs.Option.{option_map}
 use Rattle.std.specs.List.{IsDistinct, list_all}
 use Rattle.std.specs.Set.{is_member}
 use Rattle.std.proofs.lemmas.Bool.{and_parts, leb-true, ltb-true}
-use Rattle.mt_regs.specs.RegisterFile.{RegisterFile, IsRegisterFile}
-use Rattle.mt_script.specs.Situation.{Situation, at_start}
+use Rattle.mt_regs.specs.RegisterFile.{IsRegisterFile}
+use Rattle.mt_dump.specs.Dumps.{Dump, IsDump, first_file}
+use Rattle.mt_dump.specs.ForProcessors.{has_each}
+use Rattle.mt_script.specs.Situation.{Situation, at_start, file_of}
 use Rattle.mt_script.specs.Stages.{HasCpus, takes_cpus, takes_dump, takes_commands, takes_registers, takes_windows, takes_end, is_in_dump, is_past_dump}
 use Rattle.mt_script.specs.Numbers.{has_room, lines_together, is_writable, are_apart, address_limit}
 use Rattle.mt_script.specs.Kept.{IsSituation}
@@ -13,12 +17,13 @@ use Rattle.mt_script.specs.declared.command.Stage.{Stage}
 use Rattle.mt_script.specs.declared.command.Stage.TheVariants.{NeedCpus, NeedDump, InDump, Rams, Commands, InUpdate, InBegin}
 use Rattle.mt_script.specs.declared.command.Command.{Command}
 use Rattle.mt_script.specs.declared.command.Command.TheVariants as command
+use Rattle.mt_dump.proofs.ForProcessors.{first_file_is}
 use Rattle.mt_script.proofs.Sections.{one_more_distinct, one_more_known, room_for_one}
 
 -- nothing is set up at the start
 pub start_is : IsSituation at_start
 unfolding IsDistinct
-start_is = record { cpus = refl; has_file = refl; file = tt; few = lit≤ tt; together = lit≤ tt; early = λ before. refl; distinct = tt; known = λ q member. cc member; idle = λ test. refl }
+start_is = record { cpus = refl; has_dump = refl; dump = tt; each = tt; few = lit≤ tt; together = lit≤ tt; early = λ before. refl; distinct = tt; known = λ q member. cc member; idle = λ test. refl }
 
 no_registers : (P : ℕ → Type 0) (q : ℕ) → is_member nat_eq [] q ≡ true → P q
 no_registers P q member = cc member
@@ -133,6 +138,16 @@ registers_of_end NeedDump is not_dump = cc is
 registers_of_end Rams is not_dump = cc is
 registers_of_end Commands is not_dump = cc is
 
+-- nothing is said of no dump
+of_none : (P : Dump → Type 0) (dump : Option Dump) → is_some dump ≡ false → IfSome dump P
+of_none P None none = tt
+of_none P (Some dump) none = cc none
+
+-- processor 0's file is one of the dump
+first_is : (dump : Option Dump) → IfSome dump IsDump → IfSome (option_map first_file dump) IsRegisterFile
+first_is None is = tt
+first_is (Some dump) is = first_file_is dump is
+
 length_then : {A : Type 0} (xs : List A) (x : A) → length (xs ++ x ∷ []) ≡ length xs + 1
 length_then [] x = refl
 length_then (y ∷ xs) x = let e = length_then xs x in omega arith
@@ -144,26 +159,26 @@ lines_then (w ∷ windows) base lines = let e = lines_then windows base lines in
 module _ (now : Situation) (is : IsSituation now) where
   -- past the dump
   commands_is : is_past_dump now.stage ≡ true → takes_registers now.stage ≡ false → IsSituation (in_commands now)
-  commands_is past idle = record { cpus = cpus_past now.stage now.cpus past is.cpus; has_file = is.has_file ∙ past; file = is.file; few = is.few; together = is.together; early = λ before. cc before; distinct = is.distinct; known = is.known; idle = λ test. is.idle idle }
+  commands_is past idle = record { cpus = cpus_past now.stage now.cpus past is.cpus; has_dump = is.has_dump ∙ past; dump = is.dump; each = is.each; few = is.few; together = is.together; early = λ before. cc before; distinct = is.distinct; known = is.known; idle = λ test. is.idle idle }
 
   -- no register is given where a section begins or ends
   section_is : (stage : Stage) → is_past_dump now.stage ≡ true → HasCpus stage now.cpus → is_past_dump stage ≡ true → IsSituation (in_section_of stage now)
   unfolding IsDistinct
-  section_is stage past cpus past_too = record { cpus = cpus; has_file = is.has_file ∙ past ∙ sym past_too; file = is.file; few = is.few; together = is.together; early = λ before. let e = sym past_too ∙ before in cc e; distinct = tt; known = no_registers _; idle = λ test. refl }
+  section_is stage past cpus past_too = record { cpus = cpus; has_dump = is.has_dump ∙ past ∙ sym past_too; dump = is.dump; each = is.each; few = is.few; together = is.together; early = λ before. let e = sym past_too ∙ before in cc e; distinct = tt; known = no_registers _; idle = λ test. refl }
 
   cpus_is : (n : ℕ) → is_past_dump now.stage ≡ false → 1 ≤ n → n ≤ 16 → IsSituation (record now { stage = NeedDump; cpus = n })
-  cpus_is n before some few = record { cpus = (some, few); has_file = is.has_file ∙ before; file = is.file; few = is.few; together = is.together; early = λ still. is.early before; distinct = is.distinct; known = is.known; idle = λ test. is.idle (idle_not_past now.stage before) }
+  cpus_is n before some few = record { cpus = (some, few); has_dump = is.has_dump ∙ before; dump = is.dump; each = of_none (λ dump. has_each n dump ≡ true) now.dump (is.has_dump ∙ before); few = is.few; together = is.together; early = λ still. is.early before; distinct = is.distinct; known = is.known; idle = λ test. is.idle (idle_not_past now.stage before) }
 
   dump_is : takes_dump now.stage ≡ true → IsSituation (record now { stage = InDump })
   dump_is takes =
       let before = not_past_of_dump now.stage takes in
-      record { cpus = cpus_of_dump now.stage now.cpus takes is.cpus; has_file = is.has_file ∙ before; file = is.file; few = is.few; together = is.together; early = λ still. is.early before; distinct = is.distinct; known = is.known; idle = λ test. is.idle (idle_not_past now.stage before) }
+      record { cpus = cpus_of_dump now.stage now.cpus takes is.cpus; has_dump = is.has_dump ∙ before; dump = is.dump; each = is.each; few = is.few; together = is.together; early = λ still. is.early before; distinct = is.distinct; known = is.known; idle = λ test. is.idle (idle_not_past now.stage before) }
 
   -- the bounds that a window keeps to
   window_bounds : (base lines : ℕ) → has_room now base lines ≡ true → (length now.windows < 16) × (lines_together now.windows + lines ≤ 4096)
   window_bounds base lines room =
-      let last = and_parts (nat_le (base + 64 * lines) (address_limit now.file) && list_all (are_apart base lines) now.windows && nat_lt (length now.windows) 16) (nat_le (lines_together now.windows + lines) 4096) room in
-      let few = and_parts (nat_le (base + 64 * lines) (address_limit now.file) && list_all (are_apart base lines) now.windows) (nat_lt (length now.windows) 16) last.0 in
+      let last = and_parts (nat_le (base + 64 * lines) (address_limit (file_of now)) && list_all (are_apart base lines) now.windows && nat_lt (length now.windows) 16) (nat_le (lines_together now.windows + lines) 4096) room in
+      let few = and_parts (nat_le (base + 64 * lines) (address_limit (file_of now)) && list_all (are_apart base lines) now.windows) (nat_lt (length now.windows) 16) last.0 in
       (ltb-true (length now.windows) 16 few.1, leb-true (lines_together now.windows + lines) 4096 last.1)
 
   pub room_for_window : (base lines : ℕ) → has_room now base lines ≡ true → length now.windows < 16
@@ -174,21 +189,22 @@ module _ (now : Situation) (is : IsSituation now) where
       let bounds = window_bounds base lines room in
       let few = bounds.0 in
       let count = length_then now.windows (base, lines) in
-      record { cpus = is.cpus; has_file = is.has_file; file = is.file; few = omega arith; together = rw (lines_then now.windows base lines) bounds.1; early = λ before. let e = sym (past_of_windows now.stage takes) ∙ before in cc e; distinct = is.distinct; known = is.known; idle = is.idle }
+      record { cpus = is.cpus; has_dump = is.has_dump; dump = is.dump; each = is.each; few = omega arith; together = rw (lines_then now.windows base lines) bounds.1; early = λ before. let e = sym (past_of_windows now.stage takes) ∙ before in cc e; distinct = is.distinct; known = is.known; idle = is.idle }
 
-  pub room_for_register : (msr : ℕ) → is_writable now.file msr ≡ true → is_member nat_eq now.seen msr ≡ false → length now.seen < 77
-  room_for_register msr known new = room_for_one now.file now.seen msr is.file is.distinct is.known known new
+  pub room_for_register : (msr : ℕ) → is_writable (file_of now) msr ≡ true → is_member nat_eq now.seen msr ≡ false → length now.seen < 77
+  room_for_register msr known new = room_for_one (file_of now) now.seen msr (first_is now.dump is.dump) is.distinct is.known known new
 
-  register_is : (msr : ℕ) → takes_registers now.stage ≡ true → is_writable now.file msr ≡ true → is_member nat_eq now.seen msr ≡ false → IsSituation (record now { seen = now.seen ++ msr ∷ [] })
+  register_is : (msr : ℕ) → takes_registers now.stage ≡ true → is_writable (file_of now) msr ≡ true → is_member nat_eq now.seen msr ≡ false → IsSituation (record now { seen = now.seen ++ msr ∷ [] })
   register_is msr takes known new = record {
     cpus = is.cpus;
-    has_file = is.has_file;
-    file = is.file;
+    has_dump = is.has_dump;
+    dump = is.dump;
+    each = is.each;
     few = is.few;
     together = is.together;
     early = is.early;
-    distinct = one_more_distinct now.file now.seen msr is.file is.distinct is.known known new;
-    known = one_more_known now.file now.seen msr is.file is.distinct is.known known new;
+    distinct = one_more_distinct (file_of now) now.seen msr (first_is now.dump is.dump) is.distinct is.known known new;
+    known = one_more_known (file_of now) now.seen msr (first_is now.dump is.dump) is.distinct is.known known new;
     idle = λ test. let e = sym test ∙ takes in cc e;
   }
 
@@ -260,6 +276,6 @@ module _ (now : Situation) (is : IsSituation now) where
   others_is command.End fits goes_on cpus dump ram snoop update begin blank line register end = absurd (end refl)
 
   -- the end of the dump
-  pub finished_is : (file : RegisterFile) → is_in_dump now.stage ≡ true → IsRegisterFile file → IsSituation (finished now file)
+  pub finished_is : (dump : Dump) → is_in_dump now.stage ≡ true → IsDump dump → has_each now.cpus dump ≡ true → IsSituation (finished now dump)
   unfolding IsDistinct
-  finished_is file dump good = record { cpus = cpus_in_dump now.stage now.cpus dump is.cpus; has_file = refl; file = good; few = is.few; together = is.together; early = λ before. cc before; distinct = tt; known = no_registers _; idle = λ test. refl }
+  finished_is dump stage good each = record { cpus = cpus_in_dump now.stage now.cpus stage is.cpus; has_dump = refl; dump = good; each = each; few = is.few; together = is.together; early = λ before. cc before; distinct = tt; known = no_registers _; idle = λ test. refl }

@@ -1,4 +1,5 @@
 pub mod FirstWords
+pub mod Ends
 pub mod Fitting
 pub mod Good
 pub mod Heads

@@ -12,7 +12,7 @@ use Rattle.mt_text.specs.declared.fault.NumberFault.{NumberFault}
 use Rattle.mt_text.specs.declared.fault.NumberFault.TheVariants.{NotDigit, TooLarge}
 use Rattle.mt_text.specs.declared.place.Place.{Place}
 use Rattle.mt_regs.specs.RegisterFile.{RegisterFile}
-use Rattle.mt_script.specs.Situation.{Situation}
+use Rattle.mt_script.specs.Situation.{Situation, file_of}
 use Rattle.mt_script.specs.Words.{word_of, text_of, place_of}
 use Rattle.mt_script.specs.Numbers.{fault_at, tested, at_least, below, any, aligned, multiple, register, count_in, processor_in, value_in, aligned_in, physical_in, register_in, base_in, has_room, is_register, is_writable, address_limit}
 use Rattle.mt_script.specs.Rows.{row_of, stands, fits}
@@ -104,7 +104,7 @@ module _ (line : ℕ) (words : List (ℕ × List ℕ)) where
   base_fails within = number_at 1 (base_in line words 1) within (multiple_at 64 (place_of line words 1) (hex_number (text_of words 1)))
 
   register_fails : (now : Situation) → 2 < length words → IfErr (register_in now line words 2) AtWord
-  register_fails now within = number_at 2 (register_in now line words 2) within (register_at now.file (place_of line words 2) (hex_number (text_of words 2)))
+  register_fails now within = number_at 2 (register_in now line words 2) within (register_at (file_of now) (place_of line words 2) (hex_number (text_of words 2)))
 
   cpus_fails : 2 ≤ length words → IfErr (cpus_in line words) AtWord
   cpus_fails has = fails_with AtWord (count_in line words 1 1 16) _ (count_fails 1 1 16 (omega arith)) (λ n. tt)
@@ -130,7 +130,7 @@ module _ (line : ℕ) (words : List (ℕ × List ℕ)) where
   map_fails now has =
       fails_with AtWord (processor_in now line words 1) _ (processor_fails now (omega arith)) (λ k.
       fails_with AtWord (aligned_in line words 2 4096 (2 ^ 48)) _ (aligned_fails 2 4096 (2 ^ 48) (omega arith)) (λ address.
-      fails_with AtWord (aligned_in line words 3 4096 (address_limit now.file)) _ (aligned_fails 3 4096 (address_limit now.file) (omega arith)) (λ physical.
+      fails_with AtWord (aligned_in line words 3 4096 (address_limit (file_of now))) _ (aligned_fails 3 4096 (address_limit (file_of now)) (omega arith)) (λ physical.
       fails_with AtWord (count_in line words 4 0 7) _ (count_fails 4 0 7 (omega arith)) (λ index. tt))))
 
   invlpg_fails : (now : Situation) → 3 ≤ length words → IfErr (invlpg_in now line words) AtWord
@@ -139,7 +139,7 @@ module _ (line : ℕ) (words : List (ℕ × List ℕ)) where
       fails_with AtWord (aligned_in line words 2 1 (2 ^ 48)) _ (aligned_fails 2 1 (2 ^ 48) (omega arith)) (λ address. tt))
 
   word_fails : (now : Situation) → 2 ≤ length words → IfErr (with (physical_in now line words 1 8) (λ address. Ok (command.Word address))) AtWord
-  word_fails now has = fails_with AtWord (aligned_in line words 1 8 (address_limit now.file)) _ (aligned_fails 1 8 (address_limit now.file) (omega arith)) (λ address. tt)
+  word_fails now has = fails_with AtWord (aligned_in line words 1 8 (address_limit (file_of now))) _ (aligned_fails 1 8 (address_limit (file_of now)) (omega arith)) (λ address. tt)
 
   msr_fails : (now : Situation) → 3 ≤ length words → IfErr (msr_in now line words) AtWord
   msr_fails now has =
@@ -189,7 +189,7 @@ module _ (line : ℕ) (words : List (ℕ × List ℕ)) where
       fails_if AtWord (nat_lt 2 (length words)) _ _ (λ long. word_at 2 BadLine (ltb-true 2 (length words) long)) (λ two.
       fails_with AtWord _ _ (number_at 0 _ (grind (arith, nat_tests, some)) (any_at (place_of line words 0) (hex_number (without_ending 58 (text_of words 0))))) (λ number.
       fails_with AtWord _ _ (value_fails 1 (grind (arith, nat_tests, some, longer))) (λ value.
-      fails_if AtWord (is_writable now.file number) _ _
+      fails_if AtWord (is_writable (file_of now) number) _ _
       (λ known. fails_if AtWord (is_member nat_eq now.seen number) _ _ (λ again. word_at 0 Repeated (grind (arith, nat_tests, some))) (λ new. tt))
       (λ unknown. word_at 0 UnknownRegister (grind (arith, nat_tests, some)))))))))
 

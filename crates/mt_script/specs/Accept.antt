@@ -1,11 +1,11 @@
 -- Which commands a situation admits, and what they make of it (own).
 --     Fits now command      what holds of each command that a line is read as
 --     accepted now command      the situation after the command
---     finished now file      the situation after the dump's end
+--     finished now dump      the situation after the dump's end
 use Rattle.std.specs.Prelude.{ℕ, nat_eq, ◌≡◌, ◌≤◌, ◌<◌, ◌^◌, ◌%◌, true, false, [], ◌∷◌, ◌++◌, Some}
 use Rattle.std.specs.Set.{is_member}
-use Rattle.mt_regs.specs.RegisterFile.{RegisterFile}
-use Rattle.mt_script.specs.Situation.{Situation}
+use Rattle.mt_dump.specs.Dumps.{Dump}
+use Rattle.mt_script.specs.Situation.{Situation, file_of}
 use Rattle.mt_script.specs.Numbers.{has_room, is_register, is_writable, address_limit}
 use Rattle.mt_script.specs.Stages.{takes_cpus, takes_dump, takes_windows, takes_commands, is_in_dump, takes_registers, takes_end}
 use Rattle.mt_script.specs.declared.command.Stage.{Stage}
@@ -30,7 +30,7 @@ Fits now (command.Load k address) = IsFor now k × IsAligned 8 (2 ^ 48) address
 Fits now (command.Store k address value) = IsFor now k × IsAligned 8 (2 ^ 48) address × (value < 2 ^ 64)
 Fits now (command.Fence k) = IsFor now k
 Fits now (command.Map k address physical index global) =
-    IsFor now k × IsAligned 4096 (2 ^ 48) address × IsAligned 4096 (address_limit now.file) physical × (index ≤ 7)
+    IsFor now k × IsAligned 4096 (2 ^ 48) address × IsAligned 4096 (address_limit (file_of now)) physical × (index ≤ 7)
 Fits now (command.Invlpg k address) = IsFor now k × IsAligned 1 (2 ^ 48) address
 Fits now (command.Cr3 k) = IsFor now k
 Fits now (command.Pge k on) = IsFor now k
@@ -41,12 +41,12 @@ Fits now command.Go = takes_commands now.stage ≡ true
 Fits now command.Cancel = takes_commands now.stage ≡ true
 Fits now command.Report = takes_commands now.stage ≡ true
 Fits now (command.Step k) = IsFor now k
-Fits now (command.Word address) = (takes_commands now.stage ≡ true) × IsAligned 8 (address_limit now.file) address
-Fits now (command.Msr k msr) = IsFor now k × (is_register now.file msr ≡ true)
+Fits now (command.Word address) = (takes_commands now.stage ≡ true) × IsAligned 8 (address_limit (file_of now)) address
+Fits now (command.Msr k msr) = IsFor now k × (is_register (file_of now) msr ≡ true)
 Fits now command.Blank = is_in_dump now.stage ≡ false
 Fits now command.DumpLine = is_in_dump now.stage ≡ true
 Fits now (command.Register msr value) =
-    (takes_registers now.stage ≡ true) × (is_writable now.file msr ≡ true) × (is_member nat_eq now.seen msr ≡ false)
+    (takes_registers now.stage ≡ true) × (is_writable (file_of now) msr ≡ true) × (is_member nat_eq now.seen msr ≡ false)
 Fits now command.End = takes_end now.stage ≡ true
 
 abbrev pub in_commands : Situation → Situation
@@ -82,5 +82,5 @@ accepted now command.DumpLine = now
 accepted now (command.Register msr value) = record now { seen = now.seen ++ msr ∷ [] }
 accepted now command.End = in_section_of Commands now
 
-abbrev pub finished : Situation → RegisterFile → Situation
-finished now file = record now { stage = Rams; file = Some file; seen = [] }
+abbrev pub finished : Situation → Dump → Situation
+finished now dump = record now { stage = Rams; dump = Some dump; seen = [] }

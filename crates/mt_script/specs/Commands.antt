@@ -6,7 +6,7 @@ use Rattle.std.specs.Set.{is_member}
 use Rattle.mt_text.specs.Text.{words_of, without_ending}
 use Rattle.mt_text.specs.Number.{hex_number}
 use Rattle.mt_text.specs.declared.place.Place.{Place}
-use Rattle.mt_script.specs.Situation.{Situation}
+use Rattle.mt_script.specs.Situation.{Situation, file_of}
 use Rattle.mt_script.specs.Words.{text_of, place_of}
 use Rattle.mt_script.specs.Numbers.{fault_at, any, count_in, processor_in, value_in, virtual_in, physical_in, register_in, base_in, has_room, is_writable}
 use Rattle.mt_script.specs.Rows.{is_word, row_of, stands}
@@ -119,7 +119,7 @@ outside now line words =
 -- a register and a value
 abbrev pub register_value : Situation → Place → ℕ → ℕ → Answer
 register_value now first number value =
-    if is_writable now.file number then
+    if is_writable (file_of now) number then
     (if is_member nat_eq now.seen number then Err (fault_at Repeated first) else Ok (command.Register number value))
     else Err (fault_at UnknownRegister first)
 

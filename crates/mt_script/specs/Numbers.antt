@@ -7,7 +7,7 @@ use Rattle.mt_text.specs.declared.fault.NumberFault.TheVariants.{NotDigit, TooLa
 use Rattle.mt_text.specs.declared.place.Place.{Place}
 use Rattle.mt_regs.specs.RegisterFile.{RegisterFile}
 use Rattle.mt_regs.specs.Registers.{value_at}
-use Rattle.mt_script.specs.Situation.{Situation}
+use Rattle.mt_script.specs.Situation.{Situation, file_of}
 use Rattle.mt_script.specs.Words.{text_of, place_of}
 use Rattle.mt_script.specs.declared.fault.ScriptReason.{ScriptReason}
 use Rattle.mt_script.specs.declared.fault.ScriptReason.TheVariants.{BadNumber, UnknownRegister, OutOfRange}
@@ -89,10 +89,10 @@ virtual_in line words i step = aligned_in line words i step (2 ^ 48)
 
 -- a physical address
 abbrev pub physical_in : Situation → ℕ → List (ℕ × List ℕ) → ℕ → ℕ → Result ℕ ScriptFault
-physical_in now line words i step = aligned_in line words i step (address_limit now.file)
+physical_in now line words i step = aligned_in line words i step (address_limit (file_of now))
 
 abbrev pub register_in : Situation → ℕ → List (ℕ × List ℕ) → ℕ → Result ℕ ScriptFault
-register_in now line words i = register now.file (place_of line words i) (hex_number (text_of words i))
+register_in now line words i = register (file_of now) (place_of line words i) (hex_number (text_of words i))
 
 -- the base of a window
 abbrev pub base_in : ℕ → List (ℕ × List ℕ) → ℕ → Result ℕ ScriptFault
@@ -110,7 +110,7 @@ lines_together (window ∷ windows) = window.1 + lines_together windows
 -- a window may be added
 abbrev pub has_room : Situation → ℕ → ℕ → Bool
 has_room now base lines =
-    nat_le (base + 64 * lines) (address_limit now.file)
+    nat_le (base + 64 * lines) (address_limit (file_of now))
     && list_all (are_apart base lines) now.windows
     && nat_lt (length now.windows) 16
     && nat_le (lines_together now.windows + lines) 4096

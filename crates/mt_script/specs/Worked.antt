@@ -1,9 +1,10 @@
 -- Situations of worked examples.
-use Rattle.std.specs.Prelude.{ℕ, ◌∷◌, [], List, codes, Option, Some, Err}
-use Rattle.mt_regs.specs.RegisterFile.{blank_file}
+use Rattle.std.specs.Prelude.{ℕ, ◌∷◌, ◌++◌, [], List, codes, Option, Some, Err}
+use Rattle.mt_regs.specs.RegisterFile.{RegisterFile, blank_file}
 use Rattle.mt_dump.specs.Canon.{ended}
+use Rattle.mt_dump.specs.Dumps.{Dump, dump_of}
 use Rattle.mt_dump.specs.declared.fault.DumpReason.{DumpReason}
-use Rattle.mt_dump.specs.Line as dump
+use Rattle.mt_dump.specs.Line as line_of_dump
 use Rattle.mt_script.specs.Situation.{Situation}
 use Rattle.mt_script.specs.Numbers.{fault_at}
 use Rattle.mt_script.specs.Commands.{Answer, command_of}
@@ -11,11 +12,11 @@ use Rattle.mt_script.specs.Script.{script_offence}
 use Rattle.mt_script.specs.declared.command.Stage.{Stage}
 use Rattle.mt_script.specs.declared.fault.ScriptReason.{ScriptReason}
 use Rattle.mt_script.specs.declared.fault.Offence.{Offence}
-use Rattle.mt_script.specs.declared.fault.Offence.TheVariants.{Script, Dump}
+use Rattle.mt_script.specs.declared.fault.Offence.TheVariants as offence
 
 -- two processors of 36 bits with eight pairs and fixed ranges, and a window of sixteen lines from 1,024 on
 abbrev pub ready : Stage → Situation
-ready stage = record { stage = stage; cpus = 2; file = Some (blank_file 36 0x508); windows = (0x400, 16) ∷ []; seen = [] }
+ready stage = record { stage = stage; cpus = 2; dump = Some (dump_of (blank_file 36 0x508)); windows = (0x400, 16) ∷ []; seen = [] }
 
 -- a section that has given 200H
 abbrev pub with_one : Stage → Situation
@@ -34,11 +35,23 @@ abbrev pub offence_of_lines : List (List ℕ) → Option Offence
 offence_of_lines lines = script_offence (ended lines)
 
 abbrev pub script_fault : ScriptReason → ℕ → ℕ → Option Offence
-script_fault reason line column = Some (Script (fault_at reason (record { line = line; column = column })))
+script_fault reason line column = Some (offence.Script (fault_at reason (record { line = line; column = column })))
 
 abbrev pub dump_fault : DumpReason → ℕ → ℕ → Option Offence
-dump_fault reason line column = Some (Dump (dump.fault_at reason (record { line = line; column = column })))
+dump_fault reason line column = Some (offence.Dump (line_of_dump.fault_at reason (record { line = line; column = column })))
 
 -- one processor, and a dump without pairs; these lines follow
 abbrev pub after_start : List (List ℕ) → List (List ℕ)
 after_start lines = codes "cpus 1" ∷ codes "dump" ∷ codes "0fe 0" ∷ codes "end" ∷ lines
+
+-- a dump with these sections
+abbrev pub sectioned : List RegisterFile → Dump
+sectioned files = record { version = 2; files = files }
+
+-- so many processors, and a dump of these lines, which the word `end` ends
+abbrev pub with_dump : List ℕ → List (List ℕ) → List (List ℕ)
+with_dump cpus lines = cpus ∷ codes "dump" ∷ (lines ++ codes "end" ∷ [])
+
+-- two sections, the second of which gives a register
+abbrev pub two_sections : List (List ℕ)
+two_sections = codes "version 2" ∷ codes "cpu 0" ∷ codes "0fe 0" ∷ codes "cpu 1" ∷ codes "2ff 800" ∷ []

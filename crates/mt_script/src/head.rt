@@ -1,18 +1,18 @@
 ghost use Rattle.std.specs.Prelude.{◌≡◌, true, ◌∷◌, [], List, Some, None, IfOk, IfSome, MatchOption, MatchResult};
+ghost use Rattle.mt_dump.specs.ForProcessors.{has_each};
 ghost use Rattle.mt_dump.specs.Line.{Reading};
-ghost use Rattle.mt_dump.specs.Dump.{ShownBy, offence_at_end};
+ghost use Rattle.mt_dump.specs.Dump.{ShownBy};
 ghost use Rattle.mt_dump.specs.Reader.{HasRead, onto};
-ghost use Rattle.mt_dump.specs.declared.fault.DumpFault.{DumpFault};
 ghost use Rattle.mt_script.specs.Situation.{Situation, at_start};
 ghost use Rattle.mt_script.specs.Stages.{is_in_dump};
-ghost use Rattle.mt_script.specs.Head.{TakesLine, ends_dump, head_step, step_in_dump};
+ghost use Rattle.mt_script.specs.Head.{TakesLine, end_offence, ends_dump, head_step, step_in_dump};
 
 use crate::name::is_in_dump;
+use crate::number::fault;
 use crate::read::ends_dump;
 use crate::token::first_place;
-use crate::{Offence, Setup, read_command};
-use mt_dump::DumpReader;
-use mt_regs::RegFile;
+use crate::{Offence, ScriptReason, Setup, read_command};
+use mt_dump::{Dump, DumpReader};
 use mt_text::{Line, Place};
 use std::mem;
 
@@ -25,26 +25,33 @@ pub struct Head {
     pub dump: DumpReader,
 }
 
-// The file of a dump, whose last line has the word `end` at this place.
-fn end_dump(dump: &mut DumpReader, at: Place) -> Result<RegFile, Offence>
-    ensures { (before : List Reading) → HasRead dump.old before → MatchResult result
-        (λ file. ShownBy (onto before []) file × HasRead dump.new [])
-        (λ offence. (fault : DumpFault) × (offence ≡ Offence.Dump fault) × (offence_at_end at (onto before []) ≡ Some fault)) }
+// What the lines of a dump show to so many processors. Its last line has the word `end` at this place.
+fn end_dump(dump: &mut DumpReader, cpus: u32, at: Place) -> Result<Dump, Offence>
+    ensures each { IfOk result (λ d. has_each cpus d ≡ true) }
+    ensures shown { (now : Situation) (before : List Reading) → now.cpus ≡ cpus → HasRead dump.old before → MatchResult result
+        (λ d. ShownBy (onto before []) d × HasRead dump.new [])
+        (λ offence. end_offence now at before ≡ Some offence) }
 {
     match mem::replace(dump, DumpReader::new()).finish(at) {
-        Ok(file) => Ok(file),
-        Err(fault) => Err(Offence::Dump(fault)),
+        Ok(d) if d.has_each(cpus) => Ok(d),
+        Ok(_) => Err(Offence::Script(fault(ScriptReason::OutOfRange, at))),
+        Err(missing) => Err(Offence::Dump(missing)),
     }
 }
 
-/// Takes a line of a dump. The file is what the lines so far show, where this line's only word is
-/// `end`; the reader has then read nothing.
-pub fn take_dump_line(dump: &mut DumpReader, line: &Line<'_>) -> Result<Option<RegFile>, Offence>
-    ensures { (now : Situation) (before : List Reading) → HasRead dump.old before → TakesLine now dump.new (step_in_dump now before line.now.number line.now.bytes.now (ends_dump line.now.bytes.now)) result }
+/// Takes a line of a dump for so many processors. The dump is what the lines so far show, where this
+/// line's only word is `end`; the reader has then read nothing.
+pub fn take_dump_line(
+    dump: &mut DumpReader,
+    cpus: u32,
+    line: &Line<'_>,
+) -> Result<Option<Dump>, Offence>
+    ensures each { IfOk result (λ shown. IfSome shown (λ d. has_each cpus d ≡ true)) }
+    ensures step { (now : Situation) (before : List Reading) → now.cpus ≡ cpus → HasRead dump.old before → TakesLine now dump.new (step_in_dump now before line.now.number line.now.bytes.now (ends_dump line.now.bytes.now)) result }
 {
     if ends_dump(line) {
-        return match end_dump(dump, first_place(line)) {
-            Ok(file) => Ok(Some(file)),
+        return match end_dump(dump, cpus, first_place(line)) {
+            Ok(d) => Ok(Some(d)),
             Err(offence) => Err(offence),
         };
     }
@@ -66,13 +73,14 @@ impl Head {
         }
     }
 
-    /// Takes the next line. The file is what the dump shows, where this line ends it.
-    pub fn take(&mut self, line: &Line<'_>) -> Result<Option<RegFile>, Offence>
-        ensures shown { IfOk result (λ shown. IfSome shown (λ file. (is_in_dump self.old.setup.stage ≡ true) × (self.new.setup ≡ self.old.setup))) }
+    /// Takes the next line. The dump is what its lines show, where this line ends it.
+    pub fn take(&mut self, line: &Line<'_>) -> Result<Option<Dump>, Offence>
+        ensures shown { IfOk result (λ shown. IfSome shown (λ d. (is_in_dump self.old.setup.stage ≡ true) × (self.new.setup ≡ self.old.setup))) }
+        ensures each { IfOk result (λ shown. IfSome shown (λ d. has_each self.old.setup.cpus d ≡ true)) }
         ensures step { (before : List Reading) → HasRead self.old.dump before → TakesLine self.new.setup self.new.dump (head_step self.old.setup before line.now.number line.now.bytes.now) result }
     {
         if is_in_dump(self.setup.stage()) {
-            return take_dump_line(&mut self.dump, line);
+            return take_dump_line(&mut self.dump, self.setup.cpus(), line);
         }
         match read_command(line, &self.setup) {
             Ok(command) => {

@@ -1,11 +1,13 @@
 ghost use Rattle.std.specs.Prelude.{◌≡◌, ◌≢◌, ◌≤◌, ◌<◌, ◌∷◌, ◌++◌, [], true, length, Some, None, MatchOption};
-ghost use Rattle.mt_script.specs.Situation.{at_start};
+ghost use Rattle.mt_dump.specs.ForProcessors.{has_each};
+ghost use Rattle.mt_script.specs.Situation.{at_start, file_of};
 ghost use Rattle.mt_script.specs.Stages.{is_in_dump};
 ghost use Rattle.mt_script.specs.Kept.{IsSituation};
 ghost use Rattle.mt_script.specs.Accept.{Fits, in_section_of, accepted, finished};
 
 use crate::{Command, Stage};
 use arrayvec::ArrayVec;
+use mt_dump::Dump;
 use mt_regs::RegFile;
 use std::marker::Model;
 
@@ -14,7 +16,7 @@ use std::marker::Model;
 pub struct Setup {
     stage: Stage,
     cpus: u32,
-    file: Option<RegFile>,
+    dump: Option<Dump>,
     windows: ArrayVec<(u64, u32), 16>,
     seen: ArrayVec<u32, 77>,
 }
@@ -39,7 +41,7 @@ impl Setup {
         Setup {
             stage: Stage::NeedCpus,
             cpus: 0,
-            file: None,
+            dump: None,
             windows: ArrayVec::new(),
             seen: ArrayVec::new(),
         }
@@ -59,11 +61,21 @@ impl Setup {
         self.cpus
     }
 
-    /// The file of the dump. There is none before its end.
-    pub fn file(&self) -> Option<&RegFile>
-        ensures { MatchOption result (self.now.file ≡ None) (λ file. self.now.file ≡ Some file.now) }
+    /// The dump. There is none before its end.
+    pub fn dump(&self) -> Option<&Dump>
+        ensures { MatchOption result (self.now.dump ≡ None) (λ dump. self.now.dump ≡ Some dump.now) }
     {
-        self.file.as_ref()
+        self.dump.as_ref()
+    }
+
+    /// Processor 0's file. There is none before the dump's end.
+    pub fn file(&self) -> Option<&RegFile>
+        ensures { MatchOption result (file_of self.now ≡ None) (λ file. file_of self.now ≡ Some file.now) }
+    {
+        match &self.dump {
+            Some(dump) => Some(dump.first_file()),
+            None => None,
+        }
     }
 
     /// Base and lines of each window, in the order of their lines.
@@ -148,13 +160,14 @@ impl Setup {
         }
     }
 
-    /// Keeps the file of the dump, at its end.
-    pub fn dumped(&mut self, f: RegFile)
-        requires { is_in_dump self.old.stage ≡ true }
-        ensures { self.new ≡ finished self.old f }
+    /// Keeps the dump, at its end. It has a file for each processor.
+    pub fn dumped(&mut self, d: Dump)
+        requires stage { is_in_dump self.old.stage ≡ true }
+        requires each { has_each self.old.cpus d ≡ true }
+        ensures { self.new ≡ finished self.old d }
     {
         self.stage = Stage::Rams;
-        self.file = Some(f);
+        self.dump = Some(d);
         self.seen.clear();
     }
 }

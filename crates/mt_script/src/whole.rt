@@ -15,8 +15,8 @@ fn take_line(head: &mut Head, line: &Line<'_>) -> Result<(), Offence>
 {
     match head.take(line) {
         Ok(None) => Ok(()),
-        Ok(Some(file)) => {
-            head.setup.dumped(file);
+        Ok(Some(dump)) => {
+            head.setup.dumped(dump);
             Ok(())
         }
         Err(offence) => Err(offence),

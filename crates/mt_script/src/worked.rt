@@ -1,12 +1,13 @@
 ghost use Rattle.std.specs.Prelude.{◌≡◌, ◌∷◌, ◌++◌, [], codes, replicate, true, false, Some, None, Ok};
 ghost use Rattle.mt_dump.specs.declared.fault.DumpReason.TheVariants as dump;
+ghost use Rattle.mt_dump.specs.Dumps.{dump_of};
 ghost use Rattle.mt_dump.specs.Line.{fault_at as dump_fault_at, said_of};
 ghost use Rattle.mt_regs.specs.RegisterFile.{blank_file};
 ghost use Rattle.mt_script.specs.Head.{goes_on, head_step, offends, shows};
-ghost use Rattle.mt_script.specs.Situation.{at_start};
+ghost use Rattle.mt_script.specs.Situation.{at_start, file_of};
 ghost use Rattle.mt_script.specs.Commands.{end_fault};
 ghost use Rattle.mt_script.specs.Numbers.{fault_at};
-ghost use Rattle.mt_script.specs.Worked.{after_start, dump_fault, fault_in, first_line, offence_of_lines, ready, script_fault, with_one};
+ghost use Rattle.mt_script.specs.Worked.{after_start, dump_fault, fault_in, first_line, offence_of_lines, ready, script_fault, sectioned, two_sections, with_dump, with_one};
 ghost use Rattle.mt_script.specs.declared.command.Stage.TheVariants as stage;
 ghost use Rattle.mt_script.specs.declared.command.Command.TheVariants as asks;
 ghost use Rattle.mt_script.specs.declared.fault.Offence.TheVariants as offence;
@@ -176,8 +177,20 @@ pub fn worked_scripts()
 pub fn worked_heads()
     ensures goes_on { head_step at_start [] 1 (codes "cpus 2") ≡ goes_on (record at_start { stage = stage.NeedDump; cpus = 2 }) [] }
     ensures offends { head_step at_start [] 1 (codes "end") ≡ offends (offence.Script (fault_at BadLine (record { line = 1; column = 1 }))) }
-    ensures dump_line { head_step (ready stage.InDump) [] 3 (codes "fe: 8") ≡ goes_on (ready stage.InDump) (said_of 3 (codes "fe 8") ∷ []) }
-    ensures shows { head_step (ready stage.InDump) (said_of 3 (codes "fe 8") ∷ []) 4 (codes "end") ≡ shows (blank_file 36 8) }
+    ensures dump_line { head_step (ready stage.InDump) [] 3 (codes "fe: 8") ≡ goes_on (ready stage.InDump) (said_of 3 (codes "fe  8") ∷ []) }
+    ensures shows { head_step (ready stage.InDump) (said_of 3 (codes "fe 8") ∷ []) 4 (codes "end") ≡ shows (dump_of (blank_file 36 8)) }
     ensures given_twice { head_step (ready stage.InDump) (said_of 3 (codes "fe 8") ∷ []) 4 (codes "fe 8") ≡ offends (offence.Dump (dump_fault_at dump.Repeated (record { line = 4; column = 1 }))) }
     ensures no_cap { head_step (ready stage.InDump) [] 3 (codes "end") ≡ offends (offence.Dump (dump_fault_at dump.NoCap (record { line = 3; column = 1 }))) }
+{}
+
+/// A dump with a section for each processor.
+pub fn worked_dumps()
+    ensures two { offence_of_lines (with_dump (codes "cpus 2") two_sections) ≡ None }
+    ensures one_too_many { offence_of_lines (with_dump (codes "cpus 1") two_sections) ≡ script_fault OutOfRange 8 1 }
+    ensures one_too_few { offence_of_lines (with_dump (codes "cpus 3") two_sections) ≡ script_fault OutOfRange 8 1 }
+    ensures one { offence_of_lines (with_dump (codes "cpus 1") (codes "version 2" ∷ codes "cpu 0" ∷ codes "0fe 0" ∷ [])) ≡ None }
+    ensures one_for_two { offence_of_lines (with_dump (codes "cpus 2") (codes "version 2" ∷ codes "cpu 0" ∷ codes "0fe 0" ∷ [])) ≡ script_fault OutOfRange 6 1 }
+    ensures capabilities_first { offence_of_lines (with_dump (codes "cpus 2") (codes "version 2" ∷ codes "cpu 0" ∷ [])) ≡ dump_fault dump.NoCap 5 1 }
+    ensures version_one { offence_of_lines (with_dump (codes "cpus 3") (codes "version 1" ∷ codes "0fe 0" ∷ [])) ≡ None }
+    ensures first_file { file_of (record (ready stage.Rams) { dump = Some (sectioned (blank_file 36 8 ∷ record (blank_file 36 8) { default_type = 0x800 } ∷ [])) }) ≡ Some (blank_file 36 8) }
 {}

@@ -1,10 +1,11 @@
 ghost use Rattle.std.specs.Prelude.{codes, ◌++◌, ◌∷◌, [], None, Some, false, replicate, true};
+ghost use Rattle.mt_dump.specs.Dumps.{dump_of};
 ghost use Rattle.mt_regs.specs.RegisterFile.{blank_file};
 ghost use Rattle.mt_script.specs.Accept.{Fits};
 ghost use Rattle.mt_script.specs.Kept.{IsSituation};
 ghost use Rattle.mt_script.specs.Places.{StandsIn};
 ghost use Rattle.mt_script.specs.Situation.{at_start};
-ghost use Rattle.mt_script.specs.Worked.{ready, with_one};
+ghost use Rattle.mt_script.specs.Worked.{ready, sectioned, with_one};
 ghost use Rattle.mt_script.specs.declared.command.Stage.TheVariants as stage;
 ghost use Rattle.mt_script.specs.declared.command.Command.TheVariants as asks;
 
@@ -70,9 +71,11 @@ pub fn worked_situations()
     ensures among_windows { IsSituation (ready stage.Rams) }
     ensures no_cpus { IsSituation (record (ready stage.Rams) { cpus = 0 }) → ⊥ }
     ensures many_cpus { IsSituation (record (ready stage.Rams) { cpus = 17 }) → ⊥ }
-    ensures no_file { IsSituation (record (ready stage.Rams) { file = None }) → ⊥ }
-    ensures file_too_early { IsSituation (record at_start { file = Some (blank_file 36 0) }) → ⊥ }
-    ensures other_file { IsSituation (record (ready stage.Rams) { file = Some (blank_file 53 0) }) → ⊥ }
+    ensures sections { IsSituation (record (ready stage.Rams) { dump = Some (sectioned (blank_file 36 0x508 ∷ blank_file 36 0x508 ∷ [])) }) }
+    ensures few_sections { IsSituation (record (ready stage.Rams) { dump = Some (sectioned (blank_file 36 0x508 ∷ [])) }) → ⊥ }
+    ensures no_dump { IsSituation (record (ready stage.Rams) { dump = None }) → ⊥ }
+    ensures dump_too_early { IsSituation (record at_start { dump = Some (dump_of (blank_file 36 0)) }) → ⊥ }
+    ensures other_file { IsSituation (record (ready stage.Rams) { dump = Some (dump_of (blank_file 53 0)) }) → ⊥ }
     ensures many_windows { IsSituation (record (ready stage.Rams) { windows = replicate 17 (0, 1) }) → ⊥ }
     ensures many_lines { IsSituation (record (ready stage.Rams) { windows = (0, 4096) ∷ (0x100000, 1) ∷ [] }) → ⊥ }
     ensures window_too_early { IsSituation (record at_start { windows = (0, 1) ∷ [] }) → ⊥ }

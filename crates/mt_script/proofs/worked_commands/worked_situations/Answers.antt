@@ -1,7 +1,6 @@
-use Rattle.std.proofs.Common.{◌≡◌, false, true, refl, rules, lit≤, List, ℕ}
+use Rattle.std.proofs.Common.{◌≡◌, false, true, refl, rules, lit≤}
 use Rattle.std.specs.Prelude.{nat_eq, ◌∷◌, []}
-use Rattle.std.specs.List.{AllByRecursion, IsDistinct}
-use Rattle.mt_regs.specs.RegisterFile.{IsRegisterFile, blank_file}
+use Rattle.std.specs.List.{IsDistinct}
 use Rattle.mt_script.proofs.Keeping.{start_is}
 use Rattle.mt_script.proofs.worked_commands.worked_situations.Goals as goal
 
@@ -12,8 +11,24 @@ pub returns-clause-among_windows : goal.returns-clause-among_windows
 unfolding IsDistinct
 returns-clause-among_windows c = record {
   cpus = (lit≤ tt, lit≤ tt);
-  has_file = refl;
-  file = search rules;
+  has_dump = refl;
+  dump = search rules;
+  each = refl;
+  few = lit≤ tt;
+  together = lit≤ tt;
+  early = λ before. cc before;
+  distinct = tt;
+  known = λ q member. cc member;
+  idle = λ test. refl;
+}
+
+pub returns-clause-sections : goal.returns-clause-sections
+unfolding IsDistinct
+returns-clause-sections c = record {
+  cpus = (lit≤ tt, lit≤ tt);
+  has_dump = refl;
+  dump = search rules;
+  each = refl;
   few = lit≤ tt;
   together = lit≤ tt;
   early = λ before. cc before;
