@@ -45,7 +45,7 @@ writable_ascend f few =
     (lit≤ tt, lit< tt, (lit≤ tt, lit< tt, tt))
 
 -- a register that is found lies in the bounds
-found_bounds : (p : Register → Bool) (low high : ℕ) (rs : List Register) (r : Register) → Ascend low high rs → find p rs ≡ Some r → (low ≤ number_of r) × (number_of r < high)
+pub found_bounds : (p : Register → Bool) (low high : ℕ) (rs : List Register) (r : Register) → Ascend low high rs → find p rs ≡ Some r → (low ≤ number_of r) × (number_of r < high)
 found_bounds p low high [] r up is = absurd (cc is)
 found_bounds p low high (s ∷ ss) r up is = elim (cases_Bool (p s)) [
   | inl passes ↦
