@@ -1,19 +1,29 @@
 -- From the text that was written to what a command answers.
-use Rattle.std.proofs.Common.{◌≡◌, ◌∙◌, ap, ℕ, List, Option, subst}
+use Rattle.std.proofs.Common.{◌≡◌, ◌∙◌, ap, ℕ, List, None, Option, subst}
 use Rattle.mt_ports.specs.declared.status.Status.{Status}
 use Rattle.mt_regs.specs.RegisterFile.{RegisterFile}
+use Rattle.mt_regs.specs.Agreement.{first_refusal}
+use Rattle.mt_dump.specs.Dumps.{Dump, first_file}
 use Rattle.mt_cli.specs.declared.command.DumpCommand.{DumpCommand}
 use Rattle.mt_replay.specs.Summary.{summary}
 use Rattle.mt_replay.specs.declared.summing.Totals.{Totals}
 use Rattle.mt_cli.specs.Generator.{make_text}
 use Rattle.mt_cli.specs.Lines.{summary_text}
-use Rattle.mt_cli.specs.Output.{Answer, big_text}
-use Rattle.mt_cli.specs.Written.{Answers, Writes, writes}
+use Rattle.mt_cli.specs.Answer.{Answer, FileAnswer, about_file}
+use Rattle.mt_cli.specs.Output.{big_text}
+use Rattle.mt_cli.specs.Written.{Answers, Writes, writes, no_memory}
 
-pub answers_with : (file : RegisterFile) (command : DumpCommand) (text written : List ℕ) (status : Status) (old new : Option (List ℕ)) (result : Status)
-    → Answer file command text status → written ≡ text → Writes written status old new result → Answers file command old new result
-answers_with file command text written status old new result answer same wrote =
-    writes text status answer (subst (λ (t : List ℕ). Writes t status old new result) same wrote)
+pub answers_with : (answer : List ℕ → Status → Type 0) (text written : List ℕ) (status : Status) (old new : Option (List ℕ)) (result : Status)
+    → answer text status → written ≡ text → Writes written status old new result → Answers answer old new result
+answers_with answer text written status old new result is same wrote =
+    writes text status is (subst (λ (t : List ℕ). Writes t status old new result) same wrote)
+
+-- what is answered about processor 0's file is answered about the dump
+pub answers_about : (dump : Dump) (command : DumpCommand) (file : RegisterFile) (old new : Option (List ℕ)) (result : Status)
+    → first_refusal dump.files ≡ None → file ≡ first_file dump → Answers (FileAnswer file command) old new result → Answers (Answer dump command) old new result
+answers_about dump command file old new result good same (writes text status answer wrote) =
+    writes text status (about_file command text status good (subst (λ f. FileAnswer f command text status) same answer)) wrote
+answers_about dump command file old new result good same (no_memory is kept) = no_memory is kept
 
 -- the numbers of a transcript, as they are written
 pub big_is : (n : ℕ) (text written : List ℕ) (t : Totals) → text ≡ make_text n → t ≡ summary text → written ≡ summary_text t → written ≡ big_text n

@@ -6,6 +6,7 @@ use Rattle.mt_ports.specs.Puts.{AppendsFront}
 use Rattle.mt_ports.specs.declared.status.Status.{Status}
 use Rattle.mt_ports.specs.declared.status.Status.TheVariants.{Done, Refused, Usage, BadText, ReadFault, WriteFault, NoMemory, TooLong, TooFew, Disabled}
 use Rattle.mt_regs.specs.RegisterFile.{RegisterFile}
+use Rattle.mt_dump.specs.Dumps.{Dump as Shows, first_file}
 use Rattle.mt_dump.specs.Dump.{Shown, dump_offence}
 use Rattle.mt_dump.specs.declared.fault.DumpFault.{DumpFault}
 use Rattle.mt_stream.specs.Runs.{Runs}
@@ -20,7 +21,8 @@ use Rattle.mt_cli.specs.declared.command.DumpCommand.{DumpCommand}
 use Rattle.mt_cli.specs.CommandLine.{command_of, left_of, reads_input}
 use Rattle.mt_cli.specs.Measured.{measured_text}
 use Rattle.mt_cli.specs.declared.command.Command.{Command}
-use Rattle.mt_cli.specs.Output.{Answer, Output, usage, bad_text, answered, replayed, made, summed, measured, refused, accepted, shown, typed, paged, tidied, too_few, disabled, grained, gran_too_few, gran_disabled, requested}
+use Rattle.mt_cli.specs.Answer.{Answer, FileAnswer, refused, accepted, shown, about_file, typed, paged, tidied, too_few, disabled, grained, gran_too_few, gran_disabled}
+use Rattle.mt_cli.specs.Output.{Output, usage, bad_text, answered, replayed, made, summed, measured, requested}
 use Rattle.mt_cli.specs.Tool.{Answered, CutShort, Finished, Leaves, Reads, FailedRead, Overran, Untouched}
 use Rattle.mt_cli.specs.Written.{Answers, AnswersInput, Makes, Sums, Writes, writes, no_memory, bad_input, good_input, no_input}
 
@@ -34,24 +36,28 @@ appended before text (Some xs) (Some ys) is takes = let e : xs ≡ before = cc i
 IsFinal : Status → Type 0
 IsFinal status = (status ≡ Done) ⊎ (status ≡ Refused) ⊎ (status ≡ BadText) ⊎ (status ≡ TooFew) ⊎ (status ≡ Disabled)
 
-final : (file : RegisterFile) (command : DumpCommand) (text : List ℕ) (status : Status) → Answer file command text status → IsFinal status
+final_of_file : (file : RegisterFile) (command : DumpCommand) (text : List ℕ) (status : Status) → FileAnswer file command text status → IsFinal status
 unfolding IsFinal
-final file command text status (refused other fault tests first) = inr (inl refl)
-final file command text status (accepted good) = inl refl
-final file command text status shown = inl refl
-final file command text status (typed runs good are) = inl refl
-final file command text status (paged address index good) = inl refl
-final file command text status (tidied spare chunk used new is) = inl refl
-final file command text status (too_few spare chunk needs has is) = inr (inr (inr (inl refl)))
-final file command text status (disabled spare chunk good off) = inr (inr (inr (inr refl)))
-final file command text status (grained log spare chunk used lost parts new is) = inl refl
-final file command text status (gran_too_few log spare chunk needs has is) = inr (inr (inr (inl refl)))
-final file command text status (gran_disabled log spare chunk good off) = inr (inr (inr (inr refl)))
+final_of_file file command text status (typed runs are) = inl refl
+final_of_file file command text status (paged address index) = inl refl
+final_of_file file command text status (tidied spare chunk used new is) = inl refl
+final_of_file file command text status (too_few spare chunk needs has is) = inr (inr (inr (inl refl)))
+final_of_file file command text status (disabled spare chunk off) = inr (inr (inr (inr refl)))
+final_of_file file command text status (grained log spare chunk used lost parts new is) = inl refl
+final_of_file file command text status (gran_too_few log spare chunk needs has is) = inr (inr (inr (inl refl)))
+final_of_file file command text status (gran_disabled log spare chunk off) = inr (inr (inr (inr refl)))
 
-final_cases : (file : RegisterFile) (command : DumpCommand) (text : List ℕ) (status : Status) → Answer file command text status
+final : (dump : Shows) (command : DumpCommand) (text : List ℕ) (status : Status) → Answer dump command text status → IsFinal status
+unfolding IsFinal
+final dump command text status (refused other k fault tests first) = inr (inl refl)
+final dump command text status (accepted good) = inl refl
+final dump command text status shown = inl refl
+final dump command text status (about_file other t s good answer) = final_of_file (first_file dump) other t s answer
+
+final_cases : (dump : Shows) (command : DumpCommand) (text : List ℕ) (status : Status) → Answer dump command text status
     → (status ≡ Done) ⊎ (status ≡ Refused) ⊎ (status ≡ BadText) ⊎ (status ≡ TooFew) ⊎ (status ≡ Disabled)
 unfolding IsFinal
-final_cases file command text status answer = final file command text status answer
+final_cases dump command text status answer = final dump command text status answer
 
 final_of_transcript : (bytes : List ℕ) → IsFinal (transcript bytes).status
 unfolding IsFinal
@@ -92,10 +98,10 @@ whole : (words : List (List ℕ)) (bytes text : List ℕ) (status : Status) (lef
 whole words bytes text status left before after (usage other) = λ read taken. record { text = _; output = usage other; taken = taken; read = read }
 whole words bytes text status left before after (bad_text command fault says is) = λ read taken.
     record { text = _; output = bad_text command fault says is; taken = taken; read = read }
-whole words bytes text status left before after (answered command file t s says shows answer) = λ read taken.
-    let fin : IsFinal s = final file command t s answer in
+whole words bytes text status left before after (answered command dump t s says shows answer) = λ read taken.
+    let fin : IsFinal s = final dump command t s answer in
     finished_leaves words bytes left before after s fin
-    (record { text = t; output = answered command file t s says shows answer; taken = taken; read = read })
+    (record { text = t; output = answered command dump t s says shows answer; taken = taken; read = read })
 whole words bytes text status left before after (made n says) = λ read taken. record { text = _; output = made n says; taken = taken; read = read }
 whole words bytes text status left before after (summed n says) = λ read taken. record { text = _; output = summed n says; taken = taken; read = read }
 whole words bytes text status left before after (measured cpus n accesses says) = λ read taken. record { text = _; output = measured cpus n accesses says; taken = taken; read = read }
@@ -115,11 +121,11 @@ written_leaves words bytes text status result left before old new output read to
     rw is (record { text = text; status = status; output = output; front = cut.0; back = cut.1; cut = cut.2; taken = appended before cut.0 old new told cut.3 })
 
 -- a run that has written an answer, a front of one, or nothing
-pub answers_leave : (words : List (List ℕ)) (bytes : List ℕ) (file : RegisterFile) (command : DumpCommand) (result : Status) (left : Option (List ℕ)) (before : List ℕ) (old new : Option (List ℕ))
-    → command_of words ≡ Some (Dump command) → Shown bytes file → left ≡ Some [] → old ≡ Some before → Answers file command old new result → Leaves words bytes left before new result
-answers_leave words bytes file command result left before old new says shows read told (writes text status answer wrote) =
-    written_leaves words bytes text status result left before old new (answered command file text status says shows answer) (left_by words bytes left (Some (Dump command)) says read) told wrote
-answers_leave words bytes file command result left before old new says shows read told (no_memory is same) = rw is (inl (same ∙ told))
+pub answers_leave : (words : List (List ℕ)) (bytes : List ℕ) (dump : Shows) (command : DumpCommand) (result : Status) (left : Option (List ℕ)) (before : List ℕ) (old new : Option (List ℕ))
+    → command_of words ≡ Some (Dump command) → Shown bytes dump → left ≡ Some [] → old ≡ Some before → Answers (Answer dump command) old new result → Leaves words bytes left before new result
+answers_leave words bytes dump command result left before old new says shows read told (writes text status answer wrote) =
+    written_leaves words bytes text status result left before old new (answered command dump text status says shows answer) (left_by words bytes left (Some (Dump command)) says read) told wrote
+answers_leave words bytes dump command result left before old new says shows read told (no_memory is same) = rw is (inl (same ∙ told))
 
 -- what a failed read, or too long an input, leaves of the sink by the command
 read_failed : (words : List (List ℕ)) (command : Command) (bytes : List ℕ) (left : Option (List ℕ)) (before : List ℕ) (after : Option (List ℕ))
@@ -134,7 +140,7 @@ too_much words command bytes before after says is = subst (λ (o : Option Comman
 pub input_leaves : (words : List (List ℕ)) (bytes : List ℕ) (command : DumpCommand) (result : Status) (left : Option (List ℕ)) (before : List ℕ) (old new : Option (List ℕ))
     → command_of words ≡ Some (Dump command) → old ≡ Some before → AnswersInput bytes command left old new result → Leaves words bytes left before new result
 input_leaves words bytes command result left before old new says told (bad_input fault is read wrote) = written_leaves words bytes _ BadText result left before old new (bad_text command fault says is) (left_by words bytes left (Some (Dump command)) says read) told wrote
-input_leaves words bytes command result left before old new says told (good_input file is read answers) = answers_leave words bytes file command result left before old new says is read told answers
+input_leaves words bytes command result left before old new says told (good_input dump is read answers) = answers_leave words bytes dump command result left before old new says is read told answers
 input_leaves words bytes command result left before old new says told (no_input same (inl failed)) = rw failed (read_failed words (Dump command) bytes left before new says (same ∙ told))
 input_leaves words bytes command result left before old new says told (no_input same (inr long)) = rw long.0 (too_much words (Dump command) bytes before new says (same ∙ told))
 
@@ -226,12 +232,12 @@ answered_reads words bytes left status (inr (inr (inr (inl is)))) told = rw is (
 answered_reads words bytes left status (inr (inr (inr (inr is)))) told = rw is (subst (λ (s : Status). Answered words bytes left s) is told)
 
 -- the status of an answer
-pub answers_read : (words : List (List ℕ)) (bytes : List ℕ) (file : RegisterFile) (command : DumpCommand) (result : Status) (left old new : Option (List ℕ))
-    → command_of words ≡ Some (Dump command) → Shown bytes file → left ≡ Some [] → Answers file command old new result → Reads words bytes left result
-answers_read words bytes file command result left old new says shows read (writes text status answer (inl (is, takes))) =
-    rw is (answered_reads words bytes left status (final file command text status answer) (record { text = text; output = answered command file text status says shows answer; read = left_by words bytes left (Some (Dump command)) says read }))
-answers_read words bytes file command result left old new says shows read (writes text status answer (inr (is, cut))) = rw is tt
-answers_read words bytes file command result left old new says shows read (no_memory is same) = rw is tt
+pub answers_read : (words : List (List ℕ)) (bytes : List ℕ) (dump : Shows) (command : DumpCommand) (result : Status) (left old new : Option (List ℕ))
+    → command_of words ≡ Some (Dump command) → Shown bytes dump → left ≡ Some [] → Answers (Answer dump command) old new result → Reads words bytes left result
+answers_read words bytes dump command result left old new says shows read (writes text status answer (inl (is, takes))) =
+    rw is (answered_reads words bytes left status (final dump command text status answer) (record { text = text; output = answered command dump text status says shows answer; read = left_by words bytes left (Some (Dump command)) says read }))
+answers_read words bytes dump command result left old new says shows read (writes text status answer (inr (is, cut))) = rw is tt
+answers_read words bytes dump command result left old new says shows read (no_memory is same) = rw is tt
 
 -- the status of a transcript
 tells_status : (words : List (List ℕ)) (bytes : List ℕ) (result : Status) (left old new : Option (List ℕ)) → command_of words ≡ Some Replay → TellsAll (transcript bytes) left old new result → Answered words bytes left result
@@ -270,14 +276,14 @@ proc_reads words bytes cpus TooFew left old new says tells = absurd tells
 proc_reads words bytes cpus Disabled left old new says tells = absurd tells
 
 -- the statuses with which an answer never ends
-pub never_answers : (file : RegisterFile) (command : DumpCommand) (old new : Option (List ℕ)) (result : Status) → Answers file command old new result → (result ≢ Usage) × (result ≢ ReadFault) × (result ≢ TooLong)
-never_answers file command old new result answers = by answers
+pub never_answers : (dump : Shows) (command : DumpCommand) (old new : Option (List ℕ)) (result : Status) → Answers (Answer dump command) old new result → (result ≢ Usage) × (result ≢ ReadFault) × (result ≢ TooLong)
+never_answers dump command old new result answers = by answers
   where
     but : (status : Status) → result ≡ status → (status ≢ Usage) × (status ≢ ReadFault) × (status ≢ TooLong) → (result ≢ Usage) × (result ≢ ReadFault) × (result ≢ TooLong)
     but status is others = rw is others
 
-    by : Answers file command old new result → (result ≢ Usage) × (result ≢ ReadFault) × (result ≢ TooLong)
-    by (writes text status answer (inl (is, takes))) = elim (final_cases file command text status answer) [
+    by : Answers (Answer dump command) old new result → (result ≢ Usage) × (result ≢ ReadFault) × (result ≢ TooLong)
+    by (writes text status answer (inl (is, takes))) = elim (final_cases dump command text status answer) [
       | inl ends ↦ but Done (is ∙ ends) (λ e. cc e, λ e. cc e, λ e. cc e)
       | inr (inl ends) ↦ but Refused (is ∙ ends) (λ e. cc e, λ e. cc e, λ e. cc e)
       | inr (inr (inl ends)) ↦ but BadText (is ∙ ends) (λ e. cc e, λ e. cc e, λ e. cc e)
@@ -298,7 +304,7 @@ offence_reads words bytes command fault written result left old new says is read
 pub input_reads : (words : List (List ℕ)) (bytes : List ℕ) (command : DumpCommand) (result : Status) (left old new : Option (List ℕ))
     → command_of words ≡ Some (Dump command) → AnswersInput bytes command left old new result → Reads words bytes left result
 input_reads words bytes command result left old new says (bad_input fault is read wrote) = offence_reads words bytes command fault _ result left old new says is read wrote
-input_reads words bytes command result left old new says (good_input file is read answers) = answers_read words bytes file command result left old new says is read answers
+input_reads words bytes command result left old new says (good_input dump is read answers) = answers_read words bytes dump command result left old new says is read answers
 input_reads words bytes command result left old new says (no_input same (inl failed)) = rw failed tt
 input_reads words bytes command result left old new says (no_input same (inr long)) = rw long.0 long.1
 

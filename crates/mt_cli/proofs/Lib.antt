@@ -1,5 +1,6 @@
 mod Answering
 mod CanonicalLines
+mod FirstFiles
 mod Leaving
 mod Made
 mod LongLines

@@ -4,15 +4,15 @@ use Rattle.std.specs.Prelude.{◌⊎◌}
 use Rattle.mt_ports.specs.declared.status.Status.{Status}
 use Rattle.mt_ports.specs.declared.status.Status.TheVariants.{Done, Refused, TooFew, Disabled}
 use Rattle.mt_regs.specs.RegisterFile.{RegisterFile, is_enabled}
-use Rattle.mt_regs.specs.Faults.{IsAccepted, IsFirstFault}
 use Rattle.mt_regs.specs.declared.fault.Fault.{Fault}
-use Rattle.mt_regs.proofs.First.{one_first_fault_lem}
+use Rattle.mt_regs.specs.Agreement.{first_refusal}
 use Rattle.mt_types.specs.declared.run.Run.{Run}
 use Rattle.mt_types.specs.Runs.{IsRunsOf}
 use Rattle.mt_types.proofs.OneMap.{one_type_map}
 use Rattle.mt_dump.specs.Canon.{canon}
+use Rattle.mt_dump.specs.Dumps.{Dump as Shows, dump_of, first_file}
 use Rattle.mt_dump.specs.Dump.{Shown}
-use Rattle.mt_dump.proofs.Ends.{one_file, shown_no_offence}
+use Rattle.mt_dump.proofs.Ends.{one_dump, shown_no_offence}
 use Rattle.mt_tidy.specs.Keeps.{IsLeast}
 use Rattle.mt_tidy.specs.Kept.{IsTidy, NeedsMore}
 use Rattle.mt_gran.specs.Grained.{IsGrained, NeedsMore as GranNeedsMore}
@@ -23,24 +23,26 @@ use Rattle.mt_cli.specs.declared.command.DumpCommand.{DumpCommand}
 use Rattle.mt_cli.specs.declared.command.DumpCommand.TheVariants.{Check, Show, Types, Page, Tidy, Gran}
 use Rattle.mt_cli.specs.Measured.{measured_text}
 use Rattle.mt_cli.specs.CommandLine.{command_of}
-use Rattle.mt_output.specs.Lines.{accepted_line, bad_text_line, refused_line}
-use Rattle.mt_cli.specs.Lines.{disabled_line, page_text, too_few_line, types_text, used_line}
+use Rattle.mt_output.specs.Lines.{bad_text_line, dump_refused_line}
+use Rattle.mt_cli.specs.Lines.{check_text, disabled_line, page_text, too_few_line, types_text, used_line}
 use Rattle.mt_cli.specs.Generator.{make_text}
-use Rattle.mt_cli.specs.Output.{Answer, MayChoose, Output, big_text, refused, accepted, shown, typed, paged, tidied, too_few, disabled, grained, gran_too_few, gran_disabled, usage, bad_text, answered, replayed, made, summed, measured, requested}
+use Rattle.mt_cli.specs.Answer.{Answer, FileAnswer, MayChoose, refused, accepted, shown, about_file, typed, paged, tidied, too_few, disabled, grained, gran_too_few, gran_disabled}
+use Rattle.mt_cli.specs.Output.{Output, big_text, usage, bad_text, answered, replayed, made, summed, measured, requested}
 
--- the answer names the file's first fault
-record Refusal (file : RegisterFile) (command : DumpCommand) (text : List ℕ) (status : Status) : Type 0 where
+-- the answer names the first file that isn't accepted
+record Refusal (dump : Shows) (command : DumpCommand) (text : List ℕ) (status : Status) : Type 0 where
+  pub k : ℕ
   pub fault : Fault
   pub tests : command ≢ Show
-  pub first : IsFirstFault file (Some fault)
-  pub is_text : text ≡ refused_line fault
+  pub first : first_refusal dump.files ≡ Some (k, fault)
+  pub is_text : text ≡ dump_refused_line dump.version k fault
   pub is_status : status ≡ Refused
 
 record Tidied (file : RegisterFile) (spare chunk : ℕ) (text : List ℕ) (status : Status) : Type 0 where
   pub used : ℕ
   pub new : RegisterFile
   pub tidy : IsTidy file chunk spare new used
-  pub is_text : text ≡ used_line used ++ canon new
+  pub is_text : text ≡ used_line used ++ canon (dump_of new)
   pub is_status : status ≡ Done
 
 record Lacking (file : RegisterFile) (spare chunk : ℕ) (text : List ℕ) (status : Status) : Type 0 where
@@ -66,63 +68,78 @@ record GranLacking (file : RegisterFile) (log spare chunk : ℕ) (text : List �
   pub is_status : status ≡ TooFew
 
 record Off (file : RegisterFile) (text : List ℕ) (status : Status) : Type 0 where
-  pub good : IsAccepted file
   pub off : is_enabled file ≡ false
   pub is_text : text ≡ disabled_line file.default_type
   pub is_status : status ≡ Disabled
 
 record Mapped (file : RegisterFile) (text : List ℕ) (status : Status) : Type 0 where
   pub runs : List Run
-  pub good : IsAccepted file
   pub are : IsRunsOf file runs
   pub is_text : text ≡ types_text runs
   pub is_status : status ≡ Done
 
-record Plain (premise : Type 0) (line text : List ℕ) (status : Status) : Type 0 where
-  pub good : premise
+record Plain (line text : List ℕ) (status : Status) : Type 0 where
   pub is_text : text ≡ line
   pub is_status : status ≡ Done
 
--- the other answers of each command
-abbrev Own : RegisterFile → DumpCommand → List ℕ → Status → Type 0
-Own file Check text status = Plain (IsAccepted file) accepted_line text status
-Own file Show text status = Plain (Unit {0}) (canon file) text status
-Own file Types text status = Mapped file text status
-Own file (Page address index) text status = Plain (IsAccepted file) (page_text file address index) text status
-Own file (Tidy spare chunk) text status = Tidied file spare chunk text status ⊎ Lacking file spare chunk text status ⊎ Off file text status
-Own file (Gran log spare chunk) text status = Grained file log spare chunk text status ⊎ GranLacking file log spare chunk text status ⊎ Off file text status
+-- the answers of each command about processor 0's file
+abbrev FileOwn : RegisterFile → DumpCommand → List ℕ → Status → Type 0
+FileOwn file Check text status = ⊥
+FileOwn file Show text status = ⊥
+FileOwn file Types text status = Mapped file text status
+FileOwn file (Page address index) text status = Plain (page_text file address index) text status
+FileOwn file (Tidy spare chunk) text status = Tidied file spare chunk text status ⊎ Lacking file spare chunk text status ⊎ Off file text status
+FileOwn file (Gran log spare chunk) text status = Grained file log spare chunk text status ⊎ GranLacking file log spare chunk text status ⊎ Off file text status
 
-taken_apart : (file : RegisterFile) (command : DumpCommand) (text : List ℕ) (status : Status) → Answer file command text status → Refusal file command text status ⊎ Own file command text status
-taken_apart file command text status (refused other fault tests first) = inl (record { fault = fault; tests = tests; first = first; is_text = refl; is_status = refl })
-taken_apart file command text status (accepted good) = inr (record { good = good; is_text = refl; is_status = refl })
-taken_apart file command text status shown = inr (record { good = tt; is_text = refl; is_status = refl })
-taken_apart file command text status (typed runs good are) = inr (record { runs = runs; good = good; are = are; is_text = refl; is_status = refl })
-taken_apart file command text status (paged address index good) = inr (record { good = good; is_text = refl; is_status = refl })
-taken_apart file command text status (tidied spare chunk used new is) = inr (inl (record { used = used; new = new; tidy = is; is_text = refl; is_status = refl }))
-taken_apart file command text status (too_few spare chunk needs has is) = inr (inr (inl (record { needs = needs; has = has; more = is; is_text = refl; is_status = refl })))
-taken_apart file command text status (disabled spare chunk good off) = inr (inr (inr (record { good = good; off = off; is_text = refl; is_status = refl })))
-taken_apart file command text status (grained log spare chunk used lost parts new is) = inr (inl (record { used = used; lost = lost; parts = parts; new = new; is = is; is_status = refl }))
-taken_apart file command text status (gran_too_few log spare chunk needs has is) = inr (inr (inl (record { needs = needs; has = has; more = is; is_text = refl; is_status = refl })))
-taken_apart file command text status (gran_disabled log spare chunk good off) = inr (inr (inr (record { good = good; off = off; is_text = refl; is_status = refl })))
+file_apart : (file : RegisterFile) (command : DumpCommand) (text : List ℕ) (status : Status) → FileAnswer file command text status → FileOwn file command text status
+file_apart file command text status (typed runs are) = record { runs = runs; are = are; is_text = refl; is_status = refl }
+file_apart file command text status (paged address index) = record { is_text = refl; is_status = refl }
+file_apart file command text status (tidied spare chunk used new is) = inl (record { used = used; new = new; tidy = is; is_text = refl; is_status = refl })
+file_apart file command text status (too_few spare chunk needs has is) = inr (inl (record { needs = needs; has = has; more = is; is_text = refl; is_status = refl }))
+file_apart file command text status (disabled spare chunk off) = inr (inr (record { off = off; is_text = refl; is_status = refl }))
+file_apart file command text status (grained log spare chunk used lost parts new is) = inl (record { used = used; lost = lost; parts = parts; new = new; is = is; is_status = refl })
+file_apart file command text status (gran_too_few log spare chunk needs has is) = inr (inl (record { needs = needs; has = has; more = is; is_text = refl; is_status = refl }))
+file_apart file command text status (gran_disabled log spare chunk off) = inr (inr (record { off = off; is_text = refl; is_status = refl }))
+
+-- an answer where each file is accepted
+record Good (dump : Shows) (own : Type 0) : Type 0 where
+  pub good : first_refusal dump.files ≡ None
+  pub holds : own
+
+-- the other answers of each command about a dump
+abbrev Own : Shows → DumpCommand → List ℕ → Status → Type 0
+Own dump Check text status = Good dump (Plain (check_text dump) text status)
+Own dump Show text status = Plain (canon dump) text status
+Own dump Types text status = Good dump (FileOwn (first_file dump) Types text status)
+Own dump (Page address index) text status = Good dump (FileOwn (first_file dump) (Page address index) text status)
+Own dump (Tidy spare chunk) text status = Good dump (FileOwn (first_file dump) (Tidy spare chunk) text status)
+Own dump (Gran log spare chunk) text status = Good dump (FileOwn (first_file dump) (Gran log spare chunk) text status)
+
+own_of_file : (dump : Shows) (command : DumpCommand) (text : List ℕ) (status : Status) → first_refusal dump.files ≡ None → FileOwn (first_file dump) command text status → Own dump command text status
+own_of_file dump Check text status good own = absurd own
+own_of_file dump Show text status good own = absurd own
+own_of_file dump Types text status good own = record { good = good; holds = own }
+own_of_file dump (Page address index) text status good own = record { good = good; holds = own }
+own_of_file dump (Tidy spare chunk) text status good own = record { good = good; holds = own }
+own_of_file dump (Gran log spare chunk) text status good own = record { good = good; holds = own }
+
+taken_apart : (dump : Shows) (command : DumpCommand) (text : List ℕ) (status : Status) → Answer dump command text status → Refusal dump command text status ⊎ Own dump command text status
+taken_apart dump command text status (refused other k fault tests first) = inl (record { k = k; fault = fault; tests = tests; first = first; is_text = refl; is_status = refl })
+taken_apart dump command text status (accepted good) = inr (record { good = good; holds = record { is_text = refl; is_status = refl } })
+taken_apart dump command text status shown = inr (record { is_text = refl; is_status = refl })
+taken_apart dump command text status (about_file other t s good answer) = inr (own_of_file dump other t s good (file_apart (first_file dump) other t s answer))
 
 -- what both answers have in common: the status, and the text unless a tidied or rounded file was written
 abbrev Agree : DumpCommand → List ℕ → List ℕ → Status → Status → Type 0
 Agree command text other s t = (s ≡ t) × ((MayChoose command → s ≢ Done) → text ≡ other)
 
-own_good : (file : RegisterFile) (command : DumpCommand) (text : List ℕ) (status : Status) → command ≢ Show → Own file command text status → IsAccepted file
-own_good file Check text status tests own = own.good
-own_good file Show text status tests own = absurd (tests refl)
-own_good file Types text status tests own = own.good
-own_good file (Page address index) text status tests own = own.good
-own_good file (Tidy spare chunk) text status tests (inl own) = own.tidy.old_accepted
-own_good file (Tidy spare chunk) text status tests (inr (inl own)) = own.more.accepted
-own_good file (Tidy spare chunk) text status tests (inr (inr own)) = own.good
-own_good file (Gran log spare chunk) text status tests (inl own) = own.is.old_accepted
-own_good file (Gran log spare chunk) text status tests (inr (inl own)) = own.more.accepted
-own_good file (Gran log spare chunk) text status tests (inr (inr own)) = own.good
-
-no_fault : (file : RegisterFile) (fault : Fault) → IsFirstFault file (Some fault) → IsAccepted file → ⊥
-no_fault file fault first good = let e : Some fault ≡ None = one_first_fault_lem file (Some fault) None first good in cc e
+own_good : (dump : Shows) (command : DumpCommand) (text : List ℕ) (status : Status) → command ≢ Show → Own dump command text status → first_refusal dump.files ≡ None
+own_good dump Check text status tests own = own.good
+own_good dump Show text status tests own = absurd (tests refl)
+own_good dump Types text status tests own = own.good
+own_good dump (Page address index) text status tests own = own.good
+own_good dump (Tidy spare chunk) text status tests own = own.good
+own_good dump (Gran log spare chunk) text status tests own = own.good
 
 one_least : (file : RegisterFile) (chunk a b : ℕ) → IsLeast file chunk a → IsLeast file chunk b → a ≡ b
 one_least file chunk a b first second =
@@ -176,26 +193,37 @@ agree_gran file log spare chunk text other s t (inr (inr a)) (inl b) = absurd (c
 agree_gran file log spare chunk text other s t (inr (inr a)) (inr (inl b)) = absurd (cc (sym b.more.enabled ∙ a.off))
 agree_gran file log spare chunk text other s t (inr (inr a)) (inr (inr b)) = (a.is_status ∙ sym b.is_status, λ not_done. a.is_text ∙ sym b.is_text)
 
-agree_own : (file : RegisterFile) (command : DumpCommand) (text other : List ℕ) (s t : Status) → Own file command text s → Own file command other t → Agree command text other s t
-agree_own file Check text other s t a b = (a.is_status ∙ sym b.is_status, λ not_done. a.is_text ∙ sym b.is_text)
-agree_own file Show text other s t a b = (a.is_status ∙ sym b.is_status, λ not_done. a.is_text ∙ sym b.is_text)
-agree_own file Types text other s t a b = (a.is_status ∙ sym b.is_status, λ not_done. a.is_text ∙ ap types_text (one_type_map file a.runs b.runs a.are b.are) ∙ sym b.is_text)
-agree_own file (Page address index) text other s t a b = (a.is_status ∙ sym b.is_status, λ not_done. a.is_text ∙ sym b.is_text)
-agree_own file (Tidy spare chunk) text other s t a b = agree_tidy file spare chunk text other s t a b
-agree_own file (Gran log spare chunk) text other s t a b = agree_gran file log spare chunk text other s t a b
+agree_file : (file : RegisterFile) (command : DumpCommand) (text other : List ℕ) (s t : Status) → FileOwn file command text s → FileOwn file command other t → Agree command text other s t
+agree_file file Check text other s t a b = absurd a
+agree_file file Show text other s t a b = absurd a
+agree_file file Types text other s t a b = (a.is_status ∙ sym b.is_status, λ not_done. a.is_text ∙ ap types_text (one_type_map file a.runs b.runs a.are b.are) ∙ sym b.is_text)
+agree_file file (Page address index) text other s t a b = (a.is_status ∙ sym b.is_status, λ not_done. a.is_text ∙ sym b.is_text)
+agree_file file (Tidy spare chunk) text other s t a b = agree_tidy file spare chunk text other s t a b
+agree_file file (Gran log spare chunk) text other s t a b = agree_gran file log spare chunk text other s t a b
 
-agree_parts : (file : RegisterFile) (command : DumpCommand) (text other : List ℕ) (s t : Status)
-    → Refusal file command text s ⊎ Own file command text s → Refusal file command other t ⊎ Own file command other t → Agree command text other s t
-agree_parts file command text other s t (inl a) (inl b) =
-    let same : Some a.fault ≡ Some b.fault = one_first_fault_lem file (Some a.fault) (Some b.fault) a.first b.first in
-    let fault : a.fault ≡ b.fault = cc same in
-    (a.is_status ∙ sym b.is_status, λ not_done. a.is_text ∙ ap refused_line fault ∙ sym b.is_text)
-agree_parts file command text other s t (inl a) (inr b) = absurd (no_fault file a.fault a.first (own_good file command other t a.tests b))
-agree_parts file command text other s t (inr a) (inl b) = absurd (no_fault file b.fault b.first (own_good file command text s b.tests a))
-agree_parts file command text other s t (inr a) (inr b) = agree_own file command text other s t a b
+agree_own : (dump : Shows) (command : DumpCommand) (text other : List ℕ) (s t : Status) → Own dump command text s → Own dump command other t → Agree command text other s t
+agree_own dump Check text other s t a b = (a.holds.is_status ∙ sym b.holds.is_status, λ not_done. a.holds.is_text ∙ sym b.holds.is_text)
+agree_own dump Show text other s t a b = (a.is_status ∙ sym b.is_status, λ not_done. a.is_text ∙ sym b.is_text)
+agree_own dump Types text other s t a b = agree_file (first_file dump) Types text other s t a.holds b.holds
+agree_own dump (Page address index) text other s t a b = agree_file (first_file dump) (Page address index) text other s t a.holds b.holds
+agree_own dump (Tidy spare chunk) text other s t a b = agree_file (first_file dump) (Tidy spare chunk) text other s t a.holds b.holds
+agree_own dump (Gran log spare chunk) text other s t a b = agree_file (first_file dump) (Gran log spare chunk) text other s t a.holds b.holds
 
-pub agree_answers : (file : RegisterFile) (command : DumpCommand) (text other : List ℕ) (s t : Status) → Answer file command text s → Answer file command other t → Agree command text other s t
-agree_answers file command text other s t a b = agree_parts file command text other s t (taken_apart file command text s a) (taken_apart file command other t b)
+not_both : (dump : Shows) (k : ℕ) (fault : Fault) → first_refusal dump.files ≡ Some (k, fault) → first_refusal dump.files ≡ None → ⊥
+not_both dump k fault first good = let e : Some (k, fault) ≡ None = sym first ∙ good in cc e
+
+agree_parts : (dump : Shows) (command : DumpCommand) (text other : List ℕ) (s t : Status)
+    → Refusal dump command text s ⊎ Own dump command text s → Refusal dump command other t ⊎ Own dump command other t → Agree command text other s t
+agree_parts dump command text other s t (inl a) (inl b) =
+    let same : Some (a.k, a.fault) ≡ Some (b.k, b.fault) = sym a.first ∙ b.first in
+    let found : (a.k, a.fault) ≡ (b.k, b.fault) = cc same in
+    (a.is_status ∙ sym b.is_status, λ not_done. a.is_text ∙ ap (λ (x : ℕ × Fault). dump_refused_line dump.version x.0 x.1) found ∙ sym b.is_text)
+agree_parts dump command text other s t (inl a) (inr b) = absurd (not_both dump a.k a.fault a.first (own_good dump command other t a.tests b))
+agree_parts dump command text other s t (inr a) (inl b) = absurd (not_both dump b.k b.fault b.first (own_good dump command text s b.tests a))
+agree_parts dump command text other s t (inr a) (inr b) = agree_own dump command text other s t a b
+
+pub agree_answers : (dump : Shows) (command : DumpCommand) (text other : List ℕ) (s t : Status) → Answer dump command text s → Answer dump command other t → Agree command text other s t
+agree_answers dump command text other s t a b = agree_parts dump command text other s t (taken_apart dump command text s a) (taken_apart dump command other t b)
 
 -- one status, and one text unless a tidied or rounded file was written
 abbrev pub AgreeFor : List (List ℕ) → List ℕ → List ℕ → Status → Status → Type 0
@@ -204,12 +232,12 @@ AgreeFor words text other s t = (s ≡ t) × (((command : DumpCommand) → comma
 some_command : (words : List (List ℕ)) (a b : DumpCommand) → command_of words ≡ Some (Dump a) → command_of words ≡ Some (Dump b) → a ≡ b
 some_command words a b first second = let e : Some (Dump a) ≡ Some (Dump b) = sym first ∙ second in cc e
 
-agree_answered : (words : List (List ℕ)) (bytes text other : List ℕ) (s t : Status) (a b : DumpCommand) (f g : RegisterFile)
+agree_answered : (words : List (List ℕ)) (bytes text other : List ℕ) (s t : Status) (a b : DumpCommand) (f g : Shows)
     → command_of words ≡ Some (Dump a) → command_of words ≡ Some (Dump b) → Shown bytes f → Shown bytes g → Answer f a text s → Answer g b other t → AgreeFor words text other s t
 agree_answered words bytes text other s t a b f g says also shows too left right =
     let command : b ≡ a = some_command words b a also says in
-    let file : g ≡ f = one_file bytes g f too shows in
-    let same : Answer f a other t = subst (λ (c : DumpCommand). Answer f c other t) command (subst (λ (h : RegisterFile). Answer h b other t) file right) in
+    let dump : g ≡ f = one_dump bytes g f too shows in
+    let same : Answer f a other t = subst (λ (c : DumpCommand). Answer f c other t) command (subst (λ (h : Shows). Answer h b other t) dump right) in
     let agree = agree_answers f a text other s t left same in
     (agree.0, λ not_done. agree.1 (λ chooses. not_done a says chooses))
 

@@ -3,10 +3,12 @@ use Rattle.std.proofs.Common.{◌≡◌, ℕ, Bool, true, false, List, Option, S
 use Rattle.mt_ports.specs.declared.status.Status.{Status}
 use Rattle.mt_regs.specs.declared.fault.Fault.{Fault}
 use Rattle.mt_regs.specs.RegisterFile.{IsRegisterFile, RegisterFile, is_enabled}
-use Rattle.mt_regs.specs.Faults.{IsAccepted, IsFirstFault}
-use Rattle.mt_regs.proofs.Decided.{a_first_fault_or_none_lem}
+use Rattle.mt_regs.specs.Faults.{IsAccepted}
+use Rattle.mt_regs.specs.Agreement.{first_refusal}
 use Rattle.mt_types.proofs.SomeMap.{a_type_map}
-use Rattle.mt_dump.proofs.Ends.{shown_or_offence}
+use Rattle.mt_dump.specs.Dumps.{Dump as Shows, IsDump, first_file}
+use Rattle.mt_dump.proofs.Ends.{shown_is_dump, shown_or_offence}
+use Rattle.mt_cli.proofs.FirstFiles.{first_is_accepted, first_is_file}
 use Rattle.mt_tidy.proofs.SomeTidy.{tidy_or_more}
 use Rattle.mt_gran.proofs.SomeRounding.{rounded_or_more}
 use Rattle.mt_cli.specs.declared.command.Command.{Command}
@@ -14,57 +16,73 @@ use Rattle.mt_cli.specs.declared.command.Command.TheVariants.{Dump, Replay, Make
 use Rattle.mt_cli.specs.declared.command.DumpCommand.{DumpCommand}
 use Rattle.mt_cli.specs.declared.command.DumpCommand.TheVariants.{Check, Show, Types, Page, Tidy, Gran}
 use Rattle.mt_cli.specs.CommandLine.{command_of}
-use Rattle.mt_cli.specs.Output.{Answer, Output, refused, accepted, shown, typed, paged, tidied, too_few, disabled, grained, gran_too_few, gran_disabled, usage, bad_text, answered, replayed, made, summed, measured, requested}
+use Rattle.mt_cli.specs.Answer.{Answer, FileAnswer, refused, accepted, shown, about_file, typed, paged, tidied, too_few, disabled, grained, gran_too_few, gran_disabled}
+use Rattle.mt_cli.specs.Output.{Output, usage, bad_text, answered, replayed, made, summed, measured, requested}
 
-SomeAnswer : RegisterFile → DumpCommand → Type 0
-SomeAnswer file command = (text : List ℕ) × (status : Status) × Answer file command text status
+SomeAnswer : Shows → DumpCommand → Type 0
+SomeAnswer dump command = (text : List ℕ) × (status : Status) × Answer dump command text status
 
-tidying : (file : RegisterFile) → IsRegisterFile file → IsAccepted file → (spare chunk : ℕ) → SomeAnswer file (Tidy spare chunk)
-unfolding SomeAnswer
+SomeFileAnswer : RegisterFile → DumpCommand → Type 0
+SomeFileAnswer file command = (text : List ℕ) × (status : Status) × FileAnswer file command text status
+
+tidying : (file : RegisterFile) → IsRegisterFile file → IsAccepted file → (spare chunk : ℕ) → SomeFileAnswer file (Tidy spare chunk)
+unfolding SomeFileAnswer
 tidying file good lawful spare chunk = by_enabled (is_enabled file) refl
   where
-    by_enabled : (b : Bool) → is_enabled file ≡ b → (text : List ℕ) × (status : Status) × Answer file (Tidy spare chunk) text status
-    by_enabled false off = (_, _, disabled spare chunk lawful off)
+    by_enabled : (b : Bool) → is_enabled file ≡ b → (text : List ℕ) × (status : Status) × FileAnswer file (Tidy spare chunk) text status
+    by_enabled false off = (_, _, disabled spare chunk off)
     by_enabled true on = elim (tidy_or_more file good lawful on chunk spare) [
       | inl done ↦ (_, _, tidied spare chunk done.1 done.0 done.2)
       | inr lacking ↦ (_, _, too_few spare chunk lacking.0 lacking.1 lacking.2)
     ]
 
-rounding : (file : RegisterFile) → IsRegisterFile file → IsAccepted file → (log spare chunk : ℕ) → SomeAnswer file (Gran log spare chunk)
-unfolding SomeAnswer
+rounding : (file : RegisterFile) → IsRegisterFile file → IsAccepted file → (log spare chunk : ℕ) → SomeFileAnswer file (Gran log spare chunk)
+unfolding SomeFileAnswer
 rounding file good lawful log spare chunk = by_enabled (is_enabled file) refl
   where
-    by_enabled : (b : Bool) → is_enabled file ≡ b → (text : List ℕ) × (status : Status) × Answer file (Gran log spare chunk) text status
-    by_enabled false off = (_, _, gran_disabled log spare chunk lawful off)
+    by_enabled : (b : Bool) → is_enabled file ≡ b → (text : List ℕ) × (status : Status) × FileAnswer file (Gran log spare chunk) text status
+    by_enabled false off = (_, _, gran_disabled log spare chunk off)
     by_enabled true on = elim (rounded_or_more file good lawful on log chunk spare) [
       | inl done ↦ (_, _, grained log spare chunk done.1 done.2 done.3 done.0 done.4)
       | inr lacking ↦ (_, _, gran_too_few log spare chunk lacking.0 lacking.1 lacking.2)
     ]
 
-of_accepted : (file : RegisterFile) → IsRegisterFile file → IsAccepted file → (command : DumpCommand) → SomeAnswer file command
-unfolding SomeAnswer
-of_accepted file good lawful Check = (_, _, accepted lawful)
-of_accepted file good lawful Show = (_, _, shown)
-of_accepted file good lawful Types = let (runs, are) = a_type_map file good in (_, _, typed runs lawful are)
-of_accepted file good lawful (Page address index) = (_, _, paged address index lawful)
-of_accepted file good lawful (Tidy spare chunk) = tidying file good lawful spare chunk
-of_accepted file good lawful (Gran log spare chunk) = rounding file good lawful log spare chunk
+about : (dump : Shows) (command : DumpCommand) → first_refusal dump.files ≡ None → SomeFileAnswer (first_file dump) command → SomeAnswer dump command
+unfolding SomeAnswer SomeFileAnswer
+about dump command good (text, status, answer) = (text, status, about_file command text status good answer)
 
-of_refused : (file : RegisterFile) (fault : Fault) → IsFirstFault file (Some fault) → (command : DumpCommand) → SomeAnswer file command
-unfolding SomeAnswer
-of_refused file fault first Check = (_, _, refused Check fault (λ e. cc e) first)
-of_refused file fault first Show = (_, _, shown)
-of_refused file fault first Types = (_, _, refused Types fault (λ e. cc e) first)
-of_refused file fault first (Page address index) = (_, _, refused (Page address index) fault (λ e. cc e) first)
-of_refused file fault first (Tidy spare chunk) = (_, _, refused (Tidy spare chunk) fault (λ e. cc e) first)
-of_refused file fault first (Gran log spare chunk) = (_, _, refused (Gran log spare chunk) fault (λ e. cc e) first)
+mapped : (file : RegisterFile) → IsRegisterFile file → SomeFileAnswer file Types
+unfolding SomeFileAnswer
+mapped file good = let (runs, are) = a_type_map file good in (_, _, typed runs are)
 
-some_answer : (file : RegisterFile) → IsRegisterFile file → (command : DumpCommand) → SomeAnswer file command
-some_answer file good command = by_fault (a_first_fault_or_none_lem file).0 (a_first_fault_or_none_lem file).1
+at_page : (file : RegisterFile) (address index : ℕ) → SomeFileAnswer file (Page address index)
+unfolding SomeFileAnswer
+at_page file address index = (_, _, paged address index)
+
+of_accepted : (dump : Shows) → IsDump dump → first_refusal dump.files ≡ None → (command : DumpCommand) → SomeAnswer dump command
+unfolding SomeAnswer
+of_accepted dump is lawful Check = (_, _, accepted lawful)
+of_accepted dump is lawful Show = (_, _, shown)
+of_accepted dump is lawful Types = about dump Types lawful (mapped (first_file dump) (first_is_file dump is))
+of_accepted dump is lawful (Page address index) = about dump (Page address index) lawful (at_page (first_file dump) address index)
+of_accepted dump is lawful (Tidy spare chunk) = about dump (Tidy spare chunk) lawful (tidying (first_file dump) (first_is_file dump is) (first_is_accepted dump is lawful) spare chunk)
+of_accepted dump is lawful (Gran log spare chunk) = about dump (Gran log spare chunk) lawful (rounding (first_file dump) (first_is_file dump is) (first_is_accepted dump is lawful) log spare chunk)
+
+of_refused : (dump : Shows) (k : ℕ) (fault : Fault) → first_refusal dump.files ≡ Some (k, fault) → (command : DumpCommand) → SomeAnswer dump command
+unfolding SomeAnswer
+of_refused dump k fault first Check = (_, _, refused Check k fault (λ e. cc e) first)
+of_refused dump k fault first Show = (_, _, shown)
+of_refused dump k fault first Types = (_, _, refused Types k fault (λ e. cc e) first)
+of_refused dump k fault first (Page address index) = (_, _, refused (Page address index) k fault (λ e. cc e) first)
+of_refused dump k fault first (Tidy spare chunk) = (_, _, refused (Tidy spare chunk) k fault (λ e. cc e) first)
+of_refused dump k fault first (Gran log spare chunk) = (_, _, refused (Gran log spare chunk) k fault (λ e. cc e) first)
+
+some_answer : (dump : Shows) → IsDump dump → (command : DumpCommand) → SomeAnswer dump command
+some_answer dump is command = by_refusal (first_refusal dump.files) refl
   where
-    by_fault : (answer : Option Fault) → IsFirstFault file answer → SomeAnswer file command
-    by_fault None lawful = of_accepted file good lawful command
-    by_fault (Some fault) first = of_refused file fault first command
+    by_refusal : (o : Option (ℕ × Fault)) → first_refusal dump.files ≡ o → SomeAnswer dump command
+    by_refusal None lawful = of_accepted dump is lawful command
+    by_refusal (Some (k, fault)) first = of_refused dump k fault first command
 
 pub some_output : (words : List (List ℕ)) (bytes : List ℕ) → (text : List ℕ) × (status : Status) × Output words bytes text status
 unfolding SomeAnswer
@@ -72,7 +90,7 @@ some_output words bytes = by_command (command_of words) refl
   where
     of_dump_output : (command : DumpCommand) → command_of words ≡ Some (Dump command) → (text : List ℕ) × (status : Status) × Output words bytes text status
     of_dump_output command says = elim (shown_or_offence bytes) [
-      | inl (file, shows) ↦ let (text, status, answer) = some_answer file shows.is_file command in (text, status, answered command file text status says shows answer)
+      | inl (dump, shows) ↦ let (text, status, answer) = some_answer dump (shown_is_dump bytes dump shows) command in (text, status, answered command dump text status says shows answer)
       | inr (fault, is) ↦ (_, _, bad_text command fault says is)
     ]
 

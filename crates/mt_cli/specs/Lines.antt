@@ -1,5 +1,5 @@
 -- The lines that the commands write, but for those of mt_output (own). Each ends with LF.
-use Rattle.std.specs.Prelude.{ℕ, ◌-◌, ◌*◌, ◌/◌, ◌^◌, ◌<◌, ◌≤◌, nat_lt, List, ◌++◌, codes, decimal, flat_map, if◌then◌else◌}
+use Rattle.std.specs.Prelude.{ℕ, ◌-◌, ◌*◌, ◌/◌, ◌^◌, ◌<◌, ◌≤◌, ◌==◌, nat_lt, List, [], ◌++◌, codes, decimal, flat_map, if◌then◌else◌, Option, Some, None}
 use Rattle.mt_kinds.specs.declared.mem_type.MemType.{MemType}
 use Rattle.mt_kinds.specs.declared.pat_type.PatType.{PatType}
 use Rattle.mt_kinds.specs.EffectiveType.{effective_type}
@@ -9,12 +9,23 @@ use Rattle.mt_regs.specs.PageTypes.{defined_type, page_type}
 use Rattle.mt_regs.specs.RegisterFile.{RegisterFile, page_count}
 use Rattle.mt_types.specs.declared.run.Run.{Run}
 use Rattle.mt_types.specs.Runs.{run_end}
-use Rattle.mt_dump.specs.Canon.{value_text}
-use Rattle.mt_output.specs.Lines.{address_text, line}
+use Rattle.mt_regs.specs.Agreement.{first_difference}
+use Rattle.mt_dump.specs.Canon.{number_text, value_text}
+use Rattle.mt_dump.specs.Dumps.{Dump}
+use Rattle.mt_output.specs.Lines.{accepted_line, address_text, line}
 use Rattle.mt_replay.specs.declared.summing.Totals.{Totals}
 
 abbrev pub usage_line : List ℕ
 usage_line = line (codes "usage")
+
+-- all files are equal, or file k is the first that differs from processor 0's, in this register
+abbrev pub agreement_line : Option (ℕ × ℕ) → List ℕ
+agreement_line None = line (codes "same")
+agreement_line (Some (k, number)) = line (codes "differ " ++ decimal k ++ codes " " ++ number_text number)
+
+-- what is said of a dump whose files are all accepted; one of version 1 has one file
+abbrev pub check_text : Dump → List ℕ
+check_text dump = if dump.version == 2 then accepted_line ++ agreement_line (first_difference dump.files) else accepted_line
 
 -- the first and the last byte address of a run, and its type
 abbrev pub run_line : Run → List ℕ

@@ -4,10 +4,10 @@ use Rattle.std.specs.Io.KnownBytes.{Appends}
 use Rattle.mt_ports.specs.Puts.{AppendsFront}
 use Rattle.mt_ports.specs.declared.status.Status.{Status}
 use Rattle.mt_ports.specs.declared.status.Status.TheVariants.{Done, BadText, ReadFault, WriteFault, NoMemory, TooLong}
-use Rattle.mt_regs.specs.RegisterFile.{RegisterFile}
 use Rattle.mt_cli.specs.declared.command.DumpCommand.{DumpCommand}
 use Rattle.mt_cli.specs.Measured.{measured_text}
-use Rattle.mt_cli.specs.Output.{Answer}
+use Rattle.mt_cli.specs.Answer.{Answer}
+use Rattle.mt_dump.specs.Dumps.{Dump}
 use Rattle.mt_dump.specs.Dump.{Shown, dump_offence}
 use Rattle.mt_dump.specs.declared.fault.DumpFault.{DumpFault}
 use Rattle.mt_output.specs.Lines.{bad_text_line}
@@ -25,13 +25,13 @@ Makes text old new result = Writes text Done old new result ⊎ ((result ≡ NoM
 abbrev pub Sums : ℕ → ℕ → ℕ → Option (List ℕ) → Option (List ℕ) → Status → Type 0
 Sums cpus n accesses old new result = Writes (measured_text cpus n accesses) Done old new result ⊎ ((result ≡ NoMemory) × (new ≡ old))
 
--- The sink took an answer, or a front of one, or nothing for want of memory.
-pub data Answers (file : RegisterFile) (command : DumpCommand) (old new : Option (List ℕ)) (result : Status) : Type 0 where
-  writes : (text : List ℕ) (status : Status) → Answer file command text status → Writes text status old new result → Answers file command old new result
-  no_memory : result ≡ NoMemory → new ≡ old → Answers file command old new result
+-- The sink took an answer, or a front of one, or nothing for want of memory. Which texts and statuses are an answer is given.
+pub data Answers (answer : List ℕ → Status → Type 0) (old new : Option (List ℕ)) (result : Status) : Type 0 where
+  writes : (text : List ℕ) (status : Status) → answer text status → Writes text status old new result → Answers answer old new result
+  no_memory : result ≡ NoMemory → new ≡ old → Answers answer old new result
 
--- A command on a dump wrote the line of the first offence, an answer about the file, or nothing where the input wasn't read to its end.
+-- A command on a dump wrote the line of the first offence, an answer about the dump, or nothing where the input wasn't read to its end.
 pub data AnswersInput (bytes : List ℕ) (command : DumpCommand) (left old new : Option (List ℕ)) (result : Status) : Type 0 where
   bad_input : (fault : DumpFault) → dump_offence bytes ≡ Some fault → left ≡ Some [] → Writes (bad_text_line fault) BadText old new result → AnswersInput bytes command left old new result
-  good_input : (file : RegisterFile) → Shown bytes file → left ≡ Some [] → Answers file command old new result → AnswersInput bytes command left old new result
+  good_input : (dump : Dump) → Shown bytes dump → left ≡ Some [] → Answers (Answer dump command) old new result → AnswersInput bytes command left old new result
   no_input : new ≡ old → (result ≡ ReadFault) ⊎ ((result ≡ TooLong) × (16777216 < length bytes)) → AnswersInput bytes command left old new result

@@ -1,24 +1,26 @@
 ghost use Rattle.std.specs.Prelude.{◌≡◌, ◌≢◌, ◌<◌, ◌≤◌, ◌^◌, ◌⊎◌, ◌↔◌, ℕ, List, None, Some};
 ghost use Rattle.mt_ports.specs.Causes.{StatusHasCause};
-ghost use Rattle.mt_regs.specs.Faults.{IsAccepted, IsFirstFault};
+ghost use Rattle.mt_regs.specs.Faults.{IsAccepted};
+ghost use Rattle.mt_regs.specs.Agreement.{first_refusal};
 ghost use Rattle.mt_text.specs.Feed.{GaveTooMuch};
 ghost use Rattle.mt_cli.specs.declared.command.DumpCommand.TheVariants.{Check, Show, Types, Page, Tidy, Gran};
 ghost use Rattle.mt_cli.specs.CommandLine.{IsSound, MayTakeMemory};
+ghost use Rattle.mt_cli.specs.Answer.{Answer, FileAnswer};
 ghost use Rattle.mt_cli.specs.Generator.{make_text};
 ghost use Rattle.mt_cli.specs.Output.{big_text};
-ghost use Rattle.mt_cli.specs.declared.command.Command.TheVariants.{Dump};
+ghost use Rattle.mt_cli.specs.declared.command.Command.TheVariants.{Dump as OfDump};
 ghost use Rattle.mt_cli.specs.Written.{Answers, AnswersInput, Makes, Sums, Writes};
 
 use crate::DumpCommand;
 use crate::generator::make_text;
-use crate::lines::{disabled_line, page_text, summary_text, too_few_line};
+use crate::lines::{check_text, disabled_line, page_text, summary_text, too_few_line};
 use crate::measured::measured_text;
 use crate::texts::{canonical_text, grained_text, tidied_text, types_text};
-use mt_dump::read_dump_from;
+use mt_dump::{Dump, read_dump_from};
 use mt_gran::{GranFault, gran};
-use mt_output::{accepted_line, bad_text_line, refused_line};
+use mt_output::{bad_text_line, dump_refused_line};
 use mt_ports::{Gate, Sink, Source, Status, put};
-use mt_regs::{Fault, RegFile};
+use mt_regs::{Fault, RegFile, first_refusal};
 use mt_replay::summary;
 use mt_text::FeedFault;
 use mt_tidy::{TidyFault, tidy};
@@ -40,29 +42,46 @@ pub fn written<K: Sink>(sink: &mut K, text: &[u8], status: Status) -> Status
     }
 }
 
-// Names the register at fault.
-fn refuse<K: Sink>(f: &RegFile, fault: &Fault, sink: &mut K, command: DumpCommand) -> Status
-    requires fault { IsFirstFault f.now (Some fault.now) }
+// Names the first file that isn't accepted, and its register at fault.
+fn refuse<K: Sink>(
+    d: &Dump,
+    k: u32,
+    fault: &Fault,
+    sink: &mut K,
+    command: DumpCommand,
+) -> Status
+    requires fault { first_refusal d.now.files ≡ Some (k, fault.now) }
+    requires short { fault.now.msr < 0x1000 }
     requires command { command ≢ Show }
-    ensures bytes { Answers f.now command (K.taken sink.old) (K.taken sink.new) result }
+    ensures bytes { Answers (Answer d.now command) (K.taken sink.old) (K.taken sink.new) result }
     ensures no_memory { result ≢ Status.NoMemory }
     ensures cause { StatusHasCause Status.WriteFault (K.faults sink.old) (K.faults sink.new) result }
 {
-    f.is_register_file(); // a fact for the proof
-    written(sink, refused_line(fault).as_slice(), Status::Refused)
+    let line = dump_refused_line(d.version, k, fault);
+    written(sink, line.as_slice(), Status::Refused)
 }
 
-fn show<K: Sink>(f: &RegFile, sink: &mut K) -> Status
-    ensures bytes { Answers f.now Show (K.taken sink.old) (K.taken sink.new) result }
+// Says that each file is accepted, and whether they are equal.
+fn check<K: Sink>(d: &Dump, sink: &mut K) -> Status
+    requires { first_refusal d.now.files ≡ None }
+    ensures bytes { Answers (Answer d.now Check) (K.taken sink.old) (K.taken sink.new) result }
     ensures no_memory { result ≢ Status.NoMemory }
     ensures cause { StatusHasCause Status.WriteFault (K.faults sink.old) (K.faults sink.new) result }
 {
-    written(sink, canonical_text(f).as_slice(), Status::Done)
+    written(sink, check_text(d).as_slice(), Status::Done)
+}
+
+fn show<K: Sink>(d: &Dump, sink: &mut K) -> Status
+    ensures bytes { Answers (Answer d.now Show) (K.taken sink.old) (K.taken sink.new) result }
+    ensures no_memory { result ≢ Status.NoMemory }
+    ensures cause { StatusHasCause Status.WriteFault (K.faults sink.old) (K.faults sink.new) result }
+{
+    written(sink, canonical_text(d).as_slice(), Status::Done)
 }
 
 fn types<K: Sink>(alloc: Global, f: &RegFile, sink: &mut K) -> Status
     requires { IsAccepted f.now }
-    ensures bytes { Answers f.now Types (K.taken sink.old) (K.taken sink.new) result }
+    ensures bytes { Answers (FileAnswer f.now Types) (K.taken sink.old) (K.taken sink.new) result }
     ensures cause { StatusHasCause Status.WriteFault (K.faults sink.old) (K.faults sink.new) result }
 {
     let Ok(runs) = page_runs(alloc, f) else {
@@ -75,10 +94,9 @@ fn types<K: Sink>(alloc: Global, f: &RegFile, sink: &mut K) -> Status
 }
 
 fn page<K: Sink>(f: &RegFile, address: u64, index: u8, sink: &mut K) -> Status
-    requires accepted { IsAccepted f.now }
     requires address { address < 2 ^ 52 }
     requires index { index < 8 }
-    ensures bytes { Answers f.now (Page address index) (K.taken sink.old) (K.taken sink.new) result }
+    ensures bytes { Answers (FileAnswer f.now (Page address index)) (K.taken sink.old) (K.taken sink.new) result }
     ensures no_memory { result ≢ Status.NoMemory }
     ensures cause { StatusHasCause Status.WriteFault (K.faults sink.old) (K.faults sink.new) result }
 {
@@ -87,7 +105,8 @@ fn page<K: Sink>(f: &RegFile, address: u64, index: u8, sink: &mut K) -> Status
 
 // Writes a file of the same types with the fewest pairs, or why there is none.
 fn tidied<K: Sink>(alloc: Global, f: &RegFile, spare: u8, chunk: u64, sink: &mut K) -> Status
-    ensures bytes { Answers f.now (Tidy spare chunk) (K.taken sink.old) (K.taken sink.new) result }
+    requires { IsAccepted f.now }
+    ensures bytes { Answers (FileAnswer f.now (Tidy spare chunk)) (K.taken sink.old) (K.taken sink.new) result }
     ensures cause { StatusHasCause Status.WriteFault (K.faults sink.old) (K.faults sink.new) result }
 {
     match tidy(alloc, f, spare, chunk) {
@@ -95,9 +114,7 @@ fn tidied<K: Sink>(alloc: Global, f: &RegFile, spare: u8, chunk: u64, sink: &mut
             let text = tidied_text(tidied.used, &tidied.file);
             written(sink, text.as_slice(), Status::Done)
         }
-        Err(TidyFault::Refused(fault)) => {
-            refuse(f, &fault, sink, DumpCommand::Tidy { spare, chunk })
-        }
+        Err(TidyFault::Refused(_)) => unreachable!(),
         Err(TidyFault::Disabled) => {
             written(sink, disabled_line(f.deftype).as_slice(), Status::Disabled)
         }
@@ -117,8 +134,9 @@ fn grained<K: Sink>(
     chunk: u64,
     sink: &mut K,
 ) -> Status
-    requires { log ≤ 28 }
-    ensures bytes { Answers f.now (Gran log spare chunk) (K.taken sink.old) (K.taken sink.new) result }
+    requires accepted { IsAccepted f.now }
+    requires log { log ≤ 28 }
+    ensures bytes { Answers (FileAnswer f.now (Gran log spare chunk)) (K.taken sink.old) (K.taken sink.new) result }
     ensures cause { StatusHasCause Status.WriteFault (K.faults sink.old) (K.faults sink.new) result }
 {
     f.is_register_file(); // a fact for the proof
@@ -131,9 +149,7 @@ fn grained<K: Sink>(
                 Err(_) => Status::NoMemory,
             }
         }
-        Err(GranFault::Refused(fault)) => {
-            refuse(f, &fault, sink, DumpCommand::Gran { log, spare, chunk })
-        }
+        Err(GranFault::Refused(_)) => unreachable!(),
         Err(GranFault::Disabled) => {
             written(sink, disabled_line(f.deftype).as_slice(), Status::Disabled)
         }
@@ -144,22 +160,19 @@ fn grained<K: Sink>(
     }
 }
 
-// Answers a command about an accepted file.
-fn answer_accepted<K: Sink>(
-    alloc: Global,
-    command: DumpCommand,
-    f: &RegFile,
-    sink: &mut K,
-) -> Status
-    requires accepted { IsAccepted f.now }
+// Answers a command about a dump whose files are all accepted: but for `check` and `show`, about processor 0's file.
+fn answer_accepted<K: Sink>(alloc: Global, command: DumpCommand, d: &Dump, sink: &mut K) -> Status
+    requires accepted { first_refusal d.now.files ≡ None }
     requires command { IsSound command }
-    ensures bytes { Answers f.now command (K.taken sink.old) (K.taken sink.new) result }
-    ensures no_memory { result ≡ Status.NoMemory → MayTakeMemory (Dump command) }
+    ensures bytes { Answers (Answer d.now command) (K.taken sink.old) (K.taken sink.new) result }
+    ensures no_memory { result ≡ Status.NoMemory → MayTakeMemory (OfDump command) }
     ensures cause { StatusHasCause Status.WriteFault (K.faults sink.old) (K.faults sink.new) result }
 {
+    d.is_dump(); // a fact for the proof
+    let f = d.first_file();
     match command {
-        DumpCommand::Check => written(sink, accepted_line(), Status::Done),
-        DumpCommand::Show => show(f, sink),
+        DumpCommand::Check => check(d, sink),
+        DumpCommand::Show => show(d, sink),
         DumpCommand::Types => types(alloc, f, sink),
         DumpCommand::Page { address, index } => page(f, address, index, sink),
         DumpCommand::Tidy { spare, chunk } => tidied(alloc, f, spare, chunk, sink),
@@ -167,19 +180,19 @@ fn answer_accepted<K: Sink>(
     }
 }
 
-/// Writes what a command on a dump answers about its file, and answers the status.
-pub fn answer<K: Sink>(alloc: Global, command: DumpCommand, f: &RegFile, sink: &mut K) -> Status
+/// Writes what a command answers about a dump, and answers the status.
+pub fn answer<K: Sink>(alloc: Global, command: DumpCommand, d: &Dump, sink: &mut K) -> Status
     requires sound { IsSound command }
-    ensures bytes { Answers f.now command (K.taken sink.old) (K.taken sink.new) result }
-    ensures no_memory { result ≡ Status.NoMemory → MayTakeMemory (Dump command) }
+    ensures bytes { Answers (Answer d.now command) (K.taken sink.old) (K.taken sink.new) result }
+    ensures no_memory { result ≡ Status.NoMemory → MayTakeMemory (OfDump command) }
     ensures cause { StatusHasCause Status.WriteFault (K.faults sink.old) (K.faults sink.new) result }
 {
     if let DumpCommand::Show = command {
-        return show(f, sink);
+        return show(d, sink);
     }
-    match f.first_fault() {
-        None => answer_accepted(alloc, command, f, sink),
-        Some(fault) => refuse(f, &fault, sink, command),
+    match first_refusal(d.files.as_slice()) {
+        None => answer_accepted(alloc, command, d, sink),
+        Some((k, fault)) => refuse(d, k, &fault, sink, command),
     }
 }
 
@@ -244,13 +257,13 @@ pub fn answer_input<S: Source, K: Sink>(
     requires sound { IsSound command }
     ensures bytes { (bytes : List ℕ) → S.left source.old ≡ Some bytes → AnswersInput bytes command (S.left source.new) (K.taken sink.old) (K.taken sink.new) result }
     ensures usage { result ≢ Status.Usage }
-    ensures no_memory { result ≡ Status.NoMemory → MayTakeMemory (Dump command) }
+    ensures no_memory { result ≡ Status.NoMemory → MayTakeMemory (OfDump command) }
     ensures read_fault { StatusHasCause Status.ReadFault (S.faults source.old) (S.faults source.new) result }
     ensures write_fault { StatusHasCause Status.WriteFault (K.faults sink.old) (K.faults sink.new) result }
     ensures too_long { (result ≡ Status.TooLong) ↔ GaveTooMuch (S.given source.old) (S.given source.new) }
 {
     match read_dump_from(source) {
-        Ok(Ok(file)) => answer(alloc, command, &file, sink),
+        Ok(Ok(dump)) => answer(alloc, command, &dump, sink),
         Ok(Err(fault)) => written(sink, bad_text_line(&fault).as_slice(), Status::BadText),
         Err(FeedFault::ReadFault) => Status::ReadFault,
         Err(FeedFault::TooLong) => Status::TooLong,

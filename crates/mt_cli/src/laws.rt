@@ -5,9 +5,11 @@ ghost use Rattle.mt_cli.specs.declared.command.DumpCommand.{DumpCommand};
 ghost use Rattle.mt_cli.specs.declared.command.Command.TheVariants.{Dump};
 ghost use Rattle.mt_cli.specs.CommandLine.{command_of, log_among};
 ghost use Rattle.mt_cli.specs.Lines.{used_line};
-ghost use Rattle.mt_cli.specs.Output.{MayChoose, Output};
+ghost use Rattle.mt_cli.specs.Answer.{MayChoose};
+ghost use Rattle.mt_cli.specs.Output.{Output};
 ghost use Rattle.mt_dump.specs.Canon.{canon};
 ghost use Rattle.mt_dump.specs.Dump.{Shown};
+ghost use Rattle.mt_dump.specs.Dumps.{dump_of};
 ghost use Rattle.mt_regs.specs.RegisterFile.{RegisterFile};
 ghost use Rattle.mt_regs.specs.Faults.{IsAccepted};
 ghost use Rattle.mt_script.specs.Script.{script_offence};
@@ -36,9 +38,9 @@ pub fn words_and_bytes_have_an_output()
     ensures { (words : List (List ℕ)) (bytes : List ℕ) → (text : List ℕ) × (status : Status) × Output words bytes text status }
 {}
 
-/// What `tidy` writes is again a dump: the canonical text of a file behind the line of a number of pairs shows the file.
+/// What `tidy` writes is again a dump: the canonical text of the dump of a file alone behind the line of a number of pairs shows that dump.
 pub fn a_tidied_text_is_a_dump(f: &RegFile)
-    ensures { (used : ℕ) → used < 2 ^ 64 → Shown (used_line used ++ canon f.now) f.now }
+    ensures { (used : ℕ) → used < 2 ^ 64 → Shown (used_line used ++ canon (dump_of f.now)) (dump_of f.now) }
 {
     a_register_file_is_shown_by_its_text(f);
 }

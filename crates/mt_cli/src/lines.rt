@@ -1,15 +1,39 @@
 ghost use Rattle.std.specs.Prelude.{◌≡◌, ◌≤◌, ◌<◌, ◌^◌};
 ghost use Rattle.mt_types.specs.Runs.{run_end};
-ghost use Rattle.mt_cli.specs.Lines.{disabled_line, lost_line, outside_line, page_line, page_text, run_line, summary_text, too_few_line, used_line};
+ghost use Rattle.mt_cli.specs.Lines.{check_text, disabled_line, lost_line, outside_line, page_line, page_text, run_line, summary_text, too_few_line, used_line};
 
 use arrayvec::ArrayVec;
+use mt_dump::Dump;
 use mt_kinds::{MemType, PAGE_BYTES, Pat, PatType, effective};
 use mt_output::{
-    LineBuffer, append, append_address, append_decimal, append_pat_type, append_type, append_value,
+    LineBuffer, accepted_line, append, append_address, append_decimal, append_number,
+    append_pat_type, append_type, append_value,
 };
-use mt_regs::RegFile;
+use mt_regs::{RegFile, first_difference};
 use mt_replay::Totals;
 use mt_types::Run;
+
+/// What is said of a dump whose files are all accepted: whether they are equal, for version 2 alone.
+pub fn check_text(d: &Dump) -> LineBuffer
+    ensures { result.items ≡ check_text d.now }
+{
+    let mut text = ArrayVec::new();
+    append(&mut text, accepted_line());
+    if d.version != 2 {
+        return text;
+    }
+    match first_difference(d.files.as_slice()) {
+        None => append(&mut text, b"same\n"),
+        Some((k, msr)) => {
+            append(&mut text, b"differ ");
+            append_decimal(&mut text, k as u64);
+            append(&mut text, b" ");
+            append_number(&mut text, msr);
+            append(&mut text, b"\n");
+        }
+    }
+    text
+}
 
 /// The line of a run of pages.
 pub fn run_line(run: &Run) -> LineBuffer

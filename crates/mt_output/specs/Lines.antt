@@ -1,5 +1,5 @@
 -- The lines that more than one command writes (own). Each ends with LF.
-use Rattle.std.specs.Prelude.{ℕ, List, [], ◌∷◌, ◌++◌, codes, decimal, drop}
+use Rattle.std.specs.Prelude.{ℕ, ◌==◌, List, [], ◌∷◌, ◌++◌, codes, decimal, drop, if◌then◌else◌}
 use Rattle.mt_regs.specs.declared.fault.Fault.{Fault}
 use Rattle.mt_regs.specs.declared.fault.Reason.{Reason}
 use Rattle.mt_regs.specs.declared.fault.Reason.TheVariants.{ReservedBit, UnsupportedType, BrokenMask, UndefinedOverlap}
@@ -30,6 +30,14 @@ reason_text UndefinedOverlap = codes "undefined overlap"
 abbrev pub refused_line : Fault → List ℕ
 refused_line fault = line (codes "refused " ++ number_text fault.msr ++ codes " " ++ reason_text fault.reason)
 
+-- the processor, the register at fault and the reason
+abbrev pub refused_cpu_line : ℕ → Fault → List ℕ
+refused_cpu_line k fault = line (codes "refused cpu " ++ decimal k ++ codes " " ++ number_text fault.msr ++ codes " " ++ reason_text fault.reason)
+
+-- the line about file k of a dump of a version; version 1 has one file, and the line names no processor
+abbrev pub dump_refused_line : ℕ → ℕ → Fault → List ℕ
+dump_refused_line version k fault = if version == 2 then refused_cpu_line k fault else refused_line fault
+
 abbrev pub dump_reason_text : DumpReason → List ℕ
 dump_reason_text dump.BadLine = codes "bad line"
 dump_reason_text dump.BadNumber = codes "bad number"
@@ -38,6 +46,9 @@ dump_reason_text dump.Repeated = codes "repeated"
 dump_reason_text dump.NoCap = codes "no cap"
 dump_reason_text dump.BadWidth = codes "bad width"
 dump_reason_text dump.TooManyPairs = codes "too many pairs"
+dump_reason_text dump.BadVersion = codes "bad version"
+dump_reason_text dump.BadSection = codes "bad section"
+dump_reason_text dump.Differs = codes "differs"
 
 abbrev pub script_reason_text : ScriptReason → List ℕ
 script_reason_text script.BadLine = codes "bad line"

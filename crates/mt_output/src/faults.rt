@@ -1,5 +1,5 @@
 ghost use Rattle.std.specs.Prelude.{◌≡◌, ◌≤◌, ◌<◌, length};
-ghost use Rattle.mt_output.specs.Lines.{bad_script_line, bad_text, bad_text_line, dump_reason_text, offence_line, reason_text, refused_line, script_reason_text};
+ghost use Rattle.mt_output.specs.Lines.{bad_script_line, bad_text, bad_text_line, dump_reason_text, dump_refused_line, offence_line, reason_text, refused_cpu_line, refused_line, script_reason_text};
 
 use crate::line::{LineBuffer, append, append_decimal, append_number};
 use arrayvec::ArrayVec;
@@ -35,6 +35,34 @@ pub fn refused_line(fault: &Fault) -> LineBuffer
     line
 }
 
+// The line about a register at fault in the file of a processor.
+fn refused_cpu_line(k: u32, fault: &Fault) -> LineBuffer
+    requires { fault.now.msr < 4096 }
+    ensures { result.items ≡ refused_cpu_line k fault.now }
+{
+    let mut line = ArrayVec::new();
+    append(&mut line, b"refused cpu ");
+    append_decimal(&mut line, k as u64);
+    append(&mut line, b" ");
+    append_number(&mut line, fault.msr);
+    append(&mut line, b" ");
+    append(&mut line, reason_text(fault.reason));
+    append(&mut line, b"\n");
+    line
+}
+
+/// The line about file `k` of a dump of this version, which names a processor in version 2 alone.
+pub fn dump_refused_line(version: u8, k: u32, fault: &Fault) -> LineBuffer
+    requires { fault.now.msr < 4096 }
+    ensures { result.items ≡ dump_refused_line version k fault.now }
+{
+    if version == 2 {
+        refused_cpu_line(k, fault)
+    } else {
+        refused_line(fault)
+    }
+}
+
 /// What is wrong with a dump.
 pub fn dump_reason_text(reason: DumpReason) -> &'static [u8]
     ensures text { result.now ≡ dump_reason_text reason }
@@ -48,6 +76,9 @@ pub fn dump_reason_text(reason: DumpReason) -> &'static [u8]
         DumpReason::NoCap => b"no cap",
         DumpReason::BadWidth => b"bad width",
         DumpReason::TooManyPairs => b"too many pairs",
+        DumpReason::BadVersion => b"bad version",
+        DumpReason::BadSection => b"bad section",
+        DumpReason::Differs => b"differs",
     }
 }
 

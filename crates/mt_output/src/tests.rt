@@ -1,6 +1,7 @@
 use crate::{
     LineBuffer, WRITER_ROOM, Writer, accepted_line, append_address, append_decimal, append_number,
-    append_pat_type, append_type, append_value, bad_text_line, offence_line, refused_line,
+    append_pat_type, append_type, append_value, bad_text_line, dump_refused_line, offence_line,
+    refused_line,
 };
 use arrayvec::ArrayVec;
 use mt_dump::{DumpFault, DumpReason};
@@ -56,6 +57,14 @@ fn lines(rt: HostRuntime) -> Result<(), Fail> {
     assert_eq!(rt;
         refused_line(&refused).as_slice(),
         b"refused 2ff reserved bit\n".as_slice()
+    );
+    assert_eq!(rt;
+        dump_refused_line(1, 0, &refused).as_slice(),
+        b"refused 2ff reserved bit\n".as_slice()
+    );
+    assert_eq!(rt;
+        dump_refused_line(2, 15, &refused).as_slice(),
+        b"refused cpu 15 2ff reserved bit\n".as_slice()
     );
     assert_eq!(rt; accepted_line(), b"accepted\n".as_slice());
     let mut line = ArrayVec::new();

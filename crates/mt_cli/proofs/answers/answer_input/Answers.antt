@@ -5,11 +5,11 @@ use Rattle.mt_cli.proofs.Leaving.{never_answers}
 use Rattle.mt_cli.proofs.answers.answer_input.Goals as goal
 
 pub returns-in-Ok-Ok-clause-bytes : goal.returns-in-Ok-Ok-clause-bytes
-returns-in-Ok-Ok-clause-bytes g c bytes is = good_input c.in-Ok-Ok.file (rw c.in-Ok-Ok.field-0-is at (c.in-Ok-Ok.ensures.answer bytes is)) (c.in-Ok-Ok.ensures.end bytes is) c.answer.ensures.bytes
+returns-in-Ok-Ok-clause-bytes g c bytes is = good_input c.in-Ok-Ok.dump (rw c.in-Ok-Ok.field-0-is at (c.in-Ok-Ok.ensures.answer bytes is)) (c.in-Ok-Ok.ensures.end bytes is) c.answer.ensures.bytes
 
 pub returns-in-Ok-Ok-clause-too_long : goal.returns-in-Ok-Ok-clause-too_long
 returns-in-Ok-Ok-clause-too_long g c =
-    (λ is. absurd ((never_answers c.in-Ok-Ok.file c.args.command _ _ _ c.answer.ensures.bytes).2 is), λ much. absurd (cc (c.in-Ok-Ok.ensures.too_long.1 much)))
+    (λ is. absurd ((never_answers c.in-Ok-Ok.dump c.args.command _ _ _ c.answer.ensures.bytes).2 is), λ much. absurd (cc (c.in-Ok-Ok.ensures.too_long.1 much)))
 
 pub returns-in-Ok-Err-clause-bytes : goal.returns-in-Ok-Err-clause-bytes
 returns-in-Ok-Err-clause-bytes g c bytes is =
