@@ -6,4 +6,5 @@ pub mod Control
 pub mod Machine
 pub mod Start
 pub mod Update
+pub mod ComingAndGoing
 pub mod WorkedRuns

@@ -271,3 +271,15 @@ calling o ps = record (machine_of ps) { order = Some o }
 
 abbrev pub ready : Processor
 ready = record idle { phase = Taken }
+
+-- another width, era and PGE, a dirty line, and self-snooping
+abbrev pub wide_one : Processor
+wide_one = record (start_processor (with_value (blank_file 40 0x508) DefaultType 0x800)) {
+  page_global = true;
+  remembered_global = true;
+  mappings = mapping 1 0x100 0 ∷ [];
+  lines = line_of 0x4000 3 ∷ [];
+  entries = record (entry 1 false) { era = 3 } ∷ [];
+  era = 3;
+  self_snoop = true;
+}

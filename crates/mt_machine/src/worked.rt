@@ -1,3 +1,4 @@
+mod coming_and_going;
 mod controls;
 mod enabled;
 mod loads;
@@ -11,6 +12,7 @@ mod starts;
 mod steps;
 mod stores;
 
+pub use coming_and_going::{worked_coming, worked_going, worked_newcomers};
 pub use controls::{worked_controls, worked_controls_alone, worked_refusals};
 pub use enabled::{worked_coordinator, worked_enabled};
 pub use loads::{worked_loads, worked_translations};
