@@ -8,3 +8,5 @@ pub mod Starts
 pub mod Runs
 pub mod Snooping
 pub mod WriteBacks
+pub mod Coming
+pub mod Going

@@ -6,4 +6,5 @@ pub mod Kept
 pub mod Settled
 pub mod Counts
 pub mod Updates
+pub mod ComingAndGoing
 pub mod WorkedRuns
