@@ -1,6 +1,7 @@
 //! One processor: its range registers, controls, mappings, TLB, cache and write-combining buffers.
 #![tactic(auto)]
 
+mod coming;
 mod cpu;
 mod laws;
 mod steps;

@@ -183,3 +183,15 @@ fn a_self_snooping_processor_leaves_the_first_flush_out(rt: HostRuntime) {
     }
     assert!(rt; cpu.self_snoop());
 }
+
+#[test]
+fn one_that_comes_up_is_blank(rt: HostRuntime) {
+    let cpu = Cpu::come_up(40, 0x508, 3);
+    assert!(rt; cpu.regs().maxphy == 40 && cpu.regs().cap == 0x508);
+    assert!(rt; cpu.regs().get(0x2ff) == Some(0));
+    assert!(rt; cpu.regs().get(0x277) == Some(0x7_0406_0007_0406));
+    assert!(rt; cpu.cd() && !cpu.pge() && !cpu.had_pge() && !cpu.self_snoop());
+    assert!(rt; cpu.era() == 3);
+    assert!(rt; cpu.cache().len() == 0 && cpu.buffers().lines().is_empty());
+    assert!(rt; cpu.tlb().entries().is_empty());
+}
