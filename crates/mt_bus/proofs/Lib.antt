@@ -1,4 +1,5 @@
 pub mod Changed
+mod Newcomers
 mod Combining
 mod Emptying
 pub mod Grown

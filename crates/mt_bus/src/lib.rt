@@ -3,6 +3,7 @@
 
 mod accesses;
 mod buffers;
+mod coming;
 mod controls;
 mod copies;
 mod fills;
