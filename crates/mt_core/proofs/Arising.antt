@@ -1,5 +1,5 @@
 -- Each call keeps what a core keeps.
-use Rattle.std.proofs.Common.{◌≡◌, ◌≢◌, ◌∙◌, ap, sym, refl, subst, arith, ℕ, ◌-◌, ◌<◌, ◌≤◌, ◌^◌, Bool, true, false, if◌then◌else◌, List, [], ◌∷◌, length, Option, None, Some, slice_get, inl}
+use Rattle.std.proofs.Common.{◌≡◌, ◌≢◌, ◌∙◌, ap, sym, refl, subst, arith, ℕ, ◌+◌, ◌++◌, ◌-◌, ◌<◌, ◌≤◌, ◌^◌, Bool, true, false, if◌then◌else◌, List, [], ◌∷◌, length, Option, None, Some, slice_get, inl}
 use Rattle.std.specs.Option.{option_map_or}
 use Rattle.std.specs.List.{All}
 use Rattle.mt_ram.specs.Windows.{with_window}
@@ -15,12 +15,15 @@ use Rattle.mt_machine.specs.Control.{RuledAfter, control}
 use Rattle.mt_machine.specs.Machine.{Accesses, Calls, Cancels, Controls, FitsControl, FitsGoal, FitsOp, Goes, IsEnabled, Machine, Order, Steps, common_era, due, is_over, next, own_step, step, remaining_order}
 use Rattle.mt_regs.specs.RegisterFile.{RegisterFile, IsRegisterFile}
 use Rattle.mt_regs.specs.Faults.{IsAccepted}
-use Rattle.std.proofs.lemmas.List.{length-map, length-set}
+use Rattle.std.proofs.lemmas.List.{length-append, length-map, length-set, length-take-le}
 use Rattle.mt_laws.proofs.Barrier.Acting.{access_busy, control_busy}
 use Rattle.mt_laws.proofs.Barrier.Stages.{access_stages, control_stages, stage_of, stages, change_stages}
 use Rattle.mt_laws.proofs.Barrier.Barriers.{step_stages}
 use Rattle.mt_bus.proofs.Tables.{same_length}
-use Rattle.mt_core.specs.Arises.{IsCore, by_event, by_window, from_start, by_snooping}
+use Rattle.mt_machine.specs.Bus.{drain}
+use Rattle.mt_machine.specs.ComingAndGoing.{gone, last_number, newcomer_beside, reset}
+use Rattle.mt_laws.proofs.Barrier.Stages.{drain_stages}
+use Rattle.mt_core.specs.Arises.{IsCore, by_event, by_window, from_start, by_snooping, by_coming_up, by_going_down}
 
 abbrev pub machine : System → Option Order → Machine
 machine s o = record { system = s; order = o }
@@ -113,6 +116,35 @@ pub snoops : (s : System) (k : ℕ) → IsCore (machine s None) → IsCore (mach
 snoops s k h = record {
   arises = by_snooping k h.arises refl;
   few = subst (λ n. n ≤ 16) (sym (same_length s (with_self_snoop k s) (change_stages snooping (λ p. refl) k s))) h.few;
+  room = h.room;
+}
+
+-- with one processor more, and one less
+reset_number : (s : System) → length (reset s).processors ≤ length s.processors + 1
+reset_number s = one (slice_get s.processors 0)
+  where
+    one : (o : Option Processor) → length (option_map_or (λ p. record s { processors = s.processors ++ newcomer_beside p ∷ [] }) o s).processors ≤ length s.processors + 1
+    one None = omega arith
+    one (Some p) = let n = length-append s.processors (newcomer_beside p ∷ []) in omega arith
+
+pub came : (s : System) → 0 < length s.processors → length s.processors ≤ 15 → IsCore (machine s None) → IsCore (machine (reset s) None)
+came s some few h = record {
+  arises = by_coming_up h.arises refl some;
+  few = (let n = reset_number s in omega arith);
+  room = h.room;
+}
+
+gone_number : (s : System) → length (gone s).processors ≤ length s.processors
+gone_number s =
+    let k : ℕ = last_number s in
+    let same = same_length s (drain k s) (drain_stages k s) in
+    let n = length-take-le k (drain k s).processors (omega arith) in
+    omega arith
+
+pub went_away : (s : System) → 1 < length s.processors → IsCore (machine s None) → IsCore (machine (gone s) None)
+went_away s more h = record {
+  arises = by_going_down h.arises refl more;
+  few = (let n = gone_number s in let few = h.few in omega arith);
   room = h.room;
 }
 

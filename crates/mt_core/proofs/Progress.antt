@@ -17,7 +17,7 @@ use Rattle.mt_machine.specs.Machine.{Accesses, Calls, Cancels, Controls, Goes, I
 use Rattle.mt_machine.specs.Start.{IsBroadcast, IsQuiet}
 use Rattle.mt_laws.proofs.Barrier.Ranks.{Guarded, stage_at}
 use Rattle.mt_laws.proofs.Barrier.Stages.{Stage, access_stages, control_stages, stage_of, stages, stages_of}
-use Rattle.mt_core.specs.Arises.{Arises, by_event, by_window, from_start, by_snooping}
+use Rattle.mt_core.specs.Arises.{Arises, by_event, by_window, from_start, by_snooping, by_coming_up, by_going_down}
 use Rattle.mt_core.specs.Rounds.{each_steps, in_order}
 use Rattle.mt_core.specs.Steps.{step_after}
 use Rattle.mt_core.proofs.Arising.{machine}
@@ -74,6 +74,8 @@ lasts {m} (from_start s) =
 lasts (by_event {m = m} e a enabled) = next_lasts e m.system m.order enabled (lasts a)
 lasts (by_window w a memory) = lasts a
 lasts (by_snooping k a none) = λ o is decided. absurd (cc (none, is))
+lasts (by_coming_up a none some) = λ o is decided. absurd (cc (none, is))
+lasts (by_going_down a none more) = λ o is decided. absurd (cc (none, is))
 
 -- ---- where none has an event that is due, the update is over
 

@@ -1,6 +1,9 @@
 -- What a step needs of the state that it starts from, and that its own is sound.
-use Rattle.std.proofs.Common.{◌≡◌, ◌≢◌, ◌∙◌, ap, sym, refl, subst, arith, ℕ, zero, suc, ◌+◌, ◌-◌, ◌<◌, ◌^◌, ⊎_elim, true, false, List, [], ◌∷◌, length, take, Option, None, Some, slice_get, IsTrue, inl}
+use Rattle.std.proofs.Common.{◌≡◌, ◌≢◌, ◌∙◌, ap, sym, refl, subst, arith, ℕ, zero, suc, ◌+◌, ◌-◌, ◌<◌, ◌^◌, ⊎_elim, true, false, List, [], ◌∷◌, ◌++◌, length, take, Option, None, Some, slice_get, IsTrue, inl}
 use Rattle.mt_laws.proofs.Invariant.Snooping.{from, snooping_stays_quiet}
+use Rattle.mt_laws.proofs.Invariant.Coming.{of_more, reset_stays_quiet}
+use Rattle.mt_laws.proofs.Invariant.Going.{gone_stays_quiet, of_front}
+use Rattle.mt_machine.specs.ComingAndGoing.{gone, last_number, newcomer_beside, reset, with_newcomer, without_last}
 use Rattle.mt_laws.proofs.Registers.Quiet.{AllOf, Shape, next_shapes, quiet_of, shape, start_shape}
 use Rattle.mt_machine.specs.Start.{IsQuiet, IsStart}
 use Rattle.std.specs.Prelude.{nat_lt}
@@ -37,7 +40,7 @@ use Rattle.mt_laws.proofs.Words.Sound.{aligned_all, sound_agrees}
 use Rattle.mt_bus.proofs.Changed.{changed_is}
 use Rattle.mt_bus.proofs.Grown.{sound_grown}
 use Rattle.mt_ram.specs.Windows.{with_window}
-use Rattle.mt_core.specs.Arises.{Arises, IsCore, by_event, by_window, from_start, grown, by_snooping, snooped}
+use Rattle.mt_core.specs.Arises.{Arises, IsCore, by_event, by_window, from_start, grown, by_snooping, snooped, by_coming_up, by_going_down}
 use Rattle.mt_bus.specs.Parts.{system, with_changed}
 use Rattle.mt_core.specs.Steps.{under_way, with_word_of}
 
@@ -73,11 +76,28 @@ shapes_snooped v k s all i q at =
     let f = from k s i q at in
     ⊎_elim (λ (e : f.0 ≡ q). ap (λ (p : Processor). shape p.file) (sym e)) (λ (e : snooping f.0 ≡ q). ap (λ (p : Processor). shape p.file) (sym e)) f.2 ∙ all i f.0 f.1
 
+shapes_come : (v : Shape) (s : System) → AllOf v s.processors → AllOf v (reset s).processors
+shapes_come v s all = one (slice_get s.processors 0) refl
+  where
+    one : (o : Option Processor) → slice_get s.processors 0 ≡ o → AllOf v (option_map_or (λ p. record s { processors = s.processors ++ newcomer_beside p ∷ [] }) o s).processors
+    one None at = all
+    one (Some p) at = λ i q at_q. ⊎_elim (λ (old : slice_get s.processors i ≡ Some q). all i q old)
+        (λ (new : newcomer_beside p ≡ q). ap (λ (r : Processor). shape r.file) (sym new) ∙ all 0 p at)
+        (of_more s.processors (newcomer_beside p) i q at_q)
+
+shapes_gone : (v : Shape) (s : System) → AllOf v s.processors → AllOf v (gone s).processors
+shapes_gone v s all i q at =
+    let k : ℕ = last_number s in
+    let f = follows_drain k s i q (of_front (drain k s).processors k i q at) in
+    ap shape f.2.file ∙ all i f.0 f.1
+
 pub shapes : {m : Machine} → Arises m → (v : Shape) × AllOf v m.system.processors
 shapes {m} (from_start s) = start_shape m s
 shapes (by_event {m = m} e a enabled) = let was = shapes a in (was.0, next_shapes was.0 e m.system m.order was.1)
 shapes (by_window w a memory) = shapes a
 shapes (by_snooping {m = m} k a none) = let was = shapes a in (was.0, shapes_snooped was.0 k m.system was.1)
+shapes (by_coming_up {m = m} a none some) = let was = shapes a in (was.0, shapes_come was.0 m.system was.1)
+shapes (by_going_down {m = m} a none more) = let was = shapes a in (was.0, shapes_gone was.0 m.system was.1)
 
 -- ---- where no update is under way it is quiet
 
@@ -92,6 +112,8 @@ stands {m} (from_start s) = stands_start m s
 stands (by_event e a enabled) = stands_next _ e enabled (stands a)
 stands (by_window w a memory) = stands_grown _ w memory (stands a)
 stands (by_snooping {m = m} k a none) = let shape = shapes a in stands_start (snooped k m) (inl (snooping_stays_quiet m k (quiet_here m shape.0 shape.1 none (stands a))))
+stands (by_coming_up {m = m} a none some) = let shape = shapes a in stands_start (with_newcomer m) (inl (reset_stays_quiet m (quiet_here m shape.0 shape.1 none (stands a))))
+stands (by_going_down {m = m} a none more) = let shape = shapes a in stands_start (without_last m) (inl (gone_stays_quiet m (omega arith) (quiet_here m shape.0 shape.1 none (stands a))))
 
 pub is_sound : (m : Machine) → Arises m → IsSound m.system
 is_sound m a = let st = stands a in standing_sound m.system.memory.windows m st.1 st.0

@@ -5,8 +5,9 @@ ghost use Rattle.mt_core.specs.Stops.{StopsOutside};
 
 use crate::core_type::Core;
 
-/// What a core keeps: its state arises from a start by events and new windows, it has at most 16
-/// processors, and an update under way was called while the eras had room.
+/// What a core keeps: its state arises from a start by events, by new windows, and by processors that become
+/// self-snooping, come up or go while no update is under way; it has at most 16 processors, and an update under
+/// way was called while the eras had room.
 pub fn a_core_arises(core: &Core)
     ensures { IsCore core.now }
 {
@@ -44,7 +45,7 @@ pub fn rests_quiet()
 {}
 
 /// What the laws say of each reached state holds of each state of a core, to which windows may have
-/// been added since the start: the barriers hold, no processor runs or acts while another changes
+/// been added since the start, and whose processors may have come up and gone: the barriers hold, no processor runs or acts while another changes
 /// its registers, an order's goal is whole and the registers before a writer's place have its values,
 /// no event of an update but Take changes a word's value, and events are as many as the laws count.
 pub fn states_hold()

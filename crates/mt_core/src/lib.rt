@@ -3,6 +3,7 @@
 #![tactic(auto)]
 
 mod barriers;
+mod coming;
 mod core_type;
 mod fault;
 #[cfg(test)]
@@ -14,6 +15,7 @@ mod steps;
 #[cfg(test)]
 mod tests;
 mod worked;
+mod worked_coming;
 
 pub use core_type::Core;
 pub use fault::CallFault;
@@ -28,3 +30,4 @@ pub use worked::{
     worked_answers, worked_arises, worked_rises, worked_rounds, worked_since, worked_stops,
     worked_turns, worked_updates_by_events, worked_waits,
 };
+pub use worked_coming::worked_coming_and_going;

@@ -215,3 +215,24 @@ fn windows_are_added(rt: HostRuntime) {
     assert!(rt; core.add_ram(0x30_0008, 1) == Err(RamFault::Misaligned));
     assert!(rt; word(&core, 0x30_0008) == None);
 }
+
+#[test]
+fn one_comes_up_and_two_go(rt: HostRuntime) {
+    let Some(mut core) = dirty_pair(rt.alloc()) else {
+        panic!(rt; "the file is accepted");
+    };
+    let is_idle = core.order().is_none();
+    if is_idle && !core.system().cpus.is_empty() && core.system().cpus.len() <= 15 {
+        assert!(rt; core.come_up() == Ok(2));
+    }
+    assert!(rt; core.system().cpus.len() == 3);
+    assert!(rt; word(&core, 0x10_0040) == Some(0));
+    for k in [2, 1] {
+        if core.order().is_none() && core.system().cpus.len() > 1 {
+            assert!(rt; core.go_down() == k, "at {k}");
+        }
+    }
+    assert!(rt; core.system().cpus.len() == 1);
+    assert!(rt; word(&core, 0x10_0000) == Some(0));
+    assert!(rt; word(&core, 0x10_0040) == Some(0x2b));
+}
