@@ -1,0 +1,24 @@
+ghost use Rattle.mt_admit.specs.Laws.{CancelledNewcomersStayBlank, NewcomersAgree, RetiredLeaveTheOthers, UpsArise};
+
+/// What `up` leaves arises, so each law on what arises speaks of all processors, the newcomer among them.
+pub fn ups_arise()
+    ensures { UpsArise }
+{}
+
+/// In the update that `up` calls, over every list of events, each processor has processor 0's registers and holds
+/// nothing older than the update from the first release on, the newcomer too: whoever is told of completion knows it.
+pub fn newcomers_agree()
+    ensures { NewcomersAgree }
+{}
+
+/// Where that update is cancelled, without accesses and control instructions, it leaves what fences of those that
+/// took leave, and the newcomer has the blank file.
+pub fn cancelled_newcomers_stay_blank()
+    ensures { CancelledNewcomersStayBlank }
+{}
+
+/// What `retire` leaves has each word as it was once the buffers of the last processor were emptied, and the others'
+/// registers, phases, mappings and entries.
+pub fn retired_leave_the_others()
+    ensures { RetiredLeaveTheOthers }
+{}
