@@ -3,11 +3,9 @@ ghost use Rattle.std.specs.List.{All};
 ghost use Rattle.mt_machine.specs.Machine.{FitsGoal};
 
 use crate::{RetireFault, UpFault, admit, retire, up};
-use mt_bus::System;
 use mt_core::{Core, Stepped};
 use mt_cpu::Cpu;
 use mt_kinds::MemType;
-use mt_laws::start_is_quiet;
 use mt_machine::{Control, Done, Op, Ruled};
 use mt_regs::RegFile;
 use mt_tlb::Mapping;
@@ -32,12 +30,10 @@ fn core_of(alloc: Global, cpus: u32) -> Option<Core> {
     if file.first_fault().is_some() || cpus == 0 || cpus > 16 {
         return None;
     }
-    start_is_quiet();
-    file.is_register_file();
-    let Ok(system) = System::new(alloc, cpus, &file) else {
+    let files = file.copies(cpus);
+    let Ok(mut core) = Core::start(alloc, files.as_slice()) else {
         return None;
     };
-    let mut core = Core::new(system);
     if core.add_ram(0x10_0000, 64).is_err() {
         return None;
     }
