@@ -8,7 +8,6 @@ use Rattle.mt_machine.specs.declared.event.Event.TheVariants.{Release}
 use Rattle.mt_machine.specs.declared.go.Go.TheVariants.{Given, Cancelled}
 use Rattle.mt_machine.specs.System.{Processor, System}
 use Rattle.mt_machine.specs.Machine.{Accesses, AreEnabled, Calls, Cancels, Controls, Goes, IsEnabled, Machine, MachineEvent, Order, Steps, common_era, due, is_over, next, remaining_order, run, step}
-use Rattle.mt_machine.specs.ComingAndGoing.{with_newcomer}
 use Rattle.mt_machine.specs.Update.{IsSettled, is_call}
 use Rattle.mt_laws.proofs.Barrier.Ranks.{and_left, and_right}
 use Rattle.mt_core.specs.Arises.{Arises, by_event}

@@ -1,5 +1,5 @@
 -- A processor can be brought up where no update is under way, and its update can be called then.
-use Rattle.std.proofs.Common.{◌≡◌, ◌∙◌, ap, sym, refl, subst, arith, ℕ, ◌+◌, ◌-◌, ◌<◌, ◌^◌, ⊎_elim, true, List, [], ◌∷◌, ◌++◌, length, length-append, Option, None, Some, slice_get}
+use Rattle.std.proofs.Common.{◌≡◌, ◌∙◌, ap, sym, refl, subst, arith, ◌+◌, ◌-◌, ◌<◌, ◌^◌, ⊎_elim, true, List, [], ◌∷◌, ◌++◌, length, length-append, Option, None, Some, slice_get}
 use Rattle.std.specs.Prelude.{IsSome}
 use Rattle.std.specs.Option.{option_map_or}
 use Rattle.std.specs.List.{All}
