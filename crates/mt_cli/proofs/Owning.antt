@@ -1,9 +1,9 @@
 -- Processors with a page of their own each.
 use Rattle.std.proofs.Common.{◌≡◌, ◌∙◌, ap, sym, refl, subst, arith, ℕ, ◌+◌, ◌*◌, ◌-◌, ◌<◌, ◌^◌, length, Some, []}
-use Rattle.std.specs.Prelude.{slice_get, replicate}
+use Rattle.std.specs.Prelude.{slice_get, map, replicate}
 use Rattle.std.specs.List.{All}
-use Rattle.std.proofs.lemmas.List.{length-replicate}
-use Rattle.std.proofs.lemmas.List.Elements.{All-replicate}
+use Rattle.std.proofs.lemmas.List.{length-map, length-replicate}
+use Rattle.std.proofs.lemmas.List.Elements.{All-map, All-replicate}
 use Rattle.mt_regs.specs.RegisterFile.{RegisterFile, page_count}
 use Rattle.mt_machine.specs.declared.control.Control.TheVariants.{Map}
 use Rattle.mt_machine.specs.System.{Processor, start_processor}
@@ -18,12 +18,15 @@ use Rattle.mt_ram.specs.Windows.{window}
 use Rattle.mt_core.specs.Arises.{grown}
 use Rattle.mt_cli.specs.Measured.{IsSetUp, file_of, own_page, with_own}
 
-pub start_set_up : (count : ℕ) → IsSetUp count (start_machine count (file_of 6) [])
+pub start_set_up : (count : ℕ) → IsSetUp count (start_machine (replicate count (file_of 6)) [])
 start_set_up count = record {
-  size = length-replicate count (start_processor (file_of 6));
-  fits = All-replicate (FitsGoal (file_of 4)) count (start_processor (file_of 6)) (record { width = refl; capabilities = refl });
-  eras = All-replicate (λ p. p.era ≡ 0) count (start_processor (file_of 6)) refl;
+  size = length-map (replicate count (file_of 6)) start_processor ∙ length-replicate count (file_of 6);
+  fits = each (FitsGoal (file_of 4)) (record { width = refl; capabilities = refl });
+  eras = each (λ p. p.era ≡ 0) refl;
 }
+  where
+    each : (P : Processor → Type 0) → P (start_processor (file_of 6)) → All P (map start_processor (replicate count (file_of 6)))
+    each P h = All-map P start_processor (replicate count (file_of 6)) (All-replicate (λ (f : RegisterFile). P (start_processor f)) count (file_of 6) h)
 
 pub own_set_up : (count : ℕ) (m : Machine) (k : ℕ) → IsSetUp count m → IsSetUp count (with_own m k)
 own_set_up count m k h =

@@ -1,6 +1,6 @@
 -- Jobs for measurements, which three numbers determine, around one update, and what they sum to (own).
 --     measured_text count n accesses      the text
-use Rattle.std.specs.Prelude.{◌≡◌, ℕ, zero, suc, ◌+◌, ◌*◌, ◌%◌, ◌^◌, nat_lt, false, List, [], ◌∷◌, ◌++◌, length, map, codes, if◌then◌else◌}
+use Rattle.std.specs.Prelude.{◌≡◌, ℕ, zero, suc, ◌+◌, ◌*◌, ◌%◌, ◌^◌, nat_lt, false, List, [], ◌∷◌, ◌++◌, length, map, replicate, codes, if◌then◌else◌}
 use Rattle.std.specs.List.{All, fold}
 use Rattle.mt_regs.specs.RegisterFile.{RegisterFile, blank_file}
 use Rattle.mt_regs.specs.Registers.{with_value}
@@ -70,7 +70,7 @@ abbrev pub with_own : Machine → ℕ → Machine
 with_own m k = next (grown (window (0x100000 * k) 64) m) (Controls k (Map (own_page k)))
 
 abbrev pub measured_machine : ℕ → Machine
-measured_machine count = fold with_own (start_machine count (file_of 6) []) (ascending count)
+measured_machine count = fold with_own (start_machine (replicate count (file_of 6)) []) (ascending count)
 
 -- the update between gives memory below 4 GB the type WT
 abbrev pub measured : ℕ → ℕ → ℕ → OneByOne

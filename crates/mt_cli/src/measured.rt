@@ -1,5 +1,5 @@
 // Jobs for measurements around one update, and what they sum to.
-ghost use Rattle.std.specs.Prelude.{◌≡◌, ◌<◌, ◌≤◌, [], IfOk, IfSome, OnOk, length, map, vec_len};
+ghost use Rattle.std.specs.Prelude.{◌≡◌, ◌<◌, ◌≤◌, [], IfOk, IfSome, OnOk, length, map, replicate, vec_len};
 ghost use Rattle.std.specs.List.{All, fold};
 ghost use Rattle.mt_machine.specs.Machine.{FitsGoal, FitsOp};
 ghost use Rattle.mt_machine.specs.Start.{start_machine};
@@ -10,9 +10,7 @@ ghost use Rattle.mt_cli.specs.Measured.{AreRan, IsSetUp, behind_ops, drawn_op, d
 
 use crate::generator::{drawn, stepped};
 use arrayvec::ArrayVec;
-use mt_bus::System;
 use mt_core::Core;
-use mt_laws::start_is_quiet;
 use mt_machine::{Control, Done, Op};
 use mt_output::{LineBuffer, append, append_value};
 use mt_ports::{Gate, NoMemory};
@@ -179,7 +177,7 @@ fn add_own(core: &mut Core, k: u32) -> Result<(), NoMemory>
 fn bare_core(alloc: Global, cpus: u32) -> Result<Core, NoMemory>
     requires some { 0 < cpus }
     requires few { cpus ≤ 16 }
-    ensures { IfOk result (λ core. core ≡ start_machine cpus (file_of 6) []) }
+    ensures { IfOk result (λ core. core ≡ start_machine (replicate cpus (file_of 6)) []) }
 {
     let Some(file) = file_of(6) else {
         return Err(NoMemory);
@@ -187,10 +185,8 @@ fn bare_core(alloc: Global, cpus: u32) -> Result<Core, NoMemory>
     if file.first_fault().is_some() {
         return Err(NoMemory);
     }
-    start_is_quiet(); // a fact for the proof
-    file.is_register_file(); // a fact for the proof
-    let system = System::new(alloc, cpus, &file)?;
-    Ok(Core::new(system))
+    let files = file.copies(cpus);
+    Core::start(alloc, files.as_slice())
 }
 
 /// So many processors, each with a page of its own.

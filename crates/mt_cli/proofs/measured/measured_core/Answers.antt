@@ -1,4 +1,4 @@
-use Rattle.std.proofs.Common.{◌≡◌, ◌∙◌, ap, sym, subst, arith, ◌+◌, ◌-◌, ℕ, []}
+use Rattle.std.proofs.Common.{◌≡◌, ◌∙◌, ap, sym, subst, arith, ◌+◌, ◌-◌, ℕ, [], replicate}
 use Rattle.std.specs.List.{fold, range_with_len}
 use Rattle.mt_machine.specs.Machine.{Machine}
 use Rattle.mt_machine.specs.Start.{start_machine}
@@ -13,7 +13,7 @@ loop-k-init c =
     record {
       machine =
           ap (λ (m : Machine). fold with_own m (range_with_len 0 (cpus - 0))) c.in-Ok.ensures
-          ∙ (let all : cpus - 0 ≡ cpus = omega arith in ap (λ (n : ℕ). fold with_own (start_machine cpus (file_of 6) []) (range_with_len 0 n)) all);
+          ∙ (let all : cpus - 0 ≡ cpus = omega arith in ap (λ (n : ℕ). fold with_own (start_machine (replicate cpus (file_of 6)) []) (range_with_len 0 n)) all);
       set_up = subst (IsSetUp cpus) (sym c.in-Ok.ensures) (start_set_up cpus);
     }
 
