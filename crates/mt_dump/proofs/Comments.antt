@@ -1,5 +1,5 @@
 -- A line that is a comment, before a text, changes nothing of what the text shows.
-use Rattle.std.proofs.Common.{◌≡◌, ◌∙◌, ◌+◌, ◌<◌, ◌≤◌, ℕ, Bool, true, false, not, ◌==◌, ◌&&◌, nat_lt, List, [], ◌∷◌, ◌++◌, length, map, Option, Some, None, Result, Ok, Err, refl, sym, ap, subst, arith}
+use Rattle.std.proofs.Common.{◌≡◌, ◌∙◌, ◌+◌, ◌<◌, ◌≤◌, ℕ, Bool, true, false, not, ◌==◌, ◌&&◌, nat_lt, List, [], ◌∷◌, ◌++◌, length, map, Some, Result, Ok, Err, refl, sym, ap, subst, arith}
 use Rattle.std.specs.Prelude.{is_ok, if◌then◌else◌}
 use Rattle.std.specs.List.{AllByRecursion, list_all, onto_first}
 use Rattle.std.proofs.lemmas.Bool.{and_parts}
@@ -13,7 +13,7 @@ use Rattle.mt_regs.specs.RegisterFile.{RegisterFile, low_byte}
 use Rattle.mt_regs.specs.Registers.{value_at}
 use Rattle.mt_dump.specs.Dumps.{Dump}
 use Rattle.mt_dump.specs.Line.{Reading, fault_at, is_width_name, is_version_name, is_section_name, place_of, said_of, said_pair, said_register, said_width, said_version, said_section, said_words}
-use Rattle.mt_dump.specs.Dump.{Shown, ShownBy, ShowsSection, ShowsFirst, ShowsLater, ShowAll, ShowAllLater, given, said_by, said_from, times, width_of, widths, versions, version_in, section_numbers, behind_first, up_to_section, behind_sections, sections_in, sections_of}
+use Rattle.mt_dump.specs.Dump.{Shown, ShownBy, ShowsSection, ShowAll, ShowAllLater, given, said_by, said_from, times, width_of, widths, versions, version_in, section_numbers, behind_first, up_to_section, behind_sections, sections_in, sections_of}
 use Rattle.mt_dump.specs.declared.fault.DumpReason.TheVariants.{BadLine, BadVersion, BadWidth, TooManyPairs}
 use Rattle.mt_dump.specs.declared.said.Said.TheVariants.{Nothing, Version, Section, Width, Register}
 

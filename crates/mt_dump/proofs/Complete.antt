@@ -5,18 +5,18 @@ use Rattle.std.specs.List.{AllByRecursion}
 use Rattle.std.specs.Option.{option_map}
 use Rattle.std.proofs.lemmas.Bool.{cases_Bool, eqb-true, eqb-false}
 use Rattle.std.proofs.lemmas.Bool.Decides.{nat_tests}
-use Rattle.mt_regs.specs.RegisterFile.{RegisterFile, blank_file}
+use Rattle.mt_regs.specs.RegisterFile.{RegisterFile}
 use Rattle.mt_regs.specs.Registers.{value_at, value_of, register_of}
 use Rattle.mt_regs.specs.declared.registers.Register as register
 use Rattle.mt_text.specs.declared.place.Place.{Place}
 use Rattle.mt_dump.specs.Line.{Reading}
-use Rattle.mt_dump.specs.Dumps.{Dump, first_of}
-use Rattle.mt_dump.specs.Dump.{given, widths, versions, section_numbers, section_count, times, is_given, value_given, is_writable, is_spoken, version_of, is_later, is_outside, present, first_section, first_width, up_to_section, behind_first, behind_sections, sections_in, sections_of, ShowsSection, ShowsFirst, ShowsLater, ShowAll, ShowAllLater, ShownBy, count_from, offence_said, offence_of, offence_from}
+use Rattle.mt_dump.specs.Dumps.{Dump}
+use Rattle.mt_dump.specs.Dump.{given, widths, versions, section_numbers, section_count, times, is_given, value_given, is_writable, is_spoken, version_of, is_later, is_outside, present, first_section, first_width, up_to_section, behind_first, behind_sections, sections_of, ShowsSection, ShowsFirst, ShowsLater, ShowAll, ShowAllLater, ShownBy, count_from, offence_said, offence_of, offence_from}
 use Rattle.mt_dump.specs.Reader.{IsSane, IsClean, file_in, files_in, onto}
 use Rattle.mt_dump.specs.declared.said.Said.TheVariants.{Nothing, Version, Section, Width, Register}
 use Rattle.mt_dump.proofs.Readings.{times-onto, length-onto, given-onto, widths-onto, versions-onto, numbers-onto, good_rest, all_rest, all_before, value_given-stands}
 use Rattle.mt_dump.proofs.Sections.{behind_unspoken, behind_spoken, clean_versions, first_early, early_present, up_to_all, up_to-onto, done_in, no_sections_done, sections_split}
-use Rattle.mt_dump.proofs.Present.{StandsNow, Leads, clean_stands, positive}
+use Rattle.mt_dump.proofs.Present.{Leads, clean_stands}
 use Rattle.mt_dump.proofs.Stands.{Shows, clean_closed, one_first, first_gives}
 use Rattle.mt_dump.specs.declared.fault.DumpFault.{DumpFault}
 

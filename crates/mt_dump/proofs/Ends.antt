@@ -1,5 +1,5 @@
 -- Where the reading of a text ends.
-use Rattle.std.proofs.Common.{◌≡◌, ◌+◌, ℕ, true, false, nat_lt, List, [], ◌∷◌, Option, Some, None, Result, refl, sym, ◌∙◌, ap, subst, arith, inl, inr}
+use Rattle.std.proofs.Common.{◌≡◌, ◌+◌, ℕ, true, false, List, [], ◌∷◌, Option, Some, None, Result, refl, sym, ◌∙◌, ap, subst, inl, inr}
 use Rattle.std.specs.Prelude.{Ok, Err, ◌⊎◌, MatchResult, ◌↔◌}
 use Rattle.std.specs.List.{AllByRecursion}
 use Rattle.mt_text.specs.Text.{lines_of, end_of}

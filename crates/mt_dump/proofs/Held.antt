@@ -1,5 +1,5 @@
 -- What a reader keeps when it takes one more line.
-use Rattle.std.proofs.Common.{◌≡◌, ◌≢◌, ◌≤◌, ◌<◌, ◌+◌, ◌-◌, ℕ, suc, Bool, true, false, not, ◌==◌, ◌&&◌, nat_lt, List, [], ◌∷◌, ◌++◌, length, replicate, Option, Some, None, refl, sym, ◌∙◌, ap, arith, slice_set, inl, inr, subst}
+use Rattle.std.proofs.Common.{◌≡◌, ◌≢◌, ◌≤◌, ◌<◌, ◌+◌, ◌-◌, ℕ, Bool, true, false, not, ◌==◌, ◌&&◌, nat_lt, List, [], ◌∷◌, ◌++◌, length, replicate, Option, Some, None, refl, sym, ◌∙◌, ap, arith, slice_set, inl, inr}
 use Rattle.std.specs.Prelude.{Ok, is_some, ◌⊎◌, ◌||◌, if◌then◌else◌}
 use Rattle.std.specs.List.{slice_index_or}
 use Rattle.std.specs.Option.{option_map}
@@ -15,11 +15,11 @@ use Rattle.mt_regs.specs.declared.registers.Register as register
 use Rattle.mt_regs.proofs.ByNumber.{register_of-range}
 use Rattle.mt_dump.specs.Line.{Reading, fault_at}
 use Rattle.mt_dump.specs.Dumps.{Dump, IsDump}
-use Rattle.mt_dump.specs.Dump.{given, widths, section_numbers, section_count, times, is_given, value_given, is_writable, width_of, version_of, is_later, is_outside, is_spoken, present, first_section, first_width, offence_said, offence_at_end, ShownBy}
-use Rattle.mt_dump.specs.Reader.{HasRead, State, IsClean, file_in, files_in, file_with, dump_with, dump_in, after_section, with_width, onto}
+use Rattle.mt_dump.specs.Dump.{given, widths, section_numbers, section_count, times, is_given, value_given, is_writable, width_of, version_of, is_later, is_outside, present, first_section, first_width, offence_said, offence_at_end, ShownBy}
+use Rattle.mt_dump.specs.Reader.{HasRead, State, file_in, files_in, file_with, dump_with, after_section, with_width, onto}
 use Rattle.mt_dump.proofs.Readings.{value_given-stands}
 use Rattle.mt_dump.proofs.Sections.{first_early, first_late, early_present, same_widths, section_counts}
-use Rattle.mt_dump.proofs.Present.{Stands, StandsNow, Leads, clean_stands, clean_widths, not_given, apart_test, positive}
+use Rattle.mt_dump.proofs.Present.{StandsNow, Leads, clean_stands, clean_widths, apart_test, positive}
 use Rattle.mt_dump.proofs.Stands.{some_section, clean_shown, clean_is_dump, none_given, shown_given}
 use Rattle.mt_dump.proofs.Complete.{section_none}
 use Rattle.mt_dump.specs.declared.fault.DumpReason.TheVariants.{UnknownRegister, Repeated, NoCap, BadSection, Differs}

@@ -14,7 +14,7 @@ use Rattle.mt_regs.specs.RegisterFile.{low_byte}
 use Rattle.mt_dump.specs.Line.{said_of, said_words, said_pair, said_width, said_version, said_section, said_register, is_width_name, is_version_name, is_section_name, fault_at, place_of}
 use Rattle.mt_dump.specs.Reader.{IsSane}
 use Rattle.mt_dump.specs.declared.fault.DumpReason.TheVariants.{BadLine, BadWidth, TooManyPairs, BadVersion}
-use Rattle.mt_dump.specs.declared.said.Said.TheVariants.{Nothing, Version, Section, Width, Register}
+use Rattle.mt_dump.specs.declared.said.Said.TheVariants.{Nothing, Version, Width, Register}
 
 -- words by their number
 pub said_none : (number : ℕ) (words : List (ℕ × List ℕ)) → length words ≡ 0 → said_words number words ≡ Ok Nothing

@@ -1,24 +1,22 @@
 -- What clean lines make of the present section's file and width.
-use Rattle.std.proofs.Common.{◌≡◌, ◌≢◌, ◌≤◌, ◌<◌, ◌+◌, ℕ, suc, Bool, true, false, ◌==◌, nat_lt, List, [], ◌∷◌, ◌++◌, length, Option, Some, None, MatchOption, refl, sym, ◌∙◌, ap, arith, inl, inr, subst}
-use Rattle.std.specs.Prelude.{Ok, Err, is_some, ◌⊎◌, if◌then◌else◌}
+use Rattle.std.proofs.Common.{◌≡◌, ◌≢◌, ◌≤◌, ◌<◌, ℕ, suc, Bool, true, false, ◌==◌, nat_lt, List, [], ◌∷◌, length, Option, Some, None, MatchOption, refl, sym, ◌∙◌, ap, arith, inl, inr, subst}
+use Rattle.std.specs.Prelude.{Ok, Err, is_some, ◌⊎◌}
 use Rattle.std.specs.List.{AllByRecursion}
 use Rattle.std.specs.Option.{option_map}
 use Rattle.std.proofs.lemmas.Bool.{cases_Bool, eqb-true, eqb-false}
 use Rattle.std.proofs.lemmas.Bool.Decides.{nat_tests}
-use Rattle.std.proofs.lemmas.List.{length-replicate, length-append}
+use Rattle.std.proofs.lemmas.List.{length-replicate}
 use Rattle.mt_regs.specs.RegisterFile.{RegisterFile, IsRegisterFile, low_byte, blank_file}
-use Rattle.mt_regs.specs.Registers.{value_at, value_of, with_value, register_of, written, ChangesOnly}
+use Rattle.mt_regs.specs.Registers.{value_at, with_value, register_of, written, ChangesOnly}
 use Rattle.mt_regs.specs.declared.registers.Register as register
 use Rattle.mt_regs.proofs.ByNumber.{is_file-written}
 use Rattle.mt_regs.proofs.Writes.{changes_only}
 use Rattle.mt_text.specs.declared.place.Place.{Place}
 use Rattle.mt_dump.specs.Line.{Reading}
-use Rattle.mt_dump.specs.Dumps.{Dump, IsDump, first_of}
-use Rattle.mt_dump.specs.Dump.{given, widths, section_numbers, section_count, times, is_given, value_given, is_writable, width_of, version_of, is_later, present, first_section, first_width, offence_said, ShowsSection, ShowsFirst, ShowsLater, ShowAll, ShowAllLater, ShownBy, numbers_of, count_from}
-use Rattle.mt_dump.specs.Reader.{IsSane, IsClean, after_register, after_section, file_in, file_with, files_in, dump_with, dump_in, with_width, onto}
+use Rattle.mt_dump.specs.Dump.{given, widths, section_numbers, section_count, times, is_given, value_given, is_writable, width_of, version_of, is_later, present, first_section, first_width}
+use Rattle.mt_dump.specs.Reader.{IsClean, after_register, after_section, file_in, onto}
 use Rattle.mt_dump.specs.declared.said.Said.TheVariants.{Nothing, Version, Section, Width, Register}
-use Rattle.mt_dump.proofs.Readings.{times-onto, length-onto, given-onto, widths-onto, numbers-onto, good_onto, all_onto, clean_good, value_given-stands}
-use Rattle.mt_dump.proofs.Sections.{section_passed, width_passed, register_passed, nothing_outside, sections_are_told, known_version, same_version, clean_first, clean_numbers, numbers_up, first_early, first_late, early_present, same_given, same_widths, section_counts, nothing_inside, done_in, done_next, no_sections_done, sections_whole}
+use Rattle.mt_dump.proofs.Sections.{section_passed, width_passed, register_passed, nothing_outside, first_early, first_late, early_present, same_given, same_widths, section_counts}
 
 pub positive : (n : ℕ) → 0 < n → nat_lt 0 n ≡ true
 positive n some = grind (arith, nat_tests)

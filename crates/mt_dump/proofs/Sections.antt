@@ -1,15 +1,15 @@
 -- Lines with their sections, the last line first and in order.
-use Rattle.std.proofs.Common.{◌≡◌, ◌≢◌, ◌<◌, ◌≤◌, ◌+◌, ℕ, suc, zero, Bool, true, false, not, ◌==◌, ◌&&◌, nat_lt, List, [], ◌∷◌, ◌++◌, length, Some, None, Option, refl, sym, ◌∙◌, ap, arith, inl, inr, append_assoc}
+use Rattle.std.proofs.Common.{◌≡◌, ◌≢◌, ◌≤◌, ◌+◌, ℕ, suc, zero, Bool, true, false, not, ◌==◌, ◌&&◌, nat_lt, List, [], ◌∷◌, ◌++◌, length, Some, None, refl, sym, ◌∙◌, ap, arith, inl, inr, append_assoc}
 use Rattle.std.specs.Prelude.{Ok, Err, ◌⊎◌, ◌||◌, if◌then◌else◌, ⊤}
 use Rattle.std.proofs.lemmas.Bool.{cases_Bool, eqb-true, eqb-false}
 use Rattle.std.proofs.lemmas.Bool.Decides.{nat_tests}
 use Rattle.mt_text.specs.declared.place.Place.{Place}
 use Rattle.mt_dump.specs.Line.{Reading}
-use Rattle.mt_dump.specs.Dump.{given, widths, versions, section_numbers, section_count, times, version_in, version_of, width_of, is_given, is_writable, value_given, is_spoken, is_later, is_outside, present, first_section, first_width, up_to_section, behind_first, behind_sections, sections_in, sections_of, count_from, offence_said, offence_of}
+use Rattle.mt_dump.specs.Dump.{given, widths, versions, section_numbers, section_count, version_in, version_of, is_given, is_writable, value_given, is_spoken, is_later, is_outside, present, first_section, first_width, up_to_section, behind_first, behind_sections, sections_in, sections_of, count_from, offence_said}
 use Rattle.mt_dump.specs.Reader.{IsClean, onto}
 use Rattle.mt_dump.specs.declared.fault.DumpFault.{DumpFault}
 use Rattle.mt_dump.specs.declared.said.Said.TheVariants.{Nothing, Version, Section, Width, Register}
-use Rattle.mt_dump.proofs.Readings.{given-onto, widths-onto, versions-onto, numbers-onto}
+use Rattle.mt_dump.proofs.Readings.{given-onto, widths-onto, versions-onto}
 
 -- ---- what the tests of a line leave
 

@@ -1,6 +1,6 @@
 -- The canonical text shows its dump.
 use Rattle.std.proofs.Common.{◌≡◌, ◌∙◌, ◌+◌, ◌<◌, ◌≤◌, ◌^◌, ℕ, suc, zero, true, false, ◌==◌, List, [], ◌∷◌, ◌++◌, length, map, Option, Some, None, Ok, refl, sym, ap, subst, arith, inl, inr}
-use Rattle.std.specs.Prelude.{Err, is_ok, if◌then◌else◌}
+use Rattle.std.specs.Prelude.{Err, is_ok}
 use Rattle.std.specs.List.{slice_get, list_all, AllByRecursion}
 use Rattle.std.proofs.lemmas.Bool.{cases_Bool, eqb-true}
 use Rattle.std.proofs.lemmas.List.{append-nil}
@@ -14,9 +14,9 @@ use Rattle.mt_regs.specs.declared.registers.Register.{Register}
 use Rattle.mt_regs.proofs.ByNumber.{Ascend, place_in_writable, register_of-number, register_of-within, writable_ascend, writable_found}
 use Rattle.mt_dump.specs.Line.{said_of}
 use Rattle.mt_dump.specs.Line.{Reading}
-use Rattle.mt_dump.specs.Dumps.{Dump, IsDump, dump_of, first_file}
-use Rattle.mt_dump.specs.Dump.{said_from, said_by, given, widths, versions, section_numbers, times, width_of, version_in, up_to_section, behind_first, behind_sections, sections_in, sections_of, count_from, ShowsSection, ShowsFirst, ShowsLater, ShowAll, ShowAllLater, Shown, ShownBy}
-use Rattle.mt_dump.specs.Canon.{register_line, section_line, section_lines, file_lines, canon_lines, ended, canon}
+use Rattle.mt_dump.specs.Dumps.{Dump, IsDump, dump_of}
+use Rattle.mt_dump.specs.Dump.{said_from, said_by, given, widths, versions, section_numbers, times, width_of, up_to_section, behind_sections, sections_in, count_from, ShowsSection, ShowsFirst, ShowsLater, ShowAll, ShowAllLater, Shown, ShownBy}
+use Rattle.mt_dump.specs.Canon.{register_line, section_lines, file_lines, canon_lines, ended, canon}
 use Rattle.mt_dump.specs.declared.said.Said.TheVariants.{Nothing, Version, Section, Width, Register as RegisterSaid}
 use Rattle.mt_dump.proofs.Canonical.{register_said, register_plain, width_said, width_plain, section_said, section_plain}
 use Rattle.mt_dump.proofs.Stands.{one_section}

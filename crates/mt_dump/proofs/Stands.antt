@@ -1,5 +1,5 @@
 -- The dump that clean lines lead to.
-use Rattle.std.proofs.Common.{◌≡◌, ◌≢◌, ◌≤◌, ◌<◌, ◌+◌, ℕ, suc, Bool, true, false, ◌==◌, nat_lt, List, [], ◌∷◌, ◌++◌, length, Option, Some, None, refl, sym, ◌∙◌, ap, arith, inl, inr, subst}
+use Rattle.std.proofs.Common.{◌≡◌, ◌≢◌, ◌≤◌, ◌<◌, ◌+◌, ℕ, suc, true, false, ◌==◌, nat_lt, List, [], ◌∷◌, ◌++◌, length, Option, Some, None, refl, sym, ◌∙◌, ap, arith, inl, inr, subst}
 use Rattle.std.specs.Prelude.{Ok, Err, is_ok, ◌⊎◌, if◌then◌else◌}
 use Rattle.std.specs.List.{AllByRecursion, list_all}
 use Rattle.std.proofs.lemmas.Bool.{cases_Bool, eqb-true}
@@ -11,11 +11,11 @@ use Rattle.mt_regs.proofs.ByNumber.{same_file}
 use Rattle.mt_text.specs.declared.place.Place.{Place}
 use Rattle.mt_dump.specs.Line.{Reading}
 use Rattle.mt_dump.specs.Dumps.{Dump, IsDump, dump_of, first_of}
-use Rattle.mt_dump.specs.Dump.{given, widths, versions, section_numbers, section_count, times, is_given, value_given, width_of, version_in, version_of, is_later, present, first_section, first_width, behind_first, up_to_section, behind_sections, sections_in, sections_of, ShowsSection, ShowsFirst, ShowsLater, ShowAll, ShowAllLater, ShownBy, numbers_of, count_from}
+use Rattle.mt_dump.specs.Dump.{given, widths, versions, section_numbers, section_count, times, is_given, value_given, width_of, version_in, version_of, is_later, present, first_section, first_width, behind_first, up_to_section, behind_sections, sections_in, sections_of, ShowsSection, ShowsFirst, ShowsLater, ShowAll, ShowAllLater, ShownBy, count_from}
 use Rattle.mt_dump.specs.Reader.{IsSane, IsClean, file_in, file_with, files_in, dump_with, dump_in, with_width, onto}
 use Rattle.mt_dump.specs.declared.said.Said.TheVariants.{Nothing, Version, Section, Width, Register}
-use Rattle.mt_dump.proofs.Readings.{times-onto, length-onto, given-onto, widths-onto, numbers-onto, good_onto, all_onto, clean_good, value_given-stands}
-use Rattle.mt_dump.proofs.Sections.{section_passed, nothing_outside, sections_are_told, known_version, same_version, clean_first, clean_numbers, numbers_up, first_early, first_late, early_present, same_given, same_widths, section_counts, nothing_inside, done_in, done_next, no_sections_done, sections_whole}
+use Rattle.mt_dump.proofs.Readings.{times-onto, given-onto, widths-onto, numbers-onto, good_onto, all_onto, clean_good, value_given-stands}
+use Rattle.mt_dump.proofs.Sections.{section_passed, nothing_outside, sections_are_told, known_version, same_version, clean_first, clean_numbers, numbers_up, first_early, first_late, early_present, same_given, same_widths, section_counts, nothing_inside, done_in, done_next, sections_whole}
 use Rattle.mt_dump.proofs.Present.{StandsNow, Leads, Widths, clean_stands, clean_widths}
 pub use Rattle.mt_dump.proofs.Present.{positive}
 

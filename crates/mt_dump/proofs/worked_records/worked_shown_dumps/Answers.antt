@@ -1,4 +1,4 @@
-use Rattle.std.proofs.Common.{◌≡◌, List, [], ◌∷◌, Ok, refl, lit≤, ap, length}
+use Rattle.std.proofs.Common.{List, [], ◌∷◌, Ok, refl, lit≤}
 use Rattle.mt_dump.specs.Line.{Reading}
 use Rattle.mt_dump.specs.Worked.{two_sections_dump}
 use Rattle.mt_dump.specs.declared.said.Said.TheVariants.{Register, Section, Version}

@@ -1,10 +1,7 @@
-use Rattle.std.proofs.Common.{◌∷◌, ◌∙◌, sym, subst, refl, ap, arith, Ok, Some}
+use Rattle.std.proofs.Common.{◌∙◌, sym, subst, ap, arith}
 use Rattle.mt_dump.specs.Reader.{HasRead}
 use Rattle.mt_dump.specs.Seen.{state_of}
-use Rattle.mt_dump.specs.declared.said.Said.TheVariants.{Section}
-use Rattle.mt_dump.specs.Dumps.{IsDump}
-use Rattle.mt_dump.specs.Dump.{ShownBy}
-use Rattle.mt_dump.specs.Reader.{onto, with_width}
+use Rattle.mt_dump.specs.Reader.{with_width}
 use Rattle.mt_dump.proofs.Held.{no_file_at_end, shown_at_end, dump_at_end, few_files, width_bounds}
 use Rattle.mt_dump.proofs.reader.DumpReader.finish.Goals as goal
 

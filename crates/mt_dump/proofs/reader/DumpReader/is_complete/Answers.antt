@@ -1,4 +1,4 @@
-use Rattle.std.proofs.Common.{sym, subst, refl, ◌∙◌, ap, Ok, Some, inl, inr}
+use Rattle.std.proofs.Common.{sym, subst, ◌∙◌}
 use Rattle.mt_dump.specs.Reader.{HasRead}
 use Rattle.mt_dump.specs.Seen.{state_of}
 use Rattle.mt_dump.proofs.Held.{complete_is}

@@ -1,7 +1,7 @@
-use Rattle.std.proofs.Common.{◌∷◌, ◌∙◌, sym, subst, refl, ap, arith, Ok, Some}
+use Rattle.std.proofs.Common.{◌∷◌, ◌∙◌, sym, subst, refl, ap, Ok}
 use Rattle.mt_dump.specs.Reader.{HasRead}
 use Rattle.mt_dump.specs.Seen.{state_of}
-use Rattle.mt_dump.specs.declared.said.Said.TheVariants.{Width, Register}
+use Rattle.mt_dump.specs.declared.said.Said.TheVariants.{Register}
 use Rattle.mt_dump.proofs.Held.{holds_first_capabilities, differing_capabilities, repeated_capabilities, holds_capabilities}
 use Rattle.mt_dump.proofs.reader.DumpReader.take_capabilities.Goals as goal
 

@@ -1,4 +1,4 @@
-use Rattle.std.proofs.Common.{◌∷◌, ◌∙◌, sym, subst, refl, ap, arith, Ok, Some}
+use Rattle.std.proofs.Common.{◌∷◌, sym, subst, arith, Ok}
 use Rattle.mt_dump.specs.Reader.{HasRead}
 use Rattle.mt_dump.specs.Seen.{state_of}
 use Rattle.mt_dump.specs.declared.said.Said.TheVariants.{Section}
