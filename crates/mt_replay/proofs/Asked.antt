@@ -11,7 +11,7 @@ use Rattle.mt_regs.specs.declared.registers.Register.{Register}
 use Rattle.mt_regs.proofs.ByNumber.{register_of-range}
 use Rattle.mt_machine.specs.Memory.{Window, word_count}
 use Rattle.mt_ram.specs.Windows.{is_overlap, is_too_much, refusal, shares_byte, window}
-use Rattle.mt_script.specs.Situation.{Situation}
+use Rattle.mt_script.specs.Situation.{Situation, file_of}
 use Rattle.mt_script.specs.Numbers.{address_limit, are_apart, has_room, lines_together}
 use Rattle.mt_replay.specs.Kept.{windows_of}
 
@@ -65,20 +65,20 @@ refuses_none ws w aligned apart few = rw (eq-eqb (w.base % 64) 0 aligned, apart,
 
 -- what has room ends within the physical addresses, and is refused by no memory of these windows
 pub record HasPlace (now : Situation) (base lines : ℕ) : Type 0 where
-  pub end : base + 64 * lines ≤ address_limit now.file
+  pub end : base + 64 * lines ≤ address_limit (file_of now)
   pub accepted : refusal (windows_of now) (window base lines) ≡ None
 
 pub has_place : (now : Situation) (base lines : ℕ) → base % 64 ≡ 0 → has_room now base lines ≡ true → HasPlace now base lines
 has_place now base lines aligned room =
-    let last = and_parts (nat_le (base + 64 * lines) (address_limit now.file) && list_all (are_apart base lines) now.windows && nat_lt (length now.windows) 16) (nat_le (lines_together now.windows + lines) 4096) room in
-    let few = and_parts (nat_le (base + 64 * lines) (address_limit now.file) && list_all (are_apart base lines) now.windows) (nat_lt (length now.windows) 16) last.0 in
-    let first = and_parts (nat_le (base + 64 * lines) (address_limit now.file)) (list_all (are_apart base lines) now.windows) few.0 in
+    let last = and_parts (nat_le (base + 64 * lines) (address_limit (file_of now)) && list_all (are_apart base lines) now.windows && nat_lt (length now.windows) 16) (nat_le (lines_together now.windows + lines) 4096) room in
+    let few = and_parts (nat_le (base + 64 * lines) (address_limit (file_of now)) && list_all (are_apart base lines) now.windows) (nat_lt (length now.windows) 16) last.0 in
+    let first = and_parts (nat_le (base + 64 * lines) (address_limit (file_of now))) (list_all (are_apart base lines) now.windows) few.0 in
     let together = leb-true (lines_together now.windows + lines) 4096 last.1 in
     let count = ltb-true (length now.windows) 16 few.1 in
     let words = words_together now.windows in
     let size = length-map now.windows (λ (w : ℕ × ℕ). window w.0 w.1) in
     record {
-      end = leb-true (base + 64 * lines) (address_limit now.file) first.0;
+      end = leb-true (base + 64 * lines) (address_limit (file_of now)) first.0;
       accepted =
           refuses_none (windows_of now) (window base lines) aligned (none_overlaps base lines now.windows first.1)
           (not_too_much (windows_of now) (window base lines) (omega arith) (omega arith));

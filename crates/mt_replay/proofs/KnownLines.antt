@@ -4,33 +4,31 @@ use Rattle.std.specs.Prelude.{◌⊎◌}
 use Rattle.std.specs.List.{list_any, onto_first}
 use Rattle.std.proofs.lemmas.Bool.{cases_Bool}
 use Rattle.std.proofs.lemmas.Bool.Decides.{nat_tests}
-use Rattle.mt_text.specs.Text.{is_line_end, lines_of, end_of, words_of}
+use Rattle.mt_text.specs.Text.{is_line_end, lines_of, end_of}
 use Rattle.mt_text.specs.Feed.{known_front}
 use Rattle.mt_text.specs.declared.place.Place.{Place}
 use Rattle.mt_text.proofs.Fronts.{reach}
 use Rattle.mt_text.proofs.LineSteps.{lines_of-first}
+use Rattle.mt_ports.specs.declared.status.Status.TheVariants.{Done}
 use Rattle.mt_regs.specs.declared.fault.Fault.{Fault}
-use Rattle.mt_regs.specs.RegisterFile.{RegisterFile}
-use Rattle.mt_dump.specs.Line.{Reading, said_of}
-use Rattle.mt_dump.specs.Dump.{offence_at_end, offence_of}
-use Rattle.mt_dump.specs.Reader.{file_in, onto}
-use Rattle.mt_dump.specs.declared.fault.DumpFault.{DumpFault}
+use Rattle.mt_regs.specs.Agreement.{first_refusal}
+use Rattle.mt_dump.specs.Line.{Reading}
+use Rattle.mt_dump.specs.Dumps.{Dump}
 use Rattle.mt_script.specs.Situation.{Situation, at_start}
-use Rattle.mt_script.specs.Stages.{is_in_dump, is_past_dump, takes_cpus, takes_dump}
-use Rattle.mt_script.specs.Words.{place_of}
+use Rattle.mt_script.specs.Stages.{is_past_dump, takes_cpus, takes_dump}
 use Rattle.mt_script.specs.Accept.{Fits, accepted}
-use Rattle.mt_script.specs.Commands.{command_of}
-use Rattle.mt_script.specs.Script.{is_end_command, with_told_width}
+use Rattle.mt_script.specs.Commands.{command_of, end_fault}
+use Rattle.mt_script.specs.Head.{HeadStep, goes_on, head_step, offends, shows}
 use Rattle.mt_script.specs.declared.command.Command.{Command}
 use Rattle.mt_script.specs.declared.command.Command.TheVariants as command
 use Rattle.mt_script.specs.declared.command.Stage.{Stage}
 use Rattle.mt_script.specs.declared.command.Stage.TheVariants.{NeedCpus, NeedDump}
 use Rattle.mt_script.specs.declared.fault.ScriptFault.{ScriptFault}
-use Rattle.mt_replay.specs.FirstFault.{first_fault}
-use Rattle.mt_replay.specs.Known.{known_from, known_in, known_part, known_text}
+use Rattle.mt_replay.specs.Heads.{HeadEnd, end_after, head_end}
+use Rattle.mt_replay.specs.Known.{known_in, known_part, known_text}
 use Rattle.mt_replay.specs.ReplayState.{ReplayState, command_text, first_state, state_after}
 use Rattle.mt_replay.specs.Running.{in_body, in_head}
-use Rattle.mt_replay.specs.Transcript.{Head, Told, behind, told_command, told_dump_line, told_file, told_from, told_head_command, told_head_line, told_in, told_shown, told_unless, transcript}
+use Rattle.mt_replay.specs.Transcript.{Told, behind, told, told_at_end, told_by, told_command, told_dump, told_in, told_offence, transcript}
 use Rattle.mt_output.specs.Lines.{accepted_line}
 use Rattle.mt_replay.proofs.Fronts.{long_lines, some_any}
 use Rattle.mt_replay.proofs.Keeping.States.{command_known}
@@ -145,44 +143,36 @@ body_front end number (k ∷ ks) (l ∷ ls) (inr long) s past =
 
 -- ---- up to the dump's end
 
-abbrev HeadFront : Head → Head → Type 0
-HeadFront head other = (now : Situation) (before : List Reading) → IsFrontOf (head now before) (other now before)
+-- what the lines tell where no dump ends
+abbrev last_known : Situation → Told
+last_known last = told [] Done
 
-module _ (now : Situation) (before : List Reading) (number : ℕ) (line : List ℕ) (head other : Head) (rest behind_all : ReplayState → Told) (later : HeadFront head other)
-    (body : (s : ReplayState) → is_past_dump s.now.stage ≡ true → IsFrontOf (rest s) (behind_all s)) where
-  file_front : (file : RegisterFile) (fault : Option Fault) → IsFrontOf (told_file now file rest fault) (told_file now file behind_all fault)
-  file_front file (Some fault) = front_same (told_file now file rest (Some fault))
-  file_front file None = front_behind accepted_line (rest (first_state now file)) (behind_all (first_state now file)) (body (first_state now file) refl)
+abbrev last_told : Place → Situation → Told
+last_told end last = told_at_end (end_fault last.stage end)
 
-  shown_front : (found : Option RegisterFile) → IsFrontOf (told_shown now before rest found) (told_shown now before behind_all found)
-  shown_front None = front_same (told_shown now before rest None)
-  shown_front (Some file) = file_front (with_told_width before file) (first_fault (with_told_width before file))
+abbrev HeadFront : Place → (Situation → List Reading → HeadEnd) → (Situation → List Reading → HeadEnd) → Type 0
+HeadFront end head other = (now : Situation) (before : List Reading) → IsFrontOf (told_by last_known known_in (head now before)) (told_by (last_told end) (told_in end) (other now before))
 
-  unless_front : (fault : Option DumpFault) (x y : Told) → IsFrontOf x y → IsFrontOf (told_unless fault x) (told_unless fault y)
-  unless_front (Some fault) x y both = front_same (told_unless (Some fault) x)
-  unless_front None x y both = both
+dump_front : (end : Place) (now : Situation) (dump : Dump) (number : ℕ) (ks ls : List (List ℕ)) → Agree ks ls → (refusal : Option (ℕ × Fault))
+    → IsFrontOf (told_dump now dump (known_in number ks) refusal) (told_dump now dump (told_in end number ls) refusal)
+dump_front end now dump number ks ls agree (Some refusal) = front_same (told_dump now dump (known_in number ks) (Some refusal))
+dump_front end now dump number ks ls agree None =
+    front_behind accepted_line (known_in number ks (first_state now dump)) (told_in end number ls (first_state now dump)) (body_front end number ks ls agree (first_state now dump) refl)
 
-  dump_front : (ends : Bool) → IsFrontOf (told_dump_line now before number line head rest ends) (told_dump_line now before number line other behind_all ends)
-  dump_front true = unless_front (offence_at_end (place_of number (words_of line) 0) (onto before [])) (told_shown now before rest (file_in before)) (told_shown now before behind_all (file_in before)) (shown_front (file_in before))
-  dump_front false = unless_front (offence_of before (said_of number line)) (head now (said_of number line ∷ before)) (other now (said_of number line ∷ before)) (later now (said_of number line ∷ before))
+step_front : (end : Place) (number : ℕ) (ks ls : List (List ℕ)) → Agree ks ls → HeadFront end (head_end number ks) (head_end number ls) → (now : Situation) (step : HeadStep)
+    → IsFrontOf (told_by last_known known_in (end_after number ks now (head_end number ks) step)) (told_by (last_told end) (told_in end) (end_after number ls now (head_end number ls) step))
+step_front end number ks ls agree later now (goes_on next after) = later next after
+step_front end number ks ls agree later now (shows dump) = dump_front end now dump number ks ls agree (first_refusal dump.files)
+step_front end number ks ls agree later now (offends o) = front_same (told_offence o)
 
-  command_front : (c : Command) (dump : Bool) → IsFrontOf (told_head_command now before number line head rest c dump) (told_head_command now before number line other behind_all c dump)
-  command_front c true = dump_front (is_end_command c)
-  command_front c false = later (accepted now c) before
-
-  line_front : (answer : Result Command ScriptFault) → IsFrontOf (told_head_line now before number line head rest answer) (told_head_line now before number line other behind_all answer)
-  line_front (Err fault) = front_same (told_head_line now before number line head rest (Err fault))
-  line_front (Ok c) = command_front c (is_in_dump now.stage)
-
-head_front : (end : Place) (number : ℕ) (ks ls : List (List ℕ)) → Agree ks ls → HeadFront (known_from number ks) (told_from (told_in end) end number ls)
-head_front end number [] ls agree now before = ((told_from (told_in end) end number ls now before).text, refl)
+head_front : (end : Place) (number : ℕ) (ks ls : List (List ℕ)) → Agree ks ls → HeadFront end (head_end number ks) (head_end number ls)
+head_front end number [] ls agree now before = ((told_by (last_told end) (told_in end) (head_end number ls now before)).text, refl)
 head_front end number (k ∷ ks) [] agree now before = absurd agree
 head_front end number (k ∷ ks) (l ∷ ls) (inl same) now before =
-    subst (λ m. IsFrontOf (known_from number (k ∷ ks) now before) (told_from (told_in end) end number (m ∷ ls) now before)) same.0
-    (line_front now before number k (known_from (number + 1) ks) (told_from (told_in end) end (number + 1) ls) (known_in (number + 1) ks) (told_in end (number + 1) ls)
-    (head_front end (number + 1) ks ls same.1) (body_front end (number + 1) ks ls same.1) (command_of now number k))
+    subst (λ m. IsFrontOf (told_by last_known known_in (head_end number (k ∷ ks) now before)) (told_by (last_told end) (told_in end) (head_end number (m ∷ ls) now before))) same.0
+    (step_front end (number + 1) ks ls same.1 (head_front end (number + 1) ks ls same.1) now (head_step now before number k))
 head_front end number (k ∷ ks) (l ∷ ls) (inr long) now before =
-    front_of_both (known_from number (k ∷ ks) now before) (told_from (told_in end) end number (l ∷ ls) now before) _
+    front_of_both (told_by last_known known_in (head_end number (k ∷ ks) now before)) (told_by (last_told end) (told_in end) (head_end number (l ∷ ls) now before)) _
     (long_stops number k (in_head now before) tt long.0 None ks) (long_stops number l (in_head now before) tt long.1 (Some end) ls)
 
 pub known_is_front : (front more : List ℕ) → (rest : List ℕ) × ((transcript (front ++ more)).text ≡ known_text front ++ rest)

@@ -4,7 +4,10 @@ pub mod Courses
 mod DirtyCounts
 mod Fresh
 pub mod Eras
+pub mod Files
 pub mod FirstFault
+pub mod FirstRefusal
+pub mod Heads
 pub mod Hiding
 pub mod Keeping
 pub mod Fronts
@@ -14,7 +17,7 @@ pub mod Refusals
 pub mod Rounds
 pub mod SameFiles
 pub mod Sums
-pub mod ShownFile
+pub mod ShownDump
 pub mod Taking
 pub mod Telling
 pub mod Walks

@@ -1,5 +1,4 @@
 pub mod Calls
-pub mod Dumps
 pub mod Outcomes
 pub mod Releases
 pub mod Since

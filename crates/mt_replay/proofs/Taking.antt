@@ -6,14 +6,14 @@ use Rattle.mt_ports.specs.declared.status.Failed.{Failed}
 use Rattle.mt_ports.specs.declared.status.Status.{Status}
 use Rattle.mt_ports.specs.declared.status.Status.TheVariants.{BadText, NoMemory, Refused}
 use Rattle.mt_output.specs.Writing.{Adds, Passes}
-use Rattle.mt_output.specs.Lines.{accepted_line, refused_line}
+use Rattle.mt_output.specs.Lines.{accepted_line, dump_refused_line}
 use Rattle.mt_output.proofs.Writing.{passes_nothing}
 use Rattle.mt_text.specs.declared.place.Place.{Place}
-use Rattle.mt_regs.specs.RegisterFile.{RegisterFile}
-use Rattle.mt_regs.specs.Faults.{IsAccepted, IsFirstFault}
 use Rattle.mt_regs.specs.declared.fault.Fault.{Fault}
+use Rattle.mt_regs.specs.Agreement.{first_refusal}
 use Rattle.mt_dump.specs.Line.{Reading}
-use Rattle.mt_dump.specs.Reader.{HasRead, IsClean}
+use Rattle.mt_dump.specs.Dumps.{Dump}
+use Rattle.mt_dump.specs.Reader.{HasRead}
 use Rattle.mt_script.specs.Situation.{Situation}
 use Rattle.mt_script.specs.declared.head.Head.{Head as HeadReader}
 use Rattle.mt_script.specs.Stages.{takes_windows}
@@ -23,16 +23,14 @@ use Rattle.mt_script.specs.Head.{goes_on, head_step}
 use Rattle.mt_script.specs.declared.command.Command.{Command}
 use Rattle.mt_script.specs.declared.command.Command.TheVariants as command
 use Rattle.mt_script.specs.declared.fault.ScriptFault.{ScriptFault}
-use Rattle.mt_replay.specs.FirstFault.{first_fault}
 use Rattle.mt_replay.specs.Kept.{HasEras, IsReplayState}
 use Rattle.mt_replay.specs.Parts.{IsWindow}
 use Rattle.mt_replay.specs.ReplayState.{ReplayState, command_text, first_state, state_after}
 use Rattle.mt_replay.specs.Running.{Fails, GoesOn, IsAt, Leading, Point, Takes, body_lines, from_line, in_body, in_head}
-use Rattle.mt_replay.specs.Transcript.{Told, behind, told, told_command, told_file}
+use Rattle.mt_replay.specs.Transcript.{Told, behind, told, told_command, told_dump}
 use Rattle.mt_replay.specs.declared.line.Run.{Run}
 use Rattle.mt_replay.specs.declared.line.Run.TheVariants as run
 use Rattle.mt_replay.proofs.Eras.{eras_kept}
-use Rattle.mt_replay.proofs.FirstFault.{is_first_fault}
 use Rattle.mt_replay.proofs.Keeping.States.{state_kept}
 use Rattle.mt_replay.proofs.Walks.{from_body, head_leads}
 
@@ -72,34 +70,34 @@ takes_same from other number was now waiting left a b (Err failed) same f = reco
 
 -- ---- the dump's end
 
--- what a shown file and the lines behind it lead to
-abbrev pub from_file : Situation → RegisterFile → ℕ → Leading
-from_file now file number end lines = told_file now file (body_lines end number lines) (first_fault file)
+-- what a shown dump and the lines behind it lead to
+abbrev pub from_dump : Situation → Dump → ℕ → Leading
+from_dump now dump number end lines = told_dump now dump (body_lines end number lines) (first_refusal dump.files)
 
-pub file_refused : (now : Situation) (file : RegisterFile) (number : ℕ) (fault : Fault) → IsFirstFault file (Some fault) → (end : Option Place) (lines : List (List ℕ))
-    → from_file now file number end lines ≡ told (refused_line fault) Refused
-file_refused now file number fault is end lines = ap (told_file now file (body_lines end number lines)) (sym (is_first_fault file (Some fault) is))
+pub dump_refused : (now : Situation) (dump : Dump) (number : ℕ) (refusal : ℕ × Fault) → first_refusal dump.files ≡ Some refusal → (end : Option Place) (lines : List (List ℕ))
+    → from_dump now dump number end lines ≡ told (dump_refused_line dump.version refusal.0 refusal.1) Refused
+dump_refused now dump number refusal is end lines = ap (told_dump now dump (body_lines end number lines)) is
 
-file_accepted : (now : Situation) (file : RegisterFile) (number : ℕ) → IsAccepted file → (end : Option Place) (lines : List (List ℕ))
-    → from_file now file number end lines ≡ behind accepted_line (body_lines end number lines (first_state now file))
-file_accepted now file number is end lines = ap (told_file now file (body_lines end number lines)) (sym (is_first_fault file None is))
+dump_accepted : (now : Situation) (dump : Dump) (number : ℕ) → first_refusal dump.files ≡ None → (end : Option Place) (lines : List (List ℕ))
+    → from_dump now dump number end lines ≡ behind accepted_line (body_lines end number lines (first_state now dump))
+dump_accepted now dump number is end lines = ap (told_dump now dump (body_lines end number lines)) is
 
-pub file_goes : (now : Situation) (file : RegisterFile) (number : ℕ) (before : List Reading) (r : ReplayState) (waiting text left : List ℕ) (a b : Option (List ℕ)) → IsAccepted file → r ≡ first_state now file → text ≡ accepted_line
-    → Passes waiting text left a b → GoesOn (from_file now file number) number (in_head now before) (run.Body r) waiting left a b
-file_goes now file number before r waiting text left a b is first line passed = record {
-  next = in_body (first_state now file);
+pub dump_goes : (now : Situation) (dump : Dump) (number : ℕ) (before : List Reading) (r : ReplayState) (waiting text left : List ℕ) (a b : Option (List ℕ)) → first_refusal dump.files ≡ None → r ≡ first_state now dump → text ≡ accepted_line
+    → Passes waiting text left a b → GoesOn (from_dump now dump number) number (in_head now before) (run.Body r) waiting left a b
+dump_goes now dump number before r waiting text left a b is first line passed = record {
+  next = in_body (first_state now dump);
   at = (first, refl);
   text = accepted_line;
-  goes = file_accepted now file number is;
+  goes = dump_accepted now dump number is;
   quiet = λ so_far none takes. ap (λ l. l ++ accepted_line) none;
   passed = subst (λ l. Passes waiting l left a b) line passed;
 }
 
-pub file_fails : (now : Situation) (file : RegisterFile) (number : ℕ) (waiting text : List ℕ) (a b : Option (List ℕ)) → IsAccepted file → text ≡ accepted_line → AppendsFront a b (waiting ++ text)
-    → Fails (from_file now file number) waiting a b
-file_fails now file number waiting text a b is line failed = record {
+pub dump_fails : (now : Situation) (dump : Dump) (number : ℕ) (waiting text : List ℕ) (a b : Option (List ℕ)) → first_refusal dump.files ≡ None → text ≡ accepted_line → AppendsFront a b (waiting ++ text)
+    → Fails (from_dump now dump number) waiting a b
+dump_fails now dump number waiting text a b is line failed = record {
   text = accepted_line;
-  front = λ end lines. ((body_lines end number lines (first_state now file)).text, ap (λ (t : Told). t.text) (file_accepted now file number is end lines));
+  front = λ end lines. ((body_lines end number lines (first_state now dump)).text, ap (λ (t : Told). t.text) (dump_accepted now dump number is end lines));
   failed = subst (λ l. AppendsFront a b (waiting ++ l)) line failed;
 }
 
@@ -159,13 +157,13 @@ fault_leads s number line fault asked end lines = from_body s number line end li
 -- ---- the head
 
 -- the head goes on
-pub head_takes : (now next : Situation) (before after : List Reading) (number : ℕ) (line waiting : List ℕ) (later : Run) (a : Option (List ℕ)) → IsClean before → head_step now before number line ≡ goes_on next after → IsAt later (in_head next after)
+pub head_takes : (now next : Situation) (before after : List Reading) (number : ℕ) (line waiting : List ℕ) (later : Run) (a : Option (List ℕ)) → head_step now before number line ≡ goes_on next after → IsAt later (in_head next after)
     → GoesOn (from_line number line (in_head now before)) (number + 1) (in_head now before) later waiting waiting a a
-head_takes now next before after number line waiting later a clean is at = record {
+head_takes now next before after number line waiting later a is at = record {
   next = in_head next after;
   at = at;
   text = [];
-  goes = λ end lines. head_leads now before number line clean (goes_on next after) is end lines;
+  goes = λ end lines. head_leads now before number line (goes_on next after) is end lines;
   quiet = λ so_far none. append-nil so_far ∙ none;
   passed = passes_nothing waiting a;
 }

@@ -7,35 +7,31 @@
 --     IsCall step      the step says `called` or `complete E`
 --     Keeps goal era value stored m      every processor has the goal, nothing is older than the update, memory has each word
 --     CompleteUpdatesAreKept, ReleasedUpdatesAreKept      the machine does so from the line `complete E` or `release` on
-use Rattle.std.specs.Prelude.{ℕ, ◌≡◌, ◌⊎◌, ◌↔◌, ◌+◌, Bool, true, false, List, [], ◌∷◌, ◌++◌, codes, length, IsSome, ⊤, Option, Some, None, Result, Ok, Err}
+use Rattle.std.specs.Prelude.{ℕ, ◌≡◌, ◌⊎◌, ◌↔◌, ◌+◌, Bool, true, List, [], ◌∷◌, ◌++◌, codes, length, IsSome, ⊤, Option, Some, None, Result, Ok, Err}
 use Rattle.std.specs.List.{All, Contains}
 use Rattle.std.specs.Option.{option_map_or}
-use Rattle.mt_text.specs.Text.{lines_of, words_of}
+use Rattle.mt_text.specs.Text.{lines_of}
 use Rattle.mt_ports.specs.declared.status.Status.{Status}
 use Rattle.mt_ports.specs.declared.status.Status.TheVariants.{Done, Refused}
 use Rattle.mt_regs.specs.declared.fault.Fault.{Fault}
+use Rattle.mt_regs.specs.Agreement.{first_refusal}
 use Rattle.mt_regs.specs.RegisterFile.{RegisterFile}
 use Rattle.mt_regs.specs.Faults.{IsAccepted}
-use Rattle.mt_dump.specs.Line.{Reading, said_of}
-use Rattle.mt_dump.specs.Dump.{offence_of, offence_at_end}
-use Rattle.mt_dump.specs.Reader.{file_in, onto}
-use Rattle.mt_dump.specs.declared.fault.DumpFault.{DumpFault}
+use Rattle.mt_dump.specs.Line.{Reading}
+use Rattle.mt_dump.specs.Dumps.{Dump}
 use Rattle.mt_machine.specs.Memory.{place, word_at}
 use Rattle.mt_machine.specs.System.{now}
 use Rattle.mt_machine.specs.Machine.{Machine, common_era}
 use Rattle.mt_machine.specs.Update.{IsSettled, emptied}
-use Rattle.mt_script.specs.Situation.{Situation, at_start}
-use Rattle.mt_script.specs.Stages.{is_in_dump}
-use Rattle.mt_script.specs.Words.{place_of}
+use Rattle.mt_script.specs.Situation.{Situation}
 use Rattle.mt_script.specs.Commands.{command_of}
-use Rattle.mt_script.specs.Accept.{accepted}
-use Rattle.mt_script.specs.Script.{is_end_command, script_offence, with_told_width}
+use Rattle.mt_script.specs.Script.{script_offence}
 use Rattle.mt_script.specs.declared.command.Command.{Command}
 use Rattle.mt_script.specs.declared.command.Command.TheVariants as command
 use Rattle.mt_script.specs.declared.fault.ScriptFault.{ScriptFault}
 use Rattle.mt_script.specs.declared.fault.Offence.{Offence}
-use Rattle.mt_output.specs.Lines.{accepted_line, line, refused_line}
-use Rattle.mt_replay.specs.FirstFault.{first_fault}
+use Rattle.mt_output.specs.Lines.{accepted_line, dump_refused_line, line, refused_line}
+use Rattle.mt_replay.specs.Heads.{HeadEnd, head_end, head_of, has_offence, shows_dump, stays_open}
 use Rattle.mt_replay.specs.Kept.{HoldsThrough, start_of}
 use Rattle.mt_replay.specs.ReplayState.{ReplayState, command_text, each_processor, first_file, first_state, state_after, with_register}
 use Rattle.mt_replay.specs.Running.{Replays, ReplaysAs}
@@ -74,46 +70,26 @@ pub record Beginning : Type 0 where
   pub lines : List (List ℕ)
   pub state : ReplayState
 
--- the dump shows a file, which may have a fault
-abbrev pub begins_with : Situation → RegisterFile → ℕ → List (List ℕ) → Option Fault → Option Beginning
-begins_with now file number lines (Some fault) = None
-begins_with now file number lines None = Some (record { number = number; lines = lines; state = first_state now file })
+-- one of the dump's files may have a fault
+abbrev pub begins_with : Situation → Dump → ℕ → List (List ℕ) → Option (ℕ × Fault) → Option Beginning
+begins_with now dump number lines (Some refusal) = None
+begins_with now dump number lines None = Some (record { number = number; lines = lines; state = first_state now dump })
 
-abbrev pub begins_shown : Situation → List Reading → ℕ → List (List ℕ) → Option RegisterFile → Option Beginning
-begins_shown now before number lines None = None
-begins_shown now before number lines (Some file) = begins_with now (with_told_width before file) number lines (first_fault (with_told_width before file))
-
-abbrev pub begins_unless : Option DumpFault → Option Beginning → Option Beginning
-begins_unless (Some fault) rest = None
-begins_unless None rest = rest
+abbrev pub begins_by : HeadEnd → Option Beginning
+begins_by (stays_open now before) = None
+begins_by (has_offence o) = None
+begins_by (shows_dump now dump number lines) = begins_with now dump number lines (first_refusal dump.files)
 
 -- by the situation and the dump's lines so far, of which the last stands first
 abbrev pub Beginnings : Type 0
 Beginnings = Situation → List Reading → Option Beginning
 
--- a line of the dump, which ends it where the last argument is true
-abbrev pub begins_in_dump : Situation → List Reading → ℕ → List ℕ → List (List ℕ) → Beginnings → Bool → Option Beginning
-begins_in_dump now before number line lines later true =
-    begins_unless (offence_at_end (place_of number (words_of line) 0) (onto before [])) (begins_shown now before (number + 1) lines (file_in before))
-begins_in_dump now before number line lines later false =
-    begins_unless (offence_of before (said_of number line)) (later now (said_of number line ∷ before))
-
-abbrev pub begins_at_command : Situation → List Reading → ℕ → List ℕ → List (List ℕ) → Beginnings → Command → Bool → Option Beginning
-begins_at_command now before number line lines later c true = begins_in_dump now before number line lines later (is_end_command c)
-begins_at_command now before number line lines later c false = later (accepted now c) before
-
-abbrev pub begins_at_line : Situation → List Reading → ℕ → List ℕ → List (List ℕ) → Beginnings → Result Command ScriptFault → Option Beginning
-begins_at_line now before number line lines later (Err fault) = None
-begins_at_line now before number line lines later (Ok c) = begins_at_command now before number line lines later c (is_in_dump now.stage)
-
 abbrev pub begins_from : ℕ → List (List ℕ) → Beginnings
-begins_from number [] now before = None
-begins_from number (line ∷ lines) now before =
-    begins_at_line now before number line lines (begins_from (number + 1) lines) (command_of now number line)
+begins_from number lines now before = begins_by (head_end number lines now before)
 
 -- none where the dump isn't read to its end, or is refused
 abbrev pub beginning : List ℕ → Option Beginning
-beginning text = begins_from 1 (lines_of text) at_start []
+beginning text = begins_by (head_of text)
 
 abbrev pub course : List ℕ → List Step
 course text = option_map_or (λ b. steps_in b.number b.lines b.state) (beginning text) []
@@ -147,7 +123,7 @@ ReplaysAreOfTheCourse =
 abbrev pub TranscriptIsOneLine : Type 0
 TranscriptIsOneLine =
     (text : List ℕ) → beginning text ≡ None
-    → ((o : Offence) × (transcript text ≡ told_offence o)) ⊎ ((fault : Fault) × (transcript text ≡ told (refused_line fault) Refused))
+    → ((o : Offence) × (transcript text ≡ told_offence o)) ⊎ ((version : ℕ) × (k : ℕ) × (fault : Fault) × (transcript text ≡ told (dump_refused_line version k fault) Refused))
 
 -- a step is what the script's line of its number asks for
 abbrev pub StepsAreOfTheirLines : Type 0
@@ -156,11 +132,11 @@ StepsAreOfTheirLines =
     → (above : List (List ℕ)) × (line : List ℕ) × (below : List (List ℕ))
     × (lines_of text ≡ above ++ line ∷ below) × (step.number ≡ length above + 1) × (command_of step.before.now step.number line ≡ Ok step.command)
 
--- Where the dump shows a file without a fault, the first step finds processors with that file, to which nothing has happened.
+-- Where the dump shows files without a fault, the first step finds processors with those files, to which nothing has happened.
 abbrev pub StartsAsTheDumpShows : Type 0
 StartsAsTheDumpShows =
-    (text : List ℕ) (file : RegisterFile) → ShowsDump text file → IsAccepted file
-    → (b : Beginning) × (beginning text ≡ Some b) × (b.state.machine ≡ start_of b.state.now file)
+    (text : List ℕ) (dump : Dump) → ShowsDump text dump → All IsAccepted dump.files
+    → (b : Beginning) × (beginning text ≡ Some b) × (b.state.machine ≡ start_of b.state.now dump)
     × ((step : Step) (rest : List Step) → course text ≡ step ∷ rest → step.before ≡ b.state)
 
 -- each step finds what the one before it left

@@ -8,8 +8,9 @@ use Rattle.mt_text.specs.Text.{is_line_end, lines_of}
 use Rattle.mt_ports.specs.declared.status.Status.TheVariants.{Done}
 use Rattle.mt_script.specs.Situation.{at_start}
 use Rattle.mt_script.specs.Commands.{command_of}
+use Rattle.mt_replay.specs.Heads.{head_end}
 use Rattle.mt_replay.specs.ReplayState.{ReplayState}
-use Rattle.mt_replay.specs.Transcript.{Head, Told, told, told_command, told_head_line}
+use Rattle.mt_replay.specs.Transcript.{Head, Told, told, told_by, told_command}
 
 abbrev pub known_part : List ℕ → List ℕ
 known_part [] = []
@@ -24,9 +25,7 @@ known_in number (line ∷ lines) s = told_command s (known_in (number + 1) lines
 
 -- of lines up to the dump's end, and all that follow
 abbrev pub known_from : ℕ → List (List ℕ) → Head
-known_from number [] now before = told [] Done
-known_from number (line ∷ lines) now before =
-    told_head_line now before number line (known_from (number + 1) lines) (known_in (number + 1) lines) (command_of now number line)
+known_from number lines now before = told_by (λ last. told [] Done) known_in (head_end number lines now before)
 
 abbrev pub known_text : List ℕ → List ℕ
 known_text taken = (known_from 1 (lines_of (known_part taken)) at_start []).text

@@ -1,5 +1,6 @@
 pub mod FirstFault
 pub mod Headline
+pub mod Heads
 pub mod Flat
 pub mod Kept
 pub mod Known

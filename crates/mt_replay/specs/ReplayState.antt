@@ -1,7 +1,7 @@
 -- A script between two lines after its dump: what stands set up, the machine, and what a command writes and leaves (own).
 --     command_text state command      what the command writes
 --     state_after state command      what it leaves
-use Rattle.std.specs.Prelude.{ℕ, ◌/◌, Bool, true, false, List, [], length, replicate, if◌then◌else◌, slice_get, Option, None, Some, is_some}
+use Rattle.std.specs.Prelude.{ℕ, ◌/◌, Bool, true, false, List, [], length, if◌then◌else◌, slice_get, Option, None, Some, is_some}
 use Rattle.std.specs.Option.{option_map, option_map_or}
 use Rattle.mt_regs.specs.RegisterFile.{RegisterFile}
 use Rattle.mt_regs.specs.Registers.{value_at, written}
@@ -25,6 +25,8 @@ use Rattle.mt_core.specs.Rounds.{ascending}
 use Rattle.mt_core.specs.Steps.{step_after, step_answer}
 use Rattle.mt_core.specs.declared.fault.CallFault.{CallFault}
 use Rattle.mt_core.specs.declared.fault.CallFault.TheVariants.{Refused, UnderWay}
+use Rattle.mt_dump.specs.Dumps.{Dump, first_file as first_file_of}
+use Rattle.mt_dump.specs.ForProcessors.{files_for}
 use Rattle.mt_script.specs.Situation.{Situation}
 use Rattle.mt_script.specs.Accept.{accepted, finished}
 use Rattle.mt_script.specs.declared.command.Stage.{Stage}
@@ -39,9 +41,9 @@ pub record ReplayState : Type 0 where
   pub machine : Machine
   pub goal : RegisterFile  -- of the section that is read, so far
 
--- after the dump, whose file is accepted
-abbrev pub first_state : Situation → RegisterFile → ReplayState
-first_state now file = record { now = finished now file; machine = start_machine (replicate now.cpus file) []; goal = file }
+-- after the dump, whose files are accepted; each processor begins with its own
+abbrev pub first_state : Situation → Dump → ReplayState
+first_state now dump = record { now = finished now dump; machine = start_machine (files_for now.cpus dump) []; goal = first_file_of dump }
 
 -- ---- accesses and control instructions
 

@@ -1,5 +1,5 @@
 -- What is promised of a script's refusals (own).
---     ShowsDump text file      the text's dump is read whole, no offence stands before, and its lines show the file
+--     ShowsDump text dump      the text's dump is read whole, no offence stands up to and with its end, and its lines show this
 --     the status of a text's transcript, and its first and last line
 --     what a refused update, a complete one and a release leave of the machine of a state
 use Rattle.std.specs.Prelude.{ℕ, ◌≡◌, ◌≢◌, ◌⊎◌, ◌↔◌, ◌+◌, ◌%◌, Bool, true, false, List, [], ◌∷◌, ◌++◌, codes, IsSome, ⊤, Option, Some, None, Ok}
@@ -8,10 +8,12 @@ use Rattle.std.specs.Option.{option_map_or}
 use Rattle.mt_text.specs.Text.{lines_of}
 use Rattle.mt_ports.specs.declared.status.Status.TheVariants.{Done, Refused, BadText}
 use Rattle.mt_regs.specs.declared.fault.Fault.{Fault}
-use Rattle.mt_regs.specs.RegisterFile.{RegisterFile}
+use Rattle.mt_regs.specs.Agreement.{IsFirstRefusal}
 use Rattle.mt_regs.specs.Faults.{IsAccepted, IsFirstFault}
 use Rattle.mt_dump.specs.Line.{Reading, said_of}
 use Rattle.mt_dump.specs.Dump.{ShownBy, offence_of}
+use Rattle.mt_dump.specs.Dumps.{Dump}
+use Rattle.mt_dump.specs.ForProcessors.{has_each}
 use Rattle.mt_dump.specs.Reader.{onto}
 use Rattle.mt_machine.specs.declared.event.Event.TheVariants.{Release}
 use Rattle.mt_machine.specs.Memory.{place, word_at}
@@ -26,11 +28,12 @@ use Rattle.mt_script.specs.Situation.{Situation, at_start}
 use Rattle.mt_script.specs.Stages.{is_in_dump}
 use Rattle.mt_script.specs.Accept.{Fits, accepted}
 use Rattle.mt_script.specs.Commands.{command_of}
-use Rattle.mt_script.specs.Script.{is_end_command, script_offence}
+use Rattle.mt_script.specs.Head.{is_end_command}
+use Rattle.mt_script.specs.Script.{script_offence}
 use Rattle.mt_script.specs.declared.command.Command.{Command}
 use Rattle.mt_script.specs.declared.command.Command.TheVariants as command
 use Rattle.mt_script.specs.declared.fault.Offence.{Offence}
-use Rattle.mt_output.specs.Lines.{accepted_line, line, offence_line, refused_line}
+use Rattle.mt_output.specs.Lines.{accepted_line, dump_refused_line, line, offence_line, refused_line}
 use Rattle.mt_replay.specs.Kept.{HoldsThrough, IsReplayState, start_like}
 use Rattle.mt_replay.specs.ReplayState.{ReplayState, call_fault, command_text, each_processor, is_update, machine_after, state_after}
 use Rattle.mt_replay.specs.Texts.{called_line, complete_line}
@@ -38,35 +41,36 @@ use Rattle.mt_replay.specs.Transcript.{told, told_offence, transcript}
 
 -- ---- the dump of a text
 
--- a line of the dump, which ends it where the last argument is true: the lines before it then show the file
-abbrev pub ShowsAt : RegisterFile → Situation → List Reading → Reading → (Situation → List Reading → Type 0) → Bool → Type 0
-ShowsAt file now before says rest true = ShownBy (onto before []) file
-ShowsAt file now before says rest false = (offence_of before says ≡ None) × rest now (says ∷ before)
+-- A line of the dump, which ends it where the last argument is true: the lines before it then show the dump, with a file for each
+-- of the processors.
+abbrev pub ShowsAt : Dump → Situation → List Reading → Reading → (Situation → List Reading → Type 0) → Bool → Type 0
+ShowsAt dump now before says rest true = ShownBy (onto before []) dump × (has_each now.cpus dump ≡ true)
+ShowsAt dump now before says rest false = (offence_of before says ≡ None) × rest now (says ∷ before)
 
-abbrev pub ShowsAfter : RegisterFile → Situation → List Reading → Reading → (Situation → List Reading → Type 0) → Command → Bool → Type 0
-ShowsAfter file now before says rest c true = ShowsAt file now before says rest (is_end_command c)
-ShowsAfter file now before says rest c false = rest (accepted now c) before
+abbrev pub ShowsAfter : Dump → Situation → List Reading → Reading → (Situation → List Reading → Type 0) → Command → Bool → Type 0
+ShowsAfter dump now before says rest c true = ShowsAt dump now before says rest (is_end_command c)
+ShowsAfter dump now before says rest c false = rest (accepted now c) before
 
 -- each of these lines is accepted in its turn, up to one that ends the dump
-abbrev pub ShowsIn : RegisterFile → ℕ → List (List ℕ) → Situation → List Reading → Type 0
-ShowsIn file number [] now before = ⊥
-ShowsIn file number (line ∷ lines) now before =
-    (c : Command) × (command_of now number line ≡ Ok c) × ShowsAfter file now before (said_of number line) (ShowsIn file (number + 1) lines) c (is_in_dump now.stage)
+abbrev pub ShowsIn : Dump → ℕ → List (List ℕ) → Situation → List Reading → Type 0
+ShowsIn dump number [] now before = ⊥
+ShowsIn dump number (line ∷ lines) now before =
+    (c : Command) × (command_of now number line ≡ Ok c) × ShowsAfter dump now before (said_of number line) (ShowsIn dump (number + 1) lines) c (is_in_dump now.stage)
 
-abbrev pub ShowsDump : List ℕ → RegisterFile → Type 0
-ShowsDump text file = ShowsIn file 1 (lines_of text) at_start []
+abbrev pub ShowsDump : List ℕ → Dump → Type 0
+ShowsDump text dump = ShowsIn dump 1 (lines_of text) at_start []
 
--- the dump isn't read to its end, whatever file it might show
+-- the dump isn't read to its end, whatever it might show
 abbrev pub ShowsNoDump : List ℕ → Type 0
-ShowsNoDump text = (file : RegisterFile) → ShowsDump text file → ⊥
+ShowsNoDump text = (dump : Dump) → ShowsDump text dump → ⊥
 
--- a text shows no two files
-abbrev pub OneFileShown : Type 0
-OneFileShown = (text : List ℕ) (file other : RegisterFile) → ShowsDump text file → ShowsDump text other → file ≡ other
+-- a text shows no two dumps
+abbrev pub OneDumpShown : Type 0
+OneDumpShown = (text : List ℕ) (dump other : Dump) → ShowsDump text dump → ShowsDump text other → dump ≡ other
 
--- each state of a text has the file that the text's dump shows
-abbrev pub StatesHaveTheShownFile : Type 0
-StatesHaveTheShownFile = (text : List ℕ) (file : RegisterFile) → ShowsDump text file → HoldsThrough (λ s. s.now.file ≡ Some file) text
+-- each state of a text has the dump that the text shows
+abbrev pub StatesHaveTheShownDump : Type 0
+StatesHaveTheShownDump = (text : List ℕ) (dump : Dump) → ShowsDump text dump → HoldsThrough (λ s. s.now.dump ≡ Some dump) text
 
 -- ---- statuses
 
@@ -77,14 +81,16 @@ abbrev pub BeginsWith : List ℕ → List ℕ → Type 0
 BeginsWith text first = (rest : List ℕ) × (text ≡ first ++ rest)
 
 abbrev pub HasRefusedFile : List ℕ → Type 0
-HasRefusedFile text = (file : RegisterFile) × (fault : Fault) × ShowsDump text file × IsFirstFault file (Some fault)
+HasRefusedFile text = (dump : Dump) × (k : ℕ) × (fault : Fault) × ShowsDump text dump × IsFirstRefusal dump.files k fault
 
 abbrev pub RefusedWhereFileIsRefused : Type 0
 RefusedWhereFileIsRefused = (text : List ℕ) → ((transcript text).status ≡ Refused) ↔ HasRefusedFile text
 
--- the whole text is the line of the fault
+-- the whole text is the line of the first file that has a fault
 abbrev pub RefusedAlone : Type 0
-RefusedAlone = (text : List ℕ) (file : RegisterFile) (fault : Fault) → ShowsDump text file → IsFirstFault file (Some fault) → transcript text ≡ told (refused_line fault) Refused
+RefusedAlone =
+    (text : List ℕ) (dump : Dump) (k : ℕ) (fault : Fault) → ShowsDump text dump → IsFirstRefusal dump.files k fault
+    → transcript text ≡ told (dump_refused_line dump.version k fault) Refused
 
 -- where no file is refused the status says whether the script has an offence
 abbrev pub BadTextWhereOffence : Type 0
@@ -105,13 +111,13 @@ OneOfThreeStatuses =
 
 -- ---- the first line
 
--- a file that is shown is accepted exactly where the status isn't Refused
+-- each file that is shown is accepted exactly where the status isn't Refused
 abbrev pub AcceptedUnlessRefused : Type 0
-AcceptedUnlessRefused = (text : List ℕ) (file : RegisterFile) → ShowsDump text file → ((transcript text).status ≢ Refused) ↔ IsAccepted file
+AcceptedUnlessRefused = (text : List ℕ) (dump : Dump) → ShowsDump text dump → ((transcript text).status ≢ Refused) ↔ All IsAccepted dump.files
 
--- an accepted file is told of before anything else
+-- accepted files are told of before anything else
 abbrev pub AcceptedFirst : Type 0
-AcceptedFirst = (text : List ℕ) (file : RegisterFile) → ShowsDump text file → IsAccepted file → BeginsWith (transcript text).text accepted_line
+AcceptedFirst = (text : List ℕ) (dump : Dump) → ShowsDump text dump → All IsAccepted dump.files → BeginsWith (transcript text).text accepted_line
 
 -- where the dump isn't read to its end the whole text is the line of the offence
 abbrev pub OffenceAlone : Type 0
@@ -200,7 +206,7 @@ UpdatedWordsAreHeld =
 -- from the first release of an update on, and up to the next call: the value that the word had before the first pass
 abbrev pub ReleasedWordsAreHeld : Type 0
 ReleasedWordsAreHeld =
-    (s : ReplayState) (f : RegisterFile) (o : Order) (k : ℕ) (since : List Command) → IsReplayState s → s.now.file ≡ Some f → Fits s.now (command.Step k)
+    (s : ReplayState) (d : Dump) (o : Order) (k : ℕ) (since : List Command) → IsReplayState s → s.now.dump ≡ Some d → Fits s.now (command.Step k)
     → step_answer s.machine k ≡ Did Release → s.machine.order ≡ Some o → All (λ q. has_released o q ≡ false) s.machine.system.processors
     → AreWithoutCall (state_after s (command.Step k)) since
-    → (p : Machine) × Reached (start_like s f) p × IsFirstRelease p (machine_after s (command.Step k)) o × AreHeld (now p.system) (state_after s (command.Step k)) since
+    → (p : Machine) × Reached (start_like s d) p × IsFirstRelease p (machine_after s (command.Step k)) o × AreHeld (now p.system) (state_after s (command.Step k)) since

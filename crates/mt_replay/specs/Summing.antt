@@ -7,10 +7,10 @@ use Rattle.mt_text.specs.Text.{lines_of}
 use Rattle.mt_ports.specs.declared.status.Failed.{Failed}
 use Rattle.mt_ports.specs.declared.status.Status.{Status}
 use Rattle.mt_ports.specs.declared.status.Status.TheVariants.{NoMemory}
-use Rattle.mt_regs.specs.RegisterFile.{RegisterFile}
 use Rattle.mt_regs.specs.declared.fault.Fault.{Fault}
+use Rattle.mt_regs.specs.Agreement.{first_refusal}
+use Rattle.mt_dump.specs.Dumps.{Dump}
 use Rattle.mt_script.specs.Situation.{Situation}
-use Rattle.mt_replay.specs.FirstFault.{first_fault}
 use Rattle.mt_replay.specs.Headline.{begins_from, last_of, steps_in}
 use Rattle.mt_replay.specs.ReplayState.{ReplayState, first_state}
 use Rattle.mt_replay.specs.Running.{IsAt, Point, in_body, in_head}
@@ -71,11 +71,11 @@ Lasts number line was now result =
     (λ ended. MatchOption ended (LastsOn number line was now) (λ status. status ≢ NoMemory → LastsHere number line was now))
     (λ _. ⊤)
 
--- what a run in the head makes of the file that a dump shows
-abbrev pub Begins : Situation → RegisterFile → Run → Result (Option Status) Failed → Type 0
-Begins now file new result =
+-- what a run in the head makes of the dump that is shown
+abbrev pub Begins : Situation → Dump → Run → Result (Option Status) Failed → Type 0
+Begins now dump new result =
     MatchResult result
     (λ ended. MatchOption ended
-    ((first_fault file ≡ None) × (new ≡ run.Body (first_state now file)))
-    (λ status. status ≢ NoMemory → (fault : Fault) × (first_fault file ≡ Some fault) × (state_in new ≡ None)))
+    ((first_refusal dump.files ≡ None) × (new ≡ run.Body (first_state now dump)))
+    (λ status. status ≢ NoMemory → (refusal : ℕ × Fault) × (first_refusal dump.files ≡ Some refusal) × (state_in new ≡ None)))
     (λ _. ⊤)

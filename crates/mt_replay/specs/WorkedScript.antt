@@ -1,6 +1,7 @@
 -- A worked script of two processors: an update by steps, one all at once, a refused one, and a store behind each of the first two.
 use Rattle.std.specs.Prelude.{ℕ, ◌≡◌, ◌+◌, List, [], ◌∷◌, ◌++◌, codes, drop, if◌then◌else◌, ◌==◌, replicate, slice_index_or, take, None}
 use Rattle.mt_regs.specs.RegisterFile.{RegisterFile, blank_file}
+use Rattle.mt_dump.specs.Dumps.{dump_of}
 use Rattle.mt_machine.specs.System.{Processor, start_processor}
 use Rattle.mt_machine.specs.Machine.{Machine}
 use Rattle.mt_output.specs.Lines.{line}
@@ -50,7 +51,7 @@ worked_lines =
 -- ---- where the premises of the headline hold
 
 abbrev pub no_step : Step
-no_step = record { number = 0; command = command.Blank; before = first_state at_start (blank_file 36 0) }
+no_step = record { number = 0; command = command.Blank; before = first_state at_start (dump_of (blank_file 36 0)) }
 
 -- a step of the worked script, the first being 0
 abbrev pub step_at : ℕ → Step

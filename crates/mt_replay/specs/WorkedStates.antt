@@ -1,5 +1,6 @@
 -- States of worked examples.
 use Rattle.std.specs.Prelude.{ℕ, List, [], ◌∷◌, codes, slice_set, Some}
+use Rattle.mt_dump.specs.Dumps.{Dump, dump_of}
 use Rattle.mt_machine.specs.System.{Processor}
 use Rattle.mt_machine.specs.Machine.{Machine, MachineEvent, Calls, run}
 use Rattle.mt_machine.specs.Update.{updated}
@@ -10,7 +11,7 @@ use Rattle.mt_script.specs.declared.command.Stage.TheVariants.{Commands, InUpdat
 use Rattle.mt_replay.specs.ReplayState.{ReplayState}
 
 abbrev pub two_processors : Stage → Situation
-two_processors stage = record { stage = stage; cpus = 2; file = Some (bare_file 0x800); windows = (0x100000, 64) ∷ []; seen = [] }
+two_processors stage = record { stage = stage; cpus = 2; dump = Some (dump_of (bare_file 0x800)); windows = (0x100000, 64) ∷ []; seen = [] }
 
 -- two processors with this machine, whose goal has no fault
 abbrev pub state_of : Stage → Machine → ReplayState
@@ -47,3 +48,14 @@ with_first p m = record m { system = record m.system { processors = slice_set m.
 -- a script that is no more than its dump
 abbrev pub small_dump : List ℕ
 small_dump = codes "cpus 1\ndump\n0fe 400\n2ff 806\nend\n"
+
+-- two sections, with a register that differs
+abbrev pub pair : Dump
+pair = record { version = 2; files = bare_file 0x806 ∷ bare_file 0x800 ∷ [] }
+
+abbrev pub paired_dump : List ℕ
+paired_dump = codes "cpus 2\ndump\nversion 2\ncpu 0\n0fe 400\n2ff 806\ncpu 1\n2ff 800\nend\n"
+
+-- the second section has a type that there is not
+abbrev pub later_refused : List ℕ
+later_refused = codes "cpus 2\ndump\nversion 2\ncpu 0\n0fe 400\n2ff 806\ncpu 1\n2ff 803\nend\n"

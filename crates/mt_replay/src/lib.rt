@@ -36,13 +36,13 @@ pub use running::replay;
 pub use statuses::{
     a_text_shows_one_dump, accepted_comes_first, complete_updates_settle,
     refused_calls_change_nothing, refused_dumps_are_told_alone, released_states_settle,
-    states_have_the_shown_file, statuses_tell_of_offences, stored_words_are_held,
+    states_have_the_shown_dump, statuses_tell_of_offences, stored_words_are_held,
 };
 pub use summing::{Totals, summary};
 pub use worked::{
     worked_answers, worked_commands, worked_dumps, worked_each_state, worked_effects,
     worked_events, worked_flat_values, worked_kept, worked_last_states, worked_line_ends,
-    worked_phases, worked_reports, worked_settled_states, worked_short_updates, worked_summaries,
-    worked_told_lines, worked_told_texts, worked_updates, worked_values, worked_without_call,
-    worked_words,
+    worked_phases, worked_reports, worked_sections, worked_settled_states, worked_short_updates,
+    worked_summaries, worked_told_lines, worked_told_texts, worked_updates, worked_values,
+    worked_without_call, worked_words,
 };

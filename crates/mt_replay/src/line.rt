@@ -7,18 +7,20 @@ ghost use Rattle.mt_output.specs.Lines.{offence_line};
 ghost use Rattle.mt_output.specs.Writing.{Adds, Passes};
 ghost use Rattle.mt_script.specs.Accept.{Fits};
 ghost use Rattle.mt_script.specs.Stages.{is_in_dump};
-ghost use Rattle.mt_replay.specs.FirstFault.{first_fault};
+ghost use Rattle.mt_regs.specs.Agreement.{first_refusal};
+ghost use Rattle.mt_dump.specs.ForProcessors.{has_each};
 ghost use Rattle.mt_replay.specs.Kept.{HasEras};
 ghost use Rattle.mt_replay.specs.Parts.{IsWindow};
 ghost use Rattle.mt_replay.specs.ReplayState.{ReplayState, command_text, state_after};
 ghost use Rattle.mt_replay.specs.Running.{HasEraRoomAt, HasErasAt, IsAt, IsEnding, Point, Takes, body_lines, from_line, in_body, in_head, setup_of};
 ghost use Rattle.mt_replay.specs.Summing.{Begins, Lasts, state_in};
-ghost use Rattle.mt_replay.specs.Transcript.{told_file};
+ghost use Rattle.mt_replay.specs.Transcript.{told_dump};
 
 use crate::replayer::Replayer;
-use mt_output::{Writer, accepted_line, offence_line, refused_line};
+use mt_dump::Dump;
+use mt_output::{Writer, accepted_line, dump_refused_line, offence_line};
 use mt_ports::{Failed, Gate, Sink, Status};
-use mt_regs::RegFile;
+use mt_regs::first_refusal;
 use mt_script::{Command, Head, Offence, Setup, read_command};
 use mt_text::Line;
 use std::alloc::Global;
@@ -85,35 +87,33 @@ fn tell_offence<K: Sink>(
     )
 }
 
-// Goes on behind the dump's end, where its file is accepted.
+// Goes on behind the dump's end, where each of its files is accepted.
 #[inline(never)]
 fn begin<K: Sink>(
     alloc: Global,
     run: &mut Run,
     setup: Setup,
-    file: RegFile,
+    dump: Dump,
     writer: &mut Writer,
     sink: &mut K,
 ) -> Result<Option<Status>, Failed>
     requires stage { is_in_dump setup.stage ≡ true }
+    requires each { has_each setup.cpus dump ≡ true }
     requires head { state_in run.old ≡ None }
     ensures bytes { (number : ℕ) (before : List Reading) →
-        Takes (λ end lines. told_file setup file (body_lines end number lines) (first_fault file)) number (in_head setup before) run.new writer.old writer.new (K.taken sink.old) (K.taken sink.new) result }
+        Takes (λ end lines. told_dump setup dump (body_lines end number lines) (first_refusal dump.files)) number (in_head setup before) run.new writer.old writer.new (K.taken sink.old) (K.taken sink.new) result }
     ensures ending { (status : Status) → result ≡ Ok (Some status) → IsEnding status }
     ensures eras { (most : ℕ) → MatchResult result (λ ended. MatchOption ended (HasErasAt most run.new) (λ _. Unit {0})) (λ _. Unit {0}) }
-    ensures state { Begins setup file run.new result }
+    ensures state { Begins setup dump run.new result }
     ensures cause { HasCause (K.faults sink.old) (K.faults sink.new) result }
 {
-    file.is_register_file(); // a fact for the proof
-    if let Some(fault) = file.first_fault() {
-        return tell(
-            writer,
-            sink,
-            refused_line(&fault).as_slice(),
-            Status::Refused,
-        );
+    dump.is_dump(); // a fact for the proof
+    let files = dump.files.as_slice();
+    if let Some((k, fault)) = first_refusal(files) {
+        let line = dump_refused_line(dump.version, k, &fault);
+        return tell(writer, sink, line.as_slice(), Status::Refused);
     }
-    let Ok(replayer) = Replayer::begin(alloc, setup, file) else {
+    let Ok(replayer) = Replayer::begin(alloc, setup, dump) else {
         return Ok(Some(Status::NoMemory));
     };
     *run = Run::Body(replayer);
@@ -235,9 +235,9 @@ fn take_in_head<K: Sink>(
     };
     match head.take(line) {
         Ok(None) => Ok(None),
-        Ok(Some(file)) => {
+        Ok(Some(dump)) => {
             let setup = mem::replace(&mut head.setup, Setup::new());
-            begin(alloc, run, setup, file, writer, sink)
+            begin(alloc, run, setup, dump, writer, sink)
         }
         Err(offence) => tell_offence(writer, sink, &offence),
     }

@@ -2,6 +2,7 @@ ghost use Rattle.std.specs.Prelude.{◌≡◌, ◌≢◌, ℕ, ◌≤◌, ◌<�
 ghost use Rattle.std.specs.List.{All};
 ghost use Rattle.mt_regs.specs.Faults.{IsAccepted};
 ghost use Rattle.mt_regs.specs.RegisterFile.{RegisterFile};
+ghost use Rattle.mt_dump.specs.ForProcessors.{has_each};
 ghost use Rattle.mt_machine.specs.Machine.{FitsGoal};
 ghost use Rattle.mt_machine.specs.Start.{HasEraRoom};
 ghost use Rattle.mt_script.specs.Stages.{is_in_dump};
@@ -17,6 +18,7 @@ use crate::commands::{
 };
 use crate::report::write_report;
 use mt_core::Core;
+use mt_dump::Dump;
 use mt_kinds::PAGE_BYTES;
 use mt_machine::{Control, Op};
 use mt_output::{LINE_ROOM, WRITER_ROOM, Writer};
@@ -157,24 +159,22 @@ fn act<R: Threads + Wait + Sync, G: Gate>(
 }
 
 impl Replayer {
-    /// A script after its dump, whose file is accepted. The error comes only where the allocator has
-    /// no room.
-    pub fn begin(alloc: Global, setup: Setup, file: RegFile) -> Result<Replayer, NoMemory>
+    /// A script after its dump, which has an accepted file for each processor. The error comes only
+    /// where the allocator has no room.
+    pub fn begin(alloc: Global, setup: Setup, dump: Dump) -> Result<Replayer, NoMemory>
         requires stage { is_in_dump setup.stage ≡ true }
-        requires accepted { IsAccepted file }
-        ensures { IfOk result (λ r. r ≡ first_state setup file) }
+        requires each { has_each setup.cpus dump ≡ true }
+        requires accepted { All IsAccepted dump.files }
+        ensures { IfOk result (λ r. r ≡ first_state setup dump) }
     {
         let mut setup = setup;
         setup.is_situation(); // a fact for the proof
-        file.is_register_file(); // a fact for the proof
-        let files = file.copies(setup.cpus());
+        dump.is_dump(); // a fact for the proof
+        let files = dump.files_for(setup.cpus());
         let core = Core::start(alloc, files.as_slice())?;
-        setup.dumped(file.same());
-        Ok(Replayer {
-            setup,
-            core,
-            goal: file,
-        })
+        let goal = dump.first_file().same();
+        setup.dumped(dump);
+        Ok(Replayer { setup, core, goal })
     }
 
     /// What stands set up.

@@ -1,17 +1,17 @@
-ghost use Rattle.mt_replay.specs.Statuses.{AcceptedCallsAreUnderWay, AcceptedFirst, AcceptedUnlessRefused, AcceptedWhereIdle, BadTextEndsWithOffence, BadTextWhereOffence, CallsUnderWayChangeNothing, CompleteUpdatesSettle, DoneWhereNoOffence, OffenceAlone, OneFileShown, OneOfThreeStatuses, RefusedAlone, RefusedCallsChangeNothing, RefusedWhereFileIsRefused, ReleasedStatesSettle, ReleasedWordsAreHeld, StatesHaveTheShownFile, UpdatedWordsAreHeld};
+ghost use Rattle.mt_replay.specs.Statuses.{AcceptedCallsAreUnderWay, AcceptedFirst, AcceptedUnlessRefused, AcceptedWhereIdle, BadTextEndsWithOffence, BadTextWhereOffence, CallsUnderWayChangeNothing, CompleteUpdatesSettle, DoneWhereNoOffence, OffenceAlone, OneDumpShown, OneOfThreeStatuses, RefusedAlone, RefusedCallsChangeNothing, RefusedWhereFileIsRefused, ReleasedStatesSettle, ReleasedWordsAreHeld, StatesHaveTheShownDump, UpdatedWordsAreHeld};
 
-/// A text's dump shows no two files.
+/// A text shows no two dumps.
 pub fn a_text_shows_one_dump()
-    ensures { OneFileShown }
+    ensures { OneDumpShown }
 {}
 
-/// Each state that a text comes to has the file that the text's dump shows.
-pub fn states_have_the_shown_file()
-    ensures { StatesHaveTheShownFile }
+/// Each state that a text comes to has the dump that the text shows.
+pub fn states_have_the_shown_dump()
+    ensures { StatesHaveTheShownDump }
 {}
 
-/// A script is refused exactly where its dump is read whole and shows a file with a fault, which is
-/// then all that is told.
+/// A script is refused exactly where its dump is read whole, has a file for each processor and shows
+/// one with a fault. The first such file is then all that is told.
 pub fn refused_dumps_are_told_alone()
     ensures exactly { RefusedWhereFileIsRefused }
     ensures alone { RefusedAlone }
@@ -25,7 +25,7 @@ pub fn statuses_tell_of_offences()
     ensures three { OneOfThreeStatuses }
 {}
 
-/// An accepted file is told of first. Where the dump isn't read to its end the offence is all that
+/// Accepted files are told of first. Where the dump isn't read to its end the offence is all that
 /// is told.
 pub fn accepted_comes_first()
     ensures exactly { AcceptedUnlessRefused }

@@ -192,6 +192,58 @@ fn the_first_offence_ends_a_replay(rt: HostRuntime) -> Result<(), Fail> {
     Ok(())
 }
 
+// Two processors whose registers differ: memory below 4 GB has type WB for the first alone.
+const SECTIONS: &[u8] =
+    b"version 2\ncpu 0\n0fe 508\n200 6\n201 f00000800\n2ff 800\ncpu 1\n0fe 508\n2ff 800\n";
+
+#[test]
+fn a_section_for_each_processor(rt: HostRuntime) -> Result<(), Fail> {
+    let alloc = rt.alloc();
+    let mut script = repeated(alloc, b"cpus 2\ndump\n", SECTIONS, 1)?;
+    script.extend_from_slice(
+        b"end\nram 100000 64\nmap 0 1000 100000 0\nmap 1 1000 100000 0\nload 0 1000\nload 1 1000\nreport\nupdate\nend\nreport\nload 1 1000\n",
+    )?;
+    let ran = run(&rt, &script, 4096, &[])?;
+    assert_eq!(rt; ran.status, Status::Done);
+    assert!(rt;
+        ran.sink.bytes()
+            == b"accepted\nok\nok\nvalue 0000000000000000 WB\nvalue 0000000000000000 UC\ncpu 0 running era 0 lines 1 dirty 0 buffers 0 entries 1 stale 0 cd 0 pge 0\ncpu 1 running era 0 lines 0 dirty 0 buffers 0 entries 1 stale 0 cd 0 pge 0\nregisters differ\ncomplete 1\ncpu 0 running era 1 lines 0 dirty 0 buffers 0 entries 0 stale 0 cd 0 pge 0\ncpu 1 running era 1 lines 0 dirty 0 buffers 0 entries 0 stale 0 cd 0 pge 0\nregisters same\nvalue 0000000000000000 WB\n".as_slice()
+    );
+    Ok(())
+}
+
+#[test]
+fn sections_that_are_not_taken(rt: HostRuntime) -> Result<(), Fail> {
+    let alloc = rt.alloc();
+    for (first, more, status, text) in [
+        (
+            b"cpus 2\ndump\n".as_slice(),
+            b"277 2\nend\nfence 9\n".as_slice(),
+            Status::Refused,
+            b"refused cpu 1 277 unsupported type\n".as_slice(),
+        ),
+        (
+            b"cpus 2\ndump\n",
+            b"cpu 2\nend\n",
+            Status::BadText,
+            b"bad text 13:1 out of range\n",
+        ),
+        (
+            b"cpus 3\ndump\n",
+            b"277 2\nend\n",
+            Status::BadText,
+            b"bad text 13:1 out of range\n",
+        ),
+    ] {
+        let mut script = repeated(alloc, first, SECTIONS, 1)?;
+        script.extend_from_slice(more)?;
+        let ran = run(&rt, &script, 4096, &[])?;
+        assert_eq!(rt; ran.status, status);
+        assert!(rt; ran.sink.bytes() == text);
+    }
+    Ok(())
+}
+
 // All that a script tells is the same however its source cuts it.
 #[test]
 fn pieces_change_nothing(rt: HostRuntime) -> Result<(), Fail> {

@@ -1,70 +1,41 @@
 -- Each step of a course is the line of its number.
-use Rattle.std.proofs.Common.{◌≡◌, ◌∙◌, ap, sym, refl, subst, arith, ℕ, ◌+◌, length, Bool, true, false, List, [], ◌∷◌, ◌++◌, Option, None, Some, Result, Ok, Err}
+use Rattle.std.proofs.Common.{◌≡◌, ◌∙◌, ap, sym, refl, subst, arith, ℕ, ◌+◌, length, List, [], ◌∷◌, ◌++◌, Option, None, Some, Result, Ok, Err}
 use Rattle.std.specs.Option.{option_map_or}
 use Rattle.std.proofs.lemmas.List.{append_assoc, length-append}
-use Rattle.mt_text.specs.Text.{lines_of, words_of}
+use Rattle.mt_text.specs.Text.{end_of, lines_of}
 use Rattle.mt_regs.specs.declared.fault.Fault.{Fault}
-use Rattle.mt_regs.specs.RegisterFile.{RegisterFile}
-use Rattle.mt_dump.specs.Line.{Reading, said_of}
-use Rattle.mt_dump.specs.Dump.{offence_at_end, offence_of}
-use Rattle.mt_dump.specs.Reader.{file_in, onto}
-use Rattle.mt_dump.specs.declared.fault.DumpFault.{DumpFault}
-use Rattle.mt_script.specs.Situation.{Situation, at_start}
-use Rattle.mt_script.specs.Stages.{is_in_dump}
-use Rattle.mt_script.specs.Words.{place_of}
+use Rattle.mt_regs.specs.Agreement.{first_refusal}
+use Rattle.mt_dump.specs.Dumps.{Dump}
+use Rattle.mt_script.specs.Situation.{Situation}
 use Rattle.mt_script.specs.Commands.{command_of}
-use Rattle.mt_script.specs.Accept.{accepted}
-use Rattle.mt_script.specs.Script.{is_end_command, with_told_width}
+use Rattle.mt_script.specs.Script.{script_offence}
 use Rattle.mt_script.specs.declared.command.Command.{Command}
 use Rattle.mt_script.specs.declared.fault.ScriptFault.{ScriptFault}
-use Rattle.mt_replay.specs.FirstFault.{first_fault}
-use Rattle.mt_replay.specs.Headline.{Beginning, Step, StepsAreOfTheirLines, beginning, begins_at_command, begins_at_line, begins_from, begins_in_dump, begins_shown, begins_unless, begins_with, steps_in, steps_of}
+use Rattle.mt_replay.specs.Headline.{Beginning, Step, StepsAreOfTheirLines, beginning, begins_by, begins_with, steps_in, steps_of}
+use Rattle.mt_replay.specs.Heads.{HeadEnd, head_of, has_offence, shows_dump, stays_open}
 use Rattle.mt_replay.specs.ReplayState.{ReplayState, first_state, state_after}
+use Rattle.mt_replay.specs.Statuses.{ShowsDump}
+use Rattle.mt_replay.proofs.Heads.{Comes, IsDumped, comes}
 
 -- ---- the beginning
 
 -- the lines from there on are the last of these
-abbrev IsBehind : ℕ → List (List ℕ) → Beginning → Type 0
-IsBehind number lines b = (above : List (List ℕ)) × (lines ≡ above ++ b.lines) × (b.number ≡ number + length above)
+abbrev IsBehind : List (List ℕ) → Beginning → Type 0
+IsBehind lines b = (above : List (List ℕ)) × (lines ≡ above ++ b.lines) × (b.number ≡ 1 + length above)
 
-module _ (number : ℕ) (line : List ℕ) (lines : List (List ℕ)) (now : Situation) (before : List Reading) (b : Beginning)
-    (later : (now : Situation) (before : List Reading) → begins_from (number + 1) lines now before ≡ Some b → IsBehind (number + 1) lines b) where
-  one_more : IsBehind (number + 1) lines b → IsBehind number (line ∷ lines) b
-  one_more h =
-      let count = h.2 in
-      (line ∷ h.0, ap (λ (rest : List (List ℕ)). line ∷ rest) h.1, omega (arith, count))
-
-  of_file : (file : RegisterFile) (fault : Option Fault) → begins_with now file (number + 1) lines fault ≡ Some b → IsBehind number (line ∷ lines) b
-  of_file file (Some fault) is = absurd (cc is)
-  of_file file None is =
-      let here : Beginning = record { number = number + 1; lines = lines; state = first_state now file } in
+module _ (text : List ℕ) (b : Beginning) where
+  of_dump : (now : Situation) (dump : Dump) (number : ℕ) (lines : List (List ℕ)) → IsDumped (end_of text) 1 (lines_of text) (script_offence text) (ShowsDump text) now dump number lines
+      → (refusal : Option (ℕ × Fault)) → begins_with now dump number lines refusal ≡ Some b → IsBehind (lines_of text) b
+  of_dump now dump number lines h (Some refusal) is = absurd (cc is)
+  of_dump now dump number lines h None is =
+      let here : Beginning = record { number = number; lines = lines; state = first_state now dump } in
       let same : here ≡ b = cc is in
-      subst (IsBehind number (line ∷ lines)) same (line ∷ [], refl, refl)
+      subst (IsBehind (lines_of text)) same (h.above, h.behind, h.count)
 
-  of_shown : (found : Option RegisterFile) → begins_shown now before (number + 1) lines found ≡ Some b → IsBehind number (line ∷ lines) b
-  of_shown None is = absurd (cc is)
-  of_shown (Some file) is = of_file (with_told_width before file) (first_fault (with_told_width before file)) is
-
-  of_unless : (fault : Option DumpFault) (o : Option Beginning) → (o ≡ Some b → IsBehind number (line ∷ lines) b) → begins_unless fault o ≡ Some b → IsBehind number (line ∷ lines) b
-  of_unless (Some fault) o on is = absurd (cc is)
-  of_unless None o on is = on is
-
-  of_dump : (ends : Bool) → begins_in_dump now before number line lines (begins_from (number + 1) lines) ends ≡ Some b → IsBehind number (line ∷ lines) b
-  of_dump true = of_unless (offence_at_end (place_of number (words_of line) 0) (onto before [])) (begins_shown now before (number + 1) lines (file_in before)) (of_shown (file_in before))
-  of_dump false =
-      of_unless (offence_of before (said_of number line)) (begins_from (number + 1) lines now (said_of number line ∷ before)) (λ is. one_more (later now (said_of number line ∷ before) is))
-
-  of_command : (c : Command) (dump : Bool) → begins_at_command now before number line lines (begins_from (number + 1) lines) c dump ≡ Some b → IsBehind number (line ∷ lines) b
-  of_command c true is = of_dump (is_end_command c) is
-  of_command c false is = one_more (later (accepted now c) before is)
-
-  of_line : (answer : Result Command ScriptFault) → begins_at_line now before number line lines (begins_from (number + 1) lines) answer ≡ Some b → IsBehind number (line ∷ lines) b
-  of_line (Err fault) is = absurd (cc is)
-  of_line (Ok c) is = of_command c (is_in_dump now.stage) is
-
-begins_behind : (number : ℕ) (lines : List (List ℕ)) (b : Beginning) (now : Situation) (before : List Reading) → begins_from number lines now before ≡ Some b → IsBehind number lines b
-begins_behind number [] b now before is = absurd (cc is)
-begins_behind number (line ∷ lines) b now before is = of_line number line lines now before b (begins_behind (number + 1) lines b) (command_of now number line) is
+  by_end : (e : HeadEnd) → Comes (end_of text) 1 (lines_of text) (script_offence text) (ShowsDump text) e → begins_by e ≡ Some b → IsBehind (lines_of text) b
+  by_end (stays_open now before) h is = absurd (cc is)
+  by_end (has_offence o) h is = absurd (cc is)
+  by_end (shows_dump now dump number lines) h is = of_dump now dump number lines h (first_refusal dump.files) is
 
 -- ---- the steps
 
@@ -109,7 +80,7 @@ steps_are_of_their_lines text front rest step is = one (beginning text) refl is
         × (lines_of text ≡ above ++ line ∷ below) × (step.number ≡ length above + 1) × (command_of step.before.now step.number line ≡ Ok step.command)
     one None begins is = absurd (no_steps front rest step is)
     one (Some b) begins is =
-        let head = begins_behind 1 (lines_of text) b at_start [] begins in
+        let head = by_end text b (head_of text) (comes text) begins in
         let body = has_line b.number b.lines b.state front rest step is in
         let low = head.2 in
         let high = body.4 in

@@ -1,6 +1,6 @@
 -- Each command keeps a flat machine beside the machine.
 use Rattle.std.proofs.Common.{◌≡◌, ◌∙◌, ap, sym, refl, subst, ℕ, Bool, true, false, if◌then◌else◌, List, [], ◌∷◌, ◌++◌, length, Option, None, Some, slice_get}
-use Rattle.std.specs.Prelude.{map, replicate}
+use Rattle.std.specs.Prelude.{map}
 use Rattle.mt_replay.proofs.Keeping.Snooping.{snooped_start}
 use Rattle.mt_laws.specs.Kept.{flags_of}
 use Rattle.std.specs.Option.{option_map_or}
@@ -29,6 +29,7 @@ use Rattle.mt_flat.specs.Flat.{Flat}
 use Rattle.mt_flat.specs.Seen.{IsFlatOf, flat_after, flat_takes, given_access, written_of}
 use Rattle.mt_flat.proofs.Seeing.{events_keep_flat, start_is_flat}
 use Rattle.mt_flat.proofs.Updating.{updated_is_flat}
+use Rattle.mt_dump.specs.ForProcessors.{files_for}
 use Rattle.mt_script.specs.Accept.{Fits}
 use Rattle.mt_script.specs.declared.command.Command.{Command}
 use Rattle.mt_script.specs.declared.command.Command.TheVariants as command
@@ -37,7 +38,7 @@ use Rattle.mt_replay.specs.Kept.{IsReplayState, windows_of}
 use Rattle.mt_replay.specs.ReplayState.{ReplayState, after_call, after_update, after_word, call_fault, each_processor, is_undecided, is_update, machine_after, mapping}
 use Rattle.mt_replay.proofs.Hiding.Once.{each_once}
 use Rattle.mt_replay.proofs.Keeping.Machines.{is_pending}
-use Rattle.mt_replay.proofs.Keeping.States.{call_enabled, file_of, mapping_fits}
+use Rattle.mt_replay.proofs.Keeping.States.{call_enabled, dump_here, mapping_fits}
 use Rattle.mt_replay.proofs.Keeping.Windows.{grown_start}
 
 abbrev IsBeside : Machine → Flat → Type 0
@@ -133,12 +134,13 @@ beside_start cs bs files ws n m f new is r = record {
 
 pub command_beside : (s : ReplayState) (c : Command) (f : Flat) → IsReplayState s → Fits s.now c → IsBeside s.machine f → IsBeside (machine_after s c) (flat_command s c f)
 command_beside s (command.Ram base lines) f h fits r =
-    let file = file_of s.now h.situation h.past in
-    beside_window (flags_of s.machine.system) (replicate s.now.cpus file.0) (windows_of s.now) (window base lines) s.machine f (h.fresh file.0 file.1 fits.0).1 r
+    let dump = dump_here s.now h.situation h.past in
+    beside_window (flags_of s.machine.system) (files_for s.now.cpus dump.0) (windows_of s.now) (window base lines) s.machine f (h.fresh dump.0 dump.1 fits.0).1 r
 command_beside s (command.Selfsnoop k) f h fits r =
-    let file = file_of s.now h.situation h.past in
-    let fresh = (h.fresh file.0 file.1 fits.0).1 in
-    beside_start (flags_of (snooped k s.machine).system) (flags_of s.machine.system) (replicate s.now.cpus file.0) (windows_of s.now) (snooped k s.machine) s.machine f (snooped_start k s.machine (replicate s.now.cpus file.0) (windows_of s.now) fresh) fresh r
+    let dump = dump_here s.now h.situation h.past in
+    let files : List RegisterFile = files_for s.now.cpus dump.0 in
+    let fresh = (h.fresh dump.0 dump.1 fits.0).1 in
+    beside_start (flags_of (snooped k s.machine).system) (flags_of s.machine.system) files (windows_of s.now) (snooped k s.machine) s.machine f (snooped_start k s.machine files (windows_of s.now) fresh) fresh r
 command_beside s (command.Load k address) f h fits r = beside_access s.machine k (op.Load address) f h.arises r fits.1
 command_beside s (command.Store k address value) f h fits r = beside_access s.machine k (op.Store address value) f h.arises r (fits.1, fits.2)
 command_beside s (command.Fence k) f h fits r = beside_access s.machine k op.Fence f h.arises r tt

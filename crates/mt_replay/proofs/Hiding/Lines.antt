@@ -1,21 +1,16 @@
 -- Each value in a transcript is the flat machine's.
-use Rattle.std.proofs.Common.{◌≡◌, ◌∙◌, ap, sym, refl, ℕ, ◌+◌, Bool, true, false, List, [], ◌∷◌, Option, None, Some, Result, Ok, Err, subst}
+use Rattle.std.proofs.Common.{◌≡◌, ◌∙◌, ap, sym, refl, ℕ, ◌+◌, List, [], ◌∷◌, Option, None, Some, Result, Ok, Err, subst}
 use Rattle.mt_machine.specs.Start.{start_machine}
 use Rattle.mt_laws.specs.Kept.{flags_of}
 use Rattle.mt_laws.proofs.Invariant.Starts.{no_flag_is_the_start}
-use Rattle.std.specs.Prelude.{replicate}
 use Rattle.std.specs.Option.{option_map_or}
-use Rattle.mt_text.specs.Text.{lines_of, words_of, end_of}
+use Rattle.mt_text.specs.Text.{lines_of, end_of}
 use Rattle.mt_text.specs.declared.place.Place.{Place}
 use Rattle.mt_regs.specs.declared.fault.Fault.{Fault}
-use Rattle.mt_regs.specs.RegisterFile.{RegisterFile, IsRegisterFile}
-use Rattle.mt_regs.specs.Faults.{IsAccepted}
-use Rattle.mt_dump.specs.Line.{Reading, said_of}
-use Rattle.mt_dump.specs.Dump.{offence_at_end, offence_of}
-use Rattle.mt_dump.specs.Reader.{IsClean, file_in, onto}
-use Rattle.mt_dump.specs.declared.fault.DumpFault.{DumpFault}
-use Rattle.mt_dump.proofs.OneLine.{is_sane}
-use Rattle.mt_dump.proofs.Stands.{clean_shown}
+use Rattle.mt_regs.specs.Agreement.{first_refusal}
+use Rattle.mt_regs.specs.RegisterFile.{RegisterFile}
+use Rattle.mt_dump.specs.Dumps.{Dump}
+use Rattle.mt_dump.specs.ForProcessors.{files_for}
 use Rattle.mt_machine.specs.declared.op.Op.TheVariants as op
 use Rattle.mt_machine.specs.declared.done.Done.{Done}
 use Rattle.mt_machine.specs.declared.done.Done.TheVariants.{Value}
@@ -26,27 +21,29 @@ use Rattle.mt_core.proofs.Stepping.{is_sound}
 use Rattle.mt_flat.specs.Flat.{Flat, flat_answer, flat_start}
 use Rattle.mt_flat.specs.Seen.{IsFlatOf}
 use Rattle.mt_flat.proofs.Seeing.{answers_are_flat, start_is_flat}
-use Rattle.mt_script.specs.Situation.{Situation, at_start}
-use Rattle.mt_script.specs.Kept.{IsSituation}
-use Rattle.mt_script.specs.Stages.{is_in_dump}
-use Rattle.mt_script.specs.Words.{place_of}
-use Rattle.mt_script.specs.Commands.{command_of}
-use Rattle.mt_script.specs.Accept.{Fits, accepted}
-use Rattle.mt_script.specs.Script.{is_end_command, with_told_width}
+use Rattle.mt_script.specs.Situation.{Situation}
+use Rattle.mt_script.specs.Commands.{command_of, end_fault}
+use Rattle.mt_script.specs.Script.{script_offence}
 use Rattle.mt_script.specs.declared.command.Command.{Command}
 use Rattle.mt_script.specs.declared.command.Command.TheVariants as command
 use Rattle.mt_script.specs.declared.fault.ScriptFault.{ScriptFault}
-use Rattle.mt_script.proofs.Keeping.{accepted_is, start_is}
-use Rattle.mt_replay.specs.FirstFault.{first_fault}
 use Rattle.mt_output.specs.Lines.{accepted_line}
 use Rattle.mt_replay.specs.Texts.{done_line}
 use Rattle.mt_replay.specs.Flat.{ScriptsHideCaches, flat_command, flat_done, flat_text, flat_told_command, flat_told_in}
+use Rattle.mt_replay.specs.Heads.{HeadEnd, head_of, has_offence, shows_dump, stays_open}
 use Rattle.mt_replay.specs.Kept.{IsReplayState}
 use Rattle.mt_replay.specs.ReplayState.{ReplayState, command_text, first_state, state_after}
-use Rattle.mt_replay.specs.Transcript.{Body, Head, Told, behind, told_command, told_dump_line, told_file, told_from, told_head_command, told_head_line, told_in, told_shown, told_unless}
+use Rattle.mt_replay.specs.Statuses.{ShowsDump}
+use Rattle.mt_replay.specs.Transcript.{Body, Told, behind, told_at_end, told_by, told_command, told_dump, told_in}
+use Rattle.mt_replay.proofs.FirstRefusal.{all_accepted}
+use Rattle.mt_replay.proofs.Heads.{Comes, IsDumped, comes}
 use Rattle.mt_replay.proofs.Keeping.First.{first_kept}
-use Rattle.mt_replay.proofs.Keeping.States.{accepted_of, command_known, state_kept}
+use Rattle.mt_replay.proofs.Keeping.States.{command_known, state_kept}
 use Rattle.mt_replay.proofs.Hiding.Commands.{command_beside}
+
+-- a start of processors that aren't self-snooping
+bare_is_flat : (files : List RegisterFile) → IsFlatOf (start_machine files []).system flat_start
+bare_is_flat files = subst (λ (m : Machine). IsFlatOf m.system flat_start) (no_flag_is_the_start files []) (start_is_flat (flags_of (start_machine files []).system) files [])
 
 -- ---- the text of a command
 
@@ -77,57 +74,30 @@ told_same end number (line ∷ lines) = one (told_same end (number + 1) lines)
             ap (λ text. behind text (flat_told_in end (number + 1) lines (state_after s c) (flat_command s c f))) (text_same s f c h r)
             ∙ ap (behind (command_text s c)) (later (state_after s c) (flat_command s c f) (state_kept s c h fits) (command_beside s c f h fits r))
 
--- ---- the lines up to the dump's end
+-- ---- whole scripts
 
--- the bodies lead to the same from each state that a dump leads to
-abbrev AreSame : Body → Body → Type 0
-AreSame b d =
-    (number : ℕ) (lines : List (List ℕ)) (now : Situation) (file : RegisterFile) → IsSituation now → is_in_dump now.stage ≡ true → IsRegisterFile file → IsAccepted file
-    → b number lines (first_state now file) ≡ d number lines (first_state now file)
+module _ (text : List ℕ) where
+  abbrev end : Place
+  end = end_of text
 
-abbrev LeadSame : Head → Head → Type 0
-LeadSame head other = (now : Situation) (before : List Reading) → IsSituation now → IsClean before → head now before ≡ other now before
+  abbrev flat_body : Body
+  flat_body number lines s = flat_told_in end number lines s flat_start
 
-module _ (b d : Body) (same : AreSame b d) (number : ℕ) (line : List ℕ) (lines : List (List ℕ)) (head other : Head) (later : LeadSame head other)
-    (now : Situation) (before : List Reading) (is : IsSituation now) (clean : IsClean before) where
-  abbrev of_b : ReplayState → Told
-  of_b = b (number + 1) lines
+  -- the flat machine is at its start where the machine is
+  dump_same : (now : Situation) (dump : Dump) (number : ℕ) (lines : List (List ℕ)) → IsDumped end 1 (lines_of text) (script_offence text) (ShowsDump text) now dump number lines
+      → (refusal : Option (ℕ × Fault)) → first_refusal dump.files ≡ refusal → told_dump now dump (flat_body number lines) refusal ≡ told_dump now dump (told_in end number lines) refusal
+  dump_same now dump number lines h (Some refusal) has = refl
+  dump_same now dump number lines h None has =
+      ap (behind accepted_line)
+      (told_same end number lines (first_state now dump) flat_start (first_kept now dump h.is h.in_dump h.good h.each (all_accepted dump.files has)) (bare_is_flat (files_for now.cpus dump)))
 
-  abbrev of_d : ReplayState → Told
-  of_d = d (number + 1) lines
+  abbrev tells : Body → HeadEnd → Told
+  tells body e = told_by (λ last. told_at_end (end_fault last.stage end)) body e
 
-  file_same : is_in_dump now.stage ≡ true → (file : RegisterFile) → IsRegisterFile file → (fault : Option Fault) → first_fault file ≡ fault → told_file now file of_b fault ≡ told_file now file of_d fault
-  file_same dump file good (Some fault) first = refl
-  file_same dump file good None first = ap (behind accepted_line) (same (number + 1) lines now file is dump good (accepted_of file first))
-
-  shown_same : is_in_dump now.stage ≡ true → (found : Option RegisterFile) → file_in before ≡ found → told_shown now before of_b found ≡ told_shown now before of_d found
-  shown_same dump None led = refl
-  shown_same dump (Some file) led = file_same dump (with_told_width before file) (clean_shown before file clean led).is_file (first_fault (with_told_width before file)) refl
-
-  unless_same : (fault : Option DumpFault) (x y : Told) → (fault ≡ None → x ≡ y) → told_unless fault x ≡ told_unless fault y
-  unless_same (Some fault) x y both = refl
-  unless_same None x y both = both refl
-
-  dump_same : is_in_dump now.stage ≡ true → (end : Bool) → told_dump_line now before number line head of_b end ≡ told_dump_line now before number line other of_d end
-  dump_same dump true = unless_same (offence_at_end (place_of number (words_of line) 0) (onto before [])) _ _ (λ none. shown_same dump (file_in before) refl)
-  dump_same dump false = unless_same (offence_of before (said_of number line)) _ _ (λ none. later now (said_of number line ∷ before) is (is_sane number line, none, clean))
-
-  command_same : (c : Command) → Fits now c → (dump : Bool) → is_in_dump now.stage ≡ dump → told_head_command now before number line head of_b c dump ≡ told_head_command now before number line other of_d c dump
-  command_same c fits true dump = dump_same dump (is_end_command c)
-  command_same c fits false dump = later (accepted now c) before (accepted_is now is c fits (λ in_dump. absurd (let e = sym dump ∙ in_dump in cc e))) clean
-
-  line_same : (answer : Result Command ScriptFault) → command_of now number line ≡ answer → told_head_line now before number line head of_b answer ≡ told_head_line now before number line other of_d answer
-  line_same (Err fault) asked = refl
-  line_same (Ok c) asked = command_same c (command_known now number line c asked) (is_in_dump now.stage) refl
-
-pub head_same : (b d : Body) → AreSame b d → (end : Place) (number : ℕ) (lines : List (List ℕ)) → LeadSame (told_from b end number lines) (told_from d end number lines)
-head_same b d same end number [] now before is clean = refl
-head_same b d same end number (line ∷ lines) now before is clean =
-    line_same b d same number line lines (told_from b end (number + 1) lines) (told_from d end (number + 1) lines) (head_same b d same end (number + 1) lines) now before is clean (command_of now number line) refl
+  end_same : (e : HeadEnd) → Comes end 1 (lines_of text) (script_offence text) (ShowsDump text) e → tells flat_body e ≡ tells (told_in end) e
+  end_same (stays_open now before) h = refl
+  end_same (has_offence o) h = refl
+  end_same (shows_dump now dump number lines) h = dump_same now dump number lines h (first_refusal dump.files) refl
 
 pub scripts_hide_caches : ScriptsHideCaches
-scripts_hide_caches text =
-    head_same (λ number lines s. flat_told_in (end_of text) number lines s flat_start) (told_in (end_of text))
-    (λ number lines now file is dump good accepted.
-    told_same (end_of text) number lines (first_state now file) flat_start (first_kept now file is dump good accepted) (subst (λ (m : Machine). IsFlatOf m.system flat_start) (no_flag_is_the_start (replicate now.cpus file) []) (start_is_flat (flags_of (start_machine (replicate now.cpus file) []).system) (replicate now.cpus file) [])))
-    (end_of text) 1 (lines_of text) at_start [] start_is tt
+scripts_hide_caches text = end_same text (head_of text) (comes text)

@@ -1,52 +1,54 @@
 -- The first state, after the dump.
-use Rattle.std.proofs.Common.{◌≡◌, ap, sym, refl, subst, inl, ℕ, true, [], ◌∙◌}
-use Rattle.mt_laws.specs.Kept.{flags_of}
-use Rattle.std.specs.Prelude.{map, replicate}
+use Rattle.std.proofs.Common.{◌≡◌, ◌∙◌, ap, sym, refl, subst, inl, ℕ, true, List, [], Some}
+use Rattle.std.specs.Prelude.{map}
 use Rattle.std.specs.List.{All}
-use Rattle.std.proofs.lemmas.List.{length-map, length-replicate}
-use Rattle.std.proofs.lemmas.List.Elements.{All-map, All-replicate}
-use Rattle.mt_regs.specs.RegisterFile.{RegisterFile, IsRegisterFile}
+use Rattle.std.proofs.lemmas.List.{length-map}
+use Rattle.mt_laws.specs.Kept.{flags_of}
+use Rattle.mt_laws.proofs.Invariant.Starts.{no_flag_is_the_start, no_windows, start_is_quiet}
+use Rattle.mt_regs.specs.RegisterFile.{RegisterFile}
+use Rattle.mt_regs.specs.StartFiles.{AreStartFiles}
 use Rattle.mt_regs.specs.Faults.{IsAccepted}
-use Rattle.mt_regs.proofs.StartFiles.{copies_start}
+use Rattle.mt_dump.specs.Dumps.{Dump, IsDump, first_file}
+use Rattle.mt_dump.specs.ForProcessors.{files_for, has_each}
 use Rattle.mt_machine.specs.System.{start_processor}
 use Rattle.mt_machine.specs.Machine.{FitsGoal, Machine, Reached, at_start}
 use Rattle.mt_machine.specs.Start.{IsQuiet, start_machine, start_with}
-use Rattle.mt_laws.proofs.Invariant.Starts.{no_windows, start_is_quiet, no_flag_is_the_start}
 use Rattle.mt_ram.specs.Windows.{window}
 use Rattle.mt_core.specs.Arises.{from_start}
 use Rattle.mt_script.specs.Situation.{Situation}
 use Rattle.mt_script.specs.Kept.{IsSituation}
 use Rattle.mt_script.specs.Stages.{is_in_dump}
 use Rattle.mt_script.proofs.Keeping.{finished_is, not_past_in_dump}
-use Rattle.mt_replay.specs.Kept.{IsReplayState, windows_of}
+use Rattle.mt_replay.specs.Kept.{IsReplayState, start_like, start_of, windows_of}
 use Rattle.mt_replay.specs.ReplayState.{first_state}
+use Rattle.mt_dump.proofs.ForProcessors.{files_count, files_start, first_file_is}
+use Rattle.mt_replay.proofs.Files.{all_fit}
 
-bare_is_quiet : (count : ℕ) (f : RegisterFile) → IsRegisterFile f → IsAccepted f → IsQuiet (start_machine (replicate count f) [])
-bare_is_quiet count f good accepted = start_is_quiet (replicate count f) [] (copies_start count f good accepted) no_windows
+-- no processor is self-snooping yet
+pub first_start : (now : Situation) (dump d : Dump) → (first_state now dump).now.dump ≡ Some d → start_like (first_state now dump) d ≡ start_of (first_state now dump).now d
+first_start now dump d same =
+    let e : dump ≡ d = cc same in
+    let files : List RegisterFile = files_for now.cpus dump in
+    subst (λ (x : Dump). start_with (flags_of (start_machine files []).system) (files_for now.cpus x) (windows_of now) ≡ start_machine (files_for now.cpus x) (windows_of now)) e (no_flag_is_the_start files (windows_of now))
 
-start_fits : (count : ℕ) (f g : RegisterFile) → f ≡ g → All (FitsGoal g) (start_machine (replicate count f) []).system.processors
-start_fits count f g same =
-    All-map (FitsGoal g) start_processor (replicate count f)
-    (All-replicate (λ (h : RegisterFile). FitsGoal g (start_processor h)) count f
-    (record { width = sym (ap (λ (x : RegisterFile). x.width) same); capabilities = sym (ap (λ (x : RegisterFile). x.capabilities) same) }))
-
-pub first_kept : (now : Situation) (f : RegisterFile) → IsSituation now → is_in_dump now.stage ≡ true → IsRegisterFile f → IsAccepted f → IsReplayState (first_state now f)
-first_kept now f is dump good accepted =
-    let quiet = bare_is_quiet now.cpus f good accepted in
-    let none : [] ≡ windows_of now = ap (map (λ (w : ℕ × ℕ). window w.0 w.1)) (sym (is.early (not_past_in_dump now.stage dump))) in
-    let files = replicate now.cpus f in
-    let started : (g : RegisterFile) → f ≡ g → start_machine files [] ≡ start_with (flags_of (start_machine files []).system) (replicate now.cpus g) (windows_of now) =
-    λ g e. sym (no_flag_is_the_start files []) ∙ (λ i. start_with (flags_of (start_machine files []).system) (replicate now.cpus (e i)) (none i)) in
+pub first_kept : (now : Situation) (dump : Dump) → IsSituation now → is_in_dump now.stage ≡ true → IsDump dump → has_each now.cpus dump ≡ true → All IsAccepted dump.files → IsReplayState (first_state now dump)
+first_kept now dump is stage good each accepted =
+    let files : List RegisterFile = files_for now.cpus dump in
+    let starts = files_start now.cpus dump good accepted in
+    let quiet : IsQuiet (start_machine files []) = start_is_quiet files [] starts no_windows in
+    let bare : [] ≡ windows_of now = ap (map (λ (w : ℕ × ℕ). window w.0 w.1)) (sym (is.early (not_past_in_dump now.stage stage))) in
+    let started : (d : Dump) → (first_state now dump).now.dump ≡ Some d → start_machine files [] ≡ start_like (first_state now dump) d =
+    λ d same. let e : dump ≡ d = cc same in sym (no_flag_is_the_start files []) ∙ (λ i. start_with (flags_of (start_machine files []).system) (files_for now.cpus (e i)) (bare i)) in
     record {
-      situation = finished_is now is f dump good;
+      situation = finished_is now is dump stage good each;
       past = refl;
       arises = from_start (inl quiet);
-      count = length-map files start_processor ∙ length-replicate now.cpus f;
-      kind = λ g same. start_fits now.cpus f g (let e : f ≡ g = cc same in e);
-      goal_file = good;
-      goal = start_fits now.cpus f f refl;
-      windows = none;
-      quiet = λ g same. let e : f ≡ g = cc same in subst IsQuiet (started g e) quiet;
-      reached = λ g same. let e : f ≡ g = cc same in subst (λ (m : Machine). Reached m (start_machine files [])) (started g e) at_start;
-      fresh = λ g same takes. let e : f ≡ g = cc same in (subst IsAccepted e accepted, started g e);
+      count = length-map files start_processor ∙ files_count now.cpus dump each;
+      kind = λ d same. let e : dump ≡ d = cc same in subst (λ (x : Dump). All (FitsGoal (first_file x)) (start_machine files []).system.processors) e (all_fit now.cpus dump good);
+      goal_file = first_file_is dump good;
+      goal = all_fit now.cpus dump good;
+      windows = bare;
+      quiet = λ d same. subst IsQuiet (started d same) quiet;
+      reached = λ d same. subst (λ (m : Machine). Reached m (start_machine files [])) (started d same) at_start;
+      fresh = λ d same takes. let e : dump ≡ d = cc same in (subst (λ (x : Dump). AreStartFiles (files_for now.cpus x)) e starts, started d same);
     }

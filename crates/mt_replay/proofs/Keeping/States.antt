@@ -4,7 +4,7 @@ use Rattle.mt_replay.proofs.Keeping.Snooping.{snooped_risen, snooped_start}
 use Rattle.mt_laws.proofs.Invariant.Snooping.{each_snooping, snooping_stays_quiet}
 use Rattle.mt_laws.proofs.Barrier.Still.{change_memory}
 use Rattle.mt_laws.specs.Kept.{flags_of}
-use Rattle.std.specs.Prelude.{IfSome, is_some, map, replicate}
+use Rattle.std.specs.Prelude.{IfSome, is_some, map}
 use Rattle.std.specs.Option.{option_map, option_map_or}
 use Rattle.std.specs.List.{All}
 use Rattle.std.specs.Result.{IfOk}
@@ -12,7 +12,6 @@ use Rattle.mt_ranges.proofs.Powers.{split}
 use Rattle.mt_regs.specs.declared.fault.Fault.{Fault}
 use Rattle.mt_regs.specs.RegisterFile.{RegisterFile, IsRegisterFile}
 use Rattle.mt_regs.specs.Registers.{register_of, with_value, written}
-use Rattle.mt_regs.proofs.StartFiles.{copies_start}
 use Rattle.mt_regs.specs.Faults.{IsAccepted, IsFirstFault}
 use Rattle.mt_regs.specs.declared.registers.Register.{Register}
 use Rattle.mt_regs.proofs.ByNumber.{is_file-written}
@@ -23,7 +22,7 @@ use Rattle.mt_machine.specs.declared.control.Control.TheVariants as control_of
 use Rattle.mt_machine.specs.Memory.{Window, Memory}
 use Rattle.mt_machine.specs.System.{IsProcessor, Processor, snooping}
 use Rattle.mt_machine.specs.Machine.{Accesses, Calls, Cancels, Controls, FitsControl, FitsGoal, FitsOp, Goes, IsEnabled, Machine, Order, Reached, at_start, next}
-use Rattle.mt_machine.specs.Start.{IsQuiet, start_machine, start_with}
+use Rattle.mt_machine.specs.Start.{IsQuiet, start_with}
 use Rattle.mt_machine.specs.Update.{updated}
 use Rattle.mt_laws.proofs.Barrier.Claims.{all_get, all_of}
 use Rattle.mt_ram.specs.Windows.{window, with_window}
@@ -32,7 +31,9 @@ use Rattle.mt_core.specs.Steps.{step_after}
 use Rattle.mt_core.specs.declared.fault.CallFault.{CallFault}
 use Rattle.mt_core.specs.declared.fault.CallFault.TheVariants.{Refused, UnderWay}
 use Rattle.mt_core.proofs.Stepping.{is_sound, stands}
-use Rattle.mt_script.specs.Situation.{Situation}
+use Rattle.mt_dump.specs.Dumps.{Dump, IsDump, first_file as first_file_of}
+use Rattle.mt_dump.specs.ForProcessors.{files_for}
+use Rattle.mt_script.specs.Situation.{Situation, file_of}
 use Rattle.mt_script.specs.Numbers.{address_limit, has_room}
 use Rattle.mt_script.specs.Kept.{IsSituation}
 use Rattle.mt_script.specs.Stages.{is_in_dump, is_past_dump, takes_cpus, takes_dump, takes_registers, takes_windows}
@@ -45,8 +46,9 @@ use Rattle.mt_script.specs.Commands.{command_of}
 use Rattle.mt_script.proofs.Fitting.{command_fits}
 use Rattle.mt_script.proofs.Keeping.{accepted_is}
 use Rattle.mt_replay.specs.FirstFault.{first_fault}
-use Rattle.mt_replay.specs.Kept.{CommandsKeep, IsReplayState, start_of, windows_of, start_like}
+use Rattle.mt_replay.specs.Kept.{CommandsKeep, IsReplayState, windows_of, start_like}
 use Rattle.mt_replay.specs.ReplayState.{ReplayState, after_call, after_update, after_word, call_fault, each_processor, first_file, is_update, machine_after, mapping, state_after, with_register}
+use Rattle.mt_dump.proofs.ForProcessors.{first_file_is as first_is_file}
 use Rattle.mt_replay.proofs.FirstFault.{first_fault_is_first}
 use Rattle.mt_replay.proofs.Keeping.Kinds.{fits_with_value}
 use Rattle.mt_replay.proofs.Keeping.Machines.{Follows, follows_access, follows_control, follows_event, follows_same, follows_step, follows_update, follows_word}
@@ -80,34 +82,38 @@ no_windows other registers windows = cc windows
 abbrev TakesNone : Stage → Type 0
 TakesNone stage = takes_windows stage ≡ true → ⊥
 
-pub file_of : (now : Situation) → IsSituation now → is_past_dump now.stage ≡ true → (f : RegisterFile) × (now.file ≡ Some f) × IsRegisterFile f
-file_of now is past = one now.file refl (is.has_file ∙ past) is.file
+pub dump_here : (now : Situation) → IsSituation now → is_past_dump now.stage ≡ true → (d : Dump) × (now.dump ≡ Some d) × IsDump d
+dump_here now is past = one now.dump refl (is.has_dump ∙ past) is.dump
   where
-    one : (o : Option RegisterFile) → now.file ≡ o → is_some o ≡ true → IfSome o IsRegisterFile → (f : RegisterFile) × (now.file ≡ Some f) × IsRegisterFile f
-    one None same some file = absurd (cc some)
-    one (Some f) same some file = (f, same, file)
+    one : (o : Option Dump) → now.dump ≡ o → is_some o ≡ true → IfSome o IsDump → (d : Dump) × (now.dump ≡ Some d) × IsDump d
+    one None same some dump = absurd (cc some)
+    one (Some d) same some dump = (d, same, dump)
+
+-- processor 0's file
+pub first_here : (now : Situation) → IsSituation now → is_past_dump now.stage ≡ true → (f : RegisterFile) × (file_of now ≡ Some f) × IsRegisterFile f
+first_here now is past = let (d, same, good) = dump_here now is past in (first_file_of d, ap (option_map first_file_of) same, first_is_file d good)
 
 -- the start stays the same while no window is added, and no processor becomes self-snooping
-same_start : (now was : Situation) (m n : Machine) (f : RegisterFile) → now.cpus ≡ was.cpus → now.windows ≡ was.windows → flags_of n.system ≡ flags_of m.system
-    → start_with (flags_of m.system) (replicate was.cpus f) (windows_of was) ≡ start_with (flags_of n.system) (replicate now.cpus f) (windows_of now)
-same_start now was m n f cpus windows flags = λ i. start_with (sym flags i) (replicate (sym cpus i) f) (map (λ (w : ℕ × ℕ). window w.0 w.1) (sym windows i))
+same_start : (now was : Situation) (m n : Machine) (d : Dump) → now.cpus ≡ was.cpus → now.windows ≡ was.windows → flags_of n.system ≡ flags_of m.system
+    → start_with (flags_of m.system) (files_for was.cpus d) (windows_of was) ≡ start_with (flags_of n.system) (files_for now.cpus d) (windows_of now)
+same_start now was m n d cpus windows flags = λ i. start_with (sym flags i) (files_for (sym cpus i) d) (map (λ (w : ℕ × ℕ). window w.0 w.1) (sym windows i))
 
 -- with the same windows, and no window to come
 state_on : (s : ReplayState) (now : Situation) (n : Machine) (goal : RegisterFile) → IsReplayState s → IsSituation now → is_past_dump now.stage ≡ true
-    → now.cpus ≡ s.now.cpus → now.file ≡ s.now.file → now.windows ≡ s.now.windows → TakesNone now.stage → Follows s.machine n → IsRegisterFile goal → All (FitsGoal goal) s.machine.system.processors
+    → now.cpus ≡ s.now.cpus → now.dump ≡ s.now.dump → now.windows ≡ s.now.windows → TakesNone now.stage → Follows s.machine n → IsRegisterFile goal → All (FitsGoal goal) s.machine.system.processors
     → IsReplayState (record { now = now; machine = n; goal = goal })
-state_on s now n goal h is past cpus file windows none follows good fits = record {
+state_on s now n goal h is past cpus dump windows none follows good fits = record {
   situation = is;
   past = past;
   arises = follows.arises;
   count = follows.risen.same_number ∙ h.count ∙ sym cpus;
-  kind = λ f same. follows.fits f (h.kind f (sym file ∙ same));
+  kind = λ d same. follows.fits (first_file_of d) (h.kind d (sym dump ∙ same));
   goal_file = good;
   goal = follows.fits goal fits;
   windows = follows.windows ∙ h.windows ∙ ap windows_in (sym windows);
-  quiet = λ f same. subst IsQuiet (same_start now s.now s.machine n f cpus windows follows.flags) (h.quiet f (sym file ∙ same));
-  reached = λ f same. subst (λ (m : Machine). Reached m n) (same_start now s.now s.machine n f cpus windows follows.flags) (follows.reached (start_like s f) (h.reached f (sym file ∙ same)));
-  fresh = λ f same takes. absurd (none takes);
+  quiet = λ d same. subst IsQuiet (same_start now s.now s.machine n d cpus windows follows.flags) (h.quiet d (sym dump ∙ same));
+  reached = λ d same. subst (λ (m : Machine). Reached m n) (same_start now s.now s.machine n d cpus windows follows.flags) (follows.reached (start_like s d) (h.reached d (sym dump ∙ same)));
+  fresh = λ d same takes. absurd (none takes);
 }
   where
     windows_in : List (ℕ × ℕ) → List Window
@@ -210,26 +216,26 @@ module _ (s : ReplayState) (h : IsReplayState s) where
       let width : w - 12 ≡ v - 12 = ap (λ n. n - 12) same in
       subst (λ (n : ℕ). physical / 4096 < 2 ^ n) width (omega (arith, parts, below))
 
-  pub mapping_fits : (k address physical index : ℕ) (global : Bool) → address < 2 ^ 48 → physical < address_limit s.now.file → index ≤ 7
+  pub mapping_fits : (k address physical index : ℕ) (global : Bool) → address < 2 ^ 48 → physical < address_limit (file_of s.now) → index ≤ 7
       → (p : Processor) → slice_get s.machine.system.processors k ≡ Some p → FitsControl p (control_of.Map (mapping address physical index global))
   mapping_fits k address physical index global low within few p at =
-      let file = file_of s.now h.situation h.past in
-      let f : RegisterFile = file.0 in
-      let fits = all_get (FitsGoal f) s.machine.system.processors (h.kind f file.1) k p at in
-      let below : physical < 2 ^ f.width = subst (λ (o : Option RegisterFile). physical < address_limit o) file.1 within in
-      let wide = file.2.wide in
+      let dump = dump_here s.now h.situation h.past in
+      let f : RegisterFile = first_file_of dump.0 in
+      let fits = all_get (FitsGoal f) s.machine.system.processors (h.kind dump.0 dump.1) k p at in
+      let below : physical < 2 ^ f.width = subst (λ (o : Option Dump). physical < address_limit (option_map first_file_of o)) dump.1 within in
+      let wide = (first_is_file dump.0 dump.2).wide in
       (omega arith, page_in physical f.width p.file.width (omega arith) fits.width below, omega arith)
 
   grows : (base lines : ℕ) → takes_windows s.now.stage ≡ true → base % 64 ≡ 0 → 0 < lines → has_room s.now base lines ≡ true → IsSituation (accepted s.now (command.Ram base lines)) → IsReplayState (state_after s (command.Ram base lines))
   grows base lines windows aligned some room is =
-      let file = file_of s.now h.situation h.past in
+      let file = first_here s.now h.situation h.past in
       let memory = room_memory s.now file.0 s.machine.system.memory base lines file.1 file.2 (stands h.arises).0 h.windows some aligned room in
-      let together : s.machine.system.memory.windows ++ window base lines ∷ [] ≡ windows_of (accepted s.now (command.Ram base lines)) =
-      ap (λ ws. ws ++ window base lines ∷ []) h.windows ∙ sym (windows_then s.now base lines) in
-      let started : (f : RegisterFile) → s.now.file ≡ Some f → grown (window base lines) s.machine ≡ start_with (flags_of s.machine.system) (replicate s.now.cpus f) (windows_of (accepted s.now (command.Ram base lines))) =
-      λ f same.
-      ap (grown (window base lines)) (h.fresh f same windows).1 ∙ grown_start (flags_of s.machine.system) (replicate s.now.cpus f) (windows_of s.now) (window base lines)
-      ∙ ap (start_with (flags_of s.machine.system) (replicate s.now.cpus f)) (sym (windows_then s.now base lines)) in
+      let ws : List Window = windows_of (accepted s.now (command.Ram base lines)) in
+      let together : s.machine.system.memory.windows ++ window base lines ∷ [] ≡ ws = ap (λ ws. ws ++ window base lines ∷ []) h.windows ∙ sym (windows_then s.now base lines) in
+      let started : (d : Dump) → s.now.dump ≡ Some d → grown (window base lines) s.machine ≡ start_with (flags_of s.machine.system) (files_for s.now.cpus d) ws =
+      λ d same.
+      ap (grown (window base lines)) (h.fresh d same windows).1 ∙ grown_start (flags_of s.machine.system) (files_for s.now.cpus d) (windows_of s.now) (window base lines)
+      ∙ ap (start_with (flags_of s.machine.system) (files_for s.now.cpus d)) (sym (windows_then s.now base lines)) in
       record {
         situation = is;
         past = h.past;
@@ -239,34 +245,33 @@ module _ (s : ReplayState) (h : IsReplayState s) where
         goal_file = h.goal_file;
         goal = h.goal;
         windows = together;
-        quiet = λ f same.
-            let good : IsRegisterFile f = subst (λ (o : Option RegisterFile). IfSome o IsRegisterFile) same h.situation.file in
-            memory_is_quiet (flags_of s.machine.system) (replicate s.now.cpus f) (with_window (window base lines) s.machine.system.memory) (windows_of (accepted s.now (command.Ram base lines))) memory together (copies_start s.now.cpus f good (h.fresh f same windows).0);
-        reached = λ f same. subst (Reached (start_with (flags_of s.machine.system) (replicate s.now.cpus f) (windows_of (accepted s.now (command.Ram base lines))))) (sym (started f same)) at_start;
-        fresh = λ f same takes. ((h.fresh f same windows).0, started f same);
+        quiet = λ d same. memory_is_quiet (flags_of s.machine.system) (files_for s.now.cpus d) (with_window (window base lines) s.machine.system.memory) ws memory together (h.fresh d same windows).0;
+        reached = λ d same. subst (Reached (start_with (flags_of s.machine.system) (files_for s.now.cpus d) ws)) (sym (started d same)) at_start;
+        fresh = λ d same takes. ((h.fresh d same windows).0, started d same);
       }
 
   -- a processor that becomes self-snooping before the first command
   snoops : (k : ℕ) → takes_windows s.now.stage ≡ true → IsReplayState (state_after s (command.Selfsnoop k))
   snoops k windows =
-      let file = file_of s.now h.situation h.past in
-      let fresh : (f : RegisterFile) → s.now.file ≡ Some f → s.machine ≡ start_like s f = λ f same. (h.fresh f same windows).1 in
-      let none : s.machine.order ≡ None = ap (λ (m : Machine). m.order) (fresh file.0 file.1) in
+      let dump = dump_here s.now h.situation h.past in
+      let fresh : (d : Dump) → s.now.dump ≡ Some d → s.machine ≡ start_like s d = λ d same. (h.fresh d same windows).1 in
+      let none : s.machine.order ≡ None = ap (λ (m : Machine). m.order) (fresh dump.0 dump.1) in
       let fits : (f : RegisterFile) → All (FitsGoal f) s.machine.system.processors → All (FitsGoal f) (snooped k s.machine).system.processors =
       λ f all. each_snooping (FitsGoal f) (λ p c. record { width = c.width; capabilities = c.capabilities }) k s.machine.system all in
-      let started : (f : RegisterFile) → s.now.file ≡ Some f → snooped k s.machine ≡ start_like (state_after s (command.Selfsnoop k)) f = λ f same. snooped_start k s.machine (replicate s.now.cpus f) (windows_of s.now) (fresh f same) in
+      let started : (d : Dump) → s.now.dump ≡ Some d → snooped k s.machine ≡ start_like (state_after s (command.Selfsnoop k)) d =
+      λ d same. snooped_start k s.machine (files_for s.now.cpus d) (windows_of s.now) (fresh d same) in
       record {
         situation = h.situation;
         past = h.past;
         arises = by_snooping k h.arises none;
         count = (snooped_risen k s.machine.system).same_number ∙ h.count;
-        kind = λ f same. fits f (h.kind f same);
+        kind = λ d same. fits (first_file_of d) (h.kind d same);
         goal_file = h.goal_file;
         goal = fits s.goal h.goal;
         windows = ap (λ (m : Memory). m.windows) (change_memory snooping k s.machine.system) ∙ h.windows;
-        quiet = λ f same. subst IsQuiet (started f same) (snooping_stays_quiet s.machine k (subst IsQuiet (sym (fresh f same)) (h.quiet f same)));
-        reached = λ f same. subst (λ (m : Machine). Reached m (snooped k s.machine)) (started f same) at_start;
-        fresh = λ f same takes. ((h.fresh f same windows).0, started f same);
+        quiet = λ d same. subst IsQuiet (started d same) (snooping_stays_quiet s.machine k (subst IsQuiet (sym (fresh d same)) (h.quiet d same)));
+        reached = λ d same. subst (λ (m : Machine). Reached m (snooped k s.machine)) (started d same) at_start;
+        fresh = λ d same takes. ((h.fresh d same windows).0, started d same);
       }
 
   kept : (c : Command) → Fits s.now c → IsSituation (accepted s.now c) → IsReplayState (state_after s c)

@@ -16,7 +16,7 @@ use Rattle.mt_laws.proofs.Invariant.Starts.{flagged_start_is_quiet}
 use Rattle.mt_ram.specs.Windows.{window, with_window}
 use Rattle.mt_ram.proofs.Windows.{words_pushed}
 use Rattle.mt_core.specs.Arises.{grown}
-use Rattle.mt_script.specs.Situation.{Situation}
+use Rattle.mt_script.specs.Situation.{Situation, file_of}
 use Rattle.mt_script.specs.Numbers.{address_limit, are_apart, has_room, lines_together}
 use Rattle.mt_replay.specs.Kept.{windows_of}
 
@@ -56,14 +56,14 @@ pub file_limit : (file : Option RegisterFile) (f : RegisterFile) → file ≡ So
 file_limit file f is good = subst (λ (o : Option RegisterFile). address_limit o ≤ 2 ^ 52) (sym is) (pow_below f.width 52 good.narrow)
 
 -- what has room is a memory again
-pub room_memory : (now : Situation) (f : RegisterFile) (m : Memory) (base lines : ℕ) → now.file ≡ Some f → IsRegisterFile f → IsMemory m → m.windows ≡ windows_of now → 0 < lines → base % 64 ≡ 0 → has_room now base lines ≡ true
+pub room_memory : (now : Situation) (f : RegisterFile) (m : Memory) (base lines : ℕ) → file_of now ≡ Some f → IsRegisterFile f → IsMemory m → m.windows ≡ windows_of now → 0 < lines → base % 64 ≡ 0 → has_room now base lines ≡ true
     → IsMemory (with_window (window base lines) m)
 room_memory now f m base lines file good h windows some aligned room =
-    let last = and_parts (nat_le (base + 64 * lines) (address_limit now.file) && list_all (are_apart base lines) now.windows && nat_lt (length now.windows) 16) (nat_le (lines_together now.windows + lines) 4096) room in
-    let few = and_parts (nat_le (base + 64 * lines) (address_limit now.file) && list_all (are_apart base lines) now.windows) (nat_lt (length now.windows) 16) last.0 in
-    let first = and_parts (nat_le (base + 64 * lines) (address_limit now.file)) (list_all (are_apart base lines) now.windows) few.0 in
-    let low = leb-true (base + 64 * lines) (address_limit now.file) first.0 in
-    let most = file_limit now.file f file good in
+    let last = and_parts (nat_le (base + 64 * lines) (address_limit (file_of now)) && list_all (are_apart base lines) now.windows && nat_lt (length now.windows) 16) (nat_le (lines_together now.windows + lines) 4096) room in
+    let few = and_parts (nat_le (base + 64 * lines) (address_limit (file_of now)) && list_all (are_apart base lines) now.windows) (nat_lt (length now.windows) 16) last.0 in
+    let first = and_parts (nat_le (base + 64 * lines) (address_limit (file_of now))) (list_all (are_apart base lines) now.windows) few.0 in
+    let low = leb-true (base + 64 * lines) (address_limit (file_of now)) first.0 in
+    let most = file_limit (file_of now) f file good in
     grown_memory m (window base lines) h some aligned (omega arith)
     (subst (λ (ws : List Window). (k : ℕ) (d : Window) → k < length ws → AreApart (get_or ws k d) (window base lines)) (sym windows) (each_apart base lines now.windows first.1))
 

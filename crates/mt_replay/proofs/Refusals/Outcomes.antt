@@ -1,31 +1,38 @@
 -- What a text's transcript is, by what its dump shows and its first offence.
 use Rattle.std.proofs.Common.{◌≡◌, ◌≢◌, ◌⊎◌, ◌↔◌, ◌∙◌, ap, sym, refl, subst, inl, inr, ℕ, ◌+◌, Bool, true, false, List, [], ◌∷◌, ◌++◌, Option, None, Some, Result, Ok, Err, ◌==◌}
+use Rattle.std.specs.List.{All}
+use Rattle.std.specs.Prelude.{if◌then◌else◌}
 use Rattle.std.proofs.lemmas.List.{append_assoc}
 use Rattle.mt_text.specs.Text.{lines_of, end_of}
 use Rattle.mt_text.specs.declared.place.Place.{Place}
 use Rattle.mt_ports.specs.declared.status.Status.{Status}
 use Rattle.mt_ports.specs.declared.status.Status.TheVariants.{Done, Refused, BadText}
 use Rattle.mt_regs.specs.declared.fault.Fault.{Fault}
-use Rattle.mt_regs.specs.RegisterFile.{RegisterFile}
-use Rattle.mt_regs.specs.Faults.{IsAccepted, IsFirstFault}
-use Rattle.mt_script.specs.Situation.{at_start}
+use Rattle.mt_regs.specs.Agreement.{IsFirstRefusal, first_refusal}
+use Rattle.mt_regs.specs.Faults.{IsAccepted}
+use Rattle.mt_dump.specs.Dumps.{Dump}
+use Rattle.mt_script.specs.Situation.{Situation}
 use Rattle.mt_script.specs.Stages.{is_in_dump}
 use Rattle.mt_script.specs.Commands.{command_of, end_fault}
-use Rattle.mt_script.specs.Script.{after_command, after_line, at_end, offence_in, script_offence}
+use Rattle.mt_script.specs.Head.{step_of_answer, step_of_command}
+use Rattle.mt_script.specs.Script.{at_end, offence_after, offence_in, script_offence}
 use Rattle.mt_script.specs.declared.command.Command.{Command}
 use Rattle.mt_script.specs.declared.fault.ScriptFault.{ScriptFault}
+use Rattle.mt_script.specs.declared.fault.ScriptReason.TheVariants.{NoEnd}
 use Rattle.mt_script.specs.declared.fault.Offence.{Offence}
-use Rattle.mt_script.proofs.Keeping.{not_past_in_dump, start_is}
-use Rattle.mt_output.specs.Lines.{accepted_line, offence_line, refused_line}
-use Rattle.mt_replay.specs.FirstFault.{first_fault}
+use Rattle.mt_script.specs.declared.fault.Offence.TheVariants as offence
+use Rattle.mt_script.specs.Numbers.{fault_at}
+use Rattle.mt_script.proofs.Keeping.{not_past_in_dump}
+use Rattle.mt_output.specs.Lines.{accepted_line, dump_refused_line, offence_line, refused_cpu_line, refused_line}
+use Rattle.mt_replay.specs.Heads.{HeadEnd, head_of, has_offence, shows_dump, stays_open}
 use Rattle.mt_replay.specs.Kept.{IsReplayState}
 use Rattle.mt_replay.specs.ReplayState.{ReplayState, command_text, first_state, state_after}
-use Rattle.mt_replay.specs.Statuses.{AcceptedFirst, AcceptedUnlessRefused, BadTextEndsWithOffence, BadTextWhereOffence, DoneWhereNoOffence, EndsWith, HasRefusedFile, OffenceAlone, OneFileShown, OneOfThreeStatuses, RefusedAlone, RefusedWhereFileIsRefused, ShowsDump, ShowsNoDump}
-use Rattle.mt_replay.specs.Transcript.{Told, behind, told, told_at_end, told_command, told_file, told_from, told_in, told_offence, transcript}
-use Rattle.mt_replay.proofs.FirstFault.{first_fault_is_first, is_first_fault}
+use Rattle.mt_replay.specs.Statuses.{AcceptedFirst, AcceptedUnlessRefused, BadTextEndsWithOffence, BadTextWhereOffence, DoneWhereNoOffence, EndsWith, HasRefusedFile, OffenceAlone, OneDumpShown, OneOfThreeStatuses, RefusedAlone, RefusedWhereFileIsRefused, ShowsDump, ShowsNoDump}
+use Rattle.mt_replay.specs.Transcript.{Told, behind, told, told_at_end, told_by, told_command, told_dump, told_in, told_offence, transcript}
+use Rattle.mt_replay.proofs.FirstRefusal.{all_accepted, none_refused, refusal_found, refused_first}
 use Rattle.mt_replay.proofs.Keeping.First.{first_kept}
-use Rattle.mt_replay.proofs.Keeping.States.{accepted_of, command_known, state_kept}
-use Rattle.mt_replay.proofs.Refusals.Dumps.{Comes, OneDump, all_come}
+use Rattle.mt_replay.proofs.Keeping.States.{command_known, state_kept}
+use Rattle.mt_replay.proofs.Heads.{Comes, IsDumped, comes}
 
 -- ---- the lines behind the dump
 
@@ -51,39 +58,39 @@ ends_in end number (line ∷ lines) = one (ends_in end (number + 1) lines)
     one later s h = by (command_of s.now number line) refl
       where
         on : (c : Command) → IsReplayState (state_after s c) → (dump : Bool) → is_in_dump s.now.stage ≡ dump
-            → Ends (behind (command_text s c) (told_in end (number + 1) lines (state_after s c))) (after_command s.now [] number line (offence_in end (number + 1) lines) c dump)
+            → Ends (behind (command_text s c) (told_in end (number + 1) lines (state_after s c))) (offence_after s.now (offence_in end (number + 1) lines) (step_of_command s.now [] number line c dump))
         on c kept true dump = absurd (let past = sym (not_past_in_dump s.now.stage dump) ∙ h.past in cc past)
         on c kept false dump = ends_behind (command_text s c) (told_in end (number + 1) lines (state_after s c)) (offence_in end (number + 1) lines (state_after s c).now []) (later (state_after s c) kept)
 
         by : (answer : Result Command ScriptFault) → command_of s.now number line ≡ answer
-            → Ends (told_command s (told_in end (number + 1) lines) answer) (after_line s.now [] number line (offence_in end (number + 1) lines) answer)
+            → Ends (told_command s (told_in end (number + 1) lines) answer) (offence_after s.now (offence_in end (number + 1) lines) (step_of_answer s.now [] number line answer))
         by (Err fault) asked = (refl, ([], refl))
         by (Ok c) asked = on c (state_kept s c h (command_known s.now number line c asked)) (is_in_dump s.now.stage) refl
 
 -- ---- whole texts
 
--- No file is shown.
+-- No dump is shown.
 record ToldAlone (text : List ℕ) : Type 0 where
-  none : (file : RegisterFile) → ShowsDump text file → ⊥
+  none : (dump : Dump) → ShowsDump text dump → ⊥
   offence : Offence
   is_first : script_offence text ≡ Some offence
   is : transcript text ≡ told_offence offence
 
--- The file that is shown has a fault.
+-- A file of the dump that is shown has a fault.
 record ToldRefused (text : List ℕ) : Type 0 where
-  file : RegisterFile
-  fault : Fault
-  shows : ShowsDump text file
-  alone : (other : RegisterFile) → ShowsDump text other → other ≡ file
-  has : first_fault file ≡ Some fault
-  is : transcript text ≡ told (refused_line fault) Refused
+  dump : Dump
+  refusal : ℕ × Fault
+  shows : ShowsDump text dump
+  alone : (other : Dump) → ShowsDump text other → other ≡ dump
+  has : first_refusal dump.files ≡ Some refusal
+  is : transcript text ≡ told (dump_refused_line dump.version refusal.0 refusal.1) Refused
 
--- The file that is shown has none.
+-- None of them has.
 record ToldAccepted (text : List ℕ) : Type 0 where
-  file : RegisterFile
-  shows : ShowsDump text file
-  alone : (other : RegisterFile) → ShowsDump text other → other ≡ file
-  has : first_fault file ≡ None
+  dump : Dump
+  shows : ShowsDump text dump
+  alone : (other : Dump) → ShowsDump text other → other ≡ dump
+  has : first_refusal dump.files ≡ None
   rest : Told
   is : transcript text ≡ behind accepted_line rest
   ends : Ends rest (script_offence text)
@@ -93,46 +100,41 @@ data Outcome (text : List ℕ) : Type 0 where
   of_refused : ToldRefused text → Outcome text
   of_accepted : ToldAccepted text → Outcome text
 
-abbrev Dumped : List ℕ → Type 0
-Dumped text =
-    OneDump (end_of text) (λ file. ShowsDump text file) (script_offence text) (λ body. told_from body (end_of text) 1 (lines_of text) at_start [])
+module _ (text : List ℕ) where
+  abbrev tells : HeadEnd → Told
+  tells e = told_by (λ last. told_at_end (end_fault last.stage (end_of text))) (told_in (end_of text)) e
+
+  of_dump : (now : Situation) (dump : Dump) (number : ℕ) (lines : List (List ℕ)) → IsDumped (end_of text) 1 (lines_of text) (script_offence text) (ShowsDump text) now dump number lines
+      → (refusal : Option (ℕ × Fault)) → first_refusal dump.files ≡ refusal → transcript text ≡ told_dump now dump (told_in (end_of text) number lines) refusal → Outcome text
+  of_dump now dump number lines h (Some refusal) has is = of_refused (record { dump = dump; refusal = refusal; shows = h.shows; alone = h.alone; has = has; is = is })
+  of_dump now dump number lines h None has is =
+      of_accepted (record {
+        dump = dump;
+        shows = h.shows;
+        alone = h.alone;
+        has = has;
+        rest = told_in (end_of text) number lines (first_state now dump);
+        is = is;
+        ends = subst (Ends (told_in (end_of text) number lines (first_state now dump))) (sym h.follows)
+            (ends_in (end_of text) number lines (first_state now dump) (first_kept now dump h.is h.in_dump h.good h.each (all_accepted dump.files has)));
+      })
+
+  by_end : (e : HeadEnd) → transcript text ≡ tells e → Comes (end_of text) 1 (lines_of text) (script_offence text) (ShowsDump text) e → Outcome text
+  by_end (stays_open now before) is h =
+      of_none (record { none = h.2; offence = offence.Script (fault_at NoEnd (end_of text)); is_first = h.1; is = is ∙ ap told_at_end h.0 })
+  by_end (has_offence o) is h = of_none (record { none = h.1; offence = o; is_first = h.0; is = is })
+  by_end (shows_dump now dump number lines) is h = of_dump now dump number lines h (first_refusal dump.files) refl is
 
 outcome_of : (text : List ℕ) → Outcome text
-outcome_of text = by (all_come (end_of text) 1 (lines_of text) at_start [] start_is tt refl)
-  where
-    one : (d : Dumped text) (fault : Option Fault) → first_fault d.file ≡ fault → Outcome text
-    one d (Some fault) has =
-        of_refused (record {
-          file = d.file;
-          fault = fault;
-          shows = d.shows;
-          alone = d.alone;
-          has = has;
-          is = d.tells (told_in (end_of text)) ∙ ap (told_file d.last d.file (told_in (end_of text) d.number d.lines)) has;
-        })
-    one d None has =
-        of_accepted (record {
-          file = d.file;
-          shows = d.shows;
-          alone = d.alone;
-          has = has;
-          rest = told_in (end_of text) d.number d.lines (first_state d.last d.file);
-          is = d.tells (told_in (end_of text)) ∙ ap (told_file d.last d.file (told_in (end_of text) d.number d.lines)) has;
-          ends = subst (Ends (told_in (end_of text) d.number d.lines (first_state d.last d.file))) (sym d.follows)
-              (ends_in (end_of text) d.number d.lines (first_state d.last d.file) (first_kept d.last d.file d.is d.in_dump d.good (accepted_of d.file has)));
-        })
+outcome_of text = by_end text (head_of text) refl (comes text)
 
-    by : Comes (end_of text) (λ file. ShowsDump text file) (script_offence text) (λ body. told_from body (end_of text) 1 (lines_of text) at_start []) → Outcome text
-    by (inl h) = of_none (record { none = h.none; offence = h.offence; is_first = h.is_first; is = h.tells (told_in (end_of text)) })
-    by (inr d) = one d (first_fault d.file) refl
-
-pub one_file_shown : OneFileShown
-one_file_shown text file other shows also = by (outcome_of text)
+pub one_dump_shown : OneDumpShown
+one_dump_shown text dump other shows also = by (outcome_of text)
   where
-    by : Outcome text → file ≡ other
-    by (of_none h) = absurd (h.none file shows)
-    by (of_refused h) = h.alone file shows ∙ sym (h.alone other also)
-    by (of_accepted h) = h.alone file shows ∙ sym (h.alone other also)
+    by : Outcome text → dump ≡ other
+    by (of_none h) = absurd (h.none dump shows)
+    by (of_refused h) = h.alone dump shows ∙ sym (h.alone other also)
+    by (of_accepted h) = h.alone dump shows ∙ sym (h.alone other also)
 
 -- ---- statuses
 
@@ -158,8 +160,8 @@ not_refused_of : (status : Status) (P Q : Type 0) → (P × (status ≡ Done)) �
 not_refused_of status P Q (inl h) refused = let done = h.1 in cc (done, refused)
 not_refused_of status P Q (inr h) refused = let bad = h.1 in cc (bad, refused)
 
-refused_has : (file other : RegisterFile) (fault : Fault) → other ≡ file → IsFirstFault other (Some fault) → first_fault file ≡ Some fault
-refused_has file other fault same first = sym (is_first_fault file (Some fault) (subst (λ (f : RegisterFile). IsFirstFault f (Some fault)) same first))
+refused_has : (dump other : Dump) (k : ℕ) (fault : Fault) → other ≡ dump → IsFirstRefusal other.files k fault → first_refusal dump.files ≡ Some (k, fault)
+refused_has dump other k fault same first = refused_first dump.files k fault (subst (λ (d : Dump). IsFirstRefusal d.files k fault) same first)
 
 said_of_outcome : (text : List ℕ) → ToldRefused text ⊎ IsSaid text (script_offence text)
 said_of_outcome text = by (outcome_of text)
@@ -170,7 +172,7 @@ said_of_outcome text = by (outcome_of text)
         let says = inr ((h.offence, h.is_first, ([], text_of text (told_offence h.offence) h.is)), status_of text (told_offence h.offence) h.is) in
         inr (record {
           not_refused = not_refused_of (transcript text).status _ _ says;
-          file = λ has. h.none has.0 has.2;
+          file = λ has. h.none has.0 has.3;
           says = says;
         })
     by (of_accepted h) = inr (saying (ending (transcript text).status (script_offence text) (behind accepted_line h.rest) (status_of text (behind accepted_line h.rest) h.is) (ends_behind accepted_line h.rest (script_offence text) h.ends)))
@@ -185,32 +187,33 @@ said_of_outcome text = by (outcome_of text)
             → IsSaid text (script_offence text)
         saying says = record {
           not_refused = not_refused_of (transcript text).status _ _ says;
-          file = λ has. let fault = refused_has h.file has.0 has.1 (h.alone has.0 has.2) has.3 in let none = h.has in cc (fault, none);
+          file = λ has. let fault = refused_has h.dump has.0 has.1 has.2 (h.alone has.0 has.3) has.4 in let none = h.has in cc (fault, none);
           says = at_text (script_offence text) says;
         }
 
 refused_of : (text : List ℕ) → ToldRefused text → HasRefusedFile text
-refused_of text h = (h.file, h.fault, h.shows, subst (IsFirstFault h.file) h.has (first_fault_is_first h.file))
+refused_of text h = (h.dump, h.refusal.0, h.refusal.1, h.shows, refusal_found h.dump.files h.refusal h.has)
 
 pub refused_where_file_is_refused : RefusedWhereFileIsRefused
 refused_where_file_is_refused text = by (said_of_outcome text)
   where
     by : ToldRefused text ⊎ IsSaid text (script_offence text) → ((transcript text).status ≡ Refused) ↔ HasRefusedFile text
-    by (inl h) = (λ refused. refused_of text h, λ has. status_of text (told (refused_line h.fault) Refused) h.is)
+    by (inl h) = (λ refused. refused_of text h, λ has. status_of text (told (dump_refused_line h.dump.version h.refusal.0 h.refusal.1) Refused) h.is)
     by (inr h) = (λ refused. absurd (h.not_refused refused), λ has. absurd (h.file has))
 
 pub refused_alone : RefusedAlone
-refused_alone text file fault shows first = by (said_of_outcome text)
+refused_alone text dump k fault shows first = by (said_of_outcome text)
   where
-    by : ToldRefused text ⊎ IsSaid text (script_offence text) → transcript text ≡ told (refused_line fault) Refused
+    by : ToldRefused text ⊎ IsSaid text (script_offence text) → transcript text ≡ told (dump_refused_line dump.version k fault) Refused
     by (inl h) =
-        let both : Some fault ≡ Some h.fault = sym (refused_has h.file file fault (h.alone file shows) first) ∙ h.has in
-        let same : h.fault ≡ fault = cc both in
-        h.is ∙ ap (λ (f : Fault). told (refused_line f) Refused) same
-    by (inr h) = absurd (h.file (file, fault, shows, first))
+        let one : dump ≡ h.dump = h.alone dump shows in
+        let both : Some (k, fault) ≡ Some h.refusal = sym (refused_has h.dump dump k fault one first) ∙ h.has in
+        let same : h.refusal ≡ (k, fault) = cc both in
+        h.is ∙ (λ i. told (dump_refused_line (sym one i).version (same i).0 (same i).1) Refused)
+    by (inr h) = absurd (h.file (dump, k, fault, shows, first))
 
 is_refused : (text : List ℕ) → ToldRefused text → (transcript text).status ≡ Refused
-is_refused text h = status_of text (told (refused_line h.fault) Refused) h.is
+is_refused text h = status_of text (told (dump_refused_line h.dump.version h.refusal.0 h.refusal.1) Refused) h.is
 
 pub bad_text_where_offence : BadTextWhereOffence
 bad_text_where_offence text = by (said_of_outcome text)
@@ -261,28 +264,28 @@ one_of_three text = by (said_of_outcome text)
 -- ---- the first line
 
 pub accepted_unless_refused : AcceptedUnlessRefused
-accepted_unless_refused text file shows = by (first_fault file) refl
+accepted_unless_refused text dump shows = by (first_refusal dump.files) refl
   where
-    by : (fault : Option Fault) → first_fault file ≡ fault → ((transcript text).status ≢ Refused) ↔ IsAccepted file
+    by : (refusal : Option (ℕ × Fault)) → first_refusal dump.files ≡ refusal → ((transcript text).status ≢ Refused) ↔ All IsAccepted dump.files
     by None has = (
-      λ other. accepted_of file has,
+      λ other. all_accepted dump.files has,
       λ accepted refused.
           let refusing = (refused_where_file_is_refused text).0 refused in
-          let fault = refused_has file refusing.0 refusing.1 (one_file_shown text refusing.0 file refusing.2 shows) refusing.3 in
+          let fault = refused_has dump refusing.0 refusing.1 refusing.2 (one_dump_shown text refusing.0 dump refusing.3 shows) refusing.4 in
           cc (has, fault),
     )
-    by (Some fault) has = (
-      λ other. absurd (other ((refused_where_file_is_refused text).1 (file, fault, shows, subst (IsFirstFault file) has (first_fault_is_first file)))),
-      λ accepted. absurd (let none = is_first_fault file None accepted in cc (has, none)),
+    by (Some refusal) has = (
+      λ other. absurd (other ((refused_where_file_is_refused text).1 (dump, refusal.0, refusal.1, shows, refusal_found dump.files refusal has))),
+      λ accepted. absurd (let none = none_refused dump.files accepted in cc (has, none)),
     )
 
 pub accepted_first : AcceptedFirst
-accepted_first text file shows accepted = by (outcome_of text)
+accepted_first text dump shows accepted = by (outcome_of text)
   where
     by : Outcome text → (rest : List ℕ) × ((transcript text).text ≡ accepted_line ++ rest)
-    by (of_none h) = absurd (h.none file shows)
+    by (of_none h) = absurd (h.none dump shows)
     by (of_refused h) =
-        absurd (let none = is_first_fault h.file None (subst IsAccepted (h.alone file shows) accepted) in let some = h.has in cc (none, some))
+        absurd (let none = none_refused h.dump.files (subst (λ (d : Dump). All IsAccepted d.files) (h.alone dump shows) accepted) in let some = h.has in cc (none, some))
     by (of_accepted h) = (h.rest.text, text_of text (behind accepted_line h.rest) h.is)
 
 pub offence_alone : OffenceAlone
@@ -290,8 +293,8 @@ offence_alone text none = by (outcome_of text)
   where
     by : Outcome text → (o : Offence) × (script_offence text ≡ Some o) × (transcript text ≡ told_offence o)
     by (of_none h) = (h.offence, h.is_first, h.is)
-    by (of_refused h) = absurd (none h.file h.shows)
-    by (of_accepted h) = absurd (none h.file h.shows)
+    by (of_refused h) = absurd (none h.dump h.shows)
+    by (of_accepted h) = absurd (none h.dump h.shows)
 
 -- ---- no dump
 
@@ -300,11 +303,20 @@ abbrev pub tells_bad : List ℕ → Bool
 tells_bad [] = false
 tells_bad (a ∷ rest) = a == 98
 
+refused_letter : (version k : ℕ) (fault : Fault) → tells_bad (dump_refused_line version k fault) ≡ false
+refused_letter version k fault = by (version == 2)
+  where
+    by : (b : Bool) → tells_bad (if b then refused_cpu_line k fault else refused_line fault) ≡ false
+    by true = refl
+    by false = refl
+
 -- a text that is told an offence at once shows no dump
 pub shows_none : (text : List ℕ) → tells_bad (transcript text).text ≡ true → ShowsNoDump text
 shows_none text bad = by (outcome_of text)
   where
     by : Outcome text → ShowsNoDump text
     by (of_none h) = h.none
-    by (of_refused h) = absurd (let e : tells_bad (transcript text).text ≡ false = ap (λ (t : Told). tells_bad t.text) h.is in cc (e, bad))
+    by (of_refused h) =
+        let e : tells_bad (transcript text).text ≡ false = ap (λ (t : Told). tells_bad t.text) h.is ∙ refused_letter h.dump.version h.refusal.0 h.refusal.1 in
+        absurd (cc (e, bad))
     by (of_accepted h) = absurd (let e : tells_bad (transcript text).text ≡ false = ap (λ (t : Told). tells_bad t.text) h.is in cc (e, bad))

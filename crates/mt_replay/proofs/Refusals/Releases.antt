@@ -71,15 +71,15 @@ released_states_settle s k since h fits released without =
     )
 
 pub released_words_are_held : ReleasedWordsAreHeld
-released_words_are_held s f o k since h file fits released order none without =
+released_words_are_held s d o k since h dump fits released order none without =
     let due = answered_due s.machine k Release released in
-    let start = start_like s f in
+    let start = start_like s d in
     let last : Machine = (state_after_all (state_after s (command.Step k)) since).machine in
     let words : List ℕ = stored_by_all (state_after s (command.Step k)) since in
     let after : step_after s.machine k ≡ next s.machine (Steps k Release) = ap (λ (o : Option Event). option_map_or (λ e. next s.machine (Steps k e)) o s.machine) due in
     let leads : Leads (next s.machine (Steps k Release)) last words =
     subst (λ (m : Machine). Leads m last words) after (all_lead since (state_after s (command.Step k)) (state_kept s (command.Step k) h fits) refl without) in
-    let held = held_after_each_first start s.machine o k leads.since (inl (h.quiet f file)) (h.reached f file) order none due leads.enabled in (
+    let held = held_after_each_first start s.machine o k leads.since (inl (h.quiet d dump)) (h.reached d dump) order none due leads.enabled in (
       held.0,
       held.1,
       subst (λ (m : Machine). IsFirstRelease held.0 m o) (sym after) held.2,

@@ -17,6 +17,8 @@ use Rattle.mt_regs.specs.RegisterFile.{RegisterFile}
 use Rattle.mt_regs.specs.declared.fault.Fault.{Fault}
 use Rattle.mt_regs.specs.declared.fault.Reason.{Reason}
 use Rattle.mt_regs.specs.declared.fault.Reason.TheVariants.{ReservedBit, UnsupportedType, BrokenMask, UndefinedOverlap}
+use Rattle.mt_regs.specs.Agreement.{first_refusal}
+use Rattle.mt_dump.specs.Dumps.{Dump}
 use Rattle.mt_dump.specs.Canon.{number_text, value_text}
 use Rattle.mt_dump.specs.declared.fault.DumpReason.{DumpReason}
 use Rattle.mt_dump.specs.declared.fault.DumpReason.TheVariants as dump
@@ -50,13 +52,12 @@ use Rattle.mt_script.specs.declared.fault.Offence.TheVariants as offence
 use Rattle.mt_script.specs.Head.{HeadStep, goes_on, head_step, offends, shows}
 use Rattle.mt_script.specs.Commands.{command_of}
 use Rattle.mt_script.specs.Situation.{Situation}
-use Rattle.mt_output.specs.Lines.{accepted_line, address_text, bad_text, dump_reason_text, line, offence_line, reason_text, refused_line, script_reason_text}
-use Rattle.mt_replay.specs.FirstFault.{first_fault}
+use Rattle.mt_output.specs.Lines.{accepted_line, address_text, bad_text, dump_reason_text, dump_refused_line, line, offence_line, reason_text, refused_cpu_line, refused_line, script_reason_text}
 use Rattle.mt_replay.specs.Running.{IsAt, Point, body_lines, from_line, head_lines, in_body, in_head}
 use Rattle.mt_replay.specs.ReplayState.{ReplayState, after_update, call_fault, call_line, command_text, file_at, is_undecided, is_update, mapping, memory_word, register_value, update_line}
 use Rattle.mt_replay.specs.Summary.{is_complete, updates_in}
 use Rattle.mt_replay.specs.Texts.{call_fault_line, called_line, cancel_line, complete_line, done_line, event_text, go_line, have_one_file, memory_line, number_at, phase_text, processor_line, processor_lines, register_line, registers_line, report_text, ruled_line, stale_count, stepped_line, switch_text}
-use Rattle.mt_replay.specs.Transcript.{Told, behind, told_command, told_file}
+use Rattle.mt_replay.specs.Transcript.{Told, behind, told_command, told_dump}
 use Rattle.mt_replay.specs.declared.line.Run.{Run}
 use Rattle.mt_replay.specs.declared.line.Run.TheVariants as run
 use Rattle.mt_replay.proofs.Walks.{from_body, head_leads, told_after}
@@ -203,6 +204,9 @@ dump_reason_inside dump.Repeated = said _ refl
 dump_reason_inside dump.NoCap = said _ refl
 dump_reason_inside dump.BadWidth = said _ refl
 dump_reason_inside dump.TooManyPairs = said _ refl
+dump_reason_inside dump.BadVersion = said _ refl
+dump_reason_inside dump.BadSection = said _ refl
+dump_reason_inside dump.Differs = said _ refl
 
 reason_inside : (reason : Reason) → IsInside (reason_text reason)
 reason_inside ReservedBit = said _ refl
@@ -220,6 +224,17 @@ offence_writes (offence.Dump fault) = bad_text_writes fault.place (dump_reason_t
 
 refused_writes : (fault : Fault) → Writes 0 (refused_line fault)
 refused_writes fault = other (both (both (both (said (codes "refused ") refl) (number_inside fault.msr)) (said (codes " ") refl)) (reason_inside fault.reason)) refl
+
+refused_cpu_writes : (k : ℕ) (fault : Fault) → Writes 0 (refused_cpu_line k fault)
+refused_cpu_writes k fault =
+    other (both (both (both (both (both (said (codes "refused cpu ") refl) (decimal_inside k)) (said (codes " ") refl)) (number_inside fault.msr)) (said (codes " ") refl)) (reason_inside fault.reason)) refl
+
+dump_refused_writes : (version k : ℕ) (fault : Fault) → Writes 0 (dump_refused_line version k fault)
+dump_refused_writes version k fault = by (version == 2)
+  where
+    by : (b : Bool) → Writes 0 (if b then refused_cpu_line k fault else refused_line fault)
+    by true = refused_cpu_writes k fault
+    by false = refused_writes fault
 
 -- ---- commands
 
@@ -368,19 +383,19 @@ body_writes : (s : ReplayState) (number : ℕ) (answer : Result Command ScriptFa
 body_writes s number (Err fault) = more (omega arith) (offence_writes (offence.Script fault))
 body_writes s number (Ok c) = with_nothing (command_text s c) (command_writes s c)
 
-file_writes : (now : Situation) (file : RegisterFile) (number : ℕ) (fault : Option Fault) → Writes 1 (told_file now file (body_lines None number []) fault).text
-file_writes now file number (Some fault) = more (omega arith) (refused_writes fault)
-file_writes now file number None = with_nothing accepted_line (one (said (codes "accepted") refl))
+dump_writes : (now : Situation) (d : Dump) (number : ℕ) (refusal : Option (ℕ × Fault)) → Writes 1 (told_dump now d (body_lines None number []) refusal).text
+dump_writes now d number (Some refusal) = more (omega arith) (dump_refused_writes d.version refusal.0 refusal.1)
+dump_writes now d number None = with_nothing accepted_line (one (said (codes "accepted") refl))
 
 head_writes : (now : Situation) (number : ℕ) (step : HeadStep) → Writes 1 (told_after now (head_lines None number []) (body_lines None number []) step).text
 head_writes now number (goes_on next after) = nothing
-head_writes now number (shows file) = file_writes now file number (first_fault file)
+head_writes now number (shows d) = dump_writes now d number (first_refusal d.files)
 head_writes now number (offends o) = more (omega arith) (offence_writes o)
 
 -- what a line writes, from where a run stands
 pub line_writes : (number : ℕ) (line : List ℕ) (now : Run) (was : Point) → IsAt now was → Writes 1 (alone number line was).text
 line_writes number line (run.Head h) (in_head now before) at =
-    subst (λ (t : Told). Writes 1 t.text) (sym (head_leads now before number line at.1.clean (head_step now before number line) refl None [])) (head_writes now (number + 1) (head_step now before number line))
+    subst (λ (t : Told). Writes 1 t.text) (sym (head_leads now before number line (head_step now before number line) refl None [])) (head_writes now (number + 1) (head_step now before number line))
 line_writes number line (run.Head h) (in_body s) at = absurd at
 line_writes number line (run.Body r) (in_head now before) at = absurd at
 line_writes number line (run.Body r) (in_body s) at =

@@ -1,12 +1,16 @@
-ghost use Rattle.std.specs.Prelude.{◌≡◌, ◌∷◌, [], codes, false, None, Some};
+ghost use Rattle.std.specs.Prelude.{◌≡◌, ◌∷◌, [], codes, false, map, None, Some};
 ghost use Rattle.mt_machine.specs.Machine.{Calls, run};
 ghost use Rattle.mt_machine.specs.Start.{zero_memory};
 ghost use Rattle.mt_machine.specs.WorkedRuns.{bare_file, idle, line_of, one_window, palette, store};
+ghost use Rattle.mt_ports.specs.declared.status.Status.TheVariants as status;
 ghost use Rattle.mt_script.specs.declared.command.Command.TheVariants as asks;
 ghost use Rattle.mt_script.specs.declared.command.Stage.TheVariants as stage;
-ghost use Rattle.mt_replay.specs.Kept.{EachIn, EachOfFile, EachUnless, HoldsThrough, IsReplayState};
+ghost use Rattle.mt_dump.specs.Dumps.{dump_of};
+ghost use Rattle.mt_replay.specs.Kept.{EachIn, EachOfDump, HoldsThrough, IsReplayState};
+ghost use Rattle.mt_replay.specs.ReplayState.{goal_after};
+ghost use Rattle.mt_replay.specs.Transcript.{told, transcript};
 ghost use Rattle.mt_replay.specs.Statuses.{AreHeld, AreWithoutCall, IsSettledAfter, ShowsDump, ShowsNoDump, stored_by, stored_by_all};
-ghost use Rattle.mt_replay.specs.WorkedStates.{after_end, at_end, busy, painted, painted_by, resting, small_dump, state_of, two_processors, with_first};
+ghost use Rattle.mt_replay.specs.WorkedStates.{after_end, at_end, busy, painted, painted_by, resting, later_refused, pair, paired_dump, small_dump, state_of, two_processors, with_first};
 
 /// Commands among which no call is accepted, and such as one is among or one doesn't fit.
 pub fn worked_without_call()
@@ -26,8 +30,7 @@ pub fn worked_each_state()
     ensures not_of_the_first { EachIn (λ s. s.now.stage ≡ stage.InBegin) 1 (codes "begin" ∷ []) painted → ⊥ }
     ensures not_of_the_second { EachIn (λ s. s.now.stage ≡ stage.Commands) 1 (codes "begin" ∷ codes "end" ∷ []) painted → ⊥ }
     ensures not_of_the_last { EachIn (λ s. s.now.stage ≡ stage.Commands) 1 (codes "fence 0" ∷ codes "begin" ∷ []) painted → ⊥ }
-    ensures after_the_dump { EachOfFile painted.now (bare_file 0x800) (λ s. s.now.stage ≡ stage.Commands) None → ⊥ }
-    ensures after_a_line_of_the_dump { EachUnless None (stage.Rams ≡ stage.Commands) → ⊥ }
+    ensures after_the_dump { EachOfDump painted.now (dump_of (bare_file 0x800)) (λ s. s.now.stage ≡ stage.Commands) None → ⊥ }
 {}
 
 /// The words that commands store, and words that are held and are not.
@@ -55,13 +58,25 @@ pub fn worked_settled_states()
 
 /// What a script's dump shows, and what holds from its end on.
 pub fn worked_dumps()
-    ensures shows { ShowsDump small_dump (bare_file 0x806) }
-    ensures shows_no_other { ShowsDump small_dump (bare_file 0x800) → ⊥ }
+    ensures shows { ShowsDump small_dump (dump_of (bare_file 0x806)) }
+    ensures shows_no_other { ShowsDump small_dump (dump_of (bare_file 0x800)) → ⊥ }
     ensures no_end { ShowsNoDump (codes "cpus 1\ndump\n0fe 400\n") }
     ensures offence_before_the_end { ShowsNoDump (codes "cpus 1\ndump\n0fe 400\n0fe 400\nend\n") }
     ensures no_capabilities { ShowsNoDump (codes "cpus 1\ndump\nend\n") }
     ensures first_state { HoldsThrough (λ s. s.now.stage ≡ stage.Rams) small_dump }
     ensures not_of_the_first_state { HoldsThrough (λ s. s.now.stage ≡ stage.Commands) small_dump → ⊥ }
+{}
+
+/// What a dump with a section for each processor shows: each processor begins with its own file.
+pub fn worked_sections()
+    ensures shows { ShowsDump paired_dump pair }
+    ensures shows_no_other { ShowsDump paired_dump (record pair { files = bare_file 0x806 ∷ bare_file 0x806 ∷ [] }) → ⊥ }
+    ensures too_few_processors { ShowsNoDump (codes "cpus 1\ndump\nversion 2\ncpu 0\n0fe 400\ncpu 1\nend\n") }
+    ensures too_many_processors { ShowsNoDump (codes "cpus 2\ndump\nversion 2\ncpu 0\n0fe 400\nend\n") }
+    ensures own_files { HoldsThrough (λ s. map (λ p. p.file) s.machine.system.processors ≡ bare_file 0x806 ∷ bare_file 0x800 ∷ []) paired_dump }
+    ensures first_goal { HoldsThrough (λ s. goal_after s asks.Begin ≡ bare_file 0x806) paired_dump }
+    ensures refused { transcript later_refused ≡ told (codes "refused cpu 1 2ff unsupported type\n") status.Refused }
+    ensures out_of_range { transcript (codes "cpus 3\ndump\nversion 2\ncpu 0\n0fe 400\ncpu 1\n end\n") ≡ told (codes "bad text 7:2 out of range\n") status.BadText }
 {}
 
 /// What isn't kept in a state, for one thing.

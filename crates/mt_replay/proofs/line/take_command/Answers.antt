@@ -1,7 +1,6 @@
-use Rattle.std.proofs.Common.{rules, ◌≡◌, ◌∙◌, inr, refl, subst, ℕ, List, Ok, Err}
+use Rattle.std.proofs.Common.{rules, ◌≡◌, inr, refl, subst, Ok, Err}
 use Rattle.mt_ports.specs.declared.status.Status.TheVariants.{BadText}
 use Rattle.mt_output.specs.Lines.{offence_line}
-use Rattle.mt_output.specs.Writing.{Adds}
 use Rattle.mt_script.specs.Accept.{Fits}
 use Rattle.mt_script.specs.Situation.{Situation}
 use Rattle.mt_script.specs.Commands.{command_of}

@@ -1,12 +1,11 @@
-use Rattle.std.proofs.Common.{◌≡◌, ◌∙◌, inr, sym, refl, subst, ℕ, ◌+◌, List, None, Ok}
+use Rattle.std.proofs.Common.{◌≡◌, ◌∙◌, inr, sym, refl, subst, ◌+◌, None, Ok}
 use Rattle.mt_ports.specs.declared.status.Status.TheVariants.{BadText}
 use Rattle.mt_output.specs.Lines.{offence_line}
-use Rattle.mt_output.specs.Writing.{Adds}
 use Rattle.mt_script.specs.Head.{offends, shows}
 use Rattle.mt_script.specs.Situation.{Situation}
 use Rattle.mt_replay.specs.Running.{Point, Takes, from_line, in_head}
 use Rattle.mt_replay.specs.declared.line.Run.TheVariants as run
-use Rattle.mt_replay.proofs.Taking.{from_file, head_takes, in_the_head, takes_last, takes_same}
+use Rattle.mt_replay.proofs.Taking.{from_dump, head_takes, in_the_head, takes_last, takes_same}
 use Rattle.mt_replay.proofs.Walks.{head_leads}
 use Rattle.mt_replay.specs.Summing.{Lasts, LastsOn}
 use Rattle.mt_replay.proofs.Sums.Last.{head_goes_on, head_offends, head_shows, last_told}
@@ -19,7 +18,7 @@ returns-in-Ok-None-clause-bytes g c = λ was at.
     subst
     (λ (p : Point). Takes (from_line c.args.line.now.number c.args.line.now.bytes.now p) (c.args.line.now.number + 1) p (run.Head c.take.new.self) c.args.writer.now c.args.writer.now (g.K.Sink.taken c.args.sink.now) (g.K.Sink.taken c.args.sink.now) (Ok None))
     (sym is)
-    (head_takes c.in-Head.head.setup c.take.new.self.setup before after c.args.line.now.number c.args.line.now.bytes.now c.args.writer.now (run.Head c.take.new.self) (g.K.Sink.taken c.args.sink.now) read.clean step (refl, holds))
+    (head_takes c.in-Head.head.setup c.take.new.self.setup before after c.args.line.now.number c.args.line.now.bytes.now c.args.writer.now (run.Head c.take.new.self) (g.K.Sink.taken c.args.sink.now) step (refl, holds))
 
 pub returns-in-Ok-Some-clause-bytes : goal.returns-in-Ok-Some-clause-bytes
 returns-in-Ok-Some-clause-bytes g c = λ was at.
@@ -29,14 +28,14 @@ returns-in-Ok-Some-clause-bytes g c = λ was at.
     let setup : c.replace-setup.result ≡ c.in-Head.head.setup = c.replace-setup.ensures.value ∙ same in
     let begun =
     subst
-    (λ (now : Situation). Takes (from_file now c.in-Ok-Some.file (c.args.line.now.number + 1)) (c.args.line.now.number + 1) (in_head now before) c.begin.new.run c.args.writer.now c.begin.new.writer (g.K.Sink.taken c.args.sink.now) (g.K.Sink.taken c.begin.new.sink) c.begin.result)
+    (λ (now : Situation). Takes (from_dump now c.in-Ok-Some.dump (c.args.line.now.number + 1)) (c.args.line.now.number + 1) (in_head now before) c.begin.new.run c.args.writer.now c.begin.new.writer (g.K.Sink.taken c.args.sink.now) (g.K.Sink.taken c.begin.new.sink) c.begin.result)
     setup (c.begin.ensures.bytes (c.args.line.now.number + 1) before) in
     subst
     (λ (p : Point). Takes (from_line c.args.line.now.number c.args.line.now.bytes.now p) (c.args.line.now.number + 1) p c.begin.new.run c.args.writer.now c.begin.new.writer (g.K.Sink.taken c.args.sink.now) (g.K.Sink.taken c.begin.new.sink) c.begin.result)
     (sym is)
-    (takes_same (from_file c.in-Head.head.setup c.in-Ok-Some.file (c.args.line.now.number + 1)) (from_line c.args.line.now.number c.args.line.now.bytes.now (in_head c.in-Head.head.setup before)) (c.args.line.now.number + 1) (in_head c.in-Head.head.setup before) c.begin.new.run
+    (takes_same (from_dump c.in-Head.head.setup c.in-Ok-Some.dump (c.args.line.now.number + 1)) (from_line c.args.line.now.number c.args.line.now.bytes.now (in_head c.in-Head.head.setup before)) (c.args.line.now.number + 1) (in_head c.in-Head.head.setup before) c.begin.new.run
     c.args.writer.now c.begin.new.writer (g.K.Sink.taken c.args.sink.now) (g.K.Sink.taken c.begin.new.sink) c.begin.result
-    (head_leads c.in-Head.head.setup before c.args.line.now.number c.args.line.now.bytes.now read.clean (shows c.in-Ok-Some.file) step) begun)
+    (head_leads c.in-Head.head.setup before c.args.line.now.number c.args.line.now.bytes.now (shows c.in-Ok-Some.dump) step) begun)
 
 pub returns-in-Err-clause-bytes : goal.returns-in-Err-clause-bytes
 returns-in-Err-clause-bytes g c = λ was at.
@@ -47,7 +46,7 @@ returns-in-Err-clause-bytes g c = λ was at.
     (sym is)
     (takes_last (from_line c.args.line.now.number c.args.line.now.bytes.now (in_head c.in-Head.head.setup before)) (c.args.line.now.number + 1) (in_head c.in-Head.head.setup before) (run.Head c.take.new.self) (offence_line c.in-Err.offence) c.args.writer.now c.tell_offence.new.writer BadText
     (g.K.Sink.taken c.args.sink.now) (g.K.Sink.taken c.tell_offence.new.sink) c.tell_offence.result
-    (head_leads c.in-Head.head.setup before c.args.line.now.number c.args.line.now.bytes.now read.clean (offends c.in-Err.offence) step) (inr refl)
+    (head_leads c.in-Head.head.setup before c.args.line.now.number c.args.line.now.bytes.now (offends c.in-Err.offence) step) (inr refl)
     c.tell_offence.ensures.bytes c.tell_offence.ensures.status)
 
 pub returns-in-Ok-None-clause-last : goal.returns-in-Ok-None-clause-last
@@ -55,7 +54,7 @@ returns-in-Ok-None-clause-last g c = λ was at.
     let (before, read, is) = in_the_head c.args.run.now c.in-Head.head was c.in-Head.is at in
     let (after, holds, step) = rw c.in-Ok-None.field-0-is at (c.in-Ok-None.ensures.step before read) in
     subst (λ (p : Point). LastsOn c.args.line.now.number c.args.line.now.bytes.now p (run.Head c.take.new.self)) (sym is)
-    (head_goes_on c.in-Head.head.setup before read.clean c.args.line.now.number c.args.line.now.bytes.now c.take.new.self.setup after (run.Head c.take.new.self) step (refl, holds))
+    (head_goes_on c.in-Head.head.setup before c.args.line.now.number c.args.line.now.bytes.now c.take.new.self.setup after (run.Head c.take.new.self) step (refl, holds))
 
 pub returns-in-Ok-Some-clause-last : goal.returns-in-Ok-Some-clause-last
 returns-in-Ok-Some-clause-last g c = λ was at.
@@ -64,7 +63,7 @@ returns-in-Ok-Some-clause-last g c = λ was at.
     let shown = rw c.in-Ok-Some.field-0-is at c.in-Ok-Some.ensures.shown in
     let setup : c.replace-setup.result ≡ c.in-Head.head.setup = c.replace-setup.ensures.value ∙ shown.1 in
     subst (λ (p : Point). Lasts c.args.line.now.number c.args.line.now.bytes.now p c.begin.new.run c.begin.result) (sym is)
-    (head_shows c.in-Head.head.setup before read.clean c.args.line.now.number c.args.line.now.bytes.now c.in-Ok-Some.file c.begin.new.run c.begin.result step c.replace-setup.result setup c.begin.ensures.state)
+    (head_shows c.in-Head.head.setup before c.args.line.now.number c.args.line.now.bytes.now c.in-Ok-Some.dump c.begin.new.run c.begin.result step c.replace-setup.result setup c.begin.ensures.state)
 
 pub returns-in-Err-clause-last : goal.returns-in-Err-clause-last
 returns-in-Err-clause-last g c = λ was at.
@@ -72,4 +71,4 @@ returns-in-Err-clause-last g c = λ was at.
     let step = c.in-Err.ensures.step before read in
     subst (λ (p : Point). Lasts c.args.line.now.number c.args.line.now.bytes.now p (run.Head c.take.new.self) c.tell_offence.result) (sym is)
     (last_told c.args.line.now.number c.args.line.now.bytes.now (in_head c.in-Head.head.setup before) (run.Head c.take.new.self) BadText c.tell_offence.result c.tell_offence.ensures.status
-    (head_offends c.in-Head.head.setup before read.clean c.args.line.now.number c.args.line.now.bytes.now c.in-Err.offence (run.Head c.take.new.self) step refl))
+    (head_offends c.in-Head.head.setup before c.args.line.now.number c.args.line.now.bytes.now c.in-Err.offence (run.Head c.take.new.self) step refl))

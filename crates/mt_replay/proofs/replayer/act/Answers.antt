@@ -8,7 +8,7 @@ use Rattle.mt_script.specs.Numbers.{is_register}
 use Rattle.mt_script.specs.declared.command.Command.TheVariants as command
 use Rattle.mt_replay.specs.Parts.{state}
 use Rattle.mt_replay.proofs.Asked.{short_number}
-use Rattle.mt_replay.proofs.Keeping.States.{file_of, mapping_fits}
+use Rattle.mt_replay.proofs.Keeping.States.{dump_here, first_here, mapping_fits}
 use Rattle.mt_replay.proofs.replayer.act.Goals as goal
 
 pub control-requires-clause-fits : goal.control-requires-clause-fits
@@ -20,11 +20,11 @@ control-requires-clause-fits g c = λ p at.
 pub register-requires-clause-short : goal.register-requires-clause-short
 register-requires-clause-short g c =
     let fits : Fits c.args.setup.now (command.Msr c.in-Msr.k c.in-Msr.msr) = subst (Fits c.args.setup.now) c.in-Msr.is c.requires.fits in
-    let file = file_of c.args.setup.now c.requires.state.situation c.requires.state.past in
+    let file = first_here c.args.setup.now c.requires.state.situation c.requires.state.past in
     short_number file.0 c.in-Msr.msr file.2 (subst (λ (o : Option RegisterFile). is_register o c.in-Msr.msr ≡ true) file.1 fits.1)
 
 pub self_snoop-requires-clause-idle : goal.self_snoop-requires-clause-idle
 self_snoop-requires-clause-idle g c =
     let fits : Fits c.args.setup.now (command.Selfsnoop c.in-Selfsnoop.k) = subst (Fits c.args.setup.now) c.in-Selfsnoop.is c.requires.fits in
-    let file = file_of c.args.setup.now c.requires.state.situation c.requires.state.past in
-    ap (λ (m : Machine). m.order) (c.requires.state.fresh file.0 file.1 fits.0).1
+    let dump = dump_here c.args.setup.now c.requires.state.situation c.requires.state.past in
+    ap (λ (m : Machine). m.order) (c.requires.state.fresh dump.0 dump.1 fits.0).1

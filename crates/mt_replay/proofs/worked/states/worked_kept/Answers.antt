@@ -1,5 +1,6 @@
 use Rattle.std.proofs.Common.{ℕ, List, [], ◌∷◌, arith, refl, ap}
 use Rattle.std.specs.Prelude.{length}
+use Rattle.mt_dump.specs.Dumps.{dump_of}
 use Rattle.mt_machine.specs.Machine.{Machine}
 use Rattle.mt_machine.specs.WorkedRuns.{bare_file, idle}
 use Rattle.mt_machine.specs.System.{Processor}
@@ -25,4 +26,4 @@ pub returns-clause-other_windows : goal.returns-clause-other_windows
 returns-clause-other_windows c = λ h. omega (arith, ap length h.windows)
 
 pub returns-clause-something_happened : goal.returns-clause-something_happened
-returns-clause-something_happened c = λ h. let fresh = h.fresh (bare_file 0x800) refl refl in omega (arith, ap (λ (m : Machine). entries_of_first m.system.processors) fresh.1)
+returns-clause-something_happened c = λ h. let fresh = h.fresh (dump_of (bare_file 0x800)) refl refl in omega (arith, ap (λ (m : Machine). entries_of_first m.system.processors) fresh.1)

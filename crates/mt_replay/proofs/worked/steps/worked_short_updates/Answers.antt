@@ -1,4 +1,4 @@
-use Rattle.std.proofs.Common.{◌≡◌, refl, rules, subst, arith, inr, [], ◌∷◌}
+use Rattle.std.proofs.Common.{◌≡◌, refl, rules, subst, arith, inr, []}
 use Rattle.std.specs.List.{All}
 use Rattle.mt_machine.specs.WorkedRuns.{idle}
 use Rattle.mt_replay.specs.Headline.{Step}
