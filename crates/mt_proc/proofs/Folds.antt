@@ -11,21 +11,21 @@ use Rattle.mt_proc.specs.Proc.{LinesTellRequests, from_point, in_requests, of_re
 use Rattle.mt_proc.specs.Requests.{request_of}
 
 pub lines_tell : LinesTellRequests
-lines_tell now place number [] requests is =
+lines_tell cpus now place number [] requests is =
     let none : [] ≡ requests = cc is in
     ap (λ rs. told (answers now rs ++ end_text (after_all now rs)) Done) none
-lines_tell now place number (line ∷ lines) requests is = by (request_of number line) (λ next rs. lines_tell next place (number + 1) lines rs) is
+lines_tell cpus now place number (line ∷ lines) requests is = by (request_of number line) (λ next rs. lines_tell cpus next place (number + 1) lines rs) is
   where
     by : (answer : Result (Option Request) ProcFault) → ((next : Served) (rs : List Request) → requests_in (requests_from (number + 1) lines) ≡ Some rs
-        → from_point (in_requests next) (Some place) (number + 1) lines ≡ told (answers next rs ++ end_text (after_all next rs)) Done)
+        → from_point cpus (in_requests next) (Some place) (number + 1) lines ≡ told (answers next rs ++ end_text (after_all next rs)) Done)
         → requests_in (answer ∷ requests_from (number + 1) lines) ≡ Some requests
-        → told_step (λ p. from_point p (Some place) (number + 1) lines) (of_request now answer) ≡ told (answers now requests ++ end_text (after_all now requests)) Done
+        → told_step (λ p. from_point cpus p (Some place) (number + 1) lines) (of_request now answer) ≡ told (answers now requests ++ end_text (after_all now requests)) Done
     by (Err fault) later is = cc is
     by (Ok None) later is = later now requests is
     by (Ok (Some request)) later is = rest (requests_in (requests_from (number + 1) lines)) refl is
       where
         rest : (found : Option (List Request)) → requests_in (requests_from (number + 1) lines) ≡ found → option_map (λ rs. request ∷ rs) found ≡ Some requests
-            → behind (answer_text now request) (from_point (in_requests (asked now request)) (Some place) (number + 1) lines) ≡ told (answers now requests ++ end_text (after_all now requests)) Done
+            → behind (answer_text now request) (from_point cpus (in_requests (asked now request)) (Some place) (number + 1) lines) ≡ told (answers now requests ++ end_text (after_all now requests)) Done
         rest None at is = cc is
         rest (Some rs) at is =
             let same : request ∷ rs ≡ requests = cc is in

@@ -10,3 +10,4 @@ pub mod Served
 pub mod Sizes
 pub mod Taking
 pub mod Written
+mod Beginning

@@ -23,11 +23,11 @@ abbrev pub long_offence : ℕ → Point → Told
 long_offence number (in_dump before) = told (offence_line (Dump (dump_fault_at dump_reason.BadLine (record { line = number; column = 4097 })))) BadText
 long_offence number (in_requests now) = told (request_fault_line (fault_at BadLine (record { line = number; column = 4097 }))) BadText
 
-long_step : (number : ℕ) (line : List ℕ) (p : Point) → 4096 < length line → proc_step number line p ≡ Err (long_offence number p)
-long_step number line (in_dump before) long =
+long_step : (cpus number : ℕ) (line : List ℕ) (p : Point) → 4096 < length line → proc_step cpus number line p ≡ Err (long_offence number p)
+long_step cpus number line (in_dump before) long =
     let test : nat_lt 4096 (length line) ≡ true = grind (arith, nat_tests, long) in
     rw test (rw test refl)
-long_step number line (in_requests now) long =
+long_step cpus number line (in_requests now) long =
     let test : nat_lt 4096 (length line) ≡ true = grind (arith, nat_tests, long) in
     rw test refl
 
@@ -35,8 +35,8 @@ long_is_bad : (number : ℕ) (p : Point) → (long_offence number p).status ≡ 
 long_is_bad number (in_dump before) = refl
 long_is_bad number (in_requests now) = refl
 
-pub tells_long : TellsLong proc_step long_offence
-tells_long = record { long = long_step; bad = long_is_bad }
+pub tells_long : (cpus : ℕ) → TellsLong (proc_step cpus) long_offence
+tells_long cpus = record { long = long_step cpus; bad = long_is_bad }
 
 none_ends : (place : Place) (now : Run) (p : Point) → IsAt now p → proc_end place p ≡ end_of_run now place
 none_ends place (run.Dump reader) (in_dump before) at = refl
@@ -52,9 +52,9 @@ early_front : (now : Run) (text : List ℕ) → IsQuiet now text → IsEarly now
 early_front (run.Dump reader) text quiet early = ([], ap (λ (l : List ℕ). l ++ []) (sym quiet))
 early_front (run.Requests m) text quiet early = absurd early
 
-pub proc_laws : AreLaws proc_running []
-proc_laws = record {
-  long = λ now was number at. subst (λ (t : Telling). IsLongTold t number) (sym at.2) (long_told Point proc_step proc_end long_offence tells_long at.0 number);
+pub proc_laws : (cpus : ℕ) → AreLaws (proc_running cpus) []
+proc_laws cpus = record {
+  long = λ now was number at. subst (λ (t : Telling). IsLongTold t number) (sym at.2) (long_told Point (proc_step cpus) proc_end long_offence (tells_long cpus) at.0 number);
   unknown = λ now was number at. ap (λ (t : Telling). t None number []) at.2;
   ended = λ now was place number at. ap (λ (t : Telling). t (Some place) number []) at.2 ∙ none_ends place now at.0 at.1;
   ending = ending;

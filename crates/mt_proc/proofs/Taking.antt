@@ -17,26 +17,26 @@ use Rattle.mt_proc.specs.Proc.{Answer, Point, from_point, in_dump, in_requests, 
 use Rattle.mt_proc.specs.Running.{IsAt, IsDump, IsQuiet, LeadsBy, proc_running}
 
 -- a line leads on by its step
-pub leads_by : (p : Point) (number : ℕ) (line : List ℕ) → LeadsBy (from_line number line (from_point p)) (proc_step number line p) (number + 1)
-leads_by p number line (Some end) lines = refl
-leads_by p number line None lines = refl
+pub leads_by : (cpus : ℕ) (p : Point) (number : ℕ) (line : List ℕ) → LeadsBy cpus (from_line number line (from_point cpus p)) (proc_step cpus number line p) (number + 1)
+leads_by cpus p number line (Some end) lines = refl
+leads_by cpus p number line None lines = refl
 
-pub leads_as : (from : Leading) (number : ℕ) (answer other : Answer) → answer ≡ other → LeadsBy from answer number → LeadsBy from other number
-leads_as from number answer other is leads = subst (λ (a : Answer). LeadsBy from a number) is leads
+pub leads_as : (cpus : ℕ) (from : Leading) (number : ℕ) (answer other : Answer) → answer ≡ other → LeadsBy cpus from answer number → LeadsBy cpus from other number
+leads_as cpus from number answer other is leads = subst (λ (a : Answer). LeadsBy cpus from a number) is leads
 
-module _ (from : Leading) (number : ℕ) (was now : Run) (waiting left : List ℕ) (a b : Option (List ℕ)) where
-  pub goes : (text : List ℕ) (next : Point) → LeadsBy from (Ok (text, next)) number → IsAt now next → ((so_far : List ℕ) → IsQuiet was so_far → IsQuiet now (so_far ++ text)) → Passes waiting text left a b
-      → GoesOn proc_running from number was now waiting left a b
-  goes text next leads at quiet passed = record { next = from_point next; at = (next, at, refl); text = text; goes = leads; quiet = quiet; passed = passed }
+module _ (cpus : ℕ) (from : Leading) (number : ℕ) (was now : Run) (waiting left : List ℕ) (a b : Option (List ℕ)) where
+  pub goes : (text : List ℕ) (next : Point) → LeadsBy cpus from (Ok (text, next)) number → IsAt now next → ((so_far : List ℕ) → IsQuiet was so_far → IsQuiet now (so_far ++ text)) → Passes waiting text left a b
+      → GoesOn (proc_running cpus) from number was now waiting left a b
+  goes text next leads at quiet passed = record { next = from_point cpus next; at = (next, at, refl); text = text; goes = leads; quiet = quiet; passed = passed }
 
-  pub ends : (text : List ℕ) (status : Status) (result : Result (Option Status) Failed) → LeadsBy from (Err (told text status)) number → (status ≡ Refused) ⊎ (status ≡ BadText) → Adds waiting text left a b result
-      → IfOk result (λ ended. ended ≡ Some status) → Takes proc_running from number was now waiting left a b result
-  ends text status result leads one adds is = takes_last proc_running from number was now text waiting left status a b result leads one adds is
+  pub ends : (text : List ℕ) (status : Status) (result : Result (Option Status) Failed) → LeadsBy cpus from (Err (told text status)) number → (status ≡ Refused) ⊎ (status ≡ BadText) → Adds waiting text left a b result
+      → IfOk result (λ ended. ended ≡ Some status) → Takes (proc_running cpus) from number was now waiting left a b result
+  ends text status result leads one adds is = takes_last (proc_running cpus) from number was now text waiting left status a b result leads one adds is
 
-  pub fails : (text : List ℕ) (next : Point) → LeadsBy from (Ok (text, next)) number → AppendsFront a b (waiting ++ text) → Fails from waiting a b
+  pub fails : (text : List ℕ) (next : Point) → LeadsBy cpus from (Ok (text, next)) number → AppendsFront a b (waiting ++ text) → Fails from waiting a b
   fails text next leads failed = record {
     text = text;
-    front = λ end lines. ((from_point next end number lines).text, ap (λ (t : Told). t.text) (leads end lines));
+    front = λ end lines. ((from_point cpus next end number lines).text, ap (λ (t : Told). t.text) (leads end lines));
     failed = failed;
   }
 

@@ -15,7 +15,7 @@ use Rattle.mt_proc.specs.declared.request.Request.TheVariants.{Disable, Range}
 use Rattle.mt_proc.specs.Applied.{applied}
 use Rattle.mt_proc.specs.Listing.{listing}
 
--- the file of all processors, and how many requests were carried out
+-- processor 0's file, which all processors have once a request was carried out, and how many were
 pub record Served : Type 0 where
   pub file : RegisterFile
   pub count : ℕ

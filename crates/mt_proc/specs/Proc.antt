@@ -1,21 +1,21 @@
 -- What `proc` tells of a text (own): a dump, a line `end`, and lines that ask for changes.
---     proc_told, proc_transcript      of the lines of a text, and of a whole text
--- How many processors there are isn't told: all of them have one file.
+--     proc_told cpus, proc_transcript cpus      of the lines of a text, and of a whole text
+-- How many processors there are is told by the dump's end alone: one of version 2 is to have a file for each.
 use Rattle.std.specs.Prelude.{ℕ, ◌≡◌, List, [], ◌∷◌, ◌++◌, codes, Option, None, Some, Result, Ok, Err}
 use Rattle.std.specs.Option.{option_map}
 use Rattle.mt_text.specs.declared.place.Place.{Place}
 use Rattle.mt_ports.specs.declared.status.Status.TheVariants.{BadText, Done, Refused}
 use Rattle.mt_regs.specs.declared.fault.Fault.{Fault}
-use Rattle.mt_regs.specs.FirstFault.{first_fault}
-use Rattle.mt_regs.specs.RegisterFile.{RegisterFile}
+use Rattle.mt_regs.specs.Agreement.{first_refusal}
+use Rattle.mt_dump.specs.Dumps.{Dump, first_file}
 use Rattle.mt_dump.specs.Line.{Reading}
-use Rattle.mt_script.specs.Situation.{at_start}
+use Rattle.mt_script.specs.Situation.{Situation, at_start}
 use Rattle.mt_script.specs.Head.{HeadStep, ends_dump, goes_on, offends, shows, step_in_dump}
 use Rattle.mt_script.specs.Numbers.{fault_at}
 use Rattle.mt_script.specs.declared.fault.Offence.{Offence}
 use Rattle.mt_script.specs.declared.fault.Offence.TheVariants.{Script}
 use Rattle.mt_script.specs.declared.fault.ScriptReason.TheVariants.{NoEnd}
-use Rattle.mt_output.specs.Lines.{bad_text, offence_line, refused_line}
+use Rattle.mt_output.specs.Lines.{bad_text, dump_refused_line, offence_line}
 use Rattle.mt_stream.specs.Told.{Step, Telling, Told, told, telling, transcript}
 use Rattle.mt_proc.specs.declared.request.Request.{Request}
 use Rattle.mt_proc.specs.declared.request.ProcFault.{ProcFault}
@@ -41,24 +41,28 @@ request_fault_line fault = bad_text fault.place (reason_text fault.reason)
 abbrev pub Answer : Type 0
 Answer = Result (List ℕ × Point) Told
 
--- The dump's end. This is the place at which the number of its files would be held against that of the processors.
-abbrev pub begins : RegisterFile → Option Fault → Answer
-begins file (Some fault) = Err (told (refused_line fault) Refused)
-begins file None = Ok ([], in_requests (at_first file))
+-- The dump's end: each file is to be accepted. The requests are then about processor 0's file.
+abbrev pub begins : Dump → Option (ℕ × Fault) → Answer
+begins dump (Some (k, fault)) = Err (told (dump_refused_line dump.version k fault) Refused)
+begins dump None = Ok ([], in_requests (at_first (first_file dump)))
 
 abbrev pub of_head : HeadStep → Answer
 of_head (goes_on now after) = Ok ([], in_dump after)
-of_head (shows file) = begins file (first_fault file)
+of_head (shows dump) = begins dump (first_refusal dump.files)
 of_head (offends offence) = Err (told (offence_line offence) BadText)
+
+-- the lines of a dump for so many processors
+abbrev pub situation_of : ℕ → Situation
+situation_of cpus = record at_start { cpus = cpus }
 
 abbrev pub of_request : Served → Result (Option Request) ProcFault → Answer
 of_request now (Err fault) = Err (told (request_fault_line fault) BadText)
 of_request now (Ok None) = Ok ([], in_requests now)
 of_request now (Ok (Some request)) = Ok (answer_text now request, in_requests (asked now request))
 
-abbrev pub proc_step : Step Point
-proc_step number line (in_dump before) = of_head (step_in_dump at_start before number line (ends_dump line))
-proc_step number line (in_requests now) = of_request now (request_of number line)
+abbrev pub proc_step : ℕ → Step Point
+proc_step cpus number line (in_dump before) = of_head (step_in_dump (situation_of cpus) before number line (ends_dump line))
+proc_step cpus number line (in_requests now) = of_request now (request_of number line)
 
 abbrev pub no_end : Place → Offence
 no_end place = Script (fault_at NoEnd place)
@@ -67,15 +71,15 @@ abbrev pub proc_end : Place → Point → Told
 proc_end place (in_dump before) = told (offence_line (no_end place)) BadText
 proc_end place (in_requests now) = told (end_text now) Done
 
-abbrev pub from_point : Point → Telling
-from_point p = telling proc_step proc_end p
+abbrev pub from_point : ℕ → Point → Telling
+from_point cpus p = telling (proc_step cpus) proc_end p
 
-abbrev pub proc_told : Telling
-proc_told = from_point (in_dump [])
+abbrev pub proc_told : ℕ → Telling
+proc_told cpus = from_point cpus (in_dump [])
 
 -- what it tells of a whole text
-abbrev pub proc_transcript : List ℕ → Told
-proc_transcript bytes = transcript proc_told bytes
+abbrev pub proc_transcript : ℕ → List ℕ → Told
+proc_transcript cpus bytes = transcript (proc_told cpus) bytes
 
 -- ---- a list of requests
 
@@ -89,5 +93,5 @@ requests_in (Ok (Some request) ∷ rest) = option_map (λ requests. request ∷ 
 -- lines behind the dump's end without a fault tell what became of their requests, one after the other, and then the ranges of the file that these leave
 abbrev pub LinesTellRequests : Type 0
 LinesTellRequests =
-    (now : Served) (place : Place) (number : ℕ) (lines : List (List ℕ)) (requests : List Request) → requests_in (requests_from number lines) ≡ Some requests
-    → from_point (in_requests now) (Some place) number lines ≡ told (answers now requests ++ end_text (after_all now requests)) Done
+    (cpus : ℕ) (now : Served) (place : Place) (number : ℕ) (lines : List (List ℕ)) (requests : List Request) → requests_in (requests_from number lines) ≡ Some requests
+    → from_point cpus (in_requests now) (Some place) number lines ≡ told (answers now requests ++ end_text (after_all now requests)) Done

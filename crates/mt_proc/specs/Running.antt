@@ -16,8 +16,8 @@ IsAt (run.Dump reader) (in_requests now) = ⊥
 IsAt (run.Requests m) (in_dump before) = ⊥
 IsAt (run.Requests m) (in_requests now) = served m ≡ now
 
-abbrev pub StandsAt : Run → Telling → Type 0
-StandsAt now was = (p : Point) × IsAt now p × (was ≡ from_point p)
+abbrev pub StandsAt : ℕ → Run → Telling → Type 0
+StandsAt cpus now was = (p : Point) × IsAt now p × (was ≡ from_point cpus p)
 
 -- what is told where the text ends
 abbrev pub end_of_run : Run → Place → Told
@@ -34,12 +34,12 @@ abbrev pub IsEarly : Run → Type 0
 IsEarly (run.Dump reader) = ⊤
 IsEarly (run.Requests m) = ⊥
 
-abbrev pub proc_running : Running
-proc_running = record { Run = Run; At = StandsAt; ends = end_of_run; Quiet = IsQuiet; Early = IsEarly }
+abbrev pub proc_running : ℕ → Running
+proc_running cpus = record { Run = Run; At = StandsAt cpus; ends = end_of_run; Quiet = IsQuiet; Early = IsEarly }
 
 -- what a line and those behind it, of which the first has this number, lead to by the line's answer
-abbrev pub LeadsBy : Leading → Answer → ℕ → Type 0
-LeadsBy from answer number = (end : Option Place) (lines : List (List ℕ)) → from end lines ≡ told_step (λ p. from_point p end number lines) answer
+abbrev pub LeadsBy : ℕ → Leading → Answer → ℕ → Type 0
+LeadsBy cpus from answer number = (end : Option Place) (lines : List (List ℕ)) → from end lines ≡ told_step (λ p. from_point cpus p end number lines) answer
 
 -- no more requests were carried out
 abbrev pub HasCount : ℕ → Run → Type 0

@@ -22,5 +22,5 @@ pub fn lines_tell_of_their_requests()
 /// What the known lines of a front tell is a front of what the whole text tells, whatever bytes come
 /// behind.
 pub fn known_lines_tell_a_front()
-    ensures { (front more : List ℕ) → (rest : List ℕ) × ((transcript proc_told (front ++ more)).text ≡ known_text proc_told front ++ rest) }
+    ensures { (cpus : ℕ) (front more : List ℕ) → (rest : List ℕ) × ((transcript (proc_told cpus) (front ++ more)).text ≡ known_text (proc_told cpus) front ++ rest) }
 {}

@@ -1,12 +1,12 @@
 ghost use Rattle.std.specs.Prelude.{◌≡◌, ◌≤◌, ◌<◌, ◌+◌, ◌-◌, ◌^◌, ◌++◌, ◌∷◌, [], ℕ, length, codes, decimal, IfOk, IfSome, None, Some};
 ghost use Rattle.mt_regs.specs.declared.fault.Fault.{Fault as GoalFault};
-ghost use Rattle.mt_regs.specs.Faults.{IsAccepted};
+ghost use Rattle.mt_regs.specs.StartFiles.{AreStartFiles};
 ghost use Rattle.mt_regs.specs.FirstFault.{first_fault};
 ghost use Rattle.mt_machine.specs.Update.{IsSettled};
 ghost use Rattle.mt_output.specs.Lines.{line};
-ghost use Rattle.mt_proc.specs.After.{answer_text, asked, at_first, done_text};
+ghost use Rattle.mt_proc.specs.After.{answer_text, asked, done_text};
 ghost use Rattle.mt_proc.specs.Applied.{applied};
-ghost use Rattle.mt_proc.specs.Serving.{Serves, changed, goal_after, served, standing};
+ghost use Rattle.mt_proc.specs.Serving.{Serves, changed, goal_after, idling, served, standing};
 
 use crate::{Applied, Request, apply};
 use arrayvec::ArrayVec;
@@ -19,7 +19,7 @@ use std::marker::Model;
 use std::sync::Wait;
 use std::thread::Threads;
 
-/// Processors that have one file of registers, which requests change on all of them.
+/// Processors whose files of registers are of one kind. A request that is carried out gives one file to all of them.
 #[derive(Drop)]
 pub struct Processors {
     core: Core,
@@ -102,29 +102,27 @@ fn update<R: Threads + Wait + Sync, G: Gate>(
 }
 
 impl Processors {
-    /// So many processors at the start, with this file. The error comes only where the allocator has
+    /// A processor with each of these files, at the start. The error comes only where the allocator has
     /// no room.
-    pub fn new(alloc: Global, cpus: u32, file: &RegFile) -> Result<Processors, NoMemory>
-        requires some { 0 < cpus }
-        requires few { cpus ≤ 16 }
-        requires accepted { IsAccepted file.now }
-        ensures { IfOk result (λ p. p ≡ standing cpus (at_first file.now)) }
+    pub fn new(alloc: Global, files: &[RegFile]) -> Result<Processors, NoMemory>
+        requires some { 0 < length files.now }
+        requires few { length files.now ≤ 16 }
+        requires start { AreStartFiles files.now }
+        ensures { IfOk result (λ p. p ≡ idling files.now 0) }
     {
-        file.is_register_file(); // a fact for the proof
-        let files = file.copies(cpus);
         Ok(Processors {
-            core: Core::start(alloc, files.as_slice())?,
+            core: Core::start(alloc, files)?,
         })
     }
 
-    /// What all processors keep: their number, their file and their state. This does nothing.
+    /// What all processors keep: their number, their files and their state. This does nothing.
     pub fn serve(&self)
         ensures { Serves self.now }
     {
         let _ = &self.core;
     }
 
-    /// The registers of all of them.
+    /// The registers of processor 0, which all of them have once a request was carried out.
     pub fn file(&self) -> &RegFile
         ensures { result.now ≡ (served self.now).file }
     {
@@ -162,8 +160,8 @@ impl Processors {
     }
 
     /// Asks for a change of all processors, and answers what is written of it. An update runs each
-    /// processor on a thread of its own, where the gate and the allocator let it. A request that isn't
-    /// carried out changes no processor.
+    /// processor on a thread of its own, where the gate and the allocator let it, and leaves all of them
+    /// with one file. A request that isn't carried out changes no processor.
     pub fn ask<R: Threads + Wait + Sync, G: Gate>(
         &mut self,
         rt: &R,
@@ -174,9 +172,10 @@ impl Processors {
         requires { (served self.old).count < 2 ^ 64 - 1 }
         ensures text { result.items ≡ answer_text (served self.old) request.now }
         ensures changed { self.new ≡ changed self.old (applied (served self.old).file request.now) }
-        ensures stands { self.new ≡ standing (length self.old.system.processors) (asked (served self.old) request.now) }
         ensures served { served self.new ≡ asked (served self.old) request.now }
-        ensures settled { IsSettled self.new.system (asked (served self.old) request.now).count (asked (served self.old) request.now).file }
+        ensures unchanged { (asked (served self.old) request.now).count ≡ (served self.old).count → self.new ≡ self.old }
+        ensures stands { (served self.old).count < (asked (served self.old) request.now).count → self.new ≡ standing (length self.old.system.processors) (asked (served self.old) request.now) }
+        ensures settled { (served self.old).count < (asked (served self.old) request.now).count → IsSettled self.new.system (asked (served self.old) request.now).count (asked (served self.old) request.now).file }
     {
         self.serve(); // a fact for the proof
         self.change(rt, alloc, request, gate)

@@ -1,10 +1,11 @@
-ghost use Rattle.std.specs.Prelude.{◌≡◌, ◌≢◌, ◌≤◌, ◌<◌, ◌+◌, ◌-◌, ◌^◌, ◌↔◌, ◌⊎◌, ℕ, List, [], length, MatchOption, MatchResult, Ok, Some};
+ghost use Rattle.std.specs.Prelude.{◌≡◌, ◌≢◌, ◌≤◌, ◌<◌, ◌+◌, ◌-◌, ◌^◌, ◌↔◌, ◌⊎◌, ℕ, List, [], true, length, MatchOption, MatchResult, Ok, Some};
 ghost use Rattle.mt_text.specs.Feed.{GaveTooMuch};
 ghost use Rattle.mt_ports.specs.Causes.{HasCause, StatusHasCause};
 ghost use Rattle.mt_output.specs.Lines.{bad_text};
 ghost use Rattle.mt_output.specs.Writing.{Adds};
 ghost use Rattle.mt_regs.specs.Faults.{IsAccepted};
-ghost use Rattle.mt_regs.specs.FirstFault.{first_fault};
+ghost use Rattle.mt_regs.specs.Agreement.{first_refusal};
+ghost use Rattle.mt_dump.specs.ForProcessors.{has_each};
 ghost use Rattle.mt_stream.specs.Lines.{Closes, IsEnding, Leading, Takes, from_line};
 ghost use Rattle.mt_stream.specs.Runs.{Runs};
 ghost use Rattle.mt_stream.specs.Told.{Telling};
@@ -18,10 +19,12 @@ ghost use Rattle.mt_proc.specs.Serving.{served};
 use crate::listing::line_of;
 use crate::{ProcFault, ProcReason, Processors, read_request};
 use arrayvec::ArrayVec;
-use mt_dump::DumpReader;
-use mt_output::{LineBuffer, Writer, append, append_decimal, bad_text, offence_line, refused_line};
+use mt_dump::{Dump, DumpReader};
+use mt_output::{
+    LineBuffer, Writer, append, append_decimal, bad_text, dump_refused_line, offence_line,
+};
 use mt_ports::{Failed, Gate, Sink, Source, Status};
-use mt_regs::RegFile;
+use mt_regs::{RegFile, first_refusal};
 use mt_script::{Offence, ScriptFault, ScriptReason, take_dump_line};
 use mt_stream::{close, cut_status, leave, next_line, tell};
 use mt_text::{Feed, Line, Place};
@@ -54,33 +57,31 @@ fn request_fault_line(fault: &ProcFault) -> LineBuffer
     bad_text(fault.place, reason_text(fault.reason))
 }
 
-// Goes on behind the dump's end, where its file is accepted.
+// Goes on behind the dump's end, where each of its files is accepted.
 fn begin<K: Sink>(
     alloc: Global,
     cpus: u32,
     run: &mut Run,
-    file: RegFile,
+    dump: &Dump,
     writer: &mut Writer,
     sink: &mut K,
 ) -> Result<Option<Status>, Failed>
     requires some { 0 < cpus }
     requires few { cpus ≤ 16 }
     requires dump { IsDump run.old }
-    ensures bytes { (from : Leading) (number : ℕ) → LeadsBy from (begins file (first_fault file)) number → Takes proc_running from number run.old run.new writer.old writer.new (K.taken sink.old) (K.taken sink.new) result }
+    requires each { has_each cpus dump.now ≡ true }
+    ensures bytes { (from : Leading) (number : ℕ) → LeadsBy cpus from (begins dump.now (first_refusal dump.now.files)) number → Takes (proc_running cpus) from number run.old run.new writer.old writer.new (K.taken sink.old) (K.taken sink.new) result }
     ensures ending { (status : Status) → result ≡ Ok (Some status) → IsEnding status }
     ensures counts { (most : ℕ) → MatchResult result (λ ended. MatchOption ended (HasCount most run.new) (λ _. Unit {0})) (λ _. Unit {0}) }
     ensures cause { HasCause (K.faults sink.old) (K.faults sink.new) result }
 {
-    file.is_register_file(); // a fact for the proof
-    if let Some(fault) = file.first_fault() {
-        return tell(
-            writer,
-            sink,
-            refused_line(&fault).as_slice(),
-            Status::Refused,
-        );
+    dump.is_dump(); // a fact for the proof
+    if let Some((k, fault)) = first_refusal(dump.files.as_slice()) {
+        let line = dump_refused_line(dump.version, k, &fault);
+        return tell(writer, sink, line.as_slice(), Status::Refused);
     }
-    let Ok(processors) = Processors::new(alloc, cpus, &file) else {
+    let files = dump.files_for(cpus);
+    let Ok(processors) = Processors::new(alloc, files.as_slice()) else {
         return Ok(Some(Status::NoMemory));
     };
     *run = Run::Requests(processors);
@@ -98,7 +99,7 @@ fn take_request<R: Threads + Wait + Sync, K: Sink, G: Gate>(
     gate: &G,
 ) -> Result<Option<Status>, Failed>
     requires { (served processors.old).count < 2 ^ 64 - 1 }
-    ensures bytes { (from : Leading) (number : ℕ) → LeadsBy from (of_request (served processors.old) (request_of line.now.number line.now.bytes.now)) number → Takes proc_running from number (Run.Requests processors.old) (Run.Requests processors.new) writer.old writer.new (K.taken sink.old) (K.taken sink.new) result }
+    ensures bytes { (cpus : ℕ) (from : Leading) (number : ℕ) → LeadsBy cpus from (of_request (served processors.old) (request_of line.now.number line.now.bytes.now)) number → Takes (proc_running cpus) from number (Run.Requests processors.old) (Run.Requests processors.new) writer.old writer.new (K.taken sink.old) (K.taken sink.new) result }
     ensures ending { (status : Status) → result ≡ Ok (Some status) → IsEnding status }
     ensures counts { (most : ℕ) → (served processors.old).count ≤ most → MatchResult result (λ ended. MatchOption ended ((served processors.new).count ≤ most + 1) (λ _. Unit {0})) (λ _. Unit {0}) }
     ensures cause { HasCause (K.faults sink.old) (K.faults sink.new) result }
@@ -135,8 +136,8 @@ fn take_line<R: Threads + Wait + Sync, K: Sink, G: Gate>(
     requires some { 0 < cpus }
     requires few { cpus ≤ 16 }
     requires room { HasRoom run.old }
-    ensures bytes { (was : Telling) → StandsAt run.old was →
-        Takes proc_running (from_line line.now.number line.now.bytes.now was) (line.now.number + 1) run.old run.new writer.old writer.new (K.taken sink.old) (K.taken sink.new) result }
+    ensures bytes { (was : Telling) → StandsAt cpus run.old was →
+        Takes (proc_running cpus) (from_line line.now.number line.now.bytes.now was) (line.now.number + 1) run.old run.new writer.old writer.new (K.taken sink.old) (K.taken sink.new) result }
     ensures ending { (status : Status) → result ≡ Ok (Some status) → IsEnding status }
     ensures counts { (most : ℕ) → HasCount most run.old → MatchResult result (λ ended. MatchOption ended (HasCount (most + 1) run.new) (λ _. Unit {0})) (λ _. Unit {0}) }
     ensures cause { HasCause (K.faults sink.old) (K.faults sink.new) result }
@@ -147,9 +148,9 @@ fn take_line<R: Threads + Wait + Sync, K: Sink, G: Gate>(
             return take_request(rt, alloc, processors, line, writer, sink, gate);
         }
     };
-    match take_dump_line(reader, line) {
+    match take_dump_line(reader, cpus, line) {
         Ok(None) => Ok(None),
-        Ok(Some(file)) => begin(alloc, cpus, run, file, writer, sink),
+        Ok(Some(dump)) => begin(alloc, cpus, run, &dump, writer, sink),
         Err(offence) => tell(
             writer,
             sink,
@@ -233,7 +234,7 @@ fn run_lines<R: Threads + Wait + Sync, S: Source, K: Sink, G: Gate>(
     requires waiting { writer.old ≡ [] }
     requires some { 0 < cpus }
     requires few { cpus ≤ 16 }
-    ensures bytes { (bytes : List ℕ) → S.left source.old ≡ Some bytes → Runs proc_told [] bytes (S.left source.new) (K.taken sink.old) (K.taken sink.new) result }
+    ensures bytes { (bytes : List ℕ) → S.left source.old ≡ Some bytes → Runs (proc_told cpus) [] bytes (S.left source.new) (K.taken sink.old) (K.taken sink.new) result }
     ensures read_fault { StatusHasCause Status.ReadFault (S.faults source.old) (S.faults source.new) result }
     ensures write_fault { StatusHasCause Status.WriteFault (K.faults sink.old) (K.faults sink.new) result }
     ensures too_long { (result ≡ Status.TooLong) ↔ GaveTooMuch (S.given source.old) (S.given source.new) }
@@ -270,7 +271,7 @@ fn run_lines<R: Threads + Wait + Sync, S: Source, K: Sink, G: Gate>(
 }
 
 /// Reads a dump, a line `end` and requests in the form of Linux's mtrr document, carries each request
-/// out on so many processors that have the dump's file, and writes what became of it, and at the end
+/// out on so many processors that begin with the dump's files, and writes what became of it, and at the end
 /// the ranges of the valid pairs and the number of requests that were carried out. All that is told of
 /// the lines is written before the source is asked for more, and the rest behind an offence or a refused
 /// dump is dropped. At ReadFault what the known lines tell was written, at each other fault a front of
@@ -287,7 +288,7 @@ pub fn proc<R: AllocGlobal + Threads + Wait + Sync, S: Source, K: Sink, G: Gate>
     requires few { cpus ≤ 16 }
 
     // Where the source tells its bytes, what each status says of them and of what the sink took.
-    ensures bytes { (bytes : List ℕ) → S.left source.old ≡ Some bytes → Runs proc_told [] bytes (S.left source.new) (K.taken sink.old) (K.taken sink.new) result }
+    ensures bytes { (bytes : List ℕ) → S.left source.old ≡ Some bytes → Runs (proc_told cpus) [] bytes (S.left source.new) (K.taken sink.old) (K.taken sink.new) result }
 
     // A port that failed did so once, and the status is its fault; at every other status none failed.
     ensures read_fault { StatusHasCause Status.ReadFault (S.faults source.old) (S.faults source.new) result }

@@ -80,15 +80,20 @@ pub fn worked_listings()
 /// What a text tells: requests that aren't carried out, and faults of each part.
 #[tactic(auto, unfolding(crate::specs::Applied::is_size))]
 pub fn worked_texts()
-    ensures full { transcript proc_told (codes "0fe 400\nend\nbase=0 size=0x1000 type=write-back") ≡ told (codes "full\nera 0\n") status.Done }
-    ensures bad_range { transcript proc_told (codes "0fe 400\nend\nbase=1 size=0x1000 type=write-back") ≡ told (codes "bad range\nera 0\n") status.Done }
-    ensures refused_dump { transcript proc_told (codes "0fe 400\n2ff 7\nend\nx") ≡ told (codes "refused 2ff unsupported type\n") status.Refused }
-    ensures offence { transcript proc_told (codes "0fe 400\nend\ndisable=0\ndisable=x\ndisable=0") ≡ told (codes "not used\nbad text 4:1 bad number\n") status.BadText }
-    ensures unknown_type { transcript proc_told (codes "0fe 400\nend\nbase=0 size=0 type=UC") ≡ told (codes "bad text 3:15 unknown type\n") status.BadText }
-    ensures no_capabilities { transcript proc_told (codes "\n end") ≡ told (codes "bad text 2:2 no cap\n") status.BadText }
-    ensures no_capabilities_yet { transcript proc_told (codes "200 6") ≡ told (codes "bad text 1:1 no cap\n") status.BadText }
-    ensures no_end { transcript proc_told (codes "# none\n") ≡ told (codes "bad text 2:1 no end\n") status.BadText }
-    ensures two_words { transcript proc_told (codes "0fe 400\nend 1") ≡ told (codes "bad text 2:1 bad number\n") status.BadText }
-    ensures dump_line { transcript proc_told (codes "0fe 400\n210 0\nend") ≡ told (codes "bad text 2:1 unknown register\n") status.BadText }
-    ensures known { known_text proc_told (codes "0fe 400\nend\ndisable=0\ndisable=0") ≡ codes "not used\n" }
+    ensures full { transcript (proc_told 2) (codes "0fe 400\nend\nbase=0 size=0x1000 type=write-back") ≡ told (codes "full\nera 0\n") status.Done }
+    ensures bad_range { transcript (proc_told 2) (codes "0fe 400\nend\nbase=1 size=0x1000 type=write-back") ≡ told (codes "bad range\nera 0\n") status.Done }
+    ensures refused_dump { transcript (proc_told 2) (codes "0fe 400\n2ff 7\nend\nx") ≡ told (codes "refused 2ff unsupported type\n") status.Refused }
+    ensures offence { transcript (proc_told 2) (codes "0fe 400\nend\ndisable=0\ndisable=x\ndisable=0") ≡ told (codes "not used\nbad text 4:1 bad number\n") status.BadText }
+    ensures unknown_type { transcript (proc_told 2) (codes "0fe 400\nend\nbase=0 size=0 type=UC") ≡ told (codes "bad text 3:15 unknown type\n") status.BadText }
+    ensures no_capabilities { transcript (proc_told 2) (codes "\n end") ≡ told (codes "bad text 2:2 no cap\n") status.BadText }
+    ensures no_capabilities_yet { transcript (proc_told 2) (codes "200 6") ≡ told (codes "bad text 1:1 no cap\n") status.BadText }
+    ensures no_end { transcript (proc_told 2) (codes "# none\n") ≡ told (codes "bad text 2:1 no end\n") status.BadText }
+    ensures two_words { transcript (proc_told 2) (codes "0fe 400\nend 1") ≡ told (codes "bad text 2:1 bad number\n") status.BadText }
+    ensures dump_line { transcript (proc_told 2) (codes "0fe 400\n210 0\nend") ≡ told (codes "bad text 2:1 unknown register\n") status.BadText }
+    ensures two_sections { transcript (proc_told 2) (codes "version 2\ncpu 0\n0fe 400\ncpu 1\n2ff 800\nend\ndisable=0") ≡ told (codes "not used\nera 0\n") status.Done }
+    ensures one_section { transcript (proc_told 2) (codes "version 2\ncpu 0\n0fe 400\n end\ndisable=0") ≡ told (codes "bad text 4:2 out of range\n") status.BadText }
+    ensures three_sections { transcript (proc_told 2) (codes "version 2\ncpu 0\n0fe 400\ncpu 1\ncpu 2\nend") ≡ told (codes "bad text 6:1 out of range\n") status.BadText }
+    ensures no_section { transcript (proc_told 2) (codes "version 2\nend") ≡ told (codes "bad text 2:1 no cap\n") status.BadText }
+    ensures second_refused { transcript (proc_told 2) (codes "version 2\ncpu 0\n0fe 400\ncpu 1\n2ff 7\nend\nx") ≡ told (codes "refused cpu 1 2ff unsupported type\n") status.Refused }
+    ensures known { known_text (proc_told 2) (codes "0fe 400\nend\ndisable=0\ndisable=0") ≡ codes "not used\n" }
 {}

@@ -5,4 +5,4 @@ use Rattle.mt_proc.proofs.RunningLaws.{long_offence, tells_long}
 use Rattle.mt_proc.proofs.laws.known_lines_tell_a_front.Goals as goal
 
 pub returns : goal.returns
-returns c = known_is_front Point proc_step proc_end long_offence tells_long (in_dump [])
+returns c = λ cpus. known_is_front Point (proc_step cpus) proc_end long_offence (tells_long cpus) (in_dump [])

@@ -1,35 +1,50 @@
-use Rattle.std.proofs.Common.{◌≡◌, ◌∙◌, ap, inl, refl, sym, subst, [], None, Some}
+use Rattle.std.proofs.Common.{◌≡◌, ◌∙◌, ◌<◌, ◌≤◌, ℕ, List, ap, arith, inl, length, refl, sym, subst, [], None, Some}
+use Rattle.std.specs.List.{All}
 use Rattle.mt_ports.specs.declared.status.Status.TheVariants.{Refused}
-use Rattle.mt_regs.specs.Faults.{IsFirstFault}
-use Rattle.mt_regs.specs.FirstFault.{first_fault}
-use Rattle.mt_regs.proofs.FaultNumbers.{fault_number}
-use Rattle.mt_regs.proofs.FirstFault.{is_first_fault}
-use Rattle.mt_output.specs.Lines.{refused_line}
+use Rattle.mt_regs.specs.RegisterFile.{RegisterFile}
+use Rattle.mt_regs.specs.Faults.{IsAccepted}
+use Rattle.mt_regs.specs.StartFiles.{AreStartFiles}
+use Rattle.mt_regs.specs.Agreement.{first_refusal}
+use Rattle.mt_dump.specs.Dumps.{Dump, first_file, first_of}
+use Rattle.mt_dump.specs.ForProcessors.{files_for}
+use Rattle.mt_output.specs.Lines.{dump_refused_line}
 use Rattle.mt_output.specs.Writing.{Adds}
 use Rattle.mt_output.proofs.Writing.{passes_nothing}
-use Rattle.mt_proc.specs.After.{at_first}
+use Rattle.mt_proc.specs.After.{Served, at_first}
 use Rattle.mt_proc.specs.Proc.{begins, in_requests}
 use Rattle.mt_proc.specs.Serving.{served}
 use Rattle.mt_proc.specs.declared.running.Run.TheVariants as run
-use Rattle.mt_proc.proofs.Served.{served_standing}
+use Rattle.mt_proc.proofs.Beginning.{each_accepted, first_for}
+use Rattle.mt_proc.proofs.Served.{served_idling}
 use Rattle.mt_proc.proofs.Taking.{ends, goes, leads_as}
 use Rattle.mt_proc.proofs.running.begin.Goals as goal
 
-pub refused_line-requires : goal.refused_line-requires
-refused_line-requires g c = fault_number c.args.file c.in-Some.fault c.is_register_file.ensures c.in-Some.ensures
+pub new-requires-clause-start : goal.new-requires-clause-start
+new-requires-clause-start g c =
+    let none : first_refusal c.args.dump.now.files ≡ None = ap first_refusal (sym (c.as_slice.ensures.value ∙ ap (λ (d : Dump). d.files) c.dump.view_is)) ∙ sym c.first_refusal.ensures.refusal ∙ c.in_default.is in
+    subst AreStartFiles (sym c.as_slice-2.ensures.value) (c.files_for-files.ensures.start (each_accepted c.args.dump.now.files none))
 
 pub returns-in-Some-clause-bytes : goal.returns-in-Some-clause-bytes
 returns-in-Some-clause-bytes g c = λ from number leads.
-    let line : c.as_slice.result.now ≡ refused_line c.in-Some.fault = c.as_slice.ensures.value ∙ c.refused_line.ensures in
-    let first : begins c.args.file (first_fault c.args.file) ≡ begins c.args.file (Some c.in-Some.fault) = ap (begins c.args.file) (sym (is_first_fault c.args.file (Some c.in-Some.fault) c.in-Some.ensures)) in
-    ends from number c.args.run.now c.args.run.now c.args.writer.now c.tell.new.writer (g.K.Sink.taken c.args.sink.now) (g.K.Sink.taken c.tell.new.sink) (refused_line c.in-Some.fault) Refused c.tell.result
-    (leads_as from number (begins c.args.file (first_fault c.args.file)) (begins c.args.file (Some c.in-Some.fault)) first leads) (inl refl)
+    let k : ℕ = c.in-Some.k in
+    let fault = c.in-Some.fault in
+    let dump = c.args.dump.now in
+    let line : c.as_slice-in-Some.result.now ≡ dump_refused_line dump.version k fault =
+    c.as_slice-in-Some.ensures.value ∙ c.dump_refused_line-line.ensures ∙ ap (λ (d : Dump). dump_refused_line d.version k fault) c.dump.view_is in
+    let refused : first_refusal dump.files ≡ Some (k, fault) = ap first_refusal (sym (c.as_slice.ensures.value ∙ ap (λ (d : Dump). d.files) c.dump.view_is)) ∙ sym c.in-Some.ensures.refusal in
+    ends c.args.cpus from number c.args.run.now c.args.run.now c.args.writer.now c.tell.new.writer (g.K.Sink.taken c.args.sink.now) (g.K.Sink.taken c.tell.new.sink) (dump_refused_line dump.version k fault) Refused c.tell.result
+    (leads_as c.args.cpus from number (begins dump (first_refusal dump.files)) (begins dump (Some (k, fault))) (ap (begins dump) refused) leads) (inl refl)
     (subst (λ l. Adds c.args.writer.now l c.tell.new.writer (g.K.Sink.taken c.args.sink.now) (g.K.Sink.taken c.tell.new.sink) c.tell.result) line c.tell.ensures.bytes) c.tell.ensures.status
 
 pub returns-clause-bytes : goal.returns-clause-bytes
 returns-clause-bytes g c = λ from number leads.
-    let none : None ≡ first_fault c.args.file = is_first_fault c.args.file None (subst (IsFirstFault c.args.file) c.in_default.is c.first_fault.ensures) in
-    let at : served c.in-Ok.processors ≡ at_first c.args.file = ap served c.in-Ok.ensures ∙ served_standing c.args.cpus (at_first c.args.file) c.requires.some in
-    goes from number c.args.run.now (run.Requests c.in-Ok.processors) c.args.writer.now c.args.writer.now (g.K.Sink.taken c.args.sink.now) (g.K.Sink.taken c.args.sink.now) [] (in_requests (at_first c.args.file))
-    (leads_as from number (begins c.args.file (first_fault c.args.file)) (begins c.args.file None) (ap (begins c.args.file) (sym none)) leads) at (λ so_far quiet. tt)
+    let dump = c.args.dump.now in
+    let none : first_refusal dump.files ≡ None = ap first_refusal (sym (c.as_slice.ensures.value ∙ ap (λ (d : Dump). d.files) c.dump.view_is)) ∙ sym c.first_refusal.ensures.refusal ∙ c.in_default.is in
+    let files : c.as_slice-2.result.now ≡ files_for c.args.cpus dump = c.as_slice-2.ensures.value ∙ c.files_for-files.ensures.files in
+    let count : length c.as_slice-2.result.now ≡ c.args.cpus = ap (λ (fs : List RegisterFile). length fs) c.as_slice-2.ensures.value ∙ c.files_for-files.ensures.count c.requires.each in
+    let first : first_of c.as_slice-2.result.now ≡ first_file dump = ap first_of files ∙ first_for c.args.cpus dump c.requires.some in
+    let at : served c.in-Ok.processors ≡ at_first (first_file dump) =
+    ap served c.in-Ok.ensures ∙ served_idling c.as_slice-2.result.now 0 (omega (arith, count, c.requires.some)) ∙ ap at_first first in
+    goes c.args.cpus from number c.args.run.now (run.Requests c.in-Ok.processors) c.args.writer.now c.args.writer.now (g.K.Sink.taken c.args.sink.now) (g.K.Sink.taken c.args.sink.now) [] (in_requests (at_first (first_file dump)))
+    (leads_as c.args.cpus from number (begins dump (first_refusal dump.files)) (begins dump None) (ap (begins dump) none) leads) at (λ so_far quiet. tt)
     (passes_nothing c.args.writer.now (g.K.Sink.taken c.args.sink.now))

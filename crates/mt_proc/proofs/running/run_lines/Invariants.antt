@@ -13,7 +13,7 @@ invariant-lines g l = record {
   source : g.S.Source.faults l.source ≡ g.S.Source.faults l.initial.source;
   sink : g.K.Sink.faults l.sink ≡ g.K.Sink.faults l.initial.sink;
   counts : HasCount l.feed.offset l.run;
-  told : (bytes : List ℕ) → g.S.Source.left l.initial.source ≡ Some bytes → UnderWay proc_running proc_told bytes (g.S.Source.left l.source) l.feed l.run l.writer (g.K.Sink.taken l.initial.sink) (g.K.Sink.taken l.sink);
+  told : (bytes : List ℕ) → g.S.Source.left l.initial.source ≡ Some bytes → UnderWay (proc_running l.fn.cpus) (proc_told l.fn.cpus) bytes (g.S.Source.left l.source) l.feed l.run l.writer (g.K.Sink.taken l.initial.sink) (g.K.Sink.taken l.sink);
 }
 
 abbrev pub decreases-lines : goal.decreases-lines

@@ -47,3 +47,23 @@ returns-clause-dump_line c = refl
 pub returns-clause-known : goal.returns-clause-known
 unfolding digits encode_with is_size
 returns-clause-known c = refl
+
+pub returns-clause-two_sections : goal.returns-clause-two_sections
+unfolding digits encode_with is_size
+returns-clause-two_sections c = refl
+
+pub returns-clause-one_section : goal.returns-clause-one_section
+unfolding digits encode_with is_size
+returns-clause-one_section c = refl
+
+pub returns-clause-three_sections : goal.returns-clause-three_sections
+unfolding digits encode_with is_size
+returns-clause-three_sections c = refl
+
+pub returns-clause-no_section : goal.returns-clause-no_section
+unfolding digits encode_with is_size
+returns-clause-no_section c = refl
+
+pub returns-clause-second_refused : goal.returns-clause-second_refused
+unfolding digits encode_with is_size
+returns-clause-second_refused c = refl
