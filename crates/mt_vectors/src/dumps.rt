@@ -65,3 +65,14 @@ pub const CANONICAL: &[u8] = b"maxphyaddr 36\n\
     0fe 0000000000000400\n\
     277 0007040600070406\n\
     2ff 0000000000000c00\n";
+
+/// Two processors, of which the second has no range.
+pub const SECTIONS: &[u8] = b"version 2\n\
+    cpu 0\n\
+    0fe 508\n\
+    200 6\n\
+    201 f00000800\n\
+    2ff 800\n\
+    cpu 1\n\
+    0fe 508\n\
+    2ff 800\n";

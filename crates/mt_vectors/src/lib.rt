@@ -21,6 +21,7 @@ mod script_lines;
 mod script_numbers;
 mod script_sections;
 mod scripts;
+mod sections;
 mod self_snoops;
 mod steps;
 mod summaries;
@@ -32,11 +33,12 @@ mod usages;
 pub use row::Row;
 
 /// The tables of the commands about one dump.
-pub fn dump_tables() -> [&'static [Row]; 10] {
+pub fn dump_tables() -> [&'static [Row]; 11] {
     [
         registers::registers(),
         overlaps::overlaps(),
         dump_texts::dump_texts(),
+        sections::sections(),
         canonical_texts::canonical_texts(),
         type_maps::type_maps(),
         pages::pages(),

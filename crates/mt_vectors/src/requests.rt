@@ -89,5 +89,22 @@ pub fn requests() -> &'static [Row] {
         "a line in the dump that is none of it", ["proc", "2"],
             b"0fe 508\ndisable=0\nend\n" => BadText,
             b"bad text 2:1 bad line\n";
+        "two processors that differ have one file after the first request", ["proc", "2"],
+            b"version 2\ncpu 0\n0fe 508\n200 6\n201 f00000800\n2ff 800\ncpu 1\n0fe 508\n2ff 800\nend\nbase=0x100000000 size=0x1000 type=write-back\n" => Done,
+            b"set 1\n\
+              base=0x0 size=0x100000000 type=write-back # 0\n\
+              base=0x100000000 size=0x1000 type=write-back # 1\nera 1\n";
+        "no request is carried out on processors that differ", ["proc", "2"],
+            b"version 2\ncpu 0\n0fe 508\n200 6\n201 f00000800\n2ff 800\ncpu 1\n0fe 508\n2ff 800\nend\ndisable=5\n" => Done,
+            b"not used\nbase=0x0 size=0x100000000 type=write-back # 0\nera 0\n";
+        "fewer processors than sections", ["proc", "1"],
+            b"version 2\ncpu 0\n0fe 508\n200 6\n201 f00000800\n2ff 800\ncpu 1\n0fe 508\n2ff 800\nend\ndisable=0\n" => BadText, b"bad text 10:1 out of range\n";
+        "more processors than sections", ["proc", "3"],
+            b"version 2\ncpu 0\n0fe 508\n200 6\n201 f00000800\n2ff 800\ncpu 1\n0fe 508\n2ff 800\nend\ndisable=0\n" => BadText, b"bad text 10:1 out of range\n";
+        "no capability register comes before the number of sections", ["proc", "2"],
+            b"version 2\n end\n" => BadText, b"bad text 2:2 no cap\n";
+        "a later section is refused", ["proc", "2"],
+            b"version 2\ncpu 0\n0fe 400\ncpu 1\n2ff 7\nend\nx\n" => Refused,
+            b"refused cpu 1 2ff unsupported type\n";
     }
 }
