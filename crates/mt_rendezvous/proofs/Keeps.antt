@@ -124,16 +124,20 @@ cancel_over added again Pending l k h at u f = refl
 cancel_over added again Given l k h at u f = refl
 cancel_over added again Cancelled l k h at u f = ap not (any_true (λ p. is_waiting_to_pass p.phase) l k h at (waits added again h.cpu.phase u f))
 
-pub stands_order : (t : Start) (all : List Held) (go : Go) (words : List ℕ) (k : ℕ) (h : Held) → get_elem? all k ≡ some h → IsUnderWay h.cpu.phase → FitsHeld t go h
+pub order_stands : (t : Start) (all : List Held) (go : Go) (words : List ℕ) (k : ℕ) (h : Held) → get_elem? all k ≡ some h → IsUnderWay h.cpu.phase → Fits go h.added h.again h.cpu.phase → h.cpu.era ≡ common_era t.cpus + rise h.again h.cpu.phase
     → (joined t all go words).order ≡ Some (order_of t go)
-stands_order t all go words k h at u f = ap (λ (b : Bool). if b then None else Some (order_of t go)) over
+order_stands t all go words k h at u fits era = ap (λ (b : Bool). if b then None else Some (order_of t go)) over
   where
     released : has_released (order_of t go) h.cpu ≡ false
-    released = let e = f.era in let z = no_rise h.again h.cpu.phase u in le-ltb (common_era t.cpus) h.cpu.era (omega arith)
+    released = let z = no_rise h.again h.cpu.phase u in le-ltb (common_era t.cpus) h.cpu.era (omega arith)
 
     over : is_over (order_of t go) (map cpu_of all) ≡ false
     over = ap (λ b. b || (is_cancelled go && not (list_any (λ p. is_waiting_to_pass p.phase) (map cpu_of all)))) (all_false (has_released (order_of t go)) all k h at released)
-        ∙ cancel_over h.added h.again go all k h at u f.fits
+        ∙ cancel_over h.added h.again go all k h at u fits
+
+pub stands_order : (t : Start) (all : List Held) (go : Go) (words : List ℕ) (k : ℕ) (h : Held) → get_elem? all k ≡ some h → IsUnderWay h.cpu.phase → FitsHeld t go h
+    → (joined t all go words).order ≡ Some (order_of t go)
+stands_order t all go words k h at u f = order_stands t all go words k h at u f.fits f.era
 
 -- ---- one event of the processor that h has
 
@@ -218,7 +222,7 @@ kept_present views id v new at to k t = dite (ℕ_discrete t.0 id)
     (id, new, r.0, r.1, set_here views id new (view_less views id v at), r.2, r.3 ∙ t.6))
     (λ (n : t.0 ≢ id). (t.0, t.1, t.2, t.3, set_else views id t.0 new n ∙ t.4, t.5, t.6))
 
-moves_present : (views : List View) (id : ℕ) (v new : View) (h w : Held) → get_elem? views id ≡ some v → v.held ≡ h ∷ [] → new.held ≡ w ∷ [] → w.number ≡ h.number → (k : ℕ) → IsHeld views k → IsHeld (set views id new) k
+pub moves_present : (views : List View) (id : ℕ) (v new : View) (h w : Held) → get_elem? views id ≡ some v → v.held ≡ h ∷ [] → new.held ≡ w ∷ [] → w.number ≡ h.number → (k : ℕ) → IsHeld views k → IsHeld (set views id new) k
 moves_present views id v new h w at is now same k t = kept_present views id v new at (λ i g e. only i g (subst (λ (l : List Held). get_elem? l i ≡ some g) is e)) k t
   where
     only : (i : ℕ) (g : Held) → get_elem? (h ∷ []) i ≡ some g → (i' : ℕ) × (h' : Held) × (get_elem? new.held i' ≡ some h') × (h'.number ≡ g.number)
@@ -249,6 +253,35 @@ codes_stored all words k n w codes is wide j g e = ⊎_elim
     (λ (t : (j ≢ k) × (get_elem? all j ≡ some g)). get_or-set_other words (k + 2) (j + 2) n 0 (λ (q : j + 2 ≡ k + 2). let n = t.0 in absurd (n (omega arith))) ∙ codes j g t.1)
     (at_set all k j w g e)
 
+-- ---- seats, once the processor of one is another
+
+told_of : (t : Start) (v : View) (h : Held) → v.held ≡ h ∷ [] → ((v.held ≡ []) × (v.root ≡ false)) ⊎ (v.start ≡ t) → v.start ≡ t
+told_of t v h is (inl nothing) = absurd (let e = nothing.0 in cc)
+told_of t v h is (inr x) = x
+
+module _ (t : Start) (all : List Held) (go : Go) (owner : ℕ → ℕ) (id : ℕ) (v : View) (seat : Sits t all go owner id v) (h w : Held) (is : v.held ≡ h ∷ []) (same : w.number ≡ h.number) where
+  mine : (get_elem? all h.number ≡ some h) × (owner h.number ≡ id)
+  mine = seat.holds zero h (subst (λ (hs : List Held). get_elem? hs zero ≡ some h) (sym is) refl)
+
+  own : (i : ℕ) (g : Held) → get_elem? (w ∷ []) i ≡ some g → (get_elem? (set all h.number w) g.number ≡ some g) × (owner g.number ≡ id)
+  own zero g e = let eq : w ≡ g = some-injective w g e in
+      subst (λ (u : Held). (get_elem? (set all h.number w) u.number ≡ some u) × (owner u.number ≡ id)) eq
+      (subst (λ (n : ℕ). (get_elem? (set all h.number w) n ≡ some w) × (owner n ≡ id)) (sym same) (set_here all h.number w (at_less all h.number h mine.0), mine.1))
+  own (suc i) g e = absurd (some-ne-none g (sym e))
+
+  -- the seat itself
+  pub sits_moved : (shown : Option ℕ) → Sits t (set all h.number w) go owner id (view v.root (w ∷ []) v.go shown v)
+  sits_moved shown = record { root = seat.root; told = inr (told_of t v h is seat.told); holds = own; apart = ((λ i g none. absurd (some-ne-none g (sym none))), tt) }
+
+  -- and any other
+  pub sits_else : (j : ℕ) (u : View) → j ≢ id → Sits t all go owner j u → Sits t (set all h.number w) go owner j u
+  sits_else j u differ its = record {
+    root = its.root;
+    told = its.told;
+    holds = λ i g e. let x = its.holds i g e in (set_else all h.number g.number w (λ eq. differ (sym x.1 ∙ ap owner eq ∙ mine.1)) ∙ x.0, x.1);
+    apart = its.apart;
+  }
+
 module _ (key : Key) where
   abbrev St : Type 0
   St = State (Unit {0}) View
@@ -272,7 +305,7 @@ module _ (key : Key) where
       let mine = seat.holds zero h (subst (λ (hs : List Held). get_elem? hs zero ≡ some h) (sym is) refl) in
       let k : ℕ = h.number in
       let there : get_elem? m.all k ≡ some h = mine.0 in
-      let told = told_of seat.told in
+      let told = told_of t v h is seat.told in
       let l = led_after (broadcast t) (joined t m.all m.go s.words) (joined t (set m.all k w) m.go (set s.words i n)) e m.led_to comes in
       record {
         led = l;
@@ -300,24 +333,9 @@ module _ (key : Key) where
                 (λ (x : (j ≢ k) × (get_elem? m.all j ≡ some g)). m.fits j g x.1)
                 (at_set m.all k j w g e);
             seats = λ j u e. ⊎_elim
-                (λ (x : (j ≡ id) × (view v.root (w ∷ []) v.go shown v ≡ u)). subst (λ (y : ℕ × View). Sits t (set m.all k w) m.go m.owner y.0 y.1) (λ i. (sym x.0 i, x.1 i))
-                (record { root = seat.root; told = inr told; holds = own there mine.1; apart = ((λ i g none. absurd (some-ne-none g (sym none))), tt) }))
-                (λ (x : (j ≢ id) × (get_elem? s.views j ≡ some u)). let its = m.seats j u x.1 in
-                record { root = its.root; told = its.told; holds = λ i g e'. other j u g (its.holds i g e') x.0 mine.1; apart = its.apart })
+                (λ (x : (j ≡ id) × (view v.root (w ∷ []) v.go shown v ≡ u)). subst (λ (y : ℕ × View). Sits t (set m.all k w) m.go m.owner y.0 y.1) (λ i. (sym x.0 i, x.1 i)) (sits_moved t m.all m.go m.owner id v seat h w is same shown))
+                (λ (x : (j ≢ id) × (get_elem? s.views j ≡ some u)). sits_else t m.all m.go m.owner id v seat h w is same j u x.0 (m.seats j u x.1))
                 (at_set s.views id j (view v.root (w ∷ []) v.go shown v) u e);
           };
         };
       }
-    where
-      told_of : ((v.held ≡ []) × (v.root ≡ false)) ⊎ (v.start ≡ t) → v.start ≡ t
-      told_of (inl nothing) = absurd (let e = nothing.0 in cc)
-      told_of (inr x) = x
-
-      own : get_elem? m.all h.number ≡ some h → m.owner h.number ≡ id → (i : ℕ) (g : Held) → get_elem? (w ∷ []) i ≡ some g → (get_elem? (set m.all h.number w) g.number ≡ some g) × (m.owner g.number ≡ id)
-      own there mine zero g e = let eq : w ≡ g = some-injective w g e in
-          subst (λ (u : Held). (get_elem? (set m.all h.number w) u.number ≡ some u) × (m.owner u.number ≡ id)) eq
-          (subst (λ (n : ℕ). (get_elem? (set m.all h.number w) n ≡ some w) × (m.owner n ≡ id)) (sym same) (set_here m.all h.number w (at_less m.all h.number h there), mine))
-      own there mine (suc i) g e = absurd (some-ne-none g (sym e))
-
-      other : (j : ℕ) (u : View) (g : Held) → (get_elem? m.all g.number ≡ some g) × (m.owner g.number ≡ j) → j ≢ id → m.owner h.number ≡ id → (get_elem? (set m.all h.number w) g.number ≡ some g) × (m.owner g.number ≡ j)
-      other j u g x apart mine = (set_else m.all h.number g.number w (λ eq. apart (sym x.1 ∙ ap m.owner eq ∙ mine)) ∙ x.0, x.1)

@@ -1,10 +1,10 @@
 mod Broadcasts
 mod Running
 mod Ended
-mod Keeps
-mod Local
-mod Steps
-mod RootSteps
+pub mod Keeps
+pub mod Local
+pub mod Steps
+pub mod RootSteps
 mod EachStep
 mod Facts
 mod Carried

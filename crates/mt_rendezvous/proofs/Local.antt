@@ -74,7 +74,7 @@ fits_on t go h era u f first = record { first = first; fits = f; era = let z = n
 
 -- ---- the barriers' counts
 
-arrived_in : (t : Start) (p : Processor) (added again : Bool) (ph : Phase) → Fits Given added again ph → added ≡ true → p.era ≡ common_era t.cpus + rise again ph → has_arrived (order_of t Given) (record p { phase = ph }) ≡ true
+pub arrived_in : (t : Start) (p : Processor) (added again : Bool) (ph : Phase) → Fits Given added again ph → added ≡ true → p.era ≡ common_era t.cpus + rise again ph → has_arrived (order_of t Given) (record p { phase = ph }) ≡ true
 arrived_in t p added again Taken f a era = let c = f.1 a in absurd (cc)
 arrived_in t p added again Running f a era = ⊎_elim
     (λ (x : (again ≡ false) × (Given ≡ Cancelled)). let e = x.1 in absurd (cc))
@@ -87,7 +87,7 @@ arrived_of t go h is f a =
     subst (λ (g : Go). has_arrived (order_of t g) h.cpu ≡ true) (sym is)
     (arrived_in t h.cpu h.added h.again h.cpu.phase (subst (λ (g : Go). Fits g h.added h.again h.cpu.phase) is f.fits) a f.era)
 
-again_in : (t : Start) (go : Go) (p : Processor) (added again : Bool) (ph : Phase) → Fits go added again ph → again ≡ true → p.era ≡ common_era t.cpus + rise again ph → has_arrived_again (order_of t go) (record p { phase = ph }) ≡ true
+pub again_in : (t : Start) (go : Go) (p : Processor) (added again : Bool) (ph : Phase) → Fits go added again ph → again ≡ true → p.era ≡ common_era t.cpus + rise again ph → has_arrived_again (order_of t go) (record p { phase = ph }) ≡ true
 again_in t go p added again Arrived2 f a era = refl
 again_in t go p added again Running f a era = let up : rise again Running ≡ 1 = ap (λ b. rise b Running) a in lt-ltb (common_era t.cpus) p.era (omega arith)
 again_in t go p added again other f a era = absurd (let c = f.0 in cc)

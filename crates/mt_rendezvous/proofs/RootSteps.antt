@@ -27,7 +27,7 @@ use Rattle.mt_rendezvous.specs.Laws.{Follows, machine_of}
 use Rattle.mt_rendezvous.proofs.Keeps.{total_small, weight_small, kept_present, IsUnderWay, stands_order, low_word}
 
 -- the coordinator's word changes once
-turned : (go new : Go) (added again : Bool) (p : Phase) → go ≡ Pending → Fits go added again p → Fits new added again p
+pub turned : (go new : Go) (added again : Bool) (p : Phase) → go ≡ Pending → Fits go added again p → Fits new added again p
 turned go new added again Taken is f = (f.0, λ a. let c = f.1 a in absurd (cc))
 turned go new added again Arrived is f = f
 turned go new added again Running is f = absurd (⊎_elim (λ (t : (again ≡ false) × (go ≡ Cancelled)). let e = t.1 in cc) (λ (t : (again ≡ true) × (go ≡ Given)). let e = t.1 in cc) f.1)
