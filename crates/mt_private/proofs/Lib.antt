@@ -1,4 +1,6 @@
 mod Accessed
 mod Causes
+mod OnWorked
 mod Lists
+pub mod Own
 mod Walk

@@ -1,4 +1,5 @@
 pub mod Pages
 pub mod Jobs
 pub mod OneByOne
+pub mod Own
 pub mod Worked

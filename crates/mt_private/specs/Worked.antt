@@ -1,12 +1,12 @@
 -- Processors and jobs of worked examples.
-use Rattle.std.specs.Prelude.{ℕ, ◌+◌, List, [], ◌∷◌}
+use Rattle.std.specs.Prelude.{ℕ, ◌+◌, ◌==◌, Bool, List, [], ◌∷◌}
 use Rattle.mt_regs.specs.WorkedRows.{four_gigabytes}
 use Rattle.mt_machine.specs.declared.op.Op.{Op}
 use Rattle.mt_machine.specs.declared.op.Op.TheVariants.{Load, Store}
-use Rattle.mt_machine.specs.Memory.{Window}
+use Rattle.mt_machine.specs.Memory.{Window, put_word}
 use Rattle.mt_machine.specs.System.{Processor, System, start_processor}
 use Rattle.mt_machine.specs.Start.{zero_memory}
-use Rattle.mt_machine.specs.WorkedRuns.{mapping, uncached_goal}
+use Rattle.mt_machine.specs.WorkedRuns.{line_of, mapping, uncached_goal}
 use Rattle.mt_private.specs.OneByOne.{OneByOne, one_by_one}
 
 -- page 1 is mapped to this physical page
@@ -37,3 +37,28 @@ loads = (Load 0x1000 ∷ []) ∷ (Load 0x1000 ∷ []) ∷ []
 -- all memory turns to UC between them
 abbrev pub pair_done : OneByOne
 pair_done = one_by_one pair uncached_goal stores loads
+
+-- ---- own pages
+
+abbrev pub first_page : ℕ → Bool
+first_page page = page == 0x100
+
+abbrev pub second_page : ℕ → Bool
+second_page page = page == 0x200
+
+-- the first word of each line is marked
+abbrev pub marked : System
+marked = record pair { memory = put_word (put_word pair.memory 0x100000 5) 0x200000 6 }
+
+-- both name one page; the second has a dirty word in it; and both access it without caches
+abbrev pub sharing : System
+sharing = over (owner 0x100 ∷ owner 0x100 ∷ [])
+
+abbrev pub shared : System
+shared = over (owner 0x100 ∷ record (owner 0x100) { lines = record (line_of 0x4000 0) { words = 7 ∷ 0 ∷ 0 ∷ 0 ∷ 0 ∷ 0 ∷ 0 ∷ 0 ∷ []; dirty = 1 } ∷ [] } ∷ [])
+
+abbrev pub past_caches : Processor
+past_caches = record (start_processor four_gigabytes) { mappings = mapping 1 0x100 3 ∷ [] }
+
+abbrev pub uncached : System
+uncached = over (past_caches ∷ past_caches ∷ [])

@@ -1,0 +1,6 @@
+-- What one processor does on pages of its own.
+pub mod Words
+pub mod Whole
+pub mod Buses
+pub mod Accesses
+pub mod Owners
