@@ -1,0 +1,7 @@
+-- What each event of one processor makes of a yard.
+pub mod Moves
+pub mod Events
+pub mod Barriers
+pub mod Work
+pub mod Decisions
+pub mod Seats

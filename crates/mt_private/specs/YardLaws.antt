@@ -1,0 +1,104 @@
+-- What each step of a yard makes of the machine that its residents and counts stand for.
+use Rattle.std.specs.Prelude.{◌≡◌, ◌⊎◌, ℕ, ◌+◌, ◌<◌, ◌≤◌, Bool, true, false, List, [], ◌∷◌, length, Option, Some, None, slice_index, slice_set}
+use mathlib.Core.Option.{some}
+use lib.ListN.{get_elem?}
+use Rattle.atomic_table.specs.Table.{State}
+use Rattle.mt_machine.specs.declared.phase.Phase.TheVariants.{Running, Taken, Arrived, Restored, Arrived2}
+use Rattle.mt_machine.specs.declared.event.Event.{Event}
+use Rattle.mt_machine.specs.declared.event.Event.TheVariants.{Take, Arrive, Leave, Pass, ArriveAgain, Release}
+use Rattle.mt_machine.specs.declared.go.Go.{Go}
+use Rattle.mt_machine.specs.declared.go.Go.TheVariants.{Pending, Given, Cancelled}
+use Rattle.mt_machine.specs.declared.op.Op.{Op}
+use Rattle.mt_machine.specs.System.{Processor, System}
+use Rattle.mt_machine.specs.Access.{access}
+use Rattle.mt_machine.specs.Machine.{Accesses, Cancels, FitsOp, Goes, MachineEvent, Order, Steps, due}
+use Rattle.mt_cpu.specs.Steps.{is_local}
+use Rattle.mt_rendezvous.specs.declared.view.Key.{Key}
+use Rattle.mt_rendezvous.specs.declared.view.Start.{Start}
+use Rattle.mt_rendezvous.specs.Station.{start_of}
+use Rattle.mt_rendezvous.specs.Plays.{arrive, arrive_again, does, late}
+use Rattle.mt_private.specs.declared.view.Resident.{Resident}
+use Rattle.mt_private.specs.declared.view.YardView.{YardView}
+use Rattle.mt_private.specs.Yard.{Decides, Follows, Yard, accessed_by, own_of, stepped_by, with_held}
+use Rattle.mt_private.specs.YardRule.{MeetsYard, with_one}
+
+-- a yard, and its resident k, whose pass has added so
+pub record Has (t : Start) (all : List Resident) (go : Go) (first second : ℕ) (s : System) (k : ℕ) (y : Resident) (added again : Bool) : Type 0 where
+  pub yard : Yard t all go first second s
+  pub at : get_elem? all k ≡ some y
+  pub has_added : y.held.added ≡ added
+  pub has_added_again : y.held.again ≡ again
+
+-- ---- a load of the first count
+
+-- one that runs, and hasn't taken, takes where the count shows no cancel
+abbrev pub LoadTakes : Type 0
+LoadTakes =
+    (t : Start) (all : List Resident) (go : Go) (first second : ℕ) (s : System) (k : ℕ) (y : Resident) → Has t all go first second s k y false false → y.held.cpu.phase ≡ Running
+    → first < 4294967296 → Follows t all go s k (stepped_by t Take y) (Some (Steps k Take)) first second
+
+-- any load by which nobody moves is no event
+abbrev pub LoadStays : Type 0
+LoadStays =
+    (t : Start) (all : List Resident) (go : Go) (first second : ℕ) (s : System) (k : ℕ) (y : Resident) → Yard t all go first second s → get_elem? all k ≡ some y
+    → Follows t all go s k y None first second
+
+abbrev pub LoadPasses : Type 0
+LoadPasses =
+    (t : Start) (all : List Resident) (go : Go) (first second : ℕ) (s : System) (k : ℕ) (y : Resident) → Has t all go first second s k y true false → y.held.cpu.phase ≡ Arrived
+    → first ≡ length t.cpus + 1 → Follows t all go s k (with_held y (does t Pass y.held)) (Some (Steps k Pass)) first second
+
+abbrev pub LoadLeaves : Type 0
+LoadLeaves =
+    (t : Start) (all : List Resident) (go : Go) (first second : ℕ) (s : System) (k : ℕ) (y : Resident) → Has t all go first second s k y true false → (y.held.cpu.phase ≡ Taken) ⊎ (y.held.cpu.phase ≡ Arrived)
+    → 4294967296 ≤ first → Follows t all go s k (with_held y (does t Leave y.held)) (Some (Steps k Leave)) first second
+
+-- ---- an addition to the first count
+
+abbrev pub AdditionArrives : Type 0
+AdditionArrives =
+    (t : Start) (all : List Resident) (go : Go) (first second : ℕ) (s : System) (k : ℕ) (y : Resident) → Has t all go first second s k y false false → y.held.cpu.phase ≡ Taken
+    → (first < 4294967296 → Follows t all go s k (with_held y (arrive t y.held)) (Some (Steps k Arrive)) (first + 1) second)
+    × (4294967296 ≤ first → Follows t all go s k (with_held y (late y.held)) None (first + 1) second)
+
+-- the coordinator's
+abbrev pub AdditionDecides : Type 0
+AdditionDecides =
+    (t : Start) (all : List Resident) (first second : ℕ) (s : System) → Yard t all Pending first second s
+    → Decides t all Given (first + 1) second s Goes × Decides t all Cancelled (first + 4294967296) second s Cancels
+
+-- ---- the second count
+
+abbrev pub AdditionArrivesAgain : Type 0
+AdditionArrivesAgain =
+    (t : Start) (all : List Resident) (go : Go) (first second : ℕ) (s : System) (k : ℕ) (y : Resident) → Has t all go first second s k y true false → y.held.cpu.phase ≡ Restored
+    → Follows t all go s k (with_held y (arrive_again t y.held)) (Some (Steps k ArriveAgain)) first (second + 1)
+
+abbrev pub LoadReleases : Type 0
+LoadReleases =
+    (t : Start) (all : List Resident) (go : Go) (first second : ℕ) (s : System) (k : ℕ) (y : Resident) → Has t all go first second s k y true true → y.held.cpu.phase ≡ Arrived2
+    → second ≡ length t.cpus → Follows t all go s k (with_held y (does t Release y.held)) (Some (Steps k Release)) first second
+
+-- ---- a store of the own event word
+
+-- an access, before the processor takes or after it is released or has left; the answer is that of its own system
+abbrev pub StoreAccesses : Type 0
+StoreAccesses =
+    (t : Start) (all : List Resident) (go : Go) (first second : ℕ) (s : System) (k : ℕ) (y : Resident) (op : Op) → Yard t all go first second s → get_elem? all k ≡ some y → y.held.cpu.phase ≡ Running → FitsOp op
+    → Follows t all go s k (accessed_by op y) (Some (Accesses k op)) first second × ((access s k op).answer ≡ (access (own_of y) 0 op).answer)
+
+-- the event that is due between the barriers
+abbrev pub StoreWorks : Type 0
+StoreWorks =
+    (t : Start) (all : List Resident) (go : Go) (first second : ℕ) (s : System) (k : ℕ) (y : Resident) (e : Event) → Has t all go first second s k y true false → is_local y.held.cpu.phase ≡ true
+    → ((o : Order) (ps : List Processor) → due o ps y.held.cpu y.held.cpu.phase ≡ Some e) → Follows t all go s k (stepped_by t e y) (Some (Steps k e)) first second
+
+-- ---- seats
+
+-- a step of a pass by which its resident moves so keeps the rule of the table
+abbrev pub MovesKeepRule : Type 0
+MovesKeepRule =
+    (key : Key) (s : State (Unit {0}) YardView) (m : MeetsYard key s) (id : ℕ) (v : YardView) (y : Resident) → get_elem? s.views id ≡ some v → v.held ≡ y ∷ []
+    → (i n : ℕ) (w : Resident) (shown : Option ℕ) (cancel : Bool) (e : Option MachineEvent) → w.held.number ≡ y.held.number
+    → Follows (start_of key) m.all m.go m.system y.held.number w e (slice_index (slice_set s.words i n) 0) (slice_index (slice_set s.words i n) 1)
+    → MeetsYard key (record { words = slice_set s.words i n; homes = s.homes; views = slice_set s.views id (with_one v w shown cancel) })

@@ -1,0 +1,31 @@
+// Laws on yards: what each step of a seat makes of the machine that words and views stand for.
+ghost use Rattle.mt_private.specs.YardLaws.{AdditionArrives, AdditionArrivesAgain, AdditionDecides, LoadLeaves, LoadPasses, LoadReleases, LoadStays, LoadTakes, MovesKeepRule, StoreAccesses, StoreWorks};
+
+/// An addition to one of the two counts, and a load of one, is the event that the count tells of, or none: a processor
+/// takes, arrives, passes, leaves, arrives again and is released by what it finds there alone.
+pub fn counts_tell_of_the_machine()
+    ensures takes { LoadTakes }
+    ensures stays { LoadStays }
+    ensures arrives { AdditionArrives }
+    ensures passes { LoadPasses }
+    ensures leaves { LoadLeaves }
+    ensures decides { AdditionDecides }
+    ensures arrives_again { AdditionArrivesAgain }
+    ensures releases { LoadReleases }
+{}
+
+/// A processor that runs accesses its own pages while others wait or are on their way, and the whole machine does the
+/// same access.
+pub fn accesses_go_on()
+    ensures { StoreAccesses }
+{}
+
+/// What a processor does between the barriers it does to its own words, and the whole machine does the same.
+pub fn words_are_written_alone()
+    ensures { StoreWorks }
+{}
+
+/// A step of a pass by which its resident does one of these, or nothing, keeps the rule of the table.
+pub fn moves_keep_the_rule()
+    ensures { MovesKeepRule }
+{}
