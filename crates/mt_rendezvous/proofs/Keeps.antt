@@ -255,13 +255,16 @@ codes_stored all words k n w codes is wide j g e = ⊎_elim
 
 -- ---- seats, once the processor of one is another
 
-told_of : (t : Start) (v : View) (h : Held) → v.held ≡ h ∷ [] → ((v.held ≡ []) × (v.root ≡ false)) ⊎ (v.start ≡ t) → v.start ≡ t
-told_of t v h is (inl nothing) = absurd (let e = nothing.0 in cc)
-told_of t v h is (inr x) = x
+abbrev pub AllSit : Start → List Held → Go → (ℕ → ℕ) → List View → Type 0
+AllSit t all go owner views = (j : ℕ) (v : View) → get_elem? views j ≡ some v → Sits t all go owner j v
 
-module _ (t : Start) (all : List Held) (go : Go) (owner : ℕ → ℕ) (id : ℕ) (v : View) (seat : Sits t all go owner id v) (h w : Held) (is : v.held ≡ h ∷ []) (same : w.number ≡ h.number) where
+pub told_of : (t : Start) (v : View) (h : Held) (hs : List Held) → v.held ≡ h ∷ hs → ((v.held ≡ []) × (v.root ≡ false)) ⊎ (v.start ≡ t) → v.start ≡ t
+told_of t v h hs is (inl nothing) = absurd (let e = nothing.0 in cc)
+told_of t v h hs is (inr x) = x
+
+module _ (t : Start) (all : List Held) (go : Go) (owner : ℕ → ℕ) (views : List View) (seats : AllSit t all go owner views) (id : ℕ) (v : View) (h w : Held) (at : get_elem? views id ≡ some v) (is : v.held ≡ h ∷ []) (same : w.number ≡ h.number) where
   mine : (get_elem? all h.number ≡ some h) × (owner h.number ≡ id)
-  mine = seat.holds zero h (subst (λ (hs : List Held). get_elem? hs zero ≡ some h) (sym is) refl)
+  mine = (seats id v at).holds zero h (subst (λ (hs : List Held). get_elem? hs zero ≡ some h) (sym is) refl)
 
   own : (i : ℕ) (g : Held) → get_elem? (w ∷ []) i ≡ some g → (get_elem? (set all h.number w) g.number ≡ some g) × (owner g.number ≡ id)
   own zero g e = let eq : w ≡ g = some-injective w g e in
@@ -269,18 +272,17 @@ module _ (t : Start) (all : List Held) (go : Go) (owner : ℕ → ℕ) (id : ℕ
       (subst (λ (n : ℕ). (get_elem? (set all h.number w) n ≡ some w) × (owner n ≡ id)) (sym same) (set_here all h.number w (at_less all h.number h mine.0), mine.1))
   own (suc i) g e = absurd (some-ne-none g (sym e))
 
-  -- the seat itself
-  pub sits_moved : (shown : Option ℕ) → Sits t (set all h.number w) go owner id (view v.root (w ∷ []) v.go shown v)
-  sits_moved shown = record { root = seat.root; told = inr (told_of t v h is seat.told); holds = own; apart = ((λ i g none. absurd (some-ne-none g (sym none))), tt) }
-
-  -- and any other
-  pub sits_else : (j : ℕ) (u : View) → j ≢ id → Sits t all go owner j u → Sits t (set all h.number w) go owner j u
-  sits_else j u differ its = record {
-    root = its.root;
-    told = its.told;
-    holds = λ i g e. let x = its.holds i g e in (set_else all h.number g.number w (λ eq. differ (sym x.1 ∙ ap owner eq ∙ mine.1)) ∙ x.0, x.1);
-    apart = its.apart;
-  }
+  pub seats_moved : (shown : Option ℕ) → AllSit t (set all h.number w) go owner (set views id (view v.root (w ∷ []) v.go shown v))
+  seats_moved shown j u e = ⊎_elim
+      (λ (x : (j ≡ id) × (view v.root (w ∷ []) v.go shown v ≡ u)). subst (λ (y : ℕ × View). Sits t (set all h.number w) go owner y.0 y.1) (λ i. (sym x.0 i, x.1 i))
+      (record { root = (seats id v at).root; told = inr (told_of t v h [] is (seats id v at).told); holds = own; apart = ((λ i g none. absurd (some-ne-none g (sym none))), tt) }))
+      (λ (x : (j ≢ id) × (get_elem? views j ≡ some u)). let its = seats j u x.1 in record {
+        root = its.root;
+        told = its.told;
+        holds = λ i g e'. let z = its.holds i g e' in (set_else all h.number g.number w (λ eq. x.0 (sym z.1 ∙ ap owner eq ∙ mine.1)) ∙ z.0, z.1);
+        apart = its.apart;
+      })
+      (at_set views id j (view v.root (w ∷ []) v.go shown v) u e)
 
 module _ (key : Key) where
   abbrev St : Type 0
@@ -305,7 +307,7 @@ module _ (key : Key) where
       let mine = seat.holds zero h (subst (λ (hs : List Held). get_elem? hs zero ≡ some h) (sym is) refl) in
       let k : ℕ = h.number in
       let there : get_elem? m.all k ≡ some h = mine.0 in
-      let told = told_of t v h is seat.told in
+      let told = told_of t v h [] is seat.told in
       let l = led_after (broadcast t) (joined t m.all m.go s.words) (joined t (set m.all k w) m.go (set s.words i n)) e m.led_to comes in
       record {
         led = l;
@@ -332,10 +334,7 @@ module _ (key : Key) where
                 (λ (x : (j ≡ k) × (w ≡ g)). subst (λ (u : Held). FitsHeld t m.go u × (u.number ≡ j)) x.1 (fits, same ∙ sym x.0))
                 (λ (x : (j ≢ k) × (get_elem? m.all j ≡ some g)). m.fits j g x.1)
                 (at_set m.all k j w g e);
-            seats = λ j u e. ⊎_elim
-                (λ (x : (j ≡ id) × (view v.root (w ∷ []) v.go shown v ≡ u)). subst (λ (y : ℕ × View). Sits t (set m.all k w) m.go m.owner y.0 y.1) (λ i. (sym x.0 i, x.1 i)) (sits_moved t m.all m.go m.owner id v seat h w is same shown))
-                (λ (x : (j ≢ id) × (get_elem? s.views j ≡ some u)). sits_else t m.all m.go m.owner id v seat h w is same j u x.0 (m.seats j u x.1))
-                (at_set s.views id j (view v.root (w ∷ []) v.go shown v) u e);
+            seats = seats_moved t m.all m.go m.owner s.views m.seats id v h w at is same shown;
           };
         };
       }

@@ -24,7 +24,7 @@ use Rattle.mt_rendezvous.specs.Station.{order_of, broadcast, Begins, cpu_of, fir
 use Rattle.mt_rendezvous.specs.Calls.{opening_words}
 use Rattle.mt_rendezvous.specs.Plays.{Decided, after_event, with_go, Gives, Cancels}
 use Rattle.mt_rendezvous.specs.Laws.{Follows, machine_of}
-use Rattle.mt_rendezvous.proofs.Keeps.{total_small, weight_small, kept_present, IsUnderWay, stands_order, low_word}
+use Rattle.mt_rendezvous.proofs.Keeps.{AllSit, told_of, total_small, weight_small, kept_present, IsUnderWay, stands_order, low_word}
 
 -- the coordinator's word changes once
 pub turned : (go new : Go) (added again : Bool) (p : Phase) → go ≡ Pending → Fits go added again p → Fits new added again p
@@ -39,16 +39,16 @@ pending_under_way : (go : Go) (added again : Bool) (p : Phase) → go ≡ Pendin
 pending_under_way go added again Running is f = absurd (⊎_elim (λ (t : (again ≡ false) × (go ≡ Cancelled)). let e = t.1 in cc) (λ (t : (again ≡ true) × (go ≡ Given)). let e = t.1 in cc) f.1)
 pending_under_way go added again other is f = tt
 
-first_of : (l : List Held) → 0 < length l → (h : Held) × (get_elem? l 0 ≡ some h)
+pub first_of : (l : List Held) → 0 < length l → (h : Held) × (get_elem? l 0 ≡ some h)
 first_of [] b = absurd (omega arith)
 first_of (x ∷ xs) b = (x, refl)
 
-pick : Bool → ℕ → ℕ → ℕ
+pub pick : Bool → ℕ → ℕ → ℕ
 pick true a b = a
 pick false a b = b
 
 -- the owner of one number changes
-abbrev owned : (ℕ → ℕ) → ℕ → ℕ → ℕ → ℕ
+abbrev pub owned : (ℕ → ℕ) → ℕ → ℕ → ℕ → ℕ
 owned owner k j n = pick (eqb n k) j (owner n)
 
 owned_here : (owner : ℕ → ℕ) (k j : ℕ) → owned owner k j k ≡ j
@@ -75,7 +75,7 @@ at_below [] j h e = absurd (some-ne-none h (sym e))
 at_below (x ∷ xs) zero h e = omega arith
 at_below (x ∷ xs) (suc j) h e = let r = at_below xs j h e in omega arith
 
-split_present : (views : List View) (id : ℕ) (v : View) (h : Held) (hs : List Held) → get_elem? views id ≡ some v → v.held ≡ h ∷ hs → (root_left v).held ≡ hs → (pass_right v).held ≡ h ∷ []
+pub split_present : (views : List View) (id : ℕ) (v : View) (h : Held) (hs : List Held) → get_elem? views id ≡ some v → v.held ≡ h ∷ hs → (root_left v).held ≡ hs → (pass_right v).held ≡ h ∷ []
     → (k : ℕ) → IsHeld views k → IsHeld (set views id (root_left v) ++ pass_right v ∷ []) k
 split_present views id v h hs at is left_held right_held k t = dite (ℕ_discrete t.0 id)
     (λ (e : t.0 ≡ id). let same : t.1 ≡ v = some-injective t.1 v (sym t.4 ∙ ap (get_elem? views) e ∙ at) in
@@ -102,7 +102,7 @@ split_present views id v h hs at is left_held right_held k t = dite (ℕ_discret
       num,
     )
 
-join_present : (views : List View) (id other : ℕ) (v w : View) (h : Held) → get_elem? views id ≡ some v → ¬ (other ≡ id) → get_elem? views other ≡ some w → w.held ≡ h ∷ [] → (both v w).held ≡ h ∷ v.held
+pub join_present : (views : List View) (id other : ℕ) (v w : View) (h : Held) → get_elem? views id ≡ some v → ¬ (other ≡ id) → get_elem? views other ≡ some w → w.held ≡ h ∷ [] → (both v w).held ≡ h ∷ v.held
     → (k : ℕ) → IsHeld views k → IsHeld (set (set views id (both v w)) other spent) k
 join_present views id other v w h at apart there is joined k t = dite (ℕ_discrete t.0 other)
     (λ (e : t.0 ≡ other). let same : t.1 ≡ w = some-injective t.1 w (sym t.4 ∙ ap (get_elem? views) e ∙ there) in
@@ -118,6 +118,102 @@ join_present views id other v w h at apart there is joined k t = dite (ℕ_discr
     first_of_it : (i : ℕ) (g : Held) → get_elem? (h ∷ []) i ≡ some g → g.number ≡ k → IsHeld (set (set views id (both v w)) other spent) k
     first_of_it zero g e num = (id, both v w, 0, h, root_there, subst (λ (l : List Held). get_elem? l 0 ≡ some h) (sym joined) refl, ap (λ (x : Held). x.number) (some-injective h g e) ∙ num)
     first_of_it (suc i) g e num = absurd (some-ne-none g (sym e))
+
+-- ---- seats, once a processor is given away, and once it is taken back
+
+module _ (t : Start) (all : List Held) (go : Go) (owner : ℕ → ℕ) (views : List View) (seats : AllSit t all go owner views) (id : ℕ) (v : View) (at : get_elem? views id ≡ some v) where
+  only : (h : Held) (own : ℕ → ℕ) (j i : ℕ) (g : Held) → get_elem? (h ∷ []) i ≡ some g → get_elem? all h.number ≡ some h → own h.number ≡ j → (get_elem? all g.number ≡ some g) × (own g.number ≡ j)
+  only h own j zero g e x y = subst (λ (u : Held). (get_elem? all u.number ≡ some u) × (own u.number ≡ j)) (some-injective h g e) (x, y)
+  only h own j (suc i) g e x y = absurd (some-ne-none g (sym e))
+
+  pub seats_split : (h : Held) (hs : List Held) → v.held ≡ h ∷ hs → AllSit t all go (owned owner h.number (length views)) (set views id (root_left v) ++ pass_right v ∷ [])
+  seats_split h hs is j u e =
+      let seat = seats id v at in
+      let new : ℕ = length views in
+      let at_hs = λ (i : ℕ) (g : Held) (e : get_elem? hs i ≡ some g). subst (λ (l : List Held). get_elem? l (suc i) ≡ some g) (sym is) e in
+      let mine = seat.holds zero h (subst (λ (l : List Held). get_elem? l zero ≡ some h) (sym is) refl) in
+      let told = told_of t v h hs is seat.told in
+      let apart : Apart (h ∷ hs) = subst Apart is seat.apart in
+      let left_held : (root_left v).held ≡ hs = ap others is in
+      let right_held : (pass_right v).held ≡ h ∷ [] = ap one is in
+      let own' = owned owner h.number new in
+      let length_l : length (set views id (root_left v)) ≡ length views = length-set views id (root_left v) in
+      ⊎_elim
+      (λ (x : get_elem? (set views id (root_left v)) j ≡ some u). ⊎_elim
+      (λ (x : (j ≡ id) × (root_left v ≡ u)). subst (λ (x : ℕ × View). Sits t all go own' x.0 x.1) (λ i. (sym x.0 i, x.1 i))
+      (record {
+        root = seat.root;
+        told = inr told;
+        holds = λ i g e'. let e'' : get_elem? hs i ≡ some g = subst (λ (l : List Held). get_elem? l i ≡ some g) left_held e' in
+            let w = seat.holds (suc i) g (at_hs i g e'') in
+            (w.0, owned_else owner h.number new g.number (apart.0 i g e'') ∙ w.1);
+        apart = subst Apart (sym left_held) apart.1;
+      }))
+      (λ (x : (j ≢ id) × (get_elem? views j ≡ some u)). let its = seats j u x.1 in record {
+        root = its.root;
+        told = its.told;
+        holds = λ i g e'. let w = its.holds i g e' in (w.0, owned_else owner h.number new g.number (λ same. x.0 (sym w.1 ∙ ap owner same ∙ mine.1)) ∙ w.1);
+        apart = its.apart;
+      })
+      (at_set views id j (root_left v) u x))
+      (λ (x : (j ≡ length (set views id (root_left v))) × (pass_right v ≡ u)). subst (λ (x : ℕ × View). Sits t all go own' x.0 x.1) (λ i. (sym (x.0 ∙ length_l) i, x.1 i))
+      (record {
+        root = λ no. absurd (true≢false (sym no));
+        told = inr told;
+        holds = λ i g e'. only h own' new i g (subst (λ (l : List Held). get_elem? l i ≡ some g) right_held e') mine.0 (owned_here owner h.number new);
+        apart = subst Apart (sym right_held) ((λ i g nothing. absurd (some-ne-none g (sym nothing))), tt);
+      }))
+      (at_end (set views id (root_left v)) (pass_right v) u j e)
+
+  -- the root says so
+  pub seats_decided : (new : Go) → v.root ≡ true → AllSit t all new owner (set views id (with_go v new))
+  seats_decided new root j u e =
+      let seat = seats id v at in
+      let r = seat.root root in
+      ⊎_elim
+      (λ (x : (j ≡ id) × (with_go v new ≡ u)). subst (λ (y : ℕ × View). Sits t all new owner y.0 y.1) (λ i. (sym x.0 i, x.1 i))
+      (record { root = λ _. (r.0, refl); told = seat.told; holds = seat.holds; apart = seat.apart }))
+      (λ (x : (j ≢ id) × (get_elem? views j ≡ some u)). let its = seats j u x.1 in
+      record { root = λ is. absurd (x.0 ((its.root is).0 ∙ sym r.0)); told = its.told; holds = its.holds; apart = its.apart })
+      (at_set views id j (with_go v new) u e)
+
+  gained : (h : Held) (own : ℕ → ℕ) (j i : ℕ) (g : Held) → get_elem? (h ∷ v.held) i ≡ some g → (get_elem? all h.number ≡ some h) × (own h.number ≡ j)
+      → ((i' : ℕ) (g' : Held) → get_elem? v.held i' ≡ some g' → (get_elem? all g'.number ≡ some g') × (own g'.number ≡ j)) → (get_elem? all g.number ≡ some g) × (own g.number ≡ j)
+  gained h own j zero g e x rest = subst (λ (u : Held). (get_elem? all u.number ≡ some u) × (own u.number ≡ j)) (some-injective h g e) x
+  gained h own j (suc i) g e x rest = rest i g e
+
+  told_root : v.root ≡ true → ((v.held ≡ []) × (v.root ≡ false)) ⊎ (v.start ≡ t) → v.start ≡ t
+  told_root root (inl nothing) = absurd (let e = nothing.1 in cc)
+  told_root root (inr x) = x
+
+  pub seats_joined : (other : ℕ) (w : View) (h : Held) → v.root ≡ true → ¬ (other ≡ id) → get_elem? views other ≡ some w → w.held ≡ h ∷ [] → AllSit t all go (owned owner h.number id) (set (set views id (both v w)) other spent)
+  seats_joined other w h root apart there is j u e =
+      let seat = seats id v at in
+      let its = seats other w there in
+      let theirs = its.holds zero h (subst (λ (l : List Held). get_elem? l zero ≡ some h) (sym is) refl) in
+      let told = told_root root seat.told in
+      let own' = owned owner h.number id in
+      let joined : (both v w).held ≡ h ∷ v.held = ap (λ (l : List Held). l ++ v.held) is in
+      let away = λ (i : ℕ) (g : Held) (e : get_elem? v.held i ≡ some g) (same : g.number ≡ h.number). apart (sym theirs.1 ∙ sym (ap owner same) ∙ (seat.holds i g e).1) in
+      ⊎_elim
+      (λ (x : (j ≡ other) × (spent ≡ u)). subst (Sits t all go own' j) x.1 (record { root = λ no. absurd (true≢false (sym no)); told = inl (refl, refl); holds = λ i g nothing. absurd (some-ne-none g (sym nothing)); apart = tt }))
+      (λ (x : (j ≢ other) × (get_elem? (set views id (both v w)) j ≡ some u)). ⊎_elim
+      (λ (r : (j ≡ id) × (both v w ≡ u)). subst (λ (x : ℕ × View). Sits t all go own' x.0 x.1) (λ i. (sym r.0 i, r.1 i))
+      (record {
+        root = seat.root;
+        told = inr told;
+        holds = λ i g e'. gained h own' id i g (subst (λ (l : List Held). get_elem? l i ≡ some g) joined e') (theirs.0, owned_here owner h.number id)
+            (λ i' g' e''. let o = seat.holds i' g' e'' in (o.0, owned_else owner h.number id g'.number (away i' g' e'') ∙ o.1));
+        apart = subst Apart (sym joined) (away, seat.apart);
+      }))
+      (λ (r : (j ≢ id) × (get_elem? views j ≡ some u)). let us = seats j u r.1 in record {
+        root = us.root;
+        told = us.told;
+        holds = λ i g e'. let o = us.holds i g e' in (o.0, owned_else owner h.number id g.number (λ same. x.0 (sym o.1 ∙ ap owner same ∙ theirs.1)) ∙ o.1);
+        apart = us.apart;
+      })
+      (at_set views id j (both v w) u x.1))
+      (at_set (set views id (both v w)) other j spent u e)
 
 module _ (key : Key) where
   abbrev St : Type 0
@@ -168,8 +264,6 @@ module _ (key : Key) where
   decides : (s : St) (m : Meets key s) (id : ℕ) (v : View) (new : Go) (n : ℕ) (e : MachineEvent) → get_elem? s.views id ≡ some v → v.root ≡ true → (was : m.go ≡ Pending) → Word new e → is_led e ≡ true
       → (total added_of m.all ≤ length m.all → n ≡ total added_of m.all + go_weight new) → Turned s m id v new n e
   decides s m id v new n e at root was word leads count =
-      let seat = m.seats id v at in
-      let r = seat.root root in
       let wide = m.wide in
       let y = m.second in
       let here : get_or (set s.words 0 n) 0 0 ≡ n = get_or-set_same s.words 0 n 0 (omega arith) in
@@ -199,12 +293,7 @@ module _ (key : Key) where
             codes = λ k h e. get_or-set_other s.words 0 (k + 2) n 0 (λ (q : k + 2 ≡ 0). omega arith) ∙ m.codes k h e;
             present = λ k b. kept_present s.views id v (with_go v new) at (λ i h e. (i, h, e, refl)) k (m.present k b);
             fits = λ k h e. let f = m.fits k h e in (record { first = f.0.first; fits = turned m.go new h.added h.again h.cpu.phase was f.0.fits; era = f.0.era }, f.1);
-            seats = λ j u e. ⊎_elim
-                (λ (t : (j ≡ id) × (with_go v new ≡ u)). subst (λ (x : ℕ × View). Sits start m.all new m.owner x.0 x.1) (λ i. (sym t.0 i, t.1 i))
-                (record { root = λ _. (r.0, refl); told = seat.told; holds = seat.holds; apart = seat.apart }))
-                (λ (t : (j ≢ id) × (get_elem? s.views j ≡ some u)). let its = m.seats j u t.1 in
-                record { root = λ is. absurd (t.0 ((its.root is).0 ∙ sym r.0)); told = its.told; holds = its.holds; apart = its.apart })
-                (at_set s.views id j (with_go v new) u e);
+            seats = seats_decided start m.all m.go m.owner s.views m.seats id v at new root;
           };
         };
       }
@@ -240,71 +329,27 @@ module _ (key : Key) where
   -- a processor is given away to a new pass
   pub splitting : (s : St) (m : Meets key s) (id : ℕ) (v : View) (h : Held) (hs : List Held) → get_elem? s.views id ≡ some v → v.held ≡ h ∷ hs
       → Follows key s (record { words = s.words; homes = s.homes; views = set s.views id (root_left v) ++ pass_right v ∷ [] }) m None
-  splitting s m id v h hs at is =
-      let seat = m.seats id v at in
-      let new : ℕ = length s.views in
-      let at_hs = λ (i : ℕ) (g : Held) (e : get_elem? hs i ≡ some g). subst (λ (l : List Held). get_elem? l (suc i) ≡ some g) (sym is) e in
-      let mine = seat.holds zero h (subst (λ (l : List Held). get_elem? l zero ≡ some h) (sym is) refl) in
-      let told = told_of is seat.told in
-      let apart : Apart (h ∷ hs) = subst Apart is seat.apart in
-      let left_held : (root_left v).held ≡ hs = ap others is in
-      let right_held : (pass_right v).held ≡ h ∷ [] = ap one is in
-      let own' = owned m.owner h.number new in
-      let length_l : length (set s.views id (root_left v)) ≡ length s.views = length-set s.views id (root_left v) in
-      record {
-        enabled = tt;
-        becomes = same_machine s m;
-        kept = record {
-          all = m.all;
-          go = m.go;
-          owner = own';
-          begins = m.begins;
-          led_to = m.led_to;
-          size = m.size;
-          some_one = m.some_one;
-          few = m.few;
-          wide = m.wide;
-          first = m.first;
-          second = m.second;
-          codes = m.codes;
-          present = λ k b. split_present s.views id v h hs at is left_held right_held k (m.present k b);
-          fits = m.fits;
-          seats = λ j u e. ⊎_elim
-              (λ (t : get_elem? (set s.views id (root_left v)) j ≡ some u). ⊎_elim
-              (λ (t : (j ≡ id) × (root_left v ≡ u)). subst (λ (x : ℕ × View). Sits start m.all m.go own' x.0 x.1) (λ i. (sym t.0 i, t.1 i))
-              (record {
-                root = seat.root;
-                told = inr told;
-                holds = λ i g e'. let e'' : get_elem? hs i ≡ some g = subst (λ (l : List Held). get_elem? l i ≡ some g) left_held e' in
-                    let w = seat.holds (suc i) g (at_hs i g e'') in
-                    (w.0, owned_else m.owner h.number new g.number (apart.0 i g e'') ∙ w.1);
-                apart = subst Apart (sym left_held) apart.1;
-              }))
-              (λ (t : (j ≢ id) × (get_elem? s.views j ≡ some u)). let its = m.seats j u t.1 in record {
-                root = its.root;
-                told = its.told;
-                holds = λ i g e'. let w = its.holds i g e' in (w.0, owned_else m.owner h.number new g.number (λ same. t.0 (sym w.1 ∙ ap m.owner same ∙ mine.1)) ∙ w.1);
-                apart = its.apart;
-              })
-              (at_set s.views id j (root_left v) u t))
-              (λ (t : (j ≡ length (set s.views id (root_left v))) × (pass_right v ≡ u)). subst (λ (x : ℕ × View). Sits start m.all m.go own' x.0 x.1) (λ i. (sym (t.0 ∙ length_l) i, t.1 i))
-              (record {
-                root = λ no. absurd (true≢false (sym no));
-                told = inr told;
-                holds = λ i g e'. only m.all own' new i g (subst (λ (l : List Held). get_elem? l i ≡ some g) right_held e') mine.0 (owned_here m.owner h.number new);
-                apart = subst Apart (sym right_held) ((λ i g nothing. absurd (some-ne-none g (sym nothing))), tt);
-              }))
-              (at_end (set s.views id (root_left v)) (pass_right v) u j e);
-        };
-      }
-    where
-      told_of : v.held ≡ h ∷ hs → ((v.held ≡ []) × (v.root ≡ false)) ⊎ (v.start ≡ start) → v.start ≡ start
-      told_of is (inl nothing) = absurd (let e = nothing.0 in cc)
-      told_of is (inr t) = t
-
-      only : (all : List Held) (own : ℕ → ℕ) (j i : ℕ) (g : Held) → get_elem? (h ∷ []) i ≡ some g → get_elem? all h.number ≡ some h → own h.number ≡ j → (get_elem? all g.number ≡ some g) × (own g.number ≡ j)
-      only all own j zero g e x y = subst (λ (u : Held). (get_elem? all u.number ≡ some u) × (own u.number ≡ j)) (some-injective h g e) (x, y)
-      only all own j (suc i) g e x y = absurd (some-ne-none g (sym e))
+  splitting s m id v h hs at is = record {
+    enabled = tt;
+    becomes = same_machine s m;
+    kept = record {
+      all = m.all;
+      go = m.go;
+      owner = owned m.owner h.number (length s.views);
+      begins = m.begins;
+      led_to = m.led_to;
+      size = m.size;
+      some_one = m.some_one;
+      few = m.few;
+      wide = m.wide;
+      first = m.first;
+      second = m.second;
+      codes = m.codes;
+      present = λ k b. split_present s.views id v h hs at is (ap others is) (ap one is) k (m.present k b);
+      fits = m.fits;
+      seats = seats_split start m.all m.go m.owner s.views m.seats id v at h hs is;
+    };
+  }
 
   pub splits : (id : ℕ) (v : View) (h : Held) (hs : List Held) → v.held ≡ h ∷ hs → Splits (Meets key) id v (root_left v) (pass_right v)
   splits id v h hs is s m at = (splitting s m id v h hs at is).kept
@@ -312,62 +357,27 @@ module _ (key : Key) where
   -- a pass's processor is taken back
   pub joining : (s : St) (m : Meets key s) (id other : ℕ) (v w : View) (h : Held) → get_elem? s.views id ≡ some v → v.root ≡ true → ¬ (other ≡ id) → get_elem? s.views other ≡ some w → w.held ≡ h ∷ []
       → Follows key s (record { words = s.words; homes = s.homes; views = set (set s.views id (both v w)) other spent }) m None
-  joining s m id other v w h at root apart there is =
-      let seat = m.seats id v at in
-      let its = m.seats other w there in
-      let theirs = its.holds zero h (subst (λ (l : List Held). get_elem? l zero ≡ some h) (sym is) refl) in
-      let told = told_of seat.told in
-      let own' = owned m.owner h.number id in
-      let joined : (both v w).held ≡ h ∷ v.held = ap (λ (l : List Held). l ++ v.held) is in
-      let away = λ (i : ℕ) (g : Held) (e : get_elem? v.held i ≡ some g) (same : g.number ≡ h.number). apart (sym theirs.1 ∙ sym (ap m.owner same) ∙ (seat.holds i g e).1) in
-      record {
-        enabled = tt;
-        becomes = same_machine s m;
-        kept = record {
-          all = m.all;
-          go = m.go;
-          owner = own';
-          begins = m.begins;
-          led_to = m.led_to;
-          size = m.size;
-          some_one = m.some_one;
-          few = m.few;
-          wide = m.wide;
-          first = m.first;
-          second = m.second;
-          codes = m.codes;
-          present = λ k b. join_present s.views id other v w h at apart there is joined k (m.present k b);
-          fits = m.fits;
-          seats = λ j u e. ⊎_elim
-              (λ (t : (j ≡ other) × (spent ≡ u)). subst (Sits start m.all m.go own' j) t.1 (record { root = λ no. absurd (true≢false (sym no)); told = inl (refl, refl); holds = λ i g nothing. absurd (some-ne-none g (sym nothing)); apart = tt }))
-              (λ (t : (j ≢ other) × (get_elem? (set s.views id (both v w)) j ≡ some u)). ⊎_elim
-              (λ (r : (j ≡ id) × (both v w ≡ u)). subst (λ (x : ℕ × View). Sits start m.all m.go own' x.0 x.1) (λ i. (sym r.0 i, r.1 i))
-              (record {
-                root = seat.root;
-                told = inr told;
-                holds = λ i g e'. gained m.all own' id i g (subst (λ (l : List Held). get_elem? l i ≡ some g) joined e') (theirs.0, owned_here m.owner h.number id)
-                    (λ i' g' e''. let o = seat.holds i' g' e'' in (o.0, owned_else m.owner h.number id g'.number (away i' g' e'') ∙ o.1));
-                apart = subst Apart (sym joined) (away, seat.apart);
-              }))
-              (λ (r : (j ≢ id) × (get_elem? s.views j ≡ some u)). let us = m.seats j u r.1 in record {
-                root = us.root;
-                told = us.told;
-                holds = λ i g e'. let o = us.holds i g e' in (o.0, owned_else m.owner h.number id g.number (λ same. t.0 (sym o.1 ∙ ap m.owner same ∙ theirs.1)) ∙ o.1);
-                apart = us.apart;
-              })
-              (at_set s.views id j (both v w) u t.1))
-              (at_set (set s.views id (both v w)) other j spent u e);
-        };
-      }
-    where
-      told_of : ((v.held ≡ []) × (v.root ≡ false)) ⊎ (v.start ≡ start) → v.start ≡ start
-      told_of (inl nothing) = absurd (let e = nothing.1 in cc)
-      told_of (inr t) = t
-
-      gained : (all : List Held) (own : ℕ → ℕ) (j i : ℕ) (g : Held) → get_elem? (h ∷ v.held) i ≡ some g → (get_elem? all h.number ≡ some h) × (own h.number ≡ j)
-          → ((i' : ℕ) (g' : Held) → get_elem? v.held i' ≡ some g' → (get_elem? all g'.number ≡ some g') × (own g'.number ≡ j)) → (get_elem? all g.number ≡ some g) × (own g.number ≡ j)
-      gained all own j zero g e x rest = subst (λ (u : Held). (get_elem? all u.number ≡ some u) × (own u.number ≡ j)) (some-injective h g e) x
-      gained all own j (suc i) g e x rest = rest i g e
+  joining s m id other v w h at root apart there is = record {
+    enabled = tt;
+    becomes = same_machine s m;
+    kept = record {
+      all = m.all;
+      go = m.go;
+      owner = owned m.owner h.number id;
+      begins = m.begins;
+      led_to = m.led_to;
+      size = m.size;
+      some_one = m.some_one;
+      few = m.few;
+      wide = m.wide;
+      first = m.first;
+      second = m.second;
+      codes = m.codes;
+      present = λ k b. join_present s.views id other v w h at apart there is (ap (λ (l : List Held). l ++ v.held) is) k (m.present k b);
+      fits = m.fits;
+      seats = seats_joined start m.all m.go m.owner s.views m.seats id v at other w h root apart there is;
+    };
+  }
 
   pub joins : (id other : ℕ) (v w : View) (h : Held) → v.root ≡ true → w.held ≡ h ∷ [] → Joins (Meets key) id v other w (both v w) spent
   joins id other v w h root is s m at apart there = (joining s m id other v w h at root apart was is).kept
@@ -375,28 +385,28 @@ module _ (key : Key) where
       was : get_elem? s.views other ≡ some w
       was = ⊎_elim (λ (t : (other ≡ id) × (both v w ≡ w)). absurd (apart t.0)) (λ (t : (other ≢ id) × (get_elem? s.views other ≡ some w)). t.1) (at_set s.views id other (both v w) w there)
 
-numbered_cpus : (k : ℕ) (cs : List Processor) → map cpu_of (numbered k cs) ≡ cs
+pub numbered_cpus : (k : ℕ) (cs : List Processor) → map cpu_of (numbered k cs) ≡ cs
 numbered_cpus k [] = refl
 numbered_cpus k (c ∷ cs) = λ i. c ∷ numbered_cpus (k + 1) cs i
 
-numbered_length : (k : ℕ) (cs : List Processor) → length (numbered k cs) ≡ length cs
+pub numbered_length : (k : ℕ) (cs : List Processor) → length (numbered k cs) ≡ length cs
 numbered_length k [] = refl
 numbered_length k (c ∷ cs) = ap suc (numbered_length (k + 1) cs)
 
-numbered_none : (f : Held → ℕ) → ((k : ℕ) (c : Processor) → f (held k c false false) ≡ 0) → (k : ℕ) (cs : List Processor) → total f (numbered k cs) ≡ 0
+pub numbered_none : (f : Held → ℕ) → ((k : ℕ) (c : Processor) → f (held k c false false) ≡ 0) → (k : ℕ) (cs : List Processor) → total f (numbered k cs) ≡ 0
 numbered_none f z k [] = refl
 numbered_none f z k (c ∷ cs) = let a = z k c in let r = numbered_none f z (k + 1) cs in omega arith
 
-numbered_at : (k : ℕ) (cs : List Processor) (j : ℕ) (h : Held) → get_elem? (numbered k cs) j ≡ some h → (c : Processor) × (get_elem? cs j ≡ some c) × (h ≡ held (k + j) c false false)
+pub numbered_at : (k : ℕ) (cs : List Processor) (j : ℕ) (h : Held) → get_elem? (numbered k cs) j ≡ some h → (c : Processor) × (get_elem? cs j ≡ some c) × (h ≡ held (k + j) c false false)
 numbered_at k [] j h e = absurd (some-ne-none h (sym e))
 numbered_at k (c ∷ cs) zero h e = let n : k ≡ k + zero = omega arith in (c, refl, sym (some-injective (held k c false false) h e) ∙ ap (λ (i : ℕ). held i c false false) n)
 numbered_at k (c ∷ cs) (suc j) h e = let r = numbered_at (k + 1) cs j h e in let n : k + 1 + j ≡ k + suc j = omega arith in (r.0, r.1, r.2 ∙ ap (λ (i : ℕ). held i r.0 false false) n)
 
-numbered_apart : (k : ℕ) (cs : List Processor) → Apart (numbered k cs)
+pub numbered_apart : (k : ℕ) (cs : List Processor) → Apart (numbered k cs)
 numbered_apart k [] = tt
 numbered_apart k (c ∷ cs) = ((λ i h e same. let r = numbered_at (k + 1) cs i h e in let n : h.number ≡ k + 1 + i = ap (λ (g : Held). g.number) r.2 in omega arith), numbered_apart (k + 1) cs)
 
-numbered_some : (k : ℕ) (cs : List Processor) (j : ℕ) → j < length (numbered k cs) → (h : Held) × (get_elem? (numbered k cs) j ≡ some h) × (h.number ≡ k + j)
+pub numbered_some : (k : ℕ) (cs : List Processor) (j : ℕ) → j < length (numbered k cs) → (h : Held) × (get_elem? (numbered k cs) j ≡ some h) × (h.number ≡ k + j)
 numbered_some k [] j b = absurd (omega arith)
 numbered_some k (c ∷ cs) zero b = (held k c false false, refl, omega arith)
 numbered_some k (c ∷ cs) (suc j) b = let r = numbered_some (k + 1) cs j (omega arith) in let n = r.2 in (r.0, r.1, omega arith)
