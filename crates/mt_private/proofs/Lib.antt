@@ -4,4 +4,4 @@ mod OnWorked
 mod Lists
 pub mod Own
 mod Walk
-pub mod Yard
+pub mod Residents

@@ -5,3 +5,5 @@ pub mod Barriers
 pub mod Work
 pub mod Decisions
 pub mod Seats
+pub mod Opened
+pub mod Roots

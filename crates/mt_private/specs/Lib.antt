@@ -2,7 +2,9 @@ pub mod Pages
 pub mod Jobs
 pub mod OneByOne
 pub mod Own
-pub mod Yard
+pub mod Residents
 pub mod YardRule
 pub mod YardLaws
 pub mod Worked
+pub mod WorkedYard
+pub mod YardPlays

@@ -1,8 +1,8 @@
 -- What each step of a yard makes of the machine that its residents and counts stand for.
-use Rattle.std.specs.Prelude.{◌≡◌, ◌⊎◌, ℕ, ◌+◌, ◌<◌, ◌≤◌, Bool, true, false, List, [], ◌∷◌, length, Option, Some, None, slice_index, slice_set}
+use Rattle.std.specs.Prelude.{◌≡◌, ◌⊎◌, ℕ, ◌+◌, ◌<◌, ◌≤◌, Bool, true, false, List, [], ◌∷◌, ◌++◌, length, Option, Some, None, slice_index, slice_set}
 use mathlib.Core.Option.{some}
 use lib.ListN.{get_elem?}
-use Rattle.atomic_table.specs.Table.{State}
+use Rattle.atomic_table.specs.Table.{State, opening}
 use Rattle.mt_machine.specs.declared.phase.Phase.TheVariants.{Running, Taken, Arrived, Restored, Arrived2}
 use Rattle.mt_machine.specs.declared.event.Event.{Event}
 use Rattle.mt_machine.specs.declared.event.Event.TheVariants.{Take, Arrive, Leave, Pass, ArriveAgain, Release}
@@ -11,16 +11,16 @@ use Rattle.mt_machine.specs.declared.go.Go.TheVariants.{Pending, Given, Cancelle
 use Rattle.mt_machine.specs.declared.op.Op.{Op}
 use Rattle.mt_machine.specs.System.{Processor, System}
 use Rattle.mt_machine.specs.Access.{access}
-use Rattle.mt_machine.specs.Machine.{Accesses, Cancels, FitsOp, Goes, MachineEvent, Order, Steps, due}
+use Rattle.mt_machine.specs.Machine.{Accesses, Cancels, FitsOp, Goes, MachineEvent, Order, Reached, Steps, due}
 use Rattle.mt_cpu.specs.Steps.{is_local}
 use Rattle.mt_rendezvous.specs.declared.view.Key.{Key}
 use Rattle.mt_rendezvous.specs.declared.view.Start.{Start}
-use Rattle.mt_rendezvous.specs.Station.{start_of}
-use Rattle.mt_rendezvous.specs.Plays.{arrive, arrive_again, does, late}
+use Rattle.mt_rendezvous.specs.Station.{broadcast, start_of}
+use Rattle.mt_rendezvous.specs.Plays.{CanFollow, after_event, arrive, arrive_again, does, late}
 use Rattle.mt_private.specs.declared.view.Resident.{Resident}
 use Rattle.mt_private.specs.declared.view.YardView.{YardView}
-use Rattle.mt_private.specs.Yard.{Decides, Follows, Yard, accessed_by, own_of, stepped_by, with_held}
-use Rattle.mt_private.specs.YardRule.{MeetsYard, with_one}
+use Rattle.mt_private.specs.Residents.{Decides, Follows, Opens, Yard, accessed_by, own_of, stepped_by, with_held}
+use Rattle.mt_private.specs.YardRule.{MeetsYard, first_yard_view, its_machine, with_one, with_said, yard_both, yard_left, yard_right, yard_spent}
 
 -- a yard, and its resident k, whose pass has added so
 pub record Has (t : Start) (all : List Resident) (go : Go) (first second : ℕ) (s : System) (k : ℕ) (y : Resident) (added again : Bool) : Type 0 where
@@ -93,12 +93,49 @@ StoreWorks =
     (t : Start) (all : List Resident) (go : Go) (first second : ℕ) (s : System) (k : ℕ) (y : Resident) (e : Event) → Has t all go first second s k y true false → is_local y.held.cpu.phase ≡ true
     → ((o : Order) (ps : List Processor) → due o ps y.held.cpu y.held.cpu.phase ≡ Some e) → Follows t all go s k (stepped_by t e y) (Some (Steps k e)) first second
 
--- ---- seats
+-- ---- the table
 
--- a step of a pass by which its resident moves so keeps the rule of the table
-abbrev pub MovesKeepRule : Type 0
-MovesKeepRule =
-    (key : Key) (s : State (Unit {0}) YardView) (m : MeetsYard key s) (id : ℕ) (v : YardView) (y : Resident) → get_elem? s.views id ≡ some v → v.held ≡ y ∷ []
+abbrev pub YardState : Type 0
+YardState = State (Unit {0}) YardView
+
+-- the second state meets the rule too, and its machine is the one after this event, which was enabled, or the same machine if there is none
+pub record IsOneEvent (key : Key) (s later : YardState) (m : MeetsYard key s) (e : Option MachineEvent) : Type 0 where
+  pub kept : MeetsYard key later
+  pub enabled : CanFollow (its_machine key s m) e
+  pub becomes : its_machine key later kept ≡ after_event (its_machine key s m) e
+
+-- between any two steps the state after the call reaches the machine
+abbrev pub IsReached : Type 0
+IsReached = (key : Key) (s : YardState) (m : MeetsYard key s) → Reached (broadcast (start_of key)) (its_machine key s m)
+
+-- at the start, with two counts of 0
+abbrev pub StartMeetsRule : Type 0
+StartMeetsRule =
+    (key : Key) (words : List ℕ) → Opens (start_of key) → length words ≡ length key.cpus.value.items + 2 → slice_index words 0 ≡ 0 → slice_index words 1 ≡ 0
+    → MeetsYard key (opening words [] (first_yard_view key))
+
+-- a step of a pass by which its resident moves so
+abbrev pub MoveIsOneEvent : Type 0
+MoveIsOneEvent =
+    (key : Key) (s : YardState) (m : MeetsYard key s) (id : ℕ) (v : YardView) (y : Resident) → get_elem? s.views id ≡ some v → v.held ≡ y ∷ []
     → (i n : ℕ) (w : Resident) (shown : Option ℕ) (cancel : Bool) (e : Option MachineEvent) → w.held.number ≡ y.held.number
     → Follows (start_of key) m.all m.go m.system y.held.number w e (slice_index (slice_set s.words i n) 0) (slice_index (slice_set s.words i n) 1)
-    → MeetsYard key (record { words = slice_set s.words i n; homes = s.homes; views = slice_set s.views id (with_one v w shown cancel) })
+    → IsOneEvent key s (record { words = slice_set s.words i n; homes = s.homes; views = slice_set s.views id (with_one v w shown cancel) }) m e
+
+-- a step of the root by which it says so
+abbrev pub SayingIsOneEvent : Type 0
+SayingIsOneEvent =
+    (key : Key) (s : YardState) (m : MeetsYard key s) (id n : ℕ) (v : YardView) (go : Go) (e : MachineEvent) → get_elem? s.views id ≡ some v → v.root ≡ true
+    → 0 < length s.words → slice_index (slice_set s.words 0 n) 1 ≡ slice_index s.words 1 → m.go ≡ Pending → Decides (start_of key) m.all go n (slice_index s.words 1) m.system e
+    → IsOneEvent key s (record { words = slice_set s.words 0 n; homes = s.homes; views = slice_set s.views id (with_said v go) }) m (Some e)
+
+-- the root's first resident is given away, and a pass is taken back: no event
+abbrev pub SplitIsNone : Type 0
+SplitIsNone =
+    (key : Key) (s : YardState) (m : MeetsYard key s) (id : ℕ) (v : YardView) (y : Resident) (ys : List Resident) → get_elem? s.views id ≡ some v → v.held ≡ y ∷ ys
+    → IsOneEvent key s (record { words = s.words; homes = s.homes; views = slice_set s.views id (yard_left v) ++ yard_right v ∷ [] }) m None
+
+abbrev pub JoinIsNone : Type 0
+JoinIsNone =
+    (key : Key) (s : YardState) (m : MeetsYard key s) (id other : ℕ) (v w : YardView) (y : Resident) → get_elem? s.views id ≡ some v → v.root ≡ true → ¬ (other ≡ id) → get_elem? s.views other ≡ some w → w.held ≡ y ∷ []
+    → IsOneEvent key s (record { words = s.words; homes = s.homes; views = slice_set (slice_set s.views id (yard_both v w)) other yard_spent }) m None

@@ -2,6 +2,7 @@
 #![tactic(auto)]
 
 mod fault;
+mod host;
 mod job;
 mod laws;
 mod pages;
@@ -11,9 +12,11 @@ mod tests;
 mod view;
 mod worked;
 mod worked_own;
+mod worked_yard;
 mod yard_laws;
 
 pub use fault::PrivateFault;
+pub use host::{Host, Yard};
 pub use job::{Job, Part, Told};
 pub use laws::{
     own_accesses_commute, own_accesses_run_alone, own_steps_run_alone, private_pages_are_owned,
@@ -23,6 +26,10 @@ pub use runs::run_private;
 pub use view::{Resident, YardView};
 pub use worked::{worked_jobs, worked_names, worked_shared};
 pub use worked_own::{worked_alone, worked_becomes, worked_commute, worked_owners, worked_words};
+pub use worked_yard::{
+    worked_opens, worked_residents, worked_yard_fits, worked_yard_pages, worked_yard_views,
+};
 pub use yard_laws::{
-    accesses_go_on, counts_tell_of_the_machine, moves_keep_the_rule, words_are_written_alone,
+    accesses_go_on, counts_tell_of_the_machine, each_yard_step_is_one_event,
+    words_are_written_alone, yard_is_reached,
 };

@@ -1,5 +1,5 @@
 // Laws on yards: what each step of a seat makes of the machine that words and views stand for.
-ghost use Rattle.mt_private.specs.YardLaws.{AdditionArrives, AdditionArrivesAgain, AdditionDecides, LoadLeaves, LoadPasses, LoadReleases, LoadStays, LoadTakes, MovesKeepRule, StoreAccesses, StoreWorks};
+ghost use Rattle.mt_private.specs.YardLaws.{AdditionArrives, AdditionArrivesAgain, AdditionDecides, IsReached, JoinIsNone, LoadLeaves, LoadPasses, LoadReleases, LoadStays, LoadTakes, MoveIsOneEvent, SayingIsOneEvent, SplitIsNone, StartMeetsRule, StoreAccesses, StoreWorks};
 
 /// An addition to one of the two counts, and a load of one, is the event that the count tells of, or none: a processor
 /// takes, arrives, passes, leaves, arrives again and is released by what it finds there alone.
@@ -25,7 +25,17 @@ pub fn words_are_written_alone()
     ensures { StoreWorks }
 {}
 
-/// A step of a pass by which its resident does one of these, or nothing, keeps the rule of the table.
-pub fn moves_keep_the_rule()
-    ensures { MovesKeepRule }
+/// Between any two steps of a yard its words and views stand for a machine that the state after the call reaches, from the
+/// start on.
+pub fn yard_is_reached()
+    ensures reached { IsReached }
+    ensures start { StartMeetsRule }
+{}
+
+/// Each step of a seat keeps the rule of the table, and is one event of its machine, which was enabled, or none.
+pub fn each_yard_step_is_one_event()
+    ensures moves { MoveIsOneEvent }
+    ensures says { SayingIsOneEvent }
+    ensures split { SplitIsNone }
+    ensures join { JoinIsNone }
 {}

@@ -1,4 +1,4 @@
-use Rattle.mt_private.proofs.Yard.Work.{accessed}
+use Rattle.mt_private.proofs.Residents.Work.{accessed}
 use Rattle.mt_private.proofs.yard_laws.accesses_go_on.Goals as goal
 
 pub returns : goal.returns

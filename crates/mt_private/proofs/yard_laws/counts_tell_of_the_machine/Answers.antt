@@ -1,6 +1,6 @@
-use Rattle.mt_private.proofs.Yard.Barriers.{arrives, arrives_again, leaves, passes, releases, unmoved}
-use Rattle.mt_private.proofs.Yard.Decisions.{cancels, gives}
-use Rattle.mt_private.proofs.Yard.Work.{takes}
+use Rattle.mt_private.proofs.Residents.Barriers.{arrives, arrives_again, leaves, passes, releases, unmoved}
+use Rattle.mt_private.proofs.Residents.Decisions.{cancels, gives}
+use Rattle.mt_private.proofs.Residents.Work.{takes}
 use Rattle.mt_private.proofs.yard_laws.counts_tell_of_the_machine.Goals as goal
 
 pub returns-clause-takes : goal.returns-clause-takes

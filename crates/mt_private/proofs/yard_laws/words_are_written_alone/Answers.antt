@@ -1,4 +1,4 @@
-use Rattle.mt_private.proofs.Yard.Work.{works}
+use Rattle.mt_private.proofs.Residents.Work.{works}
 use Rattle.mt_private.proofs.yard_laws.words_are_written_alone.Goals as goal
 
 pub returns : goal.returns

@@ -20,7 +20,7 @@ use Rattle.mt_rendezvous.proofs.Keeps.{at_cpu, set_cpus}
 use Rattle.mt_private.specs.declared.view.Resident.{Resident}
 use Rattle.mt_private.specs.Own.{AreApart, Becomes, IsOwner, own_memory, own_system, put_first}
 use Rattle.mt_private.specs.Pages.{IsPrivate, names, naming}
-use Rattle.mt_private.specs.Yard.{FitsResident, Resides, StandsFor, held_of, own_of, pages_at, pages_left, yard_machine}
+use Rattle.mt_private.specs.Residents.{FitsResident, Resides, StandsFor, held_of, own_of, pages_at, pages_left, yard_machine}
 use Rattle.mt_private.proofs.Own.Owners.{memory_after, same_system, stays_owner, two_named, words_left}
 
 -- ---- lists

@@ -20,9 +20,9 @@ use Rattle.mt_rendezvous.specs.Station.{broadcast, order_of}
 use Rattle.mt_private.specs.declared.view.Resident.{Resident}
 use Rattle.mt_private.specs.OneByOne.{ran}
 use Rattle.mt_private.specs.Own.{Becomes, RunsAlone, WritesOn, own_system}
-use Rattle.mt_private.specs.Yard.{FitsResident, Moves, Resides, own_of, pages_at, yard_machine}
+use Rattle.mt_private.specs.Residents.{FitsResident, Moves, Resides, own_of, pages_at, yard_machine}
 use Rattle.mt_private.proofs.Own.Owners.{runs_alone, steps_alone}
-use Rattle.mt_private.proofs.Yard.Moves.{moves, order_by_stages, processor_at}
+use Rattle.mt_private.proofs.Residents.Moves.{moves, order_by_stages, processor_at}
 
 -- an event that is due for a processor, and the machine after it
 step_enabled : (o : Order) (s : System) (k : ℕ) (e : Event) (p : Processor) → (stepped o s).order ≡ Some o → slice_get s.processors k ≡ Some p → due o s.processors p p.phase ≡ Some e → IsEnabled (stepped o s) (Steps k e)

@@ -16,8 +16,8 @@ use Rattle.mt_rendezvous.specs.Station.{Fits, added_of, broadcast, go_weight, or
 use Rattle.mt_rendezvous.proofs.Keeps.{IsUnderWay}
 use Rattle.mt_rendezvous.proofs.RootSteps.{turned}
 use Rattle.mt_private.specs.declared.view.Resident.{Resident}
-use Rattle.mt_private.specs.Yard.{Decides, FitsResident, FitsYard, Resides, Yard, held_of, yard_machine}
-use Rattle.mt_private.proofs.Yard.Barriers.{not_taken, under_way}
+use Rattle.mt_private.specs.Residents.{Decides, FitsResident, FitsYard, Resides, Yard, held_of, yard_machine}
+use Rattle.mt_private.proofs.Residents.Barriers.{not_taken, under_way}
 
 -- before it says anything each processor is on its way, or hasn't taken
 pending_case : (added again : Bool) (p : Phase) → FitsYard Pending added again p → IsUnderWay p ⊎ ((p ≡ Running) × (again ≡ false))

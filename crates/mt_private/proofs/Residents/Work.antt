@@ -36,12 +36,12 @@ use Rattle.mt_rendezvous.proofs.Steps.{shows}
 use Rattle.mt_private.specs.declared.view.Resident.{Resident}
 use Rattle.mt_private.specs.Own.{Becomes, WritesOn, own_memory, own_system}
 use Rattle.mt_private.specs.OneByOne.{at_rest}
-use Rattle.mt_private.specs.Yard.{FitsResident, FitsYard, Follows, Yard, accessed_by, held_of, in_system, own_of, pages_at, stepped_by, system_of, yard_machine}
+use Rattle.mt_private.specs.Residents.{FitsResident, FitsYard, Follows, Yard, accessed_by, held_of, in_system, own_of, pages_at, stepped_by, system_of, yard_machine}
 use Rattle.mt_private.proofs.Own.Buses.{in_pages}
 use Rattle.mt_private.proofs.Own.Owners.{runs_alone, steps_alone, within_of}
-use Rattle.mt_private.proofs.Yard.Events.{accesses, steps}
-use Rattle.mt_private.proofs.Yard.Moves.{processor_at}
-use Rattle.mt_private.proofs.Yard.Barriers.{counted, few, few_added, not_taken, number, on_its_way, on_way, own_fits, same_era, under_way}
+use Rattle.mt_private.proofs.Residents.Events.{accesses, steps}
+use Rattle.mt_private.proofs.Residents.Moves.{processor_at}
+use Rattle.mt_private.proofs.Residents.Barriers.{counted, few, few_added, not_taken, number, on_its_way, on_way, own_fits, same_era, under_way}
 
 -- ---- a resident with what its own system became
 

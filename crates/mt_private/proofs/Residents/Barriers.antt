@@ -30,9 +30,9 @@ use Rattle.mt_rendezvous.proofs.Local.{again_in, arrived_in, changing_under_way,
 use Rattle.mt_rendezvous.proofs.Steps.{due_arrive, due_leave, due_pass, due_release, is_true, ready, shows}
 use Rattle.mt_private.specs.declared.view.Resident.{Resident}
 use Rattle.mt_private.specs.Own.{Becomes, WritesOn, own_memory, own_system}
-use Rattle.mt_private.specs.Yard.{FitsResident, FitsYard, Follows, Moves, Resides, Yard, accessed_by, held_of, in_system, own_of, pages_at, stepped_by, with_held, yard_machine}
-use Rattle.mt_private.proofs.Yard.Events.{accesses, stays, steps}
-use Rattle.mt_private.proofs.Yard.Moves.{held_at, processor_at}
+use Rattle.mt_private.specs.Residents.{FitsResident, FitsYard, Follows, Moves, Resides, Yard, accessed_by, held_of, in_system, own_of, pages_at, stepped_by, with_held, yard_machine}
+use Rattle.mt_private.proofs.Residents.Events.{accesses, stays, steps}
+use Rattle.mt_private.proofs.Residents.Moves.{held_at, processor_at}
 
 -- ---- how a resident fits
 

@@ -1,0 +1,90 @@
+-- What the root's additions ask.
+use Rattle.std.proofs.Common.{◌≡◌, ◌∙◌, ap, sym, refl, subst, arith, ℕ, ◌+◌, ◌%◌, ◌^◌, ◌<◌, ◌≤◌, ◌⊎◌, Bool, true, false, List, [], length, map, set, get_or, Option, None, Some, inl, inr, get_or-set_other}
+use Rattle.std.specs.Prelude.{slice_index}
+use Rattle.std.proofs.lemmas.List.{length-map}
+use mathlib.Core.Option.{none, some}
+use lib.ListN.{get_elem?}
+use Rattle.atomic_table.specs.Table.{Allows, Me, State, keeps, step}
+use Rattle.mt_machine.specs.declared.go.Go.{Go}
+use Rattle.mt_machine.specs.declared.go.Go.TheVariants.{Pending, Given, Cancelled}
+use Rattle.mt_machine.specs.Machine.{Cancels, Goes, MachineEvent}
+use Rattle.mt_rendezvous.specs.declared.view.Held.{Held}
+use Rattle.mt_rendezvous.specs.declared.view.Key.{Key}
+use Rattle.mt_rendezvous.specs.declared.view.Start.{Start}
+use Rattle.mt_rendezvous.specs.Station.{added_of, go_weight, start_of, total}
+use Rattle.mt_rendezvous.proofs.Keeps.{total_small, weight_small}
+use Rattle.mt_private.specs.declared.view.YardView.{YardView}
+use Rattle.mt_private.specs.Residents.{Decides, Yard, held_of}
+use Rattle.mt_private.specs.YardRule.{MeetsYard, as_view, with_said}
+use Rattle.mt_private.specs.YardLaws.{IsOneEvent}
+use Rattle.mt_private.specs.YardPlays.{CancelsYard, GivesYard, Said}
+use Rattle.mt_private.proofs.Residents.Decisions.{cancels, gives}
+use Rattle.mt_private.proofs.Residents.Seats.{mapped_at, says}
+
+module _ (key : Key) where
+  abbrev St : Type 0
+  St = State (Unit {0}) YardView
+
+  abbrev t : Start
+  t = start_of key
+
+  module _ (s : St) (m : MeetsYard key s) (id : ℕ) (v : YardView) (at : get_elem? s.views id ≡ some v) (root : v.root ≡ true) (unsaid : v.go ≡ Pending) where
+    was : m.go ≡ Pending
+    was = sym ((m.sits id (as_view v) (mapped_at as_view s.views id v at)).root root).1 ∙ unsaid
+
+    yard : Yard t m.all Pending (slice_index s.words 0) (slice_index s.words 1) m.system
+    yard = subst (λ (g : Go). Yard t m.all g (slice_index s.words 0) (slice_index s.words 1) m.system) was m.yard
+
+    low : get_or s.words 0 0 < 65536
+    low =
+        let a = yard.first_count in
+        let b = total_small added_of (λ g. weight_small g.added) (map held_of m.all) in
+        let c = length-map m.all held_of in
+        let d = m.yard.resides.size in
+        let e = m.yard.resides.opens.few in
+        omega arith
+
+    some_word : 0 < length s.words
+    some_word = let w = m.wide in omega arith
+
+    second_stays : (n : ℕ) → slice_index (set s.words 0 n) 1 ≡ slice_index s.words 1
+    second_stays n = get_or-set_other s.words 0 1 n 0 (λ (e : 1 ≡ 0). omega arith)
+
+    started : v.start ≡ t
+    started = told (m.sits id (as_view v) (mapped_at as_view s.views id v at)).told
+      where
+        told : (((as_view v).held ≡ []) × (v.root ≡ false)) ⊎ (v.start ≡ t) → v.start ≡ t
+        told (inl nothing) = absurd (let e = nothing.1 in cc)
+        told (inr x) = x
+
+    -- a decision, and what it tells
+    said : (n : ℕ) (go : Go) (e : MachineEvent) → Decides t m.all go n (slice_index s.words 1) m.system e
+        → IsOneEvent key s (record { words = set s.words 0 n; homes = s.homes; views = set s.views id (with_said v go) }) m (Some e) × Said v.start n e go
+    said n go e d = (
+      says key s m id n v go e at root some_word (second_stays n) was d,
+      subst (λ (x : Start). Said x n e go) (sym started) (record { all = m.all; second = slice_index s.words 1; system = m.system; decides = d }),
+    )
+
+    giving : Decides t m.all Given ((get_or s.words 0 0 + 1) % 18446744073709551616) (slice_index s.words 1) m.system Goes
+    giving =
+        let l = low in
+        let same : get_or s.words 0 0 + 1 ≡ (get_or s.words 0 0 + 1) % 18446744073709551616 = omega arith in
+        subst (λ (n : ℕ). Decides t m.all Given n (slice_index s.words 1) m.system Goes) same (gives t m.all (slice_index s.words 0) (slice_index s.words 1) m.system yard)
+
+    cancelling : Decides t m.all Cancelled ((get_or s.words 0 0 + 4294967296) % 18446744073709551616) (slice_index s.words 1) m.system Cancels
+    cancelling =
+        let l = low in
+        let same : get_or s.words 0 0 + 4294967296 ≡ (get_or s.words 0 0 + 4294967296) % 18446744073709551616 = omega arith in
+        subst (λ (n : ℕ). Decides t m.all Cancelled n (slice_index s.words 1) m.system Cancels) same (cancels t m.all (slice_index s.words 0) (slice_index s.words 1) m.system yard)
+
+  pub gives_yard : (slots id : ℕ) (me : Me (Unit {0}) YardView) → me.0.root ≡ true → me.0.go ≡ Pending
+      → Allows (MeetsYard key) slots id me 0 (λ n. (n + 1) % 2 ^ 64) (GivesYard (step slots 0 1 0 none) me)
+  gives_yard slots id me root is s m _ at small =
+      let p = said s m id me.0 at root is ((get_or s.words 0 0 + 1) % 18446744073709551616) Given Goes (giving s m id me.0 at root is) in
+      (with_said me.0 Given, keeps, tt, p.0.kept, (refl, refl, p.1))
+
+  pub cancels_yard : (slots id : ℕ) (me : Me (Unit {0}) YardView) → me.0.root ≡ true → me.0.go ≡ Pending
+      → Allows (MeetsYard key) slots id me 0 (λ n. (n + 4294967296) % 2 ^ 64) (CancelsYard (step slots 0 4294967296 0 none) me)
+  cancels_yard slots id me root is s m _ at small =
+      let p = said s m id me.0 at root is ((get_or s.words 0 0 + 4294967296) % 18446744073709551616) Cancelled Cancels (cancelling s m id me.0 at root is) in
+      (with_said me.0 Cancelled, keeps, tt, p.0.kept, (refl, refl, p.1))

@@ -1,0 +1,57 @@
+// The yard, and the seat of its host.
+ghost use Rattle.std.specs.Prelude.{◌≡◌, ℕ, ◌+◌, ◌<◌, length};
+ghost use Rattle.mt_machine.specs.declared.go.Go.TheVariants.{Cancelled, Given, Pending};
+ghost use Rattle.mt_machine.specs.Machine.{Cancels as CancelsUpdate, Goes};
+ghost use Rattle.mt_rendezvous.specs.Station.{start_of};
+ghost use Rattle.mt_private.specs.YardPlays.{Hosts, Said};
+
+use crate::view::{CancelsYard, GivesYard, Lodging, YardView};
+use atomic_table::{Seat, Table};
+use mt_rendezvous::Key;
+use std::alloc::Global;
+
+// What the host adds to the first count to cancel.
+const CANCEL: u64 = 0x1_0000_0000;
+
+/// The words of one update between accesses: the two counts, and an event word for each processor.
+#[derive(Drop)]
+pub struct Yard {
+    pub table: Table<(), YardView, Key, Lodging, Global>,
+    pub count: u64,
+    pub ghost counted: { length table.shared.key.cpus.value.items ≡ count },
+    pub ghost wide: { table.shared.table_id.words ≡ count + 2 },
+    pub ghost few: { count < 65536 },
+    pub ghost no_slots: { table.shared.table_id.slots ≡ 0 },
+}
+
+/// The coordinator's seat. It has the processors that aren't given away, and says whether go was given.
+#[derive(Drop)]
+pub struct Host {
+    pub seat: Seat<(), YardView>,
+}
+
+impl Host {
+    /// Gives the go, once. Its addition to the first count is the event Go.
+    pub fn go(&mut self, yard: &Yard)
+        requires { Hosts yard.now.table.shared.table_id (start_of yard.now.table.shared.key) self.old.seat.table_id self.old.seat.me Pending }
+        ensures hosts { Hosts yard.now.table.shared.table_id (start_of yard.now.table.shared.key) self.new.seat.table_id self.new.seat.me Given }
+        ensures held { self.new.seat.me.0.held ≡ self.old.seat.me.0.held }
+        ensures event { (count : ℕ) × Said (start_of yard.now.table.shared.key) count Goes Given }
+    {
+        yard.table
+            .shared
+            .fetch_add::<GivesYard>(&mut self.seat, 0, 1);
+    }
+
+    /// Cancels, once, in place of the go. Its addition to the first count is the event Cancel.
+    pub fn cancel(&mut self, yard: &Yard)
+        requires { Hosts yard.now.table.shared.table_id (start_of yard.now.table.shared.key) self.old.seat.table_id self.old.seat.me Pending }
+        ensures hosts { Hosts yard.now.table.shared.table_id (start_of yard.now.table.shared.key) self.new.seat.table_id self.new.seat.me Cancelled }
+        ensures held { self.new.seat.me.0.held ≡ self.old.seat.me.0.held }
+        ensures event { (count : ℕ) × Said (start_of yard.now.table.shared.key) count CancelsUpdate Cancelled }
+    {
+        yard.table
+            .shared
+            .fetch_add::<CancelsYard>(&mut self.seat, 0, CANCEL);
+    }
+}
