@@ -2,8 +2,9 @@
 ghost use Rattle.std.specs.Prelude.{◌≡◌, ℕ, ◌+◌, ◌<◌, length};
 ghost use Rattle.mt_machine.specs.declared.go.Go.TheVariants.{Cancelled, Given, Pending};
 ghost use Rattle.mt_machine.specs.Machine.{Cancels as CancelsUpdate, Goes};
+ghost use Rattle.mt_rendezvous.specs.Calls.{Leads};
 ghost use Rattle.mt_rendezvous.specs.Station.{start_of};
-ghost use Rattle.mt_private.specs.YardPlays.{Hosts, Said};
+ghost use Rattle.mt_private.specs.YardPlays.{Said, as_sat};
 
 use crate::view::{CancelsYard, GivesYard, Lodging, YardView};
 use atomic_table::{Seat, Table};
@@ -33,8 +34,8 @@ pub struct Host {
 impl Host {
     /// Gives the go, once. Its addition to the first count is the event Go.
     pub fn go(&mut self, yard: &Yard)
-        requires { Hosts yard.now.table.shared.table_id (start_of yard.now.table.shared.key) self.old.seat.table_id self.old.seat.me Pending }
-        ensures hosts { Hosts yard.now.table.shared.table_id (start_of yard.now.table.shared.key) self.new.seat.table_id self.new.seat.me Given }
+        requires { Leads yard.now.table.shared.table_id (start_of yard.now.table.shared.key) self.old.seat.table_id (as_sat self.old.seat.me) Pending }
+        ensures hosts { Leads yard.now.table.shared.table_id (start_of yard.now.table.shared.key) self.new.seat.table_id (as_sat self.new.seat.me) Given }
         ensures held { self.new.seat.me.0.held ≡ self.old.seat.me.0.held }
         ensures event { (count : ℕ) × Said (start_of yard.now.table.shared.key) count Goes Given }
     {
@@ -45,8 +46,8 @@ impl Host {
 
     /// Cancels, once, in place of the go. Its addition to the first count is the event Cancel.
     pub fn cancel(&mut self, yard: &Yard)
-        requires { Hosts yard.now.table.shared.table_id (start_of yard.now.table.shared.key) self.old.seat.table_id self.old.seat.me Pending }
-        ensures hosts { Hosts yard.now.table.shared.table_id (start_of yard.now.table.shared.key) self.new.seat.table_id self.new.seat.me Cancelled }
+        requires { Leads yard.now.table.shared.table_id (start_of yard.now.table.shared.key) self.old.seat.table_id (as_sat self.old.seat.me) Pending }
+        ensures hosts { Leads yard.now.table.shared.table_id (start_of yard.now.table.shared.key) self.new.seat.table_id (as_sat self.new.seat.me) Cancelled }
         ensures held { self.new.seat.me.0.held ≡ self.old.seat.me.0.held }
         ensures event { (count : ℕ) × Said (start_of yard.now.table.shared.key) count CancelsUpdate Cancelled }
     {

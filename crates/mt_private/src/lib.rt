@@ -27,7 +27,8 @@ pub use view::{Resident, YardView};
 pub use worked::{worked_jobs, worked_names, worked_shared};
 pub use worked_own::{worked_alone, worked_becomes, worked_commute, worked_owners, worked_words};
 pub use worked_yard::{
-    worked_opens, worked_residents, worked_yard_fits, worked_yard_pages, worked_yard_views,
+    worked_hosts, worked_opens, worked_residents, worked_yard_fits, worked_yard_pages,
+    worked_yard_views,
 };
 pub use yard_laws::{
     accesses_go_on, counts_tell_of_the_machine, each_yard_step_is_one_event,

@@ -6,10 +6,13 @@ ghost use Rattle.mt_machine.specs.declared.go.Go.TheVariants.{Cancelled, Given, 
 ghost use Rattle.mt_machine.specs.declared.op.Op.TheVariants.{Load, Store};
 ghost use Rattle.mt_machine.specs.declared.phase.Phase.TheVariants.{Arrived, Running, Taken};
 ghost use Rattle.mt_machine.specs.Memory.{word_at};
+ghost use Rattle.atomic_table.specs.Seated.{TableId};
+ghost use Rattle.mt_rendezvous.specs.Calls.{Leads};
 ghost use Rattle.mt_rendezvous.specs.Station.{held};
 ghost use Rattle.mt_private.specs.Worked.{marked, owner, pair, sharing};
 ghost use Rattle.mt_private.specs.WorkedYard.{both_lodged, host_view, lodging, numbers_of, start_of_system};
 ghost use Rattle.mt_private.specs.Residents.{FitsResident, FitsYard, Opens, StandsFor, accessed_by, own_of, pages_at, pages_left, stepped_by, system_of};
+ghost use Rattle.mt_private.specs.YardPlays.{as_sat};
 ghost use Rattle.mt_private.specs.YardRule.{AreAt, as_view, one_of, rest_of, with_said, yard_both, yard_left, yard_right, yard_spent};
 
 /// Which pages each processor named, and which none did.
@@ -70,4 +73,10 @@ pub fn worked_yard_views()
     ensures one_of_none { one_of [] ≡ [] }
     ensures rest_of_none { rest_of [] ≡ [] }
     ensures not_at { ¬ AreAt [] both_lodged }
+{}
+
+/// What the host's seat has of one at a rendezvous.
+pub fn worked_hosts()
+    ensures leads { (table : TableId) → Leads table lodging table (as_sat (host_view, [])) Pending }
+    ensures leads_as_pass { (table : TableId) → ¬ Leads table lodging table (as_sat (yard_right host_view, [])) Pending }
 {}
