@@ -7,3 +7,4 @@ pub mod Decisions
 pub mod Seats
 pub mod Opened
 pub mod Roots
+pub mod Unique

@@ -108,6 +108,10 @@ pub record IsOneEvent (key : Key) (s later : YardState) (m : MeetsYard key s) (e
 abbrev pub IsReached : Type 0
 IsReached = (key : Key) (s : YardState) (m : MeetsYard key s) → Reached (broadcast (start_of key)) (its_machine key s m)
 
+-- and it is one
+abbrev pub IsOneMachine : Type 0
+IsOneMachine = (key : Key) (s : YardState) (a b : MeetsYard key s) → its_machine key s a ≡ its_machine key s b
+
 -- at the start, with two counts of 0
 abbrev pub StartMeetsRule : Type 0
 StartMeetsRule =

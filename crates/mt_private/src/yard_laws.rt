@@ -1,5 +1,5 @@
 // Laws on yards: what each step of a seat makes of the machine that words and views stand for.
-ghost use Rattle.mt_private.specs.YardLaws.{AdditionArrives, AdditionArrivesAgain, AdditionDecides, IsReached, JoinIsNone, LoadLeaves, LoadPasses, LoadReleases, LoadStays, LoadTakes, MoveIsOneEvent, SayingIsOneEvent, SplitIsNone, StartMeetsRule, StoreAccesses, StoreWorks};
+ghost use Rattle.mt_private.specs.YardLaws.{AdditionArrives, AdditionArrivesAgain, AdditionDecides, IsOneMachine, IsReached, JoinIsNone, LoadLeaves, LoadPasses, LoadReleases, LoadStays, LoadTakes, MoveIsOneEvent, SayingIsOneEvent, SplitIsNone, StartMeetsRule, StoreAccesses, StoreWorks};
 
 /// An addition to one of the two counts, and a load of one, is the event that the count tells of, or none: a processor
 /// takes, arrives, passes, leaves, arrives again and is released by what it finds there alone.
@@ -25,10 +25,11 @@ pub fn words_are_written_alone()
     ensures { StoreWorks }
 {}
 
-/// Between any two steps of a yard its words and views stand for a machine that the state after the call reaches, from the
-/// start on.
+/// Between any two steps of a yard its words and views stand for one machine, which the state after the call reaches, from
+/// the start on.
 pub fn yard_is_reached()
     ensures reached { IsReached }
+    ensures one { IsOneMachine }
     ensures start { StartMeetsRule }
 {}
 

@@ -56,7 +56,7 @@ module _ (pages : ℕ → Bool) where
   words_set true (a ∷ xs) (w ∷ ws) (suc i) v within is = ap (λ us. (if pages (a / 4096) then w else 0) ∷ us) (words_set true xs ws i v (omega arith) is)
   words_set false (a ∷ xs) (w ∷ ws) (suc i) v within is = ap (λ us. (if pages (a / 4096) then w else 0) ∷ us) (words_set false xs ws i v (omega arith) is)
 
-  words_get : (xs ws : List ℕ) (i : ℕ) → i < length xs → pages (get_or xs i 0 / 4096) ≡ true → get_or (words_on pages xs ws) i 0 ≡ get_or ws i 0
+  pub words_get : (xs ws : List ℕ) (i : ℕ) → i < length xs → pages (get_or xs i 0 / 4096) ≡ true → get_or (words_on pages xs ws) i 0 ≡ get_or ws i 0
   words_get [] ws i within is = absurd (omega arith)
   words_get (a ∷ xs) [] i within is = refl
   words_get (a ∷ xs) (w ∷ ws) zero within is = ap (λ (c : Bool). if c then w else 0) is

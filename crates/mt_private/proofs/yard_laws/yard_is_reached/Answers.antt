@@ -1,4 +1,5 @@
 use Rattle.mt_private.proofs.Residents.Opened.{opened}
+use Rattle.mt_private.proofs.Residents.Unique.{one_machine}
 use Rattle.mt_private.proofs.yard_laws.yard_is_reached.Goals as goal
 
 pub returns-clause-reached : goal.returns-clause-reached
@@ -6,3 +7,6 @@ returns-clause-reached c key s m = m.yard.resides.reached
 
 pub returns-clause-start : goal.returns-clause-start
 returns-clause-start c = opened
+
+pub returns-clause-one : goal.returns-clause-one
+returns-clause-one c = one_machine
