@@ -33,12 +33,17 @@ mod usages;
 pub use row::Row;
 
 /// The tables of the commands about one dump.
-pub fn dump_tables() -> [&'static [Row]; 11] {
+pub fn dump_tables() -> [&'static [Row]; 16] {
     [
         registers::registers(),
         overlaps::overlaps(),
         dump_texts::dump_texts(),
+        sections::versions(),
         sections::sections(),
+        sections::later_sections(),
+        sections::differences(),
+        sections::refused_sections(),
+        sections::first_files(),
         canonical_texts::canonical_texts(),
         type_maps::type_maps(),
         pages::pages(),

@@ -1,8 +1,8 @@
 use crate::dumps::{CANONICAL, SECTIONS};
 use crate::row::{Row, rows};
 
-/// The commands about one dump that has a section for each processor.
-pub fn sections() -> &'static [Row] {
+/// `check` where the first line with words tells a version, and where it doesn't.
+pub fn versions() -> &'static [Row] {
     rows! {
         "two sections that differ", ["check"],
             SECTIONS => Done, b"accepted\ndiffer 1 200\n";
@@ -38,6 +38,12 @@ pub fn sections() -> &'static [Row] {
             b"maxphyaddr 36\nversion 1" => BadText, b"bad text 2:1 bad section\n";
         "a bad version behind a register", ["check"],
             b"0fe 508\nversion 3" => BadText, b"bad text 2:9 bad version\n";
+    }
+}
+
+/// `check` of dumps of version 2: where sections begin.
+pub fn sections() -> &'static [Row] {
+    rows! {
         "a version in a section", ["check"],
             b"version 2\ncpu 0\nversion 2" => BadText, b"bad text 3:1 bad section\n";
         "a section in version 1", ["check"],
@@ -68,6 +74,12 @@ pub fn sections() -> &'static [Row] {
             b"version 2\ncpu 000000000000000000000" => BadText, b"bad text 2:1 bad section\n";
         "no section", ["check"],
             b"version 2" => BadText, b"bad text 1:10 no cap\n";
+    }
+}
+
+/// `check` of what sections give.
+pub fn later_sections() -> &'static [Row] {
+    rows! {
         "an empty section", ["check"],
             b"version 2\ncpu 0\n" => BadText, b"bad text 3:1 no cap\n";
         "a register of section 0 before the capability register", ["check"],
@@ -92,6 +104,12 @@ pub fn sections() -> &'static [Row] {
             b"version 2\ncpu 0\n0fe 400\ncpu 1\n2ff 0\n2ff 0\n" => BadText, b"bad text 6:1 repeated\n";
         "a later section has section 0's registers", ["check"],
             b"version 2\ncpu 0\n0fe 401\ncpu 1\n202 0\n" => BadText, b"bad text 5:1 unknown register\n";
+    }
+}
+
+/// `check` of dumps with many sections, and of files that differ or aren't accepted.
+pub fn differences() -> &'static [Row] {
+    rows! {
         "sixteen sections", ["check"],
             b"version 2\ncpu 0\n0fe 400\ncpu 1\ncpu 2\ncpu 3\ncpu 4\ncpu 5\ncpu 6\ncpu 7\ncpu 8\ncpu 9\ncpu 10\ncpu 11\ncpu 12\ncpu 13\ncpu 14\ncpu 15\n" => Done, b"accepted\nsame\n";
         "seventeen sections", ["check"],
@@ -106,6 +124,12 @@ pub fn sections() -> &'static [Row] {
             b"version 2\ncpu 0\n0fe 400\ncpu 1\n277 8\ncpu 2\n2ff 7\n" => Refused, b"refused cpu 1 277 reserved bit\n";
         "a file with an overlap", ["check"],
             b"version 2\ncpu 0\n0fe 502\ncpu 1\n200 6\n201 f00000800\n202 c0000001\n203 ff0000800\n2ff 800\n" => Refused, b"refused cpu 1 200 undefined overlap\n";
+    }
+}
+
+/// Each command on a dump whose second file isn't accepted, and the canonical text.
+pub fn refused_sections() -> &'static [Row] {
+    rows! {
         "a later file is refused: check", ["check"],
             b"version 2\ncpu 0\n0fe 400\n2ff 800\ncpu 1\n2ff 7\n" => Refused, b"refused cpu 1 2ff unsupported type\n";
         "a later file is refused: types", ["types"],
@@ -120,6 +144,12 @@ pub fn sections() -> &'static [Row] {
             b"version 2\ncpu 0\n0fe 400\n2ff 800\ncpu 1\n2ff 7\n" => Done, b"version 2\ncpu 0\nmaxphyaddr 36\n0fe 0000000000000400\n277 0007040600070406\n2ff 0000000000000800\ncpu 1\nmaxphyaddr 36\n0fe 0000000000000400\n277 0007040600070406\n2ff 0000000000000007\n";
         "a version 1 text has no version line", ["show"],
             b"version 1\n0fe 400\n2ff c00\n" => Done, CANONICAL;
+    }
+}
+
+/// The commands that answer for processor 0's file.
+pub fn first_files() -> &'static [Row] {
+    rows! {
         "types of processor 0", ["types"],
             SECTIONS => Done, b"0000000000000-00000ffffffff WB\n0000100000000-0000fffffffff UC\n";
         "a page of processor 0", ["page", "0", "0"],
