@@ -67,9 +67,9 @@ final_of_transcript bytes = elim (one_of_three bytes) [
   | inr (inr is) ↦ inr (inr (inl is))
 ]
 
-final_of_proc : (bytes : List ℕ) → IsFinal (proc_transcript bytes).status
+final_of_proc : (cpus : ℕ) (bytes : List ℕ) → IsFinal (proc_transcript cpus bytes).status
 unfolding IsFinal
-final_of_proc bytes = elim (one_of_three_of_proc bytes) [
+final_of_proc cpus bytes = elim (one_of_three_of_proc cpus bytes) [
   | inl is ↦ inl is
   | inr (inl is) ↦ inr (inl is)
   | inr (inr is) ↦ inr (inr (inl is))
@@ -109,8 +109,8 @@ whole words bytes text status left before after (replayed says) = λ read taken.
     finished_leaves words bytes left before after (transcript bytes).status (final_of_transcript bytes)
     (record { text = (transcript bytes).text; output = replayed says; taken = taken; read = read })
 whole words bytes text status left before after (requested cpus says) = λ read taken.
-    finished_leaves words bytes left before after (proc_transcript bytes).status (final_of_proc bytes)
-    (record { text = (proc_transcript bytes).text; output = requested cpus says; taken = taken; read = read })
+    finished_leaves words bytes left before after (proc_transcript cpus bytes).status (final_of_proc cpus bytes)
+    (record { text = (proc_transcript cpus bytes).text; output = requested cpus says; taken = taken; read = read })
 
 -- a run whose last write is done or has failed
 pub written_leaves : (words : List (List ℕ)) (bytes text : List ℕ) (status result : Status) (left : Option (List ℕ)) (before : List ℕ) (old new : Option (List ℕ))
@@ -190,16 +190,16 @@ replays_leave words bytes Disabled left before new says tells = absurd tells
 
 -- the same of a `proc`
 front_of_proc : (words : List (List ℕ)) (bytes before : List ℕ) (cpus : ℕ) (old new : Option (List ℕ))
-    → command_of words ≡ Some (Proc cpus) → old ≡ Some before → AppendsFront old new (proc_transcript bytes).text → CutShort words bytes before new
+    → command_of words ≡ Some (Proc cpus) → old ≡ Some before → AppendsFront old new (proc_transcript cpus bytes).text → CutShort words bytes before new
 front_of_proc words bytes before cpus old new says told cut =
-    record { text = (proc_transcript bytes).text; status = (proc_transcript bytes).status; output = requested cpus says; front = cut.0; back = cut.1; cut = cut.2; taken = appended before cut.0 old new told cut.3 }
+    record { text = (proc_transcript cpus bytes).text; status = (proc_transcript cpus bytes).status; output = requested cpus says; front = cut.0; back = cut.1; cut = cut.2; taken = appended before cut.0 old new told cut.3 }
 
 proc_tells_all : (words : List (List ℕ)) (bytes : List ℕ) (cpus : ℕ) (result : Status) (left : Option (List ℕ)) (before : List ℕ) (new : Option (List ℕ))
-    → command_of words ≡ Some (Proc cpus) → stream.TellsAll (proc_transcript bytes) left (Some before) new result → Finished words bytes left before new result
+    → command_of words ≡ Some (Proc cpus) → stream.TellsAll (proc_transcript cpus bytes) left (Some before) new result → Finished words bytes left before new result
 proc_tells_all words bytes cpus result left before new says tells = record {
-  text = (proc_transcript bytes).text;
-  output = subst (Output words bytes (proc_transcript bytes).text) (sym tells.status_is) (requested cpus says);
-  taken = appended before (proc_transcript bytes).text (Some before) new refl tells.taken;
+  text = (proc_transcript cpus bytes).text;
+  output = subst (Output words bytes (proc_transcript cpus bytes).text) (sym tells.status_is) (requested cpus says);
+  taken = appended before (proc_transcript cpus bytes).text (Some before) new refl tells.taken;
   read = left_by words bytes left (Some (Proc cpus)) says tells.read;
 }
 
@@ -209,7 +209,7 @@ nothing_taken before new ([], back, is, takes) = appended before [] (Some before
 nothing_taken before new (byte ∷ front, back, is, takes) = absurd (cc is)
 
 pub proc_leaves : (words : List (List ℕ)) (bytes : List ℕ) (cpus : ℕ) (result : Status) (left : Option (List ℕ)) (before : List ℕ) (new : Option (List ℕ))
-    → command_of words ≡ Some (Proc cpus) → Runs proc_told [] bytes left (Some before) new result → Leaves words bytes left before new result
+    → command_of words ≡ Some (Proc cpus) → Runs (proc_told cpus) [] bytes left (Some before) new result → Leaves words bytes left before new result
 proc_leaves words bytes cpus Done left before new says tells = proc_tells_all words bytes cpus Done left before new says tells
 proc_leaves words bytes cpus Refused left before new says tells = proc_tells_all words bytes cpus Refused left before new says tells
 proc_leaves words bytes cpus Usage left before new says tells = absurd tells
@@ -258,12 +258,12 @@ replays_read words bytes Disabled left old new says tells = absurd tells
 
 -- the status of a `proc`
 proc_status : (words : List (List ℕ)) (bytes : List ℕ) (cpus : ℕ) (result : Status) (left old new : Option (List ℕ))
-    → command_of words ≡ Some (Proc cpus) → stream.TellsAll (proc_transcript bytes) left old new result → Answered words bytes left result
+    → command_of words ≡ Some (Proc cpus) → stream.TellsAll (proc_transcript cpus bytes) left old new result → Answered words bytes left result
 proc_status words bytes cpus result left old new says tells =
-    record { text = (proc_transcript bytes).text; output = subst (Output words bytes (proc_transcript bytes).text) (sym tells.status_is) (requested cpus says); read = left_by words bytes left (Some (Proc cpus)) says tells.read }
+    record { text = (proc_transcript cpus bytes).text; output = subst (Output words bytes (proc_transcript cpus bytes).text) (sym tells.status_is) (requested cpus says); read = left_by words bytes left (Some (Proc cpus)) says tells.read }
 
 pub proc_reads : (words : List (List ℕ)) (bytes : List ℕ) (cpus : ℕ) (result : Status) (left old new : Option (List ℕ))
-    → command_of words ≡ Some (Proc cpus) → Runs proc_told [] bytes left old new result → Reads words bytes left result
+    → command_of words ≡ Some (Proc cpus) → Runs (proc_told cpus) [] bytes left old new result → Reads words bytes left result
 proc_reads words bytes cpus Done left old new says tells = proc_status words bytes cpus Done left old new says tells
 proc_reads words bytes cpus Refused left old new says tells = proc_status words bytes cpus Refused left old new says tells
 proc_reads words bytes cpus Usage left old new says tells = absurd tells

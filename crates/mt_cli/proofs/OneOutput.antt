@@ -13,6 +13,7 @@ use Rattle.mt_dump.specs.Canon.{canon}
 use Rattle.mt_dump.specs.Dumps.{Dump as Shows, dump_of, first_file}
 use Rattle.mt_dump.specs.Dump.{Shown}
 use Rattle.mt_dump.proofs.Ends.{one_dump, shown_no_offence}
+use Rattle.mt_proc.specs.Proc.{proc_transcript}
 use Rattle.mt_tidy.specs.Keeps.{IsLeast}
 use Rattle.mt_tidy.specs.Kept.{IsTidy, NeedsMore}
 use Rattle.mt_gran.specs.Grained.{IsGrained, NeedsMore as GranNeedsMore}
@@ -271,6 +272,9 @@ no_made_proc words cpus n says is = let e : Some (Proc cpus) ≡ Some (Make n) =
 same_number : (words : List (List ℕ)) (m n : ℕ) → command_of words ≡ Some (Make m) → command_of words ≡ Some (Make n) → m ≡ n
 same_number words m n says is = let e : Some (Make m) ≡ Some (Make n) = sym says ∙ is in cc e
 
+same_cpus : (words : List (List ℕ)) (m n : ℕ) → command_of words ≡ Some (Proc m) → command_of words ≡ Some (Proc n) → m ≡ n
+same_cpus words m n says is = let e : Some (Proc m) ≡ Some (Proc n) = sym says ∙ is in cc e
+
 same_big : (words : List (List ℕ)) (m n : ℕ) → command_of words ≡ Some (Big m) → command_of words ≡ Some (Big n) → m ≡ n
 same_big words m n says is = let e : Some (Big m) ≡ Some (Big n) = sym says ∙ is in cc e
 
@@ -365,7 +369,9 @@ one_output words bytes text other s t (requested cpus says) (bad_text again faul
 one_output words bytes text other s t (requested cpus says) (answered again file u v also shows answer) = absurd (no_proc words again cpus also says)
 one_output words bytes text other s t (requested cpus says) (replayed also) = absurd (no_proc_replay words cpus also says)
 one_output words bytes text other s t (requested cpus says) (made n also) = absurd (no_made_proc words cpus n says also)
-one_output words bytes text other s t (requested cpus says) (requested number also) = (refl, λ not_done. refl)
+one_output words bytes text other s t (requested cpus says) (requested number also) =
+    let same : cpus ≡ number = same_cpus words cpus number says also in
+    (ap (λ (n : ℕ). (proc_transcript n bytes).status) same, λ not_done. ap (λ (n : ℕ). (proc_transcript n bytes).text) same)
 one_output words bytes text other s t (requested cpus says) (summed n also) = absurd (no_proc_big words cpus n says also)
 one_output words bytes text other s t (summed n says) (requested cpus also) = absurd (no_proc_big words cpus n also says)
 one_output words bytes text other s t (requested number says) (measured cpus n accesses also) = absurd (no_proc_jobs words number cpus n accesses says also)

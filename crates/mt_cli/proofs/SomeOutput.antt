@@ -7,7 +7,7 @@ use Rattle.mt_regs.specs.Faults.{IsAccepted}
 use Rattle.mt_regs.specs.Agreement.{first_refusal}
 use Rattle.mt_types.proofs.SomeMap.{a_type_map}
 use Rattle.mt_dump.specs.Dumps.{Dump as Shows, IsDump, first_file}
-use Rattle.mt_dump.proofs.Ends.{shown_is_dump, shown_or_offence}
+use Rattle.mt_dump.proofs.Ends.{shown_dump, shown_or_offence}
 use Rattle.mt_cli.proofs.FirstFiles.{first_is_accepted, first_is_file}
 use Rattle.mt_tidy.proofs.SomeTidy.{tidy_or_more}
 use Rattle.mt_gran.proofs.SomeRounding.{rounded_or_more}
@@ -90,7 +90,7 @@ some_output words bytes = by_command (command_of words) refl
   where
     of_dump_output : (command : DumpCommand) → command_of words ≡ Some (Dump command) → (text : List ℕ) × (status : Status) × Output words bytes text status
     of_dump_output command says = elim (shown_or_offence bytes) [
-      | inl (dump, shows) ↦ let (text, status, answer) = some_answer dump (shown_is_dump bytes dump shows) command in (text, status, answered command dump text status says shows answer)
+      | inl (dump, shows) ↦ let (text, status, answer) = some_answer dump (shown_dump bytes dump shows) command in (text, status, answered command dump text status says shows answer)
       | inr (fault, is) ↦ (_, _, bad_text command fault says is)
     ]
 

@@ -31,4 +31,4 @@ pub data Output (words : List (List ℕ)) (bytes : List ℕ) : List ℕ → Stat
   summed : (n : ℕ) → command_of words ≡ Some (Big n) → Output words bytes (big_text n) Done
   measured : (cpus n accesses : ℕ) → command_of words ≡ Some (Private cpus n accesses) → Output words bytes (measured_text cpus n accesses) Done
   replayed : command_of words ≡ Some Replay → Output words bytes (transcript bytes).text (transcript bytes).status
-  requested : (cpus : ℕ) → command_of words ≡ Some (Proc cpus) → Output words bytes (proc_transcript bytes).text (proc_transcript bytes).status
+  requested : (cpus : ℕ) → command_of words ≡ Some (Proc cpus) → Output words bytes (proc_transcript cpus bytes).text (proc_transcript cpus bytes).status

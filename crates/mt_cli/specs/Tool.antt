@@ -38,7 +38,7 @@ abbrev pub FailedRead : Option Command → List ℕ → Option (List ℕ) → Li
 FailedRead None bytes left before after = Untouched before after
 FailedRead (Some (Dump command)) bytes left before after = Untouched before after
 FailedRead (Some Replay) bytes left before after = replay.TellsKnown bytes left (Some before) after
-FailedRead (Some (Proc cpus)) bytes left before after = TellsKnown proc_told bytes left (Some before) after
+FailedRead (Some (Proc cpus)) bytes left before after = TellsKnown (proc_told cpus) bytes left (Some before) after
 FailedRead (Some (Make n)) bytes left before after = Untouched before after
 FailedRead (Some (Big n)) bytes left before after = Untouched before after
 FailedRead (Some (Private cpus n accesses)) bytes left before after = Untouched before after

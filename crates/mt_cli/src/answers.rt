@@ -43,13 +43,7 @@ pub fn written<K: Sink>(sink: &mut K, text: &[u8], status: Status) -> Status
 }
 
 // Names the first file that isn't accepted, and its register at fault.
-fn refuse<K: Sink>(
-    d: &Dump,
-    k: u32,
-    fault: &Fault,
-    sink: &mut K,
-    command: DumpCommand,
-) -> Status
+fn refuse<K: Sink>(d: &Dump, k: u32, fault: &Fault, sink: &mut K, command: DumpCommand) -> Status
     requires fault { first_refusal d.now.files ≡ Some (k, fault.now) }
     requires short { fault.now.msr < 0x1000 }
     requires command { command ≢ Show }

@@ -9,8 +9,8 @@ ghost use Rattle.mt_cli.specs.Answer.{MayChoose};
 ghost use Rattle.mt_cli.specs.Output.{Output};
 ghost use Rattle.mt_dump.specs.Canon.{canon};
 ghost use Rattle.mt_dump.specs.Dump.{Shown};
-ghost use Rattle.mt_dump.specs.Dumps.{dump_of};
-ghost use Rattle.mt_regs.specs.RegisterFile.{RegisterFile};
+ghost use Rattle.mt_dump.specs.Dumps.{Dump as Shows, dump_of};
+ghost use Rattle.std.specs.List.{All};
 ghost use Rattle.mt_regs.specs.Faults.{IsAccepted};
 ghost use Rattle.mt_script.specs.Script.{script_offence};
 ghost use Rattle.mt_replay.specs.Statuses.{ShowsDump};
@@ -45,10 +45,10 @@ pub fn a_tidied_text_is_a_dump(f: &RegFile)
     a_register_file_is_shown_by_its_text(f);
 }
 
-/// Each text for measurements is a script without an offence, and the file that its dump shows is
+/// Each text for measurements is a script without an offence, and the files of its dump are
 /// accepted. So its transcript ends with Done.
 pub fn a_made_text_is_a_script()
     ensures offence { (n : ℕ) → script_offence (make_text n) ≡ None }
-    ensures dump { (n : ℕ) → (file : RegisterFile) × ShowsDump (make_text n) file × IsAccepted file }
+    ensures dump { (n : ℕ) → (dump : Shows) × ShowsDump (make_text n) dump × All IsAccepted dump.files }
     ensures status { (n : ℕ) → (transcript (make_text n)).status ≡ Done }
 {}

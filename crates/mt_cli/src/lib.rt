@@ -30,7 +30,7 @@ pub use texts::{canonical_text, grained_text, tidied_text, types_text};
 pub use top::tool;
 pub use words::command_of;
 pub use worked::{worked_draws, worked_generated_lines};
-pub use worked_outputs::{worked_command_lines, worked_endings};
+pub use worked_outputs::{worked_checks, worked_command_lines, worked_endings};
 
 #[cfg(test)]
 mod cut_tests;

@@ -1,10 +1,15 @@
 ghost use Rattle.std.specs.Prelude.{◌≡◌, ◌∷◌, [], codes, List, None, Option, Some, ℕ};
 ghost use Rattle.mt_ports.specs.declared.status.Status.TheVariants as status;
+ghost use Rattle.mt_regs.specs.declared.registers.Register.TheVariants.{DefaultType, PhysMask};
+ghost use Rattle.mt_regs.specs.RegisterFile.{blank_file};
+ghost use Rattle.mt_regs.specs.Registers.{with_value};
+ghost use Rattle.mt_dump.specs.Dumps.{dump_of};
 ghost use Rattle.mt_replay.specs.Running.{TellsKnown};
 ghost use Rattle.mt_cli.specs.declared.command.Command.TheVariants as asks;
 ghost use Rattle.mt_cli.specs.declared.command.DumpCommand.TheVariants as of_dump;
 ghost use Rattle.mt_cli.specs.CommandLine.{MayTakeMemory, command_of, left_of};
-ghost use Rattle.mt_cli.specs.Output.{MayChoose};
+ghost use Rattle.mt_cli.specs.Answer.{MayChoose};
+ghost use Rattle.mt_cli.specs.Lines.{check_text};
 ghost use Rattle.mt_cli.specs.Tool.{CutShort, FailedRead, Finished, Leaves, Overran, Reads, Starved};
 
 /// Command lines and what they ask for.
@@ -43,6 +48,14 @@ pub fn worked_command_lines()
     ensures one_page { MayChoose (of_dump.Page 0 0) → ⊥ }
     ensures one_check { MayChoose of_dump.Check → ⊥ }
     ensures one_text { MayChoose of_dump.Show → ⊥ }
+{}
+
+/// What `check` says of dumps whose files are all accepted.
+pub fn worked_checks()
+    ensures version_1 { check_text (dump_of (blank_file 36 0x400)) ≡ codes "accepted\n" }
+    ensures one_section { check_text (record { version = 2; files = blank_file 36 0x400 ∷ [] }) ≡ codes "accepted\nsame\n" }
+    ensures same { check_text (record { version = 2; files = blank_file 36 0x400 ∷ blank_file 36 0x400 ∷ [] }) ≡ codes "accepted\nsame\n" }
+    ensures differ { check_text (record { version = 2; files = blank_file 36 0x401 ∷ blank_file 36 0x401 ∷ with_value (with_value (blank_file 36 0x401) (PhysMask 0) 0x800) DefaultType 0x800 ∷ [] }) ≡ codes "accepted\ndiffer 2 201\n" }
 {}
 
 /// What a run without words leaves in source and sink, which is one line, and what it doesn't, for one thing.

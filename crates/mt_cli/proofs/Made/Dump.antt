@@ -1,12 +1,15 @@
 -- The dump of a text for measurements: the file that it shows is accepted.
 use Rattle.std.proofs.Common.{◌≢◌, refl, inl, inr, ℕ, List, [], ◌∷◌, ◌++◌, codes, Some}
 use Rattle.std.specs.Prelude.{replicate}
+use Rattle.std.specs.List.{All}
 use Rattle.std.proofs.lemmas.Bool.{cases_Bool}
+use Rattle.std.proofs.lemmas.List.Elements.{All-cons, All-nil}
 use Rattle.mt_ranges.specs.Match.{matches_pair}
 use Rattle.mt_regs.specs.declared.page_type.PageType.TheVariants.{Undefined}
 use Rattle.mt_regs.specs.RegisterFile.{RegisterFile}
 use Rattle.mt_regs.specs.Faults.{IsAccepted}
 use Rattle.mt_regs.specs.PageTypes.{page_type}
+use Rattle.mt_dump.specs.Dumps.{Dump, dump_of}
 use Rattle.mt_dump.specs.Line.{Reading, said_of}
 use Rattle.mt_dump.specs.Reader.{IsClean}
 use Rattle.mt_dump.proofs.OneLine.{is_sane}
@@ -28,9 +31,12 @@ made_file = record {
   default_type = 0x800;
 }
 
+abbrev pub made_dump : Dump
+made_dump = dump_of made_file
+
 -- behind a command outside the sections
 abbrev pub ready : Situation
-ready = record { stage = Commands; cpus = 16; file = Some made_file; windows = (0, 4096) ∷ []; seen = [] }
+ready = record { stage = Commands; cpus = 16; dump = Some made_dump; windows = (0, 4096) ∷ []; seen = [] }
 
 -- one valid pair overlaps with no other
 defined : (page : ℕ) → page_type made_file page ≢ Undefined
@@ -39,8 +45,11 @@ defined page is = elim (cases_Bool (matches_pair 36 (6, 0xf00000800) page)) [
   | inr miss ↦ let e = rw miss at is in cc e
 ]
 
-pub made_accepted : IsAccepted made_file
-made_accepted = λ page within. defined page
+file_accepted : IsAccepted made_file
+file_accepted = λ page within. defined page
+
+pub made_accepted : All IsAccepted made_dump.files
+made_accepted = All-cons IsAccepted made_file [] file_accepted (All-nil IsAccepted)
 
 -- the lines of the dump, the last first, have no offence
 abbrev made_readings : List Reading
@@ -50,5 +59,5 @@ made_clean : IsClean made_readings
 made_clean =
     (is_sane 7 (codes "2ff 800"), refl, (is_sane 6 (codes "201 f00000800"), refl, (is_sane 5 (codes "200 6"), refl, (is_sane 4 (codes "0fe 508"), refl, (is_sane 3 (codes "maxphyaddr 36"), refl, tt)))))
 
-pub made_shown : (rest : List ℕ) → ShowsDump (head_text ++ rest) made_file
-made_shown rest = (command.Cpus 16, refl, (command.Dump, refl, (command.DumpLine, refl, (refl, (command.DumpLine, refl, (refl, (command.DumpLine, refl, (refl, (command.DumpLine, refl, (refl, (command.DumpLine, refl, (refl, (command.End, refl, clean_shown made_readings made_file made_clean refl)))))))))))))
+pub made_shown : (rest : List ℕ) → ShowsDump (head_text ++ rest) made_dump
+made_shown rest = (command.Cpus 16, refl, (command.Dump, refl, (command.DumpLine, refl, (refl, (command.DumpLine, refl, (refl, (command.DumpLine, refl, (refl, (command.DumpLine, refl, (refl, (command.DumpLine, refl, (refl, (command.End, refl, (clean_shown made_readings made_dump made_clean refl, refl))))))))))))))

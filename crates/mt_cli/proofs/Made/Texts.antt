@@ -10,14 +10,15 @@ use Rattle.mt_ports.specs.declared.status.Status.TheVariants.{Done}
 use Rattle.mt_output.specs.Lines.{line}
 use Rattle.mt_script.specs.Situation.{at_start}
 use Rattle.mt_script.specs.Accept.{accepted}
-use Rattle.mt_script.specs.Script.{after_line, offence_in, script_offence}
+use Rattle.mt_script.specs.Head.{step_of_answer}
+use Rattle.mt_script.specs.Script.{offence_after, offence_in, script_offence}
 use Rattle.mt_script.specs.declared.command.Command.{Command}
 use Rattle.mt_script.specs.declared.command.Command.TheVariants as command
 use Rattle.mt_replay.specs.Statuses.{ShowsDump}
 use Rattle.mt_replay.specs.Transcript.{transcript}
 use Rattle.mt_replay.proofs.Refusals.Outcomes.{accepted_unless_refused, done_where_no_offence}
 use Rattle.mt_cli.specs.Generator.{access_line, accesses, after_accesses, behind_access, drawn, head_text, make_text, map_line, maps, pge_line, processor_lines, processors, round_text, round_value, rounds, stepped}
-use Rattle.mt_cli.proofs.Made.Dump.{made_accepted, made_file, made_shown, ready}
+use Rattle.mt_cli.proofs.Made.Dump.{made_accepted, made_dump, made_shown, ready}
 use Rattle.mt_cli.proofs.Made.Lines.{IsCommand, global_is_line, global_reads, load_body, load_is_line, load_reads, local_is_line, local_reads, map_body, pge_body, pge_is_line, pge_reads, store_body, store_is_line, store_reads}
 
 -- ---- texts of commands
@@ -40,7 +41,7 @@ line_good body c is stays end number rest = (
   number + 1,
   ap (λ l. offence_in end number (lines_of l) ready []) (append_assoc body (10 ∷ []) rest)
       ∙ ap (λ ls. offence_in end number ls ready []) (lines_of-line body rest is.plain)
-      ∙ ap (after_line ready [] number body (offence_in end (number + 1) (lines_of rest))) (is.reads number)
+      ∙ ap (λ answer. offence_after ready (offence_in end (number + 1) (lines_of rest)) (step_of_answer ready [] number body answer)) (is.reads number)
       ∙ ap (λ now. offence_in end (number + 1) (lines_of rest) now []) stays,
 )
 
@@ -158,8 +159,8 @@ made_without_offence n =
     ap (λ l. offence_in end 1 (lines_of l) at_start []) (made_in_parts n ∙ ap (λ l. head_text ++ (pge_line 0 ++ l)) (sym (append-nil (behind_first n))))
     ∙ head_good end (behind_first n ++ []) ∙ good.1
 
-pub made_shows : (n : ℕ) → ShowsDump (make_text n) made_file
-made_shows n = subst (λ l. ShowsDump l made_file) (sym (made_in_parts n)) (made_shown (pge_line 0 ++ behind_first n))
+pub made_shows : (n : ℕ) → ShowsDump (make_text n) made_dump
+made_shows n = subst (λ l. ShowsDump l made_dump) (sym (made_in_parts n)) (made_shown (pge_line 0 ++ behind_first n))
 
 pub made_done : (n : ℕ) → (transcript (make_text n)).status ≡ Done
-made_done n = (done_where_no_offence (make_text n)).1 (made_without_offence n, (accepted_unless_refused (make_text n) made_file (made_shows n)).1 made_accepted)
+made_done n = (done_where_no_offence (make_text n)).1 (made_without_offence n, (accepted_unless_refused (make_text n) made_dump (made_shows n)).1 made_accepted)

@@ -7,6 +7,15 @@ use Rattle.mt_cli.proofs.answers.answer_input.Goals as goal
 pub returns-in-Ok-Ok-clause-bytes : goal.returns-in-Ok-Ok-clause-bytes
 returns-in-Ok-Ok-clause-bytes g c bytes is = good_input c.in-Ok-Ok.dump (rw c.in-Ok-Ok.field-0-is at (c.in-Ok-Ok.ensures.answer bytes is)) (c.in-Ok-Ok.ensures.end bytes is) c.answer.ensures.bytes
 
+pub returns-in-Ok-Ok-clause-usage : goal.returns-in-Ok-Ok-clause-usage
+returns-in-Ok-Ok-clause-usage g c = (never_answers c.in-Ok-Ok.dump c.args.command _ _ _ c.answer.ensures.bytes).0
+
+pub returns-in-Ok-Ok-clause-read_fault : goal.returns-in-Ok-Ok-clause-read_fault
+returns-in-Ok-Ok-clause-read_fault g c = record {
+  rose = λ is. absurd ((never_answers c.in-Ok-Ok.dump c.args.command _ _ _ c.answer.ensures.bytes).1 is);
+  stands = λ not. c.in-Ok-Ok.ensures.stands (λ e. cc e);
+}
+
 pub returns-in-Ok-Ok-clause-too_long : goal.returns-in-Ok-Ok-clause-too_long
 returns-in-Ok-Ok-clause-too_long g c =
     (λ is. absurd ((never_answers c.in-Ok-Ok.dump c.args.command _ _ _ c.answer.ensures.bytes).2 is), λ much. absurd (cc (c.in-Ok-Ok.ensures.too_long.1 much)))

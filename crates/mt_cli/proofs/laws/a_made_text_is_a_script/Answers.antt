@@ -1,10 +1,10 @@
-use Rattle.mt_cli.proofs.Made.Dump.{made_accepted, made_file}
+use Rattle.mt_cli.proofs.Made.Dump.{made_accepted, made_dump}
 use Rattle.mt_cli.proofs.Made.Texts.{made_done, made_shows, made_without_offence}
 use Rattle.mt_cli.proofs.laws.a_made_text_is_a_script.Goals as goal
 
 pub returns : goal.returns
 returns c = record {
   offence = made_without_offence;
-  dump = λ n. (made_file, made_shows n, made_accepted);
+  dump = λ n. (made_dump, made_shows n, made_accepted);
   status = made_done;
 }

@@ -33,7 +33,7 @@ proc-requires-clause-few g c κs within = (sound_cpus (map string_bytes c.args.w
 pub returns-in-Proc-clause-leaves : goal.returns-in-Proc-clause-leaves
 returns-in-Proc-clause-leaves g c bytes before left taken =
     proc_leaves _ bytes c.in-Proc.cpus c.proc.result _ before _ (sym c.in-Some.ensures ∙ ap Some c.in-Proc.is)
-    (subst (λ (o : Option (List ℕ)). Runs proc_told [] bytes (g.S.Source.left c.proc.new.source) o (g.K.Sink.taken c.proc.new.sink) c.proc.result) taken (c.proc.ensures.bytes bytes left))
+    (subst (λ (o : Option (List ℕ)). Runs (proc_told c.in-Proc.cpus) [] bytes (g.S.Source.left c.proc.new.source) o (g.K.Sink.taken c.proc.new.sink) c.proc.result) taken (c.proc.ensures.bytes bytes left))
 
 pub returns-in-Proc-clause-reads : goal.returns-in-Proc-clause-reads
 returns-in-Proc-clause-reads g c bytes left = proc_reads _ bytes c.in-Proc.cpus c.proc.result _ _ _ (sym c.in-Some.ensures ∙ ap Some c.in-Proc.is) (c.proc.ensures.bytes bytes left)
