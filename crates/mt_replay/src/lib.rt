@@ -41,8 +41,8 @@ pub use statuses::{
 pub use summing::{Totals, summary};
 pub use worked::{
     worked_answers, worked_commands, worked_dumps, worked_each_state, worked_effects,
-    worked_events, worked_flat_values, worked_kept, worked_last_states, worked_line_ends,
-    worked_phases, worked_reports, worked_sections, worked_settled_states, worked_short_updates,
-    worked_summaries, worked_told_lines, worked_told_texts, worked_updates, worked_values,
-    worked_without_call, worked_words,
+    worked_events, worked_flat_values, worked_heads, worked_kept, worked_last_states,
+    worked_line_ends, worked_phases, worked_reports, worked_sections, worked_settled_states,
+    worked_short_updates, worked_summaries, worked_told_lines, worked_told_texts, worked_updates,
+    worked_values, worked_without_call, worked_words,
 };

@@ -18,8 +18,8 @@ ghost use Rattle.mt_replay.specs.Texts.{call_fault_line, called_line, cancel_lin
 
 pub use commands::{worked_commands, worked_effects};
 pub use states::{
-    worked_dumps, worked_each_state, worked_kept, worked_sections, worked_settled_states,
-    worked_without_call, worked_words,
+    worked_dumps, worked_each_state, worked_heads, worked_kept, worked_sections,
+    worked_settled_states, worked_without_call, worked_words,
 };
 pub use steps::{worked_flat_values, worked_last_states, worked_line_ends, worked_short_updates};
 pub use summaries::{worked_summaries, worked_told_lines, worked_told_texts};

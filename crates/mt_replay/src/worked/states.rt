@@ -1,6 +1,12 @@
 ghost use Rattle.std.specs.Prelude.{◌≡◌, ◌∷◌, [], codes, false, map, None, Some};
 ghost use Rattle.mt_machine.specs.Machine.{Calls, run};
-ghost use Rattle.mt_machine.specs.Start.{zero_memory};
+ghost use Rattle.mt_machine.specs.Start.{start_machine, zero_memory};
+ghost use Rattle.mt_regs.specs.RegisterFile.{blank_file};
+ghost use Rattle.mt_script.specs.Situation.{at_start};
+ghost use Rattle.mt_script.specs.Numbers.{fault_at};
+ghost use Rattle.mt_script.specs.declared.fault.ScriptReason.TheVariants.{BadLine};
+ghost use Rattle.mt_script.specs.declared.fault.Offence.TheVariants as offence;
+ghost use Rattle.mt_replay.specs.Heads.{has_offence, head_of, shows_dump, stays_open};
 ghost use Rattle.mt_machine.specs.WorkedRuns.{bare_file, idle, line_of, one_window, palette, store};
 ghost use Rattle.mt_ports.specs.declared.status.Status.TheVariants as status;
 ghost use Rattle.mt_script.specs.declared.command.Command.TheVariants as asks;
@@ -67,6 +73,13 @@ pub fn worked_dumps()
     ensures not_of_the_first_state { HoldsThrough (λ s. s.now.stage ≡ stage.Commands) small_dump → ⊥ }
 {}
 
+/// What the lines of a script come to up to its dump's end.
+pub fn worked_heads()
+    ensures open { head_of (codes "cpus 2\n") ≡ stays_open (record at_start { stage = stage.NeedDump; cpus = 2 }) [] }
+    ensures offence { head_of (codes "cpus 2\nend\ndump\n") ≡ has_offence (offence.Script (fault_at BadLine (record { line = 2; column = 1 }))) }
+    ensures dumped { head_of (codes "cpus 2\ndump\n0fe 400\nend\nword 0\n") ≡ shows_dump (record at_start { stage = stage.InDump; cpus = 2 }) (dump_of (blank_file 36 0x400)) 5 (codes "word 0" ∷ []) }
+{}
+
 /// What a dump with a section for each processor shows: each processor begins with its own file.
 pub fn worked_sections()
     ensures shows { ShowsDump paired_dump pair }
@@ -85,6 +98,8 @@ pub fn worked_kept()
     ensures no_such_number { IsReplayState (record painted { now = record painted.now { cpus = 3 } }) → ⊥ }
     ensures other_width { IsReplayState (record painted { goal = record (bare_file 0x800) { width = 40 } }) → ⊥ }
     ensures no_file { IsReplayState (record painted { goal = record (bare_file 0x800) { width = 53 } }) → ⊥ }
+    ensures other_kind { IsReplayState (record painted { now = record painted.now { dump = Some (dump_of (blank_file 40 0x400)) } }) → ⊥ }
+    ensures other_files { IsReplayState (record (state_of stage.Rams (start_machine (bare_file 0x806 ∷ bare_file 0x806 ∷ []) [])) { now = record (two_processors stage.Rams) { dump = Some pair; windows = [] } }) → ⊥ }
     ensures other_windows { IsReplayState (record painted { now = record painted.now { windows = [] } }) → ⊥ }
     ensures something_happened { IsReplayState (state_of stage.Rams (run palette (store 0 0x1000 7 ∷ []))) → ⊥ }
 {}

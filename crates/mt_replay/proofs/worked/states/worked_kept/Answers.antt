@@ -1,6 +1,8 @@
 use Rattle.std.proofs.Common.{ℕ, List, [], ◌∷◌, arith, refl, ap}
 use Rattle.std.specs.Prelude.{length}
+use Rattle.mt_regs.specs.RegisterFile.{blank_file}
 use Rattle.mt_dump.specs.Dumps.{dump_of}
+use Rattle.mt_replay.specs.WorkedStates.{pair}
 use Rattle.mt_machine.specs.Machine.{Machine}
 use Rattle.mt_machine.specs.WorkedRuns.{bare_file, idle}
 use Rattle.mt_machine.specs.System.{Processor}
@@ -27,3 +29,14 @@ returns-clause-other_windows c = λ h. omega (arith, ap length h.windows)
 
 pub returns-clause-something_happened : goal.returns-clause-something_happened
 returns-clause-something_happened c = λ h. let fresh = h.fresh (dump_of (bare_file 0x800)) refl refl in omega (arith, ap (λ (m : Machine). entries_of_first m.system.processors) fresh.1)
+
+pub returns-clause-other_kind : goal.returns-clause-other_kind
+returns-clause-other_kind c = λ h. omega (arith, (h.kind (dump_of (blank_file 40 0x400)) refl 0 idle (omega arith)).width)
+
+abbrev type_of_last : List Processor → ℕ
+type_of_last [] = 0
+type_of_last (p ∷ []) = p.file.default_type
+type_of_last (p ∷ q ∷ ps) = q.file.default_type
+
+pub returns-clause-other_files : goal.returns-clause-other_files
+returns-clause-other_files c = λ h. let fresh = h.fresh pair refl refl in omega (arith, ap (λ (m : Machine). type_of_last m.system.processors) fresh.1)
