@@ -5,7 +5,8 @@ ghost use Rattle.mt_output.specs.Lines.{bad_text};
 ghost use Rattle.mt_output.specs.Writing.{Adds};
 ghost use Rattle.mt_regs.specs.Faults.{IsAccepted};
 ghost use Rattle.mt_regs.specs.Agreement.{first_refusal};
-ghost use Rattle.mt_dump.specs.ForProcessors.{has_each};
+ghost use Rattle.mt_dump.specs.ForProcessors.{files_for, has_each};
+ghost use Rattle.mt_machine.specs.Machine.{Machine};
 ghost use Rattle.mt_stream.specs.Lines.{Closes, IsEnding, Leading, Takes, from_line};
 ghost use Rattle.mt_stream.specs.Runs.{Runs};
 ghost use Rattle.mt_stream.specs.Told.{Telling};
@@ -14,7 +15,7 @@ ghost use Rattle.mt_proc.specs.Listing.{listing};
 ghost use Rattle.mt_proc.specs.Proc.{begins, no_end, of_request, proc_told, reason_text, request_fault_line};
 ghost use Rattle.mt_proc.specs.Requests.{request_of};
 ghost use Rattle.mt_proc.specs.Running.{HasCount, HasRoom, IsDump, LeadsBy, StandsAt, end_of_run, proc_running};
-ghost use Rattle.mt_proc.specs.Serving.{served};
+ghost use Rattle.mt_proc.specs.Serving.{idling, served};
 
 use crate::listing::line_of;
 use crate::{ProcFault, ProcReason, Processors, read_request};
@@ -71,6 +72,7 @@ fn begin<K: Sink>(
     requires dump { IsDump run.old }
     requires each { has_each cpus dump.now ≡ true }
     ensures bytes { (from : Leading) (number : ℕ) → LeadsBy cpus from (begins dump.now (first_refusal dump.now.files)) number → Takes (proc_running cpus) from number run.old run.new writer.old writer.new (K.taken sink.old) (K.taken sink.new) result }
+    ensures starts { (m : Machine) → run.new ≡ Run.Requests m → m ≡ idling (files_for cpus dump.now) 0 }
     ensures ending { (status : Status) → result ≡ Ok (Some status) → IsEnding status }
     ensures counts { (most : ℕ) → MatchResult result (λ ended. MatchOption ended (HasCount most run.new) (λ _. Unit {0})) (λ _. Unit {0}) }
     ensures cause { HasCause (K.faults sink.old) (K.faults sink.new) result }

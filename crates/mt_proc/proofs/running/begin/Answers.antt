@@ -12,7 +12,10 @@ use Rattle.mt_output.specs.Writing.{Adds}
 use Rattle.mt_output.proofs.Writing.{passes_nothing}
 use Rattle.mt_proc.specs.After.{Served, at_first}
 use Rattle.mt_proc.specs.Proc.{begins, in_requests}
-use Rattle.mt_proc.specs.Serving.{served}
+use Rattle.mt_machine.specs.Machine.{Machine}
+use Rattle.mt_proc.specs.Running.{IsDump}
+use Rattle.mt_proc.specs.Serving.{idling, served}
+use Rattle.mt_proc.specs.declared.running.Run.{Run}
 use Rattle.mt_proc.specs.declared.running.Run.TheVariants as run
 use Rattle.mt_proc.proofs.Beginning.{each_accepted, first_for}
 use Rattle.mt_proc.proofs.Served.{served_idling}
@@ -48,3 +51,15 @@ returns-clause-bytes g c = λ from number leads.
     goes c.args.cpus from number c.args.run.now (run.Requests c.in-Ok.processors) c.args.writer.now c.args.writer.now (g.K.Sink.taken c.args.sink.now) (g.K.Sink.taken c.args.sink.now) [] (in_requests (at_first (first_file dump)))
     (leads_as c.args.cpus from number (begins dump (first_refusal dump.files)) (begins dump None) (ap (begins dump) none) leads) at (λ so_far quiet. tt)
     (passes_nothing c.args.writer.now (g.K.Sink.taken c.args.sink.now))
+
+-- the run is in the dump still
+still : (r : Run) (m : Machine) → IsDump r → r ≡ run.Requests m → ⊥
+still r m is same = subst IsDump same is
+
+pub returns-in-Some-clause-starts : goal.returns-in-Some-clause-starts
+returns-in-Some-clause-starts g c = λ m same. absurd (still c.args.run.now m c.requires.dump same)
+
+pub returns-clause-starts : goal.returns-clause-starts
+returns-clause-starts g c = λ m same.
+    let is : c.in-Ok.processors ≡ m = cc same in
+    sym is ∙ c.in-Ok.ensures ∙ ap (λ (fs : List RegisterFile). idling fs 0) (c.as_slice-2.ensures.value ∙ c.files_for-files.ensures.files)
