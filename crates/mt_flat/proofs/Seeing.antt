@@ -80,7 +80,7 @@ zero_at zero i = refl
 zero_at (suc count) zero = refl
 zero_at (suc count) (suc i) = zero_at count i
 
-zero_word : (ws : List Window) (a : ℕ) → word_at (zero_memory ws) a ≡ 0
+pub zero_word : (ws : List Window) (a : ℕ) → word_at (zero_memory ws) a ≡ 0
 zero_word ws a = one (place (zero_memory ws) a)
   where
     one : (o : Option ℕ) → option_map_or (λ i. slice_index (zero_memory ws).words i) o 0 ≡ 0

@@ -2,9 +2,10 @@
 use Rattle.std.specs.Prelude.{ℕ, List, ◌∷◌, [], map, None, Option}
 use Rattle.mt_cache.specs.Lines.{eight}
 use Rattle.mt_machine.specs.Machine.{MachineEvent}
+use Rattle.mt_machine.specs.System.{System, buffers_of, now}
 use Rattle.mt_machine.specs.WorkedRuns.{palette, store}
 use Rattle.mt_flat.specs.Flat.{Flat, PendingLine, flat_start}
-use Rattle.mt_flat.specs.Seen.{flat_run}
+use Rattle.mt_flat.specs.Seen.{flat_run, written_of}
 
 -- beside two processors that have one page with five types, from zeros on
 abbrev pub flat_of : List MachineEvent → Flat
@@ -29,3 +30,7 @@ abbrev pub seven_words : List MachineEvent
 seven_words =
     store 0 0x3000 1 ∷ store 0 0x3008 2 ∷ store 0 0x3010 3 ∷ store 0 0x3018 4 ∷ store 0 0x3020 5 ∷ store 0 0x3028 6
     ∷ store 0 0x3030 7 ∷ []
+
+-- the one that stands beside a system
+abbrev pub beside : System → Flat
+beside s = record { values = now s; pending = λ k. map written_of (buffers_of s k) }

@@ -7,6 +7,7 @@
 mod laws;
 mod worked;
 mod worked_courses;
+mod worked_related;
 
 pub use laws::{
     caches_are_never_seen, courses_are_flat, events_are_flat, pending_stays_few, starts_are_flat,
@@ -14,3 +15,4 @@ pub use laws::{
 };
 pub use worked::{worked_beside, worked_course, worked_pending, worked_stores, worked_turns};
 pub use worked_courses::worked_updates_by_events;
+pub use worked_related::{worked_flat_answers, worked_flat_held, worked_flat_laws, worked_flat_of};
