@@ -116,7 +116,7 @@ types_are f narrow ranges of page below =
     (each_is (IsRangeOf f) (λ r. (matches_pair f.width (pair_for f.width r) page ≡ holds_page r page) × (pair_type (pair_for f.width r) ≡ r.kind))
     (λ r is. (matches_is f.width narrow r is.block page below, type_is f.width r)) ranges of)
 
-kind_among : (f : RegisterFile) → f.width ≤ 52 → (ranges : List Range) → AllByRecursion (IsRangeOf f) ranges → (page : ℕ) → page < page_count f
+pub kind_among : (f : RegisterFile) → f.width ≤ 52 → (ranges : List Range) → AllByRecursion (IsRangeOf f) ranges → (page : ℕ) → page < page_count f
     → page_type (with_ranges f ranges) page ≡ page_type_among f (types_at ranges page) page
 kind_among f narrow ranges of page below = ap (λ ts. page_type_among f ts page) (types_are f narrow ranges of page below)
 

@@ -55,3 +55,7 @@ beside = with_ranges (with_value cached DefaultType 0x804) (range 0 2 WB ∷ ran
 -- the base of the first pair, which isn't valid, has a reserved bit
 abbrev pub with_reserved_bit : RegisterFile
 with_reserved_bit = with_value cached (PhysBase 0) 0x100
+
+-- by default each page has UC, and one pair gives all of them WB
+abbrev pub written_back : RegisterFile
+written_back = with_ranges uncached (range 0 24 WB ∷ [])
