@@ -6,3 +6,4 @@ pub mod Translations
 pub mod Invariant
 pub mod Steps
 pub mod Updates
+mod WorkedBare

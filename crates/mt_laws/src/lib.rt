@@ -9,6 +9,7 @@ mod worked;
 mod worked_coming;
 mod worked_others;
 mod worked_unlike;
+mod worked_uses;
 
 pub use laws::{
     accesses_keep_sound, barriers_count, barriers_hold, broadcast_update, cancelled_broadcast,
@@ -27,3 +28,4 @@ pub use worked::{
 pub use worked_coming::worked_uncached;
 pub use worked_others::{worked_other_parts, worked_second_processors};
 pub use worked_unlike::worked_unlike_files;
+pub use worked_uses::{worked_laws_of_steps, worked_laws_of_updates, worked_updates_alike};
