@@ -12,3 +12,4 @@ mod OneList
 mod WorkedParts
 pub mod SomeRounding
 mod WorkedFile
+mod WorkedRounded

@@ -36,7 +36,7 @@ loses_none g page WB = refl
 pub none_lost : (g : ℕ) → lost_pages (pages_of uncached) g ≡ 0
 none_lost g = count_none (loses (pages_of uncached) g WB) 0 0x1000000 0x1000000 refl (λ page low high. loses_none g page WB)
 
-map_of : (g : ℕ) → AreRounded (pages_of uncached) g (all_of UC)
+pub map_of : (g : ℕ) → AreRounded (pages_of uncached) g (all_of UC)
 map_of g = record {
   map = record { chain = (refl, omega arith, tt); some = omega arith; bound = omega arith; differ = tt };
   whole = refl;
@@ -46,7 +46,7 @@ map_of g = record {
   of_run zero d within page = rounds g page
   of_run (suc k) d within page = absurd (omega (arith, within))
 
-by_default : Gives uncached (all_of UC) []
+pub by_default : Gives uncached (all_of UC) []
 by_default = record {
   ranges_of = λ k d within. absurd (omega (arith, within));
   wanted_kinds = λ page within free. rw (below page 0x1000000 within) refl;

@@ -11,13 +11,13 @@ use Rattle.mt_gran.specs.WorkedGranules.{run, sixteen}
 use Rattle.mt_gran.proofs.LostParts.{parts_of}
 use Rattle.mt_gran.proofs.OneList.{one_list}
 
-have : (marks : ℕ → Option PageType) (from to : ℕ) (mark : Option PageType) → marks from ≡ mark → HaveMark marks (suc from) to mark → HaveMark marks from to mark
+pub have : (marks : ℕ → Option PageType) (from to : ℕ) (mark : Option PageType) → marks from ≡ mark → HaveMark marks (suc from) to mark → HaveMark marks from to mark
 have marks from to mark is later page low high = elim (cases_lt from page) [
   | inl past ↦ later page past high
   | inr here ↦ let e : from ≡ page = omega arith in subst (λ (n : ℕ). marks n ≡ mark) e is
 ]
 
-none : (marks : ℕ → Option PageType) (from to : ℕ) (mark : Option PageType) → to ≤ from → HaveMark marks from to mark
+pub none : (marks : ℕ → Option PageType) (from to : ℕ) (mark : Option PageType) → to ≤ from → HaveMark marks from to mark
 none marks from to mark order page low high = absurd (omega arith)
 
 fours : AreRunsOf (lost_mark sixteen 2) 0 16 (run 4 3 WB ∷ [])

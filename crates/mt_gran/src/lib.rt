@@ -10,6 +10,7 @@ mod lists;
 #[cfg(test)]
 mod tests;
 mod worked;
+mod worked_rounded;
 
 pub use fault::GranFault;
 pub use grains::{Grained, gran, rounded};
@@ -21,3 +22,4 @@ pub use laws::{
 pub use worked::{
     worked_grained, worked_granules, worked_losses, worked_parts, worked_rounding, worked_why,
 };
+pub use worked_rounded::{worked_least_rounded, worked_rounded_maps};

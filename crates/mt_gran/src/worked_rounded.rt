@@ -1,0 +1,24 @@
+ghost use Rattle.std.specs.Prelude.{◌∷◌, []};
+ghost use Rattle.mt_tidy.specs.WorkedRanges.{uncached, written_back};
+ghost use Rattle.mt_gran.specs.declared.fault.GranFault.TheVariants.{TooFew};
+ghost use Rattle.mt_gran.specs.Grained.{IsLeastRounded, IsWhy};
+ghost use Rattle.mt_gran.specs.Granules.{AreRounded};
+ghost use Rattle.mt_gran.specs.WorkedGranules.{run, sixteen};
+
+use mt_kinds::MemType;
+
+/// The map of the rounded types of sixteen pages, and maps that aren't for one thing.
+pub fn worked_rounded_maps()
+    ensures of_fours { AreRounded sixteen 2 (run 0 2 MemType.WP ∷ run 2 2 MemType.WB ∷ run 4 4 MemType.UC ∷ run 8 4 MemType.WT ∷ run 12 4 MemType.WB ∷ []) }
+    ensures broken_granule_kept { AreRounded sixteen 2 (run 0 2 MemType.WP ∷ run 2 2 MemType.WB ∷ run 4 4 MemType.WP ∷ run 8 4 MemType.WT ∷ run 12 4 MemType.WB ∷ []) → ⊥ }
+    ensures not_joined { AreRounded sixteen 2 (run 0 2 MemType.WP ∷ run 2 2 MemType.WB ∷ run 4 2 MemType.UC ∷ run 6 2 MemType.UC ∷ run 8 4 MemType.WT ∷ run 12 4 MemType.WB ∷ []) → ⊥ }
+    ensures short { AreRounded sixteen 2 (run 0 2 MemType.WP ∷ run 2 2 MemType.WB ∷ run 4 4 MemType.UC ∷ run 8 4 MemType.WT ∷ []) → ⊥ }
+{}
+
+/// Files with a least number of ranges that give the rounded types: one of UC, the default type, and one of WB.
+pub fn worked_least_rounded()
+    ensures least { IsLeastRounded uncached 4 0 0 }
+    ensures more_than_least { IsLeastRounded uncached 4 0 1 → ⊥ }
+    ensures too_few { IsWhy written_back 4 0 8 (TooFew 1 0) }
+    ensures not_needed { IsWhy written_back 4 0 8 (TooFew 2 0) → ⊥ }
+{}
