@@ -1,6 +1,7 @@
 mod Accessed
 mod Causes
 mod OnWorked
+mod Lodged
 mod Lists
 pub mod Own
 mod Walk

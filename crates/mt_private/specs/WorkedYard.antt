@@ -1,23 +1,66 @@
--- A worked yard: two processors with a page each, of which the first word is marked.
-use Rattle.std.specs.Prelude.{ℕ, Bool, true, false, List, [], ◌∷◌, None, map}
+-- A worked yard: two processors without pairs, with a page each, of which the first word is marked.
+use Rattle.std.specs.Prelude.{ℕ, true, false, List, [], ◌∷◌, None, map, slice_set}
+use mathlib.Core.Option.{none}
+use Rattle.atomic_table.specs.Table.{Step, opening, step}
+use Rattle.mt_machine.specs.declared.event.Event.TheVariants.{Take}
 use Rattle.mt_machine.specs.declared.go.Go.TheVariants.{Pending}
-use Rattle.mt_machine.specs.System.{System}
-use Rattle.mt_machine.specs.WorkedRuns.{uncached_goal}
+use Rattle.mt_machine.specs.System.{Processor, System, start_processor}
+use Rattle.mt_machine.specs.WorkedRuns.{bare_file, mapping}
 use Rattle.mt_rendezvous.specs.declared.view.Start.{Start}
+use Rattle.mt_rendezvous.specs.declared.view.Held.{Held}
+use Rattle.mt_rendezvous.specs.declared.view.Key.{Key}
+use Rattle.mt_rendezvous.specs.Station.{held}
 use Rattle.mt_rendezvous.specs.Calls.{gathered}
 use Rattle.mt_private.specs.declared.view.Resident.{Resident}
 use Rattle.mt_private.specs.declared.view.YardView.{YardView}
 use Rattle.mt_private.specs.Worked.{marked}
-use Rattle.mt_private.specs.YardRule.{residents}
+use Rattle.mt_private.specs.Own.{own_memory}
+use Rattle.mt_private.specs.Residents.{pages_at, stepped_by, system_of, with_held}
+use Rattle.mt_private.specs.YardRule.{first_yard_view, residents}
+use Rattle.mt_private.specs.YardLaws.{YardState}
 
-abbrev pub start_of_system : System → Start
-start_of_system s = gathered s.processors s.memory uncached_goal
+-- page 1 is mapped to this physical page
+abbrev pub lodger : ℕ → Processor
+lodger page = record (start_processor (bare_file 0x806)) { mappings = mapping 1 page 0 ∷ [] }
+
+abbrev pub start_with : List Processor → Start
+start_with ps = gathered ps marked.memory (bare_file 0x800)
 
 abbrev pub lodging : Start
-lodging = start_of_system marked
+lodging = start_with (lodger 0x100 ∷ lodger 0x200 ∷ [])
 
 abbrev pub both_lodged : List Resident
 both_lodged = residents lodging 0 lodging.cpus
+
+abbrev pub lodged : System
+lodged = system_of lodging
+
+abbrev pub first_lodged : Resident
+first_lodged = record { held = held 0 (lodger 0x100) false false; ram = own_memory (pages_at lodging 0) lodging.ram; done = [] }
+
+-- both, but the first with this processor and what its pass has added
+abbrev pub both_with : Held → List Resident
+both_with h = slice_set both_lodged 0 (with_held first_lodged h)
+
+-- the first once it has taken
+abbrev pub first_taken : Resident
+first_taken = stepped_by lodging Take first_lodged
+
+-- these words and the root's view at the start
+abbrev pub at_start : Key → List ℕ → YardState
+at_start key words = opening words [] (first_yard_view key)
+
+-- an addition of this to the first count
+abbrev pub adds : ℕ → Step (Unit {0})
+adds n = step 0 0 n 0 none
+
+-- a start of which all have this era
+abbrev pub start_in : ℕ → Start
+start_in era = start_with (record (lodger 0x100) { era = era } ∷ record (lodger 0x200) { era = era } ∷ [])
+
+-- one processor alone, so that the second page is nobody's
+abbrev pub alone : Start
+alone = start_with (lodger 0x100 ∷ [])
 
 -- the root's view before it gives a processor away
 abbrev pub host_view : YardView

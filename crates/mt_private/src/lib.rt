@@ -12,6 +12,7 @@ mod tests;
 mod view;
 mod worked;
 mod worked_own;
+mod worked_steps;
 mod worked_yard;
 mod yard_laws;
 
@@ -26,6 +27,9 @@ pub use runs::run_private;
 pub use view::{Resident, YardView};
 pub use worked::{worked_jobs, worked_names, worked_shared};
 pub use worked_own::{worked_alone, worked_becomes, worked_commute, worked_owners, worked_words};
+pub use worked_steps::{
+    worked_moves, worked_sayings, worked_stands_for, worked_yard_rule, worked_yards,
+};
 pub use worked_yard::{
     worked_hosts, worked_opens, worked_residents, worked_yard_fits, worked_yard_pages,
     worked_yard_views,

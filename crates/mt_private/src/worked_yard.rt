@@ -1,5 +1,5 @@
 // Worked examples: residents of a yard, and the views of its seats.
-ghost use Rattle.std.specs.Prelude.{◌≡◌, ◌∷◌, [], None, Some, false, length, map, true};
+ghost use Rattle.std.specs.Prelude.{◌≡◌, ◌∷◌, [], None, Some, false, length, map, replicate, true};
 ghost use Rattle.mt_kinds.specs.declared.mem_type.MemType.TheVariants.{WB};
 ghost use Rattle.mt_machine.specs.declared.event.Event.TheVariants.{Take};
 ghost use Rattle.mt_machine.specs.declared.go.Go.TheVariants.{Cancelled, Given, Pending};
@@ -9,9 +9,10 @@ ghost use Rattle.mt_machine.specs.Memory.{word_at};
 ghost use Rattle.atomic_table.specs.Seated.{TableId};
 ghost use Rattle.mt_rendezvous.specs.Calls.{Leads};
 ghost use Rattle.mt_rendezvous.specs.Station.{held};
-ghost use Rattle.mt_private.specs.Worked.{marked, owner, pair, sharing};
-ghost use Rattle.mt_private.specs.WorkedYard.{both_lodged, host_view, lodging, numbers_of, start_of_system};
-ghost use Rattle.mt_private.specs.Residents.{FitsResident, FitsYard, Opens, StandsFor, accessed_by, own_of, pages_at, pages_left, stepped_by, system_of};
+ghost use Rattle.mt_machine.specs.System.{start_processor};
+ghost use Rattle.mt_machine.specs.WorkedRuns.{bare_file};
+ghost use Rattle.mt_private.specs.WorkedYard.{both_lodged, host_view, lodger, lodging, numbers_of, start_with};
+ghost use Rattle.mt_private.specs.Residents.{FitsResident, FitsYard, Opens, accessed_by, own_of, pages_at, pages_left, stepped_by};
 ghost use Rattle.mt_private.specs.YardPlays.{as_sat};
 ghost use Rattle.mt_private.specs.YardRule.{AreAt, as_view, one_of, rest_of, with_said, yard_both, yard_left, yard_right, yard_spent};
 
@@ -34,9 +35,9 @@ pub fn worked_yard_fits()
     ensures not_added { ¬ FitsYard Pending false false Arrived }
     ensures added_too_early { ¬ FitsYard Pending true false Running }
     ensures not_out { ¬ FitsYard Given false true Running }
-    ensures fits { FitsResident lodging Pending (held 0 (owner 0x100) false false) }
-    ensures unfit { ¬ FitsResident lodging Pending (held 0 (owner 0x100) true false) }
-    ensures of_another_era { ¬ FitsResident lodging Pending (held 0 (record (owner 0x100) { era = 1 }) false false) }
+    ensures fits { FitsResident lodging Pending (held 0 (lodger 0x100) false false) }
+    ensures unfit { ¬ FitsResident lodging Pending (held 0 (lodger 0x100) true false) }
+    ensures of_another_era { ¬ FitsResident lodging Pending (held 0 (record (lodger 0x100) { era = 1 }) false false) }
 {}
 
 /// The words that each resident has, and what an access and a take make of one.
@@ -47,17 +48,17 @@ pub fn worked_residents()
     ensures accessed { map (λ y. length (accessed_by (Store 0x1000 7) y).held.cpu.lines) both_lodged ≡ 1 ∷ 1 ∷ [] }
     ensures done { map (λ y. (accessed_by (Store 0x1000 7) y).done) both_lodged ≡ (Store 0x1000 7 ∷ []) ∷ (Store 0x1000 7 ∷ []) ∷ [] }
     ensures took { map (λ y. (stepped_by lodging Take y).held.cpu.phase) both_lodged ≡ Taken ∷ Taken ∷ [] }
-    ensures no_such_processors { ¬ StandsFor lodging [] (system_of lodging) }
-    ensures other_own_words { ¬ StandsFor lodging both_lodged pair }
-    ensures other_windows { ¬ StandsFor lodging both_lodged (record (system_of lodging) { memory = record { windows = []; words = [] } }) }
 {}
 
-/// From what no yard is gathered.
+/// From what a yard is gathered, and from what not for one thing.
 pub fn worked_opens()
-    ensures shared { ¬ Opens (start_of_system sharing) }
-    ensures nobody { ¬ Opens (record lodging { cpus = [] }) }
-    ensures under_way { ¬ Opens (start_of_system (record marked { processors = record (owner 0x100) { phase = Taken } ∷ [] })) }
-    ensures last_era { ¬ Opens (start_of_system (record marked { processors = record (owner 0x100) { era = 18446744073709551615 } ∷ [] })) }
+    ensures opens { Opens lodging }
+    ensures shared { ¬ Opens (start_with (lodger 0x100 ∷ lodger 0x100 ∷ [])) }
+    ensures nobody { ¬ Opens (start_with []) }
+    ensures too_many { ¬ Opens (start_with (replicate 17 (start_processor (bare_file 0x806)))) }
+    ensures under_way { ¬ Opens (start_with (record (lodger 0x100) { phase = Taken } ∷ [])) }
+    ensures last_era { ¬ Opens (start_with (record (lodger 0x100) { era = 18446744073709551615 } ∷ [])) }
+    ensures other_width { ¬ Opens (record lodging { goal = record (bare_file 0x800) { width = 40 } }) }
 {}
 
 /// The views once the first resident was given away, and once it is taken back.

@@ -101,7 +101,7 @@ module _ (t : Start) (opens : Opens t) where
   size : length all ≡ length t.cpus
   size = sym (length-map all held_of) ∙ ap (λ (hs : List Held). length hs) (residents_held t 0 t.cpus) ∙ numbered_length 0 t.cpus
 
-  resides : Resides t all Pending (system_of t)
+  pub resides : Resides t (residents t 0 t.cpus) Pending (system_of t)
   resides = record {
     opens = opens;
     reached = subst (Reached (broadcast t)) (sym order) at_start;
