@@ -1,7 +1,7 @@
-// Worked yards: relations that don't compute. Of each part there is one that fails in just that, but of a state that the
-// call doesn't lead to, of what other parts fix (windows, how many residents there are), and of a step of the table that
-// isn't enabled.
-ghost use Rattle.std.specs.Prelude.{◌≡◌, ◌∷◌, ◌++◌, [], None, Some, false, true};
+// Worked yards: relations that don't compute. For a part there is one that fails there, mostly there alone. There is none
+// where it would cost too much: for a state that the call doesn't lead to, what each seat holds, and a step of the table
+// whose event isn't enabled or has another outcome; nor for windows and the number of residents, which other parts fix.
+ghost use Rattle.std.specs.Prelude.{◌≡◌, ◌∷◌, ◌++◌, [], None, Some, false, slice_set, true};
 ghost use Rattle.atomic_table.specs.Table.{opening};
 ghost use Rattle.mt_machine.specs.declared.event.Event.TheVariants.{Arrive, Pass, Take};
 ghost use Rattle.mt_machine.specs.declared.go.Go.TheVariants.{Cancelled, Given, Pending};
@@ -30,7 +30,7 @@ pub fn worked_stands_for()
 pub fn worked_yards()
     ensures resides { Resides lodging both_lodged Pending lodged }
     ensures not_opened { ¬ Resides (start_in 0xffffffffffffffff) (residents (start_in 0xffffffffffffffff) 0 (start_in 0xffffffffffffffff).cpus) Pending (system_of (start_in 0xffffffffffffffff)) }
-    ensures other_words { ¬ Resides lodging both_lodged Pending (record lodged { memory = pair.memory }) }
+    ensures other_words { ¬ Resides lodging (slice_set both_lodged 0 (record first_lodged { ram = pair.memory })) Pending lodged }
     ensures unfit { ¬ Resides lodging (both_with (held 0 (lodger 0x100) true false)) Pending lodged }
     ensures other_number { ¬ Resides lodging (both_with (held 1 (lodger 0x100) false false)) Pending lodged }
     ensures yard { Yard lodging both_lodged Pending 0 0 lodged }

@@ -19,7 +19,7 @@ pub returns-clause-not_opened : goal.returns-clause-not_opened
 returns-clause-not_opened c h = let low : 18446744073709551615 < 18446744073709551615 = h.opens.room in omega arith
 
 pub returns-clause-other_words : goal.returns-clause-other_words
-returns-clause-other_words c h = not_same 0 5 (omega arith) (ap (λ (s : System). word_at s.memory 0x100000) (h.stands.own 0 _ refl))
+returns-clause-other_words c h = not_same 0 5 (omega arith) (sym (ap (λ (s : System). word_at s.memory 0x100000) (h.stands.own 0 _ refl)))
 
 pub returns-clause-unfit : goal.returns-clause-unfit
 returns-clause-unfit c h =
