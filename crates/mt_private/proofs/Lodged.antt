@@ -1,36 +1,38 @@
 -- A yard can be gathered from the worked start, and what its residents do there.
-use Rattle.std.proofs.Common.{◌≡◌, ◌∙◌, ap, sym, refl, subst, rules, arith, ℕ, zero, suc, ◌+◌, ◌<◌, ◌≤◌, ◌==◌, Bool, true, false, ◌||◌, List, [], ◌∷◌, length, map, cond, Some, None}
-use Rattle.std.specs.Prelude.{is_some, slice_get}
-use Rattle.std.specs.Option.{option_map_or}
+use Rattle.std.proofs.Common.{◌≡◌, ◌∙◌, ap, sym, refl, subst, rules, arith, ℕ, zero, suc, ◌+◌, ◌<◌, ◌≤◌, ◌==◌, Bool, true, false, ◌||◌, List, [], ◌∷◌, length, map, cond, Some, None, Option}
+use Rattle.std.specs.Prelude.{if◌then◌else◌, is_some, slice_get}
+use Rattle.std.specs.Option.{option_map, option_map_or}
 use Rattle.std.proofs.lemmas.Bool.{eqb-true}
 use mathlib.Core.Option.{some, some-injective, some-ne-none}
 use lib.ListN.{get_elem?}
 use Rattle.atomic_table.specs.Table.{opening}
 use Rattle.mt_machine.specs.declared.phase.Phase.{Phase}
 use Rattle.mt_machine.specs.declared.phase.Phase.TheVariants.{Taken}
-use Rattle.mt_machine.specs.declared.event.Event.TheVariants.{Take}
+use Rattle.mt_machine.specs.declared.event.Event.TheVariants.{Arrive, Take}
+use Rattle.mt_machine.specs.declared.event.Event.{Event}
 use Rattle.mt_machine.specs.declared.go.Go.{Go}
-use Rattle.mt_machine.specs.declared.go.Go.TheVariants.{Pending}
+use Rattle.mt_machine.specs.declared.go.Go.TheVariants.{Given, Pending}
 use Rattle.mt_machine.specs.System.{Processor, System}
 use Rattle.mt_machine.specs.Start.{IsQuiet}
-use Rattle.mt_machine.specs.Machine.{Calls, IsEnabled, Machine, Steps}
+use Rattle.mt_machine.specs.Machine.{Calls, Goes, IsEnabled, Machine, Order, Steps, due, due_at, go_of, is_over, next, remaining_order}
 use Rattle.mt_laws.proofs.Steps.StepCounts.{count_more}
 use Rattle.mt_rendezvous.specs.declared.view.Held.{Held}
 use Rattle.mt_rendezvous.specs.declared.view.Key.{Key}
 use Rattle.mt_rendezvous.specs.declared.view.Start.{Start}
 use Rattle.mt_rendezvous.specs.declared.view.View.{View}
-use Rattle.mt_rendezvous.specs.Station.{IsHeld, added_of, go_weight, held, start_of, total, weight}
+use Rattle.mt_rendezvous.specs.Station.{IsHeld, added_of, cpu_of, go_weight, held, start_of, total, weight}
 use Rattle.mt_private.specs.declared.view.Resident.{Resident}
 use Rattle.mt_private.specs.OneByOne.{at_rest}
 use Rattle.mt_private.specs.Own.{own_memory}
 use Rattle.mt_private.specs.Pages.{IsPrivate, names, naming}
 use Rattle.mt_private.specs.Residents.{Follows, Opens, Resides, Yard, held_of, pages_at, system_of, with_held}
 use Rattle.mt_private.specs.WorkedYard.{at_start, both_lodged, both_with, first_lodged, first_taken, lodged, lodger, lodging}
-use Rattle.mt_private.specs.YardLaws.{Has, YardState}
-use Rattle.mt_private.specs.YardRule.{AreAt, MeetsYard, as_view, first_yard_view, residents, rest_of, yard_left}
+use Rattle.mt_private.specs.YardLaws.{Has, IsOneEvent, YardState}
+use Rattle.mt_private.specs.YardRule.{AreAt, MeetsYard, as_view, first_yard_view, its_machine, residents, rest_of, with_said, yard_left}
 use Rattle.mt_private.proofs.OnWorked.{is_memory}
 use Rattle.mt_private.proofs.Residents.Barriers.{unmoved}
 use Rattle.mt_private.proofs.Residents.Opened.{opened, resides}
+use Rattle.mt_private.proofs.Residents.Unique.{one_machine}
 use Rattle.mt_private.proofs.Residents.Work.{takes as takes_from}
 
 page_of_lodger : (n page : ℕ) → names page (lodger n) ≡ true → page ≡ n
@@ -108,6 +110,33 @@ is_pending other = false
 abbrev pub second_lodged : Resident
 second_lodged = record { held = held 1 (lodger 0x200) false false; ram = own_memory (pages_at lodging 1) lodging.ram; done = [] }
 
+-- ---- no event
+
+absent : (m : Machine) (k : ℕ) (e : Event) → slice_get m.system.processors k ≡ None → due_at m k ≡ Some e → ⊥
+absent m k e none h = one m.order (ap (λ (x : Option Processor). option_map_or (λ (o : Order). option_map_or (λ (p : Processor). due o m.system.processors p p.phase) x None) m.order None) (sym none) ∙ h)
+  where
+    one : (y : Option Order) → option_map_or (λ (o : Order). option_map_or (λ (p : Processor). due o m.system.processors p p.phase) None None) y None ≡ Some e → ⊥
+    one None f = absurd (cc f)
+    one (Some o) f = absurd (cc f)
+
+goes_on : (m : Machine) → go_of m ≡ Some Pending → m ≡ next m Goes → ⊥
+goes_on m pending same = one m.order pending (sym pending ∙ ap go_of same)
+  where
+    two : (b : Bool) (o : Order) → Some Pending ≡ option_map (λ (q : Order). q.go) (if b then None else Some (record o { go = Given })) → ⊥
+    two true o f = absurd (cc f)
+    two false o f = absurd (cc f)
+
+    one : (y : Option Order) → option_map (λ (o : Order). o.go) y ≡ Some Pending
+        → Some Pending ≡ go_of (option_map_or (λ (o : Order). record m { order = remaining_order (record o { go = Given }) m.system.processors }) y m) → ⊥
+    one None e f = absurd (cc e)
+    one (Some o) e f = two (is_over (record o { go = Given }) m.system.processors) o f
+
+none_there : (all : List Resident) → length all ≡ 2 → slice_get (map cpu_of (map held_of all)) 7 ≡ None
+none_there [] n = absurd (omega arith)
+none_there (a ∷ []) n = absurd (omega arith)
+none_there (a ∷ b ∷ []) n = refl
+none_there (a ∷ b ∷ c ∷ all) n = absurd (omega arith)
+
 -- ---- of a key with its start
 
 module _ (key : Key) (is : start_of key ≡ lodging) where
@@ -148,3 +177,16 @@ module _ (key : Key) (is : start_of key ≡ lodging) where
       nowhere (zero, v, i, h, at, holds, n) =
           only (as_view (yard_left (first_yard_view key))).held i h (ap (λ (t : Start). map held_of (rest_of (residents t 0 t.cpus))) is) (subst (λ (u : View). get_elem? u.held i ≡ some h) (sym (some-injective (as_view (yard_left (first_yard_view key))) v at)) holds) n
       nowhere (suc j, v, i, h, at, holds, n) = absurd (some-ne-none v (sym at))
+
+  pub not_uncounted : MeetsYard key (opening (0 ∷ 0 ∷ 0 ∷ 0 ∷ []) [] (with_said (first_yard_view key) Given)) → ⊥
+  not_uncounted m =
+      let go : go_weight m.go ≡ 1 = ap go_weight (sym ((m.sits 0 (as_view (with_said (first_yard_view key) Given)) refl).root refl).1) in
+      let e : 0 ≡ total added_of (map held_of m.all) + go_weight m.go = m.yard.first_count in
+      omega arith
+
+  pub none_due : (s : YardState) (m : MeetsYard key s) (later : YardState) → IsOneEvent key s later m (Some (Steps 7 Arrive)) → ⊥
+  none_due s m later f =
+      absent (its_machine key s m) 7 Arrive (ap (λ (ps : List Processor). slice_get ps 7) m.yard.resides.stands.processors ∙ none_there m.all (two_residents s m)) f.enabled
+
+  pub not_gone_on : (s : YardState) (m : MeetsYard key s) → IsOneEvent key s s m (Some Goes) → ⊥
+  not_gone_on s m f = goes_on (its_machine key s m) f.enabled (one_machine key s m f.kept ∙ f.becomes)

@@ -1,6 +1,6 @@
 // Worked yards: relations that don't compute. For a part there is one that fails there, mostly there alone. There is none
-// where it would cost too much: for a state that the call doesn't lead to, what each seat holds, and a step of the table
-// whose event isn't enabled or has another outcome; nor for windows and the number of residents, which other parts fix.
+// where it would cost too much, for a state that the call doesn't lead to and for the residents that a seat holds; nor for
+// windows and how many residents there are, which other parts fix.
 ghost use Rattle.std.specs.Prelude.{◌≡◌, ◌∷◌, ◌++◌, [], None, Some, false, slice_set, true};
 ghost use Rattle.atomic_table.specs.Table.{opening};
 ghost use Rattle.mt_machine.specs.declared.event.Event.TheVariants.{Arrive, Pass, Take};
@@ -79,6 +79,9 @@ pub fn worked_yard_rule()
     ensures short { (key : Key) → start_of key ≡ lodging → MeetsYard key (at_start key (0 ∷ 0 ∷ 0 ∷ [])) → ⊥ }
     ensures counted { (key : Key) → start_of key ≡ lodging → MeetsYard key (at_start key (1 ∷ 0 ∷ 0 ∷ 0 ∷ [])) → ⊥ }
     ensures missing { (key : Key) → start_of key ≡ lodging → MeetsYard key (opening (0 ∷ 0 ∷ 0 ∷ 0 ∷ []) [] (yard_left (first_yard_view key))) → ⊥ }
+    ensures uncounted { (key : Key) → start_of key ≡ lodging → MeetsYard key (opening (0 ∷ 0 ∷ 0 ∷ 0 ∷ []) [] (with_said (first_yard_view key) Given)) → ⊥ }
     ensures split { (key : Key) → start_of key ≡ lodging → (m : MeetsYard key (at_start key (0 ∷ 0 ∷ 0 ∷ 0 ∷ []))) → IsOneEvent key (at_start key (0 ∷ 0 ∷ 0 ∷ 0 ∷ [])) (record { words = 0 ∷ 0 ∷ 0 ∷ 0 ∷ []; homes = []; views = yard_left (first_yard_view key) ∷ yard_right (first_yard_view key) ∷ [] }) m None }
     ensures not_kept { (key : Key) → start_of key ≡ lodging → (m : MeetsYard key (at_start key (0 ∷ 0 ∷ 0 ∷ 0 ∷ []))) → IsOneEvent key (at_start key (0 ∷ 0 ∷ 0 ∷ 0 ∷ [])) (at_start key (0 ∷ 0 ∷ 0 ∷ [])) m None → ⊥ }
+    ensures not_enabled { (key : Key) → start_of key ≡ lodging → (m : MeetsYard key (at_start key (0 ∷ 0 ∷ 0 ∷ 0 ∷ []))) → IsOneEvent key (at_start key (0 ∷ 0 ∷ 0 ∷ 0 ∷ [])) (at_start key (0 ∷ 0 ∷ 0 ∷ 0 ∷ [])) m (Some (Steps 7 Arrive)) → ⊥ }
+    ensures not_gone_on { (key : Key) → start_of key ≡ lodging → (m : MeetsYard key (at_start key (0 ∷ 0 ∷ 0 ∷ 0 ∷ []))) → IsOneEvent key (at_start key (0 ∷ 0 ∷ 0 ∷ 0 ∷ [])) (at_start key (0 ∷ 0 ∷ 0 ∷ 0 ∷ [])) m (Some Goes) → ⊥ }
 {}

@@ -2,7 +2,7 @@ use Rattle.std.proofs.Common.{[], ◌∷◌, ap, refl}
 use Rattle.mt_rendezvous.specs.declared.view.Start.{Start}
 use Rattle.mt_private.specs.WorkedYard.{at_start, first_lodged}
 use Rattle.mt_private.specs.YardRule.{first_yard_view, residents}
-use Rattle.mt_private.proofs.Lodged.{not_counted, not_missing, not_short, opened_lodging, second_lodged}
+use Rattle.mt_private.proofs.Lodged.{none_due, not_counted, not_gone_on, not_missing, not_short, not_uncounted, opened_lodging, second_lodged}
 use Rattle.mt_private.proofs.Residents.Seats.{splits}
 use Rattle.mt_private.proofs.worked_steps.worked_yard_rule.Goals as goal
 
@@ -23,3 +23,12 @@ returns-clause-split c key is m = splits key (at_start key (0 ∷ 0 ∷ 0 ∷ 0 
 
 pub returns-clause-not_kept : goal.returns-clause-not_kept
 returns-clause-not_kept c key is m f = not_short key is f.kept
+
+pub returns-clause-uncounted : goal.returns-clause-uncounted
+returns-clause-uncounted c = not_uncounted
+
+pub returns-clause-not_enabled : goal.returns-clause-not_enabled
+returns-clause-not_enabled c key is m f = none_due key is (at_start key (0 ∷ 0 ∷ 0 ∷ 0 ∷ [])) m (at_start key (0 ∷ 0 ∷ 0 ∷ 0 ∷ [])) f
+
+pub returns-clause-not_gone_on : goal.returns-clause-not_gone_on
+returns-clause-not_gone_on c key is m f = not_gone_on key is (at_start key (0 ∷ 0 ∷ 0 ∷ 0 ∷ [])) m f
