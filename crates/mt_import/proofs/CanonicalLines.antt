@@ -1,0 +1,59 @@
+-- The canonical text, one line after the other.
+use Rattle.std.proofs.Common.{◌≡◌, ℕ, zero, suc, ◌+◌, ◌*◌, ◌<◌, List, [], ◌∷◌, ◌++◌, length, take, Some, refl, sym, ap, ◌∙◌, append_assoc, add-one, arith, length-append}
+use Rattle.std.specs.Prelude.{MatchOption, slice_get}
+use Rattle.std.specs.Prelude.{true, ◌==◌, if◌then◌else◌}
+use Rattle.std.specs.List.{AllByRecursion}
+use Rattle.std.proofs.lemmas.List.{length-map}
+use Rattle.mt_kinds.specs.Bits.{is_bit_set}
+use Rattle.mt_regs.specs.declared.registers.Register.{Register}
+use Rattle.mt_regs.specs.declared.registers.Register.TheVariants.{DefaultType, Pat}
+use Rattle.mt_regs.specs.RegisterFile.{RegisterFile, low_byte}
+use Rattle.mt_regs.specs.Registers.{fixed_registers, number_of, pair_registers, value_of, writable}
+use Rattle.mt_dump.specs.Canon.{canon_lines, ended, file_lines, register_line, section_lines}
+use Rattle.mt_dump.specs.Dumps.{Dump, first_file}
+
+ended_take : (lines : List (List ℕ)) (i : ℕ) (x : List ℕ) → slice_get lines i ≡ Some x → ended (take (suc i) lines) ≡ ended (take i lines) ++ (x ++ 10 ∷ [])
+ended_take [] i x at = absurd (cc at)
+ended_take (line ∷ lines) zero x at = let same : line ≡ x = cc at in ap (λ (l : List ℕ). l ++ 10 ∷ []) same
+ended_take (line ∷ lines) (suc i) x at =
+    ap (λ (l : List ℕ). line ++ 10 ∷ l) (ended_take lines i x at) ∙ sym (append_assoc line (10 ∷ ended (take i lines)) (x ++ 10 ∷ []))
+
+some_line : (lines : List (List ℕ)) (i : ℕ) → i < length lines → (x : List ℕ) × (slice_get lines i ≡ Some x)
+some_line [] i within = absurd (omega arith)
+some_line (line ∷ lines) zero within = (line, refl)
+some_line (line ∷ lines) (suc i) within = some_line lines i (omega arith)
+
+-- one more line stands in the text
+pub line_more : (lines : List (List ℕ)) (i count : ℕ) (piece base old new : List ℕ) → i < length lines
+    → MatchOption (slice_get lines i) (count ≡ 0) (λ text. (count ≡ length text + 1) × (piece ≡ text ++ 10 ∷ []))
+    → old ≡ base ++ ended (take i lines) → new ≡ old ++ piece → new ≡ base ++ ended (take (i + 1) lines)
+line_more lines i count piece base old new within told before after =
+    let (x, at) = some_line lines i within in
+    let wrote : (count ≡ length x + 1) × (piece ≡ x ++ 10 ∷ []) = rw at at told in
+    rw (add-one, ended_take lines i x at)
+    (after ∙ ap (λ (l : List ℕ). l ++ piece) before ∙ append_assoc base (ended (take i lines)) piece ∙ ap (λ (l : List ℕ). base ++ (ended (take i lines) ++ l)) wrote.1)
+
+file_count : (f : RegisterFile) → length (file_lines f) ≡ length (writable f) + 2
+file_count f = let h = length-map (writable f) (λ (r : Register). register_line (number_of r) (value_of f r)) in omega (arith, h)
+
+same_registers : (f g : RegisterFile) → f.capabilities ≡ g.capabilities → length (writable f) ≡ length (writable g)
+same_registers f g same = ap (λ c. length (pair_registers 0 (low_byte c) ++ (if is_bit_set c 8 then fixed_registers else []) ++ Pat ∷ DefaultType ∷ [])) same
+
+-- each section has as many lines as the first
+pub section_count : (first : RegisterFile) (number : ℕ) (files : List RegisterFile) → AllByRecursion (λ f. f.capabilities ≡ first.capabilities) files
+    → length (section_lines number files) ≡ length files * (length (writable first) + 3)
+section_count first number [] same = omega arith
+section_count first number (f ∷ fs) same =
+    let later = section_count first (number + 1) fs same.1 in
+    let here = file_count f in
+    let writables = same_registers f first same.0 in
+    let parts = length-append (file_lines f) (section_lines (number + 1) fs) in
+    omega (arith, later, here, writables, parts)
+
+-- version 2 has a line of its own and those of its sections
+pub version_2_count : (dump : Dump) (files count : ℕ) → dump.version ≡ 2 → AllByRecursion (λ f. f.capabilities ≡ (first_file dump).capabilities) dump.files
+    → files ≡ length dump.files → count ≡ length (writable (first_file dump)) → 1 + files * (count + 2 + 1) ≡ length (canon_lines dump)
+version_2_count dump files count two same files_is count_is =
+    let test : (dump.version == 2) ≡ true = ap (λ v. v == 2) two in
+    let sections = section_count (first_file dump) 0 dump.files same in
+    rw (files_is, count_is, test) (omega (arith, sections))

@@ -1,0 +1,144 @@
+-- What a reader keeps when it takes one more reading.
+use Rattle.std.proofs.Common.{◌≡◌, ◌≢◌, ◌≤◌, ◌<◌, ◌+◌, ◌-◌, ◌*◌, ℕ, Bool, true, false, ◌==◌, ◌&&◌, nat_lt, zero, suc, List, [], ◌∷◌, replicate, Option, Some, None, refl, sym, ◌∙◌, ap, arith, slice_set, inl, inr}
+use Rattle.std.specs.Prelude.{◌⊎◌, max, is_some}
+use Rattle.std.specs.List.{slice_index_or}
+use Rattle.std.proofs.lemmas.Bool.{eqb-true}
+use Rattle.std.proofs.lemmas.List.{get_or-set_other, length-replicate}
+use Rattle.std.proofs.lemmas.Grind.{get_or-set_at}
+use Rattle.std.proofs.Math.ListN.{length-set}
+use Rattle.std.proofs.lemmas.Bool.Decides.{nat_tests}
+use Rattle.mt_regs.specs.RegisterFile.{RegisterFile, IsRegisterFile, low_byte}
+use Rattle.mt_regs.specs.Registers.{register_of, value_at}
+use Rattle.mt_regs.specs.declared.registers.Register as register
+use Rattle.mt_regs.proofs.ByNumber.{register_of-range}
+use Rattle.mt_import.specs.declared.reading.Reading.{Reading}
+use Rattle.mt_import.specs.declared.reading.Said.{Said}
+use Rattle.mt_import.specs.Outcome.{capabilities_after, processors, value_shown}
+use Rattle.mt_import.specs.Reader.{HasTaken, State, held_at, slot_of}
+
+none_at : (n i : ℕ) → ◌≡◌ {A = Option ℕ} (slice_index_or (replicate n None) i None) None
+none_at zero i = refl
+none_at (suc n) zero = refl
+none_at (suc n) (suc i) = none_at n i
+
+at_start : (processor : ℕ) (slot : Option ℕ) → held_at (replicate 4112 None) processor slot ≡ None
+at_start processor None = refl
+at_start processor (Some slot) = none_at 4112 (257 * processor + slot)
+
+pub taken_new : (last : Said) → HasTaken (record { last = last; values = replicate 4112 None; capabilities = None; processors = 1 }) []
+taken_new last = record {
+  size = length-replicate {A = Option ℕ} 4112 None;
+  values_are = λ processor number. at_start processor (slot_of number);
+  capabilities_is = refl;
+  processors_is = refl;
+  some = omega arith;
+  few = omega arith;
+  pairs = λ processor value is. cc is;
+}
+
+-- ---- slots
+
+abbrev IsSlot : ℕ → ℕ → Type 0
+IsSlot number slot = ((number ≡ 0xfe) × (slot ≡ 0)) ⊎ ((0x200 ≤ number) × (number < 0x300) × (slot ≡ number - 0x1ff))
+
+slot_is : (number slot : ℕ) → slot_of number ≡ Some slot → IsSlot number slot
+slot_is number slot is = by (number == 0xfe) refl (nat_lt number 0x200) refl (nat_lt number 0x300) refl
+  where
+    same : (a b : ℕ) → ◌≡◌ {A = Option ℕ} (Some a) (Some b) → b ≡ a
+    same a b e = cc e
+
+    by : (first : Bool) → (number == 0xfe) ≡ first → (low : Bool) → nat_lt number 0x200 ≡ low → (high : Bool) → nat_lt number 0x300 ≡ high → IsSlot number slot
+    by true one low is_low high is_high = inl (eqb-true number 0xfe one, same 0 slot (let e = is in rw one at e))
+    by false one true is_low high is_high = let e : None ≡ Some slot = rw (one, is_low) at is in cc e
+    by false one false is_low false is_high = let e : None ≡ Some slot = rw (one, is_low, is_high) at is in cc e
+    by false one false is_low true is_high =
+        inr (grind (arith, nat_tests, is_low), grind (arith, nat_tests, is_high), same (number - 0x1ff) slot (rw (one, is_low, is_high) at is))
+
+slot_within : (number slot : ℕ) → slot_of number ≡ Some slot → slot < 257
+slot_within number slot is = elim (slot_is number slot is) [
+  | inl first ↦ omega (arith, first.1)
+  | inr later ↦ omega (arith, later.0, later.1, later.2)
+]
+
+slots_apart : (a b slot : ℕ) → slot_of a ≡ Some slot → slot_of b ≡ Some slot → a ≡ b
+slots_apart a b slot is is_too = by (slot_is a slot is) (slot_is b slot is_too)
+  where
+    by : IsSlot a slot → IsSlot b slot → a ≡ b
+    by (inl one) (inl two) = one.0 ∙ sym two.0
+    by (inl one) (inr two) = absurd (omega (arith, one.1, two.0, two.2))
+    by (inr one) (inl two) = absurd (omega (arith, two.1, one.0, one.2))
+    by (inr one) (inr two) = omega (arith, one.0, one.2, two.0, two.2)
+
+-- a register that some file has stands in a slot
+pub register_slot : (f : RegisterFile) (number : ℕ) → IsRegisterFile f → is_some (value_at f number) ≡ true → slot_of number ≡ None → ⊥
+register_slot f number is_file has none = by (number == 0xfe) refl (register_of f number) refl
+  where
+    by : (first : Bool) → (number == 0xfe) ≡ first → (found : Option register.Register) → register_of f number ≡ found → ⊥
+    by true one found is = let e : Some 0 ≡ None = rw one at none in cc e
+    by false one None is = let e : false ≡ true = rw (one, is) at has in cc e
+    by false one (Some r) is =
+        let range = register_of-range f number r is_file is in
+        let low : nat_lt number 0x200 ≡ false = grind (arith, nat_tests, range.0) in
+        let high : nat_lt number 0x300 ≡ true = grind (arith, nat_tests, range.1) in
+        let e : Some (number - 0x1ff) ≡ None = rw (one, low, high) at none in cc e
+
+-- ---- one more reading
+
+most : (a b : ℕ) → (1 ≤ a) → (a ≤ 16) → (b ≤ 16) → (1 ≤ max a b) × (max a b ≤ 16)
+most a b some few few_too = (grind (arith, nat_tests, some), grind (arith, nat_tests, few, few_too))
+
+places_apart : (p k slot s : ℕ) → slot < 257 → s < 257 → 257 * k + s ≡ 257 * p + slot → k ≡ p
+places_apart p k slot s within within_too same = omega (arith, within, within_too, same)
+
+module _ (state : State) (before : List Reading) (reading : Reading) (slot : ℕ) (holds : HasTaken state before) (at : slot_of reading.number ≡ Some slot) (few : reading.processor < 16) where
+  abbrev values : List (Option ℕ)
+  values = slice_set state.values (257 * reading.processor + slot) (Some reading.value)
+
+  other : (k number : ℕ) → (reading.processor == k && reading.number == number) ≡ false → (found : Option ℕ) → slot_of number ≡ found → held_at values k found ≡ held_at state.values k found
+  other k number apart None is = refl
+  other k number apart (Some s) is = get_or-set_other state.values (257 * reading.processor + slot) (257 * k + s) (Some reading.value) None differ
+    where
+      equal : (a b : ℕ) → a ≡ b → (b == a) ≡ true
+      equal a b e = grind (arith, nat_tests, e)
+
+      differ : 257 * k + s ≢ 257 * reading.processor + slot
+      differ same =
+          let p = places_apart reading.processor k slot s (slot_within reading.number slot at) (slot_within number s is) same in
+          let q : s ≡ slot = omega (arith, p, same) in
+          let n = slots_apart number reading.number slot (is ∙ ap Some q) at in
+          let e : true ≡ false = rw (equal k reading.processor p, equal number reading.number n) at apart in cc e
+
+  here : slice_index_or values (257 * reading.processor + slot) None ≡ Some reading.value
+  here = get_or-set_at state.values (257 * reading.processor + slot) (257 * reading.processor + slot) (Some reading.value) None refl (omega (arith, holds.size, slot_within reading.number slot at, few))
+
+  shown : (k number : ℕ) (processor_test number_test : Bool) → (reading.processor == k) ≡ processor_test → (reading.number == number) ≡ number_test
+      → held_at values k (slot_of number) ≡ value_shown k number (reading ∷ before)
+  shown k number true true same same_too =
+      let p = eqb-true reading.processor k same in
+      let n = eqb-true reading.number number same_too in
+      rw (same, same_too) (ap (λ j. held_at values j (slot_of number)) (sym p) ∙ ap (λ m. held_at values reading.processor (slot_of m)) (sym n) ∙ ap (held_at values reading.processor) at ∙ here)
+  shown k number true false same apart = let e : (reading.processor == k && reading.number == number) ≡ false = rw (same, apart) refl in rw (same, apart) (other k number e (slot_of number) refl ∙ holds.values_are k number)
+  shown k number false number_test apart same = let e : (reading.processor == k && reading.number == number) ≡ false = rw apart refl in rw apart (other k number e (slot_of number) refl ∙ holds.values_are k number)
+
+  fits : (reading.number ≡ 0xfe → low_byte reading.value ≤ 32) → (k value : ℕ) (processor_test number_test : Bool) → (reading.processor == k) ≡ processor_test → (reading.number == 0xfe) ≡ number_test
+      → value_shown k 0xfe (reading ∷ before) ≡ Some value → low_byte value ≤ 32
+  fits sound k value true true same same_too is =
+      let e : Some reading.value ≡ Some value = rw (same, same_too) at is in
+      let v : reading.value ≡ value = cc e in
+      rw (← v) (sound (eqb-true reading.number 0xfe same_too))
+  fits sound k value true false same apart is = holds.pairs k value (rw (same, apart) at is)
+  fits sound k value false number_test apart same is = holds.pairs k value (rw apart at is)
+
+  pub taken_more : (last : Said) → (reading.number ≡ 0xfe → low_byte reading.value ≤ 32)
+      → HasTaken (record { last = last; values = values; capabilities = capabilities_after reading state.capabilities; processors = max (reading.processor + 1) state.processors }) (reading ∷ before)
+  taken_more last sound =
+      let bounds = most (reading.processor + 1) (processors before) (omega arith) (omega (arith, few)) holds.few in
+      record {
+        size = length-set state.values (257 * reading.processor + slot) (Some reading.value) ∙ holds.size;
+        values_are = λ k number. shown k number (reading.processor == k) (reading.number == number) refl refl;
+        capabilities_is = ap (capabilities_after reading) holds.capabilities_is;
+        processors_is = ap (max (reading.processor + 1)) holds.processors_is;
+        some = bounds.0;
+        few = bounds.1;
+        pairs = λ k value. fits sound k value (reading.processor == k) (reading.number == 0xfe) refl refl;
+      }

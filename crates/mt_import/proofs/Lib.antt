@@ -1,0 +1,6 @@
+pub mod CanonicalLines
+pub mod Fed
+pub mod Held
+pub mod Parts
+pub mod Same
+pub mod Words

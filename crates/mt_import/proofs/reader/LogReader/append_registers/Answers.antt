@@ -1,0 +1,25 @@
+use Rattle.std.proofs.Common.{◌++◌, [], List, ℕ, ap, arith, sym, ◌∙◌, append_assoc, map, take}
+use Rattle.std.specs.Prelude.{if◌then◌else◌}
+use Rattle.mt_regs.specs.Registers.{number_of, writable}
+use Rattle.mt_import.proofs.Parts.{missing_more, some_at}
+use Rattle.mt_import.specs.Outcome.{is_missing, missing_line, missing_lines}
+use Rattle.mt_import.specs.Reader.{values_of}
+use Rattle.mt_import.proofs.reader.LogReader.append_registers.Goals as goal
+
+pub unreachable-requires : goal.unreachable-requires
+unreachable-requires c = some_at (writable c.args.file.now) c.registers.i (omega (arith, c.registers-test.true, c.count-i-end.ensures.count)) c.in_default.ensures.at
+
+pub registers-preserved : goal.registers-preserved
+registers-preserved c =
+    let values = values_of c.args.supplied.now c.args.self.now in
+    let count = c.args.self.now.processors in
+    let first = c.args.text.now.items in
+    let so_far = missing_lines values count (map number_of (take c.registers.i (writable c.args.file.now))) in
+    record {
+      text = c.append_missing.ensures.text
+          ∙ ap (λ (l : List ℕ). l ++ (if is_missing values count c.number.result then missing_line c.number.result else [])) c.registers.invariant.text
+          ∙ append_assoc first so_far (if is_missing values count c.number.result then missing_line c.number.result else [])
+          ∙ ap (λ (n : ℕ). first ++ (so_far ++ (if is_missing values count n then missing_line n else []))) c.number.ensures
+          ∙ ap (λ (l : List ℕ). first ++ l) (sym (missing_more values count c.registers.i (writable c.args.file.now) c.in-Some.register c.in-Some.ensures.at));
+      short = omega (arith, c.append_missing.ensures.size, c.registers.invariant.short);
+    }

@@ -1,0 +1,179 @@
+ghost use Rattle.std.specs.Prelude.{◌≡◌, ◌≤◌, ◌<◌, ℕ, Some, map};
+ghost use Rattle.mt_regs.specs.Registers.{fixed_numbers};
+ghost use Rattle.mt_ports.specs.declared.status.Status.TheVariants.{Refused};
+ghost use Rattle.mt_kinds.specs.Bits.{is_bit_set};
+ghost use Rattle.mt_regs.specs.RegisterFile.{low_byte};
+ghost use Rattle.mt_import.specs.Outcome.{dump_in, ended_with, file_of, files_of, first_pairs, fixed_of, value_or_zero, version_of};
+ghost use Rattle.mt_import.specs.Reader.{values_of};
+ghost use Rattle.mt_import.specs.Import.{IsWritten};
+
+use crate::canonical::canonical_text;
+use crate::text::{Imported, Text};
+use crate::{LogReader, Supplied};
+use arrayvec::ArrayVec;
+use mt_dump::Dump;
+use mt_kinds::is_bit_set;
+use mt_ports::Status;
+use mt_regs::{CAPABILITIES, RegFile};
+
+const PAT: u32 = 0x277;
+
+const DEFAULT_TYPE: u32 = 0x2ff;
+
+const FIRST_PAIR: u32 = 0x200;
+
+fn pair_count(capabilities: u64) -> u8
+    ensures { result ≡ low_byte capabilities }
+{
+    (capabilities & 0xff) as u8
+}
+
+// The version of the dump of so many processors.
+fn version_of(count: u32) -> u8
+    ensures { result ≡ version_of count }
+{
+    if count == 1 { 1 } else { 2 }
+}
+
+impl LogReader {
+    fn value_or_zero(&self, supplied: &Supplied, k: u32, number: u32) -> u64
+        requires { k < 16 }
+        ensures { result ≡ value_or_zero (values_of supplied.now self.now k) number }
+    {
+        match self.value(supplied, k, number) {
+            Some(value) => value,
+            None => 0,
+        }
+    }
+
+    // So many pairs.
+    fn pairs(&self, supplied: &Supplied, k: u32, count: u8) -> ArrayVec<(u64, u64), 32>
+        requires processor { k < 16 }
+        requires few { count ≤ 32 }
+        ensures { result.items ≡ first_pairs (values_of supplied.now self.now k) count }
+    {
+        let mut pairs = ArrayVec::new();
+        'pairs: for n in 0..count {
+            let base = FIRST_PAIR + 2 * n as u32;
+            pairs.push((
+                self.value_or_zero(supplied, k, base),
+                self.value_or_zero(supplied, k, base + 1),
+            ));
+        }
+        pairs
+    }
+
+    // The fixed-range registers.
+    fn fixed(&self, supplied: &Supplied, k: u32) -> [u64; 11]
+        requires { k < 16 }
+        ensures { result ≡ map (value_or_zero (values_of supplied.now self.now k)) fixed_numbers }
+    {
+        [
+            self.value_or_zero(supplied, k, 0x250),
+            self.value_or_zero(supplied, k, 0x258),
+            self.value_or_zero(supplied, k, 0x259),
+            self.value_or_zero(supplied, k, 0x268),
+            self.value_or_zero(supplied, k, 0x269),
+            self.value_or_zero(supplied, k, 0x26a),
+            self.value_or_zero(supplied, k, 0x26b),
+            self.value_or_zero(supplied, k, 0x26c),
+            self.value_or_zero(supplied, k, 0x26d),
+            self.value_or_zero(supplied, k, 0x26e),
+            self.value_or_zero(supplied, k, 0x26f),
+        ]
+    }
+
+    // The fixed-range registers, which are 0 without FIX.
+    fn fixed_part(&self, supplied: &Supplied, k: u32, capabilities: u64) -> [u64; 11]
+        requires { k < 16 }
+        ensures { result ≡ fixed_of (values_of supplied.now self.now k) (is_bit_set capabilities 8) }
+    {
+        if is_bit_set(capabilities, 8) {
+            self.fixed(supplied, k)
+        } else {
+            [0; 11]
+        }
+    }
+
+    // The file of a processor.
+    fn file(&self, supplied: &Supplied, k: u32, width: u8, capabilities: u64) -> RegFile
+        requires processor { k < 16 }
+        requires wide { 32 ≤ width }
+        requires narrow { width ≤ 52 }
+        requires pairs { low_byte capabilities ≤ 32 }
+        ensures { result ≡ file_of (values_of supplied.now self.now k) width capabilities }
+    {
+        let count = pair_count(capabilities);
+        let fixed = self.fixed_part(supplied, k, capabilities);
+        RegFile {
+            maxphy: width,
+            cap: capabilities,
+            pairs: self.pairs(supplied, k, count),
+            fixed,
+            pat: self.value_or_zero(supplied, k, PAT),
+            deftype: self.value_or_zero(supplied, k, DEFAULT_TYPE),
+        }
+    }
+
+    // The files of all processors.
+    fn files(&self, supplied: &Supplied, width: u8, capabilities: u64) -> ArrayVec<RegFile, 16>
+        requires few { self.now.processors ≤ 16 }
+        requires wide { 32 ≤ width }
+        requires narrow { width ≤ 52 }
+        requires pairs { low_byte capabilities ≤ 32 }
+        ensures { result.items ≡ files_of (values_of supplied.now self.now) width capabilities self.now.processors }
+    {
+        let mut files = ArrayVec::new();
+        'files: for k in 0..self.count() {
+            files.push(self.file(supplied, k, width, capabilities));
+        }
+        files
+    }
+
+    fn dump(&self, supplied: &Supplied, width: u8, capabilities: u64) -> Dump
+        requires some { 1 ≤ self.now.processors }
+        requires few { self.now.processors ≤ 16 }
+        requires wide { 32 ≤ width }
+        requires narrow { width ≤ 52 }
+        requires pairs { low_byte capabilities ≤ 32 }
+        ensures { result ≡ dump_in (values_of supplied.now self.now) self.now.processors width capabilities }
+    {
+        let version = version_of(self.count());
+        let files = self.files(supplied, width, capabilities);
+        Dump { version, files }
+    }
+
+    /// The dump of all lines that were taken, or what is missing.
+    pub fn finish(&self, supplied: &Supplied) -> Imported
+        requires some { 1 ≤ self.now.processors }
+        requires few { self.now.processors ≤ 16 }
+        requires pairs { (value : ℕ) → values_of supplied.now self.now 0 0xfe ≡ Some value → low_byte value ≤ 32 }
+        ensures told { result ≡ ended_with (values_of supplied.now self.now) self.now.processors supplied.now.width }
+        ensures written { IsWritten result.1 }
+    {
+        supplied.is_supplied(); // a fact for the proof
+        let missing = self.missing(supplied);
+        if !missing.is_empty() {
+            return missing_text(missing);
+        }
+        let Some(width) = supplied.width else {
+            return missing_text(missing);
+        };
+        let Some(capabilities) = self.value(supplied, 0, CAPABILITIES) else {
+            return missing_text(missing);
+        };
+        Imported {
+            text: canonical_text(&self.dump(supplied, width, capabilities)),
+            status: Status::Done,
+        }
+    }
+}
+
+fn missing_text(text: Text) -> Imported
+    ensures { result ≡ (text.items, Refused) }
+{
+    Imported {
+        text,
+        status: Status::Refused,
+    }
+}

@@ -1,0 +1,36 @@
+ghost use Rattle.std.specs.Prelude.{◌≡◌};
+ghost use Rattle.mt_import.specs.Shown.{said_by_words, said_of};
+
+use crate::Said;
+use crate::rdmsr::rdmsr_said;
+use mt_text::{LIMIT_COLUMN, Line, Place, Words};
+
+/// A kind of log.
+#[derive(Clone, Copy, Debug, PartialEq, Eq)]
+pub enum Format {
+    /// `set -x` over `rdmsr` of msr-tools.
+    Rdmsr,
+}
+
+impl Format {
+    fn said_by_words(self, words: &Words<'_>) -> Said
+        ensures { result ≡ said_by_words self words.now.number words.now.words }
+    {
+        match self {
+            Format::Rdmsr => rdmsr_said(words),
+        }
+    }
+
+    /// What a line says, whatever the other lines say.
+    pub fn said_of(self, line: &Line<'_>) -> Said
+        ensures { result ≡ said_of self line.now.number line.now.bytes.now }
+    {
+        if line.too_long() {
+            return Said::Long(Place {
+                line: line.number,
+                column: LIMIT_COLUMN,
+            });
+        }
+        self.said_by_words(&line.first_words())
+    }
+}

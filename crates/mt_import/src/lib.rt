@@ -1,0 +1,31 @@
+//! Logs of other programs, and the dump that they show.
+#![tactic(auto)]
+
+mod canonical;
+mod dumping;
+mod fault;
+mod format;
+mod missing;
+mod program;
+mod rdmsr;
+mod reader;
+mod reading;
+mod running;
+mod supplied;
+mod text;
+mod worked;
+
+pub use fault::ImportFault;
+pub use format::Format;
+pub use program::program_status;
+pub use reader::{LogReader, read_log};
+pub use reading::{Reading, Said};
+pub use running::import;
+pub use supplied::{Supplied, command_of};
+pub use text::Imported;
+pub use worked::{
+    worked_faults, worked_outcomes, worked_rdmsr_lines, worked_readings, worked_words,
+};
+
+#[cfg(test)]
+mod tests;
