@@ -1,0 +1,56 @@
+//! The calls of `include/mtrr.h`, as C finds them.
+#![tactic(auto)]
+
+ghost use Rattle.std.specs.Prelude.{◌≡◌, true, false, Option};
+ghost use Rattle.mt_plain.specs.Plain.{effective_number, effective_status, fault_status, fault_words, file_in, has_no_other_pair, is_file, page_number, page_status};
+ghost use Rattle.mt_regs.specs.Faults.{IsFirstFault};
+ghost use Rattle.mt_regs.specs.RegisterFile.{IsRegisterFile};
+ghost use Rattle.mt_regs.specs.declared.fault.Fault.{Fault};
+
+use mt_plain::{PlainFault, PlainRegisters, effective_type, first_fault, is_file, page_type};
+
+/// Whether the words are a register file's: a width of 32 to 52 bits, at most 32 pairs by VCNT, zeros in the pairs
+/// beyond, and zeros in the fixed-range registers where FIX is clear.
+#[unsafe(no_mangle)]
+pub extern "C" fn mtrr_is_file(registers: &PlainRegisters) -> bool
+    ensures file { result ≡ is_file registers.now }
+    ensures meets { result ≡ true → IsRegisterFile (file_in registers.now) }
+    ensures taken { has_no_other_pair registers.now ≡ true → IsRegisterFile (file_in registers.now) → result ≡ true }
+{
+    is_file(registers)
+}
+
+/// The first fault: 0 where there is none, 1 where it was written, and 2 where the words are no register file's.
+/// `fault` is written where the answer is 1 alone.
+#[unsafe(no_mangle)]
+pub extern "C" fn mtrr_first_fault(registers: &PlainRegisters, fault: &mut PlainFault) -> u32
+    ensures refused { is_file registers.now ≡ false → (result ≡ 2) × (fault.new ≡ fault.old) }
+    ensures answered { is_file registers.now ≡ true → (answer : Option Fault) × IsFirstFault (file_in registers.now) answer × (result ≡ fault_status answer) × (fault.new ≡ fault_words answer fault.old) }
+{
+    first_fault(registers, fault)
+}
+
+/// The type that the MTRRs give a page: 0 where its byte was written, 2 where the words are no register file's, 3 where
+/// there is no such page, and 4 where the page has no defined type. `kind` is written where the answer is 0 alone.
+#[unsafe(no_mangle)]
+pub extern "C" fn mtrr_page_type(registers: &PlainRegisters, page: u64, kind: &mut u32) -> u32
+    ensures status { result ≡ page_status registers.now page }
+    ensures number { kind.new ≡ page_number registers.now page kind.old }
+{
+    page_type(registers, page, kind)
+}
+
+/// The type in effect for a page whose mapping chooses this entry of the PAT, 0 to 7. The answers are those of
+/// `mtrr_page_type`, and 5 where there is no such entry.
+#[unsafe(no_mangle)]
+pub extern "C" fn mtrr_effective_type(
+    registers: &PlainRegisters,
+    page: u64,
+    index: u32,
+    kind: &mut u32,
+) -> u32
+    ensures status { result ≡ effective_status registers.now page index }
+    ensures number { kind.new ≡ effective_number registers.now page index kind.old }
+{
+    effective_type(registers, page, index, kind)
+}

@@ -1,0 +1,19 @@
+//! A register file as plain words of fixed widths, and questions to it that numbers answer: what C can hold and pass.
+#![tactic(auto)]
+
+mod answers;
+mod file;
+mod laws;
+mod plain;
+mod worked;
+
+pub use answers::{effective_type, first_fault, page_type};
+pub use file::{file_of, is_file};
+pub use laws::each_file_is_taken;
+pub use plain::{PlainFault, PlainPair, PlainRegisters};
+pub use worked::{
+    worked_effective_answers, worked_fault_numbers, worked_file, worked_page_answers, worked_words,
+};
+
+#[cfg(test)]
+mod tests;

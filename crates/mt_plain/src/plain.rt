@@ -1,0 +1,27 @@
+/// A variable range: PHYSBASEn and PHYSMASKn.
+#[repr(C)]
+#[derive(Clone, Copy)]
+pub struct PlainPair {
+    pub base: u64,
+    pub mask: u64,
+}
+
+/// The range registers of a processor. `width` is in bits.
+#[repr(C)]
+#[derive(Clone, Copy)]
+pub struct PlainRegisters {
+    pub width: u64,
+    pub capabilities: u64,
+    pub pairs: [PlainPair; 32],
+    pub fixed: [u64; 11],
+    pub pat: u64,
+    pub default_type: u64,
+}
+
+/// The number of a register at fault, and the number of the reason.
+#[repr(C)]
+#[derive(Clone, Copy)]
+pub struct PlainFault {
+    pub number: u32,
+    pub reason: u32,
+}
