@@ -1,6 +1,6 @@
 -- Accesses one by one: what each adds, and what none changes.
-use Rattle.std.proofs.Common.{◌≡◌, ◌≢◌, ◌∙◌, ap, sym, refl, subst, arith, ℕ, zero, suc, ◌+◌, ◌-◌, ◌^◌, ◌<◌, ◌≤◌, List, [], ◌∷◌, ◌++◌, drop, length, map, Some, None, inl, inr, ⊎_elim}
-use Rattle.std.specs.Prelude.{◌⊎◌, slice_get, slice_set}
+use Rattle.std.proofs.Common.{◌≡◌, ◌≢◌, ◌∙◌, ap, sym, refl, subst, arith, ℕ, ◌+◌, ◌-◌, ◌^◌, ◌<◌, ◌≤◌, List, [], ◌∷◌, ◌++◌, drop, length, map, Some, ⊎_elim}
+use Rattle.std.specs.Prelude.{slice_get, slice_set}
 use Rattle.std.specs.List.{All}
 use Rattle.mt_regs.specs.RegisterFile.{RegisterFile}
 use Rattle.mt_machine.specs.declared.op.Op.{Op}
@@ -14,7 +14,7 @@ use Rattle.mt_bus.proofs.Tables.{same_length}
 use Rattle.mt_private.specs.declared.job.Job.{Job}
 use Rattle.mt_private.specs.declared.job.Told.{Told}
 use Rattle.mt_private.specs.declared.job.Part.{Part}
-use Rattle.mt_private.specs.Jobs.{AreOpen, IsOpen, answers_in, ops_in, other_part, room_in}
+use Rattle.mt_private.specs.Jobs.{AreOpen, IsOpen, answers_in, ops_in, room_in}
 use Rattle.mt_private.specs.OneByOne.{ran, ran_each}
 use Rattle.mt_private.proofs.Lists.{at_end, at_put, drop_at}
 

@@ -1,5 +1,5 @@
 -- Why jobs aren't run: each cause with what it comes of.
-use Rattle.std.proofs.Common.{◌≡◌, ◌∙◌, ap, sym, subst, ℕ, Ok, Err, Option, None, Some}
+use Rattle.std.proofs.Common.{◌≡◌, ◌∙◌, ap, sym, subst, ℕ, Err, Option, None, Some}
 use Rattle.std.specs.Prelude.{Result, ◌↔◌}
 use Rattle.mt_regs.specs.RegisterFile.{RegisterFile}
 use Rattle.mt_regs.specs.declared.fault.Fault.{Fault}
@@ -8,7 +8,7 @@ use Rattle.mt_regs.proofs.First.{one_first_fault_lem}
 use Rattle.mt_machine.specs.System.{System}
 use Rattle.mt_machine.specs.Machine.{Order}
 use Rattle.mt_private.specs.declared.fault.PrivateFault.{PrivateFault}
-use Rattle.mt_private.specs.declared.fault.PrivateFault.TheVariants.{NoMemory, Refused, Shared}
+use Rattle.mt_private.specs.declared.fault.PrivateFault.TheVariants.{Refused, Shared}
 use Rattle.mt_private.specs.Pages.{IsLeastShared, IsPrivate}
 
 module _ {T : Type 0} (order : Option Order) (goal : RegisterFile) where

@@ -1,5 +1,8 @@
 mod Accessed
+mod Alone
+mod Carried
 mod Causes
+mod Copies
 mod OnWorked
 mod Lodged
 mod Lists

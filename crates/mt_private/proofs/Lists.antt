@@ -1,5 +1,5 @@
 -- Elements of lists by their places.
-use Rattle.std.proofs.Common.{◌≡◌, ◌≢◌, ◌∙◌, ap, refl, ℕ, zero, suc, ◌+◌, List, [], ◌∷◌, ◌++◌, drop, length, Some, inl, inr, ⊎_elim, arith}
+use Rattle.std.proofs.Common.{◌≡◌, ◌≢◌, ◌∙◌, ap, refl, ℕ, zero, suc, ◌+◌, List, [], ◌∷◌, ◌++◌, drop, length, replicate, Some, inl, inr, ⊎_elim, arith}
 use Rattle.std.specs.Prelude.{◌⊎◌, slice_get, slice_set}
 use Rattle.std.proofs.lemmas.List.{drop_more}
 use Rattle.std.proofs.lemmas.Option.{get_or_from_slice_get, slice_get_within}
@@ -26,3 +26,10 @@ at_end [] y (suc i) q h = absurd (cc)
 at_end (x ∷ xs) y zero q h = inr h
 at_end (x ∷ xs) y (suc i) q h =
     ⊎_elim (λ (e : (i ≡ length xs) × (y ≡ q)). inl (ap suc e.0, e.1)) (λ (e : slice_get xs i ≡ Some q). inr e) (at_end xs y i q h)
+
+pub replicate_more : {X : Type 0} (n : ℕ) (x : X) → replicate n x ++ x ∷ [] ≡ replicate (n + 1) x
+replicate_more {X = X} n x = more n ∙ ap (λ (k : ℕ). replicate k x) (let e : suc n ≡ n + 1 = omega arith in e)
+  where
+    more : (n : ℕ) → replicate n x ++ x ∷ [] ≡ replicate (suc n) x
+    more zero = refl
+    more (suc n) = ap (λ (l : List X). x ∷ l) (more n)

@@ -11,7 +11,7 @@ use Rattle.mt_machine.specs.declared.phase.Phase.TheVariants.{Taken}
 use Rattle.mt_machine.specs.declared.event.Event.TheVariants.{Arrive, Take}
 use Rattle.mt_machine.specs.declared.event.Event.{Event}
 use Rattle.mt_machine.specs.declared.go.Go.{Go}
-use Rattle.mt_machine.specs.declared.go.Go.TheVariants.{Given, Pending}
+use Rattle.mt_machine.specs.declared.go.Go.TheVariants.{Cancelled, Given, Pending}
 use Rattle.mt_machine.specs.System.{Processor, System}
 use Rattle.mt_machine.specs.Start.{IsQuiet}
 use Rattle.mt_machine.specs.Machine.{Calls, Goes, IsEnabled, Machine, Order, Steps, due, due_at, go_of, is_over, next, remaining_order}
@@ -183,6 +183,13 @@ module _ (key : Key) (is : start_of key ≡ lodging) where
       let go : go_weight m.go ≡ 1 = ap go_weight (sym ((m.sits 0 (as_view (with_said (first_yard_view key) Given)) refl).root refl).1) in
       let e : 0 ≡ total added_of (map held_of m.all) + go_weight m.go = m.yard.first_count in
       omega arith
+
+  pub not_untold : MeetsYard key (opening (0 ∷ 0 ∷ 0 ∷ 0 ∷ []) [] (record (first_yard_view key) { cancel = true })) → ⊥
+  not_untold m =
+      let told : m.go ≡ Cancelled = m.cancels 0 (record (first_yard_view key) { cancel = true }) refl refl in
+      let said : Pending ≡ m.go = ((m.sits 0 (as_view (record (first_yard_view key) { cancel = true })) refl).root refl).1 in
+      let e : Pending ≡ Cancelled = said ∙ told in
+      absurd (cc)
 
   pub none_due : (s : YardState) (m : MeetsYard key s) (later : YardState) → IsOneEvent key s later m (Some (Steps 7 Arrive)) → ⊥
   none_due s m later f =

@@ -8,3 +8,4 @@ pub mod Seats
 pub mod Opened
 pub mod Roots
 pub mod Unique
+pub mod Plays

@@ -1,8 +1,7 @@
 -- The walk over all names finds the least shared page.
-use Rattle.std.proofs.Common.{◌≡◌, ◌∙◌, ap, sym, refl, subst, arith, ℕ, zero, suc, ◌+◌, ◌<◌, ◌≤◌, Bool, true, false, if◌then◌else◌, cond, List, [], ◌∷◌, Option, None, Some, inl, inr}
-use Rattle.std.specs.Prelude.{◌⊎◌, ◌==◌, ◌&&◌, ◌||◌, ◌↔◌, nat_lt, nat_le, nat_eq}
-use Rattle.std.specs.List.{count_by, fold, list_any}
-use Rattle.mt_cache.specs.declared.line.CacheLine.{CacheLine}
+use Rattle.std.proofs.Common.{◌≡◌, ◌∙◌, ap, sym, refl, subst, arith, ℕ, ◌+◌, ◌<◌, ◌≤◌, Bool, true, false, if◌then◌else◌, cond, List, [], ◌∷◌, Option, None, Some}
+use Rattle.std.specs.Prelude.{◌==◌, ◌&&◌, ◌||◌, nat_lt, nat_le}
+use Rattle.std.specs.List.{fold, list_any}
 use Rattle.mt_tlb.specs.declared.entry.Entry.{Entry}
 use Rattle.mt_tlb.specs.declared.mapping.Mapping.{Mapping}
 use Rattle.mt_machine.specs.System.{Processor, System}

@@ -8,3 +8,5 @@ pub mod YardLaws
 pub mod Worked
 pub mod WorkedYard
 pub mod YardPlays
+pub mod YardCalls
+pub mod Gathered

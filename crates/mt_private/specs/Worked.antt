@@ -1,5 +1,5 @@
 -- Processors and jobs of worked examples.
-use Rattle.std.specs.Prelude.{ℕ, ◌+◌, ◌==◌, Bool, List, [], ◌∷◌}
+use Rattle.std.specs.Prelude.{ℕ, ◌==◌, Bool, List, [], ◌∷◌}
 use Rattle.mt_regs.specs.WorkedRows.{four_gigabytes}
 use Rattle.mt_machine.specs.declared.op.Op.{Op}
 use Rattle.mt_machine.specs.declared.op.Op.TheVariants.{Load, Store}

@@ -4,6 +4,7 @@ use mathlib.Core.Option.{none}
 use Rattle.atomic_table.specs.Table.{Step, opening, step}
 use Rattle.mt_machine.specs.declared.event.Event.TheVariants.{Take}
 use Rattle.mt_machine.specs.declared.go.Go.TheVariants.{Pending}
+use Rattle.mt_machine.specs.declared.op.Op.{Op}
 use Rattle.mt_machine.specs.System.{Processor, System, start_processor}
 use Rattle.mt_machine.specs.WorkedRuns.{bare_file, mapping}
 use Rattle.mt_rendezvous.specs.declared.view.Start.{Start}
@@ -51,7 +52,7 @@ abbrev pub at_start : Key → List ℕ → YardState
 at_start key words = opening words [] (first_yard_view key)
 
 -- an addition of this to the first count
-abbrev pub adds : ℕ → Step (Unit {0})
+abbrev pub adds : ℕ → Step Op
 adds n = step 0 0 n 0 none
 
 -- a start of which all have this era
@@ -68,3 +69,7 @@ host_view = record { root = true; held = both_lodged; go = Pending; shown = None
 
 abbrev pub numbers_of : List Resident → List ℕ
 numbers_of ys = map (λ y. y.held.number) ys
+
+-- the view of a pass with this processor, and the words of the first
+abbrev pub guest_with : Held → YardView
+guest_with h = record { root = false; held = with_held first_lodged h ∷ []; go = Pending; shown = None; cancel = false; start = lodging }

@@ -96,7 +96,7 @@ StoreWorks =
 -- ---- the table
 
 abbrev pub YardState : Type 0
-YardState = State (Unit {0}) YardView
+YardState = State Op YardView
 
 -- the second state meets the rule too, and its machine is the one after this event, which was enabled, or the same machine if there is none
 pub record IsOneEvent (key : Key) (s later : YardState) (m : MeetsYard key s) (e : Option MachineEvent) : Type 0 where
@@ -122,7 +122,7 @@ StartMeetsRule =
 abbrev pub MoveIsOneEvent : Type 0
 MoveIsOneEvent =
     (key : Key) (s : YardState) (m : MeetsYard key s) (id : ℕ) (v : YardView) (y : Resident) → get_elem? s.views id ≡ some v → v.held ≡ y ∷ []
-    → (i n : ℕ) (w : Resident) (shown : Option ℕ) (cancel : Bool) (e : Option MachineEvent) → w.held.number ≡ y.held.number
+    → (i n : ℕ) (w : Resident) (shown : Option ℕ) (cancel : Bool) (e : Option MachineEvent) → w.held.number ≡ y.held.number → (cancel ≡ true → m.go ≡ Cancelled)
     → Follows (start_of key) m.all m.go m.system y.held.number w e (slice_index (slice_set s.words i n) 0) (slice_index (slice_set s.words i n) 1)
     → IsOneEvent key s (record { words = slice_set s.words i n; homes = s.homes; views = slice_set s.views id (with_one v w shown cancel) }) m e
 

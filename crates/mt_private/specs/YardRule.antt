@@ -1,10 +1,11 @@
 -- The rule of a yard's table: what its words and the views of its seats stand for (own).
-use Rattle.std.specs.Prelude.{◌≡◌, ℕ, ◌+◌, ◌<◌, Bool, true, false, List, [], ◌∷◌, ◌++◌, Option, None, length, map, slice_index}
+use Rattle.std.specs.Prelude.{◌≡◌, ℕ, ◌+◌, ◌<◌, ◌||◌, Bool, true, false, List, [], ◌∷◌, ◌++◌, Option, None, length, map, slice_index}
 use mathlib.Core.Option.{some}
 use lib.ListN.{get_elem?}
 use Rattle.atomic_table.specs.Table.{State}
 use Rattle.mt_machine.specs.declared.go.Go.{Go}
-use Rattle.mt_machine.specs.declared.go.Go.TheVariants.{Pending}
+use Rattle.mt_machine.specs.declared.go.Go.TheVariants.{Cancelled, Pending}
+use Rattle.mt_machine.specs.declared.op.Op.{Op}
 use Rattle.mt_machine.specs.System.{Processor, System}
 use Rattle.mt_machine.specs.Machine.{Machine}
 use Rattle.mt_rendezvous.specs.declared.view.Key.{Key}
@@ -53,9 +54,9 @@ yard_left v = record v { held = rest_of v.held }
 abbrev pub yard_right : YardView → YardView
 yard_right v = record { root = false; held = one_of v.held; go = Pending; shown = None; cancel = false; start = v.start }
 
--- it takes one back, and the pass is spent
+-- it takes one back, and knows then whether the pass was shown the cancel; the pass is spent
 abbrev pub yard_both : YardView → YardView → YardView
-yard_both v w = record v { held = w.held ++ v.held }
+yard_both v w = record v { held = w.held ++ v.held; cancel = v.cancel || w.cancel }
 
 abbrev pub yard_spent : YardView
 yard_spent = record { root = false; held = []; go = Pending; shown = None; cancel = false; start = nothing }
@@ -67,7 +68,7 @@ abbrev pub AreAt : List Resident → List Resident → Type 0
 AreAt all ys = (i : ℕ) (y : Resident) → get_elem? ys i ≡ some y → get_elem? all y.held.number ≡ some y
 
 -- the words and the views stand for one machine, which the state after the call reaches; seats are as at a rendezvous
-pub record MeetsYard (key : Key) (s : State (Unit {0}) YardView) : Type 0 where
+pub record MeetsYard (key : Key) (s : State Op YardView) : Type 0 where
   pub all : List Resident
   pub go : Go
   pub owner : ℕ → ℕ
@@ -77,7 +78,8 @@ pub record MeetsYard (key : Key) (s : State (Unit {0}) YardView) : Type 0 where
   pub present : (k : ℕ) → k < length all → IsHeld (map as_view s.views) k
   pub sits : (j : ℕ) (v : View) → get_elem? (map as_view s.views) j ≡ some v → Sits (start_of key) (map held_of all) go owner j v
   pub same : (j : ℕ) (v : YardView) → get_elem? s.views j ≡ some v → AreAt all v.held
+  pub cancels : (j : ℕ) (v : YardView) → get_elem? s.views j ≡ some v → v.cancel ≡ true → go ≡ Cancelled
 
 -- the machine that they stand for
-abbrev pub its_machine : (key : Key) (s : State (Unit {0}) YardView) → MeetsYard key s → Machine
+abbrev pub its_machine : (key : Key) (s : State Op YardView) → MeetsYard key s → Machine
 its_machine key s m = yard_machine (start_of key) m.go m.system

@@ -1,13 +1,18 @@
 // The yard, and the seat of its host.
-ghost use Rattle.std.specs.Prelude.{◌≡◌, ℕ, ◌+◌, ◌<◌, length};
+ghost use Rattle.std.specs.Prelude.{◌≡◌, ℕ, ◌+◌, ◌<◌, Bool, Some, length, slice_set};
 ghost use Rattle.mt_machine.specs.declared.go.Go.TheVariants.{Cancelled, Given, Pending};
 ghost use Rattle.mt_machine.specs.Machine.{Cancels as CancelsUpdate, Goes};
-ghost use Rattle.mt_rendezvous.specs.Calls.{Leads};
+ghost use Rattle.mt_rendezvous.specs.Calls.{IsRoot, Leads};
 ghost use Rattle.mt_rendezvous.specs.Station.{start_of};
+ghost use Rattle.mt_private.specs.YardCalls.{Keeps, Lodges};
 ghost use Rattle.mt_private.specs.YardPlays.{Said, as_sat};
+ghost use Rattle.mt_private.specs.YardRule.{yard_both};
 
-use crate::view::{CancelsYard, GivesYard, Lodging, YardView};
+use crate::view::{CancelsYard, GivesYard, Lodges as HandsOver, Lodging, YardView};
+use crate::visiting::{Guest, YardPass};
 use atomic_table::{Seat, Table};
+use mt_bus::System;
+use mt_machine::Op;
 use mt_rendezvous::Key;
 use std::alloc::Global;
 
@@ -17,7 +22,7 @@ const CANCEL: u64 = 0x1_0000_0000;
 /// The words of one update between accesses: the two counts, and an event word for each processor.
 #[derive(Drop)]
 pub struct Yard {
-    pub table: Table<(), YardView, Key, Lodging, Global>,
+    pub table: Table<Op, YardView, Key, Lodging, Global>,
     pub count: u64,
     pub ghost counted: { length table.shared.key.cpus.value.items ≡ count },
     pub ghost wide: { table.shared.table_id.words ≡ count + 2 },
@@ -25,10 +30,13 @@ pub struct Yard {
     pub ghost no_slots: { table.shared.table_id.slots ≡ 0 },
 }
 
-/// The coordinator's seat. It has the processors that aren't given away, and says whether go was given.
+/// The coordinator's seat. It has the processors that aren't given away, and says whether go was given. What comes
+/// back it keeps.
 #[derive(Drop)]
 pub struct Host {
-    pub seat: Seat<(), YardView>,
+    pub seat: Seat<Op, YardView>,
+    /// By number, the own system of each guest that came back.
+    pub owns: Vec<Option<System>>,
 }
 
 impl Host {
@@ -37,6 +45,7 @@ impl Host {
         requires { Leads yard.now.table.shared.table_id (start_of yard.now.table.shared.key) self.old.seat.table_id (as_sat self.old.seat.me) Pending }
         ensures hosts { Leads yard.now.table.shared.table_id (start_of yard.now.table.shared.key) self.new.seat.table_id (as_sat self.new.seat.me) Given }
         ensures held { self.new.seat.me.0.held ≡ self.old.seat.me.0.held }
+        ensures owns { self.new.owns ≡ self.old.owns }
         ensures event { (count : ℕ) × Said (start_of yard.now.table.shared.key) count Goes Given }
     {
         yard.table
@@ -49,10 +58,32 @@ impl Host {
         requires { Leads yard.now.table.shared.table_id (start_of yard.now.table.shared.key) self.old.seat.table_id (as_sat self.old.seat.me) Pending }
         ensures hosts { Leads yard.now.table.shared.table_id (start_of yard.now.table.shared.key) self.new.seat.table_id (as_sat self.new.seat.me) Cancelled }
         ensures held { self.new.seat.me.0.held ≡ self.old.seat.me.0.held }
+        ensures owns { self.new.owns ≡ self.old.owns }
         ensures event { (count : ℕ) × Said (start_of yard.now.table.shared.key) count CancelsUpdate Cancelled }
     {
         yard.table
             .shared
             .fetch_add::<CancelsYard>(&mut self.seat, 0, CANCEL);
+    }
+    /// Takes a guest back: joins its pass, and keeps its processor and the words of its pages.
+    pub fn take_back(&mut self, yard: &Yard, guest: Guest)
+        requires hosts { IsRoot yard.now.table.shared.table_id self.old.seat.table_id (as_sat self.old.seat.me) }
+        requires lodges { (added : Bool) × (again : Bool) × Lodges yard.now.table.shared.table_id (start_of yard.now.table.shared.key) guest.pass.seat.table_id guest.pass.seat.me guest.pass.number guest.own added again }
+        requires long { length self.old.owns.items ≡ yard.now.count }
+        ensures hosts { IsRoot yard.now.table.shared.table_id self.new.seat.table_id (as_sat self.new.seat.me) }
+        ensures view { self.new.seat.me.0 ≡ yard_both self.old.seat.me.0 guest.pass.seat.me.0 }
+        ensures owns { self.new.owns.items ≡ slice_set self.old.owns.items guest.pass.number (Some guest.own) }
+        ensures keeps { Keeps self.old.seat.me.0 self.old.owns.items → Keeps self.new.seat.me.0 self.new.owns.items }
+    {
+        let Guest { own, pass } = guest;
+        let YardPass {
+            seat,
+            number,
+            stored: _,
+        } = pass;
+        self.owns[number as usize] = Some(own);
+        yard.table
+            .shared
+            .join_seat::<HandsOver>(&mut self.seat, seat);
     }
 }

@@ -2,6 +2,7 @@
 #![tactic(auto)]
 
 mod fault;
+mod gather;
 mod host;
 mod job;
 mod laws;
@@ -10,11 +11,15 @@ mod runs;
 #[cfg(test)]
 mod tests;
 mod view;
+mod visiting;
 mod worked;
+mod worked_guests;
 mod worked_own;
 mod worked_steps;
 mod worked_yard;
 mod yard_laws;
+#[cfg(test)]
+mod yard_tests;
 
 pub use fault::PrivateFault;
 pub use host::{Host, Yard};
@@ -25,7 +30,9 @@ pub use laws::{
 pub use pages::shared_page;
 pub use runs::run_private;
 pub use view::{Resident, YardView};
+pub use visiting::{Guest, Visited, YardPass, visit};
 pub use worked::{worked_jobs, worked_names, worked_shared};
+pub use worked_guests::{worked_lodges, worked_visits};
 pub use worked_own::{worked_alone, worked_becomes, worked_commute, worked_owners, worked_words};
 pub use worked_steps::{
     worked_moves, worked_sayings, worked_stands_for, worked_yard_rule, worked_yards,

@@ -47,7 +47,7 @@ fn has_cached(cache: &Cache, page: u64) -> bool
 }
 
 // Whether one of the processor's mappings, TLB entries, cached lines or buffers lies in the page.
-fn names(cpu: &Cpu, page: u64) -> bool
+pub(crate) fn names(cpu: &Cpu, page: u64) -> bool
     ensures { result ≡ names page cpu.now }
 {
     has_mapping(cpu, page)

@@ -22,7 +22,7 @@ use std::sync::atomic::{AtomicU64, Ordering};
 use std::thread::Threads;
 
 /// A file whose memory below 4 GB has a type, over UC.
-fn file(kind: u64) -> Option<RegFile> {
+pub(crate) fn file(kind: u64) -> Option<RegFile> {
     let Ok(mut file) = RegFile::blank(36, 0x508) else {
         return None;
     };
@@ -60,7 +60,7 @@ fn map(core: &mut Core, k: u32, ppage: u64) -> Option<()> {
 }
 
 /// So many processors, each with a window of 64 lines of its own to which its page 1 is mapped.
-fn core_of(alloc: Global, count: u32) -> Option<Core> {
+pub(crate) fn core_of(alloc: Global, count: u32) -> Option<Core> {
     let mut core = bare_core(alloc, count)?;
     for k in 0..count {
         if k < 16 {
@@ -93,7 +93,7 @@ fn one(alloc: Global, op: Op) -> Option<Vec<Op>> {
 }
 
 /// For each of so many processors a store of 2AH and its number before, and a load of it after.
-fn jobs_of(alloc: Global, count: u32) -> Option<Vec<Job>> {
+pub(crate) fn jobs_of(alloc: Global, count: u32) -> Option<Vec<Job>> {
     let mut jobs = Vec::new(alloc);
     for k in 0..count {
         let before = one(alloc, Op::Store(0x1000, 0x2a_u64.saturating_add(k as u64)))?;
@@ -133,7 +133,7 @@ fn has_room(cpus: &[Cpu]) -> bool
 }
 
 /// Whether an update's conditions hold.
-fn may_call(core: &Core, goal: &RegFile) -> bool
+pub(crate) fn may_call(core: &Core, goal: &RegFile) -> bool
     ensures { IsTrue result → (0 < length core.now.system.processors) × All (FitsGoal goal.now) core.now.system.processors × HasEraRoom core.now }
 {
     let cpus = core.system().cpus.as_slice();
@@ -156,7 +156,7 @@ fn fits_ops(ops: &[Op]) -> bool
     ops.iter().all(|op| fits_op(*op))
 }
 
-fn fits_job(job: &Job) -> bool
+pub(crate) fn fits_job(job: &Job) -> bool
     ensures { IsTrue result ↔ FitsJob job.now }
 {
     fits_ops(job.before.as_slice()) && fits_ops(job.after.as_slice())

@@ -25,7 +25,7 @@ pub struct YardView {
 /// The rule: between any two steps the words and the views stand for one machine, which the state after the call reaches.
 pub struct Lodging;
 
-impl TableRule<(), YardView, Key> for Lodging {
+impl TableRule<Op, YardView, Key> for Lodging {
     ghost use Rattle.mt_private.specs.YardRule.{MeetsYard, first_yard_view};
 
     ghost holds = { MeetsYard };
@@ -36,7 +36,7 @@ impl TableRule<(), YardView, Key> for Lodging {
 /// The root adds 1 to the first count. It is Go.
 pub struct GivesYard;
 
-impl Play<(), YardView> for GivesYard {
+impl Play<Op, YardView> for GivesYard {
     ghost use Rattle.mt_private.specs.YardPlays.{GivesYard as Tells};
 
     ghost then = { Tells };
@@ -45,8 +45,71 @@ impl Play<(), YardView> for GivesYard {
 /// The root adds 2^32 to the first count. It is Cancel.
 pub struct CancelsYard;
 
-impl Play<(), YardView> for CancelsYard {
+impl Play<Op, YardView> for CancelsYard {
     ghost use Rattle.mt_private.specs.YardPlays.{CancelsYard as Tells};
+
+    ghost then = { Tells };
+}
+
+/// A pass whose processor runs loads the first count. It is Take, or no event where the cancel stands there.
+pub struct TakesYard;
+
+impl Play<Op, YardView> for TakesYard {
+    ghost use Rattle.mt_private.specs.YardPlays.{TakesYard as Tells};
+
+    ghost then = { Tells };
+}
+
+/// A pass adds to the first count. It is Arrive, or no event where the cancel stood there before.
+pub struct ArrivesYard;
+
+impl Play<Op, YardView> for ArrivesYard {
+    ghost use Rattle.mt_private.specs.YardPlays.{ArrivesYard as Tells};
+
+    ghost then = { Tells };
+}
+
+/// A pass that waits loads the first count. It is Pass, Leave or no event.
+pub struct PassesYard;
+
+impl Play<Op, YardView> for PassesYard {
+    ghost use Rattle.mt_private.specs.YardPlays.{PassesYard as Tells};
+
+    ghost then = { Tells };
+}
+
+/// A pass stores its event word. It is the event that is due for its processor.
+pub struct WorksYard;
+
+impl Play<Op, YardView> for WorksYard {
+    ghost use Rattle.mt_private.specs.YardPlays.{WorksYard as Tells};
+
+    ghost then = { Tells };
+}
+
+/// A pass stores its event word, and announces an access, which is that event.
+pub struct AccessesYard;
+
+impl Play<Op, YardView> for AccessesYard {
+    ghost use Rattle.mt_private.specs.YardPlays.{AccessesYard as Tells};
+
+    ghost then = { Tells };
+}
+
+/// A pass adds to the second count. It is ArriveAgain.
+pub struct ArrivesAgainYard;
+
+impl Play<Op, YardView> for ArrivesAgainYard {
+    ghost use Rattle.mt_private.specs.YardPlays.{ArrivesAgainYard as Tells};
+
+    ghost then = { Tells };
+}
+
+/// A pass loads the second count. It is Release where the count is full, else no event. The view keeps the count.
+pub struct ReleasesYard;
+
+impl Play<Op, YardView> for ReleasesYard {
+    ghost use Rattle.mt_private.specs.YardPlays.{ReleasesYard as Tells};
 
     ghost then = { Tells };
 }

@@ -80,6 +80,7 @@ pub fn worked_yard_rule()
     ensures counted { (key : Key) → start_of key ≡ lodging → MeetsYard key (at_start key (1 ∷ 0 ∷ 0 ∷ 0 ∷ [])) → ⊥ }
     ensures missing { (key : Key) → start_of key ≡ lodging → MeetsYard key (opening (0 ∷ 0 ∷ 0 ∷ 0 ∷ []) [] (yard_left (first_yard_view key))) → ⊥ }
     ensures uncounted { (key : Key) → start_of key ≡ lodging → MeetsYard key (opening (0 ∷ 0 ∷ 0 ∷ 0 ∷ []) [] (with_said (first_yard_view key) Given)) → ⊥ }
+    ensures untold { (key : Key) → start_of key ≡ lodging → MeetsYard key (opening (0 ∷ 0 ∷ 0 ∷ 0 ∷ []) [] (record (first_yard_view key) { cancel = true })) → ⊥ }
     ensures split { (key : Key) → start_of key ≡ lodging → (m : MeetsYard key (at_start key (0 ∷ 0 ∷ 0 ∷ 0 ∷ []))) → IsOneEvent key (at_start key (0 ∷ 0 ∷ 0 ∷ 0 ∷ [])) (record { words = 0 ∷ 0 ∷ 0 ∷ 0 ∷ []; homes = []; views = yard_left (first_yard_view key) ∷ yard_right (first_yard_view key) ∷ [] }) m None }
     ensures not_kept { (key : Key) → start_of key ≡ lodging → (m : MeetsYard key (at_start key (0 ∷ 0 ∷ 0 ∷ 0 ∷ []))) → IsOneEvent key (at_start key (0 ∷ 0 ∷ 0 ∷ 0 ∷ [])) (at_start key (0 ∷ 0 ∷ 0 ∷ [])) m None → ⊥ }
     ensures not_enabled { (key : Key) → start_of key ≡ lodging → (m : MeetsYard key (at_start key (0 ∷ 0 ∷ 0 ∷ 0 ∷ []))) → IsOneEvent key (at_start key (0 ∷ 0 ∷ 0 ∷ 0 ∷ [])) (at_start key (0 ∷ 0 ∷ 0 ∷ 0 ∷ [])) m (Some (Steps 7 Arrive)) → ⊥ }

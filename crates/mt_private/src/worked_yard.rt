@@ -68,6 +68,8 @@ pub fn worked_yard_views()
     ensures still_root { (yard_left host_view).root ≡ true }
     ensures no_root { (yard_right host_view).root ≡ false }
     ensures taken_back { numbers_of (yard_both (yard_left host_view) (yard_right host_view)).held ≡ 0 ∷ 1 ∷ [] }
+    ensures none_told { (yard_both (yard_left host_view) (yard_right host_view)).cancel ≡ false }
+    ensures told { (yard_both (yard_left host_view) (record (yard_right host_view) { cancel = true })).cancel ≡ true }
     ensures spent { yard_spent.held ≡ [] }
     ensures said { (with_said host_view Given).go ≡ Given }
     ensures as_views { map (λ h. h.number) (as_view host_view).held ≡ 0 ∷ 1 ∷ [] }

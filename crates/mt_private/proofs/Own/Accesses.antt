@@ -1,7 +1,7 @@
 -- An access of one processor to its own pages, in the whole system and in its own one.
-use Rattle.std.proofs.Common.{◌≡◌, ◌∙◌, ap, sym, refl, subst, arith, ℕ, ◌+◌, ◌*◌, ◌/◌, ◌%◌, ◌<◌, ◌==◌, Bool, true, false, List, [], ◌∷◌, ◌++◌, length, drop, set, Option, None, Some}
+use Rattle.std.proofs.Common.{◌≡◌, ◌∙◌, ap, sym, refl, subst, arith, ℕ, ◌/◌, ◌==◌, Bool, true, false, List, [], ◌∷◌, length, drop, Option, None, Some}
 use Rattle.std.specs.Prelude.{if◌then◌else◌, ◌&&◌, not, slice_get, slice_index, is_some}
-use Rattle.std.specs.List.{find, list_all}
+use Rattle.std.specs.List.{list_all}
 use Rattle.std.specs.Option.{option_map, option_map_or}
 use Rattle.mt_kinds.specs.declared.mem_type.MemType.{MemType}
 use Rattle.mt_kinds.specs.declared.mem_type.MemType.TheVariants.{UC, WC, WT, WP, WB}
@@ -12,17 +12,14 @@ use Rattle.mt_tlb.specs.declared.mapping.Mapping.{Mapping}
 use Rattle.mt_tlb.specs.Entries.{add_entry, find_entry, find_mapping, has_page, maps_page}
 use Rattle.mt_machine.specs.declared.op.Op.{Op}
 use Rattle.mt_machine.specs.declared.op.Op.TheVariants.{Load, Store, Fence}
-use Rattle.mt_machine.specs.declared.done.Done.{Done}
-use Rattle.mt_machine.specs.declared.done.Done.TheVariants.{Value, Stored, Fenced, Unmapped, NoRam, Busy}
-use Rattle.mt_machine.specs.declared.phase.Phase.{Phase}
+use Rattle.mt_machine.specs.declared.done.Done.TheVariants.{Value, Stored, Unmapped, NoRam, Busy}
 use Rattle.mt_machine.specs.Memory.{Memory, line_of, place, word_at, word_of}
 use Rattle.mt_machine.specs.System.{Processor, System, change, lines_of}
-use Rattle.mt_machine.specs.Bus.{bus_read, drain, drain_line, fill_line, invalidate, invalidate_others, store_in_memory, write_back_others}
+use Rattle.mt_machine.specs.Bus.{bus_read, fill_line, invalidate, invalidate_others, write_back_others}
 use Rattle.mt_machine.specs.Access.{Answered, access, access_at, address_of, cache_disabled_of, entry_of, first_of_load, first_of_store, hit_of, is_cached, is_running, keep_entry, load, load_after, new_entry, physical, store, store_after, store_hit, store_filling, store_past, store_uncached, translated}
 use Rattle.mt_bus.proofs.Changed.{set_there}
 use Rattle.mt_laws.proofs.Clearing.Follows.{all_append, all_drop}
 use Rattle.mt_laws.proofs.Words.StepLaws.{find_within}
-use Rattle.mt_private.specs.Own.{own_memory}
 use Rattle.mt_private.proofs.Own.Words.{HasAddresses, word_on}
 use Rattle.mt_private.proofs.Own.Buses.{AreOutside, IsWithin, Own, lines_alone, lines_whole, own_change, own_store, own_read, own_invalidate, own_others, own_back_others, own_drain, own_drain_line, own_combine, own_fill, own_line}
 

@@ -1,24 +1,22 @@
 -- What one processor does to lines of its own pages on the bus, in the whole system and in its own one.
-use Rattle.std.proofs.Common.{◌≡◌, ◌≢◌, ◌∙◌, ap, sym, refl, subst, arith, ℕ, zero, suc, ◌+◌, ◌/◌, ◌<◌, ◌==◌, Bool, true, false, List, [], ◌∷◌, ◌++◌, length, drop, set, map, Option, None, Some}
-use Rattle.std.specs.Prelude.{if◌then◌else◌, ◌&&◌, not, slice_get, is_some}
-use Rattle.std.specs.List.{fold, list_all, remove, filter}
+use Rattle.std.proofs.Common.{◌≡◌, ◌∙◌, ap, sym, refl, subst, arith, ℕ, ◌/◌, ◌==◌, Bool, true, false, List, [], ◌∷◌, ◌++◌, length, set, Option, None, Some}
+use Rattle.std.specs.Prelude.{if◌then◌else◌, not, slice_get, is_some}
+use Rattle.std.specs.List.{fold, list_all}
 use Rattle.std.specs.Option.{option_map_or}
 use Rattle.std.proofs.lemmas.List.{set-set}
 use Rattle.std.proofs.lemmas.Option.{slice_get_within}
 use Rattle.mt_cache.specs.declared.line.CacheLine.{CacheLine}
-use Rattle.mt_cache.specs.Lines.{change_line, clean_line, combined_with, find_line, has_number, oldest_of_full, without_line, write_dirty}
+use Rattle.mt_cache.specs.Lines.{change_line, clean_line, combined_with, find_line, oldest_of_full, without_line, write_dirty}
 use Rattle.mt_lists.proofs.Keys.{change_none}
 use Rattle.mt_lists.proofs.Keys.{filter_none as others_without}
-use Rattle.mt_tlb.specs.declared.entry.Entry.{Entry}
-use Rattle.mt_tlb.specs.declared.mapping.Mapping.{Mapping}
 use Rattle.mt_machine.specs.Memory.{Memory, fresh_line, put_word, write_back, write_back_of}
 use Rattle.mt_machine.specs.System.{Processor, System, change, lines_of, buffers_of}
 use Rattle.mt_machine.specs.Bus.{with_lines, with_buffers, bus_read, invalidate, invalidate_others, write_back_others, empty_buffer, drain, drain_line, make_room, fill_line, make_buffer_room, empty_if_whole, combine, store_in_memory}
 use Rattle.mt_bus.proofs.Changed.{set_there}
 use Rattle.mt_laws.proofs.Barrier.Ranks.{and_left, and_right}
 use Rattle.mt_laws.proofs.Words.AccessLaws.{change_at, lines_at, oldest_found}
-use Rattle.mt_laws.proofs.Words.LineLaws.{put_length, put_windows, write_back_length, write_back_windows}
-use Rattle.mt_laws.proofs.Words.LineLists.{filter_none, found_number, found_passes, of_length, of_windows, passes_append, passes_changed, passes_without}
+use Rattle.mt_laws.proofs.Words.LineLaws.{put_length, write_back_length}
+use Rattle.mt_laws.proofs.Words.LineLists.{filter_none, found_number, found_passes, of_length, passes_append, passes_changed, passes_without}
 use Rattle.mt_private.specs.Own.{own_memory}
 use Rattle.mt_private.specs.Pages.{page_of_line}
 use Rattle.mt_private.proofs.Own.Words.{HasAddresses, back_on, fresh_on, of_on, put_on}

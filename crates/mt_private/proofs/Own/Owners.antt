@@ -1,13 +1,12 @@
 -- A processor that owns its pages: what it does in the whole system is what it does in its own.
-use Rattle.std.proofs.Common.{◌≡◌, ◌≢◌, ◌∙◌, ap, sym, refl, subst, arith, ℕ, zero, suc, ◌+◌, ◌*◌, ◌/◌, ◌%◌, ◌<◌, ◌≤◌, ◌==◌, Bool, true, false, List, [], ◌∷◌, length, set, Option, None, Some, inl, inr, ⊎_elim, cond, eq-eqb}
-use Rattle.std.specs.Prelude.{◌⊎◌, ◌^◌, if◌then◌else◌, ◌&&◌, ◌||◌, not, slice_get}
-use Rattle.std.specs.List.{count_by, filter, list_all, list_any}
+use Rattle.std.proofs.Common.{◌≡◌, ◌≢◌, ◌∙◌, ap, sym, refl, subst, arith, ℕ, zero, suc, ◌+◌, ◌/◌, ◌≤◌, ◌==◌, Bool, true, false, List, [], ◌∷◌, length, set, Option, Some, inl, inr, ⊎_elim, cond, eq-eqb}
+use Rattle.std.specs.Prelude.{◌⊎◌, if◌then◌else◌, ◌&&◌, ◌||◌, not, slice_get}
+use Rattle.std.specs.List.{list_all, list_any}
 use Rattle.std.specs.Option.{option_map_or}
 use mathlib.Core.Logic.{dite}
 use native.Mathlib.Decide.{ℕ_discrete}
 use Rattle.std.proofs.lemmas.Bool.{eqb-true}
 use Rattle.std.proofs.lemmas.List.{set_comm}
-use Rattle.mt_cache.specs.declared.line.CacheLine.{CacheLine}
 use Rattle.mt_cache.specs.Lines.{clean_word}
 use Rattle.mt_tlb.specs.declared.entry.Entry.{Entry}
 use Rattle.mt_tlb.specs.declared.mapping.Mapping.{Mapping}
@@ -35,7 +34,7 @@ use Rattle.mt_private.specs.Pages.{IsPrivate, names, naming, page_of_line}
 use Rattle.mt_private.proofs.Lists.{at_put}
 use Rattle.mt_private.proofs.Own.Words.{HasAddresses, has_addresses}
 use Rattle.mt_private.proofs.Own.Whole.{other_at, set_back}
-use Rattle.mt_private.proofs.Own.Buses.{AreOutside, IsBeside, IsWithin, Own, in_pages, other_pages, own_change, own_drain, own_store}
+use Rattle.mt_private.proofs.Own.Buses.{AreOutside, IsWithin, Own, in_pages, other_pages, own_change, own_drain, own_store}
 use Rattle.mt_private.proofs.Own.Accesses.{access_alike}
 
 -- ---- names and tests of pages

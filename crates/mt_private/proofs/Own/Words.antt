@@ -1,12 +1,12 @@
 -- A memory with the words of some pages alone: what a change of a word, or of a line, makes of it.
-use Rattle.std.proofs.Common.{◌≡◌, ◌∙◌, ap, sym, refl, subst, arith, ℕ, zero, suc, ◌+◌, ◌*◌, ◌/◌, ◌%◌, ◌<◌, ◌==◌, Bool, true, false, List, [], ◌∷◌, length, set, get_or, Option, None, Some}
-use Rattle.std.specs.Prelude.{if◌then◌else◌, ◌&&◌, not, map, nat_lt, slice_index}
+use Rattle.std.proofs.Common.{◌≡◌, ◌∙◌, ap, sym, refl, subst, arith, ℕ, zero, suc, ◌/◌, ◌%◌, ◌<◌, ◌==◌, Bool, true, false, List, [], ◌∷◌, length, set, get_or, Option, None, Some}
+use Rattle.std.specs.Prelude.{if◌then◌else◌, map, nat_lt, slice_index}
 use Rattle.std.specs.List.{filter, fold, list_all}
 use Rattle.std.specs.Option.{option_map_or}
 use Rattle.std.proofs.lemmas.Bool.{eqb-true, ltb-true}
 use Rattle.mt_cache.specs.declared.line.CacheLine.{CacheLine}
 use Rattle.mt_cache.specs.Lines.{eight, has_number, is_dirty}
-use Rattle.mt_machine.specs.Memory.{Memory, Window, IsMemory, fresh_line, line_words, place, place_in, put_word, word_address, word_at, write_back, write_back_of, write_back_word}
+use Rattle.mt_machine.specs.Memory.{Memory, Window, IsMemory, fresh_line, place, place_in, put_word, word_address, word_at, write_back, write_back_of, write_back_word}
 use Rattle.mt_machine.specs.Update.{addresses}
 use Rattle.mt_laws.proofs.Barrier.Ranks.{and_left, and_right}
 use Rattle.mt_laws.proofs.Updates.Addresses.{word_of_words}

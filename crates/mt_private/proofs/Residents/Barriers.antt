@@ -1,8 +1,7 @@
 -- The steps of a yard by the two counts: which event each is.
-use Rattle.std.proofs.Common.{◌≡◌, ◌≢◌, ◌⊎◌, ◌∙◌, ap, sym, refl, subst, arith, ℕ, zero, suc, ◌+◌, ◌<◌, ◌≤◌, ◌==◌, Bool, true, false, not, ◌&&◌, ◌||◌, List, [], ◌∷◌, length, map, set, Option, None, Some, inl, inr, ⊎_elim, eq-eqb}
-use Rattle.std.specs.Prelude.{if◌then◌else◌, slice_get}
+use Rattle.std.proofs.Common.{◌≡◌, ◌≢◌, ◌⊎◌, ◌∙◌, ap, sym, refl, subst, arith, ℕ, zero, suc, ◌+◌, ◌<◌, ◌≤◌, Bool, true, false, not, ◌&&◌, ◌||◌, List, [], ◌∷◌, length, map, set, Option, None, Some, inl, inr, ⊎_elim}
+use Rattle.std.specs.Prelude.{if◌then◌else◌}
 use Rattle.std.specs.List.{list_all, list_any}
-use Rattle.std.specs.Option.{option_map_or}
 use Rattle.std.proofs.lemmas.Bool.{le-ltb}
 use Rattle.std.proofs.lemmas.List.{length-map, map-set}
 use mathlib.Core.Option.{some, some-injective, some-ne-none}
@@ -10,29 +9,23 @@ use lib.ListN.{get_elem?}
 use Rattle.mt_machine.specs.declared.phase.Phase.{Phase}
 use Rattle.mt_machine.specs.declared.phase.Phase.TheVariants.{Running, Taken, Arrived, Restored, Arrived2}
 use Rattle.mt_machine.specs.declared.event.Event.{Event}
-use Rattle.mt_machine.specs.declared.event.Event.TheVariants.{Take, Arrive, Leave, Pass, ArriveAgain, Release, WriteBack}
+use Rattle.mt_machine.specs.declared.event.Event.TheVariants.{Arrive, Leave, Pass, ArriveAgain, Release}
 use Rattle.mt_machine.specs.declared.go.Go.{Go}
 use Rattle.mt_machine.specs.declared.go.Go.TheVariants.{Pending, Given, Cancelled}
-use Rattle.mt_machine.specs.declared.op.Op.{Op}
-use Rattle.mt_machine.specs.Memory.{Memory}
 use Rattle.mt_machine.specs.System.{Processor, System}
-use Rattle.mt_machine.specs.Bus.{drain}
-use Rattle.mt_machine.specs.Access.{access}
-use Rattle.mt_machine.specs.Machine.{Accesses, FitsOp, MachineEvent, Order, Steps, before_own, common_era, due, has_arrived, has_arrived_again, has_released, is_cancelled, is_changing, is_over, is_waiting_to_pass, own_step, step}
-use Rattle.mt_cpu.specs.Steps.{is_local}
-use Rattle.mt_laws.proofs.Barrier.Stages.{access_stages, drain_stages}
+use Rattle.mt_machine.specs.Machine.{MachineEvent, Steps, common_era, due, has_arrived, has_arrived_again, has_released, is_cancelled, is_over, is_waiting_to_pass, step}
 use Rattle.mt_rendezvous.specs.declared.view.Held.{Held}
 use Rattle.mt_rendezvous.specs.declared.view.Start.{Start}
-use Rattle.mt_rendezvous.specs.Station.{Fits, added_of, again_of, cpu_of, go_weight, held, order_of, rise, total, weight}
+use Rattle.mt_rendezvous.specs.Station.{Fits, added_of, again_of, cpu_of, order_of, rise, total, weight}
 use Rattle.mt_rendezvous.specs.Plays.{arrive, arrive_again, does, late}
-use Rattle.mt_rendezvous.proofs.Keeps.{IsUnderWay, all_false, all_true, at_cpu, order_stands, total_full, total_set, total_small, weight_small}
-use Rattle.mt_rendezvous.proofs.Local.{again_in, arrived_in, changing_under_way, fits_changing}
+use Rattle.mt_rendezvous.proofs.Keeps.{IsUnderWay, all_false, all_true, order_stands, total_full, total_set, total_small, weight_small}
+use Rattle.mt_rendezvous.proofs.Local.{again_in, arrived_in}
 use Rattle.mt_rendezvous.proofs.Steps.{due_arrive, due_leave, due_pass, due_release, is_true, ready, shows}
 use Rattle.mt_private.specs.declared.view.Resident.{Resident}
-use Rattle.mt_private.specs.Own.{Becomes, WritesOn, own_memory, own_system}
-use Rattle.mt_private.specs.Residents.{FitsResident, FitsYard, Follows, Moves, Resides, Yard, accessed_by, held_of, in_system, own_of, pages_at, stepped_by, with_held, yard_machine}
-use Rattle.mt_private.proofs.Residents.Events.{accesses, stays, steps}
-use Rattle.mt_private.proofs.Residents.Moves.{held_at, processor_at}
+use Rattle.mt_private.specs.Own.{WritesOn}
+use Rattle.mt_private.specs.Residents.{FitsResident, FitsYard, Follows, Moves, Yard, held_of, own_of, pages_at, with_held, yard_machine}
+use Rattle.mt_private.proofs.Residents.Events.{stays, steps}
+use Rattle.mt_private.proofs.Residents.Moves.{held_at}
 
 -- ---- how a resident fits
 

@@ -1,5 +1,5 @@
 -- What the coordinator says to a yard.
-use Rattle.std.proofs.Common.{◌≡◌, ◌≢◌, ◌∙◌, ap, sym, refl, subst, arith, ℕ, ◌+◌, ◌<◌, Bool, true, false, List, [], ◌∷◌, length, map, Option, None, Some, inl, inr, ⊎_elim}
+use Rattle.std.proofs.Common.{◌≡◌, ◌∙◌, ap, sym, refl, subst, arith, ℕ, ◌+◌, ◌<◌, Bool, true, false, List, [], ◌∷◌, length, Option, Some, inl, inr, ⊎_elim}
 use Rattle.std.specs.Prelude.{◌⊎◌}
 use Rattle.std.specs.Option.{option_map, option_map_or}
 use mathlib.Core.Option.{some}
@@ -9,14 +9,13 @@ use Rattle.mt_machine.specs.declared.phase.Phase.TheVariants.{Running}
 use Rattle.mt_machine.specs.declared.go.Go.{Go}
 use Rattle.mt_machine.specs.declared.go.Go.TheVariants.{Pending, Given, Cancelled}
 use Rattle.mt_machine.specs.System.{System}
-use Rattle.mt_machine.specs.Machine.{Cancels, Goes, IsEnabled, MachineEvent, Order, Reached, after, common_era, go_of, next, remaining_order, with_go}
-use Rattle.mt_rendezvous.specs.declared.view.Held.{Held}
+use Rattle.mt_machine.specs.Machine.{Cancels, Goes, IsEnabled, MachineEvent, Order, Reached, after, go_of, next, remaining_order, with_go}
 use Rattle.mt_rendezvous.specs.declared.view.Start.{Start}
-use Rattle.mt_rendezvous.specs.Station.{Fits, added_of, broadcast, go_weight, order_of, rise, total}
+use Rattle.mt_rendezvous.specs.Station.{Fits, broadcast, go_weight, order_of, rise}
 use Rattle.mt_rendezvous.proofs.Keeps.{IsUnderWay}
 use Rattle.mt_rendezvous.proofs.RootSteps.{turned}
 use Rattle.mt_private.specs.declared.view.Resident.{Resident}
-use Rattle.mt_private.specs.Residents.{Decides, FitsResident, FitsYard, Resides, Yard, held_of, yard_machine}
+use Rattle.mt_private.specs.Residents.{Decides, FitsYard, Yard, yard_machine}
 use Rattle.mt_private.proofs.Residents.Barriers.{not_taken, under_way}
 
 -- before it says anything each processor is on its way, or hasn't taken

@@ -1,10 +1,9 @@
 -- Each event of one resident, and what it leads to.
-use Rattle.std.proofs.Common.{◌≡◌, ◌≢◌, ◌⊎◌, ◌∙◌, ap, sym, refl, subst, arith, ℕ, ◌+◌, Bool, true, false, List, [], ◌∷◌, map, set, Option, None, Some, inl, inr, ⊎_elim}
+use Rattle.std.proofs.Common.{◌≡◌, ◌∙◌, ap, sym, refl, subst, ℕ, false, List, [], ◌∷◌, Option, None, Some}
 use Rattle.std.specs.Prelude.{slice_get}
 use Rattle.std.specs.Option.{option_map_or}
 use mathlib.Core.Option.{some}
 use lib.ListN.{get_elem?}
-use Rattle.mt_machine.specs.declared.phase.Phase.{Phase}
 use Rattle.mt_machine.specs.declared.phase.Phase.TheVariants.{Running}
 use Rattle.mt_machine.specs.declared.event.Event.{Event}
 use Rattle.mt_machine.specs.declared.go.Go.{Go}
@@ -12,13 +11,11 @@ use Rattle.mt_machine.specs.declared.done.Done.{Done}
 use Rattle.mt_machine.specs.declared.op.Op.{Op}
 use Rattle.mt_machine.specs.System.{Processor, System}
 use Rattle.mt_machine.specs.Access.{access, is_running}
-use Rattle.mt_machine.specs.Machine.{Accesses, FitsOp, IsEnabled, Machine, MachineEvent, Order, Reached, Steps, after, due, next, remaining_order, step, stepped}
+use Rattle.mt_machine.specs.Machine.{Accesses, FitsOp, IsEnabled, Order, Reached, Steps, after, due, next, step, stepped}
 use Rattle.mt_laws.proofs.Barrier.Stages.{access_stages}
-use Rattle.mt_rendezvous.specs.declared.view.Held.{Held}
 use Rattle.mt_rendezvous.specs.declared.view.Start.{Start}
 use Rattle.mt_rendezvous.specs.Station.{broadcast, order_of}
 use Rattle.mt_private.specs.declared.view.Resident.{Resident}
-use Rattle.mt_private.specs.OneByOne.{ran}
 use Rattle.mt_private.specs.Own.{Becomes, RunsAlone, WritesOn, own_system}
 use Rattle.mt_private.specs.Residents.{FitsResident, Moves, Resides, own_of, pages_at, yard_machine}
 use Rattle.mt_private.proofs.Own.Owners.{runs_alone, steps_alone}

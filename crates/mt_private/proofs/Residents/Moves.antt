@@ -1,5 +1,5 @@
 -- One resident does something on its own pages: the others stand, and so does the whole.
-use Rattle.std.proofs.Common.{◌≡◌, ◌≢◌, ◌⊎◌, ◌∙◌, ap, sym, refl, subst, arith, ℕ, zero, suc, ◌+◌, ◌<◌, Bool, true, false, not, ◌&&◌, ◌||◌, List, [], ◌∷◌, length, map, set, Option, None, Some, inl, inr, ⊎_elim, length-set}
+use Rattle.std.proofs.Common.{◌≡◌, ◌≢◌, ◌∙◌, ap, sym, refl, subst, arith, ℕ, zero, suc, Bool, true, false, not, ◌&&◌, ◌||◌, List, [], ◌∷◌, map, set, Option, None, Some, ⊎_elim, length-set}
 use Rattle.std.specs.Prelude.{if◌then◌else◌, nat_lt, slice_get}
 use Rattle.std.specs.List.{list_all, list_any}
 use Rattle.std.specs.Option.{option_map_or}
@@ -7,20 +7,18 @@ use Rattle.std.proofs.lemmas.List.{map-set}
 use mathlib.Core.Option.{some, some-injective, some-ne-none}
 use lib.ListN.{get_elem?}
 use Rattle.atomic_table.proofs.Lists.{at_set}
-use Rattle.mt_machine.specs.declared.phase.Phase.{Phase}
 use Rattle.mt_machine.specs.declared.go.Go.{Go}
 use Rattle.mt_machine.specs.System.{Processor, System}
-use Rattle.mt_machine.specs.Machine.{Machine, Order, Reached, has_released, is_cancelled, is_over, is_waiting_to_pass, remaining_order}
+use Rattle.mt_machine.specs.Machine.{Order, Reached, has_released, is_cancelled, is_waiting_to_pass, remaining_order}
 use Rattle.mt_machine.specs.Update.{addresses}
 use Rattle.mt_laws.proofs.Barrier.Stages.{Stage, stages_of}
-use Rattle.mt_rendezvous.specs.declared.view.Held.{Held}
 use Rattle.mt_rendezvous.specs.declared.view.Start.{Start}
 use Rattle.mt_rendezvous.specs.Station.{broadcast, cpu_of}
 use Rattle.mt_rendezvous.proofs.Keeps.{at_cpu, set_cpus}
 use Rattle.mt_private.specs.declared.view.Resident.{Resident}
 use Rattle.mt_private.specs.Own.{AreApart, Becomes, IsOwner, own_memory, own_system, put_first}
-use Rattle.mt_private.specs.Pages.{IsPrivate, names, naming}
-use Rattle.mt_private.specs.Residents.{FitsResident, Resides, StandsFor, held_of, own_of, pages_at, pages_left, yard_machine}
+use Rattle.mt_private.specs.Pages.{IsPrivate, names}
+use Rattle.mt_private.specs.Residents.{FitsResident, Resides, held_of, own_of, pages_at, pages_left, yard_machine}
 use Rattle.mt_private.proofs.Own.Owners.{memory_after, same_system, stays_owner, two_named, words_left}
 
 -- ---- lists

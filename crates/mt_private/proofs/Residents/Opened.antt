@@ -10,7 +10,7 @@ use lib.ListN.{get_elem?}
 use Rattle.atomic_table.specs.Table.{opening}
 use Rattle.mt_machine.specs.declared.phase.Phase.{Phase}
 use Rattle.mt_machine.specs.declared.phase.Phase.TheVariants.{Running}
-use Rattle.mt_machine.specs.declared.go.Go.TheVariants.{Pending}
+use Rattle.mt_machine.specs.declared.go.Go.TheVariants.{Cancelled, Pending}
 use Rattle.mt_machine.specs.System.{Processor}
 use Rattle.mt_machine.specs.Access.{is_running}
 use Rattle.mt_machine.specs.Machine.{Order, Reached, at_start, common_era, has_released}
@@ -19,11 +19,11 @@ use Rattle.mt_rendezvous.specs.declared.view.Held.{Held}
 use Rattle.mt_rendezvous.specs.declared.view.Key.{Key}
 use Rattle.mt_rendezvous.specs.declared.view.Start.{Start}
 use Rattle.mt_rendezvous.specs.declared.view.View.{View}
-use Rattle.mt_rendezvous.specs.Station.{Apart, IsHeld, Sits, added_of, again_of, broadcast, cpu_of, held, numbered, order_of, rise, start_of, total}
+use Rattle.mt_rendezvous.specs.Station.{Apart, Sits, added_of, again_of, broadcast, cpu_of, held, numbered, order_of, rise, start_of, total}
 use Rattle.mt_rendezvous.proofs.RootSteps.{numbered_apart, numbered_at, numbered_cpus, numbered_length, numbered_none, numbered_some}
 use Rattle.mt_private.specs.declared.view.Resident.{Resident}
 use Rattle.mt_private.specs.declared.view.YardView.{YardView}
-use Rattle.mt_private.specs.Own.{IsOwner, own_memory, own_system, pages_of}
+use Rattle.mt_private.specs.Own.{IsOwner, own_memory, own_system}
 use Rattle.mt_private.specs.Pages.{names}
 use Rattle.mt_private.specs.Residents.{FitsResident, FitsYard, Opens, Resides, held_of, own_of, pages_at, system_of, yard_machine}
 use Rattle.mt_private.specs.YardRule.{AreAt, MeetsYard, as_view, first_yard_view, residents}
@@ -154,6 +154,7 @@ opened key words opens long first second = record {
       (0, as_view (first_yard_view key), k, r.0, refl, subst (λ (hs : List Held). get_elem? hs k ≡ some r.0) (sym (residents_held (start_of key) 0 key.cpus.value.items)) r.1, r.2 ∙ place (start_of key) opens k);
   sits = sits;
   same = same;
+  cancels = cancels;
 }
   where
     sits : (j : ℕ) (v : View) → get_elem? (as_view (first_yard_view key) ∷ []) j ≡ some v → Sits (start_of key) (map held_of (all (start_of key) opens)) Pending (λ _. 0) j v
@@ -163,3 +164,10 @@ opened key words opens long first second = record {
     same : (j : ℕ) (v : YardView) → get_elem? (first_yard_view key ∷ []) j ≡ some v → AreAt (all (start_of key) opens) v.held
     same zero v e = subst (λ (u : YardView). AreAt (all (start_of key) opens) u.held) (some-injective _ v e) (at_first (start_of key) opens)
     same (suc j) v e = absurd (some-ne-none v (sym e))
+
+    never : {X : Type 0} → false ≡ true → X
+    never e = absurd (cc)
+
+    cancels : (j : ℕ) (v : YardView) → get_elem? (first_yard_view key ∷ []) j ≡ some v → v.cancel ≡ true → Pending ≡ Cancelled
+    cancels zero v e shown = never (ap (λ (u : YardView). u.cancel) (some-injective _ v e) ∙ shown)
+    cancels (suc j) v e shown = absurd (some-ne-none v (sym e))

@@ -1,5 +1,5 @@
 -- What the root's additions ask.
-use Rattle.std.proofs.Common.{◌≡◌, ◌∙◌, ap, sym, refl, subst, arith, ℕ, ◌+◌, ◌%◌, ◌^◌, ◌<◌, ◌≤◌, ◌⊎◌, Bool, true, false, List, [], length, map, set, get_or, Option, None, Some, inl, inr, get_or-set_other}
+use Rattle.std.proofs.Common.{◌≡◌, ◌∙◌, sym, refl, subst, arith, ℕ, ◌+◌, ◌%◌, ◌^◌, ◌<◌, ◌⊎◌, true, false, [], length, map, set, get_or, Some, inl, inr, get_or-set_other}
 use Rattle.std.specs.Prelude.{slice_index}
 use Rattle.std.proofs.lemmas.List.{length-map}
 use mathlib.Core.Option.{none, some}
@@ -7,11 +7,11 @@ use lib.ListN.{get_elem?}
 use Rattle.atomic_table.specs.Table.{Allows, Me, State, keeps, step}
 use Rattle.mt_machine.specs.declared.go.Go.{Go}
 use Rattle.mt_machine.specs.declared.go.Go.TheVariants.{Pending, Given, Cancelled}
+use Rattle.mt_machine.specs.declared.op.Op.{Op}
 use Rattle.mt_machine.specs.Machine.{Cancels, Goes, MachineEvent}
-use Rattle.mt_rendezvous.specs.declared.view.Held.{Held}
 use Rattle.mt_rendezvous.specs.declared.view.Key.{Key}
 use Rattle.mt_rendezvous.specs.declared.view.Start.{Start}
-use Rattle.mt_rendezvous.specs.Station.{added_of, go_weight, start_of, total}
+use Rattle.mt_rendezvous.specs.Station.{added_of, start_of}
 use Rattle.mt_rendezvous.proofs.Keeps.{total_small, weight_small}
 use Rattle.mt_private.specs.declared.view.YardView.{YardView}
 use Rattle.mt_private.specs.Residents.{Decides, Yard, held_of}
@@ -23,7 +23,7 @@ use Rattle.mt_private.proofs.Residents.Seats.{mapped_at, says}
 
 module _ (key : Key) where
   abbrev St : Type 0
-  St = State (Unit {0}) YardView
+  St = State Op YardView
 
   abbrev t : Start
   t = start_of key
@@ -77,13 +77,13 @@ module _ (key : Key) where
         let same : get_or s.words 0 0 + 4294967296 ≡ (get_or s.words 0 0 + 4294967296) % 18446744073709551616 = omega arith in
         subst (λ (n : ℕ). Decides t m.all Cancelled n (slice_index s.words 1) m.system Cancels) same (cancels t m.all (slice_index s.words 0) (slice_index s.words 1) m.system yard)
 
-  pub gives_yard : (slots id : ℕ) (me : Me (Unit {0}) YardView) → me.0.root ≡ true → me.0.go ≡ Pending
+  pub gives_yard : (slots id : ℕ) (me : Me Op YardView) → me.0.root ≡ true → me.0.go ≡ Pending
       → Allows (MeetsYard key) slots id me 0 (λ n. (n + 1) % 2 ^ 64) (GivesYard (step slots 0 1 0 none) me)
   gives_yard slots id me root is s m _ at small =
       let p = said s m id me.0 at root is ((get_or s.words 0 0 + 1) % 18446744073709551616) Given Goes (giving s m id me.0 at root is) in
       (with_said me.0 Given, keeps, tt, p.0.kept, (refl, refl, p.1))
 
-  pub cancels_yard : (slots id : ℕ) (me : Me (Unit {0}) YardView) → me.0.root ≡ true → me.0.go ≡ Pending
+  pub cancels_yard : (slots id : ℕ) (me : Me Op YardView) → me.0.root ≡ true → me.0.go ≡ Pending
       → Allows (MeetsYard key) slots id me 0 (λ n. (n + 4294967296) % 2 ^ 64) (CancelsYard (step slots 0 4294967296 0 none) me)
   cancels_yard slots id me root is s m _ at small =
       let p = said s m id me.0 at root is ((get_or s.words 0 0 + 4294967296) % 18446744073709551616) Cancelled Cancels (cancelling s m id me.0 at root is) in

@@ -1,14 +1,14 @@
 -- What steps of seats make of the rule.
-use Rattle.std.proofs.Common.{◌≡◌, ◌≢◌, ◌⊎◌, ◌∙◌, ap, sym, refl, subst, arith, ℕ, zero, suc, ◌+◌, ◌<◌, ◌≤◌, Bool, true, false, List, [], ◌∷◌, ◌++◌, length, map, set, get_or, Option, None, Some, inl, inr, ⊎_elim, length-set, get_or-set_same, get_or-set_other}
-use Rattle.std.specs.Prelude.{slice_get, slice_index}
-use Rattle.std.specs.Option.{option_map_or}
+use Rattle.std.proofs.Common.{◌≡◌, ◌≢◌, ◌⊎◌, ◌∙◌, ap, sym, refl, subst, arith, ℕ, zero, suc, ◌+◌, ◌<◌, Bool, true, false, List, [], ◌∷◌, ◌++◌, length, map, set, Option, None, Some, inl, inr, ⊎_elim, ◌||◌, length-set, get_or-set_same}
+use Rattle.std.specs.Prelude.{slice_index}
 use Rattle.std.proofs.lemmas.List.{map-append, map-set}
 use mathlib.Core.Option.{some, some-injective, some-ne-none}
 use lib.ListN.{get_elem?}
-use Rattle.atomic_table.specs.Table.{State}
+use Rattle.atomic_table.specs.Table.{Joins, Splits, State}
 use Rattle.atomic_table.proofs.Lists.{at_set, set_else, set_here}
+use Rattle.mt_machine.specs.declared.op.Op.{Op}
 use Rattle.mt_machine.specs.declared.go.Go.{Go}
-use Rattle.mt_machine.specs.declared.go.Go.TheVariants.{Pending}
+use Rattle.mt_machine.specs.declared.go.Go.TheVariants.{Cancelled, Pending}
 use Rattle.mt_machine.specs.Machine.{IsEnabled, MachineEvent, next}
 use Rattle.mt_rendezvous.specs.declared.view.Held.{Held}
 use Rattle.mt_rendezvous.specs.declared.view.Key.{Key}
@@ -42,6 +42,10 @@ at_last [] a b (suc j) e = absurd (some-ne-none b (sym e))
 at_last (x ∷ xs) a b zero e = inl e
 at_last (x ∷ xs) a b (suc j) e = at_last xs a b j e
 
+either : (a b : Bool) → (a || b) ≡ true → (a ≡ true) ⊎ (b ≡ true)
+either true b h = inl refl
+either false b h = inr h
+
 held_left : (ys : List Resident) → map held_of (rest_of ys) ≡ others (map held_of ys)
 held_left [] = refl
 held_left (y ∷ ys) = refl
@@ -50,7 +54,7 @@ held_right : (ys : List Resident) → map held_of (one_of ys) ≡ one (map held_
 held_right [] = refl
 held_right (y ∷ ys) = refl
 
-module _ (key : Key) (s : State (Unit {0}) YardView) (m : MeetsYard key s) where
+module _ (key : Key) (s : State Op YardView) (m : MeetsYard key s) where
   abbrev t : Start
   t = start_of key
 
@@ -76,10 +80,10 @@ module _ (key : Key) (s : State (Unit {0}) YardView) (m : MeetsYard key s) where
     mine : m.owner y.held.number ≡ id
     mine = ((m.sits id (as_view v) at_view).holds 0 y.held (subst (λ (l : List Held). get_elem? l 0 ≡ some y.held) (sym held_is) refl)).1
 
-    pub placed : (i n : ℕ) (w : Resident) (shown : Option ℕ) (cancel : Bool) (e : Option MachineEvent) → w.held.number ≡ y.held.number
+    pub placed : (i n : ℕ) (w : Resident) (shown : Option ℕ) (cancel : Bool) (e : Option MachineEvent) → w.held.number ≡ y.held.number → (cancel ≡ true → m.go ≡ Cancelled)
         → Follows t m.all m.go m.system y.held.number w e (slice_index (set s.words i n) 0) (slice_index (set s.words i n) 1)
         → IsOneEvent key s (record { words = set s.words i n; homes = s.homes; views = set s.views id (with_one v w shown cancel) }) m e
-    placed i n w shown cancel e number f = record {
+    placed i n w shown cancel e number told f = record {
       kept = record {
         all = set m.all y.held.number w;
         go = m.go;
@@ -97,6 +101,10 @@ module _ (key : Key) (s : State (Unit {0}) YardView) (m : MeetsYard key s) where
             (λ (x : (j ≢ id) × (get_elem? s.views j ≡ some u)). λ i z at_z.
             let owner_is = ((m.sits j (as_view u) (mapped_at as_view s.views j u x.1)).holds i z.held (mapped_at held_of u.held i z at_z)).1 in
             set_else m.all y.held.number z.held.number w (λ eq. x.0 (sym owner_is ∙ ap m.owner eq ∙ mine)) ∙ m.same j u x.1 i z at_z)
+            (at_set s.views id j new u e);
+        cancels = λ j u e set_there. ⊎_elim
+            (λ (x : (j ≡ id) × (new ≡ u)). told (ap (λ (u : YardView). u.cancel) x.1 ∙ set_there))
+            (λ (x : (j ≢ id) × (get_elem? s.views j ≡ some u)). m.cancels j u x.1 set_there)
             (at_set s.views id j new u e);
       };
       enabled = f.moves.enabled;
@@ -135,6 +143,10 @@ module _ (key : Key) (s : State (Unit {0}) YardView) (m : MeetsYard key s) where
           (λ (x : (j ≡ id) × (with_said v go ≡ u)). subst (λ (u : YardView). AreAt m.all u.held) x.1 (m.same id v at))
           (λ (x : (j ≢ id) × (get_elem? s.views j ≡ some u)). m.same j u x.1)
           (at_set s.views id j (with_said v go) u e);
+      cancels = λ j u e shown. ⊎_elim
+          (λ (x : (j ≡ id) × (with_said v go ≡ u)). never (m.cancels id v at (ap (λ (u : YardView). u.cancel) x.1 ∙ shown)))
+          (λ (x : (j ≢ id) × (get_elem? s.views j ≡ some u)). never (m.cancels j u x.1 shown))
+          (at_set s.views id j (with_said v go) u e);
     };
     enabled = subst (λ (g : Go). IsEnabled (yard_machine t g m.system) e) (sym was) d.enabled;
     becomes = d.becomes ∙ ap (λ (g : Go). next (yard_machine t g m.system) e) (sym was);
@@ -142,6 +154,10 @@ module _ (key : Key) (s : State (Unit {0}) YardView) (m : MeetsYard key s) where
     where
       at_view : get_elem? views id ≡ some (as_view v)
       at_view = mapped_at as_view s.views id v at
+
+      -- it has said nothing yet
+      never : m.go ≡ Cancelled → go ≡ Cancelled
+      never c = absurd (let e : Pending ≡ Cancelled = sym was ∙ c in cc)
 
       views_are : map as_view (set s.views id (with_said v go)) ≡ set views id (with_go (as_view v) go)
       views_are = map-set as_view s.views id (with_said v go)
@@ -165,6 +181,13 @@ module _ (key : Key) (s : State (Unit {0}) YardView) (m : MeetsYard key s) where
           (λ (z : (j ≢ id) × (get_elem? s.views j ≡ some u)). m.same j u z.1)
           (at_set s.views id j (yard_left v) u x))
           (λ (x : yard_right v ≡ u). subst (λ (u : YardView). AreAt m.all u.held) x right_at)
+          (at_last (set s.views id (yard_left v)) (yard_right v) u j e);
+      cancels = λ j u e shown. ⊎_elim
+          (λ (x : get_elem? (set s.views id (yard_left v)) j ≡ some u). ⊎_elim
+          (λ (z : (j ≡ id) × (yard_left v ≡ u)). m.cancels id v at (ap (λ (u : YardView). u.cancel) z.1 ∙ shown))
+          (λ (z : (j ≢ id) × (get_elem? s.views j ≡ some u)). m.cancels j u z.1 shown)
+          (at_set s.views id j (yard_left v) u x))
+          (λ (x : yard_right v ≡ u). absurd (let e : false ≡ true = ap (λ (u : YardView). u.cancel) x ∙ shown in cc))
           (at_last (set s.views id (yard_left v)) (yard_right v) u j e);
     };
     enabled = tt;
@@ -225,6 +248,13 @@ module _ (key : Key) (s : State (Unit {0}) YardView) (m : MeetsYard key s) where
           (λ (z : (j ≢ id) × (get_elem? s.views j ≡ some u)). m.same j u z.1)
           (at_set s.views id j (yard_both v w) u x.1))
           (at_set (set s.views id (yard_both v w)) other j yard_spent u e);
+      cancels = λ j u e shown. ⊎_elim
+          (λ (x : (j ≡ other) × (yard_spent ≡ u)). absurd (let e : false ≡ true = ap (λ (u : YardView). u.cancel) x.1 ∙ shown in cc))
+          (λ (x : (j ≢ other) × (get_elem? (set s.views id (yard_both v w)) j ≡ some u)). ⊎_elim
+          (λ (z : (j ≡ id) × (yard_both v w ≡ u)). ⊎_elim (m.cancels id v at) (m.cancels other w at_other) (either v.cancel w.cancel (ap (λ (u : YardView). u.cancel) z.1 ∙ shown)))
+          (λ (z : (j ≢ id) × (get_elem? s.views j ≡ some u)). m.cancels j u z.1 shown)
+          (at_set s.views id j (yard_both v w) u x.1))
+          (at_set (set s.views id (yard_both v w)) other j yard_spent u e);
     };
     enabled = tt;
     becomes = refl;
@@ -254,3 +284,11 @@ module _ (key : Key) (s : State (Unit {0}) YardView) (m : MeetsYard key s) where
           joined_at : AreAt m.all (y ∷ v.held)
           joined_at zero z e = m.same other w at_other 0 z (subst (λ (l : List Resident). get_elem? l 0 ≡ some z) (sym is) e)
           joined_at (suc i) z e = m.same id v at i z e
+
+-- the table asks this of a join
+pub joins_yard : (key : Key) (id other : ℕ) (v w : YardView) (y : Resident) → v.root ≡ true → w.held ≡ y ∷ [] → Joins (MeetsYard key) id v other w (yard_both v w) yard_spent
+joins_yard key id other v w y root is s m at apart at_other = (joins key s m id other v w y at root apart (sym (set_else s.views id other (yard_both v w) apart) ∙ at_other) is).kept
+
+-- and this of a split
+pub splits_yard : (key : Key) (id : ℕ) (v : YardView) (y : Resident) (ys : List Resident) → v.held ≡ y ∷ ys → Splits (MeetsYard key) id v (yard_left v) (yard_right v)
+splits_yard key id v y ys is s m at = (splits key s m id v y ys at is).kept

@@ -1,5 +1,5 @@
 -- Words and views stand for one machine.
-use Rattle.std.proofs.Common.{◌≡◌, ◌∙◌, ap, sym, refl, subst, arith, ℕ, zero, suc, ◌+◌, ◌/◌, ◌<◌, Bool, true, false, not, ◌||◌, List, [], ◌∷◌, length, map, get_or, Option, None, Some}
+use Rattle.std.proofs.Common.{◌≡◌, ◌∙◌, ap, sym, refl, subst, arith, ℕ, zero, suc, ◌/◌, ◌<◌, Bool, true, false, not, ◌||◌, List, [], ◌∷◌, length, map, get_or, Option, Some}
 use Rattle.std.specs.Prelude.{slice_get}
 use Rattle.std.specs.List.{list_any}
 use Rattle.std.specs.Option.{option_map_or}
@@ -8,6 +8,7 @@ use Rattle.std.proofs.lemmas.Option.{slice_get_within}
 use mathlib.Core.Option.{some, some-injective, some-ne-none}
 use lib.ListN.{get_elem?}
 use Rattle.atomic_table.specs.Table.{State}
+use Rattle.mt_machine.specs.declared.op.Op.{Op}
 use Rattle.mt_machine.specs.declared.go.Go.{Go}
 use Rattle.mt_machine.specs.declared.go.Go.TheVariants.{Pending, Given, Cancelled}
 use Rattle.mt_machine.specs.Memory.{Memory, Window}
@@ -18,12 +19,12 @@ use Rattle.mt_rendezvous.specs.declared.view.Held.{Held}
 use Rattle.mt_rendezvous.specs.declared.view.Key.{Key}
 use Rattle.mt_rendezvous.specs.declared.view.Start.{Start}
 use Rattle.mt_rendezvous.specs.declared.view.View.{View}
-use Rattle.mt_rendezvous.specs.Station.{added_of, cpu_of, go_weight, start_of, total}
+use Rattle.mt_rendezvous.specs.Station.{added_of, go_weight, start_of, total}
 use Rattle.mt_private.specs.declared.view.Resident.{Resident}
 use Rattle.mt_private.specs.declared.view.YardView.{YardView}
-use Rattle.mt_private.specs.Own.{own_system, words_on}
+use Rattle.mt_private.specs.Own.{words_on}
 use Rattle.mt_private.specs.Pages.{names}
-use Rattle.mt_private.specs.Residents.{StandsFor, held_of, own_of, pages_at, pages_left, yard_machine}
+use Rattle.mt_private.specs.Residents.{StandsFor, held_of, pages_at, pages_left, yard_machine}
 use Rattle.mt_private.specs.YardRule.{MeetsYard, as_view, its_machine}
 use Rattle.mt_private.proofs.Own.Words.{words_get}
 
@@ -125,7 +126,7 @@ module _ (t : Start) (all : List Resident) (size : length all ≡ length t.cpus)
 
 -- ---- the machine
 
-module _ (key : Key) (s : State (Unit {0}) YardView) where
+module _ (key : Key) (s : State Op YardView) where
   same_all : (a b : MeetsYard key s) → a.all ≡ b.all
   same_all a b =
       let p = a.yard.resides.size in

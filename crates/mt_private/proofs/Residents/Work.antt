@@ -1,5 +1,5 @@
 -- The steps of a yard that change words of the own pages: takes, events between the barriers, and accesses.
-use Rattle.std.proofs.Common.{◌≡◌, ◌≢◌, ◌∙◌, ap, sym, refl, subst, arith, ℕ, ◌+◌, ◌*◌, ◌/◌, ◌<◌, ◌≤◌, ◌==◌, Bool, true, false, not, ◌&&◌, List, [], ◌∷◌, length, map, Option, None, Some, inl, inr, ⊎_elim, eq-eqb}
+use Rattle.std.proofs.Common.{◌≡◌, ◌≢◌, ◌∙◌, ap, sym, refl, subst, arith, ℕ, ◌+◌, ◌/◌, ◌<◌, ◌≤◌, Bool, true, false, not, ◌&&◌, List, [], ◌∷◌, map, Option, None, Some, inl, ⊎_elim, eq-eqb}
 use Rattle.std.specs.Prelude.{if◌then◌else◌, slice_get}
 use Rattle.std.specs.List.{list_all}
 use Rattle.std.specs.Option.{option_map, option_map_or}
@@ -7,17 +7,16 @@ use Rattle.std.proofs.lemmas.Option.{slice_get-map}
 use mathlib.Core.Option.{some}
 use lib.ListN.{get_elem?}
 use Rattle.mt_machine.specs.declared.phase.Phase.{Phase}
-use Rattle.mt_machine.specs.declared.phase.Phase.TheVariants.{Running, Taken}
+use Rattle.mt_machine.specs.declared.phase.Phase.TheVariants.{Running}
 use Rattle.mt_machine.specs.declared.event.Event.{Event}
 use Rattle.mt_machine.specs.declared.event.Event.TheVariants.{Take, WriteBack}
 use Rattle.mt_machine.specs.declared.go.Go.{Go}
 use Rattle.mt_machine.specs.declared.go.Go.TheVariants.{Pending, Given, Cancelled}
 use Rattle.mt_machine.specs.declared.op.Op.{Op}
-use Rattle.mt_machine.specs.Memory.{Memory}
 use Rattle.mt_machine.specs.System.{IsProcessor, IsSound, Processor, System}
 use Rattle.mt_machine.specs.Bus.{drain}
 use Rattle.mt_machine.specs.Access.{access}
-use Rattle.mt_machine.specs.Machine.{Accesses, Calls, FitsOp, Order, Steps, after, at_start, common_era, due, is_cancelled, is_changing, own_step, step, write_back_or_drop}
+use Rattle.mt_machine.specs.Machine.{Accesses, Calls, FitsOp, Order, Steps, after, at_start, common_era, due, is_cancelled, own_step, step}
 use Rattle.mt_cpu.specs.Steps.{is_local}
 use Rattle.mt_core.proofs.Reaching.{reached_on}
 use Rattle.mt_laws.proofs.Barrier.Claims.{all_get}
@@ -29,12 +28,11 @@ use Rattle.mt_laws.proofs.Words.LineLists.{Apart, found_passes}
 use Rattle.mt_laws.proofs.Words.StepLaws.{back_drains, due_drains, is_drain}
 use Rattle.mt_rendezvous.specs.declared.view.Held.{Held}
 use Rattle.mt_rendezvous.specs.declared.view.Start.{Start}
-use Rattle.mt_rendezvous.specs.Station.{Fits, added_of, held, order_of, rise, total, weight}
-use Rattle.mt_rendezvous.proofs.Keeps.{IsUnderWay}
+use Rattle.mt_rendezvous.specs.Station.{added_of, held, order_of, rise, total, weight}
 use Rattle.mt_rendezvous.proofs.Local.{changing_fits, changing_under_way, fits_changing, local_changing, takes_not, works_in}
 use Rattle.mt_rendezvous.proofs.Steps.{shows}
 use Rattle.mt_private.specs.declared.view.Resident.{Resident}
-use Rattle.mt_private.specs.Own.{Becomes, WritesOn, own_memory, own_system}
+use Rattle.mt_private.specs.Own.{Becomes, WritesOn, own_memory}
 use Rattle.mt_private.specs.OneByOne.{at_rest}
 use Rattle.mt_private.specs.Residents.{FitsResident, FitsYard, Follows, Yard, accessed_by, held_of, in_system, own_of, pages_at, stepped_by, system_of, yard_machine}
 use Rattle.mt_private.proofs.Own.Buses.{in_pages}

@@ -1,6 +1,5 @@
 use Rattle.std.proofs.Common.{◌∙◌, ap, sym, ◌+◌, drop, Option, ℕ}
 use Rattle.std.specs.List.{fold}
-use Rattle.mt_cache.specs.declared.line.CacheLine.{CacheLine}
 use Rattle.mt_private.specs.Pages.{better, is_shared, page_of_line}
 use Rattle.mt_private.proofs.Lists.{drop_at}
 use Rattle.mt_private.proofs.pages.over_cached.Goals as goal

@@ -1,5 +1,4 @@
-use Rattle.std.proofs.Common.{◌≡◌, ◌∙◌, ap, sym, List}
-use Rattle.mt_machine.specs.System.{Processor}
+use Rattle.std.proofs.Common.{◌∙◌, sym}
 use Rattle.mt_private.proofs.Walk.{found_least, found_none, least_found, none_found}
 use Rattle.mt_private.proofs.pages.shared_page.Goals as goal
 

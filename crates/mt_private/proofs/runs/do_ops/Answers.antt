@@ -1,4 +1,4 @@
-use Rattle.std.proofs.Common.{◌≡◌, ◌∙◌, ap, sym, arith, append_assoc, rules, ◌+◌, ◌++◌, ◌∷◌, [], drop, length}
+use Rattle.std.proofs.Common.{◌∙◌, ap, sym, append_assoc, rules, ◌+◌, ◌++◌, ◌∷◌, [], drop, length}
 use Rattle.mt_machine.specs.declared.done.Done.{Done}
 use Rattle.mt_machine.specs.Access.{access}
 use Rattle.mt_machine.specs.Machine.{Machine}

@@ -1,12 +1,10 @@
 use Rattle.std.proofs.Common.{◌≡◌, ◌∙◌, ap, sym, subst, refl, arith, append_assoc, rules, ◌+◌, ◌++◌, ◌∷◌, [], drop, get_or, take, length, map, Some, List}
-use Rattle.std.specs.Prelude.{slice_get, slice_set}
+use Rattle.std.specs.Prelude.{slice_get}
 use Rattle.std.proofs.lemmas.List.{map-append, take_more_set}
 use Rattle.std.proofs.lemmas.Option.{slice_get-get_or, slice_get_read}
 use Rattle.std.proofs.Math.Seq.{map-set_same}
 use Rattle.mt_machine.specs.declared.done.Done.{Done}
 use Rattle.mt_machine.specs.Machine.{Machine}
-use Rattle.mt_private.specs.declared.job.Job.{Job}
-use Rattle.mt_private.specs.declared.job.Told.{Told}
 use Rattle.mt_private.specs.Jobs.{FitsJob, answers_in, ops_in, other_part}
 use Rattle.mt_private.specs.OneByOne.{RanEach, ran, ran_each}
 use Rattle.mt_private.proofs.Accessed.{each_more, open_behind, stays_open}

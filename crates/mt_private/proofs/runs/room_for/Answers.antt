@@ -1,4 +1,4 @@
-use Rattle.std.proofs.Common.{◌≡◌, ◌∙◌, ap, sym, subst, refl, arith, rules, length, Some, List}
+use Rattle.std.proofs.Common.{◌≡◌, sym, subst, refl, arith, rules, length, Some, List}
 use Rattle.std.specs.Prelude.{slice_get}
 use Rattle.std.proofs.lemmas.Option.{slice_get_read}
 use Rattle.mt_private.specs.declared.job.Part.{Part}

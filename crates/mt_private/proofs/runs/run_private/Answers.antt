@@ -1,5 +1,4 @@
-use Rattle.std.proofs.Common.{◌≡◌, rules, subst, sym, None, Some, ℕ, List}
-use Rattle.mt_regs.specs.declared.fault.Fault.{Fault}
+use Rattle.std.proofs.Common.{◌≡◌, rules, subst, sym, None, Some, List}
 use Rattle.mt_regs.specs.Faults.{IsAccepted, IsFirstFault}
 use Rattle.mt_private.specs.declared.job.Job.{Job}
 use Rattle.mt_private.specs.declared.job.Part.{Part}

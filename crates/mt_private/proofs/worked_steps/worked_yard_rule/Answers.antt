@@ -2,7 +2,7 @@ use Rattle.std.proofs.Common.{[], ◌∷◌, ap, refl}
 use Rattle.mt_rendezvous.specs.declared.view.Start.{Start}
 use Rattle.mt_private.specs.WorkedYard.{at_start, first_lodged}
 use Rattle.mt_private.specs.YardRule.{first_yard_view, residents}
-use Rattle.mt_private.proofs.Lodged.{none_due, not_counted, not_gone_on, not_missing, not_short, not_uncounted, opened_lodging, second_lodged}
+use Rattle.mt_private.proofs.Lodged.{none_due, not_counted, not_gone_on, not_missing, not_short, not_uncounted, not_untold, opened_lodging, second_lodged}
 use Rattle.mt_private.proofs.Residents.Seats.{splits}
 use Rattle.mt_private.proofs.worked_steps.worked_yard_rule.Goals as goal
 
@@ -32,3 +32,6 @@ returns-clause-not_enabled c key is m f = none_due key is (at_start key (0 ∷ 0
 
 pub returns-clause-not_gone_on : goal.returns-clause-not_gone_on
 returns-clause-not_gone_on c key is m f = not_gone_on key is (at_start key (0 ∷ 0 ∷ 0 ∷ 0 ∷ [])) m f
+
+pub returns-clause-untold : goal.returns-clause-untold
+returns-clause-untold c key is = not_untold key is

@@ -1,0 +1,142 @@
+-- A pass after a step: which resident its seat lodges then.
+use Rattle.std.proofs.Common.{◌≡◌, ◌∙◌, ap, sym, refl, subst, ℕ, ◌<◌, Bool, List, [], ◌∷◌, ◌++◌, length, Option, Some}
+use Rattle.atomic_table.specs.Seated.{TableId}
+use Rattle.mt_machine.specs.declared.event.Event.{Event}
+use Rattle.mt_machine.specs.declared.event.Event.TheVariants.{Take}
+use Rattle.mt_machine.specs.declared.phase.Phase.TheVariants.{Running}
+use Rattle.mt_machine.specs.declared.go.Go.{Go}
+use Rattle.mt_machine.specs.declared.go.Go.TheVariants.{Given, Pending}
+use Rattle.mt_machine.specs.declared.op.Op.{Op}
+use Rattle.mt_machine.specs.Memory.{Memory}
+use Rattle.mt_machine.specs.System.{Processor, System, change}
+use Rattle.mt_machine.specs.Access.{access}
+use Rattle.mt_machine.specs.Machine.{FitsGoal, Machine, Steps, before_own, common_era, due, own_step, step}
+use Rattle.mt_core.specs.Rounds.{Rounds}
+use Rattle.mt_core.specs.Steps.{under_way}
+use Rattle.mt_rendezvous.specs.declared.view.Start.{Start}
+use Rattle.mt_rendezvous.specs.Station.{held, order_of}
+use Rattle.mt_private.specs.declared.view.Resident.{Resident}
+use Rattle.mt_private.specs.declared.view.YardView.{YardView}
+use Rattle.mt_private.specs.Residents.{Opens, accessed_by, in_system, own_of, stepped_by, with_first}
+use Rattle.mt_private.specs.YardRule.{with_one}
+use Rattle.mt_private.specs.YardPlays.{OfOne, Turns, YardSat}
+use Rattle.mt_private.specs.YardCalls.{Lodges, Visits, done_by, done_in}
+use Rattle.mt_private.proofs.Alone.{Onward, called_given, change_one, due_take, round_on}
+
+-- the resident that a seat lodges
+abbrev pub guest : ℕ → Processor → Bool → Bool → Memory → List Op → Resident
+guest number cpu added again ram done = record { held = held number cpu added again; ram = ram; done = done }
+
+-- with another system in its place
+pub in_its_system : (y : Resident) (o : System) (q : Processor) → o.processors ≡ q ∷ [] → in_system y o ≡ guest y.held.number q y.held.added y.held.again o.memory y.done
+in_its_system y o q alone = ap (λ (ps : List Processor). with_first y ps o.memory) alone
+
+-- a step of its system does none
+in_done : (y : Resident) (ps : List Processor) (m : Memory) → (with_first y ps m).done ≡ y.done
+in_done y [] m = refl
+in_done y (p ∷ ps) m = refl
+
+module _ {table : TableId} {t : Start} {its : TableId} {me : YardSat} {number : ℕ} {own : System} {added again : Bool} (r : Lodges table t its me number own added again) where
+  abbrev pub its_guest : Resident
+  its_guest = guest number r.cpu added again own.memory (done_in me)
+
+  pub own_is : own_of its_guest ≡ own
+  own_is = λ i. record { processors = sym r.alone i; memory = own.memory }
+
+  -- what is so of it
+  pub of_guest : (P : Start → Resident → Type 0) → OfOne me.0 (P me.0.start) → P t its_guest
+  of_guest P of = subst (λ (u : Start). P u its_guest) r.told (of its_guest r.holds)
+
+  -- after a step it is this one
+  pub carried : (its' : TableId) (new : YardSat) (w : Resident) (shown : Option ℕ) (cancel : Bool) (own' : System) (q : Processor) (added' again' : Bool) → its' ≡ its → new.1 ≡ me.1
+      → new.0 ≡ with_one me.0 w shown cancel → own'.processors ≡ q ∷ [] → w ≡ guest number q added' again' own'.memory w.done → Lodges table t its' new number own' added' again'
+  carried its' new w shown cancel own' q added' again' same bare turns alone is = record {
+    cpu = q;
+    same = same ∙ r.same;
+    alone = alone;
+    holds = ap (λ (v : YardView). v.held) turns ∙ ap (λ (x : Resident). x ∷ []) is
+        ∙ ap (λ (xs : List Op). guest number q added' again' own'.memory xs ∷ []) (sym (ap (λ (v : YardView). done_by v.held) turns));
+    told = ap (λ (v : YardView). v.start) turns ∙ r.told;
+    below = r.below;
+    bare = bare ∙ r.bare;
+  }
+
+  -- the accesses that it has done
+  pub has_done : (new : YardSat) (w : Resident) (shown : Option ℕ) (cancel : Bool) → new.0 ≡ with_one me.0 w shown cancel → done_in new ≡ w.done
+  has_done new w shown cancel turns = ap (λ (v : YardView). done_by v.held) turns
+
+  pub stepped_done : (u : Start) (e : Event) → (stepped_by u e its_guest).done ≡ done_in me
+  stepped_done u e = in_done its_guest _ _
+
+  -- a step of the update on its own system
+  pub stepped_is : (e : Event) (q : Processor) → (step t.goal e 0 own).processors ≡ q ∷ [] → stepped_by t e its_guest ≡ guest number q added again (step t.goal e 0 own).memory (done_in me)
+  stepped_is e q alone = ap (λ (o : System). in_system its_guest (step t.goal e 0 o)) own_is ∙ in_its_system its_guest (step t.goal e 0 own) q alone
+
+  -- and an access
+  pub accessed_is : (op : Op) (q : Processor) → (access own 0 op).after.processors ≡ q ∷ [] → accessed_by op its_guest ≡ guest number q added again (access own 0 op).after.memory (done_in me ++ op ∷ [])
+  accessed_is op q alone =
+      ap (λ (o : System). record (in_system its_guest (access o 0 op).after) { done = done_in me ++ op ∷ [] }) own_is
+      ∙ ap (λ (y : Resident). record y { done = done_in me ++ op ∷ [] }) (in_its_system its_guest (access own 0 op).after q alone)
+
+  -- a step that moves nothing but the processor
+  pub shifted_is : (e : Event) (added' again' : Bool) (q : Processor) → before_own e 0 own ≡ own → (step t.goal e 0 own).processors ≡ q ∷ []
+      → guest number (own_step t.goal e r.cpu) added' again' own.memory (done_in me) ≡ guest number q added' again' (step t.goal e 0 own).memory (done_in me)
+  shifted_is e added' again' q quiet alone =
+      let is : step t.goal e 0 own ≡ record { processors = own_step t.goal e r.cpu ∷ []; memory = own.memory } = ap (change (own_step t.goal e) 0) quiet ∙ change_one (own_step t.goal e) own r.cpu r.alone in
+      let same : own_step t.goal e r.cpu ≡ q = first (own_step t.goal e r.cpu) q (sym (ap (λ (o : System). o.processors) is) ∙ alone) in
+      λ i. guest number (same i) added' again' ((sym is i).memory) (done_in me)
+    where
+      first : (a b : Processor) → a ∷ [] ≡ b ∷ [] → a ≡ b
+      first a b h = cc
+
+  -- what a load that shows no cancel tells of it
+  pub took : (found : ℕ) (new : YardSat) → (found < 4294967296 → Opens me.0.start × OfOne me.0 (λ y. Turns me.0 new.0 y (stepped_by me.0.start Take y) me.0.shown me.0.cancel (Some (Steps y.held.number Take)) × FitsGoal me.0.start.goal y.held.cpu × (y.held.cpu.era ≡ common_era me.0.start.cpus)))
+      → found < 4294967296 → Opens t × (new.0 ≡ with_one me.0 (stepped_by t Take its_guest) me.0.shown me.0.cancel) × FitsGoal t.goal r.cpu × (r.cpu.era ≡ common_era t.cpus)
+  took found new tells low =
+      let o = tells low in (
+        subst Opens r.told o.0,
+        of_guest (λ u y. new.0 ≡ with_one me.0 (stepped_by u Take y) me.0.shown me.0.cancel) (λ y same. (o.1 y same).0.0),
+        of_guest (λ u y. FitsGoal u.goal y.held.cpu) (λ y same. (o.1 y same).1),
+        of_guest (λ u y. y.held.cpu.era ≡ common_era u.cpus) (λ y same. (o.1 y same).2),
+      )
+
+  -- and its own machine after the call and the take
+  pub visits_first : (new : Machine) (its' : TableId) (me' : YardSat) (shown : Option ℕ) (cancel : Bool) → (o : Onward t Pending own r.cpu Take new) → r.cpu.phase ≡ Running → r.cpu.era ≡ common_era t.cpus → its' ≡ its → me'.1 ≡ me.1
+      → me'.0 ≡ with_one me.0 (stepped_by t Take its_guest) shown cancel → Visits table t its' me' number new added again Pending own
+  visits_first new its' me' shown cancel o runs era same bare turns =
+      let alone : new.system.processors ≡ o.q.cpu ∷ [] = ap (λ (m : Machine). m.system.processors) o.is ∙ o.q.alone in
+      let is = stepped_is Take o.q.cpu o.q.alone in
+      record {
+        lodges = carried its' me' (stepped_by t Take its_guest) shown cancel new.system o.q.cpu added again same bare turns alone
+            (is ∙ ap (λ (m : Machine). guest number o.q.cpu added again m.system.memory (done_in me)) (sym o.is) ∙ ap (guest number o.q.cpu added again new.system.memory) (sym (ap (λ (y : Resident). y.done) is)));
+        order = ap (λ (m : Machine). m.order) o.is;
+        era = ap common_era alone ∙ o.era;
+        one = ap (λ (ps : List Processor). length ps) r.alone;
+        rounds = λ n later.
+            subst (λ (m : Machine). Rounds m n) (sym (called_given t own r.cpu r.alone era))
+            (round_on t own r.cpu o.q.cpu Take n r.alone (due_take t Given r.cpu runs era refl) o.q.alone o.era (subst (λ (m : Machine). Rounds (under_way (order_of t Given) m.system) n) o.is later));
+      }
+
+-- ---- a pass on its way
+
+module _ {table : TableId} {t : Start} {its : TableId} {me : YardSat} {number : ℕ} {core : Machine} {added again : Bool} {go : Go} {first : System} (v : Visits table t its me number core added again go first) where
+  pub core_is : core ≡ under_way (order_of t go) core.system
+  core_is = λ i. record { system = core.system; order = v.order i }
+
+  pub its_era : v.lodges.cpu.era ≡ common_era t.cpus
+  its_era = sym (ap common_era v.lodges.alone) ∙ v.era
+
+  -- after an event by which its update goes on
+  pub visits_on : (go' : Go) (e : Event) (new : Machine) (its' : TableId) (me' : YardSat) (w : Resident) (shown : Option ℕ) (cancel : Bool) (added' again' : Bool) → (o : Onward t go' core.system v.lodges.cpu e new)
+      → due (order_of t Given) (v.lodges.cpu ∷ []) v.lodges.cpu v.lodges.cpu.phase ≡ Some e → its' ≡ its → me'.1 ≡ me.1 → me'.0 ≡ with_one me.0 w shown cancel
+      → w ≡ guest number o.q.cpu added' again' (step t.goal e 0 core.system).memory w.done → Visits table t its' me' number new added' again' go' first
+  visits_on go' e new its' me' w shown cancel added' again' o due_given same bare turns is =
+      let alone : new.system.processors ≡ o.q.cpu ∷ [] = ap (λ (m : Machine). m.system.processors) o.is ∙ o.q.alone in
+      record {
+        lodges = carried v.lodges its' me' w shown cancel new.system o.q.cpu added' again' same bare turns alone (is ∙ ap (λ (m : Machine). guest number o.q.cpu added' again' m.system.memory w.done) (sym o.is));
+        order = ap (λ (m : Machine). m.order) o.is;
+        era = ap common_era alone ∙ o.era;
+        one = v.one;
+        rounds = λ n later.
+            v.rounds n (round_on t core.system v.lodges.cpu o.q.cpu e n v.lodges.alone due_given o.q.alone o.era (subst (λ (m : Machine). Rounds (under_way (order_of t Given) m.system) n) o.is later));
+      }

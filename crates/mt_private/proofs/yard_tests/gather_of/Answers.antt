@@ -1,0 +1,45 @@
+use Rattle.std.proofs.Common.{◌≡◌, ap, refl, subst, sym, ◌<◌, ◌≤◌, ◌-◌, ◌^◌, length, Option, None, rules}
+use Rattle.std.specs.List.{All}
+use Rattle.mt_regs.specs.RegisterFile.{IsRegisterFile, RegisterFile}
+use Rattle.mt_regs.specs.Faults.{IsAccepted}
+use Rattle.mt_machine.specs.System.{System}
+use Rattle.mt_machine.specs.Machine.{FitsGoal, Machine, Order}
+use Rattle.mt_machine.specs.Start.{HasEraRoom, IsQuiet}
+use Rattle.mt_core.specs.Arises.{IsCore}
+use Rattle.mt_core.proofs.Arising.{era_room}
+use Rattle.mt_core.proofs.Settling.{is_quiet_without_order}
+use Rattle.mt_rendezvous.specs.declared.view.Start.{Start}
+use Rattle.mt_rendezvous.specs.Calls.{gathered}
+use Rattle.mt_private.specs.Pages.{IsPrivate}
+use Rattle.mt_private.specs.Residents.{Opens}
+use Rattle.mt_private.proofs.Causes.{private_where_none}
+use Rattle.mt_private.proofs.yard_tests.gather_of.Goals as goal
+
+abbrev with_order : System → Option Order → Machine
+with_order s o = record { system = s; order = o }
+
+-- a core that rests may be gathered, for a goal that it may be called with
+opens_of : (m : Machine) (goal : RegisterFile) → IsCore m → m.order ≡ None → IsRegisterFile goal → IsAccepted goal → IsPrivate m.system → 0 < length m.system.processors → All (FitsGoal goal) m.system.processors → HasEraRoom m
+    → Opens (gathered m.system.processors m.system.memory goal)
+opens_of m goal core none file good own some fits room = record {
+  quiet = subst IsQuiet (ap (with_order m.system) none) (is_quiet_without_order m core.arises none);
+  enabled = (refl, file, good, fits);
+  unshared = own;
+  some = some;
+  few = core.few;
+  room = era_room m.system.processors room;
+}
+
+pub gather-requires : goal.gather-requires
+gather-requires c =
+    let m : Machine = c.args.core in
+    let none : m.order ≡ None = search rules in
+    let good : IsAccepted c.args.goal.now = search rules in
+    let own = private_where_none m.system c.shared_page.result c.in_default-shared_page.not-Some c.shared_page.ensures.none in
+    record {
+      opens = subst (λ (s : System). Opens (gathered s.processors s.memory c.args.goal.now)) (sym c.into_system.ensures)
+          (opens_of m c.args.goal.now c.a_core_arises.ensures none c.is_register_file.ensures good own c.requires.some c.requires.fits c.requires.room);
+    }
+
+pub returns-clause-goal : goal.returns-clause-goal
+returns-clause-goal c = sym (ap (λ (t : Start). t.goal) c.in-Ok.ensures.key)

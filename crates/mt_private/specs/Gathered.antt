@@ -1,0 +1,38 @@
+-- What a gathering makes (own).
+use Rattle.std.specs.Prelude.{◌≡◌, ℕ, ◌≤◌, false, List, [], drop, length, slice_get, vec_capacity, None, Some}
+use Rattle.atomic_table.specs.Seated.{TableId}
+use Rattle.mt_machine.specs.Memory.{Memory}
+use Rattle.mt_machine.specs.System.{Processor, System}
+use Rattle.mt_rendezvous.specs.declared.view.Start.{Start}
+use Rattle.mt_private.specs.declared.gather.Room.{Room}
+use Rattle.mt_private.specs.declared.visiting.Guest.{Guest}
+use Rattle.mt_private.specs.Own.{own_memory, own_system, pages_of}
+use Rattle.mt_private.specs.Residents.{pages_at, system_of}
+use Rattle.mt_private.specs.YardCalls.{Lodges, done_in}
+use Rattle.mt_private.specs.YardPlays.{YardSat}
+use Rattle.mt_private.specs.YardRule.{residents}
+
+-- the root has the residents from number i on
+abbrev pub OffersFrom : Start → ℕ → YardSat → Type 0
+OffersFrom t i me = me.0.held ≡ residents t i (drop i t.cpus)
+
+-- guest k as it was gathered: it has processor k, with the words of the pages that it names, and its pass has added nothing and was shown nothing
+pub record IsGathered (table : TableId) (t : Start) (k : ℕ) (its : TableId) (me : YardSat) (number : ℕ) (own : System) : Type 0 where
+  pub numbered : number ≡ k
+  pub own_is : own ≡ own_system (pages_at t k) k (system_of t)
+  pub lodges : Lodges table t its me number own false false
+  pub none_done : done_in me ≡ []
+  pub unshown : (me.0.shown ≡ None) × (me.0.cancel ≡ false)
+
+-- so are these, by their places
+abbrev pub AreGathered : TableId → Start → List Guest → Type 0
+AreGathered table t guests = (k : ℕ) (g : Guest) → slice_get guests k ≡ Some g → IsGathered table t k g.pass.seat.table_id g.pass.seat.me g.pass.number g.own
+
+-- room for one processor, with the words of the pages that this one names
+abbrev pub IsRoom : Processor → Memory → Room → Type 0
+IsRoom p m r = (r.ram ≡ own_memory (pages_of p) m) × (r.cpus.items ≡ []) × (1 ≤ vec_capacity r.cpus) × (r.tables.items ≡ []) × (1 ≤ vec_capacity r.tables)
+
+-- one for each
+pub record AreRooms (ps : List Processor) (m : Memory) (rooms : List Room) : Type 0 where
+  pub count : length rooms ≡ length ps
+  pub each : (k : ℕ) (p : Processor) (r : Room) → slice_get ps k ≡ Some p → slice_get rooms k ≡ Some r → IsRoom p m r

@@ -1,0 +1,268 @@
+// A yard is gathered from a system.
+ghost use Rattle.std.specs.Prelude.{◌≡◌, ℕ, ◌+◌, ◌<◌, ◌≤◌, [], ◌∷◌, None, Some, IfErr, IfOk, IfSome, length, replicate, slice_get, vec_capacity};
+ghost use Rattle.mt_machine.specs.declared.go.Go.TheVariants.{Pending};
+ghost use mathlib.Core.Option.{some};
+ghost use lib.ListN.{get_elem?};
+ghost use Rattle.mt_machine.specs.Memory.{IsMemory};
+ghost use Rattle.mt_machine.specs.System.{IsSound, Processor, System as MachineSystem};
+ghost use Rattle.mt_bus.specs.Tables.{AreTablesOf};
+ghost use Rattle.mt_rendezvous.specs.Calls.{Leads, gathered};
+ghost use Rattle.mt_rendezvous.specs.Station.{start_of};
+ghost use Rattle.mt_private.specs.Own.{own_memory, own_system, pages_of};
+ghost use Rattle.mt_private.specs.Residents.{Opens, pages_at, system_of};
+ghost use Rattle.mt_private.specs.Gathered.{AreGathered, AreRooms, IsGathered, IsRoom, OffersFrom};
+ghost use Rattle.mt_private.specs.YardPlays.{as_sat};
+
+use crate::host::{Host, Yard};
+use crate::pages::names;
+use crate::view::Lodges;
+use crate::visiting::{Guest, YardPass};
+use atomic_table::Table;
+use mt_bus::{System, a_system_is_sound};
+use mt_cpu::Cpu;
+use mt_ram::Ram;
+use mt_regs::RegFile;
+use mt_rendezvous::Key;
+use mt_types::KindTable;
+use std::alloc::Global;
+use std::snapshot::Snapshot;
+
+// A page has 4,096 bytes.
+const PAGE: u64 = 4096;
+
+// The word at a place where the processor names its page, and else 0.
+fn word_for(cpu: &Cpu, ram: &Ram, i: usize) -> u64
+    requires place { i < length ram.now.words }
+    requires memory { IsMemory ram.now }
+    ensures { get_elem? (own_memory (pages_of cpu.now) ram.now).words i ≡ some result }
+{
+    if names(cpu, ram.address(i) / PAGE) {
+        ram.word(i)
+    } else {
+        0
+    }
+}
+
+// Copies the words of the pages that the processor names.
+fn copy_words(cpu: &Cpu, ram: &Ram, own: &mut Ram)
+    requires blank { own.old ≡ record ram.now { words = replicate (length ram.now.words) 0 } }
+    ensures { own.new ≡ own_memory (pages_of cpu.now) ram.now }
+{
+    for i in 0..ram.words() {
+        own.put(i, word_for(cpu, ram, i));
+    }
+}
+
+// Memory with the words of the pages that the processor names, where there is room.
+fn own_ram(alloc: Global, cpu: &Cpu, ram: &Ram) -> Option<Ram>
+    ensures { IfSome result (λ r. r ≡ own_memory (pages_of cpu.now) ram.now) }
+{
+    let mut own = ram.blank(alloc)?;
+    copy_words(cpu, ram, &mut own);
+    Some(own)
+}
+
+// What a guest's own system is made in: room for one processor, and its memory.
+#[derive(Drop)]
+pub struct Room {
+    pub cpus: Vec<Cpu>,
+    pub ram: Ram,
+    pub tables: Vec<KindTable>,
+}
+
+fn room_for(alloc: Global, cpu: &Cpu, ram: &Ram) -> Option<Room>
+    ensures { IfSome result (λ r. IsRoom cpu.now ram.now r) }
+{
+    let Ok(cpus) = Vec::with_capacity(alloc, 1) else {
+        return None;
+    };
+    let Ok(tables) = Vec::with_capacity(alloc, 1) else {
+        return None;
+    };
+    let ram = own_ram(alloc, cpu, ram)?;
+    Some(Room { cpus, ram, tables })
+}
+
+// Room for each guest.
+fn rooms_for(alloc: Global, cpus: &[Cpu], ram: &Ram) -> Option<Vec<Room>>
+    ensures { IfSome result (λ rooms. AreRooms cpus.now ram.now rooms.items) }
+{
+    let Ok(mut rooms) = Vec::with_capacity(alloc, cpus.len()) else {
+        return None;
+    };
+    for k in 0..cpus.len() {
+        let room = room_for(alloc, &cpus[k], ram)?;
+        rooms.push_reserved(room);
+    }
+    Some(rooms)
+}
+
+// Places for the systems that come back.
+fn places_for(alloc: Global, count: usize) -> Option<Vec<Option<System>>>
+    ensures { IfSome result (λ owns. owns.items ≡ replicate count None) }
+{
+    let Ok(mut owns) = Vec::with_capacity(alloc, count) else {
+        return None;
+    };
+    for i in 0..count {
+        let _ = i;
+        owns.push_reserved(None);
+    }
+    Some(owns)
+}
+
+// The guest's own system.
+fn settle(cpu: Cpu, table: KindTable, room: Room) -> System
+    requires sound { IsSound (record { processors = cpu ∷ []; memory = room.ram }) }
+    requires tables { AreTablesOf (cpu ∷ []) (table ∷ []) }
+    requires room { (room.cpus.items ≡ []) × (1 ≤ vec_capacity room.cpus) × (room.tables.items ≡ []) × (1 ≤ vec_capacity room.tables) }
+    ensures { result ≡ record { processors = cpu ∷ []; memory = room.ram } }
+{
+    let Room {
+        mut cpus,
+        ram,
+        mut tables,
+    } = room;
+    cpus.push_reserved(cpu);
+    tables.push_reserved(table);
+    System { cpus, ram, tables }
+}
+
+// The root's next resident goes to a new pass.
+fn give_away(yard: &Yard, host: &mut Host, own: System, i: usize) -> Guest
+    requires hosts { Leads yard.now.table.shared.table_id (start_of yard.now.table.shared.key) host.old.seat.table_id (as_sat host.old.seat.me) Pending }
+    requires offers { OffersFrom (start_of yard.now.table.shared.key) i host.old.seat.me }
+    requires own { (p : Processor) × (slice_get yard.now.table.shared.key.cpus.value.items i ≡ Some p) × (own ≡ record { processors = p ∷ []; memory = own_memory (pages_of p) yard.now.table.shared.key.ram.value }) }
+    ensures hosts { Leads yard.now.table.shared.table_id (start_of yard.now.table.shared.key) host.new.seat.table_id (as_sat host.new.seat.me) Pending }
+    ensures offers { OffersFrom (start_of yard.now.table.shared.key) (i + 1) host.new.seat.me }
+    ensures owns { host.new.owns ≡ host.old.owns }
+    ensures guest { IsGathered yard.now.table.shared.table_id (start_of yard.now.table.shared.key) i result.pass.seat.table_id result.pass.seat.me result.pass.number result.own }
+{
+    let seat = yard.table.shared.split_seat::<Lodges>(&mut host.seat);
+    Guest {
+        own,
+        pass: YardPass {
+            seat,
+            number: i as u64,
+            stored: 0,
+        },
+    }
+}
+
+// The root gives these away, which are the first ones, in their order.
+fn give_all(
+    yard: &Yard,
+    host: &mut Host,
+    cpus: &mut Vec<Cpu>,
+    tables: &mut Vec<KindTable>,
+    rooms: &mut Vec<Room>,
+    guests: &mut Vec<Guest>,
+)
+    requires hosts { Leads yard.now.table.shared.table_id (start_of yard.now.table.shared.key) host.old.seat.table_id (as_sat host.old.seat.me) Pending }
+    requires offers { OffersFrom (start_of yard.now.table.shared.key) 0 host.old.seat.me }
+    requires sound { IsSound (system_of (start_of yard.now.table.shared.key)) }
+    requires first { (k : ℕ) (p : Processor) → slice_get cpus.old.items k ≡ Some p → slice_get yard.now.table.shared.key.cpus.value.items k ≡ Some p }
+    requires tables { AreTablesOf cpus.old.items tables.old.items }
+    requires rooms { AreRooms cpus.old.items yard.now.table.shared.key.ram.value rooms.old.items }
+    requires room { length cpus.old.items ≤ vec_capacity guests.old }
+    requires empty { guests.old.items ≡ [] }
+    ensures hosts { Leads yard.now.table.shared.table_id (start_of yard.now.table.shared.key) host.new.seat.table_id (as_sat host.new.seat.me) Pending }
+    ensures offers { OffersFrom (start_of yard.now.table.shared.key) (length cpus.old.items) host.new.seat.me }
+    ensures owns { host.new.owns ≡ host.old.owns }
+    ensures count { length guests.new.items ≡ length cpus.old.items }
+    ensures room { vec_capacity guests.new ≡ vec_capacity guests.old }
+    ensures each { AreGathered yard.now.table.shared.table_id (start_of yard.now.table.shared.key) guests.new.items }
+{
+    let Some(cpu) = cpus.pop() else {
+        return;
+    };
+    let Some(table) = tables.pop() else {
+        unreachable!()
+    };
+    let Some(room) = rooms.pop() else {
+        unreachable!()
+    };
+    let i = cpus.len();
+    let own = settle(cpu, table, room);
+    give_all(yard, host, cpus, tables, rooms, guests);
+    let guest = give_away(yard, host, own, i);
+    guests.push_reserved(guest);
+}
+
+// A table for these processors, all of which the root has.
+fn open(
+    alloc: Global,
+    cpus: &Vec<Cpu>,
+    ram: &Ram,
+    goal: &RegFile,
+    owns: Vec<Option<System>>,
+) -> Option<(Yard, Host)>
+    requires opens { Opens (gathered cpus.now.items ram.now goal.now) }
+    ensures host { IfSome result (λ y. Leads y.0.table.shared.table_id (start_of y.0.table.shared.key) y.1.seat.table_id (as_sat y.1.seat.me) Pending × OffersFrom (start_of y.0.table.shared.key) 0 y.1.seat.me) }
+    ensures key { IfSome result (λ y. start_of y.0.table.shared.key ≡ gathered cpus.now.items ram.now goal.now) }
+    ensures owns { IfSome result (λ y. y.1.owns ≡ owns) }
+{
+    let count = cpus.len();
+    let Ok(words) = vec![in alloc; 0u64; count + 2] else {
+        return None;
+    };
+    let key = Key {
+        cpus: Snapshot::of(cpus),
+        ram: Snapshot::of(ram),
+        goal: Snapshot::of(goal),
+    };
+    let Ok((table, seat)) = Table::of_words(alloc, words.as_slice(), &key) else {
+        return None;
+    };
+    let yard = Yard {
+        table,
+        count: count as u64,
+    };
+    Some((yard, Host { seat, owns }))
+}
+
+impl Yard {
+    /// Makes the yard of this system and this goal. Guest k has processor k alone, with the words of the pages that it
+    /// names. Where there is no memory the system comes back.
+    pub fn gather(
+        alloc: Global,
+        system: System,
+        goal: &RegFile,
+    ) -> Result<(Yard, Host, Vec<Guest>), System>
+        requires opens { Opens (gathered system.processors system.memory goal.now) }
+        ensures host { IfOk result (λ y. Leads y.0.table.shared.table_id (start_of y.0.table.shared.key) y.1.seat.table_id (as_sat y.1.seat.me) Pending) }
+        ensures empty { IfOk result (λ y. (y.1.seat.me.0.held ≡ []) × (y.1.owns.items ≡ replicate (length system.processors) None)) }
+        ensures key { IfOk result (λ y. start_of y.0.table.shared.key ≡ gathered system.processors system.memory goal.now) }
+        ensures count { IfOk result (λ y. length y.2.items ≡ length system.processors) }
+        ensures guests { IfOk result (λ y. AreGathered y.0.table.shared.table_id (start_of y.0.table.shared.key) y.2.items) }
+        ensures refused { IfErr result (λ s. s ≡ system) }
+    {
+        a_system_is_sound(&system); // a fact for the proof
+        let System {
+            mut cpus,
+            ram,
+            mut tables,
+        } = system;
+        let Ok(mut guests) = Vec::with_capacity(alloc, cpus.len()) else {
+            return Err(System { cpus, ram, tables });
+        };
+        let Some(owns) = places_for(alloc, cpus.len()) else {
+            return Err(System { cpus, ram, tables });
+        };
+        let Some(mut rooms) = rooms_for(alloc, cpus.as_slice(), &ram) else {
+            return Err(System { cpus, ram, tables });
+        };
+        let Some((yard, mut host)) = open(alloc, &cpus, &ram, goal, owns) else {
+            return Err(System { cpus, ram, tables });
+        };
+        give_all(
+            &yard,
+            &mut host,
+            &mut cpus,
+            &mut tables,
+            &mut rooms,
+            &mut guests,
+        );
+        Ok((yard, host, guests))
+    }
+}

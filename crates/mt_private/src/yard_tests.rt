@@ -1,0 +1,267 @@
+//! A yard gathered from a core's system, and the visits of its guests.
+ghost use Rattle.std.specs.Prelude.{◌≡◌, ℕ, ◌+◌, ◌<◌, Bool, IsTrue, IfSome, IfNone, length};
+ghost use Rattle.std.specs.List.{All};
+ghost use Rattle.mt_machine.specs.declared.go.Go.TheVariants.{Pending};
+ghost use Rattle.mt_machine.specs.declared.phase.Phase.TheVariants.{Running};
+ghost use Rattle.mt_machine.specs.Machine.{FitsGoal};
+ghost use Rattle.mt_machine.specs.Start.{HasEraRoom};
+ghost use Rattle.mt_rendezvous.specs.Calls.{IsRoot, Leads};
+ghost use Rattle.mt_rendezvous.specs.Station.{start_of};
+ghost use Rattle.mt_private.specs.declared.job.Part.{Part as JobPart};
+ghost use Rattle.mt_private.specs.Gathered.{AreGathered, IsGathered};
+ghost use Rattle.mt_private.specs.Jobs.{FitsJob, IsOpen};
+ghost use Rattle.mt_private.specs.YardCalls.{AreIn, Lodges};
+ghost use Rattle.mt_private.specs.YardPlays.{as_sat};
+
+use crate::host::{Host, Yard};
+use crate::job::{Job, Told};
+use crate::pages::shared_page;
+use crate::tests::{core_of, file, fits_job, jobs_of, may_call};
+use crate::visiting::{Guest, Visited, visit};
+use mt_bus::System;
+use mt_core::{Core, a_core_arises};
+use mt_kinds::MemType;
+use mt_machine::{Done, Phase};
+use mt_ports::Gate;
+use mt_regs::RegFile;
+use std::alloc::Global;
+use std::sync::Wait;
+use std::sync::atomic::{AtomicU64, Ordering};
+
+/// The yard of a core's system, where no update is under way, the goal has no fault and no page is named by two.
+fn gather_of(alloc: Global, core: Core, goal: &RegFile) -> Option<(Yard, Host, Vec<Guest>)>
+    requires some { 0 < length core.system.processors }
+    requires fits { All (FitsGoal goal.now) core.system.processors }
+    requires room { HasEraRoom core }
+    ensures host { IfSome result (λ y. Leads y.0.table.shared.table_id (start_of y.0.table.shared.key) y.1.seat.table_id (as_sat y.1.seat.me) Pending) }
+    ensures goal { IfSome result (λ y. goal.now ≡ y.0.table.shared.key.goal.value) }
+    ensures guests { IfSome result (λ y. AreGathered y.0.table.shared.table_id (start_of y.0.table.shared.key) y.2.items) }
+{
+    a_core_arises(&core); // a fact for the proof
+    goal.is_register_file(); // a fact for the proof
+    if core.order().is_some() {
+        return None;
+    }
+    if let Some(_fault) = goal.first_fault() {
+        return None;
+    }
+    if let Some(_page) = shared_page(&core) {
+        return None;
+    }
+    let Ok(y) = Yard::gather(alloc, core.into_system(), goal) else {
+        return None;
+    };
+    Some(y)
+}
+
+/// The last guest.
+fn last(yard: &Yard, waiting: &mut Vec<Guest>) -> Option<Guest>
+    requires { AreGathered yard.now.table.shared.table_id (start_of yard.now.table.shared.key) waiting.old.items }
+    ensures none { IfNone result (length waiting.old.items ≡ 0) }
+    ensures gathered { IfSome result (λ g. IsGathered yard.now.table.shared.table_id (start_of yard.now.table.shared.key) (length waiting.new.items) g.pass.seat.table_id g.pass.seat.me g.pass.number g.own) }
+    ensures fewer { IfSome result (λ g. length waiting.old.items ≡ length waiting.new.items + 1) }
+    ensures rest { AreGathered yard.now.table.shared.table_id (start_of yard.now.table.shared.key) waiting.new.items }
+{
+    let _ = yard.count;
+    waiting.pop()
+}
+
+/// Whether it has one processor, which runs.
+fn runs(own: &System) -> bool
+    ensures { IsTrue result → AreIn Running own.now }
+{
+    let cpus = own.cpus.as_slice();
+    cpus.len() == 1 && cpus[0].phase() == Phase::Running
+}
+
+/// Counts what it is told of each processor, in four bits.
+#[derive(Drop)]
+struct Counter {
+    told: AtomicU64,
+}
+
+impl Gate for Counter {
+    fn may_start(&self, _k: u32) -> bool {
+        true
+    }
+
+    fn arrived(&self, k: u32) {
+        if k < 16 {
+            self.told.fetch_add(1u64 << (4 * k), Ordering::SeqCst);
+        }
+    }
+}
+
+/// A guest after its visit, and what came of it.
+#[derive(Drop)]
+struct Visit {
+    guest: Guest,
+    visited: Visited,
+    told: Told,
+}
+
+/// The visit of a guest as it was gathered.
+fn visit_whole<R: Wait>(
+    rt: &R,
+    yard: &Yard,
+    k: u64,
+    guest: Guest,
+    goal: &RegFile,
+    job: &Job,
+    mut told: Told,
+    gate: &Counter,
+) -> Visit
+    requires gathered { IsGathered yard.now.table.shared.table_id (start_of yard.now.table.shared.key) k guest.pass.seat.table_id guest.pass.seat.me guest.pass.number guest.own }
+    requires runs { AreIn Running guest.own }
+    requires goal { goal.now ≡ yard.now.table.shared.key.goal.value }
+    requires addresses { FitsJob job.now }
+    requires open { (part : JobPart) → IsOpen part job.now told }
+    ensures { (added : Bool) × (again : Bool) × Lodges yard.now.table.shared.table_id (start_of yard.now.table.shared.key) result.guest.pass.seat.table_id result.guest.pass.seat.me result.guest.pass.number result.guest.own added again }
+{
+    let _ = k;
+    let (guest, visited) = visit(rt, yard, guest, goal, job, &mut told, gate);
+    Visit {
+        guest,
+        visited,
+        told,
+    }
+}
+
+/// Gives the go, or cancels.
+fn say(yard: &Yard, host: &mut Host, given: bool)
+    requires { Leads yard.now.table.shared.table_id (start_of yard.now.table.shared.key) host.old.seat.table_id (as_sat host.old.seat.me) Pending }
+    ensures { IsRoot yard.now.table.shared.table_id host.new.seat.table_id (as_sat host.new.seat.me) }
+{
+    if given {
+        host.go(yard);
+    } else {
+        host.cancel(yard);
+    }
+}
+
+/// What came of a guest, once the host has taken it back.
+#[derive(Drop)]
+struct Came {
+    visited: Visited,
+    told: Told,
+    own: System,
+}
+
+fn taken(owns: &mut Vec<Option<System>>, k: usize) -> Option<System> {
+    owns.get_mut(k)?.take()
+}
+
+/// Takes the guest back, and hands out what the host then keeps at this place.
+fn take_from(yard: &Yard, host: &mut Host, k: usize, done: Visit) -> Option<Came>
+    requires hosts { IsRoot yard.now.table.shared.table_id host.old.seat.table_id (as_sat host.old.seat.me) }
+    requires lodges { (added : Bool) × (again : Bool) × Lodges yard.now.table.shared.table_id (start_of yard.now.table.shared.key) done.guest.pass.seat.table_id done.guest.pass.seat.me done.guest.pass.number done.guest.own added again }
+    ensures { IsRoot yard.now.table.shared.table_id host.new.seat.table_id (as_sat host.new.seat.me) }
+{
+    let Visit {
+        guest,
+        visited,
+        told,
+    } = done;
+    if host.owns.len() as u64 != yard.count {
+        return None;
+    }
+    host.take_back(yard, guest);
+    let own = taken(&mut host.owns, k)?;
+    Some(Came { visited, told, own })
+}
+
+/// The one guest's whole visit, on this thread.
+fn come_alone<R: Wait>(
+    rt: &R,
+    alloc: Global,
+    yard: &Yard,
+    host: &mut Host,
+    waiting: &mut Vec<Guest>,
+    goal: &RegFile,
+    job: &Job,
+    given: bool,
+    gate: &Counter,
+) -> Option<Came>
+    requires hosts { Leads yard.now.table.shared.table_id (start_of yard.now.table.shared.key) host.old.seat.table_id (as_sat host.old.seat.me) Pending }
+    requires guests { AreGathered yard.now.table.shared.table_id (start_of yard.now.table.shared.key) waiting.old.items }
+    requires goal { goal.now ≡ yard.now.table.shared.key.goal.value }
+{
+    let Ok(told) = Told::new(alloc, job) else {
+        return None;
+    };
+    let guest = last(yard, waiting)?;
+    let k = waiting.len() as u64;
+    if !runs(&guest.own) || !fits_job(job) {
+        return None;
+    }
+    say(yard, host, given);
+    let done = visit_whole(rt, yard, k, guest, goal, job, told, gate);
+    take_from(yard, host, 0, done)
+}
+
+/// What comes of a core's one processor, and what the gate was told.
+fn alone<R: Wait>(rt: &R, alloc: Global, given: bool) -> Option<(Came, u64)> {
+    let core = core_of(alloc, 1)?;
+    let goal = file(0)?;
+    let jobs = jobs_of(alloc, 1)?;
+    if !may_call(&core, &goal) {
+        return None;
+    }
+    let gate = Counter {
+        told: AtomicU64::new(0),
+    };
+    let (yard, mut host, mut waiting) = gather_of(alloc, core, &goal)?;
+    let job = jobs.get(0)?;
+    let came = come_alone(
+        rt,
+        alloc,
+        &yard,
+        &mut host,
+        &mut waiting,
+        &goal,
+        job,
+        given,
+        &gate,
+    )?;
+    let told = gate.told.load(Ordering::SeqCst);
+    Some((came, told))
+}
+
+fn word(own: &System, address: u64) -> Option<u64> {
+    let i = own.ram.place(address)?;
+    Some(own.ram.word(i))
+}
+
+#[test]
+fn one_completes(rt: HostRuntime) {
+    let Some((came, arrived)) = alone(&rt, rt.alloc(), true) else {
+        panic!(rt; "the yard is gathered");
+    };
+    assert!(rt; came.visited == Visited::Complete);
+    assert!(rt; came.told.before.as_slice() == [Done::Stored(MemType::WB)].as_slice());
+    assert!(rt; came.told.after.as_slice() == [Done::Value(0x2a, MemType::UC)].as_slice());
+    assert!(rt; arrived == 1);
+    assert!(rt; word(&came.own, 0x10_0000) == Some(0x2a));
+    assert!(rt; came.own.cpus.len() == 1);
+    for cpu in came.own.cpus.iter() {
+        assert!(rt; cpu.era() == 1);
+        assert!(rt; cpu.cache().len() == 0);
+    }
+}
+
+#[test]
+fn one_leaves(rt: HostRuntime) {
+    let Some((came, arrived)) = alone(&rt, rt.alloc(), false) else {
+        panic!(rt; "the yard is gathered");
+    };
+    assert!(rt; came.visited == Visited::Cancelled);
+    assert!(rt; came.told.before.as_slice() == [Done::Stored(MemType::WB)].as_slice());
+    assert!(rt; came.told.after.is_empty());
+    assert!(rt; arrived == 0);
+    assert!(rt; word(&came.own, 0x10_0000) == Some(0));
+    assert!(rt; came.own.cpus.len() == 1);
+    for cpu in came.own.cpus.iter() {
+        assert!(rt; cpu.era() == 0);
+        assert!(rt; cpu.cache().len() == 1);
+    }
+}
