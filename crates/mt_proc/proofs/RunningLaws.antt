@@ -1,5 +1,5 @@
 -- What a run of `proc` keeps to.
-use Rattle.std.proofs.Common.{◌≡◌, ◌∙◌, ap, sym, refl, subst, inl, inr, arith, ℕ, ◌≤◌, ◌<◌, nat_lt, true, List, [], ◌++◌, length, None, Some, Err}
+use Rattle.std.proofs.Common.{◌≡◌, ◌∙◌, ap, sym, refl, subst, inl, inr, arith, ℕ, ◌≤◌, ◌<◌, nat_lt, true, List, [], length, None, Some, Err}
 use Rattle.std.specs.Prelude.{◌⊎◌}
 use Rattle.std.proofs.lemmas.Bool.Decides.{nat_tests}
 use Rattle.mt_ports.specs.declared.status.Status.TheVariants.{BadText, Done}
@@ -8,15 +8,17 @@ use Rattle.mt_dump.specs.Line.{fault_at as dump_fault_at}
 use Rattle.mt_dump.specs.declared.fault.DumpReason.TheVariants as dump_reason
 use Rattle.mt_script.specs.declared.fault.Offence.TheVariants.{Dump}
 use Rattle.mt_output.specs.Lines.{offence_line}
-use Rattle.mt_stream.specs.Laws.{AreLaws, IsLongTold}
-use Rattle.mt_stream.specs.Told.{Telling, Told, told}
+use Rattle.mt_stream.specs.Laws.{AreLaws, IsLongLed}
+use Rattle.mt_stream.specs.Lines.{Path}
+use Rattle.mt_stream.proofs.Taking.{long_led}
+use Rattle.mt_stream.specs.Told.{Told, told}
 use Rattle.mt_stream.proofs.KnownLines.{TellsLong, long_told}
 use Rattle.mt_proc.specs.declared.running.Run.{Run}
 use Rattle.mt_proc.specs.declared.running.Run.TheVariants as run
 use Rattle.mt_proc.specs.declared.request.ProcReason.TheVariants.{BadLine}
-use Rattle.mt_proc.specs.Proc.{Point, in_dump, in_requests, proc_end, proc_step, request_fault_line}
+use Rattle.mt_proc.specs.Proc.{Point, from_point, in_dump, in_requests, proc_end, proc_step, request_fault_line}
 use Rattle.mt_proc.specs.Requests.{fault_at}
-use Rattle.mt_proc.specs.Running.{HasCount, HasRoom, IsAt, IsEarly, IsQuiet, end_of_run, proc_running}
+use Rattle.mt_proc.specs.Running.{HasCount, HasRoom, IsAt, end_of_run, proc_running}
 
 -- the offence of a line too long
 abbrev pub long_offence : ℕ → Point → Told
@@ -48,17 +50,13 @@ ending : (now : Run) (place : Place) → ((end_of_run now place).status ≡ Done
 ending (run.Dump reader) place = inr refl
 ending (run.Requests m) place = inl refl
 
-early_front : (now : Run) (text : List ℕ) → IsQuiet now text → IsEarly now → (rest : List ℕ) × ([] ≡ text ++ rest)
-early_front (run.Dump reader) text quiet early = ([], ap (λ (l : List ℕ). l ++ []) (sym quiet))
-early_front (run.Requests m) text quiet early = absurd early
-
-pub proc_laws : (cpus : ℕ) → AreLaws (proc_running cpus) []
+pub proc_laws : (cpus : ℕ) → AreLaws (proc_running cpus)
 proc_laws cpus = record {
-  long = λ now was number at. subst (λ (t : Telling). IsLongTold t number) (sym at.2) (long_told Point (proc_step cpus) proc_end long_offence (tells_long cpus) at.0 number);
-  unknown = λ now was number at. ap (λ (t : Telling). t None number []) at.2;
-  ended = λ now was place number at. ap (λ (t : Telling). t (Some place) number []) at.2 ∙ none_ends place now at.0 at.1;
+  long = λ now so_far was number at.
+      subst (λ (t : Path). IsLongLed t number) (sym at.3) (long_led [] (from_point cpus at.0) number (long_told Point (proc_step cpus) proc_end long_offence (tells_long cpus) at.0 number));
+  unknown = λ now so_far was number at. ap (λ (t : Path). (t None number []).tells) at.3;
+  ended = λ now so_far was place number at. ap (λ (t : Path). (t (Some place) number []).tells) at.3 ∙ none_ends place now at.0 at.1;
   ending = ending;
-  front = early_front;
 }
 
 -- ---- how many requests were carried out

@@ -1,42 +1,46 @@
 -- What a run of `proc` makes of one line.
-use Rattle.std.proofs.Common.{◌≡◌, ap, sym, refl, subst, ℕ, ◌+◌, List, [], ◌++◌, Option, None, Some, Result, Ok, Err}
+use Rattle.std.proofs.Common.{◌≡◌, ◌∙◌, ap, sym, refl, subst, ℕ, ◌+◌, List, [], ◌++◌, Option, None, Some, Result, Ok, Err}
 use Rattle.std.specs.Prelude.{◌⊎◌, IfOk}
 use Rattle.mt_ports.specs.Puts.{AppendsFront}
 use Rattle.mt_ports.specs.declared.status.Failed.{Failed}
 use Rattle.mt_ports.specs.declared.status.Status.{Status}
-use Rattle.mt_ports.specs.declared.status.Status.TheVariants.{BadText, Refused}
+use Rattle.mt_ports.specs.declared.status.Status.TheVariants.{BadText, NoMemory, Refused}
 use Rattle.mt_output.specs.Writing.{Adds, Passes}
 use Rattle.mt_dump.specs.Line.{Reading}
 use Rattle.mt_dump.specs.Reader.{HasRead, State}
-use Rattle.mt_stream.specs.Lines.{Fails, GoesOn, Leading, Takes, from_line}
-use Rattle.mt_stream.specs.Told.{Told, told}
+use Rattle.mt_stream.specs.Lines.{Fails, GoesOn, Leading, Leads, Takes, Wants, from_line}
+use Rattle.mt_stream.specs.Told.{told}
 use Rattle.mt_stream.proofs.Taking.{takes_last}
 use Rattle.mt_proc.specs.declared.running.Run.{Run}
 use Rattle.mt_proc.specs.declared.running.Run.TheVariants as run
 use Rattle.mt_proc.specs.Proc.{Answer, Point, from_point, in_dump, in_requests, proc_step}
-use Rattle.mt_proc.specs.Running.{IsAt, IsDump, IsQuiet, LeadsBy, proc_running}
+use Rattle.mt_proc.specs.Running.{IsAt, IsQuiet, LeadsBy, path_from, proc_running}
 
 -- a line leads on by its step
-pub leads_by : (cpus : ℕ) (p : Point) (number : ℕ) (line : List ℕ) → LeadsBy cpus (from_line number line (from_point cpus p)) (proc_step cpus number line p) (number + 1)
+pub leads_by : (cpus : ℕ) (p : Point) (number : ℕ) (line : List ℕ) → LeadsBy cpus (from_line number line (path_from cpus p)) (proc_step cpus number line p) (number + 1)
 leads_by cpus p number line (Some end) lines = refl
 leads_by cpus p number line None lines = refl
 
 pub leads_as : (cpus : ℕ) (from : Leading) (number : ℕ) (answer other : Answer) → answer ≡ other → LeadsBy cpus from answer number → LeadsBy cpus from other number
 leads_as cpus from number answer other is leads = subst (λ (a : Answer). LeadsBy cpus from a number) is leads
 
-module _ (cpus : ℕ) (from : Leading) (number : ℕ) (was now : Run) (waiting left : List ℕ) (a b : Option (List ℕ)) where
-  pub goes : (text : List ℕ) (next : Point) → LeadsBy cpus from (Ok (text, next)) number → IsAt now next → ((so_far : List ℕ) → IsQuiet was so_far → IsQuiet now (so_far ++ text)) → Passes waiting text left a b
-      → GoesOn (proc_running cpus) from number was now waiting left a b
-  goes text next leads at quiet passed = record { next = from_point cpus next; at = (next, at, refl); text = text; goes = leads; quiet = quiet; passed = passed }
+module _ (cpus : ℕ) (from : Leading) (number : ℕ) (so_far : List ℕ) (now : Run) (waiting left : List ℕ) (a b : Option (List ℕ)) where
+  pub goes : (text : List ℕ) (next : Point) → LeadsBy cpus from (Ok (text, next)) number → IsAt now next → IsQuiet now (so_far ++ text) → Passes waiting text left a b
+      → GoesOn (proc_running cpus) from number so_far now waiting left a b
+  goes text next leads at quiet passed = record { next = path_from cpus next; at = (next, at, quiet, refl); text = text; goes = leads; passed = passed }
 
   pub ends : (text : List ℕ) (status : Status) (result : Result (Option Status) Failed) → LeadsBy cpus from (Err (told text status)) number → (status ≡ Refused) ⊎ (status ≡ BadText) → Adds waiting text left a b result
-      → IfOk result (λ ended. ended ≡ Some status) → Takes (proc_running cpus) from number was now waiting left a b result
-  ends text status result leads one adds is = takes_last (proc_running cpus) from number was now text waiting left status a b result leads one adds is
+      → IfOk result (λ ended. ended ≡ Some status) → Takes (proc_running cpus) from number so_far now waiting left a b result
+  ends text status result leads one adds is = takes_last (proc_running cpus) from number so_far now text waiting left status a b result (λ end lines. ap (λ (x : Leads). x.tells) (leads end lines)) one adds is
+
+  pub wants : (answer : Answer) → LeadsBy cpus from answer number → so_far ≡ [] → left ≡ waiting → b ≡ a → Wants from so_far waiting left a b NoMemory
+  wants answer leads quiet waits kept =
+      record { refused = refl; early = λ end lines. ([], ap (λ (x : Leads). x.early) (leads end lines) ∙ ap (λ (l : List ℕ). l ++ []) (sym quiet)); waits = waits; kept = kept }
 
   pub fails : (text : List ℕ) (next : Point) → LeadsBy cpus from (Ok (text, next)) number → AppendsFront a b (waiting ++ text) → Fails from waiting a b
   fails text next leads failed = record {
     text = text;
-    front = λ end lines. ((from_point cpus next end number lines).text, ap (λ (t : Told). t.text) (leads end lines));
+    front = λ end lines. ((from_point cpus next end number lines).text, ap (λ (x : Leads). x.tells.text) (leads end lines));
     failed = failed;
   }
 
@@ -47,10 +51,3 @@ in_the_dump r reader p is at = by p (subst (λ (x : Run). IsAt x p) is at)
     by : (p : Point) → IsAt (run.Dump reader) p → (before : List Reading) × HasRead reader before × (p ≡ in_dump before)
     by (in_dump before) at = (before, at, refl)
     by (in_requests now) at = absurd at
-
-pub is_dump : (r : Run) (reader : State) → r ≡ run.Dump reader → IsDump r
-is_dump r reader is = subst IsDump (sym is) tt
-
-pub quiet_dump : (r : Run) (text : List ℕ) → IsDump r → IsQuiet r text → text ≡ []
-quiet_dump (run.Dump reader) text is quiet = quiet
-quiet_dump (run.Requests m) text is quiet = absurd is

@@ -1,6 +1,6 @@
 -- What a request makes of a register file (own). The values of a pair for a range: Intel SDM, volume 3A, chapter Memory Cache Control, section Variable Range MTRRs.
 --     applied file request      the file that the request asks for and the pair that it changes, or why there is none
-use Rattle.std.specs.Prelude.{ℕ, ◌≡◌, ◌+◌, ◌-◌, ◌^◌, ◌%◌, ◌≤◌, ◌==◌, ◌&&◌, not, nat_le, Bool, List, position, slice_set, if◌then◌else◌, Option, Some, None}
+use Rattle.std.specs.Prelude.{ℕ, ◌≡◌, ◌+◌, ◌-◌, ◌^◌, ◌%◌, ◌≤◌, ◌<◌, ◌==◌, ◌&&◌, not, nat_le, Bool, true, false, List, length, position, slice_set, if◌then◌else◌, Option, Some, None}
 use Rattle.std.specs.List.{list_any, range_with_len}
 use Rattle.mt_kinds.specs.Bits.{is_bit_set}
 use Rattle.mt_kinds.specs.Types.{byte_of_type}
@@ -31,6 +31,12 @@ is_valid pair = is_bit_set pair.1 11
 -- the least pair whose V is clear
 abbrev pub first_free : List (ℕ × ℕ) → Option ℕ
 first_free pairs = position (λ pair. not (is_valid pair)) pairs
+
+-- the same in words of its own, for laws
+pub record IsLeastFree (pairs : List (ℕ × ℕ)) (n : ℕ) : Type 0 where
+  pub there : n < length pairs
+  pub free : is_valid (pair_at pairs n) ≡ false
+  pub least : (k : ℕ) → k < n → is_valid (pair_at pairs k) ≡ true
 
 -- the base has the address and the type, the mask has ones from bit m-1 down to the size's bit, and V
 abbrev pub range_pair : ℕ → ℕ → ℕ → MemType → ℕ × ℕ

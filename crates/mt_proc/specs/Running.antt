@@ -2,8 +2,8 @@
 use Rattle.std.specs.Prelude.{ℕ, ◌≡◌, ◌≤◌, ◌<◌, ◌-◌, ◌^◌, List, [], ⊤, Option}
 use Rattle.mt_text.specs.declared.place.Place.{Place}
 use Rattle.mt_dump.specs.Reader.{HasRead}
-use Rattle.mt_stream.specs.Lines.{Leading, Running}
-use Rattle.mt_stream.specs.Told.{Telling, Told, told_step}
+use Rattle.mt_stream.specs.Lines.{Leading, Path, Running, early_at}
+use Rattle.mt_stream.specs.Told.{Told, told_step}
 use Rattle.mt_proc.specs.declared.running.Run.{Run}
 use Rattle.mt_proc.specs.declared.running.Run.TheVariants as run
 use Rattle.mt_proc.specs.Proc.{Answer, Point, from_point, in_dump, in_requests, proc_end}
@@ -16,9 +16,6 @@ IsAt (run.Dump reader) (in_requests now) = ⊥
 IsAt (run.Requests m) (in_dump before) = ⊥
 IsAt (run.Requests m) (in_requests now) = served m ≡ now
 
-abbrev pub StandsAt : ℕ → Run → Telling → Type 0
-StandsAt cpus now was = (p : Point) × IsAt now p × (was ≡ from_point cpus p)
-
 -- what is told where the text ends
 abbrev pub end_of_run : Run → Place → Told
 end_of_run (run.Dump reader) place = proc_end place (in_dump [])
@@ -29,17 +26,19 @@ abbrev pub IsQuiet : Run → List ℕ → Type 0
 IsQuiet (run.Dump reader) text = text ≡ []
 IsQuiet (run.Requests m) text = ⊤
 
--- memory is asked for up to there
-abbrev pub IsEarly : Run → Type 0
-IsEarly (run.Dump reader) = ⊤
-IsEarly (run.Requests m) = ⊥
+-- where lines stand at this point; memory is asked for before anything is written
+abbrev pub path_from : ℕ → Point → Path
+path_from cpus p = early_at [] (from_point cpus p)
+
+abbrev pub StandsAt : ℕ → Run → List ℕ → Path → Type 0
+StandsAt cpus now so_far was = (p : Point) × IsAt now p × IsQuiet now so_far × (was ≡ path_from cpus p)
 
 abbrev pub proc_running : ℕ → Running
-proc_running cpus = record { Run = Run; At = StandsAt cpus; ends = end_of_run; Quiet = IsQuiet; Early = IsEarly }
+proc_running cpus = record { Run = Run; At = StandsAt cpus; ends = end_of_run }
 
 -- what a line and those behind it, of which the first has this number, lead to by the line's answer
 abbrev pub LeadsBy : ℕ → Leading → Answer → ℕ → Type 0
-LeadsBy cpus from answer number = (end : Option Place) (lines : List (List ℕ)) → from end lines ≡ told_step (λ p. from_point cpus p end number lines) answer
+LeadsBy cpus from answer number = (end : Option Place) (lines : List (List ℕ)) → from end lines ≡ record { tells = told_step (λ p. from_point cpus p end number lines) answer; early = [] }
 
 -- no more requests were carried out
 abbrev pub HasCount : ℕ → Run → Type 0

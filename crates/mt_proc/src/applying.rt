@@ -1,8 +1,9 @@
 ghost use Rattle.std.specs.Prelude.{◌≡◌, ◌≤◌, ◌<◌, ◌+◌, ◌*◌, ◌-◌, ◌^◌, ◌↔◌, ℕ, true, false, length, if◌then◌else◌, MatchOption, Some, None};
+ghost use Rattle.std.specs.List.{AllPass};
 ghost use Rattle.mt_kinds.specs.declared.mem_type.MemType.{MemType as Kind};
 ghost use Rattle.mt_ranges.specs.Blocks.{block_end};
-ghost use Rattle.mt_regs.specs.RegisterFile.{pair_at};
-ghost use Rattle.mt_proc.specs.Applied.{IsGoodRange, applied, first_free, is_good_range, is_size, is_valid, range_pair, with_pair};
+ghost use Rattle.mt_regs.specs.RegisterFile.{RegisterFile as File, pair_at};
+ghost use Rattle.mt_proc.specs.Applied.{IsGoodRange, IsLeastFree, applied, first_free, is_good_range, is_size, is_valid, range_pair, with_pair};
 
 use crate::Request;
 use mt_kinds::{MemType, PAGE_BYTES, is_bit_set};
@@ -133,6 +134,9 @@ fn change(f: &RegFile, r: &Request) -> Applied
 /// is to be cleared gets zeros. Each other register stays.
 pub fn apply(f: &RegFile, r: &Request) -> Applied
     ensures answer { result ≡ applied f.now r.now }
+    ensures least { (base size : ℕ) (kind : Kind) (goal : File) (n : ℕ) → r.now ≡ Request.Range base size kind → result ≡ Applied.Goal goal n → IsLeastFree f.now.pairs n × (goal ≡ with_pair f.now n (range_pair f.now.width base size kind)) }
+    ensures none_free { (base size : ℕ) (kind : Kind) → r.now ≡ Request.Range base size kind → (result ≡ Applied.NoneFree) ↔ (IsGoodRange f.now.width base size × AllPass is_valid f.now.pairs) }
+    ensures not_used { (n : ℕ) → r.now ≡ Request.Disable n → (result ≡ Applied.NotUsed) ↔ (is_valid (pair_at f.now.pairs n) ≡ false) }
     ensures bad_range { (base size : ℕ) (kind : Kind) → r.now ≡ Request.Range base size kind → (result ≡ Applied.BadRange) ↔ (IsGoodRange f.now.width base size → ⊥) }
 {
     f.is_register_file(); // a fact for the proof

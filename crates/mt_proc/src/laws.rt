@@ -1,8 +1,10 @@
-ghost use Rattle.std.specs.Prelude.{◌≡◌, ◌++◌, ℕ, List};
+ghost use Rattle.std.specs.Prelude.{◌≡◌, ◌↔◌, ◌+◌, ◌++◌, ℕ, List};
 ghost use Rattle.mt_text.specs.Text.{lines_of};
 ghost use Rattle.mt_regs.specs.RegisterFile.{IsRegisterFile, RegisterFile};
 ghost use Rattle.mt_stream.specs.Known.{known_text};
 ghost use Rattle.mt_stream.specs.Told.{transcript};
+ghost use Rattle.mt_proc.specs.After.{Served, answer_text, asked, done_text};
+ghost use Rattle.mt_proc.specs.declared.request.Request.{Request as Asked};
 ghost use Rattle.mt_proc.specs.Proc.{LinesTellRequests, proc_told};
 ghost use Rattle.mt_proc.specs.Listing.{all_asked, listing, ranges_of, requests_from};
 
@@ -17,6 +19,13 @@ pub fn listings_ask_for_their_ranges()
 /// requests that were carried out.
 pub fn lines_tell_of_their_requests()
     ensures { LinesTellRequests }
+{}
+
+/// A request is told as carried out exactly where the count of those that were goes up, and where it
+/// is told otherwise the file and the count stand.
+pub fn what_is_carried_out_is_told()
+    ensures told { (now : Served) (request : Asked) → ((n : ℕ) × (answer_text now request ≡ done_text request n)) ↔ ((asked now request).count ≡ now.count + 1) }
+    ensures stands { (now : Served) (request : Asked) → ((n : ℕ) → answer_text now request ≡ done_text request n → ⊥) → asked now request ≡ now }
 {}
 
 /// What the known lines of a front tell is a front of what the whole text tells, whatever bytes come

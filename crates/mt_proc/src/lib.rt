@@ -10,10 +10,12 @@ mod reading;
 mod request;
 mod running;
 mod worked;
+mod worked_served;
 
 pub use applying::{Applied, apply};
 pub use laws::{
     known_lines_tell_a_front, lines_tell_of_their_requests, listings_ask_for_their_ranges,
+    what_is_carried_out_is_told,
 };
 pub use listing::write_range;
 pub use processors::Processors;
@@ -21,6 +23,10 @@ pub use reading::read_request;
 pub use request::{ProcFault, ProcReason, Request};
 pub use running::proc;
 pub use worked::{worked_faults, worked_goals, worked_listings, worked_requests, worked_texts};
+pub use worked_served::{
+    worked_cleared, worked_files_that_differ, worked_folds, worked_good_ranges, worked_least_free,
+    worked_processors, worked_refused, worked_request_lists, worked_set,
+};
 
 #[cfg(test)]
 mod tests;

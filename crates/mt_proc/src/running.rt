@@ -7,9 +7,8 @@ ghost use Rattle.mt_regs.specs.Faults.{IsAccepted};
 ghost use Rattle.mt_regs.specs.Agreement.{first_refusal};
 ghost use Rattle.mt_dump.specs.ForProcessors.{files_for, has_each};
 ghost use Rattle.mt_machine.specs.Machine.{Machine};
-ghost use Rattle.mt_stream.specs.Lines.{Closes, IsEnding, Leading, Takes, from_line};
+ghost use Rattle.mt_stream.specs.Lines.{Closes, IsEnding, Leading, Path, Takes, from_line};
 ghost use Rattle.mt_stream.specs.Runs.{Runs};
-ghost use Rattle.mt_stream.specs.Told.{Telling};
 ghost use Rattle.mt_proc.specs.After.{era_line};
 ghost use Rattle.mt_proc.specs.Listing.{listing};
 ghost use Rattle.mt_proc.specs.Proc.{begins, no_end, of_request, proc_told, reason_text, request_fault_line};
@@ -71,7 +70,7 @@ fn begin<K: Sink>(
     requires few { cpus ≤ 16 }
     requires dump { IsDump run.old }
     requires each { has_each cpus dump.now ≡ true }
-    ensures bytes { (from : Leading) (number : ℕ) → LeadsBy cpus from (begins dump.now (first_refusal dump.now.files)) number → Takes (proc_running cpus) from number run.old run.new writer.old writer.new (K.taken sink.old) (K.taken sink.new) result }
+    ensures bytes { (from : Leading) (number : ℕ) → LeadsBy cpus from (begins dump.now (first_refusal dump.now.files)) number → Takes (proc_running cpus) from number [] run.new writer.old writer.new (K.taken sink.old) (K.taken sink.new) result }
     ensures starts { (m : Machine) → run.new ≡ Run.Requests m → m ≡ idling (files_for cpus dump.now) 0 }
     ensures ending { (status : Status) → result ≡ Ok (Some status) → IsEnding status }
     ensures counts { (most : ℕ) → MatchResult result (λ ended. MatchOption ended (HasCount most run.new) (λ _. Unit {0})) (λ _. Unit {0}) }
@@ -101,7 +100,7 @@ fn take_request<R: Threads + Wait + Sync, K: Sink, G: Gate>(
     gate: &G,
 ) -> Result<Option<Status>, Failed>
     requires { (served processors.old).count < 2 ^ 64 - 1 }
-    ensures bytes { (cpus : ℕ) (from : Leading) (number : ℕ) → LeadsBy cpus from (of_request (served processors.old) (request_of line.now.number line.now.bytes.now)) number → Takes (proc_running cpus) from number (Run.Requests processors.old) (Run.Requests processors.new) writer.old writer.new (K.taken sink.old) (K.taken sink.new) result }
+    ensures bytes { (cpus : ℕ) (from : Leading) (number : ℕ) (so_far : List ℕ) → LeadsBy cpus from (of_request (served processors.old) (request_of line.now.number line.now.bytes.now)) number → Takes (proc_running cpus) from number so_far (Run.Requests processors.new) writer.old writer.new (K.taken sink.old) (K.taken sink.new) result }
     ensures ending { (status : Status) → result ≡ Ok (Some status) → IsEnding status }
     ensures counts { (most : ℕ) → (served processors.old).count ≤ most → MatchResult result (λ ended. MatchOption ended ((served processors.new).count ≤ most + 1) (λ _. Unit {0})) (λ _. Unit {0}) }
     ensures cause { HasCause (K.faults sink.old) (K.faults sink.new) result }
@@ -138,8 +137,8 @@ fn take_line<R: Threads + Wait + Sync, K: Sink, G: Gate>(
     requires some { 0 < cpus }
     requires few { cpus ≤ 16 }
     requires room { HasRoom run.old }
-    ensures bytes { (was : Telling) → StandsAt cpus run.old was →
-        Takes (proc_running cpus) (from_line line.now.number line.now.bytes.now was) (line.now.number + 1) run.old run.new writer.old writer.new (K.taken sink.old) (K.taken sink.new) result }
+    ensures bytes { (so_far : List ℕ) (was : Path) → StandsAt cpus run.old so_far was →
+        Takes (proc_running cpus) (from_line line.now.number line.now.bytes.now was) (line.now.number + 1) so_far run.new writer.old writer.new (K.taken sink.old) (K.taken sink.new) result }
     ensures ending { (status : Status) → result ≡ Ok (Some status) → IsEnding status }
     ensures counts { (most : ℕ) → HasCount most run.old → MatchResult result (λ ended. MatchOption ended (HasCount (most + 1) run.new) (λ _. Unit {0})) (λ _. Unit {0}) }
     ensures cause { HasCause (K.faults sink.old) (K.faults sink.new) result }

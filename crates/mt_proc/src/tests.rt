@@ -124,6 +124,122 @@ fn two_processors_of_a_request_meet(rt: HostRuntime) -> Result<(), Fail> {
     Ok(())
 }
 
+// Counts of whom it was asked and told, of each processor in four bits.
+#[derive(Drop)]
+struct Counts {
+    asked: AtomicU64,
+    told: AtomicU64,
+}
+
+fn count_one(counts: &AtomicU64, k: u32) {
+    if k < 16 {
+        counts.fetch_add(1 << (4 * k), Ordering::SeqCst);
+    }
+}
+
+impl Gate for Counts {
+    fn may_start(&self, k: u32) -> bool {
+        count_one(&self.asked, k);
+        true
+    }
+
+    fn arrived(&self, k: u32) {
+        count_one(&self.told, k);
+    }
+}
+
+// A request that is carried out asks once before each start, and tells of each arrival once. One that
+// isn't does neither.
+#[test]
+fn each_processor_starts_and_arrives_once(rt: HostRuntime) -> Result<(), Fail> {
+    for (cpus, once) in [(1, 0x1), (3, 0x111), (16, 0x1111_1111_1111_1111u64)] {
+        for (requests, times) in [
+            (
+                b"disable=7
+base=1 size=1 type=write-back
+"
+                    .as_slice(),
+                0,
+            ),
+            (
+                b"base=0x80000000 size=0x80000000 type=uncachable
+disable=1
+"
+                    .as_slice(),
+                2,
+            ),
+            (
+                b"base=0xf8000000 size=0x400000 type=write-combining
+# none
+disable=0
+"
+                    .as_slice(),
+                1,
+            ),
+        ] {
+            let gate = Counts {
+                asked: AtomicU64::new(0),
+                told: AtomicU64::new(0),
+            };
+            let mut text = FOUR_GIGABYTES.to_vec(rt.alloc())?;
+            text.extend_from_slice(requests)?;
+            let ran = run(&rt, &text, cpus, &gate)?;
+            assert_eq!(rt; ran.status, Status::Done);
+            assert_eq!(rt;
+                gate.asked.load(Ordering::SeqCst),
+                once.wrapping_mul(times),
+                "{cpus} processors"
+            );
+            assert_eq!(rt;
+                gate.told.load(Ordering::SeqCst),
+                once.wrapping_mul(times),
+                "{cpus} processors"
+            );
+        }
+    }
+    Ok(())
+}
+
+// The files of two processors differ, so the second one's is refused alone, until a request gives both
+// the first one's with its change.
+#[test]
+fn files_may_differ_at_the_start(rt: HostRuntime) -> Result<(), Fail> {
+    let text =
+        b"version 2\ncpu 0\n0fe 508\n200 6\n201 f00000800\n2ff 800\ncpu 1\n200 4\n201 f80000800\n2ff 806\nend\n\
+        base=1 size=0x1000 type=write-back\ndisable=1\nbase=0x100000000 size=0x1000 type=write-through\n";
+    let ran = run(&rt, text, 2, &OpenGate)?;
+    assert_eq!(rt; ran.status, Status::Done);
+    assert!(rt;
+        ran.sink.bytes()
+            == b"bad range\nnot used\nset 1\nbase=0x0 size=0x100000000 type=write-back # 0\nbase=0x100000000 size=0x1000 type=write-through # 1\nera 1\n".as_slice()
+    );
+    Ok(())
+}
+
+// All 32 pairs: the last is the least free one, and then there is none.
+#[test]
+fn the_last_pair_is_taken_told_and_cleared(rt: HostRuntime) -> Result<(), Fail> {
+    let mut text = b"0fe 520\n2ff 800\nend\n".to_vec(rt.alloc())?;
+    for _ in 0..33 {
+        text.extend_from_slice(b"base=0xfffff000 size=0x1000 type=write-back\n")?;
+    }
+    text.extend_from_slice(b"disable=31\ndisable=3\nbase=0 size=0x1000 type=uncachable\n")?;
+    let ran = run(&rt, &text, 2, &OpenGate)?;
+    assert_eq!(rt; ran.status, Status::Done);
+    assert!(rt; ran.sink.bytes().starts_with(b"set 0\nset 1\nset 2\n"));
+    assert!(rt;
+        ran.sink.bytes().ends_with(b"base=0xfffff000 size=0x1000 type=write-back # 30\nera 35\n")
+    );
+    text.extend_from_slice(b"base=0x800000000 size=0x800000000 type=write-protect\n")?;
+    let ran = run(&rt, &text, 2, &OpenGate)?;
+    assert!(rt;
+        ran.sink.bytes().ends_with(
+            b"base=0x800000000 size=0x800000000 type=write-protect # 31\nera 36\n"
+        )
+    );
+    Ok(())
+}
+
 // So many requests one after the other.
 fn changes(alloc: Global, times: usize) -> Result<Vec<u8>, Fail> {
     let mut text = FOUR_GIGABYTES.to_vec(alloc)?;

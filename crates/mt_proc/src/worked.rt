@@ -1,4 +1,4 @@
-ghost use Rattle.std.specs.Prelude.{◌≡◌, ◌∷◌, [], Err, Ok, None, Some, codes, replicate};
+ghost use Rattle.std.specs.Prelude.{◌≡◌, ◌∷◌, ◌++◌, [], Err, Ok, None, Some, codes, replicate};
 ghost use Rattle.mt_kinds.specs.declared.mem_type.MemType.TheVariants.{UC, WB, WC, WP, WT};
 ghost use Rattle.mt_regs.specs.RegisterFile.{RegisterFile};
 ghost use Rattle.mt_proc.specs.declared.applying.Applied.TheVariants.{BadRange, Goal, NoneFree, NotUsed};
@@ -51,6 +51,14 @@ pub fn worked_goals()
     ensures page { applied four_gigabytes (Range 0x1000 0x1000 UC) ≡ Goal (file_of ((6, 0xf00000800) ∷ (0x1000, 0xffffff800) ∷ [])) 1 }
     ensures whole { applied four_gigabytes (Range 0 0x1000000000 WB) ≡ Goal (file_of ((6, 0xf00000800) ∷ (6, 0x800) ∷ [])) 1 }
     ensures least { applied (file_of ((1, 0) ∷ (0, 0) ∷ [])) (Range 0 0x1000 WB) ≡ Goal (file_of ((6, 0xffffff800) ∷ (0, 0) ∷ [])) 0 }
+    ensures middle { applied (file_of ((6, 0xf00000800) ∷ (6, 0) ∷ (6, 0xf00000800) ∷ (6, 0) ∷ [])) (Range 0 0x1000 WB) ≡ Goal (file_of ((6, 0xf00000800) ∷ (6, 0xffffff800) ∷ (6, 0xf00000800) ∷ (6, 0) ∷ [])) 1 }
+    ensures last_pair { applied (file_of (replicate 31 (6, 0xf00000800) ++ (6, 0) ∷ [])) (Range 0 0x1000 WB) ≡ Goal (file_of (replicate 31 (6, 0xf00000800) ++ (6, 0xffffff800) ∷ [])) 31 }
+    ensures up_to_the_end { applied four_gigabytes (Range 0x800000000 0x800000000 WB) ≡ Goal (file_of ((6, 0xf00000800) ∷ (0x800000006, 0x800000800) ∷ [])) 1 }
+    ensures wider { applied (record (file_of ((0, 0) ∷ [])) { width = 52 }) (Range 0xf8000000 0x400000 WC) ≡ Goal (record (file_of ((0xf8000001, 0xfffffffc00800) ∷ [])) { width = 52 }) 0 }
+    ensures narrower { applied (record (file_of ((0, 0) ∷ [])) { width = 32 }) (Range 0xf8000000 0x400000 WC) ≡ Goal (record (file_of ((0xf8000001, 0xffc00800) ∷ [])) { width = 32 }) 0 }
+    ensures past_a_narrower_end { applied (record (file_of ((0, 0) ∷ [])) { width = 32 }) (Range 0x100000000 0x1000 WC) ≡ BadRange }
+    ensures past_64_bits { applied four_gigabytes (Range 0xfffffffffffff000 0x1000 WC) ≡ BadRange }
+    ensures half_a_size_away { applied four_gigabytes (Range 0x200000 0x400000 WC) ≡ BadRange }
     ensures none { applied four_gigabytes (Range 0x1000 0 WC) ≡ BadRange }
     ensures one { applied four_gigabytes (Range 0x1000 1 WC) ≡ BadRange }
     ensures below { applied four_gigabytes (Range 0x1000 0xfff WC) ≡ BadRange }
@@ -62,6 +70,8 @@ pub fn worked_goals()
     ensures no_pairs { applied (file_of []) (Range 0 0x1000 WB) ≡ NoneFree }
     ensures bad_first { applied (file_of []) (Range 0 1 WB) ≡ BadRange }
     ensures cleared { applied four_gigabytes (Disable 0) ≡ Goal (file_of ((0, 0) ∷ (0, 0) ∷ [])) 0 }
+    ensures last_cleared { applied (file_of (replicate 32 (6, 0xf00000800))) (Disable 31) ≡ Goal (file_of (replicate 31 (6, 0xf00000800) ++ (0, 0) ∷ [])) 31 }
+    ensures past_the_last { applied (file_of (replicate 32 (6, 0xf00000800))) (Disable 32) ≡ NotUsed }
     ensures not_valid { applied (file_of ((6, 0) ∷ [])) (Disable 0) ≡ NotUsed }
     ensures not_there { applied four_gigabytes (Disable 2) ≡ NotUsed }
 {}
@@ -74,6 +84,8 @@ pub fn worked_listings()
     ensures not_there { range_line four_gigabytes 2 ≡ [] }
     ensures low_bits { range_line (file_of ((0xf8123001, 0xfffc00800) ∷ [])) 0 ≡ codes "base=0xf8000000 size=0x400000 type=write-combining # 0\n" }
     ensures all { listing (file_of ((5, 0xffffff800) ∷ (4, 0) ∷ (0x10004, 0xfffff0800) ∷ [])) ≡ codes "base=0x0 size=0x1000 type=write-protect # 0\nbase=0x10000 size=0x10000 type=write-through # 2\n" }
+    ensures last_pair { range_line (file_of (replicate 31 (0, 0) ++ (6, 0x800) ∷ [])) 31 ≡ codes "base=0x0 size=0x1000000000 type=write-back # 31\n" }
+    ensures wider { range_line (record (file_of ((0xf8000001, 0xfffffffc00800) ∷ [])) { width = 52 }) 0 ≡ codes "base=0xf8000000 size=0x400000 type=write-combining # 0\n" }
     ensures ranges { ranges_of (file_of ((5, 0xffffff800) ∷ (4, 0) ∷ (0x10004, 0xfffff0800) ∷ [])) ≡ Range 0 0x1000 WP ∷ Range 0x10000 0x10000 WT ∷ [] }
 {}
 

@@ -12,7 +12,7 @@ use Rattle.mt_text.proofs.Fronts.{reach}
 use Rattle.mt_text.proofs.LineSteps.{lines_of-first}
 use Rattle.mt_stream.specs.Known.{known_part, known_text}
 use Rattle.mt_stream.specs.Laws.{IsLongTold}
-use Rattle.mt_stream.specs.Told.{Step, Told, behind, told, told_from, told_step, telling, transcript}
+use Rattle.mt_stream.specs.Told.{Step, Telling, Told, behind, told, told_from, told_step, telling, transcript}
 use Rattle.mt_stream.proofs.Fronts.{long_lines, some_any}
 
 -- ---- lists of lines
@@ -85,6 +85,39 @@ front_behind text a b (rest, cut) = (rest, ap (λ l. text ++ l) cut ∙ sym (app
 front_of_both : (a b t : Told) → a ≡ t → b ≡ t → IsFrontOf a b
 front_of_both a b t p q = subst (λ x. IsFrontOf x b) (sym p) (subst (IsFrontOf t) (sym q) (front_same t))
 
+-- ---- by points
+
+-- A line leads on to another point behind a text, or what is told ends with it.
+abbrev pub LeadsOn : {P : Type 0} → (P → Telling) → (P → Type 0) → P → ℕ → List ℕ → Type 0
+LeadsOn {P} tell sound p number line =
+    ((text : List ℕ) × (next : P) × sound next × ((end : Option Place) (lines : List (List ℕ)) → tell p end number (line ∷ lines) ≡ behind text (tell next end (number + 1) lines)))
+    ⊎ ((last : Told) × ((end : Option Place) (lines : List (List ℕ)) → tell p end number (line ∷ lines) ≡ last))
+
+-- what lines tell from each point on goes line by line
+pub record Walks {P : Type 0} (tell : P → Telling) (sound : P → Type 0) : Type 0 where
+  pub unknown : (p : P) (number : ℕ) → tell p None number [] ≡ told [] Done
+  pub leads : (p : P) (number : ℕ) (line : List ℕ) → sound p → LeadsOn tell sound p number line
+  pub long : (p : P) (number : ℕ) → sound p → IsLongTold (tell p) number
+
+module _ (P : Type 0) (tell : P → Telling) (sound : P → Type 0) (walks : Walks tell sound) where
+  lines_front : (end : Place) (number : ℕ) (ks ls : List (List ℕ)) → Agree ks ls → (p : P) → sound p → IsFrontOf (tell p None number ks) (tell p (Some end) number ls)
+  lines_front end number [] ls agree p good = subst (λ t. IsFrontOf t (tell p (Some end) number ls)) (sym (walks.unknown p number)) ((tell p (Some end) number ls).text, refl)
+  lines_front end number (k ∷ ks) [] agree p good = absurd agree
+  lines_front end number (k ∷ ks) (l ∷ ls) (inl same) p good =
+      subst (λ m. IsFrontOf (tell p None number (k ∷ ks)) (tell p (Some end) number (m ∷ ls))) same.0 (by (walks.leads p number k good) (lines_front end (number + 1) ks ls same.1))
+    where
+      by : LeadsOn tell sound p number k → ((q : P) → sound q → IsFrontOf (tell q None (number + 1) ks) (tell q (Some end) (number + 1) ls)) → IsFrontOf (tell p None number (k ∷ ks)) (tell p (Some end) number (k ∷ ls))
+      by (inl (text, next, well, goes)) later =
+          subst (λ t. IsFrontOf t (tell p (Some end) number (k ∷ ls))) (sym (goes None ks))
+          (subst (IsFrontOf (behind text (tell next None (number + 1) ks))) (sym (goes (Some end) ls)) (front_behind text (tell next None (number + 1) ks) (tell next (Some end) (number + 1) ls) (later next well)))
+      by (inr (last, stops)) later = front_of_both (tell p None number (k ∷ ks)) (tell p (Some end) number (k ∷ ls)) last (stops None ks) (stops (Some end) ls)
+  lines_front end number (k ∷ ks) (l ∷ ls) (inr long) p good =
+      let t = walks.long p number good in
+      front_of_both (tell p None number (k ∷ ks)) (tell p (Some end) number (l ∷ ls)) t.telling (t.is k None ks long.0) (t.is l (Some end) ls long.1)
+
+  pub known_is_front : (p : P) → sound p → (front more : List ℕ) → (rest : List ℕ) × ((transcript (tell p) (front ++ more)).text ≡ known_text (tell p) front ++ rest)
+  known_is_front p good front more = lines_front (end_of (front ++ more)) 1 (lines_of (known_part front)) (lines_of (front ++ more)) (agrees front more) p good
+
 -- ---- by steps
 
 -- each step tells a line too long as one offence, whatever its bytes are
@@ -111,19 +144,9 @@ module _ (P : Type 0) (step : Step P) (ends : Place → P → Told) where
       is = λ line end lines long. step_ends number line p (offence number p) (tells.long number line p long) end lines;
     }
 
-    lines_front : (finish : P → Told) (number : ℕ) (ks ls : List (List ℕ)) → Agree ks ls → (p : P) → IsFrontOf (told_from step (λ last. told [] Done) number ks p) (told_from step finish number ls p)
-    lines_front finish number [] ls agree p = ((told_from step finish number ls p).text, refl)
-    lines_front finish number (k ∷ ks) [] agree p = absurd agree
-    lines_front finish number (k ∷ ks) (l ∷ ls) (inl same) p =
-        subst (λ m. IsFrontOf (told_from step (λ last. told [] Done) number (k ∷ ks) p) (told_from step finish number (m ∷ ls) p)) same.0 (by (step number k p) (lines_front finish (number + 1) ks ls same.1))
+    pub steps_walk : Walks (telling step ends) (λ p. Unit {0})
+    steps_walk = record { unknown = λ p number. refl; leads = λ p number line good. by p number line (step number line p) refl; long = λ p number good. long_told p number }
       where
-        by : (answer : Result (List ℕ × P) Told) → ((q : P) → IsFrontOf (told_from step (λ last. told [] Done) (number + 1) ks q) (told_from step finish (number + 1) ls q))
-            → IsFrontOf (told_step (told_from step (λ last. told [] Done) (number + 1) ks) answer) (told_step (told_from step finish (number + 1) ls) answer)
-        by (Ok next) later = front_behind next.0 (told_from step (λ last. told [] Done) (number + 1) ks next.1) (told_from step finish (number + 1) ls next.1) (later next.1)
-        by (Err last) later = front_same last
-    lines_front finish number (k ∷ ks) (l ∷ ls) (inr long) p =
-        front_of_both (told_from step (λ last. told [] Done) number (k ∷ ks) p) (told_from step finish number (l ∷ ls) p) (offence number p)
-        (ap (told_step (told_from step (λ last. told [] Done) (number + 1) ks)) (tells.long number k p long.0)) (ap (told_step (told_from step finish (number + 1) ls)) (tells.long number l p long.1))
-
-    pub known_is_front : (p : P) (front more : List ℕ) → (rest : List ℕ) × ((transcript (telling step ends p) (front ++ more)).text ≡ known_text (telling step ends p) front ++ rest)
-    known_is_front p front more = lines_front (ends (end_of (front ++ more))) 1 (lines_of (known_part front)) (lines_of (front ++ more)) (agrees front more) p
+        by : (p : P) (number : ℕ) (line : List ℕ) (answer : Result (List ℕ × P) Told) → step number line p ≡ answer → LeadsOn (telling step ends) (λ q. Unit {0}) p number line
+        by p number line (Ok (text, next)) is = inl (text, next, tt, step_goes number line text p next is)
+        by p number line (Err last) is = inr (last, step_ends number line p last is)

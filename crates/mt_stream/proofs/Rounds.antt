@@ -69,12 +69,12 @@ pub cause_behind : (fault status : Status) (first before now : ℕ) → before �
 cause_behind fault status first before now same cause = subst (λ n. StatusHasCause fault n now status) same cause
 
 -- a line ends a run with one of three statuses
-pub ending_status : (R : Running) (from : Leading) (number : ℕ) (was now : R.Run) (waiting left : List ℕ) (a b : Option (List ℕ)) (status : Status) → Takes R from number was now waiting left a b (Ok (Some status)) → IsEnding status
-ending_status R from number was now waiting left a b status (inl e) = elim e.last [
+pub ending_status : (R : Running) (from : Leading) (number : ℕ) (so_far : List ℕ) (now : R.Run) (waiting left : List ℕ) (a b : Option (List ℕ)) (status : Status) → Takes R from number so_far now waiting left a b (Ok (Some status)) → IsEnding status
+ending_status R from number so_far now waiting left a b status (inl e) = elim e.last [
   | inl refused ↦ inl refused
   | inr bad ↦ inr (inl bad)
 ]
-ending_status R from number was now waiting left a b status (inr w) = inr (inr w.refused)
+ending_status R from number so_far now waiting left a b status (inr w) = inr (inr w.refused)
 
 -- ---- cuts
 

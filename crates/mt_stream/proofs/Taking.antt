@@ -3,38 +3,44 @@ use Rattle.std.proofs.Common.{◌≡◌, ◌∙◌, ap, sym, subst, inl, inr, �
 use Rattle.std.specs.Prelude.{◌⊎◌, IfOk}
 use Rattle.std.specs.Io.KnownBytes.{Appends}
 use Rattle.std.proofs.KnownBytes.{Appends-trans}
-use Rattle.mt_ports.specs.Puts.{AppendsFront}
 use Rattle.mt_ports.specs.declared.status.Failed.{Failed}
 use Rattle.mt_ports.specs.declared.status.Status.{Status}
 use Rattle.mt_ports.specs.declared.status.Status.TheVariants.{BadText, Refused}
 use Rattle.mt_output.specs.Writing.{Adds, Passes}
 use Rattle.mt_output.proofs.Writing.{adds_after}
 use Rattle.mt_text.specs.declared.place.Place.{Place}
-use Rattle.mt_stream.specs.Lines.{Closes, Fails, Leading, Running, Takes}
-use Rattle.mt_stream.specs.Told.{Told, told}
+use Rattle.mt_stream.specs.Laws.{IsLongLed, IsLongTold}
+use Rattle.mt_stream.specs.Lines.{Closes, Leading, Leads, Running, Takes, early_at}
+use Rattle.mt_stream.specs.Told.{Telling, Told, told}
 
 -- a last text was written, or failed
-pub takes_last : (R : Running) (from : Leading) (number : ℕ) (was now : R.Run) (text waiting left : List ℕ) (status : Status) (a b : Option (List ℕ)) (result : Result (Option Status) Failed)
-    → ((end : Option Place) (lines : List (List ℕ)) → from end lines ≡ told text status) → (status ≡ Refused) ⊎ (status ≡ BadText) → Adds waiting text left a b result → IfOk result (λ ended. ended ≡ Some status)
-    → Takes R from number was now waiting left a b result
-takes_last R from number was now text waiting left status a b (Ok None) stops one adds is = absurd (cc is)
-takes_last R from number was now text waiting left status a b (Ok (Some answer)) stops one adds is =
+pub takes_last : (R : Running) (from : Leading) (number : ℕ) (so_far : List ℕ) (now : R.Run) (text waiting left : List ℕ) (status : Status) (a b : Option (List ℕ)) (result : Result (Option Status) Failed)
+    → ((end : Option Place) (lines : List (List ℕ)) → (from end lines).tells ≡ told text status) → (status ≡ Refused) ⊎ (status ≡ BadText) → Adds waiting text left a b result → IfOk result (λ ended. ended ≡ Some status)
+    → Takes R from number so_far now waiting left a b result
+takes_last R from number so_far now text waiting left status a b (Ok None) stops one adds is = absurd (cc is)
+takes_last R from number so_far now text waiting left status a b (Ok (Some answer)) stops one adds is =
     let same : answer ≡ status = cc is in
     inl (record { telling = told text status; stops = stops; status_is = same; last = subst (λ (s : Status). (s ≡ Refused) ⊎ (s ≡ BadText)) (sym same) one; passed = adds })
-takes_last R from number was now text waiting left status a b (Err failed) stops one adds is = record {
+takes_last R from number so_far now text waiting left status a b (Err failed) stops one adds is = record {
   text = text;
   front = λ end lines. ([], ap (λ (t : Told). t.text) (stops end lines) ∙ sym (append-nil text));
   failed = adds;
 }
 
--- it goes on alike from a run in which as much may have been written, and memory may be asked for where it might
-pub takes_from : (R : Running) (from : Leading) (number : ℕ) (was other now : R.Run) (waiting left : List ℕ) (a b : Option (List ℕ)) (result : Result (Option Status) Failed)
-    → ((text : List ℕ) → R.Quiet other text → R.Quiet was text) → (R.Early was → R.Early other) → Takes R from number was now waiting left a b result → Takes R from number other now waiting left a b result
-takes_from R from number was other now waiting left a b (Ok None) quiet early g =
-    record { next = g.next; at = g.at; text = g.text; goes = g.goes; quiet = λ so_far is. g.quiet so_far (quiet so_far is); passed = g.passed }
-takes_from R from number was other now waiting left a b (Ok (Some status)) quiet early (inl e) = inl e
-takes_from R from number was other now waiting left a b (Ok (Some status)) quiet early (inr w) = inr (record { refused = w.refused; early = early w.early; waits = w.waits; kept = w.kept })
-takes_from R from number was other now waiting left a b (Err failed) quiet early f = f
+-- the same, where the line and those behind it lead to as much
+pub takes_same : (R : Running) (from other : Leading) (number : ℕ) (so_far : List ℕ) (now : R.Run) (waiting left : List ℕ) (a b : Option (List ℕ)) (result : Result (Option Status) Failed)
+    → ((end : Option Place) (lines : List (List ℕ)) → other end lines ≡ from end lines) → Takes R from number so_far now waiting left a b result → Takes R other number so_far now waiting left a b result
+takes_same R from other number so_far now waiting left a b (Ok None) same g =
+    record { next = g.next; at = g.at; text = g.text; goes = λ end lines. same end lines ∙ g.goes end lines; passed = g.passed }
+takes_same R from other number so_far now waiting left a b (Ok (Some status)) same (inl e) =
+    inl (record { telling = e.telling; stops = λ end lines. ap (λ (x : Leads). x.tells) (same end lines) ∙ e.stops end lines; status_is = e.status_is; last = e.last; passed = e.passed })
+takes_same R from other number so_far now waiting left a b (Ok (Some status)) same (inr w) =
+    inr (record { refused = w.refused; early = λ end lines. let (rest, is) = w.early end lines in (rest, ap (λ (x : Leads). x.early) (same end lines) ∙ is); waits = w.waits; kept = w.kept })
+takes_same R from other number so_far now waiting left a b (Err failed) same f = record {
+  text = f.text;
+  front = λ end lines. let (rest, cut) = f.front end lines in (rest, ap (λ (x : Leads). x.tells.text) (same end lines) ∙ cut);
+  failed = f.failed;
+}
 
 -- ---- the end
 
@@ -45,3 +51,9 @@ closes_after waiting first middle second last status a b c p (inl all) =
     sym (append_assoc p.front middle second) ∙ ap (λ (l : List ℕ). l ++ second) (sym p.cut) ∙ append_assoc waiting first second in
     inl (all.0, subst (Appends a c) joined (Appends-trans a b c p.front (middle ++ second) p.taken all.1))
 closes_after waiting first middle second last status a b c p (inr failed) = inr (failed.0, adds_after {T = Unit {0}} {E = Unit {0}} waiting first middle second [] a b c (Err tt) p failed.1)
+
+-- ---- a line too long
+
+pub long_led : (early : List ℕ) (told : Telling) (number : ℕ) → IsLongTold told number → IsLongLed (early_at early told) number
+long_led early told number t =
+    record { leads = record { tells = t.telling; early = early }; bad = t.bad; is = λ line end lines long. ap (λ (x : Told). record { tells = x; early = early }) (t.is line end lines long) }

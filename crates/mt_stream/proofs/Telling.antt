@@ -18,18 +18,21 @@ use Rattle.mt_text.specs.declared.place.Place.{Place}
 use Rattle.mt_text.proofs.Feeding.{front_within, unknown_few}
 use Rattle.mt_text.proofs.Fronts.{last_front, long_front, place_of_front}
 use Rattle.mt_stream.specs.Known.{known_part, known_text}
-use Rattle.mt_stream.specs.Laws.{AreLaws, IsLongTold}
-use Rattle.mt_stream.specs.Lines.{Closes, CutShort, Ends, Fails, GoesOn, Leaves, Running, Wants, cut_status, from_line}
+use Rattle.mt_stream.specs.Laws.{AreLaws, IsLongLed}
+use Rattle.mt_stream.specs.Lines.{Closes, CutShort, Ends, Fails, GoesOn, Leads, Leaves, Path, Running, Wants, cut_status, early_of, from_line, leads_behind, tells_of}
 use Rattle.mt_stream.specs.Runs.{Runs}
-use Rattle.mt_stream.specs.Told.{Telling, Told, behind, told, transcript}
+use Rattle.mt_stream.specs.Told.{Told, behind, transcript}
 use Rattle.mt_stream.specs.declared.running.Cut.{Cut}
 use Rattle.mt_stream.specs.declared.running.Cut.TheVariants as cut
 use Rattle.mt_stream.proofs.Fronts.{ended_known, ended_lines, long_lines, unknown_part}
 
 -- ---- texts
 
-behind_both : (a b : List ℕ) (t : Told) → behind a (behind b t) ≡ behind (a ++ b) t
-behind_both a b t = λ i. record { text = sym (append_assoc a b t.text) i; status = t.status }
+pub told_both : (a b : List ℕ) (t : Told) → behind a (behind b t) ≡ behind (a ++ b) t
+told_both a b t = λ i. record { text = sym (append_assoc a b t.text) i; status = t.status }
+
+behind_both : (a b : List ℕ) (t : Leads) → leads_behind a (leads_behind b t) ≡ leads_behind (a ++ b) t
+behind_both a b t = λ i. record { tells = told_both a b t.tells i; early = t.early }
 
 -- a text was passed, and what waited went to the sink with another
 pub passes_then : (text waiting more : List ℕ) (a b c : Option (List ℕ)) → Passes [] text waiting a b → Appends b c (waiting ++ more) → Appends a c (text ++ more)
@@ -61,38 +64,41 @@ pub none_left : (left : Option (List ℕ)) (rest : List ℕ) → left ≡ Some r
 none_left left rest is end = subst IsAtEnd is end
 
 -- what a whole text or a front of it tells, and what lines tell from a point on
-abbrev told_of : Telling → Option Place → List ℕ → Told
+abbrev told_of : Path → Option Place → List ℕ → Leads
 told_of start end text = start end 1 (lines_of text)
 
-abbrev told_lines : Option Place → ℕ → List (List ℕ) → Telling → Told
+abbrev told_lines : Option Place → ℕ → List (List ℕ) → Path → Leads
 told_lines end number lines was = was end number lines
+
+-- what a run leaves whose lines lead to this
+abbrev pub RunsOn : Path → List ℕ → Option (List ℕ) → Option (List ℕ) → Option (List ℕ) → Status → Type 0
+RunsOn start bytes left before after status = Runs (tells_of start) (early_of start bytes) bytes left before after status
 
 -- ---- between two lines
 
-pub record UnderWay (R : Running) (start : Telling) (bytes : List ℕ) (source : Option (List ℕ)) (feed : Feeding) (now : R.Run) (waiting : List ℕ) (before after : Option (List ℕ)) : Type 0 where
+pub record UnderWay (R : Running) (start : Path) (bytes : List ℕ) (source : Option (List ℕ)) (feed : Feeding) (now : R.Run) (waiting : List ℕ) (before after : Option (List ℕ)) : Type 0 where
   pub lent : List ℕ  -- the lines that were taken, each with its LF
   pub text : List ℕ  -- what they write
   pub rest : List ℕ
-  pub point : Telling
-  pub at : R.At now point
+  pub point : Path
+  pub at : R.At now text point
   pub place : feed.place ≡ end_of lent
   pub offset : feed.offset ≡ length lent
   pub whole : (tail : List ℕ) → known_part (lent ++ tail) ≡ lent ++ known_part tail
-  pub led : (end : Option Place) (tail : List ℕ) → told_of start end (lent ++ tail) ≡ behind text (point end feed.place.line (lines_of tail))
-  pub quiet : R.Quiet now text
+  pub led : (end : Option Place) (tail : List ℕ) → told_of start end (lent ++ tail) ≡ leads_behind text (point end feed.place.line (lines_of tail))
   pub passed : Passes [] text waiting before after
   pub is_left : source ≡ Some rest
   pub cut : bytes ≡ lent ++ (feed.pending ++ rest)
 
 -- a feed has moved on to a line that the run hasn't taken
-pub record HasLine (R : Running) (start : Telling) (bytes : List ℕ) (source : Option (List ℕ)) (feed : Feeding) (now : R.Run) (waiting : List ℕ) (before after : Option (List ℕ)) : Type 0 where
+pub record HasLine (R : Running) (start : Path) (bytes : List ℕ) (source : Option (List ℕ)) (feed : Feeding) (now : R.Run) (waiting : List ℕ) (before after : Option (List ℕ)) : Type 0 where
   pub lent : List ℕ
   pub text : List ℕ
   pub rest : List ℕ
-  pub point : Telling
+  pub point : Path
   pub seen : List ℕ
   pub front : ℕ × Bool
-  pub at : R.At now point
+  pub at : R.At now text point
   pub is : IsFront seen source front
   pub line : feed.line.bytes ≡ take front.0 seen
   pub from : feed.line.offset ≡ length lent
@@ -101,23 +107,22 @@ pub record HasLine (R : Running) (start : Telling) (bytes : List ℕ) (source : 
   pub place : feed.place ≡ place_after (end_of lent) front
   pub offset : feed.offset ≡ length lent + with_end front
   pub whole : (tail : List ℕ) → known_part (lent ++ tail) ≡ lent ++ known_part tail
-  pub led : (end : Option Place) (tail : List ℕ) → told_of start end (lent ++ tail) ≡ behind text (point end feed.line.number (lines_of tail))
-  pub quiet : R.Quiet now text
+  pub led : (end : Option Place) (tail : List ℕ) → told_of start end (lent ++ tail) ≡ leads_behind text (point end feed.line.number (lines_of tail))
   pub passed : Passes [] text waiting before after
   pub is_left : source ≡ Some rest
   pub cut : bytes ≡ lent ++ (seen ++ rest)
 
 -- No line is left, and a run has told of all.
-pub record AtEnd (R : Running) (start : Telling) (bytes : List ℕ) (source : Option (List ℕ)) (place : Place) (now : R.Run) (waiting : List ℕ) (before after : Option (List ℕ)) : Type 0 where
+pub record AtEnd (R : Running) (start : Path) (bytes : List ℕ) (source : Option (List ℕ)) (place : Place) (now : R.Run) (waiting : List ℕ) (before after : Option (List ℕ)) : Type 0 where
   pub text : List ℕ
-  pub tells : transcript start bytes ≡ behind text (R.ends now place)
+  pub tells : transcript (tells_of start) bytes ≡ behind text (R.ends now place)
   pub passed : Passes [] text waiting before after
   pub is_left : source ≡ Some []
 
-module _ (R : Running) (start : Telling) (early : List ℕ) (laws : AreLaws R early) where
-  pub starts : (bytes : List ℕ) (source : Option (List ℕ)) (now : R.Run) (waiting : List ℕ) (a : Option (List ℕ)) → source ≡ Some bytes → R.At now start → R.Quiet now [] → waiting ≡ []
+module _ (R : Running) (start : Path) (laws : AreLaws R) where
+  pub starts : (bytes : List ℕ) (source : Option (List ℕ)) (now : R.Run) (waiting : List ℕ) (a : Option (List ℕ)) → source ≡ Some bytes → R.At now [] start → waiting ≡ []
       → UnderWay R start bytes source feed_at_start now waiting a a
-  starts bytes source now waiting a is at quiet none = record {
+  starts bytes source now waiting a is at none = record {
     lent = [];
     text = [];
     rest = bytes;
@@ -127,7 +132,6 @@ module _ (R : Running) (start : Telling) (early : List ℕ) (laws : AreLaws R ea
     offset = refl;
     whole = λ tail. refl;
     led = λ end tail. refl;
-    quiet = quiet;
     passed = record { front = []; cut = sym none; taken = Appends-nil a };
     is_left = is;
     cut = refl;
@@ -158,8 +162,7 @@ module _ (R : Running) (start : Telling) (early : List ℕ) (laws : AreLaws R ea
         place = ap (λ f. f.place) moved ∙ ap (λ p. place_after p front) h.place;
         offset = ap (λ f. f.offset) moved ∙ ap (λ n. n + with_end front) h.offset;
         whole = h.whole;
-        led = λ end tail. h.led end tail ∙ ap (λ n. behind h.text (told_lines end n (lines_of tail) h.point)) (sym number);
-        quiet = h.quiet;
+        led = λ end tail. h.led end tail ∙ ap (λ n. leads_behind h.text (told_lines end n (lines_of tail) h.point)) (sym number);
         passed = passes_on h.text waiting later a b c h.passed passed;
         is_left = is_left;
         cut = h.cut ∙ ap (λ l. h.lent ++ (old.pending ++ l)) cut ∙ ap (λ l. h.lent ++ l) (sym (append_assoc old.pending more rest));
@@ -195,14 +198,14 @@ module _ (R : Running) (start : Telling) (early : List ℕ) (laws : AreLaws R ea
   -- ---- the line leads on
 
   module _ (bytes : List ℕ) (source : Option (List ℕ)) (feed : Feeding) (now : R.Run) (waiting : List ℕ) (a b : Option (List ℕ)) (h : HasLine R start bytes source feed now waiting a b) where
-    abbrev Leading : Option Place → List (List ℕ) → Told
+    abbrev Leading : Option Place → List (List ℕ) → Leads
     Leading = from_line feed.line.number feed.line.bytes h.point
 
     case : ((is_last feed ≡ false) × (known_front h.seen ≡ Some h.front)) ⊎ ((is_last feed ≡ true) × (known_front h.seen ≡ None) × IsAtEnd source × (1 ≤ length h.seen) × (h.front ≡ (length h.seen, false)))
     case = which feed h.lent h.seen source h.front h.is h.line h.from h.offset
 
-    long_told : IsLongTold h.point feed.line.number
-    long_told = laws.long now h.point feed.line.number h.at
+    long_told : IsLongLed h.point feed.line.number
+    long_told = laws.long now h.text h.point feed.line.number h.at
 
     -- an ended line
     line_is : (count : ℕ) → h.front ≡ (count, true) → take count h.seen ≡ feed.line.bytes
@@ -255,30 +258,30 @@ module _ (R : Running) (start : Telling) (early : List ℕ) (laws : AreLaws R ea
             )
 
     -- the whole text leads on from it
-    pub all_from : (end : Option Place) → (lines : List (List ℕ)) × (told_of start end bytes ≡ behind h.text (Leading end lines))
+    pub all_from : (end : Option Place) → (lines : List (List ℕ)) × (told_of start end bytes ≡ leads_behind h.text (Leading end lines))
     all_from end = elim case [
       | inl more ↦
           let from = first_from more.1 end h.rest in
-          (from.0, ap (told_of start end) h.cut ∙ h.led end (h.seen ++ h.rest) ∙ ap (behind h.text) from.1)
+          (from.0, ap (told_of start end) h.cut ∙ h.led end (h.seen ++ h.rest) ∙ ap (leads_behind h.text) from.1)
       | inr last ↦
           let none : h.rest ≡ [] = none_left source h.rest h.is_left last.2 in
           let whole : bytes ≡ h.lent ++ h.seen = h.cut ∙ ap (λ l. h.lent ++ (h.seen ++ l)) none ∙ ap (λ l. h.lent ++ l) (append-nil h.seen) in
           let line : h.seen ≡ feed.line.bytes = sym (take-length h.seen) ∙ ap (λ (f : ℕ × Bool). take f.0 h.seen) (sym last.4) ∙ sym h.line in (
             [],
-            ap (told_of start end) whole ∙ h.led end h.seen ∙ ap (λ l. behind h.text (told_lines end feed.line.number l h.point)) (last_front h.seen last.1 last.3 ∙ ap (λ l. l ∷ []) line),
+            ap (told_of start end) whole ∙ h.led end h.seen ∙ ap (λ l. leads_behind h.text (told_lines end feed.line.number l h.point)) (last_front h.seen last.1 last.3 ∙ ap (λ l. l ∷ []) line),
           )
     ]
 
     -- a run doesn't go on behind a line too long
-    long_never_goes : (later : R.Run) (left : List ℕ) (c : Option (List ℕ)) → GoesOn R Leading (feed.line.number + 1) now later waiting left b c → 4096 < length feed.line.bytes → ⊥
+    long_never_goes : (later : R.Run) (left : List ℕ) (c : Option (List ℕ)) → GoesOn R Leading (feed.line.number + 1) h.text later waiting left b c → 4096 < length feed.line.bytes → ⊥
     long_never_goes later left c g long =
-        let none = laws.unknown later g.next (feed.line.number + 1) g.at in
-        let e : BadText ≡ Done = sym long_told.bad ∙ ap (λ (t : Told). t.status) (sym (long_told.is feed.line.bytes None [] long) ∙ g.goes None [] ∙ ap (behind g.text) none) in
+        let none = laws.unknown later (h.text ++ g.text) g.next (feed.line.number + 1) g.at in
+        let e : BadText ≡ Done = sym long_told.bad ∙ ap (λ (t : Leads). t.tells.status) (sym (long_told.is feed.line.bytes None [] long) ∙ g.goes None []) ∙ ap (λ (t : Told). t.status) none in
         cc e
 
     -- ---- it goes on
 
-    module _ (later : R.Run) (left : List ℕ) (c : Option (List ℕ)) (g : GoesOn R Leading (feed.line.number + 1) now later waiting left b c) where
+    module _ (later : R.Run) (left : List ℕ) (c : Option (List ℕ)) (g : GoesOn R Leading (feed.line.number + 1) h.text later waiting left b c) where
       goes_ended : (count : ℕ) → h.front ≡ (count, true) → known_front h.seen ≡ Some (count, true) → UnderWay R start bytes source feed later left a c
       goes_ended count is known =
           let ended : List ℕ = take (count + 1) h.seen in
@@ -297,10 +300,9 @@ module _ (R : Running) (start : Telling) (early : List ℕ) (laws : AreLaws R ea
                 ap known_part (append_assoc h.lent ended tail) ∙ h.whole (ended ++ tail) ∙ ap (λ l. h.lent ++ l) (ended_known h.seen tail count known) ∙ sym (append_assoc h.lent ended (known_part tail));
             led = λ end tail.
                 ap (told_of start end) (append_assoc h.lent ended tail) ∙ h.led end (ended ++ tail)
-                ∙ ap (λ l. behind h.text (told_lines end feed.line.number l h.point)) (ended_lines h.seen tail count known ∙ ap (λ l. l ∷ lines_of tail) (line_is count is))
-                ∙ ap (behind h.text) (g.goes end (lines_of tail)) ∙ behind_both h.text g.text (told_lines end (feed.line.number + 1) (lines_of tail) g.next)
-                ∙ ap (λ n. behind (h.text ++ g.text) (told_lines end n (lines_of tail) g.next)) number;
-            quiet = g.quiet h.text h.quiet;
+                ∙ ap (λ l. leads_behind h.text (told_lines end feed.line.number l h.point)) (ended_lines h.seen tail count known ∙ ap (λ l. l ∷ lines_of tail) (line_is count is))
+                ∙ ap (leads_behind h.text) (g.goes end (lines_of tail)) ∙ behind_both h.text g.text (told_lines end (feed.line.number + 1) (lines_of tail) g.next)
+                ∙ ap (λ n. leads_behind (h.text ++ g.text) (told_lines end n (lines_of tail) g.next)) number;
             passed = passes_both [] h.text waiting g.text left a b c h.passed g.passed;
             is_left = h.is_left;
             cut = h.cut ∙ ap (λ l. h.lent ++ l) (cut_seen count h.rest) ∙ sym (append_assoc h.lent ended (drop (count + 1) h.seen ++ h.rest))
@@ -320,7 +322,7 @@ module _ (R : Running) (start : Telling) (early : List ℕ) (laws : AreLaws R ea
   -- ---- the text ends
 
   module _ (bytes : List ℕ) (source : Option (List ℕ)) (feed : Feeding) (now : R.Run) (waiting : List ℕ) (a b : Option (List ℕ)) (h : HasLine R start bytes source feed now waiting a b)
-      (later : R.Run) (left : List ℕ) (c : Option (List ℕ)) (g : GoesOn R (from_line feed.line.number feed.line.bytes h.point) (feed.line.number + 1) now later waiting left b c) where
+      (later : R.Run) (left : List ℕ) (c : Option (List ℕ)) (g : GoesOn R (from_line feed.line.number feed.line.bytes h.point) (feed.line.number + 1) h.text later waiting left b c) where
     last_ends : IsAtEnd source → known_front h.seen ≡ None → 1 ≤ length h.seen → h.front ≡ (length h.seen, false) → AtEnd R start bytes source feed.place later left a c
     last_ends end unknown some front =
         let none : h.rest ≡ [] = none_left source h.rest h.is_left end in
@@ -333,10 +335,11 @@ module _ (R : Running) (start : Telling) (early : List ℕ) (laws : AreLaws R ea
         record {
           text = h.text ++ g.text;
           tells =
-              ap (told_of start (Some (end_of bytes))) all ∙ h.led (Some (end_of bytes)) h.seen
-              ∙ ap (λ l. behind h.text (told_lines (Some (end_of bytes)) feed.line.number l h.point)) (last_front h.seen unknown some ∙ ap (λ l. l ∷ []) line)
-              ∙ ap (behind h.text) (g.goes (Some (end_of bytes)) []) ∙ behind_both h.text g.text (told_lines (Some (end_of bytes)) (feed.line.number + 1) [] g.next)
-              ∙ ap (behind (h.text ++ g.text)) (laws.ended later g.next (end_of bytes) (feed.line.number + 1) g.at)
+              ap (λ (x : Leads). x.tells)
+              (ap (told_of start (Some (end_of bytes))) all ∙ h.led (Some (end_of bytes)) h.seen
+              ∙ ap (λ l. leads_behind h.text (told_lines (Some (end_of bytes)) feed.line.number l h.point)) (last_front h.seen unknown some ∙ ap (λ l. l ∷ []) line)
+              ∙ ap (leads_behind h.text) (g.goes (Some (end_of bytes)) []) ∙ behind_both h.text g.text (told_lines (Some (end_of bytes)) (feed.line.number + 1) [] g.next))
+              ∙ ap (behind (h.text ++ g.text)) (laws.ended later (h.text ++ g.text) g.next (end_of bytes) (feed.line.number + 1) g.at)
               ∙ ap (λ p. behind (h.text ++ g.text) (R.ends later p)) (sym place);
           passed = passes_both [] h.text waiting g.text left a b c h.passed g.passed;
           is_left = h.is_left ∙ ap Some none;
@@ -358,28 +361,28 @@ module _ (R : Running) (start : Telling) (early : List ℕ) (laws : AreLaws R ea
       let place : new.place ≡ end_of bytes = moves.4 ∙ h.place ∙ ap end_of (sym (append-nil h.lent) ∙ sym all) in
       record {
         text = h.text;
-        tells = ap (told_of start (Some (end_of bytes))) all ∙ h.led (Some (end_of bytes)) [] ∙ ap (behind h.text) (laws.ended now h.point (end_of bytes) old.place.line h.at)
+        tells = ap (λ (x : Leads). x.tells) (ap (told_of start (Some (end_of bytes))) all ∙ h.led (Some (end_of bytes)) []) ∙ ap (behind h.text) (laws.ended now h.text h.point (end_of bytes) old.place.line h.at)
             ∙ ap (λ p. behind h.text (R.ends now p)) (sym place);
         passed = passes_on h.text waiting later a b c h.passed passed;
         is_left = is_left ∙ ap Some none;
       }
 
-  module _ (bytes text : List ℕ) (left a b : Option (List ℕ)) (t : Told) (is : transcript start bytes ≡ behind text t) (put : Appends a b (text ++ t.text)) (read : left ≡ Some []) where
+  module _ (bytes text : List ℕ) (left a b : Option (List ℕ)) (t : Told) (is : transcript (tells_of start) bytes ≡ behind text t) (put : Appends a b (text ++ t.text)) (read : left ≡ Some []) where
     -- all is told, with this status
-    pub tells_all : (status : Status) → status ≡ t.status → (status ≡ Done) ⊎ (status ≡ Refused) ⊎ (status ≡ BadText) → Runs start early bytes left a b status
+    pub tells_all : (status : Status) → status ≡ t.status → (status ≡ Done) ⊎ (status ≡ Refused) ⊎ (status ≡ BadText) → RunsOn start bytes left a b status
     tells_all status same one = elim one [
-      | inl done ↦ subst (Runs start early bytes left a b) (sym done) (record { status_is = sym done ∙ same ∙ sym (ap (λ (x : Told). x.status) is); taken = taken; read = read })
+      | inl done ↦ subst (RunsOn start bytes left a b) (sym done) (record { status_is = sym done ∙ same ∙ sym (ap (λ (x : Told). x.status) is); taken = taken; read = read })
       | inr other ↦ elim other [
-        | inl refused ↦ subst (Runs start early bytes left a b) (sym refused) (record { status_is = sym refused ∙ same ∙ sym (ap (λ (x : Told). x.status) is); taken = taken; read = read })
-        | inr bad ↦ subst (Runs start early bytes left a b) (sym bad) (record { status_is = sym bad ∙ same ∙ sym (ap (λ (x : Told). x.status) is); taken = taken; read = read })
+        | inl refused ↦ subst (RunsOn start bytes left a b) (sym refused) (record { status_is = sym refused ∙ same ∙ sym (ap (λ (x : Told). x.status) is); taken = taken; read = read })
+        | inr bad ↦ subst (RunsOn start bytes left a b) (sym bad) (record { status_is = sym bad ∙ same ∙ sym (ap (λ (x : Told). x.status) is); taken = taken; read = read })
       ]
     ]
       where
-        taken : Appends a b (transcript start bytes).text
+        taken : Appends a b (transcript (tells_of start) bytes).text
         taken = subst (Appends a b) (sym (ap (λ (x : Told). x.text) is)) put
 
   pub closes : (bytes : List ℕ) (source : Option (List ℕ)) (place : Place) (now : R.Run) (waiting : List ℕ) (a b c : Option (List ℕ)) (status : Status) → AtEnd R start bytes source place now waiting a b
-      → Closes (R.ends now place) waiting b c status → Runs start early bytes source a c status
+      → Closes (R.ends now place) waiting b c status → RunsOn start bytes source a c status
   closes bytes source place now waiting a b c status h (inl all) =
       tells_all bytes h.text source a c (R.ends now place) h.tells (passes_then h.text waiting (R.ends now place).text a b c h.passed all.1) h.is_left status all.0
       (one (laws.ending now place))
@@ -389,23 +392,23 @@ module _ (R : Running) (start : Telling) (early : List ℕ) (laws : AreLaws R ea
       one (inr bad) = inr (inr (all.0 ∙ bad))
   closes bytes source place now waiting a b c status h (inr front) =
       let t = R.ends now place in
-      subst (Runs start early bytes source a c) (sym front.0)
+      subst (RunsOn start bytes source a c) (sym front.0)
       (subst (AppendsFront a c) (ap (λ l. h.text ++ l) (append-nil t.text) ∙ sym (ap (λ (x : Told). x.text) h.tells)) (fails_then h.text waiting t.text [] a b c h.passed front.1))
 
   -- ---- the line ends the transcript
 
   module _ (bytes : List ℕ) (source : Option (List ℕ)) (feed : Feeding) (now : R.Run) (waiting : List ℕ) (a b : Option (List ℕ)) (h : HasLine R start bytes source feed now waiting a b) where
     -- the text so far is a front
-    front_text : (rest : List ℕ) × ((transcript start bytes).text ≡ h.text ++ rest)
+    front_text : (rest : List ℕ) × ((transcript (tells_of start) bytes).text ≡ h.text ++ rest)
     front_text =
         let from = all_from bytes source feed now waiting a b h (Some (end_of bytes)) in
-        ((from_line feed.line.number feed.line.bytes h.point (Some (end_of bytes)) from.0).text, ap (λ (x : Told). x.text) from.1)
+        ((from_line feed.line.number feed.line.bytes h.point (Some (end_of bytes)) from.0).tells.text, ap (λ (x : Leads). x.tells.text) from.1)
 
-    pub line_fails : (c : Option (List ℕ)) → Fails (from_line feed.line.number feed.line.bytes h.point) waiting b c → AppendsFront a c (transcript start bytes).text
+    pub line_fails : (c : Option (List ℕ)) → Fails (from_line feed.line.number feed.line.bytes h.point) waiting b c → AppendsFront a c (transcript (tells_of start) bytes).text
     line_fails c f =
         let from = all_from bytes source feed now waiting a b h (Some (end_of bytes)) in
         let (rest, cut) = f.front (Some (end_of bytes)) from.0 in
-        subst (AppendsFront a c) (ap (λ l. h.text ++ l) (sym cut) ∙ sym (ap (λ (x : Told). x.text) from.1)) (fails_then h.text waiting f.text rest a b c h.passed f.failed)
+        subst (AppendsFront a c) (ap (λ l. h.text ++ l) (sym cut) ∙ sym (ap (λ (x : Leads). x.tells.text) from.1)) (fails_then h.text waiting f.text rest a b c h.passed f.failed)
 
     module _ (status result : Status) (more left : List ℕ) (source_after c d : Option (List ℕ)) (takes : Consumes source source_after more) (long : result ≡ TooLong → 16777216 < taken feed + length more)
         (leaves : Leaves status (is_last feed) more source_after left c d result) where
@@ -428,12 +431,12 @@ module _ (R : Running) (start : Telling) (early : List ℕ) (laws : AreLaws R ea
           ]
 
       -- memory was refused
-      pub line_wants : Wants R now waiting left b c status → Runs start early bytes source_after a d result
+      pub line_wants : Wants (from_line feed.line.number feed.line.bytes h.point) h.text waiting left b c status → RunsOn start bytes source_after a d result
       line_wants w = elim leaves [
-        | inl unwritten ↦ subst (Runs start early bytes source_after a d) (sym unwritten.0) (subst (AppendsFront a d) (sym front_text.1) (fails_out h.text left front_text.0 a c d passed unwritten.1))
+        | inl unwritten ↦ subst (RunsOn start bytes source_after a d) (sym unwritten.0) (subst (AppendsFront a d) (sym front_text.1) (fails_out h.text left front_text.0 a c d passed unwritten.1))
         | inr written ↦ elim written.1 [
           | inl kept ↦
-              subst (Runs start early bytes source_after a d) (sym (kept.0 ∙ w.refused))
+              subst (RunsOn start bytes source_after a d) (sym (kept.0 ∙ w.refused))
               (before_early (passes_out h.text left a c d passed written.0), subst (AppendsFront a d) (sym front_text.1) (front_of h.text front_text.0 a d (passes_out h.text left a c d passed written.0)))
           | inr dropped ↦ absurd (dropped.1 w.refused)
         ]
@@ -442,38 +445,41 @@ module _ (R : Running) (start : Telling) (early : List ℕ) (laws : AreLaws R ea
           passed : Passes [] h.text left a c
           passed = subst (λ l. Passes [] h.text l a c) (sym w.waits) (subst (λ o. Passes [] h.text waiting a o) (sym w.kept) h.passed)
 
-          before_early : Appends a d h.text → AppendsFront a d early
-          before_early put = let (rest, is) = laws.front now h.text h.quiet w.early in subst (AppendsFront a d) (sym is) (front_of h.text rest a d put)
+          before_early : Appends a d h.text → AppendsFront a d (early_of start bytes)
+          before_early put =
+              let from = all_from bytes source feed now waiting a b h (Some (end_of bytes)) in
+              let (rest, is) = w.early (Some (end_of bytes)) from.0 in
+              subst (AppendsFront a d) (sym (ap (λ (x : Leads). x.early) from.1 ∙ is)) (front_of h.text rest a d put)
 
       -- an offence or a refused dump
       module _ (e : Ends (from_line feed.line.number feed.line.bytes h.point) waiting left b c status) where
         abbrev t : Told
         t = e.telling
 
-        is : transcript start bytes ≡ behind h.text t
-        is = let from = all_from bytes source feed now waiting a b h (Some (end_of bytes)) in from.1 ∙ ap (behind h.text) (e.stops (Some (end_of bytes)) from.0)
+        is : transcript (tells_of start) bytes ≡ behind h.text t
+        is = let from = all_from bytes source feed now waiting a b h (Some (end_of bytes)) in ap (λ (x : Leads). x.tells) from.1 ∙ ap (behind h.text) (e.stops (Some (end_of bytes)) from.0)
 
         passed : Passes [] (h.text ++ t.text) left a c
         passed = passes_both [] h.text waiting t.text left a b c h.passed e.passed
 
-        unwritten : AppendsFront c d left → AppendsFront a d (transcript start bytes).text
+        unwritten : AppendsFront c d left → AppendsFront a d (transcript (tells_of start) bytes).text
         unwritten put = subst (AppendsFront a d) (append-nil (h.text ++ t.text) ∙ sym (ap (λ (x : Told). x.text) is)) (fails_out (h.text ++ t.text) left [] a c d passed put)
 
-        ended : Appends c d left → result ≡ status → source_after ≡ Some [] → Runs start early bytes source_after a d result
+        ended : Appends c d left → result ≡ status → source_after ≡ Some [] → RunsOn start bytes source_after a d result
         ended put same read = tells_all bytes h.text source_after a d t is (passes_out (h.text ++ t.text) left a c d passed put) read result (same ∙ e.status_is) (subst (λ s. (s ≡ Done) ⊎ (s ≡ Refused) ⊎ (s ≡ BadText)) (sym same) (inr e.last))
 
-        known : is_last feed ≡ false → known_text start (h.lent ++ (h.seen ++ more)) ≡ h.text ++ t.text
+        known : is_last feed ≡ false → known_text (tells_of start) (h.lent ++ (h.seen ++ more)) ≡ h.text ++ t.text
         known going = elim (case bytes source feed now waiting a b h) [
           | inl shown ↦
               let from = first_known bytes source feed now waiting a b h shown.1 more in
-              ap (λ l. (told_of start None l).text) (h.whole (h.seen ++ more)) ∙ ap (λ (x : Told). x.text) (h.led None (known_part (h.seen ++ more)))
-              ∙ ap (λ (x : Told). h.text ++ x.text) (from.1 ∙ e.stops None from.0)
+              ap (λ l. (told_of start None l).tells.text) (h.whole (h.seen ++ more)) ∙ ap (λ (x : Leads). x.tells.text) (h.led None (known_part (h.seen ++ more)))
+              ∙ ap (λ (x : Told). h.text ++ x.text) (ap (λ (x : Leads). x.tells) from.1 ∙ e.stops None from.0)
           | inr last ↦ let x : false ≡ true = sym going ∙ last.0 in absurd (cc x)
         ]
 
-        pub line_ends : Runs start early bytes source_after a d result
+        pub line_ends : RunsOn start bytes source_after a d result
         line_ends = elim leaves [
-          | inl failed ↦ subst (Runs start early bytes source_after a d) (sym failed.0) (unwritten failed.1)
+          | inl failed ↦ subst (RunsOn start bytes source_after a d) (sym failed.0) (unwritten failed.1)
           | inr written ↦ elim written.1 [
             | inl kept ↦ elim kept.1 [
               | inl last ↦ ended written.0 kept.0 (nothing_left kept.2 last)
@@ -482,14 +488,14 @@ module _ (R : Running) (start : Telling) (early : List ℕ) (laws : AreLaws R ea
             | inr dropped ↦ elim dropped.2 [
               | inl all ↦ ended written.0 all.0 (took.1 ∙ ap Some (none_left source_after took.0 took.1 all.1))
               | inr cut ↦ elim cut [
-                | inl read ↦ subst (Runs start early bytes source_after a d) (sym read) (record {
+                | inl read ↦ subst (RunsOn start bytes source_after a d) (sym read) (record {
                   front = h.lent ++ (h.seen ++ more);
                   rest = took.0;
                   cut = h.cut ∙ ap (λ l. h.lent ++ (h.seen ++ l)) took.2 ∙ ap (λ l. h.lent ++ l) (sym (append_assoc h.seen more took.0)) ∙ sym (append_assoc h.lent (h.seen ++ more) took.0);
                   is_left = took.1;
                   taken = subst (Appends a d) (sym (known dropped.0)) (passes_out (h.text ++ t.text) left a c d passed written.0);
                 })
-                | inr much ↦ subst (Runs start early bytes source_after a d) (sym much)
+                | inr much ↦ subst (RunsOn start bytes source_after a d) (sym much)
                     (enough much, subst (AppendsFront a d) (append-nil (h.text ++ t.text) ∙ sym (ap (λ (x : Told). x.text) is)) (front_of (h.text ++ t.text) [] a d (passes_out (h.text ++ t.text) left a c d passed written.0)))
               ]
             ]
@@ -511,16 +517,16 @@ module _ (R : Running) (start : Telling) (early : List ℕ) (laws : AreLaws R ea
   -- ---- there is no next line
 
   pub cuts : (bytes more : List ℕ) (source left : Option (List ℕ)) (old new : Feeding) (now : R.Run) (waiting later : List ℕ) (a b c : Option (List ℕ)) (why : Cut) → UnderWay R start bytes source old now waiting a b → Consumes source left more
-      → CutShort old new (old.pending ++ more) waiting later b c why → old.fault ≡ None → (why ≡ cut.Feed fault.TooLong → 16777216 < taken old + length more) → Runs start early bytes left a c (cut_status why)
+      → CutShort old new (old.pending ++ more) waiting later b c why → old.fault ≡ None → (why ≡ cut.Feed fault.TooLong → 16777216 < taken old + length more) → RunsOn start bytes left a c (cut_status why)
   cuts bytes more source left old new now waiting later a b c cut.Write h takes short none long =
-      let all : transcript start bytes ≡ behind h.text (told_lines (Some (end_of bytes)) old.place.line (lines_of (old.pending ++ h.rest)) h.point) = ap (told_of start (Some (end_of bytes))) h.cut ∙ h.led (Some (end_of bytes)) (old.pending ++ h.rest) in
-      subst (AppendsFront a c) (sym (ap (λ (x : Told). x.text) all)) (fails_out h.text waiting (told_lines (Some (end_of bytes)) old.place.line (lines_of (old.pending ++ h.rest)) h.point).text a b c h.passed short.2)
+      let all : told_of start (Some (end_of bytes)) bytes ≡ leads_behind h.text (told_lines (Some (end_of bytes)) old.place.line (lines_of (old.pending ++ h.rest)) h.point) = ap (told_of start (Some (end_of bytes))) h.cut ∙ h.led (Some (end_of bytes)) (old.pending ++ h.rest) in
+      subst (AppendsFront a c) (sym (ap (λ (x : Leads). x.tells.text) all)) (fails_out h.text waiting (told_lines (Some (end_of bytes)) old.place.line (lines_of (old.pending ++ h.rest)) h.point).tells.text a b c h.passed short.2)
   cuts bytes more source left old new now waiting later a b c (cut.Feed fault.ReadFault) h takes short none long =
       let (rest, is_left, cut) = consumed h.rest more left (subst (λ o. Consumes o left more) h.is_left takes) in
       let unknown : known_front (old.pending ++ more) ≡ None = short.0.4 refl none in
-      let known : known_text start (h.lent ++ (old.pending ++ more)) ≡ h.text =
-      ap (λ l. (told_of start None l).text) (h.whole (old.pending ++ more) ∙ ap (λ l. h.lent ++ l) (unknown_part (old.pending ++ more) unknown)) ∙ ap (λ (x : Told). x.text) (h.led None [])
-      ∙ ap (λ (x : Told). h.text ++ x.text) (laws.unknown now h.point old.place.line h.at) ∙ append-nil h.text in
+      let known : known_text (tells_of start) (h.lent ++ (old.pending ++ more)) ≡ h.text =
+      ap (λ l. (told_of start None l).tells.text) (h.whole (old.pending ++ more) ∙ ap (λ l. h.lent ++ l) (unknown_part (old.pending ++ more) unknown)) ∙ ap (λ (x : Leads). x.tells.text) (h.led None [])
+      ∙ ap (λ (x : Told). h.text ++ x.text) (laws.unknown now h.text h.point old.place.line h.at) ∙ append-nil h.text in
       record {
         front = h.lent ++ (old.pending ++ more);
         rest = rest;
@@ -530,8 +536,8 @@ module _ (R : Running) (start : Telling) (early : List ℕ) (laws : AreLaws R ea
       }
   cuts bytes more source left old new now waiting later a b c (cut.Feed fault.TooLong) h takes short none long =
       let (rest, is_left, cut) = consumed h.rest more left (subst (λ o. Consumes o left more) h.is_left takes) in
-      let all : transcript start bytes ≡ behind h.text (told_lines (Some (end_of bytes)) old.place.line (lines_of (old.pending ++ h.rest)) h.point) = ap (told_of start (Some (end_of bytes))) h.cut ∙ h.led (Some (end_of bytes)) (old.pending ++ h.rest) in (
+      let all : told_of start (Some (end_of bytes)) bytes ≡ leads_behind h.text (told_lines (Some (end_of bytes)) old.place.line (lines_of (old.pending ++ h.rest)) h.point) = ap (told_of start (Some (end_of bytes))) h.cut ∙ h.led (Some (end_of bytes)) (old.pending ++ h.rest) in (
         omega (arith, long refl, h.offset, ap length h.cut, length-append h.lent (old.pending ++ h.rest), length-append old.pending h.rest, ap length cut, length-append more rest),
-        subst (AppendsFront a c) (sym (ap (λ (x : Told). x.text) all))
-            (front_of h.text (told_lines (Some (end_of bytes)) old.place.line (lines_of (old.pending ++ h.rest)) h.point).text a c (passes_out h.text waiting a b c h.passed short.2)),
+        subst (AppendsFront a c) (sym (ap (λ (x : Leads). x.tells.text) all))
+            (front_of h.text (told_lines (Some (end_of bytes)) old.place.line (lines_of (old.pending ++ h.rest)) h.point).tells.text a c (passes_out h.text waiting a b c h.passed short.2)),
       )

@@ -1,6 +1,7 @@
 -- What a run over a text makes of one line, and of the end (own).
-use Rattle.std.specs.Prelude.{ℕ, ◌≡◌, ◌≢◌, ◌⊎◌, Bool, true, false, List, [], ◌∷◌, ◌++◌, Option, None, Some, Result, Ok, Err, MatchOption, MatchResult}
+use Rattle.std.specs.Prelude.{ℕ, ◌≡◌, ◌≢◌, ◌⊎◌, Bool, true, false, List, [], ◌∷◌, ◌++◌, Option, Some, Result, Ok, Err, MatchOption, MatchResult}
 use Rattle.std.specs.Io.KnownBytes.{Appends, IsAtEnd}
+use Rattle.mt_text.specs.Text.{end_of, lines_of}
 use Rattle.mt_text.specs.Feed.{Feeding, Moves, Stops}
 use Rattle.mt_text.specs.declared.place.Place.{Place}
 use Rattle.mt_text.specs.declared.fault.FeedFault.TheVariants as feed
@@ -14,57 +15,78 @@ use Rattle.mt_stream.specs.Told.{Telling, Told, behind}
 use Rattle.mt_stream.specs.declared.running.Cut.{Cut}
 use Rattle.mt_stream.specs.declared.running.Cut.TheVariants as cut
 
+-- What is told of a text, and what may have been written of it where memory is refused.
+pub record Leads : Type 0 where
+  pub tells : Told
+  pub early : List ℕ
+
+-- what the lines of a text lead to from some line on, as a `Telling`
+abbrev pub Path : Type 0
+Path = Option Place → ℕ → List (List ℕ) → Leads
+
+-- where memory is refused before anything but this is written
+abbrev pub early_at : List ℕ → Telling → Path
+early_at early told end number lines = record { tells = told end number lines; early = early }
+
+abbrev pub leads_behind : List ℕ → Leads → Leads
+leads_behind text rest = record { tells = behind text rest.tells; early = rest.early }
+
+-- of a whole text
+abbrev pub tells_of : Path → Telling
+tells_of start end number lines = (start end number lines).tells
+
+abbrev pub early_of : Path → List ℕ → List ℕ
+early_of start text = (start (Some (end_of text)) 1 (lines_of text)).early
+
 -- A run between two lines, as its code keeps it.
 pub record Running : Type 1 where
   pub Run : Type 0
-  pub At : Run → Telling → Type 0  -- it stands where the lines that come tell this
+  pub At : Run → List ℕ → Path → Type 0  -- it stands where this was written and the lines that come lead to this
   pub ends : Run → Place → Told  -- what is told where the text ends at a place
-  pub Quiet : Run → List ℕ → Type 0  -- what may have been written so far
-  pub Early : Run → Type 0  -- memory may be asked for
 
 -- what a line and those behind it lead to
 abbrev pub Leading : Type 0
-Leading = Option Place → List (List ℕ) → Told
+Leading = Option Place → List (List ℕ) → Leads
 
 -- of a line of this number
-abbrev pub from_line : ℕ → List ℕ → Telling → Leading
+abbrev pub from_line : ℕ → List ℕ → Path → Leading
 from_line number line was end lines = was end number (line ∷ lines)
 
 -- A text is written, and the lines behind, the first of which has this number, lead on from another point.
-pub record GoesOn (R : Running) (from : Leading) (number : ℕ) (was now : R.Run) (waiting left : List ℕ) (before after : Option (List ℕ)) : Type 0 where
-  pub next : Telling
-  pub at : R.At now next
+pub record GoesOn (R : Running) (from : Leading) (number : ℕ) (so_far : List ℕ) (now : R.Run) (waiting left : List ℕ) (before after : Option (List ℕ)) : Type 0 where
+  pub next : Path
   pub text : List ℕ
-  pub goes : (end : Option Place) (lines : List (List ℕ)) → from end lines ≡ behind text (next end number lines)
-  pub quiet : (so_far : List ℕ) → R.Quiet was so_far → R.Quiet now (so_far ++ text)
+  pub at : R.At now (so_far ++ text) next
+  pub goes : (end : Option Place) (lines : List (List ℕ)) → from end lines ≡ leads_behind text (next end number lines)
   pub passed : Passes waiting text left before after
 
 -- The transcript ends, whatever stands behind.
 pub record Ends (from : Leading) (waiting left : List ℕ) (before after : Option (List ℕ)) (status : Status) : Type 0 where
   pub telling : Told
-  pub stops : (end : Option Place) (lines : List (List ℕ)) → from end lines ≡ telling
+  pub stops : (end : Option Place) (lines : List (List ℕ)) → (from end lines).tells ≡ telling
   pub status_is : status ≡ telling.status
   pub last : (status ≡ Refused) ⊎ (status ≡ BadText)
   pub passed : Passes waiting telling.text left before after
 
--- Memory was refused, and nothing was written.
-pub record Wants (R : Running) (was : R.Run) (waiting left : List ℕ) (before after : Option (List ℕ)) (status : Status) : Type 0 where
+-- Memory was refused, where it may be, and nothing was written.
+pub record Wants (from : Leading) (so_far waiting left : List ℕ) (before after : Option (List ℕ)) (status : Status) : Type 0 where
   pub refused : status ≡ NoMemory
-  pub early : R.Early was
+  pub early : (end : Option Place) (lines : List (List ℕ)) → (rest : List ℕ) × ((from end lines).early ≡ so_far ++ rest)
   pub waits : left ≡ waiting
   pub kept : after ≡ before
 
 -- The sink failed, and took a front.
 pub record Fails (from : Leading) (waiting : List ℕ) (before after : Option (List ℕ)) : Type 0 where
   pub text : List ℕ
-  pub front : (end : Option Place) (lines : List (List ℕ)) → (rest : List ℕ) × ((from end lines).text ≡ text ++ rest)
+  pub front : (end : Option Place) (lines : List (List ℕ)) → (rest : List ℕ) × ((from end lines).tells.text ≡ text ++ rest)
   pub failed : AppendsFront before after (waiting ++ text)
 
-abbrev pub Takes : (R : Running) → Leading → ℕ → R.Run → R.Run → List ℕ → List ℕ → Option (List ℕ) → Option (List ℕ) → Result (Option Status) Failed → Type 0
-Takes R from number was now waiting left before after result =
+-- what a run makes of a line, where this was written so far
+abbrev pub Takes : (R : Running) → Leading → ℕ → List ℕ → R.Run → List ℕ → List ℕ → Option (List ℕ) → Option (List ℕ) → Result (Option Status) Failed → Type 0
+Takes R from number so_far now waiting left before after result =
     MatchResult result
-    (λ ended. MatchOption ended (GoesOn R from number was now waiting left before after)
-    (λ status. Ends from waiting left before after status ⊎ Wants R was waiting left before after status))
+    (λ ended. MatchOption ended (GoesOn R from number so_far now waiting left before after)
+    (λ status. Ends from waiting left before after status ⊎ Wants from so_far waiting left before after status))
     (λ _. Fails from waiting before after)
 
 -- ---- the next line

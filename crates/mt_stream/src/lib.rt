@@ -3,6 +3,8 @@
 
 mod running;
 mod worked;
+mod worked_ends;
 
 pub use running::{Cut, close, cut_status, leave, next_line, tell};
 pub use worked::{worked_known_parts, worked_runs, worked_texts};
+pub use worked_ends::{worked_causes, worked_closes, worked_cuts, worked_leaves};

@@ -139,15 +139,22 @@ LendsLines old new before after result = MatchResult result
     (λ answer. MatchOption answer ((old.pending ++ before ≡ []) × (new.pending ++ after ≡ [])) (LendsFirst old new before after))
     (λ _. new.pending ++ after ≡ old.pending ++ before)
 
--- Of all bytes of a source these are gone: they were lent before, and behind them stand those that are pending and those that the source has left. A line that is lent is the slice
--- of all bytes at its offset, and what is gone then ends where the next line begins.
-pub record LendsSlice (old new : Feeding) (gone before after : List ℕ) (line : Line) : Type 0 where
-  pub slice : line.bytes.now ≡ take (length line.bytes.now) (drop line.offset (gone ++ (old.pending ++ before)))
+-- These are all bytes that a feed has taken: those that it has lent, each line with the LF behind it, and those that are pending.
+pub record HasTaken (feed : Feeding) (gone bytes : List ℕ) : Type 0 where
+  pub offset : feed.offset ≡ length gone
+  pub bytes_are : bytes ≡ gone ++ feed.pending
+
+-- A line that is lent begins behind all that was lent before, and is the slice there of all bytes that the feed has taken by then.
+pub record LendsSlice (new : Feeding) (gone bytes : List ℕ) (line : Line) : Type 0 where
   pub offset : line.offset ≡ length gone
+  pub slice : line.bytes.now ≡ take (length line.bytes.now) (drop line.offset bytes)
   pub passed : List ℕ  -- the line and the LF behind it, where there is one
-  pub same : gone ++ (old.pending ++ before) ≡ (gone ++ passed) ++ (new.pending ++ after)
   pub next : line.next ≡ length (gone ++ passed)
-  pub reach : new.offset ≡ length (gone ++ passed)
+  pub after : HasTaken new (gone ++ passed) bytes
+
+-- what a call lends of all bytes that the feed has taken by then; without a line what was lent stays as it was
+abbrev pub LendsSlices : Feeding → List ℕ → List ℕ → Result (Option Line) FeedFault → Type 0
+LendsSlices new gone bytes result = MatchResult result (λ answer. MatchOption answer (HasTaken new gone bytes) (LendsSlice new gone bytes)) (λ _. HasTaken new gone bytes)
 
 -- a read has put more bytes behind the pending ones, none only at the end, or nothing where it failed
 abbrev pub Reads : {E : Type 0} → List ℕ → List ℕ → Option (List ℕ) → Option (List ℕ) → Result ℕ E → Type 0

@@ -67,11 +67,11 @@ pub fn worked_lent_lines()
 
 /// Worked examples of the slice of all bytes that a line is, and for each part one that fails in that alone.
 pub fn worked_slices()
-    ensures line { (line : Line) → line.bytes.now ≡ codes "cd" → line.offset ≡ 3 → line.next ≡ 6 → LendsSlice (at_offset 3 (codes "cd")) (at_offset 6 []) (codes "ab\n") (codes "\nef") (codes "ef") line }
-    ensures other_bytes { (line : Line) → line.bytes.now ≡ codes "ef" → line.offset ≡ 3 → LendsSlice (at_offset 3 (codes "cd")) (at_offset 6 []) (codes "ab\n") (codes "\nef") (codes "ef") line → ⊥ }
-    ensures other_offset { (line : Line) → line.offset ≡ 2 → LendsSlice (at_offset 3 (codes "cd")) (at_offset 6 []) (codes "ab\n") (codes "\nef") (codes "ef") line → ⊥ }
-    ensures byte_lost { (line : Line) → LendsSlice (at_offset 3 (codes "cd")) (at_offset 6 []) (codes "ab\n") (codes "\nef") (codes "f") line → ⊥ }
-    ensures other_next { (line : Line) → line.next ≡ 5 → LendsSlice (at_offset 3 (codes "cd")) (at_offset 6 []) (codes "ab\n") (codes "\nef") (codes "ef") line → ⊥ }
+    ensures line { (line : Line) → line.bytes.now ≡ codes "cd" → line.offset ≡ 3 → line.next ≡ 6 → LendsSlice (at_offset 6 (codes "ef")) (codes "ab\n") (codes "ab\ncd\nef") line }
+    ensures other_bytes { (line : Line) → line.bytes.now ≡ codes "ef" → line.offset ≡ 3 → LendsSlice (at_offset 6 (codes "ef")) (codes "ab\n") (codes "ab\ncd\nef") line → ⊥ }
+    ensures other_offset { (line : Line) → line.offset ≡ 2 → LendsSlice (at_offset 6 (codes "ef")) (codes "ab\n") (codes "ab\ncd\nef") line → ⊥ }
+    ensures byte_lost { (line : Line) → LendsSlice (at_offset 6 (codes "f")) (codes "ab\n") (codes "ab\ncd\nef") line → ⊥ }
+    ensures other_next { (line : Line) → line.next ≡ 5 → LendsSlice (at_offset 6 (codes "ef")) (codes "ab\n") (codes "ab\ncd\nef") line → ⊥ }
 {}
 
 /// Worked examples of a call that lends a line or finds none, and for each part one that fails in that alone.
@@ -81,6 +81,7 @@ pub fn worked_moves()
     ensures more_may_come { (new : Feeding) → Moves (behind_a_line 2 (codes "a")) new (codes "ab") (Some (codes "c")) true → ⊥ }
     ensures no_bytes { (new : Feeding) → Moves (behind_a_line 2 []) new [] (Some []) true → ⊥ }
     ensures end_is_pending { Moves (behind_a_line 2 (codes "a")) (moved_on (behind_a_line 2 (codes "ab\nc")) (2, false)) (codes "ab\nc") None true → ⊥ }
+    ensures moved_elsewhere { Moves (behind_a_line 2 (codes "a")) (moved_on (behind_a_line 3 (codes "ab\nc")) (2, true)) (codes "ab\nc") None true → ⊥ }
     ensures none { Moves (behind_a_line 2 []) (behind_a_line 2 []) [] (Some []) false }
     ensures bytes_are_left { Moves (behind_a_line 2 (codes "a")) (behind_a_line 2 []) (codes "a") (Some []) false → ⊥ }
     ensures source_has_more { Moves (behind_a_line 2 []) (behind_a_line 2 []) [] (Some (codes "a")) false → ⊥ }

@@ -1,8 +1,6 @@
-use Rattle.std.proofs.Common.{◌≡◌, ◌∙◌, ◌<◌, ◌≤◌, ℕ, List, ap, arith, inl, length, refl, sym, subst, [], None, Some}
-use Rattle.std.specs.List.{All}
+use Rattle.std.proofs.Common.{◌≡◌, ◌∙◌, ℕ, List, ap, arith, inl, length, refl, sym, subst, [], None, Some}
 use Rattle.mt_ports.specs.declared.status.Status.TheVariants.{Refused}
 use Rattle.mt_regs.specs.RegisterFile.{RegisterFile}
-use Rattle.mt_regs.specs.Faults.{IsAccepted}
 use Rattle.mt_regs.specs.StartFiles.{AreStartFiles}
 use Rattle.mt_regs.specs.Agreement.{first_refusal}
 use Rattle.mt_dump.specs.Dumps.{Dump, first_file, first_of}
@@ -10,7 +8,7 @@ use Rattle.mt_dump.specs.ForProcessors.{files_for}
 use Rattle.mt_output.specs.Lines.{dump_refused_line}
 use Rattle.mt_output.specs.Writing.{Adds}
 use Rattle.mt_output.proofs.Writing.{passes_nothing}
-use Rattle.mt_proc.specs.After.{Served, at_first}
+use Rattle.mt_proc.specs.After.{at_first}
 use Rattle.mt_proc.specs.Proc.{begins, in_requests}
 use Rattle.mt_machine.specs.Machine.{Machine}
 use Rattle.mt_proc.specs.Running.{IsDump}
@@ -35,7 +33,7 @@ returns-in-Some-clause-bytes g c = λ from number leads.
     let line : c.as_slice-in-Some.result.now ≡ dump_refused_line dump.version k fault =
     c.as_slice-in-Some.ensures.value ∙ c.dump_refused_line-line.ensures ∙ ap (λ (d : Dump). dump_refused_line d.version k fault) c.dump.view_is in
     let refused : first_refusal dump.files ≡ Some (k, fault) = ap first_refusal (sym (c.as_slice.ensures.value ∙ ap (λ (d : Dump). d.files) c.dump.view_is)) ∙ sym c.in-Some.ensures.refusal in
-    ends c.args.cpus from number c.args.run.now c.args.run.now c.args.writer.now c.tell.new.writer (g.K.Sink.taken c.args.sink.now) (g.K.Sink.taken c.tell.new.sink) (dump_refused_line dump.version k fault) Refused c.tell.result
+    ends c.args.cpus from number [] c.args.run.now c.args.writer.now c.tell.new.writer (g.K.Sink.taken c.args.sink.now) (g.K.Sink.taken c.tell.new.sink) (dump_refused_line dump.version k fault) Refused c.tell.result
     (leads_as c.args.cpus from number (begins dump (first_refusal dump.files)) (begins dump (Some (k, fault))) (ap (begins dump) refused) leads) (inl refl)
     (subst (λ l. Adds c.args.writer.now l c.tell.new.writer (g.K.Sink.taken c.args.sink.now) (g.K.Sink.taken c.tell.new.sink) c.tell.result) line c.tell.ensures.bytes) c.tell.ensures.status
 
@@ -48,8 +46,8 @@ returns-clause-bytes g c = λ from number leads.
     let first : first_of c.as_slice-2.result.now ≡ first_file dump = ap first_of files ∙ first_for c.args.cpus dump c.requires.some in
     let at : served c.in-Ok.processors ≡ at_first (first_file dump) =
     ap served c.in-Ok.ensures ∙ served_idling c.as_slice-2.result.now 0 (omega (arith, count, c.requires.some)) ∙ ap at_first first in
-    goes c.args.cpus from number c.args.run.now (run.Requests c.in-Ok.processors) c.args.writer.now c.args.writer.now (g.K.Sink.taken c.args.sink.now) (g.K.Sink.taken c.args.sink.now) [] (in_requests (at_first (first_file dump)))
-    (leads_as c.args.cpus from number (begins dump (first_refusal dump.files)) (begins dump None) (ap (begins dump) none) leads) at (λ so_far quiet. tt)
+    goes c.args.cpus from number [] (run.Requests c.in-Ok.processors) c.args.writer.now c.args.writer.now (g.K.Sink.taken c.args.sink.now) (g.K.Sink.taken c.args.sink.now) [] (in_requests (at_first (first_file dump)))
+    (leads_as c.args.cpus from number (begins dump (first_refusal dump.files)) (begins dump None) (ap (begins dump) none) leads) at tt
     (passes_nothing c.args.writer.now (g.K.Sink.taken c.args.sink.now))
 
 -- the run is in the dump still

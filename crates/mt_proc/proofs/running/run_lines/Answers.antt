@@ -4,7 +4,7 @@ use Rattle.mt_stream.specs.Runs.{Runs}
 use Rattle.mt_stream.proofs.Rounds.{close_statuses, cut_enough, cut_long, moved_taken, never_much}
 use Rattle.mt_stream.proofs.Telling.{UnderWay, closes, cuts, line_ends, line_fails, line_goes_last, line_goes_on, line_wants, moves_line, no_line, starts}
 use Rattle.mt_proc.specs.Proc.{in_dump, proc_told}
-use Rattle.mt_proc.specs.Running.{end_of_run, proc_running}
+use Rattle.mt_proc.specs.Running.{end_of_run, path_from, proc_running}
 use Rattle.mt_proc.specs.declared.running.Run.TheVariants as run
 use Rattle.mt_proc.proofs.RunningLaws.{count_more, proc_laws}
 use Rattle.mt_proc.proofs.running.run_lines.Goals as goal
@@ -18,16 +18,16 @@ lines-init g c = record {
   sink = refl;
   counts = tt;
   told = λ bytes known.
-      subst (λ (f : Feeding). UnderWay (proc_running c.args.cpus) (proc_told c.args.cpus) bytes (g.S.Source.left c.args.source.now) f (run.Dump c.new.result) c.args.writer.now (g.K.Sink.taken c.args.sink.now) (g.K.Sink.taken c.args.sink.now)) (sym c.new-feed.ensures)
-      (starts (proc_running c.args.cpus) (proc_told c.args.cpus) [] (proc_laws c.args.cpus) bytes (g.S.Source.left c.args.source.now) (run.Dump c.new.result) c.args.writer.now (g.K.Sink.taken c.args.sink.now) known (in_dump [], c.new.ensures, refl) refl c.requires.waiting);
+      subst (λ (f : Feeding). UnderWay (proc_running c.args.cpus) (path_from c.args.cpus (in_dump [])) bytes (g.S.Source.left c.args.source.now) f (run.Dump c.new.result) c.args.writer.now (g.K.Sink.taken c.args.sink.now) (g.K.Sink.taken c.args.sink.now)) (sym c.new-feed.ensures)
+      (starts (proc_running c.args.cpus) (path_from c.args.cpus (in_dump [])) (proc_laws c.args.cpus) bytes (g.S.Source.left c.args.source.now) (run.Dump c.new.result) c.args.writer.now (g.K.Sink.taken c.args.sink.now) known (in_dump [], c.new.ensures, refl, refl) c.requires.waiting);
 }
 
 pub returns-in-Ok-false-clause-bytes : goal.returns-in-Ok-false-clause-bytes
 returns-in-Ok-false-clause-bytes g c = λ bytes known.
     let (more, takes, rises, next) = c.in-Ok-false.ensures.bytes in
     let moves = subst (Moves c.lines.feed c.next_line.new.feed (c.lines.feed.pending ++ more) (g.S.Source.left c.next_line.new.source)) c.in-Ok-false.field-0-test next.0 in
-    closes (proc_running c.args.cpus) (proc_told c.args.cpus) [] (proc_laws c.args.cpus) bytes (g.S.Source.left c.next_line.new.source) c.next_line.new.feed.place c.lines.run c.next_line.new.writer (g.K.Sink.taken c.args.sink.now) (g.K.Sink.taken c.next_line.new.sink) (g.K.Sink.taken c.end_text.new.sink) c.end_text.result
-    (no_line (proc_running c.args.cpus) (proc_told c.args.cpus) [] (proc_laws c.args.cpus) bytes more (g.S.Source.left c.lines.source) (g.S.Source.left c.next_line.new.source) c.lines.feed c.next_line.new.feed c.lines.run c.lines.writer c.next_line.new.writer
+    closes (proc_running c.args.cpus) (path_from c.args.cpus (in_dump [])) (proc_laws c.args.cpus) bytes (g.S.Source.left c.next_line.new.source) c.next_line.new.feed.place c.lines.run c.next_line.new.writer (g.K.Sink.taken c.args.sink.now) (g.K.Sink.taken c.next_line.new.sink) (g.K.Sink.taken c.end_text.new.sink) c.end_text.result
+    (no_line (proc_running c.args.cpus) (path_from c.args.cpus (in_dump [])) (proc_laws c.args.cpus) bytes more (g.S.Source.left c.lines.source) (g.S.Source.left c.next_line.new.source) c.lines.feed c.next_line.new.feed c.lines.run c.lines.writer c.next_line.new.writer
     (g.K.Sink.taken c.args.sink.now) (g.K.Sink.taken c.lines.sink) (g.K.Sink.taken c.next_line.new.sink) (c.lines.invariant.told bytes known) takes moves next.1)
     c.end_text.ensures.bytes
 
@@ -38,7 +38,7 @@ returns-in-Err-clause-bytes g c = λ bytes known.
     cut_enough c.lines.feed c.next_line.new.feed more c.lines.writer c.next_line.new.writer (g.K.Sink.taken c.lines.sink) (g.K.Sink.taken c.next_line.new.sink) (g.S.Source.given c.args.source.now) (g.S.Source.given c.lines.source) (g.S.Source.given c.next_line.new.source)
     c.lines.invariant.given rises c.in-Err.ensures.long c.lines.invariant.no_fault c.in-Err.cut short in
     subst (Runs (proc_told c.args.cpus) [] bytes (g.S.Source.left c.next_line.new.source) (g.K.Sink.taken c.args.sink.now) (g.K.Sink.taken c.next_line.new.sink)) (sym c.cut_status.ensures.value)
-    (cuts (proc_running c.args.cpus) (proc_told c.args.cpus) [] (proc_laws c.args.cpus) bytes more (g.S.Source.left c.lines.source) (g.S.Source.left c.next_line.new.source) c.lines.feed c.next_line.new.feed c.lines.run c.lines.writer c.next_line.new.writer
+    (cuts (proc_running c.args.cpus) (path_from c.args.cpus (in_dump [])) (proc_laws c.args.cpus) bytes more (g.S.Source.left c.lines.source) (g.S.Source.left c.next_line.new.source) c.lines.feed c.next_line.new.feed c.lines.run c.lines.writer c.next_line.new.writer
     (g.K.Sink.taken c.args.sink.now) (g.K.Sink.taken c.lines.sink) (g.K.Sink.taken c.next_line.new.sink) c.in-Err.cut (c.lines.invariant.told bytes known) takes short c.lines.invariant.no_fault enough)
 
 pub returns-in-Err-clause-too_long : goal.returns-in-Err-clause-too_long
@@ -54,11 +54,11 @@ returns-then-last-clause-bytes g c = λ bytes known.
     let (more, takes, rises, next) = c.in-Ok-true.ensures.bytes in
     let moves = subst (Moves c.lines.feed c.next_line.new.feed (c.lines.feed.pending ++ more) (g.S.Source.left c.next_line.new.source)) c.in-Ok-true.field-0-test next.0 in
     let h =
-    moves_line (proc_running c.args.cpus) (proc_told c.args.cpus) [] (proc_laws c.args.cpus) bytes more (g.S.Source.left c.lines.source) (g.S.Source.left c.next_line.new.source) c.lines.feed c.next_line.new.feed c.lines.run c.lines.writer c.next_line.new.writer
+    moves_line (proc_running c.args.cpus) (path_from c.args.cpus (in_dump [])) (proc_laws c.args.cpus) bytes more (g.S.Source.left c.lines.source) (g.S.Source.left c.next_line.new.source) c.lines.feed c.next_line.new.feed c.lines.run c.lines.writer c.next_line.new.writer
     (g.K.Sink.taken c.args.sink.now) (g.K.Sink.taken c.lines.sink) (g.K.Sink.taken c.next_line.new.sink) (c.lines.invariant.told bytes known) takes moves next.1 in
-    let goes = rw (c.in-Ok-None.field-0-is, c.current.ensures.bytes, c.current.ensures.number) at (c.in-Ok-None.ensures.bytes h.point h.at) in
-    closes (proc_running c.args.cpus) (proc_told c.args.cpus) [] (proc_laws c.args.cpus) bytes (g.S.Source.left c.next_line.new.source) c.next_line.new.feed.place c.take_line.new.run c.take_line.new.writer (g.K.Sink.taken c.args.sink.now) (g.K.Sink.taken c.take_line.new.sink) (g.K.Sink.taken c.end_text-then-last.new.sink) c.end_text-then-last.result
-    (line_goes_last (proc_running c.args.cpus) (proc_told c.args.cpus) [] (proc_laws c.args.cpus) bytes (g.S.Source.left c.next_line.new.source) c.next_line.new.feed c.lines.run c.next_line.new.writer (g.K.Sink.taken c.args.sink.now) (g.K.Sink.taken c.next_line.new.sink) h c.take_line.new.run c.take_line.new.writer (g.K.Sink.taken c.take_line.new.sink) goes
+    let goes = rw (c.in-Ok-None.field-0-is, c.current.ensures.bytes, c.current.ensures.number) at (c.in-Ok-None.ensures.bytes h.text h.point h.at) in
+    closes (proc_running c.args.cpus) (path_from c.args.cpus (in_dump [])) (proc_laws c.args.cpus) bytes (g.S.Source.left c.next_line.new.source) c.next_line.new.feed.place c.take_line.new.run c.take_line.new.writer (g.K.Sink.taken c.args.sink.now) (g.K.Sink.taken c.take_line.new.sink) (g.K.Sink.taken c.end_text-then-last.new.sink) c.end_text-then-last.result
+    (line_goes_last (proc_running c.args.cpus) (path_from c.args.cpus (in_dump [])) (proc_laws c.args.cpus) bytes (g.S.Source.left c.next_line.new.source) c.next_line.new.feed c.lines.run c.next_line.new.writer (g.K.Sink.taken c.args.sink.now) (g.K.Sink.taken c.next_line.new.sink) h c.take_line.new.run c.take_line.new.writer (g.K.Sink.taken c.take_line.new.sink) goes
     (sym c.is_last-last.ensures ∙ c.if-last.true))
     c.end_text-then-last.ensures.bytes
 
@@ -85,10 +85,10 @@ lines-preserved g c =
       counts = count_more (c.lines.feed.offset + 1) c.next_line.new.feed.offset c.take_line.new.run moved.1 (rw c.in-Ok-None.field-0-is at (c.in-Ok-None.ensures.counts c.lines.feed.offset c.lines.invariant.counts));
       told = λ bytes known.
           let h =
-          moves_line (proc_running c.args.cpus) (proc_told c.args.cpus) [] (proc_laws c.args.cpus) bytes more (g.S.Source.left c.lines.source) (g.S.Source.left c.next_line.new.source) c.lines.feed c.next_line.new.feed c.lines.run c.lines.writer c.next_line.new.writer
+          moves_line (proc_running c.args.cpus) (path_from c.args.cpus (in_dump [])) (proc_laws c.args.cpus) bytes more (g.S.Source.left c.lines.source) (g.S.Source.left c.next_line.new.source) c.lines.feed c.next_line.new.feed c.lines.run c.lines.writer c.next_line.new.writer
           (g.K.Sink.taken c.args.sink.now) (g.K.Sink.taken c.lines.sink) (g.K.Sink.taken c.next_line.new.sink) (c.lines.invariant.told bytes known) takes moves next.1 in
-          let goes = rw (c.in-Ok-None.field-0-is, c.current.ensures.bytes, c.current.ensures.number) at (c.in-Ok-None.ensures.bytes h.point h.at) in
-          line_goes_on (proc_running c.args.cpus) (proc_told c.args.cpus) [] (proc_laws c.args.cpus) bytes (g.S.Source.left c.next_line.new.source) c.next_line.new.feed c.lines.run c.next_line.new.writer (g.K.Sink.taken c.args.sink.now) (g.K.Sink.taken c.next_line.new.sink) h c.take_line.new.run c.take_line.new.writer (g.K.Sink.taken c.take_line.new.sink) goes
+          let goes = rw (c.in-Ok-None.field-0-is, c.current.ensures.bytes, c.current.ensures.number) at (c.in-Ok-None.ensures.bytes h.text h.point h.at) in
+          line_goes_on (proc_running c.args.cpus) (path_from c.args.cpus (in_dump [])) (proc_laws c.args.cpus) bytes (g.S.Source.left c.next_line.new.source) c.next_line.new.feed c.lines.run c.next_line.new.writer (g.K.Sink.taken c.args.sink.now) (g.K.Sink.taken c.next_line.new.sink) h c.take_line.new.run c.take_line.new.writer (g.K.Sink.taken c.take_line.new.sink) goes
           (sym c.is_last-last.ensures ∙ c.if-last.false);
     }
 
@@ -100,16 +100,16 @@ returns-in-Ok-Some-clause-bytes g c = λ bytes known.
     let (more, takes, rises, next) = c.in-Ok-true.ensures.bytes in
     let moves = subst (Moves c.lines.feed c.next_line.new.feed (c.lines.feed.pending ++ more) (g.S.Source.left c.next_line.new.source)) c.in-Ok-true.field-0-test next.0 in
     let h =
-    moves_line (proc_running c.args.cpus) (proc_told c.args.cpus) [] (proc_laws c.args.cpus) bytes more (g.S.Source.left c.lines.source) (g.S.Source.left c.next_line.new.source) c.lines.feed c.next_line.new.feed c.lines.run c.lines.writer c.next_line.new.writer
+    moves_line (proc_running c.args.cpus) (path_from c.args.cpus (in_dump [])) (proc_laws c.args.cpus) bytes more (g.S.Source.left c.lines.source) (g.S.Source.left c.next_line.new.source) c.lines.feed c.next_line.new.feed c.lines.run c.lines.writer c.next_line.new.writer
     (g.K.Sink.taken c.args.sink.now) (g.K.Sink.taken c.lines.sink) (g.K.Sink.taken c.next_line.new.sink) (c.lines.invariant.told bytes known) takes moves next.1 in
-    let ends = rw (c.in-Ok-Some.field-0-is, c.current.ensures.bytes, c.current.ensures.number) at (c.in-Ok-Some.ensures.bytes h.point h.at) in
+    let ends = rw (c.in-Ok-Some.field-0-is, c.current.ensures.bytes, c.current.ensures.number) at (c.in-Ok-Some.ensures.bytes h.text h.point h.at) in
     let (dropped, drains, given, counted, leaves) = c.leave.ensures.bytes in
     let left = rw c.is_last-last.ensures at leaves in
     elim ends [
-      | inl e ↦ line_ends (proc_running c.args.cpus) (proc_told c.args.cpus) [] (proc_laws c.args.cpus) bytes (g.S.Source.left c.next_line.new.source) c.next_line.new.feed c.lines.run c.next_line.new.writer (g.K.Sink.taken c.args.sink.now) (g.K.Sink.taken c.next_line.new.sink) h
+      | inl e ↦ line_ends (proc_running c.args.cpus) (path_from c.args.cpus (in_dump [])) (proc_laws c.args.cpus) bytes (g.S.Source.left c.next_line.new.source) c.next_line.new.feed c.lines.run c.next_line.new.writer (g.K.Sink.taken c.args.sink.now) (g.K.Sink.taken c.next_line.new.sink) h
           c.in-Ok-Some.status c.leave.result dropped c.take_line.new.writer (g.S.Source.left c.leave.new.source) (g.K.Sink.taken c.take_line.new.sink) (g.K.Sink.taken c.leave.new.sink) drains
           (λ is. let many = c.leave.ensures.long.0 is in omega (arith, many, counted)) left e
-      | inr w ↦ line_wants (proc_running c.args.cpus) (proc_told c.args.cpus) [] (proc_laws c.args.cpus) bytes (g.S.Source.left c.next_line.new.source) c.next_line.new.feed c.lines.run c.next_line.new.writer (g.K.Sink.taken c.args.sink.now) (g.K.Sink.taken c.next_line.new.sink) h
+      | inr w ↦ line_wants (proc_running c.args.cpus) (path_from c.args.cpus (in_dump [])) (proc_laws c.args.cpus) bytes (g.S.Source.left c.next_line.new.source) c.next_line.new.feed c.lines.run c.next_line.new.writer (g.K.Sink.taken c.args.sink.now) (g.K.Sink.taken c.next_line.new.sink) h
           c.in-Ok-Some.status c.leave.result dropped c.take_line.new.writer (g.S.Source.left c.leave.new.source) (g.K.Sink.taken c.take_line.new.sink) (g.K.Sink.taken c.leave.new.sink) drains
           (λ is. let many = c.leave.ensures.long.0 is in omega (arith, many, counted)) left w
     ]
@@ -129,7 +129,7 @@ returns-in-Err-take_line-clause-bytes g c = λ bytes known.
     let (more, takes, rises, next) = c.in-Ok-true.ensures.bytes in
     let moves = subst (Moves c.lines.feed c.next_line.new.feed (c.lines.feed.pending ++ more) (g.S.Source.left c.next_line.new.source)) c.in-Ok-true.field-0-test next.0 in
     let h =
-    moves_line (proc_running c.args.cpus) (proc_told c.args.cpus) [] (proc_laws c.args.cpus) bytes more (g.S.Source.left c.lines.source) (g.S.Source.left c.next_line.new.source) c.lines.feed c.next_line.new.feed c.lines.run c.lines.writer c.next_line.new.writer
+    moves_line (proc_running c.args.cpus) (path_from c.args.cpus (in_dump [])) (proc_laws c.args.cpus) bytes more (g.S.Source.left c.lines.source) (g.S.Source.left c.next_line.new.source) c.lines.feed c.next_line.new.feed c.lines.run c.lines.writer c.next_line.new.writer
     (g.K.Sink.taken c.args.sink.now) (g.K.Sink.taken c.lines.sink) (g.K.Sink.taken c.next_line.new.sink) (c.lines.invariant.told bytes known) takes moves next.1 in
-    line_fails (proc_running c.args.cpus) (proc_told c.args.cpus) [] (proc_laws c.args.cpus) bytes (g.S.Source.left c.next_line.new.source) c.next_line.new.feed c.lines.run c.next_line.new.writer (g.K.Sink.taken c.args.sink.now) (g.K.Sink.taken c.next_line.new.sink) h (g.K.Sink.taken c.take_line.new.sink)
-    (rw (c.current.ensures.bytes, c.current.ensures.number) at (c.in-Err-take_line.ensures.bytes h.point h.at))
+    line_fails (proc_running c.args.cpus) (path_from c.args.cpus (in_dump [])) (proc_laws c.args.cpus) bytes (g.S.Source.left c.next_line.new.source) c.next_line.new.feed c.lines.run c.next_line.new.writer (g.K.Sink.taken c.args.sink.now) (g.K.Sink.taken c.next_line.new.sink) h (g.K.Sink.taken c.take_line.new.sink)
+    (rw (c.current.ensures.bytes, c.current.ensures.number) at (c.in-Err-take_line.ensures.bytes h.text h.point h.at))

@@ -1,8 +1,8 @@
-use Rattle.std.proofs.Common.{◌≡◌, ◌+◌, ◌-◌, List, ℕ, None, Some}
+use Rattle.std.proofs.Common.{◌≡◌, ◌+◌, ◌-◌, List, [], ℕ, None, Some}
 use Rattle.mt_text.specs.Feed.{IsLong, taken}
 use Rattle.mt_stream.proofs.Telling.{UnderWay}
-use Rattle.mt_proc.specs.Proc.{proc_told}
-use Rattle.mt_proc.specs.Running.{HasCount, proc_running}
+use Rattle.mt_proc.specs.Proc.{in_dump}
+use Rattle.mt_proc.specs.Running.{HasCount, path_from, proc_running}
 use Rattle.mt_proc.proofs.running.run_lines.Given as goal
 
 abbrev pub invariant-lines : goal.invariant-lines
@@ -13,7 +13,7 @@ invariant-lines g l = record {
   source : g.S.Source.faults l.source ≡ g.S.Source.faults l.initial.source;
   sink : g.K.Sink.faults l.sink ≡ g.K.Sink.faults l.initial.sink;
   counts : HasCount l.feed.offset l.run;
-  told : (bytes : List ℕ) → g.S.Source.left l.initial.source ≡ Some bytes → UnderWay (proc_running l.fn.cpus) (proc_told l.fn.cpus) bytes (g.S.Source.left l.source) l.feed l.run l.writer (g.K.Sink.taken l.initial.sink) (g.K.Sink.taken l.sink);
+  told : (bytes : List ℕ) → g.S.Source.left l.initial.source ≡ Some bytes → UnderWay (proc_running l.fn.cpus) (path_from l.fn.cpus (in_dump [])) bytes (g.S.Source.left l.source) l.feed l.run l.writer (g.K.Sink.taken l.initial.sink) (g.K.Sink.taken l.sink);
 }
 
 abbrev pub decreases-lines : goal.decreases-lines

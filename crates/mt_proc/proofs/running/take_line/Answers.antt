@@ -1,63 +1,65 @@
-use Rattle.std.proofs.Common.{◌≡◌, ◌∙◌, ◌+◌, ap, inr, refl, sym, subst, [], append-nil}
+use Rattle.std.proofs.Common.{◌≡◌, ◌∙◌, ◌+◌, ap, inr, refl, sym, subst, ℕ, List, [], append-nil}
 use Rattle.mt_ports.specs.declared.status.Status.TheVariants.{BadText}
 use Rattle.mt_output.specs.Lines.{offence_line}
 use Rattle.mt_output.specs.Writing.{Adds}
 use Rattle.mt_output.proofs.Writing.{passes_nothing}
 use Rattle.mt_regs.specs.Agreement.{first_refusal}
 use Rattle.mt_script.specs.Head.{goes_on, offends}
-use Rattle.mt_stream.specs.Lines.{GoesOn, Takes, from_line}
-use Rattle.mt_stream.proofs.Taking.{takes_from}
-use Rattle.mt_stream.specs.Told.{Telling}
-use Rattle.mt_proc.specs.Proc.{begins, from_point, in_dump, of_head, proc_step, situation_of}
-use Rattle.mt_proc.specs.Running.{proc_running}
+use Rattle.mt_stream.specs.Lines.{GoesOn, Path, Takes, from_line}
+use Rattle.mt_proc.specs.Proc.{begins, in_dump, of_head, proc_step, situation_of}
+use Rattle.mt_proc.specs.Running.{IsQuiet, path_from, proc_running}
+use Rattle.mt_proc.specs.declared.running.Run.{Run}
 use Rattle.mt_proc.specs.declared.running.Run.TheVariants as run
-use Rattle.mt_proc.proofs.Taking.{ends, goes, in_the_dump, is_dump, leads_as, leads_by, quiet_dump}
+use Rattle.mt_proc.proofs.Taking.{ends, goes, in_the_dump, leads_as, leads_by}
 use Rattle.mt_proc.proofs.running.take_line.Goals as goal
 
 pub returns-in-Ok-None-clause-bytes : goal.returns-in-Ok-None-clause-bytes
-returns-in-Ok-None-clause-bytes g c = λ was stands.
-    let (p, at, from) = stands in
+returns-in-Ok-None-clause-bytes g c = λ so_far was stands.
+    let (p, at, quiet, from) = stands in
     let (before, read, in_it) = in_the_dump c.args.run.now c.in-Dump.reader p c.in-Dump.is at in
-    let is : was ≡ from_point c.args.cpus (in_dump before) = from ∙ ap (from_point c.args.cpus) in_it in
+    let none : so_far ≡ [] = subst (λ (r : Run). IsQuiet r so_far) c.in-Dump.is quiet in
+    let is : was ≡ path_from c.args.cpus (in_dump before) = from ∙ ap (path_from c.args.cpus) in_it in
     let (after, holds, step) = rw c.in-Ok-None.field-0-is at (c.in-Ok-None.ensures.step (situation_of c.args.cpus) before refl read) in
     let number = c.args.line.now.number in
     let line = c.args.line.now.bytes.now in
-    let dump = is_dump c.args.run.now c.in-Dump.reader c.in-Dump.is in
     subst
-    (λ (q : Telling). GoesOn (proc_running c.args.cpus) (from_line number line q) (number + 1) c.args.run.now (run.Dump c.take_dump_line.new.dump) c.args.writer.now c.args.writer.now (g.K.Sink.taken c.args.sink.now) (g.K.Sink.taken c.args.sink.now))
+    (λ (q : Path). GoesOn (proc_running c.args.cpus) (from_line number line q) (number + 1) so_far (run.Dump c.take_dump_line.new.dump) c.args.writer.now c.args.writer.now (g.K.Sink.taken c.args.sink.now) (g.K.Sink.taken c.args.sink.now))
     (sym is)
-    (goes c.args.cpus (from_line number line (from_point c.args.cpus (in_dump before))) (number + 1) c.args.run.now (run.Dump c.take_dump_line.new.dump) c.args.writer.now c.args.writer.now (g.K.Sink.taken c.args.sink.now) (g.K.Sink.taken c.args.sink.now) [] (in_dump after)
-    (leads_as c.args.cpus (from_line number line (from_point c.args.cpus (in_dump before))) (number + 1) (proc_step c.args.cpus number line (in_dump before)) (of_head (goes_on (situation_of c.args.cpus) after)) (ap of_head step) (leads_by c.args.cpus (in_dump before) number line))
-    holds (λ so_far quiet. append-nil so_far ∙ quiet_dump c.args.run.now so_far dump quiet) (passes_nothing c.args.writer.now (g.K.Sink.taken c.args.sink.now)))
+    (goes c.args.cpus (from_line number line (path_from c.args.cpus (in_dump before))) (number + 1) so_far (run.Dump c.take_dump_line.new.dump) c.args.writer.now c.args.writer.now (g.K.Sink.taken c.args.sink.now) (g.K.Sink.taken c.args.sink.now) [] (in_dump after)
+    (leads_as c.args.cpus (from_line number line (path_from c.args.cpus (in_dump before))) (number + 1) (proc_step c.args.cpus number line (in_dump before)) (of_head (goes_on (situation_of c.args.cpus) after)) (ap of_head step) (leads_by c.args.cpus (in_dump before) number line))
+    holds (append-nil so_far ∙ none) (passes_nothing c.args.writer.now (g.K.Sink.taken c.args.sink.now)))
 
 pub returns-in-Ok-Some-clause-bytes : goal.returns-in-Ok-Some-clause-bytes
-returns-in-Ok-Some-clause-bytes g c = λ was stands.
-    let (p, at, from) = stands in
+returns-in-Ok-Some-clause-bytes g c = λ so_far was stands.
+    let (p, at, quiet, from) = stands in
     let (before, read, in_it) = in_the_dump c.args.run.now c.in-Dump.reader p c.in-Dump.is at in
-    let is : was ≡ from_point c.args.cpus (in_dump before) = from ∙ ap (from_point c.args.cpus) in_it in
+    let none : so_far ≡ [] = subst (λ (r : Run). IsQuiet r so_far) c.in-Dump.is quiet in
+    let is : was ≡ path_from c.args.cpus (in_dump before) = from ∙ ap (path_from c.args.cpus) in_it in
     let (holds, step) = rw c.in-Ok-Some.field-0-is at (c.in-Ok-Some.ensures.step (situation_of c.args.cpus) before refl read) in
     let number = c.args.line.now.number in
     let line = c.args.line.now.bytes.now in
-    let dump = is_dump c.args.run.now c.in-Dump.reader c.in-Dump.is in
-    let leads = leads_as c.args.cpus (from_line number line (from_point c.args.cpus (in_dump before))) (number + 1) (proc_step c.args.cpus number line (in_dump before)) (begins c.in-Ok-Some.dump (first_refusal c.in-Ok-Some.dump.files)) (ap of_head step) (leads_by c.args.cpus (in_dump before) number line) in
+    let leads = leads_as c.args.cpus (from_line number line (path_from c.args.cpus (in_dump before))) (number + 1) (proc_step c.args.cpus number line (in_dump before)) (begins c.in-Ok-Some.dump (first_refusal c.in-Ok-Some.dump.files)) (ap of_head step) (leads_by c.args.cpus (in_dump before) number line) in
     subst
-    (λ (q : Telling). Takes (proc_running c.args.cpus) (from_line number line q) (number + 1) c.args.run.now c.begin.new.run c.args.writer.now c.begin.new.writer (g.K.Sink.taken c.args.sink.now) (g.K.Sink.taken c.begin.new.sink) c.begin.result)
+    (λ (q : Path). Takes (proc_running c.args.cpus) (from_line number line q) (number + 1) so_far c.begin.new.run c.args.writer.now c.begin.new.writer (g.K.Sink.taken c.args.sink.now) (g.K.Sink.taken c.begin.new.sink) c.begin.result)
     (sym is)
-    (takes_from (proc_running c.args.cpus) (from_line number line (from_point c.args.cpus (in_dump before))) (number + 1) (run.Dump c.take_dump_line.new.dump) c.args.run.now c.begin.new.run c.args.writer.now c.begin.new.writer (g.K.Sink.taken c.args.sink.now) (g.K.Sink.taken c.begin.new.sink) c.begin.result
-    (λ so_far quiet. quiet_dump c.args.run.now so_far dump quiet) (λ early. dump) (c.begin.ensures.bytes (from_line number line (from_point c.args.cpus (in_dump before))) (number + 1) leads))
+    (subst
+    (λ (l : List ℕ). Takes (proc_running c.args.cpus) (from_line number line (path_from c.args.cpus (in_dump before))) (number + 1) l c.begin.new.run c.args.writer.now c.begin.new.writer (g.K.Sink.taken c.args.sink.now) (g.K.Sink.taken c.begin.new.sink) c.begin.result)
+    (sym none)
+    (c.begin.ensures.bytes (from_line number line (path_from c.args.cpus (in_dump before))) (number + 1) leads))
 
 pub returns-in-Err-clause-bytes : goal.returns-in-Err-clause-bytes
-returns-in-Err-clause-bytes g c = λ was stands.
-    let (p, at, from) = stands in
+returns-in-Err-clause-bytes g c = λ so_far was stands.
+    let (p, at, quiet, from) = stands in
     let (before, read, in_it) = in_the_dump c.args.run.now c.in-Dump.reader p c.in-Dump.is at in
-    let is : was ≡ from_point c.args.cpus (in_dump before) = from ∙ ap (from_point c.args.cpus) in_it in
+    let none : so_far ≡ [] = subst (λ (r : Run). IsQuiet r so_far) c.in-Dump.is quiet in
+    let is : was ≡ path_from c.args.cpus (in_dump before) = from ∙ ap (path_from c.args.cpus) in_it in
     let step = c.in-Err.ensures.step (situation_of c.args.cpus) before refl read in
     let number = c.args.line.now.number in
     let line = c.args.line.now.bytes.now in
     let text : c.as_slice.result.now ≡ offence_line c.in-Err.offence = c.as_slice.ensures.value ∙ c.offence_line.ensures in
     subst
-    (λ (q : Telling). Takes (proc_running c.args.cpus) (from_line number line q) (number + 1) c.args.run.now (run.Dump c.take_dump_line.new.dump) c.args.writer.now c.tell.new.writer (g.K.Sink.taken c.args.sink.now) (g.K.Sink.taken c.tell.new.sink) c.tell.result)
+    (λ (q : Path). Takes (proc_running c.args.cpus) (from_line number line q) (number + 1) so_far (run.Dump c.take_dump_line.new.dump) c.args.writer.now c.tell.new.writer (g.K.Sink.taken c.args.sink.now) (g.K.Sink.taken c.tell.new.sink) c.tell.result)
     (sym is)
-    (ends c.args.cpus (from_line number line (from_point c.args.cpus (in_dump before))) (number + 1) c.args.run.now (run.Dump c.take_dump_line.new.dump) c.args.writer.now c.tell.new.writer (g.K.Sink.taken c.args.sink.now) (g.K.Sink.taken c.tell.new.sink) (offence_line c.in-Err.offence) BadText c.tell.result
-    (leads_as c.args.cpus (from_line number line (from_point c.args.cpus (in_dump before))) (number + 1) (proc_step c.args.cpus number line (in_dump before)) (of_head (offends c.in-Err.offence)) (ap of_head step) (leads_by c.args.cpus (in_dump before) number line)) (inr refl)
+    (ends c.args.cpus (from_line number line (path_from c.args.cpus (in_dump before))) (number + 1) so_far (run.Dump c.take_dump_line.new.dump) c.args.writer.now c.tell.new.writer (g.K.Sink.taken c.args.sink.now) (g.K.Sink.taken c.tell.new.sink) (offence_line c.in-Err.offence) BadText c.tell.result
+    (leads_as c.args.cpus (from_line number line (path_from c.args.cpus (in_dump before))) (number + 1) (proc_step c.args.cpus number line (in_dump before)) (of_head (offends c.in-Err.offence)) (ap of_head step) (leads_by c.args.cpus (in_dump before) number line)) (inr refl)
     (subst (λ l. Adds c.args.writer.now l c.tell.new.writer (g.K.Sink.taken c.args.sink.now) (g.K.Sink.taken c.tell.new.sink) c.tell.result) text c.tell.ensures.bytes) c.tell.ensures.status)

@@ -14,3 +14,11 @@ returns-clause-low_bits c = refl
 pub returns-clause-all : goal.returns-clause-all
 unfolding digits encode_with
 returns-clause-all c = refl
+
+pub returns-clause-last_pair : goal.returns-clause-last_pair
+unfolding digits encode_with
+returns-clause-last_pair c = refl
+
+pub returns-clause-wider : goal.returns-clause-wider
+unfolding digits encode_with
+returns-clause-wider c = refl

@@ -1,12 +1,11 @@
-use Rattle.std.proofs.Common.{◌≡◌, length, take, drop, codes, refl, ◌∙◌, sym, ap}
+use Rattle.std.proofs.Common.{codes, refl}
 use Rattle.mt_text.proofs.worked.worked_slices.Goals as goal
 
 pub returns-clause-line : goal.returns-clause-line
 returns-clause-line c = λ line bytes offset next. record {
-  slice = rw (bytes, offset) refl;
   offset = offset;
+  slice = rw (bytes, offset) refl;
   passed = codes "cd\n";
-  same = refl;
   next = next;
-  reach = refl;
+  after = record { offset = refl; bytes_are = refl };
 }
