@@ -1,3 +1,3 @@
 mod Agreeing
-mod Calling
+pub mod Calling
 mod GivingUp

@@ -9,12 +9,15 @@ use Rattle.mt_regs.specs.RegisterFile.{RegisterFile}
 use Rattle.mt_dump.specs.Dumps.{Dump as Shows, first_file}
 use Rattle.mt_dump.specs.Dump.{Shown, dump_offence}
 use Rattle.mt_dump.specs.declared.fault.DumpFault.{DumpFault}
-use Rattle.mt_stream.specs.Runs.{Runs}
-use Rattle.mt_stream.specs.Runs as stream
+use Rattle.mt_stream.specs.Runs.{Runs, TellsAll, TellsKnown}
+use Rattle.mt_stream.specs.Told as stream
+use Rattle.mt_stream.specs.Told.{Telling}
 use Rattle.mt_proc.specs.Proc.{proc_told, proc_transcript}
 use Rattle.mt_proc.proofs.Endings.{one_of_three as one_of_three_of_proc}
-use Rattle.mt_replay.specs.Running.{Replays, TellsAll}
-use Rattle.mt_replay.specs.Transcript.{transcript}
+use Rattle.mt_replay.specs.Running.{Replays}
+use Rattle.mt_replay.specs.Newcomers.{early_text}
+use Rattle.mt_replay.specs.Transcript.{replay_told, transcript}
+use Rattle.mt_cli.proofs.Coming.{early_without}
 use Rattle.mt_replay.proofs.Refusals.Outcomes.{one_of_three}
 use Rattle.mt_cli.specs.declared.command.Command.TheVariants.{Dump, Replay, Private, Proc}
 use Rattle.mt_cli.specs.declared.command.DumpCommand.{DumpCommand}
@@ -23,7 +26,7 @@ use Rattle.mt_cli.specs.Measured.{measured_text}
 use Rattle.mt_cli.specs.declared.command.Command.{Command}
 use Rattle.mt_cli.specs.Answer.{Answer, FileAnswer, refused, accepted, shown, about_file, typed, paged, tidied, too_few, disabled, grained, gran_too_few, gran_disabled}
 use Rattle.mt_cli.specs.Output.{Output, usage, bad_text, answered, replayed, made, summed, measured, requested}
-use Rattle.mt_cli.specs.Tool.{Answered, CutShort, Finished, Leaves, Reads, FailedRead, Overran, Untouched}
+use Rattle.mt_cli.specs.Tool.{Answered, CutShort, Finished, Leaves, Reads, FailedRead, Overran, Starved, Untouched}
 use Rattle.mt_cli.specs.Written.{Answers, AnswersInput, Makes, Sums, Writes, writes, no_memory, bad_input, good_input, no_input}
 
 -- what stands after the bytes that the sink had
@@ -158,68 +161,100 @@ sums_leave words bytes cpus n accesses result left before old new says read told
     written_leaves words bytes (measured_text cpus n accesses) Done result left before old new (measured cpus n accesses says) (left_by words bytes left (Some (Private cpus n accesses)) says read) told wrote
 sums_leave words bytes cpus n accesses result left before old new says read told (inr (is, same)) = rw is (inl (same ∙ told))
 
--- the sink took a front of the transcript
-front_of_transcript : (words : List (List ℕ)) (bytes before : List ℕ) (old new : Option (List ℕ))
-    → command_of words ≡ Some Replay → old ≡ Some before → AppendsFront old new (transcript bytes).text → CutShort words bytes before new
-front_of_transcript words bytes before old new says told cut =
-    record { text = (transcript bytes).text; status = (transcript bytes).status; output = replayed says; front = cut.0; back = cut.1; cut = cut.2; taken = appended before cut.0 old new told cut.3 }
+-- ---- a run over lines, which `replay` and `proc` are
 
--- a replay that has written its whole transcript
-tells_all : (words : List (List ℕ)) (bytes : List ℕ) (result : Status) (left : Option (List ℕ)) (before : List ℕ) (new : Option (List ℕ)) → command_of words ≡ Some Replay → TellsAll (transcript bytes) left (Some before) new result
-    → Finished words bytes left before new result
-tells_all words bytes result left before new says tells = record {
-  text = (transcript bytes).text;
-  output = subst (Output words bytes (transcript bytes).text) (sym tells.status_is) (replayed says);
-  taken = appended before (transcript bytes).text (Some before) new refl tells.taken;
-  read = left_by words bytes left (Some Replay) says tells.read;
-}
-
--- what each status of a replay leaves
-pub replays_leave : (words : List (List ℕ)) (bytes : List ℕ) (result : Status) (left : Option (List ℕ)) (before : List ℕ) (new : Option (List ℕ))
-    → command_of words ≡ Some Replay → Replays bytes left (Some before) new result → Leaves words bytes left before new result
-replays_leave words bytes Done left before new says tells = tells_all words bytes Done left before new says tells
-replays_leave words bytes Refused left before new says tells = tells_all words bytes Refused left before new says tells
-replays_leave words bytes Usage left before new says tells = absurd tells
-replays_leave words bytes BadText left before new says tells = tells_all words bytes BadText left before new says tells
-replays_leave words bytes ReadFault left before new says tells = read_failed words Replay bytes left before new says tells
-replays_leave words bytes WriteFault left before new says tells = front_of_transcript words bytes before (Some before) new says refl tells
-replays_leave words bytes NoMemory left before new says tells = inr (says, tells.0, front_of_transcript words bytes before (Some before) new says refl tells.1)
-replays_leave words bytes TooLong left before new says tells = too_much words Replay bytes before new says (front_of_transcript words bytes before (Some before) new says refl tells.1)
-replays_leave words bytes TooFew left before new says tells = absurd tells
-replays_leave words bytes Disabled left before new says tells = absurd tells
-
--- the same of a `proc`
-front_of_proc : (words : List (List ℕ)) (bytes before : List ℕ) (cpus : ℕ) (old new : Option (List ℕ))
-    → command_of words ≡ Some (Proc cpus) → old ≡ Some before → AppendsFront old new (proc_transcript cpus bytes).text → CutShort words bytes before new
-front_of_proc words bytes before cpus old new says told cut =
-    record { text = (proc_transcript cpus bytes).text; status = (proc_transcript cpus bytes).status; output = requested cpus says; front = cut.0; back = cut.1; cut = cut.2; taken = appended before cut.0 old new told cut.3 }
-
-proc_tells_all : (words : List (List ℕ)) (bytes : List ℕ) (cpus : ℕ) (result : Status) (left : Option (List ℕ)) (before : List ℕ) (new : Option (List ℕ))
-    → command_of words ≡ Some (Proc cpus) → stream.TellsAll (proc_transcript cpus bytes) left (Some before) new result → Finished words bytes left before new result
-proc_tells_all words bytes cpus result left before new says tells = record {
-  text = (proc_transcript cpus bytes).text;
-  output = subst (Output words bytes (proc_transcript cpus bytes).text) (sym tells.status_is) (requested cpus says);
-  taken = appended before (proc_transcript cpus bytes).text (Some before) new refl tells.taken;
-  read = left_by words bytes left (Some (Proc cpus)) says tells.read;
-}
+-- the command's output is what this tells of the bytes, and this is said of it where it is cut
+record IsRun (words : List (List ℕ)) (bytes : List ℕ) (command : Command) (start : Telling) (early : List ℕ) : Type 0 where
+  says : command_of words ≡ Some command
+  output : Output words bytes (stream.transcript start bytes).text (stream.transcript start bytes).status
+  read : (left : Option (List ℕ)) → left ≡ Some [] → left ≡ Some (left_of (command_of words) bytes)
+  known : (left : Option (List ℕ)) (before : List ℕ) (after : Option (List ℕ)) → TellsKnown start bytes left (Some before) after → FailedRead (Some command) bytes left before after
+  much : (before : List ℕ) (after : Option (List ℕ)) → CutShort words bytes before after → Overran (Some command) words bytes before after
+  starved : (before : List ℕ) (after : Option (List ℕ)) → AppendsFront (Some before) after early → CutShort words bytes before after → Starved words bytes before after
 
 -- a front of nothing
 nothing_taken : (before : List ℕ) (new : Option (List ℕ)) → AppendsFront (Some before) new [] → Untouched before new
 nothing_taken before new ([], back, is, takes) = appended before [] (Some before) new refl takes ∙ ap Some (append-nil before)
 nothing_taken before new (byte ∷ front, back, is, takes) = absurd (cc is)
 
+replays : (words : List (List ℕ)) (bytes : List ℕ) → command_of words ≡ Some Replay → IsRun words bytes Replay replay_told (early_text bytes)
+replays words bytes says = record {
+  says = says;
+  output = replayed says;
+  read = λ left none. left_by words bytes left (Some Replay) says none;
+  known = λ left before after tells. tells;
+  much = λ before after cut. cut;
+  starved = λ before after early cut. inr (says, (λ without. subst (AppendsFront (Some before) after) (early_without bytes without) early), cut);
+}
+
+procs : (words : List (List ℕ)) (bytes : List ℕ) (cpus : ℕ) → command_of words ≡ Some (Proc cpus) → IsRun words bytes (Proc cpus) (proc_told cpus) []
+procs words bytes cpus says = record {
+  says = says;
+  output = requested cpus says;
+  read = λ left none. left_by words bytes left (Some (Proc cpus)) says none;
+  known = λ left before after tells. tells;
+  much = λ before after cut. cut;
+  starved = λ before after early cut. inl (nothing_taken before after early);
+}
+
+module _ (words : List (List ℕ)) (bytes : List ℕ) (command : Command) (start : Telling) (early : List ℕ) (run : IsRun words bytes command start early) (left : Option (List ℕ)) where
+  -- the sink took a front of the text
+  front_told : (before : List ℕ) (new : Option (List ℕ)) → AppendsFront (Some before) new (stream.transcript start bytes).text → CutShort words bytes before new
+  front_told before new cut =
+      record { text = (stream.transcript start bytes).text; status = (stream.transcript start bytes).status; output = run.output; front = cut.0; back = cut.1; cut = cut.2; taken = appended before cut.0 (Some before) new refl cut.3 }
+
+  -- or all of it
+  all_told : (before : List ℕ) (new : Option (List ℕ)) (result : Status) → TellsAll (stream.transcript start bytes) left (Some before) new result → Finished words bytes left before new result
+  all_told before new result tells = record {
+    text = (stream.transcript start bytes).text;
+    output = subst (Output words bytes (stream.transcript start bytes).text) (sym tells.status_is) run.output;
+    taken = appended before (stream.transcript start bytes).text (Some before) new refl tells.taken;
+    read = run.read left tells.read;
+  }
+
+  run_leaves : (before : List ℕ) (new : Option (List ℕ)) (result : Status) → Runs start early bytes left (Some before) new result → Leaves words bytes left before new result
+  run_leaves before new Done tells = all_told before new Done tells
+  run_leaves before new Refused tells = all_told before new Refused tells
+  run_leaves before new Usage tells = absurd tells
+  run_leaves before new BadText tells = all_told before new BadText tells
+  run_leaves before new ReadFault tells = read_failed words command bytes left before new run.says (run.known left before new tells)
+  run_leaves before new WriteFault tells = front_told before new tells
+  run_leaves before new NoMemory tells = run.starved before new tells.0 (front_told before new tells.1)
+  run_leaves before new TooLong tells = too_much words command bytes before new run.says (run.much before new (front_told before new tells.1))
+  run_leaves before new TooFew tells = absurd tells
+  run_leaves before new Disabled tells = absurd tells
+
+  -- what is said of the source alone
+  status_told : (old new : Option (List ℕ)) (result : Status) → TellsAll (stream.transcript start bytes) left old new result → Answered words bytes left result
+  status_told old new result tells =
+      record { text = (stream.transcript start bytes).text; output = subst (Output words bytes (stream.transcript start bytes).text) (sym tells.status_is) run.output; read = run.read left tells.read }
+
+  run_reads : (old new : Option (List ℕ)) (result : Status) → Runs start early bytes left old new result → Reads words bytes left result
+  run_reads old new Done tells = status_told old new Done tells
+  run_reads old new Refused tells = status_told old new Refused tells
+  run_reads old new Usage tells = absurd tells
+  run_reads old new BadText tells = status_told old new BadText tells
+  run_reads old new ReadFault tells = tt
+  run_reads old new WriteFault tells = tt
+  run_reads old new NoMemory tells = tt
+  run_reads old new TooLong tells = tells.0
+  run_reads old new TooFew tells = absurd tells
+  run_reads old new Disabled tells = absurd tells
+
+pub replays_leave : (words : List (List ℕ)) (bytes : List ℕ) (result : Status) (left : Option (List ℕ)) (before : List ℕ) (new : Option (List ℕ))
+    → command_of words ≡ Some Replay → Replays bytes left (Some before) new result → Leaves words bytes left before new result
+replays_leave words bytes result left before new says tells = run_leaves words bytes Replay replay_told (early_text bytes) (replays words bytes says) left before new result tells
+
 pub proc_leaves : (words : List (List ℕ)) (bytes : List ℕ) (cpus : ℕ) (result : Status) (left : Option (List ℕ)) (before : List ℕ) (new : Option (List ℕ))
     → command_of words ≡ Some (Proc cpus) → Runs (proc_told cpus) [] bytes left (Some before) new result → Leaves words bytes left before new result
-proc_leaves words bytes cpus Done left before new says tells = proc_tells_all words bytes cpus Done left before new says tells
-proc_leaves words bytes cpus Refused left before new says tells = proc_tells_all words bytes cpus Refused left before new says tells
-proc_leaves words bytes cpus Usage left before new says tells = absurd tells
-proc_leaves words bytes cpus BadText left before new says tells = proc_tells_all words bytes cpus BadText left before new says tells
-proc_leaves words bytes cpus ReadFault left before new says tells = read_failed words (Proc cpus) bytes left before new says tells
-proc_leaves words bytes cpus WriteFault left before new says tells = front_of_proc words bytes before cpus (Some before) new says refl tells
-proc_leaves words bytes cpus NoMemory left before new says tells = inl (nothing_taken before new tells.0)
-proc_leaves words bytes cpus TooLong left before new says tells = too_much words (Proc cpus) bytes before new says (front_of_proc words bytes before cpus (Some before) new says refl tells.1)
-proc_leaves words bytes cpus TooFew left before new says tells = absurd tells
-proc_leaves words bytes cpus Disabled left before new says tells = absurd tells
+proc_leaves words bytes cpus result left before new says tells = run_leaves words bytes (Proc cpus) (proc_told cpus) [] (procs words bytes cpus says) left before new result tells
+
+pub replays_read : (words : List (List ℕ)) (bytes : List ℕ) (result : Status) (left old new : Option (List ℕ)) → command_of words ≡ Some Replay → Replays bytes left old new result → Reads words bytes left result
+replays_read words bytes result left old new says tells = run_reads words bytes Replay replay_told (early_text bytes) (replays words bytes says) left old new result tells
+
+pub proc_reads : (words : List (List ℕ)) (bytes : List ℕ) (cpus : ℕ) (result : Status) (left old new : Option (List ℕ))
+    → command_of words ≡ Some (Proc cpus) → Runs (proc_told cpus) [] bytes left old new result → Reads words bytes left result
+proc_reads words bytes cpus result left old new says tells = run_reads words bytes (Proc cpus) (proc_told cpus) [] (procs words bytes cpus says) left old new result tells
 
 -- ---- what is said of the source alone
 
@@ -238,42 +273,6 @@ answers_read words bytes dump command result left old new says shows read (write
     rw is (answered_reads words bytes left status (final dump command text status answer) (record { text = text; output = answered command dump text status says shows answer; read = left_by words bytes left (Some (Dump command)) says read }))
 answers_read words bytes dump command result left old new says shows read (writes text status answer (inr (is, cut))) = rw is tt
 answers_read words bytes dump command result left old new says shows read (no_memory is same) = rw is tt
-
--- the status of a transcript
-tells_status : (words : List (List ℕ)) (bytes : List ℕ) (result : Status) (left old new : Option (List ℕ)) → command_of words ≡ Some Replay → TellsAll (transcript bytes) left old new result → Answered words bytes left result
-tells_status words bytes result left old new says tells =
-    record { text = (transcript bytes).text; output = subst (Output words bytes (transcript bytes).text) (sym tells.status_is) (replayed says); read = left_by words bytes left (Some Replay) says tells.read }
-
-pub replays_read : (words : List (List ℕ)) (bytes : List ℕ) (result : Status) (left old new : Option (List ℕ)) → command_of words ≡ Some Replay → Replays bytes left old new result → Reads words bytes left result
-replays_read words bytes Done left old new says tells = tells_status words bytes Done left old new says tells
-replays_read words bytes Refused left old new says tells = tells_status words bytes Refused left old new says tells
-replays_read words bytes Usage left old new says tells = absurd tells
-replays_read words bytes BadText left old new says tells = tells_status words bytes BadText left old new says tells
-replays_read words bytes ReadFault left old new says tells = tt
-replays_read words bytes WriteFault left old new says tells = tt
-replays_read words bytes NoMemory left old new says tells = tt
-replays_read words bytes TooLong left old new says tells = tells.0
-replays_read words bytes TooFew left old new says tells = absurd tells
-replays_read words bytes Disabled left old new says tells = absurd tells
-
--- the status of a `proc`
-proc_status : (words : List (List ℕ)) (bytes : List ℕ) (cpus : ℕ) (result : Status) (left old new : Option (List ℕ))
-    → command_of words ≡ Some (Proc cpus) → stream.TellsAll (proc_transcript cpus bytes) left old new result → Answered words bytes left result
-proc_status words bytes cpus result left old new says tells =
-    record { text = (proc_transcript cpus bytes).text; output = subst (Output words bytes (proc_transcript cpus bytes).text) (sym tells.status_is) (requested cpus says); read = left_by words bytes left (Some (Proc cpus)) says tells.read }
-
-pub proc_reads : (words : List (List ℕ)) (bytes : List ℕ) (cpus : ℕ) (result : Status) (left old new : Option (List ℕ))
-    → command_of words ≡ Some (Proc cpus) → Runs (proc_told cpus) [] bytes left old new result → Reads words bytes left result
-proc_reads words bytes cpus Done left old new says tells = proc_status words bytes cpus Done left old new says tells
-proc_reads words bytes cpus Refused left old new says tells = proc_status words bytes cpus Refused left old new says tells
-proc_reads words bytes cpus Usage left old new says tells = absurd tells
-proc_reads words bytes cpus BadText left old new says tells = proc_status words bytes cpus BadText left old new says tells
-proc_reads words bytes cpus ReadFault left old new says tells = tt
-proc_reads words bytes cpus WriteFault left old new says tells = tt
-proc_reads words bytes cpus NoMemory left old new says tells = tt
-proc_reads words bytes cpus TooLong left old new says tells = tells.0
-proc_reads words bytes cpus TooFew left old new says tells = absurd tells
-proc_reads words bytes cpus Disabled left old new says tells = absurd tells
 
 -- the statuses with which an answer never ends
 pub never_answers : (dump : Shows) (command : DumpCommand) (old new : Option (List ℕ)) (result : Status) → Answers (Answer dump command) old new result → (result ≢ Usage) × (result ≢ ReadFault) × (result ≢ TooLong)

@@ -9,6 +9,8 @@ mod SomeOutput
 mod SoundCommands
 mod Parting
 mod CommentLines
+mod Coming
 mod Making
 mod Drawing
 mod Owning
+mod WorkedAnswers

@@ -31,7 +31,7 @@ use Rattle.mt_cli.specs.Answer.{Answer, FileAnswer, MayChoose, refused, accepted
 use Rattle.mt_cli.specs.Output.{Output, big_text, usage, bad_text, answered, replayed, made, summed, measured, requested}
 
 -- the answer names the first file that isn't accepted
-record Refusal (dump : Shows) (command : DumpCommand) (text : List ℕ) (status : Status) : Type 0 where
+pub record Refusal (dump : Shows) (command : DumpCommand) (text : List ℕ) (status : Status) : Type 0 where
   pub k : ℕ
   pub fault : Fault
   pub tests : command ≢ Show
@@ -39,21 +39,21 @@ record Refusal (dump : Shows) (command : DumpCommand) (text : List ℕ) (status 
   pub is_text : text ≡ dump_refused_line dump.version k fault
   pub is_status : status ≡ Refused
 
-record Tidied (file : RegisterFile) (spare chunk : ℕ) (text : List ℕ) (status : Status) : Type 0 where
+pub record Tidied (file : RegisterFile) (spare chunk : ℕ) (text : List ℕ) (status : Status) : Type 0 where
   pub used : ℕ
   pub new : RegisterFile
   pub tidy : IsTidy file chunk spare new used
   pub is_text : text ≡ used_line used ++ canon (dump_of new)
   pub is_status : status ≡ Done
 
-record Lacking (file : RegisterFile) (spare chunk : ℕ) (text : List ℕ) (status : Status) : Type 0 where
+pub record Lacking (file : RegisterFile) (spare chunk : ℕ) (text : List ℕ) (status : Status) : Type 0 where
   pub needs : ℕ
   pub has : ℕ
   pub more : NeedsMore file chunk spare needs has
   pub is_text : text ≡ too_few_line needs has
   pub is_status : status ≡ TooFew
 
-record Grained (file : RegisterFile) (log spare chunk : ℕ) (text : List ℕ) (status : Status) : Type 0 where
+pub record Grained (file : RegisterFile) (log spare chunk : ℕ) (text : List ℕ) (status : Status) : Type 0 where
   pub used : ℕ
   pub lost : ℕ
   pub parts : List Run
@@ -61,30 +61,30 @@ record Grained (file : RegisterFile) (log spare chunk : ℕ) (text : List ℕ) (
   pub is : IsGrained file log chunk spare new used lost parts
   pub is_status : status ≡ Done
 
-record GranLacking (file : RegisterFile) (log spare chunk : ℕ) (text : List ℕ) (status : Status) : Type 0 where
+pub record GranLacking (file : RegisterFile) (log spare chunk : ℕ) (text : List ℕ) (status : Status) : Type 0 where
   pub needs : ℕ
   pub has : ℕ
   pub more : GranNeedsMore file log chunk spare needs has
   pub is_text : text ≡ too_few_line needs has
   pub is_status : status ≡ TooFew
 
-record Off (file : RegisterFile) (text : List ℕ) (status : Status) : Type 0 where
+pub record Off (file : RegisterFile) (text : List ℕ) (status : Status) : Type 0 where
   pub off : is_enabled file ≡ false
   pub is_text : text ≡ disabled_line file.default_type
   pub is_status : status ≡ Disabled
 
-record Mapped (file : RegisterFile) (text : List ℕ) (status : Status) : Type 0 where
+pub record Mapped (file : RegisterFile) (text : List ℕ) (status : Status) : Type 0 where
   pub runs : List Run
   pub are : IsRunsOf file runs
   pub is_text : text ≡ types_text runs
   pub is_status : status ≡ Done
 
-record Plain (line text : List ℕ) (status : Status) : Type 0 where
+pub record Plain (line text : List ℕ) (status : Status) : Type 0 where
   pub is_text : text ≡ line
   pub is_status : status ≡ Done
 
 -- the answers of each command about processor 0's file
-abbrev FileOwn : RegisterFile → DumpCommand → List ℕ → Status → Type 0
+abbrev pub FileOwn : RegisterFile → DumpCommand → List ℕ → Status → Type 0
 FileOwn file Check text status = ⊥
 FileOwn file Show text status = ⊥
 FileOwn file Types text status = Mapped file text status
@@ -92,7 +92,7 @@ FileOwn file (Page address index) text status = Plain (page_text file address in
 FileOwn file (Tidy spare chunk) text status = Tidied file spare chunk text status ⊎ Lacking file spare chunk text status ⊎ Off file text status
 FileOwn file (Gran log spare chunk) text status = Grained file log spare chunk text status ⊎ GranLacking file log spare chunk text status ⊎ Off file text status
 
-file_apart : (file : RegisterFile) (command : DumpCommand) (text : List ℕ) (status : Status) → FileAnswer file command text status → FileOwn file command text status
+pub file_apart : (file : RegisterFile) (command : DumpCommand) (text : List ℕ) (status : Status) → FileAnswer file command text status → FileOwn file command text status
 file_apart file command text status (typed runs are) = record { runs = runs; are = are; is_text = refl; is_status = refl }
 file_apart file command text status (paged address index) = record { is_text = refl; is_status = refl }
 file_apart file command text status (tidied spare chunk used new is) = inl (record { used = used; new = new; tidy = is; is_text = refl; is_status = refl })
@@ -103,12 +103,12 @@ file_apart file command text status (gran_too_few log spare chunk needs has is) 
 file_apart file command text status (gran_disabled log spare chunk off) = inr (inr (record { off = off; is_text = refl; is_status = refl }))
 
 -- an answer where each file is accepted
-record Good (dump : Shows) (own : Type 0) : Type 0 where
+pub record Good (dump : Shows) (own : Type 0) : Type 0 where
   pub good : first_refusal dump.files ≡ None
   pub holds : own
 
 -- the other answers of each command about a dump
-abbrev Own : Shows → DumpCommand → List ℕ → Status → Type 0
+abbrev pub Own : Shows → DumpCommand → List ℕ → Status → Type 0
 Own dump Check text status = Good dump (Plain (check_text dump) text status)
 Own dump Show text status = Plain (canon dump) text status
 Own dump Types text status = Good dump (FileOwn (first_file dump) Types text status)
@@ -124,7 +124,7 @@ own_of_file dump (Page address index) text status good own = record { good = goo
 own_of_file dump (Tidy spare chunk) text status good own = record { good = good; holds = own }
 own_of_file dump (Gran log spare chunk) text status good own = record { good = good; holds = own }
 
-taken_apart : (dump : Shows) (command : DumpCommand) (text : List ℕ) (status : Status) → Answer dump command text status → Refusal dump command text status ⊎ Own dump command text status
+pub taken_apart : (dump : Shows) (command : DumpCommand) (text : List ℕ) (status : Status) → Answer dump command text status → Refusal dump command text status ⊎ Own dump command text status
 taken_apart dump command text status (refused other k fault tests first) = inl (record { k = k; fault = fault; tests = tests; first = first; is_text = refl; is_status = refl })
 taken_apart dump command text status (accepted good) = inr (record { good = good; holds = record { is_text = refl; is_status = refl } })
 taken_apart dump command text status shown = inr (record { is_text = refl; is_status = refl })

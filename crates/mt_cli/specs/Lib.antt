@@ -7,3 +7,4 @@ pub mod Program
 pub mod Tool
 pub mod Written
 pub mod Measured
+pub mod WorkedAnswers

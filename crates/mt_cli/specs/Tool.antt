@@ -7,9 +7,10 @@ use Rattle.mt_cli.specs.declared.command.Command.TheVariants.{Dump, Replay, Proc
 use Rattle.mt_cli.specs.CommandLine.{command_of, left_of}
 use Rattle.mt_ports.specs.Puts.{AppendsFront}
 use Rattle.mt_output.specs.Lines.{accepted_line}
+use Rattle.mt_script.specs.Newcomers.{IsWithoutNewcomers}
 use Rattle.mt_stream.specs.Runs.{TellsKnown}
 use Rattle.mt_proc.specs.Proc.{proc_told}
-use Rattle.mt_replay.specs.Running as replay
+use Rattle.mt_replay.specs.Transcript.{replay_told}
 use Rattle.mt_cli.specs.Output.{Output}
 
 -- The sink took the whole output, and nothing of the input is left, or all of it where the command reads nothing.
@@ -37,7 +38,7 @@ Untouched before after = after ≡ Some before
 abbrev pub FailedRead : Option Command → List ℕ → Option (List ℕ) → List ℕ → Option (List ℕ) → Type 0
 FailedRead None bytes left before after = Untouched before after
 FailedRead (Some (Dump command)) bytes left before after = Untouched before after
-FailedRead (Some Replay) bytes left before after = replay.TellsKnown bytes left (Some before) after
+FailedRead (Some Replay) bytes left before after = TellsKnown replay_told bytes left (Some before) after
 FailedRead (Some (Proc cpus)) bytes left before after = TellsKnown (proc_told cpus) bytes left (Some before) after
 FailedRead (Some (Make n)) bytes left before after = Untouched before after
 FailedRead (Some (Big n)) bytes left before after = Untouched before after
@@ -53,10 +54,12 @@ Overran (Some (Make n)) words bytes before after = Untouched before after
 Overran (Some (Big n)) words bytes before after = Untouched before after
 Overran (Some (Private cpus n accesses)) words bytes before after = Untouched before after
 
--- Memory was refused: the sink took nothing, but for `replay`, which may have written a front of its first line.
+-- Memory was refused: the sink took nothing, but for `replay`, which may have written a front of its first line, or of more where a line
+-- brings a processor up.
 abbrev pub Starved : List (List ℕ) → List ℕ → List ℕ → Option (List ℕ) → Type 0
 Starved words bytes before after =
-    Untouched before after ⊎ ((command_of words ≡ Some Replay) × AppendsFront (Some before) after accepted_line × CutShort words bytes before after)
+    Untouched before after
+    ⊎ ((command_of words ≡ Some Replay) × (IsWithoutNewcomers bytes → AppendsFront (Some before) after accepted_line) × CutShort words bytes before after)
 
 -- what each status says of the bytes: those that the source held and has left, and those that the sink had before and has after
 abbrev pub Leaves : List (List ℕ) → List ℕ → Option (List ℕ) → List ℕ → Option (List ℕ) → Status → Type 0

@@ -64,25 +64,28 @@ fn lines() -> [ScriptLine; 18] {
     ]
 }
 
-// What a line, or a front of one, comes to: a text, or an offence with its column.
+// What a line, or a front of one, comes to: a text, behind which a script has to go on or may end; or
+// an offence with its column.
 #[derive(Clone, Copy)]
 enum Says {
-    Writes(&'static [u8]),
+    GoesOn(&'static [u8]),
+    Ends(&'static [u8]),
     Offends(usize, &'static str),
 }
 
 // The fronts of lines that have all their words and ask for something else than the whole line.
-fn others() -> [(&'static [u8], Says); 9] {
+fn others() -> [(&'static [u8], Says); 10] {
     [
+        (b"up", Says::Ends(b"up 2\n")),
         (b"0fe 50", Says::Offends(5, "too many pairs")),
         (b"word 1", Says::Offends(6, "out of range")),
-        (b"word 10", Says::Writes(b"no ram\n")),
-        (b"word 100", Says::Writes(b"no ram\n")),
-        (b"word 1000", Says::Writes(b"no ram\n")),
-        (b"word 10000", Says::Writes(b"no ram\n")),
+        (b"word 10", Says::Ends(b"no ram\n")),
+        (b"word 100", Says::Ends(b"no ram\n")),
+        (b"word 1000", Says::Ends(b"no ram\n")),
+        (b"word 10000", Says::Ends(b"no ram\n")),
         (b"load 1 1", Says::Offends(8, "out of range")),
-        (b"load 1 10", Says::Writes(b"unmapped\n")),
-        (b"load 1 100", Says::Writes(b"unmapped\n")),
+        (b"load 1 10", Says::Ends(b"unmapped\n")),
+        (b"load 1 100", Says::Ends(b"unmapped\n")),
     ]
 }
 
@@ -101,15 +104,19 @@ fn last_word(front: &[u8]) -> usize {
 
 // What a front of a line comes to: with too few words, or with a first word cut short, it is a bad line.
 fn meaning(line: &ScriptLine, front: &[u8]) -> Says {
-    if front.len() < line.enough {
-        return Says::Offends(last_word(front), "bad line");
-    }
     for (text, other) in others() {
         if text == front {
             return other;
         }
     }
-    Says::Writes(line.writes)
+    if front.len() < line.enough {
+        return Says::Offends(last_word(front), "bad line");
+    }
+    if line.is_end {
+        Says::Ends(line.writes)
+    } else {
+        Says::GoesOn(line.writes)
+    }
 }
 
 // What a script writes, and its status.
@@ -146,12 +153,18 @@ fn expected(alloc: Global, length: usize) -> Result<Told, Fail> {
         }
         let count = left.min(line.text.len());
         match meaning(line, &line.text[..count]) {
-            Says::Writes(bytes) => text.extend_from_slice(bytes)?,
+            Says::GoesOn(bytes) => {
+                text.extend_from_slice(bytes)?;
+                is_end = false;
+            }
+            Says::Ends(bytes) => {
+                text.extend_from_slice(bytes)?;
+                is_end = true;
+            }
             Says::Offends(column, reason) => {
                 return offends(alloc, text, i + 1, column, reason);
             }
         }
-        is_end = line.is_end;
         left -= count;
         if left == 0 {
             place = (i + 1, count + 1);
@@ -197,7 +210,7 @@ fn a_script_may_be_cut_after_each_byte(rt: HostRuntime) -> Result<(), Fail> {
 }
 
 // Some of these cuts, written out.
-fn cuts() -> [(usize, Status, &'static [u8]); 8] {
+fn cuts() -> [(usize, Status, &'static [u8]); 9] {
     [
         (0, Status::BadText, b"bad text 1:1 no end\n"),
         (19, Status::BadText, b"bad text 3:8 no end\n"),
@@ -205,6 +218,11 @@ fn cuts() -> [(usize, Status, &'static [u8]); 8] {
         (51, Status::Done, b"accepted\n"),
         (52, Status::Done, b"accepted\n"),
         (105, Status::Done, b"accepted\nok\nok\n"),
+        (
+            136,
+            Status::Done,
+            b"accepted\nok\nok\nstored WB\nmemory 0000000000000000\nup 2\n",
+        ),
         (
             141,
             Status::BadText,

@@ -12,6 +12,9 @@ ghost use Rattle.mt_dump.specs.Dump.{Shown};
 ghost use Rattle.mt_dump.specs.Dumps.{Dump as Shows, dump_of};
 ghost use Rattle.std.specs.List.{All};
 ghost use Rattle.mt_regs.specs.Faults.{IsAccepted};
+ghost use Rattle.mt_output.specs.Lines.{accepted_line};
+ghost use Rattle.mt_replay.specs.Newcomers.{early_text};
+ghost use Rattle.mt_script.specs.Newcomers.{IsWithoutNewcomers};
 ghost use Rattle.mt_script.specs.Script.{script_offence};
 ghost use Rattle.mt_replay.specs.Statuses.{ShowsDump};
 ghost use Rattle.mt_replay.specs.Transcript.{transcript};
@@ -51,4 +54,9 @@ pub fn a_made_text_is_a_script()
     ensures offence { (n : ℕ) → script_offence (make_text n) ≡ None }
     ensures dump { (n : ℕ) → (dump : Shows) × ShowsDump (make_text n) dump × All IsAccepted dump.files }
     ensures status { (n : ℕ) → (transcript (make_text n)).status ≡ Done }
+{}
+
+/// For want of memory a script without a line that brings a processor up has written a front of its first line.
+pub fn memory_is_wanted_early_without_newcomers()
+    ensures { (text : List ℕ) → IsWithoutNewcomers text → early_text text ≡ accepted_line }
 {}

@@ -12,6 +12,7 @@ mod texts;
 mod top;
 mod words;
 mod worked;
+mod worked_answers;
 mod worked_outputs;
 
 pub use answers::{answer, answer_input, big, make, private};
@@ -19,7 +20,8 @@ pub use command::{Command, DumpCommand, TidyOption};
 pub use generator::make_text;
 pub use laws::{
     a_made_text_is_a_script, a_size_is_a_power_of_two, a_tidied_text_is_a_dump,
-    words_and_bytes_have_an_output, words_and_bytes_have_one_output,
+    memory_is_wanted_early_without_newcomers, words_and_bytes_have_an_output,
+    words_and_bytes_have_one_output,
 };
 pub use lines::{
     disabled_line, lost_line, page_text, run_line, summary_text, too_few_line, used_line,
@@ -30,6 +32,10 @@ pub use texts::{canonical_text, grained_text, tidied_text, types_text};
 pub use top::tool;
 pub use words::command_of;
 pub use worked::{worked_draws, worked_generated_lines};
+pub use worked_answers::{
+    worked_dump_answers, worked_exits, worked_gran_answers, worked_tidy_answers,
+    worked_type_answers,
+};
 pub use worked_outputs::{worked_checks, worked_command_lines, worked_endings};
 
 #[cfg(test)]

@@ -4,7 +4,9 @@ ghost use Rattle.mt_regs.specs.declared.registers.Register.TheVariants.{DefaultT
 ghost use Rattle.mt_regs.specs.RegisterFile.{blank_file};
 ghost use Rattle.mt_regs.specs.Registers.{with_value};
 ghost use Rattle.mt_dump.specs.Dumps.{dump_of};
-ghost use Rattle.mt_replay.specs.Running.{TellsKnown};
+ghost use Rattle.mt_stream.specs.Runs.{TellsKnown};
+ghost use Rattle.mt_replay.specs.Transcript.{replay_told};
+ghost use Rattle.mt_script.specs.Newcomers.{IsWithoutNewcomers};
 ghost use Rattle.mt_cli.specs.declared.command.Command.TheVariants as asks;
 ghost use Rattle.mt_cli.specs.declared.command.DumpCommand.TheVariants as of_dump;
 ghost use Rattle.mt_cli.specs.CommandLine.{MayTakeMemory, command_of, left_of};
@@ -70,12 +72,15 @@ pub fn worked_endings()
     ensures lost_before { CutShort [] [] (codes "a") (Some []) → ⊥ }
     ensures failed_read { FailedRead (command_of []) [] None (codes "a") (Some (codes "a")) }
     ensures written_at_a_failed_read { FailedRead (command_of []) [] None (codes "a") (Some (codes "au")) → ⊥ }
-    ensures known_at_a_failed_read { (bytes before : List ℕ) (left after : Option (List ℕ)) → FailedRead (command_of (codes "replay" ∷ [])) bytes left before after → TellsKnown bytes left (Some before) after }
+    ensures known_at_a_failed_read { (bytes before : List ℕ) (left after : Option (List ℕ)) → FailedRead (command_of (codes "replay" ∷ [])) bytes left before after → TellsKnown replay_told bytes left (Some before) after }
     ensures written_at_too_long { Overran (command_of []) [] [] (codes "a") (Some (codes "au")) → ⊥ }
     ensures front_at_too_long { (bytes before : List ℕ) (after : Option (List ℕ)) → Overran (command_of (codes "replay" ∷ [])) (codes "replay" ∷ []) bytes before after → CutShort (codes "replay" ∷ []) bytes before after }
     ensures starved { Starved [] [] (codes "a") (Some (codes "a")) }
     ensures written_without_memory { Starved [] [] (codes "a") (Some (codes "au")) → ⊥ }
-    ensures other_line_without_memory { (bytes : List ℕ) → Starved (codes "replay" ∷ []) bytes [] (Some (codes "x")) → ⊥ }
+    ensures other_line_without_memory { (bytes : List ℕ) → IsWithoutNewcomers bytes → Starved (codes "replay" ∷ []) bytes [] (Some (codes "x")) → ⊥ }
+    ensures more_without_memory { (bytes : List ℕ) → IsWithoutNewcomers bytes → Starved (codes "replay" ∷ []) bytes [] (Some (codes "accepted\nok\n")) → ⊥ }
+    ensures starved_behind_a_newcomer { Starved (codes "replay" ∷ []) (codes "cpus 1\ndump\n0fe 0\nend\ncr3 0\njoin\n") [] (Some (codes "accepted\nok\n")) }
+    ensures other_line_behind_a_newcomer { Starved (codes "replay" ∷ []) (codes "cpus 1\ndump\n0fe 0\nend\ncr3 0\njoin\n") [] (Some (codes "x")) → ⊥ }
     ensures leaves_a_front { (words : List (List ℕ)) (bytes before : List ℕ) (left after : Option (List ℕ)) → Leaves words bytes left before after status.WriteFault → CutShort words bytes before after }
     ensures reads_usage { Reads [] (codes "x") (Some []) status.Usage → ⊥ }
     ensures reads_too_long { Reads [] (codes "x") (Some []) status.TooLong → ⊥ }

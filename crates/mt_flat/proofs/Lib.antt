@@ -4,4 +4,5 @@ pub mod Storing
 pub mod Accessing
 pub mod Seeing
 pub mod Updating
+pub mod ComingAndGoing
 pub mod Coursing

@@ -1,5 +1,5 @@
--- Courses: events, and whole updates in one turn.
-use Rattle.std.specs.Prelude.{◌≡◌, ℕ, List, [], ◌∷◌, length}
+-- Courses: events, and whole updates in one turn, and processors that come up and go.
+use Rattle.std.specs.Prelude.{◌≡◌, ℕ, ◌<◌, List, [], ◌∷◌, length, None}
 use Rattle.mt_kinds.specs.declared.mem_type.MemType.{MemType}
 use Rattle.mt_regs.specs.RegisterFile.{RegisterFile}
 use Rattle.mt_machine.specs.declared.op.Op.TheVariants.{Load}
@@ -7,24 +7,31 @@ use Rattle.mt_machine.specs.declared.done.Done.TheVariants.{Value}
 use Rattle.mt_machine.specs.Access.{access}
 use Rattle.mt_machine.specs.Machine.{Machine, MachineEvent, Calls, IsEnabled, next}
 use Rattle.mt_machine.specs.Start.{IsStart}
+use Rattle.mt_machine.specs.ComingAndGoing.{last_number, with_newcomer, without_last}
 use Rattle.mt_machine.specs.Update.{updated}
 use Rattle.mt_laws.specs.Counts.{IsEachOnce}
-use Rattle.mt_flat.specs.Flat.{Flat}
+use Rattle.mt_flat.specs.Flat.{Flat, empty_all}
 use Rattle.mt_flat.specs.Seen.{IsFlatAnswer, IsFlatOf, flat_after, flat_takes}
 
--- an event, or a whole update to this goal in which these processors take in this order
+-- an event, a whole update to this goal in which these processors take in this order, a processor more, or the last one's going
 pub data Turn : Type 0 where
   Does : (e : MachineEvent) → Turn
   Updates : (goal : RegisterFile) → (takes : List ℕ) → Turn
+  ComesUp : Turn
+  GoesDown : Turn
 
 abbrev pub turned : Machine → Turn → Machine
 turned m (Does e) = next m e
 turned m (Updates goal takes) = updated m.system takes goal
+turned m ComesUp = with_newcomer m
+turned m GoesDown = without_last m
 
--- an update can be called, and each processor takes once
+-- an update can be called, and each processor takes once; processors come up and go while none is under way
 abbrev pub CanTurn : Machine → Turn → Type 0
 CanTurn m (Does e) = IsEnabled m e
 CanTurn m (Updates goal takes) = IsEnabled m (Calls goal) × IsEachOnce (length m.system.processors) takes
+CanTurn m ComesUp = m.order ≡ None
+CanTurn m GoesDown = (m.order ≡ None) × (0 < length m.system.processors)
 
 abbrev pub course : Machine → List Turn → Machine
 course m [] = m
@@ -37,6 +44,8 @@ IsCourse m (t ∷ ts) = CanTurn m t × IsCourse (turned m t) ts
 abbrev pub flat_turned : Machine → Turn → Flat → Flat
 flat_turned m (Does e) f = flat_after m e f
 flat_turned m (Updates goal takes) f = flat_takes takes f
+flat_turned m ComesUp f = f
+flat_turned m GoesDown f = empty_all (last_number m.system) f
 
 abbrev pub flat_course : Machine → List Turn → Flat → Flat
 flat_course m [] f = f

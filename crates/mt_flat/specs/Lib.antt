@@ -1,4 +1,6 @@
 pub mod Flat
 pub mod Seen
+pub mod ComingAndGoing
 pub mod Courses
 pub mod WorkedRuns
+pub mod WorkedUpdates

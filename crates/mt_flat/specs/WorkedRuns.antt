@@ -1,9 +1,9 @@
 -- What is seen of a flat machine.
 use Rattle.std.specs.Prelude.{ℕ, List, ◌∷◌, [], map, None, Option}
 use Rattle.mt_cache.specs.Lines.{eight}
-use Rattle.mt_machine.specs.Machine.{MachineEvent}
+use Rattle.mt_machine.specs.Machine.{Machine, MachineEvent}
 use Rattle.mt_machine.specs.System.{System, buffers_of, now}
-use Rattle.mt_machine.specs.WorkedRuns.{palette, store}
+use Rattle.mt_machine.specs.WorkedRuns.{alone, idle, line_of, machine_of, palette, store}
 use Rattle.mt_flat.specs.Flat.{Flat, PendingLine, flat_start}
 use Rattle.mt_flat.specs.Seen.{flat_run, written_of}
 
@@ -34,3 +34,11 @@ seven_words =
 -- the one that stands beside a system
 abbrev pub beside : System → Flat
 beside s = record { values = now s; pending = λ k. map written_of (buffers_of s k) }
+
+-- a processor with a dirty line, and one that has another value of its second word in a buffer
+abbrev pub two_values : Machine
+two_values = machine_of (record idle { lines = line_of 0x4000 0 ∷ [] } ∷ record idle { buffers = record (line_of 0x4000 0) { words = 0 ∷ 8 ∷ 0 ∷ 0 ∷ 0 ∷ 0 ∷ 0 ∷ 0 ∷ []; dirty = 2 } ∷ [] } ∷ [])
+
+-- a processor with a buffer
+abbrev pub combiner : Machine
+combiner = alone (record idle { buffers = line_of 0x4000 0 ∷ [] })

@@ -1,3 +1,4 @@
+ghost use Rattle.mt_flat.specs.ComingAndGoing.{AdmittedIsFlat, GoneKeepsFlat, NewcomersKeepFlat};
 ghost use Rattle.mt_flat.specs.Courses.{CoursesHideCaches, CoursesKeepFlat};
 ghost use Rattle.mt_flat.specs.Seen.{AnswersAreFlat, CachesAreNeverSeen, EventsKeepFlat, HeldIsFlat, NoBuffersIsFlat, PendingStaysFew, RunsKeepFlat, StartIsFlat, UpdatedIsFlat};
 
@@ -40,4 +41,12 @@ pub fn updates_are_flat()
 pub fn courses_are_flat()
     ensures keep { CoursesKeepFlat }
     ensures answer { CoursesHideCaches }
+{}
+
+/// Where a processor comes up the flat machine beside the system stays, and is given the takes where it is admitted.
+/// Where the last one goes it empties that one's pending lines.
+pub fn comers_and_goers_are_flat()
+    ensures come { NewcomersKeepFlat }
+    ensures admitted { AdmittedIsFlat }
+    ensures gone { GoneKeepsFlat }
 {}

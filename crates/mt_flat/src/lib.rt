@@ -6,13 +6,19 @@
 
 mod laws;
 mod worked;
+mod worked_coming;
 mod worked_courses;
 mod worked_related;
+mod worked_updates;
 
 pub use laws::{
-    caches_are_never_seen, courses_are_flat, events_are_flat, pending_stays_few, starts_are_flat,
-    updates_are_flat,
+    caches_are_never_seen, comers_and_goers_are_flat, courses_are_flat, events_are_flat,
+    pending_stays_few, starts_are_flat, updates_are_flat,
 };
 pub use worked::{worked_beside, worked_course, worked_pending, worked_stores, worked_turns};
+pub use worked_coming::{
+    worked_coming_course, worked_coming_turns, worked_flat_comers, worked_flat_going,
+};
 pub use worked_courses::worked_updates_by_events;
 pub use worked_related::{worked_flat_answers, worked_flat_held, worked_flat_laws, worked_flat_of};
+pub use worked_updates::{worked_laws_of_courses, worked_states_on_the_way};

@@ -1,10 +1,12 @@
 -- What holds when a processor comes up or goes.
 use Rattle.std.specs.Prelude.{◌≡◌, ℕ, ◌<◌, ◌%◌, [], length, map, take}
+use Rattle.std.specs.List.{All}
 use Rattle.mt_machine.specs.System.{Processor, System, IsSound, now}
 use Rattle.mt_machine.specs.Bus.{drain}
 use Rattle.mt_machine.specs.Machine.{Machine}
 use Rattle.mt_machine.specs.Start.{IsQuiet}
 use Rattle.mt_machine.specs.ComingAndGoing.{gone, last_number, reset, with_newcomer, without_last}
+use Rattle.mt_laws.specs.Settled.{IsFresh}
 
 -- one that comes up leaves a system sound, and a quiet machine quiet
 abbrev pub ResetStaysSound : Type 0
@@ -19,6 +21,13 @@ GoneStaysSound = (s : System) → 0 < length s.processors → IsSound s → IsSo
 
 abbrev pub GoneStaysQuiet : Type 0
 GoneStaysQuiet = (m : Machine) → 0 < length m.system.processors → IsQuiet m → IsQuiet (without_last m)
+
+-- where nothing is of an earlier era than its processor's, so it is with a newcomer, and when the last is gone
+abbrev pub ResetStaysFresh : Type 0
+ResetStaysFresh = (s : System) → All IsFresh s.processors → All IsFresh (reset s).processors
+
+abbrev pub GoneStaysFresh : Type 0
+GoneStaysFresh = (s : System) → All IsFresh s.processors → All IsFresh (gone s).processors
 
 -- each word has the value that it had once the buffers of the one that goes were emptied
 abbrev pub GoneKeepsWords : Type 0

@@ -8,3 +8,4 @@ pub mod Counts
 pub mod Updates
 pub mod ComingAndGoing
 pub mod WorkedRuns
+pub mod WorkedUpdates

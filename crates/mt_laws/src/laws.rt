@@ -7,7 +7,9 @@ mod starts;
 mod updates;
 
 pub use barriers::{barriers_count, barriers_hold};
-pub use coming_and_going::{goers_keep_words, goers_stay_quiet, newcomers_stay_quiet};
+pub use coming_and_going::{
+    comers_and_goers_stay_fresh, goers_keep_words, goers_stay_quiet, newcomers_stay_quiet,
+};
 pub use kept::{
     accesses_keep_sound, events_keep, flags_stay, lines_are_low, orders_hold, stays_coherent,
     stays_sound, steps_keep_now, write_backs_have_places,

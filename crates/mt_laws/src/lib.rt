@@ -7,25 +7,27 @@
 mod laws;
 mod worked;
 mod worked_coming;
+mod worked_ends;
 mod worked_others;
 mod worked_unlike;
 mod worked_uses;
 
 pub use laws::{
     accesses_keep_sound, barriers_count, barriers_hold, broadcast_update, cancelled_broadcast,
-    cancelled_update, count_of_steps, eras_fit, events_keep, flagged_start_is_quiet, flags_stay,
-    goers_keep_words, goers_stay_quiet, held_after_release, led_cancelled, led_ends,
-    led_is_reached, led_released, led_to_second_barrier, led_update, lines_are_low,
-    newcomers_stay_quiet, no_buffers_at_pass, nothing_is_stale, orders_hold, reached_is_quiet,
-    reached_is_run, settled_after_each_release, snooping_stays_quiet, start_is_quiet,
-    stays_coherent, stays_sound, steps_keep_now, takes_broadcast, updated_is_quiet, updated_words,
-    whole_update, write_backs_have_places,
+    cancelled_update, comers_and_goers_stay_fresh, count_of_steps, eras_fit, events_keep,
+    flagged_start_is_quiet, flags_stay, goers_keep_words, goers_stay_quiet, held_after_release,
+    led_cancelled, led_ends, led_is_reached, led_released, led_to_second_barrier, led_update,
+    lines_are_low, newcomers_stay_quiet, no_buffers_at_pass, nothing_is_stale, orders_hold,
+    reached_is_quiet, reached_is_run, settled_after_each_release, snooping_stays_quiet,
+    start_is_quiet, stays_coherent, stays_sound, steps_keep_now, takes_broadcast, updated_is_quiet,
+    updated_words, whole_update, write_backs_have_places,
 };
 pub use worked::{
     worked_barriers, worked_counts, worked_eras, worked_first_release, worked_fresh,
     worked_holdings, worked_kinds, worked_nothing, worked_orders,
 };
-pub use worked_coming::worked_uncached;
+pub use worked_coming::{worked_fresh_comers_and_goers, worked_uncached};
+pub use worked_ends::{worked_cancelled_updates, worked_kept_by_steps, worked_whole_updates};
 pub use worked_others::{worked_other_parts, worked_second_processors};
 pub use worked_unlike::worked_unlike_files;
 pub use worked_uses::{worked_laws_of_steps, worked_laws_of_updates, worked_updates_alike};

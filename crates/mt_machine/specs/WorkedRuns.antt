@@ -17,7 +17,7 @@ use Rattle.mt_machine.specs.declared.phase.Phase.TheVariants.{Taken}
 use Rattle.mt_machine.specs.declared.op.Op.{Op}
 use Rattle.mt_machine.specs.declared.op.Op.TheVariants.{Load, Store}
 use Rattle.mt_machine.specs.declared.done.Done.{Done}
-use Rattle.mt_machine.specs.Memory.{Window, put_word, word_at}
+use Rattle.mt_machine.specs.Memory.{Memory, Window, put_word, word_at}
 use Rattle.mt_machine.specs.System.{Processor, start_processor, lines_of, buffers_of}
 use Rattle.mt_machine.specs.Access.{access}
 use Rattle.mt_machine.specs.Machine.{Machine, MachineEvent, Order, Accesses, Controls, Calls, Goes, Steps, due_at, next, run}
@@ -282,4 +282,11 @@ wide_one = record (start_processor (with_value (blank_file 40 0x508) DefaultType
   entries = record (entry 1 false) { era = 3 } ∷ [];
   era = 3;
   self_snoop = true;
+}
+
+-- a line at 1 MB, and two lines behind it in the list that lie lower; their words are 10 to 33
+abbrev pub two_windows : Memory
+two_windows = record {
+  windows = record { base = 0x100000; lines = 1 } ∷ record { base = 0x80; lines = 2 } ∷ [];
+  words = 10 ∷ 11 ∷ 12 ∷ 13 ∷ 14 ∷ 15 ∷ 16 ∷ 17 ∷ 18 ∷ 19 ∷ 20 ∷ 21 ∷ 22 ∷ 23 ∷ 24 ∷ 25 ∷ 26 ∷ 27 ∷ 28 ∷ 29 ∷ 30 ∷ 31 ∷ 32 ∷ 33 ∷ [];
 }

@@ -1,7 +1,8 @@
-ghost use Rattle.std.specs.Prelude.{◌≡◌, ℕ, ◌<◌, ◌≤◌, ◌+◌, ◌*◌, ◌^◌, ◌%◌, [], length, map, slice_index, slice_range, slice_set, OnOk, OnErr, IfSome, None, nat_le, nat_lt, ◌&&◌};
+ghost use Rattle.std.specs.Prelude.{◌≡◌, ℕ, ◌<◌, ◌≤◌, ◌+◌, ◌*◌, ◌^◌, ◌%◌, [], length, map, replicate, slice_index, slice_range, slice_set, OnOk, OnErr, IfSome, None, nat_le, nat_lt, ◌&&◌};
 ghost use Rattle.std.specs.Borrow.{Array, Lends, sem, u64};
 ghost use Rattle.std.specs.List.{All};
 ghost use Rattle.mt_machine.specs.Memory.{IsMemory, Memory, place, place_in, put_word, window_end, word_at, word_count};
+ghost use Rattle.mt_machine.specs.Update.{addresses};
 ghost use Rattle.mt_ram.specs.contracts.ram.Ram.{the_row};
 ghost use Rattle.mt_ram.specs.Windows.{is_overlap, refusal, refusal_in, shares_byte, window, window_of, with_line, with_window};
 
@@ -82,6 +83,34 @@ fn place_in(windows: &[Window], address: u64) -> Option<usize>
         before += 8 * w.lines as usize;
     }
     None
+}
+
+// The address of the word at this place in these windows; 0 where there is none.
+fn address_in(windows: &[Window], i: usize) -> u64
+    requires bounded { All (λ w. window_end w ≤ 2 ^ 52) (map window_of windows.now) }
+    ensures { result ≡ slice_index (addresses (map window_of windows.now)) i }
+{
+    let mut left = i;
+    for w in windows {
+        let words = 8 * w.lines as usize;
+        if left < words {
+            return w.base + WORD_BYTES * left as u64;
+        }
+        left -= words;
+    }
+    0
+}
+
+// The same windows.
+fn same_windows(windows: &[Window]) -> ArrayVec<Window, 16>
+    requires few { length windows.now ≤ 16 }
+    ensures { result.items ≡ windows.now }
+{
+    let mut copy = ArrayVec::new();
+    for w in windows {
+        copy.push(*w);
+    }
+    copy
 }
 
 impl Ram {
@@ -204,5 +233,26 @@ impl Ram {
         ensures { self.new ≡ record self.old { words = slice_set self.old.words i v } }
     {
         self.words[i] = v;
+    }
+
+    /// The address of the word at a place, in bytes.
+    pub fn address(&self, i: usize) -> u64
+        ensures { result ≡ slice_index (addresses self.now.windows) i }
+    {
+        address_in(self.windows.as_slice(), i)
+    }
+
+    /// Memory with the same windows, in which all words are 0. There is none only where the allocator has no room.
+    pub fn blank(&self, alloc: Global) -> Option<Ram>
+        ensures { IfSome result (λ r. r ≡ record self.now { words = replicate (length self.now.words) 0 }) }
+    {
+        let mut words = Vec::new(alloc);
+        if words.resize(self.words.len(), 0).is_err() {
+            return None;
+        }
+        Some(Ram {
+            windows: same_windows(self.windows.as_slice()),
+            words,
+        })
     }
 }

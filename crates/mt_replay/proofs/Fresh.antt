@@ -1,6 +1,5 @@
 -- In the states of a script nothing that is held is of an earlier era than its processor's.
-use Rattle.std.proofs.Common.{◌≡◌, ◌≤◌, ℕ, List, [], ◌∷◌, Bool, true, false, refl, ap, inl}
-use Rattle.mt_laws.specs.Kept.{flags_of}
+use Rattle.std.proofs.Common.{◌≡◌, ◌≤◌, ℕ, List, [], ◌∷◌, Bool, true, false, refl, ap}
 use Rattle.std.specs.Prelude.{count_by, nat_lt, not}
 use Rattle.std.specs.List.{All, list_all}
 use Rattle.std.proofs.lemmas.Bool.{and_parts, le-ltb}
@@ -9,11 +8,9 @@ use Rattle.mt_cache.specs.declared.line.CacheLine.{CacheLine}
 use Rattle.mt_tlb.specs.declared.entry.Entry.{Entry}
 use Rattle.mt_machine.specs.System.{Processor}
 use Rattle.mt_laws.specs.Settled.{IsFresh}
-use Rattle.mt_laws.proofs.Clearing.Fresh.{nothing_is_stale, starts_fresh}
-use Rattle.mt_dump.specs.ForProcessors.{files_for}
 use Rattle.mt_replay.specs.Texts.{stale_count}
-use Rattle.mt_replay.specs.Kept.{NothingIsStale, start_like, windows_of}
-use Rattle.mt_replay.proofs.Keeping.States.{dump_here}
+use Rattle.mt_replay.specs.Kept.{NothingIsStale}
+use Rattle.mt_replay.proofs.Keeping.Moving.{no_older_now}
 
 none_counted : {X : Type 0} → (test : X → Bool) (xs : List X) → list_all (λ x. not (test x)) xs ≡ true → count_by test xs ≡ 0
 none_counted test [] none = refl
@@ -39,7 +36,4 @@ none_stale : (p : Processor) → IsFresh p → stale_count p ≡ 0
 none_stale p f = rw (lines_counted p.era p.lines f.lines, lines_counted p.era p.buffers f.buffers, entries_counted p.era p.entries f.entries) refl
 
 pub nothing_stale : NothingIsStale
-nothing_stale s is k d within =
-    let (dump, here, good) = dump_here s.now is.situation is.past in
-    none_stale _
-    (nothing_is_stale (start_like s dump) s.machine (inl (is.quiet dump here)) (starts_fresh (flags_of s.machine.system) (files_for s.now.cpus dump) (windows_of s.now)) (is.reached dump here) k d within)
+nothing_stale s is k d within = none_stale _ (no_older_now s.machine is.came k d within)

@@ -10,15 +10,15 @@ pub mod FirstRefusal
 pub mod Heads
 pub mod Hiding
 pub mod Keeping
-pub mod Fronts
 pub mod KnownLines
 pub mod Lines
+pub mod Newcomers
+pub mod Paths
 pub mod Refusals
-pub mod Rounds
+pub mod RunningLaws
 pub mod SameFiles
 pub mod Sums
 pub mod ShownDump
 pub mod Taking
-pub mod Telling
 pub mod Walks
 mod Whole

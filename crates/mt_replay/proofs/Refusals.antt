@@ -3,3 +3,4 @@ pub mod Outcomes
 pub mod Releases
 pub mod Since
 pub mod Updates
+pub mod Joins

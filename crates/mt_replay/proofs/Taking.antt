@@ -1,11 +1,11 @@
 -- What a run makes of one line.
-use Rattle.std.proofs.Common.{◌≡◌, ◌∙◌, ap, sym, refl, subst, inl, inr, ℕ, ◌+◌, true, List, [], ◌++◌, Option, None, Some, Result, Ok, Err, append-nil}
-use Rattle.std.specs.Prelude.{◌⊎◌, IfOk, MatchOption, MatchResult}
+use Rattle.std.proofs.Common.{◌≡◌, ◌∙◌, ap, sym, refl, subst, inr, ℕ, ◌+◌, true, List, [], ◌++◌, Option, None, Some, Result, Ok, Err, append-nil, inl, ◌∷◌, ◌||◌, Bool, false}
+use Rattle.std.specs.Prelude.{MatchOption, MatchResult}
 use Rattle.mt_ports.specs.Puts.{AppendsFront}
 use Rattle.mt_ports.specs.declared.status.Failed.{Failed}
 use Rattle.mt_ports.specs.declared.status.Status.{Status}
-use Rattle.mt_ports.specs.declared.status.Status.TheVariants.{BadText, NoMemory, Refused}
-use Rattle.mt_output.specs.Writing.{Adds, Passes}
+use Rattle.mt_ports.specs.declared.status.Status.TheVariants.{NoMemory, Refused}
+use Rattle.mt_output.specs.Writing.{Passes}
 use Rattle.mt_output.specs.Lines.{accepted_line, dump_refused_line}
 use Rattle.mt_output.proofs.Writing.{passes_nothing}
 use Rattle.mt_text.specs.declared.place.Place.{Place}
@@ -19,82 +19,62 @@ use Rattle.mt_script.specs.declared.head.Head.{Head as HeadReader}
 use Rattle.mt_script.specs.Stages.{takes_windows}
 use Rattle.mt_script.specs.Accept.{Fits, accepted}
 use Rattle.mt_script.specs.Commands.{command_of}
-use Rattle.mt_script.specs.Head.{goes_on, head_step}
+use Rattle.mt_script.specs.Head.{goes_on, head_step, shows}
 use Rattle.mt_script.specs.declared.command.Command.{Command}
 use Rattle.mt_script.specs.declared.command.Command.TheVariants as command
 use Rattle.mt_script.specs.declared.fault.ScriptFault.{ScriptFault}
 use Rattle.mt_replay.specs.Kept.{HasEras, IsReplayState}
-use Rattle.mt_replay.specs.Parts.{IsWindow}
+use Rattle.mt_replay.specs.Parts.{AsksForMemory}
 use Rattle.mt_replay.specs.ReplayState.{ReplayState, command_text, first_state, state_after}
-use Rattle.mt_replay.specs.Running.{Fails, GoesOn, IsAt, Leading, Point, Takes, body_lines, from_line, in_body, in_head}
-use Rattle.mt_replay.specs.Transcript.{Told, behind, told, told_command, told_dump}
+use Rattle.mt_replay.specs.Newcomers.{early, is_newcomer, newcomers_from, newcomers_in, newcomers_of_dump}
+use Rattle.mt_replay.proofs.Newcomers.{body_brings, early_front, early_then, head_brings, or_true}
+use Rattle.mt_replay.specs.Running.{IsAt, IsQuiet, from_line, leading, path_from, replay_running, leading_dump}
+use Rattle.mt_stream.specs.Lines.{Fails, GoesOn, Leads, Takes, leads_behind}
+use Rattle.mt_replay.specs.Transcript.{Point, body_lines, head_lines, in_body, in_head, told_command, told_dump}
+use Rattle.mt_stream.specs.Told.{Told, behind, told}
 use Rattle.mt_replay.specs.declared.line.Run.{Run}
 use Rattle.mt_replay.specs.declared.line.Run.TheVariants as run
 use Rattle.mt_replay.proofs.Eras.{eras_kept}
 use Rattle.mt_replay.proofs.Keeping.States.{state_kept}
 use Rattle.mt_replay.proofs.Walks.{from_body, head_leads}
 
--- a last text was written, or failed
-pub takes_last : (from : Leading) (number : ℕ) (was : Point) (now : Run) (text waiting left : List ℕ) (status : Status) (a b : Option (List ℕ)) (result : Result (Option Status) Failed)
-    → ((end : Option Place) (lines : List (List ℕ)) → from end lines ≡ told text status) → (status ≡ Refused) ⊎ (status ≡ BadText) → Adds waiting text left a b result → IfOk result (λ ended. ended ≡ Some status)
-    → Takes from number was now waiting left a b result
-takes_last from number was now text waiting left status a b (Ok None) stops one adds is = absurd (cc is)
-takes_last from number was now text waiting left status a b (Ok (Some answer)) stops one adds is =
-    let same : answer ≡ status = cc is in
-    inl (record { telling = told text status; stops = stops; status_is = same; last = subst (λ (s : Status). (s ≡ Refused) ⊎ (s ≡ BadText)) (sym same) one; passed = adds })
-takes_last from number was now text waiting left status a b (Err failed) stops one adds is = record {
-  text = text;
-  front = λ end lines. ([], ap (λ (t : Told). t.text) (stops end lines) ∙ sym (append-nil text));
-  failed = adds;
-}
+abbrev leads_of : Told → Bool → List ℕ → Leads
+leads_of t comes so_far = record { tells = t; early = early comes so_far t.text }
 
--- the same, where the line and those behind it lead to as much
-pub takes_same : (from other : Leading) (number : ℕ) (was : Point) (now : Run) (waiting left : List ℕ) (a b : Option (List ℕ)) (result : Result (Option Status) Failed)
-    → ((end : Option Place) (lines : List (List ℕ)) → other end lines ≡ from end lines) → Takes from number was now waiting left a b result → Takes other number was now waiting left a b result
-takes_same from other number was now waiting left a b (Ok None) same g = record {
-  next = g.next;
-  at = g.at;
-  text = g.text;
-  goes = λ end lines. same end lines ∙ g.goes end lines;
-  quiet = g.quiet;
-  passed = g.passed;
-}
-takes_same from other number was now waiting left a b (Ok (Some status)) same (inl e) =
-    inl (record { telling = e.telling; stops = λ end lines. same end lines ∙ e.stops end lines; status_is = e.status_is; last = e.last; passed = e.passed })
-takes_same from other number was now waiting left a b (Ok (Some status)) same (inr w) = inr w
-takes_same from other number was now waiting left a b (Err failed) same f = record {
-  text = f.text;
-  front = λ end lines. let (rest, cut) = f.front end lines in (rest, ap (λ (t : Told). t.text) (same end lines) ∙ cut);
-  failed = f.failed;
-}
+-- as much is told, and as much may have been written
+leads_then : (a b : Told) (came own later all : Bool) (so_far text : List ℕ) → a ≡ behind text b → all ≡ (own || later)
+    → record { tells = a; early = early (came || all) so_far a.text } ≡ leads_behind text (record { tells = b; early = early ((came || own) || later) (so_far ++ text) b.text })
+leads_then a b came own later all so_far text tells is =
+    (λ i. leads_of (tells i) (came || all) so_far) ∙ ap (λ (e : List ℕ). record { tells = behind text b; early = e }) (early_then came own later all so_far text b.text is)
 
 -- ---- the dump's end
 
--- what a shown dump and the lines behind it lead to
-abbrev pub from_dump : Situation → Dump → ℕ → Leading
+-- what a shown dump and the lines behind it tell
+abbrev pub from_dump : Situation → Dump → ℕ → Option Place → List (List ℕ) → Told
 from_dump now dump number end lines = told_dump now dump (body_lines end number lines) (first_refusal dump.files)
 
 pub dump_refused : (now : Situation) (dump : Dump) (number : ℕ) (refusal : ℕ × Fault) → first_refusal dump.files ≡ Some refusal → (end : Option Place) (lines : List (List ℕ))
     → from_dump now dump number end lines ≡ told (dump_refused_line dump.version refusal.0 refusal.1) Refused
 dump_refused now dump number refusal is end lines = ap (told_dump now dump (body_lines end number lines)) is
 
-dump_accepted : (now : Situation) (dump : Dump) (number : ℕ) → first_refusal dump.files ≡ None → (end : Option Place) (lines : List (List ℕ))
+pub dump_accepted : (now : Situation) (dump : Dump) (number : ℕ) → first_refusal dump.files ≡ None → (end : Option Place) (lines : List (List ℕ))
     → from_dump now dump number end lines ≡ behind accepted_line (body_lines end number lines (first_state now dump))
 dump_accepted now dump number is end lines = ap (told_dump now dump (body_lines end number lines)) is
 
-pub dump_goes : (now : Situation) (dump : Dump) (number : ℕ) (before : List Reading) (r : ReplayState) (waiting text left : List ℕ) (a b : Option (List ℕ)) → first_refusal dump.files ≡ None → r ≡ first_state now dump → text ≡ accepted_line
-    → Passes waiting text left a b → GoesOn (from_dump now dump number) number (in_head now before) (run.Body r) waiting left a b
-dump_goes now dump number before r waiting text left a b is first line passed = record {
-  next = in_body (first_state now dump);
-  at = (first, refl);
+pub dump_goes : (now : Situation) (dump : Dump) (number : ℕ) (r : ReplayState) (waiting text left : List ℕ) (a b : Option (List ℕ)) → first_refusal dump.files ≡ None → r ≡ first_state now dump → text ≡ accepted_line
+    → Passes waiting text left a b → GoesOn replay_running (leading_dump now dump number) number [] (run.Body r) waiting left a b
+dump_goes now dump number r waiting text left a b is first line passed = record {
+  next = path_from false accepted_line (in_body (first_state now dump));
+  at = (in_body (first_state now dump), false, (first, refl), (λ takes. refl), refl);
   text = accepted_line;
-  goes = dump_accepted now dump number is;
-  quiet = λ so_far none takes. ap (λ l. l ++ accepted_line) none;
+  goes = λ end lines.
+      leads_then (from_dump now dump number end lines) (body_lines end number lines (first_state now dump)) false false (newcomers_in number lines (first_state now dump)) (newcomers_of_dump now dump (newcomers_in number lines) (first_refusal dump.files)) [] accepted_line
+      (dump_accepted now dump number is end lines) (ap (newcomers_of_dump now dump (newcomers_in number lines)) is);
   passed = subst (λ l. Passes waiting l left a b) line passed;
 }
 
 pub dump_fails : (now : Situation) (dump : Dump) (number : ℕ) (waiting text : List ℕ) (a b : Option (List ℕ)) → first_refusal dump.files ≡ None → text ≡ accepted_line → AppendsFront a b (waiting ++ text)
-    → Fails (from_dump now dump number) waiting a b
+    → Fails (leading_dump now dump number) waiting a b
 dump_fails now dump number waiting text a b is line failed = record {
   text = accepted_line;
   front = λ end lines. ((body_lines end number lines (first_state now dump)).text, ap (λ (t : Told). t.text) (dump_accepted now dump number is end lines));
@@ -119,28 +99,52 @@ Does s new c waiting left a b result =
     (λ ended. MatchOption ended (Passes waiting (command_text s c) left a b × (new ≡ state_after s c)) (λ status. (status ≡ NoMemory) × (left ≡ waiting) × (b ≡ a)))
     (λ failed. AppendsFront a b (waiting ++ command_text s c))
 
-module _ (s new : ReplayState) (c : Command) (number : ℕ) (line : List ℕ) (is : IsReplayState s) (fits : Fits s.now c) (asked : command_of s.now number line ≡ Ok c) where
-  leads : (end : Option Place) (lines : List (List ℕ)) → from_line number line (in_body s) end lines ≡ behind (command_text s c) (body_lines end (number + 1) lines (state_after s c))
-  leads end lines = from_body s number line end lines ∙ ap (told_command s (body_lines end (number + 1) lines)) asked
+pub leads : (s : ReplayState) (c : Command) (number : ℕ) (line : List ℕ) → command_of s.now number line ≡ Ok c → (end : Option Place) (lines : List (List ℕ))
+    → from_line number line (in_body s) end lines ≡ behind (command_text s c) (body_lines end (number + 1) lines (state_after s c))
+leads s c number line asked end lines = from_body s number line end lines ∙ ap (told_command s (body_lines end (number + 1) lines)) asked
 
-  pub command_takes : (waiting left : List ℕ) (a b : Option (List ℕ)) (result : Result (Option Status) Failed) → Does s new c waiting left a b result → ((status : Status) → result ≡ Ok (Some status) → IsWindow c)
-      → Takes (from_line number line (in_body s)) (number + 1) (in_body s) (run.Body new) waiting left a b result
-  command_takes waiting left a b (Ok None) does window = record {
-    next = in_body (state_after s c);
-    at = (does.1, (state_kept s c is fits).past);
+module _ (s new : ReplayState) (c : Command) (number : ℕ) (line : List ℕ) (is : IsReplayState s) (fits : Fits s.now c) (asked : command_of s.now number line ≡ Ok c) where
+  pub command_takes : (waiting left : List ℕ) (a b : Option (List ℕ)) (result : Result (Option Status) Failed) → Does s new c waiting left a b result → ((status : Status) → result ≡ Ok (Some status) → AsksForMemory c)
+      → (came : Bool) (so_far : List ℕ) → IsQuiet (run.Body s) came so_far → Takes replay_running (leading came so_far number line (in_body s)) (number + 1) so_far (run.Body new) waiting left a b result
+  command_takes waiting left a b (Ok None) does asks came so_far quiet = record {
+    next = path_from (came || is_newcomer c) (so_far ++ command_text s c) (in_body (state_after s c));
+    at = (
+      in_body (state_after s c),
+      (came || is_newcomer c),
+      (does.1, (state_kept s c is fits).past),
+      subst (λ (r : ReplayState). IsQuiet (run.Body r) (came || is_newcomer c) (so_far ++ command_text s c)) (sym does.1) later,
+      refl,
+    );
     text = command_text s c;
-    goes = leads;
-    quiet = λ so_far quiet takes.
-        let was = quiet_command s c fits takes in
-        ap (λ l. so_far ++ l) was.1 ∙ append-nil so_far ∙ quiet was.0;
+    goes = λ end lines.
+        leads_then (from_line number line (in_body s) end lines) (body_lines end (number + 1) lines (state_after s c)) came (is_newcomer c) (newcomers_in (number + 1) lines (state_after s c)) (newcomers_from number (line ∷ lines) (in_body s)) so_far (command_text s c)
+        (leads s c number line asked end lines) (body_brings s number line lines (Ok c) asked);
     passed = does.0;
   }
-  command_takes waiting left a b (Ok (Some status)) does window =
-      let w = window status refl in
-      inr (record { refused = does.0; early = (subst (Fits s.now) w.2 fits).0; waits = does.1; kept = does.2 })
-  command_takes waiting left a b (Err failed) does window = record {
+    where
+      later : IsQuiet (run.Body (state_after s c)) (came || is_newcomer c) (so_far ++ command_text s c)
+      later takes = let was = quiet_command s c fits takes in ap (λ l. so_far ++ l) was.1 ∙ append-nil so_far ∙ quiet was.0
+  command_takes waiting left a b (Ok (Some status)) does asks came so_far quiet =
+      inr (record {
+        refused = does.0;
+        early = λ end lines. early_front (came || newcomers_from number (line ∷ lines) (in_body s)) so_far (from_line number line (in_body s) end lines).text (asked_early lines (asks status refl));
+        waits = does.1;
+        kept = does.2;
+      })
+    where
+      comes : (lines : List (List ℕ)) → is_newcomer c ≡ true → (came || newcomers_from number (line ∷ lines) (in_body s)) ≡ true
+      comes lines on = ap (λ b. came || b) (body_brings s number line lines (Ok c) asked ∙ ap (λ b. b || newcomers_in (number + 1) lines (state_after s c)) on) ∙ or_true came
+
+      none : (lines : List (List ℕ)) → is_newcomer c ≡ true → (came || newcomers_from number (line ∷ lines) (in_body s)) ≡ false → so_far ≡ accepted_line
+      none lines on off = absurd (let e : true ≡ false = sym (comes lines on) ∙ off in cc e)
+
+      asked_early : (lines : List (List ℕ)) → AsksForMemory c → (came || newcomers_from number (line ∷ lines) (in_body s)) ≡ false → so_far ≡ accepted_line
+      asked_early lines (inl w) off = quiet (subst (Fits s.now) w.2 fits).0
+      asked_early lines (inr (inl up)) off = none lines (ap is_newcomer up) off
+      asked_early lines (inr (inr join)) off = none lines (ap is_newcomer join) off
+  command_takes waiting left a b (Err failed) does asks came so_far quiet = record {
     text = command_text s c;
-    front = λ end lines. ((body_lines end (number + 1) lines (state_after s c)).text, ap (λ (t : Told). t.text) (leads end lines));
+    front = λ end lines. ((body_lines end (number + 1) lines (state_after s c)).text, ap (λ (t : Told). t.text) (leads s c number line asked end lines));
     failed = does;
   }
 
@@ -157,16 +161,23 @@ fault_leads s number line fault asked end lines = from_body s number line end li
 -- ---- the head
 
 -- the head goes on
-pub head_takes : (now next : Situation) (before after : List Reading) (number : ℕ) (line waiting : List ℕ) (later : Run) (a : Option (List ℕ)) → head_step now before number line ≡ goes_on next after → IsAt later (in_head next after)
-    → GoesOn (from_line number line (in_head now before)) (number + 1) (in_head now before) later waiting waiting a a
-head_takes now next before after number line waiting later a is at = record {
-  next = in_head next after;
-  at = at;
+pub head_takes : (now next : Situation) (before after : List Reading) (number : ℕ) (line : List ℕ) (came : Bool) (so_far waiting : List ℕ) (h : HeadReader) (a : Option (List ℕ)) → head_step now before number line ≡ goes_on next after
+    → IsAt (run.Head h) (in_head next after) → (so_far ≡ []) × (came ≡ false) → GoesOn replay_running (leading came so_far number line (in_head now before)) (number + 1) so_far (run.Head h) waiting waiting a a
+head_takes now next before after number line came so_far waiting h a is at none = record {
+  next = path_from (came || false) (so_far ++ []) (in_head next after);
+  at = (in_head next after, (came || false), at, (append-nil so_far ∙ none.0, ap (λ b. b || false) none.1), refl);
   text = [];
-  goes = λ end lines. head_leads now before number line (goes_on next after) is end lines;
-  quiet = λ so_far none. append-nil so_far ∙ none;
+  goes = λ end lines.
+      leads_then (from_line number line (in_head now before) end lines) (head_lines end (number + 1) lines next after) came false (newcomers_from (number + 1) lines (in_head next after)) (newcomers_from number (line ∷ lines) (in_head now before)) so_far []
+      (head_leads now before number line (goes_on next after) is end lines) (head_brings now before number line lines (goes_on next after) is);
   passed = passes_nothing waiting a;
 }
+
+-- a dump that is shown
+pub dump_leads : (now : Situation) (dump : Dump) (before : List Reading) (number : ℕ) (line : List ℕ) (came : Bool) (so_far : List ℕ) → head_step now before number line ≡ shows dump → (so_far ≡ []) × (came ≡ false)
+    → (end : Option Place) (lines : List (List ℕ)) → leading came so_far number line (in_head now before) end lines ≡ leading_dump now dump (number + 1) end lines
+dump_leads now dump before number line came so_far is none end lines =
+    λ i. leads_of (head_leads now before number line (shows dump) is end lines i) (none.1 i || head_brings now before number line lines (shows dump) is i) (none.0 i)
 
 -- a run in the head stands at what its reader has read
 pub in_the_head : (r : Run) (h : HeadReader) (was : Point) → r ≡ run.Head h → IsAt r was → (before : List Reading) × HasRead h.dump before × (was ≡ in_head h.setup before)

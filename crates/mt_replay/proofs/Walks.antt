@@ -1,8 +1,8 @@
 -- What a line and those behind it lead to, from a point of a run.
-use Rattle.std.proofs.Common.{◌≡◌, ◌∙◌, ap, sym, refl, arith, ℕ, ◌+◌, ◌<◌, nat_lt, true, List, [], length, Option, None, Some}
+use Rattle.std.proofs.Common.{◌≡◌, ◌∙◌, ap, refl, arith, ℕ, ◌+◌, ◌<◌, nat_lt, true, List, [], length, Option, None, Some, Bool, ◌∷◌, false}
 use Rattle.std.proofs.lemmas.Bool.Decides.{nat_tests}
 use Rattle.mt_text.specs.declared.place.Place.{Place}
-use Rattle.mt_ports.specs.declared.status.Status.TheVariants.{BadText, Done}
+use Rattle.mt_ports.specs.declared.status.Status.TheVariants.{Done}
 use Rattle.mt_regs.specs.Agreement.{first_refusal}
 use Rattle.mt_dump.specs.Line.{Reading, fault_at as dump_fault_at}
 use Rattle.mt_dump.specs.declared.fault.DumpReason.TheVariants as dump_reason
@@ -17,10 +17,13 @@ use Rattle.mt_script.specs.declared.fault.ScriptReason.TheVariants.{BadLine}
 use Rattle.mt_script.specs.declared.fault.Offence.{Offence}
 use Rattle.mt_script.specs.declared.fault.Offence.TheVariants.{Script, Dump}
 use Rattle.mt_replay.specs.Heads.{end_after, head_end}
-use Rattle.mt_replay.specs.Known.{known_in}
 use Rattle.mt_replay.specs.ReplayState.{ReplayState}
-use Rattle.mt_replay.specs.Running.{Point, body_lines, from_line, head_lines, in_body, in_head, told_lines}
-use Rattle.mt_replay.specs.Transcript.{Head, Told, behind, told, told_at_end, told_by, told_command, told_dump, told_in, told_offence}
+use Rattle.mt_replay.specs.Running.{from_line}
+use Rattle.mt_replay.specs.Transcript.{Head, Point, body_lines, from_point, head_lines, in_body, in_head, known_in, told_at_end, told_by, told_command, told_dump, told_in, told_lines, told_offence}
+use Rattle.mt_stream.specs.Laws.{IsLongTold}
+use Rattle.mt_replay.specs.Newcomers.{newcomer_by, newcomers_from, newcomers_in}
+use Rattle.mt_replay.proofs.Newcomers.{head_brings}
+use Rattle.mt_stream.specs.Told.{Told, told}
 
 -- ---- the head
 
@@ -110,14 +113,33 @@ long_stops number line (in_head now before) sound long end lines =
 long_stops number line (in_body s) sound long end lines =
     from_body s number line end lines ∙ long_body s number line (body_lines end (number + 1) lines) sound (grind (arith, nat_tests, long))
 
--- so the run doesn't go on behind it
-pub long_never_goes : (number : ℕ) (line text : List ℕ) (point next : Point) → IsSound point → 4096 < length line
-    → ((end : Option Place) (lines : List (List ℕ)) → from_line number line point end lines ≡ behind text (told_lines end (number + 1) lines next)) → ⊥
-long_never_goes number line text point next sound long goes = by next goes
-  where
-    says : from_line number line point None [] ≡ told_offence (long_offence number point)
-    says = long_stops number line point sound long None []
+pub long_told : (point : Point) (number : ℕ) → IsSound point → IsLongTold (from_point point) number
+long_told point number sound = record {
+  telling = told_offence (long_offence number point);
+  bad = refl;
+  is = λ line end lines long. long_stops number line point sound long end lines;
+}
 
-    by : (next : Point) → ((end : Option Place) (lines : List (List ℕ)) → from_line number line point end lines ≡ behind text (told_lines end (number + 1) lines next)) → ⊥
-    by (in_head now before) goes = let e : BadText ≡ Done = ap (λ (t : Told). t.status) (sym says ∙ goes None []) in cc e
-    by (in_body s) goes = let e : BadText ≡ Done = ap (λ (t : Told). t.status) (sym says ∙ goes None []) in cc e
+long_refused : (s : ReplayState) (number : ℕ) (line : List ℕ) (rest : ReplayState → Bool) → is_past_dump s.now.stage ≡ true → nat_lt 4096 (length line) ≡ true
+    → newcomer_by s rest (command_of s.now number line) ≡ false
+long_refused s number line rest past long = by s.now.stage past
+  where
+    by : (stage : Stage) → is_past_dump stage ≡ true → newcomer_by s rest (in_stage s.now number line stage) ≡ false
+    by InDump is = absurd (cc is)
+    by NeedCpus is = rw long refl
+    by NeedDump is = rw long refl
+    by Rams is = rw long refl
+    by Commands is = rw long refl
+    by InUpdate is = rw long refl
+    by InBegin is = rw long refl
+
+-- and brings no processor up
+pub long_brings : (number : ℕ) (line : List ℕ) (point : Point) → IsSound point → 4096 < length line → (lines : List (List ℕ)) → newcomers_from number (line ∷ lines) point ≡ false
+long_brings number line (in_head now before) sound long lines =
+    head_brings now before number line lines (offends (long_in now.stage number)) (long_head now before number line (grind (arith, nat_tests, long)))
+long_brings number line (in_body s) sound long lines = long_refused s number line (newcomers_in (number + 1) lines) sound (grind (arith, nat_tests, long))
+
+-- where no line is left of a front
+pub none_known : (number : ℕ) (point : Point) → told_lines None number [] point ≡ told [] Done
+none_known number (in_head now before) = refl
+none_known number (in_body s) = refl

@@ -12,8 +12,9 @@ use Rattle.mt_machine.specs.declared.control.Control.{Control}
 use Rattle.mt_machine.specs.declared.control.Control.TheVariants as control_of
 use Rattle.mt_machine.specs.Access.{access}
 use Rattle.mt_machine.specs.Machine.{Accesses, Controls, Machine, Steps, due_at}
+use Rattle.mt_machine.specs.ComingAndGoing.{last_number, with_newcomer}
 use Rattle.mt_machine.specs.Update.{physical_of}
-use Rattle.mt_flat.specs.Flat.{Flat, flat_answer, flat_start}
+use Rattle.mt_flat.specs.Flat.{Flat, empty_all, flat_answer, flat_start}
 use Rattle.mt_flat.specs.Seen.{flat_after, flat_takes}
 use Rattle.mt_script.specs.Situation.{at_start}
 use Rattle.mt_script.specs.Commands.{command_of, end_fault}
@@ -21,9 +22,10 @@ use Rattle.mt_script.specs.declared.command.Command.{Command}
 use Rattle.mt_script.specs.declared.command.Command.TheVariants as command
 use Rattle.mt_script.specs.declared.fault.ScriptFault.{ScriptFault}
 use Rattle.mt_script.specs.declared.fault.Offence.TheVariants as offence
-use Rattle.mt_replay.specs.Texts.{done_line}
-use Rattle.mt_replay.specs.ReplayState.{ReplayState, call_fault, command_text, each_processor, is_update, mapping, state_after}
-use Rattle.mt_replay.specs.Transcript.{Told, behind, told_at_end, told_from, told_offence, transcript}
+use Rattle.mt_replay.specs.Texts.{absent_line, done_line}
+use Rattle.mt_replay.specs.ReplayState.{ReplayState, call_fault, each_processor, is_absent, is_update, mapping, may_come, may_go, present_text, state_after}
+use Rattle.mt_replay.specs.Transcript.{told_at_end, told_from, told_offence, transcript}
+use Rattle.mt_stream.specs.Told.{Told, behind}
 
 -- ---- what the flat machine is given
 
@@ -40,18 +42,31 @@ flat_stepped m k f = option_map_or (λ e. flat_after m (Steps k e) f) (due_at m 
 abbrev pub flat_updated : Machine → RegisterFile → Flat → Flat
 flat_updated m goal f = option_map_or (λ fault. f) (call_fault m goal) (flat_takes (each_processor m.system) f)
 
+-- a newcomer has written nothing; the update that admits it takes from all
+abbrev pub flat_joined : Machine → Flat → Flat
+flat_joined m f = if may_come m then flat_takes (each_processor (with_newcomer m).system) f else f
+
+-- the pending lines of the one that goes are emptied
+abbrev pub flat_retired : Machine → Flat → Flat
+flat_retired m f = if may_go m then empty_all (last_number m.system) f else f
+
+abbrev pub flat_present : ReplayState → Command → Flat → Flat
+flat_present s (command.Load k address) f = flat_accessed s.machine k (op.Load address) f
+flat_present s (command.Store k address value) f = flat_accessed s.machine k (op.Store address value) f
+flat_present s (command.Fence k) f = flat_accessed s.machine k op.Fence f
+flat_present s (command.Map k address physical index global) f = flat_controlled s.machine k (control_of.Map (mapping address physical index global)) f
+flat_present s (command.Invlpg k address) f = flat_controlled s.machine k (control_of.Invlpg address) f
+flat_present s (command.Cr3 k) f = flat_controlled s.machine k control_of.Cr3 f
+flat_present s (command.Pge k on) f = flat_controlled s.machine k (control_of.Pge on) f
+flat_present s (command.Cd k on) f = flat_controlled s.machine k (control_of.Cd on) f
+flat_present s (command.Step k) f = flat_stepped s.machine k f
+flat_present s command.Join f = flat_joined s.machine f
+flat_present s command.Retire f = flat_retired s.machine f
+flat_present s command.End f = if is_update s.now.stage then flat_updated s.machine s.goal f else f
+flat_present s other f = f
+
 abbrev pub flat_command : ReplayState → Command → Flat → Flat
-flat_command s (command.Load k address) f = flat_accessed s.machine k (op.Load address) f
-flat_command s (command.Store k address value) f = flat_accessed s.machine k (op.Store address value) f
-flat_command s (command.Fence k) f = flat_accessed s.machine k op.Fence f
-flat_command s (command.Map k address physical index global) f = flat_controlled s.machine k (control_of.Map (mapping address physical index global)) f
-flat_command s (command.Invlpg k address) f = flat_controlled s.machine k (control_of.Invlpg address) f
-flat_command s (command.Cr3 k) f = flat_controlled s.machine k control_of.Cr3 f
-flat_command s (command.Pge k on) f = flat_controlled s.machine k (control_of.Pge on) f
-flat_command s (command.Cd k on) f = flat_controlled s.machine k (control_of.Cd on) f
-flat_command s (command.Step k) f = flat_stepped s.machine k f
-flat_command s command.End f = if is_update s.now.stage then flat_updated s.machine s.goal f else f
-flat_command s other f = f
+flat_command s c f = if is_absent s.machine c then f else flat_present s c f
 
 -- ---- the transcript with the flat machine's values
 
@@ -60,9 +75,12 @@ abbrev pub flat_done : Machine → Flat → ℕ → ℕ → Done → Done
 flat_done m f k address (Value value kind) = Value (option_map_or (λ word. flat_answer f k kind word) (physical_of m.system k address) 0) kind
 flat_done m f k address other = other
 
+abbrev pub flat_present_text : ReplayState → Flat → Command → List ℕ
+flat_present_text s f (command.Load k address) = done_line (flat_done s.machine f k address (access s.machine.system k (op.Load address)).answer)
+flat_present_text s f other = present_text s other
+
 abbrev pub flat_text : ReplayState → Flat → Command → List ℕ
-flat_text s f (command.Load k address) = done_line (flat_done s.machine f k address (access s.machine.system k (op.Load address)).answer)
-flat_text s f other = command_text s other
+flat_text s f c = if is_absent s.machine c then absent_line else flat_present_text s f c
 
 abbrev pub flat_told_command : ReplayState → Flat → (ReplayState → Flat → Told) → Result Command ScriptFault → Told
 flat_told_command s f rest (Err fault) = told_offence (offence.Script fault)

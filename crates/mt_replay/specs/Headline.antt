@@ -4,10 +4,10 @@
 -- cached before it, save words stored again since. A refused update changes no processor."
 --     course text      the steps of a text: what each line behind the dump does, in its order, up to the first offence
 --     wrote step, left step      the text that a step writes, and the state that it leaves
---     IsCall step      the step says `called` or `complete E`
+--     IsCall step      the step says `called` or `complete E`, or that a processor came up or joined
 --     Keeps goal era value stored m      every processor has the goal, nothing is older than the update, memory has each word
---     CompleteUpdatesAreKept, ReleasedUpdatesAreKept      the machine does so from the line `complete E` or `release` on
-use Rattle.std.specs.Prelude.{ℕ, ◌≡◌, ◌⊎◌, ◌↔◌, ◌+◌, Bool, true, List, [], ◌∷◌, ◌++◌, codes, length, IsSome, ⊤, Option, Some, None, Result, Ok, Err}
+--     CompleteUpdatesAreKept, JoinsAreKept, ReleasedUpdatesAreKept      the machine does so from the line `complete E`, `joined K` or `release` on
+use Rattle.std.specs.Prelude.{ℕ, ◌≡◌, ◌<◌, ◌⊎◌, ◌↔◌, ◌+◌, Bool, true, List, [], ◌∷◌, ◌++◌, codes, length, IsSome, ⊤, Option, Some, None, Result, Ok, Err}
 use Rattle.std.specs.List.{All, Contains}
 use Rattle.std.specs.Option.{option_map_or}
 use Rattle.mt_text.specs.Text.{lines_of}
@@ -22,6 +22,7 @@ use Rattle.mt_dump.specs.Dumps.{Dump}
 use Rattle.mt_machine.specs.Memory.{place, word_at}
 use Rattle.mt_machine.specs.System.{now}
 use Rattle.mt_machine.specs.Machine.{Machine, common_era}
+use Rattle.mt_machine.specs.ComingAndGoing.{with_newcomer}
 use Rattle.mt_machine.specs.Update.{IsSettled, emptied}
 use Rattle.mt_script.specs.Situation.{Situation}
 use Rattle.mt_script.specs.Commands.{command_of}
@@ -33,11 +34,13 @@ use Rattle.mt_script.specs.declared.fault.Offence.{Offence}
 use Rattle.mt_output.specs.Lines.{accepted_line, dump_refused_line, line, refused_line}
 use Rattle.mt_replay.specs.Heads.{HeadEnd, head_end, head_of, has_offence, shows_dump, stays_open}
 use Rattle.mt_replay.specs.Kept.{HoldsThrough, start_of}
+use Rattle.mt_replay.specs.Parts.{IsComing}
 use Rattle.mt_replay.specs.ReplayState.{ReplayState, command_text, each_processor, first_file, first_state, state_after, with_register}
 use Rattle.mt_replay.specs.Running.{Replays, ReplaysAs}
 use Rattle.mt_replay.specs.Statuses.{ShowsDump, stored_by}
-use Rattle.mt_replay.specs.Texts.{called_line, complete_line}
-use Rattle.mt_replay.specs.Transcript.{Told, behind, told, told_offence, transcript}
+use Rattle.mt_replay.specs.Texts.{called_line, complete_line, joined_line, under_way_line, up_line}
+use Rattle.mt_replay.specs.Transcript.{told_offence, transcript}
+use Rattle.mt_stream.specs.Told.{Told, behind, told}
 
 -- ---- steps
 
@@ -151,15 +154,35 @@ StatesAreOfTheCourse =
 
 -- ---- "an accepted update"
 
+-- the end of a section calls for an update
+abbrev pub IsSectionCall : Step → Type 0
+IsSectionCall step = (wrote step ≡ called_line) ⊎ ((era : ℕ) × (wrote step ≡ complete_line era))
+
+-- so does a processor that comes up, and one that joins
+abbrev pub ComesUp : Step → ℕ → Type 0
+ComesUp step k = (step.command ≡ command.Up) × (wrote step ≡ up_line k)
+
+abbrev pub Joins : Step → ℕ → Type 0
+Joins step k = (step.command ≡ command.Join) × (wrote step ≡ joined_line k)
+
+abbrev pub IsNewcomer : Step → Type 0
+IsNewcomer step = (k : ℕ) × (ComesUp step k ⊎ Joins step k)
+
 -- a step calls for an update
 abbrev pub IsCall : Step → Type 0
-IsCall step = (wrote step ≡ called_line) ⊎ ((era : ℕ) × (wrote step ≡ complete_line era))
+IsCall step = IsSectionCall step ⊎ IsNewcomer step
 
 -- an update is accepted exactly where none is under way and its goal has no fault
 abbrev pub AcceptedWhereIdleAndWhole : Type 0
 AcceptedWhereIdleAndWhole =
     (text : List ℕ) (front rest : List Step) (step : Step) → course text ≡ front ++ step ∷ rest → step.command ≡ command.End
     → IsCall step ↔ ((step.before.machine.order ≡ None) × IsAccepted step.before.goal)
+
+-- that of a newcomer exactly where none is under way and fewer than sixteen processors stand; its number is the next
+abbrev pub NewcomersWhereIdle : Type 0
+NewcomersWhereIdle =
+    (text : List ℕ) (front rest : List Step) (step : Step) → course text ≡ front ++ step ∷ rest → IsComing step.command
+    → IsCall step ↔ ((step.before.machine.order ≡ None) × (length step.before.machine.system.processors < 16))
 
 -- ---- "until the next is called"
 
@@ -198,10 +221,19 @@ pub record SectionOf (front : List Step) (call : Step) : Type 0 where
   pub ends : call.command ≡ command.End
   pub goal : call.before.goal ≡ goal_of (first_file opens.before) lines
 
--- each call ends a section of this script, which gives its goal
+-- each call but for a newcomer ends a section of this script, which gives its goal
 abbrev pub GoalsAreOfTheirSections : Type 0
 GoalsAreOfTheirSections =
-    (text : List ℕ) (front rest : List Step) (call : Step) → course text ≡ front ++ call ∷ rest → IsCall call → SectionOf front call
+    (text : List ℕ) (front rest : List Step) (call : Step) → course text ≡ front ++ call ∷ rest → IsSectionCall call → SectionOf front call
+
+-- for a newcomer the goal is processor 0's registers
+abbrev pub goal_by : Command → ReplayState → RegisterFile
+goal_by command.Up s = first_file s
+goal_by command.Join s = first_file s
+goal_by other s = s.goal
+
+abbrev pub called_goal : Step → RegisterFile
+called_goal step = goal_by step.command step.before
 
 -- ---- "every processor holds those register values, no cache, buffer or TLB entry is older than the update,
 -- ---- and memory holds every store cached before it, save words stored again since"
@@ -231,6 +263,21 @@ CompleteUpdatesAreKept =
     → (wrote update ≡ complete_line (next_era update))
     × Keeps update.before.goal (next_era update) (now (emptied update.before.machine.system (each_processor update.before.machine.system))) (stored_in since) (last_of (left update) since).machine
 
+-- ---- the same, by `joined K`
+
+-- the newcomer's number is the next, and it stands behind the others
+pub record HasNewcomer (step : Step) : Type 0 where
+  pub number : wrote step ≡ joined_line (length step.before.machine.system.processors)
+  pub one_more : length (left step).machine.system.processors ≡ length step.before.machine.system.processors + 1
+
+-- all processors hold the registers that the first one had, the newcomer among them
+abbrev pub JoinsAreKept : Type 0
+JoinsAreKept =
+    (text : List ℕ) (front since rest : List Step) (join : Step) (k : ℕ)
+    → course text ≡ front ++ join ∷ (since ++ rest) → Joins join k → NoneOf IsCall since
+    → HasNewcomer join
+    × Keeps (first_file join.before) (next_era join) (now (emptied (with_newcomer join.before.machine).system (each_processor (with_newcomer join.before.machine).system))) (stored_in since) (last_of (left join) since).machine
+
 -- ---- the same, one after the other by `release`
 
 abbrev pub pass_line : List ℕ
@@ -238,6 +285,10 @@ pass_line = line (codes "pass")
 
 abbrev pub release_line : List ℕ
 release_line = line (codes "release")
+
+-- by the end of a section of `begin`, or for a processor that comes up
+abbrev pub IsCalled : Step → Type 0
+IsCalled step = (wrote step ≡ called_line) ⊎ ((k : ℕ) × ComesUp step k)
 
 -- The update of which a release tells. In this order stand in the course: its call, its first pass, its first release, and this
 -- release, which may be the first itself.
@@ -250,7 +301,7 @@ pub record UpdateOf (front : List Step) (release : Step) : Type 0 where
   pub first : Step
   pub again : List Step  -- from behind the first release to this one
   pub stand : front ++ release ∷ [] ≡ before ++ call ∷ (waiting ++ pass ∷ (between ++ first ∷ again))
-  pub calls : wrote call ≡ called_line
+  pub calls : IsCalled call
   pub passes : wrote pass ≡ pass_line
   pub releases : wrote first ≡ release_line
   pub no_other_call : NoneOf IsCall (waiting ++ pass ∷ (between ++ first ∷ again))
@@ -264,14 +315,14 @@ ReleasedUpdatesAreKept =
     (text : List ℕ) (front since rest : List Step) (release : Step)
     → course text ≡ front ++ release ∷ (since ++ rest) → wrote release ≡ release_line → NoneOf IsCall since
     → (u : UpdateOf front release)
-    × Keeps u.call.before.goal (next_era u.call) (now u.pass.before.machine.system) (stored_in (u.again ++ since)) (last_of (left release) since).machine
+    × Keeps (called_goal u.call) (next_era u.call) (now u.pass.before.machine.system) (stored_in (u.again ++ since)) (last_of (left release) since).machine
 
 -- ---- "a refused update changes no processor"
 
 abbrev pub IsRefused : Step → Type 0
-IsRefused step = ((fault : Fault) × (wrote step ≡ refused_line fault)) ⊎ (wrote step ≡ line (codes "under way"))
+IsRefused step = ((fault : Fault) × (wrote step ≡ refused_line fault)) ⊎ (wrote step ≡ under_way_line)
 
--- nor memory, nor an update under way
+-- nor memory, nor an update under way; nor does a processor come or go
 abbrev pub RefusedUpdatesChangeNothing : Type 0
 RefusedUpdatesChangeNothing =
     (text : List ℕ) (front rest : List Step) (step : Step) → course text ≡ front ++ step ∷ rest → IsRefused step → (left step).machine ≡ step.before.machine

@@ -1,6 +1,7 @@
 -- What holds of each state that a script comes to (own).
-use Rattle.std.specs.Prelude.{ℕ, ◌≡◌, ◌+◌, ◌≤◌, true, List, [], ◌∷◌, length, map, Option, None, Some, Result, Ok, Err, ⊤}
+use Rattle.std.specs.Prelude.{ℕ, ◌≡◌, ◌+◌, ◌≤◌, true, false, List, [], ◌∷◌, length, map, Option, None, Some, Result, Ok, Err, ⊤}
 use Rattle.mt_laws.specs.Kept.{flags_of}
+use Rattle.mt_laws.specs.Settled.{IsFresh}
 use Rattle.std.specs.List.{All}
 use Rattle.mt_regs.specs.declared.fault.Fault.{Fault}
 use Rattle.mt_regs.specs.Agreement.{first_refusal}
@@ -35,20 +36,33 @@ start_of now dump = start_machine (files_for now.cpus dump) (windows_of now)
 abbrev pub start_like : ReplayState → Dump → Machine
 start_like s dump = start_with (flags_of s.machine.system) (files_for s.now.cpus dump) (windows_of s.now)
 
--- The machine is reached by events from its start, the processors with the dump's files over zero words, which is quiet: so each
--- law on what is reached from a start holds of it. Before the first command nothing has happened to it. Each processor has the
--- width and the capability value of the dump's first file.
+-- The machine is reached by events from one at rest, that arose: no update was under way, and nothing that was held was older than its
+-- processor.
+pub record CameFromRest (m : Machine) : Type 0 where
+  pub rest : Machine
+  pub quiet : IsQuiet rest
+  pub arises : Arises rest
+  pub no_older : All IsFresh rest.system.processors
+  pub reached : Reached rest m
+
+-- The machine arises, so that each law on what arises holds of it; and it was at rest when the last processor came or went. While none
+-- has, it is reached by events from its start, the processors with the dump's files over zero words, which is quiet: so each law on
+-- what is reached from a start holds of it too. Before the first command nothing has happened to it. Each processor has the width and
+-- the capability value of the dump's first file.
 pub record IsReplayState (s : ReplayState) : Type 0 where
   pub situation : IsSituation s.now
   pub past : is_past_dump s.now.stage ≡ true
   pub arises : Arises s.machine
-  pub count : length s.machine.system.processors ≡ s.now.cpus
+  pub came : CameFromRest s.machine
+  pub some : 1 ≤ length s.machine.system.processors
+  pub few : length s.machine.system.processors ≤ 16
+  pub count : s.now.moving ≡ false → length s.machine.system.processors ≡ s.now.cpus
   pub kind : (d : Dump) → s.now.dump ≡ Some d → All (FitsGoal (first_file d)) s.machine.system.processors
   pub goal_file : IsRegisterFile s.goal
   pub goal : All (FitsGoal s.goal) s.machine.system.processors
   pub windows : s.machine.system.memory.windows ≡ windows_of s.now
-  pub quiet : (d : Dump) → s.now.dump ≡ Some d → IsQuiet (start_like s d)
-  pub reached : (d : Dump) → s.now.dump ≡ Some d → Reached (start_like s d) s.machine
+  pub quiet : s.now.moving ≡ false → (d : Dump) → s.now.dump ≡ Some d → IsQuiet (start_like s d)
+  pub reached : s.now.moving ≡ false → (d : Dump) → s.now.dump ≡ Some d → Reached (start_like s d) s.machine
   pub fresh : (d : Dump) → s.now.dump ≡ Some d → takes_windows s.now.stage ≡ true → AreStartFiles (files_for s.now.cpus d) × (s.machine ≡ start_like s d)
 
 -- no processor has finished more updates than this

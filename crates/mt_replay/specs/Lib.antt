@@ -3,7 +3,8 @@ pub mod Headline
 pub mod Heads
 pub mod Flat
 pub mod Kept
-pub mod Known
+pub mod Movers
+pub mod Newcomers
 pub mod Parts
 pub mod Running
 pub mod ReplayState
@@ -12,6 +13,7 @@ pub mod Summary
 pub mod Summing
 pub mod Texts
 pub mod Transcript
+pub mod WorkedJoins
 pub mod WorkedScript
 pub mod WorkedStates
 pub mod WorkedSteps

@@ -1,7 +1,7 @@
 -- A script between two lines after its dump: what stands set up, the machine, and what a command writes and leaves (own).
 --     command_text state command      what the command writes
 --     state_after state command      what it leaves
-use Rattle.std.specs.Prelude.{ℕ, ◌/◌, Bool, true, false, List, [], length, if◌then◌else◌, slice_get, Option, None, Some, is_some}
+use Rattle.std.specs.Prelude.{ℕ, ◌/◌, ◌&&◌, nat_lt, not, Bool, true, false, List, [], length, if◌then◌else◌, slice_get, Option, None, Some, is_some}
 use Rattle.std.specs.Option.{option_map, option_map_or}
 use Rattle.mt_regs.specs.RegisterFile.{RegisterFile}
 use Rattle.mt_regs.specs.Registers.{value_at, written}
@@ -18,8 +18,10 @@ use Rattle.mt_machine.specs.Access.{access}
 use Rattle.mt_machine.specs.Control.{control}
 use Rattle.mt_machine.specs.Machine.{Accesses, Calls, Cancels, Controls, Goes, Machine, MachineEvent, common_era, go_of, next}
 use Rattle.mt_machine.specs.Start.{start_machine}
+use Rattle.mt_machine.specs.ComingAndGoing.{last_number, without_last}
 use Rattle.mt_machine.specs.Update.{updated}
 use Rattle.mt_ram.specs.Windows.{window}
+use Rattle.mt_admit.specs.Admission.{admitted, brought_up}
 use Rattle.mt_core.specs.Arises.{grown, snooped}
 use Rattle.mt_core.specs.Rounds.{ascending}
 use Rattle.mt_core.specs.Steps.{step_after, step_answer}
@@ -34,7 +36,7 @@ use Rattle.mt_script.specs.declared.command.Stage.TheVariants.{InUpdate}
 use Rattle.mt_script.specs.declared.command.Command.{Command}
 use Rattle.mt_script.specs.declared.command.Command.TheVariants as command
 use Rattle.mt_replay.specs.FirstFault.{first_fault}
-use Rattle.mt_replay.specs.Texts.{call_fault_line, called_line, cancel_line, complete_line, done_line, go_line, memory_line, register_line, report_text, ruled_line, stepped_line}
+use Rattle.mt_replay.specs.Texts.{absent_line, call_fault_line, called_line, cancel_line, complete_line, done_line, full_line, go_line, joined_line, memory_line, no_line, register_line, report_text, retired_line, ruled_line, stepped_line, under_way_line, up_line}
 
 pub record ReplayState : Type 0 where
   pub now : Situation
@@ -115,59 +117,122 @@ memory_word m address = if is_some (place m address) then Some (word_at m addres
 abbrev pub register_value : ReplayState → ℕ → ℕ → ℕ
 register_value s k number = option_map_or (λ value. value) (value_at (file_at s.machine.system.processors k s.goal) number) 0
 
+-- ---- processors that come up and go
+
+-- none comes or goes while an update is under way
+abbrev pub may_come : Machine → Bool
+may_come m = not (is_some m.order) && nat_lt (length m.system.processors) 16
+
+abbrev pub may_go : Machine → Bool
+may_go m = not (is_some m.order) && nat_lt 1 (length m.system.processors)
+
+-- why none does: an update under way comes before another cause
+abbrev pub stays_line : Machine → List ℕ → List ℕ
+stays_line m cause = if is_some m.order then under_way_line else cause
+
+abbrev pub up_text : Machine → List ℕ
+up_text m = if may_come m then up_line (length m.system.processors) else stays_line m full_line
+
+abbrev pub join_text : Machine → List ℕ
+join_text m = if may_come m then joined_line (length m.system.processors) else stays_line m full_line
+
+abbrev pub retire_text : Machine → List ℕ
+retire_text m = if may_go m then retired_line (last_number m.system) else stays_line m no_line
+
+abbrev pub after_up : Machine → Machine
+after_up m = if may_come m then brought_up m else m
+
+abbrev pub after_join : Machine → Machine
+after_join m = if may_come m then admitted m else m
+
+abbrev pub after_retire : Machine → Machine
+after_retire m = if may_go m then without_last m else m
+
+-- ---- commands on processors that are there
+
+abbrev pub present_text : ReplayState → Command → List ℕ
+present_text s (command.Cpus n) = []
+present_text s command.Dump = []
+present_text s (command.Ram base lines) = []
+present_text s (command.Selfsnoop k) = []
+present_text s (command.Load k address) = accessed_line s.machine k (op.Load address)
+present_text s (command.Store k address value) = accessed_line s.machine k (op.Store address value)
+present_text s (command.Fence k) = accessed_line s.machine k op.Fence
+present_text s (command.Map k address physical index global) = controlled_line s.machine k (control_of.Map (mapping address physical index global))
+present_text s (command.Invlpg k address) = controlled_line s.machine k (control_of.Invlpg address)
+present_text s (command.Cr3 k) = controlled_line s.machine k control_of.Cr3
+present_text s (command.Pge k on) = controlled_line s.machine k (control_of.Pge on)
+present_text s (command.Cd k on) = controlled_line s.machine k (control_of.Cd on)
+present_text s command.Update = []
+present_text s command.Begin = []
+present_text s command.Go = go_line (is_undecided (go_of s.machine))
+present_text s command.Cancel = cancel_line (is_undecided (go_of s.machine))
+present_text s command.Report = report_text s.machine.system.processors
+present_text s (command.Step k) = stepped_line (file_at (step_after s.machine k).system.processors k s.goal) (step_answer s.machine k)
+present_text s command.Up = up_text s.machine
+present_text s command.Join = join_text s.machine
+present_text s command.Retire = retire_text s.machine
+present_text s (command.Word address) = memory_line (memory_word s.machine.system.memory address)
+present_text s (command.Msr k number) = register_line number (register_value s k number)
+present_text s command.Blank = []
+present_text s command.DumpLine = []
+present_text s (command.Register number value) = []
+present_text s command.End = if is_update s.now.stage then update_line s.machine s.goal else call_line s.machine s.goal
+
+abbrev pub present_after : ReplayState → Command → Machine
+present_after s (command.Cpus n) = s.machine
+present_after s command.Dump = s.machine
+present_after s (command.Ram base lines) = grown (window base lines) s.machine
+present_after s (command.Selfsnoop k) = snooped k s.machine
+present_after s (command.Load k address) = next s.machine (Accesses k (op.Load address))
+present_after s (command.Store k address value) = next s.machine (Accesses k (op.Store address value))
+present_after s (command.Fence k) = next s.machine (Accesses k op.Fence)
+present_after s (command.Map k address physical index global) = next s.machine (Controls k (control_of.Map (mapping address physical index global)))
+present_after s (command.Invlpg k address) = next s.machine (Controls k (control_of.Invlpg address))
+present_after s (command.Cr3 k) = next s.machine (Controls k control_of.Cr3)
+present_after s (command.Pge k on) = next s.machine (Controls k (control_of.Pge on))
+present_after s (command.Cd k on) = next s.machine (Controls k (control_of.Cd on))
+present_after s command.Update = s.machine
+present_after s command.Begin = s.machine
+present_after s command.Go = after_word Goes s.machine
+present_after s command.Cancel = after_word Cancels s.machine
+present_after s command.Report = s.machine
+present_after s (command.Step k) = step_after s.machine k
+present_after s command.Up = after_up s.machine
+present_after s command.Join = after_join s.machine
+present_after s command.Retire = after_retire s.machine
+present_after s (command.Word address) = s.machine
+present_after s (command.Msr k number) = s.machine
+present_after s command.Blank = s.machine
+present_after s command.DumpLine = s.machine
+present_after s (command.Register number value) = s.machine
+present_after s command.End = if is_update s.now.stage then after_update s.machine s.goal else after_call s.machine s.goal
+
 -- ---- commands
 
+-- the processor that a command names, where it asks something of one
+abbrev pub named : Command → Option ℕ
+named (command.Load k address) = Some k
+named (command.Store k address value) = Some k
+named (command.Fence k) = Some k
+named (command.Map k address physical index global) = Some k
+named (command.Invlpg k address) = Some k
+named (command.Cr3 k) = Some k
+named (command.Pge k on) = Some k
+named (command.Cd k on) = Some k
+named (command.Step k) = Some k
+named (command.Msr k number) = Some k
+named other = None
+
+-- it isn't there: it went, or hasn't come up yet
+abbrev pub is_absent : Machine → Command → Bool
+is_absent m c = option_map_or (λ k. not (nat_lt k (length m.system.processors))) (named c) false
+
 abbrev pub command_text : ReplayState → Command → List ℕ
-command_text s (command.Cpus n) = []
-command_text s command.Dump = []
-command_text s (command.Ram base lines) = []
-command_text s (command.Selfsnoop k) = []
-command_text s (command.Load k address) = accessed_line s.machine k (op.Load address)
-command_text s (command.Store k address value) = accessed_line s.machine k (op.Store address value)
-command_text s (command.Fence k) = accessed_line s.machine k op.Fence
-command_text s (command.Map k address physical index global) = controlled_line s.machine k (control_of.Map (mapping address physical index global))
-command_text s (command.Invlpg k address) = controlled_line s.machine k (control_of.Invlpg address)
-command_text s (command.Cr3 k) = controlled_line s.machine k control_of.Cr3
-command_text s (command.Pge k on) = controlled_line s.machine k (control_of.Pge on)
-command_text s (command.Cd k on) = controlled_line s.machine k (control_of.Cd on)
-command_text s command.Update = []
-command_text s command.Begin = []
-command_text s command.Go = go_line (is_undecided (go_of s.machine))
-command_text s command.Cancel = cancel_line (is_undecided (go_of s.machine))
-command_text s command.Report = report_text s.machine.system.processors
-command_text s (command.Step k) = stepped_line (file_at (step_after s.machine k).system.processors k s.goal) (step_answer s.machine k)
-command_text s (command.Word address) = memory_line (memory_word s.machine.system.memory address)
-command_text s (command.Msr k number) = register_line number (register_value s k number)
-command_text s command.Blank = []
-command_text s command.DumpLine = []
-command_text s (command.Register number value) = []
-command_text s command.End = if is_update s.now.stage then update_line s.machine s.goal else call_line s.machine s.goal
+command_text s c = if is_absent s.machine c then absent_line else present_text s c
 
 abbrev pub machine_after : ReplayState → Command → Machine
-machine_after s (command.Cpus n) = s.machine
-machine_after s command.Dump = s.machine
-machine_after s (command.Ram base lines) = grown (window base lines) s.machine
-machine_after s (command.Selfsnoop k) = snooped k s.machine
-machine_after s (command.Load k address) = next s.machine (Accesses k (op.Load address))
-machine_after s (command.Store k address value) = next s.machine (Accesses k (op.Store address value))
-machine_after s (command.Fence k) = next s.machine (Accesses k op.Fence)
-machine_after s (command.Map k address physical index global) = next s.machine (Controls k (control_of.Map (mapping address physical index global)))
-machine_after s (command.Invlpg k address) = next s.machine (Controls k (control_of.Invlpg address))
-machine_after s (command.Cr3 k) = next s.machine (Controls k control_of.Cr3)
-machine_after s (command.Pge k on) = next s.machine (Controls k (control_of.Pge on))
-machine_after s (command.Cd k on) = next s.machine (Controls k (control_of.Cd on))
-machine_after s command.Update = s.machine
-machine_after s command.Begin = s.machine
-machine_after s command.Go = after_word Goes s.machine
-machine_after s command.Cancel = after_word Cancels s.machine
-machine_after s command.Report = s.machine
-machine_after s (command.Step k) = step_after s.machine k
-machine_after s (command.Word address) = s.machine
-machine_after s (command.Msr k number) = s.machine
-machine_after s command.Blank = s.machine
-machine_after s command.DumpLine = s.machine
-machine_after s (command.Register number value) = s.machine
-machine_after s command.End = if is_update s.now.stage then after_update s.machine s.goal else after_call s.machine s.goal
+machine_after s c = if is_absent s.machine c then s.machine else present_after s c
 
 abbrev pub goal_after : ReplayState → Command → RegisterFile
 goal_after s command.Update = first_file s

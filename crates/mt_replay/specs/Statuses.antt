@@ -2,7 +2,7 @@
 --     ShowsDump text dump      the text's dump is read whole, no offence stands up to and with its end, and its lines show this
 --     the status of a text's transcript, and its first and last line
 --     what a refused update, a complete one and a release leave of the machine of a state
-use Rattle.std.specs.Prelude.{ℕ, ◌≡◌, ◌≢◌, ◌⊎◌, ◌↔◌, ◌+◌, ◌%◌, Bool, true, false, List, [], ◌∷◌, ◌++◌, codes, IsSome, ⊤, Option, Some, None, Ok}
+use Rattle.std.specs.Prelude.{ℕ, ◌≡◌, ◌≢◌, ◌⊎◌, ◌↔◌, ◌≤◌, ◌+◌, ◌%◌, length, Bool, true, false, List, [], ◌∷◌, ◌++◌, IsSome, ⊤, Option, Some, None, Ok}
 use Rattle.std.specs.List.{All, Contains}
 use Rattle.std.specs.Option.{option_map_or}
 use Rattle.mt_text.specs.Text.{lines_of}
@@ -20,8 +20,10 @@ use Rattle.mt_machine.specs.Memory.{place, word_at}
 use Rattle.mt_machine.specs.System.{now}
 use Rattle.mt_machine.specs.declared.op.Op.TheVariants as op
 use Rattle.mt_machine.specs.Machine.{Accesses, Calls, Machine, Order, Reached, common_era, has_released, next}
+use Rattle.mt_machine.specs.ComingAndGoing.{with_newcomer}
 use Rattle.mt_machine.specs.Update.{IsSettled, emptied, stored_word}
 use Rattle.mt_laws.specs.Settled.{IsFirstRelease}
+use Rattle.mt_core.specs.Arises.{Arises}
 use Rattle.mt_core.specs.Steps.{step_answer}
 use Rattle.mt_core.specs.declared.stepped.Stepped.TheVariants.{Did}
 use Rattle.mt_script.specs.Situation.{Situation, at_start}
@@ -35,9 +37,11 @@ use Rattle.mt_script.specs.declared.command.Command.TheVariants as command
 use Rattle.mt_script.specs.declared.fault.Offence.{Offence}
 use Rattle.mt_output.specs.Lines.{accepted_line, dump_refused_line, line, offence_line, refused_line}
 use Rattle.mt_replay.specs.Kept.{HoldsThrough, IsReplayState, start_like}
-use Rattle.mt_replay.specs.ReplayState.{ReplayState, call_fault, command_text, each_processor, is_update, machine_after, state_after}
-use Rattle.mt_replay.specs.Texts.{called_line, complete_line}
-use Rattle.mt_replay.specs.Transcript.{told, told_offence, transcript}
+use Rattle.mt_replay.specs.Parts.{IsComing}
+use Rattle.mt_replay.specs.ReplayState.{ReplayState, call_fault, command_text, each_processor, first_file, is_update, machine_after, may_come, named, state_after}
+use Rattle.mt_replay.specs.Texts.{absent_line, called_line, complete_line, joined_line, under_way_line}
+use Rattle.mt_replay.specs.Transcript.{told_offence, transcript}
+use Rattle.mt_stream.specs.Told.{told}
 
 -- ---- the dump of a text
 
@@ -135,12 +139,16 @@ RefusedCallsChangeNothing = (s : ReplayState) (fault : Fault) → s.machine.orde
 
 -- whatever the goal is
 abbrev pub CallsUnderWayChangeNothing : Type 0
-CallsUnderWayChangeNothing = (s : ReplayState) → IsSome s.machine.order → EndsIdle s (line (codes "under way"))
+CallsUnderWayChangeNothing = (s : ReplayState) → IsSome s.machine.order → EndsIdle s under_way_line
 
--- each of these commands fits in its turn, and none calls for an update
+-- it calls for no update: neither as the end of a section, nor for a newcomer
+abbrev pub IsWithoutCall : ReplayState → Command → Type 0
+IsWithoutCall s c = (c ≡ command.End → IsSome (call_fault s.machine s.goal)) × (IsComing c → may_come s.machine ≡ false)
+
+-- each of these commands fits in its turn, and none calls for an update; a processor may be retired
 abbrev pub AreWithoutCall : ReplayState → List Command → Type 0
 AreWithoutCall s [] = ⊤
-AreWithoutCall s (c ∷ cs) = Fits s.now c × (c ≡ command.End → IsSome (call_fault s.machine s.goal)) × AreWithoutCall (state_after s c) cs
+AreWithoutCall s (c ∷ cs) = Fits s.now c × IsWithoutCall s c × AreWithoutCall (state_after s c) cs
 
 abbrev pub state_after_all : ReplayState → List Command → ReplayState
 state_after_all s [] = s
@@ -161,6 +169,36 @@ pub record IsSettledAfter (s : ReplayState) (m : Machine) : Type 0 where
 
 abbrev pub CompleteUpdatesSettle : Type 0
 CompleteUpdatesSettle = (s : ReplayState) → IsReplayState s → is_update s.now.stage ≡ true → call_fault s.machine s.goal ≡ None → IsSettledAfter s (machine_after s command.End)
+
+-- The machine after a processor was brought up and admitted, and after commands since: all processors, the newcomer among them, have
+-- the first one's registers.
+pub record IsAdmittedAfter (s : ReplayState) (m : Machine) : Type 0 where
+  pub line_is : command_text s command.Join ≡ joined_line (length s.machine.system.processors)
+  pub one_more : length m.system.processors ≡ length s.machine.system.processors + 1
+  pub eras : All (λ p. p.era ≡ common_era s.machine.system.processors + 1) m.system.processors
+  pub settled : IsSettled m.system (common_era s.machine.system.processors + 1) (first_file s)
+  pub stays_settled : (since : List Command) → AreWithoutCall (state_after s command.Join) since
+      → IsSettled (state_after_all (state_after s command.Join) since).machine.system (common_era s.machine.system.processors + 1) (first_file s)
+  pub idle : m.order ≡ None
+  pub windows : m.system.memory.windows ≡ s.machine.system.memory.windows
+  pub words : (address : ℕ) → IsSome (place s.machine.system.memory address)
+      → word_at m.system.memory address ≡ now (emptied (with_newcomer s.machine).system (each_processor (with_newcomer s.machine).system)) address  -- as it was once the buffers were emptied
+
+abbrev pub JoinsSettle : Type 0
+JoinsSettle = (s : ReplayState) → IsReplayState s → Fits s.now command.Join → may_come s.machine ≡ true → IsAdmittedAfter s (machine_after s command.Join)
+
+-- a command does nothing on a processor that isn't there
+abbrev pub AbsentProcessorsDoNothing : Type 0
+AbsentProcessorsDoNothing =
+    (s : ReplayState) (c : Command) (k : ℕ) → named c ≡ Some k → length s.machine.system.processors ≤ k
+    → (command_text s c ≡ absent_line) × (machine_after s c ≡ s.machine)
+
+-- no other command says so, and the machine is then as it was
+abbrev pub AbsentWhereNoProcessor : Type 0
+AbsentWhereNoProcessor =
+    (s : ReplayState) (c : Command)
+    → ((command_text s c ≡ absent_line) ↔ ((k : ℕ) × (named c ≡ Some k) × (length s.machine.system.processors ≤ k)))
+    × (command_text s c ≡ absent_line → machine_after s c ≡ s.machine)
 
 -- the other kind of section gives the goal to the processors, and no more
 abbrev pub AcceptedCallsAreUnderWay : Type 0
@@ -209,4 +247,4 @@ ReleasedWordsAreHeld =
     (s : ReplayState) (d : Dump) (o : Order) (k : ℕ) (since : List Command) → IsReplayState s → s.now.dump ≡ Some d → Fits s.now (command.Step k)
     → step_answer s.machine k ≡ Did Release → s.machine.order ≡ Some o → All (λ q. has_released o q ≡ false) s.machine.system.processors
     → AreWithoutCall (state_after s (command.Step k)) since
-    → (p : Machine) × Reached (start_like s d) p × IsFirstRelease p (machine_after s (command.Step k)) o × AreHeld (now p.system) (state_after s (command.Step k)) since
+    → (p : Machine) × Arises p × (s.now.moving ≡ false → Reached (start_like s d) p) × IsFirstRelease p (machine_after s (command.Step k)) o × AreHeld (now p.system) (state_after s (command.Step k)) since

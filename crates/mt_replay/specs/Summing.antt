@@ -13,7 +13,8 @@ use Rattle.mt_dump.specs.Dumps.{Dump}
 use Rattle.mt_script.specs.Situation.{Situation}
 use Rattle.mt_replay.specs.Headline.{begins_from, last_of, steps_in}
 use Rattle.mt_replay.specs.ReplayState.{ReplayState, first_state}
-use Rattle.mt_replay.specs.Running.{IsAt, Point, in_body, in_head}
+use Rattle.mt_replay.specs.Running.{IsAt}
+use Rattle.mt_replay.specs.Transcript.{Point, in_body, in_head}
 use Rattle.mt_replay.specs.Summary.{is_complete, last_from, memory_sum, value_in}
 use Rattle.mt_replay.specs.declared.line.Run.{Run}
 use Rattle.mt_replay.specs.declared.line.Run.TheVariants as run

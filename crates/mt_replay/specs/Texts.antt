@@ -47,9 +47,12 @@ complete_line era = line (codes "complete " ++ decimal era)
 abbrev pub called_line : List ℕ
 called_line = line (codes "called")
 
+abbrev pub under_way_line : List ℕ
+under_way_line = line (codes "under way")
+
 abbrev pub call_fault_line : CallFault → List ℕ
 call_fault_line (Refused fault) = refused_line fault
-call_fault_line UnderWay = line (codes "under way")
+call_fault_line UnderWay = under_way_line
 
 abbrev pub go_line : Bool → List ℕ
 go_line true = line (codes "go")
@@ -58,6 +61,31 @@ go_line false = line (codes "no")
 abbrev pub cancel_line : Bool → List ℕ
 cancel_line true = line (codes "cancelled")
 cancel_line false = line (codes "no")
+
+-- ---- processors that come up and go
+
+-- with the number of the one that came or went
+abbrev pub up_line : ℕ → List ℕ
+up_line k = line (codes "up " ++ decimal k)
+
+abbrev pub joined_line : ℕ → List ℕ
+joined_line k = line (codes "joined " ++ decimal k)
+
+abbrev pub retired_line : ℕ → List ℕ
+retired_line k = line (codes "retired " ++ decimal k)
+
+-- no more may come up; none may go
+abbrev pub full_line : List ℕ
+full_line = line (codes "full")
+
+abbrev pub no_line : List ℕ
+no_line = line (codes "no")
+
+-- a command names a processor that isn't there
+abbrev pub absent_line : List ℕ
+absent_line = line (codes "absent")
+
+-- ---- steps
 
 -- the number of the writable register at a place of a file
 abbrev pub number_at : RegisterFile → ℕ → ℕ

@@ -1,10 +1,11 @@
 -- The transcript of a script (own): what its lines write one after the other, and the status.
 --     transcript text      of a whole text
-use Rattle.std.specs.Prelude.{ℕ, ◌+◌, List, [], ◌∷◌, ◌++◌, Option, Some, None, Result, Ok, Err}
-use Rattle.mt_text.specs.Text.{lines_of, end_of}
+--     Point, told_lines      where lines stand, and what those from there on tell
+use Rattle.std.specs.Prelude.{ℕ, ◌+◌, List, [], ◌∷◌, Option, Some, None, Result, Ok, Err}
 use Rattle.mt_text.specs.declared.place.Place.{Place}
-use Rattle.mt_ports.specs.declared.status.Status.{Status}
 use Rattle.mt_ports.specs.declared.status.Status.TheVariants.{Done, Refused, BadText}
+use Rattle.mt_stream.specs.Told as stream
+use Rattle.mt_stream.specs.Told.{Telling, Told, behind, told}
 use Rattle.mt_regs.specs.declared.fault.Fault.{Fault}
 use Rattle.mt_regs.specs.Agreement.{first_refusal}
 use Rattle.mt_dump.specs.Line.{Reading}
@@ -18,17 +19,6 @@ use Rattle.mt_script.specs.declared.fault.Offence.TheVariants as offence
 use Rattle.mt_output.specs.Lines.{accepted_line, dump_refused_line, offence_line}
 use Rattle.mt_replay.specs.Heads.{HeadEnd, head_end, has_offence, shows_dump, stays_open}
 use Rattle.mt_replay.specs.ReplayState.{ReplayState, command_text, first_state, state_after}
-
-pub record Told : Type 0 where
-  pub text : List ℕ
-  pub status : Status
-
-abbrev pub told : List ℕ → Status → Told
-told text status = record { text = text; status = status }
-
--- what is told after a text
-abbrev pub behind : List ℕ → Told → Told
-behind text rest = record { text = text ++ rest.text; status = rest.status }
 
 abbrev pub told_offence : Offence → Told
 told_offence o = told (offence_line o) BadText
@@ -75,5 +65,40 @@ Head = Situation → List Reading → Told
 abbrev pub told_from : Body → Place → ℕ → List (List ℕ) → Head
 told_from body end number lines now before = told_by (λ last. told_at_end (end_fault last.stage end)) body (head_end number lines now before)
 
+-- ---- of a front, behind which other lines may come: nothing is told where its lines end
+
+abbrev pub known_in : ℕ → List (List ℕ) → ReplayState → Told
+known_in number [] s = told [] Done
+known_in number (line ∷ lines) s = told_command s (known_in (number + 1) lines) (command_of s.now number line)
+
+abbrev pub known_from : ℕ → List (List ℕ) → Head
+known_from number lines now before = told_by (λ last. told [] Done) known_in (head_end number lines now before)
+
+-- ---- from any line on
+
+-- in the head of a script, with the dump's lines so far, of which the last stands first, or behind the dump's end
+pub data Point : Type 0 where
+  in_head : Situation → List Reading → Point
+  in_body : ReplayState → Point
+
+-- all lines of a text that ends at a place, or those of a front: up to the dump's end, and behind it
+abbrev pub head_lines : Option Place → ℕ → List (List ℕ) → Head
+head_lines (Some end) number lines = told_from (told_in end) end number lines
+head_lines None number lines = known_from number lines
+
+abbrev pub body_lines : Option Place → ℕ → List (List ℕ) → ReplayState → Told
+body_lines (Some end) number lines = told_in end number lines
+body_lines None number lines = known_in number lines
+
+abbrev pub told_lines : Option Place → ℕ → List (List ℕ) → Point → Told
+told_lines end number lines (in_head now before) = head_lines end number lines now before
+told_lines end number lines (in_body s) = body_lines end number lines s
+
+abbrev pub from_point : Point → Telling
+from_point p end number lines = told_lines end number lines p
+
+abbrev pub replay_told : Telling
+replay_told = from_point (in_head at_start [])
+
 abbrev pub transcript : List ℕ → Told
-transcript text = told_from (told_in (end_of text)) (end_of text) 1 (lines_of text) at_start []
+transcript text = stream.transcript replay_told text

@@ -1,5 +1,5 @@
 -- States of worked examples.
-use Rattle.std.specs.Prelude.{ℕ, List, [], ◌∷◌, codes, slice_set, Some}
+use Rattle.std.specs.Prelude.{ℕ, true, false, replicate, List, [], ◌∷◌, codes, slice_set, Some}
 use Rattle.mt_dump.specs.Dumps.{Dump, dump_of}
 use Rattle.mt_machine.specs.System.{Processor}
 use Rattle.mt_machine.specs.Machine.{Machine, MachineEvent, Calls, run}
@@ -11,11 +11,19 @@ use Rattle.mt_script.specs.declared.command.Stage.TheVariants.{Commands, InUpdat
 use Rattle.mt_replay.specs.ReplayState.{ReplayState}
 
 abbrev pub two_processors : Stage → Situation
-two_processors stage = record { stage = stage; cpus = 2; dump = Some (dump_of (bare_file 0x800)); windows = (0x100000, 64) ∷ []; seen = [] }
+two_processors stage = record { stage = stage; cpus = 2; dump = Some (dump_of (bare_file 0x800)); windows = (0x100000, 64) ∷ []; seen = []; moving = false }
 
 -- two processors with this machine, whose goal has no fault
 abbrev pub state_of : Stage → Machine → ReplayState
 state_of stage m = record { now = two_processors stage; machine = m; goal = bare_file 0x800 }
+
+-- so many processors at rest, behind one that came or went
+abbrev pub crowd : ℕ → ReplayState
+crowd count = record { now = record (two_processors Commands) { moving = true }; machine = machine_of (replicate count idle); goal = bare_file 0x800 }
+
+-- with an update under way
+abbrev pub crowd_in_update : ℕ → ReplayState
+crowd_in_update count = record (crowd count) { machine = run (machine_of (replicate count idle)) (Calls (bare_file 0x800) ∷ []) }
 
 -- one page is mapped five times
 abbrev pub painted : ReplayState

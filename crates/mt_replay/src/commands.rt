@@ -1,4 +1,4 @@
-ghost use Rattle.std.specs.Prelude.{◌≡◌, ◌<◌, ◌≤◌, ◌+◌, ◌*◌, ◌^◌, ◌++◌, length, slice_get, MatchOption, OnOk, OnErr, None, Some};
+ghost use Rattle.std.specs.Prelude.{◌≡◌, IfOk, ◌<◌, ◌≤◌, ◌+◌, ◌*◌, ◌^◌, ◌++◌, length, slice_get, MatchOption, OnOk, OnErr, None, Some};
 ghost use Rattle.std.specs.List.{All};
 ghost use Rattle.mt_machine.specs.Machine.{Accesses, Calls, Cancels, Controls, IsEnabled, FitsControl, FitsGoal, FitsOp, Goes, common_era, go_of, next};
 ghost use Rattle.mt_machine.specs.System.{Processor};
@@ -10,21 +10,24 @@ ghost use Rattle.mt_core.specs.Arises.{grown};
 ghost use Rattle.mt_core.specs.Rounds.{in_order};
 ghost use Rattle.mt_core.specs.Steps.{step_after, step_answer};
 ghost use Rattle.mt_machine.specs.Update.{updated};
-ghost use Rattle.mt_replay.specs.ReplayState.{accessed_line, after_call, after_update, after_word, call_fault, call_line, controlled_line, file_at, is_undecided, memory_word, update_line};
+ghost use Rattle.mt_replay.specs.ReplayState.{accessed_line, after_call, after_join, after_retire, after_up, after_update, after_word, call_fault, call_line, controlled_line, file_at, is_absent, is_undecided, join_text, memory_word, named, retire_text, up_text, update_line};
 ghost use Rattle.mt_replay.specs.Texts.{cancel_line, go_line, memory_line, register_line, stepped_line};
 ghost use Rattle.mt_regs.specs.Registers.{value_at};
 ghost use Rattle.std.specs.Option.{option_map_or};
 
 use crate::texts::{
     append_done, append_ruled, append_stepped, call_fault_line, called_line, cancel_line,
-    complete_line, go_line, memory_line, register_line,
+    complete_line, full_line, go_line, joined_line, memory_line, register_line, retired_line,
+    under_way_line, up_line,
 };
+use mt_admit::{RetireFault, UpFault};
 use mt_core::{CallFault, Core, a_core_arises};
 use mt_machine::{Control, Op};
-use mt_output::{LINE_ROOM, WRITER_ROOM, Writer};
+use mt_output::{LINE_ROOM, LineBuffer, WRITER_ROOM, Writer};
 use mt_ports::{Gate, NoMemory};
 use mt_ram::RamFault;
 use mt_regs::RegFile;
+use mt_script::Command;
 use std::alloc::Global;
 use std::sync::Wait;
 use std::thread::Threads;
@@ -221,5 +224,83 @@ pub(crate) fn add_window(core: &mut Core, base: u64, lines: u32) -> Result<(), N
         Ok(()) => Ok(()),
         Err(RamFault::NoMemory) => Err(NoMemory),
         Err(_) => unreachable!(),
+    }
+}
+
+// The processor that a command names, where it asks something of one.
+fn named(c: &Command) -> Option<u32>
+    ensures { result ≡ named c.now }
+{
+    match *c {
+        Command::Load(k, _) => Some(k),
+        Command::Store(k, _, _) => Some(k),
+        Command::Fence(k) => Some(k),
+        Command::Map(k, _, _, _, _) => Some(k),
+        Command::Invlpg(k, _) => Some(k),
+        Command::Cr3(k) => Some(k),
+        Command::Pge(k, _) => Some(k),
+        Command::Cd(k, _) => Some(k),
+        Command::Step(k) => Some(k),
+        Command::Msr(k, _) => Some(k),
+        _ => None,
+    }
+}
+
+/// Whether a command names a processor that isn't there.
+pub(crate) fn is_absent(core: &Core, c: &Command) -> bool
+    ensures { result ≡ is_absent core.now c.now }
+{
+    match named(c) {
+        Some(k) => !((k as usize) < core.system().cpus.len()),
+        None => false,
+    }
+}
+
+/// Brings a processor up, where one may come. The line says so, or why none does. The error comes only
+/// where the allocator has no room; nothing then changes.
+pub(crate) fn bring_up(core: &mut Core) -> Result<LineBuffer, NoMemory>
+    requires some { 0 < length core.old.system.processors }
+    requires room { HasEraRoom core.old }
+    ensures text { IfOk result (λ line. line.items ≡ up_text core.old) }
+    ensures after { OnOk result (core.new ≡ after_up core.old) }
+    ensures kept { OnErr result (core.new ≡ core.old) }
+{
+    a_core_arises(core); // a fact for the proof
+    match mt_admit::up(core) {
+        Ok(k) => Ok(up_line(k)),
+        Err(UpFault::UnderWay) => Ok(under_way_line()),
+        Err(UpFault::Full) => Ok(full_line()),
+        Err(UpFault::NoMemory) => Err(NoMemory),
+    }
+}
+
+/// The same, and leads all through the newcomer's update.
+pub(crate) fn admit(core: &mut Core) -> Result<LineBuffer, NoMemory>
+    requires some { 0 < length core.old.system.processors }
+    requires room { HasEraRoom core.old }
+    ensures text { IfOk result (λ line. line.items ≡ join_text core.old) }
+    ensures after { OnOk result (core.new ≡ after_join core.old) }
+    ensures kept { OnErr result (core.new ≡ core.old) }
+{
+    a_core_arises(core); // a fact for the proof
+    match mt_admit::admit(core) {
+        Ok(k) => Ok(joined_line(k)),
+        Err(UpFault::UnderWay) => Ok(under_way_line()),
+        Err(UpFault::Full) => Ok(full_line()),
+        Err(UpFault::NoMemory) => Err(NoMemory),
+    }
+}
+
+/// Retires the last processor, where one may go, and says so, or why none does.
+pub(crate) fn retire(writer: &mut Writer, core: &mut Core)
+    requires line { length writer.old + LINE_ROOM ≤ WRITER_ROOM }
+    requires some { 0 < length core.old.system.processors }
+    ensures text { writer.new ≡ writer.old ++ retire_text core.old }
+    ensures after { core.new ≡ after_retire core.old }
+{
+    match mt_admit::retire(core) {
+        Ok(k) => writer.append(retired_line(k).as_slice()),
+        Err(RetireFault::UnderWay) => writer.append(b"under way\n"),
+        Err(RetireFault::Last) => writer.append(b"no\n"),
     }
 }

@@ -1,7 +1,8 @@
 ghost use Rattle.std.specs.Prelude.{◌≡◌, ◌∷◌, [], None, false, map, replicate};
 ghost use Rattle.mt_kinds.specs.declared.mem_type.MemType.TheVariants.{WB};
-ghost use Rattle.mt_replay.specs.Headline.{AcceptedWhereIdleAndWhole, CompleteUpdatesAreKept, GoalsAreOfTheirSections, IsCall, IsRefused, NoneOf, RefusedUpdatesChangeNothing, ReleasedUpdatesAreKept, ReplaysAreOfTheCourse, SectionOf, StartsAsTheDumpShows, StatesAreOfTheCourse, StepsAreOfTheirLines, StepsFollow, TranscriptIsOfTheCourse, TranscriptIsOneLine, UpdateOf, course, left, release_line, wrote};
+ghost use Rattle.mt_replay.specs.Headline.{AcceptedWhereIdleAndWhole, CompleteUpdatesAreKept, GoalsAreOfTheirSections, JoinsAreKept, NewcomersWhereIdle, IsCall, IsRefused, NoneOf, RefusedUpdatesChangeNothing, ReleasedUpdatesAreKept, ReplaysAreOfTheCourse, SectionOf, StartsAsTheDumpShows, StatesAreOfTheCourse, StepsAreOfTheirLines, StepsFollow, TranscriptIsOfTheCourse, TranscriptIsOneLine, UpdateOf, course, left, release_line, wrote};
 ghost use Rattle.mt_replay.specs.Kept.{HoldsThrough};
+ghost use Rattle.mt_replay.specs.Movers.{RetiresWhereIdle, StaysAlone, StaysFull, StaysUnderWay};
 ghost use Rattle.mt_replay.specs.Statuses.{AreWithoutCall};
 ghost use Rattle.mt_script.specs.declared.command.Command.TheVariants as command;
 ghost use Rattle.mt_replay.specs.Texts.{complete_line};
@@ -21,10 +22,22 @@ pub fn the_headline_holds()
     ensures follow { StepsFollow }
     ensures states { StatesAreOfTheCourse }
     ensures accepted { AcceptedWhereIdleAndWhole }
+    ensures newcomers { NewcomersWhereIdle }
     ensures those_registers { GoalsAreOfTheirSections }
     ensures complete { CompleteUpdatesAreKept }
+    ensures joined { JoinsAreKept }
     ensures released { ReleasedUpdatesAreKept }
     ensures refused { RefusedUpdatesChangeNothing }
+{}
+
+/// A processor is retired exactly where no update is under way and another stands; it is the last. A
+/// newcomer, or a processor to retire, that is refused leaves the machine as it was: while an update is under
+/// way, else beside sixteen processors, or as the only one.
+pub fn processors_come_and_go_by_lines()
+    ensures retired { RetiresWhereIdle }
+    ensures under_way { StaysUnderWay }
+    ensures full { StaysFull }
+    ensures alone { StaysAlone }
 {}
 
 /// The steps of a worked script write these lines.

@@ -21,8 +21,8 @@ mod texts;
 mod worked;
 
 pub use headline::{
-    the_headline_holds, worked_course, worked_headline, worked_refusals, worked_since,
-    worked_updates_of_steps,
+    processors_come_and_go_by_lines, the_headline_holds, worked_course, worked_headline,
+    worked_refusals, worked_since, worked_updates_of_steps,
 };
 pub use hidden::caches_are_never_seen_in_scripts;
 pub use kept::{
@@ -34,15 +34,19 @@ pub use laws::{same_files_are_equal, the_first_fault_is_first};
 pub use replayer::Replayer;
 pub use running::replay;
 pub use statuses::{
-    a_text_shows_one_dump, accepted_comes_first, complete_updates_settle,
-    refused_calls_change_nothing, refused_dumps_are_told_alone, released_states_settle,
-    states_have_the_shown_dump, statuses_tell_of_offences, stored_words_are_held,
+    a_text_shows_one_dump, absent_processors_do_nothing, accepted_comes_first,
+    complete_updates_settle, processors_join_settled, refused_calls_change_nothing,
+    refused_dumps_are_told_alone, released_states_settle, states_have_the_shown_dump,
+    statuses_tell_of_offences, stored_words_are_held,
 };
 pub use summing::{Totals, summary};
 pub use worked::{
-    worked_answers, worked_commands, worked_dumps, worked_each_state, worked_effects,
-    worked_events, worked_flat_values, worked_heads, worked_kept, worked_last_states,
-    worked_line_ends, worked_phases, worked_reports, worked_sections, worked_settled_states,
-    worked_short_updates, worked_summaries, worked_told_lines, worked_told_texts, worked_updates,
-    worked_values, worked_without_call, worked_words,
+    worked_absent, worked_admitted_states, worked_answers, worked_called_goals, worked_commands,
+    worked_dumps, worked_each_state, worked_early_texts, worked_effects, worked_events,
+    worked_flat_moves, worked_flat_values, worked_heads, worked_join_summary, worked_joined_states,
+    worked_kept, worked_last_states, worked_line_ends, worked_moved, worked_moves,
+    worked_moving_steps, worked_newcomer_lines, worked_newcomers, worked_phases, worked_reports,
+    worked_sections, worked_settled_states, worked_short_updates, worked_summaries,
+    worked_told_lines, worked_told_texts, worked_updates, worked_values, worked_without_call,
+    worked_without_newcomer, worked_words,
 };

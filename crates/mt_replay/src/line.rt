@@ -1,27 +1,27 @@
-ghost use Rattle.std.specs.Prelude.{◌≡◌, ◌≢◌, ◌≤◌, ◌+◌, ℕ, List, length, true, MatchOption, MatchResult, IfOk, OnOk, Some, Ok, Err, ◌++◌};
+ghost use Rattle.std.specs.Prelude.{◌≡◌, ◌≢◌, ◌≤◌, ◌+◌, ℕ, List, [], Bool, length, true, MatchOption, MatchResult, IfOk, OnOk, OnErr, Some, Ok, Err, ◌++◌};
 ghost use Rattle.mt_ports.specs.Causes.{HasCause};
 ghost use Rattle.mt_ports.specs.Puts.{AppendsFront};
-ghost use Rattle.mt_dump.specs.Line.{Reading};
 ghost use Rattle.mt_machine.specs.Start.{HasEraRoom};
 ghost use Rattle.mt_output.specs.Lines.{offence_line};
 ghost use Rattle.mt_output.specs.Writing.{Adds, Passes};
 ghost use Rattle.mt_script.specs.Accept.{Fits};
 ghost use Rattle.mt_script.specs.Stages.{is_in_dump};
-ghost use Rattle.mt_regs.specs.Agreement.{first_refusal};
 ghost use Rattle.mt_dump.specs.ForProcessors.{has_each};
 ghost use Rattle.mt_replay.specs.Kept.{HasEras};
-ghost use Rattle.mt_replay.specs.Parts.{IsWindow};
+ghost use Rattle.mt_replay.specs.Parts.{AsksForMemory, IsComing};
 ghost use Rattle.mt_replay.specs.ReplayState.{ReplayState, command_text, state_after};
-ghost use Rattle.mt_replay.specs.Running.{HasEraRoomAt, HasErasAt, IsAt, IsEnding, Point, Takes, body_lines, from_line, in_body, in_head, setup_of};
+ghost use Rattle.mt_replay.specs.Running.{HasEraRoomAt, HasErasAt, IsAt, IsQuiet, leading, leading_dump, replay_running, setup_of};
+ghost use Rattle.mt_stream.specs.Lines.{IsEnding, Takes};
 ghost use Rattle.mt_replay.specs.Summing.{Begins, Lasts, state_in};
-ghost use Rattle.mt_replay.specs.Transcript.{told_dump};
+ghost use Rattle.mt_replay.specs.Transcript.{Point, in_body};
 
 use crate::replayer::Replayer;
 use mt_dump::Dump;
-use mt_output::{Writer, accepted_line, dump_refused_line, offence_line};
-use mt_ports::{Failed, Gate, Sink, Status};
+use mt_output::{LineBuffer, Writer, accepted_line, dump_refused_line, offence_line};
+use mt_ports::{Failed, Gate, NoMemory, Sink, Status};
 use mt_regs::first_refusal;
 use mt_script::{Command, Head, Offence, Setup, read_command};
+use mt_stream::tell;
 use mt_text::Line;
 use std::alloc::Global;
 use std::mem;
@@ -44,26 +44,6 @@ impl Run {
             Run::Head(head) => &head.setup,
             Run::Body(replayer) => replayer.setup(),
         }
-    }
-}
-
-// Writes a last text, and answers the status.
-#[inline(never)]
-fn tell<K: Sink>(
-    writer: &mut Writer,
-    sink: &mut K,
-    text: &[u8],
-    status: Status,
-) -> Result<Option<Status>, Failed>
-    requires { length text.now ≤ 224 }
-    ensures bytes { Adds writer.old text.now writer.new (K.taken sink.old) (K.taken sink.new) result }
-    ensures status { IfOk result (λ ended. ended ≡ Some status) }
-    ensures answer { (answer : Status) → result ≡ Ok (Some answer) → answer ≡ status }
-    ensures cause { HasCause (K.faults sink.old) (K.faults sink.new) result }
-{
-    match writer.write(sink, text) {
-        Ok(()) => Ok(Some(status)),
-        Err(failed) => Err(failed),
     }
 }
 
@@ -100,8 +80,8 @@ fn begin<K: Sink>(
     requires stage { is_in_dump setup.stage ≡ true }
     requires each { has_each setup.cpus dump ≡ true }
     requires head { state_in run.old ≡ None }
-    ensures bytes { (number : ℕ) (before : List Reading) →
-        Takes (λ end lines. told_dump setup dump (body_lines end number lines) (first_refusal dump.files)) number (in_head setup before) run.new writer.old writer.new (K.taken sink.old) (K.taken sink.new) result }
+    ensures bytes { (number : ℕ) →
+        Takes replay_running (leading_dump setup dump number) number [] run.new writer.old writer.new (K.taken sink.old) (K.taken sink.new) result }
     ensures ending { (status : Status) → result ≡ Ok (Some status) → IsEnding status }
     ensures eras { (most : ℕ) → MatchResult result (λ ended. MatchOption ended (HasErasAt most run.new) (λ _. Unit {0})) (λ _. Unit {0}) }
     ensures state { Begins setup dump run.new result }
@@ -123,7 +103,7 @@ fn begin<K: Sink>(
     }
 }
 
-// Does a command other than a report or a window. Its line is formed behind the bytes that wait, once
+// Does a command that asks for no memory and is no report. Its line is formed behind the bytes that wait, once
 // there is room for it.
 fn form<R: Threads + Wait + Sync, K: Sink, G: Gate>(
     rt: &R,
@@ -138,6 +118,7 @@ fn form<R: Threads + Wait + Sync, K: Sink, G: Gate>(
     requires room { HasEraRoom replayer.old.machine }
     requires no_report { c.now ≢ Command.Report }
     requires no_window { (base : ℕ) → (lines : ℕ) → c.now ≢ Command.Ram base lines }
+    requires no_newcomer { IsComing c.now → ⊥ }
     ensures bytes { Adds writer.old (command_text replayer.old c.now) writer.new (K.taken sink.old) (K.taken sink.new) result }
     ensures after { OnOk result (replayer.new ≡ state_after replayer.old c.now) }
     ensures cause { HasCause (K.faults sink.old) (K.faults sink.new) result }
@@ -151,7 +132,26 @@ fn form<R: Threads + Wait + Sync, K: Sink, G: Gate>(
     }
 }
 
-// Does a command and writes what it says. There is a status where memory is refused to a window.
+// Writes the line of a newcomer, which came where there is one.
+fn write_newcomer<K: Sink>(
+    line: Result<LineBuffer, NoMemory>,
+    writer: &mut Writer,
+    sink: &mut K,
+) -> Result<Option<Status>, Failed>
+    ensures told { IfOk line (λ text. MatchResult result (λ ended. (ended ≡ None) × Passes writer.old text.items writer.new (K.taken sink.old) (K.taken sink.new)) (λ _. AppendsFront (K.taken sink.old) (K.taken sink.new) (writer.old ++ text.items))) }
+    ensures refused { OnErr line ((result ≡ Ok (Some Status.NoMemory)) × (writer.new ≡ writer.old) × (K.taken sink.new ≡ K.taken sink.old)) }
+    ensures cause { HasCause (K.faults sink.old) (K.faults sink.new) result }
+{
+    match line {
+        Ok(line) => match writer.write(sink, line.as_slice()) {
+            Ok(()) => Ok(None),
+            Err(failed) => Err(failed),
+        },
+        Err(_) => Ok(Some(Status::NoMemory)),
+    }
+}
+
+// Does a command and writes what it says. There is a status where memory is refused.
 fn do_command<R: Threads + Wait + Sync, K: Sink, G: Gate>(
     rt: &R,
     alloc: Global,
@@ -168,7 +168,7 @@ fn do_command<R: Threads + Wait + Sync, K: Sink, G: Gate>(
         (Passes writer.old (command_text replayer.old c.now) writer.new (K.taken sink.old) (K.taken sink.new) × (replayer.new ≡ state_after replayer.old c.now))
         (λ status. (status ≡ Status.NoMemory) × (writer.new ≡ writer.old) × (K.taken sink.new ≡ K.taken sink.old)))
         (λ _. AppendsFront (K.taken sink.old) (K.taken sink.new) (writer.old ++ command_text replayer.old c.now)) }
-    ensures window { (status : Status) → result ≡ Ok (Some status) → IsWindow c.now }
+    ensures asks { (status : Status) → result ≡ Ok (Some status) → AsksForMemory c.now }
     ensures refused { (status : Status) → result ≡ Ok (Some status) → status ≡ Status.NoMemory }
     ensures cause { HasCause (K.faults sink.old) (K.faults sink.new) result }
 {
@@ -181,6 +181,8 @@ fn do_command<R: Threads + Wait + Sync, K: Sink, G: Gate>(
             Ok(()) => Ok(None),
             Err(_) => Ok(Some(Status::NoMemory)),
         },
+        Command::Up => write_newcomer(replayer.bring_up(), writer, sink),
+        Command::Join => write_newcomer(replayer.admit(), writer, sink),
         _ => match form(rt, alloc, replayer, c, writer, sink, gate) {
             Ok(()) => Ok(None),
             Err(failed) => Err(failed),
@@ -199,7 +201,7 @@ fn take_command<R: Threads + Wait + Sync, K: Sink, G: Gate>(
     gate: &G,
 ) -> Result<Option<Status>, Failed>
     requires { HasEraRoom replayer.old.machine }
-    ensures bytes { Takes (from_line line.now.number line.now.bytes.now (in_body replayer.old)) (line.now.number + 1) (in_body replayer.old) (Run.Body replayer.new) writer.old writer.new (K.taken sink.old) (K.taken sink.new) result }
+    ensures bytes { (came : Bool) (so_far : List ℕ) → IsQuiet (Run.Body replayer.old) came so_far → Takes replay_running (leading came so_far line.now.number line.now.bytes.now (in_body replayer.old)) (line.now.number + 1) so_far (Run.Body replayer.new) writer.old writer.new (K.taken sink.old) (K.taken sink.new) result }
     ensures ending { (status : Status) → result ≡ Ok (Some status) → IsEnding status }
     ensures eras { (most : ℕ) → HasEras most replayer.old → MatchResult result (λ ended. MatchOption ended (HasEras (most + 1) replayer.new) (λ _. Unit {0})) (λ _. Unit {0}) }
     ensures last { Lasts line.now.number line.now.bytes.now (in_body replayer.old) (Run.Body replayer.new) result }
@@ -222,8 +224,8 @@ fn take_in_head<K: Sink>(
     sink: &mut K,
 ) -> Result<Option<Status>, Failed>
     requires { (replayer : ReplayState) → run.old ≢ Run.Body replayer }
-    ensures bytes { (was : Point) → IsAt run.old was →
-        Takes (from_line line.now.number line.now.bytes.now was) (line.now.number + 1) was run.new writer.old writer.new (K.taken sink.old) (K.taken sink.new) result }
+    ensures bytes { (came : Bool) (so_far : List ℕ) (was : Point) → IsAt run.old was → IsQuiet run.old came so_far →
+        Takes replay_running (leading came so_far line.now.number line.now.bytes.now was) (line.now.number + 1) so_far run.new writer.old writer.new (K.taken sink.old) (K.taken sink.new) result }
     ensures ending { (status : Status) → result ≡ Ok (Some status) → IsEnding status }
     ensures eras { (most : ℕ) → HasErasAt most run.old → MatchResult result (λ ended. MatchOption ended (HasErasAt (most + 1) run.new) (λ _. Unit {0})) (λ _. Unit {0}) }
     ensures last { (was : Point) → IsAt run.old was → Lasts line.now.number line.now.bytes.now was run.new result }
@@ -254,8 +256,8 @@ pub(crate) fn take_line<R: Threads + Wait + Sync, K: Sink, G: Gate>(
     gate: &G,
 ) -> Result<Option<Status>, Failed>
     requires { HasEraRoomAt run.old }
-    ensures bytes { (was : Point) → IsAt run.old was →
-        Takes (from_line line.now.number line.now.bytes.now was) (line.now.number + 1) was run.new writer.old writer.new (K.taken sink.old) (K.taken sink.new) result }
+    ensures bytes { (came : Bool) (so_far : List ℕ) (was : Point) → IsAt run.old was → IsQuiet run.old came so_far →
+        Takes replay_running (leading came so_far line.now.number line.now.bytes.now was) (line.now.number + 1) so_far run.new writer.old writer.new (K.taken sink.old) (K.taken sink.new) result }
     ensures ending { (status : Status) → result ≡ Ok (Some status) → IsEnding status }
     ensures eras { (most : ℕ) → HasErasAt most run.old → MatchResult result (λ ended. MatchOption ended (HasErasAt (most + 1) run.new) (λ _. Unit {0})) (λ _. Unit {0}) }
     ensures last { (was : Point) → IsAt run.old was → Lasts line.now.number line.now.bytes.now was run.new result }

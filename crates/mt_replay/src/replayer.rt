@@ -1,4 +1,4 @@
-ghost use Rattle.std.specs.Prelude.{◌≡◌, ◌≢◌, ℕ, ◌≤◌, ◌<◌, ◌+◌, ◌++◌, true, length, IfOk, OnOk, OnErr, if◌then◌else◌};
+ghost use Rattle.std.specs.Prelude.{◌≡◌, ◌≢◌, ℕ, ◌≤◌, ◌<◌, ◌+◌, ◌++◌, true, false, length, IfOk, OnOk, OnErr, if◌then◌else◌};
 ghost use Rattle.std.specs.List.{All};
 ghost use Rattle.mt_regs.specs.Faults.{IsAccepted};
 ghost use Rattle.mt_regs.specs.RegisterFile.{RegisterFile};
@@ -10,18 +10,19 @@ ghost use Rattle.mt_script.specs.Accept.{Fits, accepted};
 ghost use Rattle.mt_ports.specs.Causes.{HasCause};
 ghost use Rattle.mt_output.specs.Writing.{Adds};
 ghost use Rattle.mt_replay.specs.Kept.{IsReplayState};
-ghost use Rattle.mt_replay.specs.Parts.{state};
-ghost use Rattle.mt_replay.specs.ReplayState.{after_call, after_update, call_line, command_text, file_at, first_state, goal_after, is_update, machine_after, mapping, state_after, update_line, with_register};
+ghost use Rattle.mt_replay.specs.Parts.{IsComing, state};
+ghost use Rattle.mt_replay.specs.ReplayState.{after_call, after_update, call_line, command_text, file_at, first_state, goal_after, is_absent, is_update, machine_after, mapping, present_after, present_text, state_after, update_line, with_register};
 
 use crate::commands::{
-    access, add_window, call, cancel, control, go, register, step, update, word,
+    access, add_window, admit, bring_up, call, cancel, control, go, is_absent, register, retire,
+    step, update, word,
 };
 use crate::report::write_report;
 use mt_core::Core;
 use mt_dump::Dump;
 use mt_kinds::PAGE_BYTES;
 use mt_machine::{Control, Op};
-use mt_output::{LINE_ROOM, WRITER_ROOM, Writer};
+use mt_output::{LINE_ROOM, LineBuffer, WRITER_ROOM, Writer};
 use mt_ports::{Failed, Gate, NoMemory, Sink};
 use mt_ram::Ram;
 use mt_regs::RegFile;
@@ -111,8 +112,9 @@ fn set(goal: &mut RegFile, msr: u32, value: u64)
     let _ = goal.set(msr, value);
 }
 
-// What a command other than a report or a window writes, and what it does to the machine and the goal.
-fn act<R: Threads + Wait + Sync, G: Gate>(
+// What a command that asks for no memory, and is no report, writes and does to the machine and the goal, where
+// the processor that it names is there.
+fn act_there<R: Threads + Wait + Sync, G: Gate>(
     rt: &R,
     alloc: Global,
     writer: &mut Writer,
@@ -124,12 +126,14 @@ fn act<R: Threads + Wait + Sync, G: Gate>(
 )
     requires line { length writer.old + LINE_ROOM ≤ WRITER_ROOM }
     requires state { IsReplayState (state setup.now core.old goal.old) }
+    requires there { is_absent core.old c.now ≡ false }
     requires fits { Fits setup.now c.now }
     requires room { HasEraRoom core.old }
     requires no_report { c.now ≢ Command.Report }
     requires no_window { (base : ℕ) → (lines : ℕ) → c.now ≢ Command.Ram base lines }
-    ensures text { writer.new ≡ writer.old ++ command_text (state setup.now core.old goal.old) c.now }
-    ensures machine { core.new ≡ machine_after (state setup.now core.old goal.old) c.now }
+    requires no_newcomer { IsComing c.now → ⊥ }
+    ensures text { writer.new ≡ writer.old ++ present_text (state setup.now core.old goal.old) c.now }
+    ensures machine { core.new ≡ present_after (state setup.now core.old goal.old) c.now }
     ensures goal { goal.new ≡ goal_after (state setup.now core.old goal.old) c.now }
 {
     match *c {
@@ -150,11 +154,41 @@ fn act<R: Threads + Wait + Sync, G: Gate>(
         Command::Word(address) => word(writer, core, address),
         Command::Msr(k, msr) => register(writer, core, k, msr),
         Command::Selfsnoop(k) => core.self_snoop(k),
+        Command::Retire => retire(writer, core),
         Command::End => end_section(rt, alloc, writer, core, goal, setup.stage(), gate),
         Command::Update | Command::Begin => begin_goal(core, goal),
         Command::Register { msr, value } => set(goal, msr, value),
         Command::Cpus(_) | Command::Dump | Command::Blank | Command::DumpLine => {}
-        Command::Report | Command::Ram(..) => unreachable!(),
+        Command::Report | Command::Ram(..) | Command::Up | Command::Join => unreachable!(),
+    }
+}
+
+// The same of each such command.
+fn act<R: Threads + Wait + Sync, G: Gate>(
+    rt: &R,
+    alloc: Global,
+    writer: &mut Writer,
+    setup: &Setup,
+    core: &mut Core,
+    goal: &mut RegFile,
+    c: &Command,
+    gate: &G,
+)
+    requires line { length writer.old + LINE_ROOM ≤ WRITER_ROOM }
+    requires state { IsReplayState (state setup.now core.old goal.old) }
+    requires fits { Fits setup.now c.now }
+    requires room { HasEraRoom core.old }
+    requires no_report { c.now ≢ Command.Report }
+    requires no_window { (base : ℕ) → (lines : ℕ) → c.now ≢ Command.Ram base lines }
+    requires no_newcomer { IsComing c.now → ⊥ }
+    ensures text { writer.new ≡ writer.old ++ command_text (state setup.now core.old goal.old) c.now }
+    ensures machine { core.new ≡ machine_after (state setup.now core.old goal.old) c.now }
+    ensures goal { goal.new ≡ goal_after (state setup.now core.old goal.old) c.now }
+{
+    if is_absent(core, c) {
+        writer.append(b"absent\n");
+    } else {
+        act_there(rt, alloc, writer, setup, core, goal, c, gate);
     }
 }
 
@@ -198,8 +232,8 @@ impl Replayer {
         let _ = &self.goal;
     }
 
-    /// Does a command other than a report or a window, and adds its line to the bytes that wait. An
-    /// update runs each processor on a thread of its own, where the gate and the allocator let it.
+    /// Does a command that asks for no memory and is no report, and adds its line to the bytes that wait.
+    /// An update runs each processor on a thread of its own, where the gate and the allocator let it.
     pub fn run<R: Threads + Wait + Sync, G: Gate>(
         &mut self,
         rt: &R,
@@ -213,6 +247,7 @@ impl Replayer {
         requires room { HasEraRoom self.old.machine }
         requires no_report { c.now ≢ Command.Report }
         requires no_window { (base : ℕ) → (lines : ℕ) → c.now ≢ Command.Ram base lines }
+        requires no_newcomer { IsComing c.now → ⊥ }
         ensures text { writer.new ≡ writer.old ++ command_text self.old c.now }
         ensures after { self.new ≡ state_after self.old c.now }
     {
@@ -240,6 +275,35 @@ impl Replayer {
         add_window(&mut self.core, base, lines)?;
         self.setup.accept(&Command::Ram(base, lines));
         Ok(())
+    }
+
+    /// Brings a processor up, where one may come, and answers the line that says so, or why none does. The
+    /// error comes only where the allocator has no room; nothing then changes.
+    #[inline(never)]
+    pub fn bring_up(&mut self) -> Result<LineBuffer, NoMemory>
+        requires fits { Fits self.old.now Command.Up }
+        requires room { HasEraRoom self.old.machine }
+        ensures text { IfOk result (λ line. line.items ≡ command_text self.old Command.Up) }
+        ensures after { OnOk result (self.new ≡ state_after self.old Command.Up) }
+        ensures kept { OnErr result (self.new ≡ self.old) }
+    {
+        let line = bring_up(&mut self.core)?;
+        self.setup.accept(&Command::Up);
+        Ok(line)
+    }
+
+    /// The same, and leads all processors through the newcomer's update.
+    #[inline(never)]
+    pub fn admit(&mut self) -> Result<LineBuffer, NoMemory>
+        requires fits { Fits self.old.now Command.Join }
+        requires room { HasEraRoom self.old.machine }
+        ensures text { IfOk result (λ line. line.items ≡ command_text self.old Command.Join) }
+        ensures after { OnOk result (self.new ≡ state_after self.old Command.Join) }
+        ensures kept { OnErr result (self.new ≡ self.old) }
+    {
+        let line = admit(&mut self.core)?;
+        self.setup.accept(&Command::Join);
+        Ok(line)
     }
 
     /// Does a report: writes a line for each processor, and whether all have the same registers.

@@ -1,4 +1,4 @@
-ghost use Rattle.mt_replay.specs.Statuses.{AcceptedCallsAreUnderWay, AcceptedFirst, AcceptedUnlessRefused, AcceptedWhereIdle, BadTextEndsWithOffence, BadTextWhereOffence, CallsUnderWayChangeNothing, CompleteUpdatesSettle, DoneWhereNoOffence, OffenceAlone, OneDumpShown, OneOfThreeStatuses, RefusedAlone, RefusedCallsChangeNothing, RefusedWhereFileIsRefused, ReleasedStatesSettle, ReleasedWordsAreHeld, StatesHaveTheShownDump, UpdatedWordsAreHeld};
+ghost use Rattle.mt_replay.specs.Statuses.{AbsentProcessorsDoNothing, AbsentWhereNoProcessor, AcceptedCallsAreUnderWay, AcceptedFirst, AcceptedUnlessRefused, AcceptedWhereIdle, BadTextEndsWithOffence, BadTextWhereOffence, CallsUnderWayChangeNothing, CompleteUpdatesSettle, DoneWhereNoOffence, JoinsSettle, OffenceAlone, OneDumpShown, OneOfThreeStatuses, RefusedAlone, RefusedCallsChangeNothing, RefusedWhereFileIsRefused, ReleasedStatesSettle, ReleasedWordsAreHeld, StatesHaveTheShownDump, UpdatedWordsAreHeld};
 
 /// A text shows no two dumps.
 pub fn a_text_shows_one_dump()
@@ -47,6 +47,19 @@ pub fn complete_updates_settle()
     ensures accepted { AcceptedWhereIdle }
     ensures called { AcceptedCallsAreUnderWay }
     ensures settled { CompleteUpdatesSettle }
+{}
+
+/// Where a processor joins each processor, the newcomer among them, has the first one's registers from then
+/// on, up to the next call, and holds nothing of another era, and each word of memory is as it was once the
+/// buffers were emptied.
+pub fn processors_join_settled()
+    ensures { JoinsSettle }
+{}
+
+/// A command on a processor that isn't there does nothing and says so; no other command says so.
+pub fn absent_processors_do_nothing()
+    ensures nothing { AbsentProcessorsDoNothing }
+    ensures exactly { AbsentWhereNoProcessor }
 {}
 
 /// From a step that releases on, and up to the next call for an update, each processor has the

@@ -353,3 +353,124 @@ fn reports_without_end(rt: HostRuntime) -> Result<(), Fail> {
     assert!(rt; told.as_slice().starts_with(ran.sink.bytes()));
     Ok(())
 }
+
+// One processor whose memory below 4 GB has type WB, with a page for each that may come.
+const ONE: &[u8] = b"cpus 1\ndump\n0fe 508\n200 6\n201 f00000800\n2ff 800\nend\nram 100000 1024\n";
+
+const DIGITS: &[u8; 16] = b"0123456789abcdef";
+
+// A text, a processor's number in decimal, and another text.
+fn add_numbered(all: &mut Vec<u8>, first: &[u8], k: u8, rest: &[u8]) -> Result<(), Fail> {
+    all.extend_from_slice(first)?;
+    if k >= 10 {
+        all.extend_from_slice(b"1")?;
+    }
+    all.extend_from_slice(&[DIGITS[(k % 10) as usize]])?;
+    all.extend_from_slice(rest)?;
+    Ok(())
+}
+
+// The same with the processor's page, whose digit stands between the last two texts.
+fn add_paged(
+    all: &mut Vec<u8>,
+    first: &[u8],
+    k: u8,
+    middle: &[u8],
+    rest: &[u8],
+) -> Result<(), Fail> {
+    add_numbered(all, first, k, middle)?;
+    all.extend_from_slice(&[DIGITS[(k % 16) as usize]])?;
+    all.extend_from_slice(rest)?;
+    Ok(())
+}
+
+// Fifteen processors join one after the other. Each stores a word that stays in its cache, and it is in memory once
+// that processor is retired.
+#[test]
+fn sixteen_processors_come_and_go(rt: HostRuntime) -> Result<(), Fail> {
+    let alloc = rt.alloc();
+    let mut script = repeated(alloc, ONE, b"join\n", 16)?;
+    let mut told = repeated(alloc, b"accepted\n", b"", 0)?;
+    for k in 1..16u8 {
+        add_numbered(&mut told, b"joined ", k, b"\n")?;
+    }
+    told.extend_from_slice(b"full\n")?;
+    for k in 1..16u8 {
+        add_paged(&mut script, b"map ", k, b" 1000 10", b"000 0\n")?;
+        add_paged(&mut script, b"store ", k, b" 1008 2", b"\n")?;
+        told.extend_from_slice(b"ok\nstored WB\n")?;
+    }
+    for i in 0..15u8 {
+        let k = 15 - i;
+        add_paged(&mut script, b"retire\nfence ", k, b"\nword 10", b"008\n")?;
+        add_paged(
+            &mut told,
+            b"retired ",
+            k,
+            b"\nabsent\nmemory 000000000000002",
+            b"\n",
+        )?;
+    }
+    script.extend_from_slice(b"retire\nreport\n")?;
+    told.extend_from_slice(
+        b"no\ncpu 0 running era 15 lines 0 dirty 0 buffers 0 entries 0 stale 0 cd 0 pge 0\nregisters same\n",
+    )?;
+    let ran = run(&rt, &script, 8192, &[])?;
+    assert_eq!(rt; ran.status, Status::Done);
+    assert!(rt; ran.sink.bytes() == told.as_slice());
+    Ok(())
+}
+
+// How often a line stands in a text.
+fn count(text: &[u8], line: &[u8]) -> usize {
+    let mut times = 0usize;
+    for at in 0..text.len() {
+        if text[at..].starts_with(line) {
+            times = times.saturating_add(1);
+        }
+    }
+    times
+}
+
+// An update of two processors takes 42 steps of each. None comes up, joins or goes before the last of them.
+#[test]
+fn none_comes_or_goes_while_an_update_is_under_way(rt: HostRuntime) -> Result<(), Fail> {
+    let alloc = rt.alloc();
+    for (line, last) in [
+        (b"up\n".as_slice(), b"release\nup 2\n".as_slice()),
+        (b"join\n", b"release\njoined 2\n"),
+        (b"retire\n", b"release\nretired 1\n"),
+    ] {
+        let mut script = repeated(alloc, PAIR, b"begin\nend\ngo\n", 1)?;
+        for _ in 0..42 {
+            for step in [b"step 0\n".as_slice(), b"step 1\n"] {
+                script.extend_from_slice(step)?;
+                script.extend_from_slice(line)?;
+            }
+        }
+        let ran = run(&rt, &script, 8192, &[])?;
+        assert_eq!(rt; ran.status, Status::Done);
+        assert_eq!(rt; count(ran.sink.bytes(), b"under way\n"), 83);
+        assert!(rt; ran.sink.bytes().ends_with(last));
+    }
+    Ok(())
+}
+
+// A processor that came up and whose update was cancelled has the blank file still; the next update takes it along.
+#[test]
+fn a_newcomer_may_be_given_up(rt: HostRuntime) -> Result<(), Fail> {
+    let alloc = rt.alloc();
+    let script = repeated(
+        alloc,
+        ONE,
+        b"up\njoin\nmap 1 1000 100000 0\nload 1 1000\ncancel\nmsr 1 2ff\nupdate\nend\nmsr 1 2ff\nload 1 1000\nload 2 1000\n",
+        1,
+    )?;
+    let ran = run(&rt, &script, 4096, &[])?;
+    assert_eq!(rt; ran.status, Status::Done);
+    assert!(rt;
+        ran.sink.bytes()
+            == b"accepted\nup 1\nunder way\nok\nvalue 0000000000000000 UC\ncancelled\n2ff 0000000000000000\ncomplete 1\n2ff 0000000000000800\nvalue 0000000000000000 WB\nabsent\n".as_slice()
+    );
+    Ok(())
+}

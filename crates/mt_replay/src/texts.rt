@@ -7,7 +7,7 @@ ghost use Rattle.mt_machine.specs.Update.{dirty_count};
 ghost use Rattle.mt_output.specs.Lines.{address_text, line};
 ghost use Rattle.mt_regs.specs.declared.fault.Fault.{Fault};
 ghost use Rattle.mt_regs.specs.RegisterFile.{RegisterFile};
-ghost use Rattle.mt_replay.specs.Texts.{call_fault_line, called_line, cancel_line, complete_line, done_line, go_line, have_one_file, is_same_file, memory_line, number_at, phase_text, processor_line, register_line, registers_line, ruled_line, stale_count, stepped_line, switch_text};
+ghost use Rattle.mt_replay.specs.Texts.{call_fault_line, called_line, cancel_line, complete_line, done_line, full_line, go_line, have_one_file, is_same_file, joined_line, memory_line, number_at, phase_text, processor_line, register_line, registers_line, retired_line, ruled_line, stale_count, stepped_line, switch_text, under_way_line, up_line};
 
 use arrayvec::ArrayVec;
 use mt_cache::{Cache, CacheLine};
@@ -103,7 +103,7 @@ pub(crate) fn call_fault_line(fault: &CallFault) -> LineBuffer
 {
     match fault {
         CallFault::Refused(own) => refused_line(own),
-        CallFault::UnderWay => text_line(b"under way"),
+        CallFault::UnderWay => under_way_line(),
     }
 }
 
@@ -123,6 +123,53 @@ pub(crate) fn cancel_line(is_cancelled: bool) -> LineBuffer
     } else {
         text_line(b"no")
     }
+}
+
+// A line of a text and a number.
+fn numbered_line(text: &[u8], number: u32) -> LineBuffer
+    requires { length text.now ≤ 32 }
+    ensures { result.items ≡ line (text.now ++ decimal number) }
+{
+    let mut line = ArrayVec::new();
+    append(&mut line, text);
+    append_decimal(&mut line, number as u64);
+    append(&mut line, b"\n");
+    line
+}
+
+/// A processor came up.
+pub(crate) fn up_line(k: u32) -> LineBuffer
+    ensures { result.items ≡ up_line k }
+{
+    numbered_line(b"up ", k)
+}
+
+/// A processor was admitted.
+pub(crate) fn joined_line(k: u32) -> LineBuffer
+    ensures { result.items ≡ joined_line k }
+{
+    numbered_line(b"joined ", k)
+}
+
+/// A processor was retired.
+pub(crate) fn retired_line(k: u32) -> LineBuffer
+    ensures { result.items ≡ retired_line k }
+{
+    numbered_line(b"retired ", k)
+}
+
+/// An update is under way.
+pub(crate) fn under_way_line() -> LineBuffer
+    ensures { result.items ≡ under_way_line }
+{
+    text_line(b"under way")
+}
+
+/// No more processors may come up.
+pub(crate) fn full_line() -> LineBuffer
+    ensures { result.items ≡ full_line }
+{
+    text_line(b"full")
 }
 
 // The number of the writable register at a place.

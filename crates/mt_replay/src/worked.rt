@@ -1,4 +1,6 @@
 mod commands;
+mod joining;
+mod moving;
 mod states;
 mod steps;
 mod summaries;
@@ -17,6 +19,13 @@ ghost use Rattle.mt_core.specs.declared.stepped.Stepped.TheVariants.{Did, Waits,
 ghost use Rattle.mt_replay.specs.Texts.{call_fault_line, called_line, cancel_line, complete_line, done_line, event_text, go_line, have_one_file, memory_line, phase_text, processor_line, register_line, registers_line, report_text, ruled_line, stepped_line};
 
 pub use commands::{worked_commands, worked_effects};
+pub use joining::{
+    worked_called_goals, worked_join_summary, worked_joined_states, worked_moving_steps,
+};
+pub use moving::{
+    worked_absent, worked_admitted_states, worked_early_texts, worked_flat_moves, worked_moved,
+    worked_moves, worked_newcomer_lines, worked_newcomers, worked_without_newcomer,
+};
 pub use states::{
     worked_dumps, worked_each_state, worked_heads, worked_kept, worked_sections,
     worked_settled_states, worked_without_call, worked_words,

@@ -10,7 +10,7 @@ use Rattle.mt_text.specs.declared.fault.NumberFault.{NumberFault}
 use Rattle.mt_text.specs.declared.fault.NumberFault.TheVariants.{NotDigit, TooLarge}
 use Rattle.mt_text.specs.declared.place.Place.{Place}
 use Rattle.mt_regs.specs.RegisterFile.{RegisterFile}
-use Rattle.mt_script.specs.Situation.{Situation, file_of}
+use Rattle.mt_script.specs.Situation.{Situation, file_of, most_processors}
 use Rattle.mt_script.specs.Words.{text_of, place_of}
 use Rattle.mt_script.specs.Numbers.{fault_at, tested, at_least, below, any, aligned, multiple, register, count_in, processor_in, value_in, aligned_in, physical_in, register_in, base_in, has_room, is_register, is_writable, address_limit}
 use Rattle.mt_script.specs.Rows.{is_word, row_of, stands}
@@ -31,15 +31,15 @@ use Rattle.mt_script.specs.declared.fault.ScriptReason.TheVariants.{OutOfRange, 
 use Rattle.mt_script.specs.declared.fault.ScriptFault.{ScriptFault}
 
 -- what holds after each good number holds of the answer
-fits_with : (P : Command → Type 0) (number : Result ℕ ScriptFault) (next : ℕ → Answer) → ((n : ℕ) → number ≡ Ok n → IfOk (next n) P) → IfOk (with number next) P
+pub fits_with : (P : Command → Type 0) (number : Result ℕ ScriptFault) (next : ℕ → Answer) → ((n : ℕ) → number ≡ Ok n → IfOk (next n) P) → IfOk (with number next) P
 fits_with P (Err fault) next all = tt
 fits_with P (Ok n) next all = all n refl
 
-fits_unless : (P : Command → Type 0) (fault : Option ScriptFault) (answer : Answer) → IfOk answer P → IfOk (unless fault answer) P
+pub fits_unless : (P : Command → Type 0) (fault : Option ScriptFault) (answer : Answer) → IfOk answer P → IfOk (unless fault answer) P
 fits_unless P (Some fault) answer fits = tt
 fits_unless P None answer fits = fits
 
-fits_if : (P : Command → Type 0) (test : Bool) (yes_answer no_answer : Answer) → (test ≡ true → IfOk yes_answer P) → (test ≡ false → IfOk no_answer P) → IfOk (if test then yes_answer else no_answer) P
+pub fits_if : (P : Command → Type 0) (test : Bool) (yes_answer no_answer : Answer) → (test ≡ true → IfOk yes_answer P) → (test ≡ false → IfOk no_answer P) → IfOk (if test then yes_answer else no_answer) P
 fits_if P true yes_answer no_answer good bad = good refl
 fits_if P false yes_answer no_answer good bad = bad refl
 
@@ -86,9 +86,9 @@ count_fact line words i first last n is = by (decimal_number (text_of words i) l
         rw parts.1 at range
 
 module _ (now : Situation) (line : ℕ) (words : List (ℕ × List ℕ)) where
-  for_processor : (next : ℕ → Answer) → ((k : ℕ) → k < now.cpus → IfOk (next k) (Fits now)) → IfOk (with (processor_in now line words 1) next) (Fits now)
+  for_processor : (next : ℕ → Answer) → ((k : ℕ) → k < most_processors now → IfOk (next k) (Fits now)) → IfOk (with (processor_in now line words 1) next) (Fits now)
   for_processor next all = fits_with (Fits now) (processor_in now line words 1) next
-      (λ k is. all k (below_fact now.cpus (place_of line words 1) (decimal_number (text_of words 1) 0xffffffffffffffff) k is))
+      (λ k is. all k (below_fact (most_processors now) (place_of line words 1) (decimal_number (text_of words 1) 0xffffffffffffffff) k is))
 
   for_aligned : (i step limit : ℕ) (next : ℕ → Answer) → ((n : ℕ) → IsAligned step limit n → IfOk (next n) (Fits now)) → IfOk (with (aligned_in line words i step limit) next) (Fits now)
   for_aligned i step limit next all = fits_with (Fits now) (aligned_in line words i step limit) next
@@ -138,7 +138,7 @@ module _ (now : Situation) (line : ℕ) (words : List (ℕ × List ℕ)) where
   RowFits row = stands row.turn now.stage ≡ true → IfOk (verb_answer now line words row.verb) (Fits now)
 
   rows_fit : (word : List ℕ) → IfSome (row_of word) RowFits
-  rows_fit = row_all RowFits (cpus_fits, (λ stage. stage, (ram_fits, (selfsnoop, (load_fits, (store_fits, (fence, (map_fits, (invlpg_fits, (cr3, (pge, (cd, (bare, (bare, (bare, (bare, (bare, (step, (word_fits, (msr_fits, tt))))))))))))))))))))
+  rows_fit = row_all RowFits (cpus_fits, (λ stage. stage, (ram_fits, (selfsnoop, (load_fits, (store_fits, (fence, (map_fits, (invlpg_fits, (cr3, (pge, (cd, (bare, (bare, (bare, (bare, (bare, (step, (bare, (bare, (bare, (word_fits, (msr_fits, tt)))))))))))))))))))))))
     where
       bare : takes_commands now.stage ≡ true → takes_commands now.stage ≡ true
       bare stage = stage

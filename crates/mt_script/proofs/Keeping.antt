@@ -1,6 +1,6 @@
 -- Each command that fits leaves what every setup keeps.
-use Rattle.std.proofs.Common.{◌≡◌, ◌≢◌, ℕ, ◌≤◌, ◌<◌, ◌+◌, ◌*◌, ◌&&◌, nat_eq, nat_lt, nat_le, true, false, List, [], ◌∷◌, ◌++◌, length, refl, sym, ◌∙◌, arith, lit≤}
-use Rattle.std.specs.Prelude.{Option, None, Some, IfSome, is_some}
+use Rattle.std.proofs.Common.{◌≡◌, ◌≢◌, ℕ, ◌≤◌, ◌<◌, ◌+◌, ◌*◌, ◌&&◌, nat_eq, nat_lt, nat_le, true, false, List, [], ◌∷◌, ◌++◌, length, refl, sym, subst, ◌∙◌, arith, lit≤, inl, inr}
+use Rattle.std.specs.Prelude.{Option, None, Some, IfSome, is_some, ◌⊎◌}
 use Rattle.std.specs.Option.{option_map}
 use Rattle.std.specs.List.{IsDistinct, list_all}
 use Rattle.std.specs.Set.{is_member}
@@ -8,11 +8,11 @@ use Rattle.std.proofs.lemmas.Bool.{and_parts, leb-true, ltb-true}
 use Rattle.mt_regs.specs.RegisterFile.{IsRegisterFile}
 use Rattle.mt_dump.specs.Dumps.{Dump, IsDump, first_file}
 use Rattle.mt_dump.specs.ForProcessors.{has_each}
-use Rattle.mt_script.specs.Situation.{Situation, at_start, file_of}
-use Rattle.mt_script.specs.Stages.{HasCpus, takes_cpus, takes_dump, takes_commands, takes_registers, takes_windows, takes_end, is_in_dump, is_past_dump}
+use Rattle.mt_script.specs.Situation.{Situation, at_start, file_of, most_processors}
+use Rattle.mt_script.specs.Stages.{HasCpus, takes_cpus, takes_dump, takes_commands, takes_registers, takes_windows, takes_end, is_in_dump, is_past_dump, is_past_windows}
 use Rattle.mt_script.specs.Numbers.{has_room, lines_together, is_writable, are_apart, address_limit}
 use Rattle.mt_script.specs.Kept.{IsSituation}
-use Rattle.mt_script.specs.Accept.{Fits, accepted, in_commands, in_section_of, finished}
+use Rattle.mt_script.specs.Accept.{Fits, accepted, in_commands, in_motion, in_section_of, finished}
 use Rattle.mt_script.specs.declared.command.Stage.{Stage}
 use Rattle.mt_script.specs.declared.command.Stage.TheVariants.{NeedCpus, NeedDump, InDump, Rams, Commands, InUpdate, InBegin}
 use Rattle.mt_script.specs.declared.command.Command.{Command}
@@ -23,7 +23,7 @@ use Rattle.mt_script.proofs.Sections.{one_more_distinct, one_more_known, room_fo
 -- nothing is set up at the start
 pub start_is : IsSituation at_start
 unfolding IsDistinct
-start_is = record { cpus = refl; has_dump = refl; dump = tt; each = tt; few = lit≤ tt; together = lit≤ tt; early = λ before. refl; distinct = tt; known = λ q member. cc member; idle = λ test. refl }
+start_is = record { cpus = refl; has_dump = refl; dump = tt; each = tt; few = lit≤ tt; together = lit≤ tt; early = λ before. refl; distinct = tt; known = λ q member. cc member; idle = λ test. refl; settled = λ before. refl }
 
 no_registers : (P : ℕ → Type 0) (q : ℕ) → is_member nat_eq [] q ≡ true → P q
 no_registers P q member = cc member
@@ -128,6 +128,25 @@ not_past_in_dump Commands is = cc is
 not_past_in_dump InUpdate is = cc is
 not_past_in_dump InBegin is = cc is
 
+-- windows come after the dump
+before_windows : (stage : Stage) → is_past_dump stage ≡ false → is_past_windows stage ≡ false
+before_windows NeedCpus is = refl
+before_windows NeedDump is = refl
+before_windows InDump is = refl
+before_windows Rams is = refl
+before_windows Commands is = cc is
+before_windows InUpdate is = cc is
+before_windows InBegin is = cc is
+
+among_windows : (stage : Stage) → takes_windows stage ≡ true → is_past_windows stage ≡ false
+among_windows Rams is = refl
+among_windows NeedCpus is = cc is
+among_windows NeedDump is = cc is
+among_windows InDump is = cc is
+among_windows Commands is = cc is
+among_windows InUpdate is = cc is
+among_windows InBegin is = cc is
+
 -- what ends outside the dump ends a section
 registers_of_end : (stage : Stage) → takes_end stage ≡ true → (is_in_dump stage ≡ true → ⊥) → takes_registers stage ≡ true
 registers_of_end InUpdate is not_dump = refl
@@ -159,20 +178,20 @@ lines_then (w ∷ windows) base lines = let e = lines_then windows base lines in
 module _ (now : Situation) (is : IsSituation now) where
   -- past the dump
   commands_is : is_past_dump now.stage ≡ true → takes_registers now.stage ≡ false → IsSituation (in_commands now)
-  commands_is past idle = record { cpus = cpus_past now.stage now.cpus past is.cpus; has_dump = is.has_dump ∙ past; dump = is.dump; each = is.each; few = is.few; together = is.together; early = λ before. cc before; distinct = is.distinct; known = is.known; idle = λ test. is.idle idle }
+  commands_is past idle = record { cpus = cpus_past now.stage now.cpus past is.cpus; has_dump = is.has_dump ∙ past; dump = is.dump; each = is.each; few = is.few; together = is.together; early = λ before. cc before; distinct = is.distinct; known = is.known; idle = λ test. is.idle idle; settled = λ before. cc before }
 
   -- no register is given where a section begins or ends
-  section_is : (stage : Stage) → is_past_dump now.stage ≡ true → HasCpus stage now.cpus → is_past_dump stage ≡ true → IsSituation (in_section_of stage now)
+  section_is : (stage : Stage) → is_past_dump now.stage ≡ true → HasCpus stage now.cpus → is_past_dump stage ≡ true → is_past_windows stage ≡ true → IsSituation (in_section_of stage now)
   unfolding IsDistinct
-  section_is stage past cpus past_too = record { cpus = cpus; has_dump = is.has_dump ∙ past ∙ sym past_too; dump = is.dump; each = is.each; few = is.few; together = is.together; early = λ before. let e = sym past_too ∙ before in cc e; distinct = tt; known = no_registers _; idle = λ test. refl }
+  section_is stage past cpus past_too behind = record { cpus = cpus; has_dump = is.has_dump ∙ past ∙ sym past_too; dump = is.dump; each = is.each; few = is.few; together = is.together; early = λ before. let e = sym past_too ∙ before in cc e; distinct = tt; known = no_registers _; idle = λ test. refl; settled = λ before. let e = sym behind ∙ before in cc e }
 
   cpus_is : (n : ℕ) → is_past_dump now.stage ≡ false → 1 ≤ n → n ≤ 16 → IsSituation (record now { stage = NeedDump; cpus = n })
-  cpus_is n before some few = record { cpus = (some, few); has_dump = is.has_dump ∙ before; dump = is.dump; each = of_none (λ dump. has_each n dump ≡ true) now.dump (is.has_dump ∙ before); few = is.few; together = is.together; early = λ still. is.early before; distinct = is.distinct; known = is.known; idle = λ test. is.idle (idle_not_past now.stage before) }
+  cpus_is n before some few = record { cpus = (some, few); has_dump = is.has_dump ∙ before; dump = is.dump; each = of_none (λ dump. has_each n dump ≡ true) now.dump (is.has_dump ∙ before); few = is.few; together = is.together; early = λ still. is.early before; distinct = is.distinct; known = is.known; idle = λ test. is.idle (idle_not_past now.stage before); settled = λ still. is.settled (before_windows now.stage before) }
 
   dump_is : takes_dump now.stage ≡ true → IsSituation (record now { stage = InDump })
   dump_is takes =
       let before = not_past_of_dump now.stage takes in
-      record { cpus = cpus_of_dump now.stage now.cpus takes is.cpus; has_dump = is.has_dump ∙ before; dump = is.dump; each = is.each; few = is.few; together = is.together; early = λ still. is.early before; distinct = is.distinct; known = is.known; idle = λ test. is.idle (idle_not_past now.stage before) }
+      record { cpus = cpus_of_dump now.stage now.cpus takes is.cpus; has_dump = is.has_dump ∙ before; dump = is.dump; each = is.each; few = is.few; together = is.together; early = λ still. is.early before; distinct = is.distinct; known = is.known; idle = λ test. is.idle (idle_not_past now.stage before); settled = λ still. is.settled (before_windows now.stage before) }
 
   -- the bounds that a window keeps to
   window_bounds : (base lines : ℕ) → has_room now base lines ≡ true → (length now.windows < 16) × (lines_together now.windows + lines ≤ 4096)
@@ -189,7 +208,7 @@ module _ (now : Situation) (is : IsSituation now) where
       let bounds = window_bounds base lines room in
       let few = bounds.0 in
       let count = length_then now.windows (base, lines) in
-      record { cpus = is.cpus; has_dump = is.has_dump; dump = is.dump; each = is.each; few = omega arith; together = rw (lines_then now.windows base lines) bounds.1; early = λ before. let e = sym (past_of_windows now.stage takes) ∙ before in cc e; distinct = is.distinct; known = is.known; idle = is.idle }
+      record { cpus = is.cpus; has_dump = is.has_dump; dump = is.dump; each = is.each; few = omega arith; together = rw (lines_then now.windows base lines) bounds.1; early = λ before. let e = sym (past_of_windows now.stage takes) ∙ before in cc e; distinct = is.distinct; known = is.known; idle = is.idle; settled = is.settled }
 
   pub room_for_register : (msr : ℕ) → is_writable (file_of now) msr ≡ true → is_member nat_eq now.seen msr ≡ false → length now.seen < 77
   room_for_register msr known new = room_for_one (file_of now) now.seen msr (first_is now.dump is.dump) is.distinct is.known known new
@@ -206,15 +225,25 @@ module _ (now : Situation) (is : IsSituation now) where
     distinct = one_more_distinct (file_of now) now.seen msr (first_is now.dump is.dump) is.distinct is.known known new;
     known = one_more_known (file_of now) now.seen msr (first_is now.dump is.dump) is.distinct is.known known new;
     idle = λ test. let e = sym test ∙ takes in cc e;
+    settled = is.settled;
   }
 
   given : takes_commands now.stage ≡ true → IsSituation (in_commands now)
   given takes = commands_is (past_of_commands now.stage takes) (idle_commands now.stage takes)
 
-  section : (stage : Stage) → takes_commands now.stage ≡ true → ((1 ≤ now.cpus) × (now.cpus ≤ 16) → HasCpus stage now.cpus) → is_past_dump stage ≡ true → IsSituation (in_section_of stage now)
-  section stage takes cpus past_too =
+  moved : takes_commands now.stage ≡ true → IsSituation (in_motion now)
+  moved takes =
+      let there = given takes in
+      record { cpus = there.cpus; has_dump = there.has_dump; dump = there.dump; each = there.each; few = there.few; together = there.together; early = there.early; distinct = there.distinct; known = there.known; idle = there.idle; settled = λ before. cc before }
+
+  -- while windows may be added no processor has come or gone
+  pub all_there : takes_windows now.stage ≡ true → most_processors now ≡ now.cpus
+  all_there takes = rw (is.settled (among_windows now.stage takes)) refl
+
+  section : (stage : Stage) → takes_commands now.stage ≡ true → ((1 ≤ now.cpus) × (now.cpus ≤ 16) → HasCpus stage now.cpus) → is_past_dump stage ≡ true → is_past_windows stage ≡ true → IsSituation (in_section_of stage now)
+  section stage takes cpus past_too behind =
       let past = past_of_commands now.stage takes in
-      section_is stage past (cpus (cpus_past now.stage now.cpus past is.cpus)) past_too
+      section_is stage past (cpus (cpus_past now.stage now.cpus past is.cpus)) past_too behind
 
   -- each command that fits, but the end of the dump
   pub accepted_is : (c : Command) → Fits now c → (is_in_dump now.stage ≡ true → c ≢ command.End) → IsSituation (accepted now c)
@@ -230,12 +259,15 @@ module _ (now : Situation) (is : IsSituation now) where
   accepted_is (command.Cr3 k) fits goes_on = given fits.0
   accepted_is (command.Pge k on) fits goes_on = given fits.0
   accepted_is (command.Cd k on) fits goes_on = given fits.0
-  accepted_is command.Update fits goes_on = section InUpdate fits (λ cpus. cpus) refl
-  accepted_is command.Begin fits goes_on = section InBegin fits (λ cpus. cpus) refl
+  accepted_is command.Update fits goes_on = section InUpdate fits (λ cpus. cpus) refl refl
+  accepted_is command.Begin fits goes_on = section InBegin fits (λ cpus. cpus) refl refl
   accepted_is command.Go fits goes_on = given fits
   accepted_is command.Cancel fits goes_on = given fits
   accepted_is command.Report fits goes_on = given fits
   accepted_is (command.Step k) fits goes_on = given fits.0
+  accepted_is command.Up fits goes_on = moved fits
+  accepted_is command.Join fits goes_on = moved fits
+  accepted_is command.Retire fits goes_on = moved fits
   accepted_is (command.Word address) fits goes_on = given fits.0
   accepted_is (command.Msr k msr) fits goes_on = given fits.0.0
   accepted_is command.Blank fits goes_on = is
@@ -244,38 +276,46 @@ module _ (now : Situation) (is : IsSituation now) where
   accepted_is command.End fits goes_on =
       let registers = registers_of_end now.stage fits (λ dump. goes_on dump refl) in
       let past = past_of_registers now.stage registers in
-      section_is Commands past (cpus_past now.stage now.cpus past is.cpus) refl
+      section_is Commands past (cpus_past now.stage now.cpus past is.cpus) refl refl
+
+  pub motion_is : (c : Command) → Fits now c → (c ≡ command.Up) ⊎ ((c ≡ command.Join) ⊎ (c ≡ command.Retire)) → IsSituation (in_motion now)
+  motion_is c fits (inl up) = moved (subst (Fits now) up fits)
+  motion_is c fits (inr (inl join)) = moved (subst (Fits now) join fits)
+  motion_is c fits (inr (inr retire)) = moved (subst (Fits now) retire fits)
 
   -- each of the other commands moves on among the commands
   pub others_is : (c : Command) → Fits now c → (is_in_dump now.stage ≡ true → c ≢ command.End)
       → ((n : ℕ) → c ≢ command.Cpus n) → c ≢ command.Dump → ((base lines : ℕ) → c ≢ command.Ram base lines) → ((k : ℕ) → c ≢ command.Selfsnoop k) → c ≢ command.Update → c ≢ command.Begin
-      → c ≢ command.Blank → c ≢ command.DumpLine → ((msr value : ℕ) → c ≢ command.Register msr value) → c ≢ command.End → IsSituation (in_commands now)
-  others_is (command.Cpus n) fits goes_on cpus dump ram snoop update begin blank line register end = absurd (cpus n refl)
-  others_is command.Dump fits goes_on cpus dump ram snoop update begin blank line register end = absurd (dump refl)
-  others_is (command.Ram base lines) fits goes_on cpus dump ram snoop update begin blank line register end = absurd (ram base lines refl)
-  others_is (command.Selfsnoop k) fits goes_on cpus dump ram snoop update begin blank line register end = absurd (snoop k refl)
-  others_is (command.Load k address) fits goes_on cpus dump ram snoop update begin blank line register end = given fits.0.0
-  others_is (command.Store k address value) fits goes_on cpus dump ram snoop update begin blank line register end = given fits.0.0
-  others_is (command.Fence k) fits goes_on cpus dump ram snoop update begin blank line register end = given fits.0
-  others_is (command.Map k address physical index global) fits goes_on cpus dump ram snoop update begin blank line register end = given fits.0.0
-  others_is (command.Invlpg k address) fits goes_on cpus dump ram snoop update begin blank line register end = given fits.0.0
-  others_is (command.Cr3 k) fits goes_on cpus dump ram snoop update begin blank line register end = given fits.0
-  others_is (command.Pge k on) fits goes_on cpus dump ram snoop update begin blank line register end = given fits.0
-  others_is (command.Cd k on) fits goes_on cpus dump ram snoop update begin blank line register end = given fits.0
-  others_is command.Update fits goes_on cpus dump ram snoop update begin blank line register end = absurd (update refl)
-  others_is command.Begin fits goes_on cpus dump ram snoop update begin blank line register end = absurd (begin refl)
-  others_is command.Go fits goes_on cpus dump ram snoop update begin blank line register end = given fits
-  others_is command.Cancel fits goes_on cpus dump ram snoop update begin blank line register end = given fits
-  others_is command.Report fits goes_on cpus dump ram snoop update begin blank line register end = given fits
-  others_is (command.Step k) fits goes_on cpus dump ram snoop update begin blank line register end = given fits.0
-  others_is (command.Word address) fits goes_on cpus dump ram snoop update begin blank line register end = given fits.0
-  others_is (command.Msr k msr) fits goes_on cpus dump ram snoop update begin blank line register end = given fits.0.0
-  others_is command.Blank fits goes_on cpus dump ram snoop update begin blank line register end = absurd (blank refl)
-  others_is command.DumpLine fits goes_on cpus dump ram snoop update begin blank line register end = absurd (line refl)
-  others_is (command.Register msr value) fits goes_on cpus dump ram snoop update begin blank line register end = absurd (register msr value refl)
-  others_is command.End fits goes_on cpus dump ram snoop update begin blank line register end = absurd (end refl)
+      → c ≢ command.Up → c ≢ command.Join → c ≢ command.Retire → c ≢ command.Blank → c ≢ command.DumpLine → ((msr value : ℕ) → c ≢ command.Register msr value) → c ≢ command.End → IsSituation (in_commands now)
+  others_is (command.Cpus n) fits goes_on cpus dump ram snoop update begin up join retire blank line register end = absurd (cpus n refl)
+  others_is command.Dump fits goes_on cpus dump ram snoop update begin up join retire blank line register end = absurd (dump refl)
+  others_is (command.Ram base lines) fits goes_on cpus dump ram snoop update begin up join retire blank line register end = absurd (ram base lines refl)
+  others_is (command.Selfsnoop k) fits goes_on cpus dump ram snoop update begin up join retire blank line register end = absurd (snoop k refl)
+  others_is (command.Load k address) fits goes_on cpus dump ram snoop update begin up join retire blank line register end = given fits.0.0
+  others_is (command.Store k address value) fits goes_on cpus dump ram snoop update begin up join retire blank line register end = given fits.0.0
+  others_is (command.Fence k) fits goes_on cpus dump ram snoop update begin up join retire blank line register end = given fits.0
+  others_is (command.Map k address physical index global) fits goes_on cpus dump ram snoop update begin up join retire blank line register end = given fits.0.0
+  others_is (command.Invlpg k address) fits goes_on cpus dump ram snoop update begin up join retire blank line register end = given fits.0.0
+  others_is (command.Cr3 k) fits goes_on cpus dump ram snoop update begin up join retire blank line register end = given fits.0
+  others_is (command.Pge k on) fits goes_on cpus dump ram snoop update begin up join retire blank line register end = given fits.0
+  others_is (command.Cd k on) fits goes_on cpus dump ram snoop update begin up join retire blank line register end = given fits.0
+  others_is command.Update fits goes_on cpus dump ram snoop update begin up join retire blank line register end = absurd (update refl)
+  others_is command.Begin fits goes_on cpus dump ram snoop update begin up join retire blank line register end = absurd (begin refl)
+  others_is command.Go fits goes_on cpus dump ram snoop update begin up join retire blank line register end = given fits
+  others_is command.Cancel fits goes_on cpus dump ram snoop update begin up join retire blank line register end = given fits
+  others_is command.Report fits goes_on cpus dump ram snoop update begin up join retire blank line register end = given fits
+  others_is (command.Step k) fits goes_on cpus dump ram snoop update begin up join retire blank line register end = given fits.0
+  others_is command.Up fits goes_on cpus dump ram snoop update begin up join retire blank line register end = absurd (up refl)
+  others_is command.Join fits goes_on cpus dump ram snoop update begin up join retire blank line register end = absurd (join refl)
+  others_is command.Retire fits goes_on cpus dump ram snoop update begin up join retire blank line register end = absurd (retire refl)
+  others_is (command.Word address) fits goes_on cpus dump ram snoop update begin up join retire blank line register end = given fits.0
+  others_is (command.Msr k msr) fits goes_on cpus dump ram snoop update begin up join retire blank line register end = given fits.0.0
+  others_is command.Blank fits goes_on cpus dump ram snoop update begin up join retire blank line register end = absurd (blank refl)
+  others_is command.DumpLine fits goes_on cpus dump ram snoop update begin up join retire blank line register end = absurd (line refl)
+  others_is (command.Register msr value) fits goes_on cpus dump ram snoop update begin up join retire blank line register end = absurd (register msr value refl)
+  others_is command.End fits goes_on cpus dump ram snoop update begin up join retire blank line register end = absurd (end refl)
 
   -- the end of the dump
   pub finished_is : (dump : Dump) → is_in_dump now.stage ≡ true → IsDump dump → has_each now.cpus dump ≡ true → IsSituation (finished now dump)
   unfolding IsDistinct
-  finished_is dump stage good each = record { cpus = cpus_in_dump now.stage now.cpus stage is.cpus; has_dump = refl; dump = good; each = each; few = is.few; together = is.together; early = λ before. cc before; distinct = tt; known = no_registers _; idle = λ test. refl }
+  finished_is dump stage good each = record { cpus = cpus_in_dump now.stage now.cpus stage is.cpus; has_dump = refl; dump = good; each = each; few = is.few; together = is.together; early = λ before. cc before; distinct = tt; known = no_registers _; idle = λ test. refl; settled = λ before. is.settled (before_windows now.stage (not_past_in_dump now.stage stage)) }

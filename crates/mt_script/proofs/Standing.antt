@@ -12,7 +12,7 @@ use Rattle.mt_text.specs.declared.fault.NumberFault.{NumberFault}
 use Rattle.mt_text.specs.declared.fault.NumberFault.TheVariants.{NotDigit, TooLarge}
 use Rattle.mt_text.specs.declared.place.Place.{Place}
 use Rattle.mt_regs.specs.RegisterFile.{RegisterFile}
-use Rattle.mt_script.specs.Situation.{Situation, file_of}
+use Rattle.mt_script.specs.Situation.{Situation, file_of, most_processors}
 use Rattle.mt_script.specs.Words.{word_of, text_of, place_of}
 use Rattle.mt_script.specs.Numbers.{fault_at, tested, at_least, below, any, aligned, multiple, register, count_in, processor_in, value_in, aligned_in, physical_in, register_in, base_in, has_room, is_register, is_writable, address_limit}
 use Rattle.mt_script.specs.Rows.{row_of, stands, fits}
@@ -92,7 +92,7 @@ module _ (line : ℕ) (words : List (ℕ × List ℕ)) where
   count_fails i first last within = number_at i (count_in line words i first last) within (at_least_at first (place_of line words i) (decimal_number (text_of words i) last))
 
   processor_fails : (now : Situation) → 1 < length words → IfErr (processor_in now line words 1) AtWord
-  processor_fails now within = number_at 1 (processor_in now line words 1) within (below_at now.cpus (place_of line words 1) (decimal_number (text_of words 1) 0xffffffffffffffff))
+  processor_fails now within = number_at 1 (processor_in now line words 1) within (below_at (most_processors now) (place_of line words 1) (decimal_number (text_of words 1) 0xffffffffffffffff))
 
   value_fails : (i : ℕ) → i < length words → IfErr (value_in line words i) AtWord
   value_fails i within = number_at i (value_in line words i) within (any_at (place_of line words i) (hex_number (text_of words i)))
@@ -151,7 +151,7 @@ module _ (line : ℕ) (words : List (ℕ × List ℕ)) where
   RowFails now row = row.least ≤ length words → IfErr (verb_answer now line words row.verb) AtWord
 
   rows_fail : (now : Situation) (word : List ℕ) → IfSome (row_of word) (RowFails now)
-  rows_fail now = row_all (RowFails now) (cpus_fails, (bare, (ram_fails now, (one command.Selfsnoop, (load_fails now, (store_fails now, (one command.Fence, (map_fails now, (invlpg_fails now, (one command.Cr3, (switch command.Pge, (switch command.Cd, (bare, (bare, (bare, (bare, (bare, (one command.Step, (word_fails now, (msr_fails now, tt))))))))))))))))))))
+  rows_fail now = row_all (RowFails now) (cpus_fails, (bare, (ram_fails now, (one command.Selfsnoop, (load_fails now, (store_fails now, (one command.Fence, (map_fails now, (invlpg_fails now, (one command.Cr3, (switch command.Pge, (switch command.Cd, (bare, (bare, (bare, (bare, (bare, (one command.Step, (bare, (bare, (bare, (word_fails now, (msr_fails now, tt)))))))))))))))))))))))
     where
       bare : 1 ≤ length words → ⊤
       bare has = tt

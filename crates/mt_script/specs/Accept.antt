@@ -5,7 +5,7 @@
 use Rattle.std.specs.Prelude.{ℕ, nat_eq, ◌≡◌, ◌≤◌, ◌<◌, ◌^◌, ◌%◌, true, false, [], ◌∷◌, ◌++◌, Some}
 use Rattle.std.specs.Set.{is_member}
 use Rattle.mt_dump.specs.Dumps.{Dump}
-use Rattle.mt_script.specs.Situation.{Situation, file_of}
+use Rattle.mt_script.specs.Situation.{Situation, file_of, most_processors}
 use Rattle.mt_script.specs.Numbers.{has_room, is_register, is_writable, address_limit}
 use Rattle.mt_script.specs.Stages.{takes_cpus, takes_dump, takes_windows, takes_commands, is_in_dump, takes_registers, takes_end}
 use Rattle.mt_script.specs.declared.command.Stage.{Stage}
@@ -15,7 +15,7 @@ use Rattle.mt_script.specs.declared.command.Command.TheVariants as command
 
 -- commands may be given, this one to this processor
 abbrev pub IsFor : Situation → ℕ → Type 0
-IsFor now k = (takes_commands now.stage ≡ true) × (k < now.cpus)
+IsFor now k = (takes_commands now.stage ≡ true) × (k < most_processors now)
 
 -- an address is a multiple of a step and below a limit
 abbrev pub IsAligned : ℕ → ℕ → ℕ → Type 0
@@ -25,7 +25,7 @@ abbrev pub Fits : Situation → Command → Type 0
 Fits now (command.Cpus n) = (takes_cpus now.stage ≡ true) × (1 ≤ n) × (n ≤ 16)
 Fits now command.Dump = takes_dump now.stage ≡ true
 Fits now (command.Ram base lines) = (takes_windows now.stage ≡ true) × (base % 64 ≡ 0) × (1 ≤ lines) × (lines ≤ 4096) × (has_room now base lines ≡ true)
-Fits now (command.Selfsnoop k) = (takes_windows now.stage ≡ true) × (k < now.cpus)
+Fits now (command.Selfsnoop k) = (takes_windows now.stage ≡ true) × (k < most_processors now)
 Fits now (command.Load k address) = IsFor now k × IsAligned 8 (2 ^ 48) address
 Fits now (command.Store k address value) = IsFor now k × IsAligned 8 (2 ^ 48) address × (value < 2 ^ 64)
 Fits now (command.Fence k) = IsFor now k
@@ -41,6 +41,9 @@ Fits now command.Go = takes_commands now.stage ≡ true
 Fits now command.Cancel = takes_commands now.stage ≡ true
 Fits now command.Report = takes_commands now.stage ≡ true
 Fits now (command.Step k) = IsFor now k
+Fits now command.Up = takes_commands now.stage ≡ true
+Fits now command.Join = takes_commands now.stage ≡ true
+Fits now command.Retire = takes_commands now.stage ≡ true
 Fits now (command.Word address) = (takes_commands now.stage ≡ true) × IsAligned 8 (address_limit (file_of now)) address
 Fits now (command.Msr k msr) = IsFor now k × (is_register (file_of now) msr ≡ true)
 Fits now command.Blank = is_in_dump now.stage ≡ false
@@ -51,6 +54,10 @@ Fits now command.End = takes_end now.stage ≡ true
 
 abbrev pub in_commands : Situation → Situation
 in_commands now = record now { stage = Commands }
+
+-- a processor may come or go
+abbrev pub in_motion : Situation → Situation
+in_motion now = record (in_commands now) { moving = true }
 
 -- a section begins, in which no register is given yet
 abbrev pub in_section_of : Stage → Situation → Situation
@@ -75,6 +82,9 @@ accepted now command.Go = in_commands now
 accepted now command.Cancel = in_commands now
 accepted now command.Report = in_commands now
 accepted now (command.Step k) = in_commands now
+accepted now command.Up = in_motion now
+accepted now command.Join = in_motion now
+accepted now command.Retire = in_motion now
 accepted now (command.Word address) = in_commands now
 accepted now (command.Msr k msr) = in_commands now
 accepted now command.Blank = now

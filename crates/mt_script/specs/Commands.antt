@@ -100,6 +100,9 @@ verb_answer now line words verb.Go = Ok command.Go
 verb_answer now line words verb.Cancel = Ok command.Cancel
 verb_answer now line words verb.Report = Ok command.Report
 verb_answer now line words verb.Step = with (processor_in now line words 1) (λ k. Ok (command.Step k))
+verb_answer now line words verb.Up = Ok command.Up
+verb_answer now line words verb.Join = Ok command.Join
+verb_answer now line words verb.Retire = Ok command.Retire
 verb_answer now line words verb.Word = with (physical_in now line words 1 8) (λ address. Ok (command.Word address))
 verb_answer now line words verb.Msr = msr_in now line words
 

@@ -5,7 +5,7 @@ use Rattle.std.specs.Set.{is_member}
 use Rattle.mt_dump.specs.Dumps.{IsDump}
 use Rattle.mt_dump.specs.ForProcessors.{has_each}
 use Rattle.mt_script.specs.Situation.{Situation, file_of}
-use Rattle.mt_script.specs.Stages.{HasCpus, is_past_dump, takes_registers}
+use Rattle.mt_script.specs.Stages.{HasCpus, is_past_dump, is_past_windows, takes_registers}
 use Rattle.mt_script.specs.Numbers.{is_writable, lines_together}
 
 pub record IsSituation (now : Situation) : Type 0 where
@@ -19,3 +19,4 @@ pub record IsSituation (now : Situation) : Type 0 where
   pub distinct : IsDistinct nat_eq now.seen  -- no register is given twice in a section
   pub known : (msr : ℕ) → is_member nat_eq now.seen msr ≡ true → is_writable (file_of now) msr ≡ true  -- each of them is a writable register
   pub idle : takes_registers now.stage ≡ false → now.seen ≡ []  -- and outside the sections none is given
+  pub settled : is_past_windows now.stage ≡ false → now.moving ≡ false  -- no processor comes or goes before the last window

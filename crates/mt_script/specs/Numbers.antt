@@ -7,7 +7,7 @@ use Rattle.mt_text.specs.declared.fault.NumberFault.TheVariants.{NotDigit, TooLa
 use Rattle.mt_text.specs.declared.place.Place.{Place}
 use Rattle.mt_regs.specs.RegisterFile.{RegisterFile}
 use Rattle.mt_regs.specs.Registers.{value_at}
-use Rattle.mt_script.specs.Situation.{Situation, file_of}
+use Rattle.mt_script.specs.Situation.{Situation, file_of, most_processors}
 use Rattle.mt_script.specs.Words.{text_of, place_of}
 use Rattle.mt_script.specs.declared.fault.ScriptReason.{ScriptReason}
 use Rattle.mt_script.specs.declared.fault.ScriptReason.TheVariants.{BadNumber, UnknownRegister, OutOfRange}
@@ -74,7 +74,7 @@ count_in line words i first last = at_least first (place_of line words i) (decim
 
 -- the number of a processor
 abbrev pub processor_in : Situation → ℕ → List (ℕ × List ℕ) → ℕ → Result ℕ ScriptFault
-processor_in now line words i = below now.cpus (place_of line words i) (decimal_number (text_of words i) 0xffffffffffffffff)
+processor_in now line words i = below (most_processors now) (place_of line words i) (decimal_number (text_of words i) 0xffffffffffffffff)
 
 abbrev pub value_in : ℕ → List (ℕ × List ℕ) → ℕ → Result ℕ ScriptFault
 value_in line words i = any (place_of line words i) (hex_number (text_of words i))

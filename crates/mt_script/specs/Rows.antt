@@ -42,6 +42,9 @@ table =
     ∷ (codes "cancel", plain verb.Cancel 1 Commands)
     ∷ (codes "report", plain verb.Report 1 Commands)
     ∷ (codes "step", plain verb.Step 2 Commands)
+    ∷ (codes "up", plain verb.Up 1 Commands)
+    ∷ (codes "join", plain verb.Join 1 Commands)
+    ∷ (codes "retire", plain verb.Retire 1 Commands)
     ∷ (codes "word", plain verb.Word 2 Commands)
     ∷ (codes "msr", plain verb.Msr 3 Commands)
     ∷ []

@@ -83,6 +83,16 @@ is_past_dump Commands = true
 is_past_dump InUpdate = true
 is_past_dump InBegin = true
 
+-- no window may be added any more
+abbrev pub is_past_windows : Stage → Bool
+is_past_windows NeedCpus = false
+is_past_windows NeedDump = false
+is_past_windows InDump = false
+is_past_windows Rams = false
+is_past_windows Commands = true
+is_past_windows InUpdate = true
+is_past_windows InBegin = true
+
 -- how many processors there may be: none before they are told, and then 1 to 16
 abbrev pub HasCpus : Stage → ℕ → Type 0
 HasCpus NeedCpus cpus = cpus ≡ 0

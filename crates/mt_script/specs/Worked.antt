@@ -1,5 +1,5 @@
 -- Situations of worked examples.
-use Rattle.std.specs.Prelude.{ℕ, ◌∷◌, ◌++◌, [], List, codes, Option, Some, Err}
+use Rattle.std.specs.Prelude.{ℕ, true, false, ◌∷◌, ◌++◌, [], List, codes, Option, Some, Err}
 use Rattle.mt_regs.specs.RegisterFile.{RegisterFile, blank_file}
 use Rattle.mt_dump.specs.Canon.{ended}
 use Rattle.mt_dump.specs.Dumps.{Dump, dump_of}
@@ -16,7 +16,11 @@ use Rattle.mt_script.specs.declared.fault.Offence.TheVariants as offence
 
 -- two processors of 36 bits with eight pairs and fixed ranges, and a window of sixteen lines from 1,024 on
 abbrev pub ready : Stage → Situation
-ready stage = record { stage = stage; cpus = 2; dump = Some (dump_of (blank_file 36 0x508)); windows = (0x400, 16) ∷ []; seen = [] }
+ready stage = record { stage = stage; cpus = 2; dump = Some (dump_of (blank_file 36 0x508)); windows = (0x400, 16) ∷ []; seen = []; moving = false }
+
+-- the same, behind a processor that came or went
+abbrev pub in_flux : Stage → Situation
+in_flux stage = record (ready stage) { moving = true }
 
 -- a section that has given 200H
 abbrev pub with_one : Stage → Situation

@@ -91,6 +91,12 @@ fn find_row(word: &[u8]) -> Option<Row>
         Some(plain(Verb::Report, 1, Turn::Commands))
     } else if is_word(word, b"step") {
         Some(plain(Verb::Step, 2, Turn::Commands))
+    } else if is_word(word, b"up") {
+        Some(plain(Verb::Up, 1, Turn::Commands))
+    } else if is_word(word, b"join") {
+        Some(plain(Verb::Join, 1, Turn::Commands))
+    } else if is_word(word, b"retire") {
+        Some(plain(Verb::Retire, 1, Turn::Commands))
     } else if is_word(word, b"word") {
         Some(plain(Verb::Word, 2, Turn::Commands))
     } else if is_word(word, b"msr") {

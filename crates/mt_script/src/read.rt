@@ -12,8 +12,8 @@ ghost use Rattle.mt_script.specs.declared.fault.ScriptReason.TheVariants.{BadLin
 
 use crate::name::{is_word, row_of, stands, takes_commands};
 use crate::number::{
-    any, base_at, count_at, fault, physical_at, processor_at, register_at, value_at, virtual_at,
-    writable,
+    MOST_CPUS, any, base_at, count_at, fault, physical_at, processor_at, register_at, value_at,
+    virtual_at, writable,
 };
 use crate::room::{MOST_LINES, has_room};
 use crate::row::Verb;
@@ -21,8 +21,6 @@ use crate::shape::shape_fault;
 use crate::{Command, ScriptFault, ScriptReason, Setup, Stage};
 use mt_kinds::{PAGE_BYTES, WORD_BYTES};
 use mt_text::{LIMIT_COLUMN, Line, Place, Words, hex64, without_ending};
-
-const MOST_CPUS: u64 = 16;
 
 const LAST_INDEX: u64 = 7;
 
@@ -85,7 +83,7 @@ fn read_msr(words: &Words<'_>, setup: &Setup) -> Result<Command, ScriptFault>
 fn read_cpus(words: &Words<'_>) -> Result<Command, ScriptFault>
     ensures { result ≡ cpus_in words.now.number words.now.words }
 {
-    Ok(Command::Cpus(count_at(words, 1, 1, MOST_CPUS)? as u32))
+    Ok(Command::Cpus(count_at(words, 1, 1, MOST_CPUS as u64)? as u32))
 }
 
 fn is_on(words: &Words<'_>) -> bool
@@ -117,6 +115,9 @@ fn read_verb(words: &Words<'_>, setup: &Setup, verb: Verb) -> Result<Command, Sc
         Verb::Cancel => Ok(Command::Cancel),
         Verb::Report => Ok(Command::Report),
         Verb::Step => Ok(Command::Step(processor_at(words, 1, setup)?)),
+        Verb::Up => Ok(Command::Up),
+        Verb::Join => Ok(Command::Join),
+        Verb::Retire => Ok(Command::Retire),
         Verb::Word => Ok(Command::Word(physical_at(words, 1, WORD_BYTES, setup)?)),
         Verb::Msr => read_msr(words, setup),
     }

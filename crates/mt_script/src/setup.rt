@@ -3,7 +3,7 @@ ghost use Rattle.mt_dump.specs.ForProcessors.{has_each};
 ghost use Rattle.mt_script.specs.Situation.{at_start, file_of};
 ghost use Rattle.mt_script.specs.Stages.{is_in_dump};
 ghost use Rattle.mt_script.specs.Kept.{IsSituation};
-ghost use Rattle.mt_script.specs.Accept.{Fits, in_section_of, accepted, finished};
+ghost use Rattle.mt_script.specs.Accept.{Fits, in_motion, in_section_of, accepted, finished};
 
 use crate::{Command, Stage};
 use arrayvec::ArrayVec;
@@ -19,6 +19,7 @@ pub struct Setup {
     dump: Option<Dump>,
     windows: ArrayVec<(u64, u32), 16>,
     seen: ArrayVec<u32, 77>,
+    moving: bool,
 }
 
 impl Model for Setup {
@@ -44,6 +45,7 @@ impl Setup {
             dump: None,
             windows: ArrayVec::new(),
             seen: ArrayVec::new(),
+            moving: false,
         }
     }
 
@@ -54,7 +56,7 @@ impl Setup {
         self.stage
     }
 
-    /// How many processors there are, 0 before the `cpus` line.
+    /// How many processors there are at the start, 0 before the `cpus` line.
     pub fn cpus(&self) -> u32
         ensures { result ≡ self.now.cpus }
     {
@@ -93,6 +95,13 @@ impl Setup {
         self.seen.as_slice()
     }
 
+    /// Whether an `up`, `join` or `retire` line was accepted before.
+    pub fn moving(&self) -> bool
+        ensures { result ≡ self.now.moving }
+    {
+        self.moving
+    }
+
     /// What every setup keeps. This does nothing.
     pub fn is_situation(&self)
         ensures { IsSituation self.now }
@@ -105,6 +114,14 @@ impl Setup {
         ensures { self.new ≡ record self.old { stage = stage } }
     {
         self.stage = stage;
+    }
+
+    fn begin_motion(&mut self)
+        requires { IsSituation (in_motion self.old) }
+        ensures { self.new ≡ in_motion self.old }
+    {
+        self.stage = Stage::Commands;
+        self.moving = true;
     }
 
     fn begin_section(&mut self, stage: Stage)
@@ -154,6 +171,7 @@ impl Setup {
             Command::Update => self.begin_section(Stage::InUpdate),
             Command::Begin => self.begin_section(Stage::InBegin),
             Command::End => self.begin_section(Stage::Commands),
+            Command::Up | Command::Join | Command::Retire => self.begin_motion(),
             Command::Register { msr, .. } => self.add_register(msr),
             Command::Selfsnoop(_) | Command::Blank | Command::DumpLine => {}
             _ => self.move_to(Stage::Commands),

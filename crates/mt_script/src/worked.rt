@@ -7,7 +7,7 @@ ghost use Rattle.mt_script.specs.Head.{goes_on, head_step, offends, shows};
 ghost use Rattle.mt_script.specs.Situation.{at_start, file_of};
 ghost use Rattle.mt_script.specs.Commands.{end_fault};
 ghost use Rattle.mt_script.specs.Numbers.{fault_at};
-ghost use Rattle.mt_script.specs.Worked.{after_start, dump_fault, fault_in, first_line, offence_of_lines, ready, script_fault, sectioned, two_sections, with_dump, with_one};
+ghost use Rattle.mt_script.specs.Worked.{after_start, dump_fault, fault_in, first_line, in_flux, offence_of_lines, ready, script_fault, sectioned, two_sections, with_dump, with_one};
 ghost use Rattle.mt_script.specs.declared.command.Stage.TheVariants as stage;
 ghost use Rattle.mt_script.specs.declared.command.Command.TheVariants as asks;
 ghost use Rattle.mt_script.specs.declared.fault.Offence.TheVariants as offence;
@@ -36,6 +36,9 @@ pub fn worked_rows()
     ensures cancel { first_line (ready stage.Commands) (codes "cancel") ≡ Ok asks.Cancel }
     ensures report { first_line (ready stage.Rams) (codes "report") ≡ Ok asks.Report }
     ensures step { first_line (ready stage.Commands) (codes "step 1") ≡ Ok (asks.Step 1) }
+    ensures up { first_line (ready stage.Rams) (codes "up") ≡ Ok asks.Up }
+    ensures join { first_line (ready stage.Commands) (codes " join # one more") ≡ Ok asks.Join }
+    ensures retire { first_line (in_flux stage.Commands) (codes "retire\r") ≡ Ok asks.Retire }
     ensures word { first_line (ready stage.Commands) (codes "word ffffffff8") ≡ Ok (asks.Word 0xffffffff8) }
     ensures capabilities { first_line (ready stage.Commands) (codes "msr 0 0FE") ≡ Ok (asks.Msr 0 0xfe) }
     ensures register { first_line (ready stage.Commands) (codes "msr 1 26f") ≡ Ok (asks.Msr 1 0x26f) }
@@ -58,6 +61,9 @@ pub fn worked_sections()
     ensures end_with_colon { first_line (ready stage.InUpdate) (codes "end:") ≡ fault_in BadLine 1 }
     ensures three_words { first_line (ready stage.InBegin) (codes "zz zz 6") ≡ fault_in BadLine 7 }
     ensures end_and_more { first_line (ready stage.InBegin) (codes "end x") ≡ fault_in BadNumber 1 }
+    ensures up_in_the_dump { first_line (ready stage.InDump) (codes "up") ≡ Ok asks.DumpLine }
+    ensures up_in_a_section { first_line (ready stage.InUpdate) (codes " up") ≡ fault_in BadLine 2 }
+    ensures join_in_a_section { first_line (in_flux stage.InBegin) (codes "join 1") ≡ fault_in BadNumber 1 }
     ensures number { first_line (ready stage.InBegin) (codes "20g 6g") ≡ fault_in BadNumber 1 }
     ensures two_colons { first_line (ready stage.InBegin) (codes "200:: 6") ≡ fault_in BadNumber 1 }
     ensures value { first_line (ready stage.InBegin) (codes "fe 6g") ≡ fault_in BadNumber 4 }
@@ -82,6 +88,9 @@ pub fn worked_shapes()
     ensures many { first_line (ready stage.Rams) (codes "load 1 8 9 9") ≡ fault_in BadLine 10 }
     ensures many_of_map { first_line (ready stage.Rams) (codes "map 0 0 0 0 global x") ≡ fault_in BadLine 20 }
     ensures many_of_go { first_line (ready stage.Rams) (codes "go 1") ≡ fault_in BadLine 4 }
+    ensures many_of_up { first_line (ready stage.Rams) (codes "up x") ≡ fault_in BadLine 4 }
+    ensures many_of_join { first_line (ready stage.Rams) (codes "join 1 2") ≡ fault_in BadLine 6 }
+    ensures many_of_retire { first_line (ready stage.Commands) (codes "retire 1") ≡ fault_in BadLine 8 }
     ensures other_word { first_line (ready stage.Rams) (codes "map 0 0 0 0 globe") ≡ fault_in BadLine 13 }
     ensures other_switch { first_line (ready stage.Rams) (codes "pge zz On") ≡ fault_in BadLine 8 }
     ensures shape_before_time { first_line at_start (codes "cd 0 1") ≡ fault_in BadLine 6 }
@@ -90,6 +99,9 @@ pub fn worked_shapes()
     ensures early { first_line at_start (codes "load zz zz") ≡ fault_in NotNow 1 }
     ensures dump_early { first_line at_start (codes "dump") ≡ fault_in NotNow 1 }
     ensures load_before_the_dump { first_line (ready stage.NeedDump) (codes " load 0 8") ≡ fault_in NotNow 2 }
+    ensures up_early { first_line at_start (codes "up") ≡ fault_in NotNow 1 }
+    ensures join_before_the_dump { first_line (ready stage.NeedDump) (codes " join") ≡ fault_in NotNow 2 }
+    ensures retire_before_the_dump { first_line (ready stage.NeedDump) (codes "retire") ≡ fault_in NotNow 1 }
     ensures cpus_again { first_line (ready stage.NeedDump) (codes "cpus 1") ≡ fault_in NotNow 1 }
     ensures dump_again { first_line (ready stage.Rams) (codes "dump") ≡ fault_in NotNow 1 }
     ensures selfsnoop_early { first_line (ready stage.NeedDump) (codes "selfsnoop 0") ≡ fault_in NotNow 1 }
@@ -105,6 +117,10 @@ pub fn worked_numbers()
     ensures no_digits { first_line at_start (codes "cpus 1x") ≡ fault_in BadNumber 6 }
     ensures many_digits { first_line at_start (codes "cpus 000000000000000000001") ≡ fault_in OutOfRange 6 }
     ensures processor { first_line (ready stage.Rams) (codes "fence 2") ≡ fault_in OutOfRange 7 }
+    ensures newcomer { first_line (in_flux stage.Commands) (codes "fence 2") ≡ Ok (asks.Fence 2) }
+    ensures sixteenth_processor { first_line (in_flux stage.Commands) (codes "load 15 8") ≡ Ok (asks.Load 15 8) }
+    ensures seventeenth_processor { first_line (in_flux stage.Commands) (codes "load 16 zz") ≡ fault_in OutOfRange 6 }
+    ensures hexadecimal_newcomer { first_line (in_flux stage.Commands) (codes "step f") ≡ fault_in BadNumber 6 }
     ensures hexadecimal_processor { first_line (ready stage.Rams) (codes "step a") ≡ fault_in BadNumber 6 }
     ensures no_snooping_processor { first_line (ready stage.Rams) (codes "selfsnoop 2") ≡ fault_in OutOfRange 11 }
     ensures hexadecimal_snooping_processor { first_line (ready stage.Rams) (codes "selfsnoop a") ≡ fault_in BadNumber 11 }
@@ -168,6 +184,13 @@ pub fn worked_scripts()
     ensures windows_late { offence_of_lines (after_start (codes "report" ∷ codes "ram 0 1" ∷ [])) ≡ script_fault NotNow 6 1 }
     ensures snooping_keeps_the_stage { offence_of_lines (after_start (codes "selfsnoop 0" ∷ codes "ram 0 1" ∷ codes "selfsnoop 0" ∷ codes "ram 40 1" ∷ codes "report" ∷ [])) ≡ None }
     ensures snooping_late { offence_of_lines (after_start (codes "report" ∷ codes "selfsnoop 0" ∷ [])) ≡ script_fault NotNow 6 1 }
+    ensures newcomer { offence_of_lines (after_start (codes "up" ∷ codes "fence 15" ∷ [])) ≡ None }
+    ensures newcomer_too_early { offence_of_lines (after_start (codes "fence 1" ∷ codes "up" ∷ [])) ≡ script_fault OutOfRange 5 7 }
+    ensures behind_the_sixteenth { offence_of_lines (after_start (codes "retire" ∷ codes "fence 15" ∷ codes "fence 16" ∷ [])) ≡ script_fault OutOfRange 7 7 }
+    ensures still_moving { offence_of_lines (after_start (codes "join" ∷ codes "update" ∷ codes "2ff 800" ∷ codes "end" ∷ codes "step 1" ∷ [])) ≡ None }
+    ensures windows_behind_up { offence_of_lines (after_start (codes "up" ∷ codes "ram 0 1" ∷ [])) ≡ script_fault NotNow 6 1 }
+    ensures windows_behind_join { offence_of_lines (after_start (codes "join" ∷ codes "ram 0 1" ∷ [])) ≡ script_fault NotNow 6 1 }
+    ensures snooping_behind_retire { offence_of_lines (after_start (codes "retire" ∷ codes "selfsnoop 0" ∷ [])) ≡ script_fault NotNow 6 1 }
     ensures repeated { offence_of_lines (after_start (codes "begin" ∷ codes "2ff 0" ∷ codes "2FF: 0" ∷ [])) ≡ script_fault Repeated 7 1 }
     ensures width { offence_of_lines (codes "cpus 1" ∷ codes "dump" ∷ codes "maxphyaddr 32" ∷ codes "0fe 0" ∷ codes "end" ∷ codes "word 100000000" ∷ []) ≡ script_fault OutOfRange 6 6 }
     ensures first { offence_of_lines (codes "cpus 0" ∷ codes "nothing" ∷ []) ≡ script_fault OutOfRange 1 6 }

@@ -1,11 +1,12 @@
-ghost use Rattle.std.specs.Prelude.{codes, ◌++◌, ◌∷◌, [], None, Some, false, replicate, true};
+ghost use Rattle.std.specs.Prelude.{codes, ◌≡◌, ◌++◌, ◌∷◌, [], None, Some, false, replicate, true};
 ghost use Rattle.mt_dump.specs.Dumps.{dump_of};
 ghost use Rattle.mt_regs.specs.RegisterFile.{blank_file};
-ghost use Rattle.mt_script.specs.Accept.{Fits};
+ghost use Rattle.mt_script.specs.Accept.{Fits, accepted, finished};
 ghost use Rattle.mt_script.specs.Kept.{IsSituation};
+ghost use Rattle.mt_script.specs.Newcomers.{IsWithoutNewcomers, brings_up};
 ghost use Rattle.mt_script.specs.Places.{StandsIn};
-ghost use Rattle.mt_script.specs.Situation.{at_start};
-ghost use Rattle.mt_script.specs.Worked.{ready, sectioned, with_one};
+ghost use Rattle.mt_script.specs.Situation.{at_start, most_processors};
+ghost use Rattle.mt_script.specs.Worked.{in_flux, ready, sectioned, with_one};
 ghost use Rattle.mt_script.specs.declared.command.Stage.TheVariants as stage;
 ghost use Rattle.mt_script.specs.declared.command.Command.TheVariants as asks;
 
@@ -47,6 +48,14 @@ pub fn worked_fits()
     ensures map_index { Fits (ready stage.Rams) (asks.Map 0 0 0 8 false) → ⊥ }
     ensures invlpg { Fits (ready stage.Rams) (asks.Invlpg 0 0x1001) }
     ensures invlpg_past_the_last { Fits (ready stage.Rams) (asks.Invlpg 0 0x1000000000000) → ⊥ }
+    ensures step_of_a_newcomer { Fits (in_flux stage.Commands) (asks.Step 15) }
+    ensures step_past_the_last { Fits (in_flux stage.Commands) (asks.Step 16) → ⊥ }
+    ensures up { Fits (ready stage.Rams) asks.Up }
+    ensures up_in_a_section { Fits (ready stage.InUpdate) asks.Up → ⊥ }
+    ensures join { Fits (in_flux stage.Commands) asks.Join }
+    ensures join_before_the_dump { Fits (ready stage.NeedDump) asks.Join → ⊥ }
+    ensures retire { Fits (ready stage.Commands) asks.Retire }
+    ensures retire_in_a_section { Fits (in_flux stage.InBegin) asks.Retire → ⊥ }
     ensures step_of_none { Fits (ready stage.Rams) (asks.Step 2) → ⊥ }
     ensures word { Fits (ready stage.Rams) (asks.Word 0xffffffff8) }
     ensures within_a_word { Fits (ready stage.Rams) (asks.Word 4) → ⊥ }
@@ -81,5 +90,36 @@ pub fn worked_situations()
     ensures window_too_early { IsSituation (record at_start { windows = (0, 1) ∷ [] }) → ⊥ }
     ensures given_twice { IsSituation (record (ready stage.InBegin) { seen = 0x200 ∷ 0x201 ∷ 0x200 ∷ [] }) → ⊥ }
     ensures not_writable { IsSituation (record (ready stage.InBegin) { seen = 0xfe ∷ [] }) → ⊥ }
+    ensures moving { IsSituation (in_flux stage.Commands) }
+    ensures moving_among_windows { IsSituation (in_flux stage.Rams) → ⊥ }
     ensures given_outside { IsSituation (with_one stage.Commands) → ⊥ }
+{}
+
+/// From which line on processors may have come or gone.
+pub fn worked_motion()
+    ensures up { accepted (ready stage.Rams) asks.Up ≡ in_flux stage.Commands }
+    ensures join { accepted (ready stage.Rams) asks.Join ≡ in_flux stage.Commands }
+    ensures retire { accepted (ready stage.Commands) asks.Retire ≡ in_flux stage.Commands }
+    ensures again { accepted (in_flux stage.Commands) asks.Up ≡ in_flux stage.Commands }
+    ensures report { accepted (ready stage.Rams) asks.Report ≡ ready stage.Commands }
+    ensures kept { accepted (in_flux stage.Commands) (asks.Step 15) ≡ in_flux stage.Commands }
+    ensures kept_in_a_section { accepted (in_flux stage.Commands) asks.Update ≡ in_flux stage.InUpdate }
+    ensures not_at_start { at_start.moving ≡ false }
+    ensures not_by_a_dump { (finished (ready stage.InDump) (sectioned (blank_file 36 8 ∷ []))).moving ≡ false }
+    ensures bound { most_processors (ready stage.Commands) ≡ 2 }
+    ensures raised_bound { most_processors (in_flux stage.Commands) ≡ 16 }
+{}
+
+/// Lines that bring a processor up, and texts without any.
+pub fn worked_newcomers()
+    ensures up { brings_up (codes " up # one more") ≡ true }
+    ensures join { brings_up (codes "join\r") ≡ true }
+    ensures with_more { brings_up (codes "up 1") ≡ true }
+    ensures retire { brings_up (codes "retire") ≡ false }
+    ensures longer_word { brings_up (codes "update") ≡ false }
+    ensures comment { brings_up (codes "# up") ≡ false }
+    ensures second_word { brings_up (codes "load join") ≡ false }
+    ensures blank { brings_up [] ≡ false }
+    ensures without { IsWithoutNewcomers (codes "retire\nupdate\n# join") }
+    ensures with_one { IsWithoutNewcomers (codes "retire\njoin\n") → ⊥ }
 {}

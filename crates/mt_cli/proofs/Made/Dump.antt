@@ -1,5 +1,5 @@
 -- The dump of a text for measurements: the file that it shows is accepted.
-use Rattle.std.proofs.Common.{◌≢◌, refl, inl, inr, ℕ, List, [], ◌∷◌, ◌++◌, codes, Some}
+use Rattle.std.proofs.Common.{◌≢◌, refl, inl, inr, ℕ, false, List, [], ◌∷◌, ◌++◌, codes, Some}
 use Rattle.std.specs.Prelude.{replicate}
 use Rattle.std.specs.List.{All}
 use Rattle.std.proofs.lemmas.Bool.{cases_Bool}
@@ -36,7 +36,7 @@ made_dump = dump_of made_file
 
 -- behind a command outside the sections
 abbrev pub ready : Situation
-ready = record { stage = Commands; cpus = 16; dump = Some made_dump; windows = (0, 4096) ∷ []; seen = [] }
+ready = record { stage = Commands; cpus = 16; dump = Some made_dump; windows = (0, 4096) ∷ []; seen = []; moving = false }
 
 -- one valid pair overlaps with no other
 defined : (page : ℕ) → page_type made_file page ≢ Undefined

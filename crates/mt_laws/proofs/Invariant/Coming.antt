@@ -10,9 +10,10 @@ use Rattle.mt_machine.specs.Access.{is_running}
 use Rattle.mt_machine.specs.System.{Processor, System, IsProcessor, IsSound}
 use Rattle.mt_machine.specs.Machine.{FitsGoal, common_era}
 use Rattle.mt_machine.specs.Start.{IsQuiet}
-use Rattle.mt_machine.specs.ComingAndGoing.{newcomer_beside}
+use Rattle.mt_machine.specs.ComingAndGoing.{newcomer_beside, reset}
 use Rattle.mt_machine.proofs.Blank.{blank_is_accepted, blank_is_file}
-use Rattle.mt_laws.specs.ComingAndGoing.{ResetStaysQuiet, ResetStaysSound}
+use Rattle.mt_laws.specs.Settled.{IsFresh}
+use Rattle.mt_laws.specs.ComingAndGoing.{ResetStaysFresh, ResetStaysQuiet, ResetStaysSound}
 use Rattle.mt_laws.proofs.Barrier.Claims.{all_get, all_of}
 use Rattle.mt_laws.proofs.Invariant.Starts.{nothing}
 
@@ -121,3 +122,23 @@ reset_stays_quiet m h = one (slice_get m.system.processors 0) refl (reset_stays_
       where
         as_newcomer : (ps : List Processor) (p : Processor) → All (FitsGoal p.file) ps → All (FitsGoal (newcomer_beside p).file) ps
         as_newcomer ps p all i d within = let f = all i d within in record { width = f.width; capabilities = f.capabilities }
+
+-- ---- what holds of each, the windows
+
+-- what a newcomer has of the one beside it holds of all
+pub reset_each : (P : Processor → Type 0) (s : System) → All P s.processors → ((p : Processor) → P p → P (newcomer_beside p)) → All P (reset s).processors
+reset_each P s all own = one (slice_get s.processors 0) refl
+  where
+    one : (o : Option Processor) → slice_get s.processors 0 ≡ o → All P (option_map_or (λ p. record s { processors = s.processors ++ newcomer_beside p ∷ [] }) o s).processors
+    one None at = all
+    one (Some p) at = each_more P s.processors (newcomer_beside p) all (own p (all_get P s.processors all 0 p at))
+
+pub reset_memory : (s : System) → (reset s).memory ≡ s.memory
+reset_memory s = one (slice_get s.processors 0)
+  where
+    one : (o : Option Processor) → (option_map_or (λ p. record s { processors = s.processors ++ newcomer_beside p ∷ [] }) o s).memory ≡ s.memory
+    one None = refl
+    one (Some p) = refl
+
+pub reset_stays_fresh : ResetStaysFresh
+reset_stays_fresh s fresh = reset_each IsFresh s fresh (λ p f. record { lines = nothing _; buffers = nothing _; entries = nothing _ })

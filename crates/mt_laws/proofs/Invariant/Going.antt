@@ -1,5 +1,5 @@
 -- The last processor goes: what is sound or quiet stays so, each word keeps its value, and the others stand.
-use Rattle.std.proofs.Common.{◌≡◌, ◌⊎◌, ℕ, zero, suc, ◌%◌, ◌<◌, ◌==◌, List, [], ◌∷◌, length, take, Some, None, Option, Bool, true, false, refl, sym, ap, subst, ◌∙◌, arith, inl, inr, ⊎_elim}
+use Rattle.std.proofs.Common.{◌≡◌, ◌⊎◌, ℕ, zero, suc, ◌%◌, ◌-◌, ◌<◌, ◌≤◌, ◌==◌, List, [], ◌∷◌, length, take, Some, None, Option, Bool, true, false, refl, sym, ap, subst, ◌∙◌, arith, inl, inr, ⊎_elim}
 use Rattle.std.specs.Prelude.{slice_get, if◌then◌else◌}
 use Rattle.std.specs.List.{All, fold, list_all}
 use Rattle.std.specs.Option.{option_map_or, option_map}
@@ -8,24 +8,25 @@ use Rattle.std.proofs.lemmas.List.{length-map, take-map}
 use Rattle.mt_cache.specs.declared.line.CacheLine.{CacheLine}
 use Rattle.mt_cache.specs.Lines.{find_line}
 use Rattle.mt_machine.specs.Memory.{Memory, Window, line_of, word_at, word_count, write_back}
-use Rattle.mt_machine.specs.System.{Processor, System, IsSound, now}
+use Rattle.mt_machine.specs.System.{Processor, System, IsSound, lines_of, now}
 use Rattle.mt_machine.specs.Bus.{drain}
 use Rattle.mt_machine.specs.Access.{is_running}
 use Rattle.mt_machine.specs.Machine.{FitsGoal, common_era}
 use Rattle.mt_machine.specs.ComingAndGoing.{gone, last_number, taken_away}
-use Rattle.mt_laws.specs.ComingAndGoing.{GoneKeepsWords, GoneStaysQuiet, GoneStaysSound, OthersStand, uncached}
+use Rattle.mt_laws.specs.ComingAndGoing.{GoneKeepsWords, GoneStaysFresh, GoneStaysQuiet, GoneStaysSound, OthersStand, uncached}
 use Rattle.mt_laws.proofs.Barrier.Claims.{all_get, all_of}
 use Rattle.mt_laws.proofs.Barrier.Ranks.{and_left, and_right}
 use Rattle.mt_laws.proofs.Barrier.Stages.{drain_stages, stage_of}
-use Rattle.mt_laws.proofs.Clearing.Follows.{follows_drain}
+use Rattle.mt_laws.proofs.Clearing.Follows.{FollowsIn, follows_drain}
+use Rattle.mt_laws.proofs.Clearing.Fresh.{stays_fresh}
 use Rattle.mt_laws.proofs.Translations.Views.{drain_views}
 use Rattle.mt_laws.proofs.Words.Agreement.{Agrees}
-use Rattle.mt_laws.proofs.Words.BusLaws.{AllFit, Fits, Word, copies, copies_at, fit_at, fits_placed}
+use Rattle.mt_laws.proofs.Words.BusLaws.{AllFit, Fits, Word, copies, copies_at, fit_at, fits_placed, stands_drain}
 use Rattle.mt_laws.proofs.Words.Copies.{Copy, IsClear, IsOwned, IsShared, Shows, clear_shared, settle, shared_at}
 use Rattle.mt_laws.proofs.Words.LineLaws.{fits, look, write_back_length, write_back_other, write_back_same, write_back_windows}
 use Rattle.mt_laws.proofs.Words.LineLists.{Apart, copy_in}
 use Rattle.mt_laws.proofs.Words.MemoryLaws.{AllAligned}
-use Rattle.mt_laws.proofs.Words.Sound.{aligned_all, now_is}
+use Rattle.mt_laws.proofs.Words.Sound.{aligned_all, now_is, sound_stands}
 use Rattle.mt_laws.proofs.Invariant.Parts.{Parts, memory_of, parts_sound, sound_parts}
 use Rattle.mt_laws.proofs.Invariant.SoundSteps.{drain_keeps_sound}
 
@@ -110,7 +111,7 @@ fit_front ws [] (suc k) h = tt
 fit_front ws (p ∷ ps) zero h = tt
 fit_front ws (p ∷ ps) (suc k) h = (h.0, fit_front ws ps k h.1)
 
-last_is : (ps : List Processor) (k : ℕ) → k < length ps → (p : Processor) × (slice_get ps k ≡ Some p)
+pub last_is : (ps : List Processor) (k : ℕ) → k < length ps → (p : Processor) × (slice_get ps k ≡ Some p)
 last_is [] k within = absurd (omega arith)
 last_is (p ∷ ps) zero within = (p, refl)
 last_is (p ∷ ps) (suc k) within = last_is ps k (omega arith)
@@ -173,7 +174,7 @@ module _ (t : System) (k : ℕ) (p : Processor) (h : IsSound t) (at : slice_get 
 
 -- ---- after its buffers are emptied
 
-drained_number : (k : ℕ) (s : System) → length (drain k s).processors ≡ length s.processors
+pub drained_number : (k : ℕ) (s : System) → length (drain k s).processors ≡ length s.processors
 drained_number k s = sym (length-map (drain k s).processors stage_of) ∙ ap length (drain_stages k s) ∙ length-map s.processors stage_of
 
 module _ (s : System) (some : 0 < length s.processors) (h : IsSound s) where
@@ -206,14 +207,34 @@ others_stand s =
     sym (take-map uncached (last_number s) (drain (last_number s) s).processors)
     ∙ ap (take (last_number s)) (drain_views Processor uncached (λ f p. refl) (λ f p. refl) (last_number s) s)
 
+-- each that stays is one of before, and holds nothing new
+pub gone_from : (s : System) → FollowsIn (last_number s) s.processors (gone s).processors
+gone_from s i q at = follows_drain (last_number s) s i q (of_front (drain (last_number s) s).processors (last_number s) i q at)
+
+pub gone_stays_fresh : GoneStaysFresh
+gone_stays_fresh s fresh = stays_fresh (last_number s) s.processors (gone s).processors (gone_from s) fresh
+
+pub gone_windows : (s : System) → IsSound s → (gone s).memory.windows ≡ s.memory.windows
+gone_windows s h =
+    let k : ℕ = last_number s in
+    back_windows (lines_of (drain k s) k) (drain k s).memory
+    ∙ (stands_drain s.memory.windows (aligned_all s.memory.windows h.memory.aligned) k s (sound_stands s h)).memory.windows
+
+pub gone_count : (s : System) → length (gone s).processors ≡ length s.processors - 1
+gone_count s = count (drain (last_number s) s).processors (last_number s) (let n = drained_number (last_number s) s in omega (arith, n))
+  where
+    count : (ps : List Processor) (k : ℕ) → k ≤ length ps → length (take k ps) ≡ k
+    count [] zero h = refl
+    count [] (suc k) h = absurd (omega (arith, h))
+    count (p ∷ ps) zero h = refl
+    count (p ∷ ps) (suc k) h = ap suc (count ps k (omega (arith, h)))
+
 -- ---- quiet
 
 -- each that stays is one of before, with its file, phase and era
 stayed : (s : System) (i : ℕ) (q : Processor) → slice_get (gone s).processors i ≡ Some q
     → (p : Processor) × (slice_get s.processors i ≡ Some p) × (q.file ≡ p.file) × (q.phase ≡ p.phase) × (q.era ≡ p.era)
-stayed s i q at =
-    let from = follows_drain (last_number s) s i q (of_front (drain (last_number s) s).processors (last_number s) i q at) in
-    (from.0, from.1, from.2.file, from.2.phase, from.2.era)
+stayed s i q at = let from = gone_from s i q at in (from.0, from.1, from.2.file, from.2.phase, from.2.era)
 
 same_eras : (ps : List Processor) (n : ℕ) → All (λ p. p.era ≡ n) ps → All (λ p. p.era ≡ common_era ps) ps
 same_eras [] n all i d within = absurd (omega arith)

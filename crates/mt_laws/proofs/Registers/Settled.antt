@@ -64,7 +64,7 @@ settling_still goal o s is g all some =
 are_follows : (goal : RegisterFile) (k : ℕ) (ps qs : List Processor) → FollowsIn k ps qs → AllAre goal ps → AllAre goal qs
 are_follows goal k ps qs f all j q at = let from = f j q at in from.2.file ∙ all j from.0 from.1
 
-settling_next : (era : ℕ) (goal : RegisterFile) (e : MachineEvent) (s : System) (o : Option Order) → IsEnabled (record { system = s; order = o }) e → not (is_call e) ≡ true → Kept o (stages s) → AllFiled o s.processors → Late era (record { system = s; order = o }) → Settling goal (record { system = s; order = o }) → Settling goal (next (record { system = s; order = o }) e)
+pub settling_next : (era : ℕ) (goal : RegisterFile) (e : MachineEvent) (s : System) (o : Option Order) → IsEnabled (record { system = s; order = o }) e → not (is_call e) ≡ true → Kept o (stages s) → AllFiled o s.processors → Late era (record { system = s; order = o }) → Settling goal (record { system = s; order = o }) → Settling goal (next (record { system = s; order = o }) e)
 settling_next era goal (Accesses k op) s o enabled quiet inv all l t = record { files = are_follows goal k s.processors _ (follows_access s k op) t.files; order = t.order }
 settling_next era goal (Controls k c) s o enabled quiet inv all l t = record { files = are_follows goal k s.processors _ (follows_control s k c) t.files; order = t.order }
 settling_next era goal (Calls new) s o enabled quiet inv all l t = absurd (cc)
@@ -117,7 +117,7 @@ pub reached_filed : {s t : Machine} → Reached s t → IsKept s → AllFiled s.
 reached_filed at_start kept all = all
 reached_filed (after e r enabled) kept all = filed_next e _ _ enabled (reached_kept r kept).0 (reached_filed r kept all)
 
-release_settling : (s : System) (o : Order) (k : ℕ) → IsKept (record { system = s; order = Some o }) → AllFiled (Some o) s.processors → IsEnabled (record { system = s; order = Some o }) (Steps k Release) → Settling o.goal (next (record { system = s; order = Some o }) (Steps k Release))
+pub release_settling : (s : System) (o : Order) (k : ℕ) → IsKept (record { system = s; order = Some o }) → AllFiled (Some o) s.processors → IsEnabled (record { system = s; order = Some o }) (Steps k Release) → Settling o.goal (next (record { system = s; order = Some o }) (Steps k Release))
 release_settling s o k kept all enabled = at_processor (slice_get s.processors k) refl enabled
   where
     at_processor : (q : Option Processor) → slice_get s.processors k ≡ q → option_map_or (λ p. due o s.processors p p.phase) q None ≡ Some Release → Settling o.goal (record { system = step o.goal Release k s; order = remaining_order o (step o.goal Release k s).processors })

@@ -12,7 +12,7 @@ use Rattle.mt_machine.specs.declared.event.Event.TheVariants.{Pass, FlushTlb, Re
 use Rattle.mt_machine.specs.declared.go.Go.{Go}
 use Rattle.mt_machine.specs.declared.go.Go.TheVariants.{Pending, Given, Cancelled}
 use Rattle.mt_machine.specs.Memory.{Window, word_at}
-use Rattle.mt_machine.specs.System.{Processor, System}
+use Rattle.mt_machine.specs.System.{Processor, System, now}
 use Rattle.mt_machine.specs.Access.{is_running}
 use Rattle.mt_machine.specs.Machine.{Machine, Order, MachineEvent, Accesses, Controls, Calls, Goes, Cancels, Steps, IsEnabled, next, due, own_step, step, remaining_order, is_given, is_cancelled, is_waiting_to_pass, has_released, has_passed, is_changing, is_arrived_again, second_barrier_open, run, AreEnabled}
 use Rattle.mt_machine.specs.Update.{IsHeld, stored_word, stored_words, is_release}
@@ -34,11 +34,11 @@ use Rattle.mt_laws.proofs.Invariant.Kept.{agrees, start_aligned}
 
 -- ---- a word that isn't stored stays in memory
 
-contains_more : (o : Option ℕ) (rest : List ℕ) (a : ℕ) → Contains rest a → Contains (option_map_or (λ b. b ∷ rest) o rest) a
+pub contains_more : (o : Option ℕ) (rest : List ℕ) (a : ℕ) → Contains rest a → Contains (option_map_or (λ b. b ∷ rest) o rest) a
 contains_more None rest a h = h
 contains_more (Some b) rest a h = let low : h.0 < length rest = h.1 in (suc h.0, omega arith, h.2)
 
-contains_first : (o : Option ℕ) (rest : List ℕ) (a : ℕ) → o ≡ Some a → Contains (option_map_or (λ b. b ∷ rest) o rest) a
+pub contains_first : (o : Option ℕ) (rest : List ℕ) (a : ℕ) → o ≡ Some a → Contains (option_map_or (λ b. b ∷ rest) o rest) a
 contains_first None rest a h = absurd (cc)
 contains_first (Some b) rest a h = let e : b ≡ a = cc in (0, omega arith, e)
 
@@ -323,9 +323,9 @@ first_pass o p k (Some o') is kept none enabled =
     subst (λ (u : Order). ((next (record { system = p.system; order = Some o' }) (Steps k Pass)).order ≡ Some u) × IsBetween u (next (record { system = p.system; order = Some o' }) (Steps k Pass)).system) same
     (pass_between o' p.system k kept (subst (λ (u : Order). All (λ q. has_passed u q ≡ false) p.system.processors) (sym same) none) enabled)
 
-pub held_of : (ws : List Window) → AllAligned ws → (p r : Machine) (o : Order) (since : List MachineEvent) → Agrees ws p → IsKept p → IsFirstRelease p r o → AreEnabled r since → IsHeld p.system r since
-held_of ws aligned p r o since g kept f enabled a aligned_a other =
-    let whole : a % 8 ≡ 0 = omega arith in
+-- from its first release on it has the value in memory that it had before the first pass
+pub released_word : (ws : List Window) → AllAligned ws → (p r : Machine) (o : Order) → Agrees ws p → IsKept p → IsFirstRelease p r o → (a : ℕ) → a % 8 ≡ 0 → Word false a (now p.system a) r.system
+released_word ws aligned p r o g kept f a whole =
     let w = g.words a whole in
     let pass : Machine = next p (Steps f.first Pass) in
     let at = first_pass o p f.first p.order f.order kept.0 f.none_passed f.enabled.0 in
@@ -333,9 +333,14 @@ held_of ws aligned p r o since g kept f enabled a aligned_a other =
     let w1 = step_keeps_word ws aligned p f.first Pass f.enabled.0 (pass_takes_nothing) g.stands true a w.0 whole w.1 in
     let released = between_run ws aligned o f.last a w.0 whole f.between pass at.0 (kept_next p (Steps f.first Pass) f.enabled.0 kept) at.1 g1 f.no_release f.enabled.1 w1 in
     let there : Word false a w.0 r.system = subst (λ (m : Machine). Word false a w.0 m.system) (sym f.leads) released in
+    subst (λ (x : ℕ). Word false a x r.system) (sym (now_is ws p.system a w.0 g.stands w.1)) there
+
+pub held_of : (ws : List Window) → AllAligned ws → (p r : Machine) (o : Order) (since : List MachineEvent) → Agrees ws p → IsKept p → IsFirstRelease p r o → AreEnabled r since → IsHeld p.system r since
+held_of ws aligned p r o since g kept f enabled a aligned_a other =
+    let whole : a % 8 ≡ 0 = omega arith in
+    let there = released_word ws aligned p r o g kept f a whole in
     let stands_r : Stands ws r.system = subst (λ (m : Machine). Stands ws m.system) (sym f.leads) (agrees_run ws aligned p (Steps f.first Pass ∷ f.between ++ Steps f.last Release ∷ []) f.enabled g).stands in
-    let at_end = stays_in_memory ws aligned since r a w.0 whole stands_r enabled other there in
-    at_end.shows.0 ∙ sym (now_is ws p.system a w.0 g.stands w.1)
+    (stays_in_memory ws aligned since r a (now p.system a) whole stands_r enabled other there).shows.0
 
 pub held_after_release : HeldAfterRelease
 held_after_release s p r o since start reached f enabled =

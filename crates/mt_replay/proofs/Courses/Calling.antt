@@ -1,14 +1,11 @@
 -- A release stands behind a call of this course, and a goal is that of its section.
-use Rattle.std.proofs.Common.{◌≡◌, ◌⊎◌, ◌∙◌, ap, sym, refl, subst, inl, inr, ℕ, Bool, true, false, List, [], ◌∷◌, ◌++◌, Option, None, Some}
+use Rattle.std.proofs.Common.{◌≡◌, ◌⊎◌, ◌∙◌, ap, sym, refl, subst, inl, inr, ℕ, Bool, true, false, List, [], ◌∷◌, ◌++◌, Option, None, Some, ⊎_elim, if◌then◌else◌}
 use Rattle.std.specs.Prelude.{IsSome, not}
 use Rattle.std.proofs.lemmas.List.{append_assoc}
 use Rattle.mt_regs.specs.RegisterFile.{RegisterFile}
 use Rattle.mt_machine.specs.declared.event.Event.TheVariants.{Release}
-use Rattle.mt_machine.specs.System.{System}
-use Rattle.mt_machine.specs.Machine.{Accesses, Calls, Cancels, Controls, Goes, Machine, MachineEvent, Order, Steps, next}
-use Rattle.mt_machine.specs.Update.{is_call}
+use Rattle.mt_machine.specs.Machine.{Order}
 use Rattle.mt_core.specs.declared.fault.CallFault.{CallFault}
-use Rattle.mt_core.proofs.Arising.{machine}
 use Rattle.mt_script.specs.Situation.{Situation}
 use Rattle.mt_script.specs.Stages.{is_in_dump, is_past_dump, takes_commands, takes_cpus, takes_dump, takes_end, takes_registers, takes_windows}
 use Rattle.mt_script.specs.Accept.{Fits, accepted}
@@ -16,11 +13,15 @@ use Rattle.mt_script.specs.declared.command.Stage.{Stage}
 use Rattle.mt_script.specs.declared.command.Stage.TheVariants.{InBegin, InDump, InUpdate, Rams}
 use Rattle.mt_script.specs.declared.command.Command.{Command}
 use Rattle.mt_script.specs.declared.command.Command.TheVariants as command
-use Rattle.mt_replay.specs.Headline.{AcceptedWhereIdleAndWhole, GoalsAreOfTheirSections, IsCall, NoneOf, SectionOf, Step, course, given, goal_of, last_of, left, release_line, wrote}
+use Rattle.mt_replay.specs.Statuses.{IsWithoutCall}
+use Rattle.mt_replay.specs.Parts.{IsComing}
+use Rattle.mt_admit.specs.Admission.{admitted}
+use Rattle.mt_replay.proofs.Courses.Newcomers.{call_of_end, comes_as_newcomer, coming_or_not, newcomer_comes, newcomer_is_coming}
+use Rattle.mt_replay.specs.Headline.{AcceptedWhereIdleAndWhole, GoalsAreOfTheirSections, IsCall, NoneOf, SectionOf, Step, course, given, goal_of, last_of, left, release_line, wrote, IsCalled, IsNewcomer, IsSectionCall, Joins}
 use Rattle.mt_replay.specs.Kept.{IsReplayState}
-use Rattle.mt_replay.specs.ReplayState.{ReplayState, call_fault, command_text, first_file, goal_after, machine_after}
+use Rattle.mt_replay.specs.ReplayState.{ReplayState, call_fault, command_text, first_file, goal_after, machine_after, may_come}
 use Rattle.mt_replay.specs.Texts.{called_line, complete_line}
-use Rattle.mt_replay.proofs.Courses.Acting.{Acts, acts}
+use Rattle.mt_replay.proofs.Courses.Acting.{acts, none_acts}
 use Rattle.mt_replay.proofs.Courses.Since.{accepted_end, no_call}
 use Rattle.mt_replay.proofs.Courses.Steps.{GoesOn, behind_front, course_is, in_front, stands_in}
 use Rattle.mt_replay.proofs.Courses.Tells.{end_or_not, writes_called, writes_complete, writes_release}
@@ -31,20 +32,7 @@ use Rattle.mt_replay.proofs.Refusals.Updates.{complete_updates_settle}
 
 -- ---- no order without a call
 
-none_on : (e : MachineEvent) (s : System) → not (is_call e) ≡ true → (next (machine s None) e).order ≡ None
-none_on (Accesses k op) s quiet = refl
-none_on (Controls k c) s quiet = refl
-none_on (Calls goal) s quiet = absurd (cc quiet)
-none_on Goes s quiet = refl
-none_on Cancels s quiet = refl
-none_on (Steps k e) s quiet = refl
-
-none_acts : (m n : Machine) (text : List ℕ) → Acts m n text → m.order ≡ None → n.order ≡ None
-none_acts m n text (inl same) none = ap (λ (x : Machine). x.order) same ∙ none
-none_acts m n text (inr (e, enabled, quiet, same, tells)) none =
-    ap (λ (x : Machine). x.order) same ∙ ap (λ (v : Option Order). (next (machine m.system v) e).order) none ∙ none_on e m.system quiet
-
-none_stays : (s : ReplayState) (c : Command) → IsReplayState s → Fits s.now c → (c ≡ command.End → IsSome (call_fault s.machine s.goal)) → s.machine.order ≡ None → (machine_after s c).order ≡ None
+none_stays : (s : ReplayState) (c : Command) → IsReplayState s → Fits s.now c → IsWithoutCall s c → s.machine.order ≡ None → (machine_after s c).order ≡ None
 none_stays s (command.Ram base lines) h fits calls none = none
 none_stays s (command.Selfsnoop k) h fits calls none = none
 none_stays s other h fits calls none = none_acts s.machine (machine_after s other) (command_text s other) (acts s other h fits calls tt) none
@@ -54,26 +42,36 @@ none_stays s other h fits calls none = none_acts s.machine (machine_after s othe
 call_or_not : (step : Step) → IsReplayState step.before → IsCall step ⊎ (IsCall step → ⊥)
 call_or_not step h = by (end_or_not step.before step.command)
   where
-    no_fault : IsCall step → call_fault step.before.machine step.before.goal ≡ None
+    no_fault : IsSectionCall step → call_fault step.before.machine step.before.goal ≡ None
     no_fault (inl is) = (writes_called step.before step.command is).2
     no_fault (inr is) = (writes_complete step.before step.command is.0 is.1).2
 
     ended : step.command ≡ command.End → (o : Option CallFault) → call_fault step.before.machine step.before.goal ≡ o → IsCall step ⊎ (IsCall step → ⊥)
-    ended ends None is = inl (subst (λ (c : Command). (command_text step.before c ≡ called_line) ⊎ ((era : ℕ) × (command_text step.before c ≡ complete_line era))) (sym ends) (accepted_end step.before h is))
-    ended ends (Some fault) is = inr (λ call. let none = no_fault call in cc (is, none))
+    ended ends None is = inl (inl (subst (λ (c : Command). (command_text step.before c ≡ called_line) ⊎ ((era : ℕ) × (command_text step.before c ≡ complete_line era))) (sym ends) (accepted_end step.before h is)))
+    ended ends (Some fault) is = inr (λ call. let none = no_fault (call_of_end step ends call) in cc (is, none))
 
-    other : (command_text step.before step.command ≡ called_line → ⊥) → ((era : ℕ) → command_text step.before step.command ≡ complete_line era → ⊥) → IsCall step → ⊥
-    other called complete (inl is) = called is
-    other called complete (inr is) = complete is.0 is.1
+    other : (command_text step.before step.command ≡ called_line → ⊥) → ((era : ℕ) → command_text step.before step.command ≡ complete_line era → ⊥) → (IsNewcomer step → ⊥) → IsCall step → ⊥
+    other called complete newcomer (inl (inl is)) = called is
+    other called complete newcomer (inl (inr is)) = complete is.0 is.1
+    other called complete newcomer (inr is) = newcomer is
+
+    came : IsComing step.command → (b : Bool) → may_come step.before.machine ≡ b → IsNewcomer step ⊎ (IsNewcomer step → ⊥)
+    came coming true may = inl (comes_as_newcomer step coming may)
+    came coming false may = inr (λ newcomer. let on = newcomer_comes step newcomer in cc (on, may))
+
+    comes : IsComing step.command ⊎ (IsComing step.command → ⊥) → IsNewcomer step ⊎ (IsNewcomer step → ⊥)
+    comes (inl coming) = came coming (may_come step.before.machine) refl
+    comes (inr not) = inr (λ newcomer. not (newcomer_is_coming step newcomer))
 
     by : (step.command ≡ command.End) ⊎ ((command_text step.before step.command ≡ called_line → ⊥) × ((era : ℕ) → command_text step.before step.command ≡ complete_line era → ⊥)) → IsCall step ⊎ (IsCall step → ⊥)
     by (inl ends) = ended ends (call_fault step.before.machine step.before.goal) refl
-    by (inr none) = inr (other none.0 none.1)
+    by (inr none) =
+        ⊎_elim (λ (newcomer : IsNewcomer step). inl (inr newcomer)) (λ (no_newcomer : IsNewcomer step → ⊥). inr (other none.0 none.1 no_newcomer)) (comes (coming_or_not step.command))
 
 abbrev pub CalledIn : List Step → Type 0
 CalledIn steps =
     (before : List Step) × (call : Step) × (between : List Step)
-    × (steps ≡ before ++ call ∷ between) × (wrote call ≡ called_line) × NoneOf IsCall between
+    × (steps ≡ before ++ call ∷ between) × IsCalled call × NoneOf IsCall between
 
 abbrev StillOrCalled : ReplayState → List Step → Type 0
 StillOrCalled s steps = (IsSome s.machine.order × NoneOf IsCall steps) ⊎ CalledIn steps
@@ -84,10 +82,18 @@ none_after step era h is =
     let w = writes_complete step.before step.command era is in
     ap (λ (c : Command). (machine_after step.before c).order) w.0 ∙ (complete_updates_settle step.before h w.1 w.2).no_order
 
+-- nor does one that joins
+none_joins : (step : Step) (k : ℕ) → Joins step k → (left step).machine.order ≡ None
+none_joins step k joins =
+    ap (λ (c : Command). (machine_after step.before c).order) joins.0
+    ∙ ap (λ (b : Bool). (if b then admitted step.before.machine else step.before.machine).order) (newcomer_comes step (k, inr joins))
+
 one_more : (step : Step) (steps : List Step) → IsReplayState step.before → Fits step.before.now step.command → IsCall step ⊎ (IsCall step → ⊥) → StillOrCalled (left step) steps → StillOrCalled step.before (step ∷ steps)
 one_more step steps h fits decided (inr c) = inr (step ∷ c.0, c.1, c.2, ap (λ (rest : List Step). step ∷ rest) c.3, c.4, c.5)
-one_more step steps h fits (inl (inl called)) (inl still) = inr ([], step, steps, refl, called, still.1)
-one_more step steps h fits (inl (inr complete)) (inl still) = absurd (let some = still.0 in let none = none_after step complete.0 h complete.1 in cc (some, none))
+one_more step steps h fits (inl (inl (inl called))) (inl still) = inr ([], step, steps, refl, inl called, still.1)
+one_more step steps h fits (inl (inr (k, inl up))) (inl still) = inr ([], step, steps, refl, inr (k, up), still.1)
+one_more step steps h fits (inl (inr (k, inr joins))) (inl still) = absurd (let some = still.0 in let none = none_joins step k joins in cc (some, none))
+one_more step steps h fits (inl (inl (inr complete))) (inl still) = absurd (let some = still.0 in let none = none_after step complete.0 h complete.1 in cc (some, none))
 one_more step steps h fits (inr other) (inl still) = one step.before.machine.order refl
   where
     one : (o : Option Order) → step.before.machine.order ≡ o → StillOrCalled step.before (step ∷ steps)
@@ -119,13 +125,13 @@ releases_follow_calls text front rest release same released =
 
 pub accepted_where_idle_and_whole : AcceptedWhereIdleAndWhole
 accepted_where_idle_and_whole text front rest step same ends = (
-  λ call. (accepted_where_idle step.before).0 (no_fault call),
+  λ call. (accepted_where_idle step.before).0 (no_fault (call_of_end step ends call)),
   λ idle.
-      subst (λ (c : Command). (command_text step.before c ≡ called_line) ⊎ ((era : ℕ) × (command_text step.before c ≡ complete_line era))) (sym ends)
-      (accepted_end step.before (stands_in front rest step (course_is text front rest step same)).is ((accepted_where_idle step.before).1 idle)),
+      inl (subst (λ (c : Command). (command_text step.before c ≡ called_line) ⊎ ((era : ℕ) × (command_text step.before c ≡ complete_line era))) (sym ends)
+      (accepted_end step.before (stands_in front rest step (course_is text front rest step same)).is ((accepted_where_idle step.before).1 idle))),
 )
   where
-    no_fault : IsCall step → call_fault step.before.machine step.before.goal ≡ None
+    no_fault : IsSectionCall step → call_fault step.before.machine step.before.goal ≡ None
     no_fault (inl is) = (writes_called step.before step.command is).2
     no_fault (inr is) = (writes_complete step.before step.command is.0 is.1).2
 
@@ -168,6 +174,9 @@ in_section s command.Go is h fits other = goes_wrong (takes_commands s.now.stage
 in_section s command.Cancel is h fits other = goes_wrong (takes_commands s.now.stage) fits h.commands
 in_section s command.Report is h fits other = goes_wrong (takes_commands s.now.stage) fits h.commands
 in_section s (command.Step k) is h fits other = goes_wrong (takes_commands s.now.stage) fits.0 h.commands
+in_section s command.Up is h fits other = goes_wrong (takes_commands s.now.stage) fits h.commands
+in_section s command.Join is h fits other = goes_wrong (takes_commands s.now.stage) fits h.commands
+in_section s command.Retire is h fits other = goes_wrong (takes_commands s.now.stage) fits h.commands
 in_section s (command.Word address) is h fits other = goes_wrong (takes_commands s.now.stage) fits.0 h.commands
 in_section s (command.Msr k number) is h fits other = goes_wrong (takes_commands s.now.stage) fits.0.0 h.commands
 in_section s command.Blank is h fits other = (is, refl)
@@ -253,7 +262,7 @@ goals_are_of_their_sections text front rest call same called =
     let inside = ends_section call.before.now.stage there.is.past (subst (Fits call.before.now) (ends called) there.fits) in
     one c.first c.windows (opened_before front c.first (in_front front (call ∷ rest) c.first c.goes_on) (ap (λ (x : ReplayState). takes_registers x.now.stage) (sym on.0) ∙ inside))
   where
-    ends : IsCall call → call.command ≡ command.End
+    ends : IsSectionCall call → call.command ≡ command.End
     ends (inl is) = (writes_called call.before call.command is).0
     ends (inr is) = (writes_complete call.before call.command is.0 is.1).0
 

@@ -1,5 +1,5 @@
 -- Steps that call for no update, and what a complete update and a refused one leave in a course.
-use Rattle.std.proofs.Common.{◌≡◌, ◌⊎◌, ◌∙◌, ap, sym, refl, subst, inl, inr, ℕ, ◌%◌, ◌==◌, Bool, true, false, if◌then◌else◌, List, [], ◌∷◌, ◌++◌, map, Option, None, Some}
+use Rattle.std.proofs.Common.{◌≡◌, ◌⊎◌, ◌∙◌, ap, sym, refl, subst, ⊎_elim, inl, inr, ℕ, length, ◌%◌, ◌==◌, Bool, true, false, if◌then◌else◌, List, [], ◌∷◌, ◌++◌, map, Option, None, Some}
 use Rattle.std.specs.Prelude.{IsSome}
 use Rattle.std.specs.Option.{option_map_or}
 use Rattle.std.specs.List.{Contains}
@@ -14,10 +14,15 @@ use Rattle.mt_script.specs.Stages.{takes_windows}
 use Rattle.mt_script.specs.Accept.{Fits, accepted}
 use Rattle.mt_script.specs.declared.command.Command.{Command}
 use Rattle.mt_script.specs.declared.command.Command.TheVariants as command
-use Rattle.mt_replay.specs.Headline.{CompleteUpdatesAreKept, IsCall, Keeps, NoneOf, RefusedUpdatesChangeNothing, Step, last_of, left, next_era, stored_in, wrote}
+use Rattle.mt_replay.specs.Headline.{CompleteUpdatesAreKept, IsCall, Keeps, NoneOf, RefusedUpdatesChangeNothing, Step, last_of, left, next_era, stored_in, wrote, HasNewcomer, JoinsAreKept}
 use Rattle.mt_replay.specs.Kept.{IsReplayState, windows_of}
-use Rattle.mt_replay.specs.ReplayState.{ReplayState, call_fault, command_text, each_processor, is_update, machine_after, state_after}
-use Rattle.mt_replay.specs.Statuses.{AreHeld, AreWithoutCall, IsSettledAfter, state_after_all, stored_by, stored_by_all}
+use Rattle.mt_replay.specs.ReplayState.{ReplayState, call_fault, command_text, each_processor, is_update, machine_after, state_after, first_file, may_come}
+use Rattle.mt_replay.specs.Parts.{IsComing}
+use Rattle.mt_machine.specs.ComingAndGoing.{with_newcomer}
+use Rattle.mt_admit.specs.Admission.{admitted}
+use Rattle.mt_replay.proofs.Courses.Newcomers.{comes_as_newcomer, newcomer_comes}
+use Rattle.mt_replay.proofs.Refusals.Joins.{after_join, held as join_held, join_line, no_windows, one_more as join_one_more, stays as join_stays, words as join_words}
+use Rattle.mt_replay.specs.Statuses.{AreHeld, AreWithoutCall, IsSettledAfter, state_after_all, stored_by, stored_by_all, IsWithoutCall}
 use Rattle.mt_replay.specs.Texts.{called_line, complete_line}
 use Rattle.mt_replay.proofs.Courses.Steps.{GoesOn, course_is, in_front, kept_behind, stands_in}
 use Rattle.mt_replay.proofs.Courses.Tells.{writes_complete, writes_refused, writes_under_way}
@@ -33,7 +38,11 @@ idle_step step fault ends is = ap (machine_after step.before) ends ∙ (ends_idl
 
 pub refused_updates_change_nothing : RefusedUpdatesChangeNothing
 refused_updates_change_nothing text front rest step same (inl h) = let w = writes_refused step.before step.command h.0 h.1 in idle_step step w.1.0 w.0 w.1.1
-refused_updates_change_nothing text front rest step same (inr h) = let w = writes_under_way step.before step.command h in idle_step step w.1.0 w.0 w.1.1
+refused_updates_change_nothing text front rest step same (inr h) =
+    ⊎_elim
+    (λ (w : (step.command ≡ command.End) × ((own : CallFault) × (call_fault step.before.machine step.before.goal ≡ Some own))). idle_step step w.1.0 w.0 w.1.1)
+    (λ (stays : machine_after step.before step.command ≡ step.before.machine). stays)
+    (writes_under_way step.before step.command h)
 
 -- ---- no call
 
@@ -48,13 +57,17 @@ accepted_end s h none = one (is_update s.now.stage) refl
     one true update = let done = complete_updates_settle s h update none in inr (done.era, done.line_is)
     one false begin = inl (accepted_calls s begin none).0
 
-pub no_call : (step : Step) → IsReplayState step.before → (IsCall step → ⊥) → step.command ≡ command.End → IsSome (call_fault step.before.machine step.before.goal)
-no_call step h calls ends = one (call_fault step.before.machine step.before.goal) refl
+pub no_call : (step : Step) → IsReplayState step.before → (IsCall step → ⊥) → IsWithoutCall step.before step.command
+no_call step h calls = (λ ends. one ends (call_fault step.before.machine step.before.goal) refl, λ coming. stays coming (may_come step.before.machine) refl)
   where
-    one : (o : Option CallFault) → call_fault step.before.machine step.before.goal ≡ o → IsSome o
-    one (Some fault) is = refl
-    one None is =
-        absurd (calls (subst (λ (c : Command). (command_text step.before c ≡ called_line) ⊎ ((era : ℕ) × (command_text step.before c ≡ complete_line era))) (sym ends) (accepted_end step.before h is)))
+    stays : IsComing step.command → (b : Bool) → may_come step.before.machine ≡ b → may_come step.before.machine ≡ false
+    stays coming true is = absurd (calls (inr (comes_as_newcomer step coming is)))
+    stays coming false is = is
+
+    one : step.command ≡ command.End → (o : Option CallFault) → call_fault step.before.machine step.before.goal ≡ o → IsSome o
+    one ends (Some fault) is = refl
+    one ends None is =
+        absurd (calls (inl (subst (λ (c : Command). (command_text step.before c ≡ called_line) ⊎ ((era : ℕ) × (command_text step.before c ≡ complete_line era))) (sym ends) (accepted_end step.before h is))))
 
 pub same_last : (steps : List Step) (s : ReplayState) → GoesOn s steps → state_after_all s (commands steps) ≡ last_of s steps
 same_last [] s on = refl
@@ -161,3 +174,58 @@ complete_updates_are_kept text front since rest update era same wrote_it none =
     let w = writes_complete update.before update.command era wrote_it in
     let there = stands_in front (since ++ rest) update (course_is text front (since ++ rest) update same) in
     complete_is update since there.is there.fits (in_front since rest (left update) there.goes_on) none w.0 w.1 w.2
+
+-- ---- a processor that joins
+
+module _ (join : Step) (since : List Step) (h : IsReplayState join.before) (fits : Fits join.before.now join.command) (on : GoesOn (left join) since) (none : NoneOf IsCall since)
+    (is_join : join.command ≡ command.Join) (may : may_come join.before.machine ≡ true) where
+  abbrev was : ReplayState
+  was = join.before
+
+  fits_join : Fits was.now command.Join
+  fits_join = subst (Fits was.now) is_join fits
+
+  left_so : left join ≡ state_after was command.Join
+  left_so = ap (state_after was) is_join
+
+  calls_since : AreWithoutCall (state_after was command.Join) (commands since)
+  calls_since = subst (λ (x : ReplayState). AreWithoutCall x (commands since)) left_so (without_call since (left join) (state_kept was join.command h fits) on none)
+
+  last_join_is : state_after_all (state_after was command.Join) (commands since) ≡ last_of (left join) since
+  last_join_is = ap (λ (x : ReplayState). state_after_all x (commands since)) (sym left_so) ∙ same_last since (left join) on
+
+  stored_join_is : stored_by_all (state_after was command.Join) (commands since) ≡ stored_in since
+  stored_join_is = ap (λ (x : ReplayState). stored_by_all x (commands since)) (sym left_so) ∙ same_stored since (left join) on
+
+  machine_is : (left join).machine ≡ admitted was.machine
+  machine_is = ap (machine_after was) is_join ∙ after_join was h may
+
+  windows_since : (last_of (left join) since).machine.system.memory.windows ≡ was.machine.system.memory.windows
+  windows_since =
+      same_windows since (left join) (state_kept was join.command h fits) on (ap (λ (x : ReplayState). takes_windows x.now.stage) left_so)
+      ∙ ap (λ (m : Machine). m.system.memory.windows) machine_is ∙ no_windows was h may
+
+  words_since : (address : ℕ) → IsSome (place (last_of (left join) since).machine.system.memory address) → (Contains (stored_in since) address → ⊥)
+      → word_at (last_of (left join) since).machine.system.memory address ≡ now (emptied (with_newcomer was.machine).system (each_processor (with_newcomer was.machine).system)) address
+  words_since address some other =
+      ap (λ (x : ReplayState). word_at x.machine.system.memory address) (sym last_join_is)
+      ∙ join_held was h may (commands since) fits_join calls_since address (is_aligned (last_of (left join) since).machine.system.memory address some)
+      (λ stored. other (subst (λ (ws : List ℕ). Contains ws address) stored_join_is stored))
+      ∙ join_words was h may address (same_place (last_of (left join) since).machine.system.memory was.machine.system.memory address windows_since some)
+
+  joined_is : HasNewcomer join
+      × Keeps (first_file was) (next_era join) (now (emptied (with_newcomer was.machine).system (each_processor (with_newcomer was.machine).system))) (stored_in since) (last_of (left join) since).machine
+  joined_is = (
+    record {
+      number = ap (command_text was) is_join ∙ join_line was h may;
+      one_more = ap (λ (m : Machine). length m.system.processors) machine_is ∙ join_one_more was h may;
+    },
+    keeps (first_file was) (next_era join) (now (emptied (with_newcomer was.machine).system (each_processor (with_newcomer was.machine).system))) (stored_in since) (last_of (left join) since).machine
+        (subst (λ (x : ReplayState). IsSettled x.machine.system (next_era join) (first_file was)) last_join_is (join_stays was h may (commands since) fits_join calls_since))
+        words_since,
+  )
+
+pub joins_are_kept : JoinsAreKept
+joins_are_kept text front since rest join k same joins none =
+    let there = stands_in front (since ++ rest) join (course_is text front (since ++ rest) join same) in
+    joined_is join since there.is there.fits (in_front since rest (left join) there.goes_on) none joins.0 (newcomer_comes join (k, inr joins))

@@ -19,7 +19,8 @@ use Rattle.mt_replay.specs.Heads.{HeadEnd, head_of, has_offence, shows_dump, sta
 use Rattle.mt_replay.specs.Kept.{EachAfter, EachBy, EachIn, EachOfDump, HoldsThrough, start_of}
 use Rattle.mt_replay.specs.ReplayState.{ReplayState, state_after}
 use Rattle.mt_replay.specs.Statuses.{BeginsWith}
-use Rattle.mt_replay.specs.Transcript.{Told, transcript}
+use Rattle.mt_replay.specs.Transcript.{transcript}
+use Rattle.mt_stream.specs.Told.{Told}
 use Rattle.mt_replay.proofs.Courses.Steps.{GoesOn, IsOneLine, Leads, steps_go_on, whole}
 use Rattle.mt_replay.proofs.Refusals.Outcomes.{accepted_first}
 use Rattle.mt_replay.proofs.ShownDump.{states_have_the_shown_dump}

@@ -29,7 +29,8 @@ use Rattle.mt_replay.specs.Kept.{IsReplayState, start_like, start_of}
 use Rattle.mt_replay.specs.ReplayState.{ReplayState, command_text, state_after}
 use Rattle.mt_replay.specs.Running.{ReplaysAs}
 use Rattle.mt_replay.specs.Statuses.{ShowsDump}
-use Rattle.mt_replay.specs.Transcript.{Told, behind, told, told_at_end, told_by, told_command, told_dump, told_in, told_offence, transcript}
+use Rattle.mt_replay.specs.Transcript.{told_at_end, told_by, told_command, told_dump, told_in, told_offence, transcript}
+use Rattle.mt_stream.specs.Told.{Told, behind, told}
 use Rattle.mt_replay.proofs.FirstRefusal.{all_accepted}
 use Rattle.mt_replay.proofs.Heads.{Comes, IsDumped, comes}
 use Rattle.mt_replay.proofs.Keeping.First.{first_kept, first_start}

@@ -1,5 +1,5 @@
 -- Each value in a transcript is the flat machine's.
-use Rattle.std.proofs.Common.{◌≡◌, ◌∙◌, ap, sym, refl, ℕ, ◌+◌, List, [], ◌∷◌, Option, None, Some, Result, Ok, Err, subst}
+use Rattle.std.proofs.Common.{◌≡◌, ◌∙◌, ap, sym, refl, ℕ, ◌+◌, Bool, true, false, if◌then◌else◌, List, [], ◌∷◌, Option, None, Some, Result, Ok, Err, subst}
 use Rattle.mt_machine.specs.Start.{start_machine}
 use Rattle.mt_laws.specs.Kept.{flags_of}
 use Rattle.mt_laws.proofs.Invariant.Starts.{no_flag_is_the_start}
@@ -28,13 +28,14 @@ use Rattle.mt_script.specs.declared.command.Command.{Command}
 use Rattle.mt_script.specs.declared.command.Command.TheVariants as command
 use Rattle.mt_script.specs.declared.fault.ScriptFault.{ScriptFault}
 use Rattle.mt_output.specs.Lines.{accepted_line}
-use Rattle.mt_replay.specs.Texts.{done_line}
-use Rattle.mt_replay.specs.Flat.{ScriptsHideCaches, flat_command, flat_done, flat_text, flat_told_command, flat_told_in}
+use Rattle.mt_replay.specs.Texts.{absent_line, done_line}
+use Rattle.mt_replay.specs.Flat.{ScriptsHideCaches, flat_command, flat_done, flat_present_text, flat_text, flat_told_command, flat_told_in}
 use Rattle.mt_replay.specs.Heads.{HeadEnd, head_of, has_offence, shows_dump, stays_open}
 use Rattle.mt_replay.specs.Kept.{IsReplayState}
-use Rattle.mt_replay.specs.ReplayState.{ReplayState, command_text, first_state, state_after}
+use Rattle.mt_replay.specs.ReplayState.{ReplayState, command_text, first_state, is_absent, present_text, state_after}
 use Rattle.mt_replay.specs.Statuses.{ShowsDump}
-use Rattle.mt_replay.specs.Transcript.{Body, Told, behind, told_at_end, told_by, told_command, told_dump, told_in}
+use Rattle.mt_replay.specs.Transcript.{Body, told_at_end, told_by, told_command, told_dump, told_in}
+use Rattle.mt_stream.specs.Told.{Told, behind}
 use Rattle.mt_replay.proofs.FirstRefusal.{all_accepted}
 use Rattle.mt_replay.proofs.Heads.{Comes, IsDumped, comes}
 use Rattle.mt_replay.proofs.Keeping.First.{first_kept}
@@ -53,9 +54,16 @@ done_same m f k address a r (Value value kind) is =
     ap (λ v. Value v kind) (ap (λ (o : Option ℕ). option_map_or (λ word. flat_answer f k kind word) o 0) seen.physical ∙ sym seen.answer)
 done_same m f k address a r other is = refl
 
+present_same : (s : ReplayState) (f : Flat) (c : Command) → IsReplayState s → IsFlatOf s.machine.system f → flat_present_text s f c ≡ present_text s c
+present_same s f (command.Load k address) h r = ap done_line (done_same s.machine f k address h.arises r (access s.machine.system k (op.Load address)).answer refl)
+present_same s f other h r = refl
+
 text_same : (s : ReplayState) (f : Flat) (c : Command) → IsReplayState s → IsFlatOf s.machine.system f → flat_text s f c ≡ command_text s c
-text_same s f (command.Load k address) h r = ap done_line (done_same s.machine f k address h.arises r (access s.machine.system k (op.Load address)).answer refl)
-text_same s f other h r = refl
+text_same s f c h r = one (is_absent s.machine c)
+  where
+    one : (b : Bool) → (if b then absent_line else flat_present_text s f c) ≡ (if b then absent_line else present_text s c)
+    one true = refl
+    one false = present_same s f c h r
 
 -- ---- the lines after the dump
 

@@ -4,6 +4,7 @@ use Rattle.mt_replay.proofs.Keeping.Snooping.{snooped_risen, snooped_start}
 use Rattle.mt_laws.proofs.Invariant.Snooping.{each_snooping, snooping_stays_quiet}
 use Rattle.mt_laws.proofs.Barrier.Still.{change_memory}
 use Rattle.mt_laws.specs.Kept.{flags_of}
+use Rattle.mt_laws.specs.Settled.{IsFresh}
 use Rattle.std.specs.Prelude.{IfSome, is_some, map}
 use Rattle.std.specs.Option.{option_map, option_map_or}
 use Rattle.std.specs.List.{All}
@@ -26,10 +27,11 @@ use Rattle.mt_machine.specs.Start.{IsQuiet, start_with}
 use Rattle.mt_machine.specs.Update.{updated}
 use Rattle.mt_laws.proofs.Barrier.Claims.{all_get, all_of}
 use Rattle.mt_ram.specs.Windows.{window, with_window}
-use Rattle.mt_core.specs.Arises.{by_window, grown, by_snooping, snooped}
+use Rattle.mt_core.specs.Arises.{Arises, by_window, grown, by_snooping, snooped}
 use Rattle.mt_core.specs.Steps.{step_after}
 use Rattle.mt_core.specs.declared.fault.CallFault.{CallFault}
 use Rattle.mt_core.specs.declared.fault.CallFault.TheVariants.{Refused, UnderWay}
+use Rattle.mt_core.proofs.Settling.{is_quiet_without_order}
 use Rattle.mt_core.proofs.Stepping.{is_sound, stands}
 use Rattle.mt_dump.specs.Dumps.{Dump, IsDump, first_file as first_file_of}
 use Rattle.mt_dump.specs.ForProcessors.{files_for}
@@ -37,7 +39,7 @@ use Rattle.mt_script.specs.Situation.{Situation, file_of}
 use Rattle.mt_script.specs.Numbers.{address_limit, has_room}
 use Rattle.mt_script.specs.Kept.{IsSituation}
 use Rattle.mt_script.specs.Stages.{is_in_dump, is_past_dump, takes_cpus, takes_dump, takes_registers, takes_windows}
-use Rattle.mt_script.specs.Accept.{Fits, accepted, in_commands, in_section_of}
+use Rattle.mt_script.specs.Accept.{Fits, accepted, in_commands, in_motion, in_section_of}
 use Rattle.mt_script.specs.declared.command.Stage.{Stage}
 use Rattle.mt_script.specs.declared.command.Stage.TheVariants.{NeedCpus, NeedDump, InDump, Rams, Commands, InUpdate, InBegin}
 use Rattle.mt_script.specs.declared.command.Command.{Command}
@@ -47,11 +49,13 @@ use Rattle.mt_script.proofs.Fitting.{command_fits}
 use Rattle.mt_script.proofs.Keeping.{accepted_is}
 use Rattle.mt_replay.specs.FirstFault.{first_fault}
 use Rattle.mt_replay.specs.Kept.{CommandsKeep, IsReplayState, windows_of, start_like}
-use Rattle.mt_replay.specs.ReplayState.{ReplayState, after_call, after_update, after_word, call_fault, each_processor, first_file, is_update, machine_after, mapping, state_after, with_register}
+use Rattle.mt_replay.specs.ReplayState.{ReplayState, after_call, after_join, after_retire, after_up, after_update, after_word, call_fault, each_processor, first_file, is_absent, is_update, machine_after, mapping, state_after, with_register}
 use Rattle.mt_dump.proofs.ForProcessors.{first_file_is as first_is_file}
 use Rattle.mt_replay.proofs.FirstFault.{first_fault_is_first}
+use Rattle.mt_replay.proofs.Keeping.Absent.{absent_now, present_state, state_absent, state_there}
 use Rattle.mt_replay.proofs.Keeping.Kinds.{fits_with_value}
 use Rattle.mt_replay.proofs.Keeping.Machines.{Follows, follows_access, follows_control, follows_event, follows_same, follows_step, follows_update, follows_word}
+use Rattle.mt_replay.proofs.Keeping.Moving.{Moves, came_on, moves_join, moves_retire, moves_up, no_older_now, rests_now}
 use Rattle.mt_replay.proofs.Keeping.Windows.{grown_start, memory_is_quiet, room_memory, windows_then}
 
 -- what a line is read as fits
@@ -100,19 +104,23 @@ same_start now was m n d cpus windows flags = λ i. start_with (sym flags i) (fi
 
 -- with the same windows, and no window to come
 state_on : (s : ReplayState) (now : Situation) (n : Machine) (goal : RegisterFile) → IsReplayState s → IsSituation now → is_past_dump now.stage ≡ true
-    → now.cpus ≡ s.now.cpus → now.dump ≡ s.now.dump → now.windows ≡ s.now.windows → TakesNone now.stage → Follows s.machine n → IsRegisterFile goal → All (FitsGoal goal) s.machine.system.processors
+    → now.moving ≡ s.now.moving → now.cpus ≡ s.now.cpus → now.dump ≡ s.now.dump → now.windows ≡ s.now.windows → TakesNone now.stage → Follows s.machine n → IsRegisterFile goal → All (FitsGoal goal) s.machine.system.processors
     → IsReplayState (record { now = now; machine = n; goal = goal })
-state_on s now n goal h is past cpus dump windows none follows good fits = record {
+state_on s now n goal h is past moving cpus dump windows none follows good fits = record {
   situation = is;
   past = past;
   arises = follows.arises;
-  count = follows.risen.same_number ∙ h.count ∙ sym cpus;
+  came = came_on s.machine n h.came follows;
+  some = omega (arith, h.some, follows.risen.same_number);
+  few = omega (arith, h.few, follows.risen.same_number);
+  count = λ still. follows.risen.same_number ∙ h.count (sym moving ∙ still) ∙ sym cpus;
   kind = λ d same. follows.fits (first_file_of d) (h.kind d (sym dump ∙ same));
   goal_file = good;
   goal = follows.fits goal fits;
   windows = follows.windows ∙ h.windows ∙ ap windows_in (sym windows);
-  quiet = λ d same. subst IsQuiet (same_start now s.now s.machine n d cpus windows follows.flags) (h.quiet d (sym dump ∙ same));
-  reached = λ d same. subst (λ (m : Machine). Reached m n) (same_start now s.now s.machine n d cpus windows follows.flags) (follows.reached (start_like s d) (h.reached d (sym dump ∙ same)));
+  quiet = λ still d same. subst IsQuiet (same_start now s.now s.machine n d cpus windows follows.flags) (h.quiet (sym moving ∙ still) d (sym dump ∙ same));
+  reached = λ still d same.
+      subst (λ (m : Machine). Reached m n) (same_start now s.now s.machine n d cpus windows follows.flags) (follows.reached (start_like s d) (h.reached (sym moving ∙ still) d (sym dump ∙ same)));
   fresh = λ d same takes. absurd (none takes);
 }
   where
@@ -194,7 +202,7 @@ module _ (s : ReplayState) (h : IsReplayState s) where
 
   -- a command among the commands
   goes_on : (n : Machine) → IsSituation (in_commands s.now) → Follows s.machine n → IsReplayState (record { now = in_commands s.now; machine = n; goal = s.goal })
-  goes_on n is follows = state_on s (in_commands s.now) n s.goal h is refl refl refl refl (λ takes. cc takes) follows h.goal_file h.goal
+  goes_on n is follows = state_on s (in_commands s.now) n s.goal h is refl refl refl refl refl (λ takes. cc takes) follows h.goal_file h.goal
 
   accesses : (k : ℕ) (o : Op) → FitsOp o → IsSituation (in_commands s.now) → IsReplayState (record { now = in_commands s.now; machine = next s.machine (Accesses k o); goal = s.goal })
   accesses k o fits is = goes_on (next s.machine (Accesses k o)) is (follows_access s.machine k o h.arises fits)
@@ -206,8 +214,27 @@ module _ (s : ReplayState) (h : IsReplayState s) where
   stays : IsSituation (in_commands s.now) → IsReplayState (record { now = in_commands s.now; machine = s.machine; goal = s.goal })
   stays is = goes_on s.machine is (follows_same s.machine h.arises)
 
+  -- a processor may come or go
+  in_flux : (n : Machine) → IsSituation (in_motion s.now) → Moves s.machine n → IsReplayState (record { now = in_motion s.now; machine = n; goal = s.goal })
+  in_flux n is moves = record {
+    situation = is;
+    past = refl;
+    arises = moves.arises;
+    came = moves.came;
+    some = moves.some;
+    few = moves.few;
+    count = λ still. absurd (cc still);
+    kind = λ d same. moves.fits (first_file_of d) (h.kind d same);
+    goal_file = h.goal_file;
+    goal = moves.fits s.goal h.goal;
+    windows = moves.windows ∙ h.windows;
+    quiet = λ still. absurd (cc still);
+    reached = λ still. absurd (cc still);
+    fresh = λ d same takes. absurd (cc takes);
+  }
+
   begins : (stage : Stage) → is_past_dump stage ≡ true → TakesNone stage → IsSituation (in_section_of stage s.now) → IsReplayState (record { now = in_section_of stage s.now; machine = s.machine; goal = first_file s })
-  begins stage past none is = state_on s (in_section_of stage s.now) s.machine (first_file s) h is past refl refl refl none (follows_same s.machine h.arises) first_file_is first_file_fits
+  begins stage past none is = state_on s (in_section_of stage s.now) s.machine (first_file s) h is past refl refl refl refl none (follows_same s.machine h.arises) first_file_is first_file_fits
 
   -- a page of the processor's physical addresses
   page_in : (physical w v : ℕ) → 12 ≤ w → w ≡ v → physical < 2 ^ w → physical / 4096 < 2 ^ (v - 12)
@@ -236,17 +263,24 @@ module _ (s : ReplayState) (h : IsReplayState s) where
       λ d same.
       ap (grown (window base lines)) (h.fresh d same windows).1 ∙ grown_start (flags_of s.machine.system) (files_for s.now.cpus d) (windows_of s.now) (window base lines)
       ∙ ap (start_with (flags_of s.machine.system) (files_for s.now.cpus d)) (sym (windows_then s.now base lines)) in
+      let quiet : (d : Dump) → s.now.dump ≡ Some d → IsQuiet (start_with (flags_of s.machine.system) (files_for s.now.cpus d) ws) =
+      λ d same. memory_is_quiet (flags_of s.machine.system) (files_for s.now.cpus d) (with_window (window base lines) s.machine.system.memory) ws memory together (h.fresh d same windows).0 in
+      let dump = dump_here s.now h.situation h.past in
+      let arises : Arises (grown (window base lines) s.machine) = by_window (window base lines) h.arises memory in
       record {
         situation = is;
         past = h.past;
-        arises = by_window (window base lines) h.arises memory;
+        arises = arises;
+        came = rests_now (grown (window base lines) s.machine) (subst IsQuiet (sym (started dump.0 dump.1)) (quiet dump.0 dump.1)) arises (no_older_now s.machine h.came);
+        some = h.some;
+        few = h.few;
         count = h.count;
         kind = h.kind;
         goal_file = h.goal_file;
         goal = h.goal;
         windows = together;
-        quiet = λ d same. memory_is_quiet (flags_of s.machine.system) (files_for s.now.cpus d) (with_window (window base lines) s.machine.system.memory) ws memory together (h.fresh d same windows).0;
-        reached = λ d same. subst (Reached (start_with (flags_of s.machine.system) (files_for s.now.cpus d) ws)) (sym (started d same)) at_start;
+        quiet = λ still d same. quiet d same;
+        reached = λ still d same. subst (Reached (start_with (flags_of s.machine.system) (files_for s.now.cpus d) ws)) (sym (started d same)) at_start;
         fresh = λ d same takes. ((h.fresh d same windows).0, started d same);
       }
 
@@ -260,48 +294,64 @@ module _ (s : ReplayState) (h : IsReplayState s) where
       λ f all. each_snooping (FitsGoal f) (λ p c. record { width = c.width; capabilities = c.capabilities }) k s.machine.system all in
       let started : (d : Dump) → s.now.dump ≡ Some d → snooped k s.machine ≡ start_like (state_after s (command.Selfsnoop k)) d =
       λ d same. snooped_start k s.machine (files_for s.now.cpus d) (windows_of s.now) (fresh d same) in
+      let arises : Arises (snooped k s.machine) = by_snooping k h.arises none in
+      let older = each_snooping IsFresh (λ p c. record { lines = c.lines; buffers = c.buffers; entries = c.entries }) k s.machine.system (no_older_now s.machine h.came) in
+      let number = (snooped_risen k s.machine.system).same_number in
       record {
         situation = h.situation;
         past = h.past;
-        arises = by_snooping k h.arises none;
-        count = (snooped_risen k s.machine.system).same_number ∙ h.count;
+        arises = arises;
+        came = rests_now (snooped k s.machine) (snooping_stays_quiet s.machine k (is_quiet_without_order s.machine h.arises none)) arises older;
+        some = omega (arith, h.some, number);
+        few = omega (arith, h.few, number);
+        count = λ still. number ∙ h.count still;
         kind = λ d same. fits (first_file_of d) (h.kind d same);
         goal_file = h.goal_file;
         goal = fits s.goal h.goal;
         windows = ap (λ (m : Memory). m.windows) (change_memory snooping k s.machine.system) ∙ h.windows;
-        quiet = λ d same. subst IsQuiet (started d same) (snooping_stays_quiet s.machine k (subst IsQuiet (sym (fresh d same)) (h.quiet d same)));
-        reached = λ d same. subst (λ (m : Machine). Reached m (snooped k s.machine)) (started d same) at_start;
+        quiet = λ still d same. subst IsQuiet (started d same) (snooping_stays_quiet s.machine k (is_quiet_without_order s.machine h.arises none));
+        reached = λ still d same. subst (λ (m : Machine). Reached m (snooped k s.machine)) (started d same) at_start;
         fresh = λ d same takes. ((h.fresh d same windows).0, started d same);
       }
 
-  kept : (c : Command) → Fits s.now c → IsSituation (accepted s.now c) → IsReplayState (state_after s c)
-  kept (command.Cpus n) fits is = absurd (not_cpus s.now.stage h.past fits.0)
-  kept command.Dump fits is = absurd (not_dump s.now.stage h.past fits)
-  kept (command.Ram base lines) fits is = grows base lines fits.0 fits.1 (omega (arith, fits.2)) fits.4 is
-  kept (command.Selfsnoop k) fits is = snoops k fits.0
-  kept (command.Load k address) fits is = accesses k (op.Load address) fits.1 is
-  kept (command.Store k address value) fits is = accesses k (op.Store address value) (fits.1, fits.2) is
-  kept (command.Fence k) fits is = accesses k op.Fence tt is
-  kept (command.Map k address physical index global) fits is = controls k (control_of.Map (mapping address physical index global)) (mapping_fits k address physical index global fits.1.1 fits.2.1 fits.3) is
-  kept (command.Invlpg k address) fits is = controls k (control_of.Invlpg address) (λ p at. tt) is
-  kept (command.Cr3 k) fits is = controls k control_of.Cr3 (λ p at. tt) is
-  kept (command.Pge k on) fits is = controls k (control_of.Pge on) (λ p at. tt) is
-  kept (command.Cd k on) fits is = controls k (control_of.Cd on) (λ p at. tt) is
-  kept command.Update fits is = begins InUpdate refl (λ takes. cc takes) is
-  kept command.Begin fits is = begins InBegin refl (λ takes. cc takes) is
-  kept command.Go fits is = goes_on (after_word Goes s.machine) is (follows_word s.machine Goes h.arises (λ pending. pending))
-  kept command.Cancel fits is = goes_on (after_word Cancels s.machine) is (follows_word s.machine Cancels h.arises (λ pending. pending))
-  kept command.Report fits is = stays is
-  kept (command.Step k) fits is = goes_on (step_after s.machine k) is (follows_step s.machine k h.arises)
-  kept (command.Word address) fits is = stays is
-  kept (command.Msr k number) fits is = stays is
-  kept command.Blank fits is = h
-  kept command.DumpLine fits is = absurd (not_in_dump s.now.stage h.past fits)
-  kept (command.Register number value) fits is =
-      state_on s (accepted s.now (command.Register number value)) s.machine (with_register s.goal number value) h is h.past refl refl refl (no_windows s.now.stage fits.0) (follows_same s.machine h.arises)
+  kept_there : (c : Command) → Fits s.now c → IsSituation (accepted s.now c) → IsReplayState (present_state s c)
+  kept_there (command.Cpus n) fits is = absurd (not_cpus s.now.stage h.past fits.0)
+  kept_there command.Dump fits is = absurd (not_dump s.now.stage h.past fits)
+  kept_there (command.Ram base lines) fits is = grows base lines fits.0 fits.1 (omega (arith, fits.2)) fits.4 is
+  kept_there (command.Selfsnoop k) fits is = snoops k fits.0
+  kept_there (command.Load k address) fits is = accesses k (op.Load address) fits.1 is
+  kept_there (command.Store k address value) fits is = accesses k (op.Store address value) (fits.1, fits.2) is
+  kept_there (command.Fence k) fits is = accesses k op.Fence tt is
+  kept_there (command.Map k address physical index global) fits is = controls k (control_of.Map (mapping address physical index global)) (mapping_fits k address physical index global fits.1.1 fits.2.1 fits.3) is
+  kept_there (command.Invlpg k address) fits is = controls k (control_of.Invlpg address) (λ p at. tt) is
+  kept_there (command.Cr3 k) fits is = controls k control_of.Cr3 (λ p at. tt) is
+  kept_there (command.Pge k on) fits is = controls k (control_of.Pge on) (λ p at. tt) is
+  kept_there (command.Cd k on) fits is = controls k (control_of.Cd on) (λ p at. tt) is
+  kept_there command.Update fits is = begins InUpdate refl (λ takes. cc takes) is
+  kept_there command.Begin fits is = begins InBegin refl (λ takes. cc takes) is
+  kept_there command.Go fits is = goes_on (after_word Goes s.machine) is (follows_word s.machine Goes h.arises (λ pending. pending))
+  kept_there command.Cancel fits is = goes_on (after_word Cancels s.machine) is (follows_word s.machine Cancels h.arises (λ pending. pending))
+  kept_there command.Report fits is = stays is
+  kept_there (command.Step k) fits is = goes_on (step_after s.machine k) is (follows_step s.machine k h.arises)
+  kept_there command.Up fits is = in_flux (after_up s.machine) is (moves_up s.machine h.arises h.came h.some h.few)
+  kept_there command.Join fits is = in_flux (after_join s.machine) is (moves_join s.machine h.arises h.came h.some h.few)
+  kept_there command.Retire fits is = in_flux (after_retire s.machine) is (moves_retire s.machine h.arises h.came h.some h.few)
+  kept_there (command.Word address) fits is = stays is
+  kept_there (command.Msr k number) fits is = stays is
+  kept_there command.Blank fits is = h
+  kept_there command.DumpLine fits is = absurd (not_in_dump s.now.stage h.past fits)
+  kept_there (command.Register number value) fits is =
+      state_on s (accepted s.now (command.Register number value)) s.machine (with_register s.goal number value) h is h.past refl refl refl refl (no_windows s.now.stage fits.0) (follows_same s.machine h.arises)
       (register_is number value (written s.goal number value) refl) (register_fits value (register_of s.goal number))
-  kept command.End fits is =
-      state_on s (in_section_of Commands s.now) (machine_after s command.End) s.goal h is refl refl refl refl (λ takes. cc takes) (follows_end s h) h.goal_file h.goal
+  kept_there command.End fits is =
+      state_on s (in_section_of Commands s.now) (machine_after s command.End) s.goal h is refl refl refl refl refl (λ takes. cc takes) (follows_end s h) h.goal_file h.goal
+
+  kept : (c : Command) → Fits s.now c → IsReplayState (state_after s c)
+  kept c fits = one (is_absent s.machine c) refl
+    where
+      one : (b : Bool) → is_absent s.machine c ≡ b → IsReplayState (state_after s c)
+      one true is = subst IsReplayState (sym (state_absent s c is)) (stays (subst IsSituation (absent_now s c is) (is_after c fits)))
+      one false is = subst IsReplayState (sym (state_there s c is)) (kept_there c fits (is_after c fits))
 
 pub state_kept : CommandsKeep
-state_kept s c h fits = kept s h c fits (is_after s h c fits)
+state_kept s c h fits = kept s h c fits

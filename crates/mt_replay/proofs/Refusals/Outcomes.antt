@@ -28,7 +28,8 @@ use Rattle.mt_replay.specs.Heads.{HeadEnd, head_of, has_offence, shows_dump, sta
 use Rattle.mt_replay.specs.Kept.{IsReplayState}
 use Rattle.mt_replay.specs.ReplayState.{ReplayState, command_text, first_state, state_after}
 use Rattle.mt_replay.specs.Statuses.{AcceptedFirst, AcceptedUnlessRefused, BadTextEndsWithOffence, BadTextWhereOffence, DoneWhereNoOffence, EndsWith, HasRefusedFile, OffenceAlone, OneDumpShown, OneOfThreeStatuses, RefusedAlone, RefusedWhereFileIsRefused, ShowsDump, ShowsNoDump}
-use Rattle.mt_replay.specs.Transcript.{Told, behind, told, told_at_end, told_by, told_command, told_dump, told_in, told_offence, transcript}
+use Rattle.mt_replay.specs.Transcript.{told_at_end, told_by, told_command, told_dump, told_in, told_offence, transcript}
+use Rattle.mt_stream.specs.Told.{Told, behind, told}
 use Rattle.mt_replay.proofs.FirstRefusal.{all_accepted, none_refused, refusal_found, refused_first}
 use Rattle.mt_replay.proofs.Keeping.First.{first_kept}
 use Rattle.mt_replay.proofs.Keeping.States.{command_known, state_kept}

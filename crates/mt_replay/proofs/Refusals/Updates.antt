@@ -1,8 +1,8 @@
 -- What a whole update leaves, and the commands after it.
-use Rattle.std.proofs.Common.{◌≡◌, ◌∙◌, ap, sym, refl, subst, arith, ℕ, ◌+◌, ◌%◌, ◌≤◌, length, ◌==◌, Bool, true, false, if◌then◌else◌, List, [], ◌∷◌, map, Option, None, Some}
+use Rattle.std.proofs.Common.{◌≡◌, ◌∙◌, ap, sym, refl, subst, arith, inl, ℕ, ◌+◌, ◌%◌, ◌≤◌, length, ◌==◌, Bool, true, false, if◌then◌else◌, List, [], ◌∷◌, map, Option, None, Some}
 use Rattle.std.specs.Prelude.{IsSome}
 use Rattle.std.specs.Option.{option_map_or}
-use Rattle.std.specs.List.{All, Contains}
+use Rattle.std.specs.List.{All}
 use Rattle.std.proofs.lemmas.Bool.{eqb-true}
 use Rattle.std.proofs.lemmas.List.Elements.{All-map}
 use Rattle.mt_regs.specs.RegisterFile.{RegisterFile}
@@ -13,13 +13,13 @@ use Rattle.mt_machine.specs.Start.{IsQuiet}
 use Rattle.mt_machine.specs.Update.{IsSettled, IsSettledOn, addresses, emptied, settled_processor, updated}
 use Rattle.mt_laws.proofs.Updates.Addresses.{word_of_words}
 use Rattle.mt_laws.proofs.Updates.Quiet.{updated_is_quiet}
+use Rattle.mt_core.specs.Arises.{Arises, from_start}
 use Rattle.mt_core.specs.declared.fault.CallFault.{CallFault}
 use Rattle.mt_core.proofs.Settling.{is_quiet_without_order}
-use Rattle.mt_core.proofs.Updated.{updated_words_are_held as words_held, updates_settle}
 use Rattle.mt_core.proofs.Stepping.{stands}
-use Rattle.mt_script.specs.Stages.{HasCpus, is_past_dump, takes_end}
+use Rattle.mt_script.specs.Stages.{takes_end}
 use Rattle.mt_script.specs.declared.command.Stage.{Stage}
-use Rattle.mt_script.specs.declared.command.Stage.TheVariants.{Rams, Commands, InUpdate, InBegin}
+use Rattle.mt_script.specs.declared.command.Stage.TheVariants.{InUpdate}
 use Rattle.mt_script.specs.declared.command.Command.TheVariants as command
 use Rattle.mt_script.specs.declared.command.Command.{Command}
 use Rattle.mt_script.specs.Accept.{Fits}
@@ -28,9 +28,10 @@ use Rattle.mt_replay.specs.ReplayState.{ReplayState, after_call, after_update, c
 use Rattle.mt_replay.specs.Statuses.{AreHeld, AreWithoutCall, CompleteUpdatesSettle, IsSettledAfter, UpdatedWordsAreHeld, state_after_all, stored_by_all}
 use Rattle.mt_replay.specs.Texts.{call_fault_line, complete_line}
 use Rattle.mt_replay.proofs.Keeping.States.{call_enabled, state_kept}
-use Rattle.mt_replay.proofs.Refusals.Since.{Leads, all_lead}
+use Rattle.mt_replay.proofs.Paths.Settling.{Path, after_path, after_update as after_whole, settled_of, word_after_update, word_path}
+use Rattle.mt_replay.proofs.Refusals.Since.{all_lead}
 
-settled_after : (goal : RegisterFile) (era : ℕ) (ps : List Processor) → All (IsSettledOn era goal) (map (settled_processor goal) ps)
+pub settled_after : (goal : RegisterFile) (era : ℕ) (ps : List Processor) → All (IsSettledOn era goal) (map (settled_processor goal) ps)
 settled_after goal era ps =
     All-map (IsSettledOn era goal) (settled_processor goal) ps
     (λ k d within. record {
@@ -47,27 +48,19 @@ aligned_place m address i at = one (address % 8 == 0) refl at
     one true is at = eqb-true (address % 8) 0 is
     one false is at = absurd (cc at)
 
-word_after : (m : Memory) (f : ℕ → ℕ) → IsMemory m → (address : ℕ) → IsSome (place m address) → word_at (record { windows = m.windows; words = map f (addresses m.windows) }) address ≡ f address
+pub word_after : (m : Memory) (f : ℕ → ℕ) → IsMemory m → (address : ℕ) → IsSome (place m address) → word_at (record { windows = m.windows; words = map f (addresses m.windows) }) address ≡ f address
 word_after m f h address some = one (place m address) refl some
   where
     one : (o : Option ℕ) → place m address ≡ o → IsSome o → word_at (record { windows = m.windows; words = map f (addresses m.windows) }) address ≡ f address
     one None at some = absurd (cc some)
     one (Some i) at some = word_of_words m f h address i (aligned_place m address i at) at
 
--- a state has at least one processor
-some_told : (stage : Stage) (cpus : ℕ) → is_past_dump stage ≡ true → HasCpus stage cpus → 1 ≤ cpus
-some_told Rams cpus past has = has.0
-some_told Commands cpus past has = has.0
-some_told InUpdate cpus past has = has.0
-some_told InBegin cpus past has = has.0
-some_told other cpus past has = absurd (cc past)
-
 -- a section of an update may end
 in_update : (stage : Stage) → is_update stage ≡ true → takes_end stage ≡ true
 in_update InUpdate is = refl
 in_update other is = absurd (cc is)
 
-era_risen : (goal : RegisterFile) (ps : List Processor) → 1 ≤ length ps → common_era (map (settled_processor goal) ps) ≡ common_era ps + 1
+pub era_risen : (goal : RegisterFile) (ps : List Processor) → 1 ≤ length ps → common_era (map (settled_processor goal) ps) ≡ common_era ps + 1
 era_risen goal [] some = absurd (omega arith)
 era_risen goal (p ∷ ps) some = refl
 
@@ -82,7 +75,7 @@ module _ (s : ReplayState) (h : IsReplayState s) (update : is_update s.now.stage
   quiet = is_quiet_without_order s.machine h.arises enabled.0
 
   some : 1 ≤ length s.machine.system.processors
-  some = let cpus = some_told s.now.stage s.now.cpus h.past h.situation.cpus in omega (arith, cpus, h.count)
+  some = h.some
 
   after : machine_after s command.End ≡ last
   after =
@@ -97,26 +90,29 @@ module _ (s : ReplayState) (h : IsReplayState s) (update : is_update s.now.stage
   risen : common_era last.system.processors ≡ common_era s.machine.system.processors + 1
   risen = era_risen s.goal s.machine.system.processors some
 
-  -- the events of the commands since
-  leads : (since : List Command) → Fits s.now command.End → AreWithoutCall (state_after s command.End) since
-      → Leads last (state_after_all (state_after s command.End) since).machine (stored_by_all (state_after s command.End) since)
-  leads since fits without =
-      subst (λ (m : Machine). Leads m (state_after_all (state_after s command.End) since).machine (stored_by_all (state_after s command.End) since)) after
+  -- the commands since
+  path : (since : List Command) → Fits s.now command.End → AreWithoutCall (state_after s command.End) since
+      → Path last (state_after_all (state_after s command.End) since).machine (stored_by_all (state_after s command.End) since)
+  path since fits without =
+      subst (λ (m : Machine). Path m (state_after_all (state_after s command.End) since).machine (stored_by_all (state_after s command.End) since)) after
       (all_lead since (state_after s command.End) (state_kept s command.End h fits) refl without)
+
+  arises : Arises last
+  arises = from_start (inl (updated_is_quiet s.machine s.goal (each_processor s.machine.system) quiet enabled))
 
   stays : (since : List Command) → Fits s.now command.End → AreWithoutCall (state_after s command.End) since
       → IsSettled (state_after_all (state_after s command.End) since).machine.system (common_era last.system.processors) s.goal
   stays since fits without =
-      let l = leads since fits without in
-      let settled = updates_settle s.machine s.goal l.since quiet enabled (omega (arith, some)) l.enabled l.quiet in
-      subst (λ (v : ℕ × Machine). IsSettled v.1.system v.0 s.goal) (λ i. (sym risen i, l.is i)) settled
+      let end : Machine = (state_after_all (state_after s command.End) since).machine in
+      let era : ℕ = common_era s.machine.system.processors + 1 in
+      subst (λ (n : ℕ). IsSettled end.system n s.goal) (sym risen)
+      (settled_of era s.goal end (after_path era s.goal arises (after_whole s.machine s.goal (each_processor s.machine.system) quiet) (path since fits without)))
 
   held : (since : List Command) → Fits s.now command.End → AreWithoutCall (state_after s command.End) since
       → AreHeld (word_at (machine_after s command.End).system.memory) (state_after s command.End) since
   held since fits without address whole other =
-      let l = leads since fits without in
-      let same = words_held s.machine s.goal l.since address quiet enabled l.enabled whole (λ stored. other (subst (λ (xs : List ℕ). Contains xs address) l.stored stored)) in
-      ap (λ (m : Machine). word_at m.system.memory address) (sym l.is) ∙ same ∙ ap (λ (m : Machine). word_at m.system.memory address) (sym after)
+      word_path address (word_at last.system.memory address) whole arises (word_after_update s.machine s.goal (each_processor s.machine.system) quiet enabled address whole) other (path since fits without)
+      ∙ ap (λ (m : Machine). word_at m.system.memory address) (sym after)
 
   settles : Fits s.now command.End → IsSettledAfter s last
   settles fits = record {

@@ -19,7 +19,8 @@ use Rattle.mt_replay.specs.Headline.{Beginning, Beginnings, begins_by, begins_fr
 use Rattle.mt_replay.specs.Heads.{end_after, head_end}
 use Rattle.mt_replay.specs.Kept.{IsReplayState}
 use Rattle.mt_replay.specs.ReplayState.{ReplayState, first_state, state_after}
-use Rattle.mt_replay.specs.Running.{IsAt, Point, in_body, in_head}
+use Rattle.mt_replay.specs.Running.{IsAt}
+use Rattle.mt_replay.specs.Transcript.{Point, in_body, in_head}
 use Rattle.mt_replay.specs.Summary.{last_from}
 use Rattle.mt_replay.specs.Summing.{Begins, Lasts, LastsHere, LastsOn, last_lines, state_in}
 use Rattle.mt_replay.specs.declared.line.Run.{Run}

@@ -1,6 +1,7 @@
 -- A summary's loop over the lines of a script.
-use Rattle.std.proofs.Common.{◌≡◌, ◌∙◌, ap, sym, refl, subst, arith, ℕ, ◌+◌, ◌^◌, ◌≤◌, ◌<◌, List, [], ◌∷◌, ◌++◌, append-nil, drop, None, Some}
+use Rattle.std.proofs.Common.{false, ◌≡◌, ◌∙◌, ap, sym, refl, subst, arith, ℕ, ◌+◌, ◌^◌, ◌≤◌, ◌<◌, List, [], ◌∷◌, ◌++◌, append-nil, drop, Option, None, Some}
 use Rattle.mt_text.specs.Text.{end_of, lines_of}
+use Rattle.mt_text.specs.declared.place.Place.{Place}
 use Rattle.mt_ports.specs.declared.status.Status.{Status}
 use Rattle.mt_ports.specs.declared.status.Status.TheVariants.{Done}
 use Rattle.mt_output.specs.Lines.{offence_line}
@@ -9,14 +10,18 @@ use Rattle.mt_script.specs.Situation.{at_start}
 use Rattle.mt_script.specs.Commands.{end_fault}
 use Rattle.mt_script.specs.declared.fault.ScriptFault.{ScriptFault}
 use Rattle.mt_script.specs.declared.fault.Offence.TheVariants.{Script}
-use Rattle.mt_replay.specs.Running.{Ends, GoesOn, IsAt, Point, from_line, in_body, in_head, setup_of, told_lines}
+use Rattle.mt_replay.specs.Running.{IsAt, from_line, leading, replay_running, setup_of}
+use Rattle.mt_stream.specs.Lines.{Ends, GoesOn, Leads, Path}
 use Rattle.mt_replay.specs.Summary.{last_state, summary, totals, updates_in}
 use Rattle.mt_replay.specs.Summing.{LastsHere, LastsOn, last_lines, no_totals, state_in, with_memory, with_text}
-use Rattle.mt_replay.specs.Transcript.{Told, behind, told, told_at_end, transcript}
+use Rattle.mt_replay.specs.Transcript.{Point, in_body, in_head, told_at_end, told_lines, transcript}
+use Rattle.mt_stream.specs.Told.{Told, behind, told}
 use Rattle.mt_replay.specs.declared.line.Run.{Run}
 use Rattle.mt_replay.specs.declared.line.Run.TheVariants as run
 use Rattle.mt_replay.specs.declared.summing.Totals.{Totals}
-use Rattle.mt_replay.proofs.Telling.{behind_both, none_known, none_told}
+use Rattle.mt_stream.proofs.Telling.{told_both}
+use Rattle.mt_replay.proofs.RunningLaws.{none_told}
+use Rattle.mt_replay.proofs.Walks.{none_known}
 use Rattle.mt_replay.proofs.Sums.Numbers.{IsWhole, both_whole, none_whole, texts_both, totals_are, updates_both}
 use Rattle.mt_replay.proofs.Sums.Texts.{Writes, alone, line_writes, offence_writes}
 
@@ -62,16 +67,19 @@ module _ (source : List ℕ) (at next number : ℕ) (bytes : List ℕ) (now : Ru
   from_here = h.led ∙ ap (λ ls. behind h.text (told_lines (Some (end_of source)) number ls h.point)) cut
 
   module _ (later : Run) where
-    pub summed_on : GoesOn (from_line number bytes h.point) (number + 1) h.point later waiting left (Some []) (Some []) → LastsOn number bytes h.last_point later → at + 1 ≤ next → Summed source next (number + 1) later (with_text t left)
-    summed_on g lasts on =
-        let known : alone number bytes h.point ≡ behind g.text (told [] Done) = g.goes None [] ∙ ap (behind g.text) (none_known (number + 1) g.next) in
+    pub summed_on : (so_far : List ℕ) → GoesOn replay_running (leading false so_far number bytes h.point) (number + 1) so_far later waiting left (Some []) (Some []) → LastsOn number bytes h.last_point later → at + 1 ≤ next → Summed source next (number + 1) later (with_text t left)
+    summed_on so_far g lasts on =
+        let (next_point, came, stands, quiet, same) = g.at in
+        let goes : (end : Option Place) (lines : List (List ℕ)) → from_line number bytes h.point end lines ≡ behind g.text (told_lines end (number + 1) lines next_point) =
+        λ end lines. ap (λ (x : Leads). x.tells) (g.goes end lines) ∙ ap (λ (t : Path). behind g.text (t end (number + 1) lines).tells) same in
+        let known : alone number bytes h.point ≡ behind g.text (told [] Done) = goes None [] ∙ ap (behind g.text) (none_known (number + 1) next_point) in
         let writes : Writes 1 g.text = subst (Writes 1) (ap (λ (x : Told). x.text) known ∙ append-nil g.text) (line_writes number bytes now h.point h.stands) in
         record {
           text = h.text ++ g.text;
-          point = g.next;
-          stands = g.at;
-          led = from_here ∙ ap (behind h.text) (g.goes (Some (end_of source)) (lines_of (drop next source)))
-              ∙ behind_both h.text g.text (told_lines (Some (end_of source)) (number + 1) (lines_of (drop next source)) g.next);
+          point = next_point;
+          stands = stands;
+          led = from_here ∙ ap (behind h.text) (goes (Some (end_of source)) (lines_of (drop next source)))
+              ∙ told_both h.text g.text (told_lines (Some (end_of source)) (number + 1) (lines_of (drop next source)) next_point);
           whole = both_whole h.text g.text h.whole writes.whole;
           few = omega (arith, updates_both h.text g.text h.whole, h.few, writes.few, on);
           counted = ap (λ l. with_text t l) (waits g.text waiting left none g.passed) ∙ ap (λ (x : Totals). with_text x g.text) h.counted ∙ texts_both no_totals h.text g.text h.whole;
@@ -80,9 +88,9 @@ module _ (source : List ℕ) (at next number : ℕ) (bytes : List ℕ) (now : Ru
           last = h.last ∙ ap (λ ls. last_lines number ls h.last_point) cut ∙ lasts.same (lines_of (drop next source));
         }
 
-    pub summed_ends : (status : Status) → Ends (from_line number bytes h.point) waiting left (Some []) (Some []) status → LastsHere number bytes h.last_point later → at + 1 < 2 ^ 64
+    pub summed_ends : (so_far : List ℕ) (status : Status) → Ends (leading false so_far number bytes h.point) waiting left (Some []) (Some []) status → LastsHere number bytes h.last_point later → at + 1 < 2 ^ 64
         → with_memory (with_text t left) (state_in later) ≡ summary source
-    summed_ends status e lasts low =
+    summed_ends so_far status e lasts low =
         let writes : Writes 1 e.telling.text = subst (λ (x : Told). Writes 1 x.text) (e.stops None []) (line_writes number bytes now h.point h.stands) in
         let counted : with_text t left ≡ with_text no_totals (h.text ++ e.telling.text) =
         ap (λ l. with_text t l) (waits e.telling.text waiting left none e.passed) ∙ ap (λ (x : Totals). with_text x e.telling.text) h.counted ∙ texts_both no_totals h.text e.telling.text h.whole in

@@ -1,6 +1,6 @@
 -- What one line of a script writes: whole lines, of which at most one says `complete`.
 use Rattle.std.proofs.Common.{◌≡◌, ap, sym, refl, subst, inl, inr, arith, ℕ, zero, suc, ◌+◌, ◌/◌, ◌%◌, ◌≤◌, ◌==◌, nat_lt, cond, Bool, true, false, not, List, [], ◌∷◌, ◌++◌, codes, decimal, drop, length, slice_index, append-nil, Option, None, Some, Result, Ok, Err}
-use Rattle.std.specs.Prelude.{count_by, if◌then◌else◌}
+use Rattle.std.specs.Prelude.{count_by, if◌then◌else◌, is_some}
 use Rattle.std.specs.Fmt.{digit_glyph, digits, digits_onto}
 use Rattle.std.specs.Int.{to_be_bytes, w64}
 use Rattle.std.specs.List.{list_all, onto_first}
@@ -34,7 +34,7 @@ use Rattle.mt_machine.specs.declared.op.Op.TheVariants as op
 use Rattle.mt_machine.specs.declared.control.Control.TheVariants as control_of
 use Rattle.mt_machine.specs.Access.{access}
 use Rattle.mt_machine.specs.Control.{control}
-use Rattle.mt_machine.specs.Machine.{common_era, go_of}
+use Rattle.mt_machine.specs.Machine.{Machine, common_era, go_of}
 use Rattle.mt_machine.specs.System.{Processor}
 use Rattle.mt_machine.specs.Update.{dirty_count}
 use Rattle.mt_core.specs.Steps.{step_after, step_answer}
@@ -53,11 +53,13 @@ use Rattle.mt_script.specs.Head.{HeadStep, goes_on, head_step, offends, shows}
 use Rattle.mt_script.specs.Commands.{command_of}
 use Rattle.mt_script.specs.Situation.{Situation}
 use Rattle.mt_output.specs.Lines.{accepted_line, address_text, bad_text, dump_reason_text, dump_refused_line, line, offence_line, reason_text, refused_cpu_line, refused_line, script_reason_text}
-use Rattle.mt_replay.specs.Running.{IsAt, Point, body_lines, from_line, head_lines, in_body, in_head}
-use Rattle.mt_replay.specs.ReplayState.{ReplayState, after_update, call_fault, call_line, command_text, file_at, is_undecided, is_update, mapping, memory_word, register_value, update_line}
+use Rattle.mt_machine.specs.ComingAndGoing.{last_number}
+use Rattle.mt_replay.specs.Running.{IsAt, from_line}
+use Rattle.mt_replay.specs.ReplayState.{ReplayState, after_update, call_fault, call_line, command_text, file_at, is_undecided, is_update, mapping, memory_word, register_value, update_line, is_absent, may_come, may_go, present_text, retire_text, stays_line}
 use Rattle.mt_replay.specs.Summary.{is_complete, updates_in}
-use Rattle.mt_replay.specs.Texts.{call_fault_line, called_line, cancel_line, complete_line, done_line, event_text, go_line, have_one_file, memory_line, number_at, phase_text, processor_line, processor_lines, register_line, registers_line, report_text, ruled_line, stale_count, stepped_line, switch_text}
-use Rattle.mt_replay.specs.Transcript.{Told, behind, told_command, told_dump}
+use Rattle.mt_replay.specs.Texts.{call_fault_line, called_line, cancel_line, complete_line, done_line, event_text, go_line, have_one_file, memory_line, number_at, phase_text, processor_line, processor_lines, register_line, registers_line, report_text, ruled_line, stale_count, stepped_line, switch_text, absent_line, full_line, joined_line, no_line, retired_line, under_way_line, up_line}
+use Rattle.mt_replay.specs.Transcript.{Point, body_lines, head_lines, in_body, in_head, told_command, told_dump}
+use Rattle.mt_stream.specs.Told.{Told, behind}
 use Rattle.mt_replay.specs.declared.line.Run.{Run}
 use Rattle.mt_replay.specs.declared.line.Run.TheVariants as run
 use Rattle.mt_replay.proofs.Walks.{from_body, head_leads, told_after}
@@ -354,23 +356,51 @@ end_writes : (s : ReplayState) (updates : Bool) → Writes 1 (if updates then up
 end_writes s true = call_writes (complete_line (common_era (after_update s.machine s.goal).system.processors)) (call_fault s.machine s.goal) (complete_writes (common_era (after_update s.machine s.goal).system.processors))
 end_writes s false = call_writes called_line (call_fault s.machine s.goal) (one (said (codes "called") refl))
 
+stay_writes : (busy : Bool) (cause : List ℕ) → Writes 1 cause → Writes 1 (if busy then under_way_line else cause)
+stay_writes true cause w = one (said (codes "under way") refl)
+stay_writes false cause w = w
+
+come_writes : (m : Machine) (line : List ℕ) → Writes 1 line → Writes 1 (if may_come m then line else stays_line m full_line)
+come_writes m line w = by (may_come m)
+  where
+    by : (b : Bool) → Writes 1 (if b then line else stays_line m full_line)
+    by true = w
+    by false = stay_writes (is_some m.order) full_line (one (said (codes "full") refl))
+
+leave_writes : (m : Machine) → Writes 1 (retire_text m)
+leave_writes m = by (may_go m)
+  where
+    by : (b : Bool) → Writes 1 (if b then retired_line (last_number m.system) else stays_line m no_line)
+    by true = one (both (said (codes "retired ") refl) (decimal_inside (last_number m.system)))
+    by false = stay_writes (is_some m.order) no_line (one (said (codes "no") refl))
+
+present_writes : (s : ReplayState) (c : Command) → Writes 1 (present_text s c)
+present_writes s (command.Load k address) = done_writes (access s.machine.system k (op.Load address)).answer
+present_writes s (command.Store k address value) = done_writes (access s.machine.system k (op.Store address value)).answer
+present_writes s (command.Fence k) = done_writes (access s.machine.system k op.Fence).answer
+present_writes s (command.Map k address physical index global) = ruled_writes (control s.machine.system k (control_of.Map (mapping address physical index global))).answer
+present_writes s (command.Invlpg k address) = ruled_writes (control s.machine.system k (control_of.Invlpg address)).answer
+present_writes s (command.Cr3 k) = ruled_writes (control s.machine.system k control_of.Cr3).answer
+present_writes s (command.Pge k on) = ruled_writes (control s.machine.system k (control_of.Pge on)).answer
+present_writes s (command.Cd k on) = ruled_writes (control s.machine.system k (control_of.Cd on)).answer
+present_writes s command.Go = go_writes (is_undecided (go_of s.machine))
+present_writes s command.Cancel = cancel_writes (is_undecided (go_of s.machine))
+present_writes s command.Report = more (omega arith) (report_writes s.machine.system.processors)
+present_writes s (command.Step k) = step_writes (file_at (step_after s.machine k).system.processors k s.goal) (step_answer s.machine k)
+present_writes s (command.Word address) = memory_writes (memory_word s.machine.system.memory address)
+present_writes s (command.Msr k number) = register_writes number (register_value s k number)
+present_writes s command.Up = come_writes s.machine (up_line (length s.machine.system.processors)) (one (both (said (codes "up ") refl) (decimal_inside (length s.machine.system.processors))))
+present_writes s command.Join = come_writes s.machine (joined_line (length s.machine.system.processors)) (one (both (said (codes "joined ") refl) (decimal_inside (length s.machine.system.processors))))
+present_writes s command.Retire = leave_writes s.machine
+present_writes s command.End = end_writes s (is_update s.now.stage)
+present_writes s other = nothing
+
 command_writes : (s : ReplayState) (c : Command) → Writes 1 (command_text s c)
-command_writes s (command.Load k address) = done_writes (access s.machine.system k (op.Load address)).answer
-command_writes s (command.Store k address value) = done_writes (access s.machine.system k (op.Store address value)).answer
-command_writes s (command.Fence k) = done_writes (access s.machine.system k op.Fence).answer
-command_writes s (command.Map k address physical index global) = ruled_writes (control s.machine.system k (control_of.Map (mapping address physical index global))).answer
-command_writes s (command.Invlpg k address) = ruled_writes (control s.machine.system k (control_of.Invlpg address)).answer
-command_writes s (command.Cr3 k) = ruled_writes (control s.machine.system k control_of.Cr3).answer
-command_writes s (command.Pge k on) = ruled_writes (control s.machine.system k (control_of.Pge on)).answer
-command_writes s (command.Cd k on) = ruled_writes (control s.machine.system k (control_of.Cd on)).answer
-command_writes s command.Go = go_writes (is_undecided (go_of s.machine))
-command_writes s command.Cancel = cancel_writes (is_undecided (go_of s.machine))
-command_writes s command.Report = more (omega arith) (report_writes s.machine.system.processors)
-command_writes s (command.Step k) = step_writes (file_at (step_after s.machine k).system.processors k s.goal) (step_answer s.machine k)
-command_writes s (command.Word address) = memory_writes (memory_word s.machine.system.memory address)
-command_writes s (command.Msr k number) = register_writes number (register_value s k number)
-command_writes s command.End = end_writes s (is_update s.now.stage)
-command_writes s other = nothing
+command_writes s c = by (is_absent s.machine c)
+  where
+    by : (b : Bool) → Writes 1 (if b then absent_line else present_text s c)
+    by true = one (said (codes "absent") refl)
+    by false = present_writes s c
 
 -- what a line leads to where no known line stands behind it
 abbrev pub alone : ℕ → List ℕ → Point → Told

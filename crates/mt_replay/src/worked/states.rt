@@ -14,7 +14,8 @@ ghost use Rattle.mt_script.specs.declared.command.Stage.TheVariants as stage;
 ghost use Rattle.mt_dump.specs.Dumps.{dump_of};
 ghost use Rattle.mt_replay.specs.Kept.{EachIn, EachOfDump, HoldsThrough, IsReplayState};
 ghost use Rattle.mt_replay.specs.ReplayState.{goal_after};
-ghost use Rattle.mt_replay.specs.Transcript.{told, transcript};
+ghost use Rattle.mt_replay.specs.Transcript.{transcript};
+ghost use Rattle.mt_stream.specs.Told.{told};
 ghost use Rattle.mt_replay.specs.Statuses.{AreHeld, AreWithoutCall, IsSettledAfter, ShowsDump, ShowsNoDump, stored_by, stored_by_all};
 ghost use Rattle.mt_replay.specs.WorkedStates.{after_end, at_end, busy, painted, painted_by, resting, later_refused, pair, paired_dump, small_dump, state_of, two_processors, with_first};
 

@@ -1,9 +1,10 @@
-use Rattle.std.proofs.Common.{◌≡◌, ◌∙◌, sym, List, [], ◌∷◌, ◌++◌, ℕ, ◌<◌, refl, arith, ap, length, inl, inr, None, Some, Option}
-use Rattle.std.specs.Prelude.{codes, ◌⊎◌}
+use Rattle.std.proofs.Common.{◌≡◌, true, false, lit≤, ◌∙◌, sym, List, [], ◌∷◌, ◌++◌, ℕ, ◌<◌, refl, arith, ap, length, length-append, inl, inr, None, Some, Option}
+use Rattle.std.specs.Prelude.{codes}
+use Rattle.std.specs.Fmt.{digits}
 use Rattle.mt_ports.specs.declared.status.Status.{Status}
 use Rattle.mt_ports.specs.declared.status.Status.TheVariants as status
-use Rattle.mt_ports.specs.Puts.{AppendsFront}
-use Rattle.mt_output.specs.Lines.{accepted_line}
+use Rattle.mt_script.specs.Newcomers.{IsWithoutNewcomers}
+use Rattle.mt_replay.specs.Transcript.{transcript}
 use Rattle.mt_cli.specs.declared.command.Command.TheVariants as asks
 use Rattle.mt_cli.specs.Lines.{usage_line}
 use Rattle.mt_cli.specs.Output.{Output, usage, bad_text, answered, made, replayed, summed, measured, requested}
@@ -113,9 +114,50 @@ returns-clause-reads_too_long c = λ h. omega (arith, h)
 pub returns-clause-reads_to_the_end : goal.returns-clause-reads_to_the_end
 returns-clause-reads_to_the_end c = λ h. omega (arith, ap (λ b. length (taken b)) h.read)
 
-other_line : (bytes : List ℕ) → Starved (codes "replay" ∷ []) bytes [] (Some (codes "x")) → ⊥
-other_line bytes (inl is) = omega (arith, ap (λ b. length (taken b)) is)
-other_line bytes (inr (is, (front, back, cut, grows), short)) = begins front back 97 120 (ap first (sym cut)) (ap first (sym grows)) (omega arith) (omega arith)
+of_replay : (bytes text : List ℕ) (s : Status) → Output (codes "replay" ∷ []) bytes text s → text ≡ (transcript bytes).text
+of_replay bytes _ _ (usage is) = cc is
+of_replay bytes _ _ (bad_text command fault is offence) = cc is
+of_replay bytes _ _ (answered command file text s is shown answer) = cc is
+of_replay bytes _ _ (made n is) = cc is
+of_replay bytes _ _ (summed n is) = cc is
+of_replay bytes _ _ (measured cpus n accesses is) = cc is
+of_replay bytes _ _ (requested cpus is) = cc is
+of_replay bytes _ _ (replayed is) = refl
+
+other_line : (bytes : List ℕ) → IsWithoutNewcomers bytes → Starved (codes "replay" ∷ []) bytes [] (Some (codes "x")) → ⊥
+other_line bytes without (inl is) = omega (arith, ap (λ b. length (taken b)) is)
+other_line bytes without (inr (is, first_line, short)) =
+    let (front, back, cut, grows) = first_line without in
+    begins front back 97 120 (ap first (sym cut)) (ap first (sym grows)) (omega arith) (omega arith)
 
 pub returns-clause-other_line_without_memory : goal.returns-clause-other_line_without_memory
 returns-clause-other_line_without_memory c = other_line
+
+more : (bytes : List ℕ) → IsWithoutNewcomers bytes → Starved (codes "replay" ∷ []) bytes [] (Some (codes "accepted\nok\n")) → ⊥
+more bytes without (inl is) = omega (arith, ap (λ b. length (taken b)) is)
+more bytes without (inr (is, first_line, short)) =
+    let (front, back, cut, grows) = first_line without in
+    omega (arith, ap length cut, length-append front back, ap length grows)
+
+pub returns-clause-more_without_memory : goal.returns-clause-more_without_memory
+returns-clause-more_without_memory c = more
+
+-- a script in which a processor joins
+abbrev joins : List ℕ
+joins = codes "cpus 1\ndump\n0fe 0\nend\ncr3 0\njoin\n"
+
+has_newcomer : IsWithoutNewcomers joins → ⊥
+has_newcomer without = let e : true ≡ false = without 5 [] (lit≤ tt) in cc e
+
+pub returns-clause-starved_behind_a_newcomer : goal.returns-clause-starved_behind_a_newcomer
+unfolding digits
+returns-clause-starved_behind_a_newcomer c =
+    inr (refl, (λ without. absurd (has_newcomer without)), record { text = (transcript joins).text; status = status.Done; output = replayed refl; front = codes "accepted\nok\n"; back = codes "joined 1\n"; cut = refl; taken = refl })
+
+other_behind : Starved (codes "replay" ∷ []) joins [] (Some (codes "x")) → ⊥
+other_behind (inl is) = omega (arith, ap (λ b. length (taken b)) is)
+other_behind (inr (is, first_line, short)) =
+    begins short.front short.back 97 120 (ap first (sym short.cut ∙ of_replay joins short.text short.status short.output)) (sym (ap (λ b. first (taken b)) short.taken)) (omega arith) (omega arith)
+
+pub returns-clause-other_line_behind_a_newcomer : goal.returns-clause-other_line_behind_a_newcomer
+returns-clause-other_line_behind_a_newcomer c = other_behind

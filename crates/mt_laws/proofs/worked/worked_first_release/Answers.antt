@@ -1,4 +1,5 @@
-use Rattle.std.proofs.Common.{◌≡◌, ℕ, Bool, true, false, refl, ap, subst, arith, List, [], ◌∷◌, ◌++◌, Option, None, Some}
+use Rattle.std.proofs.Common.{◌≡◌, ℕ, true, false, refl, ap, subst, arith, List, [], ◌∷◌, ◌++◌, Option, None, Some}
+use Rattle.std.proofs.lemmas.Bool.{not-true}
 use Rattle.std.specs.Prelude.{map, not}
 use Rattle.std.specs.List.{list_all}
 use Rattle.mt_machine.specs.declared.event.Event.TheVariants.{Pass, Release}
@@ -10,15 +11,11 @@ use Rattle.mt_laws.specs.WorkedRuns.{pair_arrived, pair_between, pair_order}
 use Rattle.mt_laws.proofs.Words.Sound.{test_all}
 use Rattle.mt_laws.proofs.worked.worked_first_release.Goals as goal
 
-off : (b : Bool) → not b ≡ true → b ≡ false
-off true h = absurd (cc)
-off false h = refl
-
 -- by computation
 pub returns-clause-first : goal.returns-clause-first
 returns-clause-first c = record {
   order = refl;
-  none_passed = test_all (λ q. not (has_passed pair_order q)) (λ q. has_passed pair_order q ≡ false) (λ q h. off (has_passed pair_order q) h) pair_arrived.system.processors refl;
+  none_passed = test_all (λ q. not (has_passed pair_order q)) (λ q. has_passed pair_order q ≡ false) (λ q. not-true (has_passed pair_order q)) pair_arrived.system.processors refl;
   first = 0;
   last = 1;
   between = pair_between;

@@ -1,7 +1,8 @@
 use Rattle.mt_replay.proofs.Courses.Calling.{accepted_where_idle_and_whole, goals_are_of_their_sections}
 use Rattle.mt_replay.proofs.Courses.Numbers.{steps_are_of_their_lines}
 use Rattle.mt_replay.proofs.Courses.Releasing.{released_updates_are_kept}
-use Rattle.mt_replay.proofs.Courses.Since.{complete_updates_are_kept, refused_updates_change_nothing}
+use Rattle.mt_replay.proofs.Courses.Newcomers.{newcomers_where_idle}
+use Rattle.mt_replay.proofs.Courses.Since.{complete_updates_are_kept, joins_are_kept, refused_updates_change_nothing}
 use Rattle.mt_replay.proofs.Courses.States.{starts_as_the_dump_shows, states_are_of_the_course}
 use Rattle.mt_replay.proofs.Courses.Steps.{replays_are_of_the_course, steps_follow, transcript_is_of_the_course, transcript_is_one_line}
 use Rattle.mt_replay.proofs.headline.the_headline_holds.Goals as goal
@@ -41,3 +42,9 @@ returns-clause-starts c = starts_as_the_dump_shows
 
 pub returns-clause-lines : goal.returns-clause-lines
 returns-clause-lines c = steps_are_of_their_lines
+
+pub returns-clause-newcomers : goal.returns-clause-newcomers
+returns-clause-newcomers c = newcomers_where_idle
+
+pub returns-clause-joined : goal.returns-clause-joined
+returns-clause-joined c = joins_are_kept

@@ -9,7 +9,7 @@ use Rattle.mt_replay.proofs.Courses.Worked.{stands}
 use Rattle.mt_replay.proofs.headline.worked_headline.Goals as goal
 
 pub returns-clause-called : goal.returns-clause-called
-returns-clause-called c = inl refl
+returns-clause-called c = inl (inl refl)
 
 pub returns-clause-release : goal.returns-clause-release
 returns-clause-release c = refl

@@ -48,8 +48,8 @@ returns-clause-stored_again c = record {
     one address other false is = zero_word (machine_of updated_processor).system.memory.windows 8 address
 
 pub returns-clause-call : goal.returns-clause-call
-returns-clause-call c none = none.1.0 (inl refl)
+returns-clause-call c none = none.1.0 (inl (inl refl))
 
 pub returns-clause-complete : goal.returns-clause-complete
 unfolding digits
-returns-clause-complete c none = none.0 (inr (2, refl))
+returns-clause-complete c none = none.0 (inl (inr (2, refl)))

@@ -20,7 +20,7 @@ returns-clause-without_call c =
     without_call (steps_at 38 6) (left (step_at 37)) (left_is (step_at 37) rest there) (in_front (steps_at 38 6) (drop 6 (drop 38 (course worked_script))) (left (step_at 37)) there.goes_on) (none_calls (steps_at 38 6) refl)
 
 pub returns-clause-call : goal.returns-clause-call
-returns-clause-call c h = let some = h.1 refl in cc some
+returns-clause-call c h = let some = h.1.0 refl in cc some
 
 pub returns-clause-states : goal.returns-clause-states
 returns-clause-states c h =

@@ -3,7 +3,7 @@ use Rattle.std.specs.Prelude.{slice_index_or}
 use Rattle.std.proofs.lemmas.Bool.{lt-ltb, ltb-true}
 use Rattle.mt_regs.specs.RegisterFile.{RegisterFile}
 use Rattle.mt_script.specs.declared.command.Command.TheVariants as command
-use Rattle.mt_replay.specs.Headline.{NoneOf, NoneWrote, Step, goal_of, pass_line, release_line, wrote}
+use Rattle.mt_replay.specs.Headline.{ComesUp, IsCalled, NoneOf, NoneWrote, Step, goal_of, pass_line, release_line, wrote}
 use Rattle.mt_replay.specs.ReplayState.{first_file}
 use Rattle.mt_replay.specs.Texts.{called_line}
 use Rattle.mt_replay.specs.WorkedScript.{no_step, step_at, steps_at, with_other_goal}
@@ -41,7 +41,11 @@ pub returns-clause-ended_by_a_register : goal.returns-clause-ended_by_a_register
 returns-clause-ended_by_a_register c = λ u. absurd (cc u.ends)
 
 pub returns-clause-no_call : goal.returns-clause-no_call
-returns-clause-no_call c = λ u call. omega (arith, ap first (subst (λ (s : Step). wrote s ≡ called_line) call u.calls))
+returns-clause-no_call c = λ u call.
+    ⊎_elim
+    (λ (is : wrote (step_at 7) ≡ called_line). absurd (omega (arith, ap first is)))
+    (λ (up : (k : ℕ) × ComesUp (step_at 7) k). absurd (cc (up.1.0)))
+    (subst IsCalled call u.calls)
 
 pub returns-clause-no_pass : goal.returns-clause-no_pass
 returns-clause-no_pass c = λ u pass. omega (arith, ap first (subst (λ (s : Step). wrote s ≡ pass_line) pass u.passes))

@@ -1,4 +1,4 @@
-use Rattle.std.proofs.Common.{◌≡◌, ◌∙◌, ap, inl, refl, subst, sym, ℕ, List, None, Some}
+use Rattle.std.proofs.Common.{◌≡◌, ◌∙◌, ap, inl, refl, subst, sym, ℕ, List, [], None, Some}
 use Rattle.mt_regs.specs.Agreement.{first_refusal}
 use Rattle.mt_output.specs.Lines.{dump_refused_line}
 use Rattle.mt_output.specs.Writing.{Adds}
@@ -7,9 +7,10 @@ use Rattle.mt_dump.specs.Dumps.{Dump}
 use Rattle.mt_dump.specs.ForProcessors.{files_for}
 use Rattle.mt_replay.specs.Kept.{HasEras}
 use Rattle.mt_replay.specs.ReplayState.{ReplayState}
-use Rattle.mt_replay.specs.Running.{in_head}
+use Rattle.mt_replay.specs.Running.{leading_dump, replay_running}
+use Rattle.mt_stream.proofs.Taking.{takes_last}
 use Rattle.mt_replay.proofs.Files.{none_finished}
-use Rattle.mt_replay.proofs.Taking.{dump_fails, dump_goes, dump_refused, from_dump, takes_last}
+use Rattle.mt_replay.proofs.Taking.{dump_fails, dump_goes, dump_refused}
 use Rattle.mt_replay.proofs.FirstRefusal.{all_accepted}
 use Rattle.mt_replay.proofs.Sums.Last.{begins_refused}
 use Rattle.mt_replay.specs.declared.line.Run.TheVariants as run
@@ -21,21 +22,21 @@ begin-requires-clause-accepted g c =
     all_accepted c.args.dump.files none
 
 pub returns-in-Some-clause-bytes : goal.returns-in-Some-clause-bytes
-returns-in-Some-clause-bytes g c = λ number before.
+returns-in-Some-clause-bytes g c = λ number.
     let refused : first_refusal c.args.dump.files ≡ Some (c.in-Some.k, c.in-Some.fault) = ap first_refusal (sym (c.as_slice-files.ensures.value ∙ ap (λ (d : Dump). d.files) c.dump.view_is)) ∙ sym c.in-Some.ensures.refusal in
     let line : c.as_slice.result.now ≡ dump_refused_line c.args.dump.version c.in-Some.k c.in-Some.fault =
     c.as_slice.ensures.value ∙ c.dump_refused_line-line.ensures ∙ ap (λ (d : Dump). dump_refused_line d.version c.in-Some.k c.in-Some.fault) c.dump.view_is in
-    takes_last (from_dump c.args.setup c.args.dump number) number (in_head c.args.setup before) _ (dump_refused_line c.args.dump.version c.in-Some.k c.in-Some.fault) c.args.writer.now c.tell.new.writer Refused
+    takes_last replay_running (leading_dump c.args.setup c.args.dump number) number [] c.args.run.now (dump_refused_line c.args.dump.version c.in-Some.k c.in-Some.fault) c.args.writer.now c.tell.new.writer Refused
     (g.K.Sink.taken c.args.sink.now) (g.K.Sink.taken c.tell.new.sink) c.tell.result (dump_refused c.args.setup c.args.dump number (c.in-Some.k, c.in-Some.fault) refused) (inl refl)
     (subst (λ (l : List ℕ). Adds c.args.writer.now l c.tell.new.writer (g.K.Sink.taken c.args.sink.now) (g.K.Sink.taken c.tell.new.sink) c.tell.result) line c.tell.ensures.bytes) c.tell.ensures.status
 
 pub returns-in-Ok-write-clause-bytes : goal.returns-in-Ok-write-clause-bytes
-returns-in-Ok-write-clause-bytes g c = λ number before.
+returns-in-Ok-write-clause-bytes g c = λ number.
     let none : first_refusal c.args.dump.files ≡ None = ap first_refusal (sym (c.as_slice-files.ensures.value ∙ ap (λ (d : Dump). d.files) c.dump.view_is)) ∙ sym c.first_refusal.ensures.refusal ∙ c.in_default.is in
-    dump_goes c.args.setup c.args.dump number before c.in-Ok.replayer c.args.writer.now c.accepted_line.result.now c.write.new.self (g.K.Sink.taken c.args.sink.now) (g.K.Sink.taken c.write.new.sink) none c.in-Ok.ensures c.accepted_line.ensures c.in-Ok-write.ensures.bytes
+    dump_goes c.args.setup c.args.dump number c.in-Ok.replayer c.args.writer.now c.accepted_line.result.now c.write.new.self (g.K.Sink.taken c.args.sink.now) (g.K.Sink.taken c.write.new.sink) none c.in-Ok.ensures c.accepted_line.ensures c.in-Ok-write.ensures.bytes
 
 pub returns-in-Err-clause-bytes : goal.returns-in-Err-clause-bytes
-returns-in-Err-clause-bytes g c = λ number before.
+returns-in-Err-clause-bytes g c = λ number.
     let none : first_refusal c.args.dump.files ≡ None = ap first_refusal (sym (c.as_slice-files.ensures.value ∙ ap (λ (d : Dump). d.files) c.dump.view_is)) ∙ sym c.first_refusal.ensures.refusal ∙ c.in_default.is in
     dump_fails c.args.setup c.args.dump number c.args.writer.now c.accepted_line.result.now (g.K.Sink.taken c.args.sink.now) (g.K.Sink.taken c.write.new.sink) none c.accepted_line.ensures c.in-Err.ensures.bytes
 

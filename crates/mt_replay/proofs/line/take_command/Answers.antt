@@ -1,22 +1,24 @@
-use Rattle.std.proofs.Common.{rules, ◌≡◌, inr, refl, subst, Ok, Err}
+use Rattle.std.proofs.Common.{rules, ◌≡◌, ◌+◌, inr, refl, subst, Ok, Err}
 use Rattle.mt_ports.specs.declared.status.Status.TheVariants.{BadText}
 use Rattle.mt_output.specs.Lines.{offence_line}
 use Rattle.mt_script.specs.Accept.{Fits}
 use Rattle.mt_script.specs.Situation.{Situation}
 use Rattle.mt_script.specs.Commands.{command_of}
 use Rattle.mt_script.specs.declared.fault.Offence.TheVariants.{Script}
-use Rattle.mt_replay.specs.Running.{from_line, in_body}
-use Rattle.mt_replay.proofs.Taking.{command_eras, command_takes, fault_leads, takes_last}
+use Rattle.mt_replay.specs.Running.{leading, replay_running}
+use Rattle.mt_replay.specs.Transcript.{in_body}
+use Rattle.mt_replay.proofs.Taking.{command_eras, command_takes, fault_leads}
+use Rattle.mt_stream.proofs.Taking.{takes_last}
 use Rattle.mt_replay.proofs.Sums.Last.{command_lasts, fault_lasts, last_told}
 use Rattle.mt_replay.specs.declared.line.Run.TheVariants as run
 use Rattle.mt_replay.proofs.line.take_command.Goals as goal
 
 pub returns-in-Ok-clause-bytes : goal.returns-in-Ok-clause-bytes
-returns-in-Ok-clause-bytes g c =
+returns-in-Ok-clause-bytes g c = λ came so_far quiet.
     let is : command_of c.args.replayer.now.now c.args.line.now.number c.args.line.now.bytes.now ≡ Ok c.in-Ok.command = search rules in
     let fits : Fits c.args.replayer.now.now c.in-Ok.command = subst (λ (now : Situation). Fits now c.in-Ok.command) c.setup.ensures c.in-Ok.ensures.fits in
     command_takes c.args.replayer.now c.do_command.new.replayer c.in-Ok.command c.args.line.now.number c.args.line.now.bytes.now c.is_replay_state.ensures fits is
-    c.args.writer.now c.do_command.new.writer (g.K.Sink.taken c.args.sink.now) (g.K.Sink.taken c.do_command.new.sink) c.do_command.result c.do_command.ensures.bytes c.do_command.ensures.window
+    c.args.writer.now c.do_command.new.writer (g.K.Sink.taken c.args.sink.now) (g.K.Sink.taken c.do_command.new.sink) c.do_command.result c.do_command.ensures.bytes c.do_command.ensures.asks came so_far quiet
 
 pub returns-in-Ok-clause-eras : goal.returns-in-Ok-clause-eras
 returns-in-Ok-clause-eras g c = λ most eras.
@@ -26,9 +28,9 @@ returns-in-Ok-clause-eras g c = λ most eras.
     c.args.writer.now c.do_command.new.writer (g.K.Sink.taken c.args.sink.now) (g.K.Sink.taken c.do_command.new.sink) c.do_command.result eras c.do_command.ensures.bytes
 
 pub returns-in-Err-clause-bytes : goal.returns-in-Err-clause-bytes
-returns-in-Err-clause-bytes g c =
+returns-in-Err-clause-bytes g c = λ came so_far quiet.
     let is : command_of c.args.replayer.now.now c.args.line.now.number c.args.line.now.bytes.now ≡ Err c.in-Err.fault = search rules in
-    takes_last (from_line c.args.line.now.number c.args.line.now.bytes.now (in_body c.args.replayer.now)) _ (in_body c.args.replayer.now) _ (offence_line (Script c.in-Err.fault)) c.args.writer.now c.tell_offence.new.writer BadText
+    takes_last replay_running (leading came so_far c.args.line.now.number c.args.line.now.bytes.now (in_body c.args.replayer.now)) (c.args.line.now.number + 1) so_far (run.Body c.args.replayer.now) (offence_line (Script c.in-Err.fault)) c.args.writer.now c.tell_offence.new.writer BadText
     (g.K.Sink.taken c.args.sink.now) (g.K.Sink.taken c.tell_offence.new.sink) c.tell_offence.result (fault_leads c.args.replayer.now c.args.line.now.number c.args.line.now.bytes.now c.in-Err.fault is) (inr refl)
     c.tell_offence.ensures.bytes c.tell_offence.ensures.status
 

@@ -1,7 +1,9 @@
-use Rattle.std.proofs.Common.{◌≡◌, ◌+◌, ◌-◌, List, ℕ, None, Some}
+use Rattle.std.proofs.Common.{false, ◌≡◌, ◌+◌, ◌-◌, List, [], ℕ, None, Some}
 use Rattle.mt_text.specs.Feed.{IsLong, taken}
-use Rattle.mt_replay.specs.Running.{HasErasAt}
-use Rattle.mt_replay.proofs.Telling.{UnderWay}
+use Rattle.mt_script.specs.Situation.{at_start}
+use Rattle.mt_stream.proofs.Telling.{UnderWay}
+use Rattle.mt_replay.specs.Running.{HasErasAt, path_from, replay_running}
+use Rattle.mt_replay.specs.Transcript.{in_head}
 use Rattle.mt_replay.proofs.running.run_lines.Given as goal
 
 abbrev pub invariant-lines : goal.invariant-lines
@@ -12,7 +14,7 @@ invariant-lines g l = record {
   source : g.S.Source.faults l.source ≡ g.S.Source.faults l.initial.source;
   sink : g.K.Sink.faults l.sink ≡ g.K.Sink.faults l.initial.sink;
   eras : HasErasAt l.feed.offset l.run;
-  told : (bytes : List ℕ) → g.S.Source.left l.initial.source ≡ Some bytes → UnderWay bytes (g.S.Source.left l.source) l.feed l.run l.writer (g.K.Sink.taken l.initial.sink) (g.K.Sink.taken l.sink);
+  told : (bytes : List ℕ) → g.S.Source.left l.initial.source ≡ Some bytes → UnderWay replay_running (path_from false [] (in_head at_start [])) bytes (g.S.Source.left l.source) l.feed l.run l.writer (g.K.Sink.taken l.initial.sink) (g.K.Sink.taken l.sink);
 }
 
 abbrev pub decreases-lines : goal.decreases-lines

@@ -20,6 +20,7 @@ returns-clause-among_windows c = record {
   distinct = tt;
   known = λ q member. cc member;
   idle = λ test. refl;
+  settled = λ before. refl;
 }
 
 pub returns-clause-sections : goal.returns-clause-sections
@@ -35,6 +36,23 @@ returns-clause-sections c = record {
   distinct = tt;
   known = λ q member. cc member;
   idle = λ test. refl;
+  settled = λ before. refl;
+}
+
+pub returns-clause-moving : goal.returns-clause-moving
+unfolding IsDistinct
+returns-clause-moving c = record {
+  cpus = (lit≤ tt, lit≤ tt);
+  has_dump = refl;
+  dump = search rules;
+  each = refl;
+  few = lit≤ tt;
+  together = lit≤ tt;
+  early = λ before. cc before;
+  distinct = tt;
+  known = λ q member. cc member;
+  idle = λ test. refl;
+  settled = λ before. cc before;
 }
 
 first_twice : IsDistinct nat_eq (0x200 ∷ 0x201 ∷ 0x200 ∷ []) → true ≡ false

@@ -16,7 +16,7 @@ pub returns-clause-in_the_dump : goal.returns-clause-in_the_dump
 returns-clause-in_the_dump c = λ h. absurd (cc h.past)
 
 pub returns-clause-no_such_number : goal.returns-clause-no_such_number
-returns-clause-no_such_number c = λ h. omega (arith, h.count)
+returns-clause-no_such_number c = λ h. omega (arith, h.count refl)
 
 pub returns-clause-other_width : goal.returns-clause-other_width
 returns-clause-other_width c = λ h. omega (arith, (h.goal 0 idle (omega arith)).width)

@@ -22,7 +22,7 @@ not_called : IsSome (call_fault (resting stage.Commands).machine (bare_file 0x80
 not_called h = absurd (cc (subst (λ (o : Option Fault). IsSome (option_map Refused o)) (sym no_fault) h))
 
 pub returns-clause-called : goal.returns-clause-called
-returns-clause-called c = λ h. not_called (h.1 refl)
+returns-clause-called c = λ h. not_called (h.1.0 refl)
 
 pub returns-clause-updated_later : goal.returns-clause-updated_later
-returns-clause-updated_later c = λ h. not_called (h.2.2.1 refl)
+returns-clause-updated_later c = λ h. not_called (h.2.2.1.0 refl)

@@ -1,8 +1,9 @@
-use Rattle.std.proofs.Common.{◌≡◌, refl, rules, subst, arith, inr, []}
+use Rattle.std.proofs.Common.{◌≡◌, refl, rules, subst, arith, inr, [], inl, ◌∷◌}
 use Rattle.std.specs.List.{All}
 use Rattle.mt_machine.specs.WorkedRuns.{idle}
 use Rattle.mt_replay.specs.Headline.{Step}
 use Rattle.mt_replay.specs.WorkedSteps.{begins, calls, passes, releases}
+use Rattle.mt_replay.proofs.Courses.Tells.{none_calls}
 use Rattle.mt_replay.proofs.worked.steps.worked_short_updates.Goals as goal
 
 pub returns-clause-section : goal.returns-clause-section
@@ -27,10 +28,10 @@ returns-clause-update c = record {
   first = releases;
   again = [];
   stand = refl;
-  calls = refl;
+  calls = inl refl;
   passes = refl;
   releases = refl;
-  no_other_call = search rules;
+  no_other_call = none_calls (passes ∷ releases ∷ []) refl;
   first_pass = tt;
   first_release = search rules;
   no_store_waits = search rules;

@@ -2,7 +2,7 @@ use Rattle.std.proofs.Common.{subst}
 use Rattle.mt_script.specs.Kept.{IsSituation}
 use Rattle.mt_script.specs.Accept.{Fits, accepted}
 use Rattle.mt_script.specs.declared.command.Command.TheVariants as command
-use Rattle.mt_script.proofs.Keeping.{accepted_is, others_is, room_for_window, room_for_register}
+use Rattle.mt_script.proofs.Keeping.{accepted_is, motion_is, others_is, room_for_window, room_for_register}
 use Rattle.mt_script.proofs.setup.Setup.accept.Goals as goal
 
 pub take_cpus-requires : goal.take_cpus-requires
@@ -37,4 +37,7 @@ pub add_register-requires-clause-is : goal.add_register-requires-clause-is
 add_register-requires-clause-is c = subst (λ asked. IsSituation (accepted c.args.self.now asked)) c.in-Register.is (accepted_is c.args.self.now c.is_situation.ensures c.args.c.now c.requires.fits c.requires.goes_on)
 
 pub move_to-requires-in_default : goal.move_to-requires-in_default
-move_to-requires-in_default c = others_is c.args.self.now c.is_situation.ensures c.args.c.now c.requires.fits c.requires.goes_on c.in_default.not-Cpus c.in_default.not-Dump c.in_default.not-Ram c.in_default.not-Selfsnoop c.in_default.not-Update c.in_default.not-Begin c.in_default.not-Blank c.in_default.not-DumpLine c.in_default.not-Register c.in_default.not-End
+move_to-requires-in_default c = others_is c.args.self.now c.is_situation.ensures c.args.c.now c.requires.fits c.requires.goes_on c.in_default.not-Cpus c.in_default.not-Dump c.in_default.not-Ram c.in_default.not-Selfsnoop c.in_default.not-Update c.in_default.not-Begin c.in_default.not-Up c.in_default.not-Join c.in_default.not-Retire c.in_default.not-Blank c.in_default.not-DumpLine c.in_default.not-Register c.in_default.not-End
+
+pub begin_motion-requires : goal.begin_motion-requires
+begin_motion-requires c = motion_is c.args.self.now c.is_situation.ensures c.args.c.now c.requires.fits c.in-Up.is

@@ -1,0 +1,62 @@
+-- One processor with a buffer, one with a dirty line, and two: their starts and events.
+use Rattle.std.proofs.Common.{◌≡◌, ◌&&◌, List, [], ◌∷◌, ◌++◌, true, false, Bool, rules, refl, inl}
+use Rattle.std.specs.List.{list_all}
+use Rattle.mt_machine.specs.declared.event.Event.TheVariants.{Arrive, Leave, Pass, Release, Take}
+use Rattle.mt_machine.specs.Machine.{AreEnabled, Calls, Cancels, Goes, Machine, MachineEvent, Reached, Steps, at_start, run}
+use Rattle.mt_machine.specs.Start.{IsBroadcast, IsQuiet, IsStart}
+use Rattle.mt_machine.specs.Update.{Led, is_led, led_on, led_start}
+use Rattle.mt_machine.specs.WorkedRuns.{bare_file, call_order}
+use Rattle.mt_laws.specs.WorkedRuns.{pair, pair_arrived, pair_between}
+use Rattle.mt_laws.specs.WorkedUpdates.{buffered, by_buffered, dirty_taken, ready_pair, to_flush, to_release}
+use Rattle.mt_laws.proofs.Invariant.Runs.{reached_run}
+
+both : (a b : Bool) → (a && b) ≡ true → (a ≡ true) × (b ≡ true)
+both true b h = (refl, h)
+both false b h = absurd (cc)
+
+pub led_run : (es : List MachineEvent) (s t : Machine) → Led s t → AreEnabled t es → list_all is_led es ≡ true → Led s (run t es)
+led_run [] s t l h is = l
+led_run (e ∷ es) s t l h is = led_run es s _ (led_on e l h.0 (both _ _ is).0) h.1 (both _ _ is).1
+
+pub quiet : IsQuiet buffered
+quiet = search rules
+
+pub broadcast : IsBroadcast dirty_taken call_order
+broadcast = search rules
+
+pub broadcast_pair : IsBroadcast ready_pair call_order
+broadcast_pair = search rules
+
+pub buffered_enabled : AreEnabled buffered (Calls (bare_file 0x806) ∷ by_buffered)
+buffered_enabled = (search rules, (refl, (refl, (refl, (refl, (refl, (refl, (refl, (refl, (refl, (refl, (refl, (refl, (refl, (refl, (refl, (refl, tt)))))))))))))))))
+
+pub to_flush_enabled : AreEnabled dirty_taken to_flush
+to_flush_enabled = (refl, (refl, (refl, (refl, tt))))
+
+pub to_release_enabled : AreEnabled dirty_taken to_release
+to_release_enabled = (refl, (refl, (refl, (refl, (refl, (refl, (refl, (refl, (refl, (refl, (refl, (refl, (refl, (refl, (refl, (refl, tt))))))))))))))))
+
+pub released_enabled : AreEnabled dirty_taken (to_release ++ Steps 0 Release ∷ [])
+released_enabled = (refl, (refl, (refl, (refl, (refl, (refl, (refl, (refl, (refl, (refl, (refl, (refl, (refl, (refl, (refl, (refl, (refl, tt)))))))))))))))))
+
+pub led_to_release : Led dirty_taken (run dirty_taken to_release)
+led_to_release = led_run to_release dirty_taken dirty_taken led_start to_release_enabled refl
+
+pub cancelled_enabled : AreEnabled ready_pair (Steps 0 Arrive ∷ Cancels ∷ Steps 1 Leave ∷ Steps 0 Leave ∷ [])
+cancelled_enabled = (refl, (refl, (refl, (refl, tt))))
+
+pub led_to_leave : Led ready_pair (run ready_pair (Steps 0 Arrive ∷ Cancels ∷ Steps 1 Leave ∷ []))
+led_to_leave = led_run (Steps 0 Arrive ∷ Cancels ∷ Steps 1 Leave ∷ []) ready_pair ready_pair led_start (refl, (refl, (refl, tt))) refl
+
+pub pair_start : IsStart pair
+pair_start = inl (search rules)
+
+pub pair_reached : Reached pair pair_arrived
+pair_reached =
+    reached_run (Calls (bare_file 0x806) ∷ Goes ∷ Steps 0 Take ∷ Steps 0 Arrive ∷ Steps 1 Take ∷ Steps 1 Arrive ∷ []) pair pair at_start
+    (search rules, (refl, (refl, (refl, (refl, (refl, tt))))))
+
+pub pair_passed : Reached pair (run pair_arrived (Steps 0 Pass ∷ pair_between))
+pair_passed =
+    reached_run (Steps 0 Pass ∷ pair_between) pair pair_arrived pair_reached
+    (refl, (refl, (refl, (refl, (refl, (refl, (refl, (refl, (refl, (refl, (refl, (refl, (refl, (refl, (refl, (refl, (refl, (refl, (refl, (refl, (refl, (refl, (refl, (refl, tt))))))))))))))))))))))))

@@ -1,0 +1,3 @@
+-- What leads from one machine to another without a call: events, and processors that go.
+pub mod Going
+pub mod Settling
