@@ -13,6 +13,7 @@ mod worked;
 mod worked_for_processors;
 mod worked_plain;
 mod worked_records;
+mod worked_shows;
 
 pub use canon::{number_text, value_text, write_dump};
 pub use dumps::Dump;
@@ -32,6 +33,9 @@ pub use worked::{
 pub use worked_for_processors::worked_files_for;
 pub use worked_plain::worked_plain_texts;
 pub use worked_records::{worked_dumps, worked_shown_dumps};
+pub use worked_shows::{
+    worked_numbers_of_sections, worked_sections_in_order, worked_shown_sections,
+};
 
 #[cfg(test)]
 mod tests;

@@ -11,5 +11,5 @@ pub mod RoundedFit
 mod OneList
 mod WorkedParts
 pub mod SomeRounding
-mod WorkedFile
-mod WorkedRounded
+pub mod WorkedFile
+pub mod WorkedRounded

@@ -16,7 +16,7 @@ use Rattle.mt_gran.proofs.Maps.{rounded_map}
 use Rattle.mt_gran.proofs.RoundedFit.{needs_is_least, one_least}
 use Rattle.mt_gran.proofs.Whole.{whole_from}
 use Rattle.mt_gran.proofs.WorkedFile.{by_default, map_of}
-use Rattle.mt_gran.proofs.WorkedParts.{have, none}
+use Rattle.mt_gran.proofs.WorkedParts.{none}
 
 differ : Kind WP ≡ Kind WB → ⊥
 differ e = cc

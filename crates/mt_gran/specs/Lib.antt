@@ -3,3 +3,4 @@ pub mod Parts
 pub mod Marks
 pub mod Grained
 pub mod WorkedGranules
+pub mod WorkedCuts

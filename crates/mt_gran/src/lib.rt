@@ -10,6 +10,7 @@ mod lists;
 #[cfg(test)]
 mod tests;
 mod worked;
+mod worked_cuts;
 mod worked_rounded;
 
 pub use fault::GranFault;
@@ -22,4 +23,5 @@ pub use laws::{
 pub use worked::{
     worked_grained, worked_granules, worked_losses, worked_parts, worked_rounding, worked_why,
 };
+pub use worked_cuts::{worked_cuts_of_runs, worked_longest_runs, worked_whole_runs};
 pub use worked_rounded::{worked_least_rounded, worked_rounded_maps};

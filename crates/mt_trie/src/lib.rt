@@ -9,6 +9,7 @@ mod wants;
 mod wish;
 mod worked;
 mod worked_contexts;
+mod worked_lent;
 
 pub use context::Context;
 pub use laws::{
@@ -18,3 +19,4 @@ pub use wants::want;
 pub use wish::Wish;
 pub use worked::{worked_joins, worked_wanted_types, worked_wishes, worked_wishes_of_blocks};
 pub use worked_contexts::{worked_lists, worked_two_parts, worked_types_left};
+pub use worked_lent::{worked_lent_runs, worked_runs_to_ask};

@@ -12,6 +12,7 @@ mod effective_types;
 mod granules;
 mod jobs;
 mod limits;
+mod newcomers;
 mod overlaps;
 mod pages;
 mod registers;
@@ -60,7 +61,7 @@ pub fn job_table() -> &'static [Row] {
 }
 
 /// The tables of `replay`.
-pub fn script_tables() -> [&'static [Row]; 18] {
+pub fn script_tables() -> [&'static [Row]; 21] {
     [
         scripts::scripts(),
         accesses::loads(),
@@ -79,6 +80,9 @@ pub fn script_tables() -> [&'static [Row]; 18] {
         steps::steps(),
         cancels::cancels(),
         self_snoops::self_snoops(),
+        newcomers::newcomers(),
+        newcomers::absences(),
+        newcomers::motion_lines(),
         limits::limits(),
     ]
 }

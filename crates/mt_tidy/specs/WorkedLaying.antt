@@ -1,0 +1,47 @@
+-- Two pages that want two types, what they cost, and the steps by which they are laid (own).
+use Rattle.std.specs.Prelude.{ℕ, ◌==◌, Bool, true, false, if◌then◌else◌, List, [], ◌∷◌, Option, None, Some}
+use Rattle.mt_kinds.specs.declared.mem_type.MemType.TheVariants.{UC, WT, WB}
+use Rattle.mt_kinds.specs.declared.mem_type.MemType.{MemType}
+use Rattle.mt_trie.specs.declared.context.Context.{Context}
+use Rattle.mt_trie.specs.declared.context.Context.TheVariants.{Untouched}
+use Rattle.mt_tidy.specs.declared.costs.Costs.{Costs}
+use Rattle.mt_tidy.specs.declared.costs.Reach.{Reach}
+use Rattle.mt_tidy.specs.declared.rules.Rules.{Rules}
+use Rattle.mt_tidy.specs.declared.step.Step.{Step}
+use Rattle.mt_tidy.specs.declared.step.Step.TheVariants.{Whole, Divided}
+use Rattle.mt_tidy.specs.Cost.{Task, supports}
+
+-- page 0 wants WB, page 1 UC, and no other page anything; the default type is WT
+abbrev pub pair_task : ℕ → Task
+pair_task chunk = record {
+  wanted = λ page. if page == 0 then Some WB else if page == 1 then Some UC else None;
+  default = WT;
+  supported = supports true;
+  chunk = chunk;
+}
+
+-- the same where ranges may have no type
+abbrev pub unsupported_pair : ℕ → Task
+unsupported_pair chunk = record (pair_task chunk) { supported = λ t. false }
+
+-- a table of costs that are finite over nothing and over WB alone
+abbrev pub costs_over : Option ℕ → Option ℕ → Costs
+costs_over untouched wb = record { untouched = untouched; uc = None; wc = None; wt = None; wp = None; wb = wb; clash = None }
+
+-- what the two pages cost together
+abbrev pub pair_costs : Costs
+pair_costs = costs_over (Some 2) (Some 1)
+
+abbrev pub pair_steps : List Step
+pair_steps = Whole UC ∷ Whole WB ∷ Divided pair_costs ∷ []
+
+-- halves that cost one range over nothing, and none over any type
+abbrev pub one_or_none : Context → Option ℕ
+one_or_none Untouched = Some 1
+one_or_none other = Some 0
+
+abbrev pub reach : ℕ → Option MemType → Reach
+reach cost range = record { cost = Some cost; range = range }
+
+abbrev pub rules : Bool → MemType → Bool → Rules
+rules fixed default write_combining = record { fixed = fixed; default = default; write_combining = write_combining; chunk = 5 }
