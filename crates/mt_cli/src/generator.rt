@@ -1,6 +1,7 @@
 ghost use Rattle.std.specs.Prelude.{◌≡◌, ◌<◌, ◌≤◌, ◌^◌, ◌+◌, ◌*◌, ◌++◌, IfOk, string_bytes};
 ghost use Rattle.mt_cli.specs.Generator.{access_line, accesses, after_accesses, head_text, drawn, make_text, map_line, maps, processor_lines, processors, round_text, round_value, rounds, stepped};
 
+use mt_kinds::PAGE_BYTES;
 use mt_ports::NoMemory;
 use std::alloc::{AllocError, Global};
 
@@ -100,7 +101,7 @@ fn append_map(text: &mut String, cpu: u64, page: u64) -> Result<(), AllocError>
     requires { page < 64 }
     ensures { IfOk result (λ _. string_bytes text.new ≡ string_bytes text.old ++ map_line cpu page) }
 {
-    let address = 4096 * page;
+    let address = PAGE_BYTES * page;
     if page % 2 == 0 {
         write!(text, "map {cpu} {address:x} {address:x} 0 global\n")
     } else {

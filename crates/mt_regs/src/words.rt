@@ -3,7 +3,7 @@ ghost use Rattle.mt_regs.specs.RegisterFile.{IsRegisterFile, RegisterFile};
 ghost use Rattle.mt_regs.specs.Registers.{value_at};
 ghost use Rattle.mt_regs.specs.Words.{HasWords};
 
-use crate::RegFile;
+use crate::{CAPABILITIES, RegFile};
 
 impl RegFile {
     /// Each register's value is one of 64 bits. The calls are for the proof alone.
@@ -15,7 +15,7 @@ impl RegFile {
                 let _ = self.value_of(register);
             }
         }
-        let _ = self.get(0xfe).unwrap_or(0);
+        let _ = self.get(CAPABILITIES).unwrap_or(0);
         let _ = &self.maxphy;
     }
 }
