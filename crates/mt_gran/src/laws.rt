@@ -41,7 +41,7 @@ pub fn each_size_has_one_least_number()
     ensures needs { (f : RegisterFile) (g chunk spare needs has : ℕ) → NeedsMore f g chunk spare needs has → IsLeastRounded f g chunk needs }
 {}
 
-/// Each accepted file whose ranges are on can be rounded, or needs more pairs than it has.
+/// Each accepted file whose ranges are on can be rounded, or needs more pairs than may be used.
 pub fn each_file_is_rounded_or_needs_more()
     ensures { (f : RegisterFile) → IsRegisterFile f → IsAccepted f → is_enabled f ≡ true → (g chunk spare : ℕ)
         → ((new : RegisterFile) × (used : ℕ) × (lost : ℕ) × (parts : List Run) × IsGrained f g chunk spare new used lost parts)

@@ -55,6 +55,6 @@ has_newcomers text = newcomers_from 1 (lines_of text) (in_head at_start [])
 abbrev pub early : Bool → List ℕ → List ℕ → List ℕ
 early comes so_far text = if comes then so_far ++ text else accepted_line
 
--- the line `accepted`, or the whole transcript where a processor comes up
+-- the line `accepted`, or the whole transcript where a line `up` or `join` is read
 abbrev pub early_text : List ℕ → List ℕ
 early_text text = early (has_newcomers text) [] (transcript text).text

@@ -22,7 +22,7 @@ use Rattle.mt_replay.specs.declared.line.Run.TheVariants as run
 
 -- ---- a whole replay
 
--- Memory is asked for before anything but the line `accepted` is written, unless a processor comes up.
+-- Memory is asked for before anything but the line `accepted` is written, unless a line `up` or `join` is read.
 abbrev pub ReplaysAs : Told → List ℕ → Option (List ℕ) → Option (List ℕ) → Option (List ℕ) → Status → Type 0
 ReplaysAs t bytes left before after status = RunsAs t replay_told (early_text bytes) bytes left before after status
 
@@ -48,7 +48,7 @@ IsAt (run.Body r) (in_body s) = (r ≡ s) × (is_past_dump s.now.stage ≡ true)
 abbrev pub end_of_run : Run → Place → Told
 end_of_run now place = told_at_end (end_fault (setup_of now).stage place)
 
--- Nothing but the line `accepted` is written where windows may be asked for, and no processor comes up in the head of a script.
+-- Nothing but the line `accepted` is written where windows may be asked for, and no line `up` or `join` stands in the head of a script.
 abbrev pub IsQuiet : Run → Bool → List ℕ → Type 0
 IsQuiet (run.Head h) came text = (text ≡ []) × (came ≡ false)
 IsQuiet (run.Body r) came text = takes_windows r.now.stage ≡ true → text ≡ accepted_line

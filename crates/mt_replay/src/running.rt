@@ -70,7 +70,7 @@ fn run_lines<R: Threads + Wait + Sync, S: Source, K: Sink, G: Gate>(
 /// is read line by line out of one buffer, and all that is told of its lines is written before the
 /// source is asked for more. The rest behind an offence or a refused dump is dropped. At ReadFault
 /// what the known lines write was written, at each other fault a front of the transcript, for want of
-/// memory at most the line `accepted`. An update runs each processor on a thread of its own, or all
+/// memory at most the line `accepted`, unless a line `up` or `join` is read. An update runs each processor on a thread of its own, or all
 /// on this one where it finds no memory, a start is refused or the gate answers false.
 pub fn replay<R: AllocGlobal + Threads + Wait + Sync, S: Source, K: Sink, G: Gate>(
     rt: &R,

@@ -1,0 +1,54 @@
+# Completion of mtrr, mtrr-import and mtrr-map for bash.
+
+_mtrr() {
+    local word=${COMP_WORDS[COMP_CWORD]} place=$COMP_CWORD
+    COMPREPLY=()
+    if [ "$place" -eq 1 ]; then
+        COMPREPLY=($(compgen -W 'check show types page tidy gran replay proc make big private' -- "$word"))
+        return
+    fi
+    case ${COMP_WORDS[1]} in
+    page)
+        [ "$place" -ne 3 ] || COMPREPLY=($(compgen -W '0 1 2 3 4 5 6 7' -- "$word"))
+        ;;
+    tidy) _mtrr_options "$word" ;;
+    gran)
+        if [ "$place" -eq 2 ]; then
+            COMPREPLY=($(compgen -W '1000 10000 100000 1000000 4000000 10000000 40000000' -- "$word"))
+        else
+            _mtrr_options "$word"
+        fi
+        ;;
+    proc | private)
+        [ "$place" -ne 2 ] || COMPREPLY=($(compgen -W "$(printf '%s ' {1..16})" -- "$word"))
+        ;;
+    esac
+}
+
+# The options of tidy and gran that don't stand yet. bash takes a `=` as a word of its own.
+_mtrr_options() {
+    local line=" ${COMP_WORDS[*]:0:COMP_CWORD} " option options=
+    for option in spare chunk; do
+        case $line in
+        *" $option"*) ;;
+        *) options="$options $option=" ;;
+        esac
+    done
+    COMPREPLY=($(compgen -W "$options" -- "$1"))
+    compopt -o nospace
+}
+
+_mtrr_import() {
+    local word=${COMP_WORDS[COMP_CWORD]}
+    COMPREPLY=()
+    if [ "$COMP_CWORD" -eq 1 ]; then
+        COMPREPLY=($(compgen -W 'coreboot edk2 inteltool linux rdmsr x86info xen' -- "$word"))
+    else
+        COMPREPLY=($(compgen -W 'maxphyaddr= 0fe= 277= 2ff=' -- "$word"))
+        compopt -o nospace
+    fi
+}
+
+complete -F _mtrr mtrr
+complete -F _mtrr_import mtrr-import
+complete mtrr-map
