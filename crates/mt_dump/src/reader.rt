@@ -255,6 +255,7 @@ impl DumpReader {
     }
 
     /// Takes one line. At `Err` the reader is unchanged.
+    #[inline(always)]
     pub fn take(&mut self, line: &Line<'_>) -> Result<(), DumpFault>
         ensures { (before : List Reading) → HasRead self.old before → MatchResult result
             (λ _. HasRead self.new (said_of line.now.number line.now.bytes.now ∷ before))

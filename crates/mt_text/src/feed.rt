@@ -114,6 +114,7 @@ impl Feed {
     }
 
     // Takes more bytes, and says whether there were any.
+    #[inline(never)] // one call a buffer, and each line is read around it
     fn fill<S: Source>(&mut self, source: &mut S) -> Result<bool, FeedFault>
         requires fault { self.old.fault ≡ None }
         requires room { length self.old.pending ≤ 4096 }
@@ -157,6 +158,7 @@ impl Feed {
 
     /// Moves on to the next line, and says whether there is one. After a fault each call answers that
     /// fault, and the source isn't asked.
+    #[inline(always)]
     pub fn advance<S: Source>(&mut self, source: &mut S) -> Result<bool, FeedFault>
         ensures bytes { (more : List ℕ) × Consumes (S.left source.old) (S.left source.new) more × (S.given source.new ≡ S.given source.old + length more) × Advances self.old self.new more (S.left source.new) result }
         ensures long { IsLong self.new }
@@ -184,6 +186,7 @@ impl Feed {
     /// The next line, which lies in the buffer. A line of more than 4,096 bytes is lent in its first
     /// 4,097, and the next call goes on behind them under the same number. After a fault each call
     /// answers that fault, and the source isn't asked.
+    #[inline(always)]
     pub fn line<S: Source>(&mut self, source: &mut S) -> Result<Option<Line<'_>>, FeedFault>
         ensures* after_borrow { sem 𝓛 (Rests the_row self.entry (λ new. Lines self.old new (S.left source.old) (S.left source.new) (S.given source.old) (S.given source.new) result)) }
         ensures stays { (fault : FeedFault) → self.old.fault ≡ Some fault → (result ≡ Err fault) × (source.new ≡ source.old) }

@@ -31,6 +31,7 @@ impl<'a> Model for Words<'a> {
 }
 
 // Where each of the first words of a text without CR begins and ends.
+#[inline(always)] // so that a line without words needs no room for them
 fn first_bounds(text: &[u8]) -> ArrayVec<(usize, usize), 7>
     ensures words { map (word_between text.now) result.items ≡ take 7 (words_from 0 (before_comment text.now)) }
     ensures within { AllByRecursion (AreBounds text.now) result.items }
@@ -49,6 +50,7 @@ fn first_bounds(text: &[u8]) -> ArrayVec<(usize, usize), 7>
 
 impl<'a> Line<'a> {
     /// The words at the front of the line, seven at most.
+    #[inline(always)]
     pub fn first_words(&self) -> Words<'a>
         ensures { result ≡ first_words self.now.number self.now.bytes.now }
     {

@@ -23,6 +23,7 @@ pub const LONGEST: usize = 4096;
 pub const LIMIT_COLUMN: u64 = LONGEST as u64 + 1;
 
 /// Where the first LF of a text stands.
+#[inline(always)]
 pub(crate) fn line_end(text: &[u8]) -> Option<usize>
     ensures { result ≡ position is_line_end text.now }
 {
