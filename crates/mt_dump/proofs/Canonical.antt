@@ -222,7 +222,7 @@ get_behind (x ∷ xs) ys i zero is = absurd (omega (arith, is))
 get_behind (x ∷ xs) ys i (suc k) is = get_behind xs ys i k (omega (arith, is))
 
 -- each file has so many lines with its section's
-abbrev HaveLines : ℕ → List RegisterFile → Type 0
+abbrev pub HaveLines : ℕ → List RegisterFile → Type 0
 HaveLines count files = AllByRecursion (λ file. length (file_lines file) + 1 ≡ count) files
 
 pub section_at : (number count : ℕ) (files : List RegisterFile) (place rest : ℕ) → HaveLines count files → rest < count

@@ -1,21 +1,19 @@
 -- Reading a dump through a feed: what holds between two lines, and how each line keeps it.
-use Rattle.std.proofs.Common.{◌≡◌, ◌+◌, ◌≤◌, ℕ, Bool, true, false, nat_lt, List, [], ◌∷◌, ◌++◌, length, take, Option, Some, None, refl, sym, ◌∙◌, ap, arith, append_assoc, inl, inr, length-append}
-use Rattle.std.specs.Prelude.{IfOk, Result, Ok, Err, MatchResult}
-use Rattle.std.specs.Io.KnownBytes.{Consumes, IsAtEnd}
-use Rattle.std.proofs.KnownBytes.{Consumes-nil, Consumes-trans}
+use Rattle.std.proofs.Common.{◌≡◌, ◌+◌, ◌≤◌, ℕ, Bool, true, false, nat_lt, List, [], ◌∷◌, ◌++◌, length, take, Option, Some, None, refl, sym, ◌∙◌, ap, arith, append_assoc, inl, inr}
+use Rattle.std.specs.Prelude.{Result, Ok, MatchResult}
 use Rattle.std.proofs.lemmas.Bool.{cases_lt}
 use Rattle.std.proofs.lemmas.Bool.Decides.{nat_tests}
 use Rattle.std.proofs.lemmas.List.{append-nil, length-take-le, take_all}
 use Rattle.mt_text.specs.Text.{end_of, lines_of}
-use Rattle.mt_text.specs.Feed.{Feeding, IsLong, LendsFirst, Lines, at_start, taken}
+use Rattle.mt_text.specs.Feed.{Feeding, LendsFirst, Lines, at_start}
 use Rattle.mt_text.specs.declared.line.Line.{Line}
-use Rattle.mt_text.specs.declared.fault.FeedFault.{FeedFault}
-use Rattle.mt_text.proofs.Lent.{counted, lends_lines, passes, told_next}
+use Rattle.mt_text.proofs.Lent.{lends_lines, passes, told_next}
 use Rattle.mt_dump.specs.Dumps.{Dump}
 use Rattle.mt_dump.specs.Line.{Reading, said_of}
 use Rattle.mt_dump.specs.Dump.{Shown, ShownBy, dump_offence, offence_at_end, offence_of, said_by, said_from}
 use Rattle.mt_dump.specs.Reader.{HasRead, State, onto}
 use Rattle.mt_dump.specs.declared.fault.DumpFault.{DumpFault}
+use Rattle.mt_dump.proofs.Counted.{IsFed, fed_at_first, fed_on, few_first}
 use Rattle.mt_dump.proofs.Ends.{ends_at_end, ends_at_line}
 
 -- The lines that were read and those of the bytes that are left are the lines of all bytes, and the feed stands at its place among these.
@@ -29,61 +27,18 @@ pub record Told (bytes : List ℕ) (left : Option (List ℕ)) (feed : Feeding) (
 
 -- between two lines
 pub record IsReading (left_first left : Option (List ℕ)) (given_first given : ℕ) (feed : Feeding) (reader : State) : Type 0 where
-  pub still : feed.fault ≡ None
-  pub long : IsLong feed
-  pub gone : List ℕ
-  pub consumed : Consumes left_first left gone
-  pub taken_is : taken feed ≡ length gone
-  pub given_is : given ≡ given_first + taken feed
+  pub fed : IsFed left_first left given_first given feed
   pub before : List Reading
   pub read : HasRead reader before
   pub told : (bytes : List ℕ) → left_first ≡ Some bytes → Told bytes left feed before
 
 pub at_first : (left : Option (List ℕ)) (given : ℕ) (feed : Feeding) (reader : State) → feed ≡ at_start → HasRead reader [] → IsReading left left given given feed reader
-at_first left given feed reader start read = rw start (record {
-  still = refl;
-  long = (λ is. cc is, λ more. absurd (omega (arith, more)));
-  gone = [];
-  consumed = Consumes-nil left;
-  taken_is = refl;
-  given_is = omega arith;
+at_first left given feed reader start read = record {
+  fed = fed_at_first left given feed start;
   before = [];
   read = read;
-  told = λ bytes is. record { after = bytes; left_is = is; says = refl; past = []; parts = refl; place = refl };
-})
-
--- what a call has consumed, and what was counted
-module _ (left_first left after : Option (List ℕ)) (given_first given given_after : ℕ) (feed new : Feeding) (reader : State) (reading : IsReading left_first left given_first given feed reader) where
-  pub consumed_on : (more : List ℕ) → Consumes left after more → taken new ≡ taken feed + length more → (gone : List ℕ) × Consumes left_first after gone × (taken new ≡ length gone)
-  consumed_on more consumes count = (
-    reading.gone ++ more,
-    Consumes-trans left_first left after reading.gone more reading.consumed consumes,
-    omega (arith, count, reading.taken_is, length-append reading.gone more),
-  )
-
-  pub counted_on : (more : List ℕ) → given_after ≡ given + length more → taken new ≡ taken feed + length more → given_after ≡ given_first + taken new
-  counted_on more gives count = omega (arith, gives, count, reading.given_is)
-
-  -- a call that asks for a line
-  module _ (result : Result (Option Line) FeedFault) (lines : Lines feed new left after given given_after result) where
-    pub took : taken new ≡ taken feed + length lines.0
-    took = omega (arith, lines.2, counted feed new left after given given_after result lines)
-
--- a source that told its bytes tells that nothing is left
-pub nothing_left : {E : Type 0} {T : Type 0} (left_first left : Option (List ℕ)) (bytes gone : List ℕ) (result : Result T E) → left_first ≡ Some bytes → Consumes left_first left gone → IfOk result (λ _. IsAtEnd left) → IfOk result (λ _. left ≡ Some [])
-nothing_left None left bytes gone result is consumes end = cc is
-nothing_left (Some xs) None bytes gone result is consumes end = absurd consumes
-nothing_left (Some xs) (Some ys) bytes gone (Ok value) is consumes end = ap Some end
-nothing_left (Some xs) (Some ys) bytes gone (Err fault) is consumes end = tt
-
--- what was consumed, and more behind it
-pub consumed_more : (left_first left after : Option (List ℕ)) (count total : ℕ) (more : List ℕ) → (gone : List ℕ) × Consumes left_first left gone × (count ≡ length gone) → Consumes left after more → total ≡ count + length more
-    → (gone : List ℕ) × Consumes left_first after gone × (total ≡ length gone)
-consumed_more left_first left after count total more gone consumes sum = (
-  gone.0 ++ more,
-  Consumes-trans left_first left after gone.0 more gone.1 consumes,
-  omega (arith, sum, gone.2, length-append gone.0 more),
-)
+  told = λ bytes is. rw start (record { after = bytes; left_is = is; says = refl; past = []; parts = refl; place = refl });
+}
 
 -- a line that is too long has an offence
 short_line : (number : ℕ) (before : List Reading) (line : List ℕ) → offence_of before (said_of number line) ≡ None → length line ≤ 4096
@@ -101,12 +56,6 @@ said_cut number line = elim (cases_lt 4096 (length line)) [
       let cut : nat_lt 4096 (length (take 4097 line)) ≡ true = grind (arith, nat_tests, many, length-take-le 4097 line (omega (arith, many))) in
       rw (far, cut) refl
   | inr few ↦ ap (said_of number) (take_all 4097 line (omega (arith, few)))
-]
-
-few_first : (first : List ℕ) → length (take 4097 first) ≤ 4096 → length first ≤ 4096
-few_first first few = elim (cases_lt 4096 (length first)) [
-  | inl many ↦ absurd (omega (arith, few, length-take-le 4097 first (omega (arith, many))))
-  | inr few ↦ few
 ]
 
 said_lent : (old new : Feeding) (before after : List ℕ) (line : Line) (lent : LendsFirst old new before after line) → said_of line.number line.bytes.now ≡ said_of old.place.line lent.first
@@ -147,15 +96,8 @@ module _ (left_first left after : Option (List ℕ)) (given_first given given_af
 
   pub goes_on : (reader_new : State) → HasRead reader_new (said_of line.number line.bytes.now ∷ reading.before) → IsReading left_first after given_first given_after new reader_new
   goes_on reader_new read =
-      let count = took left_first left after given_first given given_after feed new reader reading (Ok (Some line)) lines in
-      let gone = consumed_on left_first left after given_first given given_after feed new reader reading lines.0 lines.1 count in
       record {
-        still = ap (λ f. f.fault) lines.3.0.2 ∙ reading.still;
-        long = lines.4;
-        gone = gone.0;
-        consumed = gone.1;
-        taken_is = gone.2;
-        given_is = counted_on left_first left after given_first given given_after feed new reader reading lines.0 lines.2 count;
+        fed = fed_on reading.fed new after given_after line lines;
         before = said_of line.number line.bytes.now ∷ reading.before;
         read = read;
         told = λ bytes is. told_on bytes read.clean.1 (reading.told bytes is);

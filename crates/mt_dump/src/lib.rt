@@ -9,6 +9,7 @@ mod laws;
 mod line;
 mod reader;
 mod said;
+mod texts;
 mod worked;
 mod worked_for_processors;
 mod worked_plain;
@@ -26,6 +27,7 @@ pub use laws::{
     what_a_text_shows_is_a_dump, what_is_plainly_shown_is_shown,
 };
 pub use reader::{DumpReader, read_dump, read_dump_from};
+pub use texts::{TextBuffer, append_canon, append_text, canonical_text};
 pub use worked::{
     worked_bad_lines, worked_bad_numbers, worked_file, worked_later_sections, worked_plain_lines,
     worked_registers, worked_sections, worked_shapes, worked_versions,

@@ -1,4 +1,3 @@
-pub mod CanonicalLines
 pub mod Fed
 pub mod Held
 pub mod Parts

@@ -1,17 +1,11 @@
 -- What the program writes for a command line and a log, and the status that it ends with (own).
 --     log_told format supplied text      the text and the status for a log
 --     output_of command bytes      the same for a command line
-use Rattle.std.specs.Prelude.{ℕ, ◌≡◌, ◌<◌, ◌⊎◌, codes, List, [], map, drop, string_bytes, String, Result, Ok, Err, length, Option, Some, None, ⊤}
-use Rattle.std.specs.Vec.Iter.{into_iter_items}
-use Rattle.std.specs.declared.vec.IntoIter.{IntoIter}
-use Rattle.std.specs.Process.{exit_status}
-use Rattle.std.specs.declared.process.ExitCode.{ExitCode}
-use Rattle.mt_ports.specs.Exit.{code}
+use Rattle.std.specs.Prelude.{ℕ, ◌≡◌, ◌<◌, ◌⊎◌, codes, List, [], length, Option, Some, None, ⊤}
 use Rattle.mt_ports.specs.declared.status.Status.{Status}
 use Rattle.mt_ports.specs.declared.status.Status.TheVariants.{Done, Refused, Usage, BadText, ReadFault, WriteFault, NoMemory, TooLong, TooFew, Disabled}
 use Rattle.mt_output.specs.Lines.{line}
-use Rattle.std.specs.Io.KnownBytes.{Appends}
-use Rattle.mt_ports.specs.Puts.{AppendsFront}
+use Rattle.mt_output.specs.Written.{Writes}
 use Rattle.mt_import.specs.declared.format.Format.{Format}
 use Rattle.mt_import.specs.Shown.{shown}
 use Rattle.mt_import.specs.Supplied.{Supplied, command_of}
@@ -42,10 +36,6 @@ IsWritten TooLong = ⊥
 IsWritten TooFew = ⊥
 IsWritten Disabled = ⊥
 
--- The sink took the text and the status is answered, or it took a front of it and failed.
-abbrev pub Writes : List ℕ → Status → Option (List ℕ) → Option (List ℕ) → Status → Type 0
-Writes text status old new result = ((result ≡ status) × Appends old new text) ⊎ ((result ≡ WriteFault) × AppendsFront old new text)
-
 -- the output for the words and all bytes of the source was written, or nothing where the source failed or gave too much
 pub data Imports (words : List (List ℕ)) (bytes : List ℕ) (left old new : Option (List ℕ)) (result : Status) : Type 0 where
   told : left ≡ Some (left_of (command_of words) bytes) → Writes (output_of (command_of words) bytes).0 (output_of (command_of words) bytes).1 old new result → Imports words bytes left old new result
@@ -54,12 +44,3 @@ pub data Imports (words : List (List ℕ)) (bytes : List ℕ) (left old new : Op
 -- the same where the arguments may have found no memory: then nothing is read or written
 abbrev pub Runs : List (List ℕ) → List ℕ → Option (List ℕ) → Option (List ℕ) → Option (List ℕ) → Status → Type 0
 Runs words bytes left old new result = Imports words bytes left old new result ⊎ ((result ≡ NoMemory) × (left ≡ Some bytes) × (new ≡ old))
-
--- all arguments but the first, which is the program's name, where each is a text; else none, which is no command line
-abbrev pub words_of : {A B E : Type 0} → Result (IntoIter (String A) B) E → List (List ℕ)
-words_of (Ok args) = map string_bytes (drop 1 (into_iter_items args))
-words_of (Err error) = []
-
--- the program ends with the number of a status of which P holds
-abbrev pub Exits : ExitCode → (Status → Type 0) → Type 0
-Exits exit P = (status : Status) × (exit_status exit ≡ code status) × P status

@@ -7,11 +7,10 @@ ghost use Rattle.mt_import.specs.Outcome.{dump_in, ended_with, file_of, files_of
 ghost use Rattle.mt_import.specs.Reader.{values_of};
 ghost use Rattle.mt_import.specs.Import.{IsWritten};
 
-use crate::canonical::canonical_text;
-use crate::text::{Imported, Text};
+use crate::text::Imported;
 use crate::{LogReader, Supplied};
 use arrayvec::ArrayVec;
-use mt_dump::Dump;
+use mt_dump::{Dump, TextBuffer, canonical_text};
 use mt_kinds::is_bit_set;
 use mt_ports::Status;
 use mt_regs::{CAPABILITIES, RegFile};
@@ -169,7 +168,7 @@ impl LogReader {
     }
 }
 
-fn missing_text(text: Text) -> Imported
+fn missing_text(text: TextBuffer) -> Imported
     ensures { result ≡ (text.items, Refused) }
 {
     Imported {

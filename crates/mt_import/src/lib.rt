@@ -1,7 +1,6 @@
 //! Logs of other programs, and the dump that they show.
 #![tactic(auto)]
 
-mod canonical;
 mod dumping;
 mod fault;
 mod format;

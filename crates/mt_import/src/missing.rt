@@ -5,15 +5,14 @@ ghost use Rattle.mt_regs.specs.Registers.{number_of, writable};
 ghost use Rattle.mt_import.specs.Outcome.{is_missing, missing_line, missing_lines, missing_width, needed};
 ghost use Rattle.mt_import.specs.Reader.{values_of};
 
-use crate::text::{Text, append};
 use crate::{LogReader, Supplied};
 use arrayvec::ArrayVec;
-use mt_dump::number_text;
+use mt_dump::{TextBuffer, append_text, number_text};
 use mt_regs::{CAPABILITIES, RegFile};
 
 const USUAL_WIDTH: u8 = 36;
 
-fn append_line(text: &mut Text, number: u32)
+fn append_line(text: &mut TextBuffer, number: u32)
     requires room { array_vec_len text.old + 12 ≤ 0x8000 }
     requires number { number < 0x1000 }
     ensures text { text.new.items ≡ text.old.items ++ missing_line number }
@@ -21,7 +20,7 @@ fn append_line(text: &mut Text, number: u32)
 {
     let mut line = *b"missing 000\n";
     line[8..11].copy_from_slice(&number_text(number));
-    append(text, &line);
+    append_text(text, &line);
 }
 
 impl LogReader {
@@ -39,7 +38,7 @@ impl LogReader {
     }
 
     // Names a register that is missing.
-    fn append_missing(&self, text: &mut Text, supplied: &Supplied, number: u32)
+    fn append_missing(&self, text: &mut TextBuffer, supplied: &Supplied, number: u32)
         requires few { self.now.processors ≤ 16 }
         requires room { array_vec_len text.old + 12 ≤ 0x8000 }
         requires number { number < 0x1000 }
@@ -52,7 +51,7 @@ impl LogReader {
     }
 
     // Names the writable registers of a file that are missing.
-    fn append_registers(&self, text: &mut Text, supplied: &Supplied, file: &RegFile)
+    fn append_registers(&self, text: &mut TextBuffer, supplied: &Supplied, file: &RegFile)
         requires few { self.now.processors ≤ 16 }
         requires room { array_vec_len text.old ≤ 64 }
         ensures { text.new.items ≡ text.old.items ++ missing_lines (values_of supplied.now self.now) self.now.processors (map number_of (writable file.now)) }
@@ -66,14 +65,14 @@ impl LogReader {
     }
 
     /// A line for each thing that a dump needs and that is neither shown nor supplied.
-    pub(crate) fn missing(&self, supplied: &Supplied) -> Text
+    pub(crate) fn missing(&self, supplied: &Supplied) -> TextBuffer
         requires few { self.now.processors ≤ 16 }
         requires pairs { (value : ℕ) → values_of supplied.now self.now 0 0xfe ≡ Some value → low_byte value ≤ 32 }
         ensures { result.items ≡ missing_width supplied.now.width ++ missing_lines (values_of supplied.now self.now) self.now.processors (needed (values_of supplied.now self.now 0 0xfe)) }
     {
         let mut text = ArrayVec::new();
         if supplied.width.is_none() {
-            append(&mut text, b"missing maxphyaddr\n");
+            append_text(&mut text, b"missing maxphyaddr\n");
         }
         self.append_missing(&mut text, supplied, CAPABILITIES);
         if let Some(capabilities) = self.value(supplied, 0, CAPABILITIES) {

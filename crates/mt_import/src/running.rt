@@ -1,27 +1,13 @@
-ghost use Rattle.std.specs.Prelude.{◌≡◌, ◌≢◌, ◌⊎◌, ◌↔◌, ℕ, List, Some, None, map, string_bytes};
+ghost use Rattle.std.specs.Prelude.{◌≡◌, ◌↔◌, ℕ, List, Some, None, map, string_bytes};
 ghost use Rattle.mt_ports.specs.Causes.{StatusHasCause};
 ghost use Rattle.mt_text.specs.Feed.{GaveTooMuch};
 ghost use Rattle.mt_import.specs.Supplied.{command_of};
-ghost use Rattle.mt_import.specs.Import.{Imports, IsWritten, Writes};
+ghost use Rattle.mt_import.specs.Import.{Imports};
 
 use crate::{command_of, read_log};
-use mt_ports::{Sink, Source, Status, put};
+use mt_output::written;
+use mt_ports::{Sink, Source, Status};
 use mt_text::FeedFault;
-
-// Writes a text, and answers this status unless the sink fails.
-fn written<K: Sink>(sink: &mut K, text: &[u8], status: Status) -> Status
-    requires { IsWritten status }
-    ensures bytes { Writes text.now status (K.taken sink.old) (K.taken sink.new) result }
-    ensures status { (result ≡ status) ⊎ (result ≡ Status.WriteFault) }
-    ensures read { result ≢ Status.ReadFault }
-    ensures short { result ≢ Status.TooLong }
-    ensures cause { StatusHasCause Status.WriteFault (K.faults sink.old) (K.faults sink.new) result }
-{
-    match put(sink, text) {
-        Ok(()) => status,
-        Err(_) => Status::WriteFault,
-    }
-}
 
 /// Does all that the program does, and answers its status. The words are the command line without
 /// the program's name: a format, and what is supplied. A log is read to its end, unless the source

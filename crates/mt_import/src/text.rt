@@ -1,25 +1,20 @@
-ghost use Rattle.std.specs.Prelude.{◌≡◌, ◌≤◌, ◌+◌, ◌++◌, ◌<◌, length};
-ghost use Rattle.arrayvec.specs.ArrayVec.{array_vec_len};
+ghost use Rattle.std.specs.Prelude.{◌≡◌, ◌<◌};
 ghost use Rattle.mt_ports.specs.declared.status.Status.TheVariants.{BadText};
 ghost use Rattle.mt_import.specs.Outcome.{contradiction_line, fault_line};
 ghost use Rattle.mt_import.specs.Reader.{IsShort};
 
 use crate::ImportFault;
 use arrayvec::ArrayVec;
-use mt_output::{LineBuffer, append as append_to_line, append_decimal, append_number, bad_text};
+use mt_dump::{TextBuffer, append_text};
+use mt_output::{LineBuffer, append, append_decimal, append_number, bad_text};
 use mt_ports::Status;
 use mt_text::Place;
 use std::marker::Model;
 
-const ROOM: usize = 0x8000;
-
-/// Room for the canonical text of any dump.
-pub type Text = ArrayVec<u8, ROOM>;
-
 /// What a log comes to: the text that is written, and the status.
 #[derive(Drop)]
 pub struct Imported {
-    pub text: Text,
+    pub text: TextBuffer,
     pub status: Status,
 }
 
@@ -31,29 +26,18 @@ impl Model for Imported {
     ghost view = { λ i. (i.text.items, i.status) };
 }
 
-/// Adds a text.
-pub(crate) fn append(text: &mut Text, bytes: &[u8])
-    requires { array_vec_len text.old + length bytes.now ≤ ROOM }
-    ensures { text.new.items ≡ text.old.items ++ bytes.now }
-{
-    match text.try_extend_from_slice(bytes) {
-        Ok(()) => {}
-        Err(_) => unreachable!(),
-    }
-}
-
 fn contradiction_line(place: Place, number: u32) -> LineBuffer
     requires { number < 0x1000 }
     ensures { result.items ≡ contradiction_line place number }
 {
     let mut line = ArrayVec::new();
-    append_to_line(&mut line, b"contradiction ");
+    append(&mut line, b"contradiction ");
     append_decimal(&mut line, place.line);
-    append_to_line(&mut line, b":");
+    append(&mut line, b":");
     append_decimal(&mut line, place.column);
-    append_to_line(&mut line, b" ");
+    append(&mut line, b" ");
     append_number(&mut line, number);
-    append_to_line(&mut line, b"\n");
+    append(&mut line, b"\n");
     line
 }
 
@@ -76,7 +60,7 @@ pub(crate) fn faulted(fault: &ImportFault) -> Imported
     ensures { result ≡ (fault_line fault.now, BadText) }
 {
     let mut text = ArrayVec::new();
-    append(&mut text, fault_line(fault).as_slice());
+    append_text(&mut text, fault_line(fault).as_slice());
     Imported {
         text,
         status: Status::BadText,

@@ -1,2 +1,4 @@
 pub mod Lines
+pub mod Program
 pub mod Writing
+pub mod Written

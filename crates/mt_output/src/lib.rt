@@ -1,9 +1,13 @@
-//! Lines of text that the program writes, and a writer that gathers them.
+//! Lines of text that programs write, a writer that gathers them, and what a program makes of its
+//! arguments and of its status.
 #![tactic(auto)]
 
 mod faults;
 mod forming;
 mod line;
+mod program;
+mod whole;
+mod worked;
 mod writer;
 
 pub use faults::{
@@ -14,6 +18,9 @@ pub use line::{
     LINE_ROOM, LineBuffer, accepted_line, append, append_address, append_decimal, append_number,
     append_pat_type, append_type, append_value,
 };
+pub use program::{exit_code, words_behind_name};
+pub use whole::written;
+pub use worked::{worked_exits, worked_written};
 pub use writer::{WRITER_ROOM, Writer};
 
 #[cfg(test)]

@@ -1,4 +1,4 @@
-use Rattle.mt_dump.proofs.Fed.{nothing_left}
+use Rattle.mt_dump.proofs.Counted.{nothing_left}
 use Rattle.mt_dump.proofs.reader.read_dump_from.Goals as goal
 
 pub returns-clause-end : goal.returns-clause-end

@@ -1,87 +1,45 @@
-use Rattle.std.proofs.Common.{◌≡◌, Ok, None, Err, refl, sym, ◌∙◌, ap, arith}
+use Rattle.std.proofs.Common.{Ok, refl, ◌∙◌, ap}
 use Rattle.std.proofs.lemmas.Result.{err_from_is_err_and}
-use Rattle.std.specs.Prelude.{IsErrOf}
-use Rattle.mt_text.specs.declared.fault.FeedFault.{FeedFault}
-use Rattle.mt_import.proofs.Fed.{at_first, consumed_more, consumed_on, counted_on, ends, goes_on, offends, took}
-use Rattle.mt_text.proofs.Lent.{moves_on, within_limit}
+use Rattle.mt_dump.proofs.Counted.{comes_nearer, counts_line, counts_more, failed_on, stands_after, stands_on, still_on}
+use Rattle.mt_import.proofs.Fed.{at_first, ends, goes_on, offends}
 use Rattle.mt_import.proofs.Same.{sound_end}
 use Rattle.mt_import.proofs.reader.read_lines.Goals as goal
-
-same_fault : {T : Type 0} (fault other : FeedFault) → IsErrOf {T = T} (Err fault) other → fault ≡ other
-same_fault fault other is = cc is
 
 pub lines-init : goal.lines-init
 lines-init g c = record { reading = at_first c.args.format c.args.supplied.now (g.S.Source.left c.args.source.now) (g.S.Source.given c.args.source.now) c.args.feed.now c.new-reader.result c.requires c.new-reader.ensures.taken c.new-reader.ensures.last; stood = refl }
 
 pub returns-in_err-line-clause-consumed : goal.returns-in_err-line-clause-consumed
-returns-in_err-line-clause-consumed g c =
-    let lines = c.line.follows.holds-at-none in
-    let reading = c.lines.invariant.reading in
-    let count = took (g.S.Source.left c.args.source.now) (g.S.Source.left c.lines.source) (g.S.Source.left c.line.new.source) (g.S.Source.given c.args.source.now) (g.S.Source.given c.lines.source) (g.S.Source.given c.line.new.source)
-    c.lines.feed c.line.follows.lender-at-none c.args.format c.args.supplied.now c.lines.reader reading c.line.result lines in
-    consumed_on (g.S.Source.left c.args.source.now) (g.S.Source.left c.lines.source) (g.S.Source.left c.line.new.source) (g.S.Source.given c.args.source.now) (g.S.Source.given c.lines.source) (g.S.Source.given c.line.new.source)
-    c.lines.feed c.line.follows.lender-at-none c.args.format c.args.supplied.now c.lines.reader reading lines.0 lines.1 count
+returns-in_err-line-clause-consumed g c = (counts_line c.lines.invariant.reading.fed c.line.follows.lender-at-none (g.S.Source.left c.line.new.source) (g.S.Source.given c.line.new.source) c.line.result c.line.follows.holds-at-none).consumed
 
 pub returns-in_err-line-clause-counted : goal.returns-in_err-line-clause-counted
-returns-in_err-line-clause-counted g c =
-    let lines = c.line.follows.holds-at-none in
-    let reading = c.lines.invariant.reading in
-    let count = took (g.S.Source.left c.args.source.now) (g.S.Source.left c.lines.source) (g.S.Source.left c.line.new.source) (g.S.Source.given c.args.source.now) (g.S.Source.given c.lines.source) (g.S.Source.given c.line.new.source)
-    c.lines.feed c.line.follows.lender-at-none c.args.format c.args.supplied.now c.lines.reader reading c.line.result lines in
-    counted_on (g.S.Source.left c.args.source.now) (g.S.Source.left c.lines.source) (g.S.Source.left c.line.new.source) (g.S.Source.given c.args.source.now) (g.S.Source.given c.lines.source) (g.S.Source.given c.line.new.source)
-    c.lines.feed c.line.follows.lender-at-none c.args.format c.args.supplied.now c.lines.reader reading lines.0 lines.2 count
+returns-in_err-line-clause-counted g c = (counts_line c.lines.invariant.reading.fed c.line.follows.lender-at-none (g.S.Source.left c.line.new.source) (g.S.Source.given c.line.new.source) c.line.result c.line.follows.holds-at-none).counted
 
 pub returns-in_err-line-clause-failed : goal.returns-in_err-line-clause-failed
 returns-in_err-line-clause-failed g c =
     let p = err_from_is_err_and c.from_residual.result c.from_residual.ensures.1 in
-    λ is.
-    let failed = c.line.ensures.failed (c.in_err-line.was ∙ ap Err (sym p.2 ∙ same_fault _ _ (rw p.1 at is))) c.lines.invariant.reading.still in
-    rw c.lines.invariant.stood at failed
+    failed_on c.in_err-line.was p.1 p.2 c.lines.invariant.stood (λ is. c.line.ensures.failed is c.lines.invariant.reading.fed.still)
 
 pub returns-in_err-line-clause-stands : goal.returns-in_err-line-clause-stands
 returns-in_err-line-clause-stands g c =
     let p = err_from_is_err_and c.from_residual.result c.from_residual.ensures.1 in
-    λ other. c.line.ensures.stands (λ is. other (rw p.1 (ap Err (p.2 ∙ same_fault _ _ (sym c.in_err-line.was ∙ is))))) ∙ c.lines.invariant.stood
+    stands_on c.in_err-line.was p.1 p.2 c.lines.invariant.stood c.line.ensures.stands
 
 pub returns-in_err-drain-clause-consumed : goal.returns-in_err-drain-clause-consumed
-returns-in_err-drain-clause-consumed g c =
-    let lines = c.line.follows.holds-at-none in
-    let reading = c.lines.invariant.reading in
-    let count = took (g.S.Source.left c.args.source.now) (g.S.Source.left c.lines.source) (g.S.Source.left c.line.new.source) (g.S.Source.given c.args.source.now) (g.S.Source.given c.lines.source) (g.S.Source.given c.line.new.source)
-    c.lines.feed c.line.follows.lender-at-none c.args.format c.args.supplied.now c.lines.reader reading c.line.result lines in
-    let gone = consumed_on (g.S.Source.left c.args.source.now) (g.S.Source.left c.lines.source) (g.S.Source.left c.line.new.source) (g.S.Source.given c.args.source.now) (g.S.Source.given c.lines.source) (g.S.Source.given c.line.new.source)
-    c.lines.feed c.line.follows.lender-at-none c.args.format c.args.supplied.now c.lines.reader reading lines.0 lines.1 count in
-    let more = c.drain.ensures.bytes in
-    consumed_more (g.S.Source.left c.args.source.now) (g.S.Source.left c.line.new.source) (g.S.Source.left c.drain.new.source) _ _ more.0 gone more.1 more.3
+returns-in_err-drain-clause-consumed g c = (counts_more (counts_line c.lines.invariant.reading.fed c.line.follows.lender-at-none (g.S.Source.left c.line.new.source) (g.S.Source.given c.line.new.source) c.line.result c.line.follows.holds-at-none) c.drain.ensures.bytes).consumed
 
 pub returns-in_err-drain-clause-counted : goal.returns-in_err-drain-clause-counted
-returns-in_err-drain-clause-counted g c =
-    let lines = c.line.follows.holds-at-none in
-    let reading = c.lines.invariant.reading in
-    let count = took (g.S.Source.left c.args.source.now) (g.S.Source.left c.lines.source) (g.S.Source.left c.line.new.source) (g.S.Source.given c.args.source.now) (g.S.Source.given c.lines.source) (g.S.Source.given c.line.new.source)
-    c.lines.feed c.line.follows.lender-at-none c.args.format c.args.supplied.now c.lines.reader reading c.line.result lines in
-    let so_far = counted_on (g.S.Source.left c.args.source.now) (g.S.Source.left c.lines.source) (g.S.Source.left c.line.new.source) (g.S.Source.given c.args.source.now) (g.S.Source.given c.lines.source) (g.S.Source.given c.line.new.source)
-    c.lines.feed c.line.follows.lender-at-none c.args.format c.args.supplied.now c.lines.reader reading lines.0 lines.2 count in
-    let more = c.drain.ensures.bytes in
-    omega (arith, so_far, more.2, more.3)
+returns-in_err-drain-clause-counted g c = (counts_more (counts_line c.lines.invariant.reading.fed c.line.follows.lender-at-none (g.S.Source.left c.line.new.source) (g.S.Source.given c.line.new.source) c.line.result c.line.follows.holds-at-none) c.drain.ensures.bytes).counted
 
 pub returns-in_err-drain-clause-failed : goal.returns-in_err-drain-clause-failed
 returns-in_err-drain-clause-failed g c =
-    let lines = rw (c.in_ok-line.was ∙ ap Ok c.in-Some.is) at c.line.follows.holds-at-none in
-    let still : c.line.follows.lender-at-none.fault ≡ None = ap (λ f. f.fault) lines.3.0.2 ∙ c.lines.invariant.reading.still in
-    let stood = c.line.ensures.stands (λ is. let e = rw (c.in_ok-line.was) at is in absurd (cc e)) ∙ c.lines.invariant.stood in
     let p = err_from_is_err_and c.from_residual-in_err-drain.result c.from_residual-in_err-drain.ensures.1 in
-    λ is.
-    let failed = c.drain.ensures.failed (c.in_err-drain.was ∙ ap Err (sym p.2 ∙ same_fault _ _ (rw p.1 at is))) still in
-    rw stood at failed
+    let still = still_on c.lines.invariant.reading.fed c.line.follows.lender-at-none (g.S.Source.left c.line.new.source) (g.S.Source.given c.line.new.source) c.in-Some.line (rw (c.in_ok-line.was ∙ ap Ok c.in-Some.is) at c.line.follows.holds-at-none) in
+    failed_on c.in_err-drain.was p.1 p.2 (stands_after c.in_ok-line.was c.lines.invariant.stood c.line.ensures.stands) (λ is. c.drain.ensures.failed is still)
 
 pub returns-in_err-drain-clause-stands : goal.returns-in_err-drain-clause-stands
 returns-in_err-drain-clause-stands g c =
-    let lines = rw (c.in_ok-line.was ∙ ap Ok c.in-Some.is) at c.line.follows.holds-at-none in
-    let still : c.line.follows.lender-at-none.fault ≡ None = ap (λ f. f.fault) lines.3.0.2 ∙ c.lines.invariant.reading.still in
-    let stood = c.line.ensures.stands (λ is. let e = rw (c.in_ok-line.was) at is in absurd (cc e)) ∙ c.lines.invariant.stood in
     let p = err_from_is_err_and c.from_residual-in_err-drain.result c.from_residual-in_err-drain.ensures.1 in
-    λ other. c.drain.ensures.stands (λ is. other (rw p.1 (ap Err (p.2 ∙ same_fault _ _ (sym c.in_err-drain.was ∙ is))))) ∙ stood
+    stands_on c.in_err-drain.was p.1 p.2 (stands_after c.in_ok-line.was c.lines.invariant.stood c.line.ensures.stands) c.drain.ensures.stands
 
 pub returns-in-Err-clause-answer : goal.returns-in-Err-clause-answer
 returns-in-Err-clause-answer g c =
@@ -91,41 +49,17 @@ returns-in-Err-clause-answer g c =
     c.in-Some.line lines bytes c.in-Err.fault is (c.in-Err.ensures.taken c.lines.invariant.reading.before c.lines.invariant.reading.held)
 
 pub returns-in-Err-clause-consumed : goal.returns-in-Err-clause-consumed
-returns-in-Err-clause-consumed g c =
-    let lines = c.line.follows.holds-at-none in
-    let reading = c.lines.invariant.reading in
-    let count = took (g.S.Source.left c.args.source.now) (g.S.Source.left c.lines.source) (g.S.Source.left c.line.new.source) (g.S.Source.given c.args.source.now) (g.S.Source.given c.lines.source) (g.S.Source.given c.line.new.source)
-    c.lines.feed c.line.follows.lender-at-none c.args.format c.args.supplied.now c.lines.reader reading c.line.result lines in
-    let gone = consumed_on (g.S.Source.left c.args.source.now) (g.S.Source.left c.lines.source) (g.S.Source.left c.line.new.source) (g.S.Source.given c.args.source.now) (g.S.Source.given c.lines.source) (g.S.Source.given c.line.new.source)
-    c.lines.feed c.line.follows.lender-at-none c.args.format c.args.supplied.now c.lines.reader reading lines.0 lines.1 count in
-    let more = c.drain.ensures.bytes in
-    consumed_more (g.S.Source.left c.args.source.now) (g.S.Source.left c.line.new.source) (g.S.Source.left c.drain.new.source) _ _ more.0 gone more.1 more.3
+returns-in-Err-clause-consumed g c = (counts_more (counts_line c.lines.invariant.reading.fed c.line.follows.lender-at-none (g.S.Source.left c.line.new.source) (g.S.Source.given c.line.new.source) c.line.result c.line.follows.holds-at-none) c.drain.ensures.bytes).consumed
 
 pub returns-in-Err-clause-counted : goal.returns-in-Err-clause-counted
-returns-in-Err-clause-counted g c =
-    let lines = c.line.follows.holds-at-none in
-    let reading = c.lines.invariant.reading in
-    let count = took (g.S.Source.left c.args.source.now) (g.S.Source.left c.lines.source) (g.S.Source.left c.line.new.source) (g.S.Source.given c.args.source.now) (g.S.Source.given c.lines.source) (g.S.Source.given c.line.new.source)
-    c.lines.feed c.line.follows.lender-at-none c.args.format c.args.supplied.now c.lines.reader reading c.line.result lines in
-    let so_far = counted_on (g.S.Source.left c.args.source.now) (g.S.Source.left c.lines.source) (g.S.Source.left c.line.new.source) (g.S.Source.given c.args.source.now) (g.S.Source.given c.lines.source) (g.S.Source.given c.line.new.source)
-    c.lines.feed c.line.follows.lender-at-none c.args.format c.args.supplied.now c.lines.reader reading lines.0 lines.2 count in
-    let more = c.drain.ensures.bytes in
-    omega (arith, so_far, more.2, more.3)
+returns-in-Err-clause-counted g c = (counts_more (counts_line c.lines.invariant.reading.fed c.line.follows.lender-at-none (g.S.Source.left c.line.new.source) (g.S.Source.given c.line.new.source) c.line.result c.line.follows.holds-at-none) c.drain.ensures.bytes).counted
 
 pub returns-in-Err-clause-stands : goal.returns-in-Err-clause-stands
-returns-in-Err-clause-stands g c =
-    let lines = rw (c.in_ok-line.was ∙ ap Ok c.in-Some.is) at c.line.follows.holds-at-none in
-    let still : c.line.follows.lender-at-none.fault ≡ None = ap (λ f. f.fault) lines.3.0.2 ∙ c.lines.invariant.reading.still in
-    let stood = c.line.ensures.stands (λ is. let e = rw (c.in_ok-line.was) at is in absurd (cc e)) ∙ c.lines.invariant.stood in
-    λ other. c.drain.ensures.stands (λ is. let e = rw (c.in_ok-drain.was) at is in absurd (cc e)) ∙ stood
+returns-in-Err-clause-stands g c = λ other. stands_after c.in_ok-drain.was (stands_after c.in_ok-line.was c.lines.invariant.stood c.line.ensures.stands) c.drain.ensures.stands
 
 pub lines-smaller : goal.lines-smaller
 lines-smaller g c =
-    let lines = rw (c.in_ok-line.was ∙ ap Ok c.in-Some.is) at c.line.follows.holds-at-none in
-    let reading = c.lines.invariant.reading in
-    let more = moves_on c.lines.feed c.line.follows.lender-at-none (g.S.Source.left c.lines.source) (g.S.Source.left c.line.new.source) (g.S.Source.given c.lines.source) (g.S.Source.given c.line.new.source) c.in-Some.line lines in
-    let few = within_limit c.lines.feed reading.long reading.still in
-    omega (arith, more, few)
+    comes_nearer c.lines.invariant.reading.fed c.line.follows.lender-at-none (g.S.Source.left c.line.new.source) (g.S.Source.given c.line.new.source) c.in-Some.line (rw (c.in_ok-line.was ∙ ap Ok c.in-Some.is) at c.line.follows.holds-at-none)
 
 pub lines-preserved : goal.lines-preserved
 lines-preserved g c =
@@ -134,7 +68,7 @@ lines-preserved g c =
       reading = goes_on (g.S.Source.left c.args.source.now) (g.S.Source.left c.lines.source) (g.S.Source.left c.line.new.source) (g.S.Source.given c.args.source.now) (g.S.Source.given c.lines.source) (g.S.Source.given c.line.new.source)
           c.lines.feed c.line.follows.lender-at-none c.args.format c.args.supplied.now c.lines.reader c.lines.invariant.reading
           c.in-Some.line lines c.take.new.self (c.in_default-take.ensures.taken c.lines.invariant.reading.before c.lines.invariant.reading.held).0 (c.in_default-take.ensures.taken c.lines.invariant.reading.before c.lines.invariant.reading.held).1 c.in_default-take.ensures.last;
-      stood = c.line.ensures.stands (λ is. let e = rw (c.in_ok-line.was) at is in absurd (cc e)) ∙ c.lines.invariant.stood;
+      stood = stands_after c.in_ok-line.was c.lines.invariant.stood c.line.ensures.stands;
     }
 
 pub returns-clause-answer : goal.returns-clause-answer
@@ -145,26 +79,13 @@ returns-clause-answer g c =
     lines bytes is
 
 pub returns-clause-consumed : goal.returns-clause-consumed
-returns-clause-consumed g c =
-    let lines = c.line.follows.holds-at-none in
-    let reading = c.lines.invariant.reading in
-    let count = took (g.S.Source.left c.args.source.now) (g.S.Source.left c.lines.source) (g.S.Source.left c.line.new.source) (g.S.Source.given c.args.source.now) (g.S.Source.given c.lines.source) (g.S.Source.given c.line.new.source)
-    c.lines.feed c.line.follows.lender-at-none c.args.format c.args.supplied.now c.lines.reader reading c.line.result lines in
-    consumed_on (g.S.Source.left c.args.source.now) (g.S.Source.left c.lines.source) (g.S.Source.left c.line.new.source) (g.S.Source.given c.args.source.now) (g.S.Source.given c.lines.source) (g.S.Source.given c.line.new.source)
-    c.lines.feed c.line.follows.lender-at-none c.args.format c.args.supplied.now c.lines.reader reading lines.0 lines.1 count
+returns-clause-consumed g c = (counts_line c.lines.invariant.reading.fed c.line.follows.lender-at-none (g.S.Source.left c.line.new.source) (g.S.Source.given c.line.new.source) c.line.result c.line.follows.holds-at-none).consumed
 
 pub returns-clause-counted : goal.returns-clause-counted
-returns-clause-counted g c =
-    let lines = c.line.follows.holds-at-none in
-    let reading = c.lines.invariant.reading in
-    let count = took (g.S.Source.left c.args.source.now) (g.S.Source.left c.lines.source) (g.S.Source.left c.line.new.source) (g.S.Source.given c.args.source.now) (g.S.Source.given c.lines.source) (g.S.Source.given c.line.new.source)
-    c.lines.feed c.line.follows.lender-at-none c.args.format c.args.supplied.now c.lines.reader reading c.line.result lines in
-    counted_on (g.S.Source.left c.args.source.now) (g.S.Source.left c.lines.source) (g.S.Source.left c.line.new.source) (g.S.Source.given c.args.source.now) (g.S.Source.given c.lines.source) (g.S.Source.given c.line.new.source)
-    c.lines.feed c.line.follows.lender-at-none c.args.format c.args.supplied.now c.lines.reader reading lines.0 lines.2 count
+returns-clause-counted g c = (counts_line c.lines.invariant.reading.fed c.line.follows.lender-at-none (g.S.Source.left c.line.new.source) (g.S.Source.given c.line.new.source) c.line.result c.line.follows.holds-at-none).counted
 
 pub returns-clause-stands : goal.returns-clause-stands
-returns-clause-stands g c =
-    λ other. c.line.ensures.stands (λ is. let e = rw (c.in_ok-line.was) at is in absurd (cc e)) ∙ c.lines.invariant.stood
+returns-clause-stands g c = λ other. stands_after c.in_ok-line.was c.lines.invariant.stood c.line.ensures.stands
 
 pub finish-requires-clause-pairs : goal.finish-requires-clause-pairs
 finish-requires-clause-pairs g c = sound_end c.args.supplied.now c.lines.reader c.lines.invariant.reading.before c.lines.invariant.reading.held c.is_supplied.ensures

@@ -1,0 +1,88 @@
+-- A loop over the lines of a feed that had taken nothing, whatever the lines say: what it has consumed and counted, and what faults say of the source.
+use Rattle.std.proofs.Common.{◌≡◌, ◌+◌, ◌-◌, ◌≤◌, ◌<◌, ℕ, List, [], ◌++◌, length, take, Option, Some, None, refl, sym, ◌∙◌, ap, arith, inl, inr, length-append}
+use Rattle.std.specs.Prelude.{IfOk, IsErrOf, Result, Ok, Err}
+use Rattle.std.specs.Io.KnownBytes.{Consumes, IsAtEnd}
+use Rattle.std.proofs.KnownBytes.{Consumes-nil, Consumes-trans}
+use Rattle.std.proofs.lemmas.Bool.{cases_lt}
+use Rattle.std.proofs.lemmas.List.{length-take-le}
+use Rattle.mt_ports.specs.Causes.{Rose}
+use Rattle.mt_text.specs.Feed.{Feeding, IsLong, Lines, at_start, taken}
+use Rattle.mt_text.specs.declared.line.Line.{Line}
+use Rattle.mt_text.specs.declared.fault.FeedFault.{FeedFault}
+use Rattle.mt_text.proofs.Lent.{counted, moves_on, within_limit}
+
+-- What was consumed since the start, and that as much was counted.
+pub record Counts (left_first left : Option (List ℕ)) (given_first given count : ℕ) : Type 0 where
+  pub consumed : (gone : List ℕ) × Consumes left_first left gone × (count ≡ length gone)
+  pub counted : given ≡ given_first + count
+
+-- between two lines
+pub record IsFed (left_first left : Option (List ℕ)) (given_first given : ℕ) (feed : Feeding) : Type 0 where
+  pub still : feed.fault ≡ None
+  pub long : IsLong feed
+  pub counts : Counts left_first left given_first given (taken feed)
+
+pub fed_at_first : (left : Option (List ℕ)) (given : ℕ) (feed : Feeding) → feed ≡ at_start → IsFed left left given given feed
+fed_at_first left given feed start = rw start (record {
+  still = refl;
+  long = (λ is. cc is, λ more. absurd (omega (arith, more)));
+  counts = record { consumed = ([], Consumes-nil left, refl); counted = omega arith };
+})
+
+-- a call has taken more
+pub counts_more : {left_first left after : Option (List ℕ)} {given_first given given_after count total : ℕ} → Counts left_first left given_first given count
+    → (more : List ℕ) × Consumes left after more × (given_after ≡ given + length more) × (total ≡ count + length more) → Counts left_first after given_first given_after total
+counts_more {left_first} {left} {after} counts (more, consumes, gives, sum) =
+    let (gone, before, is) = counts.consumed in
+    record {
+      consumed = (gone ++ more, Consumes-trans left_first left after gone more before consumes, omega (arith, sum, is, length-append gone more));
+      counted = omega (arith, gives, sum, counts.counted);
+    }
+
+module _ {left_first left : Option (List ℕ)} {given_first given : ℕ} {feed : Feeding} (fed : IsFed left_first left given_first given feed) (new : Feeding) (after : Option (List ℕ)) (given_after : ℕ) where
+  -- a call that asks for a line
+  pub counts_line : (result : Result (Option Line) FeedFault) → Lines feed new left after given given_after result → Counts left_first after given_first given_after (taken new)
+  counts_line result lines = counts_more fed.counts (lines.0, lines.1, lines.2, omega (arith, lines.2, counted feed new left after given given_after result lines))
+
+  -- a line that is lent
+  module _ (line : Line) (lines : Lines feed new left after given given_after (Ok (Some line))) where
+    pub still_on : new.fault ≡ None
+    still_on = ap (λ f. f.fault) lines.3.0.2 ∙ fed.still
+
+    pub fed_on : IsFed left_first after given_first given_after new
+    fed_on = record { still = still_on; long = lines.4; counts = counts_line (Ok (Some line)) lines }
+
+    pub comes_nearer : 16777217 - new.offset < 16777217 - feed.offset
+    comes_nearer = omega (arith, moves_on feed new left after given given_after line lines, within_limit feed fed.long fed.still)
+
+-- a source that told its bytes tells that nothing is left
+pub nothing_left : {E : Type 0} {T : Type 0} (left_first left : Option (List ℕ)) (bytes gone : List ℕ) (result : Result T E) → left_first ≡ Some bytes → Consumes left_first left gone → IfOk result (λ _. IsAtEnd left) → IfOk result (λ _. left ≡ Some [])
+nothing_left None left bytes gone result is consumes end = cc is
+nothing_left (Some xs) None bytes gone result is consumes end = absurd consumes
+nothing_left (Some xs) (Some ys) bytes gone (Ok value) is consumes end = ap Some end
+nothing_left (Some xs) (Some ys) bytes gone (Err fault) is consumes end = tt
+
+-- a line that is lent in few bytes is short
+pub few_first : (first : List ℕ) → length (take 4097 first) ≤ 4096 → length first ≤ 4096
+few_first first few = elim (cases_lt 4096 (length first)) [
+  | inl many ↦ absurd (omega (arith, few, length-take-le 4097 first (omega (arith, many))))
+  | inr few ↦ few
+]
+
+-- `?` hands a call's fault on, and no fault came before
+module _ {T U : Type 0} {first before after : ℕ} {call : Result T FeedFault} {result : Result U FeedFault} {given fault : FeedFault} (was : call ≡ Err given) (handed : result ≡ Err fault) (same : fault ≡ given) (stood : before ≡ first) where
+  pub failed_on : (IsErrOf call FeedFault.ReadFault → Rose before after) → IsErrOf result FeedFault.ReadFault → Rose first after
+  failed_on failed is = rw stood at (failed (was ∙ ap Err (sym same ∙ same_fault fault FeedFault.ReadFault (rw handed at is))))
+    where
+      same_fault : (fault other : FeedFault) → IsErrOf {T = U} (Err fault) other → fault ≡ other
+      same_fault fault other is = cc is
+
+  pub stands_on : ((IsErrOf call FeedFault.ReadFault → ⊥) → after ≡ before) → (IsErrOf result FeedFault.ReadFault → ⊥) → after ≡ first
+  stands_on stands other = stands (λ is. other (rw handed (ap Err (same ∙ same_fault given FeedFault.ReadFault (sym was ∙ is))))) ∙ stood
+    where
+      same_fault : (fault other : FeedFault) → IsErrOf {T = T} (Err fault) other → fault ≡ other
+      same_fault fault other is = cc is
+
+-- a call without a fault leaves the count of faults
+pub stands_after : {T : Type 0} {first before after : ℕ} {call : Result T FeedFault} {value : T} → call ≡ Ok value → before ≡ first → ((IsErrOf call FeedFault.ReadFault → ⊥) → after ≡ before) → after ≡ first
+stands_after was stood stands = stands (λ is. let e = rw was at is in absurd (cc e)) ∙ stood
