@@ -1,6 +1,6 @@
 -- Each command that fits leaves what every setup keeps.
-use Rattle.std.proofs.Common.{◌≡◌, ◌≢◌, ℕ, ◌≤◌, ◌<◌, ◌+◌, ◌*◌, ◌&&◌, nat_eq, nat_lt, nat_le, true, false, List, [], ◌∷◌, ◌++◌, length, refl, sym, subst, ◌∙◌, arith, lit≤, inl, inr}
-use Rattle.std.specs.Prelude.{Option, None, Some, IfSome, is_some, ◌⊎◌}
+use Rattle.std.proofs.Common.{◌≡◌, ◌≢◌, ℕ, ◌≤◌, ◌<◌, ◌+◌, ◌*◌, ◌&&◌, nat_eq, nat_lt, nat_le, Bool, true, false, List, [], ◌∷◌, ◌++◌, length, refl, sym, ap, subst, ◌∙◌, arith, lit≤, inl, inr}
+use Rattle.std.specs.Prelude.{Option, None, Some, IfSome, is_some, not, ◌||◌, ◌⊎◌}
 use Rattle.std.specs.Option.{option_map}
 use Rattle.std.specs.List.{IsDistinct, list_all}
 use Rattle.std.specs.Set.{is_member}
@@ -28,134 +28,99 @@ start_is = record { cpus = refl; has_dump = refl; dump = tt; each = tt; few = li
 no_registers : (P : ℕ → Type 0) (q : ℕ) → is_member nat_eq [] q ≡ true → P q
 no_registers P q member = cc member
 
+-- ---- what one test of a stage says of another
+
+abbrev stages : List Stage
+stages = NeedCpus ∷ NeedDump ∷ InDump ∷ Rams ∷ Commands ∷ InUpdate ∷ InBegin ∷ []
+
+every : (test : Stage → Bool) → list_all test stages ≡ true → (stage : Stage) → test stage ≡ true
+every test all =
+    let (cpus, all) = and_parts (test NeedCpus) _ all in
+    let (dump, all) = and_parts (test NeedDump) _ all in
+    let (in_dump, all) = and_parts (test InDump) _ all in
+    let (rams, all) = and_parts (test Rams) _ all in
+    let (commands, all) = and_parts (test Commands) _ all in
+    let (update, all) = and_parts (test InUpdate) _ all in
+    let (begin, all) = and_parts (test InBegin) _ all in
+    elim [ NeedCpus ↦ cpus | NeedDump ↦ dump | InDump ↦ in_dump | Rams ↦ rams | Commands ↦ commands | InUpdate ↦ update | InBegin ↦ begin ]
+
+abbrev implies : Bool → Bool → Bool
+implies true says = says
+implies false says = true
+
+-- where the one is met, so is the other
+says : (test other : Stage → Bool) → list_all (λ stage. implies (test stage) (other stage)) stages ≡ true → (stage : Stage) → test stage ≡ true → other stage ≡ true
+says test other all stage = by (test stage) (other stage) (every (λ stage. implies (test stage) (other stage)) all stage)
+  where
+    by : (met says : Bool) → implies met says ≡ true → met ≡ true → says ≡ true
+    by true says told is = told
+    by false says told is = cc is
+
+-- where the one is met, the other isn't
+denies : (test other : Stage → Bool) → list_all (λ stage. implies (test stage) (not (other stage))) stages ≡ true → (stage : Stage) → test stage ≡ true → other stage ≡ false
+denies test other all stage is = by (other stage) (says test (λ stage. not (other stage)) all stage is)
+  where
+    by : (met : Bool) → not met ≡ true → met ≡ false
+    by false told = refl
+    by true told = cc told
+
 -- the stages in which commands may be given are past the dump, where processors were told
 past_of_commands : (stage : Stage) → takes_commands stage ≡ true → is_past_dump stage ≡ true
-past_of_commands Rams is = refl
-past_of_commands Commands is = refl
-past_of_commands NeedCpus is = cc is
-past_of_commands NeedDump is = cc is
-past_of_commands InDump is = cc is
-past_of_commands InUpdate is = cc is
-past_of_commands InBegin is = cc is
+past_of_commands = says takes_commands is_past_dump refl
 
 past_of_windows : (stage : Stage) → takes_windows stage ≡ true → is_past_dump stage ≡ true
-past_of_windows Rams is = refl
-past_of_windows NeedCpus is = cc is
-past_of_windows NeedDump is = cc is
-past_of_windows InDump is = cc is
-past_of_windows Commands is = refl
-past_of_windows InUpdate is = refl
-past_of_windows InBegin is = refl
+past_of_windows = says takes_windows is_past_dump refl
 
 past_of_registers : (stage : Stage) → takes_registers stage ≡ true → is_past_dump stage ≡ true
-past_of_registers InUpdate is = refl
-past_of_registers InBegin is = refl
-past_of_registers Rams is = cc is
-past_of_registers Commands is = cc is
-past_of_registers NeedCpus is = cc is
-past_of_registers NeedDump is = cc is
-past_of_registers InDump is = cc is
-
-cpus_past : (stage : Stage) (cpus : ℕ) → is_past_dump stage ≡ true → HasCpus stage cpus → (1 ≤ cpus) × (cpus ≤ 16)
-cpus_past Rams cpus past has = has
-cpus_past Commands cpus past has = has
-cpus_past InUpdate cpus past has = has
-cpus_past InBegin cpus past has = has
-cpus_past NeedCpus cpus past has = cc past
-cpus_past NeedDump cpus past has = cc past
-cpus_past InDump cpus past has = cc past
-
-cpus_of_dump : (stage : Stage) (cpus : ℕ) → takes_dump stage ≡ true → HasCpus stage cpus → (1 ≤ cpus) × (cpus ≤ 16)
-cpus_of_dump NeedDump cpus takes has = has
-cpus_of_dump NeedCpus cpus takes has = cc takes
-cpus_of_dump InDump cpus takes has = cc takes
-cpus_of_dump Rams cpus takes has = cc takes
-cpus_of_dump Commands cpus takes has = cc takes
-cpus_of_dump InUpdate cpus takes has = cc takes
-cpus_of_dump InBegin cpus takes has = cc takes
-
-cpus_in_dump : (stage : Stage) (cpus : ℕ) → is_in_dump stage ≡ true → HasCpus stage cpus → (1 ≤ cpus) × (cpus ≤ 16)
-cpus_in_dump InDump cpus is has = has
-cpus_in_dump NeedCpus cpus is has = cc is
-cpus_in_dump NeedDump cpus is has = cc is
-cpus_in_dump Rams cpus is has = cc is
-cpus_in_dump Commands cpus is has = cc is
-cpus_in_dump InUpdate cpus is has = cc is
-cpus_in_dump InBegin cpus is has = cc is
+past_of_registers = says takes_registers is_past_dump refl
 
 not_past_of_dump : (stage : Stage) → takes_dump stage ≡ true → is_past_dump stage ≡ false
-not_past_of_dump NeedDump is = refl
-not_past_of_dump NeedCpus is = cc is
-not_past_of_dump InDump is = cc is
-not_past_of_dump Rams is = cc is
-not_past_of_dump Commands is = cc is
-not_past_of_dump InUpdate is = cc is
-not_past_of_dump InBegin is = cc is
+not_past_of_dump = denies takes_dump is_past_dump refl
 
 not_past_of_cpus : (stage : Stage) → takes_cpus stage ≡ true → is_past_dump stage ≡ false
-not_past_of_cpus NeedCpus is = refl
-not_past_of_cpus NeedDump is = cc is
-not_past_of_cpus InDump is = cc is
-not_past_of_cpus Rams is = cc is
-not_past_of_cpus Commands is = cc is
-not_past_of_cpus InUpdate is = cc is
-not_past_of_cpus InBegin is = cc is
-
-idle_commands : (stage : Stage) → takes_commands stage ≡ true → takes_registers stage ≡ false
-idle_commands Rams is = refl
-idle_commands Commands is = refl
-idle_commands NeedCpus is = cc is
-idle_commands NeedDump is = cc is
-idle_commands InDump is = cc is
-idle_commands InUpdate is = cc is
-idle_commands InBegin is = cc is
-
-idle_not_past : (stage : Stage) → is_past_dump stage ≡ false → takes_registers stage ≡ false
-idle_not_past NeedCpus is = refl
-idle_not_past NeedDump is = refl
-idle_not_past InDump is = refl
-idle_not_past Rams is = cc is
-idle_not_past Commands is = cc is
-idle_not_past InUpdate is = cc is
-idle_not_past InBegin is = cc is
+not_past_of_cpus = denies takes_cpus is_past_dump refl
 
 pub not_past_in_dump : (stage : Stage) → is_in_dump stage ≡ true → is_past_dump stage ≡ false
-not_past_in_dump InDump is = refl
-not_past_in_dump NeedCpus is = cc is
-not_past_in_dump NeedDump is = cc is
-not_past_in_dump Rams is = cc is
-not_past_in_dump Commands is = cc is
-not_past_in_dump InUpdate is = cc is
-not_past_in_dump InBegin is = cc is
+not_past_in_dump = denies is_in_dump is_past_dump refl
+
+idle_commands : (stage : Stage) → takes_commands stage ≡ true → takes_registers stage ≡ false
+idle_commands = denies takes_commands takes_registers refl
+
+idle_not_past : (stage : Stage) → is_past_dump stage ≡ false → takes_registers stage ≡ false
+idle_not_past stage before = denies (λ stage. not (is_past_dump stage)) takes_registers refl stage (ap not before)
 
 -- windows come after the dump
 before_windows : (stage : Stage) → is_past_dump stage ≡ false → is_past_windows stage ≡ false
-before_windows NeedCpus is = refl
-before_windows NeedDump is = refl
-before_windows InDump is = refl
-before_windows Rams is = refl
-before_windows Commands is = cc is
-before_windows InUpdate is = cc is
-before_windows InBegin is = cc is
+before_windows stage before = denies (λ stage. not (is_past_dump stage)) is_past_windows refl stage (ap not before)
 
 among_windows : (stage : Stage) → takes_windows stage ≡ true → is_past_windows stage ≡ false
-among_windows Rams is = refl
-among_windows NeedCpus is = cc is
-among_windows NeedDump is = cc is
-among_windows InDump is = cc is
-among_windows Commands is = cc is
-among_windows InUpdate is = cc is
-among_windows InBegin is = cc is
+among_windows = denies takes_windows is_past_windows refl
 
 -- what ends outside the dump ends a section
 registers_of_end : (stage : Stage) → takes_end stage ≡ true → (is_in_dump stage ≡ true → ⊥) → takes_registers stage ≡ true
-registers_of_end InUpdate is not_dump = refl
-registers_of_end InBegin is not_dump = refl
-registers_of_end InDump is not_dump = absurd (not_dump refl)
-registers_of_end NeedCpus is not_dump = cc is
-registers_of_end NeedDump is not_dump = cc is
-registers_of_end Rams is not_dump = cc is
-registers_of_end Commands is not_dump = cc is
+registers_of_end stage is not_dump = by (is_in_dump stage) refl (says takes_end (λ stage. is_in_dump stage || takes_registers stage) refl stage is)
+  where
+    by : (dump : Bool) → is_in_dump stage ≡ dump → (dump || takes_registers stage) ≡ true → takes_registers stage ≡ true
+    by true in_it told = absurd (not_dump in_it)
+    by false in_it told = told
+
+has_cpus : (stage : Stage) (cpus : ℕ) → takes_cpus stage ≡ false → HasCpus stage cpus → (1 ≤ cpus) × (cpus ≤ 16)
+has_cpus NeedCpus cpus told has = cc told
+has_cpus NeedDump cpus told has = has
+has_cpus InDump cpus told has = has
+has_cpus Rams cpus told has = has
+has_cpus Commands cpus told has = has
+has_cpus InUpdate cpus told has = has
+has_cpus InBegin cpus told has = has
+
+cpus_past : (stage : Stage) (cpus : ℕ) → is_past_dump stage ≡ true → HasCpus stage cpus → (1 ≤ cpus) × (cpus ≤ 16)
+cpus_past stage cpus past = has_cpus stage cpus (denies is_past_dump takes_cpus refl stage past)
+
+cpus_of_dump : (stage : Stage) (cpus : ℕ) → takes_dump stage ≡ true → HasCpus stage cpus → (1 ≤ cpus) × (cpus ≤ 16)
+cpus_of_dump stage cpus takes = has_cpus stage cpus (denies takes_dump takes_cpus refl stage takes)
+
+cpus_in_dump : (stage : Stage) (cpus : ℕ) → is_in_dump stage ≡ true → HasCpus stage cpus → (1 ≤ cpus) × (cpus ≤ 16)
+cpus_in_dump stage cpus is = has_cpus stage cpus (denies is_in_dump takes_cpus refl stage is)
 
 -- nothing is said of no dump
 of_none : (P : Dump → Type 0) (dump : Option Dump) → is_some dump ≡ false → IfSome dump P

@@ -67,6 +67,10 @@ step_in_dump now before number line false =
 abbrev pub ends_dump : List ℕ → Bool
 ends_dump line = if too_long line then false else is_end (words_of line)
 
+-- a line of the dump
+abbrev pub dump_step : Situation → List Reading → ℕ → List ℕ → HeadStep
+dump_step now before number line = step_in_dump now before number line (ends_dump line)
+
 -- the command ends a section
 abbrev pub is_end_command : Command → Bool
 is_end_command (command.Cpus n) = false

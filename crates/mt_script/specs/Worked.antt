@@ -48,6 +48,11 @@ dump_fault reason line column = Some (offence.Dump (line_of_dump.fault_at reason
 abbrev pub after_start : List (List ℕ) → List (List ℕ)
 after_start lines = codes "cpus 1" ∷ codes "dump" ∷ codes "0fe 0" ∷ codes "end" ∷ lines
 
+-- windows, commands, and a section of each kind
+abbrev pub windows_and_sections : List (List ℕ)
+windows_and_sections =
+    codes "ram 0 1" ∷ [] ∷ codes "ram 40 1" ∷ codes "fence 0" ∷ codes "update" ∷ codes "2ff: 800" ∷ codes "end" ∷ codes "begin" ∷ codes "2ff c00" ∷ codes "end" ∷ codes "report" ∷ []
+
 -- a dump with these sections
 abbrev pub sectioned : List RegisterFile → Dump
 sectioned files = record { version = 2; files = files }

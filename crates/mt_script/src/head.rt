@@ -5,7 +5,7 @@ ghost use Rattle.mt_dump.specs.Dump.{ShownBy};
 ghost use Rattle.mt_dump.specs.Reader.{HasRead, onto};
 ghost use Rattle.mt_script.specs.Situation.{Situation, at_start};
 ghost use Rattle.mt_script.specs.Stages.{is_in_dump};
-ghost use Rattle.mt_script.specs.Head.{TakesLine, end_offence, ends_dump, head_step, step_in_dump};
+ghost use Rattle.mt_script.specs.Head.{TakesLine, dump_step, end_offence, head_step};
 
 use crate::name::is_in_dump;
 use crate::number::fault;
@@ -47,7 +47,7 @@ pub fn take_dump_line(
     line: &Line<'_>,
 ) -> Result<Option<Dump>, Offence>
     ensures each { IfOk result (λ shown. IfSome shown (λ d. has_each cpus d ≡ true)) }
-    ensures step { (now : Situation) (before : List Reading) → now.cpus ≡ cpus → HasRead dump.old before → TakesLine now dump.new (step_in_dump now before line.now.number line.now.bytes.now (ends_dump line.now.bytes.now)) result }
+    ensures step { (now : Situation) (before : List Reading) → now.cpus ≡ cpus → HasRead dump.old before → TakesLine now dump.new (dump_step now before line.now.number line.now.bytes.now) result }
 {
     if ends_dump(line) {
         return match end_dump(dump, cpus, first_place(line)) {

@@ -7,7 +7,7 @@ ghost use Rattle.mt_script.specs.Head.{goes_on, head_step, offends, shows};
 ghost use Rattle.mt_script.specs.Situation.{at_start, file_of};
 ghost use Rattle.mt_script.specs.Commands.{end_fault};
 ghost use Rattle.mt_script.specs.Numbers.{fault_at};
-ghost use Rattle.mt_script.specs.Worked.{after_start, dump_fault, fault_in, first_line, in_flux, offence_of_lines, ready, script_fault, sectioned, two_sections, with_dump, with_one};
+ghost use Rattle.mt_script.specs.Worked.{after_start, dump_fault, fault_in, first_line, in_flux, offence_of_lines, ready, script_fault, sectioned, two_sections, windows_and_sections, with_dump, with_one};
 ghost use Rattle.mt_script.specs.declared.command.Stage.TheVariants as stage;
 ghost use Rattle.mt_script.specs.declared.command.Command.TheVariants as asks;
 ghost use Rattle.mt_script.specs.declared.fault.Offence.TheVariants as offence;
@@ -176,7 +176,7 @@ pub fn worked_ends()
 
 /// Whole scripts.
 pub fn worked_scripts()
-    ensures good { offence_of_lines (after_start (codes "ram 0 1" ∷ [] ∷ codes "ram 40 1" ∷ codes "fence 0" ∷ codes "update" ∷ codes "2ff: 800" ∷ codes "end" ∷ codes "begin" ∷ codes "2ff c00" ∷ codes "end" ∷ codes "report" ∷ [])) ≡ None }
+    ensures good { offence_of_lines (after_start windows_and_sections) ≡ None }
     ensures no_capabilities { offence_of_lines (codes "cpus 1" ∷ codes "dump" ∷ codes " end" ∷ []) ≡ dump_fault dump.NoCap 3 2 }
     ensures line_of_dump { offence_of_lines (codes "cpus 1" ∷ codes "dump" ∷ codes "200 6" ∷ []) ≡ dump_fault dump.NoCap 3 1 }
     ensures repeated_in_dump { offence_of_lines (codes "cpus 1" ∷ codes "dump" ∷ codes "0fe 0" ∷ codes "0fe 0" ∷ []) ≡ dump_fault dump.Repeated 4 1 }
