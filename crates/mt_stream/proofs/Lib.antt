@@ -3,3 +3,4 @@ pub mod KnownLines
 pub mod Rounds
 pub mod Taking
 pub mod Telling
+mod Numbered

@@ -3,4 +3,5 @@ pub mod Laws
 pub mod Lines
 pub mod Runs
 pub mod Told
+pub mod WorkedRunning
 pub mod WorkedTexts
