@@ -27,13 +27,17 @@ extern "C" {
 #define MTRR_WP 5u
 #define MTRR_WB 6u
 
+/* Where a run of a type map has pages of no defined type. */
+#define MTRR_NO_TYPE 255u
+
 /* What the calls answer. */
 #define MTRR_DONE 0u      /* done; of mtrr_first_fault: there is no fault */
-#define MTRR_FAULT 1u     /* the first fault was written */
+#define MTRR_FAULT 1u     /* a register is at fault; mtrr_first_fault wrote the first fault */
 #define MTRR_NO_FILE 2u   /* the words are no register file's */
 #define MTRR_NO_PAGE 3u   /* the page is beyond the physical address space */
 #define MTRR_UNDEFINED 4u /* the ranges that meet at the page have no defined type */
 #define MTRR_NO_ENTRY 5u  /* the PAT has entries 0 to 7 */
+#define MTRR_NO_ROOM 6u   /* the array is too small for the type map */
 
 /* What is wrong with a register. */
 #define MTRR_RESERVED_BIT 1u
@@ -54,6 +58,7 @@ extern "C" {
 
 #define MTRR_MAX_PAIRS 32
 #define MTRR_FIXED_REGISTERS 11
+#define MTRR_MAX_RUNS 153 /* no type map has more runs */
 
 /* A variable range: IA32_MTRR_PHYSBASEn and IA32_MTRR_PHYSMASKn. */
 struct mtrr_pair {
@@ -79,6 +84,13 @@ struct mtrr_registers {
 struct mtrr_fault {
     uint32_t number; /* of the register */
     uint32_t reason; /* MTRR_RESERVED_BIT and the like */
+};
+
+/* The `pages` pages from page `first` on, which have one type. */
+struct mtrr_run {
+    uint64_t first;
+    uint64_t pages;
+    uint32_t kind; /* MTRR_UC and the like, or MTRR_NO_TYPE */
 };
 
 /*
@@ -119,6 +131,21 @@ uint32_t mtrr_page_type(const struct mtrr_registers *registers, uint64_t page,
  */
 uint32_t mtrr_effective_type(const struct mtrr_registers *registers,
                              uint64_t page, uint32_t index, uint32_t *kind);
+
+/*
+ * The type map: runs in ascending order that cover each page once, neighbours
+ * of different types. The runs go into `runs`, which has room for `room` of
+ * them, and their number into *count. MTRR_MAX_RUNS of them always suffice;
+ * `room` may be 0 to ask for the number alone.
+ *
+ * MTRR_DONE: all runs were written. MTRR_NO_ROOM: the first `room` were.
+ * What stands behind them is as before. MTRR_NO_FILE, and MTRR_FAULT where a
+ * register is at fault by itself (mtrr_first_fault says which): the array and
+ * *count are as before. An undefined overlap is no such fault: its pages are
+ * runs of MTRR_NO_TYPE.
+ */
+uint32_t mtrr_type_map(const struct mtrr_registers *registers,
+                       struct mtrr_run *runs, size_t room, size_t *count);
 
 #ifdef __cplusplus
 }

@@ -1,13 +1,16 @@
 //! The calls of `include/mtrr.h`, as C finds them.
 #![tactic(auto)]
 
-ghost use Rattle.std.specs.Prelude.{◌≡◌, true, false, Option};
+ghost use Rattle.std.specs.Prelude.{◌≡◌, true, false, length, Option};
+ghost use Rattle.mt_plain.specs.Maps.{IsMapIn, has_map, map_status, no_map_status};
 ghost use Rattle.mt_plain.specs.Plain.{effective_number, effective_status, fault_status, fault_words, file_in, has_no_other_pair, is_file, page_number, page_status};
 ghost use Rattle.mt_regs.specs.Faults.{IsFirstFault};
 ghost use Rattle.mt_regs.specs.RegisterFile.{IsRegisterFile};
 ghost use Rattle.mt_regs.specs.declared.fault.Fault.{Fault};
 
-use mt_plain::{PlainFault, PlainRegisters, effective_type, first_fault, is_file, page_type};
+use mt_plain::{
+    PlainFault, PlainRegisters, PlainRun, effective_type, first_fault, is_file, page_type, type_map,
+};
 
 /// Whether the words are a register file's: a width of 32 to 52 bits, at most 32 pairs by VCNT, zeros in the pairs
 /// beyond, and zeros in the fixed-range registers where FIX is clear.
@@ -53,4 +56,19 @@ pub extern "C" fn mtrr_effective_type(
     ensures number { kind.new ≡ effective_number registers.now page index kind.old }
 {
     effective_type(registers, page, index, kind)
+}
+
+/// The type map: its runs in ascending order, and how many there are. 0 where all were written, 6 where the array has
+/// room for the first of them alone, 2 where the words are no register file's, and 1 where a register is at fault by
+/// itself. What stands behind the runs is as before; where the answer is 1 or 2, so are the array and the count.
+#[unsafe(no_mangle)]
+pub extern "C" fn mtrr_type_map(
+    registers: &PlainRegisters,
+    runs: &mut [PlainRun],
+    count: &mut usize,
+) -> u32
+    ensures refused { has_map registers.now ≡ false → (result ≡ no_map_status registers.now) × (runs.new ≡ runs.old) × (count.new ≡ count.old) }
+    ensures map { has_map registers.now ≡ true → IsMapIn (file_in registers.now) runs.old runs.new count.new × (result ≡ map_status (length runs.old) count.new) }
+{
+    type_map(registers, runs, count)
 }

@@ -1,1 +1,3 @@
+mod Mapping
+mod OneRegister
 mod Zeros

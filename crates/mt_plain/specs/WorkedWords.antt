@@ -3,6 +3,7 @@ use Rattle.std.specs.Prelude.{ℕ, ◌-◌, ◌++◌, ◌∷◌, [], List, lengt
 use Rattle.mt_plain.specs.declared.plain.PlainPair.{PlainPair}
 use Rattle.mt_plain.specs.declared.plain.PlainRegisters.{PlainRegisters}
 use Rattle.mt_plain.specs.declared.plain.PlainFault.{PlainFault}
+use Rattle.mt_plain.specs.declared.plain.PlainRun.{PlainRun}
 
 abbrev pub pair : ℕ → ℕ → PlainPair
 pair base mask = record { base = base; mask = mask }
@@ -52,3 +53,11 @@ no_file = pair_alone 8 0 1
 
 abbrev pub before : PlainFault
 before = record { number = 8; reason = 9 }
+
+-- 16 pages from a page on, by the number of their type
+abbrev pub sixteen_of : ℕ → ℕ → PlainRun
+sixteen_of first kind = record { first = first; pages = 16; kind = kind }
+
+-- 2 ^ 24 pages by the number of their type
+abbrev pub all_pages : ℕ → PlainRun
+all_pages kind = record { first = 0; pages = 0x1000000; kind = kind }

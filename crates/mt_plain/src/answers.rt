@@ -7,11 +7,11 @@ use crate::{PlainFault, PlainRegisters, file_of};
 use mt_kinds::{Pat, effective};
 use mt_regs::{Fault, PageType, Reason};
 
-const DONE: u32 = 0;
+pub(crate) const DONE: u32 = 0;
 
-const FAULT: u32 = 1;
+pub(crate) const FAULT: u32 = 1;
 
-const NO_FILE: u32 = 2;
+pub(crate) const NO_FILE: u32 = 2;
 
 const NO_PAGE: u32 = 3;
 

@@ -4,16 +4,20 @@
 mod answers;
 mod file;
 mod laws;
+mod maps;
 mod plain;
 mod worked;
+mod worked_map;
 
 pub use answers::{effective_type, first_fault, page_type};
 pub use file::{file_of, is_file};
 pub use laws::each_file_is_taken;
-pub use plain::{PlainFault, PlainPair, PlainRegisters};
+pub use maps::type_map;
+pub use plain::{PlainFault, PlainPair, PlainRegisters, PlainRun};
 pub use worked::{
     worked_effective_answers, worked_fault_numbers, worked_file, worked_page_answers, worked_words,
 };
+pub use worked_map::{worked_map_answers, worked_maps_in_arrays, worked_plain_runs};
 
 #[cfg(test)]
 mod tests;

@@ -25,3 +25,12 @@ pub struct PlainFault {
     pub number: u32,
     pub reason: u32,
 }
+
+/// The `pages` pages from page `first` on, which have one type: its byte, or 255 where they have no defined type.
+#[repr(C)]
+#[derive(Clone, Copy)]
+pub struct PlainRun {
+    pub first: u64,
+    pub pages: u64,
+    pub kind: u32,
+}

@@ -1,5 +1,6 @@
 use crate::{
-    PlainFault, PlainPair, PlainRegisters, effective_type, first_fault, is_file, page_type,
+    PlainFault, PlainPair, PlainRegisters, PlainRun, effective_type, first_fault, is_file,
+    page_type, type_map,
 };
 
 const NONE: PlainFault = PlainFault {
@@ -75,4 +76,55 @@ fn no_file(rt: HostRuntime) {
     assert_eq!(rt; first_fault(&r, &mut fault), 2);
     assert_eq!(rt; page_type(&r, 0, &mut kind), 2);
     assert_eq!(rt; effective_type(&r, 0, 0, &mut kind), 2);
+}
+
+const BLANK: PlainRun = PlainRun {
+    first: 9,
+    pages: 9,
+    kind: 9,
+};
+
+fn is_run(run: PlainRun, first: u64, pages: u64, kind: u32) -> bool {
+    run.first == first && run.pages == pages && run.kind == kind
+}
+
+#[test]
+fn a_type_map(rt: HostRuntime) {
+    let r = plain();
+    let mut runs = [BLANK; 3];
+    let mut count = 9;
+    assert_eq!(rt; type_map(&r, &mut runs, &mut count), 0);
+    assert_eq!(rt; count, 2);
+    assert!(rt; is_run(runs[0], 0, 0x10_0000, 6));
+    assert!(rt; is_run(runs[1], 0x10_0000, 0xf0_0000, 0));
+    assert!(rt; is_run(runs[2], 9, 9, 9));
+}
+
+#[test]
+fn a_type_map_without_room(rt: HostRuntime) {
+    let r = plain();
+    let mut runs = [BLANK; 2];
+    let mut count = 9;
+    assert_eq!(rt; type_map(&r, &mut runs[..1], &mut count), 6);
+    assert_eq!(rt; count, 2);
+    assert!(rt; is_run(runs[0], 0, 0x10_0000, 6));
+    assert!(rt; is_run(runs[1], 9, 9, 9));
+}
+
+// WC from 3 to 3.25 GB over WB: its pages have no defined type.
+#[test]
+fn pages_of_no_type_in_a_map(rt: HostRuntime) {
+    let mut r = plain();
+    r.pairs[1] = PlainPair {
+        base: 0xc000_0001,
+        mask: 0xf_f000_0800,
+    };
+    let mut runs = [BLANK; 4];
+    let mut count = 0;
+    assert_eq!(rt; type_map(&r, &mut runs, &mut count), 0);
+    assert_eq!(rt; count, 4);
+    assert!(rt; is_run(runs[1], 0xc_0000, 0x1_0000, 255));
+    r.pairs[1].base = 2;
+    assert_eq!(rt; type_map(&r, &mut runs, &mut count), 1);
+    assert_eq!(rt; count, 4);
 }

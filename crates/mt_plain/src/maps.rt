@@ -1,0 +1,103 @@
+ghost use Rattle.std.specs.Prelude.{◌≡◌, ◌<◌, ◌-◌, false, length, set, true, None, is_some};
+ghost use Rattle.mt_plain.specs.Maps.{IsMapIn, has_map, is_of_one_register, kind_number, map_status, no_map_status, plain_run};
+ghost use Rattle.mt_plain.specs.Plain.{file_in};
+ghost use Rattle.mt_regs.specs.Faults.{register_fault};
+
+use crate::answers::{DONE, FAULT, NO_FILE};
+use crate::{PlainRegisters, PlainRun, file_of};
+use mt_regs::{PageType, Reason, RegFile};
+
+const NO_ROOM: u32 = 6;
+
+const NO_TYPE: u32 = 255;
+
+fn kind_number(kind: PageType) -> u32
+    ensures { result ≡ kind_number kind }
+{
+    match kind {
+        PageType::Kind(kind) => kind.byte() as u32,
+        PageType::Undefined => NO_TYPE,
+    }
+}
+
+fn is_of_one_register(reason: Reason) -> bool
+    ensures { result ≡ is_of_one_register reason }
+{
+    match reason {
+        Reason::UndefinedOverlap => false,
+        _ => true,
+    }
+}
+
+// Whether a register is at fault by itself.
+fn has_register_fault(f: &RegFile) -> bool
+    ensures { result ≡ is_some (register_fault f.now) }
+{
+    match f.first_fault() {
+        None => false,
+        Some(fault) => is_of_one_register(fault.reason),
+    }
+}
+
+// Puts a run into an array, where the place is one of the array's.
+fn put_run(runs: &mut [PlainRun], place: usize, run: PlainRun)
+    ensures { runs.new ≡ set runs.old place run }
+{
+    if place < runs.len() {
+        runs[place] = run;
+    }
+}
+
+fn run_between(first: u64, end: u64, kind: PageType) -> PlainRun
+    requires { first < end }
+    ensures { result ≡ plain_run (record { first = first; count = end - first; kind = kind }) }
+{
+    PlainRun {
+        first,
+        pages: end - first,
+        kind: kind_number(kind),
+    }
+}
+
+// Writes the type map, as far as the array goes, and answers how many runs it has.
+fn put_map(f: &RegFile, runs: &mut [PlainRun]) -> usize
+    requires { register_fault f.now ≡ None }
+    ensures { IsMapIn f.now runs.old runs.new result }
+{
+    f.has_few_edges();
+    let pages = f.pages();
+    let mut count = 0;
+    let mut first = 0;
+    let mut kind = f.page_type(0);
+    let mut end = f.next_edge(0);
+    while end < pages {
+        let next = f.page_type(end);
+        if !next.is(kind) {
+            put_run(runs, count, run_between(first, end, kind));
+            count += 1;
+            first = end;
+            kind = next;
+        }
+        end = f.next_edge(end);
+    }
+    put_run(runs, count, run_between(first, end, kind));
+    count + 1
+}
+
+/// The type map: its runs in ascending order, and how many there are. 0 where all were written, 6 where the array has
+/// room for the first of them alone, 2 where the words are no register file's, and 1 where a register is at fault by
+/// itself. What stands behind the runs is as before; where the answer is 1 or 2, so are the array and the count.
+pub fn type_map(r: &PlainRegisters, runs: &mut [PlainRun], count: &mut usize) -> u32
+    ensures refused { has_map r.now ≡ false → (result ≡ no_map_status r.now) × (runs.new ≡ runs.old) × (count.new ≡ count.old) }
+    ensures map { has_map r.now ≡ true → IsMapIn (file_in r.now) runs.old runs.new count.new × (result ≡ map_status (length runs.old) count.new) }
+{
+    let Some(file) = file_of(r) else {
+        return NO_FILE;
+    };
+    if has_register_fault(&file) {
+        return FAULT;
+    }
+    let room = runs.len();
+    *count = put_map(&file, runs);
+    if *count <= room { DONE } else { NO_ROOM }
+}
