@@ -1,4 +1,4 @@
--- From the first release of a newcomer's update on all processors agree.
+-- From the first release of a newcomer's update on all processors agree, and words are held.
 use Rattle.std.proofs.Common.{◌≡◌, ◌∙◌, ap, sym, refl, subst, ℕ, ◌+◌, Bool, true, false, List, [], ◌∷◌, ◌++◌, length, Option, None, Some, slice_get}
 use Rattle.std.specs.Prelude.{if◌then◌else◌, not}
 use Rattle.std.specs.Option.{option_map_or}
@@ -13,9 +13,9 @@ use Rattle.mt_laws.proofs.Barrier.Ranks.{and_left, and_right}
 use Rattle.mt_core.specs.Arises.{Arises, by_event}
 use Rattle.mt_core.proofs.Arising.{machine}
 use Rattle.mt_core.proofs.Eras.{eras_rise}
-use Rattle.mt_core.proofs.Settling.{settled_from_release}
+use Rattle.mt_core.proofs.Settling.{held_from_first_release, settled_from_release}
 use Rattle.mt_admit.specs.Admission.{brought_up, first_file}
-use Rattle.mt_admit.specs.Laws.{NewcomersAgree}
+use Rattle.mt_admit.specs.Laws.{NewcomersAgree, NewcomersKeepWords}
 use Rattle.mt_admit.proofs.Calling.{reset_count, reset_era, ups_arise}
 
 -- the order of one call, as long as it stands
@@ -71,3 +71,10 @@ newcomers_agree m before since k h enabled calm quiet = record {
   number = run_count (before ++ Steps k Release ∷ since) (brought_up m) enabled ∙ reset_count m.system h.some;
   settled = settles (first_file m.system) (common_era m.system.processors) before since k (brought_up m) (ups_arise m h) (refl, reset_era m.system h.some) enabled calm quiet;
 }
+
+arises_after : (es : List MachineEvent) (t : Machine) → Arises t → AreEnabled t es → Arises (run t es)
+arises_after [] t a enabled = a
+arises_after (e ∷ es) t a enabled = arises_after es (next t e) (by_event e a enabled.0) enabled.1
+
+pub newcomers_keep_words : NewcomersKeepWords
+newcomers_keep_words m r o before since h enabled first after = held_from_first_release (run (brought_up m) before) r o since (arises_after before (brought_up m) (ups_arise m h) enabled) first after

@@ -1,3 +1,4 @@
 mod Agreeing
 pub mod Calling
 mod GivingUp
+mod Unlike

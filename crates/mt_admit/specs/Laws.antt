@@ -5,10 +5,11 @@ use Rattle.mt_regs.specs.RegisterFile.{blank_file}
 use Rattle.mt_machine.specs.declared.event.Event.TheVariants.{Release}
 use Rattle.mt_machine.specs.System.{Processor, System, now}
 use Rattle.mt_machine.specs.Bus.{drain}
-use Rattle.mt_machine.specs.Machine.{AreEnabled, Machine, MachineEvent, Steps, common_era, run}
+use Rattle.mt_machine.specs.Machine.{AreEnabled, Machine, MachineEvent, Order, Steps, common_era, run}
 use Rattle.mt_machine.specs.ComingAndGoing.{last_number, with_newcomer, without_last}
-use Rattle.mt_machine.specs.Update.{IsSettled, emptied, is_call, is_go, is_led, takes_of}
+use Rattle.mt_machine.specs.Update.{IsHeld, IsSettled, emptied, is_call, is_go, is_led, takes_of}
 use Rattle.mt_laws.specs.ComingAndGoing.{uncached}
+use Rattle.mt_laws.specs.Settled.{IsFirstRelease}
 use Rattle.mt_core.specs.Arises.{Arises}
 use Rattle.mt_admit.specs.Admission.{brought_up, first_file}
 
@@ -33,6 +34,13 @@ NewcomersAgree =
     (m : Machine) (before since : List MachineEvent) (k : ℕ) → CanGrow m
     → AreEnabled (brought_up m) (before ++ Steps k Release ∷ since) → list_all (λ e. not (is_call e)) before ≡ true → list_all (λ e. not (is_call e)) since ≡ true
     → AllAgree m (run (brought_up m) (before ++ Steps k Release ∷ since)).system
+
+-- from the first release in the update of a newcomer, over every list of events, each word that no access stored since is in memory as it was before the first pass, when the buffers were empty: whoever is told of completion knows it. So it is in each later update
+abbrev pub NewcomersKeepWords : Type 0
+NewcomersKeepWords =
+    (m r : Machine) (o : Order) (before since : List MachineEvent) → CanGrow m
+    → AreEnabled (brought_up m) before → IsFirstRelease (run (brought_up m) before) r o → AreEnabled r since
+    → IsHeld (run (brought_up m) before).system r since
 
 -- what fences leave, in the order of the takes, of the machine with the newcomer; this one has the blank file still
 pub record IsGivenUp (m t : Machine) (takes : List ℕ) : Type 0 where

@@ -1,4 +1,4 @@
-ghost use Rattle.mt_admit.specs.Laws.{CancelledNewcomersStayBlank, NewcomersAgree, RetiredLeaveTheOthers, UpsArise};
+ghost use Rattle.mt_admit.specs.Laws.{CancelledNewcomersStayBlank, NewcomersAgree, NewcomersKeepWords, RetiredLeaveTheOthers, UpsArise};
 
 /// What `up` leaves arises, so each law on what arises speaks of all processors, the newcomer among them.
 pub fn ups_arise()
@@ -9,6 +9,12 @@ pub fn ups_arise()
 /// nothing older than the update from the first release on, the newcomer too: whoever is told of completion knows it.
 pub fn newcomers_agree()
     ensures { NewcomersAgree }
+{}
+
+/// From the first release in that update on, over every list of events, each word that no access has stored since is in
+/// memory as it was before the first pass: whoever is told of completion knows that memory holds each word stored before.
+pub fn newcomers_keep_words()
+    ensures { NewcomersKeepWords }
 {}
 
 /// Where that update is cancelled, without accesses and control instructions, it leaves what fences of those that

@@ -7,10 +7,15 @@ mod laws;
 #[cfg(test)]
 mod tests;
 mod worked;
+mod worked_unlike;
 
 pub use admission::{admit, retire, up};
 pub use fault::{RetireFault, UpFault};
 pub use laws::{
-    cancelled_newcomers_stay_blank, newcomers_agree, retired_leave_the_others, ups_arise,
+    cancelled_newcomers_stay_blank, newcomers_agree, newcomers_keep_words,
+    retired_leave_the_others, ups_arise,
 };
 pub use worked::{worked_admissions, worked_agreement};
+pub use worked_unlike::{
+    worked_all_agree, worked_given_up, worked_laws, worked_left, worked_unlike_admissions,
+};
