@@ -38,6 +38,8 @@ extern "C" {
 #define MTRR_UNDEFINED 4u /* the ranges that meet at the page have no defined type */
 #define MTRR_NO_ENTRY 5u  /* the PAT has entries 0 to 7 */
 #define MTRR_NO_ROOM 6u   /* the array is too small for the type map */
+#define MTRR_WAITS 7u     /* the processor has nothing to do */
+#define MTRR_NO_PHASE 8u  /* there is no such phase or no such word */
 
 /* What is wrong with a register. */
 #define MTRR_RESERVED_BIT 1u
@@ -55,6 +57,43 @@ extern "C" {
 #define MTRR_MSR_FIX4K_C0000 0x268u /* and seven more, up to 0x26f */
 #define MTRR_MSR_PAT 0x277u
 #define MTRR_MSR_DEF_TYPE 0x2ffu
+
+/* What the coordinator of an update has said. */
+#define MTRR_NOTHING_YET 0u
+#define MTRR_GO 1u
+#define MTRR_CANCELLED 2u
+
+/* Where a processor stands in an update: what it did last. */
+#define MTRR_RUNNING 0u       /* it has not begun, has left or is through */
+#define MTRR_TAKEN 1u         /* interrupts are off, write-combining buffers are empty */
+#define MTRR_ARRIVED 2u       /* it waits at the first barrier */
+#define MTRR_PASSED 3u
+#define MTRR_NO_FILL 4u       /* CR0.CD is 1, NW is 0 */
+#define MTRR_FLUSHED 5u       /* caches are empty */
+#define MTRR_TLB_FLUSHED 6u   /* PGE is 0, or CR3 was reloaded */
+#define MTRR_WRITING 7u       /* E of the default type is 0; registers are written */
+#define MTRR_ENABLED 8u       /* the default type is written, and E with it */
+#define MTRR_FLUSHED_2 9u
+#define MTRR_TLB_FLUSHED_2 10u
+#define MTRR_NORMAL 11u       /* CR0.CD is 0 */
+#define MTRR_RESTORED 12u     /* PGE is as before */
+#define MTRR_ARRIVED_2 13u    /* it waits at the second barrier */
+
+/* The steps. */
+#define MTRR_TAKE 1u          /* turn interrupts off, and fence */
+#define MTRR_ARRIVE 2u        /* add 1 to `arrived` */
+#define MTRR_LEAVE 3u         /* take 1 from `arrived` if it was added, interrupts on */
+#define MTRR_PASS 4u          /* nothing: go on */
+#define MTRR_SET_NO_FILL 5u   /* CR0.CD = 1, CR0.NW = 0 */
+#define MTRR_FLUSH_CACHES 6u  /* WBINVD */
+#define MTRR_FLUSH_TLB 7u     /* the first time CR4.PGE = 0 where it is 1; else reload CR3 */
+#define MTRR_DISABLE 8u       /* clear E of the default type */
+#define MTRR_WRITE 9u         /* write the register at `place` */
+#define MTRR_ENABLE 10u       /* write the default type, E with it */
+#define MTRR_SET_NORMAL 11u   /* CR0.CD = 0 */
+#define MTRR_RESTORE_PGE 12u  /* CR4.PGE as before */
+#define MTRR_ARRIVE_AGAIN 13u /* add 1 to `arrived_again` */
+#define MTRR_RELEASE 14u      /* interrupts on: the processor is through */
 
 #define MTRR_MAX_PAIRS 32
 #define MTRR_FIXED_REGISTERS 11
@@ -91,6 +130,31 @@ struct mtrr_run {
     uint64_t first;
     uint64_t pages;
     uint32_t kind; /* MTRR_UC and the like, or MTRR_NO_TYPE */
+};
+
+/* An update of the range registers of all processors. */
+struct mtrr_update {
+    uint32_t word;          /* MTRR_NOTHING_YET and the like */
+    uint32_t processors;    /* how many take part */
+    uint32_t arrived;       /* of these, at the first barrier or past it */
+    uint32_t arrived_again; /* at the second barrier or past it */
+};
+
+/* Where a processor stands in it. */
+struct mtrr_processor {
+    uint32_t phase;     /* MTRR_RUNNING and the like */
+    uint32_t place;     /* MTRR_WRITING: of the next register */
+    uint32_t registers; /* how many it has, as below */
+    bool self_snoop;    /* CPUID.1:EDX bit 27 */
+    bool finished;      /* it is through with this update */
+};
+
+/* A step, and where the processor stands after it. */
+struct mtrr_step {
+    uint32_t number; /* MTRR_TAKE and the like */
+    uint32_t place;  /* MTRR_WRITE: of the register that is written */
+    uint32_t next_phase;
+    uint32_t next_place;
 };
 
 /*
@@ -146,6 +210,26 @@ uint32_t mtrr_effective_type(const struct mtrr_registers *registers,
  */
 uint32_t mtrr_type_map(const struct mtrr_registers *registers,
                        struct mtrr_run *runs, size_t room, size_t *count);
+
+/*
+ * The next step of a processor in an update, in the order of the manual
+ * (volume 3A, "MTRR Considerations in MP Systems"). A self-snooping processor
+ * leaves out the first flush of its caches. The registers are those that can
+ * be written, by ascending number: the pairs by VCNT, base and mask, the
+ * fixed-range registers where the processor has them, IA32_PAT, and last the
+ * default type. `place` counts them from 0; MTRR_ENABLE writes the last.
+ *
+ * After the step the caller stores next_phase and next_place, and `finished`
+ * after MTRR_RELEASE. Where another program keeps the order, the call checks
+ * it: what that does next must be what this answers.
+ *
+ * MTRR_DONE: *step was written. MTRR_WAITS: the processor waits at a barrier,
+ * is through, or has left. MTRR_NO_PHASE: the phase is above MTRR_ARRIVED_2
+ * or the word above MTRR_CANCELLED. *step is written at MTRR_DONE alone.
+ */
+uint32_t mtrr_due(const struct mtrr_update *update,
+                  const struct mtrr_processor *processor,
+                  struct mtrr_step *step);
 
 #ifdef __cplusplus
 }

@@ -1,7 +1,11 @@
 //! The calls of `include/mtrr.h`, as C finds them.
 #![tactic(auto)]
 
-ghost use Rattle.std.specs.Prelude.{◌≡◌, true, false, length, Option};
+ghost use Rattle.std.specs.Prelude.{◌≡◌, true, false, length, List, Option};
+ghost use Rattle.std.specs.Option.{option_map};
+ghost use Rattle.mt_machine.specs.Machine.{Order, due as machine_due};
+ghost use Rattle.mt_machine.specs.System.{Processor};
+ghost use Rattle.mt_plain.specs.Due.{IsTold, due_status, due_step, event_words, whole_flush};
 ghost use Rattle.mt_plain.specs.Maps.{IsMapIn, has_map, map_status, no_map_status};
 ghost use Rattle.mt_plain.specs.Plain.{effective_number, effective_status, fault_status, fault_words, file_in, has_no_other_pair, is_file, page_number, page_status};
 ghost use Rattle.mt_regs.specs.Faults.{IsFirstFault};
@@ -9,7 +13,8 @@ ghost use Rattle.mt_regs.specs.RegisterFile.{IsRegisterFile};
 ghost use Rattle.mt_regs.specs.declared.fault.Fault.{Fault};
 
 use mt_plain::{
-    PlainFault, PlainRegisters, PlainRun, effective_type, first_fault, is_file, page_type, type_map,
+    PlainFault, PlainProcessor, PlainRegisters, PlainRun, PlainStep, PlainUpdate,
+    a_due_step_is_the_machines, due, effective_type, first_fault, is_file, page_type, type_map,
 };
 
 /// Whether the words are a register file's: a width of 32 to 52 bits, at most 32 pairs by VCNT, zeros in the pairs
@@ -71,4 +76,22 @@ pub extern "C" fn mtrr_type_map(
     ensures map { has_map registers.now ≡ true → IsMapIn (file_in registers.now) runs.old runs.new count.new × (result ≡ map_status (length runs.old) count.new) }
 {
     type_map(registers, runs, count)
+}
+
+/// What a processor does next in an update: 0 where the step was written, 7 where nothing is due, as it waits at a
+/// barrier or takes no part, and 8 where there is no such phase or word of the coordinator's. `step` is written where
+/// the answer is 0 alone.
+#[unsafe(no_mangle)]
+pub extern "C" fn mtrr_due(
+    update: &PlainUpdate,
+    processor: &PlainProcessor,
+    step: &mut PlainStep,
+) -> u32
+    ensures status { result ≡ due_status update.now processor.now }
+    ensures step { step.new ≡ due_step update.now processor.now step.old }
+    ensures machine { (o : Order) (ps : List Processor) (p : Processor) → IsTold update.now processor.now o ps p
+        → step.new ≡ event_words (option_map whole_flush (machine_due o ps p p.phase)) p.phase step.old }
+{
+    a_due_step_is_the_machines();
+    due(update, processor, step)
 }

@@ -1,3 +1,4 @@
 mod Mapping
 mod OneRegister
+mod Turns
 mod Zeros

@@ -1,3 +1,5 @@
+pub mod Due
 pub mod Maps
 pub mod Plain
 pub mod WorkedWords
+pub mod WorkedTurns

@@ -1,6 +1,6 @@
 use crate::{
-    PlainFault, PlainPair, PlainRegisters, PlainRun, effective_type, first_fault, is_file,
-    page_type, type_map,
+    PlainFault, PlainPair, PlainProcessor, PlainRegisters, PlainRun, PlainStep, PlainUpdate, due,
+    effective_type, first_fault, is_file, page_type, type_map,
 };
 
 const NONE: PlainFault = PlainFault {
@@ -127,4 +127,56 @@ fn pages_of_no_type_in_a_map(rt: HostRuntime) {
     r.pairs[1].base = 2;
     assert_eq!(rt; type_map(&r, &mut runs, &mut count), 1);
     assert_eq!(rt; count, 4);
+}
+
+// Two processors of two registers each.
+fn update_of(word: u32, arrived: u32, arrived_again: u32) -> PlainUpdate {
+    PlainUpdate {
+        word,
+        processors: 2,
+        arrived,
+        arrived_again,
+    }
+}
+
+fn processor_at(phase: u32, place: u32) -> PlainProcessor {
+    PlainProcessor {
+        phase,
+        place,
+        registers: 2,
+        self_snoop: false,
+        finished: false,
+    }
+}
+
+const NO_STEP: PlainStep = PlainStep {
+    number: 0,
+    place: 0,
+    next_phase: 0,
+    next_place: 0,
+};
+
+#[test]
+fn the_steps_of_an_update(rt: HostRuntime) {
+    let numbers = [1u32, 2, 4, 5, 6, 7, 8, 9, 10, 6, 7, 11, 12, 13, 14];
+    let u = update_of(1, 2, 2);
+    let mut step = NO_STEP;
+    for number in numbers {
+        let p = processor_at(step.next_phase, step.next_place);
+        assert_eq!(rt; due(&u, &p, &mut step), 0);
+        assert_eq!(rt; step.number, number);
+    }
+    assert_eq!(rt; step.next_phase, 0);
+}
+
+#[test]
+fn nothing_is_due(rt: HostRuntime) {
+    let mut step = NO_STEP;
+    assert_eq!(rt; due(&update_of(1, 1, 0), &processor_at(2, 0), &mut step), 7);
+    assert_eq!(rt; due(&update_of(3, 2, 0), &processor_at(2, 0), &mut step), 8);
+    assert_eq!(rt;
+        due(&update_of(1, 2, 0), &processor_at(14, 0), &mut step),
+        8
+    );
+    assert_eq!(rt; step.number, 0);
 }
