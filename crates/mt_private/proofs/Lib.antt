@@ -5,6 +5,7 @@ mod Causes
 mod Copies
 mod OnWorked
 mod Lodged
+mod Left
 mod Lists
 pub mod Own
 mod Walk

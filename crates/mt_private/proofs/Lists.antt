@@ -1,5 +1,5 @@
 -- Elements of lists by their places.
-use Rattle.std.proofs.Common.{◌≡◌, ◌≢◌, ◌∙◌, ap, refl, ℕ, zero, suc, ◌+◌, List, [], ◌∷◌, ◌++◌, drop, length, replicate, Some, inl, inr, ⊎_elim, arith}
+use Rattle.std.proofs.Common.{◌≡◌, ◌≢◌, ◌∙◌, ap, refl, ℕ, zero, suc, ◌+◌, ◌<◌, List, [], ◌∷◌, ◌++◌, drop, length, replicate, Some, inl, inr, ⊎_elim, arith}
 use Rattle.std.specs.Prelude.{◌⊎◌, slice_get, slice_set}
 use Rattle.std.proofs.lemmas.List.{drop_more}
 use Rattle.std.proofs.lemmas.Option.{get_or_from_slice_get, slice_get_within}
@@ -33,3 +33,8 @@ replicate_more {X = X} n x = more n ∙ ap (λ (k : ℕ). replicate k x) (let e 
     more : (n : ℕ) → replicate n x ++ x ∷ [] ≡ replicate (suc n) x
     more zero = refl
     more (suc n) = ap (λ (l : List X). x ∷ l) (more n)
+
+pub got : {X : Type 0} (xs : List X) (k : ℕ) → k < length xs → (x : X) × (slice_get xs k ≡ Some x)
+got [] k low = absurd (omega arith)
+got (x ∷ xs) zero low = (x, refl)
+got (x ∷ xs) (suc k) low = got xs k (omega arith)

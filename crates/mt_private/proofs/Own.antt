@@ -4,3 +4,6 @@ pub mod Whole
 pub mod Buses
 pub mod Accesses
 pub mod Owners
+pub mod Turns
+pub mod Updated
+pub mod Jobs

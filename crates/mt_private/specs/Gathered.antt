@@ -7,7 +7,7 @@ use Rattle.mt_rendezvous.specs.declared.view.Start.{Start}
 use Rattle.mt_private.specs.declared.gather.Room.{Room}
 use Rattle.mt_private.specs.declared.visiting.Guest.{Guest}
 use Rattle.mt_private.specs.Own.{own_memory, own_system, pages_of}
-use Rattle.mt_private.specs.Residents.{pages_at, system_of}
+use Rattle.mt_private.specs.Residents.{pages_at, pages_left, system_of}
 use Rattle.mt_private.specs.YardCalls.{Lodges, done_in}
 use Rattle.mt_private.specs.YardPlays.{YardSat}
 use Rattle.mt_private.specs.YardRule.{residents}
@@ -36,3 +36,11 @@ IsRoom p m r = (r.ram ≡ own_memory (pages_of p) m) × (r.cpus.items ≡ []) ×
 pub record AreRooms (ps : List Processor) (m : Memory) (rooms : List Room) : Type 0 where
   pub count : length rooms ≡ length ps
   pub each : (k : ℕ) (p : Processor) (r : Room) → slice_get ps k ≡ Some p → slice_get rooms k ≡ Some r → IsRoom p m r
+
+-- what the host keeps besides: the emptied lists of the gathered system with their room, and the words of the pages that no processor named
+pub record IsRest (t : Start) (rest : Room) : Type 0 where
+  pub no_processors : rest.cpus.items ≡ []
+  pub no_tables : rest.tables.items ≡ []
+  pub processors_fit : length t.cpus ≤ vec_capacity rest.cpus
+  pub tables_fit : length t.cpus ≤ vec_capacity rest.tables
+  pub words : rest.ram ≡ own_memory (pages_left t) t.ram

@@ -10,3 +10,6 @@ pub mod WorkedYard
 pub mod YardPlays
 pub mod YardCalls
 pub mod Gathered
+pub mod Left
+pub mod Alone
+pub mod WorkedLeft

@@ -8,18 +8,21 @@ ghost use Rattle.mt_machine.specs.System.{IsSound, Processor, System as MachineS
 ghost use Rattle.mt_bus.specs.Tables.{AreTablesOf};
 ghost use Rattle.mt_rendezvous.specs.Calls.{Leads, gathered};
 ghost use Rattle.mt_rendezvous.specs.Station.{start_of};
+ghost use Rattle.mt_private.specs.Alone.{named_by_none};
 ghost use Rattle.mt_private.specs.Own.{own_memory, own_system, pages_of};
 ghost use Rattle.mt_private.specs.Residents.{Opens, pages_at, system_of};
-ghost use Rattle.mt_private.specs.Gathered.{AreGathered, AreRooms, IsGathered, IsRoom, OffersFrom};
+ghost use Rattle.mt_private.specs.Gathered.{AreGathered, AreRooms, IsGathered, IsRest, IsRoom, OffersFrom};
+ghost use Rattle.mt_private.specs.Left.{less, word_by_word};
 ghost use Rattle.mt_private.specs.YardPlays.{as_sat};
 
 use crate::host::{Host, Yard};
 use crate::pages::names;
-use crate::view::Lodges;
+use crate::view::{Lodges, YardView};
 use crate::visiting::{Guest, YardPass};
-use atomic_table::Table;
+use atomic_table::{Seat, Table};
 use mt_bus::{System, a_system_is_sound};
 use mt_cpu::Cpu;
+use mt_machine::Op;
 use mt_ram::Ram;
 use mt_regs::RegFile;
 use mt_rendezvous::Key;
@@ -62,7 +65,7 @@ fn own_ram(alloc: Global, cpu: &Cpu, ram: &Ram) -> Option<Ram>
     Some(own)
 }
 
-// What a guest's own system is made in: room for one processor, and its memory.
+// What a system is made in: lists with room for its processors and their tables, and its memory.
 #[derive(Drop)]
 pub struct Room {
     pub cpus: Vec<Cpu>,
@@ -97,6 +100,35 @@ fn rooms_for(alloc: Global, cpus: &[Cpu], ram: &Ram) -> Option<Vec<Room>>
     Some(rooms)
 }
 
+// The word, or 0 where this processor's own system has one that isn't 0.
+fn word_less(own: u64, word: u64) -> u64
+    ensures { result ≡ less own word }
+{
+    if own == 0 { word } else { 0 }
+}
+
+// Puts 0 in place of each word that is another in the own memory.
+fn put_less(own: &Ram, ram: &mut Ram)
+    requires { length own.now.words ≡ length ram.old.words }
+    ensures { ram.new ≡ record ram.old { words = word_by_word less own.now.words ram.old.words } }
+{
+    for i in 0..ram.words() {
+        let word = word_less(own.word(i), ram.word(i));
+        ram.put(i, word);
+    }
+}
+
+// Leaves the words of the pages that no processor names, and puts 0 in place of the others.
+fn keep_left(cpus: &[Cpu], rooms: &[Room], ram: &mut Ram)
+    requires memory { IsMemory ram.old }
+    requires rooms { AreRooms cpus.now ram.old rooms.now }
+    ensures { ram.new ≡ own_memory (named_by_none cpus.now) ram.old }
+{
+    for k in 0..cpus.len() {
+        put_less(&rooms[k].ram, ram);
+    }
+}
+
 // Places for the systems that come back.
 fn places_for(alloc: Global, count: usize) -> Option<Vec<Option<System>>>
     ensures { IfSome result (λ owns. owns.items ≡ replicate count None) }
@@ -129,16 +161,15 @@ fn settle(cpu: Cpu, table: KindTable, room: Room) -> System
 }
 
 // The root's next resident goes to a new pass.
-fn give_away(yard: &Yard, host: &mut Host, own: System, i: usize) -> Guest
-    requires hosts { Leads yard.now.table.shared.table_id (start_of yard.now.table.shared.key) host.old.seat.table_id (as_sat host.old.seat.me) Pending }
-    requires offers { OffersFrom (start_of yard.now.table.shared.key) i host.old.seat.me }
+fn give_away(yard: &Yard, seat: &mut Seat<Op, YardView>, own: System, i: usize) -> Guest
+    requires hosts { Leads yard.now.table.shared.table_id (start_of yard.now.table.shared.key) seat.old.table_id (as_sat seat.old.me) Pending }
+    requires offers { OffersFrom (start_of yard.now.table.shared.key) i seat.old.me }
     requires own { (p : Processor) × (slice_get yard.now.table.shared.key.cpus.value.items i ≡ Some p) × (own ≡ record { processors = p ∷ []; memory = own_memory (pages_of p) yard.now.table.shared.key.ram.value }) }
-    ensures hosts { Leads yard.now.table.shared.table_id (start_of yard.now.table.shared.key) host.new.seat.table_id (as_sat host.new.seat.me) Pending }
-    ensures offers { OffersFrom (start_of yard.now.table.shared.key) (i + 1) host.new.seat.me }
-    ensures owns { host.new.owns ≡ host.old.owns }
+    ensures hosts { Leads yard.now.table.shared.table_id (start_of yard.now.table.shared.key) seat.new.table_id (as_sat seat.new.me) Pending }
+    ensures offers { OffersFrom (start_of yard.now.table.shared.key) (i + 1) seat.new.me }
     ensures guest { IsGathered yard.now.table.shared.table_id (start_of yard.now.table.shared.key) i result.pass.seat.table_id result.pass.seat.me result.pass.number result.own }
 {
-    let seat = yard.table.shared.split_seat::<Lodges>(&mut host.seat);
+    let seat = yard.table.shared.split_seat::<Lodges>(seat);
     Guest {
         own,
         pass: YardPass {
@@ -152,23 +183,24 @@ fn give_away(yard: &Yard, host: &mut Host, own: System, i: usize) -> Guest
 // The root gives these away, which are the first ones, in their order.
 fn give_all(
     yard: &Yard,
-    host: &mut Host,
+    seat: &mut Seat<Op, YardView>,
     cpus: &mut Vec<Cpu>,
     tables: &mut Vec<KindTable>,
     rooms: &mut Vec<Room>,
     guests: &mut Vec<Guest>,
 )
-    requires hosts { Leads yard.now.table.shared.table_id (start_of yard.now.table.shared.key) host.old.seat.table_id (as_sat host.old.seat.me) Pending }
-    requires offers { OffersFrom (start_of yard.now.table.shared.key) 0 host.old.seat.me }
+    requires hosts { Leads yard.now.table.shared.table_id (start_of yard.now.table.shared.key) seat.old.table_id (as_sat seat.old.me) Pending }
+    requires offers { OffersFrom (start_of yard.now.table.shared.key) 0 seat.old.me }
     requires sound { IsSound (system_of (start_of yard.now.table.shared.key)) }
     requires first { (k : ℕ) (p : Processor) → slice_get cpus.old.items k ≡ Some p → slice_get yard.now.table.shared.key.cpus.value.items k ≡ Some p }
     requires tables { AreTablesOf cpus.old.items tables.old.items }
     requires rooms { AreRooms cpus.old.items yard.now.table.shared.key.ram.value rooms.old.items }
     requires room { length cpus.old.items ≤ vec_capacity guests.old }
     requires empty { guests.old.items ≡ [] }
-    ensures hosts { Leads yard.now.table.shared.table_id (start_of yard.now.table.shared.key) host.new.seat.table_id (as_sat host.new.seat.me) Pending }
-    ensures offers { OffersFrom (start_of yard.now.table.shared.key) (length cpus.old.items) host.new.seat.me }
-    ensures owns { host.new.owns ≡ host.old.owns }
+    ensures hosts { Leads yard.now.table.shared.table_id (start_of yard.now.table.shared.key) seat.new.table_id (as_sat seat.new.me) Pending }
+    ensures offers { OffersFrom (start_of yard.now.table.shared.key) (length cpus.old.items) seat.new.me }
+    ensures emptied { (cpus.new.items ≡ []) × (tables.new.items ≡ []) }
+    ensures places { (vec_capacity cpus.new ≡ vec_capacity cpus.old) × (vec_capacity tables.new ≡ vec_capacity tables.old) }
     ensures count { length guests.new.items ≡ length cpus.old.items }
     ensures room { vec_capacity guests.new ≡ vec_capacity guests.old }
     ensures each { AreGathered yard.now.table.shared.table_id (start_of yard.now.table.shared.key) guests.new.items }
@@ -184,8 +216,8 @@ fn give_all(
     };
     let i = cpus.len();
     let own = settle(cpu, table, room);
-    give_all(yard, host, cpus, tables, rooms, guests);
-    let guest = give_away(yard, host, own, i);
+    give_all(yard, seat, cpus, tables, rooms, guests);
+    let guest = give_away(yard, seat, own, i);
     guests.push_reserved(guest);
 }
 
@@ -195,12 +227,10 @@ fn open(
     cpus: &Vec<Cpu>,
     ram: &Ram,
     goal: &RegFile,
-    owns: Vec<Option<System>>,
-) -> Option<(Yard, Host)>
+) -> Option<(Yard, Seat<Op, YardView>)>
     requires opens { Opens (gathered cpus.now.items ram.now goal.now) }
-    ensures host { IfSome result (λ y. Leads y.0.table.shared.table_id (start_of y.0.table.shared.key) y.1.seat.table_id (as_sat y.1.seat.me) Pending × OffersFrom (start_of y.0.table.shared.key) 0 y.1.seat.me) }
+    ensures host { IfSome result (λ y. Leads y.0.table.shared.table_id (start_of y.0.table.shared.key) y.1.table_id (as_sat y.1.me) Pending × OffersFrom (start_of y.0.table.shared.key) 0 y.1.me) }
     ensures key { IfSome result (λ y. start_of y.0.table.shared.key ≡ gathered cpus.now.items ram.now goal.now) }
-    ensures owns { IfSome result (λ y. y.1.owns ≡ owns) }
 {
     let count = cpus.len();
     let Ok(words) = vec![in alloc; 0u64; count + 2] else {
@@ -218,12 +248,13 @@ fn open(
         table,
         count: count as u64,
     };
-    Some((yard, Host { seat, owns }))
+    Some((yard, seat))
 }
 
 impl Yard {
     /// Makes the yard of this system and this goal. Guest k has processor k alone, with the words of the pages that it
-    /// names. Where there is no memory the system comes back.
+    /// names. The host keeps the emptied lists, and the words of the pages that none names. Where there is no memory the
+    /// system comes back.
     pub fn gather(
         alloc: Global,
         system: System,
@@ -232,6 +263,7 @@ impl Yard {
         requires opens { Opens (gathered system.processors system.memory goal.now) }
         ensures host { IfOk result (λ y. Leads y.0.table.shared.table_id (start_of y.0.table.shared.key) y.1.seat.table_id (as_sat y.1.seat.me) Pending) }
         ensures empty { IfOk result (λ y. (y.1.seat.me.0.held ≡ []) × (y.1.owns.items ≡ replicate (length system.processors) None)) }
+        ensures rest { IfOk result (λ y. IsRest (start_of y.0.table.shared.key) y.1.rest) }
         ensures key { IfOk result (λ y. start_of y.0.table.shared.key ≡ gathered system.processors system.memory goal.now) }
         ensures count { IfOk result (λ y. length y.2.items ≡ length system.processors) }
         ensures guests { IfOk result (λ y. AreGathered y.0.table.shared.table_id (start_of y.0.table.shared.key) y.2.items) }
@@ -240,7 +272,7 @@ impl Yard {
         a_system_is_sound(&system); // a fact for the proof
         let System {
             mut cpus,
-            ram,
+            mut ram,
             mut tables,
         } = system;
         let Ok(mut guests) = Vec::with_capacity(alloc, cpus.len()) else {
@@ -252,17 +284,19 @@ impl Yard {
         let Some(mut rooms) = rooms_for(alloc, cpus.as_slice(), &ram) else {
             return Err(System { cpus, ram, tables });
         };
-        let Some((yard, mut host)) = open(alloc, &cpus, &ram, goal, owns) else {
+        let Some((yard, mut seat)) = open(alloc, &cpus, &ram, goal) else {
             return Err(System { cpus, ram, tables });
         };
+        keep_left(cpus.as_slice(), rooms.as_slice(), &mut ram);
         give_all(
             &yard,
-            &mut host,
+            &mut seat,
             &mut cpus,
             &mut tables,
             &mut rooms,
             &mut guests,
         );
-        Ok((yard, host, guests))
+        let rest = Room { cpus, ram, tables };
+        Ok((yard, Host { seat, owns, rest }, guests))
     }
 }

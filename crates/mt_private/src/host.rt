@@ -8,6 +8,7 @@ ghost use Rattle.mt_private.specs.YardCalls.{Keeps, Lodges};
 ghost use Rattle.mt_private.specs.YardPlays.{Said, as_sat};
 ghost use Rattle.mt_private.specs.YardRule.{yard_both};
 
+use crate::gather::Room;
 use crate::view::{CancelsYard, GivesYard, Lodges as HandsOver, Lodging, YardView};
 use crate::visiting::{Guest, YardPass};
 use atomic_table::{Seat, Table};
@@ -37,6 +38,8 @@ pub struct Host {
     pub seat: Seat<Op, YardView>,
     /// By number, the own system of each guest that came back.
     pub owns: Vec<Option<System>>,
+    /// The emptied lists of the gathered system, and the words of the pages that no processor named.
+    pub rest: Room,
 }
 
 impl Host {
@@ -46,6 +49,7 @@ impl Host {
         ensures hosts { Leads yard.now.table.shared.table_id (start_of yard.now.table.shared.key) self.new.seat.table_id (as_sat self.new.seat.me) Given }
         ensures held { self.new.seat.me.0.held ≡ self.old.seat.me.0.held }
         ensures owns { self.new.owns ≡ self.old.owns }
+        ensures rest { self.new.rest ≡ self.old.rest }
         ensures event { (count : ℕ) × Said (start_of yard.now.table.shared.key) count Goes Given }
     {
         yard.table
@@ -59,12 +63,14 @@ impl Host {
         ensures hosts { Leads yard.now.table.shared.table_id (start_of yard.now.table.shared.key) self.new.seat.table_id (as_sat self.new.seat.me) Cancelled }
         ensures held { self.new.seat.me.0.held ≡ self.old.seat.me.0.held }
         ensures owns { self.new.owns ≡ self.old.owns }
+        ensures rest { self.new.rest ≡ self.old.rest }
         ensures event { (count : ℕ) × Said (start_of yard.now.table.shared.key) count CancelsUpdate Cancelled }
     {
         yard.table
             .shared
             .fetch_add::<CancelsYard>(&mut self.seat, 0, CANCEL);
     }
+
     /// Takes a guest back: joins its pass, and keeps its processor and the words of its pages.
     pub fn take_back(&mut self, yard: &Yard, guest: Guest)
         requires hosts { IsRoot yard.now.table.shared.table_id self.old.seat.table_id (as_sat self.old.seat.me) }
@@ -73,6 +79,7 @@ impl Host {
         ensures hosts { IsRoot yard.now.table.shared.table_id self.new.seat.table_id (as_sat self.new.seat.me) }
         ensures view { self.new.seat.me.0 ≡ yard_both self.old.seat.me.0 guest.pass.seat.me.0 }
         ensures owns { self.new.owns.items ≡ slice_set self.old.owns.items guest.pass.number (Some guest.own) }
+        ensures rest { self.new.rest ≡ self.old.rest }
         ensures keeps { Keeps self.old.seat.me.0 self.old.owns.items → Keeps self.new.seat.me.0 self.new.owns.items }
     {
         let Guest { own, pass } = guest;

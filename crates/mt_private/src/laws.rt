@@ -6,6 +6,7 @@ ghost use Rattle.mt_regs.specs.RegisterFile.{RegisterFile};
 ghost use Rattle.mt_machine.specs.Machine.{step};
 ghost use Rattle.mt_machine.specs.Memory.{IsMemory};
 ghost use Rattle.mt_machine.specs.System.{Processor, System as MachineSystem};
+ghost use Rattle.mt_private.specs.Alone.{JobsRunAlone, UpdatesRunAlone};
 ghost use Rattle.mt_private.specs.Own.{AreApart, Becomes, Commute, IsOwner, RunsAlone, WritesOn, own_system, pages_of};
 ghost use Rattle.mt_private.specs.Pages.{IsPrivate};
 
@@ -29,4 +30,16 @@ pub fn own_steps_run_alone()
 /// Accesses of two processors to pages of their own commute.
 pub fn own_accesses_commute()
     ensures { (pages others : ℕ → Bool) (k j : ℕ) (s : MachineSystem) → IsMemory s.memory → IsOwner pages k s → IsOwner others j s → k ≢ j → AreApart pages others → (ops bs : List MachineOp) → Commute k j ops bs s }
+{}
+
+/// A whole update, with the takes in ascending order, is for each processor that of its own system, and the words of pages
+/// that none names stay.
+pub fn whole_updates_run_alone()
+    ensures { UpdatesRunAlone }
+{}
+
+/// Jobs around a whole update, one by one, are for each processor its job in its own system: the answers are those, its own
+/// system becomes what it becomes alone, and the words of pages that none names stay.
+pub fn jobs_run_alone()
+    ensures { JobsRunAlone }
 {}

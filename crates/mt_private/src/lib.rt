@@ -6,6 +6,7 @@ mod gather;
 mod host;
 mod job;
 mod laws;
+mod leaving;
 mod pages;
 mod runs;
 #[cfg(test)]
@@ -14,6 +15,7 @@ mod view;
 mod visiting;
 mod worked;
 mod worked_guests;
+mod worked_left;
 mod worked_own;
 mod worked_steps;
 mod worked_yard;
@@ -25,14 +27,19 @@ pub use fault::PrivateFault;
 pub use host::{Host, Yard};
 pub use job::{Job, Part, Told};
 pub use laws::{
-    own_accesses_commute, own_accesses_run_alone, own_steps_run_alone, private_pages_are_owned,
+    jobs_run_alone, own_accesses_commute, own_accesses_run_alone, own_steps_run_alone,
+    private_pages_are_owned, whole_updates_run_alone,
 };
+pub use leaving::leave;
 pub use pages::shared_page;
 pub use runs::run_private;
 pub use view::{Resident, YardView};
 pub use visiting::{Guest, Visited, YardPass, visit};
 pub use worked::{worked_jobs, worked_names, worked_shared};
 pub use worked_guests::{worked_lodges, worked_visits};
+pub use worked_left::{
+    worked_back, worked_leaves, worked_own_jobs, worked_parts, worked_words_left,
+};
 pub use worked_own::{worked_alone, worked_becomes, worked_commute, worked_owners, worked_words};
 pub use worked_steps::{
     worked_moves, worked_sayings, worked_stands_for, worked_yard_rule, worked_yards,

@@ -19,6 +19,7 @@ use Rattle.mt_machine.specs.declared.phase.Phase.TheVariants.{Flushed2}
 use Rattle.mt_machine.specs.Memory.{IsMemory, Memory, Window, word_of}
 use Rattle.mt_machine.specs.System.{Processor, System}
 use Rattle.mt_machine.specs.Access.{access}
+use Rattle.mt_machine.specs.Bus.{drain}
 use Rattle.mt_machine.specs.Control.{reload_cr3}
 use Rattle.mt_machine.specs.Machine.{before_own, flush_tlb, own_step, step}
 use Rattle.mt_machine.specs.Update.{addresses}
@@ -69,13 +70,13 @@ or_case : (a b : Bool) → (a || b) ≡ true → (a ≡ true) ⊎ (b ≡ true)
 or_case true b h = inl refl
 or_case false b h = inr h
 
-named_by_mapping : (page : ℕ) (p : Processor) → list_any (λ m. m.ppage == page) p.mappings ≡ true → names page p ≡ true
+pub named_by_mapping : (page : ℕ) (p : Processor) → list_any (λ m. m.ppage == page) p.mappings ≡ true → names page p ≡ true
 named_by_mapping page p h = or_left _ _ (or_left _ _ (or_left _ _ h))
 
 named_by_entry : (page : ℕ) (p : Processor) → list_any (λ e. e.ppage == page) p.entries ≡ true → names page p ≡ true
 named_by_entry page p h = or_left _ _ (or_left _ _ (or_right _ _ h))
 
-named_by_line : (page : ℕ) (p : Processor) → list_any (λ l. page_of_line l == page) p.lines ≡ true → names page p ≡ true
+pub named_by_line : (page : ℕ) (p : Processor) → list_any (λ l. page_of_line l == page) p.lines ≡ true → names page p ≡ true
 named_by_line page p h = or_left _ _ (or_right _ _ h)
 
 named_by_buffer : (page : ℕ) (p : Processor) → list_any (λ l. page_of_line l == page) p.buffers ≡ true → names page p ≡ true
@@ -89,7 +90,7 @@ within_of pages p h = record {
   buffered = all_of_any pages page_of_line p.buffers (λ page is. h page (named_by_buffer page p is));
 }
 
-names_within : (pages : ℕ → Bool) (p : Processor) → IsWithin pages p → (page : ℕ) → names page p ≡ true → pages page ≡ true
+pub names_within : (pages : ℕ → Bool) (p : Processor) → IsWithin pages p → (page : ℕ) → names page p ≡ true → pages page ≡ true
 names_within pages p w page named =
     ⊎_elim
     (λ (h : (list_any (λ m. m.ppage == page) p.mappings || list_any (λ e. e.ppage == page) p.entries || list_any (λ l. page_of_line l == page) p.lines) ≡ true).
@@ -104,7 +105,7 @@ names_within pages p w page named =
     (λ (h : list_any (λ l. page_of_line l == page) p.buffers ≡ true). any_of_all pages page_of_line page p.buffers w.buffered h)
     (or_case _ _ named)
 
-not_named : (pages : ℕ → Bool) (p : Processor) → ((page : ℕ) → pages page ≡ true → names page p ≡ false) → list_all (in_pages (other_pages pages)) p.lines ≡ true
+pub not_named : (pages : ℕ → Bool) (p : Processor) → ((page : ℕ) → pages page ≡ true → names page p ≡ false) → list_all (in_pages (other_pages pages)) p.lines ≡ true
 not_named pages p h = all_of_any (other_pages pages) page_of_line p.lines (λ page is. one page (pages page) refl (named_by_line page p is))
   where
     one : (page : ℕ) (b : Bool) → pages page ≡ b → names page p ≡ true → not b ≡ true
@@ -232,6 +233,9 @@ module _ (pages : ℕ → Bool) (k : ℕ) (s : System) (memory : IsMemory s.memo
       record { answers = r.0; after = own_end (ran k ops s).after (ran 0 ops (own_system pages k s)).after r.1 }
 
   -- ---- steps of an update
+
+  pub drains_alone : Becomes pages k s (drain k s) (drain 0 (own_system pages k s))
+  drains_alone = own_end (drain k s) (drain 0 (own_system pages k s)) (own_drain pages k s.processors s.memory owner.processor owner.at own_has own_outside s (own_system pages k s) own_start)
 
   own_stepped : (goal : RegisterFile) (e : Event) (t o : System) → WritesOn pages e → Own pages k s.processors s.memory t o → Own pages k s.processors s.memory (step goal e k t) (step goal e 0 o)
   own_stepped goal e t o on h =

@@ -1,0 +1,32 @@
+use Rattle.std.proofs.Common.{◌≡◌, ◌∙◌, ap, sym, subst, ℕ, ◌++◌, List, [], ◌∷◌, length}
+use Rattle.mt_types.specs.Tables.{TypeTable}
+use Rattle.mt_machine.specs.Memory.{Memory}
+use Rattle.mt_machine.specs.System.{Processor, System}
+use Rattle.mt_bus.specs.Tables.{AreTablesOf}
+use Rattle.mt_private.specs.Left.{over, word_by_word}
+use Rattle.mt_private.proofs.Left.{more_tables, one_left}
+use Rattle.mt_private.proofs.leaving.bring.Goals as goal
+
+pub put_over-requires : goal.put_over-requires
+put_over-requires c = ap (λ (s : System). length s.memory.words) c.own.view_is ∙ c.requires.words
+
+pub returns-clause-processors : goal.returns-clause-processors
+returns-clause-processors c =
+    let one = ap (λ (s : System). length s.processors) c.own.view_is ∙ c.requires.one in
+    c.push_reserved.ensures.items
+    ∙ ap (λ (ps : List Processor). c.args.room.now.cpus.items ++ ps)
+    (sym (one_left c.own.inside.cpus.items c.pop.new.self.items c.in-Some.cpu c.in-Some.ensures.items one) ∙ ap (λ (s : System). s.processors) c.own.view_is)
+
+pub returns-clause-tables : goal.returns-clause-tables
+returns-clause-tables c =
+    let one = ap (λ (s : System). length s.processors) c.own.view_is ∙ c.requires.one in
+    let cpus = one_left c.own.inside.cpus.items c.pop.new.self.items c.in-Some.cpu c.in-Some.ensures.items one in
+    let tables = one_left c.own.inside.tables.items c.pop-2.new.self.items c.in-Some-pop.table c.in-Some-pop.ensures.items (c.own.invariant.1.count ∙ one) in
+    subst (λ (x : List Processor × List TypeTable). AreTablesOf x.0 x.1) (λ i. (sym c.push_reserved.ensures.items i, sym c.push_reserved-2.ensures.items i))
+    (more_tables c.args.room.now.cpus.items (c.in-Some.cpu ∷ []) c.args.room.now.tables.items (c.in-Some-pop.table ∷ []) c.requires.tables
+    (subst (λ (x : List Processor × List TypeTable). AreTablesOf x.0 x.1) (λ i. (cpus i, tables i)) c.own.invariant.1))
+
+pub returns-clause-words : goal.returns-clause-words
+returns-clause-words c =
+    c.put_over.ensures
+    ∙ ap (λ (s : System). record { windows = c.args.room.now.ram.windows; words = word_by_word over s.memory.words c.args.room.now.ram.words }) c.own.view_is

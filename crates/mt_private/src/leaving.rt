@@ -1,0 +1,115 @@
+// A yard ends, and leaves a system.
+ghost use Rattle.std.specs.Prelude.{◌≡◌, ◌+◌, ◌++◌, ◌<◌, ◌≤◌, [], length, vec_capacity, vec_len};
+ghost use Rattle.std.specs.List.{fold};
+ghost use Rattle.mt_machine.specs.System.{IsSound};
+ghost use Rattle.mt_bus.specs.Tables.{AreTablesOf};
+ghost use Rattle.mt_rendezvous.specs.Calls.{IsRoot};
+ghost use Rattle.mt_rendezvous.specs.Station.{start_of};
+ghost use Rattle.mt_private.specs.Gathered.{IsRest};
+ghost use Rattle.mt_private.specs.Left.{AreAsGathered, AreBack, AreOwnsOf, AreParts, Leaves, over, processors_in, with_words_of, word_by_word};
+ghost use Rattle.mt_private.specs.Residents.{system_of};
+ghost use Rattle.mt_private.specs.YardPlays.{as_sat};
+
+use crate::gather::Room;
+use crate::host::{Host, Yard};
+use mt_bus::System;
+use mt_ram::Ram;
+
+// The own word, or the other one where it is 0.
+fn word_over(own: u64, word: u64) -> u64
+    ensures { result ≡ over own word }
+{
+    if own == 0 { word } else { own }
+}
+
+// Puts the own words, which are 0 outside the own pages, over the others.
+fn put_over(own: &Ram, ram: &mut Ram)
+    requires { length own.now.words ≡ length ram.old.words }
+    ensures { ram.new ≡ record ram.old { words = word_by_word over own.now.words ram.old.words } }
+{
+    for i in 0..ram.words() {
+        let word = word_over(own.word(i), ram.word(i));
+        ram.put(i, word);
+    }
+}
+
+// The one processor and its table go to the end of the lists, and its words to their places.
+fn bring(own: System, room: &mut Room)
+    requires one { length own.processors ≡ 1 }
+    requires words { length own.memory.words ≡ length room.old.ram.words }
+    requires processors { vec_len room.old.cpus < vec_capacity room.old.cpus }
+    requires places { vec_len room.old.tables < vec_capacity room.old.tables }
+    requires tables { AreTablesOf room.old.cpus.items room.old.tables.items }
+    ensures processors { room.new.cpus.items ≡ room.old.cpus.items ++ own.processors }
+    ensures tables { AreTablesOf room.new.cpus.items room.new.tables.items }
+    ensures words { room.new.ram ≡ record room.old.ram { words = word_by_word over own.memory.words room.old.ram.words } }
+    ensures count { length room.new.tables.items ≡ length room.old.tables.items + 1 }
+    ensures room { (vec_capacity room.new.cpus ≡ vec_capacity room.old.cpus) × (vec_capacity room.new.tables ≡ vec_capacity room.old.tables) }
+{
+    let System {
+        mut cpus,
+        ram,
+        mut tables,
+    } = own;
+    let Some(cpu) = cpus.pop() else {
+        unreachable!()
+    };
+    let Some(table) = tables.pop() else {
+        unreachable!()
+    };
+    room.cpus.push_reserved(cpu);
+    room.tables.push_reserved(table);
+    put_over(&ram, &mut room.ram);
+}
+
+// All of these, by their numbers.
+fn bring_all(owns: &mut Vec<Option<System>>, room: &mut Room)
+    requires parts { AreParts room.old.ram owns.old.items }
+    requires empty { (room.old.cpus.items ≡ []) × (room.old.tables.items ≡ []) }
+    requires processors { length owns.old.items ≤ vec_capacity room.old.cpus }
+    requires places { length owns.old.items ≤ vec_capacity room.old.tables }
+    ensures processors { room.new.cpus.items ≡ processors_in owns.old.items }
+    ensures tables { AreTablesOf room.new.cpus.items room.new.tables.items }
+    ensures words { room.new.ram ≡ fold with_words_of room.old.ram owns.old.items }
+    ensures count { (length room.new.cpus.items ≡ length owns.old.items) × (length room.new.tables.items ≡ length owns.old.items) }
+    ensures room { (vec_capacity room.new.cpus ≡ vec_capacity room.old.cpus) × (vec_capacity room.new.tables ≡ vec_capacity room.old.tables) }
+{
+    let Some(last) = owns.pop() else {
+        return;
+    };
+    let Some(own) = last else { unreachable!() };
+    bring_all(owns, room);
+    bring(own, room);
+}
+
+fn assembled(rest: Room) -> System
+    requires sound { IsSound (record { processors = rest.cpus.items; memory = rest.ram }) }
+    requires tables { AreTablesOf rest.cpus.items rest.tables.items }
+    ensures { result ≡ record { processors = rest.cpus.items; memory = rest.ram } }
+{
+    let Room { cpus, ram, tables } = rest;
+    System { cpus, ram, tables }
+}
+
+/// Ends the yard, whose guests have all come back, and leaves the system that its words and views stand for. Its
+/// processors and the words of their pages are those of the guests' own systems; all other words are as they were
+/// gathered. It takes no memory.
+pub fn leave(yard: Yard, host: Host) -> System
+    requires hosts { IsRoot yard.table.shared.table_id host.seat.table_id (as_sat host.seat.me) }
+    requires back { AreBack yard.count host.seat.me.0 host.owns.items }
+    requires rest { IsRest (start_of yard.table.shared.key) host.rest }
+    ensures leaves { Leaves (start_of yard.table.shared.key) host.seat.me.0 result }
+    ensures owns { AreOwnsOf (start_of yard.table.shared.key) host.owns.items result }
+    ensures unvisited { AreAsGathered (start_of yard.table.shared.key) host.owns.items → result ≡ system_of (start_of yard.table.shared.key) }
+{
+    let Yard { table, count: _ } = yard;
+    let Host {
+        seat,
+        mut owns,
+        mut rest,
+    } = host;
+    let closed = table.close_with(seat);
+    closed.free();
+    bring_all(&mut owns, &mut rest);
+    assembled(rest)
+}
