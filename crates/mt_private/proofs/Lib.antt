@@ -10,3 +10,4 @@ mod Lists
 pub mod Own
 mod Walk
 pub mod Residents
+mod GuestJob

@@ -13,3 +13,4 @@ pub mod Gathered
 pub mod Left
 pub mod Alone
 pub mod WorkedLeft
+pub mod WorkedGathered

@@ -14,10 +14,12 @@ mod tests;
 mod view;
 mod visiting;
 mod worked;
+mod worked_gathered;
 mod worked_guests;
 mod worked_left;
 mod worked_own;
 mod worked_steps;
+mod worked_visit_ends;
 mod worked_yard;
 mod yard_laws;
 #[cfg(test)]
@@ -36,6 +38,9 @@ pub use runs::run_private;
 pub use view::{Resident, YardView};
 pub use visiting::{Guest, Visited, YardPass, visit};
 pub use worked::{worked_jobs, worked_names, worked_shared};
+pub use worked_gathered::{
+    worked_gathered_guests, worked_keeps, worked_offers, worked_rooms, worked_taking_part,
+};
 pub use worked_guests::{worked_lodges, worked_visits};
 pub use worked_left::{
     worked_back, worked_leaves, worked_own_jobs, worked_parts, worked_words_left,
@@ -44,6 +49,7 @@ pub use worked_own::{worked_alone, worked_becomes, worked_commute, worked_owners
 pub use worked_steps::{
     worked_moves, worked_sayings, worked_stands_for, worked_yard_rule, worked_yards,
 };
+pub use worked_visit_ends::{worked_cancelled_visits, worked_complete_visits};
 pub use worked_yard::{
     worked_hosts, worked_opens, worked_residents, worked_yard_fits, worked_yard_pages,
     worked_yard_views,
