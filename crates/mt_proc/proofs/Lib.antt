@@ -14,3 +14,4 @@ pub mod Taking
 pub mod Told
 pub mod Written
 mod Beginning
+mod Points

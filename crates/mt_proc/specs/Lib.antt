@@ -6,3 +6,4 @@ pub mod Requests
 pub mod Running
 pub mod Serving
 pub mod WorkedFiles
+pub mod WorkedRunning

@@ -10,6 +10,7 @@ mod reading;
 mod request;
 mod running;
 mod worked;
+mod worked_running;
 mod worked_served;
 
 pub use applying::{Applied, apply};
@@ -23,6 +24,7 @@ pub use reading::read_request;
 pub use request::{ProcFault, ProcReason, Request};
 pub use running::proc;
 pub use worked::{worked_faults, worked_goals, worked_listings, worked_requests, worked_texts};
+pub use worked_running::{worked_comments, worked_points};
 pub use worked_served::{
     worked_cleared, worked_files_that_differ, worked_folds, worked_good_ranges, worked_least_free,
     worked_processors, worked_refused, worked_request_lists, worked_set,
