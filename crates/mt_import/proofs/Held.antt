@@ -1,4 +1,4 @@
--- What a reader keeps when it takes one more reading.
+-- What a reader keeps when it takes one more fact.
 use Rattle.std.proofs.Common.{◌≡◌, ◌≢◌, ◌≤◌, ◌<◌, ◌+◌, ◌-◌, ◌*◌, ℕ, Bool, true, false, ◌==◌, ◌&&◌, nat_lt, zero, suc, List, [], ◌∷◌, replicate, Option, Some, None, refl, sym, ◌∙◌, ap, arith, slice_set, inl, inr}
 use Rattle.std.specs.Prelude.{◌⊎◌, max, is_some}
 use Rattle.std.specs.List.{slice_index_or}
@@ -12,9 +12,11 @@ use Rattle.mt_regs.specs.Registers.{register_of, value_at}
 use Rattle.mt_regs.specs.declared.registers.Register as register
 use Rattle.mt_regs.proofs.ByNumber.{register_of-range}
 use Rattle.mt_import.specs.declared.reading.Reading.{Reading}
-use Rattle.mt_import.specs.declared.reading.Said.{Said}
-use Rattle.mt_import.specs.Outcome.{capabilities_after, processors, value_shown}
-use Rattle.mt_import.specs.Reader.{HasTaken, State, held_at, slot_of}
+use Rattle.mt_import.specs.declared.reading.Context.{Context}
+use Rattle.mt_text.specs.declared.place.Place.{Place}
+use Rattle.mt_import.specs.Readings.{Fact, is_register_value, is_width}
+use Rattle.mt_import.specs.Outcome.{Seen, capabilities_after, nothing_seen, processors, seen_with, value_shown}
+use Rattle.mt_import.specs.Reader.{HasTaken, IsFit, State, held_at, slot_of}
 
 none_at : (n i : ℕ) → ◌≡◌ {A = Option ℕ} (slice_index_or (replicate n None) i None) None
 none_at zero i = refl
@@ -25,15 +27,17 @@ at_start : (processor : ℕ) (slot : Option ℕ) → held_at (replicate 4112 Non
 at_start processor None = refl
 at_start processor (Some slot) = none_at 4112 (257 * processor + slot)
 
-pub taken_new : (last : Said) → HasTaken (record { last = last; values = replicate 4112 None; capabilities = None; processors = 1 }) []
-taken_new last = record {
+pub taken_new : (context : Context) → HasTaken (record { context = context; values = replicate 4112 None; capabilities = None; processors = 1; width = None }) nothing_seen
+taken_new context = record {
   size = length-replicate {A = Option ℕ} 4112 None;
   values_are = λ processor number. at_start processor (slot_of number);
   capabilities_is = refl;
   processors_is = refl;
+  width_is = refl;
   some = omega arith;
   few = omega arith;
   pairs = λ processor value is. cc is;
+  fit = tt;
 }
 
 -- ---- slots
@@ -90,7 +94,7 @@ most a b some few few_too = (grind (arith, nat_tests, some), grind (arith, nat_t
 places_apart : (p k slot s : ℕ) → slot < 257 → s < 257 → 257 * k + s ≡ 257 * p + slot → k ≡ p
 places_apart p k slot s within within_too same = omega (arith, within, within_too, same)
 
-module _ (state : State) (before : List Reading) (reading : Reading) (slot : ℕ) (holds : HasTaken state before) (at : slot_of reading.number ≡ Some slot) (few : reading.processor < 16) where
+module _ (state : State) (seen : Seen) (reading : Reading) (slot : ℕ) (holds : HasTaken state seen) (at : slot_of reading.number ≡ Some slot) (few : reading.processor < 16) where
   abbrev values : List (Option ℕ)
   values = slice_set state.values (257 * reading.processor + slot) (Some reading.value)
 
@@ -112,7 +116,7 @@ module _ (state : State) (before : List Reading) (reading : Reading) (slot : ℕ
   here = get_or-set_at state.values (257 * reading.processor + slot) (257 * reading.processor + slot) (Some reading.value) None refl (omega (arith, holds.size, slot_within reading.number slot at, few))
 
   shown : (k number : ℕ) (processor_test number_test : Bool) → (reading.processor == k) ≡ processor_test → (reading.number == number) ≡ number_test
-      → held_at values k (slot_of number) ≡ value_shown k number (reading ∷ before)
+      → held_at values k (slot_of number) ≡ value_shown k number (reading ∷ seen.readings)
   shown k number true true same same_too =
       let p = eqb-true reading.processor k same in
       let n = eqb-true reading.number number same_too in
@@ -121,7 +125,7 @@ module _ (state : State) (before : List Reading) (reading : Reading) (slot : ℕ
   shown k number false number_test apart same = let e : (reading.processor == k && reading.number == number) ≡ false = rw apart refl in rw apart (other k number e (slot_of number) refl ∙ holds.values_are k number)
 
   fits : (reading.number ≡ 0xfe → low_byte reading.value ≤ 32) → (k value : ℕ) (processor_test number_test : Bool) → (reading.processor == k) ≡ processor_test → (reading.number == 0xfe) ≡ number_test
-      → value_shown k 0xfe (reading ∷ before) ≡ Some value → low_byte value ≤ 32
+      → value_shown k 0xfe (reading ∷ seen.readings) ≡ Some value → low_byte value ≤ 32
   fits sound k value true true same same_too is =
       let e : Some reading.value ≡ Some value = rw (same, same_too) at is in
       let v : reading.value ≡ value = cc e in
@@ -129,16 +133,47 @@ module _ (state : State) (before : List Reading) (reading : Reading) (slot : ℕ
   fits sound k value true false same apart is = holds.pairs k value (rw (same, apart) at is)
   fits sound k value false number_test apart same is = holds.pairs k value (rw apart at is)
 
-  pub taken_more : (last : Said) → (reading.number ≡ 0xfe → low_byte reading.value ≤ 32)
-      → HasTaken (record { last = last; values = values; capabilities = capabilities_after reading state.capabilities; processors = max (reading.processor + 1) state.processors }) (reading ∷ before)
-  taken_more last sound =
-      let bounds = most (reading.processor + 1) (processors before) (omega arith) (omega (arith, few)) holds.few in
+  pub taken_more : (reading.number ≡ 0xfe → low_byte reading.value ≤ 32)
+      → HasTaken (record { context = state.context; values = values; capabilities = capabilities_after reading state.capabilities; processors = max (reading.processor + 1) state.processors; width = state.width }) (seen_with seen (is_register_value reading))
+  taken_more sound =
+      let bounds = most (reading.processor + 1) (processors seen.readings) (omega arith) (omega (arith, few)) holds.few in
       record {
         size = length-set state.values (257 * reading.processor + slot) (Some reading.value) ∙ holds.size;
         values_are = λ k number. shown k number (reading.processor == k) (reading.number == number) refl refl;
         capabilities_is = ap (capabilities_after reading) holds.capabilities_is;
         processors_is = ap (max (reading.processor + 1)) holds.processors_is;
+        width_is = holds.width_is;
         some = bounds.0;
         few = bounds.1;
         pairs = λ k value. fits sound k value (reading.processor == k) (reading.number == 0xfe) refl refl;
+        fit = holds.fit;
       }
+
+pub taken_width : (state : State) (seen : Seen) (width : ℕ) (place : Place) → HasTaken state seen → IsFit width
+    → HasTaken (record { context = state.context; values = state.values; capabilities = state.capabilities; processors = state.processors; width = Some width }) (seen_with seen (is_width width place))
+taken_width state seen width place holds fit = record {
+  size = holds.size;
+  values_are = holds.values_are;
+  capabilities_is = holds.capabilities_is;
+  processors_is = holds.processors_is;
+  width_is = refl;
+  some = holds.some;
+  few = holds.few;
+  pairs = holds.pairs;
+  fit = fit;
+}
+
+-- what a reader keeps doesn't speak of its context
+pub taken_in : (state : State) (seen : Seen) (context : Context) → HasTaken state seen
+    → HasTaken (record { context = context; values = state.values; capabilities = state.capabilities; processors = state.processors; width = state.width }) seen
+taken_in state seen context holds = record {
+  size = holds.size;
+  values_are = holds.values_are;
+  capabilities_is = holds.capabilities_is;
+  processors_is = holds.processors_is;
+  width_is = holds.width_is;
+  some = holds.some;
+  few = holds.few;
+  pairs = holds.pairs;
+  fit = holds.fit;
+}

@@ -1,3 +1,4 @@
+pub mod Facts
 pub mod Fed
 pub mod Held
 pub mod Parts

@@ -1,14 +1,13 @@
 -- Two ways to tell the same values come to the same text and status.
-use Rattle.std.proofs.Common.{◌≡◌, ◌≤◌, ◌+◌, ◌*◌, ℕ, zero, suc, Bool, true, false, List, [], ◌∷◌, ◌++◌, map, Option, Some, None, refl, sym, ap, ◌∙◌}
-use Rattle.std.specs.Prelude.{if◌then◌else◌}
+use Rattle.std.proofs.Common.{◌≡◌, ◌≤◌, ◌+◌, ◌*◌, ℕ, zero, suc, Bool, true, false, List, [], ◌∷◌, ◌++◌, map, Option, Some, None, refl, sym, subst, ap, ◌∙◌}
+use Rattle.std.specs.Prelude.{IfSome, if◌then◌else◌}
 use Rattle.mt_ports.specs.declared.status.Status.TheVariants.{Refused}
 use Rattle.mt_kinds.specs.Bits.{is_bit_set}
 use Rattle.mt_regs.specs.RegisterFile.{low_byte}
 use Rattle.mt_regs.specs.Registers.{fixed_numbers}
-use Rattle.mt_import.specs.declared.reading.Reading.{Reading}
 use Rattle.mt_import.specs.Supplied.{IsSupplied, Supplied, supplied_value}
-use Rattle.mt_import.specs.Outcome.{dump_or_missing, dump_told, ended, ended_with, file_of, files_of, first_pairs, fixed_of, is_empty, is_missing, missing_lines, missing_width, needed, or_supplied, processors, value_in, value_or_zero, value_shown}
-use Rattle.mt_import.specs.Reader.{HasTaken, State, values_of}
+use Rattle.mt_import.specs.Outcome.{Seen, dump_or_missing, dump_told, ended, ended_with, file_of, files_of, first_pairs, fixed_of, is_empty, is_missing, missing_lines, missing_width, needed, or_supplied, processors, value_in, value_or_zero, value_shown}
+use Rattle.mt_import.specs.Reader.{HasTaken, IsFit, State, values_of, width_of}
 
 module _ (v w : ℕ → ℕ → Option ℕ) (same : (k n : ℕ) → v k n ≡ w k n) where
   same_missing : (count number : ℕ) → is_missing v count number ≡ is_missing w count number
@@ -50,16 +49,21 @@ module _ (v w : ℕ → ℕ → Option ℕ) (same : (k n : ℕ) → v k n ≡ w 
   same_ended count width =
       rw (same 0 0xfe, same_lines count (needed (w 0 0xfe))) (same_dump count (missing_width width ++ missing_lines w count (needed (w 0 0xfe))) width (w 0 0xfe))
 
--- what the reader and the words tell is what the readings show
-pub same_end : (supplied : Supplied) (state : State) (before : List Reading) → HasTaken state before → ended_with (values_of supplied state) state.processors supplied.width ≡ ended supplied before
-same_end supplied state before held =
-    rw held.processors_is (same_ended (values_of supplied state) (value_in supplied before) (λ k n. ap (λ o. or_supplied o (supplied_value supplied n)) (held.values_are k n)) (processors before) supplied.width)
+-- what the reader and the words tell is what the facts show
+pub same_end : (supplied : Supplied) (state : State) (seen : Seen) → HasTaken state seen → ended_with (values_of supplied state) state.processors (width_of supplied state) ≡ ended supplied seen
+same_end supplied state seen held =
+    rw (held.processors_is, held.width_is)
+    (same_ended (values_of supplied state) (value_in supplied seen.readings) (λ k n. ap (λ o. or_supplied o (supplied_value supplied n)) (held.values_are k n)) (processors seen.readings) (or_supplied seen.width supplied.width))
 
 -- the capability register of processor 0 has at most 32 pairs
-pub sound_end : (supplied : Supplied) (state : State) (before : List Reading) → HasTaken state before → IsSupplied supplied → (value : ℕ) → values_of supplied state 0 0xfe ≡ Some value → low_byte value ≤ 32
-sound_end supplied state before held sound value is =
-    by (value_shown 0 0xfe before) refl (sym (ap (λ o. or_supplied o (supplied_value supplied 0xfe)) (held.values_are 0 0xfe)) ∙ is)
+pub sound_end : (supplied : Supplied) (state : State) (seen : Seen) → HasTaken state seen → IsSupplied supplied → (value : ℕ) → values_of supplied state 0 0xfe ≡ Some value → low_byte value ≤ 32
+sound_end supplied state seen held sound value is =
+    by (value_shown 0 0xfe seen.readings) refl (sym (ap (λ o. or_supplied o (supplied_value supplied 0xfe)) (held.values_are 0 0xfe)) ∙ is)
   where
-    by : (found : Option ℕ) → value_shown 0 0xfe before ≡ found → or_supplied found (supplied_value supplied 0xfe) ≡ Some value → low_byte value ≤ 32
+    by : (found : Option ℕ) → value_shown 0 0xfe seen.readings ≡ found → or_supplied found (supplied_value supplied 0xfe) ≡ Some value → low_byte value ≤ 32
     by (Some other) shown is = held.pairs 0 value (shown ∙ is)
     by None shown is = sound.pairs value is
+
+-- the width that the reader holds is one that a dump may have
+pub fit_end : (state : State) (seen : Seen) → HasTaken state seen → IfSome state.width IsFit
+fit_end state seen held = subst (λ width. IfSome width IsFit) (sym held.width_is) held.fit

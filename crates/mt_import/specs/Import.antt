@@ -9,10 +9,10 @@ use Rattle.mt_output.specs.Written.{Writes}
 use Rattle.mt_import.specs.declared.format.Format.{Format}
 use Rattle.mt_import.specs.Shown.{shown}
 use Rattle.mt_import.specs.Supplied.{Supplied, command_of}
-use Rattle.mt_import.specs.Outcome.{Told, outcome}
+use Rattle.mt_import.specs.Outcome.{Told, nothing_seen, outcome}
 
 abbrev pub log_told : Format → Supplied → List ℕ → Told
-log_told format supplied text = outcome supplied [] (shown format text)
+log_told format supplied text = outcome supplied nothing_seen (shown format text)
 
 abbrev pub output_of : Option (Format × Supplied) → List ℕ → Told
 output_of None bytes = (line (codes "usage"), Usage)

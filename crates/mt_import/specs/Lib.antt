@@ -1,4 +1,5 @@
 pub mod Readings
+pub mod Pieces
 pub mod Rdmsr
 pub mod Shown
 pub mod Supplied

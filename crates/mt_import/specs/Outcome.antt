@@ -1,6 +1,6 @@
--- What readings and supplied words come to: the text and the status (own).
---     outcome supplied before items      the text and the status of readings that stand behind others, of which the last stands first
-use Rattle.std.specs.Prelude.{ℕ, zero, suc, ◌+◌, ◌*◌, ◌==◌, ◌&&◌, ◌||◌, nat_lt, not, max, codes, decimal, Bool, true, false, List, [], ◌∷◌, ◌++◌, map, replicate, if◌then◌else◌, Option, Some, None, Ok, Err, is_none, unwrap_or}
+-- What facts and supplied words come to: the text and the status (own).
+--     outcome supplied seen facts      the text and the status of facts that stand behind others
+use Rattle.std.specs.Prelude.{ℕ, zero, suc, ◌+◌, ◌*◌, ◌==◌, ◌&&◌, ◌||◌, nat_lt, not, max, codes, decimal, Bool, true, false, List, [], ◌∷◌, ◌++◌, map, replicate, if◌then◌else◌, Option, Some, None, is_none, unwrap_or}
 use Rattle.mt_ports.specs.declared.status.Status.{Status}
 use Rattle.mt_ports.specs.declared.status.Status.TheVariants.{Done, Refused, BadText}
 use Rattle.mt_text.specs.declared.place.Place.{Place}
@@ -12,11 +12,28 @@ use Rattle.mt_dump.specs.Dumps.{Dump}
 use Rattle.mt_output.specs.Lines.{bad_text, line}
 use Rattle.mt_import.specs.declared.reading.Reading.{Reading}
 use Rattle.mt_import.specs.declared.fault.ImportFault.{ImportFault}
-use Rattle.mt_import.specs.declared.fault.ImportFault.TheVariants.{LongLine, BadProcessor, TooManyPairs, Contradiction}
-use Rattle.mt_import.specs.Readings.{Item}
+use Rattle.mt_import.specs.declared.fault.ImportFault.TheVariants.{LongLine, BadProcessor, TooManyPairs, BadWidth, Contradiction, WidthContradiction}
+use Rattle.mt_import.specs.Readings.{Fact, is_register_value, is_width, is_fault}
 use Rattle.mt_import.specs.Supplied.{Supplied, supplied_value}
 
--- ---- what readings show
+-- ---- what facts show
+
+-- the width that facts show, and their readings, of which the last stands first
+pub record Seen : Type 0 where
+  pub width : Option ℕ
+  pub readings : List Reading
+
+abbrev pub nothing_seen : Seen
+nothing_seen = record { width = None; readings = [] }
+
+abbrev pub seen_with : Seen → Fact → Seen
+seen_with seen (is_register_value reading) = record { width = seen.width; readings = reading ∷ seen.readings }
+seen_with seen (is_width width place) = record { width = Some width; readings = seen.readings }
+seen_with seen (is_fault fault) = seen
+
+abbrev pub seen_after : Seen → List Fact → Seen
+seen_after seen [] = seen
+seen_after seen (fact ∷ facts) = seen_after (seen_with seen fact) facts
 
 -- the value of a processor's register, where a reading shows it
 abbrev pub value_shown : ℕ → ℕ → List Reading → Option ℕ
@@ -66,18 +83,43 @@ reading_fault supplied before reading =
     else if contradicts supplied before reading then Some (Contradiction reading.place reading.number)
     else None
 
-abbrev pub item_fault : Supplied → List Reading → Item → Option ImportFault
-item_fault supplied before (Ok reading) = reading_fault supplied before reading
-item_fault supplied before (Err place) = Some (LongLine place)
+-- a width that a dump may have
+abbrev pub is_fit_width : ℕ → Bool
+is_fit_width width = nat_lt 31 width && nat_lt width 53
+
+abbrev pub width_fault : Supplied → Seen → ℕ → Place → Option ImportFault
+width_fault supplied seen width place =
+    if not (is_fit_width width) then Some (BadWidth place)
+    else if differs supplied.width width || differs seen.width width then Some (WidthContradiction place)
+    else None
+
+abbrev pub fact_fault : Supplied → Seen → Fact → Option ImportFault
+fact_fault supplied seen (is_register_value reading) = reading_fault supplied seen.readings reading
+fact_fault supplied seen (is_width width place) = width_fault supplied seen width place
+fact_fault supplied seen (is_fault fault) = Some fault
+
+abbrev pub or_fault : Option ImportFault → Option ImportFault → Option ImportFault
+or_fault (Some fault) other = Some fault
+or_fault None other = other
+
+-- the first fault of facts
+abbrev pub facts_fault : Supplied → Seen → List Fact → Option ImportFault
+facts_fault supplied seen [] = None
+facts_fault supplied seen (fact ∷ facts) = or_fault (fact_fault supplied seen fact) (facts_fault supplied (seen_with seen fact) facts)
 
 abbrev pub contradiction_line : Place → ℕ → List ℕ
 contradiction_line place number = line (codes "contradiction " ++ decimal place.line ++ codes ":" ++ decimal place.column ++ codes " " ++ number_text number)
+
+abbrev pub width_line : Place → List ℕ
+width_line place = line (codes "contradiction " ++ decimal place.line ++ codes ":" ++ decimal place.column ++ codes " maxphyaddr")
 
 abbrev pub fault_line : ImportFault → List ℕ
 fault_line (LongLine place) = bad_text place (codes "bad line")
 fault_line (BadProcessor place) = bad_text place (codes "bad processor")
 fault_line (TooManyPairs place) = bad_text place (codes "too many pairs")
+fault_line (BadWidth place) = bad_text place (codes "bad width")
 fault_line (Contradiction place number) = contradiction_line place number
+fault_line (WidthContradiction place) = width_line place
 
 -- ---- what is missing
 
@@ -163,17 +205,12 @@ dump_or_missing values count missing width capabilities =
 abbrev pub ended_with : (ℕ → ℕ → Option ℕ) → ℕ → Option ℕ → Told
 ended_with values count width = dump_or_missing values count (missing_width width ++ missing_lines values count (needed (values 0 0xfe))) width (values 0 0xfe)
 
-abbrev pub ended : Supplied → List Reading → Told
-ended supplied before = ended_with (value_in supplied before) (processors before) supplied.width
+abbrev pub ended : Supplied → Seen → Told
+ended supplied seen = ended_with (value_in supplied seen.readings) (processors seen.readings) (or_supplied seen.width supplied.width)
 
 abbrev pub unless : Option ImportFault → Told → Told
 unless (Some fault) told = (fault_line fault, BadText)
 unless None told = told
 
-abbrev pub onto_reading : Item → List Reading → List Reading
-onto_reading (Ok reading) before = reading ∷ before
-onto_reading (Err place) before = before
-
-abbrev pub outcome : Supplied → List Reading → List Item → Told
-outcome supplied before [] = ended supplied before
-outcome supplied before (item ∷ items) = unless (item_fault supplied before item) (outcome supplied (onto_reading item before) items)
+abbrev pub outcome : Supplied → Seen → List Fact → Told
+outcome supplied seen facts = unless (facts_fault supplied seen facts) (ended supplied (seen_after seen facts))

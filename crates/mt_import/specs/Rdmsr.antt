@@ -1,28 +1,13 @@
 -- Lines of `set -x` over `rdmsr` of msr-tools (own).
---     rdmsr_said number words      what a line of these words says
-use Rattle.std.specs.Prelude.{ℕ, ◌+◌, ◌==◌, ◌&&◌, ◌||◌, nat_eq, nat_lt, codes, Bool, false, List, [], ◌∷◌, length, if◌then◌else◌, Option, Some, None, Result, Ok, Err}
-use Rattle.std.specs.Cmp.Lexicographic.{pointwise}
-use Rattle.mt_text.specs.Words.{text_of, place_of}
+--     rdmsr_said number line      what a line of this number says
+use Rattle.std.specs.Prelude.{ℕ, ◌+◌, ◌==◌, ◌&&◌, ◌||◌, codes, Bool, false, List, [], ◌∷◌, length, if◌then◌else◌, Option, Some, None, Result, Ok, Err}
+use Rattle.mt_text.specs.Words.{first_words, text_of, place_of}
 use Rattle.mt_text.specs.Number.{hex_number, decimal_number}
 use Rattle.mt_text.specs.declared.fault.NumberFault.{NumberFault}
 use Rattle.mt_text.specs.declared.place.Place.{Place}
 use Rattle.mt_import.specs.declared.reading.Said.{Said}
+use Rattle.mt_import.specs.Pieces.{is_prefixed, is_text, register_in}
 use Rattle.mt_import.specs.declared.reading.Said.TheVariants.{Nothing, Announces, Value}
-
--- the word is this text
-abbrev pub is_text : List ℕ → List ℕ → Bool
-is_text text word = pointwise nat_eq word text
-
--- `0x` or `0X` stands at the front
-abbrev pub is_prefixed : List ℕ → Bool
-is_prefixed [] = false
-is_prefixed (byte ∷ []) = false
-is_prefixed (zero_digit ∷ mark ∷ digits) = zero_digit == 48 && (mark == 120 || mark == 88)
-
--- the number, where it has three hexadecimal digits at most
-abbrev pub register_in : Result ℕ NumberFault → Option ℕ
-register_in (Ok number) = if nat_lt number 0x1000 then Some number else None
-register_in (Err fault) = None
 
 -- A register as `rdmsr` takes it: hexadecimal behind `0x`, else decimal. Each register's number has three decimal digits, so that a number that C takes as octal is none.
 abbrev pub register_named : List ℕ → Option ℕ
@@ -64,8 +49,11 @@ abbrev pub said_value : Place → Result ℕ NumberFault → Said
 said_value place (Ok value) = Value value place
 said_value place (Err fault) = Nothing
 
-abbrev pub rdmsr_said : ℕ → List (ℕ × List ℕ) → Said
-rdmsr_said number words =
+abbrev pub said_by_words : ℕ → List (ℕ × List ℕ) → Said
+said_by_words number words =
     if is_text (codes "+") (text_of words 0) && is_text (codes "rdmsr") (text_of words 1) then call_from (if is_hex_option (text_of words 2) then 3 else 2) words
     else if length words == 1 then said_value (place_of number words 0) (hex_number (text_of words 0))
     else Nothing
+
+abbrev pub rdmsr_said : ℕ → List ℕ → Said
+rdmsr_said number line = said_by_words number (first_words number line).words

@@ -1,20 +1,19 @@
--- What a reader of a log keeps of the readings that it has taken, of which the last stands first (own).
-use Rattle.std.specs.Prelude.{ℕ, ◌≡◌, ◌≤◌, ◌<◌, ◌+◌, ◌-◌, ◌*◌, ◌==◌, nat_lt, List, length, if◌then◌else◌, Option, Some, None, ⊤}
+-- What a reader of a log keeps of the facts that it has taken (own).
+use Rattle.std.specs.Prelude.{ℕ, ◌≡◌, ◌≤◌, ◌<◌, ◌+◌, ◌-◌, ◌*◌, ◌==◌, nat_lt, List, length, if◌then◌else◌, Option, Some, None, IfSome, ⊤}
 use Rattle.std.specs.List.{slice_index_or}
 use Rattle.mt_regs.specs.RegisterFile.{low_byte}
 use Rattle.mt_import.specs.declared.fault.ImportFault.{ImportFault}
-use Rattle.mt_import.specs.declared.fault.ImportFault.TheVariants.{LongLine, BadProcessor, TooManyPairs, Contradiction}
-use Rattle.mt_import.specs.declared.reading.Reading.{Reading}
-use Rattle.mt_import.specs.declared.reading.Said.{Said}
-use Rattle.mt_import.specs.Readings.{Item}
+use Rattle.mt_import.specs.declared.fault.ImportFault.TheVariants.{LongLine, BadProcessor, TooManyPairs, BadWidth, Contradiction, WidthContradiction}
+use Rattle.mt_import.specs.declared.reading.Context.{Context}
 use Rattle.mt_import.specs.Supplied.{Supplied, supplied_value}
-use Rattle.mt_import.specs.Outcome.{capabilities_shown, item_fault, onto_reading, or_supplied, processors, value_shown}
+use Rattle.mt_import.specs.Outcome.{Seen, capabilities_shown, or_supplied, processors, value_shown}
 
 pub record State : Type 0 where
-  pub last : Said
+  pub context : Context
   pub values : List (Option ℕ)  -- 257 for each processor
   pub capabilities : Option ℕ
   pub processors : ℕ
+  pub width : Option ℕ
 
 -- where a register stands among those of a processor
 abbrev pub slot_of : ℕ → Option ℕ
@@ -24,32 +23,34 @@ abbrev pub held_at : List (Option ℕ) → ℕ → Option ℕ → Option ℕ
 held_at values processor None = None
 held_at values processor (Some slot) = slice_index_or values (257 * processor + slot) None
 
--- A reader has taken these readings.
-pub record HasTaken (state : State) (before : List Reading) : Type 0 where
+-- a width that a dump may have
+abbrev pub IsFit : ℕ → Type 0
+IsFit width = (32 ≤ width) × (width ≤ 52)
+
+-- A reader has taken these facts.
+pub record HasTaken (state : State) (seen : Seen) : Type 0 where
   pub size : length state.values ≡ 4112
-  pub values_are : (processor number : ℕ) → held_at state.values processor (slot_of number) ≡ value_shown processor number before
-  pub capabilities_is : state.capabilities ≡ capabilities_shown before
-  pub processors_is : state.processors ≡ processors before
-  pub some : 1 ≤ processors before
-  pub few : processors before ≤ 16
-  pub pairs : (processor value : ℕ) → value_shown processor 0xfe before ≡ Some value → low_byte value ≤ 32
-
--- what a line's reading, if it comes to one, leads to
-abbrev pub onto_shown : Option Item → List Reading → List Reading
-onto_shown None before = before
-onto_shown (Some item) before = onto_reading item before
-
-abbrev pub shown_fault : Supplied → List Reading → Option Item → Option ImportFault
-shown_fault supplied before None = None
-shown_fault supplied before (Some item) = item_fault supplied before item
+  pub values_are : (processor number : ℕ) → held_at state.values processor (slot_of number) ≡ value_shown processor number seen.readings
+  pub capabilities_is : state.capabilities ≡ capabilities_shown seen.readings
+  pub processors_is : state.processors ≡ processors seen.readings
+  pub width_is : state.width ≡ seen.width
+  pub some : 1 ≤ processors seen.readings
+  pub few : processors seen.readings ≤ 16
+  pub pairs : (processor value : ℕ) → value_shown processor 0xfe seen.readings ≡ Some value → low_byte value ≤ 32
+  pub fit : IfSome seen.width IsFit
 
 -- what a reader and the words tell
 abbrev pub values_of : Supplied → State → ℕ → ℕ → Option ℕ
 values_of supplied state processor number = or_supplied (held_at state.values processor (slot_of number)) (supplied_value supplied number)
+
+abbrev pub width_of : Supplied → State → Option ℕ
+width_of supplied state = or_supplied state.width supplied.width
 
 -- the register's number has three hexadecimal digits at most
 abbrev pub IsShort : ImportFault → Type 0
 IsShort (LongLine place) = ⊤
 IsShort (BadProcessor place) = ⊤
 IsShort (TooManyPairs place) = ⊤
+IsShort (BadWidth place) = ⊤
 IsShort (Contradiction place number) = number < 0x1000
+IsShort (WidthContradiction place) = ⊤

@@ -3,7 +3,6 @@
 use Rattle.std.specs.Prelude.{ℕ, ◌≡◌, ◌≤◌, ◌+◌, ◌==◌, ◌&&◌, not, nat_lt, nat_eq, codes, Bool, List, [], ◌∷◌, ◌++◌, length, take, drop, position, if◌then◌else◌, Option, Some, None, Result, Ok, Err, is_some, IfSome}
 use Rattle.std.specs.List.{find}
 use Rattle.std.specs.Option.{option_map}
-use Rattle.std.specs.Cmp.Lexicographic.{pointwise}
 use Rattle.mt_text.specs.Number.{hex_number, decimal_number}
 use Rattle.mt_text.specs.declared.fault.NumberFault.{NumberFault}
 use Rattle.mt_regs.specs.RegisterFile.{low_byte}
@@ -11,6 +10,7 @@ use Rattle.mt_import.specs.declared.format.Format.{Format}
 use Rattle.mt_import.specs.declared.format.Format.TheVariants.{Rdmsr}
 use Rattle.mt_import.specs.declared.supplied.Given.{Given}
 use Rattle.mt_import.specs.declared.supplied.Given.TheVariants.{Width, Register}
+use Rattle.mt_import.specs.Pieces.{behind, is_text}
 use Rattle.mt_import.specs.Readings.{is_register}
 
 -- the width and the registers that words give
@@ -36,10 +36,6 @@ pub record IsSupplied (supplied : Supplied) : Type 0 where
 abbrev pub AreGiven : Given → Type 0
 AreGiven (Width width) = (32 ≤ width) × (width ≤ 52)
 AreGiven (Register number value) = number ≡ 0xfe → low_byte value ≤ 32
-
--- what stands behind a head, where the word begins with it
-abbrev pub behind : List ℕ → List ℕ → Option (List ℕ)
-behind head word = if pointwise nat_eq (take (length head) word) head then Some (drop (length head) word) else None
 
 abbrev pub is_equals : ℕ → Bool
 is_equals byte = byte == 61
@@ -86,7 +82,7 @@ with_words (Some supplied) [] = Some supplied
 with_words (Some supplied) (word ∷ words) = with_words (with_word supplied (given_of word)) words
 
 abbrev pub format_named : List ℕ → Option Format
-format_named word = if pointwise nat_eq word (codes "rdmsr") then Some Rdmsr else None
+format_named word = if is_text (codes "rdmsr") word then Some Rdmsr else None
 
 abbrev pub command_with : Option Format → Option Supplied → Option (Format × Supplied)
 command_with None supplied = None

@@ -1,10 +1,10 @@
-ghost use Rattle.std.specs.Prelude.{◌≡◌, ◌≤◌, ◌<◌, ℕ, Some, map};
+ghost use Rattle.std.specs.Prelude.{◌≡◌, ◌≤◌, ◌<◌, ℕ, Some, map, IfSome};
 ghost use Rattle.mt_regs.specs.Registers.{fixed_numbers};
 ghost use Rattle.mt_ports.specs.declared.status.Status.TheVariants.{Refused};
 ghost use Rattle.mt_kinds.specs.Bits.{is_bit_set};
 ghost use Rattle.mt_regs.specs.RegisterFile.{low_byte};
 ghost use Rattle.mt_import.specs.Outcome.{dump_in, ended_with, file_of, files_of, first_pairs, fixed_of, value_or_zero, version_of};
-ghost use Rattle.mt_import.specs.Reader.{values_of};
+ghost use Rattle.mt_import.specs.Reader.{IsFit, values_of, width_of};
 ghost use Rattle.mt_import.specs.Import.{IsWritten};
 
 use crate::text::Imported;
@@ -147,7 +147,8 @@ impl LogReader {
         requires some { 1 ≤ self.now.processors }
         requires few { self.now.processors ≤ 16 }
         requires pairs { (value : ℕ) → values_of supplied.now self.now 0 0xfe ≡ Some value → low_byte value ≤ 32 }
-        ensures told { result ≡ ended_with (values_of supplied.now self.now) self.now.processors supplied.now.width }
+        requires fit { IfSome self.now.width IsFit }
+        ensures told { result ≡ ended_with (values_of supplied.now self.now) self.now.processors (width_of supplied.now self.now) }
         ensures written { IsWritten result.1 }
     {
         supplied.is_supplied(); // a fact for the proof
@@ -155,7 +156,7 @@ impl LogReader {
         if !missing.is_empty() {
             return missing_text(missing);
         }
-        let Some(width) = supplied.width else {
+        let Some(width) = self.width(supplied) else {
             return missing_text(missing);
         };
         let Some(capabilities) = self.value(supplied, 0, CAPABILITIES) else {

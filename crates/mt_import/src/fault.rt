@@ -9,6 +9,10 @@ pub enum ImportFault {
     BadProcessor(Place),
     /// The capability register has more than 32 pairs.
     TooManyPairs(Place),
+    /// The address width is less than 32 bits or more than 52.
+    BadWidth(Place),
     /// The register has another value elsewhere.
     Contradiction(Place, u32),
+    /// The address width is another elsewhere.
+    WidthContradiction(Place),
 }

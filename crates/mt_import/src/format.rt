@@ -1,9 +1,9 @@
 ghost use Rattle.std.specs.Prelude.{◌≡◌};
-ghost use Rattle.mt_import.specs.Shown.{said_by_words, said_of};
+ghost use Rattle.mt_import.specs.Shown.{said_by_line, said_of};
 
 use crate::Said;
 use crate::rdmsr::rdmsr_said;
-use mt_text::{LIMIT_COLUMN, Line, Place, Words};
+use mt_text::{LIMIT_COLUMN, Line, Place};
 
 /// A kind of log.
 #[derive(Clone, Copy, Debug, PartialEq, Eq)]
@@ -13,11 +13,11 @@ pub enum Format {
 }
 
 impl Format {
-    fn said_by_words(self, words: &Words<'_>) -> Said
-        ensures { result ≡ said_by_words self words.now.number words.now.words }
+    fn said_by_line(self, line: &Line<'_>) -> Said
+        ensures { result ≡ said_by_line self line.now.number line.now.bytes.now }
     {
         match self {
-            Format::Rdmsr => rdmsr_said(words),
+            Format::Rdmsr => rdmsr_said(line),
         }
     }
 
@@ -31,6 +31,6 @@ impl Format {
                 column: LIMIT_COLUMN,
             });
         }
-        self.said_by_words(&line.first_words())
+        self.said_by_line(line)
     }
 }

@@ -3,7 +3,7 @@ ghost use Rattle.arrayvec.specs.ArrayVec.{array_vec_len};
 ghost use Rattle.mt_regs.specs.RegisterFile.{low_byte};
 ghost use Rattle.mt_regs.specs.Registers.{number_of, writable};
 ghost use Rattle.mt_import.specs.Outcome.{is_missing, missing_line, missing_lines, missing_width, needed};
-ghost use Rattle.mt_import.specs.Reader.{values_of};
+ghost use Rattle.mt_import.specs.Reader.{values_of, width_of};
 
 use crate::{LogReader, Supplied};
 use arrayvec::ArrayVec;
@@ -68,10 +68,10 @@ impl LogReader {
     pub(crate) fn missing(&self, supplied: &Supplied) -> TextBuffer
         requires few { self.now.processors ≤ 16 }
         requires pairs { (value : ℕ) → values_of supplied.now self.now 0 0xfe ≡ Some value → low_byte value ≤ 32 }
-        ensures { result.items ≡ missing_width supplied.now.width ++ missing_lines (values_of supplied.now self.now) self.now.processors (needed (values_of supplied.now self.now 0 0xfe)) }
+        ensures { result.items ≡ missing_width (width_of supplied.now self.now) ++ missing_lines (values_of supplied.now self.now) self.now.processors (needed (values_of supplied.now self.now 0 0xfe)) }
     {
         let mut text = ArrayVec::new();
-        if supplied.width.is_none() {
+        if self.width(supplied).is_none() {
             append_text(&mut text, b"missing maxphyaddr\n");
         }
         self.append_missing(&mut text, supplied, CAPABILITIES);

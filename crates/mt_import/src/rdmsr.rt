@@ -1,35 +1,12 @@
 ghost use Rattle.std.specs.Prelude.{◌≡◌, ◌≤◌, codes};
 ghost use Rattle.mt_text.specs.Number.{hex_number};
-ghost use Rattle.mt_import.specs.Rdmsr.{announced, announced_by, call_from, is_hex_option, is_padded, is_prefixed, is_text, rdmsr_said, register_in, register_named, said_value};
+ghost use Rattle.mt_import.specs.Rdmsr.{announced, announced_by, call_from, is_hex_option, is_padded, rdmsr_said, register_named, said_by_words, said_value};
 
 use crate::Said;
-use mt_text::{NumberFault, Place, Words, decimal, hex64};
-
-// Registers with three hexadecimal digits.
-const REGISTERS: u64 = 0x1000;
+use crate::pieces::{is_prefixed, is_text, register_in};
+use mt_text::{Line, Place, Words, decimal, hex64};
 
 const DIGITS: usize = 3;
-
-fn is_text(text: &[u8], word: &[u8]) -> bool
-    ensures { result ≡ is_text text.now word.now }
-{
-    word == text
-}
-
-fn is_prefixed(word: &[u8]) -> bool
-    ensures { result ≡ is_prefixed word.now }
-{
-    matches!(word, [b'0', b'x' | b'X', ..])
-}
-
-fn register_in(number: Result<u64, NumberFault>) -> Option<u32>
-    ensures { result ≡ register_in number }
-{
-    match number {
-        Ok(number) if number < REGISTERS => Some(number as u32),
-        _ => None,
-    }
-}
 
 fn register_named(word: &[u8]) -> Option<u32>
     ensures { result ≡ register_named word.now }
@@ -99,9 +76,8 @@ fn said_value(place: Place, word: &[u8]) -> Said
     }
 }
 
-/// What a line of these words says.
-pub(crate) fn rdmsr_said(words: &Words<'_>) -> Said
-    ensures { result ≡ rdmsr_said words.now.number words.now.words }
+fn said_by_words(words: &Words<'_>) -> Said
+    ensures { result ≡ said_by_words words.now.number words.now.words }
 {
     if is_text(b"+", words.text(0)) && is_text(b"rdmsr", words.text(1)) {
         let first = if is_hex_option(words.text(2)) { 3 } else { 2 };
@@ -112,4 +88,11 @@ pub(crate) fn rdmsr_said(words: &Words<'_>) -> Said
     } else {
         Said::Nothing
     }
+}
+
+/// What a line says.
+pub(crate) fn rdmsr_said(line: &Line<'_>) -> Said
+    ensures { result ≡ rdmsr_said line.now.number line.now.bytes.now }
+{
+    said_by_words(&line.first_words())
 }

@@ -1,21 +1,19 @@
-ghost use Rattle.std.specs.Prelude.{◌≡◌, ◌≤◌, ◌<◌, ◌+◌, ◌-◌, ◌*◌, ℕ, List, [], ◌∷◌, length, max, Some, None, Ok, IfErr, IfOk, IfSome, IsErrOf, MatchOption, MatchResult, ◌↔◌};
+ghost use Rattle.std.specs.Prelude.{◌≡◌, ◌≤◌, ◌<◌, ◌+◌, ◌-◌, ◌*◌, ℕ, List, [], ◌∷◌, length, max, slice_get, unwrap_or, true, Some, None, Ok, IfErr, IfOk, IfSome, IsErrOf, MatchOption, MatchResult, ◌↔◌};
 ghost use Rattle.std.specs.Io.KnownBytes.{Consumes, IsAtEnd};
 ghost use Rattle.mt_ports.specs.Causes.{Rose};
 ghost use Rattle.mt_text.specs.Feed.{GaveTooMuch, IsLong, at_start, taken};
 ghost use Rattle.mt_text.specs.declared.fault.FeedFault.{FeedFault};
-ghost use Rattle.mt_import.specs.declared.reading.Said.{Said as SaidValue};
 ghost use Rattle.mt_import.specs.declared.reading.Reading.{Reading as ReadingValue};
-ghost use Rattle.std.specs.Option.{option_map};
 ghost use Rattle.mt_regs.specs.RegisterFile.{low_byte};
-ghost use Rattle.mt_import.specs.Readings.{Item, item_of, value_item};
+ghost use Rattle.mt_import.specs.Readings.{Fact, at_start as start, context_after, facts_of, is_register, is_register_value, is_width, reading_facts, shown_facts, shows_facts};
 ghost use Rattle.mt_import.specs.Shown.{said_of};
-ghost use Rattle.mt_import.specs.Outcome.{capabilities_after, contradicts, differs, reading_fault};
+ghost use Rattle.mt_import.specs.Outcome.{Seen, capabilities_after, contradicts, differs, fact_fault, facts_fault, is_fit_width, nothing_seen, reading_fault, seen_after, seen_with, width_fault};
 ghost use Rattle.mt_import.specs.Import.{IsWritten, log_told};
-ghost use Rattle.mt_import.specs.Reader.{HasTaken, IsShort, held_at, onto_shown, shown_fault, slot_of, values_of};
+ghost use Rattle.mt_import.specs.Reader.{HasTaken, IsFit, IsShort, held_at, slot_of, values_of, width_of};
 
-use crate::reading::is_register;
+use crate::reading::{MOST_SHOWN, is_register};
 use crate::text::{Imported, faulted};
-use crate::{Format, ImportFault, Reading, Said, Supplied};
+use crate::{Context, Format, ImportFault, Reading, Said, Shown, Shows, Supplied};
 use mt_ports::Source;
 use mt_regs::{CAPABILITIES, FIRST_PAIR, MAX_PAIRS};
 use mt_text::{Feed, FeedFault, Line, Place};
@@ -31,14 +29,16 @@ const LAST_REGISTER: u32 = 0x2ff;
 /// Gathers the registers that the lines of a log show.
 #[derive(Drop)]
 pub struct LogReader {
-    // what the line before said
-    last: Said,
+    // what the lines so far lead to
+    context: Context,
     // each processor's registers
     values: [Option<u64>; 4112],
     // the capability register's value, where one of the processors shows it
     capabilities: Option<u64>,
     // as many as are shown, and one at least
     processors: u32,
+    // the address width, where a line shows it
+    width: Option<u8>,
 }
 
 impl Model for LogReader {
@@ -46,7 +46,7 @@ impl Model for LogReader {
 
     ghost Value = { State };
 
-    ghost view = { λ r. record { last = r.last; values = r.values; capabilities = r.capabilities; processors = r.processors } };
+    ghost view = { λ r. record { context = r.context; values = r.values; capabilities = r.capabilities; processors = r.processors; width = r.width } };
 }
 
 fn slot_of(number: u32) -> Option<usize>
@@ -71,19 +71,18 @@ fn differs(other: Option<u64>, value: u64) -> bool
     }
 }
 
-// The reading of a value behind a line that says this, where it is one.
-fn value_reading(last: Said, value: u64, place: Place) -> Option<Reading>
-    ensures item { option_map (λ (r : ReadingValue). let item : Item = Ok r in item) result ≡ value_item last value place }
-    ensures slot { IfSome result (λ reading. slot_of reading.number ≡ None → ⊥) }
+fn is_fit_width(width: u64) -> bool
+    ensures { result ≡ is_fit_width width }
 {
-    match last {
-        Said::Announces(processor, number) if is_register(number as u64) => Some(Reading {
-            processor,
-            number,
-            value,
-            place,
-        }),
-        _ => None,
+    31 < width && width < 53
+}
+
+fn differs_in_width(other: Option<u8>, width: u64) -> bool
+    ensures { result ≡ differs other width }
+{
+    match other {
+        Some(other) => other as u64 != width,
+        None => false,
     }
 }
 
@@ -104,17 +103,25 @@ fn greater(a: u32, b: u32) -> u32
     if a < b { b } else { a }
 }
 
+fn shown_at(shows: &Shows, i: usize) -> Option<Shown>
+    requires { i < 11 }
+    ensures { slice_get shows.now i ≡ Some result }
+{
+    shows[i]
+}
+
 impl LogReader {
     /// A reader that has taken no line.
     pub fn new() -> LogReader
-        ensures taken { HasTaken result [] }
-        ensures last { result.last ≡ SaidValue.Nothing }
+        ensures taken { HasTaken result nothing_seen }
+        ensures context { result.context ≡ start }
     {
         LogReader {
-            last: Said::Nothing,
+            context: Context::at_start(),
             values: [None; 4112],
             capabilities: None,
             processors: 1,
+            width: None,
         }
     }
 
@@ -147,9 +154,19 @@ impl LogReader {
         self.processors
     }
 
+    /// The address width, shown or else supplied.
+    pub fn width(&self, supplied: &Supplied) -> Option<u8>
+        ensures { result ≡ width_of supplied.now self.now }
+    {
+        match self.width {
+            Some(width) => Some(width),
+            None => supplied.width,
+        }
+    }
+
     fn contradicts(&self, supplied: &Supplied, reading: Reading) -> bool
         requires { reading.processor < 16 }
-        ensures { (before : List ReadingValue) → HasTaken self.now before → result ≡ contradicts supplied.now before reading }
+        ensures { (seen : Seen) → HasTaken self.now seen → result ≡ contradicts supplied.now seen.readings reading }
     {
         let value = reading.value;
         differs(supplied.value(reading.number), value)
@@ -161,7 +178,7 @@ impl LogReader {
         requires { slot_of reading.number ≡ None → ⊥ }
         ensures sound { result ≡ None → (reading.processor < 16) × (reading.number ≡ 0xfe → low_byte reading.value ≤ 32) }
         ensures short { IfSome result IsShort }
-        ensures fault { (before : List ReadingValue) → HasTaken self.now before → result ≡ reading_fault supplied.now before reading }
+        ensures fault { (seen : Seen) → HasTaken self.now seen → result ≡ reading_fault supplied.now seen.readings reading }
     {
         if reading.processor >= MOST_PROCESSORS {
             Some(ImportFault::BadProcessor(reading.place))
@@ -179,8 +196,8 @@ impl LogReader {
         requires processor { reading.processor < 16 }
         requires pairs { reading.number ≡ 0xfe → low_byte reading.value ≤ 32 }
         requires register { slot_of reading.number ≡ None → ⊥ }
-        ensures taken { (before : List ReadingValue) → HasTaken self.old before → HasTaken self.new (reading ∷ before) }
-        ensures last { self.new.last ≡ self.old.last }
+        ensures taken { (seen : Seen) → HasTaken self.old seen → HasTaken self.new (seen_with seen (is_register_value reading)) }
+        ensures context { self.new.context ≡ self.old.context }
     {
         let Some(slot) = slot_of(reading.number) else {
             unreachable!()
@@ -193,10 +210,10 @@ impl LogReader {
     // Takes a reading. At `Err` the reader is unchanged.
     fn take_reading(&mut self, supplied: &Supplied, reading: Reading) -> Result<(), ImportFault>
         requires register { slot_of reading.number ≡ None → ⊥ }
-        ensures taken { (before : List ReadingValue) → HasTaken self.old before → MatchResult result
-            (λ _. HasTaken self.new (reading ∷ before) × (reading_fault supplied.now before reading ≡ None))
-            (λ fault. reading_fault supplied.now before reading ≡ Some fault) }
-        ensures last { self.new.last ≡ self.old.last }
+        ensures taken { (seen : Seen) → HasTaken self.old seen → MatchResult result
+            (λ _. HasTaken self.new (seen_with seen (is_register_value reading)) × (reading_fault supplied.now seen.readings reading ≡ None))
+            (λ fault. reading_fault supplied.now seen.readings reading ≡ Some fault) }
+        ensures context { self.new.context ≡ self.old.context }
         ensures short { IfErr result IsShort }
     {
         match self.reading_fault(supplied, reading) {
@@ -208,6 +225,128 @@ impl LogReader {
         }
     }
 
+    // Takes a register's value, where some dump has the register.
+    fn take_shown(
+        &mut self,
+        supplied: &Supplied,
+        processor: u32,
+        shown: Shown,
+    ) -> Result<(), ImportFault>
+        ensures taken { (seen : Seen) → HasTaken self.old seen → MatchResult result
+            (λ _. HasTaken self.new (seen_after seen (reading_facts processor shown)) × (facts_fault supplied.now seen (reading_facts processor shown) ≡ None))
+            (λ fault. facts_fault supplied.now seen (reading_facts processor shown) ≡ Some fault) }
+        ensures context { self.new.context ≡ self.old.context }
+        ensures short { IfErr result IsShort }
+    {
+        if !is_register(shown.number as u64) {
+            return Ok(());
+        }
+        self.take_reading(
+            supplied,
+            Reading {
+                processor,
+                number: shown.number,
+                value: shown.value,
+                place: shown.place,
+            },
+        )
+    }
+
+    fn take_one(
+        &mut self,
+        supplied: &Supplied,
+        processor: u32,
+        shown: Option<Shown>,
+    ) -> Result<(), ImportFault>
+        ensures taken { (seen : Seen) → HasTaken self.old seen → MatchResult result
+            (λ _. HasTaken self.new (seen_after seen (shown_facts processor shown)) × (facts_fault supplied.now seen (shown_facts processor shown) ≡ None))
+            (λ fault. facts_fault supplied.now seen (shown_facts processor shown) ≡ Some fault) }
+        ensures context { self.new.context ≡ self.old.context }
+        ensures short { IfErr result IsShort }
+    {
+        match shown {
+            Some(shown) => self.take_shown(supplied, processor, shown),
+            None => Ok(()),
+        }
+    }
+
+    // Takes the registers that a line shows, in their order.
+    fn take_shows(
+        &mut self,
+        supplied: &Supplied,
+        processor: u32,
+        shows: &Shows,
+    ) -> Result<(), ImportFault>
+        ensures taken { (seen : Seen) → HasTaken self.old seen → MatchResult result
+            (λ _. HasTaken self.new (seen_after seen (shows_facts processor shows.now)) × (facts_fault supplied.now seen (shows_facts processor shows.now) ≡ None))
+            (λ fault. facts_fault supplied.now seen (shows_facts processor shows.now) ≡ Some fault) }
+        ensures context { self.new.context ≡ self.old.context }
+        ensures short { IfErr result IsShort }
+    {
+        'shows: for i in 0..MOST_SHOWN {
+            if let Err(fault) = self.take_one(supplied, processor, shown_at(shows, i)) {
+                return Err(fault);
+            }
+        }
+        Ok(())
+    }
+
+    // Takes a width. At `Err` the reader is unchanged.
+    fn take_width(
+        &mut self,
+        supplied: &Supplied,
+        width: u64,
+        place: Place,
+    ) -> Result<(), ImportFault>
+        ensures taken { (seen : Seen) → HasTaken self.old seen → MatchResult result
+            (λ _. HasTaken self.new (seen_with seen (is_width width place)) × (width_fault supplied.now seen width place ≡ None))
+            (λ fault. width_fault supplied.now seen width place ≡ Some fault) }
+        ensures context { self.new.context ≡ self.old.context }
+        ensures short { IfErr result IsShort }
+    {
+        if !is_fit_width(width) {
+            return Err(ImportFault::BadWidth(place));
+        }
+        if differs_in_width(supplied.width, width) || differs_in_width(self.width, width) {
+            return Err(ImportFault::WidthContradiction(place));
+        }
+        self.width = Some(width as u8);
+        Ok(())
+    }
+
+    // Takes what a line says.
+    fn take_said(&mut self, supplied: &Supplied, said: &Said) -> Result<(), ImportFault>
+        ensures taken { (seen : Seen) → HasTaken self.old seen → MatchResult result
+            (λ _. HasTaken self.new (seen_after seen (facts_of self.old.context said.now)) × (facts_fault supplied.now seen (facts_of self.old.context said.now) ≡ None))
+            (λ fault. facts_fault supplied.now seen (facts_of self.old.context said.now) ≡ Some fault) }
+        ensures context { self.new.context ≡ self.old.context }
+        ensures short { IfErr result IsShort }
+    {
+        match said {
+            Said::Value(value, place) => match self.context.announced {
+                Some((processor, number)) => self.take_shown(
+                    supplied,
+                    processor,
+                    Shown {
+                        number,
+                        value: *value,
+                        place: *place,
+                    },
+                ),
+                None => Ok(()),
+            },
+            Said::Shows(processor, shows) => {
+                self.take_shows(supplied, processor.unwrap_or(self.context.processor), shows)
+            }
+            Said::Width(width, place) => self.take_width(supplied, *width, *place),
+            Said::Clash(place, number) if is_register(*number as u64) => {
+                Err(ImportFault::Contradiction(*place, *number))
+            }
+            Said::Long(place) => Err(ImportFault::LongLine(*place)),
+            _ => Ok(()),
+        }
+    }
+
     /// Takes one line.
     pub fn take(
         &mut self,
@@ -215,24 +354,16 @@ impl LogReader {
         supplied: &Supplied,
         line: &Line<'_>,
     ) -> Result<(), ImportFault>
-        ensures taken { (before : List ReadingValue) → HasTaken self.old before →
-            let shown = item_of self.old.last (said_of format line.now.number line.now.bytes.now) in MatchResult result
-            (λ _. HasTaken self.new (onto_shown shown before) × (shown_fault supplied.now before shown ≡ None))
-            (λ fault. shown_fault supplied.now before shown ≡ Some fault) }
+        ensures taken { (seen : Seen) → HasTaken self.old seen →
+            let facts = facts_of self.old.context (said_of format line.now.number line.now.bytes.now) in MatchResult result
+            (λ _. HasTaken self.new (seen_after seen facts) × (facts_fault supplied.now seen facts ≡ None))
+            (λ fault. facts_fault supplied.now seen facts ≡ Some fault) }
         ensures short { IfErr result IsShort }
-        ensures last { IfOk result (λ _. self.new.last ≡ said_of format line.now.number line.now.bytes.now) }
+        ensures context { IfOk result (λ _. self.new.context ≡ context_after self.old.context (said_of format line.now.number line.now.bytes.now)) }
     {
         let said = format.said_of(line);
-        match said {
-            Said::Value(value, place) => {
-                if let Some(reading) = value_reading(self.last, value, place) {
-                    self.take_reading(supplied, reading)?;
-                }
-            }
-            Said::Long(place) => return Err(ImportFault::LongLine(place)),
-            _ => {}
-        }
-        self.last = said;
+        self.take_said(supplied, &said)?;
+        self.context = self.context.after(&said);
         Ok(())
     }
 }

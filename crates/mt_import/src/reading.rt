@@ -1,5 +1,5 @@
 ghost use Rattle.std.specs.Prelude.{◌≡◌, true, None};
-ghost use Rattle.mt_import.specs.Readings.{all_registers, is_register};
+ghost use Rattle.mt_import.specs.Readings.{all_registers, announced_after, at_start, context_after, is_register, processor_after};
 ghost use Rattle.mt_import.specs.Reader.{slot_of};
 
 use mt_regs::RegFile;
@@ -14,8 +14,22 @@ pub struct Reading {
     pub place: Place,
 }
 
+/// A register's value, as a line shows it.
+#[derive(Clone, Copy)]
+pub struct Shown {
+    pub number: u32,
+    pub value: u64,
+    pub place: Place,
+}
+
+/// A line shows as many registers as this at most: all fixed-range registers.
+pub const MOST_SHOWN: usize = 11;
+
+/// The registers that a line shows, in their order.
+pub type Shows = [Option<Shown>; MOST_SHOWN];
+
 /// What a line of a log says, whatever the other lines say.
-#[derive(Clone, Copy, Debug, PartialEq, Eq)]
+#[derive(Clone, Copy)]
 pub enum Said {
     /// It is of another kind.
     Nothing,
@@ -23,8 +37,67 @@ pub enum Said {
     Announces(u32, u32),
     /// A value and nothing else.
     Value(u64, Place),
+    /// The lines behind it are of this processor.
+    Turns(u32),
+    /// Registers of this processor, or else of the one that the lines are of.
+    Shows(Option<u32>, Shows),
+    /// The address width, in bits.
+    Width(u64, Place),
+    /// It contradicts itself on this register.
+    Clash(Place, u32),
     /// It has more than 4,096 bytes.
     Long(Place),
+}
+
+/// What the lines before a line lead to.
+#[derive(Clone, Copy)]
+pub struct Context {
+    /// The processor and the register whose value the line just before announces.
+    pub announced: Option<(u32, u32)>,
+    /// The processor that the lines are of.
+    pub processor: u32,
+}
+
+impl Said {
+    fn announced(&self) -> Option<(u32, u32)>
+        ensures { result ≡ announced_after self.now }
+    {
+        match self {
+            Said::Announces(processor, number) => Some((*processor, *number)),
+            _ => None,
+        }
+    }
+
+    fn processor_or(&self, before: u32) -> u32
+        ensures { result ≡ processor_after self.now before }
+    {
+        match self {
+            Said::Turns(processor) => *processor,
+            _ => before,
+        }
+    }
+}
+
+impl Context {
+    /// Before all lines.
+    pub fn at_start() -> Context
+        ensures { result ≡ at_start }
+    {
+        Context {
+            announced: None,
+            processor: 0,
+        }
+    }
+
+    /// What a line leads to, behind lines that lead to this.
+    pub fn after(&self, said: &Said) -> Context
+        ensures { result ≡ context_after self.now said.now }
+    {
+        Context {
+            announced: said.announced(),
+            processor: said.processor_or(self.processor),
+        }
+    }
 }
 
 // FIX, and 32 pairs.

@@ -1,9 +1,10 @@
-ghost use Rattle.std.specs.Prelude.{◌≡◌, ◌≤◌, ◌+◌, ◌<◌, length, map, string_bytes, position, IfSome, MatchOption, Some, None, true, false};
+ghost use Rattle.std.specs.Prelude.{◌≡◌, ◌≤◌, ◌+◌, ◌<◌, length, map, string_bytes, position, IfSome, Some, None, true, false};
 ghost use Rattle.mt_regs.specs.RegisterFile.{low_byte};
 ghost use Rattle.mt_text.specs.Number.{decimal_number, hex_number};
-ghost use Rattle.mt_import.specs.Supplied.{AreGiven, IsSupplied, behind, command_of, command_with, format_named, given_at, given_by, given_of, given_register, given_width, is_equals, nothing_supplied, supplied_value, value_among, with_given, with_word, with_words};
+ghost use Rattle.mt_import.specs.Supplied.{AreGiven, IsSupplied, command_of, command_with, format_named, given_at, given_by, given_of, given_register, given_width, is_equals, nothing_supplied, supplied_value, value_among, with_given, with_word, with_words};
 
 use crate::Format;
+use crate::pieces::{behind, is_text};
 use crate::reading::is_register;
 use arrayvec::ArrayVec;
 use mt_regs::{CAPABILITIES, MAX_PAIRS};
@@ -96,12 +97,6 @@ fn given_at(word: &[u8]) -> Option<Given>
     }
 }
 
-fn behind<'a>(head: &[u8], word: &'a [u8]) -> Option<&'a [u8]>
-    ensures { MatchOption result (behind head.now word.now ≡ None) (λ x. behind head.now word.now ≡ Some x.now) }
-{
-    word.strip_prefix(head)
-}
-
 fn given_of(word: &[u8]) -> Option<Given>
     ensures given { result ≡ given_of word.now }
     ensures sound { IfSome result AreGiven }
@@ -115,7 +110,7 @@ fn given_of(word: &[u8]) -> Option<Given>
 fn format_named(word: &[u8]) -> Option<Format>
     ensures { result ≡ format_named word.now }
 {
-    if word == b"rdmsr".as_slice() {
+    if is_text(b"rdmsr", word) {
         Some(Format::Rdmsr)
     } else {
         None

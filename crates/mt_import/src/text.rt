@@ -1,6 +1,6 @@
 ghost use Rattle.std.specs.Prelude.{◌≡◌, ◌<◌};
 ghost use Rattle.mt_ports.specs.declared.status.Status.TheVariants.{BadText};
-ghost use Rattle.mt_import.specs.Outcome.{contradiction_line, fault_line};
+ghost use Rattle.mt_import.specs.Outcome.{contradiction_line, fault_line, width_line};
 ghost use Rattle.mt_import.specs.Reader.{IsShort};
 
 use crate::ImportFault;
@@ -41,6 +41,18 @@ fn contradiction_line(place: Place, number: u32) -> LineBuffer
     line
 }
 
+fn width_line(place: Place) -> LineBuffer
+    ensures { result.items ≡ width_line place }
+{
+    let mut line = ArrayVec::new();
+    append_to_line(&mut line, b"contradiction ");
+    append_decimal(&mut line, place.line);
+    append_to_line(&mut line, b":");
+    append_decimal(&mut line, place.column);
+    append_to_line(&mut line, b" maxphyaddr\n");
+    line
+}
+
 // The line about a fault.
 fn fault_line(fault: &ImportFault) -> LineBuffer
     requires { IsShort fault.now }
@@ -50,7 +62,9 @@ fn fault_line(fault: &ImportFault) -> LineBuffer
         ImportFault::LongLine(place) => bad_text(*place, b"bad line"),
         ImportFault::BadProcessor(place) => bad_text(*place, b"bad processor"),
         ImportFault::TooManyPairs(place) => bad_text(*place, b"too many pairs"),
+        ImportFault::BadWidth(place) => bad_text(*place, b"bad width"),
         ImportFault::Contradiction(place, number) => contradiction_line(*place, *number),
+        ImportFault::WidthContradiction(place) => width_line(*place),
     }
 }
 

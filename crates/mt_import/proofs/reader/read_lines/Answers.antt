@@ -2,11 +2,11 @@ use Rattle.std.proofs.Common.{Ok, refl, ◌∙◌, ap}
 use Rattle.std.proofs.lemmas.Result.{err_from_is_err_and}
 use Rattle.mt_dump.proofs.Counted.{comes_nearer, counts_line, counts_more, failed_on, stands_after, stands_on, still_on}
 use Rattle.mt_import.proofs.Fed.{at_first, ends, goes_on, offends}
-use Rattle.mt_import.proofs.Same.{sound_end}
+use Rattle.mt_import.proofs.Same.{fit_end, sound_end}
 use Rattle.mt_import.proofs.reader.read_lines.Goals as goal
 
 pub lines-init : goal.lines-init
-lines-init g c = record { reading = at_first c.args.format c.args.supplied.now (g.S.Source.left c.args.source.now) (g.S.Source.given c.args.source.now) c.args.feed.now c.new-reader.result c.requires c.new-reader.ensures.taken c.new-reader.ensures.last; stood = refl }
+lines-init g c = record { reading = at_first c.args.format c.args.supplied.now (g.S.Source.left c.args.source.now) (g.S.Source.given c.args.source.now) c.args.feed.now c.new-reader.result c.requires c.new-reader.ensures.taken c.new-reader.ensures.context; stood = refl }
 
 pub returns-in_err-line-clause-consumed : goal.returns-in_err-line-clause-consumed
 returns-in_err-line-clause-consumed g c = (counts_line c.lines.invariant.reading.fed c.line.follows.lender-at-none (g.S.Source.left c.line.new.source) (g.S.Source.given c.line.new.source) c.line.result c.line.follows.holds-at-none).consumed
@@ -46,7 +46,7 @@ returns-in-Err-clause-answer g c =
     let lines = rw (c.in_ok-line.was ∙ ap Ok c.in-Some.is) at c.line.follows.holds-at-none in
     λ bytes is. c.faulted.ensures ∙ offends (g.S.Source.left c.args.source.now) (g.S.Source.left c.lines.source) (g.S.Source.left c.line.new.source) (g.S.Source.given c.args.source.now) (g.S.Source.given c.lines.source) (g.S.Source.given c.line.new.source)
     c.lines.feed c.line.follows.lender-at-none c.args.format c.args.supplied.now c.lines.reader c.lines.invariant.reading
-    c.in-Some.line lines bytes c.in-Err.fault is (c.in-Err.ensures.taken c.lines.invariant.reading.before c.lines.invariant.reading.held)
+    c.in-Some.line lines bytes c.in-Err.fault is (c.in-Err.ensures.taken c.lines.invariant.reading.seen c.lines.invariant.reading.held)
 
 pub returns-in-Err-clause-consumed : goal.returns-in-Err-clause-consumed
 returns-in-Err-clause-consumed g c = (counts_more (counts_line c.lines.invariant.reading.fed c.line.follows.lender-at-none (g.S.Source.left c.line.new.source) (g.S.Source.given c.line.new.source) c.line.result c.line.follows.holds-at-none) c.drain.ensures.bytes).consumed
@@ -67,7 +67,7 @@ lines-preserved g c =
     record {
       reading = goes_on (g.S.Source.left c.args.source.now) (g.S.Source.left c.lines.source) (g.S.Source.left c.line.new.source) (g.S.Source.given c.args.source.now) (g.S.Source.given c.lines.source) (g.S.Source.given c.line.new.source)
           c.lines.feed c.line.follows.lender-at-none c.args.format c.args.supplied.now c.lines.reader c.lines.invariant.reading
-          c.in-Some.line lines c.take.new.self (c.in_default-take.ensures.taken c.lines.invariant.reading.before c.lines.invariant.reading.held).0 (c.in_default-take.ensures.taken c.lines.invariant.reading.before c.lines.invariant.reading.held).1 c.in_default-take.ensures.last;
+          c.in-Some.line lines c.take.new.self (c.in_default-take.ensures.taken c.lines.invariant.reading.seen c.lines.invariant.reading.held).0 (c.in_default-take.ensures.taken c.lines.invariant.reading.seen c.lines.invariant.reading.held).1 c.in_default-take.ensures.context;
       stood = stands_after c.in_ok-line.was c.lines.invariant.stood c.line.ensures.stands;
     }
 
@@ -88,4 +88,7 @@ pub returns-clause-stands : goal.returns-clause-stands
 returns-clause-stands g c = λ other. stands_after c.in_ok-line.was c.lines.invariant.stood c.line.ensures.stands
 
 pub finish-requires-clause-pairs : goal.finish-requires-clause-pairs
-finish-requires-clause-pairs g c = sound_end c.args.supplied.now c.lines.reader c.lines.invariant.reading.before c.lines.invariant.reading.held c.is_supplied.ensures
+finish-requires-clause-pairs g c = sound_end c.args.supplied.now c.lines.reader c.lines.invariant.reading.seen c.lines.invariant.reading.held c.is_supplied.ensures
+
+pub finish-requires-clause-fit : goal.finish-requires-clause-fit
+finish-requires-clause-fit g c = fit_end c.lines.reader c.lines.invariant.reading.seen c.lines.invariant.reading.held

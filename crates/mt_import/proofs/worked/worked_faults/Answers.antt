@@ -17,3 +17,11 @@ returns-clause-processor_line c = refl
 pub returns-clause-pairs_line : goal.returns-clause-pairs_line
 unfolding digits
 returns-clause-pairs_line c = refl
+
+pub returns-clause-width_line : goal.returns-clause-width_line
+unfolding digits
+returns-clause-width_line c = refl
+
+pub returns-clause-other_width_line : goal.returns-clause-other_width_line
+unfolding digits
+returns-clause-other_width_line c = refl

@@ -22,3 +22,7 @@ returns-clause-first_fault c = refl
 
 pub returns-clause-files : goal.returns-clause-files
 returns-clause-files c = refl
+
+pub returns-clause-shown_width : goal.returns-clause-shown_width
+unfolding encode_with
+returns-clause-shown_width c = refl

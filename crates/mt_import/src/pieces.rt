@@ -1,0 +1,160 @@
+ghost use Rattle.std.specs.Prelude.{◌≡◌, ◌+◌, MatchOption, Some, None, IfSome, slice_get};
+ghost use Rattle.mt_text.specs.Text.{words_of};
+ghost use Rattle.mt_text.specs.Words.{place_of, text_of};
+ghost use Rattle.mt_import.specs.Pieces.{before, behind, is_prefixed, is_text, number_in, prefixed_number, prefixed_register, register_in, shown_as, shows_one, shows_width};
+
+use crate::{Said, Shown};
+use mt_text::{Line, NumberFault, Place, Word, hex64};
+
+// Registers with three hexadecimal digits.
+const REGISTERS: u64 = 0x1000;
+
+/// Whether a word is this text.
+pub(crate) fn is_text(text: &[u8], word: &[u8]) -> bool
+    ensures { result ≡ is_text text.now word.now }
+{
+    word == text
+}
+
+/// What stands behind a head, where the word begins with it.
+pub(crate) fn behind<'a>(head: &[u8], word: &'a [u8]) -> Option<&'a [u8]>
+    ensures { MatchOption result (behind head.now word.now ≡ None) (λ x. behind head.now word.now ≡ Some x.now) }
+{
+    word.strip_prefix(head)
+}
+
+/// What stands before a tail, where the word ends with it.
+pub(crate) fn before<'a>(tail: &[u8], word: &'a [u8]) -> Option<&'a [u8]>
+    ensures { MatchOption result (before tail.now word.now ≡ None) (λ x. before tail.now word.now ≡ Some x.now) }
+{
+    word.strip_suffix(tail)
+}
+
+pub(crate) fn is_prefixed(word: &[u8]) -> bool
+    ensures { result ≡ is_prefixed word.now }
+{
+    matches!(word, [b'0', b'x' | b'X', ..])
+}
+
+fn number_in(number: Result<u64, NumberFault>) -> Option<u64>
+    ensures { result ≡ number_in number }
+{
+    match number {
+        Ok(number) => Some(number),
+        Err(_) => None,
+    }
+}
+
+/// A hexadecimal number behind `0x`.
+pub(crate) fn prefixed_number(word: &[u8]) -> Option<u64>
+    ensures { result ≡ prefixed_number word.now }
+{
+    if is_prefixed(word) {
+        number_in(hex64(word))
+    } else {
+        None
+    }
+}
+
+pub(crate) fn register_in(number: Result<u64, NumberFault>) -> Option<u32>
+    ensures { result ≡ register_in number }
+{
+    match number {
+        Ok(number) if number < REGISTERS => Some(number as u32),
+        _ => None,
+    }
+}
+
+/// A register's number in hexadecimal behind `0x`.
+pub(crate) fn prefixed_register(word: &[u8]) -> Option<u32>
+    ensures { result ≡ prefixed_register word.now }
+{
+    if is_prefixed(word) {
+        register_in(hex64(word))
+    } else {
+        None
+    }
+}
+
+pub(crate) fn shown_as(number: u32, value: u64, place: Place) -> Option<Shown>
+    ensures { result ≡ shown_as number value place }
+{
+    Some(Shown {
+        number,
+        value,
+        place,
+    })
+}
+
+/// One register of a processor, or else of the one that the lines are of.
+pub(crate) fn shows_one(
+    processor: Option<u32>,
+    number: Option<u32>,
+    value: Option<u64>,
+    place: Place,
+) -> Said
+    ensures { result ≡ shows_one processor number value place }
+{
+    let Some(number) = number else {
+        return Said::Nothing;
+    };
+    let Some(value) = value else {
+        return Said::Nothing;
+    };
+    let shown = shown_as(number, value, place);
+    Said::Shows(
+        processor,
+        [
+            shown, None, None, None, None, None, None, None, None, None, None,
+        ],
+    )
+}
+
+/// The width that a line shows, where this is one.
+pub(crate) fn shows_width(width: Result<u64, NumberFault>, place: Place) -> Said
+    ensures { result ≡ shows_width width place }
+{
+    match width {
+        Ok(width) => Said::Width(width, place),
+        Err(_) => Said::Nothing,
+    }
+}
+
+// A word of a line, and its offset in the line.
+fn word_of<'a>(line: &Line<'a>, i: usize) -> Option<Word<'a>>
+    ensures word { MatchOption result
+        (slice_get (words_of line.now.bytes.now) i ≡ None)
+        (λ word. slice_get (words_of line.now.bytes.now) i ≡ Some (word.offset, word.text.now)) }
+    ensures place { IfSome result (λ word. word.place ≡ record { line = line.now.number; column = word.offset + 1 }) }
+{
+    let alone = Line {
+        bytes: line.bytes,
+        offset: 0,
+        number: line.number,
+        next: line.bytes.len(),
+    };
+    alone.word(i)
+}
+
+/// The text of a word, which is empty where the line doesn't have the word.
+pub(crate) fn word_text<'a>(line: &Line<'a>, i: usize) -> &'a [u8]
+    ensures { result.now ≡ text_of (words_of line.now.bytes.now) i }
+{
+    match word_of(line, i) {
+        Some(word) => word.text,
+        None => b"",
+    }
+}
+
+/// The place of a word, which is the line's first column where the line doesn't have the word.
+pub(crate) fn word_place(line: &Line<'_>, i: usize) -> Place
+    ensures { result ≡ place_of line.now.number (words_of line.now.bytes.now) i }
+{
+    match word_of(line, i) {
+        Some(word) => word.place,
+        None => Place {
+            line: line.number,
+            column: 1,
+        },
+    }
+}
