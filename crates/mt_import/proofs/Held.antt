@@ -1,5 +1,5 @@
 -- What a reader keeps when it takes one more fact.
-use Rattle.std.proofs.Common.{◌≡◌, ◌≢◌, ◌≤◌, ◌<◌, ◌+◌, ◌-◌, ◌*◌, ℕ, Bool, true, false, ◌==◌, ◌&&◌, nat_lt, zero, suc, List, [], ◌∷◌, replicate, Option, Some, None, refl, sym, ◌∙◌, ap, arith, slice_set, inl, inr}
+use Rattle.std.proofs.Common.{◌≡◌, ◌≢◌, ◌≤◌, ◌<◌, ◌+◌, ◌-◌, ◌*◌, ℕ, Bool, true, false, ◌==◌, ◌&&◌, nat_lt, zero, suc, List, ◌∷◌, replicate, Option, Some, None, refl, sym, ◌∙◌, ap, arith, slice_set, inl, inr}
 use Rattle.std.specs.Prelude.{◌⊎◌, max, is_some}
 use Rattle.std.specs.List.{slice_index_or}
 use Rattle.std.proofs.lemmas.Bool.{eqb-true}
@@ -14,7 +14,7 @@ use Rattle.mt_regs.proofs.ByNumber.{register_of-range}
 use Rattle.mt_import.specs.declared.reading.Reading.{Reading}
 use Rattle.mt_import.specs.declared.reading.Context.{Context}
 use Rattle.mt_text.specs.declared.place.Place.{Place}
-use Rattle.mt_import.specs.Readings.{Fact, is_register_value, is_width}
+use Rattle.mt_import.specs.Readings.{is_register_value, is_width}
 use Rattle.mt_import.specs.Outcome.{Seen, capabilities_after, nothing_seen, processors, seen_with, value_shown}
 use Rattle.mt_import.specs.Reader.{HasTaken, IsFit, State, held_at, slot_of}
 

@@ -1,6 +1,9 @@
 pub mod Readings
 pub mod Pieces
 pub mod Rdmsr
+pub mod X86info
+pub mod Inteltool
+pub mod Coreboot
 pub mod Shown
 pub mod Supplied
 pub mod Outcome

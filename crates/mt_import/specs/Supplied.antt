@@ -1,13 +1,13 @@
 -- What the words of the command line supply (own).
 --     command_of words      the format and what is supplied, where the words are a command line
-use Rattle.std.specs.Prelude.{ℕ, ◌≡◌, ◌≤◌, ◌+◌, ◌==◌, ◌&&◌, not, nat_lt, nat_eq, codes, Bool, List, [], ◌∷◌, ◌++◌, length, take, drop, position, if◌then◌else◌, Option, Some, None, Result, Ok, Err, is_some, IfSome}
+use Rattle.std.specs.Prelude.{ℕ, ◌≡◌, ◌≤◌, ◌+◌, ◌==◌, ◌&&◌, not, nat_lt, codes, Bool, List, [], ◌∷◌, ◌++◌, length, take, drop, position, if◌then◌else◌, Option, Some, None, Result, Ok, Err, is_some, IfSome}
 use Rattle.std.specs.List.{find}
 use Rattle.std.specs.Option.{option_map}
 use Rattle.mt_text.specs.Number.{hex_number, decimal_number}
 use Rattle.mt_text.specs.declared.fault.NumberFault.{NumberFault}
 use Rattle.mt_regs.specs.RegisterFile.{low_byte}
 use Rattle.mt_import.specs.declared.format.Format.{Format}
-use Rattle.mt_import.specs.declared.format.Format.TheVariants.{Rdmsr}
+use Rattle.mt_import.specs.declared.format.Format.TheVariants.{Rdmsr, X86info, Inteltool, Coreboot}
 use Rattle.mt_import.specs.declared.supplied.Given.{Given}
 use Rattle.mt_import.specs.declared.supplied.Given.TheVariants.{Width, Register}
 use Rattle.mt_import.specs.Pieces.{behind, is_text}
@@ -82,7 +82,12 @@ with_words (Some supplied) [] = Some supplied
 with_words (Some supplied) (word ∷ words) = with_words (with_word supplied (given_of word)) words
 
 abbrev pub format_named : List ℕ → Option Format
-format_named word = if is_text (codes "rdmsr") word then Some Rdmsr else None
+format_named word =
+    if is_text (codes "rdmsr") word then Some Rdmsr
+    else if is_text (codes "x86info") word then Some X86info
+    else if is_text (codes "inteltool") word then Some Inteltool
+    else if is_text (codes "coreboot") word then Some Coreboot
+    else None
 
 abbrev pub command_with : Option Format → Option Supplied → Option (Format × Supplied)
 command_with None supplied = None

@@ -2,7 +2,10 @@ ghost use Rattle.std.specs.Prelude.{◌≡◌};
 ghost use Rattle.mt_import.specs.Shown.{said_by_line, said_of};
 
 use crate::Said;
+use crate::coreboot::coreboot_said;
+use crate::inteltool::inteltool_said;
 use crate::rdmsr::rdmsr_said;
+use crate::x86info::x86info_said;
 use mt_text::{LIMIT_COLUMN, Line, Place};
 
 /// A kind of log.
@@ -10,6 +13,12 @@ use mt_text::{LIMIT_COLUMN, Line, Place};
 pub enum Format {
     /// `set -x` over `rdmsr` of msr-tools.
     Rdmsr,
+    /// x86info.
+    X86info,
+    /// inteltool of coreboot.
+    Inteltool,
+    /// coreboot's console.
+    Coreboot,
 }
 
 impl Format {
@@ -18,6 +27,9 @@ impl Format {
     {
         match self {
             Format::Rdmsr => rdmsr_said(line),
+            Format::X86info => x86info_said(line),
+            Format::Inteltool => inteltool_said(line),
+            Format::Coreboot => coreboot_said(line),
         }
     }
 

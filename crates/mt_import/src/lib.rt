@@ -1,9 +1,11 @@
 //! Logs of other programs, and the dump that they show.
 #![tactic(auto)]
 
+mod coreboot;
 mod dumping;
 mod fault;
 mod format;
+mod inteltool;
 mod missing;
 mod pieces;
 mod program;
@@ -14,6 +16,8 @@ mod running;
 mod supplied;
 mod text;
 mod worked;
+mod worked_lines;
+mod x86info;
 
 pub use fault::ImportFault;
 pub use format::Format;
@@ -26,6 +30,12 @@ pub use text::Imported;
 pub use worked::{
     worked_faults, worked_outcomes, worked_rdmsr_lines, worked_readings, worked_words,
 };
+pub use worked_lines::{
+    worked_coreboot_lines, worked_coreboot_lines_last, worked_coreboot_lines_too,
+    worked_inteltool_lines, worked_x86info_lines, worked_x86info_lines_too,
+};
 
+#[cfg(test)]
+mod log_tests;
 #[cfg(test)]
 mod tests;

@@ -112,6 +112,12 @@ fn format_named(word: &[u8]) -> Option<Format>
 {
     if is_text(b"rdmsr", word) {
         Some(Format::Rdmsr)
+    } else if is_text(b"x86info", word) {
+        Some(Format::X86info)
+    } else if is_text(b"inteltool", word) {
+        Some(Format::Inteltool)
+    } else if is_text(b"coreboot", word) {
+        Some(Format::Coreboot)
     } else {
         None
     }

@@ -32,7 +32,7 @@ fn run<R: AllocGlobal + Abort>(
     Ok(Ran { status, sink })
 }
 
-fn expect<R: AllocGlobal + Abort>(
+pub(crate) fn expect<R: AllocGlobal + Abort>(
     rt: &R,
     words: &[&str],
     input: &[u8],

@@ -1,0 +1,317 @@
+ghost use Rattle.std.specs.Prelude.{◌≡◌, ◌≤◌, Some, IfOk};
+ghost use Rattle.mt_text.specs.Number.{decimal_number};
+ghost use Rattle.mt_text.specs.Text.{words_of};
+ghost use Rattle.mt_import.specs.Coreboot.{colon_number, coreboot_said, displayed_from, fixed_16k_named, fixed_4k_by, fixed_from, fixed_of, is_fixed, is_fixed_of, is_page, is_pair, is_setup, is_size, level_words, of_pair, pair_digits, pair_from, register_named, said_from, said_of_id, set_from, shows_pair, size_from};
+
+use crate::Said;
+use crate::pieces::{
+    before, behind, is_text, prefixed_number, prefixed_register, shown_as, shows_one, shows_width,
+    word_place, word_text,
+};
+use mt_text::{Line, NumberFault, Place, decimal, without_ending};
+
+const FIRST_PAIR: u32 = 0x200;
+
+const FIRST_MASK: u32 = 0x201;
+
+const VALID: u64 = 0x800;
+
+const MOST_PAIRS: u64 = 31;
+
+const IDS: u64 = 0x10000;
+
+fn colon_number(word: &[u8]) -> Option<u64>
+    ensures { result ≡ colon_number word.now }
+{
+    match before(b":", word) {
+        Some(word) => prefixed_number(word),
+        None => None,
+    }
+}
+
+fn fixed_16k_named(word: &[u8]) -> Option<u32>
+    ensures { result ≡ fixed_16k_named word.now }
+{
+    if is_text(b"IA32_MTRR_FIX64K_00000", word) {
+        Some(0x250)
+    } else if is_text(b"IA32_MTRR_FIX16K_80000", word) {
+        Some(0x258)
+    } else if is_text(b"IA32_MTRR_FIX16K_A0000", word) {
+        Some(0x259)
+    } else {
+        None
+    }
+}
+
+fn fixed_4k_by(digits: &[u8]) -> Option<u32>
+    ensures { result ≡ fixed_4k_by digits.now }
+{
+    if is_text(b"C0000", digits) {
+        Some(0x268)
+    } else if is_text(b"C8000", digits) {
+        Some(0x269)
+    } else if is_text(b"D0000", digits) {
+        Some(0x26a)
+    } else if is_text(b"D8000", digits) {
+        Some(0x26b)
+    } else if is_text(b"E0000", digits) {
+        Some(0x26c)
+    } else if is_text(b"E8000", digits) {
+        Some(0x26d)
+    } else if is_text(b"F0000", digits) {
+        Some(0x26e)
+    } else if is_text(b"F8000", digits) {
+        Some(0x26f)
+    } else {
+        None
+    }
+}
+
+fn of_pair(first: u32, pair: Result<u64, NumberFault>) -> Option<u32>
+    requires first { first ≤ 0x201 }
+    requires few { IfOk pair (λ pair. pair ≤ 31) }
+    ensures { result ≡ of_pair first pair }
+{
+    match pair {
+        Ok(pair) => Some(first + 2 * pair as u32),
+        Err(_) => None,
+    }
+}
+
+fn pair_digits(digits: &[u8]) -> Result<u64, NumberFault>
+    ensures pair { result ≡ pair_digits digits.now }
+    ensures few { IfOk result (λ pair. pair ≤ 31) }
+{
+    decimal(without_ending(digits, b':'), MOST_PAIRS)
+}
+
+fn register_named(word: &[u8]) -> Option<u32>
+    ensures { result ≡ register_named word.now }
+{
+    if is_text(b"IA32_MTRRCAP:", word) {
+        return Some(0xfe);
+    }
+    if is_text(b"IA32_MTRR_DEF_TYPE:", word) {
+        return Some(0x2ff);
+    }
+    if let Some(digits) = behind(b"PHYBASE", word) {
+        return of_pair(FIRST_PAIR, pair_digits(digits));
+    }
+    if let Some(digits) = behind(b"PHYMASK", word) {
+        return of_pair(FIRST_MASK, pair_digits(digits));
+    }
+    match behind(b"IA32_MTRR_FIX4K_", word) {
+        Some(digits) => fixed_4k_by(digits),
+        None => fixed_16k_named(word),
+    }
+}
+
+fn displayed_from(first: usize, line: &Line<'_>) -> Said
+    requires { first ≤ 8 }
+    ensures { result ≡ displayed_from first line.now.number (words_of line.now.bytes.now) }
+{
+    shows_one(
+        None,
+        register_named(word_text(line, first + 1)),
+        colon_number(word_text(line, first)),
+        word_place(line, first),
+    )
+}
+
+fn is_fixed(first: usize, line: &Line<'_>) -> bool
+    requires { first ≤ 8 }
+    ensures { result ≡ is_fixed first (words_of line.now.bytes.now) }
+{
+    is_text(b"Fixed", word_text(line, first)) && is_text(b"MSR", word_text(line, first + 1))
+}
+
+fn fixed_from(processor: Option<u32>, first: usize, line: &Line<'_>) -> Said
+    requires { first ≤ 8 }
+    ensures { result ≡ fixed_from processor first line.now.number (words_of line.now.bytes.now) }
+{
+    shows_one(
+        processor,
+        prefixed_register(word_text(line, first + 2)),
+        prefixed_number(word_text(line, first + 3)),
+        word_place(line, first + 3),
+    )
+}
+
+fn is_pair(first: usize, line: &Line<'_>) -> bool
+    requires { first ≤ 8 }
+    ensures { result ≡ is_pair first (words_of line.now.bytes.now) }
+{
+    is_text(b"base", word_text(line, first + 1))
+        && is_text(b"mask", word_text(line, first + 3))
+        && is_text(b"type", word_text(line, first + 5))
+}
+
+fn is_page(address: u64) -> bool
+    ensures { result ≡ is_page address }
+{
+    address < 0x10_0000_0000_0000 && address % 4096 == 0
+}
+
+fn shows_pair(
+    pair: Result<u64, NumberFault>,
+    base: Option<u64>,
+    mask: Option<u64>,
+    kind: Result<u64, NumberFault>,
+    base_place: Place,
+    mask_place: Place,
+) -> Said
+    requires few { IfOk pair (λ pair. pair ≤ 31) }
+    requires byte { IfOk kind (λ kind. kind ≤ 255) }
+    ensures { result ≡ shows_pair pair base mask kind base_place mask_place }
+{
+    let Ok(pair) = pair else {
+        return Said::Nothing;
+    };
+    let Some(base) = base else {
+        return Said::Nothing;
+    };
+    let Some(mask) = mask else {
+        return Said::Nothing;
+    };
+    let Ok(kind) = kind else {
+        return Said::Nothing;
+    };
+    if !(is_page(base) && is_page(mask)) {
+        return Said::Nothing;
+    }
+    let base = shown_as(FIRST_PAIR + 2 * pair as u32, base + kind, base_place);
+    let mask = shown_as(FIRST_MASK + 2 * pair as u32, mask + VALID, mask_place);
+    Said::Shows(
+        None,
+        [
+            base, mask, None, None, None, None, None, None, None, None, None,
+        ],
+    )
+}
+
+fn pair_from(first: usize, line: &Line<'_>) -> Said
+    requires { first ≤ 8 }
+    ensures { result ≡ pair_from first line.now.number (words_of line.now.bytes.now) }
+{
+    shows_pair(
+        decimal(word_text(line, first), MOST_PAIRS),
+        prefixed_number(word_text(line, first + 2)),
+        prefixed_number(word_text(line, first + 4)),
+        decimal(word_text(line, first + 6), 255),
+        word_place(line, first + 2),
+        word_place(line, first + 4),
+    )
+}
+
+fn is_size(first: usize, line: &Line<'_>) -> bool
+    requires { first ≤ 8 }
+    ensures { result ≡ is_size first (words_of line.now.bytes.now) }
+{
+    is_text(b"CPU", word_text(line, first))
+        && is_text(b"physical", word_text(line, first + 1))
+        && is_text(b"address", word_text(line, first + 2))
+        && is_text(b"size:", word_text(line, first + 3))
+        && is_text(b"bits", word_text(line, first + 5))
+}
+
+fn size_from(first: usize, line: &Line<'_>) -> Said
+    requires { first ≤ 8 }
+    ensures { result ≡ size_from first line.now.number (words_of line.now.bytes.now) }
+{
+    if is_size(first, line) {
+        shows_width(
+            decimal(word_text(line, first + 4), 255),
+            word_place(line, first + 4),
+        )
+    } else {
+        Said::Nothing
+    }
+}
+
+// Behind `MTRR:`.
+fn set_from(first: usize, line: &Line<'_>) -> Said
+    requires { first ≤ 8 }
+    ensures { result ≡ set_from first line.now.number (words_of line.now.bytes.now) }
+{
+    if is_fixed(first, line) {
+        fixed_from(None, first, line)
+    } else if is_pair(first, line) {
+        pair_from(first, line)
+    } else {
+        Said::Nothing
+    }
+}
+
+fn fixed_of(id: Option<u64>, first: usize, line: &Line<'_>) -> Said
+    requires { first ≤ 8 }
+    ensures { result ≡ fixed_of id first line.now.number (words_of line.now.bytes.now) }
+{
+    match id {
+        Some(id) if id < IDS => fixed_from(Some(id as u32), first, line),
+        _ => Said::Nothing,
+    }
+}
+
+fn is_fixed_of(first: usize, line: &Line<'_>) -> bool
+    requires { first ≤ 4 }
+    ensures { result ≡ is_fixed_of first (words_of line.now.bytes.now) }
+{
+    is_text(b"MTRR:", word_text(line, first + 1)) && is_fixed(first + 2, line)
+}
+
+fn is_setup(first: usize, line: &Line<'_>) -> bool
+    requires { first ≤ 4 }
+    ensures { result ≡ is_setup first (words_of line.now.bytes.now) }
+{
+    is_text(b"setup", word_text(line, first + 1))
+        && is_text(b"mtrr", word_text(line, first + 2))
+        && is_text(b"for", word_text(line, first + 3))
+}
+
+// Behind `apic_id`.
+fn said_of_id(first: usize, line: &Line<'_>) -> Said
+    requires { first ≤ 4 }
+    ensures { result ≡ said_of_id first line.now.number (words_of line.now.bytes.now) }
+{
+    if is_fixed_of(first, line) {
+        fixed_of(colon_number(word_text(line, first)), first + 2, line)
+    } else if is_setup(first, line) {
+        size_from(first + 4, line)
+    } else {
+        Said::Nothing
+    }
+}
+
+fn said_from(first: usize, line: &Line<'_>) -> Said
+    requires { first ≤ 1 }
+    ensures { result ≡ said_from first line.now.number (words_of line.now.bytes.now) }
+{
+    let word = word_text(line, first);
+    if is_text(b"apic_id", word) {
+        said_of_id(first + 1, line)
+    } else if is_text(b"MTRR:", word) {
+        set_from(first + 1, line)
+    } else if is_text(b"CPU", word) {
+        size_from(first, line)
+    } else {
+        displayed_from(first, line)
+    }
+}
+
+fn level_words(line: &Line<'_>) -> usize
+    ensures words { result ≡ level_words (words_of line.now.bytes.now) }
+    ensures few { result ≤ 1 }
+{
+    if is_text(b"[DEBUG]", word_text(line, 0)) {
+        1
+    } else {
+        0
+    }
+}
+
+/// What a line says.
+pub(crate) fn coreboot_said(line: &Line<'_>) -> Said
+    ensures { result ≡ coreboot_said line.now.number line.now.bytes.now }
+{
+    said_from(level_words(line), line)
+}

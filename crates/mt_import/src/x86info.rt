@@ -1,0 +1,108 @@
+ghost use Rattle.std.specs.Prelude.{◌≡◌, ◌≤◌, codes};
+ghost use Rattle.mt_text.specs.Number.{decimal_number};
+ghost use Rattle.mt_import.specs.X86info.{first_read, is_name, is_size, is_sizes, named_register, register_from, said_by_words, turned_to, x86info_said};
+
+use crate::Said;
+use crate::pieces::{
+    before, behind, is_text, prefixed_number, prefixed_register, shows_one, shows_width,
+};
+use mt_text::{Line, Words, decimal, without_ending};
+
+const MOST_PROCESSORS: u64 = 65_536;
+
+fn turned_to(digits: &[u8]) -> Said
+    ensures { result ≡ turned_to (decimal_number digits.now 65536) }
+{
+    match decimal(digits, MOST_PROCESSORS) {
+        Ok(number) if number > 0 => Said::Turns(number as u32 - 1),
+        _ => Said::Nothing,
+    }
+}
+
+fn named_register(word: &[u8]) -> Option<u32>
+    ensures { result ≡ named_register word.now }
+{
+    let number = match behind(b"(", word) {
+        Some(rest) => before(b"):", rest),
+        None => before(b":", word),
+    };
+    match number {
+        Some(number) => prefixed_register(number),
+        None => None,
+    }
+}
+
+fn is_name(word: &[u8]) -> bool
+    ensures { result ≡ is_name word.now }
+{
+    behind(b"MTRR", word).is_some()
+}
+
+fn register_from(first: usize, words: &Words<'_>) -> Said
+    requires { first ≤ 4 }
+    ensures { result ≡ register_from first words.now.number words.now.words }
+{
+    if !is_name(words.text(first)) {
+        return Said::Nothing;
+    }
+    shows_one(
+        None,
+        named_register(words.text(first + 1)),
+        prefixed_number(words.text(first + 2)),
+        words.place(first + 2),
+    )
+}
+
+fn first_read(words: &Words<'_>) -> usize
+    ensures first { result ≡ first_read words.now.words }
+    ensures small { result ≤ 4 }
+{
+    if is_name(words.text(4)) {
+        4
+    } else if is_name(words.text(2)) {
+        2
+    } else {
+        0
+    }
+}
+
+fn is_sizes(words: &Words<'_>) -> bool
+    ensures { result ≡ is_sizes words.now.words }
+{
+    is_text(b"Address", words.text(0))
+        && is_text(b"sizes", words.text(1))
+        && is_text(b"physical,", words.text(5))
+}
+
+fn is_size(words: &Words<'_>) -> bool
+    ensures { result ≡ is_size words.now.words }
+{
+    is_text(b"Address", words.text(0))
+        && is_text(b"Size:", words.text(1))
+        && is_text(b"virtual,", words.text(4))
+}
+
+fn said_by_words(words: &Words<'_>) -> Said
+    ensures { result ≡ said_by_words words.now.number words.now.words }
+{
+    if is_sizes(words) {
+        shows_width(decimal(words.text(3), 255), words.place(3))
+    } else if is_size(words) {
+        shows_width(decimal(words.text(5), 255), words.place(5))
+    } else {
+        register_from(first_read(words), words)
+    }
+}
+
+/// What a line says.
+pub(crate) fn x86info_said(line: &Line<'_>) -> Said
+    ensures { result ≡ x86info_said line.now.number line.now.bytes.now }
+{
+    let Some(rest) = behind(b"CPU #", without_ending(line.bytes, b'\r')) else {
+        return said_by_words(&line.first_words());
+    };
+    match before(b":", rest) {
+        Some(digits) => turned_to(digits),
+        None => Said::Nothing,
+    }
+}
