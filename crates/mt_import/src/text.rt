@@ -45,11 +45,11 @@ fn width_line(place: Place) -> LineBuffer
     ensures { result.items ≡ width_line place }
 {
     let mut line = ArrayVec::new();
-    append_to_line(&mut line, b"contradiction ");
+    append(&mut line, b"contradiction ");
     append_decimal(&mut line, place.line);
-    append_to_line(&mut line, b":");
+    append(&mut line, b":");
     append_decimal(&mut line, place.column);
-    append_to_line(&mut line, b" maxphyaddr\n");
+    append(&mut line, b" maxphyaddr\n");
     line
 }
 
