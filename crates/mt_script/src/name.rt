@@ -1,4 +1,4 @@
-ghost use Rattle.std.specs.Prelude.{◌≡◌};
+ghost use Rattle.std.specs.Prelude.{◌≡◌, codes};
 ghost use Rattle.mt_script.specs.Rows.{row_of, is_word, plain, stands};
 ghost use Rattle.mt_script.specs.Stages.{is_in_dump, takes_commands};
 
@@ -10,6 +10,25 @@ pub fn is_word(word: &[u8], name: &[u8]) -> bool
     ensures { result ≡ is_word name.now word.now }
 {
     word == name
+}
+
+// The same of the names of which scripts have the most.
+fn is_load(word: &[u8]) -> bool
+    ensures { result ≡ is_word (codes "load") word.now }
+{
+    matches!(word, b"load")
+}
+
+fn is_store(word: &[u8]) -> bool
+    ensures { result ≡ is_word (codes "store") word.now }
+{
+    matches!(word, b"store")
+}
+
+fn is_step(word: &[u8]) -> bool
+    ensures { result ≡ is_word (codes "step") word.now }
+{
+    matches!(word, b"step")
 }
 
 // Lines of so many words.
@@ -29,11 +48,11 @@ fn plain(verb: Verb, count: usize, turn: Turn) -> Row
 pub fn row_of(word: &[u8]) -> Option<Row>
     ensures { result ≡ row_of word.now }
 {
-    if is_word(word, b"load") {
+    if is_load(word) {
         Some(plain(Verb::Load, 3, Turn::Commands))
-    } else if is_word(word, b"store") {
+    } else if is_store(word) {
         Some(plain(Verb::Store, 4, Turn::Commands))
-    } else if is_word(word, b"step") {
+    } else if is_step(word) {
         Some(plain(Verb::Step, 2, Turn::Commands))
     } else {
         find_row(word)
