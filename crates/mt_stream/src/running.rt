@@ -31,6 +31,7 @@ pub fn cut_status(cut: &Cut) -> Status
 
 /// Moves on to the next line, and says whether there is one. All that waits is written before the
 /// source is asked.
+#[inline(always)]
 pub fn next_line<S: Source, K: Sink>(
     feed: &mut Feed,
     source: &mut S,
