@@ -151,6 +151,46 @@ fn write_newcomer<K: Sink>(
     }
 }
 
+// Brings a processor up and writes the line of it. There is a status where memory is refused.
+#[inline(never)]
+fn bring_up<K: Sink>(
+    replayer: &mut Replayer,
+    writer: &mut Writer,
+    sink: &mut K,
+) -> Result<Option<Status>, Failed>
+    requires fits { Fits replayer.old.now Command.Up }
+    requires room { HasEraRoom replayer.old.machine }
+    ensures bytes { MatchResult result
+        (λ ended. MatchOption ended
+        (Passes writer.old (command_text replayer.old Command.Up) writer.new (K.taken sink.old) (K.taken sink.new) × (replayer.new ≡ state_after replayer.old Command.Up))
+        (λ status. (status ≡ Status.NoMemory) × (writer.new ≡ writer.old) × (K.taken sink.new ≡ K.taken sink.old)))
+        (λ _. AppendsFront (K.taken sink.old) (K.taken sink.new) (writer.old ++ command_text replayer.old Command.Up)) }
+    ensures refused { (status : Status) → result ≡ Ok (Some status) → status ≡ Status.NoMemory }
+    ensures cause { HasCause (K.faults sink.old) (K.faults sink.new) result }
+{
+    write_newcomer(replayer.bring_up(), writer, sink)
+}
+
+// The same, with its update.
+#[inline(never)]
+fn admit<K: Sink>(
+    replayer: &mut Replayer,
+    writer: &mut Writer,
+    sink: &mut K,
+) -> Result<Option<Status>, Failed>
+    requires fits { Fits replayer.old.now Command.Join }
+    requires room { HasEraRoom replayer.old.machine }
+    ensures bytes { MatchResult result
+        (λ ended. MatchOption ended
+        (Passes writer.old (command_text replayer.old Command.Join) writer.new (K.taken sink.old) (K.taken sink.new) × (replayer.new ≡ state_after replayer.old Command.Join))
+        (λ status. (status ≡ Status.NoMemory) × (writer.new ≡ writer.old) × (K.taken sink.new ≡ K.taken sink.old)))
+        (λ _. AppendsFront (K.taken sink.old) (K.taken sink.new) (writer.old ++ command_text replayer.old Command.Join)) }
+    ensures refused { (status : Status) → result ≡ Ok (Some status) → status ≡ Status.NoMemory }
+    ensures cause { HasCause (K.faults sink.old) (K.faults sink.new) result }
+{
+    write_newcomer(replayer.admit(), writer, sink)
+}
+
 // Does a command and writes what it says. There is a status where memory is refused.
 fn do_command<R: Threads + Wait + Sync, K: Sink, G: Gate>(
     rt: &R,
@@ -181,8 +221,8 @@ fn do_command<R: Threads + Wait + Sync, K: Sink, G: Gate>(
             Ok(()) => Ok(None),
             Err(_) => Ok(Some(Status::NoMemory)),
         },
-        Command::Up => write_newcomer(replayer.bring_up(), writer, sink),
-        Command::Join => write_newcomer(replayer.admit(), writer, sink),
+        Command::Up => bring_up(replayer, writer, sink),
+        Command::Join => admit(replayer, writer, sink),
         _ => match form(rt, alloc, replayer, c, writer, sink, gate) {
             Ok(()) => Ok(None),
             Err(failed) => Err(failed),

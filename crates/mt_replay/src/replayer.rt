@@ -112,8 +112,60 @@ fn set(goal: &mut RegFile, msr: u32, value: u64)
     let _ = goal.set(msr, value);
 }
 
-// What a command that asks for no memory, and is no report, writes and does to the machine and the goal, where
-// the processor that it names is there.
+// What a command that asks for no memory, and is no report, load or store, writes and does to the machine and the
+// goal, where the processor that it names is there.
+#[inline(never)]
+fn act_rarely<R: Threads + Wait + Sync, G: Gate>(
+    rt: &R,
+    alloc: Global,
+    writer: &mut Writer,
+    setup: &Setup,
+    core: &mut Core,
+    goal: &mut RegFile,
+    c: &Command,
+    gate: &G,
+)
+    requires line { length writer.old + LINE_ROOM ≤ WRITER_ROOM }
+    requires state { IsReplayState (state setup.now core.old goal.old) }
+    requires there { is_absent core.old c.now ≡ false }
+    requires fits { Fits setup.now c.now }
+    requires room { HasEraRoom core.old }
+    requires no_report { c.now ≢ Command.Report }
+    requires no_window { (base : ℕ) → (lines : ℕ) → c.now ≢ Command.Ram base lines }
+    requires no_newcomer { IsComing c.now → ⊥ }
+    requires no_load { (k : ℕ) (address : ℕ) → c.now ≢ Command.Load k address }
+    requires no_store { (k : ℕ) (address : ℕ) (value : ℕ) → c.now ≢ Command.Store k address value }
+    ensures text { writer.new ≡ writer.old ++ present_text (state setup.now core.old goal.old) c.now }
+    ensures machine { core.new ≡ present_after (state setup.now core.old goal.old) c.now }
+    ensures goal { goal.new ≡ goal_after (state setup.now core.old goal.old) c.now }
+{
+    match *c {
+        Command::Fence(k) => access(writer, core, k, Op::Fence),
+        Command::Map(k, address, physical, index, global) => {
+            let x = mapping(address, physical, index, global);
+            control(writer, core, k, Control::Map(x));
+        }
+        Command::Invlpg(k, address) => control(writer, core, k, Control::Invlpg(address)),
+        Command::Cr3(k) => control(writer, core, k, Control::Cr3),
+        Command::Pge(k, on) => control(writer, core, k, Control::Pge(on)),
+        Command::Cd(k, on) => control(writer, core, k, Control::Cd(on)),
+        Command::Go => go(writer, core),
+        Command::Cancel => cancel(writer, core),
+        Command::Step(k) => step(writer, core, k),
+        Command::Word(address) => word(writer, core, address),
+        Command::Msr(k, msr) => register(writer, core, k, msr),
+        Command::Selfsnoop(k) => core.self_snoop(k),
+        Command::Retire => retire(writer, core),
+        Command::End => end_section(rt, alloc, writer, core, goal, setup.stage(), gate),
+        Command::Update | Command::Begin => begin_goal(core, goal),
+        Command::Register { msr, value } => set(goal, msr, value),
+        Command::Cpus(_) | Command::Dump | Command::Blank | Command::DumpLine => {}
+        Command::Load(..) | Command::Store(..) => unreachable!(),
+        Command::Report | Command::Ram(..) | Command::Up | Command::Join => unreachable!(),
+    }
+}
+
+// The same of loads and stores too.
 fn act_there<R: Threads + Wait + Sync, G: Gate>(
     rt: &R,
     alloc: Global,
@@ -139,31 +191,11 @@ fn act_there<R: Threads + Wait + Sync, G: Gate>(
     match *c {
         Command::Load(k, address) => access(writer, core, k, Op::Load(address)),
         Command::Store(k, address, value) => access(writer, core, k, Op::Store(address, value)),
-        Command::Fence(k) => access(writer, core, k, Op::Fence),
-        Command::Map(k, address, physical, index, global) => {
-            let x = mapping(address, physical, index, global);
-            control(writer, core, k, Control::Map(x));
-        }
-        Command::Invlpg(k, address) => control(writer, core, k, Control::Invlpg(address)),
-        Command::Cr3(k) => control(writer, core, k, Control::Cr3),
-        Command::Pge(k, on) => control(writer, core, k, Control::Pge(on)),
-        Command::Cd(k, on) => control(writer, core, k, Control::Cd(on)),
-        Command::Go => go(writer, core),
-        Command::Cancel => cancel(writer, core),
-        Command::Step(k) => step(writer, core, k),
-        Command::Word(address) => word(writer, core, address),
-        Command::Msr(k, msr) => register(writer, core, k, msr),
-        Command::Selfsnoop(k) => core.self_snoop(k),
-        Command::Retire => retire(writer, core),
-        Command::End => end_section(rt, alloc, writer, core, goal, setup.stage(), gate),
-        Command::Update | Command::Begin => begin_goal(core, goal),
-        Command::Register { msr, value } => set(goal, msr, value),
-        Command::Cpus(_) | Command::Dump | Command::Blank | Command::DumpLine => {}
-        Command::Report | Command::Ram(..) | Command::Up | Command::Join => unreachable!(),
+        _ => act_rarely(rt, alloc, writer, setup, core, goal, c, gate),
     }
 }
 
-// The same of each such command.
+// The same, whether the processor is there or not.
 fn act<R: Threads + Wait + Sync, G: Gate>(
     rt: &R,
     alloc: Global,

@@ -9,7 +9,7 @@ use Rattle.mt_script.specs.declared.command.Command.TheVariants as command
 use Rattle.mt_replay.specs.Parts.{state}
 use Rattle.mt_replay.proofs.Asked.{short_number}
 use Rattle.mt_replay.proofs.Keeping.States.{dump_here, first_here, mapping_fits}
-use Rattle.mt_replay.proofs.replayer.act_there.Goals as goal
+use Rattle.mt_replay.proofs.replayer.act_rarely.Goals as goal
 
 pub control-requires-clause-fits : goal.control-requires-clause-fits
 control-requires-clause-fits g c = λ p at.
