@@ -4,6 +4,7 @@ ghost use Rattle.mt_text.specs.declared.fault.FeedFault.TheVariants as feed;
 ghost use Rattle.mt_ports.specs.declared.status.Status.TheVariants as status;
 ghost use Rattle.mt_stream.specs.Lines.{Closes, CutShort, Leaves, Next, SinkHasCause, SourceHasCause};
 ghost use Rattle.mt_stream.specs.Told.{told};
+ghost use Rattle.mt_stream.specs.WorkedTexts.{failed_at_a};
 ghost use Rattle.mt_stream.specs.declared.running.Cut.TheVariants as cut;
 
 /// A last text with all that waits, and for each part what fails in that alone.
@@ -32,10 +33,10 @@ pub fn worked_leaves()
 
 /// Why there is no next line, and for each part what fails in that alone.
 pub fn worked_cuts()
-    ensures read { CutShort (behind_a_line 2 []) (record (behind_a_line 2 (codes "a")) { fault = Some feed.ReadFault }) (codes "a") (codes "xy") [] (Some []) (Some (codes "xy")) (cut.Feed feed.ReadFault) }
-    ensures other_fault { CutShort (behind_a_line 2 []) (record (behind_a_line 2 (codes "a")) { fault = Some feed.ReadFault }) (codes "a") (codes "xy") [] (Some []) (Some (codes "xy")) (cut.Feed feed.TooLong) → ⊥ }
-    ensures text_waits { CutShort (behind_a_line 2 []) (record (behind_a_line 2 (codes "a")) { fault = Some feed.ReadFault }) (codes "a") (codes "xy") (codes "y") (Some []) (Some (codes "xy")) (cut.Feed feed.ReadFault) → ⊥ }
-    ensures text_held_back { CutShort (behind_a_line 2 []) (record (behind_a_line 2 (codes "a")) { fault = Some feed.ReadFault }) (codes "a") (codes "xy") [] (Some []) (Some (codes "x")) (cut.Feed feed.ReadFault) → ⊥ }
+    ensures read { CutShort (behind_a_line 2 []) failed_at_a (codes "a") (codes "xy") [] (Some []) (Some (codes "xy")) (cut.Feed feed.ReadFault) }
+    ensures other_fault { CutShort (behind_a_line 2 []) failed_at_a (codes "a") (codes "xy") [] (Some []) (Some (codes "xy")) (cut.Feed feed.TooLong) → ⊥ }
+    ensures text_waits { CutShort (behind_a_line 2 []) failed_at_a (codes "a") (codes "xy") (codes "y") (Some []) (Some (codes "xy")) (cut.Feed feed.ReadFault) → ⊥ }
+    ensures text_held_back { CutShort (behind_a_line 2 []) failed_at_a (codes "a") (codes "xy") [] (Some []) (Some (codes "x")) (cut.Feed feed.ReadFault) → ⊥ }
     ensures write { CutShort (behind_a_line 2 (codes "a")) (behind_a_line 2 (codes "a")) (codes "a") (codes "xy") [] (Some []) (Some (codes "x")) cut.Write }
     ensures read_before { CutShort (behind_a_line 2 (codes "a")) (behind_a_line 2 (codes "a")) (codes "ab") (codes "xy") [] (Some []) (Some (codes "x")) cut.Write → ⊥ }
     ensures moved_before { CutShort (behind_a_line 2 (codes "a")) (behind_a_line 3 (codes "a")) (codes "a") (codes "xy") [] (Some []) (Some (codes "x")) cut.Write → ⊥ }
