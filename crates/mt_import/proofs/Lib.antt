@@ -3,4 +3,5 @@ pub mod Fed
 pub mod Held
 pub mod Parts
 pub mod Same
+mod Types
 pub mod Words

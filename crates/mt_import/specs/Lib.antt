@@ -4,9 +4,16 @@ pub mod Rdmsr
 pub mod X86info
 pub mod Inteltool
 pub mod Coreboot
+pub mod Table
+pub mod LineWords
+pub mod Kernel
+pub mod Linux
+pub mod Xen
+pub mod Edk2
 pub mod Shown
 pub mod Supplied
 pub mod Outcome
 pub mod Reader
 pub mod Import
 pub mod WorkedReadings
+pub mod WorkedLogs

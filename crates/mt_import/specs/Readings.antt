@@ -9,8 +9,10 @@ use Rattle.mt_import.specs.declared.fault.ImportFault.TheVariants.{Contradiction
 use Rattle.mt_import.specs.declared.reading.Context.{Context}
 use Rattle.mt_import.specs.declared.reading.Reading.{Reading}
 use Rattle.mt_import.specs.declared.reading.Said.{Said}
-use Rattle.mt_import.specs.declared.reading.Said.TheVariants.{Nothing, Announces, Value, Turns, Shows, Width, Clash, Long}
+use Rattle.mt_import.specs.declared.reading.Said.TheVariants.{Nothing, Announces, Value, Turns, Shows, Width, Clash, InTable, Long}
 use Rattle.mt_import.specs.declared.reading.Shown.{Shown}
+use Rattle.mt_import.specs.declared.table.Table.{Table}
+use Rattle.mt_import.specs.Table.{table_after, table_of, table_shows}
 
 -- a file that has each register that some file has: 32 pairs, and FIX
 unfoldable pub all_registers : RegisterFile
@@ -28,7 +30,7 @@ pub data Fact : Type 0 where
 
 -- before all lines
 abbrev pub at_start : Context
-at_start = record { announced = None; processor = 0 }
+at_start = record { announced = None; processor = 0; table = table_of None }
 
 -- Registers that no dump has are passed over.
 abbrev pub reading_facts : ℕ → Shown → List Fact
@@ -57,6 +59,7 @@ facts_of context (Turns processor) = []
 facts_of context (Shows processor shows) = shows_facts (unwrap_or processor context.processor) shows
 facts_of context (Width width place) = is_width width place ∷ []
 facts_of context (Clash place number) = if is_register number then is_fault (Contradiction place number) ∷ [] else []
+facts_of context (InTable line) = shows_facts 0 (table_shows context.table line)
 facts_of context (Long place) = is_fault (LongLine place) ∷ []
 
 -- what is announced by a line
@@ -68,6 +71,7 @@ announced_after (Turns processor) = None
 announced_after (Shows processor shows) = None
 announced_after (Width width place) = None
 announced_after (Clash place number) = None
+announced_after (InTable line) = None
 announced_after (Long place) = None
 
 -- the processor that lines behind this line are of
@@ -79,10 +83,23 @@ processor_after (Value value place) before = before
 processor_after (Shows processor shows) before = before
 processor_after (Width width place) before = before
 processor_after (Clash place number) before = before
+processor_after (InTable line) before = before
 processor_after (Long place) before = before
 
+-- what a kernel's table shows behind a line
+abbrev pub table_behind : Said → Table → Table
+table_behind (InTable line) before = table_after before line
+table_behind Nothing before = before
+table_behind (Announces processor number) before = before
+table_behind (Value value place) before = before
+table_behind (Turns processor) before = before
+table_behind (Shows processor shows) before = before
+table_behind (Width width place) before = before
+table_behind (Clash place number) before = before
+table_behind (Long place) before = before
+
 abbrev pub context_after : Context → Said → Context
-context_after context said = record { announced = announced_after said; processor = processor_after said context.processor }
+context_after context said = record { announced = announced_after said; processor = processor_after said context.processor; table = table_behind said context.table }
 
 abbrev pub facts_from : Context → List Said → List Fact
 facts_from context [] = []

@@ -4,13 +4,16 @@
 use Rattle.std.specs.Prelude.{ℕ, ◌+◌, nat_lt, List, [], ◌∷◌, length, if◌then◌else◌}
 use Rattle.mt_text.specs.Text.{lines_of}
 use Rattle.mt_import.specs.declared.format.Format.{Format}
-use Rattle.mt_import.specs.declared.format.Format.TheVariants.{Rdmsr, X86info, Inteltool, Coreboot}
+use Rattle.mt_import.specs.declared.format.Format.TheVariants.{Rdmsr, X86info, Inteltool, Coreboot, Edk2, Linux, Xen}
 use Rattle.mt_import.specs.declared.reading.Said.{Said}
 use Rattle.mt_import.specs.declared.reading.Said.TheVariants.{Long}
 use Rattle.mt_import.specs.Coreboot.{coreboot_said}
 use Rattle.mt_import.specs.Inteltool.{inteltool_said}
 use Rattle.mt_import.specs.Rdmsr.{rdmsr_said}
 use Rattle.mt_import.specs.X86info.{x86info_said}
+use Rattle.mt_import.specs.Edk2.{edk2_said}
+use Rattle.mt_import.specs.Linux.{linux_said}
+use Rattle.mt_import.specs.Xen.{xen_said}
 use Rattle.mt_import.specs.Readings.{Fact, at_start, facts_from}
 
 abbrev pub said_by_line : Format → ℕ → List ℕ → Said
@@ -18,6 +21,9 @@ said_by_line Rdmsr number line = rdmsr_said number line
 said_by_line X86info number line = x86info_said number line
 said_by_line Inteltool number line = inteltool_said number line
 said_by_line Coreboot number line = coreboot_said number line
+said_by_line Edk2 number line = edk2_said number line
+said_by_line Linux number line = linux_said number line
+said_by_line Xen number line = xen_said number line
 
 -- A line of more than 4,096 bytes isn't read.
 abbrev pub said_of : Format → ℕ → List ℕ → Said

@@ -7,7 +7,7 @@ use Rattle.mt_text.specs.Number.{hex_number, decimal_number}
 use Rattle.mt_text.specs.declared.fault.NumberFault.{NumberFault}
 use Rattle.mt_regs.specs.RegisterFile.{low_byte}
 use Rattle.mt_import.specs.declared.format.Format.{Format}
-use Rattle.mt_import.specs.declared.format.Format.TheVariants.{Rdmsr, X86info, Inteltool, Coreboot}
+use Rattle.mt_import.specs.declared.format.Format.TheVariants.{Rdmsr, X86info, Inteltool, Coreboot, Edk2, Linux, Xen}
 use Rattle.mt_import.specs.declared.supplied.Given.{Given}
 use Rattle.mt_import.specs.declared.supplied.Given.TheVariants.{Width, Register}
 use Rattle.mt_import.specs.Pieces.{behind, is_text}
@@ -87,6 +87,9 @@ format_named word =
     else if is_text (codes "x86info") word then Some X86info
     else if is_text (codes "inteltool") word then Some Inteltool
     else if is_text (codes "coreboot") word then Some Coreboot
+    else if is_text (codes "edk2") word then Some Edk2
+    else if is_text (codes "linux") word then Some Linux
+    else if is_text (codes "xen") word then Some Xen
     else None
 
 abbrev pub command_with : Option Format → Option Supplied → Option (Format × Supplied)

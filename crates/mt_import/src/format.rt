@@ -3,9 +3,12 @@ ghost use Rattle.mt_import.specs.Shown.{said_by_line, said_of};
 
 use crate::Said;
 use crate::coreboot::coreboot_said;
+use crate::edk2::edk2_said;
 use crate::inteltool::inteltool_said;
+use crate::linux::linux_said;
 use crate::rdmsr::rdmsr_said;
 use crate::x86info::x86info_said;
+use crate::xen::xen_said;
 use mt_text::{LIMIT_COLUMN, Line, Place};
 
 /// A kind of log.
@@ -19,6 +22,12 @@ pub enum Format {
     Inteltool,
     /// coreboot's console.
     Coreboot,
+    /// MtrrLib of EDK2.
+    Edk2,
+    /// The kernel's log of Linux, and `/proc/mtrr`.
+    Linux,
+    /// The console of Xen.
+    Xen,
 }
 
 impl Format {
@@ -30,6 +39,9 @@ impl Format {
             Format::X86info => x86info_said(line),
             Format::Inteltool => inteltool_said(line),
             Format::Coreboot => coreboot_said(line),
+            Format::Edk2 => edk2_said(line),
+            Format::Linux => linux_said(line),
+            Format::Xen => xen_said(line),
         }
     }
 

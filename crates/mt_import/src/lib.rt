@@ -3,9 +3,13 @@
 
 mod coreboot;
 mod dumping;
+mod edk2;
 mod fault;
 mod format;
 mod inteltool;
+mod kernel;
+mod line_words;
+mod linux;
 mod missing;
 mod pieces;
 mod program;
@@ -14,10 +18,14 @@ mod reader;
 mod reading;
 mod running;
 mod supplied;
+mod table;
+mod tabled;
 mod text;
 mod worked;
 mod worked_lines;
+mod worked_logs;
 mod x86info;
+mod xen;
 
 pub use fault::ImportFault;
 pub use format::Format;
@@ -26,6 +34,8 @@ pub use reader::{LogReader, read_log};
 pub use reading::{Context, Reading, Said, Shown, Shows};
 pub use running::import;
 pub use supplied::{Supplied, command_of};
+pub use table::{Table, TableLine, TypeRun};
+pub use tabled::{table_after, table_shows};
 pub use text::Imported;
 pub use worked::{
     worked_faults, worked_outcomes, worked_rdmsr_lines, worked_readings, worked_words,
@@ -34,8 +44,14 @@ pub use worked_lines::{
     worked_coreboot_lines, worked_coreboot_lines_last, worked_coreboot_lines_too,
     worked_inteltool_lines, worked_x86info_lines, worked_x86info_lines_too,
 };
+pub use worked_logs::{
+    worked_edk2_lines, worked_linux_lines, worked_linux_pat_and_regions, worked_tables,
+    worked_xen_lines,
+};
 
 #[cfg(test)]
 mod log_tests;
+#[cfg(test)]
+mod table_tests;
 #[cfg(test)]
 mod tests;

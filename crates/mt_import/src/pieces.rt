@@ -36,7 +36,7 @@ pub(crate) fn is_prefixed(word: &[u8]) -> bool
     matches!(word, [b'0', b'x' | b'X', ..])
 }
 
-fn number_in(number: Result<u64, NumberFault>) -> Option<u64>
+pub(crate) fn number_in(number: Result<u64, NumberFault>) -> Option<u64>
     ensures { result ≡ number_in number }
 {
     match number {

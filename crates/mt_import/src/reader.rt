@@ -12,6 +12,7 @@ ghost use Rattle.mt_import.specs.Import.{IsWritten, log_told};
 ghost use Rattle.mt_import.specs.Reader.{HasTaken, IsFit, IsShort, held_at, slot_of, values_of, width_of};
 
 use crate::reading::{MOST_SHOWN, is_register};
+use crate::tabled::table_shows;
 use crate::text::{Imported, faulted};
 use crate::{Context, Format, ImportFault, Reading, Said, Shown, Shows, Supplied};
 use mt_ports::Source;
@@ -337,6 +338,10 @@ impl LogReader {
             },
             Said::Shows(processor, shows) => {
                 self.take_shows(supplied, processor.unwrap_or(self.context.processor), shows)
+            }
+            Said::InTable(line) => {
+                let shows = table_shows(&self.context.table, line);
+                self.take_shows(supplied, 0, &shows)
             }
             Said::Width(width, place) => self.take_width(supplied, *width, *place),
             Said::Clash(place, number) if is_register(*number as u64) => {

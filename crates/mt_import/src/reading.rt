@@ -1,7 +1,9 @@
 ghost use Rattle.std.specs.Prelude.{◌≡◌, true, None};
-ghost use Rattle.mt_import.specs.Readings.{all_registers, announced_after, at_start, context_after, is_register, processor_after};
+ghost use Rattle.mt_import.specs.Readings.{all_registers, announced_after, at_start, context_after, is_register, processor_after, table_behind};
 ghost use Rattle.mt_import.specs.Reader.{slot_of};
 
+use crate::tabled::table_after;
+use crate::{Table, TableLine};
 use mt_regs::RegFile;
 use mt_text::Place;
 
@@ -45,6 +47,8 @@ pub enum Said {
     Width(u64, Place),
     /// It contradicts itself on this register.
     Clash(Place, u32),
+    /// It stands in a kernel's table of MTRRs.
+    InTable(TableLine),
     /// It has more than 4,096 bytes.
     Long(Place),
 }
@@ -56,6 +60,8 @@ pub struct Context {
     pub announced: Option<(u32, u32)>,
     /// The processor that the lines are of.
     pub processor: u32,
+    /// What the lines of a kernel's table of MTRRs show.
+    pub table: Table,
 }
 
 impl Said {
@@ -76,6 +82,15 @@ impl Said {
             _ => before,
         }
     }
+
+    fn table_behind(&self, before: &Table) -> Table
+        ensures { result ≡ table_behind self.now before.now }
+    {
+        match self {
+            Said::InTable(line) => table_after(before, line),
+            _ => *before,
+        }
+    }
 }
 
 impl Context {
@@ -86,6 +101,7 @@ impl Context {
         Context {
             announced: None,
             processor: 0,
+            table: Table::of(None),
         }
     }
 
@@ -96,6 +112,7 @@ impl Context {
         Context {
             announced: said.announced(),
             processor: said.processor_or(self.processor),
+            table: said.table_behind(&self.table),
         }
     }
 }

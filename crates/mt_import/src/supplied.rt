@@ -118,6 +118,12 @@ fn format_named(word: &[u8]) -> Option<Format>
         Some(Format::Inteltool)
     } else if is_text(b"coreboot", word) {
         Some(Format::Coreboot)
+    } else if is_text(b"edk2", word) {
+        Some(Format::Edk2)
+    } else if is_text(b"linux", word) {
+        Some(Format::Linux)
+    } else if is_text(b"xen", word) {
+        Some(Format::Xen)
     } else {
         None
     }

@@ -1,0 +1,107 @@
+-- Lines on MTRRs that the kernels of Linux and Xen print alike: print_mtrr_state, print_fixed_last and mtrr_attrib_to_str (Linux 6.1: arch/x86/kernel/cpu/mtrr/generic.c and if.c; Xen 4.17: xen/arch/x86/cpu/mtrr/generic.c).
+--     kernel_said alone number words      what a line of these words says, where `alone` tells whether the line on fixed ranges shows FE also without E
+use Rattle.std.specs.Prelude.{ℕ, ◌+◌, ◌-◌, ◌*◌, ◌/◌, ◌%◌, ◌==◌, ◌&&◌, ◌||◌, not, nat_lt, codes, Bool, true, false, List, length, take, drop, if◌then◌else◌, Option, Some, None}
+use Rattle.mt_text.specs.Words.{text_of, place_of}
+use Rattle.mt_text.specs.Number.{hex_number, decimal_number}
+use Rattle.mt_text.specs.declared.place.Place.{Place}
+use Rattle.mt_import.specs.declared.reading.Said.{Said}
+use Rattle.mt_import.specs.declared.reading.Said.TheVariants.{Nothing, Shows, InTable}
+use Rattle.mt_import.specs.declared.table.TableLine.TheVariants.{DefaultType, FixedRanges, Types, VariableRanges}
+use Rattle.mt_import.specs.Pieces.{is_text, number_in}
+use Rattle.mt_import.specs.Table.{two_shown, value_at}
+
+-- the code of a memory type, Intel SDM Vol. 3A, table 12-8; `?` has none
+abbrev pub type_named : List ℕ → Option ℕ
+type_named word =
+    if is_text (codes "uncachable") word then Some 0
+    else if is_text (codes "write-combining") word then Some 1
+    else if is_text (codes "write-through") word then Some 4
+    else if is_text (codes "write-protect") word then Some 5
+    else if is_text (codes "write-back") word then Some 6
+    else None
+
+-- ---- `MTRR default type: T`, `MTRR fixed ranges enabled:`, `MTRR variable ranges enabled:`
+
+abbrev pub enabled_by : List ℕ → Option Bool
+enabled_by word = if is_text (codes "enabled:") word then Some true else if is_text (codes "disabled:") word then Some false else None
+
+abbrev pub fixed_said : Option Bool → Said
+fixed_said None = Nothing
+fixed_said (Some enabled) = InTable (FixedRanges enabled)
+
+-- Without E, and where FE isn't shown alone, IA32_MTRR_DEF_TYPE isn't known.
+abbrev pub variable_said : Bool → Place → Option Bool → Said
+variable_said alone place None = Nothing
+variable_said alone place (Some enabled) = if enabled || alone then InTable (VariableRanges enabled place) else Nothing
+
+abbrev pub head_said : Bool → ℕ → List (ℕ × List ℕ) → Said
+head_said alone number words =
+    if is_text (codes "default") (text_of words 1) && is_text (codes "type:") (text_of words 2) then InTable (DefaultType (type_named (text_of words 3)))
+    else if not (is_text (codes "ranges") (text_of words 2)) then Nothing
+    else if is_text (codes "fixed") (text_of words 1) then fixed_said (enabled_by (text_of words 3))
+    else if is_text (codes "variable") (text_of words 1) then variable_said alone (place_of number words 3) (enabled_by (text_of words 3))
+    else Nothing
+
+-- ---- `FIRST-LAST T`, five digits each
+
+abbrev pub range_from : ℕ → ℕ → ℕ → Option ℕ
+range_from first offset size = if offset % size == 0 then Some (first + offset / size) else None
+
+-- The number of the fixed range that begins at an address, and 88 for 1 MiB: Intel SDM Vol. 3A, table 12-9.
+abbrev pub range_at : ℕ → Option ℕ
+range_at address =
+    if nat_lt address 0x80000 then range_from 0 address 0x10000
+    else if nat_lt address 0xc0000 then range_from 8 (address - 0x80000) 0x4000
+    else if nat_lt 0x100000 address then None
+    else range_from 24 (address - 0xc0000) 0x1000
+
+abbrev pub types_said : Option ℕ → Option ℕ → Option ℕ → Place → Said
+types_said None end code place = Nothing
+types_said (Some first) None code place = Nothing
+types_said (Some first) (Some end) None place = Nothing
+types_said (Some first) (Some end) (Some code) place =
+    if nat_lt first end then InTable (Types (record { first = first; end = end; memory_type = code; place = place })) else Nothing
+
+abbrev pub addresses_said : Option ℕ → Option ℕ → Option ℕ → Place → Said
+addresses_said None last code place = Nothing
+addresses_said (Some first) None code place = Nothing
+addresses_said (Some first) (Some last) code place =
+    if nat_lt last 0x100000 then types_said (range_at first) (range_at (last + 1)) code place else Nothing
+
+abbrev pub run_said : ℕ → List (ℕ × List ℕ) → Said
+run_said number words =
+    if length (text_of words 0) == 11 && is_text (codes "-") (take 1 (drop 5 (text_of words 0)))
+    then addresses_said (number_in (hex_number (take 5 (text_of words 0)))) (number_in (hex_number (drop 6 (text_of words 0)))) (type_named (text_of words 1)) (place_of number words 0)
+    else Nothing
+
+-- ---- `N base BASE mask MASK T`
+
+-- PhysBase by its page's address and its type: Intel SDM Vol. 3A, figure 12-7; bits 11:8 are reserved, and 0.
+abbrev pub base_value : Option ℕ → Option ℕ → Option ℕ
+base_value None code = None
+base_value (Some base) None = None
+base_value (Some base) (Some code) = if base % 4096 == 0 then Some (base + code) else None
+
+-- PhysMask by the mask of pages, where V is set; bits 10:0 are reserved, and 0.
+abbrev pub mask_value : Option ℕ → Option ℕ
+mask_value None = None
+mask_value (Some mask) = if mask % 4096 == 0 then Some (mask + 0x800) else None
+
+-- PhysBase and PhysMask of a pair, where their values are known
+abbrev pub shows_pair : Option ℕ → Place → Option ℕ → Place → Option ℕ → Said
+shows_pair None base_place base mask_place mask = Nothing
+shows_pair (Some pair) base_place base mask_place mask = Shows (Some 0) (two_shown (value_at (0x200 + 2 * pair) base_place base) (value_at (0x201 + 2 * pair) mask_place mask))
+
+abbrev pub pair_said : Option ℕ → ℕ → List (ℕ × List ℕ) → Said
+pair_said pair number words = shows_pair pair
+    (place_of number words 2) (base_value (number_in (hex_number (text_of words 2))) (type_named (text_of words 5)))
+    (place_of number words 4) (mask_value (number_in (hex_number (text_of words 4))))
+
+-- ---- all lines
+
+abbrev pub kernel_said : Bool → ℕ → List (ℕ × List ℕ) → Said
+kernel_said alone number words =
+    if length words == 4 && is_text (codes "MTRR") (text_of words 0) then head_said alone number words
+    else if length words == 2 then run_said number words
+    else if length words == 6 && is_text (codes "base") (text_of words 1) && is_text (codes "mask") (text_of words 3) then pair_said (number_in (decimal_number (text_of words 0) 31)) number words
+    else Nothing

@@ -1,0 +1,20 @@
+ghost use Rattle.std.specs.Prelude.{◌≡◌};
+ghost use Rattle.mt_import.specs.Xen.{xen_said};
+
+use crate::Said;
+use crate::kernel::kernel_said;
+use crate::line_words::{LineWords, behind_stamp};
+use crate::pieces::is_text;
+use mt_text::Line;
+
+/// What a line says.
+pub(crate) fn xen_said(line: &Line<'_>) -> Said
+    ensures { result ≡ xen_said line.now.number line.now.bytes.now }
+{
+    let words = line.first_words();
+    if !is_text(b"(XEN)", words.text(0)) {
+        return Said::Nothing;
+    }
+    let first = behind_stamp(1, &words);
+    kernel_said(true, &LineWords::behind(first, line))
+}
