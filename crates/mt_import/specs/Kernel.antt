@@ -10,7 +10,7 @@ use Rattle.mt_import.specs.declared.table.TableLine.TheVariants.{DefaultType, Fi
 use Rattle.mt_import.specs.Pieces.{is_text, number_in}
 use Rattle.mt_import.specs.Table.{two_shown, value_at}
 
--- the code of a memory type, Intel SDM Vol. 3A, table 12-8; `?` has none
+-- the code of a memory type: Intel SDM, volume 3A, chapter Memory Cache Control, section Memory Type Range Registers (MTRRs); `?` has none
 abbrev pub type_named : List ℕ → Option ℕ
 type_named word =
     if is_text (codes "uncachable") word then Some 0
@@ -47,7 +47,7 @@ head_said alone number words =
 abbrev pub range_from : ℕ → ℕ → ℕ → Option ℕ
 range_from first offset size = if offset % size == 0 then Some (first + offset / size) else None
 
--- The number of the fixed range that begins at an address, and 88 for 1 MiB: Intel SDM Vol. 3A, table 12-9.
+-- The number of the fixed range that begins at an address, and 88 for 1 MiB: the same chapter, section Fixed Range MTRRs.
 abbrev pub range_at : ℕ → Option ℕ
 range_at address =
     if nat_lt address 0x80000 then range_from 0 address 0x10000
@@ -76,7 +76,7 @@ run_said number words =
 
 -- ---- `N base BASE mask MASK T`
 
--- PhysBase by its page's address and its type: Intel SDM Vol. 3A, figure 12-7; bits 11:8 are reserved, and 0.
+-- PhysBase by its page's address and its type: the same chapter, section Variable Range MTRRs; bits 11:8 are reserved, and 0.
 abbrev pub base_value : Option ℕ → Option ℕ → Option ℕ
 base_value None code = None
 base_value (Some base) None = None

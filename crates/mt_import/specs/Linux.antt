@@ -12,7 +12,7 @@ use Rattle.mt_import.specs.Kernel.{base_value, kernel_said, type_named}
 
 -- ---- `x86/PAT: Configuration [0-7]: WB  WC  UC- UC  WB  WP  UC- WT`
 
--- the code of a PAT entry, Intel SDM Vol. 3A, table 12-10
+-- the code of a PAT entry: Intel SDM, volume 3A, chapter Memory Cache Control, section IA32_PAT MSR
 abbrev pub entry_named : List ℕ → Option ℕ
 entry_named word =
     if is_text (codes "UC") word then Some 0

@@ -55,7 +55,7 @@ abbrev pub flag : Bool → ℕ → ℕ
 flag true bit = bit
 flag false bit = 0
 
--- Intel SDM Vol. 3A, 12.11.2.1: the type in bits 7:0, FE in bit 10, E in bit 11; the other bits are reserved, and 0.
+-- Intel SDM, volume 3A, chapter Memory Cache Control, section IA32_MTRR_DEF_TYPE MSR: the type in bits 7:0, FE in bit 10, E in bit 11; the other bits are reserved, and 0.
 abbrev pub default_value : Option ℕ → Option Bool → Bool → Option ℕ
 default_value None fixed enabled = None
 default_value (Some code) None enabled = None
