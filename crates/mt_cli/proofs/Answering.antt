@@ -11,7 +11,8 @@ use Rattle.mt_cli.specs.Generator.{make_text}
 use Rattle.mt_cli.specs.Lines.{summary_text}
 use Rattle.mt_cli.specs.Answer.{Answer, FileAnswer, about_file}
 use Rattle.mt_cli.specs.Output.{big_text}
-use Rattle.mt_cli.specs.Written.{Answers, Writes, writes, no_memory}
+use Rattle.mt_output.specs.Written.{Writes}
+use Rattle.mt_cli.specs.Written.{Answers, writes, no_memory}
 
 pub answers_with : (answer : List ℕ → Status → Type 0) (text written : List ℕ) (status : Status) (old new : Option (List ℕ)) (result : Status)
     → answer text status → written ≡ text → Writes written status old new result → Answers answer old new result

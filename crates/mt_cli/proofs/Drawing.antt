@@ -1,25 +1,22 @@
 -- Jobs for measurements, one access after the other.
-use Rattle.std.proofs.Common.{◌≡◌, ◌∙◌, ap, sym, refl, subst, arith, below_more, ℕ, suc, ◌+◌, ◌-◌, ◌<◌, ◌≤◌, List, [], ◌∷◌, ◌++◌, append_assoc, get_or, length, map, Some}
-use Rattle.std.specs.Prelude.{slice_get}
-use Rattle.std.specs.List.{All, fold, range_with_len}
+use Rattle.std.proofs.Common.{◌≡◌, ◌∙◌, ap, sym, subst, arith, below_more, ℕ, suc, ◌+◌, ◌-◌, ◌<◌, List, [], ◌∷◌, ◌++◌, append_assoc, get_or, length, map}
+use Rattle.std.specs.List.{fold, range_with_len}
 use Rattle.std.proofs.lemmas.List.{append-nil, map-append}
 use Rattle.std.proofs.lemmas.List.Folds.{fold-map}
 use Rattle.std.proofs.Math.ListN.{get_or-append}
 use Rattle.std.proofs.Math.Seq.{get_or-append_seam}
 use Rattle.std.proofs.lemmas.List.FromFn.{map-range_with_len_more}
-use Rattle.mt_machine.specs.declared.done.Done.{Done}
 use Rattle.mt_machine.specs.declared.op.Op.{Op}
 use Rattle.mt_machine.specs.System.{System}
-use Rattle.mt_machine.specs.Machine.{FitsOp, Machine}
+use Rattle.mt_machine.specs.Machine.{Machine}
 use Rattle.mt_core.specs.Rounds.{ascending}
 use Rattle.mt_private.specs.declared.job.Job.{Job}
 use Rattle.mt_private.specs.declared.job.Part.{Part}
 use Rattle.mt_private.specs.declared.job.Part.TheVariants.{After, Before}
 use Rattle.mt_private.specs.declared.job.Told.{Told}
 use Rattle.mt_private.specs.Jobs.{answers_in, ops_in}
-use Rattle.mt_private.specs.OneByOne.{OneByOne, jobs_one_by_one, one_by_one}
-use Rattle.mt_output.specs.Lines.{line}
-use Rattle.mt_cli.specs.Measured.{AreRan, all_values_from, behind_op, behind_ops, drawn_op, drawn_ops, file_of, first_number, measured, measured_machine, measured_text, ops_after, ops_before, sums_text, text_of, values_from, words_sum}
+use Rattle.mt_private.specs.OneByOne.{jobs_one_by_one, one_by_one}
+use Rattle.mt_cli.specs.Measured.{AreRan, all_values_from, behind_op, behind_ops, drawn_op, drawn_ops, file_of, measured, measured_machine, measured_text, ops_after, ops_before, sums_text, text_of, values_from, words_sum}
 
 pub ops_on : (count i x : ℕ) (ops whole : List Op) → i < count → ops ++ drawn_ops (count - i) x ≡ whole → (ops ++ drawn_op x ∷ []) ++ drawn_ops (count - (i + 1)) (behind_op x) ≡ whole
 unfolding drawn_ops

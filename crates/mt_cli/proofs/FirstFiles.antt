@@ -1,13 +1,11 @@
 -- Processor 0's file of a dump, and the kind of all its files.
-use Rattle.std.proofs.Common.{◌≡◌, ◌<◌, ℕ, List, [], ◌∷◌, length, None, Option, Some, sym, ◌∙◌, subst, arith}
-use Rattle.std.specs.Prelude.{MatchOption}
-use Rattle.std.specs.List.{All, AllByRecursion}
+use Rattle.std.proofs.Common.{◌≡◌, ◌<◌, List, [], ◌∷◌, length, None, sym, ◌∙◌, arith}
+use Rattle.std.specs.List.{All}
 use Rattle.std.proofs.lemmas.List.Elements.{All-from_recursion, All-head}
-use Rattle.mt_regs.specs.declared.fault.Fault.{Fault}
 use Rattle.mt_regs.specs.RegisterFile.{IsRegisterFile, RegisterFile}
 use Rattle.mt_regs.specs.Faults.{IsAccepted}
 use Rattle.mt_regs.specs.StartFiles.{SameKind}
-use Rattle.mt_regs.specs.Agreement.{IsFirstRefusal, first_refusal}
+use Rattle.mt_regs.specs.Agreement.{first_refusal}
 use Rattle.mt_regs.proofs.FirstOnes.{is_first_refusal}
 use Rattle.mt_dump.specs.Dumps.{Dump, IsDump, first_file, first_of}
 

@@ -27,7 +27,8 @@ use Rattle.mt_cli.specs.declared.command.Command.{Command}
 use Rattle.mt_cli.specs.Answer.{Answer, FileAnswer, refused, accepted, shown, about_file, typed, paged, tidied, too_few, disabled, grained, gran_too_few, gran_disabled}
 use Rattle.mt_cli.specs.Output.{Output, usage, bad_text, answered, replayed, made, summed, measured, requested}
 use Rattle.mt_cli.specs.Tool.{Answered, CutShort, Finished, Leaves, Reads, FailedRead, Overran, Starved, Untouched}
-use Rattle.mt_cli.specs.Written.{Answers, AnswersInput, Makes, Sums, Writes, writes, no_memory, bad_input, good_input, no_input}
+use Rattle.mt_output.specs.Written.{Writes}
+use Rattle.mt_cli.specs.Written.{Answers, AnswersInput, Makes, Sums, writes, no_memory, bad_input, good_input, no_input}
 
 -- what stands after the bytes that the sink had
 appended : (before text : List ℕ) (old new : Option (List ℕ)) → old ≡ Some before → Appends old new text → new ≡ Some (before ++ text)

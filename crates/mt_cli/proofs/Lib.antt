@@ -1,5 +1,4 @@
 mod Answering
-mod CanonicalLines
 mod FirstFiles
 mod Leaving
 mod Made

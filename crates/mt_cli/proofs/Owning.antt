@@ -1,5 +1,5 @@
 -- Processors with a page of their own each.
-use Rattle.std.proofs.Common.{◌≡◌, ◌∙◌, ap, sym, refl, subst, arith, ℕ, ◌+◌, ◌*◌, ◌-◌, ◌<◌, ◌^◌, length, Some, []}
+use Rattle.std.proofs.Common.{◌≡◌, ◌∙◌, ap, sym, refl, arith, ℕ, ◌*◌, ◌-◌, ◌<◌, ◌^◌, Some, []}
 use Rattle.std.specs.Prelude.{slice_get, map, replicate}
 use Rattle.std.specs.List.{All}
 use Rattle.std.proofs.lemmas.List.{length-map, length-replicate}

@@ -1,5 +1,5 @@
 -- The lines that the commands write, but for those of mt_output (own). Each ends with LF.
-use Rattle.std.specs.Prelude.{ℕ, ◌-◌, ◌*◌, ◌/◌, ◌^◌, ◌<◌, ◌≤◌, ◌==◌, nat_lt, List, [], ◌++◌, codes, decimal, flat_map, if◌then◌else◌, Option, Some, None}
+use Rattle.std.specs.Prelude.{ℕ, ◌-◌, ◌*◌, ◌/◌, ◌^◌, ◌<◌, ◌≤◌, ◌==◌, nat_lt, List, ◌++◌, codes, decimal, flat_map, if◌then◌else◌, Option, Some, None}
 use Rattle.mt_kinds.specs.declared.mem_type.MemType.{MemType}
 use Rattle.mt_kinds.specs.declared.pat_type.PatType.{PatType}
 use Rattle.mt_kinds.specs.EffectiveType.{effective_type}

@@ -1,9 +1,7 @@
--- What a call that writes one text and answers a status leaves in the sink.
+-- What a command that writes one text and answers a status leaves in the sink.
 use Rattle.std.specs.Prelude.{ℕ, ◌≡◌, ◌<◌, ◌⊎◌, List, [], length, Option, Some}
-use Rattle.std.specs.Io.KnownBytes.{Appends}
-use Rattle.mt_ports.specs.Puts.{AppendsFront}
 use Rattle.mt_ports.specs.declared.status.Status.{Status}
-use Rattle.mt_ports.specs.declared.status.Status.TheVariants.{Done, BadText, ReadFault, WriteFault, NoMemory, TooLong}
+use Rattle.mt_ports.specs.declared.status.Status.TheVariants.{Done, BadText, ReadFault, NoMemory, TooLong}
 use Rattle.mt_cli.specs.declared.command.DumpCommand.{DumpCommand}
 use Rattle.mt_cli.specs.Measured.{measured_text}
 use Rattle.mt_cli.specs.Answer.{Answer}
@@ -11,11 +9,7 @@ use Rattle.mt_dump.specs.Dumps.{Dump}
 use Rattle.mt_dump.specs.Dump.{Shown, dump_offence}
 use Rattle.mt_dump.specs.declared.fault.DumpFault.{DumpFault}
 use Rattle.mt_output.specs.Lines.{bad_text_line}
-
--- The sink took the text and the status is answered, or it took a front of it and failed.
-abbrev pub Writes : List ℕ → Status → Option (List ℕ) → Option (List ℕ) → Status → Type 0
-Writes text status old new result =
-    ((result ≡ status) × Appends old new text) ⊎ ((result ≡ WriteFault) × AppendsFront old new text)
+use Rattle.mt_output.specs.Written.{Writes}
 
 -- The sink took a text that a number determines, or a front of it, or nothing for want of memory.
 abbrev pub Makes : List ℕ → Option (List ℕ) → Option (List ℕ) → Status → Type 0

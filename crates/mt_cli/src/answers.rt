@@ -9,17 +9,17 @@ ghost use Rattle.mt_cli.specs.Answer.{Answer, FileAnswer};
 ghost use Rattle.mt_cli.specs.Generator.{make_text};
 ghost use Rattle.mt_cli.specs.Output.{big_text};
 ghost use Rattle.mt_cli.specs.declared.command.Command.TheVariants.{Dump as OfDump};
-ghost use Rattle.mt_cli.specs.Written.{Answers, AnswersInput, Makes, Sums, Writes};
+ghost use Rattle.mt_cli.specs.Written.{Answers, AnswersInput, Makes, Sums};
 
 use crate::DumpCommand;
 use crate::generator::make_text;
 use crate::lines::{check_text, disabled_line, page_text, summary_text, too_few_line};
 use crate::measured::measured_text;
-use crate::texts::{canonical_text, grained_text, tidied_text, types_text};
-use mt_dump::{Dump, read_dump_from};
+use crate::texts::{grained_text, tidied_text, types_text};
+use mt_dump::{Dump, canonical_text, read_dump_from};
 use mt_gran::{GranFault, gran};
-use mt_output::{bad_text_line, dump_refused_line};
-use mt_ports::{Gate, Sink, Source, Status, put};
+use mt_output::{bad_text_line, dump_refused_line, written};
+use mt_ports::{Gate, Sink, Source, Status};
 use mt_regs::{Fault, RegFile, first_refusal};
 use mt_replay::summary;
 use mt_text::FeedFault;
@@ -28,19 +28,6 @@ use mt_types::page_runs;
 use std::alloc::Global;
 use std::sync::Wait;
 use std::thread::Threads;
-
-/// Writes a text, and answers this status unless the sink fails.
-pub fn written<K: Sink>(sink: &mut K, text: &[u8], status: Status) -> Status
-    requires { status ≢ Status.WriteFault }
-    ensures bytes { Writes text.now status (K.taken sink.old) (K.taken sink.new) result }
-    ensures status { (result ≡ status) ⊎ (result ≡ Status.WriteFault) }
-    ensures cause { StatusHasCause Status.WriteFault (K.faults sink.old) (K.faults sink.new) result }
-{
-    match put(sink, text) {
-        Ok(()) => status,
-        Err(_) => Status::WriteFault,
-    }
-}
 
 // Names the first file that isn't accepted, and its register at fault.
 fn refuse<K: Sink>(d: &Dump, k: u32, fault: &Fault, sink: &mut K, command: DumpCommand) -> Status

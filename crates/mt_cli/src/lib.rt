@@ -28,13 +28,12 @@ pub use lines::{
 };
 pub use measured::measured_text;
 pub use program::program_status;
-pub use texts::{canonical_text, grained_text, tidied_text, types_text};
+pub use texts::{grained_text, tidied_text, types_text};
 pub use top::tool;
 pub use words::command_of;
 pub use worked::{worked_draws, worked_generated_lines};
 pub use worked_answers::{
-    worked_dump_answers, worked_exits, worked_gran_answers, worked_tidy_answers,
-    worked_type_answers,
+    worked_dump_answers, worked_gran_answers, worked_tidy_answers, worked_type_answers,
 };
 pub use worked_outputs::{worked_checks, worked_command_lines, worked_endings};
 

@@ -1,35 +1,21 @@
-ghost use Rattle.std.specs.Prelude.{◌≡◌, ◌⊎◌, ◌↔◌, false, ℕ, List, Some, None, drop, IfErr, IfOk};
+ghost use Rattle.std.specs.Prelude.{◌≡◌, ◌⊎◌, ◌↔◌, false, ℕ, List, Some, None, IfErr};
 ghost use Rattle.std.specs.IoError.{error_kind};
 ghost use Rattle.std.specs.Process.{exit_status};
-ghost use Rattle.std.specs.Vec.Iter.{into_iter_items};
 ghost use Rattle.mt_ports.specs.Causes.{StatusHasCause};
 ghost use Rattle.mt_ports.specs.Exit.{code};
 ghost use Rattle.mt_cli.specs.CommandLine.{command_of, reads_input};
-ghost use Rattle.mt_cli.specs.Program.{Exits, words_of};
+ghost use Rattle.mt_output.specs.Program.{Exits, words_of};
 ghost use Rattle.mt_text.specs.Feed.{GaveTooMuch};
 ghost use Rattle.mt_cli.specs.Tool.{Leaves, Reads};
 
 use crate::tool;
+use mt_output::{exit_code, words_behind_name};
 use mt_ports::{Gate, Sink, Source, Status};
-use std::alloc::{AllocError, Global};
 use std::env::Args;
 use std::io::{self, ErrorKind};
 use std::process::ExitCode;
 use std::sync::Wait;
 use std::thread::Threads;
-
-// The arguments behind the program's name.
-fn words_behind_name(alloc: Global, args: Args) -> Result<Vec<String>, AllocError>
-    ensures { IfOk result (λ words. words.items ≡ drop 1 (into_iter_items args)) }
-{
-    args.skip(1).collect(alloc)
-}
-
-fn exit_code(status: Status) -> ExitCode
-    ensures { exit_status result ≡ code status }
-{
-    ExitCode::from(status.code())
-}
 
 // Runs the tool. Arguments that are no text are wrong usage, and arguments that find no memory end
 // the program before the run.

@@ -1,6 +1,5 @@
-ghost use Rattle.std.specs.Prelude.{◌≡◌, ◌≤◌, ◌+◌, ◌++◌, length, IfOk};
-ghost use Rattle.arrayvec.specs.ArrayVec.{array_vec_len};
-ghost use Rattle.mt_dump.specs.Canon.{canon, canon_lines};
+ghost use Rattle.std.specs.Prelude.{◌≡◌, ◌++◌, IfOk};
+ghost use Rattle.mt_dump.specs.Canon.{canon};
 ghost use Rattle.mt_dump.specs.Dumps.{dump_of};
 ghost use Rattle.std.specs.List.{All};
 ghost use Rattle.mt_cli.specs.Lines.{IsLine, lost_line, parts_text, types_text, used_line};
@@ -8,68 +7,17 @@ ghost use Rattle.mt_types.specs.Runs.{IsTypeMap};
 
 use crate::lines::{lost_line, run_line, used_line};
 use arrayvec::ArrayVec;
-use mt_dump::{Dump, write_dump};
+use mt_dump::{Dump, TextBuffer, append_canon, append_text};
 use mt_regs::RegFile;
 use mt_types::Run;
 use std::alloc::{AllocError, Global};
-
-const LONGEST_LINE: usize = 24;
-
-const TEXT_ROOM: usize = 0x8000;
-
-/// Room for the canonical text of any dump behind one more line.
-pub type TextBuffer = ArrayVec<u8, TEXT_ROOM>;
-
-fn append(text: &mut TextBuffer, bytes: &[u8])
-    requires { array_vec_len text.old + length bytes.now ≤ TEXT_ROOM }
-    ensures { text.new.items ≡ text.old.items ++ bytes.now }
-{
-    match text.try_extend_from_slice(bytes) {
-        Ok(()) => {}
-        Err(_) => unreachable!(),
-    }
-}
-
-// How many lines the canonical text of a dump has.
-fn line_count(d: &Dump) -> u32
-    ensures count { result ≡ length (canon_lines d.now) }
-    ensures few { result ≤ 1281 }
-{
-    let lines = d.first_file().count() + 2;
-    if d.version == 2 {
-        1 + d.files.len() as u32 * (lines + 1)
-    } else {
-        lines
-    }
-}
-
-// Adds the canonical text of a dump.
-fn append_canon(text: &mut TextBuffer, d: &Dump)
-    requires { array_vec_len text.old ≤ 224 }
-    ensures { text.new.items ≡ text.old.items ++ canon d.now }
-{
-    'lines: for i in 0..line_count(d) {
-        let mut line = [0; LONGEST_LINE];
-        let count = write_dump(d, i, &mut line);
-        append(text, &line[..count]);
-    }
-}
-
-/// The canonical text of a dump.
-pub fn canonical_text(d: &Dump) -> TextBuffer
-    ensures { result.items ≡ canon d.now }
-{
-    let mut text = ArrayVec::new();
-    append_canon(&mut text, d);
-    text
-}
 
 /// The number of pairs that a tidied file uses, and the canonical text of the dump of this file alone.
 pub fn tidied_text(used: u32, f: &RegFile) -> TextBuffer
     ensures { result.items ≡ used_line used ++ canon (dump_of f.now) }
 {
     let mut text = ArrayVec::new();
-    append(&mut text, used_line(used).as_slice());
+    append_text(&mut text, used_line(used).as_slice());
     append_canon(&mut text, &Dump::of(f));
     text
 }

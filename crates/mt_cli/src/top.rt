@@ -5,8 +5,9 @@ ghost use Rattle.mt_text.specs.Feed.{GaveTooMuch};
 ghost use Rattle.mt_cli.specs.declared.command.Command.{Command};
 ghost use Rattle.mt_cli.specs.Tool.{Leaves, Reads};
 
-use crate::answers::{answer_input, big, make, private, written};
+use crate::answers::{answer_input, big, make, private};
 use crate::{Command, command_of};
+use mt_output::written;
 use mt_ports::{Gate, Sink, Source, Status};
 use mt_proc::proc;
 use mt_replay::replay;

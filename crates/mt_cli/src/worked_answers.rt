@@ -1,17 +1,14 @@
-// What commands answer about files and dumps, and numbers of an exit.
+// What commands answer about files and dumps.
 ghost use Rattle.std.specs.Prelude.{◌≡◌, ◌++◌, codes, List, ℕ};
-ghost use Rattle.std.specs.Process.{exit_status};
-ghost use Rattle.std.specs.declared.process.ExitCode.{ExitCode};
 ghost use Rattle.mt_kinds.specs.declared.mem_type.MemType.TheVariants.{UC};
 ghost use Rattle.mt_ports.specs.declared.status.Status.{Status};
-ghost use Rattle.mt_ports.specs.declared.status.Status.TheVariants.{BadText, Disabled, Done, Refused, TooFew};
+ghost use Rattle.mt_ports.specs.declared.status.Status.TheVariants.{Disabled, Done, Refused, TooFew};
 ghost use Rattle.mt_dump.specs.Canon.{canon};
 ghost use Rattle.mt_dump.specs.Dumps.{dump_of};
 ghost use Rattle.mt_tidy.specs.WorkedRanges.{all_of, uncached, written_back};
 ghost use Rattle.mt_cli.specs.declared.command.DumpCommand.TheVariants.{Check, Gran, Page, Show, Tidy, Types};
 ghost use Rattle.mt_cli.specs.Answer.{Answer, FileAnswer};
 ghost use Rattle.mt_cli.specs.Lines.{types_text};
-ghost use Rattle.mt_cli.specs.Program.{Exits};
 ghost use Rattle.mt_cli.specs.WorkedAnswers.{all_wb, no_type, two_files, typed_file};
 
 /// Answers about a file's types.
@@ -57,11 +54,4 @@ pub fn worked_dump_answers()
     ensures second_file_not_accepted { (text : List ℕ) → Answer (two_files all_wb no_type) Types text Done → ⊥ }
     ensures first_file { Answer (two_files all_wb (typed_file 0x800)) Types (codes "0000000000000-0000fffffffff WB\n") Done }
     ensures second_file { Answer (two_files all_wb (typed_file 0x800)) Types (types_text (all_of UC)) Done → ⊥ }
-{}
-
-/// The number that a program ends with is that of its status.
-pub fn worked_exits()
-    ensures bad_text { (exit : ExitCode) → exit_status exit ≡ 3 → Exits exit (λ status. status ≡ BadText) }
-    ensures other_number { (exit : ExitCode) → exit_status exit ≡ 0 → Exits exit (λ status. status ≡ BadText) → ⊥ }
-    ensures other_status { (exit : ExitCode) → exit_status exit ≡ 3 → Exits exit (λ status. status ≡ Done) → ⊥ }
 {}

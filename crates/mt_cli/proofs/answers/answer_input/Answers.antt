@@ -1,6 +1,7 @@
-use Rattle.std.proofs.Common.{◌≡◌, ◌∙◌, List, ap, subst, ℕ}
+use Rattle.std.proofs.Common.{◌∙◌, List, subst, ℕ}
 use Rattle.mt_ports.specs.declared.status.Status.TheVariants.{BadText}
-use Rattle.mt_cli.specs.Written.{Writes, bad_input, good_input}
+use Rattle.mt_output.specs.Written.{Writes}
+use Rattle.mt_cli.specs.Written.{bad_input, good_input}
 use Rattle.mt_cli.proofs.Leaving.{never_answers}
 use Rattle.mt_cli.proofs.answers.answer_input.Goals as goal
 

@@ -1,6 +1,6 @@
 use Rattle.std.proofs.Common.{◌∙◌, List, inl, inr, refl, subst, ℕ}
 use Rattle.mt_ports.specs.declared.status.Status.TheVariants.{Done}
-use Rattle.mt_cli.specs.Written.{Writes}
+use Rattle.mt_output.specs.Written.{Writes}
 use Rattle.mt_cli.proofs.Answering.{big_is}
 use Rattle.mt_cli.proofs.answers.big.Goals as goal
 

@@ -1,6 +1,6 @@
 use Rattle.std.proofs.Common.{◌∙◌, List, inl, subst, ℕ}
 use Rattle.mt_ports.specs.declared.status.Status.TheVariants.{Done}
-use Rattle.mt_cli.specs.Written.{Writes}
+use Rattle.mt_output.specs.Written.{Writes}
 use Rattle.mt_cli.proofs.answers.private.Goals as goal
 
 pub returns-in-Ok-clause-bytes : goal.returns-in-Ok-clause-bytes

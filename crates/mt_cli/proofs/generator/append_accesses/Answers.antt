@@ -1,5 +1,5 @@
-use Rattle.std.proofs.Common.{◌≡◌, ◌∙◌, ◌+◌, ◌-◌, ◌++◌, ℕ, List, append_assoc, ap, sym, refl, arith, rules, string_bytes}
-use Rattle.mt_cli.specs.Generator.{accesses, after_accesses, maps, processors, rounds, stepped}
+use Rattle.std.proofs.Common.{◌≡◌, ◌∙◌, ◌-◌, ◌++◌, ap, arith, string_bytes}
+use Rattle.mt_cli.specs.Generator.{accesses, after_accesses, stepped}
 use Rattle.mt_cli.proofs.Making.{accesses_end, accesses_on, after_end, after_on}
 use Rattle.mt_cli.proofs.generator.append_accesses.Goals as goal
 

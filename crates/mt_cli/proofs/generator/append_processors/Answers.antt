@@ -1,5 +1,5 @@
-use Rattle.std.proofs.Common.{◌≡◌, ◌∙◌, ◌+◌, ◌-◌, ◌++◌, ℕ, List, append_assoc, ap, sym, refl, arith, rules, string_bytes}
-use Rattle.mt_cli.specs.Generator.{accesses, after_accesses, maps, processors, rounds, stepped}
+use Rattle.std.proofs.Common.{◌≡◌, ◌-◌, ◌++◌, arith, string_bytes}
+use Rattle.mt_cli.specs.Generator.{processors}
 use Rattle.mt_cli.proofs.Making.{processors_end, processors_on}
 use Rattle.mt_cli.proofs.generator.append_processors.Goals as goal
 

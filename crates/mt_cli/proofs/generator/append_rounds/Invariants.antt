@@ -1,5 +1,5 @@
 use Rattle.std.proofs.Common.{◌≡◌, ◌-◌, ◌++◌, string_bytes}
-use Rattle.mt_cli.specs.Generator.{accesses, after_accesses, maps, processors, rounds}
+use Rattle.mt_cli.specs.Generator.{rounds}
 use Rattle.mt_cli.proofs.generator.append_rounds.Given as goal
 
 abbrev pub invariant-rounds : goal.invariant-rounds

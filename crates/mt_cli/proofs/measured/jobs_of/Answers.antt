@@ -1,9 +1,9 @@
-use Rattle.std.proofs.Common.{◌≡◌, ◌∙◌, ap, sym, subst, arith, rules, ◌+◌, ◌-◌, ◌++◌, ◌∷◌, [], get_or, length, map, ℕ, List}
+use Rattle.std.proofs.Common.{◌≡◌, ◌∙◌, ap, sym, subst, arith, rules, get_or, map, ℕ, List}
 use Rattle.std.specs.List.{range_with_len}
 use Rattle.mt_private.specs.declared.job.Job.{Job}
 use Rattle.mt_private.specs.declared.job.Part.TheVariants.{After, Before}
 use Rattle.mt_private.specs.Jobs.{FitsJob, ops_in}
-use Rattle.mt_cli.specs.Measured.{behind_ops, drawn_ops, ops_after, ops_before}
+use Rattle.mt_cli.specs.Measured.{ops_after, ops_before}
 use Rattle.mt_cli.proofs.Drawing.{each_push, parts_more}
 use Rattle.mt_cli.proofs.measured.jobs_of.Goals as goal
 

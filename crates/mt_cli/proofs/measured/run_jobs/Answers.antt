@@ -1,9 +1,8 @@
-use Rattle.std.proofs.Common.{◌≡◌, ◌∙◌, ap, sym, subst, arith, length, map}
+use Rattle.std.proofs.Common.{sym, subst}
 use Rattle.std.specs.List.{All}
 use Rattle.mt_regs.specs.RegisterFile.{RegisterFile}
-use Rattle.mt_machine.specs.Machine.{FitsGoal, Machine}
-use Rattle.mt_private.specs.OneByOne.{jobs_one_by_one}
-use Rattle.mt_cli.specs.Measured.{AreRan, file_of}
+use Rattle.mt_machine.specs.Machine.{FitsGoal}
+use Rattle.mt_cli.specs.Measured.{AreRan}
 use Rattle.mt_cli.proofs.Owning.{has_room}
 use Rattle.mt_cli.proofs.measured.run_jobs.Goals as goal
 

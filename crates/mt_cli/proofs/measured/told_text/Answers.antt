@@ -2,7 +2,7 @@ use Rattle.std.proofs.Common.{◌≡◌, ◌∙◌, ap, ℕ}
 use Rattle.std.specs.List.{fold}
 use Rattle.mt_private.specs.declared.job.Part.TheVariants.{After, Before}
 use Rattle.mt_private.specs.Jobs.{answers_in}
-use Rattle.mt_cli.specs.Measured.{sums_text, values_from, words_sum}
+use Rattle.mt_cli.specs.Measured.{sums_text, values_from}
 use Rattle.mt_cli.proofs.measured.told_text.Goals as goal
 
 pub returns : goal.returns

@@ -1,4 +1,4 @@
-use Rattle.std.proofs.Common.{◌≡◌, ◌∙◌, ap, sym, arith, ◌+◌, drop, ℕ}
+use Rattle.std.proofs.Common.{◌∙◌, ap, sym, arith, ◌+◌, drop, ℕ}
 use Rattle.std.specs.List.{fold}
 use Rattle.std.proofs.lemmas.List.{drop_more}
 use Rattle.mt_cli.specs.Measured.{plus}

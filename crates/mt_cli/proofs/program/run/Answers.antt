@@ -1,5 +1,5 @@
 use Rattle.std.proofs.Common.{rules, ◌≡◌, ℕ, List, map, string_bytes, subst}
-use Rattle.mt_cli.specs.Program.{words_of}
+use Rattle.mt_output.specs.Program.{words_of}
 use Rattle.mt_cli.specs.Tool.{Leaves}
 use Rattle.mt_cli.proofs.program.run.Goals as goal
 
