@@ -40,6 +40,8 @@ extern "C" {
 #define MTRR_NO_ROOM 6u   /* the array is too small for the type map */
 #define MTRR_WAITS 7u     /* the processor has nothing to do */
 #define MTRR_NO_PHASE 8u  /* there is no such phase or no such word */
+#define MTRR_DISABLED 9u  /* the range registers are off */
+#define MTRR_TOO_FEW 10u  /* more pairs are needed than may be used */
 
 /* What is wrong with a register. */
 #define MTRR_RESERVED_BIT 1u
@@ -132,6 +134,12 @@ struct mtrr_run {
     uint32_t kind; /* MTRR_UC and the like, or MTRR_NO_TYPE */
 };
 
+/* How many pairs the pages' types need, and how many may be used. */
+struct mtrr_need {
+    uint64_t needs;
+    uint64_t has;
+};
+
 /* An update of the range registers of all processors. */
 struct mtrr_update {
     uint32_t word;          /* MTRR_NOTHING_YET and the like */
@@ -210,6 +218,22 @@ uint32_t mtrr_effective_type(const struct mtrr_registers *registers,
  */
 uint32_t mtrr_type_map(const struct mtrr_registers *registers,
                        struct mtrr_run *runs, size_t room, size_t *count);
+
+/*
+ * The registers with the same type for each page in the fewest valid pairs:
+ * no list of ranges is shorter, of all in which the larger of two that share
+ * a page has at most `chunk` bytes (1 << 52 bounds nothing). Only the pairs
+ * differ from `registers`. The valid ones stand first, by ascending first
+ * page; the others are zeros. `spare` pairs stay unused, or all where there
+ * are fewer.
+ *
+ * MTRR_DONE: *tidied and *need were written, and need->needs pairs are valid.
+ * MTRR_TOO_FEW: *need alone was. MTRR_NO_FILE, MTRR_FAULT (mtrr_first_fault
+ * says which), MTRR_DISABLED: neither was.
+ */
+uint32_t mtrr_tidy(const struct mtrr_registers *registers, uint8_t spare,
+                   uint64_t chunk, struct mtrr_registers *tidied,
+                   struct mtrr_need *need);
 
 /*
  * The next step of a processor in an update, in the order of the manual

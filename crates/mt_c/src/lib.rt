@@ -8,13 +8,15 @@ ghost use Rattle.mt_machine.specs.System.{Processor};
 ghost use Rattle.mt_plain.specs.Due.{IsTold, due_status, due_step, event_words, whole_flush};
 ghost use Rattle.mt_plain.specs.Maps.{IsMapIn, has_map, map_status, no_map_status};
 ghost use Rattle.mt_plain.specs.Plain.{effective_number, effective_status, fault_status, fault_words, file_in, has_no_other_pair, is_file, page_number, page_status};
+ghost use Rattle.mt_plain.specs.Tidying.{IsTidyAnswer};
 ghost use Rattle.mt_regs.specs.Faults.{IsFirstFault};
 ghost use Rattle.mt_regs.specs.RegisterFile.{IsRegisterFile};
 ghost use Rattle.mt_regs.specs.declared.fault.Fault.{Fault};
 
 use mt_plain::{
-    PlainFault, PlainProcessor, PlainRegisters, PlainRun, PlainStep, PlainUpdate,
-    a_due_step_is_the_machines, due, effective_type, first_fault, is_file, page_type, type_map,
+    PlainFault, PlainNeed, PlainProcessor, PlainRegisters, PlainRun, PlainStep, PlainUpdate,
+    a_due_step_is_the_machines, due, effective_type, first_fault, is_file, page_type, tidy,
+    type_map,
 };
 
 /// Whether the words are a register file's: a width of 32 to 52 bits, at most 32 pairs by VCNT, zeros in the pairs
@@ -94,4 +96,22 @@ pub extern "C" fn mtrr_due(
 {
     a_due_step_is_the_machines();
     due(update, processor, step)
+}
+
+/// The file with the same type for each page and the fewest valid pairs, of which the larger of two that share a page has
+/// at most `chunk` bytes; `spare` pairs stay unused. 0 where it was written to `tidied`, with the number of its pairs and
+/// how many may be used, 2 where the words are no register file's, 1 where the file has a fault, 9 where its ranges are
+/// off, and 10 where more pairs are needed than may be used: both numbers are written. What isn't written is as before.
+#[unsafe(no_mangle)]
+pub extern "C" fn mtrr_tidy(
+    registers: &PlainRegisters,
+    spare: u8,
+    chunk: u64,
+    tidied: &mut PlainRegisters,
+    need: &mut PlainNeed,
+) -> u32
+    ensures no_file { is_file registers.now ≡ false → (result ≡ 2) × (tidied.new ≡ tidied.old) × (need.new ≡ need.old) }
+    ensures file { is_file registers.now ≡ true → IsTidyAnswer (file_in registers.now) chunk spare result tidied.old tidied.new need.old need.new }
+{
+    tidy(registers, spare, chunk, tidied, need)
 }

@@ -1,5 +1,6 @@
 pub mod Due
 pub mod Maps
 pub mod Plain
+pub mod Tidying
 pub mod WorkedWords
 pub mod WorkedTurns

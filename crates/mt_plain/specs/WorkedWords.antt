@@ -3,6 +3,7 @@ use Rattle.std.specs.Prelude.{ℕ, ◌-◌, ◌++◌, ◌∷◌, [], List, lengt
 use Rattle.mt_plain.specs.declared.plain.PlainPair.{PlainPair}
 use Rattle.mt_plain.specs.declared.plain.PlainRegisters.{PlainRegisters}
 use Rattle.mt_plain.specs.declared.plain.PlainFault.{PlainFault}
+use Rattle.mt_plain.specs.declared.plain.PlainNeed.{PlainNeed}
 use Rattle.mt_plain.specs.declared.plain.PlainRun.{PlainRun}
 
 abbrev pub pair : ℕ → ℕ → PlainPair
@@ -61,3 +62,6 @@ sixteen_of first kind = record { first = first; pages = 16; kind = kind }
 -- 2 ^ 24 pages by the number of their type
 abbrev pub all_pages : ℕ → PlainRun
 all_pages kind = record { first = 0; pages = 0x1000000; kind = kind }
+
+abbrev pub need : ℕ → ℕ → PlainNeed
+need needs has = record { needs = needs; has = has }

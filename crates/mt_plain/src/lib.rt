@@ -7,17 +7,20 @@ mod laws;
 mod maps;
 mod next_step;
 mod plain;
+mod tidied;
 mod turn;
 mod worked;
 mod worked_due;
 mod worked_map;
+mod worked_tidied;
 
 pub use answers::{effective_type, first_fault, page_type};
 pub use file::{file_of, is_file};
 pub use laws::each_file_is_taken;
 pub use maps::type_map;
 pub use next_step::{a_due_step_is_the_machines, due};
-pub use plain::{PlainFault, PlainPair, PlainRegisters, PlainRun};
+pub use plain::{PlainFault, PlainNeed, PlainPair, PlainRegisters, PlainRun};
+pub use tidied::tidy;
 pub use turn::{PlainProcessor, PlainStep, PlainUpdate};
 pub use worked::{
     worked_effective_answers, worked_fault_numbers, worked_file, worked_page_answers, worked_words,
@@ -26,6 +29,7 @@ pub use worked_due::{
     worked_due_events, worked_next_phases, worked_told_updates, worked_turn_numbers, worked_turns,
 };
 pub use worked_map::{worked_map_answers, worked_maps_in_arrays, worked_plain_runs};
+pub use worked_tidied::{worked_tidy_reasons, worked_tidy_refusals};
 
 #[cfg(test)]
 mod tests;

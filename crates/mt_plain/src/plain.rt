@@ -34,3 +34,11 @@ pub struct PlainRun {
     pub pages: u64,
     pub kind: u32,
 }
+
+/// How many pairs the pages' types need, and how many may be used.
+#[repr(C)]
+#[derive(Clone, Copy)]
+pub struct PlainNeed {
+    pub needs: u64,
+    pub has: u64,
+}

@@ -1,6 +1,6 @@
 use crate::{
-    PlainFault, PlainPair, PlainProcessor, PlainRegisters, PlainRun, PlainStep, PlainUpdate, due,
-    effective_type, first_fault, is_file, page_type, type_map,
+    PlainFault, PlainNeed, PlainPair, PlainProcessor, PlainRegisters, PlainRun, PlainStep,
+    PlainUpdate, due, effective_type, first_fault, is_file, page_type, tidy, type_map,
 };
 
 const NONE: PlainFault = PlainFault {
@@ -179,4 +179,27 @@ fn nothing_is_due(rt: HostRuntime) {
         8
     );
     assert_eq!(rt; step.number, 0);
+}
+
+// WB to 4 GB in two pairs of 2 GB each.
+#[test]
+fn two_pairs_are_one(rt: HostRuntime) {
+    let mut r = plain();
+    r.pairs[0].mask = 0xf_8000_0800;
+    r.pairs[1] = PlainPair {
+        base: 0x8000_0006,
+        mask: 0xf_8000_0800,
+    };
+    let mut tidied = plain();
+    tidied.pairs[3].base = 9;
+    let mut need = PlainNeed { needs: 9, has: 9 };
+    assert_eq!(rt; tidy(&r, 1, 0, &mut tidied, &mut need), 0);
+    assert_eq!(rt; need.needs, 1);
+    assert_eq!(rt; need.has, 7);
+    assert_eq!(rt; tidied.pairs[0].base, 6);
+    assert_eq!(rt; tidied.pairs[0].mask, 0xf_0000_0800);
+    assert_eq!(rt; tidied.pairs[1].mask, 0);
+    assert_eq!(rt; tidied.pairs[3].base, 0);
+    assert_eq!(rt; tidy(&r, 8, 0, &mut tidied, &mut need), 10);
+    assert_eq!(rt; need.has, 0);
 }

@@ -1,0 +1,99 @@
+ghost use Rattle.std.specs.Prelude.{◌≡◌, ◌≤◌, ◌-◌, drop, length, map, replicate, take, false, true};
+ghost use Rattle.std.specs.List.{list_all};
+ghost use Rattle.mt_plain.specs.Plain.{as_pair, file_in, has_no_other_pair, is_file, is_zero_pair};
+ghost use Rattle.mt_plain.specs.Tidying.{IsTidyAnswer};
+ghost use Rattle.mt_regs.specs.RegisterFile.{pair_count};
+
+use crate::answers::{DONE, FAULT, NO_FILE};
+use crate::{PlainNeed, PlainPair, PlainRegisters, file_of};
+use mt_regs::RegFile;
+use mt_tidy::{TidyFault, tidy_without_memory};
+
+const DISABLED: u32 = 9;
+
+const TOO_FEW: u32 = 10;
+
+const ZEROS: PlainPair = PlainPair { base: 0, mask: 0 };
+
+fn pair_from(pair: (u64, u64)) -> PlainPair
+    ensures { as_pair result ≡ pair }
+{
+    PlainPair {
+        base: pair.0,
+        mask: pair.1,
+    }
+}
+
+// The pairs, and zeros behind them.
+fn plain_pairs(pairs: &[(u64, u64)]) -> [PlainPair; 32]
+    requires { length pairs.now ≤ 32 }
+    ensures pairs { map as_pair (take (length pairs.now) result) ≡ pairs.now }
+    ensures others { list_all is_zero_pair (drop (length pairs.now) result) ≡ true }
+{
+    let mut plain = [ZEROS; 32];
+    for i in 0..pairs.len() {
+        plain[i] = pair_from(pairs[i]);
+    }
+    plain
+}
+
+// The words that tell a file.
+fn words_of(f: &RegFile) -> PlainRegisters
+    ensures file { file_in result ≡ f.now }
+    ensures others { has_no_other_pair result ≡ true }
+{
+    PlainRegisters {
+        width: f.maxphy as u64,
+        capabilities: f.cap,
+        pairs: plain_pairs(f.pairs.as_slice()),
+        fixed: f.fixed,
+        pat: f.pat,
+        default_type: f.deftype,
+    }
+}
+
+// How many pairs may be used.
+fn usable_pairs(f: &RegFile, spare: u8) -> u64
+    ensures { result ≡ pair_count f.now - spare }
+{
+    (f.pairs.len() as u64).saturating_sub(spare as u64)
+}
+
+/// The file with the same type for each page and the fewest valid pairs, of which the larger of two that share a page has
+/// at most `chunk` bytes; `spare` pairs stay unused. 0 where it was written to `tidied`, with the number of its pairs and
+/// how many may be used, 2 where the words are no register file's, 1 where the file has a fault, 9 where its ranges are
+/// off, and 10 where more pairs are needed than may be used: both numbers are written. What isn't written is as before.
+pub fn tidy(
+    r: &PlainRegisters,
+    spare: u8,
+    chunk: u64,
+    tidied: &mut PlainRegisters,
+    need: &mut PlainNeed,
+) -> u32
+    ensures no_file { is_file r.now ≡ false → (result ≡ 2) × (tidied.new ≡ tidied.old) × (need.new ≡ need.old) }
+    ensures file { is_file r.now ≡ true → IsTidyAnswer (file_in r.now) chunk spare result tidied.old tidied.new need.old need.new }
+{
+    let Some(file) = file_of(r) else {
+        return NO_FILE;
+    };
+    match tidy_without_memory(&file, spare, chunk) {
+        Ok(answer) => {
+            *tidied = words_of(&answer.file);
+            *need = PlainNeed {
+                needs: answer.used as u64,
+                has: usable_pairs(&file, spare),
+            };
+            DONE
+        }
+        Err(TidyFault::Refused(_)) => FAULT,
+        Err(TidyFault::Disabled) => DISABLED,
+        Err(TidyFault::TooFew { needs, has }) => {
+            *need = PlainNeed {
+                needs,
+                has: has as u64,
+            };
+            TOO_FEW
+        }
+        Err(TidyFault::NoMemory) => unreachable!(),
+    }
+}
