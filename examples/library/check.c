@@ -1,7 +1,7 @@
 /*
  * Reads a dump of one processor from standard input, as `mtrr` reads it but
- * less strictly. `check` writes the first fault or `accepted`, and `types`
- * the type of each stretch of addresses.
+ * less strictly. `check` writes the first fault or `accepted`, `types` the
+ * type of each stretch of addresses, and `tidy [CHUNK]` the tidied registers.
  */
 #include <inttypes.h>
 #include <stdio.h>
@@ -89,16 +89,58 @@ static const char *reason_of(uint32_t reason)
     }
 }
 
-/* The first page past `page` of another type, a page at a time. */
-static uint64_t run_end(const struct mtrr_registers *registers, uint64_t page,
-                        uint32_t kind)
+static int print_map(const struct mtrr_registers *registers)
 {
-    uint32_t next = kind;
-    uint64_t end = page;
-    do
-        end++;
-    while (mtrr_page_type(registers, end, &next) == MTRR_DONE && next == kind);
-    return end;
+    struct mtrr_run runs[MTRR_MAX_RUNS];
+    size_t count;
+    if (mtrr_type_map(registers, runs, MTRR_MAX_RUNS, &count) != MTRR_DONE)
+        return 1;
+    for (size_t i = 0; i < count; i++)
+        printf("%013" PRIx64 "-%013" PRIx64 " %s\n", runs[i].first * 4096,
+               (runs[i].first + runs[i].pages) * 4096 - 1,
+               name_of(runs[i].kind));
+    return 0;
+}
+
+/* Each register in ascending order, as `mtrr show` writes them. */
+static void print_file(struct mtrr_registers *registers)
+{
+    printf("maxphyaddr %" PRIu64 "\n", registers->width);
+    printf("%03x %016" PRIx64 "\n", MTRR_MSR_CAPABILITIES,
+           registers->capabilities);
+    uint64_t pairs = registers->capabilities & 0xff;
+    for (uint64_t number = 0x200; number < 0x200 + 2 * pairs; number++)
+        printf("%03" PRIx64 " %016" PRIx64 "\n", number,
+               *place_of(registers, number));
+    if (registers->capabilities & 0x100)
+        for (size_t i = 0; i < MTRR_FIXED_REGISTERS; i++)
+            printf("%03" PRIx32 " %016" PRIx64 "\n", fixed_numbers[i],
+                   registers->fixed[i]);
+    printf("%03x %016" PRIx64 "\n", MTRR_MSR_PAT, registers->pat);
+    printf("%03x %016" PRIx64 "\n", MTRR_MSR_DEF_TYPE,
+           registers->default_type);
+}
+
+static int print_tidied(const struct mtrr_registers *registers,
+                        unsigned char spare, uint64_t chunk)
+{
+    struct mtrr_registers tidied;
+    struct mtrr_need need;
+    switch (mtrr_tidy(registers, spare, chunk, &tidied, &need)) {
+    case MTRR_DISABLED:
+        puts("disabled");
+        return 1;
+    case MTRR_TOO_FEW:
+        printf("too few needs %" PRIu64 " has %" PRIu64 "\n", need.needs,
+               need.has);
+        return 1;
+    case MTRR_DONE:
+        printf("# used %" PRIu64 "\n", need.needs);
+        print_file(&tidied);
+        return 0;
+    default:
+        return 2;
+    }
 }
 
 int main(int count, char **words)
@@ -118,18 +160,12 @@ int main(int count, char **words)
                reason_of(fault.reason));
         return 1;
     }
-    if (count < 2 || strcmp(words[1], "types") != 0) {
-        puts("accepted");
-        return 0;
-    }
-    uint64_t pages = (uint64_t)1 << (registers.width - 12);
-    uint32_t kind;
-    for (uint64_t page = 0; page < pages;) {
-        mtrr_page_type(&registers, page, &kind);
-        uint64_t end = run_end(&registers, page, kind);
-        printf("%013" PRIx64 "-%013" PRIx64 " %s\n", page * 4096,
-               end * 4096 - 1, name_of(kind));
-        page = end;
-    }
+    if (count >= 2 && strcmp(words[1], "types") == 0)
+        return print_map(&registers);
+    if (count >= 2 && strcmp(words[1], "tidy") == 0)
+        return print_tidied(&registers, 1,
+                            count >= 3 ? strtoull(words[2], NULL, 16)
+                                       : 0x10000000);
+    puts("accepted");
     return 0;
 }
