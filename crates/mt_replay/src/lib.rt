@@ -45,8 +45,8 @@ pub use worked::{
     worked_dumps, worked_each_state, worked_early_texts, worked_effects, worked_events,
     worked_flat_moves, worked_flat_values, worked_heads, worked_join_summary, worked_joined_states,
     worked_kept, worked_last_states, worked_line_ends, worked_moved, worked_moves,
-    worked_moving_steps, worked_newcomer_lines, worked_newcomers, worked_phases, worked_reports,
-    worked_sections, worked_settled_states, worked_short_updates, worked_summaries,
+    worked_moving_steps, worked_newcomer_lines, worked_newcomers, worked_phases, worked_points,
+    worked_reports, worked_sections, worked_settled_states, worked_short_updates, worked_summaries,
     worked_told_lines, worked_told_texts, worked_updates, worked_values, worked_without_call,
     worked_without_newcomer, worked_words,
 };

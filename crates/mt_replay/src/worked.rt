@@ -1,6 +1,7 @@
 mod commands;
 mod joining;
 mod moving;
+mod points;
 mod states;
 mod steps;
 mod summaries;
@@ -26,6 +27,7 @@ pub use moving::{
     worked_absent, worked_admitted_states, worked_early_texts, worked_flat_moves, worked_moved,
     worked_moves, worked_newcomer_lines, worked_newcomers, worked_without_newcomer,
 };
+pub use points::worked_points;
 pub use states::{
     worked_dumps, worked_each_state, worked_heads, worked_kept, worked_sections,
     worked_settled_states, worked_without_call, worked_words,
