@@ -1,4 +1,4 @@
--- Which lines of a script bring a processor up (own): only these want memory behind the first line of the transcript.
+-- Which lines of a script bring a processor up (own): of its commands only these want memory.
 --     newcomers_from number lines point      whether one of these lines does, the first of which has this number, up to the first offence
 --     has_newcomers text      whether one of a whole text does
 use Rattle.std.specs.Prelude.{ℕ, ◌+◌, ◌||◌, Bool, true, false, List, [], ◌∷◌, ◌++◌, if◌then◌else◌, Option, Some, None, Result, Ok, Err}
