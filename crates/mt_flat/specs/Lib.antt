@@ -4,3 +4,4 @@ pub mod ComingAndGoing
 pub mod Courses
 pub mod WorkedRuns
 pub mod WorkedUpdates
+pub mod WorkedLaws

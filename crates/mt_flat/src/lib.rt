@@ -8,6 +8,7 @@ mod laws;
 mod worked;
 mod worked_coming;
 mod worked_courses;
+mod worked_laws;
 mod worked_related;
 mod worked_updates;
 
@@ -20,5 +21,8 @@ pub use worked_coming::{
     worked_coming_course, worked_coming_turns, worked_flat_comers, worked_flat_going,
 };
 pub use worked_courses::worked_updates_by_events;
+pub use worked_laws::{
+    worked_laws_of_broadcasts, worked_laws_of_starts, worked_laws_of_takes, worked_laws_under_way,
+};
 pub use worked_related::{worked_flat_answers, worked_flat_held, worked_flat_laws, worked_flat_of};
 pub use worked_updates::{worked_laws_of_courses, worked_states_on_the_way};
