@@ -1,0 +1,4 @@
+pub mod Stacking
+pub mod Drawable
+pub mod Accepted
+pub mod Telling

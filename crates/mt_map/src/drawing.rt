@@ -1,0 +1,101 @@
+ghost use Rattle.std.specs.Prelude.{◌≡◌, ◌≤◌, ◌^◌};
+ghost use Rattle.mt_map.specs.Bands.{is_same};
+
+use crate::Rect;
+use mt_regs::{PageType, same_type};
+use std::alloc::{AllocError, Global};
+
+fn append_place(text: &mut String, x: u64, y: u64) -> Result<(), AllocError> {
+    write!(text, "' x='{x}' y='{y}")
+}
+
+/// Adds a width and a height.
+pub(crate) fn append_extent(text: &mut String, width: u64, height: u64) -> Result<(), AllocError> {
+    write!(text, "' width='{width}' height='{height}")
+}
+
+/// Adds a rectangle of a class, filled with a pattern.
+pub(crate) fn append_box(
+    text: &mut String,
+    class: &str,
+    fill: &str,
+    r: &Rect,
+) -> Result<(), AllocError> {
+    text.push_str("<rect class='")?;
+    text.push_str(class)?;
+    append_place(text, r.x, r.y)?;
+    append_extent(text, r.width, r.height)?;
+    text.push_str("' fill='url(#")?;
+    text.push_str(fill)?;
+    text.push_str(")'/>\n")?;
+    Ok(())
+}
+
+/// Adds a text of a class.
+pub(crate) fn append_label(
+    text: &mut String,
+    class: &str,
+    x: u64,
+    y: u64,
+    content: &str,
+) -> Result<(), AllocError> {
+    text.push_str("<text class='")?;
+    text.push_str(class)?;
+    append_place(text, x, y)?;
+    text.push_str("'>")?;
+    text.push_str(content)?;
+    text.push_str("</text>\n")?;
+    Ok(())
+}
+
+/// Adds a thin line from the left edge on.
+pub(crate) fn append_rule(text: &mut String, y: u64, width: u64) -> Result<(), AllocError> {
+    write!(text, "<path class='rule' d='M12 {y}h{width}'/>\n")
+}
+
+/// The name of a type, which is also that of its pattern.
+pub(crate) fn name_of_kind(kind: PageType) -> &'static str {
+    match kind {
+        PageType::Kind(kind) => kind.name(),
+        PageType::Undefined => "undefined",
+    }
+}
+
+/// Whether two types are one, or both undefined.
+pub(crate) fn is_same(kind: PageType, other: PageType) -> bool
+    ensures { result ≡ is_same kind other }
+{
+    match kind {
+        PageType::Kind(kind) => match other {
+            PageType::Kind(other) => same_type(kind, other),
+            PageType::Undefined => false,
+        },
+        PageType::Undefined => match other {
+            PageType::Kind(_) => false,
+            PageType::Undefined => true,
+        },
+    }
+}
+
+// A count of units.
+fn count_text(alloc: Global, count: u64, unit: &str) -> Result<String, AllocError> {
+    let mut text = String::new(alloc);
+    write!(text, "{count}")?;
+    text.push_str(unit)?;
+    Ok(text)
+}
+
+/// So many pages in the largest unit of which they are a whole number.
+pub(crate) fn size_text(alloc: Global, pages: u64) -> Result<String, AllocError>
+    requires { pages ≤ 2 ^ 40 }
+{
+    if pages % 0x10000000 == 0 {
+        count_text(alloc, pages / 0x10000000, " TB")
+    } else if pages % 0x40000 == 0 {
+        count_text(alloc, pages / 0x40000, " GB")
+    } else if pages % 0x100 == 0 {
+        count_text(alloc, pages / 0x100, " MB")
+    } else {
+        count_text(alloc, 4 * pages, " KB")
+    }
+}

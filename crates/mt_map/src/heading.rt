@@ -1,0 +1,261 @@
+ghost use Rattle.std.specs.Prelude.{◌≡◌, ◌<◌, ◌≤◌, IfSome, length};
+ghost use Rattle.std.specs.List.{filter};
+ghost use Rattle.mt_map.specs.Bands.{is_different, is_valid};
+
+use crate::drawing::{append_box, append_label, is_same};
+use crate::edges::{are_fixed_on, is_valid};
+use crate::ranges::bars;
+use crate::{Band, Rect};
+use mt_kinds::MemType;
+use mt_output::{accepted_line, dump_refused_line};
+use mt_regs::{Fault, RegFile};
+use std::alloc::{AllocError, Global};
+
+/// Whether the two files give a band different types.
+pub(crate) fn is_different(band: &Band) -> bool
+    ensures { result ≡ is_different band.now }
+{
+    match band.other {
+        None => false,
+        Some(other) => !is_same(band.kind, other),
+    }
+}
+
+fn different_count(bands: &[Band]) -> usize
+    ensures { result ≡ length (filter is_different bands.now) }
+{
+    bands.iter().filter(|band| is_different(band)).count()
+}
+
+fn compared_text(alloc: Global, count: usize) -> Result<String, AllocError> {
+    if count == 0 {
+        String::from_str(alloc, "Memory types, the same on every page")
+    } else {
+        format!(in alloc; "Memory types; bands that differ: {count}")
+    }
+}
+
+fn title(alloc: Global, others: &[RegFile], bands: &[Band]) -> Result<String, AllocError> {
+    match others {
+        [] => String::from_str(alloc, "Memory types"),
+        [_, ..] => compared_text(alloc, different_count(bands)),
+    }
+}
+
+pub(crate) fn append_title(
+    alloc: Global,
+    text: &mut String,
+    others: &[RegFile],
+    bands: &[Band],
+) -> Result<(), AllocError> {
+    let title = title(alloc, others, bands)?;
+    append_label(text, "title", 12, 28, title.as_str())
+}
+
+fn accepted_text(alloc: Global) -> Result<Vec<u8>, AllocError> {
+    let mut text = Vec::new(alloc);
+    text.extend_from_slice(b"<text class='accepted' x='12' y='50'>")?;
+    text.extend_from_slice(accepted_line())?;
+    text.extend_from_slice(b"</text>\n")?;
+    Ok(text)
+}
+
+fn refused_text(alloc: Global, version: u8, k: u32, fault: &Fault) -> Result<Vec<u8>, AllocError>
+    requires { fault.now.msr < 0x1000 }
+{
+    let mut text = Vec::new(alloc);
+    text.extend_from_slice(b"<text class='refused' x='12' y='50'>")?;
+    text.extend_from_slice(dump_refused_line(version, k, fault).as_slice())?;
+    text.extend_from_slice(b"</text>\n")?;
+    Ok(text)
+}
+
+/// That the files are accepted, or what is refused.
+pub(crate) fn verdict_text(
+    alloc: Global,
+    version: u8,
+    refusal: Option<(u32, Fault)>,
+) -> Result<Vec<u8>, AllocError>
+    requires short { IfSome refusal (λ found. found.1.msr < 0x1000) }
+{
+    match refusal {
+        None => accepted_text(alloc),
+        Some((k, fault)) => refused_text(alloc, version, k, &fault),
+    }
+}
+
+fn valid_count(f: &RegFile) -> usize
+    ensures { result ≡ length (filter is_valid f.now.pairs) }
+{
+    f.pairs
+        .as_slice()
+        .iter()
+        .filter(|pair| is_valid(**pair))
+        .count()
+}
+
+fn fixed_text(is_on: bool) -> &'static str {
+    if is_on {
+        ", fixed ranges on"
+    } else {
+        ", fixed ranges off"
+    }
+}
+
+fn state_text(alloc: Global, f: &RegFile) -> Result<String, AllocError> {
+    if !f.is_enabled() {
+        return String::from_str(alloc, ", MTRRs off: each page is UC");
+    }
+    let kind = MemType::of_byte((f.deftype % 256) as u8).unwrap_or(MemType::UC);
+    let mut text = String::new(alloc);
+    text.push_str(", default type ")?;
+    text.push_str(kind.name())?;
+    text.push_str(fixed_text(are_fixed_on(f)))?;
+    Ok(text)
+}
+
+fn append_width(text: &mut String, k: u32, width: u8) -> Result<(), AllocError> {
+    write!(text, "cpu {k}: {width} address bits, ")
+}
+
+fn append_valid(text: &mut String, valid: usize, count: usize) -> Result<(), AllocError> {
+    write!(text, "{valid} of {count} pairs valid")
+}
+
+fn file_text(alloc: Global, k: u32, f: &RegFile) -> Result<String, AllocError> {
+    let mut text = String::new(alloc);
+    append_width(&mut text, k, f.maxphy)?;
+    append_valid(&mut text, valid_count(f), f.pairs.len())?;
+    text.push_str(state_text(alloc, f)?.as_str())?;
+    Ok(text)
+}
+
+/// Adds what is said of each file.
+pub(crate) fn append_files(
+    alloc: Global,
+    text: &mut String,
+    f: &RegFile,
+    k: u32,
+    others: &[RegFile],
+) -> Result<(), AllocError> {
+    let first = file_text(alloc, 0, f)?;
+    append_label(text, "file", 12, 68, first.as_str())?;
+    match others {
+        [] => Ok(()),
+        [other, ..] => {
+            let second = file_text(alloc, k, other)?;
+            append_label(text, "file", 12, 86, second.as_str())?;
+            Ok(())
+        }
+    }
+}
+
+fn append_key(text: &mut String, x: u64, name: &str) -> Result<(), AllocError>
+    requires { x ≤ 1000 }
+{
+    let swatch = Rect {
+        x,
+        y: 98,
+        width: 26,
+        height: 18,
+    };
+    append_box(text, "on", name, &swatch)?;
+    append_label(text, "key", x + 34, 112, name)?;
+    Ok(())
+}
+
+/// Adds the pattern and the name of each type.
+pub(crate) fn append_keys(text: &mut String) -> Result<(), AllocError> {
+    append_key(text, 12, "WB")?;
+    append_key(text, 102, "UC")?;
+    append_key(text, 192, "WC")?;
+    append_key(text, 282, "WT")?;
+    append_key(text, 372, "WP")?;
+    append_key(text, 462, "undefined")?;
+    Ok(())
+}
+
+/// Where the bars of the first file begin.
+pub(crate) fn first_bar(others: &[RegFile]) -> u64
+    ensures few { result ≤ 600 }
+{
+    if others.is_empty() { 442 } else { 566 }
+}
+
+// How wide the bars of a file are.
+fn group_width(f: &RegFile) -> u64
+    ensures few { result ≤ 1140 }
+{
+    32 * bars(f).len() as u64 + 84
+}
+
+/// Where the bars of the second file begin.
+pub(crate) fn second_bar(f: &RegFile, others: &[RegFile]) -> u64
+    ensures few { result ≤ 1740 }
+{
+    first_bar(others) + group_width(f)
+}
+
+// Where the bars end.
+fn right_end(f: &RegFile, others: &[RegFile]) -> u64
+    ensures few { result ≤ 2880 }
+{
+    match others {
+        [] => second_bar(f, others),
+        [other, ..] => second_bar(f, others) + group_width(other),
+    }
+}
+
+/// How wide the picture is.
+pub(crate) fn picture_width(f: &RegFile, others: &[RegFile]) -> u64
+    ensures many { 700 ≤ result }
+{
+    right_end(f, others).max(700)
+}
+
+// Adds a head that names a processor.
+fn append_pairs_head(text: &mut String, x: u64, k: u32) -> Result<(), AllocError> {
+    write!(
+        text,
+        "<text class='head' x='{x}' y='140'>pairs, cpu {k}</text>\n"
+    )
+}
+
+fn append_cpu_head(text: &mut String, x: u64, k: u32) -> Result<(), AllocError> {
+    write!(text, "<text class='type' x='{x}' y='140'>cpu {k}</text>\n")
+}
+
+fn append_type_heads(
+    text: &mut String,
+    f: &RegFile,
+    k: u32,
+    others: &[RegFile],
+) -> Result<(), AllocError> {
+    match others {
+        [] => {
+            append_label(text, "type", 372, 140, "type")?;
+            append_label(text, "head", 442, 140, "pairs")?;
+            Ok(())
+        }
+        [_, ..] => {
+            append_cpu_head(text, 372, 0)?;
+            append_cpu_head(text, 496, k)?;
+            append_pairs_head(text, 566, 0)?;
+            append_pairs_head(text, second_bar(f, others), k)?;
+            Ok(())
+        }
+    }
+}
+
+/// Adds the heads of the columns.
+pub(crate) fn append_heads(
+    text: &mut String,
+    f: &RegFile,
+    k: u32,
+    others: &[RegFile],
+) -> Result<(), AllocError> {
+    append_label(text, "head", 12, 140, "addresses")?;
+    append_label(text, "head size", 310, 140, "size")?;
+    append_type_heads(text, f, k, others)?;
+    Ok(())
+}

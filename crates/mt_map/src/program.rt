@@ -1,0 +1,63 @@
+ghost use Rattle.std.specs.Prelude.{◌≡◌, ◌↔◌, ℕ, List, Some, IfErr};
+ghost use Rattle.std.specs.IoError.{error_kind};
+ghost use Rattle.std.specs.Process.{exit_status};
+ghost use Rattle.mt_ports.specs.Causes.{StatusHasCause};
+ghost use Rattle.mt_ports.specs.Exit.{code};
+ghost use Rattle.mt_text.specs.Feed.{GaveTooMuch};
+ghost use Rattle.mt_output.specs.Program.{Exits};
+ghost use Rattle.mt_map.specs.Map.{Runs, has_words, words_in};
+
+use crate::map;
+use mt_output::exit_code;
+use mt_ports::{Sink, Source, Status};
+use std::env::Args;
+use std::io::{self, ErrorKind};
+use std::process::ExitCode;
+
+// Whether there is an argument behind the program's name.
+fn has_words(args: Args) -> bool
+    ensures { result ≡ has_words args }
+{
+    args.count() > 1
+}
+
+// Arguments that are no text are words too, and arguments that find no memory end the program before the run.
+fn run<R: AllocGlobal, S: Source, K: Sink>(
+    rt: &R,
+    args: io::Result<Args>,
+    source: &mut S,
+    sink: &mut K,
+) -> Status
+    ensures runs { (bytes : List ℕ) → S.left source.old ≡ Some bytes →
+        Runs (words_in args) bytes (S.left source.new) (K.taken sink.old) (K.taken sink.new) result }
+    ensures read_fault { StatusHasCause Status.ReadFault (S.faults source.old) (S.faults source.new) result }
+    ensures write_fault { StatusHasCause Status.WriteFault (K.faults sink.old) (K.faults sink.new) result }
+    ensures too_long { (result ≡ Status.TooLong) ↔ GaveTooMuch (S.given source.old) (S.given source.new) }
+    ensures no_memory { IfErr args (λ error. error_kind error ≡ ErrorKind.OutOfMemory → result ≡ Status.NoMemory) }
+{
+    match args {
+        Ok(args) => map(rt.alloc(), has_words(args), source, sink),
+        Err(error) if error.kind() == ErrorKind::OutOfMemory => Status::NoMemory,
+        Err(_) => map(rt.alloc(), true, source, sink),
+    }
+}
+
+/// Does all that the program does with its arguments, and answers what it ends with: the number of
+/// the status. Any argument but the first is a word.
+pub fn program_status<R: AllocGlobal, S: Source, K: Sink>(
+    rt: &R,
+    args: io::Result<Args>,
+    source: &mut S,
+    sink: &mut K,
+) -> ExitCode
+    ensures runs { (bytes : List ℕ) → S.left source.old ≡ Some bytes →
+        Exits result (Runs (words_in args) bytes (S.left source.new) (K.taken sink.old) (K.taken sink.new)) }
+    ensures read_fault { Exits result (StatusHasCause Status.ReadFault (S.faults source.old) (S.faults source.new)) }
+    ensures write_fault { Exits result (StatusHasCause Status.WriteFault (K.faults sink.old) (K.faults sink.new)) }
+    ensures too_long { Exits result (λ status. (status ≡ Status.TooLong) ↔ GaveTooMuch (S.given source.old) (S.given source.new)) }
+
+    // Where the arguments find no memory nothing is run.
+    ensures no_memory { IfErr args (λ error. error_kind error ≡ ErrorKind.OutOfMemory → exit_status result ≡ code Status.NoMemory) }
+{
+    exit_code(run(rt, args, source, sink))
+}

@@ -1,0 +1,151 @@
+ghost use Rattle.std.specs.Prelude.{◌≡◌, ◌≢◌, ◌↔◌, ℕ, List, None, Some, IsTrue, true, false};
+ghost use Rattle.std.specs.List.{All};
+ghost use Rattle.mt_ports.specs.Causes.{StatusHasCause};
+ghost use Rattle.mt_text.specs.Feed.{GaveTooMuch};
+ghost use Rattle.mt_regs.specs.Agreement.{first_refusal};
+ghost use Rattle.mt_regs.specs.Faults.{register_fault};
+ghost use Rattle.mt_map.specs.Map.{CanBeDrawn, MapOf, Maps, Tells, beside, others, status_of};
+
+use crate::edges::cuts;
+use crate::picture::picture_text;
+use crate::stack::bands;
+use arrayvec::ArrayVec;
+use mt_dump::{Dump, read_dump_from};
+use mt_output::{bad_text_line, dump_refused_line, written};
+use mt_ports::{NoMemory, Sink, Source, Status};
+use mt_regs::{Fault, Reason, RegFile, first_difference, first_refusal};
+use mt_text::FeedFault;
+use std::alloc::Global;
+
+// The processor whose file is drawn beside processor 0's.
+fn beside(d: &Dump) -> u32
+    ensures { result ≡ beside d.now.files }
+{
+    d.is_dump(); // a fact for the proof
+    match first_difference(d.files.as_slice()) {
+        None => 1,
+        Some((k, _)) => k,
+    }
+}
+
+// Its file, if there is one.
+fn others(d: &Dump, k: u32) -> ArrayVec<RegFile, 1>
+    requires { k ≡ beside d.now.files }
+    ensures { result.items ≡ others d.now }
+{
+    let mut others = ArrayVec::new();
+    if let Some(other) = d.file_at(k) {
+        others.push(other.same());
+    }
+    others
+}
+
+fn is_overlap(reason: Reason) -> bool
+    ensures { IsTrue result ↔ (reason ≡ Reason.UndefinedOverlap) }
+{
+    match reason {
+        Reason::ReservedBit => false,
+        Reason::UnsupportedType => false,
+        Reason::BrokenMask => false,
+        Reason::UndefinedOverlap => true,
+    }
+}
+
+// Whether no register of a file is at fault by itself.
+fn is_drawable(f: &RegFile) -> bool
+    ensures { IsTrue result ↔ (register_fault f.now ≡ None) }
+{
+    match f.first_fault() {
+        None => true,
+        Some(fault) => is_overlap(fault.reason),
+    }
+}
+
+fn are_drawable(files: &[RegFile]) -> bool
+    ensures { IsTrue result ↔ All (λ f. register_fault f ≡ None) files.now }
+{
+    files.iter().all(|f| is_drawable(f))
+}
+
+fn status_of(refusal: Option<(u32, Fault)>) -> Status
+    ensures status { result ≡ status_of refusal }
+    ensures written { result ≢ Status.WriteFault }
+{
+    match refusal {
+        None => Status::Done,
+        Some(_) => Status::Refused,
+    }
+}
+
+/// The picture of a dump. `NoMemory` is the one error.
+pub fn picture_of(alloc: Global, d: &Dump) -> Result<Vec<u8>, NoMemory>
+    requires { CanBeDrawn d.now }
+{
+    let k = beside(d);
+    let others = others(d, k);
+    let f = d.first_file();
+    let cuts = cuts(alloc, f, others.as_slice())?;
+    let stack = bands(alloc, f, others.as_slice(), cuts.as_slice())?;
+    let refusal = first_refusal(d.files.as_slice());
+    let text = picture_text(alloc, d.version, refusal, f, k, others.as_slice(), &stack)?;
+    Ok(text)
+}
+
+fn can_be_drawn(d: &Dump) -> bool
+    ensures { IsTrue result ↔ CanBeDrawn d.now }
+{
+    is_drawable(d.first_file()) && are_drawable(others(d, beside(d)).as_slice())
+}
+
+/// Writes the picture of a dump, or the line of the fault for which there is none.
+pub fn draw<K: Sink>(alloc: Global, d: &Dump, sink: &mut K) -> Status
+    ensures tells { Tells (MapOf d.now) (K.taken sink.old) (K.taken sink.new) result }
+    ensures cause { StatusHasCause Status.WriteFault (K.faults sink.old) (K.faults sink.new) result }
+{
+    d.is_dump(); // a fact for the proof
+    let refusal = first_refusal(d.files.as_slice());
+    if can_be_drawn(d) {
+        return match picture_of(alloc, d) {
+            Ok(text) => written(sink, text.as_slice(), status_of(refusal)),
+            Err(NoMemory) => Status::NoMemory,
+        };
+    }
+    match refusal {
+        None => unreachable!(),
+        Some((k, fault)) => {
+            let line = dump_refused_line(d.version, k, &fault);
+            written(sink, line.as_slice(), Status::Refused)
+        }
+    }
+}
+
+/// Does all that the program does, and answers its status. With words it writes `usage`, and reads
+/// nothing. Else it reads a dump to its end, unless the source fails or gives more than 16,777,216
+/// bytes; then nothing is written.
+pub fn map<S: Source, K: Sink>(
+    alloc: Global,
+    has_words: bool,
+    source: &mut S,
+    sink: &mut K,
+) -> Status
+    ensures maps { (bytes : List ℕ) → S.left source.old ≡ Some bytes →
+        Maps has_words bytes (S.left source.new) (K.taken sink.old) (K.taken sink.new) result }
+
+    // With words nothing is read.
+    ensures unread { has_words ≡ true → source.new ≡ source.old }
+
+    // A port that failed did so once, and the status is its fault; at every other status none failed.
+    ensures read_fault { StatusHasCause Status.ReadFault (S.faults source.old) (S.faults source.new) result }
+    ensures write_fault { StatusHasCause Status.WriteFault (K.faults sink.old) (K.faults sink.new) result }
+    ensures too_long { (result ≡ Status.TooLong) ↔ GaveTooMuch (S.given source.old) (S.given source.new) }
+{
+    if has_words {
+        return written(sink, b"usage\n", Status::Usage);
+    }
+    match read_dump_from(source) {
+        Ok(Ok(dump)) => draw(alloc, &dump, sink),
+        Ok(Err(fault)) => written(sink, bad_text_line(&fault).as_slice(), Status::BadText),
+        Err(FeedFault::ReadFault) => Status::ReadFault,
+        Err(FeedFault::TooLong) => Status::TooLong,
+    }
+}
