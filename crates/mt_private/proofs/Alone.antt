@@ -1,5 +1,5 @@
 -- A machine of one processor that takes part in the update of a yard.
-use Rattle.std.proofs.Common.{◌≡◌, ◌∙◌, ap, sym, refl, subst, arith, ℕ, zero, suc, ◌+◌, Bool, true, false, not, ◌&&◌, ◌||◌, List, [], ◌∷◌, length, map, Option, None, Some, eq-eqb}
+use Rattle.std.proofs.Common.{◌≡◌, ◌∙◌, ap, sym, refl, subst, arith, ℕ, zero, suc, ◌+◌, Bool, true, false, not, ◌&&◌, ◌||◌, List, [], ◌∷◌, length, map, Option, None, Some, eq-eqb, ⊎_elim}
 use Rattle.std.specs.Prelude.{if◌then◌else◌, nat_lt, slice_get, slice_set}
 use Rattle.std.specs.List.{All, fold, list_any}
 use Rattle.std.specs.Option.{option_map_or}
@@ -24,7 +24,7 @@ use Rattle.mt_rendezvous.specs.declared.view.Start.{Start}
 use Rattle.mt_rendezvous.specs.Station.{order_of}
 use Rattle.mt_rendezvous.proofs.Steps.{due_pass, due_release}
 use Rattle.mt_private.specs.OneByOne.{at_rest}
-use Rattle.mt_private.specs.YardCalls.{AreIn, HasTaken, in_phase}
+use Rattle.mt_private.specs.YardCalls.{AreIn, HasTaken, IsLeft, in_phase}
 
 -- ---- one processor
 
@@ -210,3 +210,17 @@ runner_of s here = one s.processors refl here
     one [] is h = absurd (cc)
     one (p ∷ []) is h = record { cpu = p; alone = is; runs = first p.phase Running h }
     one (p ∷ q ∷ ps) is h = absurd (let e : suc (suc (length (map (λ (r : Processor). r.phase) ps))) ≡ 1 = ap (λ (l : List Phase). length l) h in omega arith)
+
+-- a processor that left an update runs
+running_one : (ps : List Processor) → length (map (λ (p : Processor). record p { phase = Running }) ps) ≡ 1 → map (λ (p : Processor). p.phase) (map (λ (p : Processor). record p { phase = Running }) ps) ≡ Running ∷ []
+running_one [] one = absurd (omega arith)
+running_one (p ∷ []) one = refl
+running_one (p ∷ q ∷ ps) one = absurd (omega arith)
+
+pub left_runs : (first own : System) → length own.processors ≡ 1 → AreIn Running first → IsLeft first own → AreIn Running own
+left_runs first own one runs left =
+    ⊎_elim
+    (λ (e : own ≡ first). subst (AreIn Running) (sym e) runs)
+    (λ (e : own ≡ in_phase Running (drain 0 first)).
+    subst (AreIn Running) (sym e) (running_one (drain 0 first).processors (sym (ap (λ (s : System). length s.processors) e) ∙ one)))
+    left

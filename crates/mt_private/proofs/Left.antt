@@ -206,6 +206,50 @@ one_of_owns t a b owns ha hb x y left =
     ∙ put_together t.cpus b.processors b.memory owns hb y in
     λ i. record { processors = ps i; memory = m i }
 
+-- so are two with the same own systems and the same words elsewhere
+abbrev owns_from : List Processor → List Processor → Memory → List (Option System)
+owns_from [] ps m = []
+owns_from (c ∷ cs) [] m = []
+owns_from (c ∷ cs) (p ∷ ps) m = Some (record { processors = p ∷ []; memory = own_memory (pages_of c) m }) ∷ owns_from cs ps m
+
+from_size : (cs ps : List Processor) (m : Memory) → length cs ≡ length ps → length (owns_from cs ps m) ≡ length ps
+from_size [] [] m size = refl
+from_size [] (p ∷ ps) m size = absurd (omega arith)
+from_size (c ∷ cs) [] m size = refl
+from_size (c ∷ cs) (p ∷ ps) m size = ap suc (from_size cs ps m (omega arith))
+
+from_each : (cs ps : List Processor) (m : Memory) (k : ℕ) (c p : Processor) → slice_get cs k ≡ Some c → slice_get ps k ≡ Some p
+    → slice_get (owns_from cs ps m) k ≡ Some (Some (record { processors = p ∷ []; memory = own_memory (pages_of c) m }))
+from_each [] ps m k c p at_c at_p = absurd (cc)
+from_each (d ∷ cs) [] m k c p at_c at_p = absurd (cc)
+from_each (d ∷ cs) (q ∷ ps) m zero c p at_c at_p =
+    let a : d ≡ c = (let e : Some d ≡ Some c = at_c in cc) in
+    let b : q ≡ p = (let e : Some q ≡ Some p = at_p in cc) in
+    λ i. Some (Some (record { processors = b i ∷ []; memory = own_memory (pages_of (a i)) m }))
+from_each (d ∷ cs) (q ∷ ps) m (suc k) c p at_c at_p = from_each cs ps m k c p at_c at_p
+
+-- an own system by its processor
+own_by : (t : Start) (s : System) (k : ℕ) (c p : Processor) → slice_get t.cpus k ≡ Some c → slice_get s.processors k ≡ Some p
+    → own_system (pages_at t k) k s ≡ record { processors = p ∷ []; memory = own_memory (pages_of c) s.memory }
+own_by t s k c p at_c at_p = λ i. record { processors = option_map_or (λ q. q ∷ []) (at_p i) []; memory = own_memory (λ page. option_map_or (names page) (at_c i) false) s.memory }
+
+pub one_by_own : (t : Start) (a b : System) → IsMemory a.memory → IsMemory b.memory → length a.processors ≡ length t.cpus → length b.processors ≡ length t.cpus
+    → ((k : ℕ) → k < length t.cpus → own_system (pages_at t k) k a ≡ own_system (pages_at t k) k b) → own_memory (pages_left t) a.memory ≡ own_memory (pages_left t) b.memory → a ≡ b
+one_by_own t a b ha hb many too same left =
+    let owns = owns_from t.cpus a.processors a.memory in
+    one_of_owns t a b owns ha hb
+    (record { size = from_size t.cpus a.processors a.memory (sym many); pages = sym many; each = from_each t.cpus a.processors a.memory })
+    (record {
+      size = from_size t.cpus a.processors a.memory (sym many) ∙ many ∙ sym too;
+      pages = sym too;
+      each = λ k c p at_c at_p.
+          let low = slice_get_within t.cpus k c at_c in
+          let q = got a.processors k (omega arith) in
+          from_each t.cpus a.processors a.memory k c q.0 at_c q.1
+          ∙ ap (λ (o : System). Some (Some o)) (sym (own_by t a k c q.0 at_c q.1) ∙ same k low ∙ own_by t b k c p at_c at_p);
+    })
+    left
+
 -- ---- where a yard ends
 
 module _ (t : Start) (all : List Resident) (s : System) (stands : StandsFor t all s) (v : YardView) (same : AreAt all v.held) (owns : List (Option System)) (keeps : Keeps v owns) where

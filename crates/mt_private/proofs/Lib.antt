@@ -1,13 +1,17 @@
 mod Accessed
+mod Again
 mod Alone
 mod Carried
 mod Causes
 mod Copies
 mod OnWorked
 mod Lodged
+mod Ended
 mod Left
 mod Lists
+mod Meeting
 pub mod Own
 mod Walk
 pub mod Residents
 mod GuestJob
+mod Returned

@@ -14,3 +14,4 @@ pub mod Left
 pub mod Alone
 pub mod WorkedLeft
 pub mod WorkedGathered
+pub mod Visitors

@@ -11,8 +11,10 @@ mod pages;
 mod runs;
 #[cfg(test)]
 mod tests;
+mod threads;
 mod view;
 mod visiting;
+mod visitor;
 mod worked;
 mod worked_gathered;
 mod worked_guests;
@@ -56,5 +58,5 @@ pub use worked_yard::{
 };
 pub use yard_laws::{
     accesses_go_on, counts_tell_of_the_machine, each_yard_step_is_one_event,
-    words_are_written_alone, yard_is_reached,
+    words_are_written_alone, yard_is_reached, yards_end_one_by_one,
 };

@@ -1,27 +1,39 @@
 // Jobs of processors and one update, as they are done one after the other.
-ghost use Rattle.std.specs.Prelude.{◌≡◌, ℕ, ◌+◌, ◌++◌, ◌<◌, ◌≤◌, ◌↔◌, [], None, Some, IsSome, Err, OnErr, IfOk, length, map, slice_get, vec_len, vec_capacity};
+ghost use Rattle.std.specs.Prelude.{◌≡◌, ℕ, ◌+◌, ◌++◌, ◌<◌, ◌≤◌, ◌↔◌, [], None, Some, IsSome, Err, OnErr, IfNone, IfOk, IfSome, length, replicate, map, slice_get, vec_len, vec_capacity};
 ghost use Rattle.std.specs.List.{All};
 ghost use Rattle.mt_regs.specs.declared.fault.Fault.{Fault};
 ghost use Rattle.mt_regs.specs.Faults.{IsAccepted, IsFirstFault};
-ghost use Rattle.mt_machine.specs.Machine.{FitsGoal, FitsOp};
-ghost use Rattle.mt_machine.specs.Start.{HasEraRoom};
+ghost use Rattle.mt_machine.specs.declared.go.Go.TheVariants.{Pending};
+ghost use Rattle.mt_machine.specs.Machine.{Calls, FitsGoal, FitsOp, IsEnabled};
+ghost use Rattle.mt_machine.specs.Start.{HasEraRoom, IsQuiet};
 ghost use Rattle.mt_machine.specs.Update.{updated};
 ghost use Rattle.mt_core.specs.Rounds.{in_order};
+ghost use Rattle.mt_rendezvous.specs.Calls.{Leads, gathered};
+ghost use Rattle.mt_rendezvous.specs.Station.{start_of};
+ghost use Rattle.mt_private.specs.Gathered.{AreGathered, IsRest};
+ghost use Rattle.mt_private.specs.Residents.{Opens};
+ghost use Rattle.mt_private.specs.YardPlays.{as_sat};
 ghost use Rattle.mt_private.specs.Jobs.{AreOpen, FitsJob, IsOpen, answers_in, ops_in, other_part, room_in};
-ghost use Rattle.mt_private.specs.OneByOne.{jobs_one_by_one, ran, ran_each};
+ghost use Rattle.mt_private.specs.OneByOne.{at_rest, jobs_one_by_one, ran, ran_each};
 ghost use Rattle.mt_private.specs.Pages.{IsLeastShared, IsPrivate};
 ghost use Rattle.mt_private.specs.declared.job.Part.{Part as JobPart};
 ghost use Rattle.mt_private.specs.declared.job.Part.TheVariants.{Before, After};
 
 use crate::fault::PrivateFault;
+use crate::host::{Host, Yard};
 use crate::job::{Job, Part, Told};
+use crate::leaving::leave;
 use crate::pages::shared_page;
+use crate::threads::{Ended, meet};
+use crate::visiting::Guest;
+use mt_bus::System;
 use mt_core::{Core, a_core_arises};
 use mt_machine::{Done, Op};
 use mt_ports::{Gate, NoMemory};
+use mt_ram::Ram;
 use mt_regs::RegFile;
-use mt_rendezvous::update;
 use std::alloc::Global;
+use std::mem;
 use std::sync::Wait;
 use std::thread::Threads;
 
@@ -101,58 +113,119 @@ fn room_for(alloc: Global, jobs: &[Job]) -> Result<Vec<Told>, NoMemory>
     Ok(told)
 }
 
-// The update, which isn't refused here.
-fn update_all<R: Threads + Wait + Sync, G: Gate>(
-    rt: &R,
-    alloc: Global,
-    core: &mut Core,
-    goal: RegFile,
-    gate: &G,
-)
-    requires none { core.old.order ≡ None }
-    requires accepted { IsAccepted goal }
-    requires some { 0 < length core.old.system.processors }
-    requires fits { All (FitsGoal goal) core.old.system.processors }
-    requires room { HasEraRoom core.old }
-    ensures { core.new ≡ updated core.old.system (in_order core.old) goal }
+// A core without processors and windows, which stands in for another.
+fn stand_in(alloc: Global) -> Core {
+    Core::new(System {
+        cpus: Vec::new(alloc),
+        ram: Ram::new(alloc),
+        tables: Vec::new(alloc),
+    })
+}
+
+fn rested(system: System) -> Core
+    requires quiet { IsQuiet (at_rest system) }
+    requires few { length system.processors ≤ 16 }
+    ensures { result ≡ at_rest system }
 {
-    let Ok(()) = update(rt, alloc, core, goal, gate) else {
+    Core::new(system)
+}
+
+// The yard of the core's system, where there is memory; else the core is as it was.
+fn gather_core(alloc: Global, core: &mut Core, goal: &RegFile) -> Option<(Yard, Host, Vec<Guest>)>
+    requires none { core.old.order ≡ None }
+    requires opens { Opens (gathered core.old.system.processors core.old.system.memory goal.now) }
+    ensures kept { IfNone result (core.new ≡ core.old) }
+    ensures host { IfSome result (λ y. Leads y.0.table.shared.table_id (start_of y.0.table.shared.key) y.1.seat.table_id (as_sat y.1.seat.me) Pending) }
+    ensures empty { IfSome result (λ y. (y.1.seat.me.0.held ≡ []) × (y.1.owns.items ≡ replicate (length core.old.system.processors) None)) }
+    ensures rest { IfSome result (λ y. IsRest (start_of y.0.table.shared.key) y.1.rest) }
+    ensures key { IfSome result (λ y. start_of y.0.table.shared.key ≡ gathered core.old.system.processors core.old.system.memory goal.now) }
+    ensures count { IfSome result (λ y. length y.2.items ≡ length core.old.system.processors) }
+    ensures guests { IfSome result (λ y. AreGathered y.0.table.shared.table_id (start_of y.0.table.shared.key) y.2.items) }
+{
+    let system = mem::replace(core, stand_in(alloc)).into_system();
+    match Yard::gather(alloc, system, goal) {
+        Ok(yard) => Some(yard),
+        Err(system) => {
+            *core = rested(system);
+            None
+        }
+    }
+}
+
+// The whole update on this thread, which isn't refused here.
+fn update_alone(core: &mut Core, goal: &RegFile)
+    requires quiet { IsQuiet core.old }
+    requires callable { IsEnabled core.old (Calls goal.now) }
+    requires some { 0 < length core.old.system.processors }
+    requires room { HasEraRoom core.old }
+    ensures { core.new ≡ updated core.old.system (in_order core.old) goal.now }
+{
+    let Ok(()) = core.call(goal.same()) else {
         unreachable!()
     };
+    core.round();
 }
 
-// The accesses before, the update, and the accesses after.
-fn do_all<R: Threads + Wait + Sync, G: Gate>(
+// What is left where no thread went on: the update, and the accesses after it.
+fn end_alone(core: &mut Core, goal: &RegFile, jobs: &[Job], told: &mut Vec<Told>)
+    requires quiet { IsQuiet core.old }
+    requires callable { IsEnabled core.old (Calls goal.now) }
+    requires some { 0 < length core.old.system.processors }
+    requires room { HasEraRoom core.old }
+    requires few { length jobs.now ≤ 16 }
+    requires processors { length jobs.now ≡ length core.old.system.processors }
+    requires one_each { length told.old.items ≡ length jobs.now }
+    requires addresses { All FitsJob jobs.now }
+    requires open { AreOpen After jobs.now told.old.items }
+    ensures left { core.new ≡ at_rest (ran_each 0 (map (ops_in After) jobs.now) (updated core.old.system (in_order core.old) goal.now).system).after }
+    ensures after { map (answers_in After) told.new.items ≡ (ran_each 0 (map (ops_in After) jobs.now) (updated core.old.system (in_order core.old) goal.now).system).answers }
+    ensures before { map (answers_in Before) told.new.items ≡ map (answers_in Before) told.old.items }
+{
+    update_alone(core, goal);
+    do_parts(core, Part::After, jobs, told.as_mut_slice());
+}
+
+// The jobs and the update, on a thread for each processor, where there is memory for the yard.
+fn visit_all<R: Threads + Wait + Sync, G: Gate>(
     rt: &R,
     alloc: Global,
     core: &mut Core,
-    goal: RegFile,
+    goal: &RegFile,
     jobs: &[Job],
-    told: &mut [Told],
+    told: Vec<Told>,
     gate: &G,
-)
+) -> Option<Vec<Told>>
     requires none { core.old.order ≡ None }
-    requires accepted { IsAccepted goal }
-    requires some { 0 < length core.old.system.processors }
-    requires few { length core.old.system.processors ≤ 16 }
-    requires fits { All (FitsGoal goal) core.old.system.processors }
-    requires room { HasEraRoom core.old }
+    requires opens { Opens (gathered core.old.system.processors core.old.system.memory goal.now) }
     requires processors { length jobs.now ≡ length core.old.system.processors }
-    requires one_each { length told.old ≡ length jobs.now }
+    requires one_each { length told.items ≡ length jobs.now }
     requires addresses { All FitsJob jobs.now }
-    requires open { (part : JobPart) → AreOpen part jobs.now told.old }
-    ensures left { core.new ≡ (jobs_one_by_one core.old.system goal jobs.now).left }
-    ensures before { map (answers_in Before) told.new ≡ (jobs_one_by_one core.old.system goal jobs.now).before }
-    ensures after { map (answers_in After) told.new ≡ (jobs_one_by_one core.old.system goal jobs.now).after }
+    requires open { (part : JobPart) → AreOpen part jobs.now told.items }
+    ensures kept { IfNone result (core.new ≡ core.old) }
+    ensures left { IfSome result (λ told. core.new ≡ (jobs_one_by_one core.old.system goal.now jobs.now).left) }
+    ensures before { IfSome result (λ told. map (answers_in Before) told.items ≡ (jobs_one_by_one core.old.system goal.now jobs.now).before) }
+    ensures after { IfSome result (λ told. map (answers_in After) told.items ≡ (jobs_one_by_one core.old.system goal.now jobs.now).after) }
 {
-    do_parts(core, Part::Before, jobs, told);
-    update_all(rt, alloc, core, goal, gate);
-    do_parts(core, Part::After, jobs, told);
+    let Some((yard, host, guests)) = gather_core(alloc, core, goal) else {
+        return None;
+    };
+    let Ended {
+        given,
+        host,
+        mut told,
+    } = meet(rt, alloc, &yard, host, goal, jobs, gate, guests, told);
+    *core = rested(leave(yard, host));
+    if given {
+        return Some(told);
+    }
+    end_alone(core, goal, jobs, &mut told);
+    Some(told)
 }
 
-/// Runs a job for each processor and one update: the accesses before it, processor by processor, the whole update, on a
-/// thread for each processor as `update` of mt_rendezvous does it, and the accesses after it, processor by processor. The
-/// answers are those of each job. Memory is taken before the first access.
+/// Runs a job for each processor and one update, on a thread for each processor, which goes on with its accesses up to the
+/// update and again once it is released. The core and the answers are those of the accesses before, processor by
+/// processor, the whole update, and the accesses after, processor by processor. Where a thread isn't started, what is left
+/// is done on the calling one. Memory for the answers and for each processor's own is taken before the first access.
 ///
 /// # Errors
 ///
@@ -189,18 +262,13 @@ pub fn run_private<R: Threads + Wait + Sync, G: Gate>(
     if let Some(page) = shared_page(core) {
         return Err(PrivateFault::Shared(page));
     }
-    let Ok(mut told) = room_for(alloc, jobs.as_slice()) else {
+    let Ok(told) = room_for(alloc, jobs.as_slice()) else {
         return Err(PrivateFault::NoMemory);
     };
     a_core_arises(core); // a fact for the proof
-    do_all(
-        rt,
-        alloc,
-        core,
-        goal,
-        jobs.as_slice(),
-        told.as_mut_slice(),
-        gate,
-    );
+    goal.is_register_file(); // a fact for the proof
+    let Some(told) = visit_all(rt, alloc, core, &goal, jobs.as_slice(), told, gate) else {
+        return Err(PrivateFault::NoMemory);
+    };
     Ok(told)
 }

@@ -13,6 +13,7 @@ ghost use Rattle.mt_machine.specs.Update.{updated};
 ghost use Rattle.mt_cpu.specs.Steps.{is_local};
 ghost use Rattle.mt_rendezvous.specs.Station.{start_of};
 ghost use Rattle.mt_private.specs.declared.job.Part.{Part as JobPart};
+ghost use Rattle.mt_private.specs.declared.job.Part.TheVariants.{After};
 ghost use Rattle.mt_private.specs.Jobs.{FitsJob, IsOpen};
 ghost use Rattle.mt_private.specs.OneByOne.{at_rest, ran};
 ghost use Rattle.mt_private.specs.YardCalls.{AreIn, HasTaken, IsLeft, Lodges, VisitEnds, Visits, done_in, in_phase};
@@ -317,7 +318,7 @@ impl YardPass {
 }
 
 // A core over the one processor, which runs.
-fn core_of(own: System) -> Core
+pub(crate) fn core_of(own: System) -> Core
     requires { AreIn Running own }
     ensures { result ≡ at_rest own }
 {
@@ -325,7 +326,7 @@ fn core_of(own: System) -> Core
 }
 
 // The accesses, the update, and where it is done the accesses after it.
-fn visit_with<R: Wait, G: Gate>(
+pub(crate) fn visit_with<R: Wait, G: Gate>(
     rt: &R,
     yard: &Yard,
     pass: &mut YardPass,
@@ -343,6 +344,8 @@ fn visit_with<R: Wait, G: Gate>(
     requires addresses { FitsJob job.now }
     requires open { (part : JobPart) → IsOpen part job.now told.old }
     ensures ends { VisitEnds result yard.now.table.shared.table_id (start_of yard.now.table.shared.key) pass.old.number goal.now job.now core.old.system pass.new.seat.table_id pass.new.seat.me core.new.system told.new }
+    ensures runs { AreIn Running core.new.system }
+    ensures has_room { result ≡ Visited.Cancelled → IsOpen After job.now told.new }
     ensures number { pass.new.number ≡ pass.old.number }
 {
     pass.access_all(yard, core, job.before.as_slice(), &mut told.before);

@@ -1,4 +1,5 @@
 // Laws on yards: what each step of a seat makes of the machine that words and views stand for.
+ghost use Rattle.mt_private.specs.Visitors.{EndsOneByOne};
 ghost use Rattle.mt_private.specs.YardLaws.{AdditionArrives, AdditionArrivesAgain, AdditionDecides, IsOneMachine, IsReached, JoinIsNone, LoadLeaves, LoadPasses, LoadReleases, LoadStays, LoadTakes, MoveIsOneEvent, SayingIsOneEvent, SplitIsNone, StartMeetsRule, StoreAccesses, StoreWorks};
 
 /// An addition to one of the two counts, and a load of one, is the event that the count tells of, or none: a processor
@@ -39,4 +40,10 @@ pub fn each_yard_step_is_one_event()
     ensures says { SayingIsOneEvent }
     ensures split { SplitIsNone }
     ensures join { JoinIsNone }
+{}
+
+/// Where every visitor came back and the go was given, the system that the yard leaves and all answers are those of the
+/// accesses before, processor by processor, the whole update, and the accesses after, processor by processor.
+pub fn yards_end_one_by_one()
+    ensures { EndsOneByOne }
 {}

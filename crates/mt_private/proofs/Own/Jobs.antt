@@ -61,6 +61,10 @@ module _ (P : ℕ → ℕ → Bool) (n : ℕ) (jobs : List (List Op)) (size : le
 
 -- ---- jobs
 
+-- the system after these accesses and a whole update
+abbrev pub after_update : System → RegisterFile → List (List Op) → System
+after_update s goal before = (updated (ran_each 0 before s).after (ascending (length (ran_each 0 before s).after.processors)) goal).system
+
 module _ (P : ℕ → ℕ → Bool) (n : ℕ) (goal : RegisterFile) (before after : List (List Op)) (few : length before ≡ n) (few_after : length after ≡ n) (s : System) (all : length s.processors ≡ n) (h : AreOwners P n s) where
   abbrev first : System
   first = (ran_each 0 before s).after
@@ -69,7 +73,7 @@ module _ (P : ℕ → ℕ → Bool) (n : ℕ) (goal : RegisterFile) (before afte
   count = (like_each 0 before s).size ∙ all
 
   abbrev whole : System
-  whole = (updated first (ascending (length first.processors)) goal).system
+  whole = after_update s goal before
 
   whole_is : whole ≡ (updated first (ascending n) goal).system
   whole_is = ap (λ (m : ℕ). (updated first (ascending m) goal).system) count
@@ -77,10 +81,10 @@ module _ (P : ℕ → ℕ → Bool) (n : ℕ) (goal : RegisterFile) (before afte
   abbrev fresh : AreOwners P n first
   fresh = each_owners P n before few s h
 
-  whole_owners : AreOwners P n whole
+  pub whole_owners : AreOwners P n whole
   whole_owners = subst (AreOwners P n) (sym whole_is) (updated_owners P n goal first fresh)
 
-  whole_own : (k : ℕ) (ops : List Op) → slice_get before k ≡ Some ops → own_system (P k) k whole ≡ updated_own goal (ran 0 ops (own_system (P k) k s)).after
+  pub whole_own : (k : ℕ) (ops : List Op) → slice_get before k ≡ Some ops → own_system (P k) k whole ≡ updated_own goal (ran 0 ops (own_system (P k) k s)).after
   whole_own k ops at =
       let low = slice_get_within before k ops at in
       ap (own_system (P k) k) whole_is ∙ updated_alone P n goal first fresh k (omega arith) ∙ ap (updated_own goal) (each_own P n before few s h k ops at)
@@ -97,15 +101,18 @@ module _ (P : ℕ → ℕ → Bool) (n : ℕ) (goal : RegisterFile) (before afte
   pub job_owners : AreOwners P n (one_by_one s goal before after).left.system
   job_owners = each_owners P n after few_after whole whole_owners
 
+  pub whole_count : length whole.processors ≡ n
+  whole_count = length-map first.processors (settled_processor goal) ∙ count
+
+  pub whole_left : (pages : ℕ → Bool) → ((k : ℕ) → AreApart (P k) pages) → own_memory pages whole.memory ≡ own_memory pages s.memory
+  whole_left pages apart = ap (λ (t : System). own_memory pages t.memory) whole_is ∙ updated_left P n goal first fresh pages apart count ∙ each_left P n before few s h pages apart
+
   pub job_count : length (one_by_one s goal before after).left.system.processors ≡ n
-  job_count = (like_each 0 after whole).size ∙ length-map first.processors (settled_processor goal) ∙ count
+  job_count = (like_each 0 after whole).size ∙ whole_count
 
   pub job_left : (pages : ℕ → Bool) → ((k : ℕ) → AreApart (P k) pages) → own_memory pages (one_by_one s goal before after).left.system.memory ≡ own_memory pages s.memory
   job_left pages apart =
-      each_left P n after few_after whole whole_owners pages apart
-      ∙ ap (λ (t : System). own_memory pages t.memory) whole_is
-      ∙ updated_left P n goal first fresh pages apart count
-      ∙ each_left P n before few s h pages apart
+      each_left P n after few_after whole whole_owners pages apart ∙ whole_left pages apart
 
 module _ (t : Start) (memory : IsMemory t.ram) (unshared : IsPrivate (system_of t)) where
   pub owners : AreOwners (pages_at t) (length t.cpus) (system_of t)

@@ -1,12 +1,13 @@
 use Rattle.std.proofs.Common.{◌≤◌, ◌∙◌, ap, sym, subst, ℕ, true, false, List, ◌++◌, length, Some}
 use Rattle.std.specs.Prelude.{vec_capacity}
 use Rattle.mt_machine.specs.declared.op.Op.{Op}
-use Rattle.mt_machine.specs.System.{System}
+use Rattle.mt_machine.specs.System.{Processor, System}
 use Rattle.mt_machine.specs.Machine.{Machine}
 use Rattle.mt_rendezvous.specs.Station.{start_of}
 use Rattle.mt_private.specs.declared.job.Part.TheVariants.{After, Before}
 use Rattle.mt_private.specs.OneByOne.{ran}
 use Rattle.mt_private.specs.YardCalls.{IsLeft, Lodges, updated_own}
+use Rattle.mt_private.proofs.Alone.{left_runs}
 use Rattle.mt_private.proofs.visiting.visit_with.Goals as goal
 
 pub access_all-requires-clause-lodges : goal.access_all-requires-clause-lodges
@@ -68,3 +69,11 @@ returns-in-Complete-clause-ends g c =
       b.answers ∙ (λ i. (ran 0 (after i) (whole i)).answers),
       b.done ∙ (λ i. (c.go_through.ensures.done ∙ a.done ∙ (λ j. c.requires.new j ++ before j)) i ++ after i),
     )
+
+pub returns-in-Cancelled-clause-runs : goal.returns-in-Cancelled-clause-runs
+returns-in-Cancelled-clause-runs g c =
+    let e = c.go_through.ensures.cancelled c.in-Cancelled.is in
+    left_runs c.access_all.new.core.system c.go_through.new.core.system (ap (λ (ps : List Processor). length ps) e.0.1.alone) c.access_all.ensures.runs e.2
+
+pub returns-in-Cancelled-clause-has_room : goal.returns-in-Cancelled-clause-has_room
+returns-in-Cancelled-clause-has_room g c = λ _. c.requires.open After

@@ -1,0 +1,343 @@
+// The guests of a yard on threads: one for each, in a scope.
+ghost use Rattle.std.specs.Prelude.{◌≡◌, ℕ, ◌+◌, ◌<◌, ◌≤◌, [], length, slice_get, vec_capacity, vec_len};
+ghost use Rattle.std.specs.Prelude.{Some, IfOk, IfErr, IfSome, IfNone};
+ghost use Rattle.std.specs.Thread.{IsSync};
+ghost use Rattle.mt_machine.specs.declared.go.Go.TheVariants.{Cancelled, Pending};
+ghost use Rattle.mt_rendezvous.specs.Station.{start_of};
+ghost use Rattle.mt_rendezvous.specs.Calls.{IsRoot, Leads};
+ghost use Rattle.mt_rendezvous.specs.Update.{decided};
+ghost use Rattle.mt_private.specs.declared.job.Job.{Job as ItsJob};
+ghost use Rattle.mt_private.specs.Visitors.{AreWaiting, HasCome, IsFresh, IsNew, OneLess, Returned};
+ghost use Rattle.mt_private.specs.YardPlays.{as_sat};
+
+use crate::host::{Host, Yard};
+use crate::job::{Job, Told};
+use crate::visiting::{Guest, Visited, core_of, visit_with};
+use crate::visitor::Visitor;
+use mt_ports::Gate;
+use mt_regs::RegFile;
+use std::alloc::Global;
+use std::snapshot::Snapshot;
+use std::sync::Wait;
+use std::thread;
+use std::thread::{Promise, PromisedHandle, Scope, Threads};
+
+// What the thread of a visitor promises: it comes back, and its visit has ended.
+#[derive(Drop)]
+struct Visits {
+    yard: Snapshot<Yard>,
+    job: Snapshot<Job>,
+    number: u64,
+}
+
+impl Promise<Box<Visitor>> for Visits {
+    ghost use Rattle.mt_rendezvous.specs.Station.{start_of};
+    ghost use Rattle.mt_private.specs.Visitors.{HasCome};
+
+    ghost kept_by = { λ p v. HasCome p.yard.value.table.shared.table_id (start_of p.yard.value.table.shared.key) p.job.value p.number v.value };
+}
+
+// The whole visit, on the thread that calls it.
+fn come<R: Wait, G: Gate>(
+    rt: &R,
+    yard: &Yard,
+    visitor: &mut Visitor,
+    goal: &RegFile,
+    job: &Job,
+    gate: &G,
+)
+    requires waits { IsNew yard.now.table.shared.table_id (start_of yard.now.table.shared.key) job.now visitor.old.pass.number visitor.old }
+    requires goal { goal.now ≡ yard.now.table.shared.key.goal.value }
+    ensures { HasCome yard.now.table.shared.table_id (start_of yard.now.table.shared.key) job.now visitor.old.pass.number visitor.new }
+{
+    visitor.visited = visit_with(
+        rt,
+        yard,
+        &mut visitor.pass,
+        &mut visitor.core,
+        goal,
+        job,
+        &mut visitor.told,
+        gate,
+    );
+}
+
+// Cancels, and so the visitor does its accesses before the update on this thread, and leaves.
+fn give_up<R: Wait, G: Gate>(
+    rt: &R,
+    yard: &Yard,
+    host: &mut Host,
+    mut visitor: Visitor,
+    goal: &RegFile,
+    job: &Job,
+    gate: &G,
+) -> Visitor
+    requires hosts { Leads yard.now.table.shared.table_id (start_of yard.now.table.shared.key) host.old.seat.table_id (as_sat host.old.seat.me) Pending }
+    requires waits { IsNew yard.now.table.shared.table_id (start_of yard.now.table.shared.key) job.now visitor.pass.number visitor }
+    requires goal { goal.now ≡ yard.now.table.shared.key.goal.value }
+    ensures same { (host.new.seat.me.0.held ≡ host.old.seat.me.0.held) × (host.new.owns ≡ host.old.owns) × (host.new.rest ≡ host.old.rest) }
+    ensures cancelled { Leads yard.now.table.shared.table_id (start_of yard.now.table.shared.key) host.new.seat.table_id (as_sat host.new.seat.me) Cancelled }
+    ensures come { HasCome yard.now.table.shared.table_id (start_of yard.now.table.shared.key) job.now visitor.pass.number result }
+{
+    host.cancel(yard);
+    come(rt, yard, &mut visitor, goal, job, gate);
+    visitor
+}
+
+// Starts a thread for the visitor, where there is memory and the gate lets it. Where none is started the host
+// cancels, and the visitor leaves.
+fn start<'s, E, R: Threads + Wait + Sync, G: Gate>(
+    rt: &'s R,
+    alloc: Global,
+    scope: &Scope<'s, E>,
+    yard: &'s Yard,
+    host: &mut Host,
+    visitor: Visitor,
+    goal: &'s RegFile,
+    job: &'s Job,
+    gate: &'s G,
+) -> Result<PromisedHandle<Box<Visitor>, Visits>, Visitor>
+    requires hosts { Leads yard.now.table.shared.table_id (start_of yard.now.table.shared.key) host.old.seat.table_id (as_sat host.old.seat.me) Pending }
+    requires waits { IsNew yard.now.table.shared.table_id (start_of yard.now.table.shared.key) job.now visitor.pass.number visitor }
+    requires goal { goal.now ≡ yard.now.table.shared.key.goal.value }
+    ensures same { (host.new.seat.me.0.held ≡ host.old.seat.me.0.held) × (host.new.owns ≡ host.old.owns) × (host.new.rest ≡ host.old.rest) }
+    ensures pending { IfOk result (λ h. Leads yard.now.table.shared.table_id (start_of yard.now.table.shared.key) host.new.seat.table_id (as_sat host.new.seat.me) Pending) }
+    ensures child { IfOk result (λ h. (h.promise.yard.value ≡ yard.now) × (h.promise.job.value ≡ job.now) × (h.promise.number ≡ visitor.pass.number)) }
+    ensures cancelled { IfErr result (λ v. Leads yard.now.table.shared.table_id (start_of yard.now.table.shared.key) host.new.seat.table_id (as_sat host.new.seat.me) Cancelled) }
+    ensures come { IfErr result (λ v. HasCome yard.now.table.shared.table_id (start_of yard.now.table.shared.key) job.now visitor.pass.number v) }
+{
+    let number = visitor.pass.number;
+    if !gate.may_start(number as u32) {
+        return Err(give_up(rt, yard, host, visitor, goal, job, gate));
+    }
+    let boxed = match Box::new(alloc, visitor) {
+        Ok(boxed) => boxed,
+        Err(refused) => {
+            return Err(give_up(rt, yard, host, refused.value, goal, job, gate));
+        }
+    };
+    let promise = Visits {
+        yard: Snapshot::of(yard),
+        job: Snapshot::of(job),
+        number,
+    };
+    match scope.spawn_with(
+        promise,
+        move || -> Box<Visitor>
+            requires shared { IsSync R.row }
+            requires waits { IsNew yard.now.table.shared.table_id (start_of yard.now.table.shared.key) job.now boxed.value.pass.number boxed.value }
+            requires same { goal.now ≡ yard.now.table.shared.key.goal.value }
+            ensures { HasCome yard.entry.now.table.shared.table_id (start_of yard.entry.now.table.shared.key) job.entry.now boxed.value.pass.number result.value }
+        {
+            let mut boxed = boxed;
+            come(rt, yard, &mut boxed, goal, job, gate);
+            boxed
+        },
+    ) {
+        Ok(child) => Ok(child),
+        Err(refused) => {
+            host.cancel(yard);
+            Err(Box::into_inner((refused.value)()))
+        }
+    }
+}
+
+// The visitor's guest comes back, and its answers go behind those of the ones before it.
+fn finish(yard: &Yard, jobs: &[Job], visitor: Visitor, host: &mut Host, told: &mut Vec<Told>)
+    requires returned { Returned yard.now.table.shared.table_id (start_of yard.now.table.shared.key) jobs.now host.old.seat.table_id host.old.seat.me host.old.owns.items told.old.items }
+    requires come { (job : ItsJob) → slice_get jobs.now (length told.old.items) ≡ Some job → HasCome yard.now.table.shared.table_id (start_of yard.now.table.shared.key) job (length told.old.items) visitor }
+    requires below { length told.old.items < yard.now.count }
+    requires job { length told.old.items < length jobs.now }
+    requires room { vec_len told.old < vec_capacity told.old }
+    ensures returned { Returned yard.now.table.shared.table_id (start_of yard.now.table.shared.key) jobs.now host.new.seat.table_id host.new.seat.me host.new.owns.items told.new.items }
+    ensures go { host.new.seat.me.0.go ≡ host.old.seat.me.0.go }
+    ensures rest { host.new.rest ≡ host.old.rest }
+    ensures count { length told.new.items ≡ length told.old.items + 1 }
+    ensures capacity { vec_capacity told.new ≡ vec_capacity told.old }
+{
+    let _ = jobs.len();
+    let Visitor {
+        core,
+        pass,
+        told: answers,
+        visited: _,
+    } = visitor;
+    let own = core.into_system();
+    host.take_back(yard, Guest { own, pass });
+    told.push_reserved(answers);
+}
+
+// The last guest, with its place for answers.
+fn last(
+    yard: &Yard,
+    jobs: &[Job],
+    waiting: &mut Vec<Guest>,
+    told: &mut Vec<Told>,
+) -> Option<Visitor>
+    requires { AreWaiting yard.now.table.shared.table_id (start_of yard.now.table.shared.key) jobs.now waiting.old.items told.old.items }
+    ensures none { IfNone result ((length waiting.old.items ≡ 0) × (told.new.items ≡ [])) }
+    ensures number { IfSome result (λ v. v.pass.number ≡ length waiting.new.items) }
+    ensures some { IfSome result (λ v. (job : ItsJob) → slice_get jobs.now (length waiting.new.items) ≡ Some job → IsNew yard.now.table.shared.table_id (start_of yard.now.table.shared.key) job (length waiting.new.items) v) }
+    ensures rest { IfSome result (λ v. OneLess yard.now.table.shared.table_id (start_of yard.now.table.shared.key) jobs.now waiting.old.items waiting.new.items told.new.items) }
+    ensures capacity { vec_capacity told.new ≡ vec_capacity told.old }
+{
+    let _ = (yard.count, jobs.len());
+    let Guest { own, pass } = waiting.pop()?;
+    let Some(answers) = told.pop() else {
+        unreachable!()
+    };
+    Some(Visitor {
+        core: core_of(own),
+        pass,
+        told: answers,
+        visited: Visited::Cancelled,
+    })
+}
+
+fn job_at(jobs: &[Job], k: usize) -> &Job
+    requires { k < length jobs.now }
+    ensures { slice_get jobs.now k ≡ Some result.now }
+{
+    &jobs[k]
+}
+
+// With the cancel given, all of these do their accesses before the update, and leave.
+fn leave_all<R: Wait, G: Gate>(
+    rt: &R,
+    yard: &Yard,
+    host: &mut Host,
+    goal: &RegFile,
+    jobs: &[Job],
+    gate: &G,
+    waiting: &mut Vec<Guest>,
+    told: &mut Vec<Told>,
+)
+    requires hosts { IsRoot yard.now.table.shared.table_id host.old.seat.table_id (as_sat host.old.seat.me) }
+    requires fresh { IsFresh (start_of yard.now.table.shared.key) host.old.seat.me.0 host.old.owns.items }
+    requires waiting { AreWaiting yard.now.table.shared.table_id (start_of yard.now.table.shared.key) jobs.now waiting.old.items told.old.items }
+    requires few { length waiting.old.items ≤ yard.now.count }
+    requires room { length waiting.old.items ≤ vec_capacity told.old }
+    requires goal { goal.now ≡ yard.now.table.shared.key.goal.value }
+    ensures go { host.new.seat.me.0.go ≡ host.old.seat.me.0.go }
+    ensures returned { Returned yard.now.table.shared.table_id (start_of yard.now.table.shared.key) jobs.now host.new.seat.table_id host.new.seat.me host.new.owns.items told.new.items }
+    ensures rest { host.new.rest ≡ host.old.rest }
+    ensures count { length told.new.items ≡ length waiting.old.items }
+    ensures capacity { vec_capacity told.new ≡ vec_capacity told.old }
+{
+    let Some(mut visitor) = last(yard, jobs, waiting, told) else {
+        return;
+    };
+    let job = job_at(jobs, waiting.len());
+    leave_all(rt, yard, host, goal, jobs, gate, waiting, told);
+    come(rt, yard, &mut visitor, goal, job, gate);
+    finish(yard, jobs, visitor, host, told);
+}
+
+// Starts a thread for each of these, gives the go, and takes all back. Where one isn't started it cancels, and the
+// answer is false.
+fn run_all<'s, E, R: Threads + Wait + Sync, G: Gate>(
+    rt: &'s R,
+    alloc: Global,
+    scope: &Scope<'s, E>,
+    yard: &'s Yard,
+    host: &mut Host,
+    goal: &'s RegFile,
+    jobs: &'s [Job],
+    gate: &'s G,
+    waiting: &mut Vec<Guest>,
+    told: &mut Vec<Told>,
+) -> bool
+    requires hosts { Leads yard.now.table.shared.table_id (start_of yard.now.table.shared.key) host.old.seat.table_id (as_sat host.old.seat.me) Pending }
+    requires fresh { IsFresh (start_of yard.now.table.shared.key) host.old.seat.me.0 host.old.owns.items }
+    requires waiting { AreWaiting yard.now.table.shared.table_id (start_of yard.now.table.shared.key) jobs.now waiting.old.items told.old.items }
+    requires few { length waiting.old.items ≤ yard.now.count }
+    requires room { length waiting.old.items ≤ vec_capacity told.old }
+    requires goal { goal.now ≡ yard.now.table.shared.key.goal.value }
+    ensures go { host.new.seat.me.0.go ≡ decided result }
+    ensures returned { Returned yard.now.table.shared.table_id (start_of yard.now.table.shared.key) jobs.now host.new.seat.table_id host.new.seat.me host.new.owns.items told.new.items }
+    ensures rest { host.new.rest ≡ host.old.rest }
+    ensures count { length told.new.items ≡ length waiting.old.items }
+    ensures capacity { vec_capacity told.new ≡ vec_capacity told.old }
+{
+    let Some(visitor) = last(yard, jobs, waiting, told) else {
+        host.go(yard);
+        return true;
+    };
+    let job = job_at(jobs, waiting.len());
+    match start(rt, alloc, scope, yard, host, visitor, goal, job, gate) {
+        Ok(child) => {
+            let given = run_all(
+                rt, alloc, scope, yard, host, goal, jobs, gate, waiting, told,
+            );
+            finish(yard, jobs, Box::into_inner(child.join(rt)), host, told);
+            given
+        }
+        Err(visitor) => {
+            leave_all(rt, yard, host, goal, jobs, gate, waiting, told);
+            finish(yard, jobs, visitor, host, told);
+            false
+        }
+    }
+}
+
+// Where the threads have ended: whether the go was given, the host, and the answers.
+pub(crate) struct Ended {
+    pub(crate) given: bool,
+    pub(crate) host: Host,
+    pub(crate) told: Vec<Told>,
+}
+
+// The scope of the threads.
+pub(crate) fn meet<R: Threads + Wait + Sync, G: Gate>(
+    rt: &R,
+    alloc: Global,
+    yard: &Yard,
+    mut host: Host,
+    goal: &RegFile,
+    jobs: &[Job],
+    gate: &G,
+    mut waiting: Vec<Guest>,
+    mut told: Vec<Told>,
+) -> Ended
+    requires hosts { Leads yard.now.table.shared.table_id (start_of yard.now.table.shared.key) host.seat.table_id (as_sat host.seat.me) Pending }
+    requires fresh { IsFresh (start_of yard.now.table.shared.key) host.seat.me.0 host.owns.items }
+    requires waiting { AreWaiting yard.now.table.shared.table_id (start_of yard.now.table.shared.key) jobs.now waiting.items told.items }
+    requires few { length waiting.items ≤ yard.now.count }
+    requires room { length waiting.items ≤ vec_capacity told }
+    requires goal { goal.now ≡ yard.now.table.shared.key.goal.value }
+    ensures returned { Returned yard.now.table.shared.table_id (start_of yard.now.table.shared.key) jobs.now result.host.seat.table_id result.host.seat.me result.host.owns.items result.told.items }
+    ensures go { result.host.seat.me.0.go ≡ decided result.given }
+    ensures rest { result.host.rest ≡ host.rest }
+    ensures count { length result.told.items ≡ length waiting.items }
+{
+    thread::scope(
+        thread::scope_env(),
+        rt,
+        move |scope| -> Ended
+            requires hosts { Leads yard.now.table.shared.table_id (start_of yard.now.table.shared.key) host.seat.table_id (as_sat host.seat.me) Pending }
+            requires fresh { IsFresh (start_of yard.now.table.shared.key) host.seat.me.0 host.owns.items }
+            requires waiting { AreWaiting yard.now.table.shared.table_id (start_of yard.now.table.shared.key) jobs.now waiting.items told.items }
+            requires few { length waiting.items ≤ yard.now.count }
+            requires room { length waiting.items ≤ vec_capacity told }
+            requires same { goal.now ≡ yard.now.table.shared.key.goal.value }
+            ensures returned { Returned yard.entry.now.table.shared.table_id (start_of yard.entry.now.table.shared.key) jobs.entry.now result.host.seat.table_id result.host.seat.me result.host.owns.items result.told.items }
+            ensures go { result.host.seat.me.0.go ≡ decided result.given }
+            ensures rest { result.host.rest ≡ host.rest }
+            ensures count { length result.told.items ≡ length waiting.items }
+        {
+            let given = run_all(
+                rt,
+                alloc,
+                scope,
+                yard,
+                &mut host,
+                goal,
+                jobs,
+                gate,
+                &mut waiting,
+                &mut told,
+            );
+            Ended { given, host, told }
+        },
+    )
+}
