@@ -319,3 +319,150 @@ fn two_processors_meet(rt: HostRuntime) {
     assert!(rt; store_and_load(&rt, rt.alloc(), 2, &gate) == Some(true));
     assert!(rt; gate.seen.load(Ordering::SeqCst) == 2);
 }
+
+/// So many loads and stores of words of the own page, by draws.
+fn draws(alloc: Global, mut x: u64, count: usize) -> Option<Vec<Op>> {
+    let mut ops = Vec::new(alloc);
+    for _i in 0..count {
+        x = x
+            .wrapping_mul(6364136223846793005)
+            .wrapping_add(1442695040888963407);
+        let address = 0x1000 + (x >> 33) % 512 * 8;
+        let op = if (x >> 20) % 2 == 0 {
+            Op::Load(address)
+        } else {
+            Op::Store(address, x)
+        };
+        if ops.push(op).is_err() {
+            return None;
+        }
+    }
+    Some(ops)
+}
+
+/// A job of 64 drawn accesses before and 64 after for each of so many processors.
+fn drawn_jobs(alloc: Global, count: u32, round: u64) -> Option<Vec<Job>> {
+    let mut jobs = Vec::new(alloc);
+    for k in 0..count {
+        let seed = round.wrapping_mul(32).wrapping_add(2 * k as u64);
+        let before = draws(alloc, seed, 64)?;
+        let after = draws(alloc, seed.wrapping_add(1), 64)?;
+        if jobs.push(Job { before, after }).is_err() {
+            return None;
+        }
+    }
+    Some(jobs)
+}
+
+/// A processor's accesses by the core's own calls.
+fn access_each(alloc: Global, core: &mut Core, k: u32, ops: &[Op]) -> Option<Vec<Done>> {
+    let mut told = Vec::new(alloc);
+    for op in ops {
+        if !fits_op(*op) || k as usize >= core.system().cpus.len() {
+            return None;
+        }
+        if told.push(core.access(k, *op)).is_err() {
+            return None;
+        }
+    }
+    Some(told)
+}
+
+/// The update by the core's own calls.
+fn update_alone(core: &mut Core, goal: RegFile) -> bool {
+    let called = may_call(core, &goal) && core.call(goal) == Ok(());
+    if core.order().is_some() {
+        core.round();
+    }
+    called
+}
+
+/// The answers of the accesses of one part of all jobs, one after the other, by the core's own calls.
+fn part_by_calls(
+    alloc: Global,
+    core: &mut Core,
+    jobs: &[Job],
+    first: bool,
+) -> Option<Vec<Vec<Done>>> {
+    if jobs.len() > 16 {
+        return None;
+    }
+    let mut all = Vec::new(alloc);
+    for k in 0..jobs.len() {
+        let job = &jobs[k];
+        let ops = if first {
+            job.before.as_slice()
+        } else {
+            job.after.as_slice()
+        };
+        let told = access_each(alloc, core, k as u32, ops)?;
+        if all.push(told).is_err() {
+            return None;
+        }
+    }
+    Some(all)
+}
+
+/// Whether both have the same words, eras and numbers of lines.
+fn ends_alike(a: &Core, b: &Core) -> bool {
+    let (x, y) = (a.system(), b.system());
+    if x.ram.words() != y.ram.words() || x.cpus.len() != y.cpus.len() {
+        return false;
+    }
+    for i in 0..x.ram.words() {
+        if x.ram.word(i) != y.ram.word(i) {
+            return false;
+        }
+    }
+    let (cpus, others) = (x.cpus.as_slice(), y.cpus.as_slice());
+    for k in 0..cpus.len() {
+        if cpus[k].era() != others[k].era() || cpus[k].cache().len() != others[k].cache().len() {
+            return false;
+        }
+    }
+    true
+}
+
+/// Whether the jobs on threads are answered, and end, as by the core's own calls.
+fn jobs_end_alike<R: Threads + Wait + Sync, G: Gate>(
+    rt: &R,
+    alloc: Global,
+    count: u32,
+    round: u64,
+    gate: &G,
+) -> Option<bool> {
+    let (mut a, mut b) = (core_of(alloc, count)?, core_of(alloc, count)?);
+    let jobs = drawn_jobs(alloc, count, round)?;
+    let before = part_by_calls(alloc, &mut b, jobs.as_slice(), true)?;
+    if !update_alone(&mut b, file(4)?) {
+        return None;
+    }
+    let after = part_by_calls(alloc, &mut b, jobs.as_slice(), false)?;
+    let Ok(told) = on_threads(rt, alloc, &mut a, file(4)?, jobs, gate)? else {
+        return None;
+    };
+    for k in 0..told.len() {
+        if told[k].before.as_slice() != before.get(k)?.as_slice()
+            || told[k].after.as_slice() != after.get(k)?.as_slice()
+        {
+            return Some(false);
+        }
+    }
+    Some(told.len() == count as usize && ends_alike(&a, &b))
+}
+
+#[test]
+fn many_accesses_end_as_one_by_one(rt: HostRuntime) {
+    for round in 0..200 {
+        let alike = jobs_end_alike(&rt, rt.alloc(), 16, round, &OpenGate);
+        assert!(rt; alike == Some(true), "{round}");
+    }
+}
+
+#[test]
+fn refused_starts_end_as_one_by_one(rt: HostRuntime) {
+    for k in 0..16 {
+        let alike = jobs_end_alike(&rt, rt.alloc(), 16, k as u64, &AllBut { k });
+        assert!(rt; alike == Some(true), "{k}");
+    }
+}

@@ -12,23 +12,8 @@ use Rattle.mt_rendezvous.specs.declared.view.Start.{Start}
 use Rattle.mt_rendezvous.specs.Calls.{gathered}
 use Rattle.mt_private.specs.Pages.{IsPrivate}
 use Rattle.mt_private.specs.Residents.{Opens}
-use Rattle.mt_private.proofs.Causes.{private_where_none}
+use Rattle.mt_private.proofs.Causes.{opens_of, private_where_none}
 use Rattle.mt_private.proofs.yard_tests.gather_of.Goals as goal
-
-abbrev with_order : System → Option Order → Machine
-with_order s o = record { system = s; order = o }
-
--- a core that rests may be gathered, for a goal that it may be called with
-opens_of : (m : Machine) (goal : RegisterFile) → IsCore m → m.order ≡ None → IsRegisterFile goal → IsAccepted goal → IsPrivate m.system → 0 < length m.system.processors → All (FitsGoal goal) m.system.processors → HasEraRoom m
-    → Opens (gathered m.system.processors m.system.memory goal)
-opens_of m goal core none file good own some fits room = record {
-  quiet = subst IsQuiet (ap (with_order m.system) none) (is_quiet_without_order m core.arises none);
-  enabled = (refl, file, good, fits);
-  unshared = own;
-  some = some;
-  few = core.few;
-  room = era_room m.system.processors room;
-}
 
 pub gather-requires : goal.gather-requires
 gather-requires c =
