@@ -14,6 +14,7 @@ pub mod Summing
 pub mod Texts
 pub mod Transcript
 pub mod WorkedJoins
+pub mod WorkedLaws
 pub mod WorkedScript
 pub mod WorkedStates
 pub mod WorkedSteps

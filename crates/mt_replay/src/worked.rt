@@ -1,5 +1,6 @@
 mod commands;
 mod joining;
+mod laws;
 mod moving;
 mod points;
 mod states;
@@ -22,6 +23,10 @@ ghost use Rattle.mt_replay.specs.Texts.{call_fault_line, called_line, cancel_lin
 pub use commands::{worked_commands, worked_effects};
 pub use joining::{
     worked_called_goals, worked_join_summary, worked_joined_states, worked_moving_steps,
+};
+pub use laws::{
+    worked_laws_of_movers, worked_laws_of_sections, worked_laws_of_transcripts,
+    worked_laws_of_updates,
 };
 pub use moving::{
     worked_absent, worked_admitted_states, worked_early_texts, worked_flat_moves, worked_moved,
