@@ -2,3 +2,4 @@ mod Agreeing
 pub mod Calling
 mod GivingUp
 mod Unlike
+mod Passing

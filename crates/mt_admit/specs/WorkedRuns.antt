@@ -3,10 +3,13 @@ use Rattle.std.specs.Prelude.{ℕ, false, true, List, [], ◌∷◌, ◌++◌, N
 use Rattle.mt_cache.specs.declared.line.CacheLine.{CacheLine}
 use Rattle.mt_machine.specs.ComingAndGoing.{newcomer}
 use Rattle.mt_machine.specs.declared.event.Event.TheVariants.{Arrive, Pass, Release, SetNoFill, Take, WriteBack}
-use Rattle.mt_machine.specs.Machine.{Goes, Machine, MachineEvent, Steps, run}
+use Rattle.mt_machine.specs.declared.go.Go.TheVariants.{Given}
+use Rattle.mt_machine.specs.declared.op.Op.TheVariants.{Fence}
+use Rattle.mt_machine.specs.Machine.{Accesses, Goes, Machine, MachineEvent, Order, Steps, next, run}
 use Rattle.mt_machine.specs.System.{Processor, start_processor}
-use Rattle.mt_machine.specs.WorkedRuns.{alone, bare_file, entry, idle, line_of, machine_of, mapping, small}
+use Rattle.mt_machine.specs.WorkedRuns.{alone, bare_file, call_order, entry, idle, line_of, machine_of, mapping, small}
 use Rattle.mt_laws.specs.WorkedRuns.{way_on}
+use Rattle.mt_laws.specs.WorkedUpdates.{dirty_taken}
 use Rattle.mt_admit.specs.Admission.{brought_up}
 
 -- in era 3, with a line of two dirty words
@@ -96,3 +99,17 @@ agrees = record (start_processor (bare_file 0x800)) {
 
 abbrev pub with_last : Processor → Machine
 with_last p = machine_of (agrees ∷ agrees ∷ p ∷ [])
+
+-- behind the first release: a fence of the one that has released, and the other's release
+abbrev pub behind_release : List MachineEvent
+behind_release = Accesses 1 Fence ∷ Steps 0 Release ∷ []
+
+-- one processor, with a dirty line, at its pass and behind it
+abbrev pub given_order : Order
+given_order = record call_order { go = Given }
+
+abbrev pub at_pass : Machine
+at_pass = run dirty_taken (Goes ∷ Steps 0 Arrive ∷ [])
+
+abbrev pub in_change : Machine
+in_change = next at_pass (Steps 0 Pass)

@@ -7,6 +7,7 @@ mod laws;
 #[cfg(test)]
 mod tests;
 mod worked;
+mod worked_cores;
 mod worked_unlike;
 
 pub use admission::{admit, retire, up};
@@ -16,6 +17,8 @@ pub use laws::{
     retired_leave_the_others, ups_arise,
 };
 pub use worked::{worked_admissions, worked_agreement};
+pub use worked_cores::{worked_laws_of_passes, worked_laws_of_turns, worked_laws_of_whole_updates};
 pub use worked_unlike::{
-    worked_all_agree, worked_given_up, worked_laws, worked_left, worked_unlike_admissions,
+    worked_all_agree, worked_given_up, worked_laws, worked_laws_behind_releases, worked_left,
+    worked_unlike_admissions,
 };

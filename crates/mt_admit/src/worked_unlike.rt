@@ -1,6 +1,6 @@
 // Worked runs over two processors whose registers differ, of which one has a dirty line, and the other an entry and
 // write-combining buffers.
-ghost use Rattle.std.specs.Prelude.{◌≡◌, ◌∷◌, [], Some, false};
+ghost use Rattle.std.specs.Prelude.{◌≡◌, ◌∷◌, ◌++◌, [], Some, false};
 ghost use Rattle.mt_machine.specs.declared.event.Event.TheVariants.{Leave, Take};
 ghost use Rattle.mt_machine.specs.declared.go.Go.TheVariants.{Pending};
 ghost use Rattle.mt_machine.specs.ComingAndGoing.{with_newcomer, without_last};
@@ -11,7 +11,7 @@ ghost use Rattle.mt_core.specs.Arises.{Arises};
 ghost use Rattle.mt_core.specs.WorkedRuns.{to_first_release};
 ghost use Rattle.mt_admit.specs.Admission.{admitted, brought_up, first_file};
 ghost use Rattle.mt_admit.specs.Laws.{AllAgree, CanGrow, CancelledNewcomersStayBlank, IsGivenUp, NewcomersAgree, NewcomersKeepWords, OthersAreLeft, RetiredLeaveTheOthers, UpsArise};
-ghost use Rattle.mt_admit.specs.WorkedRuns.{agrees, before_pass, buffered, combines, given_up, left, left_of_buffered, released, unlike, with_last, with_third, without_line};
+ghost use Rattle.mt_admit.specs.WorkedRuns.{agrees, before_pass, behind_release, buffered, combines, given_up, left, left_of_buffered, released, unlike, with_last, with_third, without_line};
 
 /// The goal is the first's registers, and every word is in memory once one is admitted.
 pub fn worked_unlike_admissions()
@@ -65,4 +65,10 @@ pub fn worked_laws()
     ensures keep { NewcomersKeepWords → IsHeld before_pass.system released [] }
     ensures blank { CancelledNewcomersStayBlank → IsGivenUp unlike (run (brought_up unlike) (Steps 0 Take ∷ Cancels ∷ Steps 0 Leave ∷ [])) (0 ∷ []) }
     ensures leave { RetiredLeaveTheOthers → OthersAreLeft buffered.system (without_last buffered).system }
+{}
+
+/// The laws of updates speak of what events leave behind a release.
+pub fn worked_laws_behind_releases()
+    ensures agree { NewcomersAgree → AllAgree bare (run (brought_up bare) (to_first_release ++ behind_release)).system }
+    ensures keep { NewcomersKeepWords → IsHeld before_pass.system released behind_release }
 {}

@@ -1,0 +1,45 @@
+// Laws on cores, each at a state in which what it speaks of is there.
+ghost use Rattle.std.specs.Prelude.{◌∷◌, []};
+ghost use Rattle.mt_machine.specs.declared.event.Event.TheVariants.{SetNoFill};
+ghost use Rattle.mt_machine.specs.ComingAndGoing.{with_newcomer};
+ghost use Rattle.mt_machine.specs.Machine.{Machine, Reached, Steps, next};
+ghost use Rattle.mt_machine.specs.Start.{IsQuiet};
+ghost use Rattle.mt_machine.specs.Update.{IsHeld, updated};
+ghost use Rattle.mt_machine.specs.WorkedRuns.{bare, bare_file, calling, idle, load, ready};
+ghost use Rattle.mt_laws.specs.Barriers.{BarriersHold, NoneActsInChange, NoneRunsInChange};
+ghost use Rattle.mt_laws.specs.Kept.{OrderHolds};
+ghost use Rattle.mt_laws.specs.WorkedRuns.{pair_order};
+ghost use Rattle.mt_laws.specs.WorkedUpdates.{dirty_taken};
+ghost use Rattle.mt_core.specs.Headline.{BarriersHoldThroughout, ErasRise, HasRisenByOne, HeldFromFirstRelease, IsQuietWithoutOrder, NoBuffersWhereOnePasses, NoneActsThroughout, NoneRunsThroughout, OrdersHoldThroughout, StepsKeepThroughout, WaitsAtBarriers, WaitsWhereFor};
+ghost use Rattle.mt_core.specs.Rounds.{Rounds, TurnsEnd, UpdatedWordsAreHeld, UpdatesAreReached, UpdatesSettle, with_go_given};
+ghost use Rattle.mt_core.specs.Since.{HaveNoBuffers, IsHeldSince, IsSettledSince, KeepsWord};
+ghost use Rattle.mt_core.specs.Stops.{StopsOutside, StopsWhereOutside};
+ghost use Rattle.mt_core.specs.WorkedRuns.{come, count};
+ghost use Rattle.mt_admit.specs.WorkedRuns.{at_pass, before_pass, behind_release, given_order, in_change, released, unlike};
+
+/// One processor, which has a dirty line, passes the first barrier.
+pub fn worked_laws_of_passes()
+    ensures no_buffers { NoBuffersWhereOnePasses → HaveNoBuffers at_pass.system.processors }
+    ensures barriers { BarriersHoldThroughout → BarriersHold in_change }
+    ensures exclusive { NoneRunsThroughout → NoneRunsInChange in_change }
+    ensures busy { NoneActsThroughout → NoneActsInChange in_change }
+    ensures orders { OrdersHoldThroughout → OrderHolds in_change given_order }
+    ensures words { StepsKeepThroughout → KeepsWord in_change.system (next in_change (Steps 0 SetNoFill)).system 0x100008 }
+    ensures rise { ErasRise → HasRisenByOne in_change.system (next in_change (Steps 0 SetNoFill)).system }
+    ensures held { HeldFromFirstRelease → IsHeld before_pass.system released behind_release }
+{}
+
+/// Where steps wait and stop, and turns end.
+pub fn worked_laws_of_turns()
+    ensures quiet { IsQuietWithoutOrder → IsQuiet (with_newcomer bare) }
+    ensures stops { StopsOutside → StopsWhereOutside bare 0 idle }
+    ensures waits { WaitsAtBarriers → WaitsWhereFor (calling pair_order (come ∷ ready ∷ [])) 0 come (count 2 3) }
+    ensures ends { TurnsEnd → (t : Machine) × Rounds (with_go_given dirty_taken) t × Reached dirty_taken t }
+{}
+
+/// A whole update of two processors whose registers differ, with a dirty line and buffers, and a load behind it.
+pub fn worked_laws_of_whole_updates()
+    ensures reached { UpdatesAreReached → Reached unlike (updated unlike.system (0 ∷ 1 ∷ []) (bare_file 0x806)) }
+    ensures settled { UpdatesSettle → IsSettledSince (updated unlike.system (0 ∷ 1 ∷ []) (bare_file 0x806)) 3 (bare_file 0x806) (load 0 0x1000 ∷ []) }
+    ensures held { UpdatedWordsAreHeld → IsHeldSince (updated unlike.system (0 ∷ 1 ∷ []) (bare_file 0x806)) (load 0 0x1000 ∷ []) 0x100048 }
+{}
