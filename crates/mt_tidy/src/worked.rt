@@ -92,6 +92,7 @@ pub fn worked_pairs()
     ensures count { valid_count four_gigabytes ≡ 1 }
     ensures stands_not_valid { StandsFor 36 (range 0 20 WB) (6, 0xf00000000) → ⊥ }
     ensures stands_for_others { StandsFor 36 (range 0 20 WB) (6, 0xff0000800) → ⊥ }
+    ensures stands_for_others_far_up { StandsFor 36 (range 0 20 WB) (6, 0x700000800) → ⊥ }
     ensures stands_for_another_type { StandsFor 36 (range 0 20 WB) (4, 0xf00000800) → ⊥ }
 {}
 

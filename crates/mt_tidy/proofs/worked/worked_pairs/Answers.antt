@@ -7,5 +7,8 @@ returns-clause-stands_not_valid c = λ h. absurd (cc h.valid)
 pub returns-clause-stands_for_others : goal.returns-clause-stands_for_others
 returns-clause-stands_for_others c = λ h. absurd (cc (h.pages 0x10000 (omega arith)))
 
+pub returns-clause-stands_for_others_far_up : goal.returns-clause-stands_for_others_far_up
+returns-clause-stands_for_others_far_up c = λ h. absurd (cc (h.pages 0x800000 (omega arith)))
+
 pub returns-clause-stands_for_another_type : goal.returns-clause-stands_for_another_type
 returns-clause-stands_for_another_type c = λ h. absurd (cc h.kind)
