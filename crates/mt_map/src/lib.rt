@@ -15,6 +15,8 @@ mod rows;
 mod running;
 mod stack;
 mod style;
+#[cfg(test)]
+mod tests;
 
 pub use band::Band;
 pub use bar::Bar;
