@@ -1,2 +1,4 @@
 pub mod Bands
 pub mod Map
+pub mod WorkedBands
+pub mod WorkedMaps

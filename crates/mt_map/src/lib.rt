@@ -17,6 +17,8 @@ mod stack;
 mod style;
 #[cfg(test)]
 mod tests;
+mod worked;
+mod worked_maps;
 
 pub use band::Band;
 pub use bar::Bar;
@@ -27,3 +29,5 @@ pub use ranges::{Bars, bars};
 pub use rect::Rect;
 pub use running::{draw, map, picture_of};
 pub use stack::{Stack, bands, height, top_of};
+pub use worked::{worked_bands, worked_choices, worked_heights, worked_types};
+pub use worked_maps::{worked_drawn, worked_left, worked_outputs, worked_texts};
