@@ -1,5 +1,6 @@
 // Worked examples: the system that a yard leaves, and jobs in own systems.
 ghost use Rattle.std.specs.Prelude.{◌≡◌, ℕ, ◌∷◌, [], None, Some, false, true};
+ghost use Rattle.mt_machine.specs.declared.op.Op.TheVariants.{Fence, Load, Store};
 ghost use Rattle.mt_machine.specs.declared.go.Go.TheVariants.{Cancelled};
 ghost use Rattle.mt_regs.specs.RegisterFile.{RegisterFile};
 ghost use Rattle.mt_private.specs.Alone.{JobsAlone, JobsRunAlone, UpdatesAlone, UpdatesRunAlone, named_by_none, own_job};
@@ -56,4 +57,5 @@ pub fn worked_leaves()
 pub fn worked_own_jobs()
     ensures updates { UpdatesRunAlone → UpdatesAlone lodged lodging.goal }
     ensures jobs { JobsRunAlone → JobsAlone lodged lodging.goal ([] ∷ [] ∷ []) ([] ∷ [] ∷ []) }
+    ensures jobs_with_accesses { JobsRunAlone → JobsAlone lodged lodging.goal ((Store 0x1000 9 ∷ []) ∷ (Load 0x1000 ∷ Fence ∷ []) ∷ []) ((Load 0x1000 ∷ []) ∷ (Store 0x1000 8 ∷ []) ∷ []) }
 {}
