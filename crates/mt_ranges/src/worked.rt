@@ -1,6 +1,6 @@
 ghost use Rattle.std.specs.Prelude.{◌≡◌, [], ◌∷◌, map, true, false};
 ghost use Rattle.mt_ranges.specs.FixedPart.{fixed_part};
-ghost use Rattle.mt_ranges.specs.Match.{covers, is_run, matches_pair, page_field, range_end, range_first, range_log};
+ghost use Rattle.mt_ranges.specs.Match.{covers, is_run, is_valid, matches_pair, page_field, range_end, range_first, range_log};
 
 /// The first and the last page of each row of the table of fixed ranges.
 pub fn the_table_of_fixed_ranges()
@@ -22,6 +22,8 @@ pub fn pairs_and_masks()
     ensures all_pages { range_log 36 (6, 0x800) ≡ 24 }
     ensures one_page { range_log 36 (0x5006, 0xffffff800) ≡ 0 }
     ensures ignored_bits { covers 36 (0xc1234006, 0xff0000800) 0xc0000 ≡ true }
+    ensures valid { is_valid (0, 0x800) ≡ true }
+    ensures not_valid { is_valid (0x800, 0x7ff) ≡ false }
     ensures invalid { matches_pair 36 (6, 0) 0 ≡ false }
     ensures run { is_run 24 (page_field 36 0xf80000800) ≡ true }
     ensures zeros { is_run 24 (page_field 36 0x800) ≡ true }

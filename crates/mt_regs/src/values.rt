@@ -11,9 +11,11 @@ pub const CAPABILITIES: u32 = 0xfe;
 /// The number of the first pair's base register.
 pub const FIRST_PAIR: u32 = 0x200;
 
-const PAT: u32 = 0x277;
+/// The number of the PAT's register.
+pub const PAT: u32 = 0x277;
 
-const DEFAULT_TYPE: u32 = 0x2ff;
+/// The number of the default type's register, the last one.
+pub const DEFAULT_TYPE: u32 = 0x2ff;
 
 const FIXED_COUNT: u32 = 11;
 
