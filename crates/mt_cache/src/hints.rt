@@ -1,7 +1,7 @@
 ghost use Rattle.std.specs.Prelude.{◌<◌};
 
-/// Where the line whose number has these low bits was added last, and how many lines were dropped
-/// since. What it answers is only a guess, from which a search begins.
+/// Where the line whose number has these low bits was added last, told by the number of lines that were dropped until
+/// then, modulo 256. What it answers is only a guess, from which a search begins.
 #[derive(Drop)]
 pub(crate) struct Hints {
     places: [u8; 256],

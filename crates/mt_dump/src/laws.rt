@@ -55,7 +55,7 @@ pub fn a_register_file_is_shown_by_its_text(f: &RegFile)
     ensures { Shown (canon (dump_of f.now)) (dump_of f.now) }
 {
     f.has_words(); // a fact for the proof
-    let _ = &f.maxphy;
+    let _ = &f.maxphy; // a fact for the proof
 }
 
 /// What a text shows in the plain form it shows, where each line keeps to the limit.

@@ -1,5 +1,5 @@
 -- The words at the front of a line, by their number from 0 (own).
---     text_of words i      the text of a word, or no byte where the line doesn't have the word
+--     text_of words i      the text of a word, or no byte where it is none of these
 --     place_of number words i      its place in the line of this number, or the line's first column
 --     first_words number line      what is kept of a line of this number: its first seven words
 use Rattle.std.specs.Prelude.{ℕ, ◌+◌, ◌-◌, ◌≤◌, List, [], length, map, take, drop, unwrap_or, slice_get}

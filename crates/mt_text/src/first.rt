@@ -71,7 +71,7 @@ impl<'a> Words<'a> {
         self.bounds.len()
     }
 
-    /// The text of a word, which is empty where the line doesn't have the word.
+    /// The text of a word, which is empty where it is none of these.
     pub fn text(&self, i: usize) -> &'a [u8]
         ensures { result.now ≡ text_of self.now.words i }
     {
@@ -81,7 +81,7 @@ impl<'a> Words<'a> {
         }
     }
 
-    /// The place of a word, which is the line's first column where the line doesn't have the word.
+    /// The place of a word, which is the line's first column where it is none of these.
     pub fn place(&self, i: usize) -> Place
         ensures { result ≡ place_of self.now.number self.now.words i }
     {
