@@ -30,6 +30,7 @@ pub fn worked_controls()
     ensures invlpg_within_a_page { (own (run (alone (holder true)) (Controls 0 (Invlpg 0x1fff) ∷ [])) 0).entries ≡ entry 2 false ∷ [] }
     ensures cr3 { (own (run (alone (holder true)) (Controls 0 Cr3 ∷ [])) 0).entries ≡ entry 1 true ∷ [] }
     ensures pge_same { (own (run (alone (holder true)) (Controls 0 (Pge true) ∷ [])) 0).entries ≡ (holder true).entries }
+    ensures pge_same_clear { (own (run (alone (holder false)) (Controls 0 (Pge false) ∷ [])) 0).entries ≡ (holder false).entries }
     ensures pge_changed { (own (run (alone (holder true)) (Controls 0 (Pge false) ∷ [])) 0).entries ≡ [] }
     ensures pge_set { (own (run (alone (holder false)) (Controls 0 (Pge true) ∷ [])) 0).page_global ≡ true }
     ensures pge_set_drops_all { (own (run (alone (holder false)) (Controls 0 (Pge true) ∷ [])) 0).entries ≡ [] }

@@ -1,5 +1,6 @@
 ghost use Rattle.std.specs.Prelude.{◌≡◌, ◌∷◌, [], Some, false, length, map, slice_get, true};
 ghost use Rattle.mt_kinds.specs.declared.mem_type.MemType.TheVariants.{UC, WB, WC, WP, WT};
+ghost use Rattle.mt_regs.specs.WorkedRows.{four_gigabytes};
 ghost use Rattle.mt_machine.specs.declared.control.Control.TheVariants.{Invlpg, Pge};
 ghost use Rattle.mt_machine.specs.declared.done.Done.TheVariants.{Value};
 ghost use Rattle.mt_machine.specs.declared.op.Op.TheVariants.{Load};
@@ -56,10 +57,12 @@ pub fn worked_translations()
     ensures filled { (own (run palette (load 0 0x1000 ∷ [])) 0).entries ≡ entry 1 false ∷ [] }
     ensures filled_once { (own (run palette (load 0 0x1000 ∷ load 0 0x1008 ∷ [])) 0).entries ≡ entry 1 false ∷ [] }
     ensures by_the_registers { answer_of (setup 1 uncached_goal) 0 (Load 0x1000) ≡ Value 0 UC }
+    ensures by_the_physical_page { answer_of (run (setup 1 four_gigabytes) (maps 0 (mapping 0x100000 0x100 0) ∷ [])) 0 (Load 0x100000000) ≡ Value 0 WB }
     ensures kept_past_the_mapping { answer_of (run palette (load 0 0x1000 ∷ maps 0 (mapping 1 0x100 3) ∷ [])) 0 (Load 0x1000) ≡ Value 0 WB }
     ensures dropped { answer_of (run palette (load 0 0x1000 ∷ maps 0 (mapping 1 0x100 3) ∷ Controls 0 (Invlpg 0x1000) ∷ [])) 0 (Load 0x1000) ≡ Value 0 UC }
     ensures kept_past_the_registers { answer_of (alone (record (holder false) { file = uncached_goal })) 0 (Load 0x1000) ≡ Value 5 WB }
     ensures not_global { (own (run palette (maps 0 (global_mapping 1) ∷ load 0 0x1000 ∷ [])) 0).entries ≡ entry 1 false ∷ [] }
+    ensures not_marked_global { (own (run palette (Controls 0 (Pge true) ∷ load 0 0x1000 ∷ [])) 0).entries ≡ entry 1 false ∷ [] }
     ensures global { (own (run palette (maps 0 (global_mapping 1) ∷ Controls 0 (Pge true) ∷ load 0 0x1000 ∷ [])) 0).entries ≡ entry 1 true ∷ [] }
     ensures era { map (λ e. e.era) (own (run (alone (record (holder true) { era = 3; entries = [] })) (load 0 0x1000 ∷ [])) 0).entries ≡ 3 ∷ [] }
     ensures full { length (own (run (wide_alone crowded) (load 0 0x1000 ∷ [])) 0).entries ≡ 64 }
