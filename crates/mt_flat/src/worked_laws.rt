@@ -6,11 +6,11 @@ ghost use Rattle.mt_machine.specs.Machine.{Steps, next, run};
 ghost use Rattle.mt_machine.specs.Start.{start_with};
 ghost use Rattle.mt_machine.specs.Update.{updated};
 ghost use Rattle.mt_machine.specs.WorkedRuns.{bare_file, one_window};
-ghost use Rattle.mt_laws.specs.WorkedUpdates.{dirty_taken};
+ghost use Rattle.mt_laws.specs.WorkedUpdates.{dirty_released, dirty_taken, to_pass};
 ghost use Rattle.mt_flat.specs.Courses.{CoursesHideCaches, CoursesKeepFlat, course, flat_course};
 ghost use Rattle.mt_flat.specs.Flat.{flat_start};
 ghost use Rattle.mt_flat.specs.Seen.{AnswersAreFlat, CachesAreNeverSeen, EventsKeepFlat, HeldIsFlat, IsFlatAnswer, IsFlatOf, IsHeldFlat, NoBuffersIsFlat, RunsKeepFlat, StartIsFlat, UpdatedIsFlat, flat_after, flat_run, flat_takes};
-ghost use Rattle.mt_flat.specs.WorkedLaws.{both_combine, called_whole, cancelled_turns, dirty_released, to_pass, unbuffered};
+ghost use Rattle.mt_flat.specs.WorkedLaws.{both_combine, called_whole, cancelled_turns, unbuffered};
 ghost use Rattle.mt_flat.specs.WorkedRuns.{beside};
 
 /// A start with memory, of which one processor is self-snooping, and a dirty line without buffers.

@@ -1,5 +1,5 @@
 -- One processor with a buffer, one with a dirty line, and two: their starts and events.
-use Rattle.std.proofs.Common.{◌≡◌, ◌&&◌, List, [], ◌∷◌, ◌++◌, true, false, Bool, rules, refl, inl}
+use Rattle.std.proofs.Common.{◌≡◌, ◌&&◌, List, [], ◌∷◌, ◌++◌, true, false, Bool, rules, refl, inl, inr}
 use Rattle.std.specs.List.{list_all}
 use Rattle.mt_machine.specs.declared.event.Event.TheVariants.{Arrive, Leave, Pass, Release, Take}
 use Rattle.mt_machine.specs.Machine.{AreEnabled, Calls, Cancels, Goes, Machine, MachineEvent, Reached, Steps, at_start, run}
@@ -7,7 +7,7 @@ use Rattle.mt_machine.specs.Start.{IsBroadcast, IsQuiet, IsStart}
 use Rattle.mt_machine.specs.Update.{Led, is_led, led_on, led_start}
 use Rattle.mt_machine.specs.WorkedRuns.{bare_file, call_order}
 use Rattle.mt_laws.specs.WorkedRuns.{pair, pair_arrived, pair_between}
-use Rattle.mt_laws.specs.WorkedUpdates.{buffered, by_buffered, dirty_taken, ready_pair, to_flush, to_release}
+use Rattle.mt_laws.specs.WorkedUpdates.{at_pass, buffered, by_buffered, dirty_released, dirty_taken, ready_pair, to_flush, to_pass, to_release}
 use Rattle.mt_laws.proofs.Invariant.Runs.{reached_run}
 
 both : (a b : Bool) → (a && b) ≡ true → (a ≡ true) × (b ≡ true)
@@ -60,3 +60,18 @@ pub pair_passed : Reached pair (run pair_arrived (Steps 0 Pass ∷ pair_between)
 pair_passed =
     reached_run (Steps 0 Pass ∷ pair_between) pair pair_arrived pair_reached
     (refl, (refl, (refl, (refl, (refl, (refl, (refl, (refl, (refl, (refl, (refl, (refl, (refl, (refl, (refl, (refl, (refl, (refl, (refl, (refl, (refl, (refl, (refl, (refl, tt))))))))))))))))))))))))
+
+pub dirty_start : IsStart dirty_taken
+dirty_start = inr (call_order, broadcast)
+
+pub ready_start : IsStart ready_pair
+ready_start = inr (call_order, broadcast_pair)
+
+pub pass_reached : Reached dirty_taken at_pass
+pass_reached = reached_run to_pass dirty_taken dirty_taken at_start (refl, (refl, tt))
+
+pub release_reached : Reached dirty_taken (run dirty_taken to_release)
+release_reached = reached_run to_release dirty_taken dirty_taken at_start to_release_enabled
+
+pub led_released : Led dirty_taken dirty_released
+led_released = led_on (Steps 0 Release) led_to_release refl refl

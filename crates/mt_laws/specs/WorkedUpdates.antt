@@ -1,11 +1,12 @@
 -- Worked updates of one processor with a buffer, and with a cached line that is dirty.
-use Rattle.std.specs.Prelude.{List, [], ◌∷◌, ◌++◌, map}
+use Rattle.std.specs.Prelude.{List, [], ◌∷◌, ◌++◌, drop, map}
 use Rattle.mt_machine.specs.declared.event.Event.{Event}
 use Rattle.mt_machine.specs.declared.event.Event.TheVariants.{Arrive, ArriveAgain, Disable, DropLines, Enable, FlushTlb, Pass, Release, RestorePge, SetNoFill, SetNormal, Take, Write, WriteBack}
+use Rattle.mt_machine.specs.declared.go.Go.TheVariants.{Given}
 use Rattle.mt_machine.specs.declared.phase.Phase.TheVariants.{Taken}
-use Rattle.mt_machine.specs.Machine.{Machine, MachineEvent, Goes, Steps}
+use Rattle.mt_machine.specs.Machine.{Machine, MachineEvent, Order, Goes, Steps, next, run}
 use Rattle.mt_machine.specs.WorkedRuns.{alone, call_order, calling, ready, whole}
-use Rattle.mt_laws.specs.WorkedRuns.{way_on}
+use Rattle.mt_laws.specs.WorkedRuns.{pair_between, way_on}
 
 -- its buffer has words 1 and 2 of the window
 abbrev pub buffered : Machine
@@ -26,10 +27,30 @@ to_flush = Goes ∷ map (Steps 0) (Arrive ∷ Pass ∷ SetNoFill ∷ [])
 abbrev pub write_backs : List Event
 write_backs = WriteBack 0x100008 6 ∷ WriteBack 0x100010 7 ∷ []
 
--- and up to its release
+-- and up to its release; and from its pass on
 abbrev pub to_release : List MachineEvent
 to_release = Goes ∷ map (Steps 0) (Arrive ∷ Pass ∷ SetNoFill ∷ write_backs ++ DropLines ∷ FlushTlb ∷ Disable ∷ Write 0 ∷ Enable ∷ DropLines ∷ FlushTlb ∷ SetNormal ∷ RestorePge ∷ ArriveAgain ∷ [])
+
+abbrev pub dirty_way : List MachineEvent
+dirty_way = drop 3 to_release
 
 -- two that have taken
 abbrev pub ready_pair : Machine
 ready_pair = calling call_order (ready ∷ ready ∷ [])
+
+-- their update up to the release of the second, while the first is at the second barrier
+abbrev pub pair_to_release : List MachineEvent
+pair_to_release = Goes ∷ Steps 0 Arrive ∷ Steps 1 Arrive ∷ Steps 0 Pass ∷ (pair_between ++ Steps 1 Release ∷ [])
+
+-- the one with the dirty line at its pass, and released
+abbrev pub given_order : Order
+given_order = record call_order { go = Given }
+
+abbrev pub to_pass : List MachineEvent
+to_pass = Goes ∷ Steps 0 Arrive ∷ []
+
+abbrev pub at_pass : Machine
+at_pass = run dirty_taken to_pass
+
+abbrev pub dirty_released : Machine
+dirty_released = next (run dirty_taken to_release) (Steps 0 Release)

@@ -9,6 +9,8 @@ mod worked;
 mod worked_coming;
 mod worked_ends;
 mod worked_others;
+mod worked_reached;
+mod worked_systems;
 mod worked_unlike;
 mod worked_uses;
 
@@ -29,5 +31,12 @@ pub use worked::{
 pub use worked_coming::{worked_fresh_comers_and_goers, worked_uncached};
 pub use worked_ends::{worked_cancelled_updates, worked_kept_by_steps, worked_whole_updates};
 pub use worked_others::{worked_other_parts, worked_second_processors};
+pub use worked_reached::{
+    worked_laws_of_ends, worked_laws_of_reached_states, worked_laws_of_releases,
+};
+pub use worked_systems::{
+    worked_laws_of_barriers, worked_laws_of_comers_and_goers, worked_laws_of_flags,
+    worked_laws_of_quiet_machines, worked_laws_of_sound_systems,
+};
 pub use worked_unlike::worked_unlike_files;
 pub use worked_uses::{worked_laws_of_steps, worked_laws_of_updates, worked_updates_alike};

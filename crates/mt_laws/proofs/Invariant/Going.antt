@@ -39,7 +39,7 @@ clear_front (c ∷ cs) zero h = tt
 clear_front (None ∷ cs) (suc k) h = clear_front cs k h
 clear_front (Some c ∷ cs) (suc k) h = absurd h
 
-shared_front : (v : ℕ) (cs : List Copy) (k : ℕ) → IsShared v cs → IsShared v (take k cs)
+pub shared_front : (v : ℕ) (cs : List Copy) (k : ℕ) → IsShared v cs → IsShared v (take k cs)
 shared_front v [] zero h = tt
 shared_front v [] (suc k) h = tt
 shared_front v (c ∷ cs) zero h = tt

@@ -9,7 +9,7 @@ use Rattle.mt_machine.specs.declared.event.Event.{Event}
 use Rattle.mt_machine.specs.declared.event.Event.TheVariants.{Arrive, Leave, Pass, SetNoFill, WriteBack, DropLines, FlushTlb, Disable, Write, Enable, SetNormal, RestorePge, ArriveAgain, Release}
 use Rattle.mt_machine.specs.Memory.{word_address}
 use Rattle.mt_cache.specs.Lines.{first_dirty_line, first_dirty_word}
-use Rattle.mt_machine.specs.System.{Processor}
+use Rattle.mt_machine.specs.System.{Processor, is_tlb_flushed}
 use Rattle.mt_machine.specs.Access.{is_running}
 use Rattle.mt_machine.specs.Control.{reload_cr3}
 use Rattle.mt_machine.specs.Machine.{Order, due, own_step, is_cancelled, has_released, first_barrier_open, second_barrier_open, write_back_event, write_back_or_drop, flush_tlb, after_flush, after_drop}
@@ -18,16 +18,7 @@ use Rattle.mt_machine.proofs.Rows.{first_flush_case}
 use Rattle.mt_laws.proofs.Clearing.Cleared.{Clear, lines_gone, buffers_gone, entries_gone}
 use Rattle.mt_laws.proofs.Registers.Filed.{FiledAt, is_done}
 
--- the phases with PGE cleared and remembered, with caching back, and with PGE back
-abbrev pub is_stripped : Phase → Bool
-is_stripped TlbFlushed = true
-is_stripped (Writing i) = true
-is_stripped Enabled = true
-is_stripped Flushed2 = true
-is_stripped TlbFlushed2 = true
-is_stripped Normal = true
-is_stripped other = false
-
+-- the phases with caching back, and with PGE back
 abbrev pub is_caching : Phase → Bool
 is_caching Normal = true
 is_caching Restored = true
@@ -42,8 +33,8 @@ is_restored other = false
 -- q is what became of p
 pub record Fate (o : Order) (p q : Processor) : Type 0 where
   pub mappings : q.mappings ≡ p.mappings
-  pub plain : is_stripped q.phase ≡ false → q.page_global ≡ p.page_global
-  pub stripped : is_stripped q.phase ≡ true → q.remembered_global ≡ p.page_global
+  pub plain : is_tlb_flushed q.phase ≡ false → q.page_global ≡ p.page_global
+  pub stripped : is_tlb_flushed q.phase ≡ true → q.remembered_global ≡ p.page_global
   pub caching : is_caching q.phase ≡ true → q.cache_disabled ≡ false
   pub forgotten : is_restored q.phase ≡ true → q.remembered_global ≡ false
   pub era : has_released o q ≡ false → q.era ≡ p.era
@@ -53,11 +44,11 @@ pub record Fate (o : Order) (p q : Processor) : Type 0 where
 module _ (o : Order) (ps : List Processor) (p q : Processor) (f : Fate o p q) (clear : Clear o q) (filed : FiledAt o q) (behind : has_released o q ≡ false) where
   -- a step that leaves all that is named
   carry : (ph : Phase) (r : Processor) → q.phase ≡ ph → r.mappings ≡ q.mappings → r.page_global ≡ q.page_global → r.remembered_global ≡ q.remembered_global → r.cache_disabled ≡ q.cache_disabled → r.era ≡ q.era → r.self_snoop ≡ q.self_snoop
-      → is_stripped r.phase ≡ is_stripped ph → (is_caching r.phase ≡ true → is_caching ph ≡ true) → (is_restored r.phase ≡ true → is_restored ph ≡ true) → Fate o p r
+      → is_tlb_flushed r.phase ≡ is_tlb_flushed ph → (is_caching r.phase ≡ true → is_caching ph ≡ true) → (is_restored r.phase ≡ true → is_restored ph ≡ true) → Fate o p r
   carry ph r same mappings pge remembered cd era snoop to_stripped to_caching to_restored = record {
     mappings = mappings ∙ f.mappings;
-    plain = λ h. pge ∙ f.plain (ap is_stripped same ∙ sym to_stripped ∙ h);
-    stripped = λ h. remembered ∙ f.stripped (ap is_stripped same ∙ sym to_stripped ∙ h);
+    plain = λ h. pge ∙ f.plain (ap is_tlb_flushed same ∙ sym to_stripped ∙ h);
+    stripped = λ h. remembered ∙ f.stripped (ap is_tlb_flushed same ∙ sym to_stripped ∙ h);
     caching = λ h. cd ∙ f.caching (ap is_caching same ∙ to_caching h);
     forgotten = λ h. remembered ∙ f.forgotten (ap is_restored same ∙ to_restored h);
     era = λ h. era ∙ f.era behind;
@@ -72,12 +63,12 @@ module _ (o : Order) (ps : List Processor) (p q : Processor) (f : Fate o p q) (c
   option_case None g d P none some = none
   option_case (Some y) g d P none some = some y
 
-  drains : (ph : Phase) (w : Event) → q.phase ≡ ph → is_stripped (after_drop ph) ≡ is_stripped ph → (is_caching (after_drop ph) ≡ true → is_caching ph ≡ true) → (is_restored (after_drop ph) ≡ true → is_restored ph ≡ true) → Some (write_back_or_drop q) ≡ Some w → Next w
+  drains : (ph : Phase) (w : Event) → q.phase ≡ ph → is_tlb_flushed (after_drop ph) ≡ is_tlb_flushed ph → (is_caching (after_drop ph) ≡ true → is_caching ph ≡ true) → (is_restored (after_drop ph) ≡ true → is_restored ph ≡ true) → Some (write_back_or_drop q) ≡ Some w → Next w
   drains ph w same strip cache back h =
       let is : write_back_or_drop q ≡ w = cc in
-      let dropped : Next DropLines = carry ph (own_step o.goal DropLines q) same refl refl refl refl refl refl (ap (λ v. is_stripped (after_drop v)) same ∙ strip)
+      let dropped : Next DropLines = carry ph (own_step o.goal DropLines q) same refl refl refl refl refl refl (ap (λ v. is_tlb_flushed (after_drop v)) same ∙ strip)
       (λ d. cache (ap (λ v. is_caching (after_drop v)) (sym same) ∙ d)) (λ d. back (ap (λ v. is_restored (after_drop v)) (sym same) ∙ d)) in
-      let wrote : (a v : ℕ) → Next (WriteBack a v) = λ a v. carry ph (own_step o.goal (WriteBack a v) q) same refl refl refl refl refl refl (ap is_stripped same)
+      let wrote : (a v : ℕ) → Next (WriteBack a v) = λ a v. carry ph (own_step o.goal (WriteBack a v) q) same refl refl refl refl refl refl (ap is_tlb_flushed same)
       (λ d. ap is_caching (sym same) ∙ d) (λ d. ap is_restored (sym same) ∙ d) in
       subst Next is
       (option_case (first_dirty_line q.lines) write_back_event DropLines Next dropped
@@ -85,17 +76,17 @@ module _ (o : Order) (ps : List Processor) (p q : Processor) (f : Fate o p q) (c
       (λ word. wrote (word_address l.number word) (slice_index l.words word))))
 
   -- PGE is remembered and cleared
-  flushes : (ph : Phase) → q.phase ≡ ph → is_stripped ph ≡ false → after_flush ph ≡ TlbFlushed → flush_tlb ph q ≡ flush_tlb Flushed q → Next FlushTlb
+  flushes : (ph : Phase) → q.phase ≡ ph → is_tlb_flushed ph ≡ false → after_flush ph ≡ TlbFlushed → flush_tlb ph q ≡ flush_tlb Flushed q → Next FlushTlb
   flushes ph same plain to first =
       subst (λ (v : Processor × Phase). Fate o p (record (v.0) { phase = v.1 })) (λ i. (sym (ap (λ v. flush_tlb v q) same ∙ first) i, sym (ap after_flush same ∙ to) i)) (one q.page_global refl)
     where
       was : q.page_global ≡ p.page_global
-      was = f.plain (ap is_stripped same ∙ plain)
+      was = f.plain (ap is_tlb_flushed same ∙ plain)
 
       made : (r : Processor) → r.phase ≡ TlbFlushed → r.mappings ≡ q.mappings → r.remembered_global ≡ q.page_global → r.era ≡ q.era → r.self_snoop ≡ q.self_snoop → Fate o p r
       made r at mappings remembered era snoop = record {
         mappings = mappings ∙ f.mappings;
-        plain = λ h. absurd (let e = ap is_stripped at in cc);
+        plain = λ h. absurd (let e = ap is_tlb_flushed at in cc);
         stripped = λ h. remembered ∙ was;
         caching = λ h. absurd (let e = ap is_caching at in cc);
         forgotten = λ h. absurd (let e = ap is_restored at in cc);
@@ -115,7 +106,7 @@ module _ (o : Order) (ps : List Processor) (p q : Processor) (f : Fate o p q) (c
   no_fills : q.phase ≡ Passed → Next SetNoFill
   no_fills same = record {
     mappings = f.mappings;
-    plain = λ h. f.plain (ap is_stripped same);
+    plain = λ h. f.plain (ap is_tlb_flushed same);
     stripped = λ h. absurd (cc);
     caching = λ h. absurd (cc);
     forgotten = λ h. absurd (cc);
@@ -128,7 +119,7 @@ module _ (o : Order) (ps : List Processor) (p q : Processor) (f : Fate o p q) (c
   caches same = record {
     mappings = f.mappings;
     plain = λ h. absurd (cc);
-    stripped = λ h. f.stripped (ap is_stripped same);
+    stripped = λ h. f.stripped (ap is_tlb_flushed same);
     caching = λ h. refl;
     forgotten = λ h. absurd (cc);
     era = λ h. f.era behind;
@@ -139,7 +130,7 @@ module _ (o : Order) (ps : List Processor) (p q : Processor) (f : Fate o p q) (c
   restores : q.phase ≡ Normal → Next RestorePge
   restores same = record {
     mappings = f.mappings;
-    plain = λ h. f.stripped (ap is_stripped same);
+    plain = λ h. f.stripped (ap is_tlb_flushed same);
     stripped = λ h. absurd (cc);
     caching = λ h. f.caching (ap is_caching same);
     forgotten = λ h. refl;
@@ -161,7 +152,7 @@ module _ (o : Order) (ps : List Processor) (p q : Processor) (f : Fate o p q) (c
   }
     where
       global : q.page_global ≡ p.page_global
-      global = f.plain (ap is_stripped same)
+      global = f.plain (ap is_tlb_flushed same)
 
       made : own_step o.goal Release q ≡ settled_processor o.goal p
       made =

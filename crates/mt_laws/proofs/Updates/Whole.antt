@@ -13,7 +13,7 @@ use Rattle.mt_machine.specs.declared.event.Event.TheVariants.{Take, Arrive, Leav
 use Rattle.mt_machine.specs.declared.go.Go.{Go}
 use Rattle.mt_machine.specs.declared.go.Go.TheVariants.{Pending, Given}
 use Rattle.mt_machine.specs.Memory.{Window, word_at}
-use Rattle.mt_machine.specs.System.{Processor, System, now, dirty_word, dirty_word_in}
+use Rattle.mt_machine.specs.System.{Processor, System, is_tlb_flushed, now, dirty_word, dirty_word_in}
 use Rattle.mt_machine.specs.Bus.{drain}
 use Rattle.mt_machine.specs.Access.{is_running}
 use Rattle.mt_machine.specs.Machine.{Machine, Order, MachineEvent, Accesses, Controls, Calls, Goes, Cancels, Steps, next, due, own_step, before_own, step, is_cancelled, is_waiting_to_pass, has_released, first_barrier_open, common_era, remaining_order, is_over, run, AreEnabled, at_start, after, Reached}
@@ -36,7 +36,7 @@ use Rattle.mt_laws.proofs.Updates.Addresses.{words_are}
 use Rattle.mt_laws.proofs.Updates.Erased.{erased, erase, drain_erased}
 use Rattle.mt_laws.proofs.Updates.Cancelled.{erase_change, takes_more}
 use Rattle.mt_laws.proofs.Translations.Views.{drain_views}
-use Rattle.mt_laws.proofs.Updates.Fates.{Fate, fate_step, is_stripped, is_caching, is_restored}
+use Rattle.mt_laws.proofs.Updates.Fates.{Fate, fate_step, is_caching, is_restored}
 
 -- ---- each processor beside the one that it was
 
@@ -87,7 +87,7 @@ fates_arrived o (p ∷ ps) (q ∷ qs) same h =
       record {
         mappings = ap (λ (v : View). v.0) own;
         plain = λ g. ap (λ (v : View). v.1) own;
-        stripped = λ g. absurd (let e = ap is_stripped at.0 in cc);
+        stripped = λ g. absurd (let e = ap is_tlb_flushed at.0 in cc);
         caching = λ g. absurd (let e = ap is_caching at.0 in cc);
         forgotten = λ g. absurd (let e = ap is_restored at.0 in cc);
         era = λ g. ap (λ (v : View). v.2) own;

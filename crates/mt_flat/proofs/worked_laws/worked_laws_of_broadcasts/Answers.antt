@@ -1,4 +1,4 @@
-use Rattle.std.proofs.Common.{arith, ◌≡◌, ◌∷◌, [], false, not, map, refl, rules, inr}
+use Rattle.std.proofs.Common.{◌≡◌, [], false, not, refl, rules, inr}
 use Rattle.std.proofs.lemmas.Bool.{not-true}
 use Rattle.mt_kinds.specs.declared.mem_type.MemType.TheVariants.{WB}
 use Rattle.mt_machine.specs.declared.go.Go.TheVariants.{Given}
@@ -6,11 +6,11 @@ use Rattle.mt_machine.specs.Machine.{AreEnabled, has_passed, run}
 use Rattle.mt_machine.specs.Start.{IsBroadcast, IsStart}
 use Rattle.mt_machine.specs.WorkedRuns.{call_order}
 use Rattle.mt_laws.specs.Settled.{IsFirstRelease}
-use Rattle.mt_laws.specs.WorkedUpdates.{dirty_taken}
+use Rattle.mt_laws.specs.WorkedUpdates.{dirty_released, dirty_taken, dirty_way, to_pass}
 use Rattle.mt_laws.proofs.Words.Sound.{test_all}
 use Rattle.mt_flat.specs.Courses.{IsCourse}
 use Rattle.mt_flat.specs.Seen.{IsFlatOf}
-use Rattle.mt_flat.specs.WorkedLaws.{cancelled_turns, dirty_released, dirty_way, to_pass}
+use Rattle.mt_flat.specs.WorkedLaws.{cancelled_turns}
 use Rattle.mt_flat.specs.WorkedRuns.{beside}
 use Rattle.mt_flat.proofs.worked_laws.worked_laws_of_broadcasts.Goals as goal
 
