@@ -11,7 +11,7 @@ mod Carried
 mod Ends
 mod Unique
 mod Seats
-mod Handed
+pub mod Handed
 mod Begun
 mod Renewed
 mod WorkedStart

@@ -13,15 +13,14 @@ use crate::update_tests::{core_of, file, is_same_cpu, may_call, store};
 use mt_bus::System;
 use mt_core::{Core, a_core_arises};
 use mt_cpu::Cpu;
+use mt_gates::AllBut;
 use mt_kinds::MemType;
 use mt_machine::Done;
-use mt_ports::Gate;
 use mt_ram::Ram;
 use mt_regs::RegFile;
 use std::alloc::Global;
 use std::snapshot::Snapshot;
 use std::sync::Wait;
-use std::sync::atomic::{AtomicU64, Ordering};
 use std::thread;
 use std::thread::{Promise, Scope, Threads};
 
@@ -47,24 +46,6 @@ fn take(core: &mut Core, goal: &RegFile) -> bool
 {
     a_core_arises(core); // a fact for the proof
     may_call(core, goal) && call_and_take(core, goal.same()).is_ok()
-}
-
-/// Counts what it is told of each processor, in four bits.
-#[derive(Drop)]
-struct Counter {
-    told: AtomicU64,
-}
-
-impl Gate for Counter {
-    fn may_start(&self, _k: u32) -> bool {
-        true
-    }
-
-    fn arrived(&self, k: u32) {
-        if k < 16 {
-            self.told.fetch_add(1u64 << (4 * k), Ordering::SeqCst);
-        }
-    }
 }
 
 /// What comes of an attendee.
@@ -95,7 +76,7 @@ fn attend_whole<R: Wait>(
     k: u64,
     a: Attendee,
     goal: &RegFile,
-    gate: &Counter,
+    gate: &AllBut,
 ) -> (Attendee, Outcome)
     requires attends { Attends station.now.table.shared.table_id (start_of station.now.table.shared.key) k a.cpu a.pass.seat.table_id a.pass.seat.me a.pass.number }
     requires begins { Begins (start_of station.now.table.shared.key) }
@@ -129,7 +110,7 @@ fn run_all<'s, E, R: Threads + Wait + Sync>(
     ram: &'s Ram,
     root: &mut Root,
     goal: &'s RegFile,
-    gate: &'s Counter,
+    gate: &'s AllBut,
     given: bool,
     waiting: &mut Vec<Attendee>,
     done: &mut Vec<Told>,
@@ -196,7 +177,7 @@ fn meet<R: Threads + Wait + Sync>(
     cpus: Vec<Cpu>,
     ram: &mut Ram,
     goal: &RegFile,
-    gate: &Counter,
+    gate: &AllBut,
     given: bool,
 ) -> Option<Vec<Told>>
     requires some { 0 < vec_len cpus }
@@ -258,11 +239,9 @@ fn ends_of<R: Threads + Wait + Sync>(
         return None;
     }
     let System { cpus, mut ram, .. } = core.into_system();
-    let gate = Counter {
-        told: AtomicU64::new(0),
-    };
+    let gate = AllBut::new(16);
     let done = meet(rt, alloc, cpus, &mut ram, &goal, &gate, given)?;
-    let told = gate.told.load(Ordering::SeqCst);
+    let told = gate.told();
     Some(Row { done, ram, told })
 }
 

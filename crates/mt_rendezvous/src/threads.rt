@@ -161,7 +161,7 @@ fn last(station: &Station, waiting: &mut Vec<Attendee>) -> Option<Attendee>
     ensures kept { IfNone result (waiting.new.items ≡ waiting.old.items) }
     ensures capacity { vec_capacity waiting.new ≡ vec_capacity waiting.old }
 {
-    let _ = station.count;
+    let _ = station.count; // a fact for the proof
     waiting.pop()
 }
 

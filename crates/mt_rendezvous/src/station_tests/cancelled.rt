@@ -6,25 +6,25 @@ ghost use Rattle.mt_rendezvous.specs.Station.{Begins, start_of};
 ghost use Rattle.mt_rendezvous.specs.Calls.{HoldsOne, IsRoot, Leads, gathered};
 ghost use Rattle.mt_rendezvous.specs.Update.{AllNew, AreOf, IsNew};
 
-use super::{Comes, Counter, Ended, Row, Told, attend_whole, dirty_row, last, take, word};
+use super::{Comes, Ended, Row, Told, attend_whole, dirty_row, last, take, word};
 use crate::gather::disband;
 use crate::station::{Attendee, Outcome, Root, Station};
 use crate::update_tests::file;
 use mt_bus::System;
 use mt_cpu::Cpu;
+use mt_gates::AllBut;
 use mt_ram::Ram;
 use mt_regs::RegFile;
 use std::alloc::Global;
 use std::snapshot::Snapshot;
 use std::sync::Wait;
-use std::sync::atomic::{AtomicU64, Ordering};
 use std::thread;
 use std::thread::{Scope, Threads};
 
 // Waits a while until the gate was told this.
-fn is_told(gate: &Counter, told: u64) -> bool {
+fn is_told(gate: &AllBut, told: u64) -> bool {
     for _ in 0..200_000_000u64 {
-        if gate.told.load(Ordering::SeqCst) == told {
+        if gate.told() == told {
             return true;
         }
         thread::yield_now();
@@ -61,7 +61,7 @@ fn leave_all<R: Wait>(
     ram: &Ram,
     root: &mut Root,
     goal: &RegFile,
-    gate: &Counter,
+    gate: &AllBut,
     waiting: &mut Vec<Attendee>,
     done: &mut Vec<Told>,
 ) -> bool
@@ -88,7 +88,7 @@ fn cancel_before<'s, E, R: Threads + Wait + Sync>(
     ram: &'s Ram,
     root: &mut Root,
     goal: &'s RegFile,
-    gate: &'s Counter,
+    gate: &'s AllBut,
     late: usize,
     told: u64,
     waiting: &mut Vec<Attendee>,
@@ -139,7 +139,7 @@ fn meet<R: Threads + Wait + Sync>(
     cpus: Vec<Cpu>,
     ram: &mut Ram,
     goal: &RegFile,
-    gate: &Counter,
+    gate: &AllBut,
     late: usize,
     told: u64,
 ) -> Option<Vec<Told>>
@@ -191,11 +191,9 @@ fn three<R: Threads + Wait + Sync>(rt: &R, alloc: Global, late: usize, told: u64
         return None;
     }
     let System { cpus, mut ram, .. } = core.into_system();
-    let gate = Counter {
-        told: AtomicU64::new(0),
-    };
+    let gate = AllBut::new(16);
     let done = meet(rt, alloc, cpus, &mut ram, &goal, &gate, late, told)?;
-    let told = gate.told.load(Ordering::SeqCst);
+    let told = gate.told();
     Some(Row { done, ram, told })
 }
 
