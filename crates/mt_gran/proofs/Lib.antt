@@ -8,6 +8,7 @@ mod Counts
 mod LostParts
 mod Steady
 pub mod RoundedFit
+pub mod GranuleSizes
 mod OneList
 mod WorkedParts
 pub mod SomeRounding

@@ -7,7 +7,7 @@ use Rattle.mt_types.specs.declared.run.Run.{Run}
 use Rattle.mt_tidy.specs.Tidied.{IsTidied, IsTooFew}
 use Rattle.mt_tidy.specs.Wanted.{IsLeastFor}
 use Rattle.mt_gran.specs.declared.fault.GranFault.{GranFault}
-use Rattle.mt_gran.specs.declared.fault.GranFault.TheVariants.{Refused, Disabled, TooFew, NoMemory}
+use Rattle.mt_gran.specs.declared.fault.GranFault.TheVariants.{Refused, Disabled, TooFew}
 use Rattle.mt_gran.specs.Granules.{AreRounded, lost_pages, pages_of, rounded_kind}
 use Rattle.mt_gran.specs.Parts.{ArePartsOf}
 
@@ -41,4 +41,3 @@ abbrev pub IsWhy : RegisterFile → ℕ → ℕ → ℕ → GranFault → Type 0
 IsWhy f g chunk spare (Refused fault) = IsFirstFault f (Some fault)
 IsWhy f g chunk spare Disabled = IsAccepted f × (is_enabled f ≡ false)
 IsWhy f g chunk spare (TooFew needs has) = NeedsMore f g chunk spare needs has
-IsWhy f g chunk spare NoMemory = Unit {0}

@@ -1,7 +1,6 @@
 use mt_regs::Fault;
 
 /// Why a file isn't rounded. `Disabled` comes only where `Refused` doesn't, and `TooFew` only where neither does.
-/// `NoMemory` may come wherever a list grows, so also where `TooFew` would come.
 #[derive(Clone, Copy, Debug, Drop, PartialEq, Eq)]
 pub enum GranFault {
     /// The file isn't accepted: its first fault.
@@ -10,5 +9,4 @@ pub enum GranFault {
     Disabled,
     /// The rounded types need `needs` pairs at least, and only `has` may be used.
     TooFew { needs: u64, has: u32 },
-    NoMemory,
 }

@@ -1,4 +1,4 @@
-ghost use Rattle.std.specs.Prelude.{◌≡◌, ◌/◌, ◌^◌, ◌<◌, ◌↔◌, ◌⊎◌, ℕ, List, [], true, false};
+ghost use Rattle.std.specs.Prelude.{◌≡◌, ◌/◌, ◌^◌, ◌<◌, ◌↔◌, ◌⊎◌, ℕ, List, [], Some, true, false};
 ghost use Rattle.mt_kinds.specs.declared.mem_type.MemType.{MemType};
 ghost use Rattle.mt_regs.specs.declared.page_type.PageType.TheVariants.{Kind};
 ghost use Rattle.mt_regs.specs.RegisterFile.{IsRegisterFile, RegisterFile, is_enabled, page_count};
@@ -8,6 +8,7 @@ ghost use Rattle.mt_types.specs.declared.run.Run.{Run};
 ghost use Rattle.mt_gran.specs.Grained.{IsGrained, IsLeastRounded, NeedsMore};
 ghost use Rattle.mt_gran.specs.Granules.{TypedPages, is_whole, pages_of, rounded_kind};
 ghost use Rattle.mt_gran.specs.Parts.{ArePartsOf};
+ghost use Rattle.mt_gran.specs.Sizes.{IsGranuleSize, log_among};
 
 /// The rounded types of a rounded file are its own types.
 pub fn the_rounded_file_keeps_its_types()
@@ -46,4 +47,9 @@ pub fn each_file_is_rounded_or_needs_more()
     ensures { (f : RegisterFile) → IsRegisterFile f → IsAccepted f → is_enabled f ≡ true → (g chunk spare : ℕ)
         → ((new : RegisterFile) × (used : ℕ) × (lost : ℕ) × (parts : List Run) × IsGrained f g chunk spare new used lost parts)
         ⊎ ((needs : ℕ) × (has : ℕ) × NeedsMore f g chunk spare needs has) }
+{}
+
+/// A size is that of granules of `2^log` pages exactly where it is `2^(12 + log)` bytes, of at most `2^28` pages.
+pub fn a_size_is_a_power_of_two()
+    ensures { (size log : ℕ) → (log_among size 0 29 ≡ Some log) ↔ IsGranuleSize size log }
 {}

@@ -7,6 +7,8 @@ mod grains;
 mod join;
 mod laws;
 mod lists;
+mod run_list;
+mod sizes;
 #[cfg(test)]
 mod tests;
 mod worked;
@@ -17,11 +19,14 @@ pub use fault::GranFault;
 pub use grains::{Grained, gran, rounded};
 pub use laws::{
     a_file_has_one_list_of_parts, a_granule_is_whole_where_its_pages_have_one_type,
-    a_second_rounding_loses_nothing, each_file_is_rounded_or_needs_more,
+    a_second_rounding_loses_nothing, a_size_is_a_power_of_two, each_file_is_rounded_or_needs_more,
     each_size_has_one_least_number, the_rounded_file_keeps_its_types,
 };
+pub use run_list::RunList;
+pub use sizes::granule_log;
 pub use worked::{
-    worked_grained, worked_granules, worked_losses, worked_parts, worked_rounding, worked_why,
+    worked_grained, worked_granules, worked_losses, worked_parts, worked_rounding, worked_sizes,
+    worked_why,
 };
 pub use worked_cuts::{worked_cuts_of_runs, worked_longest_runs, worked_whole_runs};
 pub use worked_rounded::{worked_least_rounded, worked_rounded_maps};

@@ -3,8 +3,8 @@ ghost use Rattle.std.specs.Prelude.{◌≤◌};
 use crate::{Grained, GranFault, gran, rounded};
 use mt_kinds::MemType;
 use mt_regs::{PageType, Reason, RegFile};
+use mt_tidy::WorkArea;
 use mt_types::Run;
-use std::alloc::Global;
 use std::test::Fail;
 
 // A file of 36 bits with these values of registers.
@@ -59,10 +59,10 @@ fn hole(cap: u64) -> Result<RegFile, Fail> {
     )
 }
 
-fn grained(alloc: Global, f: &RegFile, g: u8, chunk: u64) -> Result<Grained, Fail>
+fn grained(f: &RegFile, g: u8, chunk: u64) -> Result<Grained, Fail>
     requires { g ≤ 28 }
 {
-    let Ok(grained) = gran(alloc, f, g, 1, chunk) else {
+    let Ok(grained) = gran(f, g, 1, chunk, &mut WorkArea::new()) else {
         return Err(Fail::from("not rounded"));
     };
     Ok(grained)
@@ -70,9 +70,8 @@ fn grained(alloc: Global, f: &RegFile, g: u8, chunk: u64) -> Result<Grained, Fai
 
 #[test]
 fn a_hole_of_a_megabyte(rt: HostRuntime) -> Result<(), Fail> {
-    let alloc = rt.alloc();
     let f = hole(0x508)?;
-    let apart = grained(alloc, &f, 16, 0x1000_0000)?;
+    let apart = grained(&f, 16, 0x1000_0000)?;
     assert!(rt; are(apart.parts.as_slice(), &[(0xe0100, 0xff00, MemType::WB)]));
     assert_eq!(rt; apart.lost, 65280);
     assert_eq!(rt; apart.tidied.used, 4);
@@ -83,7 +82,7 @@ fn a_hole_of_a_megabyte(rt: HostRuntime) -> Result<(), Fail> {
         (0xf000_0006, 0xf_f000_0800),
     ];
     assert!(rt; has_pairs(&apart.tidied.file, disjoint.as_slice()));
-    let over = grained(alloc, &f, 16, 0x1_0000_0000)?;
+    let over = grained(&f, 16, 0x1_0000_0000)?;
     assert!(rt; are(over.parts.as_slice(), &[(0xe0100, 0xff00, MemType::WB)]));
     assert_eq!(rt; over.lost, 65280);
     assert_eq!(rt; over.tidied.used, 2);
@@ -93,11 +92,17 @@ fn a_hole_of_a_megabyte(rt: HostRuntime) -> Result<(), Fail> {
             &[(6, 0xf_0000_0800), (0xe000_0000, 0xf_f000_0800)]
         )
     );
-    let again = grained(alloc, &over.tidied.file, 16, 0x1_0000_0000)?;
-    assert!(rt; again.parts.is_empty());
+    let again = grained(&over.tidied.file, 16, 0x1_0000_0000)?;
+    assert!(rt; again.parts.as_slice().is_empty());
     assert_eq!(rt; again.lost, 0);
     let few = hole(0x503)?;
-    let Err(GranFault::TooFew { needs: 4, has: 3 }) = gran(alloc, &few, 16, 0, 0x1000_0000) else {
+    let Err(GranFault::TooFew { needs: 4, has: 3 }) = gran(
+        &few,
+        16,
+        0,
+        0x1000_0000,
+        &mut WorkArea::new(),
+    ) else {
         return Err(Fail::from("enough pairs"));
     };
     Ok(())
@@ -105,10 +110,9 @@ fn a_hole_of_a_megabyte(rt: HostRuntime) -> Result<(), Fail> {
 
 #[test]
 fn granules_of_a_page_and_of_all_pages(rt: HostRuntime) -> Result<(), Fail> {
-    let alloc = rt.alloc();
     let f = hole(0x508)?;
-    let pages = grained(alloc, &f, 0, 0x1_0000_0000)?;
-    assert!(rt; pages.parts.is_empty());
+    let pages = grained(&f, 0, 0x1_0000_0000)?;
+    assert!(rt; pages.parts.as_slice().is_empty());
     assert_eq!(rt; pages.lost, 0);
     assert!(rt;
         has_pairs(
@@ -116,7 +120,7 @@ fn granules_of_a_page_and_of_all_pages(rt: HostRuntime) -> Result<(), Fail> {
             &[(6, 0xf_0000_0800), (0xe000_0000, 0xf_fff0_0800)]
         )
     );
-    let all = grained(alloc, &f, 28, 0x1_0000_0000)?;
+    let all = grained(&f, 28, 0x1_0000_0000)?;
     assert!(rt;
         are(
             all.parts.as_slice(),
@@ -131,7 +135,6 @@ fn granules_of_a_page_and_of_all_pages(rt: HostRuntime) -> Result<(), Fail> {
 // With fixed ranges the pages below 1 MB are free: they break no granule and aren't lost.
 #[test]
 fn free_pages(rt: HostRuntime) -> Result<(), Fail> {
-    let alloc = rt.alloc();
     let mut f = file_of(
         0xd08,
         &[
@@ -143,7 +146,7 @@ fn free_pages(rt: HostRuntime) -> Result<(), Fail> {
             (0x2ff, 0xc00),
         ],
     )?;
-    let part = grained(alloc, &f, 19, 0x1_0000_0000)?;
+    let part = grained(&f, 19, 0x1_0000_0000)?;
     let wanted = [
         (0x80000, 0x100, MemType::WT),
         (0x80100, 0x7ff00, MemType::WB),
@@ -154,32 +157,29 @@ fn free_pages(rt: HostRuntime) -> Result<(), Fail> {
     let None = f.first_fault() else {
         return Err(Fail::from("refused"));
     };
-    let Ok(runs) = rounded(alloc, &f, 20) else {
-        return Err(Fail::from("no memory"));
-    };
+    let runs = rounded(&f, 20);
     assert!(rt;
         are(
-            runs.all(),
+            runs.as_slice(),
             &[(0, 0x80, MemType::WB), (0x80, 0xffff80, MemType::UC)]
         )
     );
     let _ = f.set(0x203, 0);
-    let whole = grained(alloc, &f, 20, 0x1_0000_0000)?;
-    assert!(rt; whole.parts.is_empty());
+    let whole = grained(&f, 20, 0x1_0000_0000)?;
+    assert!(rt; whole.parts.as_slice().is_empty());
     assert_eq!(rt; whole.tidied.used, 1);
     Ok(())
 }
 
 #[test]
 fn files_that_are_not_rounded(rt: HostRuntime) -> Result<(), Fail> {
-    let alloc = rt.alloc();
     let mut f = hole(0x508)?;
     let _ = f.set(0x2ff, 0);
-    let Err(GranFault::Disabled) = gran(alloc, &f, 16, 1, 0) else {
+    let Err(GranFault::Disabled) = gran(&f, 16, 1, 0, &mut WorkArea::new()) else {
         return Err(Fail::from("enabled"));
     };
     let _ = f.set(0x2ff, 0x802);
-    let Err(GranFault::Refused(fault)) = gran(alloc, &f, 16, 1, 0) else {
+    let Err(GranFault::Refused(fault)) = gran(&f, 16, 1, 0, &mut WorkArea::new()) else {
         return Err(Fail::from("accepted"));
     };
     assert_eq!(rt; fault.msr, 0x2ff);

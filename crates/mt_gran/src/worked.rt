@@ -1,4 +1,4 @@
-ghost use Rattle.std.specs.Prelude.{◌≡◌, [], ◌∷◌, true, false};
+ghost use Rattle.std.specs.Prelude.{◌≡◌, [], ◌∷◌, None, Some, true, false};
 ghost use Rattle.mt_regs.specs.WorkedRows.{four_gigabytes};
 ghost use Rattle.mt_regs.specs.declared.fault.Reason.TheVariants.{BrokenMask, ReservedBit};
 ghost use Rattle.mt_regs.specs.declared.page_type.PageType.TheVariants.{Kind};
@@ -7,6 +7,7 @@ ghost use Rattle.mt_gran.specs.declared.fault.GranFault.TheVariants.{Disabled, R
 ghost use Rattle.mt_gran.specs.Grained.{IsGrained, IsWhy};
 ghost use Rattle.mt_gran.specs.Granules.{is_whole, loses, lost_pages, rounded_kind};
 ghost use Rattle.mt_gran.specs.Parts.{ArePartsOf};
+ghost use Rattle.mt_gran.specs.Sizes.{IsGranuleSize, log_among};
 ghost use Rattle.mt_gran.specs.WorkedGranules.{run, sixteen, with_free};
 
 use mt_kinds::MemType;
@@ -49,6 +50,21 @@ pub fn worked_losses()
     ensures of_its_own_type { loses sixteen 3 MemType.WB 8 ≡ false }
 {}
 
+/// Sizes of granules, and numbers of bytes that aren't.
+#[tactic(auto, unfolding(crate::specs::Sizes::log_among))]
+pub fn worked_sizes()
+    ensures page { log_among 0x1000 0 29 ≡ Some 0 }
+    ensures megabytes { log_among 0x1000000 0 29 ≡ Some 12 }
+    ensures largest { log_among 0x10000000000 0 29 ≡ Some 28 }
+    ensures too_large { log_among 0x20000000000 0 29 ≡ None }
+    ensures half_a_page { log_among 0x800 0 29 ≡ None }
+    ensures odd { log_among 0x3000 0 29 ≡ None }
+    ensures none { log_among 0 0 29 ≡ None }
+    ensures size { IsGranuleSize 0x1000000 12 }
+    ensures other_log { IsGranuleSize 0x1000000 11 → ⊥ }
+    ensures too_many_pages { IsGranuleSize 0x20000000000 29 → ⊥ }
+{}
+
 /// The parts of sixteen pages, and lists that aren't.
 pub fn worked_parts()
     ensures of_fours { ArePartsOf sixteen 2 (run 4 3 MemType.WB ∷ []) }
@@ -82,6 +98,7 @@ pub fn worked_grained()
     ensures part_of_none { IsGrained uncached 4 0 8 uncached 0 0 (run 0 16 MemType.UC ∷ []) → ⊥ }
     ensures not_accepted { IsGrained with_reserved_bit 0 0 0 cached 0 0 [] → ⊥ }
     ensures ranges_off { IsGrained (record cached { default_type = 6 }) 0 0 0 cached 0 0 [] → ⊥ }
+    ensures ranges_still_off { IsGrained (record uncached { default_type = 0 }) 4 0 0 (record uncached { default_type = 0 }) 0 0 [] → ⊥ }
     ensures other_pat { IsGrained cached 0 0 0 (record cached { pat = 0x0007040600070407 }) 0 0 [] → ⊥ }
     ensures none_left { IsGrained cached 0 0 8 cached 1 0 [] → ⊥ }
 {}

@@ -1,4 +1,6 @@
 ghost use Rattle.std.specs.Prelude.{◌∷◌, []};
+ghost use Rattle.mt_regs.specs.Registers.{with_value};
+ghost use Rattle.mt_regs.specs.declared.registers.Register.TheVariants.{PhysBase};
 ghost use Rattle.mt_tidy.specs.WorkedRanges.{uncached, written_back};
 ghost use Rattle.mt_gran.specs.declared.fault.GranFault.TheVariants.{TooFew};
 ghost use Rattle.mt_gran.specs.Grained.{IsLeastRounded, IsWhy};
@@ -20,5 +22,6 @@ pub fn worked_least_rounded()
     ensures least { IsLeastRounded uncached 4 0 0 }
     ensures more_than_least { IsLeastRounded uncached 4 0 1 → ⊥ }
     ensures too_few { IsWhy written_back 4 0 8 (TooFew 1 0) }
+    ensures reserved_bit { IsWhy (with_value written_back (PhysBase 1) 0x100) 4 0 8 (TooFew 1 0) → ⊥ }
     ensures not_needed { IsWhy written_back 4 0 8 (TooFew 2 0) → ⊥ }
 {}

@@ -1,19 +1,23 @@
 -- The runs of a file, from the parts of its table.
-use Rattle.std.proofs.Common.{◌≡◌, ◌≢◌, ◌∙◌, ap, refl, sym, arith, ℕ, zero, suc, ◌+◌, ◌-◌, ◌<◌, ◌≤◌, List, [], ◌∷◌, length, map, subst, inl, inr}
+use Rattle.std.proofs.Common.{◌≡◌, ◌≢◌, ◌∙◌, ap, refl, sym, arith, false, ℕ, zero, suc, ◌+◌, ◌-◌, ◌<◌, ◌≤◌, List, [], ◌∷◌, length, map, subst, inl, inr}
 use Rattle.std.specs.List.{All, slice_index_or}
+use Rattle.std.proofs.lemmas.Bool.{cases_Bool}
 use Rattle.std.proofs.lemmas.List.{length-map}
 use Rattle.mt_kinds.specs.declared.mem_type.MemType.{MemType}
+use Rattle.mt_kinds.specs.declared.mem_type.MemType.TheVariants.{UC}
 use Rattle.mt_regs.specs.declared.page_type.PageType.{PageType}
 use Rattle.mt_regs.specs.declared.page_type.PageType.TheVariants.{Kind, Undefined}
-use Rattle.mt_regs.specs.PageTypes.{defined_type}
-use Rattle.mt_regs.specs.RegisterFile.{RegisterFile}
+use Rattle.mt_regs.specs.Faults.{IsAccepted}
+use Rattle.mt_regs.specs.PageTypes.{defined_type, page_type}
+use Rattle.mt_regs.specs.RegisterFile.{IsRegisterFile, RegisterFile, is_enabled}
 use Rattle.mt_tidy.specs.OwnParts.{ArePartsOf}
 use Rattle.mt_tidy.specs.Wanted.{IsWanted}
 use Rattle.mt_trie.specs.Wishes.{IsDefined}
 use Rattle.mt_types.specs.declared.run.Run.{Run}
 use Rattle.mt_types.specs.Runs.{IsRunsOf, run_end}
 use Rattle.mt_types.specs.Tables.{part_of}
-use Rattle.mt_types.proofs.Chains.{last_of_chain, next_of_chain}
+use Rattle.mt_types.proofs.Chains.{last_of_chain, next_of_chain, within_chain}
+use Rattle.mt_tidy.proofs.Own.{own_runs}
 
 part_at_place : (runs : List Run) (i : ℕ) (d : ℕ × MemType) (e : Run) → i < length runs → slice_index_or (map part_of runs) i d ≡ part_of (slice_index_or runs i e)
 part_at_place [] i d e within = absurd (omega arith)
@@ -51,6 +55,23 @@ module _ (runs : List Run) (parts : List (ℕ × MemType)) (covered : ℕ) (are 
       → run_with p.0 (end - p.0) (Kind p.1) ≡ slice_index_or runs i e
   run_is_at i p end e within is at = run_by (slice_index_or runs i e) p.0 (end - p.0) (Kind p.1) (ap (λ q. q.0) is)
       (omega (arith, at, ap (λ q. q.0) is)) (ap (λ q. Kind q.1) is ∙ kind_is _ (are.defined i e (omega (arith, as_many, within))))
+
+-- a file's own runs can be wanted, its ranges on or off: pages of a file whose ranges are off have UC
+pub runs_wanted : (f : RegisterFile) → IsRegisterFile f → IsAccepted f → (runs : List Run) → IsRunsOf f runs → IsWanted f runs
+runs_wanted f good accepted runs are = elim (cases_Bool (is_enabled f)) [
+  | inl on ↦ own_runs f good accepted on runs are
+  | inr off ↦ record {
+    chain = are.map.chain;
+    whole = are.whole;
+    supported = λ k d within.
+        let place = within_chain 0 runs k d are.map.chain within in
+        let first : ℕ = (slice_index_or runs k d).first in
+        (UC, sym (are.kinds k d within first (omega arith, place.1)) ∙ off_page first off, refl);
+  }
+]
+  where
+    off_page : (page : ℕ) → is_enabled f ≡ false → page_type f page ≡ Kind UC
+    off_page page off = rw off refl
 
 -- wanted runs have types
 pub wanted_defined : (f : RegisterFile) (runs : List Run) → IsWanted f runs → All IsDefined runs

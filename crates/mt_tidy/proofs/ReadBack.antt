@@ -7,7 +7,8 @@ use Rattle.mt_types.specs.declared.run.Run.{Run}
 use Rattle.mt_tidy.specs.declared.range.Range.{Range}
 use Rattle.mt_tidy.specs.Kept.{IsTidy}
 use Rattle.mt_tidy.specs.Wanted.{IsRangeOf}
-use Rattle.mt_tidy.specs.Tidied.{IsTidied, StandsFor, is_valid, pair_for, valid_count, with_ranges}
+use Rattle.mt_ranges.specs.Match.{is_valid}
+use Rattle.mt_tidy.specs.Tidied.{IsTidied, StandsFor, pair_for, valid_count, with_ranges}
 use Rattle.mt_tidy.proofs.Fitted.{matches_is, type_is, valid_bit}
 
 abbrev none : ℕ × ℕ

@@ -1,10 +1,10 @@
 -- Room for what is still to be laid.
-use Rattle.std.proofs.Common.{◌≡◌, ◌∙◌, ℕ, ◌+◌, ◌*◌, ◌^◌, ◌<◌, ◌≤◌, Bool, true, false, List, length, Option, None, Some, refl, sym, ap, subst, ◌-◌, ◌⊎◌, inl, inr, arith}
+use Rattle.std.proofs.Common.{◌≡◌, ◌∙◌, ℕ, ◌+◌, ◌*◌, ◌^◌, ◌<◌, true, false, List, length, Option, None, Some, sym, ap, subst, ◌-◌, ◌⊎◌, inl, inr, arith}
 use Rattle.std.specs.Prelude.{nat_le, if◌then◌else◌, IsTrue}
 use Rattle.std.proofs.lemmas.Bool.{cases_Bool}
 use Rattle.mt_kinds.specs.declared.mem_type.MemType.{MemType}
 use Rattle.mt_regs.specs.RegisterFile.{RegisterFile, is_enabled}
-use Rattle.mt_tidy.specs.Cost.{Task, cost, divided, leaves_type, only_cost, plus, rules_of, smaller, task_by}
+use Rattle.mt_tidy.specs.Cost.{Task, cost, leaves_type, only_cost, plus, rules_of, task_by}
 use Rattle.mt_tidy.specs.LeastList.{IsLeastList}
 use Rattle.mt_tidy.specs.Ranges.{IsAllowed}
 use Rattle.mt_tidy.specs.Wanted.{Gives, IsLeastFor, IsWanted}

@@ -1,5 +1,5 @@
 -- What two pages cost, and sixteen, and a list that fits the two.
-use Rattle.std.proofs.Common.{◌≡◌, ℕ, zero, suc, true, refl, ap, arith, rules, ◌∙◌, List, [], ◌∷◌, Option, None, Some}
+use Rattle.std.proofs.Common.{◌≡◌, ℕ, zero, suc, refl, ap, arith, rules, ◌∙◌, List, [], ◌∷◌, Option, None, Some}
 use Rattle.std.specs.Option.{option_map_or}
 use Rattle.mt_kinds.specs.declared.mem_type.MemType.{MemType}
 use Rattle.mt_kinds.specs.declared.mem_type.MemType.TheVariants.{UC, WB, WC, WP, WT}
@@ -9,12 +9,11 @@ use Rattle.mt_trie.specs.declared.context.Context.TheVariants.{Clash, Has, Untou
 use Rattle.mt_trie.specs.Contexts.{join, type_left}
 use Rattle.mt_tidy.specs.declared.range.Range.{Range}
 use Rattle.mt_tidy.specs.AllCosts.{AreCosts}
-use Rattle.mt_tidy.specs.Cost.{cost, divided, plus, supports, wish}
+use Rattle.mt_tidy.specs.Cost.{cost, divided, plus, wish}
 use Rattle.mt_tidy.specs.Fits.{Chosen, Fits, Within, left_on}
 use Rattle.mt_tidy.specs.Ranges.{IsAllowed}
-use Rattle.mt_tidy.specs.Steps.{halves_cost, steps_of}
 use Rattle.mt_tidy.specs.WorkedCosts.{hole_task}
-use Rattle.mt_tidy.specs.WorkedLaying.{pair_costs, pair_steps, pair_task}
+use Rattle.mt_tidy.specs.WorkedLaying.{halves_cost, pair_costs, pair_task}
 use Rattle.mt_tidy.specs.WorkedRanges.{range}
 
 pub number : (a b : ℕ) → Some a ≡ Some b → a ≡ b
@@ -57,16 +56,13 @@ pair_cost (Has WP) = refl
 pair_cost (Has WB) = refl
 pair_cost Clash = refl
 
-pub steps_are : steps_of (pair_task 8192) 1 0 ≡ pair_steps
-unfolding cost wish steps_of
-steps_are = refl
+pub page_cost : cost (pair_task 8192) 0 0 Untouched ≡ Some 1
+unfolding cost wish
+page_cost = refl
 
-pub supports_all : (t : MemType) → supports true t ≡ true
-supports_all UC = refl
-supports_all WC = refl
-supports_all WT = refl
-supports_all WP = refl
-supports_all WB = refl
+pub free_cost : cost (pair_task 8192) 1 2 Untouched ≡ Some 0
+unfolding cost wish
+free_cost = refl
 
 kinds : (t u : MemType) → Some t ≡ Some u → Kind t ≡ Kind u
 kinds t u is = cc

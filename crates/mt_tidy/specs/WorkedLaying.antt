@@ -1,5 +1,5 @@
--- Two pages that want two types, what they cost, and the steps by which they are laid (own).
-use Rattle.std.specs.Prelude.{ℕ, ◌==◌, Bool, true, false, if◌then◌else◌, List, [], ◌∷◌, Option, None, Some}
+-- Two pages that want two types, and what they cost (own).
+use Rattle.std.specs.Prelude.{ℕ, ◌+◌, ◌^◌, ◌==◌, Bool, true, false, if◌then◌else◌, Option, None, Some}
 use Rattle.mt_kinds.specs.declared.mem_type.MemType.TheVariants.{UC, WT, WB}
 use Rattle.mt_kinds.specs.declared.mem_type.MemType.{MemType}
 use Rattle.mt_trie.specs.declared.context.Context.{Context}
@@ -7,9 +7,8 @@ use Rattle.mt_trie.specs.declared.context.Context.TheVariants.{Untouched}
 use Rattle.mt_tidy.specs.declared.costs.Costs.{Costs}
 use Rattle.mt_tidy.specs.declared.costs.Reach.{Reach}
 use Rattle.mt_tidy.specs.declared.rules.Rules.{Rules}
-use Rattle.mt_tidy.specs.declared.step.Step.{Step}
-use Rattle.mt_tidy.specs.declared.step.Step.TheVariants.{Whole, Divided}
-use Rattle.mt_tidy.specs.Cost.{Task, supports}
+use Rattle.mt_tidy.specs.declared.work_area.Slot.{Slot}
+use Rattle.mt_tidy.specs.Cost.{Task, cost, plus, supports}
 
 -- page 0 wants WB, page 1 UC, and no other page anything; the default type is WT
 abbrev pub pair_task : ℕ → Task
@@ -32,8 +31,22 @@ costs_over untouched wb = record { untouched = untouched; uc = None; wc = None; 
 abbrev pub pair_costs : Costs
 pair_costs = costs_over (Some 2) (Some 1)
 
-abbrev pub pair_steps : List Step
-pair_steps = Whole UC ∷ Whole WB ∷ Divided pair_costs ∷ []
+-- their slot
+abbrev pub pair_slot : Slot
+pair_slot = record {
+  key = 2;
+  untouched = 2;
+  uc = 0xffffffffffffffff;
+  wc = 0xffffffffffffffff;
+  wt = 0xffffffffffffffff;
+  wp = 0xffffffffffffffff;
+  wb = 1;
+  clash = 0xffffffffffffffff;
+}
+
+-- what both halves of a block of twice 2 ^ log pages cost together
+abbrev pub halves_cost : Task → ℕ → ℕ → Context → Option ℕ
+halves_cost k log first x = plus (cost k log first x) (cost k log (first + 2 ^ log) x)
 
 -- halves that cost one range over nothing, and none over any type
 abbrev pub one_or_none : Context → Option ℕ

@@ -5,6 +5,7 @@ ghost use Rattle.mt_tidy.specs.AllCosts.{IsBelow, cost_in};
 ghost use Rattle.mt_tidy.specs.Cost.{cost, divided, leaves_type, only_cost, task_by};
 ghost use Rattle.mt_tidy.specs.Fits.{Begun, Laid, ranges_on};
 ghost use Rattle.mt_tidy.specs.LeastList.{MayBeUsed};
+ghost use Rattle.mt_tidy.specs.Remembered.{Remembers};
 ghost use Rattle.mt_tidy.specs.Room.{HasRoom};
 ghost use Rattle.mt_trie.specs.declared.context.Context.{Context};
 ghost use Rattle.mt_types.specs.Runs.{IsTypeMap, pages_end};
@@ -15,6 +16,7 @@ use crate::lent::wish_of;
 use crate::range::Range;
 use crate::rules::Rules;
 use crate::whole_costs::{best_at, costs_of};
+use crate::work_area::WorkArea;
 use arrayvec::ArrayVec;
 use mt_kinds::MemType;
 use mt_ranges::Block;
@@ -65,12 +67,21 @@ fn put_whole(rules: &Rules, b: &Block, x: Context, t: MemType, out: &mut ArrayVe
 }
 
 /// Adds a list that fits the block and is as short as its cost.
-pub fn lay_in(wanted: &[Run], rules: &Rules, b: &Block, x: Context, out: &mut ArrayVec<Range, 32>)
+pub fn lay_in(
+    wanted: &[Run],
+    rules: &Rules,
+    b: &Block,
+    x: Context,
+    area: &mut WorkArea,
+    out: &mut ArrayVec<Range, 32>,
+)
     requires map { IsTypeMap wanted.now }
     requires usable { All (MayBeUsed rules.now) wanted.now }
     requires covered { block_end b.now ≤ pages_end 0 wanted.now }
+    requires area { All (Remembers (task_by rules.now wanted.now)) area.old.slots }
     requires room { HasRoom (cost (task_by rules.now wanted.now) b.now.log b.now.first x) out.old.items }
-    ensures { Laid (task_by rules.now wanted.now) b.now.log b.now.first x out.old.items out.new.items }
+    ensures laid { Laid (task_by rules.now wanted.now) b.now.log b.now.first x out.old.items out.new.items }
+    ensures area { All (Remembers (task_by rules.now wanted.now)) area.new.slots }
 {
     match wish_of(wanted, rules, b) {
         Wish::Any => {}
@@ -78,12 +89,12 @@ pub fn lay_in(wanted: &[Run], rules: &Rules, b: &Block, x: Context, out: &mut Ar
         Wish::Mixed => {
             let first = first_half(b);
             let second = next_block(&first);
-            let left = costs_of(wanted, rules, &first);
-            let right = costs_of(wanted, rules, &second);
+            let left = costs_of(wanted, rules, &first, area);
+            let right = costs_of(wanted, rules, &second, area);
             let halves = sums(&left, &right);
             let y = begin_at(rules, b, &halves, x, out);
-            lay_in(wanted, rules, &first, y, out);
-            lay_in(wanted, rules, &second, y, out);
+            lay_in(wanted, rules, &first, y, area, out);
+            lay_in(wanted, rules, &second, y, area, out);
         }
     }
 }

@@ -1,7 +1,6 @@
-ghost use Rattle.std.specs.Prelude.{◌≡◌, ◌<◌, ◌≤◌, ℕ, List, length, slice_index_or, take, true};
+ghost use Rattle.std.specs.Prelude.{◌≡◌, ◌<◌, ◌≤◌, ℕ, List, length, slice_index_or, take};
 ghost use Rattle.mt_kinds.specs.declared.mem_type.MemType.{MemType};
 ghost use Rattle.mt_regs.specs.Faults.{IsAccepted};
-ghost use Rattle.mt_regs.specs.RegisterFile.{is_enabled};
 ghost use Rattle.mt_tidy.specs.OwnParts.{ArePartsOf};
 ghost use Rattle.mt_tidy.specs.Wanted.{IsWanted};
 ghost use Rattle.mt_types.specs.declared.run.Run.{Run};
@@ -50,7 +49,6 @@ fn run_at(parts: &[(u64, MemType)], covered: u64, i: usize) -> Run
 /// many runs it has. It takes no memory.
 pub fn own_runs_in(f: &RegFile, runs: &mut [Run]) -> usize
     requires accepted { IsAccepted f.now }
-    requires enabled { is_enabled f.now ≡ true }
     requires room { 153 ≤ length runs.old }
     ensures few { result ≤ length runs.new }
     ensures runs { IsRunsOf f.now (take result runs.new) }

@@ -4,6 +4,7 @@ ghost use Rattle.mt_ranges.specs.Blocks.{block_end};
 ghost use Rattle.mt_tidy.specs.AllCosts.{AreCosts, IsBelow, cost_in};
 ghost use Rattle.mt_tidy.specs.Cost.{divided, task_by};
 ghost use Rattle.mt_tidy.specs.Fits.{IsBest};
+ghost use Rattle.mt_tidy.specs.Remembered.{Remembers};
 ghost use Rattle.mt_trie.specs.Wishes.{IsDefined};
 ghost use Rattle.mt_trie.specs.declared.context.Context.{Context};
 ghost use Rattle.mt_types.specs.Runs.{IsTypeMap, pages_end};
@@ -12,6 +13,7 @@ use crate::block_costs::{all_costs, best, first_half, is_small, next_block, only
 use crate::costs::{Costs, Reach};
 use crate::lent::wish_of;
 use crate::rules::Rules;
+use crate::work_area::WorkArea;
 use mt_ranges::Block;
 use mt_trie::{Context, Wish};
 use mt_types::Run;
@@ -41,22 +43,29 @@ fn divided_costs_at(rules: &Rules, log: u8, halves: &Costs) -> Costs
 }
 
 /// The costs of a block in all contexts.
-pub fn costs_of(wanted: &[Run], rules: &Rules, b: &Block) -> Costs
+pub fn costs_of(wanted: &[Run], rules: &Rules, b: &Block, area: &mut WorkArea) -> Costs
     requires map { IsTypeMap wanted.now }
     requires defined { All IsDefined wanted.now }
     requires covered { block_end b.now ≤ pages_end 0 wanted.now }
-    ensures { AreCosts (task_by rules.now wanted.now) b.now.log b.now.first result }
+    requires area { All (Remembers (task_by rules.now wanted.now)) area.old.slots }
+    ensures costs { AreCosts (task_by rules.now wanted.now) b.now.log b.now.first result }
+    ensures area { All (Remembers (task_by rules.now wanted.now)) area.new.slots }
 {
+    if let Some(costs) = area.recall(b) {
+        return costs;
+    }
     match wish_of(wanted, rules, b) {
         Wish::Any => all_costs(Some(0)),
         Wish::Only(t) => only_costs(rules.default, t),
         Wish::Mixed => {
             let first = first_half(b);
             let second = next_block(&first);
-            let left = costs_of(wanted, rules, &first);
-            let right = costs_of(wanted, rules, &second);
+            let left = costs_of(wanted, rules, &first, area);
+            let right = costs_of(wanted, rules, &second, area);
             let halves = sums(&left, &right);
-            divided_costs_at(rules, b.log, &halves)
+            let costs = divided_costs_at(rules, b.log, &halves);
+            area.remember(b, &costs);
+            costs
         }
     }
 }

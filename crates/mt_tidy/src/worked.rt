@@ -3,13 +3,12 @@ ghost use Rattle.mt_kinds.specs.declared.mem_type.MemType.TheVariants.{UC, WB, W
 ghost use Rattle.mt_regs.specs.WorkedRows.{clash, four_gigabytes, video_memory};
 ghost use Rattle.mt_regs.specs.declared.fault.Reason.TheVariants.{BrokenMask, ReservedBit};
 ghost use Rattle.mt_regs.specs.declared.page_type.PageType.TheVariants.{Kind, Undefined};
-ghost use Rattle.mt_tidy.specs.declared.faults.FitFault.TheVariants as fitting;
 ghost use Rattle.mt_tidy.specs.declared.faults.TidyFault.TheVariants.{Disabled, Refused, TooFew};
 ghost use Rattle.mt_tidy.specs.Keeps.{IsLeast, Keeps};
 ghost use Rattle.mt_tidy.specs.Kept.{IsTidy, IsWhy};
 ghost use Rattle.mt_tidy.specs.LeastList.{IsLeastList};
 ghost use Rattle.mt_tidy.specs.Ranges.{InOrder, IsAllowed, Precedes, holds_page, types_at};
-ghost use Rattle.mt_tidy.specs.Tidied.{Explains, IsTidied, StandsFor, is_valid, pairs_for, valid_count, with_ranges};
+ghost use Rattle.mt_tidy.specs.Tidied.{IsTidied, IsTooFew, StandsFor, pairs_for, valid_count, with_ranges};
 ghost use Rattle.mt_tidy.specs.Wanted.{Gives, IsBlock, IsLeastFor, IsRangeOf, IsWanted, is_free, is_supported_type};
 ghost use Rattle.mt_tidy.specs.WorkedRanges.{all_of, beside, cached, holed, one_range, range, side_by_side, two_pages, two_ranges, uncached, with_reserved_bit};
 
@@ -87,8 +86,6 @@ pub fn worked_pairs()
     ensures pairs { pairs_for 36 3 (range 0 20 WB ∷ range 0xc0000 16 UC ∷ []) ≡ (6, 0xf00000800) ∷ (0xc0000000, 0xff0000800) ∷ (0, 0) ∷ [] }
     ensures file { (with_ranges cached (range 0 20 WT ∷ [])).pairs ≡ (4, 0xf00000800) ∷ (0, 0) ∷ (0, 0) ∷ (0, 0) ∷ (0, 0) ∷ (0, 0) ∷ (0, 0) ∷ (0, 0) ∷ [] }
     ensures default { (with_ranges cached (range 0 20 WT ∷ [])).default_type ≡ 0x806 }
-    ensures valid { is_valid (0, 0x800) ≡ true }
-    ensures not_valid { is_valid (0x800, 0x400) ≡ false }
     ensures count { valid_count four_gigabytes ≡ 1 }
     ensures stands_not_valid { StandsFor 36 (range 0 20 WB) (6, 0xf00000000) → ⊥ }
     ensures stands_for_others { StandsFor 36 (range 0 20 WB) (6, 0xff0000800) → ⊥ }
@@ -102,9 +99,10 @@ pub fn worked_tidy()
     ensures not_accepted { IsTidy clash 0 0 clash 2 → ⊥ }
     ensures reserved_bit { IsTidy with_reserved_bit 0 0 cached 0 → ⊥ }
     ensures ranges_off { IsTidy (record cached { default_type = 6 }) 0 0 cached 0 → ⊥ }
+    ensures ranges_still_off { IsTidy (record cached { default_type = 6 }) 0 0 (record cached { default_type = 6 }) 0 → ⊥ }
     ensures other_pat { IsTidy cached 0 0 (record cached { pat = 0x0007040600070407 }) 0 → ⊥ }
     ensures not_in_order { (t : IsTidy two_ranges 0 0 (with_ranges two_ranges (range 8 0 WB ∷ range 0 0 WB ∷ [])) 2) → t.ranges ≡ range 8 0 WB ∷ range 0 0 WB ∷ [] → ⊥ }
-    ensures no_block { (t : IsTidy one_range 0 0 one_range 1) → t.ranges ≡ range 4 3 WB ∷ [] → ⊥ }
+    ensures no_block { (t : IsTidy one_range 0 0 (with_ranges one_range (range 4 3 WB ∷ [])) 1) → t.ranges ≡ range 4 3 WB ∷ [] → ⊥ }
     ensures not_allowed { (t : IsTidy beside 0 0 (with_ranges beside (range 0 3 WB ∷ range 4 2 UC ∷ [])) 2) → t.ranges ≡ range 0 3 WB ∷ range 4 2 UC ∷ [] → ⊥ }
     ensures miscounted { (t : IsTidy cached 0 0 (with_ranges cached (range 0 24 WB ∷ [])) 0) → t.ranges ≡ range 0 24 WB ∷ [] → ⊥ }
     ensures none_left { IsTidy four_gigabytes 0 8 four_gigabytes 1 → ⊥ }
@@ -142,7 +140,7 @@ pub fn worked_fits()
     ensures other_pat { IsTidied cached (all_of WB) 0 0 (record cached { pat = 0x0007040600070407 }) 0 → ⊥ }
     ensures miscounted { (t : IsTidied cached (all_of UC) 0 0 (with_ranges cached (range 0 24 UC ∷ [])) 0) → t.ranges ≡ range 0 24 UC ∷ [] → ⊥ }
     ensures none_left { IsTidied cached (all_of UC) 0 8 (with_ranges cached (range 0 24 UC ∷ [])) 1 → ⊥ }
-    ensures enough { Explains cached (all_of UC) 0 7 (fitting.TooFew 1 1) → ⊥ }
-    ensures other_count { Explains cached (all_of UC) 0 7 (fitting.TooFew 1 0) → ⊥ }
-    ensures fewer_needed { Explains cached (all_of WB) 0 8 (fitting.TooFew 1 0) → ⊥ }
+    ensures enough { IsTooFew cached (all_of UC) 0 7 1 1 → ⊥ }
+    ensures other_count { IsTooFew cached (all_of UC) 0 7 1 0 → ⊥ }
+    ensures fewer_needed { IsTooFew cached (all_of WB) 0 8 1 0 → ⊥ }
 {}

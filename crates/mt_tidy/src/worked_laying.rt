@@ -3,13 +3,11 @@ ghost use Rattle.std.specs.Prelude.{◌≡◌, ◌∷◌, ◌++◌, [], None, So
 ghost use Rattle.mt_kinds.specs.declared.mem_type.MemType.TheVariants.{UC, WB, WC};
 ghost use Rattle.mt_regs.specs.declared.page_type.PageType.TheVariants.{Undefined};
 ghost use Rattle.mt_trie.specs.declared.context.Context.TheVariants.{Clash, Has, Untouched};
-ghost use Rattle.mt_tidy.specs.declared.step.Step.TheVariants.{Divided, Free, Whole};
 ghost use Rattle.mt_tidy.specs.AllCosts.{AreCosts, IsBelow};
 ghost use Rattle.mt_tidy.specs.Fits.{Begun, Chosen, Fits, IsBest, Laid};
 ghost use Rattle.mt_tidy.specs.LeastList.{AreOf, AreUsable};
-ghost use Rattle.mt_tidy.specs.Steps.{CanLay, Priced, halves_cost, steps_of};
 ghost use Rattle.mt_tidy.specs.WorkedCosts.{hole_task};
-ghost use Rattle.mt_tidy.specs.WorkedLaying.{costs_over, one_or_none, pair_costs, pair_steps, pair_task, reach, rules, unsupported_pair};
+ghost use Rattle.mt_tidy.specs.WorkedLaying.{costs_over, halves_cost, one_or_none, pair_costs, pair_task, reach, rules, unsupported_pair};
 ghost use Rattle.mt_tidy.specs.WorkedRanges.{all_of, cached, range};
 
 /// The range on a divided block: over the first eight of sixteen pages, of which seven want WB, it pays.
@@ -58,7 +56,7 @@ pub fn worked_laid_lists()
     ensures one_too_many { (h : Laid (pair_task 4096) 1 0 Untouched [] (range 0 0 WB ∷ range 0 0 WB ∷ range 1 0 UC ∷ [])) → h.added ≡ range 0 0 WB ∷ range 0 0 WB ∷ range 1 0 UC ∷ [] → ⊥ }
 {}
 
-/// The costs of two pages in all contexts, and their steps behind others.
+/// The costs of two pages in all contexts.
 pub fn worked_prices()
     ensures costs { AreCosts (pair_task 8192) 1 0 pair_costs }
     ensures other_cost { AreCosts (pair_task 8192) 1 0 (costs_over (Some 3) (Some 1)) → ⊥ }
@@ -67,21 +65,6 @@ pub fn worked_prices()
     ensures below { IsBelow 3 (Some 2) }
     ensures infinite { IsBelow 0 None }
     ensures not_below { IsBelow 2 (Some 2) → ⊥ }
-    ensures priced { Priced (pair_task 8192) 1 0 pair_costs (Free ∷ []) (Free ∷ pair_steps) }
-    ensures other_costs { Priced (pair_task 8192) 1 0 (costs_over (Some 3) (Some 1)) [] pair_steps → ⊥ }
-    ensures lower_half_first { Priced (pair_task 8192) 1 0 pair_costs [] (Whole WB ∷ Whole UC ∷ Divided pair_costs ∷ []) → ⊥ }
-    ensures others_dropped { Priced (pair_task 8192) 1 0 pair_costs (Free ∷ []) pair_steps → ⊥ }
-{}
-
-/// When a block can be laid by its steps, and when it can't for one thing.
-pub fn worked_blocks_to_lay()
-    ensures can { CanLay (pair_task 8192) 1 0 Untouched (Free ∷ []) (Free ∷ pair_steps) }
-    ensures too_large { CanLay (pair_task 8191) 1 0 Untouched [] (steps_of (pair_task 8191) 1 0) → ⊥ }
-    ensures not_supported { CanLay (unsupported_pair 8192) 1 0 Untouched [] (steps_of (unsupported_pair 8192) 1 0) → ⊥ }
-    ensures no_list { CanLay (pair_task 8192) 1 0 (Has UC) [] pair_steps → ⊥ }
-    ensures no_list_over_a_clash { CanLay (pair_task 8192) 1 0 Clash [] pair_steps → ⊥ }
-    ensures other_rest { CanLay (pair_task 8192) 1 0 Untouched (Free ∷ []) pair_steps → ⊥ }
-    ensures lower_half_first { CanLay (pair_task 8192) 1 0 Untouched [] (Whole WB ∷ Whole UC ∷ Divided pair_costs ∷ []) → ⊥ }
 {}
 
 /// Runs over all pages of types that may be used, and the rules of a file.

@@ -1,3 +1,4 @@
+use Rattle.std.proofs.Common.{arith, refl}
 use Rattle.mt_gran.specs.Granules.{pages_of}
 use Rattle.mt_gran.specs.Marks.{lost_mark}
 use Rattle.mt_gran.proofs.Rest.{goes_end, goes_on, goes_start, runs_before, whole_run}
@@ -5,24 +6,29 @@ use Rattle.mt_gran.proofs.lists.lost_parts.Goals as goal
 
 pub loop-run-init : goal.loop-run-init
 loop-run-init c =
-    rw c.new-list.ensures.items (goes_start c.args.f.now (lost_mark (pages_of c.args.f.now) c.args.g) c.requires.accepted c.args.own.now c.requires.own)
+    rw c.new-list.ensures (goes_start c.args.f.now (lost_mark (pages_of c.args.f.now) c.args.g) c.requires.accepted c.args.own.now c.requires.own, omega arith)
 
 pub add_lost-requires-clause-run : goal.add_lost-requires-clause-run
 add_lost-requires-clause-run c =
-    whole_run c.args.f.now (lost_mark (pages_of c.args.f.now) c.args.g) c.args.own.now c.all-run-items.result.now c.loop-run.list.items c.loop-run.run-index
-    c.all-run-items.ensures.runs c.loop-run.invariant _ c.loop-run-test.true
+    whole_run c.args.f.now (lost_mark (pages_of c.args.f.now) c.args.g) c.args.own.now c.args.own.now c.loop-run.list c.loop-run.run-index
+    refl c.loop-run.invariant.0 _ c.loop-run-test.true
+
+pub add_lost-requires-clause-room : goal.add_lost-requires-clause-room
+add_lost-requires-clause-room c = omega (arith, c.loop-run.invariant.1, c.loop-run-test.true, c.requires.few)
 
 pub add_lost-requires-clause-runs : goal.add_lost-requires-clause-runs
 add_lost-requires-clause-runs c =
-    runs_before c.args.f.now (lost_mark (pages_of c.args.f.now) c.args.g) c.args.own.now c.all-run-items.result.now c.loop-run.list.items c.loop-run.run-index
-    c.all-run-items.ensures.runs c.loop-run.invariant _ c.loop-run-test.true
+    runs_before c.args.f.now (lost_mark (pages_of c.args.f.now) c.args.g) c.args.own.now c.args.own.now c.loop-run.list c.loop-run.run-index
+    refl c.loop-run.invariant.0 _ c.loop-run-test.true
 
 pub loop-run-preserved : goal.loop-run-preserved
-loop-run-preserved c =
-    goes_on c.args.f.now (lost_mark (pages_of c.args.f.now) c.args.g) c.args.own.now c.all-run-items.result.now c.loop-run.list.items c.loop-run.run-index
-    c.all-run-items.ensures.runs c.loop-run.invariant _ c.add_lost.new.list.items c.loop-run-test.true c.in_ok-add_lost.ensures
+loop-run-preserved c = (
+  goes_on c.args.f.now (lost_mark (pages_of c.args.f.now) c.args.g) c.args.own.now c.args.own.now c.loop-run.list c.loop-run.run-index
+      refl c.loop-run.invariant.0 _ c.add_lost.new.list c.loop-run-test.true c.add_lost.ensures.runs,
+  omega (arith, c.loop-run.invariant.1, c.add_lost.ensures.few),
+)
 
 pub returns : goal.returns
 returns c =
-    goes_end c.args.f.now (lost_mark (pages_of c.args.f.now) c.args.g) c.args.own.now c.all-run-items.result.now c.loop-run.list.items c.loop-run.run-index
-    c.all-run-items.ensures.runs c.loop-run.invariant c.loop-run-test.false
+    goes_end c.args.f.now (lost_mark (pages_of c.args.f.now) c.args.g) c.args.own.now c.args.own.now c.loop-run.list c.loop-run.run-index
+    refl c.loop-run.invariant.0 c.loop-run-test.false

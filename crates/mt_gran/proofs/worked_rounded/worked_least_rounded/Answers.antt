@@ -10,5 +10,8 @@ returns-clause-more_than_least c = not_one
 pub returns-clause-too_few : goal.returns-clause-too_few
 returns-clause-too_few c = needs_more
 
+pub returns-clause-reserved_bit : goal.returns-clause-reserved_bit
+returns-clause-reserved_bit c = λ h. absurd (cc h.accepted)
+
 pub returns-clause-not_needed : goal.returns-clause-not_needed
 returns-clause-not_needed c = not_two

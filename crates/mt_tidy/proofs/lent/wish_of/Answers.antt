@@ -1,5 +1,5 @@
 use Rattle.mt_trie.proofs.OverRuns.{part_defined}
-use Rattle.mt_tidy.proofs.Stepping.{wish_is}
+use Rattle.mt_tidy.proofs.Wishes.{wish_is}
 use Rattle.mt_tidy.proofs.lent.wish_of.Goals as goal
 
 pub want-requires-clause-defined : goal.want-requires-clause-defined

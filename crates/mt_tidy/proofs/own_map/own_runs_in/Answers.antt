@@ -3,14 +3,13 @@ use Rattle.std.proofs.lemmas.List.{length-map, length-set, take_more, take_more_
 use Rattle.mt_regs.specs.declared.page_type.PageType.TheVariants.{Undefined}
 use Rattle.mt_types.specs.Tables.{part_of}
 use Rattle.mt_tidy.specs.OwnParts.{ArePartsOf}
-use Rattle.mt_tidy.proofs.Own.{own_runs}
-use Rattle.mt_tidy.proofs.OwnRuns.{as_many, run_with, wanted_defined}
+use Rattle.mt_tidy.proofs.OwnRuns.{as_many, run_with, runs_wanted, wanted_defined}
 use Rattle.mt_tidy.proofs.own_map.own_runs_in.Goals as goal
 
 pub loop-i-init : goal.loop-i-init
 loop-i-init c =
     let found = c.of-table.ensures.parts.runs in
-    let good = own_runs c.args.f.now c.is_register_file.ensures c.requires.accepted c.requires.enabled found.0 found.1 in
+    let good = runs_wanted c.args.f.now c.is_register_file.ensures c.requires.accepted found.0 found.1 in
     let many = ap length found.2 ∙ length-map found.0 part_of in (
       found.0,
       found.1,

@@ -38,6 +38,9 @@ returns-clause-reserved_bit c = λ h. absurd (cc h.old_accepted)
 pub returns-clause-ranges_off : goal.returns-clause-ranges_off
 returns-clause-ranges_off c = λ h. absurd (cc h.enabled)
 
+pub returns-clause-ranges_still_off : goal.returns-clause-ranges_still_off
+returns-clause-ranges_still_off c = λ h. absurd (cc h.enabled)
+
 pub returns-clause-other_pat : goal.returns-clause-other_pat
 returns-clause-other_pat c = λ h. omega (arith, ap (λ (f : RegisterFile). f.pat) h.file)
 

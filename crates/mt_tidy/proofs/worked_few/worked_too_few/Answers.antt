@@ -20,5 +20,8 @@ returns-clause-enough c = λ h. omega (arith, h.above)
 pub returns-clause-other_count : goal.returns-clause-other_count
 returns-clause-other_count c = λ h. omega (arith, h.has_is)
 
+pub returns-clause-reserved_bit : goal.returns-clause-reserved_bit
+returns-clause-reserved_bit c = λ h. absurd (cc h.accepted)
+
 pub returns-clause-ranges_off : goal.returns-clause-ranges_off
 returns-clause-ranges_off c = λ h. absurd (cc h.enabled)

@@ -1,9 +1,7 @@
-use Rattle.std.proofs.Common.{◌≡◌, ◌∷◌, [], Some, None, length, refl, sym, ap, ◌∙◌, arith}
-use Rattle.mt_kinds.specs.declared.mem_type.MemType.TheVariants.{UC, WB}
+use Rattle.std.proofs.Common.{◌≡◌, Some, None, refl, sym, ◌∙◌, arith}
+use Rattle.mt_kinds.specs.declared.mem_type.MemType.TheVariants.{WB}
 use Rattle.mt_trie.specs.declared.context.Context.TheVariants.{Clash, Has, Untouched}
-use Rattle.mt_tidy.specs.declared.step.Step.TheVariants.{Divided, Free, Whole}
-use Rattle.mt_tidy.specs.WorkedLaying.{pair_costs, pair_steps}
-use Rattle.mt_tidy.proofs.WorkedLaying.{number, pair_cost, steps_are}
+use Rattle.mt_tidy.proofs.WorkedLaying.{number, pair_cost}
 use Rattle.mt_tidy.proofs.worked_laying.worked_prices.Goals as goal
 
 pub returns-clause-costs : goal.returns-clause-costs
@@ -26,15 +24,3 @@ returns-clause-infinite c = λ n is. absurd (cc is)
 
 pub returns-clause-not_below : goal.returns-clause-not_below
 returns-clause-not_below c = λ h. omega (arith, h 2 refl)
-
-pub returns-clause-priced : goal.returns-clause-priced
-returns-clause-priced c = record { costs_are = pair_cost; steps = ap (λ steps. Free ∷ steps) (sym steps_are) }
-
-pub returns-clause-other_costs : goal.returns-clause-other_costs
-returns-clause-other_costs c = λ h. omega (arith, number 3 2 (h.costs_are Untouched ∙ sym (pair_cost Untouched)))
-
-pub returns-clause-lower_half_first : goal.returns-clause-lower_half_first
-returns-clause-lower_half_first c = λ h. let e : Whole WB ∷ Whole UC ∷ Divided pair_costs ∷ [] ≡ pair_steps = h.steps ∙ steps_are in absurd (cc e)
-
-pub returns-clause-others_dropped : goal.returns-clause-others_dropped
-returns-clause-others_dropped c = λ h. omega (arith, ap length (h.steps ∙ ap (λ steps. Free ∷ steps) steps_are))
