@@ -37,11 +37,12 @@ extern "C" {
 #define MTRR_NO_PAGE 3u   /* the page is beyond the physical address space */
 #define MTRR_UNDEFINED 4u /* the ranges that meet at the page have no defined type */
 #define MTRR_NO_ENTRY 5u  /* the PAT has entries 0 to 7 */
-#define MTRR_NO_ROOM 6u   /* the array is too small for the type map */
+#define MTRR_NO_ROOM 6u   /* the array is too small for the type map, or for the parts */
 #define MTRR_WAITS 7u     /* the processor has nothing to do */
 #define MTRR_NO_PHASE 8u  /* there is no such phase or no such word */
 #define MTRR_DISABLED 9u  /* the range registers are off */
 #define MTRR_TOO_FEW 10u  /* more pairs are needed than may be used */
+#define MTRR_NO_GRANULE 11u /* the size isn't a power of two from 4 KB to 1 TB */
 
 /* What is wrong with a register. */
 #define MTRR_RESERVED_BIT 1u
@@ -100,6 +101,7 @@ extern "C" {
 #define MTRR_MAX_PAIRS 32
 #define MTRR_FIXED_REGISTERS 11
 #define MTRR_MAX_RUNS 153 /* no type map has more runs */
+#define MTRR_MAX_PARTS 306 /* no rounding loses more parts */
 
 /* A variable range: IA32_MTRR_PHYSBASEn and IA32_MTRR_PHYSMASKn. */
 struct mtrr_pair {
@@ -138,6 +140,20 @@ struct mtrr_run {
 struct mtrr_need {
     uint64_t needs;
     uint64_t has;
+};
+
+/*
+ * Room for mtrr_tidy and mtrr_gran to work in. What it holds may be anything when the call
+ * begins, and is unspecified when it ends.
+ */
+struct mtrr_work {
+    uint64_t words[4096];
+};
+
+/* What a rounding to granules loses. */
+struct mtrr_loss {
+    uint64_t pages; /* how many pages had WB and have UC now */
+    uint64_t parts; /* how many parts lose a type */
 };
 
 /* An update of the range registers of all processors. */
@@ -232,8 +248,34 @@ uint32_t mtrr_type_map(const struct mtrr_registers *registers,
  * says which), MTRR_DISABLED: neither was.
  */
 uint32_t mtrr_tidy(const struct mtrr_registers *registers, uint8_t spare,
-                   uint64_t chunk, struct mtrr_registers *tidied,
-                   struct mtrr_need *need);
+                   uint64_t chunk, struct mtrr_work *work,
+                   struct mtrr_registers *tidied, struct mtrr_need *need);
+
+/*
+ * The registers for types rounded to granules of `size` bytes, in the fewest
+ * valid pairs: a granule whose pages have several types gets UC, and each
+ * other page keeps its type. `size` is a power of two from 4,096 to 1 << 40.
+ * Pages whose types the fixed-range registers give count for nothing: they
+ * keep their types, and break no granule. `spare`, `chunk` and the pairs are
+ * as for mtrr_tidy.
+ *
+ * A part is a run of pages of one type other than UC that have UC now. Parts
+ * are as long as may be and ascend; they go into `parts`, which has room for
+ * `room` of them, and their number into loss->parts. MTRR_MAX_PARTS of them
+ * always suffice.
+ *
+ * MTRR_DONE: *rounded, *need, *loss and all parts were written, and
+ * need->needs pairs are valid. MTRR_NO_ROOM: the same, but of the parts the
+ * first `room` alone. What stands behind them is as before. MTRR_TOO_FEW:
+ * *need alone was written. MTRR_NO_FILE, MTRR_NO_GRANULE, MTRR_FAULT
+ * (mtrr_first_fault says which), MTRR_DISABLED: nothing was. They are looked
+ * for in this order, and then MTRR_TOO_FEW.
+ */
+uint32_t mtrr_gran(const struct mtrr_registers *registers, uint64_t size,
+                   uint8_t spare, uint64_t chunk, struct mtrr_work *work,
+                   struct mtrr_registers *rounded, struct mtrr_need *need,
+                   struct mtrr_loss *loss, struct mtrr_run *parts,
+                   size_t room);
 
 /*
  * The next step of a processor in an update, in the order of the manual

@@ -1,7 +1,8 @@
 /*
  * Reads a dump of one processor from standard input, as `mtrr` reads it but
  * less strictly. `check` writes the first fault or `accepted`, `types` the
- * type of each stretch of addresses, and `tidy [CHUNK]` the tidied registers.
+ * type of each stretch of addresses, `tidy [CHUNK]` the tidied registers, and
+ * `gran SIZE [CHUNK]` the rounded ones with what is lost.
  */
 #include <inttypes.h>
 #include <stdio.h>
@@ -89,6 +90,12 @@ static const char *reason_of(uint32_t reason)
     }
 }
 
+static void print_run(const struct mtrr_run *run)
+{
+    printf("%013" PRIx64 "-%013" PRIx64 " %s\n", run->first * 4096,
+           (run->first + run->pages) * 4096 - 1, name_of(run->kind));
+}
+
 static int print_map(const struct mtrr_registers *registers)
 {
     struct mtrr_run runs[MTRR_MAX_RUNS];
@@ -96,9 +103,7 @@ static int print_map(const struct mtrr_registers *registers)
     if (mtrr_type_map(registers, runs, MTRR_MAX_RUNS, &count) != MTRR_DONE)
         return 1;
     for (size_t i = 0; i < count; i++)
-        printf("%013" PRIx64 "-%013" PRIx64 " %s\n", runs[i].first * 4096,
-               (runs[i].first + runs[i].pages) * 4096 - 1,
-               name_of(runs[i].kind));
+        print_run(&runs[i]);
     return 0;
 }
 
@@ -121,26 +126,65 @@ static void print_file(struct mtrr_registers *registers)
            registers->default_type);
 }
 
-static int print_tidied(const struct mtrr_registers *registers,
-                        unsigned char spare, uint64_t chunk)
+/* A file with the fewest pairs, or why there is none. */
+static int print_new(uint32_t answer, struct mtrr_registers *file,
+                     const struct mtrr_need *need)
 {
-    struct mtrr_registers tidied;
-    struct mtrr_need need;
-    switch (mtrr_tidy(registers, spare, chunk, &tidied, &need)) {
+    switch (answer) {
     case MTRR_DISABLED:
         puts("disabled");
         return 1;
     case MTRR_TOO_FEW:
-        printf("too few needs %" PRIu64 " has %" PRIu64 "\n", need.needs,
-               need.has);
+        printf("too few needs %" PRIu64 " has %" PRIu64 "\n", need->needs,
+               need->has);
+        return 1;
+    case MTRR_NO_GRANULE:
+        puts("no such granule");
         return 1;
     case MTRR_DONE:
-        printf("# used %" PRIu64 "\n", need.needs);
-        print_file(&tidied);
+        printf("# used %" PRIu64 "\n", need->needs);
+        print_file(file);
         return 0;
     default:
         return 2;
     }
+}
+
+static int print_tidied(const struct mtrr_registers *registers,
+                        unsigned char spare, uint64_t chunk)
+{
+    static struct mtrr_work work;
+    struct mtrr_registers tidied;
+    struct mtrr_need need;
+    uint32_t answer =
+        mtrr_tidy(registers, spare, chunk, &work, &tidied, &need);
+    return print_new(answer, &tidied, &need);
+}
+
+static int print_rounded(const struct mtrr_registers *registers, uint64_t size,
+                         unsigned char spare, uint64_t chunk)
+{
+    static struct mtrr_work work;
+    struct mtrr_registers rounded;
+    struct mtrr_need need;
+    struct mtrr_loss loss;
+    struct mtrr_run parts[MTRR_MAX_PARTS];
+    uint32_t answer = mtrr_gran(registers, size, spare, chunk, &work, &rounded,
+                                &need, &loss, parts, MTRR_MAX_PARTS);
+    if (answer == MTRR_DONE) {
+        for (uint64_t i = 0; i < loss.parts; i++) {
+            fputs("# part ", stdout);
+            print_run(&parts[i]);
+        }
+        printf("# lost %" PRIu64 "\n", loss.pages);
+    }
+    return print_new(answer, &rounded, &need);
+}
+
+/* The word at a place as a hexadecimal number, where there is one. */
+static uint64_t number_at(int count, char **words, int place, uint64_t usual)
+{
+    return count > place ? strtoull(words[place], NULL, 16) : usual;
 }
 
 int main(int count, char **words)
@@ -164,8 +208,10 @@ int main(int count, char **words)
         return print_map(&registers);
     if (count >= 2 && strcmp(words[1], "tidy") == 0)
         return print_tidied(&registers, 1,
-                            count >= 3 ? strtoull(words[2], NULL, 16)
-                                       : 0x10000000);
+                            number_at(count, words, 2, 0x10000000));
+    if (count >= 3 && strcmp(words[1], "gran") == 0)
+        return print_rounded(&registers, strtoull(words[2], NULL, 16), 1,
+                             number_at(count, words, 3, 0x10000000));
     puts("accepted");
     return 0;
 }

@@ -1,23 +1,26 @@
 //! The calls of `include/mtrr.h`, as C finds them.
 #![tactic(auto)]
 
-ghost use Rattle.std.specs.Prelude.{◌≡◌, true, false, length, List, Option};
+ghost use Rattle.std.specs.Prelude.{◌≡◌, true, false, length, ℕ, List, Option};
 ghost use Rattle.std.specs.Option.{option_map};
+ghost use Rattle.mt_gran.specs.Sizes.{IsGranuleSize};
 ghost use Rattle.mt_machine.specs.Machine.{Order, due as machine_due};
 ghost use Rattle.mt_machine.specs.System.{Processor};
 ghost use Rattle.mt_plain.specs.Due.{IsTold, due_status, due_step, event_words, whole_flush};
 ghost use Rattle.mt_plain.specs.Maps.{IsMapIn, has_map, map_status, no_map_status};
 ghost use Rattle.mt_plain.specs.Plain.{effective_number, effective_status, fault_status, fault_words, file_in, has_no_other_pair, is_file, page_number, page_status};
+ghost use Rattle.mt_plain.specs.Rounding.{IsGranAnswer, places};
 ghost use Rattle.mt_plain.specs.Tidying.{IsTidyAnswer};
 ghost use Rattle.mt_regs.specs.Faults.{IsFirstFault};
 ghost use Rattle.mt_regs.specs.RegisterFile.{IsRegisterFile};
 ghost use Rattle.mt_regs.specs.declared.fault.Fault.{Fault};
 
 use mt_plain::{
-    PlainFault, PlainNeed, PlainProcessor, PlainRegisters, PlainRun, PlainStep, PlainUpdate,
-    a_due_step_is_the_machines, due, effective_type, first_fault, is_file, page_type, tidy,
-    type_map,
+    PlainFault, PlainLoss, PlainNeed, PlainProcessor, PlainRegisters, PlainRun, PlainStep,
+    PlainUpdate, a_due_step_is_the_machines, due, effective_type, first_fault, gran, is_file,
+    page_type, tidy, type_map,
 };
+use mt_tidy::WorkArea;
 
 /// Whether the words are a register file's: a width of 32 to 52 bits, at most 32 pairs by VCNT, zeros in the pairs
 /// beyond, and zeros in the fixed-range registers where FIX is clear.
@@ -94,7 +97,7 @@ pub extern "C" fn mtrr_due(
     ensures machine { (o : Order) (ps : List Processor) (p : Processor) → IsTold update.now processor.now o ps p
         → step.new ≡ event_words (option_map whole_flush (machine_due o ps p p.phase)) p.phase step.old }
 {
-    a_due_step_is_the_machines();
+    a_due_step_is_the_machines(); // a fact for the proof
     due(update, processor, step)
 }
 
@@ -102,16 +105,46 @@ pub extern "C" fn mtrr_due(
 /// at most `chunk` bytes; `spare` pairs stay unused. 0 where it was written to `tidied`, with the number of its pairs and
 /// how many may be used, 2 where the words are no register file's, 1 where the file has a fault, 9 where its ranges are
 /// off, and 10 where more pairs are needed than may be used: both numbers are written. What isn't written is as before.
+/// The contents of `work` may be any, and any afterwards.
 #[unsafe(no_mangle)]
 pub extern "C" fn mtrr_tidy(
     registers: &PlainRegisters,
     spare: u8,
     chunk: u64,
+    work: &mut WorkArea,
     tidied: &mut PlainRegisters,
     need: &mut PlainNeed,
 ) -> u32
     ensures no_file { is_file registers.now ≡ false → (result ≡ 2) × (tidied.new ≡ tidied.old) × (need.new ≡ need.old) }
     ensures file { is_file registers.now ≡ true → IsTidyAnswer (file_in registers.now) chunk spare result tidied.old tidied.new need.old need.new }
 {
-    tidy(registers, spare, chunk, tidied, need)
+    tidy(registers, spare, chunk, work, tidied, need)
+}
+
+/// The file with the types rounded to granules of `size` bytes and the fewest valid pairs, as `mtrr_tidy` has it for the
+/// types as they are, and what is lost: how many pages had WB and have UC, and the parts, which are the longest runs of
+/// pages of one type other than UC that have UC. 0 where all was written, 6 where the array has room for the first of the
+/// parts alone; else 2 where the words are no register file's, 11 where the size isn't a power of two from 4 KB to 1 TB,
+/// 1, 9 and 10 as of `mtrr_tidy`. What isn't written is as before. The contents of `work` may be any, and any afterwards.
+#[unsafe(no_mangle)]
+pub extern "C" fn mtrr_gran(
+    registers: &PlainRegisters,
+    size: u64,
+    spare: u8,
+    chunk: u64,
+    work: &mut WorkArea,
+    rounded: &mut PlainRegisters,
+    need: &mut PlainNeed,
+    loss: &mut PlainLoss,
+    parts: &mut [PlainRun],
+) -> u32
+    ensures no_file { is_file registers.now ≡ false → (result ≡ 2) × (places rounded.new need.new loss.new parts.new ≡ places rounded.old need.old loss.old parts.old) }
+    ensures no_granule { is_file registers.now ≡ true → ((log : ℕ) → ¬ IsGranuleSize size log)
+        → (result ≡ 11) × (places rounded.new need.new loss.new parts.new ≡ places rounded.old need.old loss.old parts.old) }
+    ensures file { is_file registers.now ≡ true → (log : ℕ) → IsGranuleSize size log
+        → IsGranAnswer (file_in registers.now) log chunk spare result (places rounded.old need.old loss.old parts.old) (places rounded.new need.new loss.new parts.new) }
+{
+    gran(
+        registers, size, spare, chunk, work, rounded, need, loss, parts,
+    )
 }

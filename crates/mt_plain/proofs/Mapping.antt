@@ -1,6 +1,6 @@
 -- The type map that is written run by run.
-use Rattle.std.proofs.Common.{◌≡◌, ◌≢◌, ◌∙◌, ap, refl, sym, arith, ℕ, ◌+◌, ◌-◌, ◌^◌, ◌<◌, ◌≤◌, List, [], ◌∷◌, ◌++◌, length, map, set, subst}
-use Rattle.std.proofs.lemmas.List.{map_push, length-map, length_push}
+use Rattle.std.proofs.Common.{◌≡◌, ◌≢◌, ◌∙◌, ap, refl, sym, arith, ℕ, ◌+◌, ◌-◌, ◌^◌, ◌<◌, ◌≤◌, List, [], ◌∷◌, ◌++◌, get_or, length, map, set, subst, take}
+use Rattle.std.proofs.lemmas.List.{map_push, length-map, length-take-le, length_push, take_more}
 use Rattle.mt_plain.specs.Maps.{IsMapIn, overwritten, plain_run}
 use Rattle.mt_plain.specs.declared.plain.PlainRun.{PlainRun}
 use Rattle.mt_regs.specs.Alike.{IsAlike, edges_past}
@@ -17,6 +17,18 @@ one_more [] r [] = refl
 one_more [] r (p ∷ ps) = refl
 one_more (x ∷ xs) r [] = refl
 one_more (x ∷ xs) r (p ∷ ps) = ap (λ ys. x ∷ ys) (one_more xs r ps)
+
+-- the run at a place is written behind those before it
+pub written_more : (runs : List Run) (i : ℕ) (d : Run) (old now new : List PlainRun) (r : PlainRun) → i < length runs → now ≡ overwritten (map plain_run (take i runs)) old
+    → new ≡ set now i r → r ≡ plain_run (get_or runs i d) → new ≡ overwritten (map plain_run (take (i + 1) runs)) old
+written_more runs i d old now new r within before step is =
+    let at : length (map plain_run (take i runs)) ≡ i = length-map (take i runs) plain_run ∙ length-take-le i runs (omega (arith, within)) in
+    step
+    ∙ ap (λ p. set now i p) is
+    ∙ ap (λ xs. set xs i (plain_run (get_or runs i d))) before
+    ∙ ap (λ n. set (overwritten (map plain_run (take i runs)) old) n (plain_run (get_or runs i d))) (sym at)
+    ∙ sym (one_more (map plain_run (take i runs)) (plain_run (get_or runs i d)) old)
+    ∙ ap (λ rs. overwritten rs old) (sym (map_push plain_run (take i runs) (get_or runs i d)) ∙ ap (map plain_run) (sym (take_more runs i d within)))
 
 -- the runs up to a page are written, and the pages from there to another have one type
 pub record IsUnderWay (f : RegisterFile) (old now : List PlainRun) (count first end : ℕ) (kind : PageType) : Type 0 where

@@ -2,5 +2,7 @@ pub mod Due
 pub mod Maps
 pub mod Plain
 pub mod Tidying
+pub mod Rounding
 pub mod WorkedWords
 pub mod WorkedTurns
+pub mod WorkedRounding

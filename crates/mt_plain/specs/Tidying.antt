@@ -1,25 +1,23 @@
 -- A tidied file as C's plain words (own).
-use Rattle.std.specs.Prelude.{◌≡◌, ◌≢◌, ◌⊎◌, ℕ, ◌-◌, true}
+use Rattle.std.specs.Prelude.{◌≡◌, ◌⊎◌, ℕ, ◌-◌, true}
 use Rattle.mt_plain.specs.declared.plain.PlainNeed.{PlainNeed}
 use Rattle.mt_plain.specs.declared.plain.PlainRegisters.{PlainRegisters}
 use Rattle.mt_plain.specs.Plain.{file_in, is_file}
 use Rattle.mt_regs.specs.RegisterFile.{RegisterFile, pair_count}
 use Rattle.mt_tidy.specs.declared.faults.TidyFault.{TidyFault}
-use Rattle.mt_tidy.specs.declared.faults.TidyFault.TheVariants.{Refused, Disabled, TooFew, NoMemory}
+use Rattle.mt_tidy.specs.declared.faults.TidyFault.TheVariants.{Refused, Disabled, TooFew}
 use Rattle.mt_tidy.specs.Kept.{IsTidy, IsWhy}
 
--- 1 a fault, 9 the ranges are off, 10 too few pairs; memory is never wanted
+-- 1 a fault, 9 the ranges are off, 10 too few pairs
 abbrev pub why_status : TidyFault → ℕ
 why_status (Refused fault) = 1
 why_status Disabled = 9
 why_status (TooFew needs has) = 10
-why_status NoMemory = 11
 
 abbrev pub need_words : TidyFault → PlainNeed → PlainNeed
 need_words (Refused fault) old = old
 need_words Disabled old = old
 need_words (TooFew needs has) old = record { needs = needs; has = has }
-need_words NoMemory old = old
 
 -- the words are those of a tidied file, with the number of its valid pairs
 pub record IsDone (f : RegisterFile) (chunk spare status : ℕ) (new : PlainRegisters) (need : PlainNeed) : Type 0 where
@@ -34,7 +32,6 @@ pub record IsDone (f : RegisterFile) (chunk spare status : ℕ) (new : PlainRegi
 pub record IsLeft (f : RegisterFile) (chunk spare status : ℕ) (old new : PlainRegisters) (need_old need : PlainNeed) : Type 0 where
   pub fault : TidyFault
   pub why : IsWhy f chunk spare fault
-  pub memory : fault ≢ NoMemory
   pub status_is : status ≡ why_status fault
   pub same : new ≡ old
   pub need_is : need ≡ need_words fault need_old

@@ -6,8 +6,9 @@ ghost use Rattle.mt_regs.specs.Faults.{register_fault};
 use crate::answers::{DONE, FAULT, NO_FILE};
 use crate::{PlainRegisters, PlainRun, file_of};
 use mt_regs::{PageType, Reason, RegFile};
+use mt_types::Run;
 
-const NO_ROOM: u32 = 6;
+pub(crate) const NO_ROOM: u32 = 6;
 
 const NO_TYPE: u32 = 255;
 
@@ -40,7 +41,7 @@ fn has_register_fault(f: &RegFile) -> bool
 }
 
 // Puts a run into an array, where the place is one of the array's.
-fn put_run(runs: &mut [PlainRun], place: usize, run: PlainRun)
+pub(crate) fn put_run(runs: &mut [PlainRun], place: usize, run: PlainRun)
     ensures { runs.new ≡ set runs.old place run }
 {
     if place < runs.len() {
@@ -48,15 +49,25 @@ fn put_run(runs: &mut [PlainRun], place: usize, run: PlainRun)
     }
 }
 
+pub(crate) fn run_words(run: Run) -> PlainRun
+    ensures { result ≡ plain_run run }
+{
+    PlainRun {
+        first: run.first,
+        pages: run.count,
+        kind: kind_number(run.kind),
+    }
+}
+
 fn run_between(first: u64, end: u64, kind: PageType) -> PlainRun
     requires { first < end }
     ensures { result ≡ plain_run (record { first = first; count = end - first; kind = kind }) }
 {
-    PlainRun {
+    run_words(Run {
         first,
-        pages: end - first,
-        kind: kind_number(kind),
-    }
+        count: end - first,
+        kind,
+    })
 }
 
 // Writes the type map, as far as the array goes, and answers how many runs it has.
@@ -64,7 +75,7 @@ fn put_map(f: &RegFile, runs: &mut [PlainRun]) -> usize
     requires { register_fault f.now ≡ None }
     ensures { IsMapIn f.now runs.old runs.new result }
 {
-    f.has_few_edges();
+    f.has_few_edges(); // a fact for the proof
     let pages = f.pages();
     let mut count = 0;
     let mut first = 0;
@@ -84,6 +95,13 @@ fn put_map(f: &RegFile, runs: &mut [PlainRun]) -> usize
     count + 1
 }
 
+// Whether so many runs have a place in an array.
+pub(crate) fn room_status(room: usize, count: usize) -> u32
+    ensures { result ≡ map_status room count }
+{
+    if count <= room { DONE } else { NO_ROOM }
+}
+
 /// The type map: its runs in ascending order, and how many there are. 0 where all were written, 6 where the array has
 /// room for the first of them alone, 2 where the words are no register file's, and 1 where a register is at fault by
 /// itself. What stands behind the runs is as before; where the answer is 1 or 2, so are the array and the count.
@@ -99,5 +117,5 @@ pub fn type_map(r: &PlainRegisters, runs: &mut [PlainRun], count: &mut usize) ->
     }
     let room = runs.len();
     *count = put_map(&file, runs);
-    if *count <= room { DONE } else { NO_ROOM }
+    room_status(room, *count)
 }

@@ -35,6 +35,14 @@ pub struct PlainRun {
     pub kind: u32,
 }
 
+/// How many pages had WB and have UC now, and how many parts lose a type.
+#[repr(C)]
+#[derive(Clone, Copy)]
+pub struct PlainLoss {
+    pub pages: u64,
+    pub parts: u64,
+}
+
 /// How many pairs the pages' types need, and how many may be used.
 #[repr(C)]
 #[derive(Clone, Copy)]

@@ -1,7 +1,9 @@
 use crate::{
-    PlainFault, PlainNeed, PlainPair, PlainProcessor, PlainRegisters, PlainRun, PlainStep,
-    PlainUpdate, due, effective_type, first_fault, is_file, page_type, tidy, type_map,
+    PlainFault, PlainLoss, PlainNeed, PlainPair, PlainProcessor, PlainRegisters, PlainRun,
+    PlainStep, PlainUpdate, due, effective_type, first_fault, gran, is_file, page_type, tidy,
+    type_map,
 };
+use mt_tidy::WorkArea;
 
 const NONE: PlainFault = PlainFault {
     number: 0,
@@ -193,13 +195,156 @@ fn two_pairs_are_one(rt: HostRuntime) {
     let mut tidied = plain();
     tidied.pairs[3].base = 9;
     let mut need = PlainNeed { needs: 9, has: 9 };
-    assert_eq!(rt; tidy(&r, 1, 0, &mut tidied, &mut need), 0);
+    let mut work = WorkArea::new();
+    assert_eq!(rt; tidy(&r, 1, 0, &mut work, &mut tidied, &mut need), 0);
     assert_eq!(rt; need.needs, 1);
     assert_eq!(rt; need.has, 7);
     assert_eq!(rt; tidied.pairs[0].base, 6);
     assert_eq!(rt; tidied.pairs[0].mask, 0xf_0000_0800);
     assert_eq!(rt; tidied.pairs[1].mask, 0);
     assert_eq!(rt; tidied.pairs[3].base, 0);
-    assert_eq!(rt; tidy(&r, 8, 0, &mut tidied, &mut need), 10);
+    assert_eq!(rt; tidy(&r, 8, 0, &mut work, &mut tidied, &mut need), 10);
     assert_eq!(rt; need.has, 0);
+}
+
+// Write-back to 4 GB but for a megabyte of UC from 3.5 GB, in granules of 256 MB.
+#[test]
+fn granules_of_a_hole(rt: HostRuntime) {
+    let mut r = plain();
+    r.pairs[1] = PlainPair {
+        base: 0xe000_0000,
+        mask: 0xf_fff0_0800,
+    };
+    let mut rounded = plain();
+    let mut need = PlainNeed { needs: 9, has: 9 };
+    let mut loss = PlainLoss { pages: 9, parts: 9 };
+    let mut parts = [BLANK; 2];
+    let mut work = WorkArea::new();
+    let size = 0x1000_0000;
+    assert_eq!(rt;
+        gran(
+            &r,
+            size,
+            1,
+            1 << 52,
+            &mut work,
+            &mut rounded,
+            &mut need,
+            &mut loss,
+            &mut parts
+        ),
+        0
+    );
+    assert_eq!(rt; need.needs, 2);
+    assert_eq!(rt; need.has, 7);
+    assert_eq!(rt; loss.pages, 65280);
+    assert_eq!(rt; loss.parts, 1);
+    assert!(rt; is_run(parts[0], 0xe_0100, 0xff00, 6));
+    assert!(rt; is_run(parts[1], 9, 9, 9));
+    assert_eq!(rt; rounded.pairs[1].base, 0xe000_0000);
+    assert_eq!(rt; rounded.pairs[1].mask, 0xf_f000_0800);
+    parts[0] = BLANK;
+    let none = &mut parts[..0];
+    assert_eq!(rt;
+        gran(
+            &r,
+            size,
+            1,
+            1 << 52,
+            &mut work,
+            &mut rounded,
+            &mut need,
+            &mut loss,
+            none
+        ),
+        6
+    );
+    assert_eq!(rt; loss.parts, 1);
+    assert!(rt; is_run(parts[0], 9, 9, 9));
+}
+
+#[test]
+fn nothing_is_rounded(rt: HostRuntime) {
+    let mut r = plain();
+    let mut rounded = plain();
+    let mut need = PlainNeed { needs: 9, has: 9 };
+    let mut loss = PlainLoss { pages: 9, parts: 9 };
+    let mut parts = [BLANK; 1];
+    let mut work = WorkArea::new();
+    assert_eq!(rt;
+        gran(
+            &r,
+            0x3000,
+            1,
+            0,
+            &mut work,
+            &mut rounded,
+            &mut need,
+            &mut loss,
+            &mut parts
+        ),
+        11
+    );
+    assert_eq!(rt;
+        gran(
+            &r,
+            0x1000,
+            8,
+            0,
+            &mut work,
+            &mut rounded,
+            &mut need,
+            &mut loss,
+            &mut parts
+        ),
+        10
+    );
+    assert_eq!(rt; need.needs, 1);
+    assert_eq!(rt; need.has, 0);
+    r.default_type = 0;
+    assert_eq!(rt;
+        gran(
+            &r,
+            0x1000,
+            1,
+            0,
+            &mut work,
+            &mut rounded,
+            &mut need,
+            &mut loss,
+            &mut parts
+        ),
+        9
+    );
+    r.pairs[0].base = 2;
+    assert_eq!(rt;
+        gran(
+            &r,
+            0x1000,
+            1,
+            0,
+            &mut work,
+            &mut rounded,
+            &mut need,
+            &mut loss,
+            &mut parts
+        ),
+        1
+    );
+    r.pairs[8].mask = 1;
+    assert_eq!(rt;
+        gran(
+            &r,
+            0x3000,
+            1,
+            0,
+            &mut work,
+            &mut rounded,
+            &mut need,
+            &mut loss,
+            &mut parts
+        ),
+        2
+    );
+    assert_eq!(rt; loss.parts, 9);
 }

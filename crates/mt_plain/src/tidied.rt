@@ -7,11 +7,11 @@ ghost use Rattle.mt_regs.specs.RegisterFile.{pair_count};
 use crate::answers::{DONE, FAULT, NO_FILE};
 use crate::{PlainNeed, PlainPair, PlainRegisters, file_of};
 use mt_regs::RegFile;
-use mt_tidy::{TidyFault, tidy_without_memory};
+use mt_tidy::{TidyFault, WorkArea, tidy as tidied_file};
 
-const DISABLED: u32 = 9;
+pub(crate) const DISABLED: u32 = 9;
 
-const TOO_FEW: u32 = 10;
+pub(crate) const TOO_FEW: u32 = 10;
 
 const ZEROS: PlainPair = PlainPair { base: 0, mask: 0 };
 
@@ -38,9 +38,10 @@ fn plain_pairs(pairs: &[(u64, u64)]) -> [PlainPair; 32]
 }
 
 // The words that tell a file.
-fn words_of(f: &RegFile) -> PlainRegisters
+pub(crate) fn words_of(f: &RegFile) -> PlainRegisters
     ensures file { file_in result ≡ f.now }
     ensures others { has_no_other_pair result ≡ true }
+    ensures words { is_file result ≡ true }
 {
     PlainRegisters {
         width: f.maxphy as u64,
@@ -53,7 +54,7 @@ fn words_of(f: &RegFile) -> PlainRegisters
 }
 
 // How many pairs may be used.
-fn usable_pairs(f: &RegFile, spare: u8) -> u64
+pub(crate) fn usable_pairs(f: &RegFile, spare: u8) -> u64
     ensures { result ≡ pair_count f.now - spare }
 {
     (f.pairs.len() as u64).saturating_sub(spare as u64)
@@ -63,10 +64,12 @@ fn usable_pairs(f: &RegFile, spare: u8) -> u64
 /// at most `chunk` bytes; `spare` pairs stay unused. 0 where it was written to `tidied`, with the number of its pairs and
 /// how many may be used, 2 where the words are no register file's, 1 where the file has a fault, 9 where its ranges are
 /// off, and 10 where more pairs are needed than may be used: both numbers are written. What isn't written is as before.
+/// The contents of `work` may be any, and any afterwards.
 pub fn tidy(
     r: &PlainRegisters,
     spare: u8,
     chunk: u64,
+    work: &mut WorkArea,
     tidied: &mut PlainRegisters,
     need: &mut PlainNeed,
 ) -> u32
@@ -76,7 +79,7 @@ pub fn tidy(
     let Some(file) = file_of(r) else {
         return NO_FILE;
     };
-    match tidy_without_memory(&file, spare, chunk) {
+    match tidied_file(&file, spare, chunk, work) {
         Ok(answer) => {
             *tidied = words_of(&answer.file);
             *need = PlainNeed {
@@ -94,6 +97,5 @@ pub fn tidy(
             };
             TOO_FEW
         }
-        Err(TidyFault::NoMemory) => unreachable!(),
     }
 }

@@ -8,8 +8,7 @@ returns-in-Err-Refused-clause-file c = λ is.
     inr
     (record {
       fault = c.in-Err-Refused.field-0;
-      why = subst (λ f. IsWhy f c.args.chunk c.args.spare c.in-Err-Refused.field-0) c.in-Some.ensures.file c.in-Err-Refused.ensures.err.0;
-      memory = c.in-Err-Refused.ensures.err.1;
+      why = subst (λ f. IsWhy f c.args.chunk c.args.spare c.in-Err-Refused.field-0) c.in-Some.ensures.file c.in-Err-Refused.ensures.err;
       status_is = sym (ap why_status c.in-Err-Refused.field-0-is);
       same = refl;
       need_is = sym (ap (λ f. need_words f c.args.need.now) c.in-Err-Refused.field-0-is);

@@ -1,0 +1,67 @@
+use Rattle.std.proofs.Common.{◌≡◌, ◌∙◌, ◌-◌, ℕ, List, ap, inl, inr, length, map, refl, subst, sym}
+use Rattle.mt_gran.specs.declared.fault.GranFault.TheVariants.{TooFew}
+use Rattle.mt_gran.specs.Grained.{IsGrained, IsWhy}
+use Rattle.mt_gran.proofs.GranuleSizes.{one_log}
+use Rattle.mt_plain.specs.declared.plain.PlainLoss.{PlainLoss}
+use Rattle.mt_plain.specs.declared.plain.PlainRegisters.{PlainRegisters}
+use Rattle.mt_plain.specs.declared.plain.PlainRun.{PlainRun}
+use Rattle.mt_plain.specs.Maps.{overwritten, plain_run}
+use Rattle.mt_plain.specs.Plain.{file_in}
+use Rattle.mt_plain.specs.Rounding.{as_tidy, places}
+use Rattle.mt_plain.specs.Tidying.{need_words, why_status}
+use Rattle.mt_regs.specs.RegisterFile.{pair_count}
+use Rattle.mt_plain.proofs.rounded.gran.Goals as goal
+
+same_need : (file : PlainRegisters) (loss : PlainLoss) (parts : List PlainRun) (a b needs has : ℕ) → a ≡ needs → b ≡ has
+    → places file (record { needs = a; has = b }) loss parts ≡ places file (record { needs = needs; has = has }) loss parts
+same_need file loss parts a b needs has first second =
+    ap (λ n. places file (record { needs = n; has = b }) loss parts) first ∙ ap (λ n. places file (record { needs = needs; has = n }) loss parts) second
+
+pub returns-in-Ok-clause-file : goal.returns-in-Ok-clause-file
+returns-in-Ok-clause-file c = λ is log has.
+    let found = c.in-Some-granule_log.log in
+    let grained = c.in-Ok.grained in
+    let at_file = subst (λ f. IsGrained f found c.args.chunk c.args.spare grained.tidied.file grained.tidied.used grained.lost grained.parts) c.in-Some.ensures.file c.in-Ok.ensures.ok in
+    let at_log = subst (λ g. IsGrained (file_in c.args.r.now) g c.args.chunk c.args.spare grained.tidied.file grained.tidied.used grained.lost grained.parts)
+    (one_log c.args.size found log c.in-Some-granule_log.ensures.some has) at_file in
+    inl
+    (record {
+      used = grained.tidied.used;
+      parts = grained.parts;
+      words = c.words_of.ensures.words;
+      grained = subst (λ h. IsGrained (file_in c.args.r.now) log c.args.chunk c.args.spare h grained.tidied.used grained.lost grained.parts) (sym c.words_of.ensures.file) at_log;
+      needs_is = refl;
+      has_is = c.usable_pairs.ensures ∙ ap (λ f. pair_count f - c.args.spare) c.in-Some.ensures.file;
+      count_is = ap length c.as_slice-lost.ensures.runs;
+      few = c.as_slice-lost.ensures.few;
+      array = c.put_runs.ensures ∙ ap (λ runs. overwritten (map plain_run runs) c.args.parts.now) c.as_slice-lost.ensures.runs;
+      status_is = c.room_status.ensures;
+    })
+
+pub returns-in-Err-Refused-clause-file : goal.returns-in-Err-Refused-clause-file
+returns-in-Err-Refused-clause-file c = λ is log has.
+    let found = c.in-Some-granule_log.log in
+    let fault = c.in-Err-Refused.field-0 in
+    let at_file = subst (λ f. IsWhy f found c.args.chunk c.args.spare fault) c.in-Some.ensures.file c.in-Err-Refused.ensures.err in
+    inr
+    (record {
+      fault = fault;
+      why = subst (λ g. IsWhy (file_in c.args.r.now) g c.args.chunk c.args.spare fault) (one_log c.args.size found log c.in-Some-granule_log.ensures.some has) at_file;
+      status_is = sym (ap (λ f. why_status (as_tidy f)) c.in-Err-Refused.field-0-is);
+      kept = sym (ap (λ f. places c.args.rounded.now (need_words (as_tidy f) c.args.need.now) c.args.loss.now c.args.parts.now) c.in-Err-Refused.field-0-is);
+    })
+
+pub returns-in-Err-TooFew-clause-file : goal.returns-in-Err-TooFew-clause-file
+returns-in-Err-TooFew-clause-file c = λ is log has.
+    let found = c.in-Some-granule_log.log in
+    let needs = c.in-Err-TooFew.needs in
+    let fault = TooFew needs c.in-Err-TooFew.has in
+    let why = subst (IsWhy c.in-Some.file found c.args.chunk c.args.spare) c.in-Err-TooFew.field-0-is c.in-Err-TooFew.ensures.err in
+    let at_file = subst (λ f. IsWhy f found c.args.chunk c.args.spare fault) c.in-Some.ensures.file why in
+    inr
+    (record {
+      fault = fault;
+      why = subst (λ g. IsWhy (file_in c.args.r.now) g c.args.chunk c.args.spare fault) (one_log c.args.size found log c.in-Some-granule_log.ensures.some has) at_file;
+      status_is = refl;
+      kept = same_need c.args.rounded.now c.args.loss.now c.args.parts.now _ _ needs c.in-Err-TooFew.has c.in-Err-TooFew.needs-is c.in-Err-TooFew.has-is;
+    })

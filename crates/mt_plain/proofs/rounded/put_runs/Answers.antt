@@ -1,0 +1,8 @@
+use Rattle.std.proofs.Common.{arith}
+use Rattle.mt_plain.proofs.Mapping.{written_more}
+use Rattle.mt_plain.proofs.rounded.put_runs.Goals as goal
+
+pub loop-i-preserved : goal.loop-i-preserved
+loop-i-preserved c =
+    written_more c.args.from.now c.loop-i.i _ c.args.to.now c.loop-i.to c.put_run.new.runs c.run_words.result (omega (arith, c.loop-i-test.true))
+    c.loop-i.invariant c.put_run.ensures c.run_words.ensures

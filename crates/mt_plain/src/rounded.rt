@@ -1,0 +1,80 @@
+ghost use Rattle.std.specs.Prelude.{◌≡◌, ◌≤◌, ◌+◌, ◌^◌, ℕ, length, map, false, true};
+ghost use Rattle.mt_gran.specs.Sizes.{IsGranuleSize};
+ghost use Rattle.mt_plain.specs.Maps.{overwritten, plain_run};
+ghost use Rattle.mt_plain.specs.Plain.{file_in, is_file};
+ghost use Rattle.mt_plain.specs.Rounding.{IsGranAnswer, places};
+
+use crate::answers::{DONE, FAULT, NO_FILE};
+use crate::maps::{put_run, room_status, run_words};
+use crate::tidied::{DISABLED, TOO_FEW, usable_pairs, words_of};
+use crate::{PlainLoss, PlainNeed, PlainRegisters, PlainRun, file_of};
+use mt_gran::{GranFault, granule_log};
+use mt_tidy::WorkArea;
+use mt_types::Run;
+
+const NO_GRANULE: u32 = 11;
+
+// Writes runs to an array, as far as it goes.
+fn put_runs(from: &[Run], to: &mut [PlainRun])
+    ensures { to.new ≡ overwritten (map plain_run from.now) to.old }
+{
+    for i in 0..from.len() {
+        put_run(to, i, run_words(from[i]));
+    }
+}
+
+/// The file with the types rounded to granules of `size` bytes and the fewest valid pairs, as `tidy` has it for the types
+/// as they are, and what is lost: how many pages had WB and have UC, and the parts, which are the longest runs of pages
+/// of one type other than UC that have UC. 0 where all was written, 6 where the array has room for the first of the parts
+/// alone; else 2 where the words are no register file's, 11 where the size isn't a power of two from 4 KB to 1 TB, 1, 9
+/// and 10 as of `tidy`. What isn't written is as before. The contents of `work` may be any, and any afterwards.
+pub fn gran(
+    r: &PlainRegisters,
+    size: u64,
+    spare: u8,
+    chunk: u64,
+    work: &mut WorkArea,
+    rounded: &mut PlainRegisters,
+    need: &mut PlainNeed,
+    loss: &mut PlainLoss,
+    parts: &mut [PlainRun],
+) -> u32
+    ensures no_file { is_file r.now ≡ false → (result ≡ 2) × (places rounded.new need.new loss.new parts.new ≡ places rounded.old need.old loss.old parts.old) }
+    ensures no_granule { is_file r.now ≡ true → ((log : ℕ) → ¬ IsGranuleSize size log)
+        → (result ≡ 11) × (places rounded.new need.new loss.new parts.new ≡ places rounded.old need.old loss.old parts.old) }
+    ensures file { is_file r.now ≡ true → (log : ℕ) → IsGranuleSize size log
+        → IsGranAnswer (file_in r.now) log chunk spare result (places rounded.old need.old loss.old parts.old) (places rounded.new need.new loss.new parts.new) }
+{
+    let Some(file) = file_of(r) else {
+        return NO_FILE;
+    };
+    let Some(log) = granule_log(size) else {
+        return NO_GRANULE;
+    };
+    match mt_gran::gran(&file, log, spare, chunk, work) {
+        Ok(grained) => {
+            let room = parts.len();
+            let lost = grained.parts.as_slice();
+            put_runs(lost, parts);
+            *rounded = words_of(&grained.tidied.file);
+            *need = PlainNeed {
+                needs: grained.tidied.used as u64,
+                has: usable_pairs(&file, spare),
+            };
+            *loss = PlainLoss {
+                pages: grained.lost,
+                parts: lost.len() as u64,
+            };
+            room_status(room, lost.len())
+        }
+        Err(GranFault::Refused(_)) => FAULT,
+        Err(GranFault::Disabled) => DISABLED,
+        Err(GranFault::TooFew { needs, has }) => {
+            *need = PlainNeed {
+                needs,
+                has: has as u64,
+            };
+            TOO_FEW
+        }
+    }
+}
