@@ -1,6 +1,9 @@
 -- A pass after a step: which resident its seat lodges then.
-use Rattle.std.proofs.Common.{◌≡◌, ◌∙◌, ap, sym, refl, subst, ℕ, ◌<◌, Bool, List, [], ◌∷◌, ◌++◌, length, Option, Some}
+use Rattle.std.proofs.Common.{◌≡◌, ◌⊎◌, ◌∙◌, ap, sym, refl, subst, arith, ℕ, zero, suc, ◌+◌, ◌-◌, ◌<◌, ◌≤◌, ◌==◌, Bool, true, false, List, [], ◌∷◌, ◌++◌, length, Option, Some, inl, inr, ⊎_elim}
+use Rattle.std.proofs.lemmas.Bool.{eqb-false, eqb-true}
+use mathlib.Core.Option.{none}
 use Rattle.atomic_table.specs.Seated.{TableId}
+use Rattle.atomic_table.specs.Table.{step as table_step}
 use Rattle.mt_machine.specs.declared.event.Event.{Event}
 use Rattle.mt_machine.specs.declared.event.Event.TheVariants.{Take}
 use Rattle.mt_machine.specs.declared.phase.Phase.TheVariants.{Running}
@@ -17,18 +20,18 @@ use Rattle.mt_rendezvous.specs.declared.view.Start.{Start}
 use Rattle.mt_rendezvous.specs.Station.{held, order_of}
 use Rattle.mt_private.specs.declared.view.Resident.{Resident}
 use Rattle.mt_private.specs.declared.view.YardView.{YardView}
-use Rattle.mt_private.specs.Residents.{Opens, accessed_by, in_system, own_of, stepped_by, with_first}
+use Rattle.mt_private.specs.Residents.{Opens, accessed_by, in_system, own_of, stepped_by, with_first, with_stored}
 use Rattle.mt_private.specs.YardRule.{with_one}
-use Rattle.mt_private.specs.YardPlays.{OfOne, Turns, YardSat}
-use Rattle.mt_private.specs.YardCalls.{Lodges, Visits, done_by, done_in}
+use Rattle.mt_private.specs.YardPlays.{ArrivesAgainYard, ArrivesYard, OfOne, PassesYard, ReleasesYard, TakesYard, Turns, YardSat}
+use Rattle.mt_private.specs.YardCalls.{Lodges, Visits, done_by, done_in, stored_by, stored_in}
 use Rattle.mt_private.proofs.Alone.{Onward, called_given, change_one, due_take, round_on}
 
 -- the resident that a seat lodges
-abbrev pub guest : ℕ → Processor → Bool → Bool → Memory → List Op → Resident
-guest number cpu added again ram done = record { held = held number cpu added again; ram = ram; done = done }
+abbrev pub guest : ℕ → Processor → Bool → Bool → Memory → List Op → ℕ → Resident
+guest number cpu added again ram done stored = record { held = held number cpu added again; ram = ram; done = done; stored = stored }
 
 -- with another system in its place
-pub in_its_system : (y : Resident) (o : System) (q : Processor) → o.processors ≡ q ∷ [] → in_system y o ≡ guest y.held.number q y.held.added y.held.again o.memory y.done
+pub in_its_system : (y : Resident) (o : System) (q : Processor) → o.processors ≡ q ∷ [] → in_system y o ≡ guest y.held.number q y.held.added y.held.again o.memory y.done y.stored
 in_its_system y o q alone = ap (λ (ps : List Processor). with_first y ps o.memory) alone
 
 -- a step of its system does none
@@ -36,9 +39,25 @@ in_done : (y : Resident) (ps : List Processor) (m : Memory) → (with_first y ps
 in_done y [] m = refl
 in_done y (p ∷ ps) m = refl
 
+-- and stores nothing
+in_stored : (y : Resident) (ps : List Processor) (m : Memory) → (with_first y ps m).stored ≡ y.stored
+in_stored y [] m = refl
+in_stored y (p ∷ ps) m = refl
+
+-- two that are the same are it with the same word too
+pub restored : (a b : Resident) (n : ℕ) → a ≡ b → with_stored a n ≡ with_stored b n
+restored a b n e = ap (λ (y : Resident). with_stored y n) e
+
+below : (n b : ℕ) → (n < b) ⊎ (b ≤ n)
+below n b = one ((n + 1) - b) refl
+  where
+    one : (d : ℕ) → (n + 1) - b ≡ d → (n < b) ⊎ (b ≤ n)
+    one zero e = inl (omega arith)
+    one (suc d) e = inr (omega arith)
+
 module _ {table : TableId} {t : Start} {its : TableId} {me : YardSat} {number : ℕ} {own : System} {added again : Bool} (r : Lodges table t its me number own added again) where
   abbrev pub its_guest : Resident
-  its_guest = guest number r.cpu added again own.memory (done_in me)
+  its_guest = guest number r.cpu added again own.memory (done_in me) (stored_in me)
 
   pub own_is : own_of its_guest ≡ own
   own_is = λ i. record { processors = sym r.alone i; memory = own.memory }
@@ -49,13 +68,13 @@ module _ {table : TableId} {t : Start} {its : TableId} {me : YardSat} {number : 
 
   -- after a step it is this one
   pub carried : (its' : TableId) (new : YardSat) (w : Resident) (shown : Option ℕ) (cancel : Bool) (own' : System) (q : Processor) (added' again' : Bool) → its' ≡ its → new.1 ≡ me.1
-      → new.0 ≡ with_one me.0 w shown cancel → own'.processors ≡ q ∷ [] → w ≡ guest number q added' again' own'.memory w.done → Lodges table t its' new number own' added' again'
+      → new.0 ≡ with_one me.0 w shown cancel → own'.processors ≡ q ∷ [] → w ≡ guest number q added' again' own'.memory w.done w.stored → Lodges table t its' new number own' added' again'
   carried its' new w shown cancel own' q added' again' same bare turns alone is = record {
     cpu = q;
     same = same ∙ r.same;
     alone = alone;
     holds = ap (λ (v : YardView). v.held) turns ∙ ap (λ (x : Resident). x ∷ []) is
-        ∙ ap (λ (xs : List Op). guest number q added' again' own'.memory xs ∷ []) (sym (ap (λ (v : YardView). done_by v.held) turns));
+        ∙ (λ i. guest number q added' again' own'.memory (sym (ap (λ (v : YardView). done_by v.held) turns) i) (sym (ap (λ (v : YardView). stored_by v.held) turns) i) ∷ []);
     told = ap (λ (v : YardView). v.start) turns ∙ r.told;
     below = r.below;
     bare = bare ∙ r.bare;
@@ -65,26 +84,69 @@ module _ {table : TableId} {t : Start} {its : TableId} {me : YardSat} {number : 
   pub has_done : (new : YardSat) (w : Resident) (shown : Option ℕ) (cancel : Bool) → new.0 ≡ with_one me.0 w shown cancel → done_in new ≡ w.done
   has_done new w shown cancel turns = ap (λ (v : YardView). done_by v.held) turns
 
+  -- and what it stored last
+  pub has_stored : (new : YardSat) (w : Resident) (shown : Option ℕ) (cancel : Bool) → new.0 ≡ with_one me.0 w shown cancel → stored_in new ≡ w.stored
+  has_stored new w shown cancel turns = ap (λ (v : YardView). stored_by v.held) turns
+
   pub stepped_done : (u : Start) (e : Event) → (stepped_by u e its_guest).done ≡ done_in me
   stepped_done u e = in_done its_guest _ _
 
+  pub stepped_stored : (u : Start) (e : Event) → (stepped_by u e its_guest).stored ≡ stored_in me
+  stepped_stored u e = in_stored its_guest _ _
+
+  -- no step on a count stores
+  pub takes_stored : (found : ℕ) (new : YardSat) → TakesYard (table_step 0 0 0 0 none) me found new → stored_in new ≡ stored_in me
+  takes_stored found new play =
+      ⊎_elim
+      (λ (low : found < 4294967296). has_stored new _ _ _ ((play.1 low).1 its_guest r.holds).0.0 ∙ stepped_stored me.0.start Take)
+      (λ (high : 4294967296 ≤ found). has_stored new _ _ _ (play.2 high its_guest r.holds).0)
+      (below found 4294967296)
+
+  pub arrives_stored : (found : ℕ) (new : YardSat) → ArrivesYard (table_step 0 0 1 0 none) me found new → stored_in new ≡ stored_in me
+  arrives_stored found new play =
+      ⊎_elim
+      (λ (low : found < 4294967296). has_stored new _ _ _ (play.1 low its_guest r.holds).0)
+      (λ (high : 4294967296 ≤ found). has_stored new _ _ _ (play.2 high its_guest r.holds).0)
+      (below found 4294967296)
+
+  pub passes_stored : (found : ℕ) (new : YardSat) → PassesYard (table_step 0 0 0 0 none) me found new → stored_in new ≡ stored_in me
+  passes_stored found new play =
+      ⊎_elim
+      (λ (low : found < 4294967296). one low (found == length me.0.start.cpus + 1) refl)
+      (λ (high : 4294967296 ≤ found). has_stored new _ _ _ (play.2 high its_guest r.holds).0)
+      (below found 4294967296)
+    where
+      one : found < 4294967296 → (b : Bool) → (found == length me.0.start.cpus + 1) ≡ b → stored_in new ≡ stored_in me
+      one low true e = has_stored new _ _ _ (play.1 (eqb-true found (length me.0.start.cpus + 1) e) its_guest r.holds).0.0
+      one low false e = has_stored new _ _ _ (play.3 low (eqb-false found (length me.0.start.cpus + 1) e) its_guest r.holds).0
+
+  pub arrives_again_stored : (new : YardSat) → ArrivesAgainYard (table_step 0 1 1 0 none) me 0 new → stored_in new ≡ stored_in me
+  arrives_again_stored new play = has_stored new _ _ _ (play.1 its_guest r.holds).0
+
+  pub releases_stored : (found : ℕ) (new : YardSat) → ReleasesYard (table_step 0 1 0 0 none) me found new → stored_in new ≡ stored_in me
+  releases_stored found new play = one (found == length me.0.start.cpus) refl
+    where
+      one : (b : Bool) → (found == length me.0.start.cpus) ≡ b → stored_in new ≡ stored_in me
+      one true e = has_stored new _ _ _ (play.1 (eqb-true found (length me.0.start.cpus) e) its_guest r.holds).0
+      one false e = has_stored new _ _ _ (play.2 (eqb-false found (length me.0.start.cpus) e) its_guest r.holds).0
+
   -- a step of the update on its own system
-  pub stepped_is : (e : Event) (q : Processor) → (step t.goal e 0 own).processors ≡ q ∷ [] → stepped_by t e its_guest ≡ guest number q added again (step t.goal e 0 own).memory (done_in me)
+  pub stepped_is : (e : Event) (q : Processor) → (step t.goal e 0 own).processors ≡ q ∷ [] → stepped_by t e its_guest ≡ guest number q added again (step t.goal e 0 own).memory (done_in me) (stored_in me)
   stepped_is e q alone = ap (λ (o : System). in_system its_guest (step t.goal e 0 o)) own_is ∙ in_its_system its_guest (step t.goal e 0 own) q alone
 
   -- and an access
-  pub accessed_is : (op : Op) (q : Processor) → (access own 0 op).after.processors ≡ q ∷ [] → accessed_by op its_guest ≡ guest number q added again (access own 0 op).after.memory (done_in me ++ op ∷ [])
+  pub accessed_is : (op : Op) (q : Processor) → (access own 0 op).after.processors ≡ q ∷ [] → accessed_by op its_guest ≡ guest number q added again (access own 0 op).after.memory (done_in me ++ op ∷ []) (stored_in me)
   accessed_is op q alone =
       ap (λ (o : System). record (in_system its_guest (access o 0 op).after) { done = done_in me ++ op ∷ [] }) own_is
       ∙ ap (λ (y : Resident). record y { done = done_in me ++ op ∷ [] }) (in_its_system its_guest (access own 0 op).after q alone)
 
   -- a step that moves nothing but the processor
   pub shifted_is : (e : Event) (added' again' : Bool) (q : Processor) → before_own e 0 own ≡ own → (step t.goal e 0 own).processors ≡ q ∷ []
-      → guest number (own_step t.goal e r.cpu) added' again' own.memory (done_in me) ≡ guest number q added' again' (step t.goal e 0 own).memory (done_in me)
+      → guest number (own_step t.goal e r.cpu) added' again' own.memory (done_in me) (stored_in me) ≡ guest number q added' again' (step t.goal e 0 own).memory (done_in me) (stored_in me)
   shifted_is e added' again' q quiet alone =
       let is : step t.goal e 0 own ≡ record { processors = own_step t.goal e r.cpu ∷ []; memory = own.memory } = ap (change (own_step t.goal e) 0) quiet ∙ change_one (own_step t.goal e) own r.cpu r.alone in
       let same : own_step t.goal e r.cpu ≡ q = first (own_step t.goal e r.cpu) q (sym (ap (λ (o : System). o.processors) is) ∙ alone) in
-      λ i. guest number (same i) added' again' ((sym is i).memory) (done_in me)
+      λ i. guest number (same i) added' again' ((sym is i).memory) (done_in me) (stored_in me)
     where
       first : (a b : Processor) → a ∷ [] ≡ b ∷ [] → a ≡ b
       first a b h = cc
@@ -108,7 +170,7 @@ module _ {table : TableId} {t : Start} {its : TableId} {me : YardSat} {number : 
       let is = stepped_is Take o.q.cpu o.q.alone in
       record {
         lodges = carried its' me' (stepped_by t Take its_guest) shown cancel new.system o.q.cpu added again same bare turns alone
-            (is ∙ ap (λ (m : Machine). guest number o.q.cpu added again m.system.memory (done_in me)) (sym o.is) ∙ ap (guest number o.q.cpu added again new.system.memory) (sym (ap (λ (y : Resident). y.done) is)));
+            (is ∙ ap (λ (m : Machine). guest number o.q.cpu added again m.system.memory (done_in me) (stored_in me)) (sym o.is) ∙ (λ i. guest number o.q.cpu added again new.system.memory ((sym is i).done) ((sym is i).stored)));
         order = ap (λ (m : Machine). m.order) o.is;
         era = ap common_era alone ∙ o.era;
         one = ap (λ (ps : List Processor). length ps) r.alone;
@@ -129,11 +191,11 @@ module _ {table : TableId} {t : Start} {its : TableId} {me : YardSat} {number : 
   -- after an event by which its update goes on
   pub visits_on : (go' : Go) (e : Event) (new : Machine) (its' : TableId) (me' : YardSat) (w : Resident) (shown : Option ℕ) (cancel : Bool) (added' again' : Bool) → (o : Onward t go' core.system v.lodges.cpu e new)
       → due (order_of t Given) (v.lodges.cpu ∷ []) v.lodges.cpu v.lodges.cpu.phase ≡ Some e → its' ≡ its → me'.1 ≡ me.1 → me'.0 ≡ with_one me.0 w shown cancel
-      → w ≡ guest number o.q.cpu added' again' (step t.goal e 0 core.system).memory w.done → Visits table t its' me' number new added' again' go' first
+      → w ≡ guest number o.q.cpu added' again' (step t.goal e 0 core.system).memory w.done w.stored → Visits table t its' me' number new added' again' go' first
   visits_on go' e new its' me' w shown cancel added' again' o due_given same bare turns is =
       let alone : new.system.processors ≡ o.q.cpu ∷ [] = ap (λ (m : Machine). m.system.processors) o.is ∙ o.q.alone in
       record {
-        lodges = carried v.lodges its' me' w shown cancel new.system o.q.cpu added' again' same bare turns alone (is ∙ ap (λ (m : Machine). guest number o.q.cpu added' again' m.system.memory w.done) (sym o.is));
+        lodges = carried v.lodges its' me' w shown cancel new.system o.q.cpu added' again' same bare turns alone (is ∙ ap (λ (m : Machine). guest number o.q.cpu added' again' m.system.memory w.done w.stored) (sym o.is));
         order = ap (λ (m : Machine). m.order) o.is;
         era = ap common_era alone ∙ o.era;
         one = v.one;

@@ -1,6 +1,6 @@
 -- A processor in its own system: its words, and what that system keeps.
-use Rattle.std.proofs.Common.{◌≡◌, ◌≢◌, ◌∙◌, ap, sym, refl, subst, arith, ℕ, zero, suc, ◌+◌, ◌/◌, ◌<◌, ◌≤◌, Bool, true, false, List, [], ◌∷◌, get_or, length, set, take, take_all, replicate, ◌++◌, None, Some, length-append}
-use mathlib.Core.Option.{some, some-injective, some-ne-none}
+use Rattle.std.proofs.Common.{◌≡◌, ◌≢◌, ◌∙◌, ap, sym, refl, subst, arith, ℕ, zero, suc, ◌+◌, ◌/◌, ◌<◌, Bool, true, false, List, [], ◌∷◌, get_or, length, replicate, ◌++◌, None, Some, length-append}
+use mathlib.Core.Option.{some}
 use lib.ListN.{get_elem?}
 use Rattle.std.specs.Prelude.{IsNone, IsSome, if◌then◌else◌, slice_get}
 use Rattle.std.specs.List.{All, list_all}
@@ -110,22 +110,6 @@ module _ (pages : ℕ → Bool) (m : Memory) (h : IsMemory m) (i : ℕ) (within 
 
   pub word_unnamed : pages (get_or (addresses m.windows) i 0 / 4096) ≡ false → get_elem? (own_memory pages m).words i ≡ some 0
   word_unnamed is = there ∙ ap some (words_none pages (addresses m.windows) m.words i is)
-
-consed : (x y : ℕ) (xs ys : List ℕ) → x ∷ xs ≡ y ∷ ys → (x ≡ y) × (xs ≡ ys)
-consed x y xs ys e = (cc, cc)
-
-taken_on : (l m : List ℕ) (i v : ℕ) → i < length l → take i l ≡ take i m → get_elem? m i ≡ some v → take (suc i) (set l i v) ≡ take (suc i) m
-taken_on [] m i v b e at = absurd (omega arith)
-taken_on (x ∷ xs) [] i v b e at = absurd (some-ne-none v (sym at))
-taken_on (x ∷ xs) (y ∷ ys) zero v b e at = let h : y ≡ v = some-injective y v at in λ k. sym h k ∷ []
-taken_on (x ∷ xs) (y ∷ ys) (suc i) v b e at = let r = consed x y (take i xs) (take i ys) e in let s = taken_on xs ys i v (omega arith) r.1 at in λ k. r.0 k ∷ s k
-
--- one word more is as the others
-pub taken_more : (l m : List ℕ) (i v : ℕ) → i < length l → take i l ≡ take i m → get_elem? m i ≡ some v → take (i + 1) (set l i v) ≡ take (i + 1) m
-taken_more l m i v b e at = let n : i + 1 ≡ suc i = omega arith in ap (λ (k : ℕ). take k (set l i v)) n ∙ taken_on l m i v b e at ∙ ap (λ (k : ℕ). take k m) (sym n)
-
-pub same_words : (l m : List ℕ) (n : ℕ) → length l ≤ n → length m ≤ n → take n l ≡ take n m → l ≡ m
-same_words l m n a b e = sym (take_all n l a) ∙ e ∙ take_all n m b
 
 -- ---- lists of which the last was taken
 

@@ -1,6 +1,6 @@
 -- What the threads of a yard leave.
-use Rattle.std.proofs.Common.{◌≡◌, ◌∙◌, ap, sym, refl, subst, arith, ℕ, zero, suc, ◌+◌, ◌-◌, ◌^◌, ◌<◌, ◌≤◌, Bool, true, false, not, ◌&&◌, ◌||◌, List, [], ◌∷◌, length, map, Option, None, Some, inl, inr, ⊎_elim}
-use Rattle.std.specs.Prelude.{◌⊎◌, if◌then◌else◌, slice_get, nat_lt}
+use Rattle.std.proofs.Common.{◌≡◌, ◌∙◌, ap, sym, refl, subst, arith, ℕ, suc, ◌+◌, ◌-◌, ◌^◌, ◌<◌, ◌≤◌, Bool, true, false, not, ◌&&◌, ◌||◌, List, [], ◌∷◌, length, map, Option, None, Some, inl, ⊎_elim}
+use Rattle.std.specs.Prelude.{if◌then◌else◌, slice_get}
 use Rattle.std.specs.List.{All, list_all, list_any}
 use Rattle.std.specs.Option.{option_map, option_map_or}
 use Rattle.std.proofs.lemmas.Bool.{lt-ltb}
@@ -18,7 +18,7 @@ use Rattle.mt_machine.specs.declared.phase.Phase.{Phase}
 use Rattle.mt_machine.specs.declared.phase.Phase.TheVariants.{Arrived, Arrived2, Running, Taken}
 use Rattle.mt_machine.specs.Memory.{IsMemory}
 use Rattle.mt_machine.specs.System.{Processor, System}
-use Rattle.mt_machine.specs.Machine.{Calls, FitsGoal, IsEnabled, Machine, Reached, Order, after, at_start, common_era, has_released, is_cancelled, is_over, is_waiting_to_pass, remaining_order}
+use Rattle.mt_machine.specs.Machine.{Calls, FitsGoal, IsEnabled, Machine, Reached, after, at_start, common_era, has_released, is_cancelled, is_over, is_waiting_to_pass}
 use Rattle.mt_machine.specs.Start.{HasEraRoom, IsQuiet}
 use Rattle.mt_machine.specs.Update.{settled_processor, updated}
 use Rattle.mt_core.specs.Rounds.{ascending}
@@ -26,7 +26,7 @@ use Rattle.mt_core.proofs.Reaching.{reached_on}
 use Rattle.mt_laws.proofs.Barrier.Claims.{all_get, all_of}
 use Rattle.mt_laws.proofs.Registers.Quiet.{AllOf, Shape, next_shapes, reached_is_quiet, shape}
 use Rattle.mt_rendezvous.specs.declared.view.Start.{Start}
-use Rattle.mt_rendezvous.specs.Station.{broadcast, cpu_of, order_of, rise}
+use Rattle.mt_rendezvous.specs.Station.{cpu_of, order_of, rise}
 use Rattle.mt_rendezvous.specs.Update.{decided}
 use Rattle.mt_private.specs.declared.job.Job.{Job}
 use Rattle.mt_private.specs.declared.job.Told.{Told}
@@ -35,12 +35,12 @@ use Rattle.mt_private.specs.declared.view.Resident.{Resident}
 use Rattle.mt_private.specs.declared.visiting.Visited.{Visited}
 use Rattle.mt_private.specs.declared.visiting.Visited.TheVariants.{Cancelled, Complete}
 use Rattle.mt_private.specs.Jobs.{AreOpen, IsOpen, answers_in, ops_in}
-use Rattle.mt_private.specs.Left.{AreBack, AreOwnsOf, Leaves}
+use Rattle.mt_private.specs.Left.{AreOwnsOf, Leaves}
 use Rattle.mt_private.specs.OneByOne.{OneByOne, at_rest, jobs_one_by_one, ran, ran_each}
 use Rattle.mt_private.specs.Own.{own_memory, own_system}
-use Rattle.mt_private.specs.Residents.{FitsResident, FitsYard, held_of, own_of, pages_at, pages_left, system_of, yard_machine}
+use Rattle.mt_private.specs.Residents.{FitsYard, held_of, pages_at, pages_left, system_of, yard_machine}
 use Rattle.mt_private.specs.Visitors.{CameBack, Returned, own_at}
-use Rattle.mt_private.specs.YardCalls.{AreIn, Lodges, VisitEnds, updated_own}
+use Rattle.mt_private.specs.YardCalls.{Lodges, VisitEnds, updated_own}
 use Rattle.mt_private.specs.YardPlays.{YardSat}
 use Rattle.mt_private.proofs.Carried.{its_guest}
 use Rattle.mt_private.proofs.Left.{one_by_own}
@@ -50,6 +50,7 @@ use Rattle.mt_private.proofs.Own.Turns.{AreOwners}
 use Rattle.mt_private.proofs.Own.Updated.{updated_alone, updated_left, updated_owners}
 use Rattle.mt_private.proofs.Again.{updated_left_own}
 use Rattle.mt_private.proofs.Residents.Moves.{left_apart, processor_at}
+use Rattle.mt_private.proofs.Residents.Paths.{uncalled_reached}
 
 -- ---- no event changes a width or capabilities
 
@@ -169,7 +170,7 @@ module _ (table : TableId) (t : Start) (jobs : List Job) (its : TableId) (me : Y
       let machine : yard_machine t me.0.go s ≡ at_rest s = ap (λ (b : Bool). record { system = s; order = if b then None else Some (order_of t me.0.go) }) over in
       let opens = leaves.yard.resides.opens in
       subst IsQuiet machine
-      (reached_is_quiet (at_rest (system_of t)) (yard_machine t me.0.go s) (inl opens.quiet) (reached_on (after (Calls t.goal) at_start opens.enabled) leaves.yard.resides.reached) (ap (λ (m : Machine). m.order) machine))
+      (reached_is_quiet (at_rest (system_of t)) (yard_machine t me.0.go s) (inl opens.quiet) (reached_on (after (Calls t.goal) at_start opens.enabled) (uncalled_reached leaves.yard.resides.reached)) (ap (λ (m : Machine). m.order) machine))
 
   -- ---- jobs one by one
 
@@ -290,7 +291,7 @@ module _ (table : TableId) (t : Start) (jobs : List Job) (its : TableId) (me : Y
     fits_stopped =
         all_of (FitsGoal t.goal) s.processors
         (λ k p at.
-        let same = reached_shapes (shape t.goal) leaves.yard.resides.reached (λ i q at_i. fits_shape t.goal q (all_get (FitsGoal t.goal) t.cpus leaves.yard.resides.opens.enabled.3 i q at_i)) k p at in
+        let same = reached_shapes (shape t.goal) (uncalled_reached leaves.yard.resides.reached) (λ i q at_i. fits_shape t.goal q (all_get (FitsGoal t.goal) t.cpus leaves.yard.resides.opens.enabled.3 i q at_i)) k p at in
         record { width = sym (ap (λ (x : Shape). x.0) same); capabilities = sym (ap (λ (x : Shape). x.1) same) })
 
     pub callable_stopped : IsEnabled (at_rest s) (Calls t.goal)

@@ -6,7 +6,6 @@ use Rattle.std.specs.List.{fold, list_any}
 use Rattle.std.specs.Option.{option_map_or}
 use Rattle.std.proofs.lemmas.Bool.{eqb-true}
 use Rattle.std.proofs.lemmas.List.{append-nil, length-map}
-use Rattle.std.proofs.lemmas.List.Folds.{list_any-append}
 use Rattle.std.proofs.lemmas.Option.{slice_get_within}
 use mathlib.Core.Option.{some, some-injective, some-ne-none}
 use lib.ListN.{get_elem?}
@@ -21,10 +20,8 @@ use Rattle.mt_machine.specs.Update.{addresses}
 use Rattle.mt_bus.specs.Tables.{AreTablesOf}
 use Rattle.mt_core.proofs.Reaching.{reached_on}
 use Rattle.mt_laws.proofs.Invariant.Standing.{stays_sound}
-use Rattle.mt_rendezvous.specs.declared.view.Held.{Held}
 use Rattle.mt_rendezvous.specs.declared.view.Key.{Key}
 use Rattle.mt_rendezvous.specs.declared.view.Start.{Start}
-use Rattle.mt_rendezvous.specs.declared.view.View.{View}
 use Rattle.mt_rendezvous.specs.Station.{cpu_of, start_of}
 use Rattle.mt_private.specs.declared.view.Resident.{Resident}
 use Rattle.mt_private.specs.declared.view.YardView.{YardView}
@@ -32,12 +29,13 @@ use Rattle.mt_private.specs.Alone.{named_by_none}
 use Rattle.mt_private.specs.OneByOne.{at_rest}
 use Rattle.mt_private.specs.Own.{own_memory, own_system, pages_of, words_on}
 use Rattle.mt_private.specs.Pages.{names}
-use Rattle.mt_private.specs.Residents.{Resides, StandsFor, Yard, held_of, own_of, pages_at, pages_left, system_of, yard_machine}
+use Rattle.mt_private.specs.Residents.{StandsFor, Yard, held_of, pages_at, pages_left, system_of, yard_machine}
 use Rattle.mt_private.specs.YardCalls.{Keeps}
 use Rattle.mt_private.specs.YardRule.{AreAt, MeetsYard, as_view}
 use Rattle.mt_private.specs.Left.{AreAsGathered, AreBack, AreOwnsOf, AreParts, IsPart, Leaves, less, over, processors_in, with_words_of, word_by_word}
 use Rattle.mt_private.proofs.Copies.{as_many, at_back, at_front, length_on}
 use Rattle.mt_private.proofs.Lists.{got}
+use Rattle.mt_private.proofs.Residents.Paths.{uncalled_reached}
 
 -- ---- word by word
 
@@ -383,4 +381,4 @@ module _ (key : Key) (s : State Op YardView) (m : MeetsYard key s) (id : ℕ) (v
   pub sound_there : IsSound m.system
   sound_there =
       stays_sound (at_rest (system_of (start_of key))) (yard_machine (start_of key) m.go m.system) (inl m.yard.resides.opens.quiet)
-      (reached_on (after (Calls key.goal.value) at_start m.yard.resides.opens.enabled) m.yard.resides.reached)
+      (reached_on (after (Calls key.goal.value) at_start m.yard.resides.opens.enabled) (uncalled_reached m.yard.resides.reached))

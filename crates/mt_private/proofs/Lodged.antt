@@ -1,6 +1,6 @@
 -- A yard can be gathered from the worked start, and what its residents do there.
 use Rattle.std.proofs.Common.{◌≡◌, ◌∙◌, ap, sym, refl, subst, rules, arith, ℕ, zero, suc, ◌+◌, ◌<◌, ◌≤◌, ◌==◌, Bool, true, false, ◌||◌, List, [], ◌∷◌, length, map, cond, Some, None, Option}
-use Rattle.std.specs.Prelude.{if◌then◌else◌, is_some, slice_get}
+use Rattle.std.specs.Prelude.{if◌then◌else◌, is_some, slice_get, slice_index}
 use Rattle.std.specs.Option.{option_map, option_map_or}
 use Rattle.std.proofs.lemmas.Bool.{eqb-true}
 use mathlib.Core.Option.{some, some-injective, some-ne-none}
@@ -108,7 +108,7 @@ is_pending Pending = true
 is_pending other = false
 
 abbrev pub second_lodged : Resident
-second_lodged = record { held = held 1 (lodger 0x200) false false; ram = own_memory (pages_at lodging 1) lodging.ram; done = [] }
+second_lodged = record { held = held 1 (lodger 0x200) false false; ram = own_memory (pages_at lodging 1) lodging.ram; done = []; stored = 0 }
 
 -- ---- no event
 
@@ -141,7 +141,14 @@ none_there (a ∷ b ∷ c ∷ all) n = absurd (omega arith)
 
 module _ (key : Key) (is : start_of key ≡ lodging) where
   pub opened_lodging : MeetsYard key (at_start key (0 ∷ 0 ∷ 0 ∷ 0 ∷ []))
-  opened_lodging = opened key (0 ∷ 0 ∷ 0 ∷ 0 ∷ []) (subst Opens (sym is) opens_lodging) (let e : length key.cpus.value.items ≡ 2 = ap (λ (t : Start). length t.cpus) is in omega arith) refl refl
+  opened_lodging = opened key (0 ∷ 0 ∷ 0 ∷ 0 ∷ []) (subst Opens (sym is) opens_lodging) (let e : length key.cpus.value.items ≡ 2 = ap (λ (t : Start). length t.cpus) is in omega arith) zeros
+    where
+      zeros : (i : ℕ) → slice_index (0 ∷ 0 ∷ 0 ∷ 0 ∷ []) i ≡ 0
+      zeros zero = refl
+      zeros (suc zero) = refl
+      zeros (suc (suc zero)) = refl
+      zeros (suc (suc (suc zero))) = refl
+      zeros (suc (suc (suc (suc i)))) = refl
 
   pub two_residents : (s : YardState) (m : MeetsYard key s) → length m.all ≡ 2
   two_residents s m = m.yard.resides.size ∙ ap (λ (t : Start). length t.cpus) is
@@ -165,6 +172,11 @@ module _ (key : Key) (is : start_of key ≡ lodging) where
       let go : go_weight m.go ≡ 0 = ap go_weight (sym ((m.sits 0 (as_view (first_yard_view key)) refl).root refl).1) in
       let e : 1 ≡ total added_of (map held_of m.all) + go_weight m.go = m.yard.first_count in
       omega arith
+
+  pub not_stored : MeetsYard key (at_start key (0 ∷ 0 ∷ 7 ∷ 0 ∷ [])) → ⊥
+  not_stored m =
+      let at : AreAt m.all both_lodged = subst (λ (t : Start). AreAt m.all (residents t 0 t.cpus)) is (m.same 0 (first_yard_view key) refl) in
+      not_same 0 7 (omega arith) (sym (m.stored 0 first_lodged (at 0 first_lodged refl)))
 
   pub not_missing : MeetsYard key (opening (0 ∷ 0 ∷ 0 ∷ 0 ∷ []) [] (yard_left (first_yard_view key))) → ⊥
   not_missing m = nowhere (m.present 0 (let two = two_residents (opening (0 ∷ 0 ∷ 0 ∷ 0 ∷ []) [] (yard_left (first_yard_view key))) m in omega arith))

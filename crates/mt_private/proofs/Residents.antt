@@ -9,3 +9,5 @@ pub mod Opened
 pub mod Roots
 pub mod Unique
 pub mod Plays
+pub mod Paths
+pub mod Settles

@@ -13,8 +13,9 @@ use Rattle.mt_machine.specs.declared.op.Op.{Op}
 use Rattle.mt_machine.specs.Memory.{IsMemory, Memory}
 use Rattle.mt_machine.specs.System.{Processor, System}
 use Rattle.mt_machine.specs.Access.{access}
-use Rattle.mt_machine.specs.Machine.{Calls, IsEnabled, Machine, MachineEvent, Reached, common_era, next, step, stepped}
+use Rattle.mt_machine.specs.Machine.{Calls, IsEnabled, Machine, MachineEvent, common_era, next, step, stepped}
 use Rattle.mt_machine.specs.Start.{IsQuiet}
+use Rattle.mt_machine.specs.Update.{is_call}
 use Rattle.mt_rendezvous.specs.declared.view.Held.{Held}
 use Rattle.mt_rendezvous.specs.declared.view.Start.{Start}
 use Rattle.mt_rendezvous.specs.Station.{Fits, added_of, again_of, broadcast, cpu_of, go_weight, held, order_of, rise, total}
@@ -76,10 +77,15 @@ pub record FitsResident (t : Start) (go : Go) (h : Held) : Type 0 where
 abbrev pub yard_machine : Start → Go → System → Machine
 yard_machine t go s = stepped (order_of t go) s
 
--- residents and what the coordinator said stand for a machine that the state after the call reaches
+-- reached by events of which none is a call
+pub data Uncalled : Machine → Machine → Type 0 where
+  uncalled_start : {s : Machine} → Uncalled s s
+  uncalled_on : {s t : Machine} → (e : MachineEvent) → Uncalled s t → IsEnabled t e → is_call e ≡ false → Uncalled s (next t e)
+
+-- residents and what the coordinator said stand for a machine that the state after the call reaches without another call
 pub record Resides (t : Start) (all : List Resident) (go : Go) (s : System) : Type 0 where
   pub opens : Opens t
-  pub reached : Reached (broadcast t) (yard_machine t go s)
+  pub reached : Uncalled (broadcast t) (yard_machine t go s)
   pub stands : StandsFor t all s
   pub size : length all ≡ length t.cpus
   pub fits : (k : ℕ) (y : Resident) → get_elem? all k ≡ some y → FitsResident t go y.held × (y.held.number ≡ k)
@@ -103,6 +109,10 @@ with_first y (p ∷ ps) m = record y { held = held y.held.number p y.held.added 
 
 abbrev pub in_system : Resident → System → Resident
 in_system y o = with_first y o.processors o.memory
+
+-- its pass has stored this in its event word
+abbrev pub with_stored : Resident → ℕ → Resident
+with_stored y n = record y { stored = n }
 
 -- a step of the update on its own system
 abbrev pub stepped_by : Start → Event → Resident → Resident

@@ -28,7 +28,7 @@ abbrev pub view_of : Resident → YardView
 view_of y = record { root = false; held = y ∷ []; go = Pending; shown = None; cancel = false; start = lodging }
 
 abbrev pub second_lodged : Resident
-second_lodged = record { held = held 1 (lodger 0x200) false false; ram = own_memory (pages_at lodging 1) lodging.ram; done = [] }
+second_lodged = record { held = held 1 (lodger 0x200) false false; ram = own_memory (pages_at lodging 1) lodging.ram; done = []; stored = 0 }
 
 -- the first processor with the second's words
 abbrev pub with_other_words : Resident
@@ -76,7 +76,7 @@ finished_without = record { processors = loader ∷ []; memory = first_words }
 
 -- the resident with this processor and these words, and what its pass has added and it has done
 abbrev pub come : Processor → Memory → Bool → Bool → List Op → Resident
-come p m added again done = record { held = held 0 p added again; ram = m; done = done }
+come p m added again done = record { held = held 0 p added again; ram = m; done = done; stored = 0 }
 
 abbrev pub IsJob : Job → Type 0
 IsJob job = (job.before.items ≡ store_ops) × (job.after.items ≡ load_ops)

@@ -37,7 +37,7 @@ abbrev pub lodged : System
 lodged = system_of lodging
 
 abbrev pub first_lodged : Resident
-first_lodged = record { held = held 0 (lodger 0x100) false false; ram = own_memory (pages_at lodging 0) lodging.ram; done = [] }
+first_lodged = record { held = held 0 (lodger 0x100) false false; ram = own_memory (pages_at lodging 0) lodging.ram; done = []; stored = 0 }
 
 -- both, but the first with this processor and what its pass has added
 abbrev pub both_with : Held → List Resident

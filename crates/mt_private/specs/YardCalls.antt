@@ -35,12 +35,20 @@ done_by (y ∷ ys) = y.done
 abbrev pub done_in : YardSat → List Op
 done_in me = done_by me.0.held
 
+-- its event word as the pass last stored it
+abbrev pub stored_by : List Resident → ℕ
+stored_by [] = 0
+stored_by (y ∷ ys) = y.stored
+
+abbrev pub stored_in : YardSat → ℕ
+stored_in me = stored_by me.0.held
+
 -- a seat of the table lodges one resident: it has this number, and the processor and the words of this system, which has no other
 pub record Lodges (table : TableId) (t : Start) (its : TableId) (me : YardSat) (number : ℕ) (own : System) (added again : Bool) : Type 0 where
   pub cpu : Processor
   pub same : its ≡ table
   pub alone : own.processors ≡ cpu ∷ []
-  pub holds : me.0.held ≡ record { held = held number cpu added again; ram = own.memory; done = done_in me } ∷ []
+  pub holds : me.0.held ≡ record { held = held number cpu added again; ram = own.memory; done = done_in me; stored = stored_in me } ∷ []
   pub told : me.0.start ≡ t
   pub below : number < length t.cpus
   pub bare : me.1 ≡ []

@@ -11,15 +11,18 @@ use Rattle.mt_machine.specs.declared.go.Go.TheVariants.{Pending, Given, Cancelle
 use Rattle.mt_machine.specs.declared.op.Op.{Op}
 use Rattle.mt_machine.specs.System.{Processor, System}
 use Rattle.mt_machine.specs.Access.{access}
-use Rattle.mt_machine.specs.Machine.{Accesses, Cancels, FitsOp, Goes, MachineEvent, Order, Reached, Steps, due}
+use Rattle.mt_machine.specs.Machine.{Accesses, AreEnabled, Cancels, FitsOp, Goes, Machine, MachineEvent, Order, Reached, Steps, common_era, due, run}
+use Rattle.mt_machine.specs.Update.{IsHeld, IsSettled}
 use Rattle.mt_cpu.specs.Steps.{is_local}
+use Rattle.mt_laws.specs.Settled.{IsFirstRelease}
 use Rattle.mt_rendezvous.specs.declared.view.Key.{Key}
 use Rattle.mt_rendezvous.specs.declared.view.Start.{Start}
-use Rattle.mt_rendezvous.specs.Station.{broadcast, start_of}
+use Rattle.mt_rendezvous.specs.Station.{broadcast, order_of, start_of}
 use Rattle.mt_rendezvous.specs.Plays.{CanFollow, after_event, arrive, arrive_again, does, late}
 use Rattle.mt_private.specs.declared.view.Resident.{Resident}
 use Rattle.mt_private.specs.declared.view.YardView.{YardView}
-use Rattle.mt_private.specs.Residents.{Decides, Follows, Opens, Yard, accessed_by, own_of, stepped_by, with_held}
+use Rattle.mt_private.specs.OneByOne.{at_rest}
+use Rattle.mt_private.specs.Residents.{Decides, Follows, Opens, Yard, accessed_by, own_of, stepped_by, system_of, with_held, with_stored}
 use Rattle.mt_private.specs.YardRule.{MeetsYard, first_yard_view, its_machine, with_one, with_said, yard_both, yard_left, yard_right, yard_spent}
 
 -- a yard, and its resident k, whose pass has added so
@@ -84,14 +87,14 @@ LoadReleases =
 -- an access, before the processor takes or after it is released or has left; the answer is that of its own system
 abbrev pub StoreAccesses : Type 0
 StoreAccesses =
-    (t : Start) (all : List Resident) (go : Go) (first second : ℕ) (s : System) (k : ℕ) (y : Resident) (op : Op) → Yard t all go first second s → get_elem? all k ≡ some y → y.held.cpu.phase ≡ Running → FitsOp op
-    → Follows t all go s k (accessed_by op y) (Some (Accesses k op)) first second × ((access s k op).answer ≡ (access (own_of y) 0 op).answer)
+    (t : Start) (all : List Resident) (go : Go) (first second : ℕ) (s : System) (k : ℕ) (y : Resident) (op : Op) (n : ℕ) → Yard t all go first second s → get_elem? all k ≡ some y → y.held.cpu.phase ≡ Running → FitsOp op
+    → Follows t all go s k (with_stored (accessed_by op y) n) (Some (Accesses k op)) first second × ((access s k op).answer ≡ (access (own_of y) 0 op).answer)
 
 -- the event that is due between the barriers
 abbrev pub StoreWorks : Type 0
 StoreWorks =
-    (t : Start) (all : List Resident) (go : Go) (first second : ℕ) (s : System) (k : ℕ) (y : Resident) (e : Event) → Has t all go first second s k y true false → is_local y.held.cpu.phase ≡ true
-    → ((o : Order) (ps : List Processor) → due o ps y.held.cpu y.held.cpu.phase ≡ Some e) → Follows t all go s k (stepped_by t e y) (Some (Steps k e)) first second
+    (t : Start) (all : List Resident) (go : Go) (first second : ℕ) (s : System) (k : ℕ) (y : Resident) (e : Event) (n : ℕ) → Has t all go first second s k y true false → is_local y.held.cpu.phase ≡ true
+    → ((o : Order) (ps : List Processor) → due o ps y.held.cpu y.held.cpu.phase ≡ Some e) → Follows t all go s k (with_stored (stepped_by t e y) n) (Some (Steps k e)) first second
 
 -- ---- the table
 
@@ -112,17 +115,40 @@ IsReached = (key : Key) (s : YardState) (m : MeetsYard key s) → Reached (broad
 abbrev pub IsOneMachine : Type 0
 IsOneMachine = (key : Key) (s : YardState) (a b : MeetsYard key s) → its_machine key s a ≡ its_machine key s b
 
--- at the start, with two counts of 0
+-- each processor has the goal's registers and holds nothing of another era, and each word that no access stored since the first release is in memory as it was before the first pass
+pub record Settles (t : Start) (m : Machine) : Type 0 where
+  pub settled : IsSettled m.system (common_era t.cpus + 1) t.goal
+  pub before : Machine
+  pub released : Machine
+  pub go : Go
+  pub since : List MachineEvent
+  pub reached : Reached (at_rest (system_of t)) before
+  pub first : IsFirstRelease before released (order_of t go)
+  pub enabled : AreEnabled released since
+  pub leads : run released since ≡ m
+  pub held : IsHeld before.system released since
+
+-- so where a resident's era has risen
+abbrev pub YardsSettle : Type 0
+YardsSettle =
+    (key : Key) (s : YardState) (m : MeetsYard key s) (k : ℕ) (y : Resident) → get_elem? m.all k ≡ some y → y.held.cpu.era ≡ common_era (start_of key).cpus + 1
+    → Settles (start_of key) (its_machine key s m)
+
+-- at the start, with words of 0
 abbrev pub StartMeetsRule : Type 0
 StartMeetsRule =
-    (key : Key) (words : List ℕ) → Opens (start_of key) → length words ≡ length key.cpus.value.items + 2 → slice_index words 0 ≡ 0 → slice_index words 1 ≡ 0
+    (key : Key) (words : List ℕ) → Opens (start_of key) → length words ≡ length key.cpus.value.items + 2 → ((i : ℕ) → slice_index words i ≡ 0)
     → MeetsYard key (opening words [] (first_yard_view key))
+
+-- a step on word i, which becomes n, stores so: a count, or the own event word, which holds n then
+abbrev pub Stores : Resident → ℕ → ℕ → Resident → Type 0
+Stores y i n w = ((i < 2) × (w.stored ≡ y.stored)) ⊎ ((i ≡ y.held.number + 2) × (n ≡ w.stored))
 
 -- a step of a pass by which its resident moves so
 abbrev pub MoveIsOneEvent : Type 0
 MoveIsOneEvent =
     (key : Key) (s : YardState) (m : MeetsYard key s) (id : ℕ) (v : YardView) (y : Resident) → get_elem? s.views id ≡ some v → v.held ≡ y ∷ []
-    → (i n : ℕ) (w : Resident) (shown : Option ℕ) (cancel : Bool) (e : Option MachineEvent) → w.held.number ≡ y.held.number → (cancel ≡ true → m.go ≡ Cancelled)
+    → (i n : ℕ) (w : Resident) (shown : Option ℕ) (cancel : Bool) (e : Option MachineEvent) → w.held.number ≡ y.held.number → Stores y i n w → (cancel ≡ true → m.go ≡ Cancelled)
     → Follows (start_of key) m.all m.go m.system y.held.number w e (slice_index (slice_set s.words i n) 0) (slice_index (slice_set s.words i n) 1)
     → IsOneEvent key s (record { words = slice_set s.words i n; homes = s.homes; views = slice_set s.views id (with_one v w shown cancel) }) m e
 

@@ -14,7 +14,7 @@ use Rattle.mt_rendezvous.specs.declared.view.Start.{Start}
 use Rattle.mt_rendezvous.specs.Plays.{Sat, arrive, arrive_again, does, late, own_event}
 use Rattle.mt_private.specs.declared.view.Resident.{Resident}
 use Rattle.mt_private.specs.declared.view.YardView.{YardView}
-use Rattle.mt_private.specs.Residents.{Decides, Follows, Opens, Yard, accessed_by, stepped_by, with_held}
+use Rattle.mt_private.specs.Residents.{Decides, Follows, Opens, Yard, accessed_by, stepped_by, with_held, with_stored}
 use Rattle.mt_private.specs.YardRule.{as_view, with_one, with_said}
 
 abbrev pub YardSat : Type 0
@@ -86,17 +86,25 @@ PassesYard st me found new =
     × (4294967296 ≤ found → OfOne me.0 (λ y. Turns me.0 new.0 y (with_held y (does me.0.start Leave y.held)) me.0.shown true (Some (Steps y.held.number Leave))))
     × (found < 4294967296 → found ≢ length me.0.start.cpus + 1 → OfOne me.0 (λ y. Turns me.0 new.0 y y me.0.shown me.0.cancel None))
 
+-- the word of the pass's own events
+abbrev pub IsOwnWord : ℕ → YardSat → Type 0
+IsOwnWord i me = OfOne me.0 (λ y. i ≡ y.held.number + 2)
+
 -- a store of the own event word: the event that is due between the barriers
 abbrev pub WorksYard : Step Op → YardSat → ℕ → YardSat → Type 0
 WorksYard st me found new =
     (new.1 ≡ me.1)
-    × OfOne me.0 (λ y. Turns me.0 new.0 y (stepped_by me.0.start (own_event me.0.start y.held.cpu) y) me.0.shown me.0.cancel (Some (Steps y.held.number (own_event me.0.start y.held.cpu))))
+    × OfOne me.0 (λ y. Turns me.0 new.0 y (with_stored (stepped_by me.0.start (own_event me.0.start y.held.cpu) y) st.first) me.0.shown me.0.cancel (Some (Steps y.held.number (own_event me.0.start y.held.cpu))))
+    × IsOwnWord st.word me
 
--- a store of the own event word that announces an access, which it is
+-- an exchange of the own event word that announces an access, which it is where it finds what it compares with; else it is none. What it finds is what the pass stored last
 abbrev pub AccessesYard : Step Op → YardSat → ℕ → YardSat → Type 0
 AccessesYard st me found new =
     (new.1 ≡ me.1)
-    × ((op : Op) → st.said ≡ some op → OfOne me.0 (λ y. Turns me.0 new.0 y (accessed_by op y) me.0.shown me.0.cancel (Some (Accesses y.held.number op))))
+    × (found ≡ st.first → (op : Op) → st.said ≡ some op → OfOne me.0 (λ y. Turns me.0 new.0 y (with_stored (accessed_by op y) st.second) me.0.shown me.0.cancel (Some (Accesses y.held.number op))))
+    × (found ≢ st.first → OfOne me.0 (λ y. Turns me.0 new.0 y y me.0.shown me.0.cancel None))
+    × OfOne me.0 (λ y. found ≡ y.stored)
+    × IsOwnWord st.word me
 
 -- an addition to the second count: ArriveAgain
 abbrev pub ArrivesAgainYard : Step Op → YardSat → ℕ → YardSat → Type 0

@@ -34,7 +34,7 @@ with_said v go = record v { go = go }
 -- processors from number k on, each with its own words, as they are gathered
 abbrev pub residents : Start → ℕ → List Processor → List Resident
 residents t k [] = []
-residents t k (c ∷ cs) = record { held = held k c false false; ram = own_memory (pages_at t k) t.ram; done = [] } ∷ residents t (k + 1) cs
+residents t k (c ∷ cs) = record { held = held k c false false; ram = own_memory (pages_at t k) t.ram; done = []; stored = 0 } ∷ residents t (k + 1) cs
 
 abbrev pub first_yard_view : Key → YardView
 first_yard_view key = record { root = true; held = residents (start_of key) 0 key.cpus.value.items; go = Pending; shown = None; cancel = false; start = start_of key }
@@ -67,6 +67,10 @@ yard_spent = record { root = false; held = []; go = Pending; shown = None; cance
 abbrev pub AreAt : List Resident → List Resident → Type 0
 AreAt all ys = (i : ℕ) (y : Resident) → get_elem? ys i ≡ some y → get_elem? all y.held.number ≡ some y
 
+-- each event word is as the resident's pass last stored it
+abbrev pub HoldsStored : List ℕ → List Resident → Type 0
+HoldsStored words all = (k : ℕ) (y : Resident) → get_elem? all k ≡ some y → slice_index words (k + 2) ≡ y.stored
+
 -- the words and the views stand for one machine, which the state after the call reaches; seats are as at a rendezvous
 pub record MeetsYard (key : Key) (s : State Op YardView) : Type 0 where
   pub all : List Resident
@@ -75,6 +79,7 @@ pub record MeetsYard (key : Key) (s : State Op YardView) : Type 0 where
   pub system : System
   pub yard : Yard (start_of key) all go (slice_index s.words 0) (slice_index s.words 1) system
   pub wide : length s.words ≡ length all + 2
+  pub stored : HoldsStored s.words all
   pub present : (k : ℕ) → k < length all → IsHeld (map as_view s.views) k
   pub sits : (j : ℕ) (v : View) → get_elem? (map as_view s.views) j ≡ some v → Sits (start_of key) (map held_of all) go owner j v
   pub same : (j : ℕ) (v : YardView) → get_elem? s.views j ≡ some v → AreAt all v.held

@@ -16,6 +16,8 @@ mod view;
 mod visiting;
 mod visitor;
 mod worked;
+mod worked_event_steps;
+mod worked_fitting;
 mod worked_gathered;
 mod worked_guests;
 mod worked_left;
@@ -40,6 +42,8 @@ pub use runs::run_private;
 pub use view::{Resident, YardView};
 pub use visiting::{Guest, Visited, YardPass, visit};
 pub use worked::{worked_jobs, worked_names, worked_shared};
+pub use worked_event_steps::{worked_event_words, worked_exchanges, worked_releases};
+pub use worked_fitting::{worked_fitting_jobs, worked_jobs_of_two, worked_open_answers};
 pub use worked_gathered::{
     worked_gathered_guests, worked_keeps, worked_offers, worked_rooms, worked_taking_part,
 };
@@ -58,5 +62,5 @@ pub use worked_yard::{
 };
 pub use yard_laws::{
     accesses_go_on, counts_tell_of_the_machine, each_yard_step_is_one_event,
-    words_are_written_alone, yard_is_reached, yards_end_one_by_one,
+    words_are_written_alone, yard_is_reached, yards_end_one_by_one, yards_settle,
 };

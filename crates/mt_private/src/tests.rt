@@ -9,12 +9,14 @@ use crate::fault::PrivateFault;
 use crate::job::{Job, Told};
 use crate::pages::shared_page;
 use crate::runs::run_private;
+use mt_cache::Cache;
 use mt_core::Core;
 use mt_cpu::Cpu;
+use mt_gates::{AllBut, Meets, ones};
 use mt_kinds::MemType;
 use mt_machine::{Control, Done, Op, Ruled};
 use mt_ports::{Gate, OpenGate};
-use mt_regs::RegFile;
+use mt_regs::{Fault, Reason, RegFile};
 use mt_tlb::Mapping;
 use std::alloc::Global;
 use std::sync::Wait;
@@ -34,9 +36,9 @@ pub(crate) fn file(kind: u64) -> Option<RegFile> {
     Some(file)
 }
 
-/// So many processors whose memory is of type WB, without windows.
-fn bare_core(alloc: Global, count: u32) -> Option<Core> {
-    let file = file(6)?;
+/// So many processors whose memory is of this type, without windows.
+fn bare_core(alloc: Global, count: u32, kind: u64) -> Option<Core> {
+    let file = file(kind)?;
     if count < 1 || count > 16 || file.first_fault().is_some() {
         return None;
     }
@@ -59,9 +61,10 @@ fn map(core: &mut Core, k: u32, ppage: u64) -> Option<()> {
     Some(())
 }
 
-/// So many processors, each with a window of 64 lines of its own to which its page 1 is mapped.
-pub(crate) fn core_of(alloc: Global, count: u32) -> Option<Core> {
-    let mut core = bare_core(alloc, count)?;
+/// So many processors whose memory is of this type, each with a window of 64 lines of its own to which its page 1 is
+/// mapped.
+fn core_with(alloc: Global, count: u32, kind: u64) -> Option<Core> {
+    let mut core = bare_core(alloc, count, kind)?;
     for k in 0..count {
         if k < 16 {
             if core.add_ram((k as u64 + 1) * 0x10_0000, 64).is_err() {
@@ -73,9 +76,14 @@ pub(crate) fn core_of(alloc: Global, count: u32) -> Option<Core> {
     Some(core)
 }
 
+/// The same, of type WB.
+pub(crate) fn core_of(alloc: Global, count: u32) -> Option<Core> {
+    core_with(alloc, count, 6)
+}
+
 /// Two processors that have a page in common.
 fn common_core(alloc: Global) -> Option<Core> {
-    let mut core = bare_core(alloc, 2)?;
+    let mut core = bare_core(alloc, 2, 6)?;
     if core.add_ram(0x10_0000, 64).is_err() {
         return None;
     }
@@ -238,25 +246,11 @@ fn each_loads_what_it_stored(rt: HostRuntime) {
     }
 }
 
-/// Lets all start but one.
-#[derive(Drop)]
-struct AllBut {
-    k: u32,
-}
-
-impl Gate for AllBut {
-    fn may_start(&self, k: u32) -> bool {
-        k != self.k
-    }
-
-    fn arrived(&self, _k: u32) {}
-}
-
 #[test]
 fn each_refused_start_ends_so_too(rt: HostRuntime) {
     for count in [1, 2, 3] {
         for k in 0..count {
-            let done = store_and_load(&rt, rt.alloc(), count, &AllBut { k });
+            let done = store_and_load(&rt, rt.alloc(), count, &AllBut::new(k));
             assert!(rt; done == Some(true), "{k} of {count}");
         }
     }
@@ -285,39 +279,12 @@ fn own_pages_are_private(rt: HostRuntime) {
     assert!(rt; shared_page(&core).is_none());
 }
 
-/// Each of two says that it has arrived, and looks for the other.
-#[derive(Drop)]
-struct Meets {
-    arrived: [AtomicU64; 2],
-    seen: AtomicU64,
-}
-
-impl Gate for Meets {
-    fn may_start(&self, _k: u32) -> bool {
-        true
-    }
-
-    fn arrived(&self, k: u32) {
-        let (own, other) = if k == 0 { (0, 1) } else { (1, 0) };
-        self.arrived[own].store(1, Ordering::SeqCst);
-        for _ in 0..200_000_000u64 {
-            if self.arrived[other].load(Ordering::SeqCst) == 1 {
-                self.seen.fetch_add(1, Ordering::SeqCst);
-                return;
-            }
-        }
-    }
-}
-
 /// Both calls of the gate see the other's flag, so two threads run at once.
 #[test]
 fn two_processors_meet(rt: HostRuntime) {
-    let gate = Meets {
-        arrived: [AtomicU64::new(0), AtomicU64::new(0)],
-        seen: AtomicU64::new(0),
-    };
+    let gate = Meets::new();
     assert!(rt; store_and_load(&rt, rt.alloc(), 2, &gate) == Some(true));
-    assert!(rt; gate.seen.load(Ordering::SeqCst) == 2);
+    assert!(rt; gate.seen() == 2);
 }
 
 /// So many loads and stores of words of the own page, by draws.
@@ -403,7 +370,57 @@ fn part_by_calls(
     Some(all)
 }
 
-/// Whether both have the same words, eras and numbers of lines.
+/// Whether both have the same width and the same values.
+fn same_registers(a: &RegFile, b: &RegFile) -> bool {
+    if a.maxphy != b.maxphy || a.cap != b.cap || a.count() != b.count() {
+        return false;
+    }
+    for i in 0..a.count() {
+        let (Some(x), Some(y)) = (a.register(i), b.register(i)) else {
+            return false;
+        };
+        if x != y || a.get(x) != b.get(y) {
+            return false;
+        }
+    }
+    true
+}
+
+fn same_lines(a: &Cache, b: &Cache) -> bool {
+    if a.len() != b.len() {
+        return false;
+    }
+    for i in 0..a.len() {
+        if *a.nth(i) != *b.nth(i) {
+            return false;
+        }
+    }
+    true
+}
+
+/// Whether both are the same in all that an access or an event changes.
+fn same_cpus(a: &Cpu, b: &Cpu) -> bool {
+    a.era() == b.era()
+        && a.phase() == b.phase()
+        && a.cd() == b.cd()
+        && a.pge() == b.pge()
+        && a.had_pge() == b.had_pge()
+        && same_registers(a.regs(), b.regs())
+        && same_lines(a.cache(), b.cache())
+        && a.buffers().lines() == b.buffers().lines()
+        && a.tlb().entries() == b.tlb().entries()
+        && a.maps().list() == b.maps().list()
+}
+
+/// Whether some processor's write-combining buffers aren't empty.
+fn has_buffers(core: &Core) -> bool {
+    core.system()
+        .cpus
+        .iter()
+        .any(|cpu| !cpu.buffers().lines().is_empty())
+}
+
+/// Whether both have the same words and processors.
 fn ends_alike(a: &Core, b: &Core) -> bool {
     let (x, y) = (a.system(), b.system());
     if x.ram.words() != y.ram.words() || x.cpus.len() != y.cpus.len() {
@@ -416,24 +433,30 @@ fn ends_alike(a: &Core, b: &Core) -> bool {
     }
     let (cpus, others) = (x.cpus.as_slice(), y.cpus.as_slice());
     for k in 0..cpus.len() {
-        if cpus[k].era() != others[k].era() || cpus[k].cache().len() != others[k].cache().len() {
+        if !same_cpus(&cpus[k], &others[k]) {
             return false;
         }
     }
     true
 }
 
-/// Whether the jobs on threads are answered, and end, as by the core's own calls.
+/// Whether the jobs on threads are answered, and end, as by the core's own calls. Memory is of this type before the
+/// update; where that is WC, buffers are left to it.
 fn jobs_end_alike<R: Threads + Wait + Sync, G: Gate>(
     rt: &R,
     alloc: Global,
     count: u32,
+    kind: u64,
     round: u64,
     gate: &G,
 ) -> Option<bool> {
-    let (mut a, mut b) = (core_of(alloc, count)?, core_of(alloc, count)?);
+    let mut a = core_with(alloc, count, kind)?;
+    let mut b = core_with(alloc, count, kind)?;
     let jobs = drawn_jobs(alloc, count, round)?;
     let before = part_by_calls(alloc, &mut b, jobs.as_slice(), true)?;
+    if has_buffers(&b) != (kind == 1) {
+        return None;
+    }
     if !update_alone(&mut b, file(4)?) {
         return None;
     }
@@ -454,7 +477,7 @@ fn jobs_end_alike<R: Threads + Wait + Sync, G: Gate>(
 #[test]
 fn many_accesses_end_as_one_by_one(rt: HostRuntime) {
     for round in 0..200 {
-        let alike = jobs_end_alike(&rt, rt.alloc(), 16, round, &OpenGate);
+        let alike = jobs_end_alike(&rt, rt.alloc(), 16, 6, round, &OpenGate);
         assert!(rt; alike == Some(true), "{round}");
     }
 }
@@ -462,7 +485,142 @@ fn many_accesses_end_as_one_by_one(rt: HostRuntime) {
 #[test]
 fn refused_starts_end_as_one_by_one(rt: HostRuntime) {
     for k in 0..16 {
-        let alike = jobs_end_alike(&rt, rt.alloc(), 16, k as u64, &AllBut { k });
+        let alike = jobs_end_alike(&rt, rt.alloc(), 16, 6, k as u64, &AllBut::new(k));
         assert!(rt; alike == Some(true), "{k}");
     }
+}
+
+#[test]
+fn buffered_accesses_end_as_one_by_one(rt: HostRuntime) {
+    for round in 0..20 {
+        let alike = jobs_end_alike(&rt, rt.alloc(), 4, 1, round, &OpenGate);
+        assert!(rt; alike == Some(true), "{round}");
+    }
+}
+
+/// Starts processor 0 once it was told of processor 1.
+#[derive(Drop)]
+struct OneFirst {
+    arrived: AtomicU64,
+    seen: AtomicU64,
+}
+
+impl Gate for OneFirst {
+    fn may_start(&self, k: u32) -> bool {
+        if k != 0 {
+            return true;
+        }
+        for _ in 0..200_000_000u64 {
+            if self.arrived.load(Ordering::SeqCst) == 1 {
+                self.seen.store(1, Ordering::SeqCst);
+                return true;
+            }
+        }
+        true
+    }
+
+    fn arrived(&self, k: u32) {
+        if k == 1 {
+            self.arrived.store(1, Ordering::SeqCst);
+        }
+    }
+}
+
+/// Processor 1 has arrived before processor 0 begins, so that one's accesses are made while this one waits.
+#[test]
+fn one_accesses_while_another_waits(rt: HostRuntime) {
+    for round in 0..8 {
+        let gate = OneFirst {
+            arrived: AtomicU64::new(0),
+            seen: AtomicU64::new(0),
+        };
+        let alike = jobs_end_alike(&rt, rt.alloc(), 2, 6, round, &gate);
+        assert!(rt; alike == Some(true), "{round}");
+        assert!(rt; gate.seen.load(Ordering::SeqCst) == 1, "{round}");
+    }
+}
+
+/// Two processors go through an update without accesses.
+fn update_alone_on_threads<R: Threads + Wait + Sync, G: Gate>(
+    rt: &R,
+    alloc: Global,
+    gate: &G,
+) -> Option<bool> {
+    let mut core = core_of(alloc, 2)?;
+    let jobs = empty_jobs(alloc, 2)?;
+    let Ok(told) = on_threads(rt, alloc, &mut core, file(4)?, jobs, gate)? else {
+        return None;
+    };
+    let risen = core.system().cpus.iter().all(|cpu| cpu.era() == 1);
+    let empty = told
+        .iter()
+        .all(|t| t.before.is_empty() && t.after.is_empty());
+    Some(risen && empty && told.len() == 2)
+}
+
+#[test]
+fn processors_without_accesses_meet(rt: HostRuntime) {
+    let gate = Meets::new();
+    assert!(rt; update_alone_on_threads(&rt, rt.alloc(), &gate) == Some(true));
+    assert!(rt; gate.seen() == 2);
+}
+
+#[test]
+fn each_processor_starts_and_arrives_once(rt: HostRuntime) {
+    for count in [1, 3, 16] {
+        let gate = AllBut::new(16);
+        assert!(rt;
+            store_and_load(&rt, rt.alloc(), count, &gate) == Some(true),
+            "{count}"
+        );
+        assert!(rt; gate.asked() == ones(0, count), "{count}");
+        assert!(rt; gate.told() == ones(0, count), "{count}");
+    }
+}
+
+/// Why two empty jobs aren't run, where they aren't.
+fn refusal<R: Threads + Wait + Sync>(
+    rt: &R,
+    alloc: Global,
+    core: &mut Core,
+    kind: u64,
+) -> Option<PrivateFault> {
+    let jobs = empty_jobs(alloc, 2)?;
+    match on_threads(rt, alloc, core, file(kind)?, jobs, &OpenGate)? {
+        Ok(_told) => None,
+        Err(fault) => Some(fault),
+    }
+}
+
+/// Two processors whose update is under way.
+fn called_core(alloc: Global) -> Option<Core> {
+    let mut core = core_of(alloc, 2)?;
+    let goal = file(4)?;
+    if !may_call(&core, &goal) || core.call(goal) != Ok(()) {
+        return None;
+    }
+    Some(core)
+}
+
+/// An update under way comes before the goal's fault, and that before a page in common.
+#[test]
+fn refusals_come_in_order(rt: HostRuntime) {
+    let alloc = rt.alloc();
+    let (Some(mut called), Some(mut common), Some(mut core)) = (
+        called_core(alloc),
+        common_core(alloc),
+        core_of(alloc, 2),
+    ) else {
+        panic!(rt; "the files are accepted");
+    };
+    let refused = PrivateFault::Refused(Fault {
+        msr: 0x200,
+        reason: Reason::UnsupportedType,
+    });
+    assert!(rt; refusal(&rt, alloc, &mut called, 4) == Some(PrivateFault::UnderWay));
+    assert!(rt; refusal(&rt, alloc, &mut called, 2) == Some(PrivateFault::UnderWay));
+    assert!(rt; refusal(&rt, alloc, &mut core, 2) == Some(refused));
+    assert!(rt; refusal(&rt, alloc, &mut common, 2) == Some(refused));
+    assert!(rt; refusal(&rt, alloc, &mut common, 4) == Some(PrivateFault::Shared(0x100)));
+    assert!(rt; refusal(&rt, alloc, &mut core, 4).is_none());
 }

@@ -155,7 +155,7 @@ fn finish(yard: &Yard, jobs: &[Job], visitor: Visitor, host: &mut Host, told: &m
     ensures count { length told.new.items ≡ length told.old.items + 1 }
     ensures capacity { vec_capacity told.new ≡ vec_capacity told.old }
 {
-    let _ = jobs.len();
+    let _ = jobs.len(); // a fact for the proof
     let Visitor {
         core,
         pass,
@@ -181,7 +181,7 @@ fn last(
     ensures rest { IfSome result (λ v. OneLess yard.now.table.shared.table_id (start_of yard.now.table.shared.key) jobs.now waiting.old.items waiting.new.items told.new.items) }
     ensures capacity { vec_capacity told.new ≡ vec_capacity told.old }
 {
-    let _ = (yard.count, jobs.len());
+    let _ = (yard.count, jobs.len()); // a fact for the proof
     let Guest { own, pass } = waiting.pop()?;
     let Some(answers) = told.pop() else {
         unreachable!()

@@ -5,11 +5,13 @@ use mt_ram::Ram;
 use mt_rendezvous::{Held, Key, Start};
 use std::collections::LinkedList;
 
-/// A processor in a view, with the words of its own pages, and the accesses of its job that it has done.
+/// A processor in a view, with the words of its own pages, the accesses of its job that it has done, and its event word
+/// as its pass last stored it.
 pub struct Resident {
     pub held: Held,
     pub ram: Ram,
     pub done: LinkedList<Op>,
+    pub stored: u64,
 }
 
 /// What a seat knows. No value of it is made.
@@ -87,7 +89,7 @@ impl Play<Op, YardView> for WorksYard {
     ghost then = { Tells };
 }
 
-/// A pass stores its event word, and announces an access, which is that event.
+/// A pass exchanges its event word where it finds what it stored last, and announces an access, which is that event.
 pub struct AccessesYard;
 
 impl Play<Op, YardView> for AccessesYard {

@@ -16,7 +16,7 @@ ghost use Rattle.mt_private.specs.declared.job.Part.{Part as JobPart};
 ghost use Rattle.mt_private.specs.declared.job.Part.TheVariants.{After};
 ghost use Rattle.mt_private.specs.Jobs.{FitsJob, IsOpen};
 ghost use Rattle.mt_private.specs.OneByOne.{at_rest, ran};
-ghost use Rattle.mt_private.specs.YardCalls.{AreIn, HasTaken, IsLeft, Lodges, VisitEnds, Visits, done_in, in_phase};
+ghost use Rattle.mt_private.specs.YardCalls.{AreIn, HasTaken, IsLeft, Lodges, VisitEnds, Visits, done_in, in_phase, stored_in};
 
 use crate::host::Yard;
 use crate::job::{Job, Told};
@@ -42,6 +42,7 @@ pub struct YardPass {
     /// The own event word, as this pass last stored it.
     pub stored: u64,
     pub ghost few: { number < 65536 },
+    pub ghost known: { stored ≡ stored_in seat.me },
 }
 
 /// A processor alone, with the words of its own pages, and its pass.
@@ -92,7 +93,8 @@ impl Arrival {
 }
 
 impl YardPass {
-    // Stores the own event word, which announces the access and is that event, and does the access.
+    // Exchanges the own event word, which holds what was stored last. That announces the access and is that event. Does
+    // the access.
     fn access(&mut self, yard: &Yard, core: &mut Core, op: Op) -> Done
         requires lodges { (added : Bool) × (again : Bool) × Lodges yard.now.table.shared.table_id (start_of yard.now.table.shared.key) self.old.seat.table_id self.old.seat.me self.old.number core.old.system added again }
         requires runs { AreIn Running core.old.system }

@@ -76,6 +76,7 @@ pub fn worked_sayings()
 /// Words and views that meet the rule, and that don't for one thing; and that a split of the root is no event.
 pub fn worked_yard_rule()
     ensures opened { (key : Key) → start_of key ≡ lodging → MeetsYard key (at_start key (0 ∷ 0 ∷ 0 ∷ 0 ∷ [])) }
+    ensures unstored { (key : Key) → start_of key ≡ lodging → MeetsYard key (at_start key (0 ∷ 0 ∷ 7 ∷ 0 ∷ [])) → ⊥ }
     ensures short { (key : Key) → start_of key ≡ lodging → MeetsYard key (at_start key (0 ∷ 0 ∷ 0 ∷ [])) → ⊥ }
     ensures counted { (key : Key) → start_of key ≡ lodging → MeetsYard key (at_start key (1 ∷ 0 ∷ 0 ∷ 0 ∷ [])) → ⊥ }
     ensures missing { (key : Key) → start_of key ≡ lodging → MeetsYard key (opening (0 ∷ 0 ∷ 0 ∷ 0 ∷ []) [] (yard_left (first_yard_view key))) → ⊥ }

@@ -1,6 +1,6 @@
 // Laws on yards: what each step of a seat makes of the machine that words and views stand for.
 ghost use Rattle.mt_private.specs.Visitors.{EndsOneByOne};
-ghost use Rattle.mt_private.specs.YardLaws.{AdditionArrives, AdditionArrivesAgain, AdditionDecides, IsOneMachine, IsReached, JoinIsNone, LoadLeaves, LoadPasses, LoadReleases, LoadStays, LoadTakes, MoveIsOneEvent, SayingIsOneEvent, SplitIsNone, StartMeetsRule, StoreAccesses, StoreWorks};
+ghost use Rattle.mt_private.specs.YardLaws.{AdditionArrives, AdditionArrivesAgain, AdditionDecides, IsOneMachine, IsReached, JoinIsNone, LoadLeaves, LoadPasses, LoadReleases, LoadStays, LoadTakes, MoveIsOneEvent, SayingIsOneEvent, SplitIsNone, StartMeetsRule, StoreAccesses, StoreWorks, YardsSettle};
 
 /// An addition to one of the two counts, and a load of one, is the event that the count tells of, or none: a processor
 /// takes, arrives, passes, leaves, arrives again and is released by what it finds there alone.
@@ -40,6 +40,13 @@ pub fn each_yard_step_is_one_event()
     ensures says { SayingIsOneEvent }
     ensures split { SplitIsNone }
     ensures join { JoinIsNone }
+{}
+
+/// From the first release on, the machine that words and views stand for is settled: each processor has the goal's
+/// registers and holds nothing of another era. And each word that no access stored since is in memory as it was before
+/// the first pass.
+pub fn yards_settle()
+    ensures { YardsSettle }
 {}
 
 /// Where every visitor came back and the go was given, the system that the yard leaves and all answers are those of the

@@ -20,13 +20,12 @@ use crate::tests::{core_of, file, fits_job, jobs_of, may_call};
 use crate::visiting::{Guest, Visited, visit};
 use mt_bus::System;
 use mt_core::{Core, a_core_arises};
+use mt_gates::AllBut;
 use mt_kinds::MemType;
 use mt_machine::{Done, Phase};
-use mt_ports::Gate;
 use mt_regs::RegFile;
 use std::alloc::Global;
 use std::sync::Wait;
-use std::sync::atomic::{AtomicU64, Ordering};
 
 /// The yard of a core's system, where no update is under way, the goal has no fault and no page is named by two.
 fn gather_of(alloc: Global, core: Core, goal: &RegFile) -> Option<(Yard, Host, Vec<Guest>)>
@@ -74,24 +73,6 @@ fn runs(own: &System) -> bool
     cpus.len() == 1 && cpus[0].phase() == Phase::Running
 }
 
-/// Counts what it is told of each processor, in four bits.
-#[derive(Drop)]
-struct Counter {
-    told: AtomicU64,
-}
-
-impl Gate for Counter {
-    fn may_start(&self, _k: u32) -> bool {
-        true
-    }
-
-    fn arrived(&self, k: u32) {
-        if k < 16 {
-            self.told.fetch_add(1u64 << (4 * k), Ordering::SeqCst);
-        }
-    }
-}
-
 /// A guest after its visit, and what came of it.
 #[derive(Drop)]
 struct Visit {
@@ -109,7 +90,7 @@ fn visit_whole<R: Wait>(
     goal: &RegFile,
     job: &Job,
     mut told: Told,
-    gate: &Counter,
+    gate: &AllBut,
 ) -> Visit
     requires gathered { IsGathered yard.now.table.shared.table_id (start_of yard.now.table.shared.key) k guest.pass.seat.table_id guest.pass.seat.me guest.pass.number guest.own }
     requires runs { AreIn Running guest.own }
@@ -180,7 +161,7 @@ fn come_alone<R: Wait>(
     goal: &RegFile,
     job: &Job,
     given: bool,
-    gate: &Counter,
+    gate: &AllBut,
 ) -> Option<Came>
     requires hosts { Leads yard.now.table.shared.table_id (start_of yard.now.table.shared.key) host.old.seat.table_id (as_sat host.old.seat.me) Pending }
     requires guests { AreGathered yard.now.table.shared.table_id (start_of yard.now.table.shared.key) waiting.old.items }
@@ -207,9 +188,7 @@ fn alone<R: Wait>(rt: &R, alloc: Global, given: bool) -> Option<(Came, u64)> {
     if !may_call(&core, &goal) {
         return None;
     }
-    let gate = Counter {
-        told: AtomicU64::new(0),
-    };
+    let gate = AllBut::new(16);
     let (yard, mut host, mut waiting) = gather_of(alloc, core, &goal)?;
     let job = jobs.get(0)?;
     let came = come_alone(
@@ -223,7 +202,7 @@ fn alone<R: Wait>(rt: &R, alloc: Global, given: bool) -> Option<(Came, u64)> {
         given,
         &gate,
     )?;
-    let told = gate.told.load(Ordering::SeqCst);
+    let told = gate.told();
     Some((came, told))
 }
 

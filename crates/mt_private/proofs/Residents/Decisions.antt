@@ -9,13 +9,14 @@ use Rattle.mt_machine.specs.declared.phase.Phase.TheVariants.{Running}
 use Rattle.mt_machine.specs.declared.go.Go.{Go}
 use Rattle.mt_machine.specs.declared.go.Go.TheVariants.{Pending, Given, Cancelled}
 use Rattle.mt_machine.specs.System.{System}
-use Rattle.mt_machine.specs.Machine.{Cancels, Goes, IsEnabled, MachineEvent, Order, Reached, after, go_of, next, remaining_order, with_go}
+use Rattle.mt_machine.specs.Machine.{Cancels, Goes, IsEnabled, MachineEvent, Order, go_of, next, remaining_order, with_go}
+use Rattle.mt_machine.specs.Update.{is_call}
 use Rattle.mt_rendezvous.specs.declared.view.Start.{Start}
 use Rattle.mt_rendezvous.specs.Station.{Fits, broadcast, go_weight, order_of, rise}
 use Rattle.mt_rendezvous.proofs.Keeps.{IsUnderWay}
 use Rattle.mt_rendezvous.proofs.RootSteps.{turned}
 use Rattle.mt_private.specs.declared.view.Resident.{Resident}
-use Rattle.mt_private.specs.Residents.{Decides, FitsYard, Yard, yard_machine}
+use Rattle.mt_private.specs.Residents.{Decides, FitsYard, Uncalled, Yard, uncalled_on, yard_machine}
 use Rattle.mt_private.proofs.Residents.Barriers.{not_taken, under_way}
 
 -- before it says anything each processor is on its way, or hasn't taken
@@ -54,8 +55,8 @@ module _ (t : Start) (all : List Resident) (first second : ℕ) (s : System) (r 
       not_taken t all Pending first second s r 0 y.0 y.1 (λ e. cc) (omega arith))
       (pending_case y.0.held.added y.0.held.again y.0.held.cpu.phase f.fits)
 
-  decided : (go : Go) (e : MachineEvent) (m : ℕ) → IsEnabled (yard_machine t Pending s) e → next (yard_machine t Pending s) e ≡ with_go go (yard_machine t Pending s) → m ≡ first + go_weight go → Decides t all go m second s e
-  decided go e m enabled by count =
+  decided : (go : Go) (e : MachineEvent) (m : ℕ) → is_call e ≡ false → IsEnabled (yard_machine t Pending s) e → next (yard_machine t Pending s) e ≡ with_go go (yard_machine t Pending s) → m ≡ first + go_weight go → Decides t all go m second s e
+  decided go e m quiet enabled by count =
       let becomes : next (yard_machine t Pending s) e ≡ yard_machine t go s =
       by ∙ ap (λ (x : Option Order). option_map_or (λ o. record { system = s; order = remaining_order (record o { go = go }) s.processors }) x (yard_machine t Pending s)) pending_order in
       let old = r.first_count in
@@ -65,7 +66,7 @@ module _ (t : Start) (all : List Resident) (first second : ℕ) (s : System) (r 
         kept = record {
           resides = record {
             opens = r.resides.opens;
-            reached = subst (Reached (broadcast t)) becomes (after e r.resides.reached enabled);
+            reached = subst (Uncalled (broadcast t)) becomes (uncalled_on e r.resides.reached enabled quiet);
             stands = r.resides.stands;
             size = r.resides.size;
             fits = λ k y at. let f = r.resides.fits k y at in (record { fits = turned_yard go y.held.added y.held.again y.held.cpu.phase f.0.fits; era = f.0.era }, f.1);
@@ -79,7 +80,7 @@ module _ (t : Start) (all : List Resident) (first second : ℕ) (s : System) (r 
   said = ap (option_map (λ (o : Order). o.go)) pending_order
 
   pub gives : Decides t all Given (first + 1) second s Goes
-  gives = decided Given Goes (first + 1) said refl refl
+  gives = decided Given Goes (first + 1) refl said refl refl
 
   pub cancels : Decides t all Cancelled (first + 4294967296) second s Cancels
-  cancels = decided Cancelled Cancels (first + 4294967296) said refl refl
+  cancels = decided Cancelled Cancels (first + 4294967296) refl said refl refl

@@ -11,13 +11,13 @@ use Rattle.mt_machine.specs.declared.done.Done.{Done}
 use Rattle.mt_machine.specs.declared.op.Op.{Op}
 use Rattle.mt_machine.specs.System.{Processor, System}
 use Rattle.mt_machine.specs.Access.{access, is_running}
-use Rattle.mt_machine.specs.Machine.{Accesses, FitsOp, IsEnabled, Order, Reached, Steps, after, due, next, step, stepped}
+use Rattle.mt_machine.specs.Machine.{Accesses, FitsOp, IsEnabled, Order, Steps, due, next, step, stepped}
 use Rattle.mt_laws.proofs.Barrier.Stages.{access_stages}
 use Rattle.mt_rendezvous.specs.declared.view.Start.{Start}
 use Rattle.mt_rendezvous.specs.Station.{broadcast, order_of}
 use Rattle.mt_private.specs.declared.view.Resident.{Resident}
 use Rattle.mt_private.specs.Own.{Becomes, RunsAlone, WritesOn, own_system}
-use Rattle.mt_private.specs.Residents.{FitsResident, Moves, Resides, own_of, pages_at, yard_machine}
+use Rattle.mt_private.specs.Residents.{FitsResident, Moves, Resides, Uncalled, own_of, pages_at, uncalled_on, yard_machine}
 use Rattle.mt_private.proofs.Own.Owners.{runs_alone, steps_alone}
 use Rattle.mt_private.proofs.Residents.Moves.{moves, order_by_stages, processor_at}
 
@@ -43,7 +43,7 @@ module _ (t : Start) (all : List Resident) (go : Go) (s : System) (r : Resides t
     enabled = enabled;
     becomes = sym (step_next o s k e order);
     kept = moves t all go s r k y at (step t.goal e k s) _ w b (own ∙ sym (ap (step t.goal e 0) (r.stands.own k y at))) number fits
-        (subst (Reached (broadcast t)) (step_next o s k e order) (after (Steps k e) r.reached enabled));
+        (subst (Uncalled (broadcast t)) (step_next o s k e order) (uncalled_on (Steps k e) r.reached enabled refl));
   }
     where
       enabled : IsEnabled (yard_machine t go s) (Steps k e)
@@ -61,7 +61,7 @@ module _ (t : Start) (all : List Resident) (go : Go) (s : System) (r : Resides t
       enabled = enabled;
       becomes = sym next_is;
       kept = moves t all go s r k y at (access s k op).after _ w alone.after (own ∙ sym (ap (λ (u : System). (access u 0 op).after) (r.stands.own k y at))) number fits
-          (subst (Reached (broadcast t)) next_is (after (Accesses k op) r.reached enabled));
+          (subst (Uncalled (broadcast t)) next_is (uncalled_on (Accesses k op) r.reached enabled refl));
     },
     first alone.answers ∙ ap (λ (u : System). (access u 0 op).answer) (r.stands.own k y at),
   )

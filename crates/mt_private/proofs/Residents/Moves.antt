@@ -9,7 +9,7 @@ use lib.ListN.{get_elem?}
 use Rattle.atomic_table.proofs.Lists.{at_set}
 use Rattle.mt_machine.specs.declared.go.Go.{Go}
 use Rattle.mt_machine.specs.System.{Processor, System}
-use Rattle.mt_machine.specs.Machine.{Order, Reached, has_released, is_cancelled, is_waiting_to_pass, remaining_order}
+use Rattle.mt_machine.specs.Machine.{Order, has_released, is_cancelled, is_waiting_to_pass, remaining_order}
 use Rattle.mt_machine.specs.Update.{addresses}
 use Rattle.mt_laws.proofs.Barrier.Stages.{Stage, stages_of}
 use Rattle.mt_rendezvous.specs.declared.view.Start.{Start}
@@ -18,7 +18,7 @@ use Rattle.mt_rendezvous.proofs.Keeps.{at_cpu, set_cpus}
 use Rattle.mt_private.specs.declared.view.Resident.{Resident}
 use Rattle.mt_private.specs.Own.{AreApart, Becomes, IsOwner, own_memory, own_system, put_first}
 use Rattle.mt_private.specs.Pages.{IsPrivate, names}
-use Rattle.mt_private.specs.Residents.{FitsResident, Resides, held_of, own_of, pages_at, pages_left, yard_machine}
+use Rattle.mt_private.specs.Residents.{FitsResident, Resides, Uncalled, held_of, own_of, pages_at, pages_left, yard_machine}
 use Rattle.mt_private.proofs.Own.Owners.{memory_after, same_system, stays_owner, two_named, words_left}
 
 -- ---- lists
@@ -90,7 +90,7 @@ module _ (t : Start) (all : List Resident) (go : Go) (s : System) (r : Resides t
   pub processor_at : slice_get s.processors k ≡ Some y.held.cpu
   processor_at = ap (λ ps. slice_get ps k) r.stands.processors ∙ at_cpu (map held_of all) k y.held (held_at all k y at)
 
-  pub moves : (u o : System) (w : Resident) → Becomes (pages_at t k) k s u o → own_of w ≡ o → w.held.number ≡ k → FitsResident t go w.held → Reached (broadcast t) (yard_machine t go u) → Resides t (set all k w) go u
+  pub moves : (u o : System) (w : Resident) → Becomes (pages_at t k) k s u o → own_of w ≡ o → w.held.number ≡ k → FitsResident t go w.held → Uncalled (broadcast t) (yard_machine t go u) → Resides t (set all k w) go u
   moves u o w b own number fits reached = record {
     opens = r.opens;
     reached = reached;

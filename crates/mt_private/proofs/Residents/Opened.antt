@@ -13,7 +13,7 @@ use Rattle.mt_machine.specs.declared.phase.Phase.TheVariants.{Running}
 use Rattle.mt_machine.specs.declared.go.Go.TheVariants.{Cancelled, Pending}
 use Rattle.mt_machine.specs.System.{Processor}
 use Rattle.mt_machine.specs.Access.{is_running}
-use Rattle.mt_machine.specs.Machine.{Order, Reached, at_start, common_era, has_released}
+use Rattle.mt_machine.specs.Machine.{Order, common_era, has_released}
 use Rattle.mt_laws.proofs.Barrier.Claims.{all_get}
 use Rattle.mt_rendezvous.specs.declared.view.Held.{Held}
 use Rattle.mt_rendezvous.specs.declared.view.Key.{Key}
@@ -25,7 +25,7 @@ use Rattle.mt_private.specs.declared.view.Resident.{Resident}
 use Rattle.mt_private.specs.declared.view.YardView.{YardView}
 use Rattle.mt_private.specs.Own.{IsOwner, own_memory, own_system}
 use Rattle.mt_private.specs.Pages.{names}
-use Rattle.mt_private.specs.Residents.{FitsResident, FitsYard, Opens, Resides, held_of, own_of, pages_at, system_of, yard_machine}
+use Rattle.mt_private.specs.Residents.{FitsResident, FitsYard, Opens, Resides, Uncalled, held_of, own_of, pages_at, system_of, uncalled_start, yard_machine}
 use Rattle.mt_private.specs.YardRule.{AreAt, MeetsYard, as_view, first_yard_view, residents}
 use Rattle.mt_private.proofs.Own.Owners.{private_owner}
 
@@ -37,7 +37,7 @@ residents_held t k (c ∷ cs) = ap (λ hs. held k c false false ∷ hs) (residen
 record IsLodged (t : Start) (cs : List Processor) (k j : ℕ) (y : Resident) : Type 0 where
   pub cpu : Processor
   pub at : slice_get cs j ≡ Some cpu
-  pub is : y ≡ record { held = held (k + j) cpu false false; ram = own_memory (pages_at t (k + j)) t.ram; done = [] }
+  pub is : y ≡ record { held = held (k + j) cpu false false; ram = own_memory (pages_at t (k + j)) t.ram; done = []; stored = 0 }
 
 lodged : (t : Start) (k : ℕ) (cs : List Processor) (j : ℕ) (y : Resident) → get_elem? (residents t k cs) j ≡ some y → IsLodged t cs k j y
 lodged t k [] j y e = absurd (some-ne-none y (sym e))
@@ -45,14 +45,14 @@ lodged t k (c ∷ cs) zero y e =
     let n : k ≡ k + 0 = omega arith in record {
       cpu = c;
       at = refl;
-      is = sym (some-injective _ y e) ∙ ap (λ (i : ℕ). record { held = held i c false false; ram = own_memory (pages_at t i) t.ram; done = [] }) n;
+      is = sym (some-injective _ y e) ∙ ap (λ (i : ℕ). record { held = held i c false false; ram = own_memory (pages_at t i) t.ram; done = []; stored = 0 }) n;
     }
 lodged t k (c ∷ cs) (suc j) y e =
     let r = lodged t (k + 1) cs j y e in
     let n : k + 1 + j ≡ k + suc j = omega arith in record {
       cpu = r.cpu;
       at = r.at;
-      is = r.is ∙ ap (λ (i : ℕ). record { held = held i r.cpu false false; ram = own_memory (pages_at t i) t.ram; done = [] }) n;
+      is = r.is ∙ ap (λ (i : ℕ). record { held = held i r.cpu false false; ram = own_memory (pages_at t i) t.ram; done = []; stored = 0 }) n;
     }
 
 running_is : (p : Phase) → is_running p ≡ true → p ≡ Running
@@ -73,8 +73,8 @@ module _ (t : Start) (opens : Opens t) where
   place : (k : ℕ) → 0 + k ≡ k
   place k = omega arith
 
-  its : (k : ℕ) (y : Resident) (l : Lodged k y) → y ≡ record { held = held k l.cpu false false; ram = own_memory (pages_at t k) t.ram; done = [] }
-  its k y l = l.is ∙ ap (λ (i : ℕ). record { held = held i l.cpu false false; ram = own_memory (pages_at t i) t.ram; done = [] }) (place k)
+  its : (k : ℕ) (y : Resident) (l : Lodged k y) → y ≡ record { held = held k l.cpu false false; ram = own_memory (pages_at t k) t.ram; done = []; stored = 0 }
+  its k y l = l.is ∙ ap (λ (i : ℕ). record { held = held i l.cpu false false; ram = own_memory (pages_at t i) t.ram; done = []; stored = 0 }) (place k)
 
   fits : (k : ℕ) (y : Resident) → get_elem? all k ≡ some y → FitsResident t Pending y.held × (y.held.number ≡ k)
   fits k y at =
@@ -104,7 +104,7 @@ module _ (t : Start) (opens : Opens t) where
   pub resides : Resides t (residents t 0 t.cpus) Pending (system_of t)
   resides = record {
     opens = opens;
-    reached = subst (Reached (broadcast t)) (sym order) at_start;
+    reached = subst (Uncalled (broadcast t)) (sym order) uncalled_start;
     stands = record {
       processors = sym (numbered_cpus 0 t.cpus) ∙ ap (map cpu_of) (sym (residents_held t 0 t.cpus));
       memory = opens.quiet.sound.memory;
@@ -136,18 +136,19 @@ module _ (t : Start) (opens : Opens t) where
   at_first : AreAt all all
   at_first i y e = subst (λ (n : ℕ). get_elem? all n ≡ some y) (sym (fits i y e).1) e
 
-pub opened : (key : Key) (words : List ℕ) → Opens (start_of key) → length words ≡ length key.cpus.value.items + 2 → slice_index words 0 ≡ 0 → slice_index words 1 ≡ 0 → MeetsYard key (opening words [] (first_yard_view key))
-opened key words opens long first second = record {
+pub opened : (key : Key) (words : List ℕ) → Opens (start_of key) → length words ≡ length key.cpus.value.items + 2 → ((i : ℕ) → slice_index words i ≡ 0) → MeetsYard key (opening words [] (first_yard_view key))
+opened key words opens long zeros = record {
   all = all (start_of key) opens;
   go = Pending;
   owner = λ _. 0;
   system = system_of (start_of key);
   yard = record {
     resides = resides (start_of key) opens;
-    first_count = first ∙ (let z = none_counted (start_of key) opens added_of (λ k c. refl) in omega arith);
-    second_count = second ∙ sym (none_counted (start_of key) opens again_of (λ k c. refl));
+    first_count = zeros 0 ∙ (let z = none_counted (start_of key) opens added_of (λ k c. refl) in omega arith);
+    second_count = zeros 1 ∙ sym (none_counted (start_of key) opens again_of (λ k c. refl));
   };
   wide = (let z = size (start_of key) opens in omega arith);
+  stored = λ k y e. zeros (k + 2) ∙ sym (ap (λ (z : Resident). z.stored) (its (start_of key) opens k y (lodged (start_of key) 0 key.cpus.value.items k y e)));
   present = λ k b.
       let z = size (start_of key) opens in
       let r = numbered_some 0 key.cpus.value.items k (let n = numbered_length 0 key.cpus.value.items in omega arith) in

@@ -1,5 +1,5 @@
 -- What the steps of a pass ask.
-use Rattle.std.proofs.Common.{◌≡◌, ◌≢◌, ◌⊎◌, ◌∙◌, ap, sym, refl, subst, arith, ℕ, ◌+◌, ◌%◌, ◌^◌, ◌<◌, ◌≤◌, ◌==◌, Bool, true, false, List, [], ◌∷◌, length, map, set, get_or, Option, None, Some, inl, ⊎_elim, get_or-set_same, get_or-set_other}
+use Rattle.std.proofs.Common.{◌≡◌, ◌≢◌, ◌⊎◌, ◌∙◌, ap, sym, refl, subst, arith, ℕ, ◌+◌, ◌%◌, ◌^◌, ◌<◌, ◌≤◌, ◌==◌, Bool, true, false, List, [], ◌∷◌, length, map, set, get_or, Option, None, Some, inl, inr, ⊎_elim, get_or-set_same, get_or-set_other}
 use Rattle.std.specs.Prelude.{slice_index}
 use Rattle.std.proofs.lemmas.Bool.{eqb-false, eqb-true}
 use Rattle.std.proofs.lemmas.List.{length-map}
@@ -31,11 +31,13 @@ use Rattle.mt_rendezvous.proofs.Steps.{go_small, shows}
 use Rattle.mt_private.specs.declared.view.Resident.{Resident}
 use Rattle.mt_private.specs.declared.view.YardView.{YardView}
 use Rattle.mt_private.specs.OneByOne.{at_rest}
-use Rattle.mt_private.specs.Residents.{FitsYard, Follows, Opens, accessed_by, held_of, stepped_by, system_of, with_first, with_held, yard_machine}
+use Rattle.mt_private.specs.Residents.{FitsYard, Follows, Opens, accessed_by, held_of, stepped_by, system_of, with_first, with_held, with_stored, yard_machine}
+use Rattle.mt_private.specs.YardLaws.{Stores}
 use Rattle.mt_private.specs.YardRule.{MeetsYard, as_view, with_one}
-use Rattle.mt_private.specs.YardPlays.{AccessesYard, ArrivesAgainYard, ArrivesYard, OfOne, PassMoves, PassesYard, ReleasesYard, TakesYard, Turns, WorksYard}
+use Rattle.mt_private.specs.YardPlays.{AccessesYard, ArrivesAgainYard, ArrivesYard, IsOwnWord, OfOne, PassMoves, PassesYard, ReleasesYard, TakesYard, Turns, WorksYard}
 use Rattle.mt_private.proofs.Residents.Barriers.{arrives, arrives_again, leaves, not_taken, own_fits, passes, releases, unmoved}
 use Rattle.mt_private.proofs.Residents.Moves.{processor_at}
+use Rattle.mt_private.proofs.Residents.Paths.{uncalled_reached}
 use Rattle.mt_private.proofs.Residents.Seats.{mapped_at, placed, there}
 use Rattle.mt_private.proofs.Residents.Work.{accessed, takes, works}
 
@@ -43,7 +45,7 @@ only : (y z : Resident) → y ∷ [] ≡ z ∷ [] → y ≡ z
 only y z e = cc
 
 -- what is so of the one resident
-of_resident : (v : YardView) (y : Resident) (P : Resident → Type 0) → v.held ≡ y ∷ [] → P y → OfOne v P
+pub of_resident : (v : YardView) (y : Resident) (P : Resident → Type 0) → v.held ≡ y ∷ [] → P y → OfOne v P
 of_resident v y P is p z same = subst P (only y z (sym is ∙ same)) p
 
 -- one that waits, where nothing is cancelled and its pass has added, has arrived
@@ -58,6 +60,11 @@ has_arrived go added again p f on apart waits =
 in_number : (y : Resident) (ps : List Processor) (m : Memory) → (with_first y ps m).held.number ≡ y.held.number
 in_number y [] m = refl
 in_number y (p ∷ ps) m = refl
+
+-- and what its pass stored
+in_stored : (y : Resident) (ps : List Processor) (m : Memory) → (with_first y ps m).stored ≡ y.stored
+in_stored y [] m = refl
+in_stored y (p ∷ ps) m = refl
 
 module _ (key : Key) where
   abbrev St : Type 0
@@ -115,11 +122,11 @@ module _ (key : Key) where
     at_own i n high = (get_or-set_other s.words i 0 n 0 (λ (e : 0 ≡ i). omega arith), get_or-set_other s.words i 1 n 0 (λ (e : 1 ≡ i). omega arith))
 
     -- the resident moves, and what that tells
-    turn : (i n : ℕ) (w : Resident) (shown : Option ℕ) (cancel : Bool) (e : Option MachineEvent) (x z : ℕ) → w.held.number ≡ y.held.number → (cancel ≡ true → m.go ≡ Cancelled)
+    turn : (i n : ℕ) (w : Resident) (shown : Option ℕ) (cancel : Bool) (e : Option MachineEvent) (x z : ℕ) → w.held.number ≡ y.held.number → Stores y i n w → (cancel ≡ true → m.go ≡ Cancelled)
         → (slice_index (set s.words i n) 0 ≡ x) × (slice_index (set s.words i n) 1 ≡ z) → Follows t m.all m.go m.system y.held.number w e x z
         → MeetsYard key (record { words = set s.words i n; homes = s.homes; views = set s.views id (with_one v w shown cancel) }) × Turns v (with_one v w shown cancel) y w shown cancel e
-    turn i n w shown cancel e x z number told counts f = (
-      (placed key s m id v y at is i n w shown cancel e number told (subst (λ (c : ℕ × ℕ). Follows t m.all m.go m.system y.held.number w e c.0 c.1) (λ j. (sym counts.0 j, sym counts.1 j)) f)).kept,
+    turn i n w shown cancel e x z number stores told counts f = (
+      (placed key s m id v y at is i n w shown cancel e number stores told (subst (λ (c : ℕ × ℕ). Follows t m.all m.go m.system y.held.number w e c.0 c.1) (λ j. (sym counts.0 j, sym counts.1 j)) f)).kept,
       (
         refl,
         subst (λ (u : Start). PassMoves u y w e) (sym started)
@@ -136,7 +143,7 @@ module _ (key : Key) where
         let era : y.held.cpu.era ≡ common_era t.cpus = omega arith in
         let o : Order = order_of t m.go in
         let r = m.yard.resides in
-        let stands = orders_hold (at_rest (system_of t)) (yard_machine t m.go m.system) o (inl r.opens.quiet) (reached_on (after (Calls t.goal) at_start r.opens.enabled) r.reached)
+        let stands = orders_hold (at_rest (system_of t)) (yard_machine t m.go m.system) o (inl r.opens.quiet) (reached_on (after (Calls t.goal) at_start r.opens.enabled) (uncalled_reached r.reached))
         (not_taken t m.all m.go (slice_index s.words 0) (slice_index s.words 1) m.system m.yard y.held.number y here apart era) in
         ((all_get (IsUnderWay o) m.system.processors stands.each y.held.number y.held.cpu (processor_at t m.all m.go m.system r y.held.number y here)).fits, era)
 
@@ -179,14 +186,14 @@ module _ (key : Key) where
     idle = unmoved t m.all m.go n z m.system m.yard k y its
 
     -- it moves, by a step that leaves the counts
-    by_load : (w : Resident) (cancel : Bool) (e : Option MachineEvent) → w.held.number ≡ k → (cancel ≡ true → m.go ≡ Cancelled) → Goes w e n z
+    by_load : (w : Resident) (cancel : Bool) (e : Option MachineEvent) → w.held.number ≡ k → w.stored ≡ y.stored → (cancel ≡ true → m.go ≡ Cancelled) → Goes w e n z
         → Kept 0 n (with_one me.0 w me.0.shown cancel) × Turns me.0 (with_one me.0 w me.0.shown cancel) y w me.0.shown cancel e
-    by_load w cancel e number told f = turn s m id me.0 at y is 0 n w me.0.shown cancel e n z number told (at_first s m id me.0 at y is n) f
+    by_load w cancel e number stored told f = turn s m id me.0 at y is 0 n w me.0.shown cancel e n z number (inl (omega arith, stored)) told (at_first s m id me.0 at y is n) f
 
     -- a load of the first count by one that hasn't taken
     module _ (out : y.held.added ≡ false) (out_again : y.held.again ≡ false) (runs : y.held.cpu.phase ≡ Running) where
       pub no_take : m.go ≡ Cancelled → Kept 0 n (with_one me.0 y me.0.shown true) × OfOne me.0 (λ x. Turns me.0 (with_one me.0 y me.0.shown true) x x me.0.shown true None)
-      no_take c = let p = by_load y true None refl (λ _. c) idle in (p.0, one_of (λ x. Turns me.0 (with_one me.0 y me.0.shown true) x x me.0.shown true None) p.1)
+      no_take c = let p = by_load y true None refl refl (λ _. c) idle in (p.0, one_of (λ x. Turns me.0 (with_one me.0 y me.0.shown true) x x me.0.shown true None) p.1)
 
       abbrev taken : YardView
       taken = with_one me.0 (stepped_by me.0.start Take y) me.0.shown me.0.cancel
@@ -199,7 +206,7 @@ module _ (key : Key) where
           let w : Resident = stepped_by me.0.start Take y in
           let f = takes t m.all m.go n z m.system m.yard k y its out out_again runs low in
           let g : Goes w (Some (Steps k Take)) n z = of_start (λ (u : Start). Goes (stepped_by u Take y) (Some (Steps k Take)) n z) f in
-          let p = by_load w me.0.cancel (Some (Steps k Take)) (in_number y _ _) (shown_before s m id me.0 at y is) g in
+          let p = by_load w me.0.cancel (Some (Steps k Take)) (in_number y _ _) (in_stored y _ _) (shown_before s m id me.0 at y is) g in
           let c = callable s m id me.0 at y is apart out_again runs in
           (p.0, of_start Opens m.yard.resides.opens, one_of HasTaken (p.1, of_start (λ (u : Start). FitsGoal u.goal y.held.cpu) c.0, of_start (λ (u : Start). y.held.cpu.era ≡ common_era u.cpus) c.1))
 
@@ -215,7 +222,7 @@ module _ (key : Key) where
       add low =
           let f = (arrives t m.all m.go n z m.system m.yard k y its out out_again taken).0 low in
           let g : Goes (with_held y (arrive me.0.start y.held)) (Some (Steps k Arrive)) (n + 1) z = of_start (λ (u : Start). Goes (with_held y (arrive u y.held)) (Some (Steps k Arrive)) (n + 1) z) f in
-          let p = turn s m id me.0 at y is 0 (n + 1) (with_held y (arrive me.0.start y.held)) me.0.shown me.0.cancel (Some (Steps k Arrive)) (n + 1) z refl (shown_before s m id me.0 at y is) (at_first s m id me.0 at y is (n + 1)) g in
+          let p = turn s m id me.0 at y is 0 (n + 1) (with_held y (arrive me.0.start y.held)) me.0.shown me.0.cancel (Some (Steps k Arrive)) (n + 1) z refl (inl (omega arith, refl)) (shown_before s m id me.0 at y is) (at_first s m id me.0 at y is (n + 1)) g in
           (p.0, one_of HasCome p.1)
 
       abbrev late_view : YardView
@@ -227,7 +234,7 @@ module _ (key : Key) where
       pub add_late : 4294967296 ≤ n → Kept 0 (n + 1) late_view × OfOne me.0 IsLate
       add_late high =
           let f = (arrives t m.all m.go n z m.system m.yard k y its out out_again taken).1 high in
-          let p = turn s m id me.0 at y is 0 (n + 1) (with_held y (late y.held)) me.0.shown me.0.cancel None (n + 1) z refl (shown_before s m id me.0 at y is) (at_first s m id me.0 at y is (n + 1)) f in
+          let p = turn s m id me.0 at y is 0 (n + 1) (with_held y (late y.held)) me.0.shown me.0.cancel None (n + 1) z refl (inl (omega arith, refl)) (shown_before s m id me.0 at y is) (at_first s m id me.0 at y is (n + 1)) f in
           (p.0, one_of IsLate p.1)
 
     -- a load of the first count by one that waits
@@ -242,7 +249,7 @@ module _ (key : Key) where
       go_out c high =
           let f = leaves t m.all m.go n z m.system m.yard k y its on out_again waits high in
           let g : Goes (with_held y (does me.0.start Leave y.held)) (Some (Steps k Leave)) n z = of_start (λ (u : Start). Goes (with_held y (does u Leave y.held)) (Some (Steps k Leave)) n z) f in
-          let p = by_load (with_held y (does me.0.start Leave y.held)) true (Some (Steps k Leave)) refl (λ _. c) g in
+          let p = by_load (with_held y (does me.0.start Leave y.held)) true (Some (Steps k Leave)) refl refl (λ _. c) g in
           (p.0, one_of HasGone p.1)
 
       abbrev through : YardView
@@ -258,7 +265,7 @@ module _ (key : Key) where
           let arrived = has_arrived m.go y.held.added y.held.again y.held.cpu.phase own.fits on apart waits in
           let f = passes t m.all m.go n z m.system m.yard k y its on out_again arrived (omega arith) in
           let g : Goes (with_held y (does me.0.start Pass y.held)) (Some (Steps k Pass)) n z = of_start (λ (u : Start). Goes (with_held y (does u Pass y.held)) (Some (Steps k Pass)) n z) f in
-          let p = by_load (with_held y (does me.0.start Pass y.held)) me.0.cancel (Some (Steps k Pass)) refl (shown_before s m id me.0 at y is) g in
+          let p = by_load (with_held y (does me.0.start Pass y.held)) me.0.cancel (Some (Steps k Pass)) refl refl (shown_before s m id me.0 at y is) g in
           (p.0, one_of IsThrough (p.1, arrived))
 
     abbrev same_view : YardView
@@ -268,35 +275,45 @@ module _ (key : Key) where
     IsIdle x = Turns me.0 same_view x x me.0.shown me.0.cancel None
 
     pub wait : Kept 0 n same_view × OfOne me.0 IsIdle
-    wait = let p = by_load y me.0.cancel None refl (shown_before s m id me.0 at y is) idle in (p.0, one_of IsIdle p.1)
+    wait = let p = by_load y me.0.cancel None refl refl (shown_before s m id me.0 at y is) idle in (p.0, one_of IsIdle p.1)
 
     -- stores of the own event word
-    abbrev worked : YardView
-    worked = with_one me.0 (stepped_by me.0.start (own_event me.0.start y.held.cpu) y) me.0.shown me.0.cancel
+    abbrev worked : ℕ → YardView
+    worked a = with_one me.0 (with_stored (stepped_by me.0.start (own_event me.0.start y.held.cpu) y) a) me.0.shown me.0.cancel
 
-    abbrev HasWorked : Resident → Type 0
-    HasWorked x = Turns me.0 worked x (stepped_by me.0.start (own_event me.0.start x.held.cpu) x) me.0.shown me.0.cancel (Some (Steps x.held.number (own_event me.0.start x.held.cpu)))
+    abbrev HasWorked : ℕ → Resident → Type 0
+    HasWorked a x = Turns me.0 (worked a) x (with_stored (stepped_by me.0.start (own_event me.0.start x.held.cpu) x) a) me.0.shown me.0.cancel (Some (Steps x.held.number (own_event me.0.start x.held.cpu)))
 
-    pub work : (i a : ℕ) → 1 < i → y.held.added ≡ true → y.held.again ≡ false → is_local y.held.cpu.phase ≡ true → Kept i a worked × OfOne me.0 HasWorked
-    work i a high on out_again local =
+    pub work : (i a : ℕ) → i ≡ y.held.number + 2 → y.held.added ≡ true → y.held.again ≡ false → is_local y.held.cpu.phase ≡ true → Kept i a (worked a) × OfOne me.0 (HasWorked a)
+    work i a own on out_again local =
         let p : Processor = y.held.cpu in
-        let f = works t m.all m.go n z m.system m.yard k y its on out_again local (own_event t p) (λ o ps. due_alone o (order_of t Given) ps [] p SetNoFill p.phase local) in
-        let g : Goes (stepped_by me.0.start (own_event me.0.start p) y) (Some (Steps k (own_event me.0.start p))) n z = of_start (λ (u : Start). Goes (stepped_by u (own_event u p) y) (Some (Steps k (own_event u p))) n z) f in
-        let r = turn s m id me.0 at y is i a (stepped_by me.0.start (own_event me.0.start p) y) me.0.shown me.0.cancel (Some (Steps k (own_event me.0.start p))) n z (in_number y _ _) (shown_before s m id me.0 at y is) (at_own s m id me.0 at y is i a high) g in
-        (r.0, one_of HasWorked r.1)
+        let f = works t m.all m.go n z m.system m.yard k y its on out_again local (own_event t p) (λ o ps. due_alone o (order_of t Given) ps [] p SetNoFill p.phase local) a in
+        let g : Goes (with_stored (stepped_by me.0.start (own_event me.0.start p) y) a) (Some (Steps k (own_event me.0.start p))) n z = of_start (λ (u : Start). Goes (with_stored (stepped_by u (own_event u p) y) a) (Some (Steps k (own_event u p))) n z) f in
+        let r = turn s m id me.0 at y is i a (with_stored (stepped_by me.0.start (own_event me.0.start p) y) a) me.0.shown me.0.cancel (Some (Steps k (own_event me.0.start p))) n z (in_number y _ _) (inr (own, refl)) (shown_before s m id me.0 at y is) (at_own s m id me.0 at y is i a (omega arith)) g in
+        (r.0, one_of (HasWorked a) r.1)
 
     module _ (op : Op) where
-      abbrev used : YardView
-      used = with_one me.0 (accessed_by op y) me.0.shown me.0.cancel
+      abbrev used : ℕ → YardView
+      used a = with_one me.0 (with_stored (accessed_by op y) a) me.0.shown me.0.cancel
 
-      abbrev HasUsed : Resident → Type 0
-      HasUsed x = Turns me.0 used x (accessed_by op x) me.0.shown me.0.cancel (Some (Accesses x.held.number op))
+      abbrev HasUsed : ℕ → Resident → Type 0
+      HasUsed a x = Turns me.0 (used a) x (with_stored (accessed_by op x) a) me.0.shown me.0.cancel (Some (Accesses x.held.number op))
 
-      pub use_memory : (i a : ℕ) → 1 < i → y.held.cpu.phase ≡ Running → FitsOp op → Kept i a used × OfOne me.0 HasUsed
-      use_memory i a high runs fits =
-          let f = accessed t m.all m.go n z m.system m.yard k y its op runs fits in
-          let r = turn s m id me.0 at y is i a (accessed_by op y) me.0.shown me.0.cancel (Some (Accesses k op)) n z (in_number y _ _) (shown_before s m id me.0 at y is) (at_own s m id me.0 at y is i a high) f.0 in
-          (r.0, one_of HasUsed r.1)
+      pub use_memory : (i a : ℕ) → i ≡ y.held.number + 2 → y.held.cpu.phase ≡ Running → FitsOp op → Kept i a (used a) × OfOne me.0 (HasUsed a)
+      use_memory i a own runs fits =
+          let f = accessed t m.all m.go n z m.system m.yard k y its op runs fits a in
+          let r = turn s m id me.0 at y is i a (with_stored (accessed_by op y) a) me.0.shown me.0.cancel (Some (Accesses k op)) n z (in_number y _ _) (inr (own, refl)) (shown_before s m id me.0 at y is) (at_own s m id me.0 at y is i a (omega arith)) f.0 in
+          (r.0, one_of (HasUsed a) r.1)
+
+    -- what the own event word holds
+    pub holds_stored : (i : ℕ) → i ≡ y.held.number + 2 → get_or s.words i 0 ≡ y.stored
+    holds_stored i own = ap (λ (j : ℕ). get_or s.words j 0) own ∙ m.stored k y its
+
+    -- an exchange that finds something else
+    pub miss : (i a : ℕ) → i ≡ y.held.number + 2 → a ≡ y.stored → Kept i a same_view × OfOne me.0 IsIdle
+    miss i a own same =
+        let r = turn s m id me.0 at y is i a y me.0.shown me.0.cancel None n z refl (inr (own, same)) (shown_before s m id me.0 at y is) (at_own s m id me.0 at y is i a (omega arith)) idle in
+        (r.0, one_of IsIdle r.1)
 
     -- the second count
     abbrev come_again : YardView
@@ -309,7 +326,7 @@ module _ (key : Key) where
     add_again on out_again restored =
         let f = arrives_again t m.all m.go n z m.system m.yard k y its on out_again restored in
         let g : Goes (with_held y (arrive_again me.0.start y.held)) (Some (Steps k ArriveAgain)) n (z + 1) = of_start (λ (u : Start). Goes (with_held y (arrive_again u y.held)) (Some (Steps k ArriveAgain)) n (z + 1)) f in
-        let r = turn s m id me.0 at y is 1 (z + 1) (with_held y (arrive_again me.0.start y.held)) me.0.shown me.0.cancel (Some (Steps k ArriveAgain)) n (z + 1) refl (shown_before s m id me.0 at y is) (at_second s m id me.0 at y is (z + 1)) g in
+        let r = turn s m id me.0 at y is 1 (z + 1) (with_held y (arrive_again me.0.start y.held)) me.0.shown me.0.cancel (Some (Steps k ArriveAgain)) n (z + 1) refl (inl (omega arith, refl)) (shown_before s m id me.0 at y is) (at_second s m id me.0 at y is (z + 1)) g in
         (r.0, one_of HasComeAgain r.1)
 
     abbrev released : YardView
@@ -323,7 +340,7 @@ module _ (key : Key) where
         let same = count s m id me.0 at y is in
         let f = releases t m.all m.go n z m.system m.yard k y its on on_again waits (omega arith) in
         let g : Goes (with_held y (does me.0.start Release y.held)) (Some (Steps k Release)) n z = of_start (λ (u : Start). Goes (with_held y (does u Release y.held)) (Some (Steps k Release)) n z) f in
-        let r = turn s m id me.0 at y is 1 z (with_held y (does me.0.start Release y.held)) (Some z) me.0.cancel (Some (Steps k Release)) n z refl (shown_before s m id me.0 at y is) (at_second s m id me.0 at y is z) g in
+        let r = turn s m id me.0 at y is 1 z (with_held y (does me.0.start Release y.held)) (Some z) me.0.cancel (Some (Steps k Release)) n z refl (inl (omega arith, refl)) (shown_before s m id me.0 at y is) (at_second s m id me.0 at y is z) g in
         (r.0, one_of IsReleased r.1)
 
     abbrev shown_view : YardView
@@ -333,7 +350,7 @@ module _ (key : Key) where
     IsShown x = Turns me.0 shown_view x x (Some z) me.0.cancel None
 
     pub wait_again : Kept 1 z shown_view × OfOne me.0 IsShown
-    wait_again = let r = turn s m id me.0 at y is 1 z y (Some z) me.0.cancel None n z refl (shown_before s m id me.0 at y is) (at_second s m id me.0 at y is z) idle in (r.0, one_of IsShown r.1)
+    wait_again = let r = turn s m id me.0 at y is 1 z y (Some z) me.0.cancel None n z refl (inl (omega arith, refl)) (shown_before s m id me.0 at y is) (at_second s m id me.0 at y is z) idle in (r.0, one_of IsShown r.1)
 
   -- ---- what the table asks of each
 
@@ -386,17 +403,52 @@ module _ (key : Key) where
           let p = wait id me y is s m at in
           (same_view id me y is s m at, keeps, tt, p.0, (refl, (λ full. absurd (other full)), (λ high. absurd (omega arith)), (λ _ _. p.1)))
 
-  pub works_yard : (slots id i a : ℕ) (me : Me Op YardView) (y : Resident) → me.0.held ≡ y ∷ [] → 1 < i → y.held.added ≡ true → y.held.again ≡ false → is_local y.held.cpu.phase ≡ true
+  pub works_yard : (slots id i a : ℕ) (me : Me Op YardView) (y : Resident) → me.0.held ≡ y ∷ [] → i ≡ y.held.number + 2 → y.held.added ≡ true → y.held.again ≡ false → is_local y.held.cpu.phase ≡ true
       → Allows (MeetsYard key) slots id me i (λ _. a) (λ _. WorksYard (step slots i a 0 none) me a)
-  works_yard slots id i a me y is high on out_again local s m _ at small =
-      let p = work id me y is s m at i a high on out_again local in
-      (worked id me y is s m at, keeps, tt, p.0, (refl, p.1))
+  works_yard slots id i a me y is own on out_again local s m _ at small =
+      let p = work id me y is s m at i a own on out_again local in
+      (worked id me y is s m at a, keeps, tt, p.0, (refl, p.1, one_of id me y is s m at (λ x. i ≡ x.held.number + 2) own))
 
-  pub accesses_yard : (slots id i a b : ℕ) (op : Op) (me : Me Op YardView) (y : Resident) → me.0.held ≡ y ∷ [] → 1 < i → y.held.cpu.phase ≡ Running → FitsOp op
+  pub accesses_yard : (slots id i a b : ℕ) (op : Op) (me : Me Op YardView) (y : Resident) → me.0.held ≡ y ∷ [] → i ≡ y.held.number + 2 → y.held.cpu.phase ≡ Running → FitsOp op
       → Allows (MeetsYard key) slots id me i (λ n. either (n == a) b n) (AccessesYard (step slots i a b (some op)) me)
-  accesses_yard slots id i a b op me y is high runs fits s m _ at small =
-      let p = use_memory id me y is s m at op i (either (get_or s.words i 0 == a) b (get_or s.words i 0)) high runs fits in
-      (used id me y is s m at op, keeps, tt, p.0, (refl, λ other said. subst (λ (o : Op). OfOne me.0 (λ x. Turns me.0 (used id me y is s m at op) x (accessed_by o x) me.0.shown me.0.cancel (Some (Accesses x.held.number o)))) (some-injective op other said) p.1))
+  accesses_yard slots id i a b op me y is own runs fits s m _ at small = one (get_or s.words i 0 == a) refl
+    where
+      finds : OfOne me.0 (λ x. get_or s.words i 0 ≡ x.stored)
+      finds = one_of id me y is s m at (λ x. get_or s.words i 0 ≡ x.stored) (holds_stored id me y is s m at i own)
+
+      is_own : IsOwnWord i me
+      is_own = one_of id me y is s m at (λ x. i ≡ x.held.number + 2) own
+
+      becomes : (c : Bool) → (get_or s.words i 0 == a) ≡ c → either c b (get_or s.words i 0) ≡ either (get_or s.words i 0 == a) b (get_or s.words i 0)
+      becomes c e = ap (λ (x : Bool). either x b (get_or s.words i 0)) (sym e)
+
+      one : (c : Bool) → (get_or s.words i 0 == a) ≡ c
+          → (w : YardView) × (x : Act Op) × Valid s.homes me.1 x × MeetsYard key (stepped s i (either (get_or s.words i 0 == a) b (get_or s.words i 0)) id me.1 w x)
+          × AccessesYard (step slots i a b (some op)) me (get_or s.words i 0) (w, carried_after me.1 x)
+      one true e =
+          let found = eqb-true (get_or s.words i 0) a e in
+          let p = use_memory id me y is s m at op i b own runs fits in (
+            used id me y is s m at op b,
+            keeps,
+            tt,
+            subst (λ (v : ℕ). Kept id me y is s m at i v (used id me y is s m at op b)) (becomes true e) p.0,
+            (
+              refl,
+              (λ _ other said. subst (λ (o : Op). OfOne me.0 (λ x. Turns me.0 (used id me y is s m at op b) x (with_stored (accessed_by o x) b) me.0.shown me.0.cancel (Some (Accesses x.held.number o)))) (some-injective op other said) p.1),
+              (λ other. absurd (other found)),
+              finds,
+              is_own,
+            ),
+          )
+      one false e =
+          let other = eqb-false (get_or s.words i 0) a e in
+          let p = miss id me y is s m at i (get_or s.words i 0) own (holds_stored id me y is s m at i own) in (
+            same_view id me y is s m at,
+            keeps,
+            tt,
+            subst (λ (v : ℕ). Kept id me y is s m at i v (same_view id me y is s m at)) (becomes false e) p.0,
+            (refl, (λ found. absurd (other found)), (λ _. p.1), finds, is_own),
+          )
 
   pub arrives_again_yard : (slots id : ℕ) (me : Me Op YardView) (y : Resident) → me.0.held ≡ y ∷ [] → y.held.added ≡ true → y.held.again ≡ false → y.held.cpu.phase ≡ Restored
       → Allows (MeetsYard key) slots id me 1 (λ n. (n + 1) % 2 ^ 64) (ArrivesAgainYard (step slots 1 1 0 none) me)

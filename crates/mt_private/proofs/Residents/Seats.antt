@@ -1,5 +1,5 @@
 -- What steps of seats make of the rule.
-use Rattle.std.proofs.Common.{◌≡◌, ◌≢◌, ◌⊎◌, ◌∙◌, ap, sym, refl, subst, arith, ℕ, zero, suc, ◌+◌, ◌<◌, Bool, true, false, List, [], ◌∷◌, ◌++◌, length, map, set, Option, None, Some, inl, inr, ⊎_elim, ◌||◌, length-set, get_or-set_same}
+use Rattle.std.proofs.Common.{◌≡◌, ◌≢◌, ◌⊎◌, ◌∙◌, ap, sym, refl, subst, arith, ℕ, zero, suc, ◌+◌, ◌<◌, Bool, true, false, List, [], ◌∷◌, ◌++◌, length, map, set, Option, None, Some, inl, inr, ⊎_elim, ◌||◌, length-set, get_or-set_other, get_or-set_same}
 use Rattle.std.specs.Prelude.{slice_index}
 use Rattle.std.proofs.lemmas.List.{map-append, map-set}
 use mathlib.Core.Option.{some, some-injective, some-ne-none}
@@ -21,8 +21,8 @@ use Rattle.mt_rendezvous.proofs.RootSteps.{join_present, owned, seats_decided, s
 use Rattle.mt_private.specs.declared.view.Resident.{Resident}
 use Rattle.mt_private.specs.declared.view.YardView.{YardView}
 use Rattle.mt_private.specs.Residents.{Decides, Follows, Yard, held_of, yard_machine}
-use Rattle.mt_private.specs.YardLaws.{IsOneEvent}
-use Rattle.mt_private.specs.YardRule.{AreAt, MeetsYard, as_view, one_of, rest_of, with_one, with_said, yard_both, yard_left, yard_right, yard_spent}
+use Rattle.mt_private.specs.YardLaws.{IsOneEvent, Stores}
+use Rattle.mt_private.specs.YardRule.{AreAt, HoldsStored, MeetsYard, as_view, one_of, rest_of, with_one, with_said, yard_both, yard_left, yard_right, yard_spent}
 
 -- ---- lists
 
@@ -54,6 +54,31 @@ held_right : (ys : List Resident) → map held_of (one_of ys) ≡ one (map held_
 held_right [] = refl
 held_right (y ∷ ys) = refl
 
+-- the event words after a step of resident k, after which w stands in its place
+words_stored : (words : List ℕ) (all : List Resident) (k i n : ℕ) (y w : Resident) → length words ≡ length all + 2 → HoldsStored words all → get_elem? all k ≡ some y → y.held.number ≡ k → Stores y i n w
+    → HoldsStored (set words i n) (set all k w)
+words_stored words all k i n y w wide old at number stores j z e =
+    ⊎_elim
+    (λ (x : (j ≡ k) × (w ≡ z)).
+    ⊎_elim
+    (λ (c : (i < 2) × (w.stored ≡ y.stored)).
+    get_or-set_other words i (j + 2) n 0 (λ (q : j + 2 ≡ i). let low = c.0 in omega arith)
+    ∙ old j y (ap (get_elem? all) x.0 ∙ at) ∙ sym c.1 ∙ ap (λ (u : Resident). u.stored) x.1)
+    (λ (c : (i ≡ y.held.number + 2) × (n ≡ w.stored)).
+    let there : j + 2 ≡ i = (let own = x.0 in let own_word = c.0 in omega arith) in
+    ap (λ (h : ℕ). slice_index (set words i n) h) there
+    ∙ get_or-set_same words i n 0 (let low = at_less all k y at in let own_word = c.0 in omega arith)
+    ∙ c.1 ∙ ap (λ (u : Resident). u.stored) x.1)
+    stores)
+    (λ (x : (j ≢ k) × (get_elem? all j ≡ some z)).
+    get_or-set_other words i (j + 2) n 0
+    (λ (q : j + 2 ≡ i). ⊎_elim
+    (λ (c : (i < 2) × (w.stored ≡ y.stored)). let low = c.0 in omega arith)
+    (λ (c : (i ≡ y.held.number + 2) × (n ≡ w.stored)). x.0 (let own_word = c.0 in omega arith))
+    stores)
+    ∙ old j z x.1)
+    (at_set all k j w z e)
+
 module _ (key : Key) (s : State Op YardView) (m : MeetsYard key s) where
   abbrev t : Start
   t = start_of key
@@ -80,10 +105,10 @@ module _ (key : Key) (s : State Op YardView) (m : MeetsYard key s) where
     mine : m.owner y.held.number ≡ id
     mine = ((m.sits id (as_view v) at_view).holds 0 y.held (subst (λ (l : List Held). get_elem? l 0 ≡ some y.held) (sym held_is) refl)).1
 
-    pub placed : (i n : ℕ) (w : Resident) (shown : Option ℕ) (cancel : Bool) (e : Option MachineEvent) → w.held.number ≡ y.held.number → (cancel ≡ true → m.go ≡ Cancelled)
+    pub placed : (i n : ℕ) (w : Resident) (shown : Option ℕ) (cancel : Bool) (e : Option MachineEvent) → w.held.number ≡ y.held.number → Stores y i n w → (cancel ≡ true → m.go ≡ Cancelled)
         → Follows t m.all m.go m.system y.held.number w e (slice_index (set s.words i n) 0) (slice_index (set s.words i n) 1)
         → IsOneEvent key s (record { words = set s.words i n; homes = s.homes; views = set s.views id (with_one v w shown cancel) }) m e
-    placed i n w shown cancel e number told f = record {
+    placed i n w shown cancel e number stores told f = record {
       kept = record {
         all = set m.all y.held.number w;
         go = m.go;
@@ -91,6 +116,7 @@ module _ (key : Key) (s : State Op YardView) (m : MeetsYard key s) where
         system = f.moves.system;
         yard = record { resides = f.moves.kept; first_count = f.first_count; second_count = f.second_count };
         wide = length-set s.words i n ∙ m.wide ∙ sym (ap (λ (k : ℕ). k + 2) (length-set m.all y.held.number w));
+        stored = words_stored s.words m.all y.held.number i n y w m.wide m.stored there refl stores;
         present = λ k b.
             subst (λ (vs : List View). IsHeld vs k) (sym views_are)
             (moves_present views id (as_view v) (as_view new) y.held w.held at_view held_is refl number k (m.present k (subst (λ (n : ℕ). k < n) (length-set m.all y.held.number w) b)));
@@ -137,6 +163,7 @@ module _ (key : Key) (s : State Op YardView) (m : MeetsYard key s) where
       system = m.system;
       yard = subst (λ (x : ℕ × ℕ). Yard t m.all go x.0 x.1 m.system) (λ i. (sym (get_or-set_same s.words 0 n 0 some_word) i, sym stays i)) d.kept;
       wide = length-set s.words 0 n ∙ m.wide;
+      stored = λ k y e. get_or-set_other s.words 0 (k + 2) n 0 (λ (q : k + 2 ≡ 0). omega arith) ∙ m.stored k y e;
       present = λ k b. subst (λ (vs : List View). IsHeld vs k) (sym views_are) (kept_present views id (as_view v) (with_go (as_view v) go) at_view (λ i h e. (i, h, e, refl)) k (m.present k b));
       sits = subst (λ (vs : List View). AllSit t hs go m.owner vs) (sym views_are) (seats_decided t hs m.go m.owner views m.sits id (as_view v) at_view go root);
       same = λ j u e. ⊎_elim
@@ -173,6 +200,7 @@ module _ (key : Key) (s : State Op YardView) (m : MeetsYard key s) where
       system = m.system;
       yard = m.yard;
       wide = m.wide;
+      stored = m.stored;
       present = λ k b. subst (λ (vs : List View). IsHeld vs k) (sym views_are) (split_present views id (as_view v) y.held (map held_of ys) at_view held_is (ap others held_is) (ap one held_is) k (m.present k b));
       sits = subst (λ (vs : List View). AllSit t hs m.go (owned m.owner y.held.number (length views)) vs) (sym views_are) (seats_split t hs m.go m.owner views m.sits id (as_view v) at_view y.held (map held_of ys) held_is);
       same = λ j u e. ⊎_elim
@@ -236,6 +264,7 @@ module _ (key : Key) (s : State Op YardView) (m : MeetsYard key s) where
       system = m.system;
       yard = m.yard;
       wide = m.wide;
+      stored = m.stored;
       present = λ k b.
           subst (λ (vs : List View). IsHeld vs k) (sym views_are)
           (join_present views id other (as_view v) (as_view w) y.held at_view apart other_view held_is (ap (λ (l : List Held). l ++ map held_of v.held) held_is) k (m.present k b));

@@ -34,11 +34,12 @@ use Rattle.mt_rendezvous.proofs.Steps.{shows}
 use Rattle.mt_private.specs.declared.view.Resident.{Resident}
 use Rattle.mt_private.specs.Own.{Becomes, WritesOn, own_memory}
 use Rattle.mt_private.specs.OneByOne.{at_rest}
-use Rattle.mt_private.specs.Residents.{FitsResident, FitsYard, Follows, Yard, accessed_by, held_of, in_system, own_of, pages_at, stepped_by, system_of, yard_machine}
+use Rattle.mt_private.specs.Residents.{FitsResident, FitsYard, Follows, Yard, accessed_by, held_of, in_system, own_of, pages_at, stepped_by, system_of, with_stored, yard_machine}
 use Rattle.mt_private.proofs.Own.Buses.{in_pages}
 use Rattle.mt_private.proofs.Own.Owners.{runs_alone, steps_alone, within_of}
 use Rattle.mt_private.proofs.Residents.Events.{accesses, steps}
 use Rattle.mt_private.proofs.Residents.Moves.{processor_at}
+use Rattle.mt_private.proofs.Residents.Paths.{uncalled_reached}
 use Rattle.mt_private.proofs.Residents.Barriers.{counted, few, few_added, not_taken, number, on_its_way, on_way, own_fits, same_era, under_way}
 
 -- ---- a resident with what its own system became
@@ -127,15 +128,15 @@ module _ (t : Start) (all : List Resident) (go : Go) (first second : ℕ) (s : S
   sound : IsSound s
   sound =
       stays_sound (at_rest (system_of t)) (yard_machine t go s) (inl r.resides.opens.quiet)
-      (reached_on (after (Calls t.goal) at_start r.resides.opens.enabled) r.resides.reached)
+      (reached_on (after (Calls t.goal) at_start r.resides.opens.enabled) (uncalled_reached r.resides.reached))
 
   lines_apart : Apart y.held.cpu.lines
   lines_apart = apart_of_pairs y.held.cpu.lines (all_get IsProcessor s.processors sound.each k y.held.cpu (processor_at t all go s r.resides k y at)).distinct_lines
 
   -- a store of the own event word that is the event due between the barriers
-  pub works : y.held.added ≡ true → y.held.again ≡ false → is_local y.held.cpu.phase ≡ true → (e : Event) → ((o : Order) (ps : List Processor) → due o ps y.held.cpu y.held.cpu.phase ≡ Some e)
-      → Follows t all go s k (stepped_by t e y) (Some (Steps k e)) first second
-  works on out_again here e is =
+  pub works : y.held.added ≡ true → y.held.again ≡ false → is_local y.held.cpu.phase ≡ true → (e : Event) → ((o : Order) (ps : List Processor) → due o ps y.held.cpu y.held.cpu.phase ≡ Some e) → (n : ℕ)
+      → Follows t all go s k (with_stored (stepped_by t e y) n) (Some (Steps k e)) first second
+  works on out_again here e is n =
       let apart = lines_apart in
       let o : Order = order_of t go in
       let changing = local_changing y.held.cpu.phase here in
@@ -152,8 +153,8 @@ module _ (t : Start) (all : List Resident) (go : Go) (first second : ℕ) (s : S
       let fits : FitsResident t go (held y.held.number (own_step t.goal e y.held.cpu) y.held.added y.held.again) =
       on_its_way t go (held y.held.number (own_step t.goal e y.held.cpu) y.held.added y.held.again) (w.1 ∙ same_era t go y.held f u)
       (changing_under_way (own_step t.goal e y.held.cpu).phase w.0) (fits_changing go y.held.added y.held.again (own_step t.goal e y.held.cpu).phase w.0 old.0 old.1 old.2) in
-      counted t all go first second s r k y at (stepped_by t e y) (Some (Steps k e)) first second
-      (steps t all go s r.resides k y at e (stepped_by t e y) (under_way t all go first second s r k y at u) (is o s.processors) writes (own_in y (pages_at t k) k s _ _ b)
+      counted t all go first second s r k y at (with_stored (stepped_by t e y) n) (Some (Steps k e)) first second
+      (steps t all go s r.resides k y at e (with_stored (stepped_by t e y) n) (under_way t all go first second s r k y at u) (is o s.processors) writes (own_in y (pages_at t k) k s _ _ b)
       (ap (λ (h : Held). h.number) same ∙ number t all go first second s r k y at) (subst (FitsResident t go) (sym same) fits))
       (ap (λ (h : Held). first + weight h.added) (sym same)) (ap (λ (h : Held). second + weight h.again) (sym same))
     where
@@ -163,8 +164,8 @@ module _ (t : Start) (all : List Resident) (go : Go) (first second : ℕ) (s : S
       stepped_held e other = refl
 
   -- a store of the own event word that is an access
-  pub accessed : (op : Op) → y.held.cpu.phase ≡ Running → FitsOp op → Follows t all go s k (accessed_by op y) (Some (Accesses k op)) first second × ((access s k op).answer ≡ (access (own_of y) 0 op).answer)
-  accessed op runs fits_op =
+  pub accessed : (op : Op) → y.held.cpu.phase ≡ Running → FitsOp op → (n : ℕ) → Follows t all go s k (with_stored (accessed_by op y) n) (Some (Accesses k op)) first second × ((access s k op).answer ≡ (access (own_of y) 0 op).answer)
+  accessed op runs fits_op n =
       let b : Becomes (pages_at t k) k s (access s k op).after (access (own_of y) 0 op).after =
       subst (λ (v : System). Becomes (pages_at t k) k s (access s k op).after (access v 0 op).after) (r.resides.stands.own k y at) (runs_alone (pages_at t k) k s r.resides.stands.memory (r.resides.stands.owns k y at) (op ∷ [])).after in
       let d = stage_there s (access s k op).after k y.held.cpu (access_stages s k op) (processor_at t all go s r.resides k y at) in
@@ -175,5 +176,5 @@ module _ (t : Start) (all : List Resident) (go : Go) (first second : ℕ) (s : S
         fits = subst (λ (ph : Phase). FitsYard go y.held.added y.held.again ph) (sym (ap (λ (x : Stage). x.0) d.2)) f.fits;
         era = ap (λ (x : Stage). x.1) d.2 ∙ f.era ∙ ap (λ (x : Stage). common_era t.cpus + rise y.held.again x.0) (sym d.2);
       } in
-      let a = accesses t all go s r.resides k y at op (accessed_by op y) runs fits_op (own_in y (pages_at t k) k s _ _ b) (ap (λ (h : Held). h.number) same ∙ number t all go first second s r k y at) (subst (FitsResident t go) (sym same) fits) in
-      (counted t all go first second s r k y at (accessed_by op y) (Some (Accesses k op)) first second a.0 (ap (λ (h : Held). first + weight h.added) (sym same)) (ap (λ (h : Held). second + weight h.again) (sym same)), a.1)
+      let a = accesses t all go s r.resides k y at op (with_stored (accessed_by op y) n) runs fits_op (own_in y (pages_at t k) k s _ _ b) (ap (λ (h : Held). h.number) same ∙ number t all go first second s r k y at) (subst (FitsResident t go) (sym same) fits) in
+      (counted t all go first second s r k y at (with_stored (accessed_by op y) n) (Some (Accesses k op)) first second a.0 (ap (λ (h : Held). first + weight h.added) (sym same)) (ap (λ (h : Held). second + weight h.again) (sym same)), a.1)

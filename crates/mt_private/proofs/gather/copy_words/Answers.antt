@@ -3,7 +3,8 @@ use Rattle.std.proofs.lemmas.List.{length-replicate}
 use Rattle.mt_machine.specs.Memory.{Memory}
 use Rattle.mt_machine.specs.Update.{addresses}
 use Rattle.mt_private.specs.Own.{own_memory, pages_of}
-use Rattle.mt_private.proofs.Copies.{as_many, length_on, same_words, taken_more}
+use Rattle.mt_private.proofs.Copies.{as_many, length_on}
+use Rattle.mt_rendezvous.proofs.Handed.{same_words, taken_more}
 use Rattle.mt_private.proofs.gather.copy_words.Goals as goal
 
 pub loop-i-init : goal.loop-i-init

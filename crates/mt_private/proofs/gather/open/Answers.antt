@@ -17,5 +17,4 @@ of_words-requires c =
     let words = c.as_slice.ensures.value ∙ fresh in
     opened key c.as_slice.result.now (subst Opens (sym same) c.requires.opens)
     (ap (λ (l : List ℕ). length l) words ∙ length-replicate (c.len-count.result + 2) 0 ∙ ap (λ (n : ℕ). n + 2) count)
-    (ap (λ (l : List ℕ). get_or l 0 0) words ∙ zeros (c.len-count.result + 2) 0)
-    (ap (λ (l : List ℕ). get_or l 1 0) words ∙ zeros (c.len-count.result + 2) 1)
+    (λ i. ap (λ (l : List ℕ). get_or l i 0) words ∙ zeros (c.len-count.result + 2) i)

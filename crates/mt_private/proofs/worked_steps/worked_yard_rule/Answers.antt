@@ -2,12 +2,15 @@ use Rattle.std.proofs.Common.{[], ◌∷◌, ap, refl}
 use Rattle.mt_rendezvous.specs.declared.view.Start.{Start}
 use Rattle.mt_private.specs.WorkedYard.{at_start, first_lodged}
 use Rattle.mt_private.specs.YardRule.{first_yard_view, residents}
-use Rattle.mt_private.proofs.Lodged.{none_due, not_counted, not_gone_on, not_missing, not_short, not_uncounted, not_untold, opened_lodging, second_lodged}
+use Rattle.mt_private.proofs.Lodged.{none_due, not_counted, not_gone_on, not_missing, not_short, not_stored, not_uncounted, not_untold, opened_lodging, second_lodged}
 use Rattle.mt_private.proofs.Residents.Seats.{splits}
 use Rattle.mt_private.proofs.worked_steps.worked_yard_rule.Goals as goal
 
 pub returns-clause-opened : goal.returns-clause-opened
 returns-clause-opened c = opened_lodging
+
+pub returns-clause-unstored : goal.returns-clause-unstored
+returns-clause-unstored c = not_stored
 
 pub returns-clause-short : goal.returns-clause-short
 returns-clause-short c = not_short

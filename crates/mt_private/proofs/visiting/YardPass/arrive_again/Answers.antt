@@ -1,4 +1,4 @@
-use Rattle.std.proofs.Common.{◌≡◌, ◌∙◌, refl, ap, arith, true, [], ◌∷◌}
+use Rattle.std.proofs.Common.{◌≡◌, ◌∙◌, refl, ap, sym, arith, true, [], ◌∷◌}
 use Rattle.mt_machine.specs.declared.phase.Phase.TheVariants.{Arrived2, Restored}
 use Rattle.mt_machine.specs.declared.event.Event.TheVariants.{ArriveAgain}
 use Rattle.mt_machine.specs.declared.go.Go.TheVariants.{Given}
@@ -11,7 +11,7 @@ use Rattle.mt_rendezvous.specs.Plays.{arrive_again}
 use Rattle.mt_private.specs.Residents.{with_held}
 use Rattle.mt_private.specs.YardRule.{with_one}
 use Rattle.mt_private.proofs.Alone.{in_its_phase, its_phase, onward}
-use Rattle.mt_private.proofs.Carried.{core_is, has_done, its_era, its_guest, of_guest, shifted_is, visits_on}
+use Rattle.mt_private.proofs.Carried.{arrives_again_stored, core_is, has_done, its_era, its_guest, of_guest, shifted_is, visits_on}
 use Rattle.mt_private.proofs.Residents.Plays.{arrives_again_yard}
 use Rattle.mt_private.proofs.visiting.YardPass.arrive_again.Goals as goal
 
@@ -20,6 +20,9 @@ fetch_add-requires c =
     let r = c.requires.visits.1.lodges in
     let w = c.args.yard.now.wide in
     (r.same, omega arith, arrives_again_yard c.args.yard.now.table.shared.key _ _ c.args.self.now.seat.me (its_guest r) r.holds refl refl (its_phase Restored c.args.core.now.system r.cpu r.alone c.requires.restored))
+
+pub invariant_of-self-clause-known : goal.invariant_of-self-clause-known
+invariant_of-self-clause-known c = c.args.self.now.known ∙ sym (arrives_again_stored c.requires.visits.1.lodges _ c.fetch_add.ensures.2)
 
 pub returns-clause-done : goal.returns-clause-done
 returns-clause-done c =

@@ -17,7 +17,7 @@ use Rattle.mt_laws.proofs.Barrier.Stages.{Stage}
 use Rattle.mt_rendezvous.specs.Station.{start_of}
 use Rattle.mt_private.specs.declared.view.YardView.{YardView}
 use Rattle.mt_private.proofs.Alone.{called, due_take, in_its_phase, in_phase_one, its_phase, one_all, one_drained, onward}
-use Rattle.mt_private.proofs.Carried.{carried, has_done, its_guest, stepped_done, took, visits_first}
+use Rattle.mt_private.proofs.Carried.{carried, has_done, its_guest, stepped_done, takes_stored, took, visits_first}
 use Rattle.mt_private.proofs.Residents.Plays.{takes_yard}
 use Rattle.mt_private.proofs.visiting.YardPass.take.Goals as goal
 
@@ -26,6 +26,9 @@ load-found-requires c =
     let r = c.requires.lodges in
     let w = c.args.yard.now.wide in
     (r.same, omega arith, takes_yard c.args.yard.now.table.shared.key _ _ c.args.self.now.seat.me (its_guest r) r.holds refl refl (its_phase Running c.args.core.now.system r.cpu r.alone c.requires.runs))
+
+pub invariant_of-self-clause-known : goal.invariant_of-self-clause-known
+invariant_of-self-clause-known c = c.args.self.now.known ∙ sym (takes_stored c.requires.lodges _ _ c.load-found.ensures.2)
 
 pub returns-then-found-ge-CANCEL-clause-done : goal.returns-then-found-ge-CANCEL-clause-done
 returns-then-found-ge-CANCEL-clause-done c =

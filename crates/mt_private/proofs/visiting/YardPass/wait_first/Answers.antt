@@ -17,7 +17,7 @@ use Rattle.mt_private.specs.Residents.{with_held}
 use Rattle.mt_private.specs.YardRule.{with_one}
 use Rattle.mt_private.specs.YardCalls.{AreIn, HasTaken}
 use Rattle.mt_private.proofs.Alone.{cancelled, does_due, given, in_its_phase, its_phase, one_step, onward, passes_alone, taken_on}
-use Rattle.mt_private.proofs.Carried.{carried, core_is, guest, has_done, its_era, its_guest, of_guest, shifted_is, visits_on}
+use Rattle.mt_private.proofs.Carried.{carried, core_is, guest, has_done, its_era, its_guest, of_guest, passes_stored, shifted_is, visits_on}
 use Rattle.mt_private.proofs.Residents.Plays.{passes_yard}
 use Rattle.mt_private.proofs.visiting.YardPass.wait_first.Goals as goal
 
@@ -41,6 +41,9 @@ load-found-requires g c =
       passes_yard c.args.yard.now.table.shared.key _ _ c.loop.self.seat.me (its_guest r) r.holds refl refl
           (waiting c.loop.core.system r.cpu r.alone (subst (λ (m : Machine). AreIn Taken m.system ⊎ AreIn Arrived m.system) (sym c.loop.invariant.core) c.requires.waits)),
     )
+
+pub invariant_of-self-clause-known : goal.invariant_of-self-clause-known
+invariant_of-self-clause-known g c = c.loop.self.known ∙ sym (passes_stored (c.loop.invariant.visits c.requires.visits.0 c.requires.visits.1).lodges _ _ c.load-found.ensures.2)
 
 -- ---- the cancel
 
@@ -85,7 +88,7 @@ returns-then-found-ge-CANCEL-clause-lodges g c _ =
     let turn : new.0 ≡ with_one me.0 (with_held (its_guest r) (does t Leave (its_guest r).held)) me.0.shown true =
     of_guest r (λ u y. new.0 ≡ with_one me.0 (with_held y (does u Leave y.held)) me.0.shown true) (λ y same. (e.2.2 c.if-found-ge-CANCEL.true y same).0) in
     carried r _ new (with_held (its_guest r) (does t Leave (its_guest r).held)) _ _ c.step.new.self.system q.cpu true false e.0 e.2.0 turn (ap (λ (z : System). z.processors) is ∙ q.alone)
-    (shifted_is r Leave true false q.cpu refl q.alone ∙ ap (λ (z : System). guest c.loop.self.number q.cpu true false z.memory (its_guest r).done) (sym is))
+    (shifted_is r Leave true false q.cpu refl q.alone ∙ ap (λ (z : System). guest c.loop.self.number q.cpu true false z.memory (its_guest r).done (its_guest r).stored) (sym is))
 
 pub returns-then-found-ge-CANCEL-clause-left : goal.returns-then-found-ge-CANCEL-clause-left
 returns-then-found-ge-CANCEL-clause-left g c _ first has =

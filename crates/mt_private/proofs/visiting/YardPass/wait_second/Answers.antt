@@ -18,7 +18,7 @@ use Rattle.mt_private.specs.Residents.{with_held}
 use Rattle.mt_private.specs.YardRule.{with_one}
 use Rattle.mt_private.specs.YardCalls.{AreIn}
 use Rattle.mt_private.proofs.Alone.{does_due, in_its_phase, its_phase, last_round, one_step, released_alone}
-use Rattle.mt_private.proofs.Carried.{carried, core_is, guest, has_done, its_era, its_guest, of_guest, shifted_is}
+use Rattle.mt_private.proofs.Carried.{carried, core_is, guest, has_done, its_era, its_guest, of_guest, releases_stored, shifted_is}
 use Rattle.mt_private.proofs.Residents.Plays.{releases_yard}
 use Rattle.mt_private.proofs.visiting.YardPass.wait_second.Goals as goal
 
@@ -34,6 +34,9 @@ load-found-requires g c =
       releases_yard c.args.yard.now.table.shared.key _ _ c.loop.self.seat.me (its_guest r) r.holds refl refl
           (its_phase Arrived2 c.loop.core.system r.cpu r.alone (subst (λ (m : Machine). AreIn Arrived2 m.system) (sym c.loop.invariant.core) c.requires.waits)),
     )
+
+pub invariant_of-self-clause-known : goal.invariant_of-self-clause-known
+invariant_of-self-clause-known g c = c.loop.self.known ∙ sym (releases_stored (c.loop.invariant.visits c.requires.visits.0 c.requires.visits.1).lodges _ _ c.load-found.ensures.2)
 
 pub step-requires : goal.step-requires
 step-requires g c = let n = ap (λ (ps : List Processor). length ps) (c.loop.invariant.visits c.requires.visits.0 c.requires.visits.1).lodges.alone in omega arith
@@ -76,7 +79,7 @@ returns-then-found-yard-clause-lodges g c =
     let turn : new.0 ≡ with_one me.0 (with_held (its_guest r) (does t Release (its_guest r).held)) (Some c.load-found.result) me.0.cancel =
     of_guest r (λ u y. new.0 ≡ with_one me.0 (with_held y (does u Release y.held)) (Some c.load-found.result) me.0.cancel) (λ y same. (tells y same).0) in
     carried r _ new (with_held (its_guest r) (does t Release (its_guest r).held)) _ _ c.step.new.self.system q.cpu true true e.0 e.2.0 turn (ap (λ (z : System). z.processors) is ∙ q.alone)
-    (shifted_is r Release true true q.cpu refl q.alone ∙ ap (λ (z : System). guest c.loop.self.number q.cpu true true z.memory (its_guest r).done) (sym is))
+    (shifted_is r Release true true q.cpu refl q.alone ∙ ap (λ (z : System). guest c.loop.self.number q.cpu true true z.memory (its_guest r).done (its_guest r).stored) (sym is))
 
 pub returns-then-found-yard-clause-runs : goal.returns-then-found-yard-clause-runs
 returns-then-found-yard-clause-runs g c =

@@ -1,4 +1,4 @@
-use Rattle.std.proofs.Common.{◌≡◌, ◌∙◌, refl, ap, sym, arith, true, false, List, [], ◌∷◌, Some}
+use Rattle.std.proofs.Common.{◌≡◌, ◌∙◌, refl, ap, sym, arith, ℕ, ◌+◌, ◌%◌, true, false, List, [], ◌∷◌, Some}
 use Rattle.mt_machine.specs.declared.phase.Phase.{Phase}
 use Rattle.mt_machine.specs.declared.event.Event.{Event}
 use Rattle.mt_machine.specs.declared.event.Event.TheVariants.{SetNoFill}
@@ -12,11 +12,11 @@ use Rattle.mt_rendezvous.specs.Station.{order_of, start_of}
 use Rattle.mt_rendezvous.specs.Plays.{own_event}
 use Rattle.mt_rendezvous.proofs.Local.{due_alone, works_in}
 use Rattle.mt_private.specs.declared.view.Resident.{Resident}
-use Rattle.mt_private.specs.Residents.{stepped_by}
+use Rattle.mt_private.specs.Residents.{stepped_by, with_stored}
 use Rattle.mt_private.specs.YardRule.{with_one}
 use Rattle.mt_private.specs.YardCalls.{AreIn}
 use Rattle.mt_private.proofs.Alone.{in_its_phase, its_phase, onward}
-use Rattle.mt_private.proofs.Carried.{core_is, guest, has_done, its_era, its_guest, of_guest, stepped_done, stepped_is, visits_on}
+use Rattle.mt_private.proofs.Carried.{core_is, guest, has_done, has_stored, its_era, its_guest, of_guest, stepped_done, stepped_is, visits_on}
 use Rattle.mt_private.proofs.Residents.Plays.{works_yard}
 use Rattle.mt_private.proofs.visiting.YardPass.work.Goals as goal
 
@@ -37,7 +37,12 @@ store-requires c =
     let w = c.args.yard.now.wide in
     let n = c.args.yard.now.counted in
     let below = r.below in
-    (r.same, omega arith, works_yard c.args.yard.now.table.shared.key _ _ _ _ c.args.self.now.seat.me (its_guest r) r.holds (omega arith) refl refl (local_at c.args.core.now.system r.cpu b.0 r.alone b.1 b.2))
+    (r.same, omega arith, works_yard c.args.yard.now.table.shared.key _ _ _ _ c.args.self.now.seat.me (its_guest r) r.holds refl refl refl (local_at c.args.core.now.system r.cpu b.0 r.alone b.1 b.2))
+
+pub invariant_of-self-clause-known : goal.invariant_of-self-clause-known
+invariant_of-self-clause-known c =
+    let r = c.requires.visits.1.lodges in
+    sym (has_stored r c.store.new.seat.me _ _ _ (c.store.ensures.2.1 (its_guest r) r.holds).0)
 
 pub returns-clause-done : goal.returns-clause-done
 returns-clause-done c =
@@ -56,12 +61,14 @@ returns-clause-visits c first v =
     let b = c.requires.between in
     let local = local_at s r.cpu b.0 r.alone b.1 b.2 in
     let event : Event = own_event t r.cpu in
-    let turn : new.0 ≡ with_one me.0 (stepped_by t event (its_guest r)) me.0.shown me.0.cancel =
-    of_guest r (λ u y. new.0 ≡ with_one me.0 (stepped_by u (own_event u y.held.cpu) y) me.0.shown me.0.cancel) (λ y same. (e.2.1 y same).0) in
+    let n : ℕ = (c.args.self.now.stored + 1) % 18446744073709551616 in
+    let turn : new.0 ≡ with_one me.0 (with_stored (stepped_by t event (its_guest r)) n) me.0.shown me.0.cancel =
+    of_guest r (λ u y. new.0 ≡ with_one me.0 (with_stored (stepped_by u (own_event u y.held.cpu) y) n) me.0.shown me.0.cancel) (λ y same. (e.2.1 y same).0) in
     let o = onward t Given s r.cpu event c.args.core.now c.step.new.self (core_is v) c.step.ensures.after r.alone (its_era v) (is_due t r.cpu local (order_of t Given) (r.cpu ∷ [])) (keeps t r.cpu local).1 refl in
     let is = stepped_is r event o.q.cpu o.q.alone in
-    visits_on v Given event c.step.new.self _ new (stepped_by t event (its_guest r)) _ _ true false o (is_due t r.cpu local (order_of t Given) (r.cpu ∷ [])) e.0 e.2.0 turn
-    (is ∙ ap (guest c.args.self.now.number o.q.cpu true false (step t.goal event 0 s).memory) (sym (ap (λ (y : Resident). y.done) is)))
+    visits_on v Given event c.step.new.self _ new (with_stored (stepped_by t event (its_guest r)) n) _ _ true false o (is_due t r.cpu local (order_of t Given) (r.cpu ∷ [])) e.0 e.2.0 turn
+    (ap (λ (y : Resident). with_stored y n) is
+    ∙ (λ i. guest c.args.self.now.number o.q.cpu true false (step t.goal event 0 s).memory ((sym is i).done) n))
 
 pub returns-clause-between : goal.returns-clause-between
 returns-clause-between c =
