@@ -72,7 +72,7 @@ newcomers_agree m before since k h enabled calm quiet = record {
   settled = settles (first_file m.system) (common_era m.system.processors) before since k (brought_up m) (ups_arise m h) (refl, reset_era m.system h.some) enabled calm quiet;
 }
 
-arises_after : (es : List MachineEvent) (t : Machine) → Arises t → AreEnabled t es → Arises (run t es)
+pub arises_after : (es : List MachineEvent) (t : Machine) → Arises t → AreEnabled t es → Arises (run t es)
 arises_after [] t a enabled = a
 arises_after (e ∷ es) t a enabled = arises_after es (next t e) (by_event e a enabled.0) enabled.1
 

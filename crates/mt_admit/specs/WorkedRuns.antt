@@ -3,13 +3,12 @@ use Rattle.std.specs.Prelude.{ℕ, false, true, List, [], ◌∷◌, ◌++◌, N
 use Rattle.mt_cache.specs.declared.line.CacheLine.{CacheLine}
 use Rattle.mt_machine.specs.ComingAndGoing.{newcomer}
 use Rattle.mt_machine.specs.declared.event.Event.TheVariants.{Arrive, Pass, Release, SetNoFill, Take, WriteBack}
-use Rattle.mt_machine.specs.declared.go.Go.TheVariants.{Given}
 use Rattle.mt_machine.specs.declared.op.Op.TheVariants.{Fence}
-use Rattle.mt_machine.specs.Machine.{Accesses, Goes, Machine, MachineEvent, Order, Steps, next, run}
+use Rattle.mt_machine.specs.Machine.{Accesses, Goes, Machine, MachineEvent, Steps, next, run}
 use Rattle.mt_machine.specs.System.{Processor, start_processor}
-use Rattle.mt_machine.specs.WorkedRuns.{alone, bare_file, call_order, entry, idle, line_of, machine_of, mapping, small}
+use Rattle.mt_machine.specs.WorkedRuns.{alone, bare_file, entry, idle, line_of, machine_of, mapping, small}
 use Rattle.mt_laws.specs.WorkedRuns.{way_on}
-use Rattle.mt_laws.specs.WorkedUpdates.{dirty_taken}
+use Rattle.mt_laws.specs.WorkedUpdates.{at_pass}
 use Rattle.mt_admit.specs.Admission.{brought_up}
 
 -- in era 3, with a line of two dirty words
@@ -104,12 +103,6 @@ with_last p = machine_of (agrees ∷ agrees ∷ p ∷ [])
 abbrev pub behind_release : List MachineEvent
 behind_release = Accesses 1 Fence ∷ Steps 0 Release ∷ []
 
--- one processor, with a dirty line, at its pass and behind it
-abbrev pub given_order : Order
-given_order = record call_order { go = Given }
-
-abbrev pub at_pass : Machine
-at_pass = run dirty_taken (Goes ∷ Steps 0 Arrive ∷ [])
-
+-- one processor, with a dirty line, behind its pass
 abbrev pub in_change : Machine
 in_change = next at_pass (Steps 0 Pass)

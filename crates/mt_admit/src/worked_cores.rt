@@ -8,16 +8,17 @@ ghost use Rattle.mt_machine.specs.Update.{IsHeld, updated};
 ghost use Rattle.mt_machine.specs.WorkedRuns.{bare, bare_file, calling, idle, load, ready};
 ghost use Rattle.mt_laws.specs.Barriers.{BarriersHold, NoneActsInChange, NoneRunsInChange};
 ghost use Rattle.mt_laws.specs.Kept.{OrderHolds};
-ghost use Rattle.mt_laws.specs.WorkedRuns.{pair_order};
-ghost use Rattle.mt_laws.specs.WorkedUpdates.{dirty_taken};
-ghost use Rattle.mt_core.specs.Headline.{BarriersHoldThroughout, ErasRise, HasRisenByOne, HeldFromFirstRelease, IsQuietWithoutOrder, NoBuffersWhereOnePasses, NoneActsThroughout, NoneRunsThroughout, OrdersHoldThroughout, StepsKeepThroughout, WaitsAtBarriers, WaitsWhereFor};
+ghost use Rattle.mt_laws.specs.Counts.{IsCounted};
+ghost use Rattle.mt_laws.specs.WorkedRuns.{bare_called, between_of_bare, pair_order};
+ghost use Rattle.mt_laws.specs.WorkedUpdates.{at_pass, dirty_released, dirty_taken, given_order};
+ghost use Rattle.mt_core.specs.Headline.{BarriersHoldThroughout, ErasRise, HasRisenByOne, HeldFromFirstRelease, IsQuietWithoutOrder, NoBuffersWhereOnePasses, NoneActsThroughout, NoneRunsThroughout, OrdersHoldThroughout, SettledFromRelease, StepsCountThroughout, StepsKeepThroughout, WaitsAtBarriers, WaitsWhereFor};
 ghost use Rattle.mt_core.specs.Rounds.{Rounds, TurnsEnd, UpdatedWordsAreHeld, UpdatesAreReached, UpdatesSettle, with_go_given};
 ghost use Rattle.mt_core.specs.Since.{HaveNoBuffers, IsHeldSince, IsSettledSince, KeepsWord};
 ghost use Rattle.mt_core.specs.Stops.{StopsOutside, StopsWhereOutside};
 ghost use Rattle.mt_core.specs.WorkedRuns.{come, count};
-ghost use Rattle.mt_admit.specs.WorkedRuns.{at_pass, before_pass, behind_release, given_order, in_change, released, unlike};
+ghost use Rattle.mt_admit.specs.WorkedRuns.{before_pass, behind_release, in_change, released, unlike};
 
-/// One processor, which has a dirty line, passes the first barrier.
+/// One processor, which has a dirty line, passes the first barrier, and releases.
 pub fn worked_laws_of_passes()
     ensures no_buffers { NoBuffersWhereOnePasses → HaveNoBuffers at_pass.system.processors }
     ensures barriers { BarriersHoldThroughout → BarriersHold in_change }
@@ -26,6 +27,8 @@ pub fn worked_laws_of_passes()
     ensures orders { OrdersHoldThroughout → OrderHolds in_change given_order }
     ensures words { StepsKeepThroughout → KeepsWord in_change.system (next in_change (Steps 0 SetNoFill)).system 0x100008 }
     ensures rise { ErasRise → HasRisenByOne in_change.system (next in_change (Steps 0 SetNoFill)).system }
+    ensures counted { StepsCountThroughout → IsCounted bare_called 0 between_of_bare }
+    ensures settled { SettledFromRelease → IsSettledSince dirty_released 0 (bare_file 0x806) (load 0 0x1000 ∷ []) }
     ensures held { HeldFromFirstRelease → IsHeld before_pass.system released behind_release }
 {}
 

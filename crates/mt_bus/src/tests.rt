@@ -56,8 +56,8 @@ fn unlike_pair(alloc: Global, kind: u64, other: u64) -> Option<System> {
     if first.maxphy != second.maxphy || first.cap != second.cap {
         return None;
     }
-    first.is_register_file();
-    second.is_register_file();
+    first.is_register_file(); // a fact for the proof
+    second.is_register_file(); // a fact for the proof
     let files = [first, second];
     system_of(alloc, &files)
 }

@@ -1,9 +1,11 @@
-use Rattle.std.proofs.Common.{refl}
+use Rattle.std.proofs.Common.{◌∷◌, [], arith, refl}
 use Rattle.mt_machine.specs.declared.event.Event.TheVariants.{SetNoFill}
-use Rattle.mt_machine.specs.Machine.{Steps}
-use Rattle.mt_machine.specs.WorkedRuns.{bare_file}
-use Rattle.mt_admit.specs.WorkedRuns.{at_pass, before_pass, behind_release, given_order, in_change, released}
-use Rattle.mt_admit.proofs.Passing.{before_arises, change_arises, first_release, pass_arises}
+use Rattle.mt_machine.specs.Machine.{Steps, run}
+use Rattle.mt_machine.specs.WorkedRuns.{bare_file, load}
+use Rattle.mt_laws.specs.WorkedRuns.{bare_called, between_of_bare}
+use Rattle.mt_laws.specs.WorkedUpdates.{at_pass, dirty_taken, given_order, to_release}
+use Rattle.mt_admit.specs.WorkedRuns.{before_pass, behind_release, in_change, released}
+use Rattle.mt_admit.proofs.Passing.{before_arises, called_arises, change_arises, first_release, pass_arises, release_arises}
 use Rattle.mt_admit.proofs.worked_cores.worked_laws_of_passes.Goals as goal
 
 pub returns-clause-no_buffers : goal.returns-clause-no_buffers
@@ -29,3 +31,12 @@ returns-clause-rise c = λ law. law in_change (Steps 0 SetNoFill) refl
 
 pub returns-clause-held : goal.returns-clause-held
 returns-clause-held c = λ law. law before_pass released (record given_order { goal = bare_file 0x800 }) behind_release before_arises first_release ((refl, tt), (refl, tt))
+
+pub returns-clause-counted : goal.returns-clause-counted
+returns-clause-counted c = λ law.
+    law bare_called 0 between_of_bare called_arises
+    (refl, (refl, (refl, (refl, (refl, (refl, (refl, (refl, (refl, (refl, (refl, (refl, (refl, (refl, (refl, tt)))))))))))))))
+    refl
+
+pub returns-clause-settled : goal.returns-clause-settled
+returns-clause-settled c = λ law. law (run dirty_taken to_release) given_order 0 (load 0 0x1000 ∷ []) release_arises refl refl ((refl, (refl, omega arith)), tt) refl

@@ -3,7 +3,8 @@ use Rattle.mt_machine.specs.declared.event.Event.TheVariants.{Arrive, Pass, Take
 use Rattle.mt_machine.specs.Machine.{Goes, Steps}
 use Rattle.mt_machine.specs.WorkedRuns.{bare, bare_file}
 use Rattle.mt_laws.specs.WorkedRuns.{pair_between}
-use Rattle.mt_admit.specs.WorkedRuns.{behind_release, given_order, one_line, released, to_first_pass}
+use Rattle.mt_laws.specs.WorkedUpdates.{given_order}
+use Rattle.mt_admit.specs.WorkedRuns.{behind_release, one_line, released, to_first_pass}
 use Rattle.mt_admit.proofs.Passing.{first_release}
 use Rattle.mt_admit.proofs.Unlike.{bare_can, one_line_can}
 use Rattle.mt_admit.proofs.worked_unlike.worked_laws_behind_releases.Goals as goal
