@@ -7,7 +7,8 @@ use Rattle.std.proofs.lemmas.List.Quantifiers.{position-Some}
 use Rattle.std.proofs.lemmas.List.Sums.{fails_before_first}
 use Rattle.mt_kinds.specs.declared.mem_type.MemType.{MemType}
 use Rattle.mt_regs.specs.RegisterFile.{RegisterFile, pair_at}
-use Rattle.mt_proc.specs.Applied.{IsGoodRange, IsLeastFree, applied, first_free, into_free, is_good_range, is_valid, range_pair, with_pair}
+use Rattle.mt_proc.specs.Applied.{IsGoodRange, IsLeastFree, applied, first_free, into_free, is_good_range, range_pair, with_pair}
+use Rattle.mt_ranges.specs.Match.{is_valid}
 use Rattle.mt_proc.specs.declared.applying.Applied.TheVariants.{BadRange, Goal, NoneFree, NotUsed}
 use Rattle.mt_proc.specs.declared.request.Request.TheVariants.{Disable, Range}
 use Rattle.mt_proc.proofs.Sizes.{good_parts, good_range}

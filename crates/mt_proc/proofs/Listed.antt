@@ -19,7 +19,7 @@ use Rattle.mt_proc.specs.declared.request.Request.{Request}
 use Rattle.mt_proc.specs.declared.request.Request.TheVariants.{Range}
 use Rattle.mt_proc.specs.Requests.{asked_by, name_of, request_of, type_named}
 use Rattle.mt_proc.specs.declared.request.ProcFault.{ProcFault}
-use Rattle.mt_proc.specs.Applied.{is_valid}
+use Rattle.mt_ranges.specs.Match.{is_valid}
 use Rattle.mt_proc.specs.Listing.{all_asked, base_of, hex_text, lines_from, range_in, range_text, ranges_in, requests_from, size_of}
 use Rattle.mt_ranges.specs.Match.{page_field, range_log, run_log_from}
 use Rattle.mt_ranges.proofs.Powers.{pow_below}

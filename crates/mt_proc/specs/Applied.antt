@@ -2,9 +2,9 @@
 --     applied file request      the file that the request asks for and the pair that it changes, or why there is none
 use Rattle.std.specs.Prelude.{ℕ, ◌≡◌, ◌+◌, ◌-◌, ◌^◌, ◌%◌, ◌≤◌, ◌<◌, ◌==◌, ◌&&◌, not, nat_le, Bool, true, false, List, length, position, slice_set, if◌then◌else◌, Option, Some, None}
 use Rattle.std.specs.List.{list_any, range_with_len}
-use Rattle.mt_kinds.specs.Bits.{is_bit_set}
 use Rattle.mt_kinds.specs.Types.{byte_of_type}
 use Rattle.mt_kinds.specs.declared.mem_type.MemType.{MemType}
+use Rattle.mt_ranges.specs.Match.{is_valid}
 use Rattle.mt_regs.specs.RegisterFile.{RegisterFile, pair_at}
 use Rattle.mt_proc.specs.declared.request.Request.{Request}
 use Rattle.mt_proc.specs.declared.request.Request.TheVariants.{Range, Disable}
@@ -24,9 +24,6 @@ pub record IsGoodRange (m base size : ℕ) : Type 0 where
   pub power : (k : ℕ) × (12 ≤ k) × (size ≡ 2 ^ k)
   pub aligned : base % size ≡ 0
   pub within : base + size ≤ 2 ^ m
-
-abbrev pub is_valid : ℕ × ℕ → Bool
-is_valid pair = is_bit_set pair.1 11
 
 -- the least pair whose V is clear
 abbrev pub first_free : List (ℕ × ℕ) → Option ℕ

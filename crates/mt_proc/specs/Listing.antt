@@ -12,7 +12,7 @@ use Rattle.mt_proc.specs.declared.request.Request.{Request}
 use Rattle.mt_proc.specs.declared.request.Request.TheVariants.{Range}
 use Rattle.mt_proc.specs.declared.request.ProcFault.{ProcFault}
 use Rattle.mt_proc.specs.Requests.{name_of, request_of}
-use Rattle.mt_proc.specs.Applied.{is_valid}
+use Rattle.mt_ranges.specs.Match.{is_valid}
 
 -- digits without the zeros at their front, of which the last digit stays
 abbrev pub significant : List ℕ → List ℕ

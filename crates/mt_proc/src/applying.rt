@@ -3,14 +3,13 @@ ghost use Rattle.std.specs.List.{AllPass};
 ghost use Rattle.mt_kinds.specs.declared.mem_type.MemType.{MemType as Kind};
 ghost use Rattle.mt_ranges.specs.Blocks.{block_end};
 ghost use Rattle.mt_regs.specs.RegisterFile.{RegisterFile as File, pair_at};
-ghost use Rattle.mt_proc.specs.Applied.{IsGoodRange, IsLeastFree, applied, first_free, is_good_range, is_size, is_valid, range_pair, with_pair};
+ghost use Rattle.mt_proc.specs.Applied.{IsGoodRange, IsLeastFree, applied, first_free, is_good_range, is_size, range_pair, with_pair};
+ghost use Rattle.mt_ranges.specs.Match.{is_valid};
 
 use crate::Request;
-use mt_kinds::{MemType, PAGE_BYTES, is_bit_set};
-use mt_ranges::{Block, pair_of};
+use mt_kinds::{MemType, PAGE_BYTES};
+use mt_ranges::{Block, is_valid, pair_of};
 use mt_regs::RegFile;
-
-const VALID_BIT: u8 = 11;
 
 // The log of a page in bytes.
 const PAGE_LOG: u8 = 12;
@@ -81,13 +80,6 @@ fn range_pair(base: u64, size: u64, kind: MemType, m: u8) -> Option<(u64, u64)>
         Some(block) => Some(pair_of(&block, kind.byte(), m)),
         None => None,
     }
-}
-
-/// Whether a pair has V set.
-pub(crate) fn is_valid(pair: (u64, u64)) -> bool
-    ensures { result ≡ is_valid pair }
-{
-    is_bit_set(pair.1, VALID_BIT)
 }
 
 // The least pair that isn't valid.

@@ -5,14 +5,14 @@ ghost use Rattle.mt_regs.specs.Faults.{IsAccepted};
 ghost use Rattle.mt_regs.specs.PageTypes.{pair_type};
 ghost use Rattle.mt_proc.specs.Listing.{hex_text, pair_line, range_line, range_text, significant};
 
-use crate::applying::{is_valid, power};
+use crate::applying::power;
 use crate::names::name_of;
 use arrayvec::ArrayVec;
 use mt_dump::value_text;
 use mt_kinds::{MemType, PAGE_BYTES};
 use mt_output::{LineBuffer, append, append_decimal};
-use mt_ranges::block_of;
-use mt_regs::RegFile;
+use mt_ranges::{block_of, is_valid};
+use mt_regs::{RegFile, pair_type};
 
 // Digits without the zeros at their front, of which the last digit stays.
 fn significant(digits: &[u8]) -> &[u8]
@@ -52,13 +52,6 @@ fn range_text(base: u64, size: u64, kind: MemType, n: u32) -> LineBuffer
     append_decimal(&mut line, n as u64);
     append(&mut line, b"\n");
     line
-}
-
-// The type in the base of a pair. An accepted file has no other byte there.
-fn pair_type(pair: (u64, u64)) -> MemType
-    ensures { result ≡ pair_type pair }
-{
-    MemType::of_byte((pair.0 % 256) as u8).unwrap_or(MemType::UC)
 }
 
 // The line of a pair with its LF, or nothing where the pair isn't valid.

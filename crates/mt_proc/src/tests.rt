@@ -1,9 +1,9 @@
 use crate::proc;
+use mt_gates::{AllBut, Meets, ones};
 use mt_ports::{Gate, MemSink, MemSource, OpenGate, Status};
 use std::alloc::Global;
 use std::process::Abort;
 use std::sync::Wait;
-use std::sync::atomic::{AtomicU64, Ordering};
 use std::test::Fail;
 use std::thread::Threads;
 
@@ -60,99 +60,34 @@ fn up_to_16_processors(rt: HostRuntime) -> Result<(), Fail> {
     Ok(())
 }
 
-// Lets no thread start for one processor.
-#[derive(Drop)]
-struct Without {
-    processor: u32,
-}
-
-impl Gate for Without {
-    fn may_start(&self, k: u32) -> bool {
-        k != self.processor
-    }
-
-    fn arrived(&self, _k: u32) {}
-}
-
 #[test]
 fn a_refused_start_changes_nothing_that_is_told(rt: HostRuntime) -> Result<(), Fail> {
     for processor in 0..2 {
-        let ran = run(&rt, REQUESTS, 2, &Without { processor })?;
+        let ran = run(&rt, REQUESTS, 2, &AllBut::new(processor))?;
         assert_eq!(rt; ran.status, Status::Done);
         assert!(rt; ran.sink.bytes() == TOLD);
     }
     Ok(())
 }
 
-// Each of two threads waits a while for the other.
-#[derive(Drop)]
-struct Meets {
-    arrived: [AtomicU64; 2],
-    seen: AtomicU64,
-}
-
-impl Gate for Meets {
-    fn may_start(&self, _k: u32) -> bool {
-        true
-    }
-
-    fn arrived(&self, k: u32) {
-        let (own, other) = if k == 0 { (0, 1) } else { (1, 0) };
-        self.arrived[own].store(1, Ordering::SeqCst);
-        for _ in 0..200_000_000u64 {
-            if self.arrived[other].load(Ordering::SeqCst) == 1 {
-                self.seen.fetch_add(1, Ordering::SeqCst);
-                return;
-            }
-        }
-    }
-}
-
 /// Both processors that carry out a request see the other, so two threads run at once.
 #[test]
 fn two_processors_of_a_request_meet(rt: HostRuntime) -> Result<(), Fail> {
-    let gate = Meets {
-        arrived: [AtomicU64::new(0), AtomicU64::new(0)],
-        seen: AtomicU64::new(0),
-    };
+    let gate = Meets::new();
     let mut text = FOUR_GIGABYTES.to_vec(rt.alloc())?;
     text.extend_from_slice(b"disable=0\n")?;
     let ran = run(&rt, &text, 2, &gate)?;
     assert_eq!(rt; ran.status, Status::Done);
     assert!(rt; ran.sink.bytes() == b"cleared 0\nera 1\n".as_slice());
-    assert_eq!(rt; gate.seen.load(Ordering::SeqCst), 2);
+    assert_eq!(rt; gate.seen(), 2);
     Ok(())
-}
-
-// Counts of whom it was asked and told, of each processor in four bits.
-#[derive(Drop)]
-struct Counts {
-    asked: AtomicU64,
-    told: AtomicU64,
-}
-
-fn count_one(counts: &AtomicU64, k: u32) {
-    if k < 16 {
-        counts.fetch_add(1 << (4 * k), Ordering::SeqCst);
-    }
-}
-
-impl Gate for Counts {
-    fn may_start(&self, k: u32) -> bool {
-        count_one(&self.asked, k);
-        true
-    }
-
-    fn arrived(&self, k: u32) {
-        count_one(&self.told, k);
-    }
 }
 
 // A request that is carried out asks once before each start, and tells of each arrival once. One that
 // isn't does neither.
 #[test]
 fn each_processor_starts_and_arrives_once(rt: HostRuntime) -> Result<(), Fail> {
-    for (cpus, once) in [(1, 0x1), (3, 0x111), (16, 0x1111_1111_1111_1111u64)] {
+    for cpus in [1, 3, 16] {
         for (requests, times) in [
             (
                 b"disable=7
@@ -177,22 +112,19 @@ disable=0
                 1,
             ),
         ] {
-            let gate = Counts {
-                asked: AtomicU64::new(0),
-                told: AtomicU64::new(0),
-            };
+            let gate = AllBut::new(16);
             let mut text = FOUR_GIGABYTES.to_vec(rt.alloc())?;
             text.extend_from_slice(requests)?;
             let ran = run(&rt, &text, cpus, &gate)?;
             assert_eq!(rt; ran.status, Status::Done);
             assert_eq!(rt;
-                gate.asked.load(Ordering::SeqCst),
-                once.wrapping_mul(times),
+                gate.asked(),
+                ones(0, cpus).wrapping_mul(times),
                 "{cpus} processors"
             );
             assert_eq!(rt;
-                gate.told.load(Ordering::SeqCst),
-                once.wrapping_mul(times),
+                gate.told(),
+                ones(0, cpus).wrapping_mul(times),
                 "{cpus} processors"
             );
         }

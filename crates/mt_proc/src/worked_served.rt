@@ -5,11 +5,14 @@ ghost use Rattle.mt_regs.specs.FirstFault.{first_fault};
 ghost use Rattle.mt_regs.specs.RegisterFile.{RegisterFile};
 ghost use Rattle.mt_regs.specs.StartFiles.{AreStartFiles};
 ghost use Rattle.mt_regs.specs.declared.fault.Reason.TheVariants.{UndefinedOverlap};
+ghost use Rattle.mt_ports.specs.declared.status.Status.TheVariants.{Done};
+ghost use Rattle.mt_stream.specs.Told.{told};
 ghost use Rattle.mt_text.specs.Text.{lines_of};
+ghost use Rattle.mt_text.specs.declared.place.Place.{Place};
 ghost use Rattle.mt_proc.specs.After.{Served, after, after_all, answer_text, answers, asked, at_first, end_text};
 ghost use Rattle.mt_proc.specs.Applied.{IsGoodRange, IsLeastFree, applied};
 ghost use Rattle.mt_proc.specs.Listing.{requests_from};
-ghost use Rattle.mt_proc.specs.Proc.{requests_in};
+ghost use Rattle.mt_proc.specs.Proc.{LinesTellRequests, from_point, in_requests, requests_in};
 ghost use Rattle.mt_proc.specs.Serving.{Serves, changed, idling, served, standing};
 ghost use Rattle.mt_proc.specs.WorkedFiles.{file_of, four_gigabytes, low_half, no_pair_valid, with_cache_off, with_hole};
 ghost use Rattle.mt_proc.specs.declared.request.Request.TheVariants.{Disable, Range};
@@ -88,4 +91,10 @@ pub fn worked_least_free()
     ensures not_there { IsLeastFree ((6, 0xf00000800) ∷ []) 1 → ⊥ }
     ensures valid { IsLeastFree ((6, 0xf00000800) ∷ (6, 0) ∷ (0, 0) ∷ []) 0 → ⊥ }
     ensures not_least { IsLeastFree ((6, 0xf00000800) ∷ (6, 0) ∷ (0, 0) ∷ []) 2 → ⊥ }
+{}
+
+/// The law on lines, at a comment and two requests behind any dump.
+pub fn worked_law_of_lines()
+    ensures told { LinesTellRequests → (now : Served) (place : Place) → from_point 2 (in_requests now) (Some place) 5 (codes "# none" ∷ codes "disable=7" ∷ codes "base=1 size=2 type=write-back" ∷ [])
+        ≡ told (answers now (Disable 7 ∷ Range 1 2 WB ∷ []) ++ end_text (after_all now (Disable 7 ∷ Range 1 2 WB ∷ []))) Done }
 {}

@@ -22,3 +22,4 @@ pub mod ShownDump
 pub mod Taking
 pub mod Walks
 mod Whole
+mod WorkedDumps

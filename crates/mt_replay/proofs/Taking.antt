@@ -4,7 +4,7 @@ use Rattle.std.specs.Prelude.{MatchOption, MatchResult}
 use Rattle.mt_ports.specs.Puts.{AppendsFront}
 use Rattle.mt_ports.specs.declared.status.Failed.{Failed}
 use Rattle.mt_ports.specs.declared.status.Status.{Status}
-use Rattle.mt_ports.specs.declared.status.Status.TheVariants.{NoMemory, Refused}
+use Rattle.mt_ports.specs.declared.status.Status.TheVariants.{Refused}
 use Rattle.mt_output.specs.Writing.{Passes}
 use Rattle.mt_output.specs.Lines.{accepted_line, dump_refused_line}
 use Rattle.mt_output.proofs.Writing.{passes_nothing}
@@ -28,7 +28,7 @@ use Rattle.mt_replay.specs.Parts.{AsksForMemory}
 use Rattle.mt_replay.specs.ReplayState.{ReplayState, command_text, first_state, state_after}
 use Rattle.mt_replay.specs.Newcomers.{early, is_newcomer, newcomers_from, newcomers_in, newcomers_of_dump}
 use Rattle.mt_replay.proofs.Newcomers.{body_brings, early_front, early_then, head_brings, or_true}
-use Rattle.mt_replay.specs.Running.{IsAt, IsQuiet, from_line, leading, path_from, replay_running, leading_dump}
+use Rattle.mt_replay.specs.Running.{CarriesOut, IsAt, IsQuiet, from_line, leading, path_from, replay_running, leading_dump}
 use Rattle.mt_stream.specs.Lines.{Fails, GoesOn, Leads, Takes, leads_behind}
 use Rattle.mt_replay.specs.Transcript.{Point, body_lines, head_lines, in_body, in_head, told_command, told_dump}
 use Rattle.mt_stream.specs.Told.{Told, behind, told}
@@ -92,19 +92,12 @@ quiet_command s command.DumpLine fits takes = (takes, refl)
 quiet_command s (command.Register msr value) fits takes = (takes, refl)
 quiet_command s other fits takes = absurd (cc takes)
 
--- what doing a command leaves
-abbrev pub Does : ReplayState → ReplayState → Command → List ℕ → List ℕ → Option (List ℕ) → Option (List ℕ) → Result (Option Status) Failed → Type 0
-Does s new c waiting left a b result =
-    MatchResult result
-    (λ ended. MatchOption ended (Passes waiting (command_text s c) left a b × (new ≡ state_after s c)) (λ status. (status ≡ NoMemory) × (left ≡ waiting) × (b ≡ a)))
-    (λ failed. AppendsFront a b (waiting ++ command_text s c))
-
 pub leads : (s : ReplayState) (c : Command) (number : ℕ) (line : List ℕ) → command_of s.now number line ≡ Ok c → (end : Option Place) (lines : List (List ℕ))
     → from_line number line (in_body s) end lines ≡ behind (command_text s c) (body_lines end (number + 1) lines (state_after s c))
 leads s c number line asked end lines = from_body s number line end lines ∙ ap (told_command s (body_lines end (number + 1) lines)) asked
 
 module _ (s new : ReplayState) (c : Command) (number : ℕ) (line : List ℕ) (is : IsReplayState s) (fits : Fits s.now c) (asked : command_of s.now number line ≡ Ok c) where
-  pub command_takes : (waiting left : List ℕ) (a b : Option (List ℕ)) (result : Result (Option Status) Failed) → Does s new c waiting left a b result → ((status : Status) → result ≡ Ok (Some status) → AsksForMemory c)
+  pub command_takes : (waiting left : List ℕ) (a b : Option (List ℕ)) (result : Result (Option Status) Failed) → CarriesOut s new c waiting left a b result → ((status : Status) → result ≡ Ok (Some status) → AsksForMemory c)
       → (came : Bool) (so_far : List ℕ) → IsQuiet (run.Body s) came so_far → Takes replay_running (leading came so_far number line (in_body s)) (number + 1) so_far (run.Body new) waiting left a b result
   command_takes waiting left a b (Ok None) does asks came so_far quiet = record {
     next = path_from (came || is_newcomer c) (so_far ++ command_text s c) (in_body (state_after s c));
@@ -148,7 +141,7 @@ module _ (s new : ReplayState) (c : Command) (number : ℕ) (line : List ℕ) (i
     failed = does;
   }
 
-  pub command_eras : (most : ℕ) (waiting left : List ℕ) (a b : Option (List ℕ)) (result : Result (Option Status) Failed) → HasEras most s → Does s new c waiting left a b result
+  pub command_eras : (most : ℕ) (waiting left : List ℕ) (a b : Option (List ℕ)) (result : Result (Option Status) Failed) → HasEras most s → CarriesOut s new c waiting left a b result
       → MatchResult result (λ ended. MatchOption ended (HasEras (most + 1) new) (λ status. Unit {0})) (λ failed. Unit {0})
   command_eras most waiting left a b (Ok None) eras does = subst (HasEras (most + 1)) (sym does.1) (eras_kept s c most is fits eras)
   command_eras most waiting left a b (Ok (Some status)) eras does = tt

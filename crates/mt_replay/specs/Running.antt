@@ -1,9 +1,14 @@
 -- A replay between two lines, as its code keeps it, and what it leaves in the source and the sink (own).
 --     Replays bytes left before after status      of a source that held these bytes; ReplaysAs telling .., where this is its transcript
-use Rattle.std.specs.Prelude.{ℕ, ◌≡◌, ◌||◌, Bool, true, false, List, [], ◌∷◌, ⊤, Option}
+use Rattle.std.specs.Prelude.{ℕ, ◌≡◌, ◌||◌, ◌++◌, Bool, true, false, List, [], ◌∷◌, ⊤, MatchOption, MatchResult, Option, Result}
 use Rattle.mt_text.specs.declared.place.Place.{Place}
 use Rattle.mt_ports.specs.declared.status.Status.{Status}
+use Rattle.mt_ports.specs.declared.status.Status.TheVariants.{NoMemory}
+use Rattle.mt_ports.specs.declared.status.Failed.{Failed}
+use Rattle.mt_ports.specs.Puts.{AppendsFront}
 use Rattle.mt_output.specs.Lines.{accepted_line}
+use Rattle.mt_output.specs.Writing.{Passes}
+use Rattle.mt_script.specs.declared.command.Command.{Command}
 use Rattle.mt_dump.specs.Reader.{HasRead}
 use Rattle.mt_script.specs.Situation.{Situation}
 use Rattle.mt_script.specs.Stages.{is_past_dump, takes_windows}
@@ -15,6 +20,7 @@ use Rattle.mt_stream.specs.Lines.{Leading, Path, Running}
 use Rattle.mt_stream.specs.Runs.{RunsAs}
 use Rattle.mt_stream.specs.Told.{Told}
 use Rattle.mt_replay.specs.Kept.{HasEras}
+use Rattle.mt_replay.specs.ReplayState.{ReplayState, command_text, state_after}
 use Rattle.mt_replay.specs.Newcomers.{early, early_text, newcomers_from, newcomers_in, newcomers_of_dump}
 use Rattle.mt_replay.specs.Transcript.{Point, body_lines, in_body, in_head, replay_told, told_at_end, told_dump, told_lines, transcript}
 use Rattle.mt_replay.specs.declared.line.Run.{Run}
@@ -52,6 +58,14 @@ end_of_run now place = told_at_end (end_fault (setup_of now).stage place)
 abbrev pub IsQuiet : Run → Bool → List ℕ → Type 0
 IsQuiet (run.Head h) came text = (text ≡ []) × (came ≡ false)
 IsQuiet (run.Body r) came text = takes_windows r.now.stage ≡ true → text ≡ accepted_line
+
+-- A command was done: its text went through the writer, and its state stands. For want of memory nothing was done, and
+-- after a failed write a front of the text was taken.
+abbrev pub CarriesOut : ReplayState → ReplayState → Command → List ℕ → List ℕ → Option (List ℕ) → Option (List ℕ) → Result (Option Status) Failed → Type 0
+CarriesOut s new c waiting left before after result =
+    MatchResult result
+    (λ ended. MatchOption ended (Passes waiting (command_text s c) left before after × (new ≡ state_after s c)) (λ status. (status ≡ NoMemory) × (left ≡ waiting) × (after ≡ before)))
+    (λ failed. AppendsFront before after (waiting ++ command_text s c))
 
 -- where lines stand at this point, behind a text, and whether a processor came up before
 abbrev pub path_from : Bool → List ℕ → Point → Path

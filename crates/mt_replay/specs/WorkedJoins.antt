@@ -8,7 +8,7 @@ use Rattle.mt_script.specs.Situation.{at_start}
 use Rattle.mt_script.specs.declared.command.Command.TheVariants as command
 use Rattle.mt_script.specs.declared.command.Stage.TheVariants.{InDump}
 use Rattle.mt_replay.specs.ReplayState.{ReplayState, first_state, machine_after}
-use Rattle.mt_replay.specs.WorkedStates.{crowd, painted_by}
+use Rattle.mt_replay.specs.WorkedStates.{crowd, late_at_end, painted_by}
 
 -- the first state of the script of a dump alone, `small_dump`
 abbrev pub just_dumped : ReplayState
@@ -28,6 +28,10 @@ stored = painted_by (store 0 0x1000 7 ∷ [])
 -- the goal is of a section before, and no processor has it
 abbrev pub stale_goal : ReplayState
 stale_goal = record (crowd 2) { goal = bare_file 0x806 }
+
+-- the second of two has finished more updates
+abbrev pub unlike_eras : ReplayState
+unlike_eras = record (crowd 2) { machine = late_at_end.machine }
 
 -- a processor joins, and stores to memory itself
 abbrev pub join_script : List ℕ

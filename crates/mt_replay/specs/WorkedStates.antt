@@ -4,7 +4,7 @@ use Rattle.mt_dump.specs.Dumps.{Dump, dump_of}
 use Rattle.mt_machine.specs.System.{Processor}
 use Rattle.mt_machine.specs.Machine.{Machine, MachineEvent, Calls, run}
 use Rattle.mt_machine.specs.Update.{updated}
-use Rattle.mt_machine.specs.WorkedRuns.{bare_file, idle, machine_of, palette, store}
+use Rattle.mt_machine.specs.WorkedRuns.{bare_file, idle, machine_of, mapping, palette, store}
 use Rattle.mt_script.specs.Situation.{Situation}
 use Rattle.mt_script.specs.declared.command.Stage.{Stage}
 use Rattle.mt_script.specs.declared.command.Stage.TheVariants.{Commands, InUpdate}
@@ -48,6 +48,17 @@ at_end = state_of InUpdate (run palette (store 0 0x1000 7 ∷ []))
 -- the machine after its update
 abbrev pub after_end : Machine
 after_end = updated at_end.machine.system (0 ∷ 1 ∷ []) (bare_file 0x800)
+
+-- a processor behind an update
+abbrev pub risen : Processor
+risen = record idle { era = 1 }
+
+-- the second processor has finished more updates than the first, and has a page mapped; and a machine that is settled for the first one's era
+abbrev pub late_at_end : ReplayState
+late_at_end = state_of InUpdate (machine_of (idle ∷ record idle { mappings = mapping 1 0x100 0 ∷ []; era = 5 } ∷ []))
+
+abbrev pub late_after_end : Machine
+late_after_end = machine_of (risen ∷ risen ∷ [])
 
 -- with another first processor
 abbrev pub with_first : Processor → Machine → Machine

@@ -139,7 +139,7 @@ fn lead<R: Threads + Wait + Sync, G: Gate>(
     ensures updated { MatchOption result (core.new ≡ updated core.old.system (in_order core.old) goal.now) (λ _. core.new ≡ core.old) }
     ensures short { (own : Fault) → result ≡ Some (CallFault.Refused own) → own.msr < 0x1000 }
 {
-    goal.is_register_file();
+    goal.is_register_file(); // a fact for the proof
     match mt_rendezvous::update(rt, alloc, core, goal.same(), gate) {
         Ok(()) => None,
         Err(fault) => Some(fault),

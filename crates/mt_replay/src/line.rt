@@ -1,4 +1,4 @@
-ghost use Rattle.std.specs.Prelude.{◌≡◌, ◌≢◌, ◌≤◌, ◌+◌, ℕ, List, [], Bool, length, true, MatchOption, MatchResult, IfOk, OnOk, OnErr, Some, Ok, Err, ◌++◌};
+ghost use Rattle.std.specs.Prelude.{◌≡◌, ◌≢◌, ◌+◌, ℕ, List, [], Bool, true, MatchOption, MatchResult, IfOk, OnOk, OnErr, Some, Ok, Err, ◌++◌};
 ghost use Rattle.mt_ports.specs.Causes.{HasCause};
 ghost use Rattle.mt_ports.specs.Puts.{AppendsFront};
 ghost use Rattle.mt_machine.specs.Start.{HasEraRoom};
@@ -10,7 +10,7 @@ ghost use Rattle.mt_dump.specs.ForProcessors.{has_each};
 ghost use Rattle.mt_replay.specs.Kept.{HasEras};
 ghost use Rattle.mt_replay.specs.Parts.{AsksForMemory, IsComing};
 ghost use Rattle.mt_replay.specs.ReplayState.{ReplayState, command_text, state_after};
-ghost use Rattle.mt_replay.specs.Running.{HasEraRoomAt, HasErasAt, IsAt, IsQuiet, leading, leading_dump, replay_running, setup_of};
+ghost use Rattle.mt_replay.specs.Running.{CarriesOut, HasEraRoomAt, HasErasAt, IsAt, IsQuiet, leading, leading_dump, replay_running, setup_of};
 ghost use Rattle.mt_stream.specs.Lines.{IsEnding, Takes};
 ghost use Rattle.mt_replay.specs.Summing.{Begins, Lasts, state_in};
 ghost use Rattle.mt_replay.specs.Transcript.{Point, in_body};
@@ -160,11 +160,7 @@ fn bring_up<K: Sink>(
 ) -> Result<Option<Status>, Failed>
     requires fits { Fits replayer.old.now Command.Up }
     requires room { HasEraRoom replayer.old.machine }
-    ensures bytes { MatchResult result
-        (λ ended. MatchOption ended
-        (Passes writer.old (command_text replayer.old Command.Up) writer.new (K.taken sink.old) (K.taken sink.new) × (replayer.new ≡ state_after replayer.old Command.Up))
-        (λ status. (status ≡ Status.NoMemory) × (writer.new ≡ writer.old) × (K.taken sink.new ≡ K.taken sink.old)))
-        (λ _. AppendsFront (K.taken sink.old) (K.taken sink.new) (writer.old ++ command_text replayer.old Command.Up)) }
+    ensures bytes { CarriesOut replayer.old replayer.new Command.Up writer.old writer.new (K.taken sink.old) (K.taken sink.new) result }
     ensures refused { (status : Status) → result ≡ Ok (Some status) → status ≡ Status.NoMemory }
     ensures cause { HasCause (K.faults sink.old) (K.faults sink.new) result }
 {
@@ -180,11 +176,7 @@ fn admit<K: Sink>(
 ) -> Result<Option<Status>, Failed>
     requires fits { Fits replayer.old.now Command.Join }
     requires room { HasEraRoom replayer.old.machine }
-    ensures bytes { MatchResult result
-        (λ ended. MatchOption ended
-        (Passes writer.old (command_text replayer.old Command.Join) writer.new (K.taken sink.old) (K.taken sink.new) × (replayer.new ≡ state_after replayer.old Command.Join))
-        (λ status. (status ≡ Status.NoMemory) × (writer.new ≡ writer.old) × (K.taken sink.new ≡ K.taken sink.old)))
-        (λ _. AppendsFront (K.taken sink.old) (K.taken sink.new) (writer.old ++ command_text replayer.old Command.Join)) }
+    ensures bytes { CarriesOut replayer.old replayer.new Command.Join writer.old writer.new (K.taken sink.old) (K.taken sink.new) result }
     ensures refused { (status : Status) → result ≡ Ok (Some status) → status ≡ Status.NoMemory }
     ensures cause { HasCause (K.faults sink.old) (K.faults sink.new) result }
 {
@@ -203,11 +195,7 @@ fn do_command<R: Threads + Wait + Sync, K: Sink, G: Gate>(
 ) -> Result<Option<Status>, Failed>
     requires fits { Fits replayer.old.now c.now }
     requires room { HasEraRoom replayer.old.machine }
-    ensures bytes { MatchResult result
-        (λ ended. MatchOption ended
-        (Passes writer.old (command_text replayer.old c.now) writer.new (K.taken sink.old) (K.taken sink.new) × (replayer.new ≡ state_after replayer.old c.now))
-        (λ status. (status ≡ Status.NoMemory) × (writer.new ≡ writer.old) × (K.taken sink.new ≡ K.taken sink.old)))
-        (λ _. AppendsFront (K.taken sink.old) (K.taken sink.new) (writer.old ++ command_text replayer.old c.now)) }
+    ensures bytes { CarriesOut replayer.old replayer.new c.now writer.old writer.new (K.taken sink.old) (K.taken sink.new) result }
     ensures asks { (status : Status) → result ≡ Ok (Some status) → AsksForMemory c.now }
     ensures refused { (status : Status) → result ≡ Ok (Some status) → status ≡ Status.NoMemory }
     ensures cause { HasCause (K.faults sink.old) (K.faults sink.new) result }

@@ -18,6 +18,7 @@ use std::thread::Threads;
 fn end_text<K: Sink>(run: &Run, feed: &Feed, writer: &mut Writer, sink: &mut K) -> Status
     ensures bytes { Closes (end_of_run run.now feed.now.place) writer.old (K.taken sink.old) (K.taken sink.new) result }
     ensures usage { result ≢ Status.Usage }
+    ensures few { (result ≢ Status.TooFew) × (result ≢ Status.Disabled) }
     ensures cause { StatusHasCause Status.WriteFault (K.faults sink.old) (K.faults sink.new) result }
 {
     match read_end(run.setup(), feed.end()) {
@@ -44,6 +45,7 @@ fn run_lines<R: Threads + Wait + Sync, S: Source, K: Sink, G: Gate>(
     ensures write_fault { StatusHasCause Status.WriteFault (K.faults sink.old) (K.faults sink.new) result }
     ensures too_long { (result ≡ Status.TooLong) ↔ GaveTooMuch (S.given source.old) (S.given source.new) }
     ensures usage { result ≢ Status.Usage }
+    ensures few { (result ≢ Status.TooFew) × (result ≢ Status.Disabled) }
 {
     let mut feed = Feed::new();
     let mut run = Run::Head(Head::new());
@@ -86,6 +88,7 @@ pub fn replay<R: AllocGlobal + Threads + Wait + Sync, S: Source, K: Sink, G: Gat
     ensures write_fault { StatusHasCause Status.WriteFault (K.faults sink.old) (K.faults sink.new) result }
     ensures too_long { (result ≡ Status.TooLong) ↔ GaveTooMuch (S.given source.old) (S.given source.new) }
     ensures usage { result ≢ Status.Usage }
+    ensures few { (result ≢ Status.TooFew) × (result ≢ Status.Disabled) }
 {
     let Ok(mut writer) = Writer::new(rt.alloc()) else {
         return Status::NoMemory;

@@ -1,9 +1,9 @@
 use crate::replay;
+use mt_gates::{AllBut, Meets};
 use mt_ports::{Gate, MemSink, MemSource, OpenGate, Status};
 use std::alloc::Global;
 use std::process::Abort;
 use std::sync::Wait;
-use std::sync::atomic::{AtomicU64, Ordering};
 use std::test::Fail;
 use std::thread::Threads;
 
@@ -87,67 +87,26 @@ fn a_dirty_line_and_an_update(rt: HostRuntime) -> Result<(), Fail> {
     Ok(())
 }
 
-// Lets no thread start for one processor.
-#[derive(Drop)]
-struct Without {
-    processor: u32,
-}
-
-impl Gate for Without {
-    fn may_start(&self, k: u32) -> bool {
-        k != self.processor
-    }
-
-    fn arrived(&self, _k: u32) {}
-}
-
 #[test]
 fn a_refused_start_changes_nothing_that_is_told(rt: HostRuntime) -> Result<(), Fail> {
     let script = repeated(rt.alloc(), PAIR, UPDATE, 1)?;
     for processor in 0..2 {
-        let ran = run_under(&rt, &script, 4096, &[], &Without { processor })?;
+        let ran = run_under(&rt, &script, 4096, &[], &AllBut::new(processor))?;
         assert_eq!(rt; ran.status, Status::Done);
         assert!(rt; ran.sink.bytes() == UPDATED);
     }
     Ok(())
 }
 
-// Each of two threads waits a while for the other.
-#[derive(Drop)]
-struct Meets {
-    arrived: [AtomicU64; 2],
-    seen: AtomicU64,
-}
-
-impl Gate for Meets {
-    fn may_start(&self, _k: u32) -> bool {
-        true
-    }
-
-    fn arrived(&self, k: u32) {
-        let (own, other) = if k == 0 { (0, 1) } else { (1, 0) };
-        self.arrived[own].store(1, Ordering::SeqCst);
-        for _ in 0..200_000_000u64 {
-            if self.arrived[other].load(Ordering::SeqCst) == 1 {
-                self.seen.fetch_add(1, Ordering::SeqCst);
-                return;
-            }
-        }
-    }
-}
-
 /// Both processors of an update see the other, so two threads run at once.
 #[test]
 fn two_processors_of_a_script_meet(rt: HostRuntime) -> Result<(), Fail> {
-    let gate = Meets {
-        arrived: [AtomicU64::new(0), AtomicU64::new(0)],
-        seen: AtomicU64::new(0),
-    };
+    let gate = Meets::new();
     let script = repeated(rt.alloc(), PAIR, b"update\n200 0\nend\n", 1)?;
     let ran = run_under(&rt, &script, 4096, &[], &gate)?;
     assert_eq!(rt; ran.status, Status::Done);
     assert!(rt; ran.sink.bytes() == b"accepted\nok\nok\ncomplete 1\n".as_slice());
-    assert_eq!(rt; gate.seen.load(Ordering::SeqCst), 2);
+    assert_eq!(rt; gate.seen(), 2);
     Ok(())
 }
 
@@ -432,26 +391,54 @@ fn count(text: &[u8], line: &[u8]) -> usize {
     times
 }
 
-// An update of two processors takes 42 steps of each. None comes up, joins or goes before the last of them.
+// A text without its lines that are this one.
+fn text_without(alloc: Global, text: &[u8], line: &[u8]) -> Result<Vec<u8>, Fail> {
+    let mut rest = Vec::new(alloc);
+    let mut read = Vec::new(alloc);
+    for byte in text {
+        read.push(*byte)?;
+        if *byte == b'\n' {
+            if read.as_slice() != line {
+                rest.extend_from_slice(&read)?;
+            }
+            read.clear();
+        }
+    }
+    Ok(rest)
+}
+
+// An update of two processors takes 42 steps of each, in turn, and behind each step stands this line.
+fn steps_with(alloc: Global, line: &[u8]) -> Result<Vec<u8>, Fail> {
+    let mut script = repeated(alloc, PAIR, b"begin\nend\ngo\n", 1)?;
+    for _ in 0..42 {
+        for step in [b"step 0\n".as_slice(), b"step 1\n"] {
+            script.extend_from_slice(step)?;
+            script.extend_from_slice(line)?;
+        }
+    }
+    Ok(script)
+}
+
+// None comes up, joins or goes before an update's last step, and each step tells what it tells without such a line behind it.
 #[test]
 fn none_comes_or_goes_while_an_update_is_under_way(rt: HostRuntime) -> Result<(), Fail> {
     let alloc = rt.alloc();
+    let alone = run(&rt, &steps_with(alloc, b"")?, 8192, &[])?;
+    assert_eq!(rt; alone.status, Status::Done);
+    assert!(rt; alone.sink.bytes().ends_with(b"release\n"));
     for (line, last) in [
-        (b"up\n".as_slice(), b"release\nup 2\n".as_slice()),
-        (b"join\n", b"release\njoined 2\n"),
-        (b"retire\n", b"release\nretired 1\n"),
+        (b"up\n".as_slice(), b"up 2\n".as_slice()),
+        (b"join\n", b"joined 2\n"),
+        (b"retire\n", b"retired 1\n"),
     ] {
-        let mut script = repeated(alloc, PAIR, b"begin\nend\ngo\n", 1)?;
-        for _ in 0..42 {
-            for step in [b"step 0\n".as_slice(), b"step 1\n"] {
-                script.extend_from_slice(step)?;
-                script.extend_from_slice(line)?;
-            }
-        }
-        let ran = run(&rt, &script, 8192, &[])?;
+        let ran = run(&rt, &steps_with(alloc, line)?, 8192, &[])?;
         assert_eq!(rt; ran.status, Status::Done);
         assert_eq!(rt; count(ran.sink.bytes(), b"under way\n"), 83);
-        assert!(rt; ran.sink.bytes().ends_with(last));
+        let mut told = alone.sink.bytes().to_vec(alloc)?;
+        told.extend_from_slice(last)?;
+        assert!(rt;
+            text_without(alloc, ran.sink.bytes(), b"under way\n")?.as_slice() == told.as_slice()
+        );
     }
     Ok(())
 }

@@ -3,6 +3,7 @@ mod joining;
 mod laws;
 mod moving;
 mod points;
+mod promises;
 mod states;
 mod steps;
 mod summaries;
@@ -33,6 +34,10 @@ pub use moving::{
     worked_moves, worked_newcomer_lines, worked_newcomers, worked_without_newcomer,
 };
 pub use points::worked_points;
+pub use promises::{
+    worked_laws_of_beginnings, worked_laws_of_calls, worked_laws_of_dumps, worked_laws_of_states,
+    worked_laws_of_statuses, worked_laws_of_told_updates,
+};
 pub use states::{
     worked_dumps, worked_each_state, worked_heads, worked_kept, worked_sections,
     worked_settled_states, worked_without_call, worked_words,

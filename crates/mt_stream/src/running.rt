@@ -21,6 +21,7 @@ pub enum Cut {
 pub fn cut_status(cut: &Cut) -> Status
     ensures value { result ≡ cut_status cut.now }
     ensures usage { result ≢ Status.Usage }
+    ensures few { (result ≢ Status.TooFew) × (result ≢ Status.Disabled) }
 {
     match cut {
         Cut::Feed(FeedFault::ReadFault) => Status::ReadFault,
@@ -110,6 +111,7 @@ pub fn leave<S: Source, K: Sink>(
         × Leaves status last more (S.left source.new) writer.old (K.taken sink.old) (K.taken sink.new) result }
     ensures long { (result ≡ Status.TooLong) ↔ (16777216 < taken feed.new) }
     ensures usage { result ≢ Status.Usage }
+    ensures few { (result ≢ Status.TooFew) × (result ≢ Status.Disabled) }
     ensures read_fault { StatusHasCause Status.ReadFault (S.faults source.old) (S.faults source.new) result }
     ensures write_fault { StatusHasCause Status.WriteFault (K.faults sink.old) (K.faults sink.new) result }
 {

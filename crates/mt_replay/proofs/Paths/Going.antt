@@ -12,7 +12,7 @@ use Rattle.mt_machine.specs.ComingAndGoing.{gone, last_number, without_last}
 use Rattle.mt_laws.proofs.Barrier.Claims.{all_get}
 use Rattle.mt_laws.proofs.Barrier.Ranks.{and_left, and_right}
 use Rattle.mt_laws.proofs.Clearing.Late.{Late, OrderLate}
-use Rattle.mt_laws.proofs.Invariant.Going.{gone_from, gone_keeps_words}
+use Rattle.mt_laws.proofs.Invariant.Going.{gone_from, gone_keeps_words, shared_front}
 use Rattle.mt_laws.proofs.Registers.Settled.{OrderHas, Settling}
 use Rattle.mt_laws.proofs.Words.BusLaws.{Stands, Word, all_unwritten, copies, drain_word, stands_drain, unwritten}
 use Rattle.mt_laws.proofs.Words.Copies.{Copy, IsOwned, IsShared}
@@ -48,14 +48,6 @@ module _ (m : Machine) (a : Arises m) (none : m.order ≡ None) (more : 1 < leng
   }
 
 -- ---- a word that is in memory
-
-shared_front : (v : ℕ) (cs : List Copy) (k : ℕ) → IsShared v cs → IsShared v (take k cs)
-shared_front v [] zero h = tt
-shared_front v [] (suc k) h = tt
-shared_front v (c ∷ cs) zero h = tt
-shared_front v (None ∷ cs) (suc k) h = shared_front v cs k h
-shared_front v (Some (x, true) ∷ cs) (suc k) h = absurd h
-shared_front v (Some (x, false) ∷ cs) (suc k) h = (h.0, shared_front v cs k h.1)
 
 not_owned : (v x : ℕ) (cs : List Copy) → IsShared v cs → IsOwned x cs → ⊥
 not_owned v x [] h g = g

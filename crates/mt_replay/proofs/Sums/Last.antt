@@ -19,14 +19,13 @@ use Rattle.mt_replay.specs.Headline.{Beginning, Beginnings, begins_by, begins_fr
 use Rattle.mt_replay.specs.Heads.{end_after, head_end}
 use Rattle.mt_replay.specs.Kept.{IsReplayState}
 use Rattle.mt_replay.specs.ReplayState.{ReplayState, first_state, state_after}
-use Rattle.mt_replay.specs.Running.{IsAt}
+use Rattle.mt_replay.specs.Running.{CarriesOut, IsAt}
 use Rattle.mt_replay.specs.Transcript.{Point, in_body, in_head}
 use Rattle.mt_replay.specs.Summary.{last_from}
 use Rattle.mt_replay.specs.Summing.{Begins, Lasts, LastsHere, LastsOn, last_lines, state_in}
 use Rattle.mt_replay.specs.declared.line.Run.{Run}
 use Rattle.mt_replay.specs.declared.line.Run.TheVariants as run
 use Rattle.mt_replay.proofs.Keeping.States.{state_kept}
-use Rattle.mt_replay.proofs.Taking.{Does}
 
 -- ---- the head
 
@@ -76,7 +75,7 @@ module _ (now : Situation) (before : List Reading) (number : ℕ) (line : List �
 -- ---- commands
 
 module _ (s new : ReplayState) (c : Command) (number : ℕ) (line : List ℕ) (is : IsReplayState s) (fits : Fits s.now c) (asked : command_of s.now number line ≡ Ok c) where
-  pub command_lasts : (waiting left : List ℕ) (a b : Option (List ℕ)) (result : Result (Option Status) Failed) → Does s new c waiting left a b result → Lasts number line (in_body s) (run.Body new) result
+  pub command_lasts : (waiting left : List ℕ) (a b : Option (List ℕ)) (result : Result (Option Status) Failed) → CarriesOut s new c waiting left a b result → Lasts number line (in_body s) (run.Body new) result
   command_lasts waiting left a b (Ok None) does = record {
     next = in_body (state_after s c);
     at = (does.1, (state_kept s c is fits).past);

@@ -7,7 +7,7 @@ ghost use Rattle.mt_script.specs.Numbers.{fault_at};
 ghost use Rattle.mt_script.specs.declared.fault.ScriptReason.TheVariants.{BadLine};
 ghost use Rattle.mt_script.specs.declared.fault.Offence.TheVariants as offence;
 ghost use Rattle.mt_replay.specs.Heads.{has_offence, head_of, shows_dump, stays_open};
-ghost use Rattle.mt_machine.specs.WorkedRuns.{bare_file, idle, line_of, one_window, palette, store};
+ghost use Rattle.mt_machine.specs.WorkedRuns.{bare_file, idle, line_of, machine_of, one_window, palette, store};
 ghost use Rattle.mt_ports.specs.declared.status.Status.TheVariants as status;
 ghost use Rattle.mt_script.specs.declared.command.Command.TheVariants as asks;
 ghost use Rattle.mt_script.specs.declared.command.Stage.TheVariants as stage;
@@ -17,7 +17,7 @@ ghost use Rattle.mt_replay.specs.ReplayState.{goal_after};
 ghost use Rattle.mt_replay.specs.Transcript.{transcript};
 ghost use Rattle.mt_stream.specs.Told.{told};
 ghost use Rattle.mt_replay.specs.Statuses.{AreHeld, AreWithoutCall, IsSettledAfter, ShowsDump, ShowsNoDump, stored_by, stored_by_all};
-ghost use Rattle.mt_replay.specs.WorkedStates.{after_end, at_end, busy, painted, painted_by, resting, later_refused, pair, paired_dump, small_dump, state_of, two_processors, with_first};
+ghost use Rattle.mt_replay.specs.WorkedStates.{after_end, at_end, busy, crowd, late_after_end, late_at_end, painted, painted_by, resting, later_refused, pair, paired_dump, small_dump, state_of, two_processors, with_first};
 
 /// Commands among which no call is accepted, and such as one is among or one doesn't fit.
 pub fn worked_without_call()
@@ -58,6 +58,7 @@ pub fn worked_settled_states()
     ensures older_line { IsSettledAfter at_end (with_first (record idle { lines = line_of 0x4000 0 ∷ []; era = 1 }) after_end) → ⊥ }
     ensures older_processor { IsSettledAfter at_end (with_first idle after_end) → ⊥ }
     ensures other_era { IsSettledAfter at_end palette → ⊥ }
+    ensures newer_entry_since { IsSettledAfter late_at_end late_after_end → ⊥ }
     ensures order_stays { IsSettledAfter at_end (record after_end { order = (run palette (Calls (bare_file 0x800) ∷ [])).order }) → ⊥ }
     ensures windows_lost { IsSettledAfter at_end (record after_end { system = record after_end.system { memory = zero_memory [] } }) → ⊥ }
     ensures word_lost { IsSettledAfter at_end (record after_end { system = record after_end.system { memory = zero_memory one_window } }) → ⊥ }
@@ -101,6 +102,9 @@ pub fn worked_kept()
     ensures no_file { IsReplayState (record painted { goal = record (bare_file 0x800) { width = 53 } }) → ⊥ }
     ensures other_kind { IsReplayState (record painted { now = record painted.now { dump = Some (dump_of (blank_file 40 0x400)) } }) → ⊥ }
     ensures other_files { IsReplayState (record (state_of stage.Rams (start_machine (bare_file 0x806 ∷ bare_file 0x806 ∷ []) [])) { now = record (two_processors stage.Rams) { dump = Some pair; windows = [] } }) → ⊥ }
+    ensures none_there { IsReplayState (crowd 0) → ⊥ }
+    ensures too_many { IsReplayState (crowd 17) → ⊥ }
+    ensures older_line { IsReplayState (record (crowd 1) { machine = machine_of (record idle { lines = line_of 0x4000 0 ∷ []; era = 1 } ∷ []) }) → ⊥ }
     ensures other_windows { IsReplayState (record painted { now = record painted.now { windows = [] } }) → ⊥ }
     ensures something_happened { IsReplayState (state_of stage.Rams (run palette (store 0 0x1000 7 ∷ []))) → ⊥ }
 {}

@@ -2,7 +2,8 @@ use Rattle.std.proofs.Common.{◌≡◌, ◌∙◌, ap, sym, subst, false}
 use Rattle.std.specs.Prelude.{◌↔◌}
 use Rattle.std.specs.List.{AllPass}
 use Rattle.mt_regs.specs.RegisterFile.{pair_at}
-use Rattle.mt_proc.specs.Applied.{IsGoodRange, applied, is_valid}
+use Rattle.mt_proc.specs.Applied.{IsGoodRange, applied}
+use Rattle.mt_ranges.specs.Match.{is_valid}
 use Rattle.mt_proc.specs.declared.applying.Applied.{Applied}
 use Rattle.mt_proc.specs.declared.applying.Applied.TheVariants.{BadRange, NoneFree, NotUsed}
 use Rattle.mt_proc.proofs.Free.{full_exactly, not_used_exactly, takes_least}

@@ -1,6 +1,6 @@
 use Rattle.std.proofs.Common.{◌≡◌, ◌∙◌, sym, true, ◌-◌}
 use Rattle.mt_ranges.specs.Match.{is_run, page_field}
-use Rattle.mt_proc.specs.Applied.{is_valid}
+use Rattle.mt_ranges.specs.Match.{is_valid}
 use Rattle.mt_proc.proofs.Blocks.{block_range}
 use Rattle.mt_proc.proofs.listing.pair_line.Goals as goal
 

@@ -1,10 +1,30 @@
-use Rattle.std.proofs.Common.{ap, arith, refl}
+use Rattle.std.proofs.Common.{◌∷◌, [], ⊎_elim, ap, arith, false, refl}
 use Rattle.std.specs.Prelude.{length}
 use Rattle.mt_replay.proofs.Refusals.Joins.{joins_settle}
 use Rattle.mt_replay.proofs.Whole.{scripts_keep}
-use Rattle.mt_replay.specs.WorkedJoins.{just_dumped}
+use Rattle.mt_machine.specs.WorkedRuns.{entry, idle, line_of}
+use Rattle.mt_regs.specs.RegisterFile.{RegisterFile}
+use Rattle.mt_script.specs.declared.command.Command.TheVariants as asks
+use Rattle.mt_replay.specs.ReplayState.{state_after}
+use Rattle.mt_replay.specs.Statuses.{AreWithoutCall}
+use Rattle.mt_replay.specs.WorkedJoins.{just_dumped, unlike_eras}
 use Rattle.mt_replay.specs.WorkedStates.{small_dump}
 use Rattle.mt_replay.proofs.worked.joining.worked_joined_states.Goals as goal
+
+loads : AreWithoutCall (state_after unlike_eras asks.Join) (asks.Load 1 0x1000 ∷ [])
+loads = (((refl, omega arith), (refl, omega arith)), (λ e. absurd (cc e), λ h. ⊎_elim (λ e. absurd (cc e)) (λ e. absurd (cc e)) h), tt)
+
+pub returns-clause-older_processors : goal.returns-clause-older_processors
+returns-clause-older_processors c = λ h. omega (arith, h.eras 0 idle (omega arith))
+
+pub returns-clause-other_register : goal.returns-clause-other_register
+returns-clause-other_register c = λ h. omega (arith, ap (λ (f : RegisterFile). f.default_type) (h.settled 2 idle (omega arith)).file)
+
+pub returns-clause-older_line : goal.returns-clause-older_line
+returns-clause-older_line c = λ h. omega (arith, (h.settled 1 idle (omega arith)).lines 0 (line_of 0 0) (omega arith))
+
+pub returns-clause-newer_entry_since : goal.returns-clause-newer_entry_since
+returns-clause-newer_entry_since c = λ h. omega (arith, (h.stays_settled (asks.Load 1 0x1000 ∷ []) loads 1 idle (omega arith)).entries 0 (entry 0 false) (omega arith))
 
 pub returns-clause-joined : goal.returns-clause-joined
 returns-clause-joined c = joins_settle just_dumped (scripts_keep small_dump) refl refl

@@ -1,26 +1,11 @@
-use Rattle.std.proofs.Common.{refl, ap, arith, List, [], ◌∷◌}
+use Rattle.std.proofs.Common.{refl, ap, arith}
 use Rattle.std.specs.Prelude.{codes}
-use Rattle.mt_dump.specs.Line.{Reading, said_of}
-use Rattle.mt_dump.specs.Dump.{ShownBy}
 use Rattle.mt_dump.specs.Dumps.{Dump, dump_of, first_file}
-use Rattle.mt_dump.specs.Reader.{onto}
-use Rattle.mt_dump.proofs.Stands.{clean_shown}
 use Rattle.mt_machine.specs.WorkedRuns.{bare_file}
-use Rattle.mt_script.specs.declared.command.Command.TheVariants as command
-use Rattle.mt_replay.specs.Statuses.{ShowsDump}
 use Rattle.mt_replay.specs.WorkedStates.{small_dump}
 use Rattle.mt_replay.proofs.Refusals.Outcomes.{one_dump_shown, shows_none}
+use Rattle.mt_replay.proofs.WorkedDumps.{shows}
 use Rattle.mt_replay.proofs.worked.states.worked_dumps.Goals as goal
-
--- the lines of the dump, the last first
-abbrev readings : List Reading
-readings = said_of 4 (codes "2ff 806") ∷ said_of 3 (codes "0fe 400") ∷ []
-
-shown : ShownBy (onto readings []) (dump_of (bare_file 0x806))
-shown = clean_shown readings (dump_of (bare_file 0x806)) (λ is. omega arith, refl, (λ is. omega arith, refl, tt)) refl
-
-shows : ShowsDump small_dump (dump_of (bare_file 0x806))
-shows = (command.Cpus 1, refl, (command.Dump, refl, (command.DumpLine, refl, (refl, (command.DumpLine, refl, (refl, (command.End, refl, (shown, refl))))))))
 
 pub returns-clause-shows : goal.returns-clause-shows
 returns-clause-shows c = shows

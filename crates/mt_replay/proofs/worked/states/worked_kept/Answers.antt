@@ -6,6 +6,7 @@ use Rattle.mt_replay.specs.WorkedStates.{pair}
 use Rattle.mt_machine.specs.Machine.{Machine}
 use Rattle.mt_machine.specs.WorkedRuns.{bare_file, idle}
 use Rattle.mt_machine.specs.System.{Processor}
+use Rattle.mt_replay.proofs.Fresh.{nothing_stale}
 use Rattle.mt_replay.proofs.worked.states.worked_kept.Goals as goal
 
 abbrev entries_of_first : List Processor → ℕ
@@ -40,3 +41,12 @@ type_of_last (p ∷ q ∷ ps) = q.file.default_type
 
 pub returns-clause-other_files : goal.returns-clause-other_files
 returns-clause-other_files c = λ h. let fresh = h.fresh pair refl refl in omega (arith, ap (λ (m : Machine). type_of_last m.system.processors) fresh.1)
+
+pub returns-clause-none_there : goal.returns-clause-none_there
+returns-clause-none_there c = λ h. omega (arith, h.some)
+
+pub returns-clause-too_many : goal.returns-clause-too_many
+returns-clause-too_many c = λ h. omega (arith, h.few)
+
+pub returns-clause-older_line : goal.returns-clause-older_line
+returns-clause-older_line c = λ h. omega (arith, nothing_stale _ h 0 idle (omega arith))

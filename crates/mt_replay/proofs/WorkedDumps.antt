@@ -1,0 +1,22 @@
+-- The dump that the script of a dump alone shows.
+use Rattle.std.proofs.Common.{refl, arith, List, [], ◌∷◌}
+use Rattle.std.specs.Prelude.{codes}
+use Rattle.mt_dump.specs.Line.{Reading, said_of}
+use Rattle.mt_dump.specs.Dump.{ShownBy}
+use Rattle.mt_dump.specs.Dumps.{dump_of}
+use Rattle.mt_dump.specs.Reader.{onto}
+use Rattle.mt_dump.proofs.Stands.{clean_shown}
+use Rattle.mt_machine.specs.WorkedRuns.{bare_file}
+use Rattle.mt_script.specs.declared.command.Command.TheVariants as command
+use Rattle.mt_replay.specs.Statuses.{ShowsDump}
+use Rattle.mt_replay.specs.WorkedStates.{small_dump}
+
+-- the lines of the dump, the last first
+abbrev readings : List Reading
+readings = said_of 4 (codes "2ff 806") ∷ said_of 3 (codes "0fe 400") ∷ []
+
+shown : ShownBy (onto readings []) (dump_of (bare_file 0x806))
+shown = clean_shown readings (dump_of (bare_file 0x806)) (λ is. omega arith, refl, (λ is. omega arith, refl, tt)) refl
+
+pub shows : ShowsDump small_dump (dump_of (bare_file 0x806))
+shows = (command.Cpus 1, refl, (command.Dump, refl, (command.DumpLine, refl, (refl, (command.DumpLine, refl, (refl, (command.End, refl, (shown, refl))))))))
