@@ -1,6 +1,7 @@
 mod Answering
 mod FirstFiles
 mod Leaving
+mod Statuses
 mod Made
 mod LongLines
 mod OneOutput

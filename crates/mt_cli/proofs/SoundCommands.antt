@@ -1,17 +1,18 @@
 -- A page's address that a command line names has 52 bits, and its index is one of eight.
-use Rattle.std.proofs.Common.{◌≡◌, ℕ, zero, suc, ◌+◌, ◌-◌, ◌^◌, ◌<◌, ◌≤◌, ◌==◌, Bool, true, false, List, [], ◌∷◌, Option, Some, None, refl, arith}
+use Rattle.std.proofs.Common.{◌≡◌, ℕ, ◌-◌, ◌^◌, ◌<◌, ◌≤◌, Bool, true, false, List, [], ◌∷◌, Option, Some, None, refl, arith}
 use Rattle.std.specs.Prelude.{◌&&◌, nat_le, nat_lt, codes, if◌then◌else◌, IfSome, Result, Ok, Err}
 use Rattle.std.proofs.lemmas.Bool.{and_parts, leb-true, ltb-true}
 use Rattle.mt_text.specs.Number.{decimal_number, hex_number}
 use Rattle.mt_text.specs.declared.fault.NumberFault.{NumberFault}
 use Rattle.mt_dump.proofs.OneLine.{decimal_within}
+use Rattle.mt_gran.proofs.GranuleSizes.{size_is}
 use Rattle.mt_cli.specs.declared.command.Command.{Command}
 use Rattle.mt_cli.specs.declared.command.Command.TheVariants.{Dump, Replay, Make, Big, Private, Proc}
 use Rattle.mt_cli.specs.declared.command.DumpCommand.{DumpCommand}
 use Rattle.mt_cli.specs.declared.command.DumpCommand.TheVariants.{Check, Show, Types, Page, Tidy, Gran}
 use Rattle.mt_cli.specs.declared.command.TidyOption.{TidyOption}
 use Rattle.mt_cli.specs.declared.command.TidyOption.TheVariants.{Spare, Chunk}
-use Rattle.mt_cli.specs.CommandLine.{IsSound, command_of, command_of_one, command_of_three, gran_as, gran_with, big_with, index_of, is_text, log_among, log_of, greatest, make_with, of_dump, option_of, page_at, private_with, proc_with, tidy_with, tidy_with_both, usual_chunk, usual_spare}
+use Rattle.mt_cli.specs.CommandLine.{IsSound, command_of, command_of_one, command_of_three, gran_as, gran_with, big_with, index_of, is_text, log_of, greatest, make_with, of_dump, option_of, page_at, private_with, proc_with, tidy_with, tidy_with_both, usual_chunk, usual_spare}
 
 -- a command on a dump is sound
 abbrev IsSoundCommand : Command → Type 0
@@ -68,15 +69,6 @@ sound_with_both (Some (Spare spare)) (Some (Chunk chunk)) = tt
 sound_with_both (Some (Chunk chunk)) (Some (Spare spare)) = tt
 sound_with_both (Some (Chunk chunk)) (Some (Chunk other)) = tt
 
-log_below : (size log more g : ℕ) → log_among size log more ≡ Some g → g < log + more
-unfolding log_among
-log_below size log zero g is = absurd (cc is)
-log_below size log (suc more) g is = by_test (size == 2 ^ (12 + log)) is (λ later. let h = log_below size (log + 1) more g later in omega (arith, h))
-  where
-    by_test : (b : Bool) → (if b then Some log else log_among size (log + 1) more) ≡ Some g → (log_among size (log + 1) more ≡ Some g → g < log + suc more) → g < log + suc more
-    by_test true found later = let same : log ≡ g = cc found in omega arith
-    by_test false found later = later found
-
 sound_as : (log : Option ℕ) (command : Option DumpCommand) → ((g : ℕ) → log ≡ Some g → g ≤ 28) → IfSome (gran_as log command) IsSound
 sound_as None command small = tt
 sound_as (Some log) None small = tt
@@ -88,7 +80,7 @@ sound_as (Some log) (Some (Tidy spare chunk)) small = small log refl
 sound_as (Some log) (Some (Gran other spare chunk)) small = tt
 
 small_log : (size : Result ℕ NumberFault) (g : ℕ) → log_of size ≡ Some g → g ≤ 28
-small_log (Ok size) g is = let h = log_below size 0 29 g is in omega (arith, h)
+small_log (Ok size) g is = ((size_is size g).0 is).0
 small_log (Err fault) g is = absurd (cc is)
 
 sound_gran : (size : List ℕ) (command : Option DumpCommand) → IfSome (gran_with size command) IsSound

@@ -1,7 +1,8 @@
 -- The command lines: what their words ask for (own). All other lists of words are wrong usage.
 --     command_of words      the command of these words, the program's name left out
-use Rattle.std.specs.Prelude.{ℕ, zero, suc, ◌+◌, ◌-◌, ◌^◌, ◌≤◌, ◌==◌, ◌<◌, ◌&&◌, nat_eq, nat_le, nat_lt, Bool, true, false, List, [], ◌∷◌, length, drop, take, codes, if◌then◌else◌, Option, Some, None, Result, Ok, Err, ⊤}
+use Rattle.std.specs.Prelude.{ℕ, ◌-◌, ◌^◌, ◌≤◌, ◌<◌, ◌&&◌, nat_eq, nat_le, nat_lt, Bool, true, false, List, [], ◌∷◌, length, drop, take, codes, if◌then◌else◌, Option, Some, None, Result, Ok, Err, ⊤}
 use Rattle.std.specs.Cmp.Lexicographic.{pointwise}
+use Rattle.mt_gran.specs.Sizes.{log_among}
 use Rattle.mt_text.specs.Number.{hex_number, decimal_number}
 use Rattle.mt_text.specs.declared.fault.NumberFault.{NumberFault}
 use Rattle.mt_cli.specs.declared.command.Command.{Command}
@@ -71,11 +72,6 @@ tidy_with_both (Some (Spare spare)) (Some (Spare other)) = None
 tidy_with_both (Some (Chunk chunk)) (Some (Chunk other)) = None
 tidy_with_both (Some option) None = None
 tidy_with_both None second = None
-
--- the log of the pages of a granule of so many bytes, where some logs are looked at from one on
-unfoldable pub log_among : ℕ → ℕ → ℕ → Option ℕ
-log_among size log zero = None
-log_among size log (suc more) = if size == 2 ^ (12 + log) then Some log else log_among size (log + 1) more
 
 -- a power of two from 1000H to 10000000000H
 abbrev pub log_of : Result ℕ NumberFault → Option ℕ
@@ -171,7 +167,7 @@ MayTakeMemory (Dump Check) = ⊥
 MayTakeMemory (Dump Show) = ⊥
 MayTakeMemory (Dump Types) = ⊤
 MayTakeMemory (Dump (Page address index)) = ⊥
-MayTakeMemory (Dump (Tidy spare chunk)) = ⊤
+MayTakeMemory (Dump (Tidy spare chunk)) = ⊥
 MayTakeMemory (Dump (Gran log spare chunk)) = ⊤
 MayTakeMemory Replay = ⊤
 MayTakeMemory (Proc cpus) = ⊤

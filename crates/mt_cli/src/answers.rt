@@ -5,7 +5,7 @@ ghost use Rattle.mt_regs.specs.Agreement.{first_refusal};
 ghost use Rattle.mt_text.specs.Feed.{GaveTooMuch};
 ghost use Rattle.mt_cli.specs.declared.command.DumpCommand.TheVariants.{Check, Show, Types, Page, Tidy, Gran};
 ghost use Rattle.mt_cli.specs.CommandLine.{IsSound, MayTakeMemory};
-ghost use Rattle.mt_cli.specs.Answer.{Answer, FileAnswer};
+ghost use Rattle.mt_cli.specs.Answer.{Answer, FileAnswer, MayChoose};
 ghost use Rattle.mt_cli.specs.Generator.{make_text};
 ghost use Rattle.mt_cli.specs.Output.{big_text};
 ghost use Rattle.mt_cli.specs.declared.command.Command.TheVariants.{Dump as OfDump};
@@ -23,7 +23,7 @@ use mt_ports::{Gate, Sink, Source, Status};
 use mt_regs::{Fault, RegFile, first_refusal};
 use mt_replay::summary;
 use mt_text::FeedFault;
-use mt_tidy::{TidyFault, tidy};
+use mt_tidy::{TidyFault, WorkArea, tidy};
 use mt_types::page_runs;
 use std::alloc::Global;
 use std::sync::Wait;
@@ -85,12 +85,14 @@ fn page<K: Sink>(f: &RegFile, address: u64, index: u8, sink: &mut K) -> Status
 }
 
 // Writes a file of the same types with the fewest pairs, or why there is none.
-fn tidied<K: Sink>(alloc: Global, f: &RegFile, spare: u8, chunk: u64, sink: &mut K) -> Status
+fn tidied<K: Sink>(f: &RegFile, spare: u8, chunk: u64, sink: &mut K) -> Status
     requires { IsAccepted f.now }
     ensures bytes { Answers (FileAnswer f.now (Tidy spare chunk)) (K.taken sink.old) (K.taken sink.new) result }
+    ensures no_memory { result ≢ Status.NoMemory }
     ensures cause { StatusHasCause Status.WriteFault (K.faults sink.old) (K.faults sink.new) result }
 {
-    match tidy(alloc, f, spare, chunk) {
+    let mut area = WorkArea::new();
+    match tidy(f, spare, chunk, &mut area) {
         Ok(tidied) => {
             let text = tidied_text(tidied.used, &tidied.file);
             written(sink, text.as_slice(), Status::Done)
@@ -102,7 +104,6 @@ fn tidied<K: Sink>(alloc: Global, f: &RegFile, spare: u8, chunk: u64, sink: &mut
         Err(TidyFault::TooFew { needs, has }) => {
             written(sink, too_few_line(needs, has).as_slice(), Status::TooFew)
         }
-        Err(TidyFault::NoMemory) => Status::NoMemory,
     }
 }
 
@@ -121,7 +122,8 @@ fn grained<K: Sink>(
     ensures cause { StatusHasCause Status.WriteFault (K.faults sink.old) (K.faults sink.new) result }
 {
     f.is_register_file(); // a fact for the proof
-    match gran(alloc, f, log, spare, chunk) {
+    let mut area = WorkArea::new();
+    match gran(f, log, spare, chunk, &mut area) {
         Ok(grained) => {
             let tidied = &grained.tidied;
             let parts = grained.parts.as_slice();
@@ -137,7 +139,6 @@ fn grained<K: Sink>(
         Err(GranFault::TooFew { needs, has }) => {
             written(sink, too_few_line(needs, has).as_slice(), Status::TooFew)
         }
-        Err(GranFault::NoMemory) => Status::NoMemory,
     }
 }
 
@@ -156,7 +157,7 @@ fn answer_accepted<K: Sink>(alloc: Global, command: DumpCommand, d: &Dump, sink:
         DumpCommand::Show => show(d, sink),
         DumpCommand::Types => types(alloc, f, sink),
         DumpCommand::Page { address, index } => page(f, address, index, sink),
-        DumpCommand::Tidy { spare, chunk } => tidied(alloc, f, spare, chunk, sink),
+        DumpCommand::Tidy { spare, chunk } => tidied(f, spare, chunk, sink),
         DumpCommand::Gran { log, spare, chunk } => grained(alloc, f, log, spare, chunk, sink),
     }
 }
@@ -238,6 +239,8 @@ pub fn answer_input<S: Source, K: Sink>(
     requires sound { IsSound command }
     ensures bytes { (bytes : List ℕ) → S.left source.old ≡ Some bytes → AnswersInput bytes command (S.left source.new) (K.taken sink.old) (K.taken sink.new) result }
     ensures usage { result ≢ Status.Usage }
+    ensures few { result ≡ Status.TooFew → MayChoose command }
+    ensures disabled { result ≡ Status.Disabled → MayChoose command }
     ensures no_memory { result ≡ Status.NoMemory → MayTakeMemory (OfDump command) }
     ensures read_fault { StatusHasCause Status.ReadFault (S.faults source.old) (S.faults source.new) result }
     ensures write_fault { StatusHasCause Status.WriteFault (K.faults sink.old) (K.faults sink.new) result }

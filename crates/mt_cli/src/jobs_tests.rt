@@ -9,13 +9,13 @@ use crate::tests::{Ports, expect_rows, run};
 use crate::tool;
 use mt_core::Core;
 use mt_cpu::Cpu;
+use mt_gates::Meets;
 use mt_machine::{Done, Op};
 use mt_output::LineBuffer;
-use mt_ports::{Gate, MemSink, MemSource, Status};
+use mt_ports::{MemSink, MemSource, Status};
 use mt_regs::RegFile;
 use mt_vectors::job_table;
 use std::alloc::Global;
-use std::sync::atomic::{AtomicU64, Ordering};
 use std::test::Fail;
 
 #[test]
@@ -37,28 +37,19 @@ fn jobs_read_nothing(rt: HostRuntime) -> Result<(), Fail> {
     Ok(())
 }
 
-/// Each of two says that it has arrived, and looks for the other.
-#[derive(Drop)]
-struct Meets {
-    arrived: [AtomicU64; 2],
-    seen: AtomicU64,
-}
-
-impl Gate for Meets {
-    fn may_start(&self, _k: u32) -> bool {
-        true
-    }
-
-    fn arrived(&self, k: u32) {
-        let (own, other) = if k == 0 { (0, 1) } else { (1, 0) };
-        self.arrived[own].store(1, Ordering::SeqCst);
-        for _ in 0..200_000_000u64 {
-            if self.arrived[other].load(Ordering::SeqCst) == 1 {
-                self.seen.fetch_add(1, Ordering::SeqCst);
-                return;
-            }
-        }
-    }
+// Nothing is taken where the first write fails.
+#[test]
+fn jobs_that_can_not_be_written(rt: HostRuntime) -> Result<(), Fail> {
+    let ports = Ports {
+        input: b"x",
+        piece: 1,
+        failing_reads: &[],
+        failing_writes: &[0],
+    };
+    let ran = run(&rt, &["private", "2", "7", "1"], &ports)?;
+    assert_eq!(rt; ran.status, Status::WriteFault);
+    assert!(rt; ran.sink.bytes().is_empty());
+    Ok(())
 }
 
 /// Both calls of the gate see the other's flag, so two threads run at once.
@@ -69,17 +60,15 @@ fn two_processors_meet(rt: HostRuntime) -> Result<(), Fail> {
     for word in ["private", "2", "7", "0"] {
         owned.push(String::from_str(alloc, word)?)?;
     }
-    let gate = Meets {
-        arrived: [AtomicU64::new(0), AtomicU64::new(0)],
-        seen: AtomicU64::new(0),
-    };
+    let gate = Meets::new();
     let mut source = MemSource::new(Vec::new(alloc), 1, Vec::new(alloc));
     let Ok(mut sink) = MemSink::new(alloc, 64, Vec::new(alloc)) else {
         return Err(Fail::from("no memory"));
     };
     let status = tool(&rt, &owned, &mut source, &mut sink, &gate);
     assert_eq!(rt; status, Status::Done);
-    assert!(rt; gate.seen.load(Ordering::SeqCst) == 2);
+    assert!(rt; sink.bytes() == b"values 0000000000000000\nmemory 0000000000000000\n".as_slice());
+    assert!(rt; gate.seen() == 2);
     Ok(())
 }
 

@@ -3,7 +3,7 @@ ghost use Rattle.mt_ports.specs.declared.status.Status.{Status};
 ghost use Rattle.mt_ports.specs.declared.status.Status.TheVariants.{Done};
 ghost use Rattle.mt_cli.specs.declared.command.DumpCommand.{DumpCommand};
 ghost use Rattle.mt_cli.specs.declared.command.Command.TheVariants.{Dump};
-ghost use Rattle.mt_cli.specs.CommandLine.{command_of, log_among};
+ghost use Rattle.mt_cli.specs.CommandLine.{command_of};
 ghost use Rattle.mt_cli.specs.Lines.{used_line};
 ghost use Rattle.mt_cli.specs.Answer.{MayChoose};
 ghost use Rattle.mt_cli.specs.Output.{Output};
@@ -31,11 +31,6 @@ pub fn words_and_bytes_have_one_output()
         → ((command : DumpCommand) → command_of words ≡ Some (Dump command) → MayChoose command → s ≢ Done) → text ≡ other }
 {}
 
-/// A size is read as that of granules of `2^log` pages exactly where it is `2^(12 + log)` bytes, of at most `2^28` pages.
-pub fn a_size_is_a_power_of_two()
-    ensures { (size log : ℕ) → (log_among size 0 29 ≡ Some log) ↔ ((log ≤ 28) × (size ≡ 2 ^ (12 + log))) }
-{}
-
 /// Each command line and each input have an output.
 pub fn words_and_bytes_have_an_output()
     ensures { (words : List (List ℕ)) (bytes : List ℕ) → (text : List ℕ) × (status : Status) × Output words bytes text status }
@@ -45,7 +40,7 @@ pub fn words_and_bytes_have_an_output()
 pub fn a_tidied_text_is_a_dump(f: &RegFile)
     ensures { (used : ℕ) → used < 2 ^ 64 → Shown (used_line used ++ canon (dump_of f.now)) (dump_of f.now) }
 {
-    a_register_file_is_shown_by_its_text(f);
+    a_register_file_is_shown_by_its_text(f); // a fact for the proof
 }
 
 /// Each text for measurements is a script without an offence, and the files of its dump are

@@ -19,9 +19,8 @@ pub use answers::{answer, answer_input, big, make, private};
 pub use command::{Command, DumpCommand, TidyOption};
 pub use generator::make_text;
 pub use laws::{
-    a_made_text_is_a_script, a_size_is_a_power_of_two, a_tidied_text_is_a_dump,
-    memory_is_wanted_early_without_newcomers, words_and_bytes_have_an_output,
-    words_and_bytes_have_one_output,
+    a_made_text_is_a_script, a_tidied_text_is_a_dump, memory_is_wanted_early_without_newcomers,
+    words_and_bytes_have_an_output, words_and_bytes_have_one_output,
 };
 pub use lines::{
     disabled_line, lost_line, page_text, run_line, summary_text, too_few_line, used_line,
@@ -35,7 +34,7 @@ pub use worked::{worked_draws, worked_generated_lines};
 pub use worked_answers::{
     worked_dump_answers, worked_gran_answers, worked_tidy_answers, worked_type_answers,
 };
-pub use worked_outputs::{worked_checks, worked_command_lines, worked_endings};
+pub use worked_outputs::{worked_checks, worked_command_lines, worked_endings, worked_statuses};
 
 #[cfg(test)]
 mod cut_tests;

@@ -6,7 +6,7 @@ ghost use Rattle.mt_ports.specs.Exit.{code};
 ghost use Rattle.mt_cli.specs.CommandLine.{command_of, reads_input};
 ghost use Rattle.mt_output.specs.Program.{Exits, words_of};
 ghost use Rattle.mt_text.specs.Feed.{GaveTooMuch};
-ghost use Rattle.mt_cli.specs.Tool.{Leaves, Reads};
+ghost use Rattle.mt_cli.specs.Tool.{Leaves, MayEnd, Reads};
 
 use crate::tool;
 use mt_output::{exit_code, words_behind_name};
@@ -29,9 +29,12 @@ fn run<R: AllocGlobal + Threads + Wait + Sync, S: Source, K: Sink, G: Gate>(
     ensures leaves { (bytes before : List ℕ) → S.left source.old ≡ Some bytes → K.taken sink.old ≡ Some before →
         Leaves (words_of args) bytes (S.left source.new) before (K.taken sink.new) result }
     ensures reads { (bytes : List ℕ) → S.left source.old ≡ Some bytes → Reads (words_of args) bytes (S.left source.new) result }
+    ensures statuses { MayEnd (command_of (words_of args)) result }
     ensures usage { result ≡ Status.Usage → command_of (words_of args) ≡ None }
     ensures no_command { command_of (words_of args) ≡ None → (result ≡ Status.Usage) ⊎ (result ≡ Status.WriteFault) ⊎ (result ≡ Status.NoMemory) }
     ensures unread { reads_input (command_of (words_of args)) ≡ false → source.new ≡ source.old }
+    ensures unread_leaves { (bytes before : List ℕ) → reads_input (command_of (words_of args)) ≡ false → K.taken sink.old ≡ Some before →
+        Leaves (words_of args) bytes (Some bytes) before (K.taken sink.new) result }
     ensures read_fault { StatusHasCause Status.ReadFault (S.faults source.old) (S.faults source.new) result }
     ensures write_fault { StatusHasCause Status.WriteFault (K.faults sink.old) (K.faults sink.new) result }
     ensures too_long { (result ≡ Status.TooLong) ↔ GaveTooMuch (S.given source.old) (S.given source.new) }
@@ -59,9 +62,12 @@ pub fn program_status<R: AllocGlobal + Threads + Wait + Sync, S: Source, K: Sink
     ensures leaves { (bytes before : List ℕ) → S.left source.old ≡ Some bytes → K.taken sink.old ≡ Some before →
         Exits result (Leaves (words_of args) bytes (S.left source.new) before (K.taken sink.new)) }
     ensures reads { (bytes : List ℕ) → S.left source.old ≡ Some bytes → Exits result (Reads (words_of args) bytes (S.left source.new)) }
+    ensures statuses { Exits result (MayEnd (command_of (words_of args))) }
     ensures usage { Exits result (λ status. status ≡ Status.Usage → command_of (words_of args) ≡ None) }
     ensures no_command { Exits result (λ status. command_of (words_of args) ≡ None → (status ≡ Status.Usage) ⊎ (status ≡ Status.WriteFault) ⊎ (status ≡ Status.NoMemory)) }
     ensures unread { reads_input (command_of (words_of args)) ≡ false → source.new ≡ source.old }
+    ensures unread_leaves { (bytes before : List ℕ) → reads_input (command_of (words_of args)) ≡ false → K.taken sink.old ≡ Some before →
+        Exits result (Leaves (words_of args) bytes (Some bytes) before (K.taken sink.new)) }
     ensures read_fault { Exits result (StatusHasCause Status.ReadFault (S.faults source.old) (S.faults source.new)) }
     ensures write_fault { Exits result (StatusHasCause Status.WriteFault (K.faults sink.old) (K.faults sink.new)) }
     ensures too_long { Exits result (λ status. (status ≡ Status.TooLong) ↔ GaveTooMuch (S.given source.old) (S.given source.new)) }

@@ -3,7 +3,7 @@ ghost use Rattle.mt_ports.specs.Causes.{StatusHasCause};
 ghost use Rattle.mt_cli.specs.CommandLine.{MayTakeMemory, command_of, reads_input};
 ghost use Rattle.mt_text.specs.Feed.{GaveTooMuch};
 ghost use Rattle.mt_cli.specs.declared.command.Command.{Command};
-ghost use Rattle.mt_cli.specs.Tool.{Leaves, Reads};
+ghost use Rattle.mt_cli.specs.Tool.{Leaves, MayEnd, Reads};
 
 use crate::answers::{answer_input, big, make, private};
 use crate::{Command, command_of};
@@ -34,10 +34,18 @@ pub fn tool<R: AllocGlobal + Threads + Wait + Sync, S: Source, K: Sink, G: Gate>
     // at most 16,777,216 bytes is not too long.
     ensures reads { (bytes : List ℕ) → S.left source.old ≡ Some bytes → Reads (map string_bytes words.now) bytes (S.left source.new) result }
 
+    // Whatever the ports tell, the statuses about an input come only of commands that read it, and
+    // TooFew and Disabled only of `tidy` and `gran`.
+    ensures statuses { MayEnd (command_of (map string_bytes words.now)) result }
+
     // Usage comes exactly where the words are no command line. Then nothing is read, nor by `make`, `big` and `private`.
     ensures usage { result ≡ Status.Usage → command_of (map string_bytes words.now) ≡ None }
     ensures no_command { command_of (map string_bytes words.now) ≡ None → (result ≡ Status.Usage) ⊎ (result ≡ Status.WriteFault) }
     ensures unread { reads_input (command_of (map string_bytes words.now)) ≡ false → source.new ≡ source.old }
+
+    // The sink then took the output, or a front of it, whether or not the source tells its bytes: it is one for all bytes.
+    ensures unread_leaves { (bytes before : List ℕ) → reads_input (command_of (map string_bytes words.now)) ≡ false → K.taken sink.old ≡ Some before →
+        Leaves (map string_bytes words.now) bytes (Some bytes) before (K.taken sink.new) result }
 
     // Memory is refused to no command that takes none.
     ensures no_memory { result ≡ Status.NoMemory → (command : Command) × (command_of (map string_bytes words.now) ≡ Some command) × MayTakeMemory command }

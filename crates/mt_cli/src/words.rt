@@ -1,8 +1,9 @@
 ghost use Rattle.std.specs.Prelude.{◌≡◌, ◌≤◌, ◌<◌, ◌+◌, ◌^◌, map, string_bytes, IfSome, MatchOption};
 ghost use Rattle.mt_text.specs.Number.{decimal_number, hex_number};
-ghost use Rattle.mt_cli.specs.CommandLine.{behind, greatest, command_of, command_of_four, command_of_one, command_of_three, command_of_two, gran_as, gran_with, big_with, index_of, log_among, log_of, make_with, of_dump, option_of, private_with, proc_with, tidy_with, tidy_with_both};
+ghost use Rattle.mt_cli.specs.CommandLine.{behind, greatest, command_of, command_of_four, command_of_one, command_of_three, command_of_two, gran_as, gran_with, big_with, index_of, log_of, make_with, of_dump, option_of, private_with, proc_with, tidy_with, tidy_with_both};
 
 use crate::{Command, DumpCommand, TidyOption};
+use mt_gran::granule_log;
 use mt_text::{decimal, hex64};
 
 const USUAL_SPARE: u8 = 1;
@@ -20,8 +21,6 @@ const MOST_SPARE: u64 = 32;
 const MOST_PROCESSORS: u64 = 16;
 
 const ADDRESSES: u64 = 1 << 52;
-
-const GRANULE_SIZES: u8 = 29;
 
 const MOST_ACCESSES: u64 = 4096;
 
@@ -108,31 +107,11 @@ fn tidy_with_both(first: Option<TidyOption>, second: Option<TidyOption>) -> Opti
     }
 }
 
-// The bytes of a granule.
-fn granule_bytes(log: u8) -> u64
-    requires { log ≤ 28 }
-    ensures { result ≡ 2 ^ (12 + log) }
-{
-    1 << (12 + log)
-}
-
-// The log of the pages of a granule of so many bytes.
-fn log_among(size: u64) -> Option<u8>
-    ensures { result ≡ log_among size 0 29 }
-{
-    for log in 0..GRANULE_SIZES {
-        if size == granule_bytes(log) {
-            return Some(log);
-        }
-    }
-    None
-}
-
 fn log_of(size: &[u8]) -> Option<u8>
     ensures { result ≡ log_of (hex_number size.now) }
 {
     match hex64(size) {
-        Ok(size) => log_among(size),
+        Ok(size) => granule_log(size),
         Err(_) => None,
     }
 }

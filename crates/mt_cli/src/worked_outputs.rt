@@ -12,10 +12,10 @@ ghost use Rattle.mt_cli.specs.declared.command.DumpCommand.TheVariants as of_dum
 ghost use Rattle.mt_cli.specs.CommandLine.{MayTakeMemory, command_of, left_of};
 ghost use Rattle.mt_cli.specs.Answer.{MayChoose};
 ghost use Rattle.mt_cli.specs.Lines.{check_text};
-ghost use Rattle.mt_cli.specs.Tool.{CutShort, FailedRead, Finished, Leaves, Overran, Reads, Starved};
+ghost use Rattle.mt_cli.specs.Tool.{CutShort, FailedRead, Finished, Leaves, MayEnd, Overran, Reads, Starved};
 
 /// Command lines and what they ask for.
-#[tactic(auto, unfolding(crate::specs::CommandLine::log_among))]
+#[tactic(auto, unfolding(mt_gran::specs::Sizes::log_among))]
 pub fn worked_command_lines()
     ensures none { command_of [] ≡ None }
     ensures check { command_of (codes "check" ∷ []) ≡ Some (asks.Dump of_dump.Check) }
@@ -46,6 +46,7 @@ pub fn worked_command_lines()
     ensures no_memory_for_check { MayTakeMemory (asks.Dump of_dump.Check) → ⊥ }
     ensures no_memory_for_show { MayTakeMemory (asks.Dump of_dump.Show) → ⊥ }
     ensures no_memory_for_page { MayTakeMemory (asks.Dump (of_dump.Page 0 0)) → ⊥ }
+    ensures no_memory_for_tidy { MayTakeMemory (asks.Dump (of_dump.Tidy 1 0)) → ⊥ }
     ensures one_map { MayChoose of_dump.Types → ⊥ }
     ensures one_page { MayChoose (of_dump.Page 0 0) → ⊥ }
     ensures one_check { MayChoose of_dump.Check → ⊥ }
@@ -85,4 +86,28 @@ pub fn worked_endings()
     ensures reads_usage { Reads [] (codes "x") (Some []) status.Usage → ⊥ }
     ensures reads_too_long { Reads [] (codes "x") (Some []) status.TooLong → ⊥ }
     ensures reads_to_the_end { Reads (codes "check" ∷ []) (codes "x") (Some (codes "x")) status.Done → ⊥ }
+{}
+
+/// With which statuses command lines may end, and with which not.
+#[tactic(auto, unfolding(mt_gran::specs::Sizes::log_among))]
+pub fn worked_statuses()
+    ensures tidy_lacks_pairs { MayEnd (command_of (codes "tidy" ∷ [])) status.TooFew }
+    ensures gran_lacks_pairs { MayEnd (command_of (codes "gran" ∷ codes "1000" ∷ [])) status.TooFew }
+    ensures tidy_finds_them_off { MayEnd (command_of (codes "tidy" ∷ [])) status.Disabled }
+    ensures types_lacks_none { MayEnd (command_of (codes "types" ∷ [])) status.TooFew → ⊥ }
+    ensures replay_lacks_none { MayEnd (command_of (codes "replay" ∷ [])) status.TooFew → ⊥ }
+    ensures proc_finds_none_off { MayEnd (command_of (codes "proc" ∷ codes "2" ∷ [])) status.Disabled → ⊥ }
+    ensures no_words_lack_none { MayEnd (command_of []) status.TooFew → ⊥ }
+    ensures proc_refuses { MayEnd (command_of (codes "proc" ∷ codes "2" ∷ [])) status.Refused }
+    ensures make_refuses_nothing { MayEnd (command_of (codes "make" ∷ codes "7" ∷ [])) status.Refused → ⊥ }
+    ensures replay_finds_an_offence { MayEnd (command_of (codes "replay" ∷ [])) status.BadText }
+    ensures big_finds_no_offence { MayEnd (command_of (codes "big" ∷ codes "7" ∷ [])) status.BadText → ⊥ }
+    ensures check_may_not_be_read { MayEnd (command_of (codes "check" ∷ [])) status.ReadFault }
+    ensures private_reads_nothing { MayEnd (command_of (codes "private" ∷ codes "2" ∷ codes "7" ∷ codes "0" ∷ [])) status.ReadFault → ⊥ }
+    ensures show_may_be_too_long { MayEnd (command_of (codes "show" ∷ [])) status.TooLong }
+    ensures no_words_are_too_long { MayEnd (command_of []) status.TooLong → ⊥ }
+    ensures made { MayEnd (command_of (codes "make" ∷ codes "7" ∷ [])) status.Done }
+    ensures not_written { MayEnd (command_of (codes "make" ∷ codes "7" ∷ [])) status.WriteFault }
+    ensures wrong_usage { MayEnd (command_of []) status.Usage }
+    ensures without_memory { MayEnd (command_of (codes "make" ∷ codes "7" ∷ [])) status.NoMemory }
 {}

@@ -71,6 +71,30 @@ pub fn requests() -> &'static [Row] {
         "a name is whole and in small letters", ["proc", "2"],
             b"0fe 508\n2ff 800\nend\nbase=0 size=1000 type=write-Back\n" => BadText,
             b"bad text 4:18 unknown type\n";
+        "a head is whole", ["proc", "2"],
+            b"0fe 508\n200 6\n201 f00000800\n2ff 800\nend\nbases=0\n" => BadText,
+            b"bad text 6:1 bad line\n";
+        "a word behind the type", ["proc", "2"],
+            b"0fe 508\n200 6\n201 f00000800\n2ff 800\nend\nbase=0 size=1000 type=write-back x\n" => BadText,
+            b"bad text 6:34 bad line\n";
+        "a word behind the pair", ["proc", "2"],
+            b"0fe 508\n200 6\n201 f00000800\n2ff 800\nend\ndisable=0 1\n" => BadText,
+            b"bad text 6:11 bad line\n";
+        "another head than the size's comes before the type's name", ["proc", "2"],
+            b"0fe 508\n200 6\n201 f00000800\n2ff 800\nend\nbase=0 siz=0 type=x\n" => BadText,
+            b"bad text 6:8 bad line\n";
+        "another head than the type's", ["proc", "2"],
+            b"0fe 508\n200 6\n201 f00000800\n2ff 800\nend\nbase=0 size=0 typ=x\n" => BadText,
+            b"bad text 6:15 bad line\n";
+        "the first bad number comes first", ["proc", "2"],
+            b"0fe 508\n200 6\n201 f00000800\n2ff 800\nend\nbase=x size=x type=x\n" => BadText,
+            b"bad text 6:1 bad number\n";
+        "a pair of 21 digits", ["proc", "2"],
+            b"0fe 508\n200 6\n201 f00000800\n2ff 800\nend\ndisable=000000000000000000000\n" => BadText,
+            b"bad text 6:1 bad number\n";
+        "pair numbers past 32 bits are in no file", ["proc", "2"],
+            b"0fe 508\n200 6\n201 f00000800\n2ff 800\nend\ndisable=4294967296\ndisable=18446744073709551615\n" => Done,
+            b"not used\nnot used\nbase=0x0 size=0x100000000 type=write-back # 0\nera 0\n";
         "a dump that is refused", ["proc", "2"],
             b"0fe 508\n2ff 1c06\nend\nx\n" => Refused,
             b"refused 2ff reserved bit\n";

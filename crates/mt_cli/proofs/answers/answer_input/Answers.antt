@@ -3,6 +3,7 @@ use Rattle.mt_ports.specs.declared.status.Status.TheVariants.{BadText}
 use Rattle.mt_output.specs.Written.{Writes}
 use Rattle.mt_cli.specs.Written.{bad_input, good_input}
 use Rattle.mt_cli.proofs.Leaving.{never_answers}
+use Rattle.mt_cli.proofs.Statuses.{answers_fit}
 use Rattle.mt_cli.proofs.answers.answer_input.Goals as goal
 
 pub returns-in-Ok-Ok-clause-bytes : goal.returns-in-Ok-Ok-clause-bytes
@@ -25,3 +26,9 @@ pub returns-in-Ok-Err-clause-bytes : goal.returns-in-Ok-Err-clause-bytes
 returns-in-Ok-Err-clause-bytes g c bytes is =
     let wrote = subst (λ (t : List ℕ). Writes t BadText (g.K.Sink.taken c.args.sink.now) (g.K.Sink.taken c.written.new.sink) c.written.result) (c.as_slice.ensures.value ∙ c.bad_text_line.ensures) c.written.ensures.bytes in
     bad_input c.in-Ok-Err.fault (rw c.in-Ok-Err.field-0-is at (c.in-Ok-Err.ensures.answer bytes is)) (c.in-Ok-Err.ensures.end bytes is) wrote
+
+pub returns-in-Ok-Ok-clause-few : goal.returns-in-Ok-Ok-clause-few
+returns-in-Ok-Ok-clause-few g c = (answers_fit c.in-Ok-Ok.dump c.args.command _ _ _ c.answer.ensures.bytes).0
+
+pub returns-in-Ok-Ok-clause-disabled : goal.returns-in-Ok-Ok-clause-disabled
+returns-in-Ok-Ok-clause-disabled g c = (answers_fit c.in-Ok-Ok.dump c.args.command _ _ _ c.answer.ensures.bytes).1

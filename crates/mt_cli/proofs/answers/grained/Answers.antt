@@ -15,15 +15,15 @@ use Rattle.mt_cli.proofs.answers.grained.Goals as goal
 
 pub grained_text-requires : goal.grained_text-requires
 grained_text-requires g c =
-    subst (λ (parts : List Run). All IsLine parts) (sym c.as_slice-parts.ensures.value)
-    (parts_have_lines (pages_of c.args.f.now) c.args.log c.in-Ok.grained.parts.items (few_pages c.args.f.now.width c.is_register_file.ensures.narrow) c.in-Ok.ensures.ok.parts_are)
+    subst (λ (parts : List Run). All IsLine parts) (sym c.as_slice-parts.ensures.runs)
+    (parts_have_lines (pages_of c.args.f.now) c.args.log c.in-Ok.grained.parts (few_pages c.args.f.now.width c.is_register_file.ensures.narrow) c.in-Ok.ensures.ok.parts_are)
 
 pub returns-in-Ok-grained_text-clause-bytes : goal.returns-in-Ok-grained_text-clause-bytes
 returns-in-Ok-grained_text-clause-bytes g c =
     answers_with (FileAnswer c.args.f.now (Gran c.args.log c.args.spare c.args.chunk)) _ _ _ _ _ _
-    (grained c.args.log c.args.spare c.args.chunk c.in-Ok.grained.tidied.used c.in-Ok.grained.lost c.in-Ok.grained.parts.items c.in-Ok.grained.tidied.file c.in-Ok.ensures.ok)
+    (grained c.args.log c.args.spare c.args.chunk c.in-Ok.grained.tidied.used c.in-Ok.grained.lost c.in-Ok.grained.parts c.in-Ok.grained.tidied.file c.in-Ok.ensures.ok)
     (c.as_slice.ensures.value ∙ c.in-Ok-grained_text.ensures
-    ∙ ap (λ (parts : List Run). parts_text parts ++ lost_line c.in-Ok.grained.lost ++ used_line c.in-Ok.grained.tidied.used ++ canon (dump_of c.in-Ok.grained.tidied.file)) c.as_slice-parts.ensures.value)
+    ∙ ap (λ (parts : List Run). parts_text parts ++ lost_line c.in-Ok.grained.lost ++ used_line c.in-Ok.grained.tidied.used ++ canon (dump_of c.in-Ok.grained.tidied.file)) c.as_slice-parts.ensures.runs)
     c.written.ensures.bytes
 
 pub returns-in-Err-Disabled-clause-bytes : goal.returns-in-Err-Disabled-clause-bytes

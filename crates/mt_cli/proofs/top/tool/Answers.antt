@@ -1,10 +1,12 @@
 use Rattle.std.proofs.Common.{◌∙◌, List, ℕ, Option, None, Some, ap, map, refl, subst, sym, string_bytes, []}
 use Rattle.mt_ports.specs.declared.status.Status.TheVariants.{Usage}
 use Rattle.mt_replay.specs.Running.{Replays}
-use Rattle.mt_cli.specs.declared.command.Command.TheVariants.{Big, Make}
+use Rattle.mt_cli.specs.declared.command.Command.TheVariants.{Big, Make, Proc, Replay}
+use Rattle.mt_cli.specs.Measured.{measured_text}
 use Rattle.mt_cli.specs.Output.{usage, made, summed}
 use Rattle.mt_cli.proofs.Leaving.{input_leaves, input_reads, left_by, makes_leave, makes_read, must_read, replays_leave, replays_read, sums_leave, sums_read, written_leaves, proc_leaves, proc_reads}
 use Rattle.mt_cli.proofs.SoundCommands.{sound_command, sound_counts, sound_cpus}
+use Rattle.mt_cli.proofs.Statuses.{input_ends, makes_end, run_ends, usage_ends}
 use Rattle.mt_stream.specs.Runs.{Runs}
 use Rattle.mt_proc.specs.Proc.{proc_told}
 use Rattle.mt_cli.proofs.top.tool.Goals as goal
@@ -85,3 +87,55 @@ returns-in-Private-clause-leaves g c bytes before left taken =
 
 pub returns-in-Private-clause-reads : goal.returns-in-Private-clause-reads
 returns-in-Private-clause-reads g c bytes left = sums_read _ bytes c.in-Private.cpus c.in-Private.n c.in-Private.accesses _ _ _ _ (sym c.in-Some.ensures ∙ ap Some c.in-Private.is) left c.private.ensures.bytes
+
+-- ---- statuses
+
+pub returns-in_default-clause-statuses : goal.returns-in_default-clause-statuses
+returns-in_default-clause-statuses g c = usage_ends (map string_bytes c.args.words.now) _ c.written.ensures.status
+
+pub returns-in-Replay-clause-statuses : goal.returns-in-Replay-clause-statuses
+returns-in-Replay-clause-statuses g c = run_ends (map string_bytes c.args.words.now) Replay _ (sym c.in-Some.ensures ∙ ap Some c.in-Replay.is) refl c.replay.ensures.few
+
+pub returns-in-Proc-clause-statuses : goal.returns-in-Proc-clause-statuses
+returns-in-Proc-clause-statuses g c = run_ends (map string_bytes c.args.words.now) (Proc c.in-Proc.cpus) _ (sym c.in-Some.ensures ∙ ap Some c.in-Proc.is) refl c.proc.ensures.few
+
+pub returns-in-Dump-clause-statuses : goal.returns-in-Dump-clause-statuses
+returns-in-Dump-clause-statuses g c = input_ends (map string_bytes c.args.words.now) c.in-Dump.command _ (sym c.in-Some.ensures ∙ ap Some c.in-Dump.is) c.answer_input.ensures.few c.answer_input.ensures.disabled
+
+pub returns-in-Make-clause-statuses : goal.returns-in-Make-clause-statuses
+returns-in-Make-clause-statuses g c = makes_end (map string_bytes c.args.words.now) _ _ _ _ c.make.ensures.bytes
+
+pub returns-in-Big-clause-statuses : goal.returns-in-Big-clause-statuses
+returns-in-Big-clause-statuses g c = makes_end (map string_bytes c.args.words.now) _ _ _ _ c.big.ensures.bytes
+
+pub returns-in-Private-clause-statuses : goal.returns-in-Private-clause-statuses
+returns-in-Private-clause-statuses g c = makes_end (map string_bytes c.args.words.now) (measured_text c.in-Private.cpus c.in-Private.n c.in-Private.accesses) _ _ _ c.private.ensures.bytes
+
+-- ---- where nothing is read
+
+pub returns-in_default-clause-unread_leaves : goal.returns-in_default-clause-unread_leaves
+returns-in_default-clause-unread_leaves g c bytes before not taken =
+    written_leaves _ bytes _ Usage _ (Some bytes) before _ _ (usage (sym c.in_default.ensures)) (left_by (map string_bytes c.args.words.now) bytes (Some bytes) None (sym c.in_default.ensures) refl) taken c.written.ensures.bytes
+
+pub returns-in-Make-clause-unread_leaves : goal.returns-in-Make-clause-unread_leaves
+returns-in-Make-clause-unread_leaves g c bytes before not taken =
+    let says = sym c.in-Some.ensures ∙ ap Some c.in-Make.is in
+    makes_leave _ bytes _ (Make c.in-Make.n) _ (Some bytes) before _ _ says (made c.in-Make.n says) refl taken c.make.ensures.bytes
+
+pub returns-in-Big-clause-unread_leaves : goal.returns-in-Big-clause-unread_leaves
+returns-in-Big-clause-unread_leaves g c bytes before not taken =
+    let says = sym c.in-Some.ensures ∙ ap Some c.in-Big.is in
+    makes_leave _ bytes _ (Big c.in-Big.n) _ (Some bytes) before _ _ says (summed c.in-Big.n says) refl taken c.big.ensures.bytes
+
+pub returns-in-Private-clause-unread_leaves : goal.returns-in-Private-clause-unread_leaves
+returns-in-Private-clause-unread_leaves g c bytes before not taken =
+    sums_leave _ bytes c.in-Private.cpus c.in-Private.n c.in-Private.accesses _ (Some bytes) before _ _ (sym c.in-Some.ensures ∙ ap Some c.in-Private.is) refl taken c.private.ensures.bytes
+
+pub returns-in-Replay-clause-unread_leaves : goal.returns-in-Replay-clause-unread_leaves
+returns-in-Replay-clause-unread_leaves g c bytes before not taken = absurd (must_read (map string_bytes c.args.words.now) _ (sym c.in-Some.ensures ∙ ap Some c.in-Replay.is) refl not)
+
+pub returns-in-Proc-clause-unread_leaves : goal.returns-in-Proc-clause-unread_leaves
+returns-in-Proc-clause-unread_leaves g c bytes before not taken = absurd (must_read (map string_bytes c.args.words.now) _ (sym c.in-Some.ensures ∙ ap Some c.in-Proc.is) refl not)
+
+pub returns-in-Dump-clause-unread_leaves : goal.returns-in-Dump-clause-unread_leaves
+returns-in-Dump-clause-unread_leaves g c bytes before not taken = absurd (must_read (map string_bytes c.args.words.now) _ (sym c.in-Some.ensures ∙ ap Some c.in-Dump.is) refl not)
