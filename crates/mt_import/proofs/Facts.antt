@@ -6,7 +6,8 @@ use Rattle.mt_import.specs.declared.fault.ImportFault.{ImportFault}
 use Rattle.mt_import.specs.declared.reading.Shown.{Shown}
 use Rattle.mt_import.specs.Readings.{Fact, shown_facts, shows_facts}
 use Rattle.mt_import.specs.Supplied.{Supplied}
-use Rattle.mt_import.specs.Outcome.{Seen, fact_fault, facts_fault, or_fault, seen_after, seen_with}
+use Rattle.mt_import.specs.Outcome.{Seen, fact_fault, facts_fault, seen_after, seen_with}
+use Rattle.mt_import.specs.Rows.{or_fault}
 use Rattle.mt_import.specs.Reader.{HasTaken, State}
 
 pub seen_append : (seen : Seen) (facts others : List Fact) → seen_after seen (facts ++ others) ≡ seen_after (seen_after seen facts) others

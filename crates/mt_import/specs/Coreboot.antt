@@ -9,7 +9,7 @@ use Rattle.mt_text.specs.declared.fault.NumberFault.{NumberFault}
 use Rattle.mt_text.specs.declared.place.Place.{Place}
 use Rattle.mt_import.specs.declared.reading.Said.{Said}
 use Rattle.mt_import.specs.declared.reading.Said.TheVariants.{Nothing, Shows}
-use Rattle.mt_import.specs.Pieces.{before, behind, is_text, prefixed_number, prefixed_register, shown_as, shows_one, shows_width}
+use Rattle.mt_import.specs.Pieces.{before, behind, is_text, prefixed_number, prefixed_register, shown_as, shows_one, shows_width, whole_number}
 
 -- ---- what `_display_mtrrs` prints: `0xVALUE: NAME`, and more behind it
 
@@ -72,12 +72,12 @@ displayed_from first number words = shows_one None (register_named (text_of word
 
 -- ---- what is printed when registers are set
 
--- `Fixed MSR 0x250 0xVALUE`
+-- `Fixed MSR 0x250 0xVALUE`, of sixteen digits
 abbrev pub is_fixed : ℕ → List (ℕ × List ℕ) → Bool
 is_fixed first words = is_text (codes "Fixed") (text_of words first) && is_text (codes "MSR") (text_of words (first + 1))
 
 abbrev pub fixed_from : Option ℕ → ℕ → ℕ → List (ℕ × List ℕ) → Said
-fixed_from processor first number words = shows_one processor (prefixed_register (text_of words (first + 2))) (prefixed_number (text_of words (first + 3))) (place_of number words (first + 3))
+fixed_from processor first number words = shows_one processor (prefixed_register (text_of words (first + 2))) (whole_number 18 (text_of words (first + 3))) (place_of number words (first + 3))
 
 -- `0 base 0xBASE mask 0xMASK type 6`
 abbrev pub is_pair : ℕ → List (ℕ × List ℕ) → Bool

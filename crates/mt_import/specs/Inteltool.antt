@@ -6,7 +6,7 @@ use Rattle.mt_text.specs.Number.{decimal_number}
 use Rattle.mt_text.specs.declared.fault.NumberFault.{NumberFault}
 use Rattle.mt_import.specs.declared.reading.Said.{Said}
 use Rattle.mt_import.specs.declared.reading.Said.TheVariants.{Nothing, Turns}
-use Rattle.mt_import.specs.Pieces.{before, is_text, prefixed_number, prefixed_register, shows_one}
+use Rattle.mt_import.specs.Pieces.{before, is_text, prefixed_register, shows_one, unread_processor, whole_number}
 
 -- a value by its upper and its lower half
 abbrev pub of_halves : Option ℕ → Option ℕ → Option ℕ
@@ -17,22 +17,22 @@ of_halves (Some high) (Some low) = if nat_lt high 0x100000000 && nat_lt low 0x10
 abbrev pub is_colon : ℕ → Bool
 is_colon byte = byte == 58
 
--- `0xHIGH:0xLOW`, cut at the first `:`
+-- `0xHIGH:0xLOW`, cut at the first `:`, of eight digits each
 abbrev pub halves_at : List ℕ → Option ℕ → Option ℕ
 halves_at word None = None
-halves_at word (Some at) = of_halves (prefixed_number (take at word)) (prefixed_number (drop (at + 1) word))
+halves_at word (Some at) = of_halves (whole_number 10 (take at word)) (whole_number 10 (drop (at + 1) word))
 
 abbrev pub halves_value : List ℕ → Option ℕ
 halves_value word = halves_at word (position is_colon word)
 
 abbrev pub turned_to : Result ℕ NumberFault → Said
 turned_to (Ok processor) = Turns processor
-turned_to (Err fault) = Nothing
+turned_to (Err fault) = Turns unread_processor
 
 -- `N)`
 abbrev pub turned_by : Option (List ℕ) → Said
 turned_by (Some digits) = turned_to (decimal_number digits 65535)
-turned_by None = Nothing
+turned_by None = Turns unread_processor
 
 -- `MSR 0x000000FE = 0x00000000:0x00000D08 (IA32_MTRRCAP)`
 abbrev pub is_register_line : List (ℕ × List ℕ) → Bool

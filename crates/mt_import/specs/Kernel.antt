@@ -5,10 +5,9 @@ use Rattle.mt_text.specs.Words.{text_of, place_of}
 use Rattle.mt_text.specs.Number.{hex_number, decimal_number}
 use Rattle.mt_text.specs.declared.place.Place.{Place}
 use Rattle.mt_import.specs.declared.reading.Said.{Said}
-use Rattle.mt_import.specs.declared.reading.Said.TheVariants.{Nothing, Shows, InTable}
-use Rattle.mt_import.specs.declared.table.TableLine.TheVariants.{DefaultType, FixedRanges, Types, VariableRanges}
+use Rattle.mt_import.specs.declared.reading.Said.TheVariants.{Nothing, InTable}
+use Rattle.mt_import.specs.declared.table.TableLine.TheVariants.{DefaultType, Disabled, FixedRanges, Pair, PairDisabled, Types, VariableRanges}
 use Rattle.mt_import.specs.Pieces.{is_text, number_in}
-use Rattle.mt_import.specs.Table.{two_shown, value_at}
 
 -- the code of a memory type: Intel SDM, volume 3A, chapter Memory Cache Control, section Memory Type Range Registers (MTRRs); `?` has none
 abbrev pub type_named : List ℕ → Option ℕ
@@ -25,20 +24,20 @@ type_named word =
 abbrev pub enabled_by : List ℕ → Option Bool
 enabled_by word = if is_text (codes "enabled:") word then Some true else if is_text (codes "disabled:") word then Some false else None
 
-abbrev pub fixed_said : Option Bool → Said
-fixed_said None = Nothing
-fixed_said (Some enabled) = InTable (FixedRanges enabled)
+abbrev pub fixed_said : Place → Option Bool → Said
+fixed_said place None = Nothing
+fixed_said place (Some enabled) = InTable (FixedRanges enabled place)
 
 -- Without E, and where FE isn't shown alone, IA32_MTRR_DEF_TYPE isn't known.
 abbrev pub variable_said : Bool → Place → Option Bool → Said
 variable_said alone place None = Nothing
-variable_said alone place (Some enabled) = if enabled || alone then InTable (VariableRanges enabled place) else Nothing
+variable_said alone place (Some enabled) = if enabled || alone then InTable (VariableRanges enabled place) else InTable (Disabled place)
 
 abbrev pub head_said : Bool → ℕ → List (ℕ × List ℕ) → Said
 head_said alone number words =
-    if is_text (codes "default") (text_of words 1) && is_text (codes "type:") (text_of words 2) then InTable (DefaultType (type_named (text_of words 3)))
+    if is_text (codes "default") (text_of words 1) && is_text (codes "type:") (text_of words 2) then InTable (DefaultType (type_named (text_of words 3)) (place_of number words 3))
     else if not (is_text (codes "ranges") (text_of words 2)) then Nothing
-    else if is_text (codes "fixed") (text_of words 1) then fixed_said (enabled_by (text_of words 3))
+    else if is_text (codes "fixed") (text_of words 1) then fixed_said (place_of number words 3) (enabled_by (text_of words 3))
     else if is_text (codes "variable") (text_of words 1) then variable_said alone (place_of number words 3) (enabled_by (text_of words 3))
     else Nothing
 
@@ -71,7 +70,7 @@ addresses_said (Some first) (Some last) code place =
 abbrev pub run_said : ℕ → List (ℕ × List ℕ) → Said
 run_said number words =
     if length (text_of words 0) == 11 && is_text (codes "-") (take 1 (drop 5 (text_of words 0)))
-    then addresses_said (number_in (hex_number (take 5 (text_of words 0)))) (number_in (hex_number (drop 6 (text_of words 0)))) (type_named (text_of words 1)) (place_of number words 0)
+    then addresses_said (number_in (hex_number (take 5 (text_of words 0)))) (number_in (hex_number (drop 6 (text_of words 0)))) (type_named (text_of words 1)) (place_of number words 1)
     else Nothing
 
 -- ---- `N base BASE mask MASK T`
@@ -87,21 +86,28 @@ abbrev pub mask_value : Option ℕ → Option ℕ
 mask_value None = None
 mask_value (Some mask) = if mask % 4096 == 0 then Some (mask + 0x800) else None
 
--- PhysBase and PhysMask of a pair, where their values are known
-abbrev pub shows_pair : Option ℕ → Place → Option ℕ → Place → Option ℕ → Said
-shows_pair None base_place base mask_place mask = Nothing
-shows_pair (Some pair) base_place base mask_place mask = Shows (Some 0) (two_shown (value_at (0x200 + 2 * pair) base_place base) (value_at (0x201 + 2 * pair) mask_place mask))
-
 abbrev pub pair_said : Option ℕ → ℕ → List (ℕ × List ℕ) → Said
-pair_said pair number words = shows_pair pair
-    (place_of number words 2) (base_value (number_in (hex_number (text_of words 2))) (type_named (text_of words 5)))
-    (place_of number words 4) (mask_value (number_in (hex_number (text_of words 4))))
+pair_said None number words = Nothing
+pair_said (Some pair) number words = InTable (Pair (record {
+  pair = pair;
+  base = base_value (number_in (hex_number (text_of words 2))) (type_named (text_of words 5));
+  base_place = place_of number words 2;
+  mask = mask_value (number_in (hex_number (text_of words 4)));
+  mask_place = place_of number words 4;
+}))
+
+-- ---- `N disabled`
+
+abbrev pub disabled_said : Option ℕ → Place → Said
+disabled_said None place = Nothing
+disabled_said (Some pair) place = InTable (PairDisabled pair place)
 
 -- ---- all lines
 
 abbrev pub kernel_said : Bool → ℕ → List (ℕ × List ℕ) → Said
 kernel_said alone number words =
     if length words == 4 && is_text (codes "MTRR") (text_of words 0) then head_said alone number words
+    else if length words == 2 && is_text (codes "disabled") (text_of words 1) then disabled_said (number_in (decimal_number (text_of words 0) 31)) (place_of number words 1)
     else if length words == 2 then run_said number words
     else if length words == 6 && is_text (codes "base") (text_of words 1) && is_text (codes "mask") (text_of words 3) then pair_said (number_in (decimal_number (text_of words 0) 31)) number words
     else Nothing

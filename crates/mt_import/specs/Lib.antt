@@ -12,6 +12,7 @@ pub mod Xen
 pub mod Edk2
 pub mod Shown
 pub mod Supplied
+pub mod Rows
 pub mod Outcome
 pub mod Reader
 pub mod Import

@@ -13,8 +13,9 @@ use Rattle.mt_output.specs.Lines.{bad_text, line}
 use Rattle.mt_import.specs.declared.reading.Reading.{Reading}
 use Rattle.mt_import.specs.declared.fault.ImportFault.{ImportFault}
 use Rattle.mt_import.specs.declared.fault.ImportFault.TheVariants.{LongLine, BadProcessor, TooManyPairs, BadWidth, Contradiction, WidthContradiction}
-use Rattle.mt_import.specs.Readings.{Fact, is_register_value, is_width, is_fault}
-use Rattle.mt_import.specs.Supplied.{Supplied, supplied_value}
+use Rattle.mt_import.specs.Readings.{Fact, is_register_value, is_row, is_width, is_fault}
+use Rattle.mt_import.specs.Rows.{or_fault, row_fault}
+use Rattle.mt_import.specs.Supplied.{Supplied, differs, supplied_value}
 
 -- ---- what facts show
 
@@ -29,6 +30,7 @@ nothing_seen = record { width = None; readings = [] }
 abbrev pub seen_with : Seen → Fact → Seen
 seen_with seen (is_register_value reading) = record { width = seen.width; readings = reading ∷ seen.readings }
 seen_with seen (is_width width place) = record { width = Some width; readings = seen.readings }
+seen_with seen (is_row table line) = seen
 seen_with seen (is_fault fault) = seen
 
 abbrev pub seen_after : Seen → List Fact → Seen
@@ -65,10 +67,6 @@ value_in supplied before processor number = or_supplied (value_shown processor n
 
 -- ---- faults
 
-abbrev pub differs : Option ℕ → ℕ → Bool
-differs None value = false
-differs (Some other) value = not (other == value)
-
 -- The same register is supplied or shown with another value. All processors have one capability register's value.
 abbrev pub contradicts : Supplied → List Reading → Reading → Bool
 contradicts supplied before reading =
@@ -96,11 +94,8 @@ width_fault supplied seen width place =
 abbrev pub fact_fault : Supplied → Seen → Fact → Option ImportFault
 fact_fault supplied seen (is_register_value reading) = reading_fault supplied seen.readings reading
 fact_fault supplied seen (is_width width place) = width_fault supplied seen width place
+fact_fault supplied seen (is_row table line) = row_fault supplied table line
 fact_fault supplied seen (is_fault fault) = Some fault
-
-abbrev pub or_fault : Option ImportFault → Option ImportFault → Option ImportFault
-or_fault (Some fault) other = Some fault
-or_fault None other = other
 
 -- the first fault of facts
 abbrev pub facts_fault : Supplied → Seen → List Fact → Option ImportFault

@@ -34,6 +34,14 @@ number_in (Err fault) = None
 abbrev pub prefixed_number : List ℕ → Option ℕ
 prefixed_number word = if is_prefixed word then number_in (hex_number word) else None
 
+-- the same in a word of this length: a shorter one was cut
+abbrev pub whole_number : ℕ → List ℕ → Option ℕ
+whole_number size word = if length word == size then prefixed_number word else None
+
+-- a hexadecimal number of sixteen digits
+abbrev pub sixteen_digits : List ℕ → Option ℕ
+sixteen_digits word = if length word == 16 then number_in (hex_number word) else None
+
 -- the number, where it has three hexadecimal digits at most
 abbrev pub register_in : Result ℕ NumberFault → Option ℕ
 register_in (Ok number) = if nat_lt number 0x1000 then Some number else None
@@ -45,6 +53,10 @@ prefixed_register word = if is_prefixed word then register_in (hex_number word) 
 
 abbrev pub shown_as : ℕ → ℕ → Place → Option Shown
 shown_as number value place = Some (record { number = number; value = value; place = place })
+
+-- A processor that no dump has. Lines behind one that turns to a processor whose number can't be read are of it.
+abbrev pub unread_processor : ℕ
+unread_processor = 65535
 
 -- one register of a processor, or else of the one that the lines are of
 abbrev pub shows_one : Option ℕ → Option ℕ → Option ℕ → Place → Said

@@ -12,6 +12,7 @@ use Rattle.mt_import.specs.declared.reading.Said.{Said}
 use Rattle.mt_import.specs.declared.reading.Said.TheVariants.{Nothing, Announces, Value, Turns, Shows, Width, Clash, InTable, Long}
 use Rattle.mt_import.specs.declared.reading.Shown.{Shown}
 use Rattle.mt_import.specs.declared.table.Table.{Table}
+use Rattle.mt_import.specs.declared.table.TableLine.{TableLine}
 use Rattle.mt_import.specs.Table.{table_after, table_of, table_shows}
 
 -- a file that has each register that some file has: 32 pairs, and FIX
@@ -22,10 +23,11 @@ all_registers = blank_file 36 0x120
 abbrev pub is_register : ℕ → Bool
 is_register number = nat_lt number 0x1000 && is_some (value_at all_registers number)
 
--- A register's value, the address width and its place, or why a log shows no dump.
+-- A register's value, the address width and its place, a line of a kernel's table behind lines that show this, or why a log shows no dump.
 pub data Fact : Type 0 where
   is_register_value : Reading → Fact
   is_width : ℕ → Place → Fact
+  is_row : Table → TableLine → Fact
   is_fault : ImportFault → Fact
 
 -- before all lines
@@ -59,7 +61,7 @@ facts_of context (Turns processor) = []
 facts_of context (Shows processor shows) = shows_facts (unwrap_or processor context.processor) shows
 facts_of context (Width width place) = is_width width place ∷ []
 facts_of context (Clash place number) = if is_register number then is_fault (Contradiction place number) ∷ [] else []
-facts_of context (InTable line) = shows_facts 0 (table_shows context.table line)
+facts_of context (InTable line) = is_row context.table line ∷ shows_facts 0 (table_shows context.table line)
 facts_of context (Long place) = is_fault (LongLine place) ∷ []
 
 -- what is announced by a line

@@ -1,6 +1,6 @@
 -- What the words of the command line supply (own).
 --     command_of words      the format and what is supplied, where the words are a command line
-use Rattle.std.specs.Prelude.{ℕ, ◌≡◌, ◌≤◌, ◌+◌, ◌==◌, ◌&&◌, not, nat_lt, codes, Bool, List, [], ◌∷◌, ◌++◌, length, take, drop, position, if◌then◌else◌, Option, Some, None, Result, Ok, Err, is_some, IfSome}
+use Rattle.std.specs.Prelude.{ℕ, ◌≡◌, ◌≤◌, ◌+◌, ◌==◌, ◌&&◌, not, nat_lt, codes, Bool, false, List, [], ◌∷◌, ◌++◌, length, take, drop, position, if◌then◌else◌, Option, Some, None, Result, Ok, Err, is_some, IfSome}
 use Rattle.std.specs.List.{find}
 use Rattle.std.specs.Option.{option_map}
 use Rattle.mt_text.specs.Number.{hex_number, decimal_number}
@@ -26,6 +26,11 @@ value_among number registers = option_map (λ register. register.1) (find (λ re
 
 abbrev pub supplied_value : Supplied → ℕ → Option ℕ
 supplied_value supplied number = value_among number supplied.registers
+
+-- a value that is supplied or shown is another
+abbrev pub differs : Option ℕ → ℕ → Bool
+differs None value = false
+differs (Some other) value = not (other == value)
 
 -- a width and a count of pairs that a file may have
 pub record IsSupplied (supplied : Supplied) : Type 0 where

@@ -1,13 +1,14 @@
--- The table of MTRRs that the kernels of Linux and Xen print: what its lines come to (own).
+-- The tables of MTRRs that the kernels of Linux and Xen print: what their lines come to (own).
 --     table_shows table line      the registers that a line shows behind lines that show this
 --     table_after table line      what is shown behind the line
-use Rattle.std.specs.Prelude.{ℕ, ◌+◌, ◌-◌, ◌*◌, ◌&&◌, nat_le, Bool, true, false, List, [], ◌∷◌, ◌++◌, take, drop, replicate, if◌then◌else◌, Option, Some, None}
+use Rattle.std.specs.Prelude.{ℕ, ◌+◌, ◌-◌, ◌*◌, ◌&&◌, nat_le, nat_lt, Bool, true, false, List, [], ◌∷◌, ◌++◌, take, drop, replicate, slice_set, if◌then◌else◌, Option, Some, None}
 use Rattle.mt_text.specs.declared.place.Place.{Place}
 use Rattle.mt_import.specs.declared.reading.Shown.{Shown}
 use Rattle.mt_import.specs.Pieces.{shown_as}
 use Rattle.mt_import.specs.declared.table.Table.{Table}
 use Rattle.mt_import.specs.declared.table.TableLine.{TableLine}
-use Rattle.mt_import.specs.declared.table.TableLine.TheVariants.{DefaultType, FixedRanges, Types, VariableRanges}
+use Rattle.mt_import.specs.declared.table.TableLine.TheVariants.{DefaultType, Disabled, FixedRanges, Pair, PairDisabled, Types, VariableRanges}
+use Rattle.mt_import.specs.declared.table.PairLine.{PairLine}
 use Rattle.mt_import.specs.declared.table.TypeRun.{TypeRun}
 
 abbrev pub two_shown : Option Shown → Option Shown → List (Option Shown)
@@ -61,20 +62,35 @@ default_value None fixed enabled = None
 default_value (Some code) None enabled = None
 default_value (Some code) (Some fixed) enabled = Some (code + flag fixed 0x400 + flag enabled 0x800)
 
+-- ---- pairs
+
+-- V of all pairs behind a line on one of them
+abbrev pub pairs_with : List (Option Bool) → ℕ → Bool → List (Option Bool)
+pairs_with pairs pair valid = if nat_lt pair 32 then slice_set pairs pair (Some valid) else pairs
+
+abbrev pub pair_shown : PairLine → List (Option Shown)
+pair_shown line = two_shown (value_at (0x200 + 2 * line.pair) line.base_place line.base) (value_at (0x201 + 2 * line.pair) line.mask_place line.mask)
+
 -- ---- lines
 
 abbrev pub table_shows : Table → TableLine → List (Option Shown)
-table_shows table (DefaultType code) = one_shown None
-table_shows table (FixedRanges enabled) = one_shown None
+table_shows table (DefaultType code place) = one_shown None
+table_shows table (FixedRanges enabled place) = one_shown None
 table_shows table (Types run) = all_fixed_shown (types_with table.types run) run.place
 table_shows table (VariableRanges enabled place) = one_shown (value_at 0x2ff place (default_value table.default_type table.fixed_enabled enabled))
+table_shows table (Disabled place) = one_shown None
+table_shows table (Pair line) = pair_shown line
+table_shows table (PairDisabled pair place) = one_shown None
 
 abbrev pub table_of : Option ℕ → Table
-table_of code = record { default_type = code; fixed_enabled = None; types = replicate 88 None }
+table_of code = record { default_type = code; fixed_enabled = None; enabled = None; pairs = replicate 32 None; types = replicate 88 None }
 
--- A table begins with the default type.
+-- A later table adds to what an earlier one shows.
 abbrev pub table_after : Table → TableLine → Table
-table_after table (DefaultType code) = table_of code
-table_after table (FixedRanges enabled) = record { default_type = table.default_type; fixed_enabled = Some enabled; types = table.types }
-table_after table (Types run) = record { default_type = table.default_type; fixed_enabled = table.fixed_enabled; types = types_with table.types run }
-table_after table (VariableRanges enabled place) = table
+table_after table (DefaultType code place) = record table { default_type = code }
+table_after table (FixedRanges enabled place) = record table { fixed_enabled = Some enabled }
+table_after table (Types run) = record table { types = types_with table.types run }
+table_after table (VariableRanges enabled place) = record table { enabled = Some enabled }
+table_after table (Disabled place) = record table { enabled = Some false }
+table_after table (Pair line) = record table { pairs = pairs_with table.pairs line.pair true }
+table_after table (PairDisabled pair place) = record table { pairs = pairs_with table.pairs pair false }

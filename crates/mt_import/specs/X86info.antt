@@ -8,17 +8,17 @@ use Rattle.mt_text.specs.Number.{decimal_number}
 use Rattle.mt_text.specs.declared.fault.NumberFault.{NumberFault}
 use Rattle.mt_import.specs.declared.reading.Said.{Said}
 use Rattle.mt_import.specs.declared.reading.Said.TheVariants.{Nothing, Turns}
-use Rattle.mt_import.specs.Pieces.{before, behind, is_text, prefixed_number, prefixed_register, shows_one, shows_width}
+use Rattle.mt_import.specs.Pieces.{before, behind, is_text, prefixed_register, shows_one, shows_width, unread_processor, whole_number}
 
 -- x86info counts processors from 1.
 abbrev pub turned_to : Result ℕ NumberFault → Said
-turned_to (Ok number) = if number == 0 then Nothing else Turns (number - 1)
-turned_to (Err fault) = Nothing
+turned_to (Ok number) = if number == 0 then Turns unread_processor else Turns (number - 1)
+turned_to (Err fault) = Turns unread_processor
 
 -- `N:`
 abbrev pub turned_by : Option (List ℕ) → Said
 turned_by (Some digits) = turned_to (decimal_number digits 65536)
-turned_by None = Nothing
+turned_by None = Turns unread_processor
 
 -- `(0xfe):`, cut behind its `(`, or `0x26a:`
 abbrev pub number_part : Option (List ℕ) → List ℕ → Option (List ℕ)
@@ -35,10 +35,10 @@ named_register word = register_by (number_part (behind (codes "(") word) word)
 abbrev pub is_name : List ℕ → Bool
 is_name word = is_some (behind (codes "MTRR") word)
 
--- The name, the number and the value of a register, from this word on.
+-- The name, the number and the value of a register, which has sixteen digits, from this word on.
 abbrev pub register_from : ℕ → ℕ → List (ℕ × List ℕ) → Said
 register_from first number words =
-    if is_name (text_of words first) then shows_one None (named_register (text_of words (first + 1))) (prefixed_number (text_of words (first + 2))) (place_of number words (first + 2))
+    if is_name (text_of words first) then shows_one None (named_register (text_of words (first + 1))) (whole_number 18 (text_of words (first + 2))) (place_of number words (first + 2))
     else Nothing
 
 -- A register that couldn't be read has no value and no end of its line, so that the next one's name follows.

@@ -5,14 +5,14 @@ ghost use Rattle.mt_import.specs.Coreboot.{colon_number, coreboot_said, displaye
 
 use crate::Said;
 use crate::pieces::{
-    before, behind, is_text, prefixed_number, prefixed_register, shown_as, shows_one, shows_width,
-    word_place, word_text,
+    VALUE_SIZE, before, behind, is_text, prefixed_number, prefixed_register, shown_as, shows_one,
+    shows_width, whole_number, word_place, word_text,
 };
+use mt_kinds::PAGE_BYTES;
+use mt_regs::{CAPABILITIES, DEFAULT_TYPE, FIRST_PAIR};
 use mt_text::{Line, NumberFault, Place, decimal, without_ending};
 
-const FIRST_PAIR: u32 = 0x200;
-
-const FIRST_MASK: u32 = 0x201;
+const FIRST_MASK: u32 = FIRST_PAIR + 1;
 
 const VALID: u64 = 0x800;
 
@@ -89,10 +89,10 @@ fn register_named(word: &[u8]) -> Option<u32>
     ensures { result ≡ register_named word.now }
 {
     if is_text(b"IA32_MTRRCAP:", word) {
-        return Some(0xfe);
+        return Some(CAPABILITIES);
     }
     if is_text(b"IA32_MTRR_DEF_TYPE:", word) {
-        return Some(0x2ff);
+        return Some(DEFAULT_TYPE);
     }
     if let Some(digits) = behind(b"PHYBASE", word) {
         return of_pair(FIRST_PAIR, pair_digits(digits));
@@ -132,7 +132,7 @@ fn fixed_from(processor: Option<u32>, first: usize, line: &Line<'_>) -> Said
     shows_one(
         processor,
         prefixed_register(word_text(line, first + 2)),
-        prefixed_number(word_text(line, first + 3)),
+        whole_number(VALUE_SIZE, word_text(line, first + 3)),
         word_place(line, first + 3),
     )
 }
@@ -149,7 +149,7 @@ fn is_pair(first: usize, line: &Line<'_>) -> bool
 fn is_page(address: u64) -> bool
     ensures { result ≡ is_page address }
 {
-    address < 0x10_0000_0000_0000 && address % 4096 == 0
+    address < 0x10_0000_0000_0000 && address % PAGE_BYTES == 0
 }
 
 fn shows_pair(

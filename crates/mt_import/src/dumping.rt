@@ -13,13 +13,7 @@ use arrayvec::ArrayVec;
 use mt_dump::{Dump, TextBuffer, canonical_text};
 use mt_kinds::is_bit_set;
 use mt_ports::Status;
-use mt_regs::{CAPABILITIES, RegFile};
-
-const PAT: u32 = 0x277;
-
-const DEFAULT_TYPE: u32 = 0x2ff;
-
-const FIRST_PAIR: u32 = 0x200;
+use mt_regs::{CAPABILITIES, DEFAULT_TYPE, FIRST_PAIR, PAT, RegFile};
 
 fn pair_count(capabilities: u64) -> u8
     ensures { result ≡ low_byte capabilities }

@@ -4,10 +4,15 @@ ghost use Rattle.mt_text.specs.Number.{decimal_number};
 ghost use Rattle.mt_import.specs.Inteltool.{halves_at, halves_value, inteltool_said, is_colon, is_register_line, is_shared, is_unique, of_halves, said_by_words, turned_by, turned_to};
 
 use crate::Said;
-use crate::pieces::{before, is_text, prefixed_number, prefixed_register, shows_one};
+use crate::pieces::{
+    UNREAD_PROCESSOR, before, is_text, prefixed_register, shows_one, whole_number,
+};
 use mt_text::{Line, Words, decimal};
 
 const HALF: u64 = 0x1_0000_0000;
+
+// `0x` and eight digits.
+const HALF_SIZE: usize = 10;
 
 fn of_halves(high: Option<u64>, low: Option<u64>) -> Option<u64>
     ensures { result ≡ of_halves high low }
@@ -36,8 +41,8 @@ fn halves_value(word: &[u8]) -> Option<u64>
 {
     match colon_at(word) {
         Some(at) => of_halves(
-            prefixed_number(&word[..at]),
-            prefixed_number(&word[at + 1..]),
+            whole_number(HALF_SIZE, &word[..at]),
+            whole_number(HALF_SIZE, &word[at + 1..]),
         ),
         None => None,
     }
@@ -48,7 +53,7 @@ fn turned_to(digits: &[u8]) -> Said
 {
     match decimal(digits, 65535) {
         Ok(processor) => Said::Turns(processor as u32),
-        Err(_) => Said::Nothing,
+        Err(_) => Said::Turns(UNREAD_PROCESSOR),
     }
 }
 
@@ -77,7 +82,7 @@ fn turned_by(word: &[u8]) -> Said
 {
     match before(b")", word) {
         Some(digits) => turned_to(digits),
-        None => Said::Nothing,
+        None => Said::Turns(UNREAD_PROCESSOR),
     }
 }
 

@@ -1,13 +1,11 @@
 ghost use Rattle.std.specs.Prelude.{◌≡◌, ◌≤◌, ◌<◌, ◌+◌, IfSome};
-ghost use Rattle.mt_import.specs.Kernel.{addresses_said, base_value, enabled_by, fixed_said, head_said, kernel_said, mask_value, pair_said, range_at, range_from, run_said, shows_pair, type_named, types_said, variable_said};
+ghost use Rattle.mt_import.specs.Kernel.{addresses_said, base_value, disabled_said, enabled_by, fixed_said, head_said, kernel_said, mask_value, pair_said, range_at, range_from, run_said, type_named, types_said, variable_said};
 
 use crate::line_words::LineWords;
 use crate::pieces::{is_text, number_in};
-use crate::tabled::{two_shown, value_at};
-use crate::{Said, TableLine, TypeRun};
+use crate::{PairLine, Said, TableLine, TypeRun};
+use mt_kinds::PAGE_BYTES;
 use mt_text::{Place, decimal, hex64};
-
-const PAGE: u64 = 4096;
 
 // V of PhysMask.
 const VALID: u64 = 0x800;
@@ -44,11 +42,11 @@ fn enabled_by(word: &[u8]) -> Option<bool>
     }
 }
 
-fn fixed_said(enabled: Option<bool>) -> Said
-    ensures { result ≡ fixed_said enabled }
+fn fixed_said(place: Place, enabled: Option<bool>) -> Said
+    ensures { result ≡ fixed_said place enabled }
 {
     match enabled {
-        Some(enabled) => Said::InTable(TableLine::FixedRanges(enabled)),
+        Some(enabled) => Said::InTable(TableLine::FixedRanges(enabled, place)),
         None => Said::Nothing,
     }
 }
@@ -60,7 +58,8 @@ fn variable_said(alone: bool, place: Place, enabled: Option<bool>) -> Said
         Some(enabled) if enabled || alone => {
             Said::InTable(TableLine::VariableRanges(enabled, place))
         }
-        _ => Said::Nothing,
+        Some(_) => Said::InTable(TableLine::Disabled(place)),
+        None => Said::Nothing,
     }
 }
 
@@ -68,11 +67,12 @@ fn head_said(alone: bool, words: &LineWords<'_>) -> Said
     ensures { result ≡ head_said alone words.now.number words.now.words }
 {
     if is_text(b"default", words.text(1)) && is_text(b"type:", words.text(2)) {
-        Said::InTable(TableLine::DefaultType(type_named(words.text(3))))
+        let code = type_named(words.text(3));
+        Said::InTable(TableLine::DefaultType(code, words.place(3)))
     } else if !is_text(b"ranges", words.text(2)) {
         Said::Nothing
     } else if is_text(b"fixed", words.text(1)) {
-        fixed_said(enabled_by(words.text(3)))
+        fixed_said(words.place(3), enabled_by(words.text(3)))
     } else if is_text(b"variable", words.text(1)) {
         variable_said(alone, words.place(3), enabled_by(words.text(3)))
     } else {
@@ -140,7 +140,7 @@ fn run_said(words: &LineWords<'_>) -> Said
     if addresses.len() == 11 && is_text(b"-", &addresses[5..6]) {
         let first = number_in(hex64(&addresses[..5]));
         let last = number_in(hex64(&addresses[6..]));
-        addresses_said(first, last, type_named(words.text(1)), words.place(0))
+        addresses_said(first, last, type_named(words.text(1)), words.place(1))
     } else {
         Said::Nothing
     }
@@ -152,7 +152,7 @@ pub(crate) fn base_value(base: Option<u64>, code: Option<u8>) -> Option<u64>
     ensures { result ≡ base_value base code }
 {
     match (base, code) {
-        (Some(base), Some(code)) if base % PAGE == 0 => Some(base + code as u64),
+        (Some(base), Some(code)) if base % PAGE_BYTES == 0 => Some(base + code as u64),
         _ => None,
     }
 }
@@ -161,42 +161,35 @@ fn mask_value(mask: Option<u64>) -> Option<u64>
     ensures { result ≡ mask_value mask }
 {
     match mask {
-        Some(mask) if mask % PAGE == 0 => Some(mask + VALID),
+        Some(mask) if mask % PAGE_BYTES == 0 => Some(mask + VALID),
         _ => None,
     }
-}
-
-/// PhysBase and PhysMask of a pair, where their values are known.
-pub(crate) fn shows_pair(
-    pair: Option<u64>,
-    base_place: Place,
-    base: Option<u64>,
-    mask_place: Place,
-    mask: Option<u64>,
-) -> Said
-    requires { IfSome pair (λ pair. pair < 32) }
-    ensures { result ≡ shows_pair pair base_place base mask_place mask }
-{
-    let Some(pair) = pair else {
-        return Said::Nothing;
-    };
-    let number = 0x200 + 2 * pair as u32;
-    Said::Shows(
-        Some(0),
-        two_shown(
-            value_at(number, base_place, base),
-            value_at(number + 1, mask_place, mask),
-        ),
-    )
 }
 
 fn pair_said(pair: Option<u64>, words: &LineWords<'_>) -> Said
     requires { IfSome pair (λ pair. pair < 32) }
     ensures { result ≡ pair_said pair words.now.number words.now.words }
 {
-    let base = base_value(number_in(hex64(words.text(2))), type_named(words.text(5)));
-    let mask = mask_value(number_in(hex64(words.text(4))));
-    shows_pair(pair, words.place(2), base, words.place(4), mask)
+    let Some(pair) = pair else {
+        return Said::Nothing;
+    };
+    Said::InTable(TableLine::Pair(PairLine {
+        pair: pair as u8,
+        base: base_value(number_in(hex64(words.text(2))), type_named(words.text(5))),
+        base_place: words.place(2),
+        mask: mask_value(number_in(hex64(words.text(4)))),
+        mask_place: words.place(4),
+    }))
+}
+
+fn disabled_said(pair: Option<u64>, place: Place) -> Said
+    requires { IfSome pair (λ pair. pair < 32) }
+    ensures { result ≡ disabled_said pair place }
+{
+    match pair {
+        Some(pair) => Said::InTable(TableLine::PairDisabled(pair as u8, place)),
+        None => Said::Nothing,
+    }
 }
 
 /// What a line of these words says. `alone` tells whether the line on fixed ranges shows FE also
@@ -207,6 +200,8 @@ pub(crate) fn kernel_said(alone: bool, words: &LineWords<'_>) -> Said
     let count = words.count();
     if count == 4 && is_text(b"MTRR", words.text(0)) {
         head_said(alone, words)
+    } else if count == 2 && is_text(b"disabled", words.text(1)) {
+        disabled_said(number_in(decimal(words.text(0), 31)), words.place(1))
     } else if count == 2 {
         run_said(words)
     } else if count == 6 && is_text(b"base", words.text(1)) && is_text(b"mask", words.text(3)) {

@@ -16,6 +16,7 @@ mod program;
 mod rdmsr;
 mod reader;
 mod reading;
+mod rows;
 mod running;
 mod supplied;
 mod table;
@@ -34,7 +35,7 @@ pub use reader::{LogReader, read_log};
 pub use reading::{Context, Reading, Said, Shown, Shows};
 pub use running::import;
 pub use supplied::{Supplied, command_of};
-pub use table::{Table, TableLine, TypeRun};
+pub use table::{PairLine, Table, TableLine, TypeRun};
 pub use tabled::{table_after, table_shows};
 pub use text::Imported;
 pub use worked::{
@@ -45,8 +46,8 @@ pub use worked_lines::{
     worked_inteltool_lines, worked_x86info_lines, worked_x86info_lines_too,
 };
 pub use worked_logs::{
-    worked_edk2_lines, worked_linux_lines, worked_linux_pat_and_regions, worked_tables,
-    worked_xen_lines,
+    worked_default_rows, worked_edk2_lines, worked_linux_lines, worked_linux_pat_and_regions,
+    worked_range_rows, worked_tables, worked_xen_lines,
 };
 
 #[cfg(test)]

@@ -6,11 +6,8 @@ use crate::kernel::{base_value, kernel_said, type_named};
 use crate::line_words::{LineWords, behind_stamp};
 use crate::pieces::{behind, is_text, number_in, shows_one};
 use crate::tabled::bytes_value;
+use mt_regs::{FIRST_PAIR, PAT, POWER_UP_PAT};
 use mt_text::{Line, decimal, hex64};
-
-const PAT: u32 = 0x277;
-
-const PAT_AT_POWER_ON: u64 = 0x7040600070406;
 
 fn entry_named(word: &[u8]) -> Option<u8>
     ensures { result ≡ entry_named word.now }
@@ -51,7 +48,7 @@ fn pat_told(value: Option<u64>) -> Option<u64>
     ensures { result ≡ pat_told value }
 {
     match value {
-        Some(value) if value != PAT_AT_POWER_ON => Some(value),
+        Some(value) if value != POWER_UP_PAT => Some(value),
         _ => None,
     }
 }
@@ -96,8 +93,8 @@ pub(crate) fn pair_numbered(head: &[u8], end: &[u8], word: &[u8]) -> Option<u64>
     }
 }
 
-/// A hexadecimal number behind a text.
-pub(crate) fn number_behind(head: &[u8], word: &[u8]) -> Option<u64>
+// A hexadecimal number behind a text.
+fn number_behind(head: &[u8], word: &[u8]) -> Option<u64>
     ensures { result ≡ number_behind head.now word.now }
 {
     match behind(head, word) {
@@ -111,7 +108,7 @@ fn base_number(pair: Option<u64>) -> Option<u32>
     ensures { result ≡ base_number pair }
 {
     match pair {
-        Some(pair) => Some(0x200 + 2 * pair as u32),
+        Some(pair) => Some(FIRST_PAIR + 2 * pair as u32),
         None => None,
     }
 }

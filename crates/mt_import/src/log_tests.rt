@@ -793,3 +793,49 @@ fn a_log_of_two_states_contradicts_itself(rt: HostRuntime) -> Result<(), Fail> {
         Status::BadText,
     )
 }
+
+// What stands behind a processor whose number can't be read isn't the processor's before.
+#[test]
+fn a_processor_that_can_not_be_read_has_no_registers(rt: HostRuntime) -> Result<(), Fail> {
+    let log =
+        b"CPU #1:\nMTRRcap (0xfe): 0x0000000000000508\nCPU #0:\nMTRRcap (0xfe): 0x0000000000000508\n";
+    let refused = b"bad text 4:17 bad processor\n";
+    expect(&rt, &["x86info"], log, refused, Status::BadText)?;
+    let log = b"CPU #65537:\nMTRRcap (0xfe): 0x0000000000000508\n";
+    let refused = b"bad text 2:17 bad processor\n";
+    expect(&rt, &["x86info"], log, refused, Status::BadText)?;
+    let core =
+        b"=== UNIQUE MSRs  (core 70000) ===\n MSR 0x000000FE = 0x00000000:0x00000502 (IA32_MTRRCAP)\n";
+    let refused = b"bad text 2:19 bad processor\n";
+    expect(&rt, &["inteltool"], core, refused, Status::BadText)
+}
+
+// Where a tool always prints as many digits, a number that the log's end cuts is none.
+#[test]
+fn a_number_that_is_cut_is_none(rt: HostRuntime) -> Result<(), Fail> {
+    let log = b" MSR 0x000000FE = 0x00000000:0x00000400\n MSR 0x000002FF = 0x00000000:0x00000C";
+    let lacks = b"missing 277\nmissing 2ff\n";
+    expect(
+        &rt,
+        &["inteltool", "maxphyaddr=36"],
+        log,
+        lacks,
+        Status::Refused,
+    )?;
+    let log = b"MTRRcap (0xfe): 0x0000000000000400\nMTRRdefType (0x2ff): 0x0000000000000c0";
+    expect(
+        &rt,
+        &["x86info", "maxphyaddr=36"],
+        log,
+        lacks,
+        Status::Refused,
+    )?;
+    let log = b"MTRR Default Type: 0000000000000C";
+    expect(
+        &rt,
+        &["edk2", "maxphyaddr=36", "fe=400"],
+        log,
+        lacks,
+        Status::Refused,
+    )
+}

@@ -1,13 +1,16 @@
 ghost use Rattle.std.specs.Prelude.{◌≡◌, ◌+◌, MatchOption, Some, None, IfSome, slice_get};
 ghost use Rattle.mt_text.specs.Text.{words_of};
 ghost use Rattle.mt_text.specs.Words.{place_of, text_of};
-ghost use Rattle.mt_import.specs.Pieces.{before, behind, is_prefixed, is_text, number_in, prefixed_number, prefixed_register, register_in, shown_as, shows_one, shows_width};
+ghost use Rattle.mt_import.specs.Pieces.{before, behind, is_prefixed, is_text, number_in, prefixed_number, prefixed_register, register_in, shown_as, shows_one, shows_width, whole_number, sixteen_digits};
 
 use crate::{Said, Shown};
 use mt_text::{Line, NumberFault, Place, Word, hex64};
 
 // Registers with three hexadecimal digits.
 const REGISTERS: u64 = 0x1000;
+
+/// How long `0x` and sixteen digits are.
+pub(crate) const VALUE_SIZE: usize = 18;
 
 /// Whether a word is this text.
 pub(crate) fn is_text(text: &[u8], word: &[u8]) -> bool
@@ -56,6 +59,28 @@ pub(crate) fn prefixed_number(word: &[u8]) -> Option<u64>
     }
 }
 
+/// A hexadecimal number of sixteen digits.
+pub(crate) fn sixteen_digits(word: &[u8]) -> Option<u64>
+    ensures { result ≡ sixteen_digits word.now }
+{
+    if word.len() == 16 {
+        number_in(hex64(word))
+    } else {
+        None
+    }
+}
+
+/// A hexadecimal number behind `0x` in a word of this length. A shorter one was cut.
+pub(crate) fn whole_number(size: usize, word: &[u8]) -> Option<u64>
+    ensures { result ≡ whole_number size word.now }
+{
+    if word.len() == size {
+        prefixed_number(word)
+    } else {
+        None
+    }
+}
+
 pub(crate) fn register_in(number: Result<u64, NumberFault>) -> Option<u32>
     ensures { result ≡ register_in number }
 {
@@ -85,6 +110,10 @@ pub(crate) fn shown_as(number: u32, value: u64, place: Place) -> Option<Shown>
         place,
     })
 }
+
+/// A processor that no dump has. Lines behind one that turns to a processor whose number can't be
+/// read are of it.
+pub(crate) const UNREAD_PROCESSOR: u32 = 65_535;
 
 /// One register of a processor, or else of the one that the lines are of.
 pub(crate) fn shows_one(

@@ -5,16 +5,19 @@ ghost use Rattle.mt_text.specs.Feed.{GaveTooMuch, IsLong, at_start, taken};
 ghost use Rattle.mt_text.specs.declared.fault.FeedFault.{FeedFault};
 ghost use Rattle.mt_import.specs.declared.reading.Reading.{Reading as ReadingValue};
 ghost use Rattle.mt_regs.specs.RegisterFile.{low_byte};
-ghost use Rattle.mt_import.specs.Readings.{Fact, at_start as start, context_after, facts_of, is_register, is_register_value, is_width, reading_facts, shown_facts, shows_facts};
+ghost use Rattle.mt_import.specs.Readings.{Fact, at_start as start, context_after, facts_of, is_register, is_register_value, is_row, is_width, reading_facts, shown_facts, shows_facts};
 ghost use Rattle.mt_import.specs.Shown.{said_of};
-ghost use Rattle.mt_import.specs.Outcome.{Seen, capabilities_after, contradicts, differs, fact_fault, facts_fault, is_fit_width, nothing_seen, reading_fault, seen_after, seen_with, width_fault};
+ghost use Rattle.mt_import.specs.Outcome.{Seen, capabilities_after, contradicts, fact_fault, facts_fault, is_fit_width, nothing_seen, reading_fault, seen_after, seen_with, width_fault};
+ghost use Rattle.mt_import.specs.Supplied.{differs};
+ghost use Rattle.mt_import.specs.declared.reading.Said.TheVariants.{InTable};
 ghost use Rattle.mt_import.specs.Import.{IsWritten, log_told};
 ghost use Rattle.mt_import.specs.Reader.{HasTaken, IsFit, IsShort, held_at, slot_of, values_of, width_of};
 
 use crate::reading::{MOST_SHOWN, is_register};
+use crate::rows::row_fault;
 use crate::tabled::table_shows;
 use crate::text::{Imported, faulted};
-use crate::{Context, Format, ImportFault, Reading, Said, Shown, Shows, Supplied};
+use crate::{Context, Format, ImportFault, Reading, Said, Shown, Shows, Supplied, TableLine};
 use mt_ports::Source;
 use mt_regs::{CAPABILITIES, FIRST_PAIR, MAX_PAIRS};
 use mt_text::{Feed, FeedFault, Line, Place};
@@ -315,6 +318,21 @@ impl LogReader {
         Ok(())
     }
 
+    // Takes a line of a kernel's table.
+    fn take_row(&mut self, supplied: &Supplied, line: &TableLine) -> Result<(), ImportFault>
+        ensures taken { (seen : Seen) → HasTaken self.old seen → MatchResult result
+            (λ _. HasTaken self.new (seen_after seen (facts_of self.old.context (InTable line.now))) × (facts_fault supplied.now seen (facts_of self.old.context (InTable line.now)) ≡ None))
+            (λ fault. facts_fault supplied.now seen (facts_of self.old.context (InTable line.now)) ≡ Some fault) }
+        ensures context { self.new.context ≡ self.old.context }
+        ensures short { IfErr result IsShort }
+    {
+        if let Some(fault) = row_fault(supplied, &self.context.table, line) {
+            return Err(fault);
+        }
+        let shows = table_shows(&self.context.table, line);
+        self.take_shows(supplied, 0, &shows)
+    }
+
     // Takes what a line says.
     fn take_said(&mut self, supplied: &Supplied, said: &Said) -> Result<(), ImportFault>
         ensures taken { (seen : Seen) → HasTaken self.old seen → MatchResult result
@@ -339,10 +357,7 @@ impl LogReader {
             Said::Shows(processor, shows) => {
                 self.take_shows(supplied, processor.unwrap_or(self.context.processor), shows)
             }
-            Said::InTable(line) => {
-                let shows = table_shows(&self.context.table, line);
-                self.take_shows(supplied, 0, &shows)
-            }
+            Said::InTable(line) => self.take_row(supplied, line),
             Said::Width(width, place) => self.take_width(supplied, *width, *place),
             Said::Clash(place, number) if is_register(*number as u64) => {
                 Err(ImportFault::Contradiction(*place, *number))

@@ -152,7 +152,7 @@ fn a_log_of_linux_comes_to_its_dump(rt: HostRuntime) -> Result<(), Fail> {
     let words = ["linux", width, capabilities, base, mask];
     expect_dump(&rt, &words, LINUX)?;
     expect_dump_of_returns(&rt, &words, LINUX)?;
-    let contradiction = b"contradiction 11:37 2ff\n";
+    let contradiction = b"contradiction 3:34 2ff\n";
     expect(
         &rt,
         &["linux", "2ff=806"],
@@ -221,5 +221,110 @@ fn a_log_of_xen_comes_to_its_dump(rt: HostRuntime) -> Result<(), Fail> {
         LINUX,
         b"missing maxphyaddr\nmissing 0fe\n",
         Status::Refused,
+    )
+}
+
+fn expect_contradiction<R: AllocGlobal + Abort>(
+    rt: &R,
+    log: &[u8],
+    output: &[u8],
+) -> Result<(), Fail> {
+    expect(rt, &["linux"], log, output, Status::BadText)
+}
+
+#[test]
+fn lines_of_a_table_may_contradict_one_another(rt: HostRuntime) -> Result<(), Fail> {
+    expect_contradiction(
+        &rt,
+        b"  00000-0FFFF write-back\n  00000-7FFFF uncachable\n",
+        b"contradiction 2:15 250\n",
+    )?;
+    expect_contradiction(
+        &rt,
+        b"MTRR fixed ranges enabled:\nMTRR fixed ranges disabled:\n",
+        b"contradiction 2:19 2ff\n",
+    )?;
+    expect_contradiction(
+        &rt,
+        b"MTRR default type: write-back\nMTRR default type: uncachable\n",
+        b"contradiction 2:20 2ff\n",
+    )?;
+    expect_contradiction(
+        &rt,
+        b"  0 base 0000000000 mask 7F80000000 write-back\n  0 disabled\n",
+        b"contradiction 2:5 201\n",
+    )?;
+    expect_contradiction(
+        &rt,
+        b"  0 disabled\n  0 base 0000000000 mask 7F80000000 write-back\n",
+        b"contradiction 2:26 201\n",
+    )
+}
+
+#[test]
+fn a_second_table_may_agree(rt: HostRuntime) -> Result<(), Fail> {
+    let [width, capabilities, base, mask] = SUPPLIED;
+    let mut twice = LINUX.to_vec(rt.alloc())?;
+    for byte in LINUX {
+        twice.push(*byte)?;
+    }
+    expect_dump(
+        &rt,
+        &["linux", width, capabilities, base, mask],
+        twice.as_slice(),
+    )
+}
+
+#[test]
+fn a_word_may_contradict_a_flag(rt: HostRuntime) -> Result<(), Fail> {
+    let log = b"MTRR default type: uncachable\nMTRR variable ranges disabled:\n  0 disabled\n";
+    let words = ["linux", "maxphyaddr=36", "fe=1", "277=0", "200=6"];
+    let [format, width, capabilities, pat, base] = words;
+    expect(
+        &rt,
+        &[
+            format,
+            width,
+            capabilities,
+            pat,
+            base,
+            "2ff=800",
+            "201=f00000800",
+        ],
+        log,
+        b"contradiction 2:22 2ff\n",
+        Status::BadText,
+    )?;
+    expect(
+        &rt,
+        &[
+            format,
+            width,
+            capabilities,
+            pat,
+            base,
+            "2ff=0",
+            "201=f00000800",
+        ],
+        log,
+        b"contradiction 3:5 201\n",
+        Status::BadText,
+    )?;
+    let dump =
+        b"maxphyaddr 36\n0fe 0000000000000001\n200 0000000000000006\n201 0000000f00000000\n277 0000000000000000\n2ff 0000000000000000\n";
+    expect(
+        &rt,
+        &[
+            format,
+            width,
+            capabilities,
+            pat,
+            base,
+            "2ff=0",
+            "201=f00000000",
+        ],
+        log,
+        dump,
+        Status::Done,
     )
 }

@@ -1,12 +1,11 @@
 ghost use Rattle.std.specs.Prelude.{◌≡◌, ◌≤◌, ◌<◌, ◌^◌, IfSome, length};
-ghost use Rattle.mt_import.specs.Table.{all_fixed_shown, bytes_value, default_value, fixed_shown, flag, one_shown, table_after, table_of, table_shows, two_shown, types_with, value_at};
+ghost use Rattle.mt_import.specs.Table.{all_fixed_shown, bytes_value, default_value, fixed_shown, flag, one_shown, pair_shown, pairs_with, table_after, table_of, table_shows, two_shown, types_with, value_at};
 
 use crate::pieces::shown_as;
-use crate::table::FIXED_RANGES;
-use crate::{Shown, Shows, Table, TableLine, TypeRun};
+use crate::table::{FIXED_RANGES, PAIRS};
+use crate::{PairLine, Shown, Shows, Table, TableLine, TypeRun};
+use mt_regs::{DEFAULT_TYPE, FIRST_PAIR};
 use mt_text::Place;
-
-const DEFAULT_TYPE: u32 = 0x2ff;
 
 /// Two registers, where they are some.
 pub(crate) fn two_shown(a: Option<Shown>, b: Option<Shown>) -> Shows
@@ -31,7 +30,11 @@ pub(crate) fn value_at(number: u32, place: Place, value: Option<u64>) -> Option<
     }
 }
 
-fn types_with(types: &[Option<u8>; FIXED_RANGES], run: TypeRun) -> [Option<u8>; FIXED_RANGES]
+/// The types of all fixed ranges behind a run.
+pub(crate) fn types_with(
+    types: &[Option<u8>; FIXED_RANGES],
+    run: TypeRun,
+) -> [Option<u8>; FIXED_RANGES]
     ensures { result ≡ types_with types.now run }
 {
     let mut filled = *types;
@@ -99,6 +102,27 @@ fn default_value(code: Option<u8>, fixed: Option<bool>, enabled: bool) -> Option
     }
 }
 
+// V of all pairs behind a line on one of them.
+fn pairs_with(pairs: &[Option<bool>; PAIRS], pair: u8, valid: bool) -> [Option<bool>; PAIRS]
+    ensures { result ≡ pairs_with pairs.now pair valid }
+{
+    let mut behind = *pairs;
+    if pair < PAIRS as u8 {
+        behind[pair as usize] = Some(valid);
+    }
+    behind
+}
+
+fn pair_shown(line: &PairLine) -> Shows
+    ensures { result ≡ pair_shown line.now }
+{
+    let number = FIRST_PAIR + 2 * line.pair as u32;
+    two_shown(
+        value_at(number, line.base_place, line.base),
+        value_at(number + 1, line.mask_place, line.mask),
+    )
+}
+
 impl Table {
     /// A table of which only the default type is shown, where it is named.
     pub fn of(code: Option<u8>) -> Table
@@ -107,6 +131,8 @@ impl Table {
         Table {
             default_type: code,
             fixed_enabled: None,
+            enabled: None,
+            pairs: [None; PAIRS],
             types: [None; FIXED_RANGES],
         }
     }
@@ -122,7 +148,11 @@ pub fn table_shows(table: &Table, line: &TableLine) -> Shows
             let value = default_value(table.default_type, table.fixed_enabled, *enabled);
             one_shown(value_at(DEFAULT_TYPE, *place, value))
         }
-        TableLine::DefaultType(_) | TableLine::FixedRanges(_) => one_shown(None),
+        TableLine::Pair(line) => pair_shown(line),
+        TableLine::DefaultType(..)
+        | TableLine::FixedRanges(..)
+        | TableLine::Disabled(_)
+        | TableLine::PairDisabled(..) => one_shown(None),
     }
 }
 
@@ -130,16 +160,15 @@ pub fn table_shows(table: &Table, line: &TableLine) -> Shows
 pub fn table_after(table: &Table, line: &TableLine) -> Table
     ensures { result ≡ table_after table.now line.now }
 {
+    let mut behind = *table;
     match line {
-        TableLine::DefaultType(code) => Table::of(*code),
-        TableLine::FixedRanges(enabled) => Table {
-            fixed_enabled: Some(*enabled),
-            ..*table
-        },
-        TableLine::Types(run) => Table {
-            types: types_with(&table.types, *run),
-            ..*table
-        },
-        TableLine::VariableRanges(..) => *table,
+        TableLine::DefaultType(code, _) => behind.default_type = *code,
+        TableLine::FixedRanges(enabled, _) => behind.fixed_enabled = Some(*enabled),
+        TableLine::Types(run) => behind.types = types_with(&table.types, *run),
+        TableLine::VariableRanges(enabled, _) => behind.enabled = Some(*enabled),
+        TableLine::Disabled(_) => behind.enabled = Some(false),
+        TableLine::Pair(line) => behind.pairs = pairs_with(&table.pairs, line.pair, true),
+        TableLine::PairDisabled(pair, _) => behind.pairs = pairs_with(&table.pairs, *pair, false),
     }
+    behind
 }

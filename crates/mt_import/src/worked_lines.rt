@@ -20,10 +20,14 @@ pub fn worked_x86info_lines()
 /// What lines of x86info say.
 pub fn worked_x86info_lines_too()
     ensures head { said_of X86info 1 (codes "MTRR registers:") ≡ Nothing }
+    ensures cut_value { said_of X86info 1 (codes "MTRRcap (0xfe): 0x0000000000001d0") ≡ Nothing }
     ensures bare_value { said_of X86info 1 (codes "MTRRcap (0xfe): 1d08") ≡ Nothing }
     ensures processor { said_of X86info 1 (codes "CPU #1:") ≡ Turns 0 }
     ensures processor_line_end { said_of X86info 1 (codes "CPU #4:\r") ≡ Turns 3 }
-    ensures no_processor { said_of X86info 1 (codes "CPU #0:") ≡ Nothing }
+    ensures last_processor { said_of X86info 1 (codes "CPU #65536:") ≡ Turns 65535 }
+    ensures no_processor { said_of X86info 1 (codes "CPU #0:") ≡ Turns 65535 }
+    ensures past_processor { said_of X86info 1 (codes "CPU #65537:") ≡ Turns 65535 }
+    ensures cut_processor { said_of X86info 1 (codes "CPU #1") ≡ Turns 65535 }
     ensures model { said_of X86info 1 (codes "CPU Model (x86info's best guess): Unknown model. ") ≡ Nothing }
     ensures sizes { said_of X86info 1 (codes "Address sizes : 46 bits physical, 48 bits virtual") ≡ Width 46 (record { line = 1; column = 17 }) }
     ensures size { said_of X86info 1 (codes "Address Size: 48 bits virtual, 40 bits physical") ≡ Width 40 (record { line = 1; column = 32 }) }
@@ -37,9 +41,13 @@ pub fn worked_inteltool_lines()
     ensures long_half { said_of Inteltool 1 (codes " MSR 0x000000FE = 0x00000000:0x100000000 (IA32_MTRRCAP)") ≡ Nothing }
     ensures one_half { said_of Inteltool 1 (codes " MSR 0x000000FE = 0x00001D08 (IA32_MTRRCAP)") ≡ Nothing }
     ensures cut { said_of Inteltool 1 (codes " MSR 0x000000FE = 0x00000000:") ≡ Nothing }
+    ensures cut_low { said_of Inteltool 1 (codes " MSR 0x000002FF = 0x00000000:0x00000C") ≡ Nothing }
+    ensures cut_high { said_of Inteltool 1 (codes " MSR 0x000002FF = 0x0000000:0x00000C06 (IA32_MTRR_DEF_TYPE)") ≡ Nothing }
     ensures shared { said_of Inteltool 1 (codes "===================== SHARED MSRs (All Cores) =====================") ≡ Turns 0 }
     ensures unique { said_of Inteltool 1 (codes "====================== UNIQUE MSRs  (core 3) ======================") ≡ Turns 3 }
     ensures two_digits { said_of Inteltool 1 (codes "====================== UNIQUE MSRs  (core 12) ======================\r") ≡ Turns 12 }
+    ensures past_unique { said_of Inteltool 1 (codes "====================== UNIQUE MSRs  (core 70000) ======================") ≡ Turns 65535 }
+    ensures cut_unique { said_of Inteltool 1 (codes "====================== UNIQUE MSRs  (core 1") ≡ Turns 65535 }
     ensures text { said_of Inteltool 1 (codes "Did you run 'modprobe msr'?") ≡ Nothing }
 {}
 
@@ -62,6 +70,7 @@ pub fn worked_coreboot_lines_too()
     ensures past_pairs { said_of Coreboot 1 (codes "0x0000000000000000: PHYBASE32") ≡ Nothing }
     ensures types { said_of Coreboot 1 (codes "    0x00000000 - 0x0007ffff: WB") ≡ Nothing }
     ensures set_fixed { said_of Coreboot 1 (codes "MTRR: Fixed MSR 0x250 0x0606060606060606") ≡ one None 0x250 0x606060606060606 23 }
+    ensures cut_fixed { said_of Coreboot 1 (codes "MTRR: Fixed MSR 0x250 0x06060606060606") ≡ Nothing }
     ensures set_fixed_of { said_of Coreboot 1 (codes "[DEBUG]  apic_id 0x1f: MTRR: Fixed MSR 0x250 0x0606060606060606") ≡ one (Some 0x1f) 0x250 0x606060606060606 46 }
     ensures pair { said_of Coreboot 1 (codes "[DEBUG]  MTRR: 1 base 0x000000007c000000 mask 0x0000007ffc000000 type 5") ≡ two 0x202 0x7c000005 23 0x203 0x7ffc000800 47 }
     ensures pair_below_a_page { said_of Coreboot 1 (codes "MTRR: 1 base 0x000000007c000800 mask 0x0000007ffc000000 type 5") ≡ Nothing }

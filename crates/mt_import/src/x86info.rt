@@ -4,18 +4,19 @@ ghost use Rattle.mt_import.specs.X86info.{first_read, is_name, is_size, is_sizes
 
 use crate::Said;
 use crate::pieces::{
-    before, behind, is_text, prefixed_number, prefixed_register, shows_one, shows_width,
+    UNREAD_PROCESSOR, VALUE_SIZE, before, behind, is_text, prefixed_register, shows_one,
+    shows_width, whole_number,
 };
 use mt_text::{Line, Words, decimal, without_ending};
 
-const MOST_PROCESSORS: u64 = 65_536;
+const PROCESSOR_LIMIT: u64 = 65_536;
 
 fn turned_to(digits: &[u8]) -> Said
     ensures { result ≡ turned_to (decimal_number digits.now 65536) }
 {
-    match decimal(digits, MOST_PROCESSORS) {
+    match decimal(digits, PROCESSOR_LIMIT) {
         Ok(number) if number > 0 => Said::Turns(number as u32 - 1),
-        _ => Said::Nothing,
+        _ => Said::Turns(UNREAD_PROCESSOR),
     }
 }
 
@@ -48,7 +49,7 @@ fn register_from(first: usize, words: &Words<'_>) -> Said
     shows_one(
         None,
         named_register(words.text(first + 1)),
-        prefixed_number(words.text(first + 2)),
+        whole_number(VALUE_SIZE, words.text(first + 2)),
         words.place(first + 2),
     )
 }
@@ -103,6 +104,6 @@ pub(crate) fn x86info_said(line: &Line<'_>) -> Said
     };
     match before(b":", rest) {
         Some(digits) => turned_to(digits),
-        None => Said::Nothing,
+        None => Said::Turns(UNREAD_PROCESSOR),
     }
 }

@@ -27,3 +27,6 @@ returns-clause-size c = refl
 
 pub returns-clause-size_of : goal.returns-clause-size_of
 returns-clause-size_of c = refl
+
+pub returns-clause-cut_fixed : goal.returns-clause-cut_fixed
+returns-clause-cut_fixed c = refl

@@ -30,3 +30,15 @@ returns-clause-two_digits c = refl
 
 pub returns-clause-text : goal.returns-clause-text
 returns-clause-text c = refl
+
+pub returns-clause-past_unique : goal.returns-clause-past_unique
+returns-clause-past_unique c = refl
+
+pub returns-clause-cut_unique : goal.returns-clause-cut_unique
+returns-clause-cut_unique c = refl
+
+pub returns-clause-cut_low : goal.returns-clause-cut_low
+returns-clause-cut_low c = refl
+
+pub returns-clause-cut_high : goal.returns-clause-cut_high
+returns-clause-cut_high c = refl

@@ -24,3 +24,6 @@ returns-clause-sizes c = refl
 
 pub returns-clause-size : goal.returns-clause-size
 returns-clause-size c = refl
+
+pub returns-clause-cut_value : goal.returns-clause-cut_value
+returns-clause-cut_value c = refl
