@@ -2,15 +2,11 @@
 --     bands file others cuts      the bands between edges in ascending order
 --     height pages      how high a band of so many pages is, in pixels: the more the higher, and at least as high as its label
 use Rattle.std.specs.Prelude.{ℕ, ◌+◌, ◌-◌, ◌^◌, ◌<◌, ◌≤◌, min, nat_lt, Bool, true, false, not, ◌&&◌, List, [], ◌∷◌, if◌then◌else◌, Option, Some, None}
-use Rattle.mt_kinds.specs.Bits.{is_bit_set}
 use Rattle.mt_regs.specs.declared.page_type.PageType.{PageType}
 use Rattle.mt_regs.specs.declared.page_type.PageType.TheVariants.{Kind, Undefined}
 use Rattle.mt_regs.specs.RegisterFile.{RegisterFile, is_enabled, is_fixed_enabled, page_count}
 use Rattle.mt_regs.specs.PageTypes.{is_type, page_type}
 use Rattle.mt_map.specs.declared.band.Band.{Band}
-
-abbrev pub is_valid : ℕ × ℕ → Bool
-is_valid pair = is_bit_set pair.1 11
 
 -- the fixed-range registers give the types of the first megabyte
 abbrev pub are_fixed_on : RegisterFile → Bool

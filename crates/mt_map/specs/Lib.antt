@@ -1,4 +1,5 @@
 pub mod Bands
 pub mod Map
+pub mod Sizes
 pub mod WorkedBands
 pub mod WorkedMaps

@@ -1,9 +1,9 @@
-ghost use Rattle.std.specs.Prelude.{◌≡◌, ◌≤◌, ◌^◌};
+ghost use Rattle.std.specs.Prelude.{◌≡◌};
 ghost use Rattle.mt_map.specs.Bands.{is_same};
 
 use crate::Rect;
 use mt_regs::{PageType, same_type};
-use std::alloc::{AllocError, Global};
+use std::alloc::AllocError;
 
 fn append_place(text: &mut String, x: u64, y: u64) -> Result<(), AllocError> {
     write!(text, "' x='{x}' y='{y}")
@@ -74,28 +74,5 @@ pub(crate) fn is_same(kind: PageType, other: PageType) -> bool
             PageType::Kind(_) => false,
             PageType::Undefined => true,
         },
-    }
-}
-
-// A count of units.
-fn count_text(alloc: Global, count: u64, unit: &str) -> Result<String, AllocError> {
-    let mut text = String::new(alloc);
-    write!(text, "{count}")?;
-    text.push_str(unit)?;
-    Ok(text)
-}
-
-/// So many pages in the largest unit of which they are a whole number.
-pub(crate) fn size_text(alloc: Global, pages: u64) -> Result<String, AllocError>
-    requires { pages ≤ 2 ^ 40 }
-{
-    if pages % 0x10000000 == 0 {
-        count_text(alloc, pages / 0x10000000, " TB")
-    } else if pages % 0x40000 == 0 {
-        count_text(alloc, pages / 0x40000, " GB")
-    } else if pages % 0x100 == 0 {
-        count_text(alloc, pages / 0x100, " MB")
-    } else {
-        count_text(alloc, 4 * pages, " KB")
     }
 }

@@ -1,25 +1,15 @@
 ghost use Rattle.std.specs.Prelude.{◌≡◌, ◌≤◌, None};
 ghost use Rattle.std.specs.List.{All};
 ghost use Rattle.mt_regs.specs.Faults.{register_fault};
-ghost use Rattle.mt_map.specs.Bands.{are_fixed_on, is_valid};
+ghost use Rattle.mt_map.specs.Bands.{are_fixed_on};
 
-use mt_kinds::is_bit_set;
 use mt_ports::NoMemory;
-use mt_ranges::block_of;
+use mt_ranges::{block_of, is_valid};
 use mt_regs::RegFile;
 use mt_types::{Run, page_runs};
 use std::alloc::{AllocError, Global};
 
-const VALID_BIT: u8 = 11;
-
 const FIXED_END: u64 = 0x100;
-
-/// Whether a pair is valid.
-pub(crate) fn is_valid(pair: (u64, u64)) -> bool
-    ensures { result ≡ is_valid pair }
-{
-    is_bit_set(pair.1, VALID_BIT)
-}
 
 /// Whether the fixed-range registers give the types of the first megabyte.
 pub(crate) fn are_fixed_on(f: &RegFile) -> bool

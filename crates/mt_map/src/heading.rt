@@ -1,14 +1,15 @@
 ghost use Rattle.std.specs.Prelude.{◌≡◌, ◌<◌, ◌≤◌, IfSome, length};
 ghost use Rattle.std.specs.List.{filter};
-ghost use Rattle.mt_map.specs.Bands.{is_different, is_valid};
+ghost use Rattle.mt_map.specs.Bands.{is_different};
+ghost use Rattle.mt_ranges.specs.Match.{is_valid};
 
 use crate::drawing::{append_box, append_label, is_same};
-use crate::edges::{are_fixed_on, is_valid};
+use crate::edges::are_fixed_on;
 use crate::ranges::bars;
 use crate::{Band, Rect};
-use mt_kinds::MemType;
 use mt_output::{accepted_line, dump_refused_line};
-use mt_regs::{Fault, RegFile};
+use mt_ranges::is_valid;
+use mt_regs::{Fault, RegFile, listed_type};
 use std::alloc::{AllocError, Global};
 
 /// Whether the two files give a band different types.
@@ -106,7 +107,7 @@ fn state_text(alloc: Global, f: &RegFile) -> Result<String, AllocError> {
     if !f.is_enabled() {
         return String::from_str(alloc, ", MTRRs off: each page is UC");
     }
-    let kind = MemType::of_byte((f.deftype % 256) as u8).unwrap_or(MemType::UC);
+    let kind = listed_type((f.deftype % 256) as u8);
     let mut text = String::new(alloc);
     text.push_str(", default type ")?;
     text.push_str(kind.name())?;
@@ -150,7 +151,7 @@ pub(crate) fn append_files(
     }
 }
 
-fn append_key(text: &mut String, x: u64, name: &str) -> Result<(), AllocError>
+fn append_key(text: &mut String, x: u64, fill: &str, name: &str) -> Result<(), AllocError>
     requires { x ≤ 1000 }
 {
     let swatch = Rect {
@@ -159,19 +160,20 @@ fn append_key(text: &mut String, x: u64, name: &str) -> Result<(), AllocError>
         width: 26,
         height: 18,
     };
-    append_box(text, "on", name, &swatch)?;
+    append_box(text, "on", fill, &swatch)?;
     append_label(text, "key", x + 34, 112, name)?;
     Ok(())
 }
 
-/// Adds the pattern and the name of each type.
+/// Adds the pattern and the name of each type, and those of the fixed ranges' bar.
 pub(crate) fn append_keys(text: &mut String) -> Result<(), AllocError> {
-    append_key(text, 12, "WB")?;
-    append_key(text, 102, "UC")?;
-    append_key(text, 192, "WC")?;
-    append_key(text, 282, "WT")?;
-    append_key(text, 372, "WP")?;
-    append_key(text, 462, "undefined")?;
+    append_key(text, 12, "WB", "WB")?;
+    append_key(text, 102, "UC", "UC")?;
+    append_key(text, 192, "WC", "WC")?;
+    append_key(text, 282, "WT", "WT")?;
+    append_key(text, 372, "WP", "WP")?;
+    append_key(text, 462, "undefined", "undefined")?;
+    append_key(text, 572, "fixed", "fixed ranges")?;
     Ok(())
 }
 
@@ -182,11 +184,11 @@ pub(crate) fn first_bar(others: &[RegFile]) -> u64
     if others.is_empty() { 442 } else { 566 }
 }
 
-// How wide the bars of a file are.
+// How wide the bars of a file are, or their head where that is wider.
 fn group_width(f: &RegFile) -> u64
     ensures few { result ≤ 1140 }
 {
-    32 * bars(f).len() as u64 + 84
+    (32 * bars(f).len() as u64).max(96) + 24
 }
 
 /// Where the bars of the second file begin.

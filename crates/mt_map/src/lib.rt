@@ -13,6 +13,7 @@ mod ranges;
 mod rect;
 mod rows;
 mod running;
+mod size;
 mod stack;
 mod style;
 #[cfg(test)]
@@ -28,6 +29,7 @@ pub use program::program_status;
 pub use ranges::{Bars, bars};
 pub use rect::Rect;
 pub use running::{draw, map, picture_of};
+pub use size::{Size, Unit, page_size};
 pub use stack::{Stack, bands, height, top_of};
-pub use worked::{worked_bands, worked_choices, worked_heights, worked_types};
+pub use worked::{worked_bands, worked_choices, worked_heights, worked_sizes, worked_types};
 pub use worked_maps::{worked_drawn, worked_left, worked_outputs, worked_texts};

@@ -1,27 +1,17 @@
 ghost use Rattle.std.specs.Prelude.{◌≡◌, ◌≤◌, ◌<◌, ◌+◌};
 ghost use Rattle.arrayvec.specs.ArrayVec.{array_vec_len};
-ghost use Rattle.mt_regs.specs.PageTypes.{pair_type};
 
 use crate::Bar;
-use crate::edges::{are_fixed_on, is_valid};
+use crate::edges::are_fixed_on;
 use arrayvec::ArrayVec;
 use mt_kinds::MemType;
-use mt_ranges::block_of;
-use mt_regs::RegFile;
+use mt_ranges::{block_of, is_valid};
+use mt_regs::{FIRST_PAIR, RegFile, pair_type};
 
 /// Room for the bars of any file.
 pub type Bars = ArrayVec<Bar, 33>;
 
-const FIRST_PAIR: u32 = 0x200;
-
 const FIRST_FIXED: u32 = 0x250;
-
-// The type in the base of a pair. An accepted register has no other byte there.
-fn pair_type(pair: (u64, u64)) -> MemType
-    ensures { result ≡ pair_type pair }
-{
-    MemType::of_byte((pair.0 % 256) as u8).unwrap_or(MemType::UC)
-}
 
 // Adds the bar of a pair, where it is valid.
 fn add_pair(bars: &mut Bars, width: u8, n: u32, pair: (u64, u64))

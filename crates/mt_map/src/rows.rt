@@ -2,8 +2,9 @@ ghost use Rattle.std.specs.Prelude.{◌≤◌};
 ghost use Rattle.std.specs.List.{All};
 ghost use Rattle.mt_map.specs.Bands.{IsPlaced};
 
-use crate::drawing::{append_box, append_label, append_rule, name_of_kind, size_text};
+use crate::drawing::{append_box, append_label, append_rule, name_of_kind};
 use crate::heading::is_different;
+use crate::size::size_text;
 use crate::stack::height;
 use crate::{Band, Rect};
 use mt_kinds::PAGE_BYTES;

@@ -85,6 +85,24 @@ cpu 1
 2ff: 800
 ";
 
+// One page is UC, so the band behind it is a whole number of no unit above a kilobyte.
+const LONG: &[u8] = b"maxphyaddr 44
+0fe 401
+200 fee00000
+201 ffffffff800
+2ff 806
+";
+
+#[test]
+fn a_long_size_is_rounded(rt: HostRuntime) -> Result<(), Fail> {
+    expect(
+        &rt,
+        LONG,
+        Status::Done,
+        &[">4078 MB<", ">4 KB<", ">&#8776; 16380 GB<"],
+    )
+}
+
 #[test]
 fn an_accepted_file_is_drawn(rt: HostRuntime) -> Result<(), Fail> {
     expect(

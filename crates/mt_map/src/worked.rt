@@ -1,11 +1,13 @@
-// Heights, bands and comparisons of small examples.
-ghost use Rattle.std.specs.Prelude.{◌≡◌, ◌∷◌, [], None, Some, false, true};
+// Heights, bands, sizes and comparisons of small examples.
+ghost use Rattle.std.specs.Prelude.{◌≡◌, ◌*◌, ◌∷◌, [], None, Some, false, true};
 ghost use Rattle.mt_kinds.specs.declared.mem_type.MemType.TheVariants.{UC, WB};
 ghost use Rattle.mt_ports.specs.declared.status.Status.TheVariants.{Done, Refused};
 ghost use Rattle.mt_regs.specs.declared.page_type.PageType.TheVariants.{Kind, Undefined};
-ghost use Rattle.mt_map.specs.Bands.{IsPlaced, are_fixed_on, bands, bottom, differs, height, is_different, is_same, is_valid, other_type};
+ghost use Rattle.mt_map.specs.Bands.{IsPlaced, are_fixed_on, bands, bottom, differs, height, is_different, is_same, other_type};
 ghost use Rattle.mt_map.specs.Map.{beside, number_or_1, status_of};
-ghost use Rattle.mt_map.specs.WorkedBands.{off, placed};
+ghost use Rattle.mt_map.specs.Sizes.{IsNear, IsShort, kilobytes};
+ghost use Rattle.mt_map.specs.WorkedBands.{off, placed, rounded, size};
+ghost use Rattle.mt_map.specs.declared.size.Unit.TheVariants.{Gigabyte, Kilobyte, Megabyte, Terabyte};
 ghost use Rattle.mt_map.specs.WorkedMaps.{reserved_bit};
 
 /// How high bands are.
@@ -33,6 +35,23 @@ pub fn worked_bands()
     ensures too_low { IsPlaced (placed 0 0x10 0x4000000000001) → ⊥ }
 {}
 
+/// How many kilobytes units have, and sizes that are near or short, or aren't for one thing.
+pub fn worked_sizes()
+    ensures kilobyte { kilobytes Kilobyte ≡ 1 }
+    ensures megabyte { kilobytes Megabyte ≡ 1024 }
+    ensures gigabyte { kilobytes Gigabyte ≡ 1024 * 1024 }
+    ensures terabyte { kilobytes Terabyte ≡ 1024 * 1024 * 1024 }
+    ensures nearest { IsNear 0xfff (rounded 16 Megabyte) }
+    ensures half_above { IsNear 0xf80 (rounded 16 Megabyte) }
+    ensures too_many { IsNear 0xf7f (rounded 16 Megabyte) → ⊥ }
+    ensures half_below { IsNear 0x1080 (rounded 16 Megabyte) }
+    ensures too_few { IsNear 0x1081 (rounded 16 Megabyte) → ⊥ }
+    ensures seven_digits { IsShort (size 9999999 Kilobyte) }
+    ensures eight_digits { IsShort (size 10000000 Kilobyte) → ⊥ }
+    ensures five_digits { IsShort (rounded 99999 Gigabyte) }
+    ensures six_digits { IsShort (rounded 100000 Gigabyte) → ⊥ }
+{}
+
 /// Whether two files give a band one type, and which ranges count.
 pub fn worked_types()
     ensures same { is_same (Kind WB) (Kind WB) ≡ true }
@@ -47,8 +66,6 @@ pub fn worked_types()
     ensures band_of_two_files { is_different (record (placed 0 1 0) { other = Some (Kind WB) }) ≡ true }
     ensures no_other { other_type [] 0 ≡ None }
     ensures other_page { other_type (off ∷ []) 5 ≡ Some (Kind UC) }
-    ensures valid { is_valid (0, 0x800) ≡ true }
-    ensures not_valid { is_valid (0x800, 0x7ff) ≡ false }
     ensures fixed { are_fixed_on (record off { default_type = 0xc00 }) ≡ true }
     ensures fixed_disabled { are_fixed_on (record off { default_type = 0x800 }) ≡ false }
     ensures all_disabled { are_fixed_on (record off { default_type = 0x400 }) ≡ false }

@@ -1,0 +1,105 @@
+ghost use Rattle.std.specs.Prelude.{◌≡◌, ◌≤◌, ◌<◌, ◌+◌, ◌*◌, ◌^◌, true, false};
+ghost use Rattle.mt_map.specs.Sizes.{IsNear, IsShort, kilobytes};
+
+use std::alloc::{AllocError, Global};
+
+/// The units in which a picture tells sizes, each 1,024 of the one before it.
+#[derive(Clone, Copy, Debug, PartialEq, Eq)]
+pub enum Unit {
+    Kilobyte,
+    Megabyte,
+    Gigabyte,
+    Terabyte,
+}
+
+/// So many units, or about so many.
+#[derive(Clone, Copy, Debug, PartialEq, Eq)]
+pub struct Size {
+    pub count: u64,
+    pub unit: Unit,
+    pub is_rounded: bool,
+}
+
+// So many pages in the largest unit of which they are a whole number.
+fn whole_size(pages: u64) -> Size
+    requires few { pages ≤ 2 ^ 40 }
+    ensures whole { result.count * kilobytes result.unit ≡ 4 * pages }
+    ensures not_rounded { result.is_rounded ≡ false }
+{
+    let (count, unit) = if pages % 0x10000000 == 0 {
+        (pages / 0x10000000, Unit::Terabyte)
+    } else if pages % 0x40000 == 0 {
+        (pages / 0x40000, Unit::Gigabyte)
+    } else if pages % 0x100 == 0 {
+        (pages / 0x100, Unit::Megabyte)
+    } else {
+        (4 * pages, Unit::Kilobyte)
+    };
+    Size {
+        count,
+        unit,
+        is_rounded: false,
+    }
+}
+
+// So many pages in the smallest unit from a megabyte on of which they are about fewer than 100,000.
+fn rounded_size(pages: u64) -> Size
+    requires few { pages ≤ 2 ^ 40 }
+    ensures near { IsNear pages result }
+    ensures short { result.count < 100000 }
+    ensures rounded { result.is_rounded ≡ true }
+{
+    let megabytes = (pages + 0x80) / 0x100;
+    let gigabytes = (pages + 0x20000) / 0x40000;
+    let (count, unit) = if megabytes < 100_000 {
+        (megabytes, Unit::Megabyte)
+    } else if gigabytes < 100_000 {
+        (gigabytes, Unit::Gigabyte)
+    } else {
+        ((pages + 0x8000000) / 0x10000000, Unit::Terabyte)
+    };
+    Size {
+        count,
+        unit,
+        is_rounded: true,
+    }
+}
+
+/// The size of so many pages: exact, in the largest unit of which they are a whole number, where that has at most seven digits, so
+/// that it fits beside the longest address; else rounded to at most five.
+pub fn page_size(pages: u64) -> Size
+    requires few { pages ≤ 2 ^ 40 }
+    ensures exact { result.is_rounded ≡ false → result.count * kilobytes result.unit ≡ 4 * pages }
+    ensures near { IsNear pages result }
+    ensures short { IsShort result }
+{
+    let whole = whole_size(pages);
+    if whole.count < 10_000_000 {
+        whole
+    } else {
+        rounded_size(pages)
+    }
+}
+
+fn unit_name(unit: Unit) -> &'static str {
+    match unit {
+        Unit::Kilobyte => " KB",
+        Unit::Megabyte => " MB",
+        Unit::Gigabyte => " GB",
+        Unit::Terabyte => " TB",
+    }
+}
+
+/// The size of so many pages, with the sign for "almost equal" in front of one that is rounded.
+pub(crate) fn size_text(alloc: Global, pages: u64) -> Result<String, AllocError>
+    requires few { pages ≤ 2 ^ 40 }
+{
+    let size = page_size(pages);
+    let mut text = String::new(alloc);
+    if size.is_rounded {
+        text.push_str("&#8776; ")?;
+    }
+    write!(text, "{}", size.count)?;
+    text.push_str(unit_name(size.unit))?;
+    Ok(text)
+}
