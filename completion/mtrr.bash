@@ -11,12 +11,12 @@ _mtrr() {
     page)
         [ "$place" -ne 3 ] || COMPREPLY=($(compgen -W '0 1 2 3 4 5 6 7' -- "$word"))
         ;;
-    tidy) _mtrr_options "$word" ;;
+    tidy) _mtrr_supply "$word" spare chunk ;;
     gran)
         if [ "$place" -eq 2 ]; then
             COMPREPLY=($(compgen -W '1000 10000 100000 1000000 4000000 10000000 40000000' -- "$word"))
         else
-            _mtrr_options "$word"
+            _mtrr_supply "$word" spare chunk
         fi
         ;;
     proc | private)
@@ -25,16 +25,17 @@ _mtrr() {
     esac
 }
 
-# The options of tidy and gran that don't stand yet. bash takes a `=` as a word of its own.
-_mtrr_options() {
-    local line=" ${COMP_WORDS[*]:0:COMP_CWORD} " option options=
-    for option in spare chunk; do
+# Those of the names that don't stand yet, each with a `=` behind it. bash takes a `=` as a word of its own.
+_mtrr_supply() {
+    local line=" ${COMP_WORDS[*]:0:COMP_CWORD} " word=$1 name names=
+    shift
+    for name in "$@"; do
         case $line in
-        *" $option"*) ;;
-        *) options="$options $option=" ;;
+        *" $name"[\ =]*) ;;
+        *) names="$names $name=" ;;
         esac
     done
-    COMPREPLY=($(compgen -W "$options" -- "$1"))
+    COMPREPLY=($(compgen -W "$names" -- "$word"))
     compopt -o nospace
 }
 
@@ -44,8 +45,7 @@ _mtrr_import() {
     if [ "$COMP_CWORD" -eq 1 ]; then
         COMPREPLY=($(compgen -W 'coreboot edk2 inteltool linux rdmsr x86info xen' -- "$word"))
     else
-        COMPREPLY=($(compgen -W 'maxphyaddr= 0fe= 277= 2ff=' -- "$word"))
-        compopt -o nospace
+        _mtrr_supply "$word" maxphyaddr 0fe 268 277 2ff
     fi
 }
 
