@@ -205,7 +205,6 @@ const INTELTOOL: &[u8] = b"
  MSR 0x000002FF = 0x00000000:0x00000C06 (IA32_MTRR_DEF_TYPE)
 ";
 
-// Two cores.
 const INTELTOOL_TWO: &[u8] = b"
 ===================== SHARED MSRs (All Cores) =====================
  (*) MSR 0x0000004E = 0xFFFFFFFF:0xFFFFFFFF (MSR_PPIN_CTL)
