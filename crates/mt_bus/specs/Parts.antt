@@ -1,6 +1,7 @@
 -- A system by its parts, and what mt_machine says of a system where the code has its processors alone.
 use Rattle.std.specs.Prelude.{ℕ, ◌/◌, Bool, false, List, [], slice_get, Option, None}
 use Rattle.std.specs.Option.{option_map_or}
+use Rattle.mt_kinds.specs.Sizes.{page_bytes}
 use Rattle.mt_kinds.specs.declared.mem_type.MemType.{MemType}
 use Rattle.mt_cache.specs.declared.line.CacheLine.{CacheLine}
 use Rattle.mt_tlb.specs.declared.entry.Entry.{Entry}
@@ -40,7 +41,7 @@ cache_disabled_in k ps = cache_disabled_of (without_memory ps) k
 
 -- the entry by which processor k translates an address
 abbrev pub entry_in : ℕ → ℕ → List Processor → Option Entry
-entry_in k address ps = option_map_or (λ p. entry_of p (address / 4096)) (slice_get ps k) None
+entry_in k address ps = option_map_or (λ p. entry_of p (address / page_bytes)) (slice_get ps k) None
 
 abbrev pub is_running_in : ℕ → List Processor → Bool
 is_running_in k ps = option_map_or (λ p. is_running p.phase) (slice_get ps k) false

@@ -1,5 +1,6 @@
 -- Where an access and a control instruction are refused, and what they leave then.
 use Rattle.std.specs.Prelude.{◌≡◌, ◌↔◌, ℕ, ◌/◌, Bool, true, false, None, Some, slice_get}
+use Rattle.mt_kinds.specs.Sizes.{page_bytes}
 use Rattle.mt_tlb.specs.declared.entry.Entry.{Entry}
 use Rattle.mt_tlb.specs.declared.mapping.Mapping.{Mapping}
 use Rattle.mt_tlb.specs.Entries.{find_mapping, is_full_for}
@@ -23,11 +24,11 @@ has_address Fence = false
 -- without memory, where nothing but a translation is kept
 pub record RefusesInOrder (s : System) (k : ℕ) (p : Processor) (op : Op) (r : Answered) : Type 0 where
   pub busy : (r.answer ≡ Busy) ↔ (is_running p.phase ≡ false)
-  pub unmapped : (r.answer ≡ Unmapped) ↔ ((is_running p.phase ≡ true) × (has_address op ≡ true) × (find_mapping (address_of op / 4096) p.mappings ≡ None))
-  pub no_memory : (r.answer ≡ NoRam) ↔ ((is_running p.phase ≡ true) × (has_address op ≡ true) × ((e : Entry) × (entry_of p (address_of op / 4096) ≡ Some e) × (place s.memory (physical e (address_of op)) ≡ None)))
+  pub unmapped : (r.answer ≡ Unmapped) ↔ ((is_running p.phase ≡ true) × (has_address op ≡ true) × (find_mapping (address_of op / page_bytes) p.mappings ≡ None))
+  pub no_memory : (r.answer ≡ NoRam) ↔ ((is_running p.phase ≡ true) × (has_address op ≡ true) × ((e : Entry) × (entry_of p (address_of op / page_bytes) ≡ Some e) × (place s.memory (physical e (address_of op)) ≡ None)))
   pub busy_keeps : r.answer ≡ Busy → r.after ≡ s
   pub unmapped_keeps : r.answer ≡ Unmapped → r.after ≡ s
-  pub no_memory_keeps : (e : Entry) → entry_of p (address_of op / 4096) ≡ Some e → r.answer ≡ NoRam → r.after ≡ change (keep_entry e) k s
+  pub no_memory_keeps : (e : Entry) → entry_of p (address_of op / page_bytes) ≡ Some e → r.answer ≡ NoRam → r.after ≡ change (keep_entry e) k s
 
 abbrev pub AccessesRefuseInOrder : Type 0
 AccessesRefuseInOrder = (s : System) (k : ℕ) (p : Processor) (op : Op) → IsSound s → slice_get s.processors k ≡ Some p → RefusesInOrder s k p op (access s k op)

@@ -1,4 +1,5 @@
 ghost use Rattle.std.specs.Prelude.{◌≡◌, ◌<◌, ◌/◌, length, slice_get, is_err, OnOk, OnErr, Some, IsTrue};
+ghost use Rattle.mt_kinds.specs.Sizes.{page_bytes};
 ghost use Rattle.mt_tlb.specs.Entries.{is_full_for, set_mapping};
 ghost use Rattle.mt_machine.specs.Machine.{FitsControl};
 ghost use Rattle.mt_machine.specs.System.{Processor, snooping};
@@ -29,7 +30,7 @@ fn map(cpus: &mut [Cpu], k: usize, x: Mapping) -> Result<(), Full>
 
 fn invlpg(cpus: &mut [Cpu], k: usize, va: u64)
     requires { k < length cpus.old }
-    ensures { cpus.new ≡ with_changed (drop_page (va / 4096)) k cpus.old }
+    ensures { cpus.new ≡ with_changed (drop_page (va / page_bytes)) k cpus.old }
 {
     let cpu = &mut cpus[k];
     cpu.invlpg(va / PAGE_BYTES);

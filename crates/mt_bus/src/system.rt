@@ -1,5 +1,6 @@
 ghost use Rattle.std.specs.Prelude.{◌≡◌, ◌<◌, ◌≤◌, ◌+◌, ◌*◌, ◌^◌, [], length, map, slice_get, IfOk, OnOk, OnErr, Some};
 ghost use Rattle.std.specs.List.{All};
+ghost use Rattle.mt_kinds.specs.Sizes.{most_lines};
 ghost use Rattle.mt_regs.specs.Faults.{IsAccepted};
 ghost use Rattle.mt_regs.specs.StartFiles.{AreStartFiles};
 ghost use Rattle.mt_ram.specs.Windows.{refusal, refusal_in, window, with_window};
@@ -93,7 +94,7 @@ impl System {
     /// Those of `Ram::add`; nothing then changes.
     pub fn add_ram(&mut self, base: u64, lines: u32) -> Result<(), RamFault>
         requires some { 0 < lines }
-        requires few { lines ≤ 4096 }
+        requires few { lines ≤ most_lines }
         requires end { base + 64 * lines ≤ 2 ^ 52 }
         ensures refused { refusal_in result ≡ refusal self.old.memory.windows (window base lines) }
         ensures added { OnOk result (self.new ≡ record self.old { memory = with_window (window base lines) self.old.memory }) }

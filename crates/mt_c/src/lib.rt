@@ -38,7 +38,8 @@ pub extern "C" fn mtrr_is_file(registers: &PlainRegisters) -> bool
 #[unsafe(no_mangle)]
 pub extern "C" fn mtrr_first_fault(registers: &PlainRegisters, fault: &mut PlainFault) -> u32
     ensures refused { is_file registers.now ≡ false → (result ≡ 2) × (fault.new ≡ fault.old) }
-    ensures answered { is_file registers.now ≡ true → (answer : Option Fault) × IsFirstFault (file_in registers.now) answer × (result ≡ fault_status answer) × (fault.new ≡ fault_words answer fault.old) }
+    ensures answered { is_file registers.now ≡ true → (answer : Option Fault) × IsFirstFault (file_in registers.now) answer
+        × (result ≡ fault_status answer) × (fault.new ≡ fault_words answer fault.old) }
 {
     first_fault(registers, fault)
 }

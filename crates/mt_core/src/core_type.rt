@@ -1,5 +1,6 @@
 ghost use Rattle.std.specs.Prelude.{◌≡◌, ◌≢◌, ◌<◌, ◌≤◌, ◌+◌, ◌*◌, ◌^◌, ◌↔◌, [], true, false, IfOk, IsTrue, IsSome, Err, length, slice_get, MatchOption, OnOk, OnErr, None, Some};
 ghost use Rattle.std.specs.List.{All};
+ghost use Rattle.mt_kinds.specs.Sizes.{most_lines};
 ghost use Rattle.mt_ram.specs.Windows.{refusal, refusal_in, window};
 ghost use Rattle.mt_machine.specs.Access.{access, is_running};
 ghost use Rattle.mt_machine.specs.Control.{control};
@@ -303,7 +304,7 @@ impl Core {
     /// Those of `Ram::add`; nothing then changes.
     pub fn add_ram(&mut self, base: u64, lines: u32) -> Result<(), RamFault>
         requires some { 0 < lines }
-        requires few { lines ≤ 4096 }
+        requires few { lines ≤ most_lines }
         requires end { base + 64 * lines ≤ 2 ^ 52 }
         ensures refused { refusal_in result ≡ refusal self.old.system.memory.windows (window base lines) }
         ensures added { OnOk result (self.new ≡ grown (window base lines) self.old) }

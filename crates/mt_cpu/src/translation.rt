@@ -1,5 +1,6 @@
 ghost use Rattle.std.specs.Prelude.{◌≡◌, ◌/◌, ◌<◌, ◌^◌, ◌↔◌, IsNone, IfNone, IfSome, None};
 ghost use Rattle.std.specs.Option.{option_map, option_map_or};
+ghost use Rattle.mt_kinds.specs.Sizes.{page_bytes};
 ghost use Rattle.mt_regs.specs.RegisterFile.{page_count};
 ghost use Rattle.mt_tlb.specs.Entries.{add_entry, find_entry, find_mapping};
 ghost use Rattle.mt_machine.specs.Access.{keep_entry, physical};
@@ -66,9 +67,9 @@ impl Cpu {
     pub fn translate<P: PageKinds>(&mut self, va: u64, kinds: &P) -> Option<(u64, MemType)>
         requires running { self.old.phase ≡ Phase.Running }
         requires pages { P.page_count kinds.now ≡ page_count self.old.file }
-        ensures value { result ≡ option_map (λ e. (physical e va, e.kind)) (entry_by (P.type_at kinds.now) self.old (va / 4096)) }
-        ensures after { self.new ≡ option_map_or (λ e. keep_entry e self.old) (entry_by (P.type_at kinds.now) self.old (va / 4096)) self.old }
-        ensures unmapped { IsNone result ↔ (find_mapping (va / 4096) self.old.mappings ≡ None) }
+        ensures value { result ≡ option_map (λ e. (physical e va, e.kind)) (entry_by (P.type_at kinds.now) self.old (va / page_bytes)) }
+        ensures after { self.new ≡ option_map_or (λ e. keep_entry e self.old) (entry_by (P.type_at kinds.now) self.old (va / page_bytes)) self.old }
+        ensures unmapped { IsNone result ↔ (find_mapping (va / page_bytes) self.old.mappings ≡ None) }
     {
         let pages = self.regs.pages();
         let entry = self.entry(va / PAGE_BYTES, kinds)?;

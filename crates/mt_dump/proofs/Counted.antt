@@ -47,10 +47,10 @@ module _ {left_first left : Option (List ℕ)} {given_first given : ℕ} {feed :
   -- a line that is lent
   module _ (line : Line) (lines : Lines feed new left after given given_after (Ok (Some line))) where
     pub still_on : new.fault ≡ None
-    still_on = ap (λ f. f.fault) lines.3.0.2 ∙ fed.still
+    still_on = ap (λ f. f.fault) lines.3.0.0.2 ∙ fed.still
 
     pub fed_on : IsFed left_first after given_first given_after new
-    fed_on = record { still = still_on; long = lines.4; counts = counts_line (Ok (Some line)) lines }
+    fed_on = record { still = still_on; long = lines.3.1; counts = counts_line (Ok (Some line)) lines }
 
     pub comes_nearer : 16777217 - new.offset < 16777217 - feed.offset
     comes_nearer = omega (arith, moves_on feed new left after given given_after line lines, within_limit feed fed.long fed.still)

@@ -114,5 +114,5 @@ module _ (left_first left after : Option (List ℕ)) (given_first given given_af
       let next = lends_lines feed new told.after after given given_after (Ok None) (rw told.left_is at lines) in
       let says = ap (λ l. onto reading.before (said_from feed.place.line (lines_of l))) (sym next.2.0) ∙ told.says in
       let whole : bytes ≡ told.past = told.parts ∙ ap (λ l. told.past ++ l) next.2.0 ∙ append-nil told.past in
-      let place : new.place ≡ end_of bytes = lines.3.4 ∙ told.place ∙ ap end_of (sym whole) in
+      let place : new.place ≡ end_of bytes = lines.3.0.4 ∙ told.place ∙ ap end_of (sym whole) in
       ends_at_end bytes reading.before answer reading.read.clean says (rw place at (finished reading.before reading.read))

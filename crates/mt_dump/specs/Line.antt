@@ -1,8 +1,8 @@
 -- What one line of a dump says, whatever the other lines say (own).
 --     said_of number line      what the line of this number says, or its offence
-use Rattle.std.specs.Prelude.{ℕ, ◌+◌, ◌==◌, ◌&&◌, codes, nat_lt, nat_eq, Bool, List, length, [], ◌∷◌, if◌then◌else◌, Result, Ok, Err}
+use Rattle.std.specs.Prelude.{ℕ, ◌+◌, ◌==◌, ◌&&◌, codes, nat_lt, nat_eq, Bool, List, [], ◌∷◌, if◌then◌else◌, Result, Ok, Err}
 use Rattle.std.specs.Cmp.Lexicographic.{pointwise}
-use Rattle.mt_text.specs.Text.{words_of, without_ending}
+use Rattle.mt_text.specs.Text.{is_too_long, past_limit, words_of, without_ending}
 use Rattle.mt_text.specs.Number.{hex_number, decimal_number}
 use Rattle.mt_text.specs.declared.fault.NumberFault.{NumberFault}
 use Rattle.mt_text.specs.declared.fault.NumberFault.TheVariants.{NotDigit, TooLarge}
@@ -75,5 +75,5 @@ said_words number (first ∷ second ∷ third ∷ more) = Err (fault_at BadLine 
 
 abbrev pub said_of : ℕ → List ℕ → Reading
 said_of number line =
-    if nat_lt 4096 (length line) then Err (fault_at BadLine (record { line = number; column = 4097 }))
+    if is_too_long line then Err (fault_at BadLine (past_limit number))
     else said_words number (words_of line)

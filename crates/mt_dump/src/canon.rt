@@ -1,6 +1,7 @@
 ghost use Rattle.std.specs.Prelude.{◌≡◌, ◌≤◌, ◌<◌, ◌+◌, ◌++◌, ◌∷◌, [], codes, length, take, drop, slice_index, slice_get, MatchOption};
 ghost use Rattle.hex.specs.Hex.{lower_digits};
 ghost use Rattle.mt_dump.specs.Canon.{width_line, number_text, value_text, register_line, file_lines, section_line, section_lines, canon_lines};
+ghost use Rattle.mt_regs.specs.Registers.{HasThreeDigits};
 
 use crate::dumps::Dump;
 use arrayvec::ArrayVec;
@@ -28,7 +29,7 @@ pub fn value_text(value: u64) -> [u8; 16]
 
 /// A register's number in three lower-case hexadecimal digits.
 pub fn number_text(number: u32) -> [u8; 3]
-    requires { number < 0x1000 }
+    requires { HasThreeDigits number }
     ensures { result ≡ number_text number }
 {
     [
@@ -61,7 +62,7 @@ fn width_line(width: u8) -> ArrayVec<u8, 24>
 }
 
 fn register_line(number: u32, value: u64) -> ArrayVec<u8, 24>
-    requires { number < 0x1000 }
+    requires { HasThreeDigits number }
     ensures { result.items ≡ register_line number value ++ 10 ∷ [] }
 {
     let mut text = ArrayVec::new();

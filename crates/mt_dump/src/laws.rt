@@ -1,6 +1,6 @@
 ghost use Rattle.std.specs.Prelude.{◌≡◌, ◌<◌, ◌≤◌, ◌⊎◌, ◌↔◌, ◌∷◌, ◌++◌, ℕ, List, length, not, true, false, Some, None};
 ghost use Rattle.std.specs.List.{AllByRecursion, list_all};
-ghost use Rattle.mt_text.specs.Text.{is_line_end, lines_of};
+ghost use Rattle.mt_text.specs.Text.{is_line_end, lines_of, longest_line};
 ghost use Rattle.mt_regs.specs.RegisterFile.{RegisterFile};
 ghost use Rattle.mt_regs.specs.Words.{HasWords};
 ghost use Rattle.mt_dump.specs.Canon.{canon};
@@ -60,11 +60,11 @@ pub fn a_register_file_is_shown_by_its_text(f: &RegFile)
 
 /// What a text shows in the plain form it shows, where each line keeps to the limit.
 pub fn what_is_plainly_shown_is_shown()
-    ensures { (text : List ℕ) (file : RegisterFile) → PlainlyShown text file → AllByRecursion (λ line. length line ≤ 4096) (lines_of text) → Shown text (dump_of file) }
+    ensures { (text : List ℕ) (file : RegisterFile) → PlainlyShown text file → AllByRecursion (λ line. length line ≤ longest_line) (lines_of text) → Shown text (dump_of file) }
 {}
 
 /// A first line that is a comment and keeps to the limit changes nothing of what the text behind it shows.
 pub fn a_comment_shows_nothing()
-    ensures { (comment text : List ℕ) (dump : Dump) → list_all (λ b. not (is_line_end b)) comment ≡ true → length comment < 4096
+    ensures { (comment text : List ℕ) (dump : Dump) → list_all (λ b. not (is_line_end b)) comment ≡ true → length comment < longest_line
         → Shown text dump → Shown (35 ∷ (comment ++ 10 ∷ text)) dump }
 {}

@@ -1,5 +1,6 @@
 ghost use Rattle.std.specs.Prelude.{◌≡◌, ◌≢◌, ◌≤◌, ◌<◌, ◌+◌, ◌-◌, ◌==◌, ◌&&◌, nat_lt, not, ◌∷◌, ℕ, List, [], length, Some, None, Ok, Err, ◌↔◌, IfErr, IfOk, IsErrOf, MatchResult, MatchOption};
 ghost use Rattle.std.specs.Io.KnownBytes.{Consumes, IsAtEnd};
+ghost use Rattle.mt_text.specs.Text.{longest_input};
 ghost use Rattle.mt_ports.specs.Causes.{Rose};
 ghost use Rattle.mt_text.specs.Feed.{GaveTooMuch, IsLong, at_start, taken};
 ghost use Rattle.mt_text.specs.declared.fault.FeedFault.{FeedFault};
@@ -358,7 +359,7 @@ pub fn read_dump_from<S: Source>(source: &mut S) -> Result<Result<Dump, DumpFaul
     ensures answer { (bytes : List ℕ) → S.left source.old ≡ Some bytes → IfOk result (λ answer. MatchResult answer (λ dump. Shown bytes dump) (λ fault. dump_offence bytes ≡ Some fault)) }
     ensures end { (bytes : List ℕ) → S.left source.old ≡ Some bytes → IfOk result (λ _. S.left source.new ≡ Some []) }
     ensures too_long { IsErrOf result FeedFault.TooLong ↔ GaveTooMuch (S.given source.old) (S.given source.new) }
-    ensures long { (bytes : List ℕ) → S.left source.old ≡ Some bytes → IsErrOf result FeedFault.TooLong → 16777216 < length bytes }
+    ensures long { (bytes : List ℕ) → S.left source.old ≡ Some bytes → IsErrOf result FeedFault.TooLong → longest_input < length bytes }
     ensures failed { IsErrOf result FeedFault.ReadFault → Rose (S.faults source.old) (S.faults source.new) }
     ensures stands { (IsErrOf result FeedFault.ReadFault → ⊥) → S.faults source.new ≡ S.faults source.old }
 {

@@ -2,6 +2,7 @@
 -- `_x86_setup_mtrrs`; src/console/printk.c, `line_start`.
 --     coreboot_said number line      what a line of this number says
 use Rattle.std.specs.Prelude.{ℕ, ◌+◌, ◌*◌, ◌%◌, ◌==◌, ◌&&◌, nat_lt, codes, Bool, List, ◌∷◌, replicate, if◌then◌else◌, Option, Some, None, Result, Ok, Err}
+use Rattle.mt_kinds.specs.Sizes.{page_bytes}
 use Rattle.mt_text.specs.Text.{without_ending, words_of}
 use Rattle.mt_text.specs.Words.{place_of, text_of}
 use Rattle.mt_text.specs.Number.{decimal_number}
@@ -85,7 +86,7 @@ is_pair first words = is_text (codes "base") (text_of words (first + 1)) && is_t
 
 -- an address of a page, below 2 ^ 52
 abbrev pub is_page : ℕ → Bool
-is_page address = nat_lt address 0x10000000000000 && address % 4096 == 0
+is_page address = nat_lt address 0x10000000000000 && address % page_bytes == 0
 
 -- PhysBase has the type in its low byte, and PhysMask has V set.
 abbrev pub shows_pair : Result ℕ NumberFault → Option ℕ → Option ℕ → Result ℕ NumberFault → Place → Place → Said

@@ -28,6 +28,13 @@ value_in (Some digits) = sixteen_digits digits
 abbrev pub value_behind : List ℕ → List ℕ → Option ℕ
 value_behind head word = value_in (behind head word)
 
+-- `Variable MTRR[NN]: Base=VALUE Mask=VALUE`
+abbrev pub said_by_pair : ℕ → List (ℕ × List ℕ) → Said
+said_by_pair number words =
+    shows_pair (pair_numbered (codes "MTRR[") (codes "]:") (text_of words 1))
+    (place_of number words 2) (value_behind (codes "Base=") (text_of words 2))
+    (place_of number words 3) (value_behind (codes "Mask=") (text_of words 3))
+
 -- A value has sixteen digits: `MTRR Default Type: VALUE`, `Fixed MTRR[NN]   : VALUE`, `Variable MTRR[NN]: Base=VALUE Mask=VALUE`
 abbrev pub said_by_words : ℕ → List (ℕ × List ℕ) → Said
 said_by_words number words =
@@ -37,7 +44,7 @@ said_by_words number words =
     else if is_text (codes "Fixed") (text_of words 0) && is_text (codes ":") (text_of words 2)
     then shows_one (Some 0) (fixed_number (pair_numbered (codes "MTRR[") (codes "]") (text_of words 1))) (sixteen_digits (text_of words 3)) (place_of number words 3)
     else if is_text (codes "Variable") (text_of words 0)
-    then shows_pair (pair_numbered (codes "MTRR[") (codes "]:") (text_of words 1)) (place_of number words 2) (value_behind (codes "Base=") (text_of words 2)) (place_of number words 3) (value_behind (codes "Mask=") (text_of words 3))
+    then said_by_pair number words
     else Nothing
 
 abbrev pub edk2_said : ℕ → List ℕ → Said

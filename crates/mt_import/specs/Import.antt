@@ -2,6 +2,7 @@
 --     log_told format supplied text      the text and the status for a log
 --     output_of command bytes      the same for a command line
 use Rattle.std.specs.Prelude.{ℕ, ◌≡◌, ◌<◌, ◌⊎◌, codes, List, [], length, Option, Some, None, ⊤}
+use Rattle.mt_text.specs.Text.{longest_input}
 use Rattle.mt_ports.specs.declared.status.Status.{Status}
 use Rattle.mt_ports.specs.declared.status.Status.TheVariants.{Done, Refused, Usage, BadText, ReadFault, WriteFault, NoMemory, TooLong, TooFew, Disabled}
 use Rattle.mt_output.specs.Lines.{line}
@@ -39,7 +40,7 @@ IsWritten Disabled = ⊥
 -- the output for the words and all bytes of the source was written, or nothing where the source failed or gave too much
 pub data Imports (words : List (List ℕ)) (bytes : List ℕ) (left old new : Option (List ℕ)) (result : Status) : Type 0 where
   told : left ≡ Some (left_of (command_of words) bytes) → Writes (output_of (command_of words) bytes).0 (output_of (command_of words) bytes).1 old new result → Imports words bytes left old new result
-  unread : new ≡ old → (result ≡ ReadFault) ⊎ ((result ≡ TooLong) × (16777216 < length bytes)) → Imports words bytes left old new result
+  unread : new ≡ old → (result ≡ ReadFault) ⊎ ((result ≡ TooLong) × (longest_input < length bytes)) → Imports words bytes left old new result
 
 -- the same where the arguments may have found no memory: then nothing is read or written
 abbrev pub Runs : List (List ℕ) → List ℕ → Option (List ℕ) → Option (List ℕ) → Option (List ℕ) → Status → Type 0

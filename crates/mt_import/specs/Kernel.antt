@@ -1,6 +1,8 @@
--- Lines on MTRRs that the kernels of Linux and Xen print alike: print_mtrr_state, print_fixed_last and mtrr_attrib_to_str (Linux 6.1: arch/x86/kernel/cpu/mtrr/generic.c and if.c; Xen 4.17: xen/arch/x86/cpu/mtrr/generic.c).
+-- Lines on MTRRs that the kernels of Linux and Xen print alike: print_mtrr_state, print_fixed_last and mtrr_attrib_to_str
+-- (Linux 6.1: arch/x86/kernel/cpu/mtrr/generic.c and if.c; Xen 4.17: xen/arch/x86/cpu/mtrr/generic.c).
 --     kernel_said alone number words      what a line of these words says, where `alone` tells whether the line on fixed ranges shows FE also without E
 use Rattle.std.specs.Prelude.{ℕ, ◌+◌, ◌-◌, ◌*◌, ◌/◌, ◌%◌, ◌==◌, ◌&&◌, ◌||◌, not, nat_lt, codes, Bool, true, false, List, length, take, drop, if◌then◌else◌, Option, Some, None}
+use Rattle.mt_kinds.specs.Sizes.{page_bytes}
 use Rattle.mt_text.specs.Words.{text_of, place_of}
 use Rattle.mt_text.specs.Number.{hex_number, decimal_number}
 use Rattle.mt_text.specs.declared.place.Place.{Place}
@@ -79,12 +81,12 @@ run_said number words =
 abbrev pub base_value : Option ℕ → Option ℕ → Option ℕ
 base_value None code = None
 base_value (Some base) None = None
-base_value (Some base) (Some code) = if base % 4096 == 0 then Some (base + code) else None
+base_value (Some base) (Some code) = if base % page_bytes == 0 then Some (base + code) else None
 
 -- PhysMask by the mask of pages, where V is set; bits 10:0 are reserved, and 0.
 abbrev pub mask_value : Option ℕ → Option ℕ
 mask_value None = None
-mask_value (Some mask) = if mask % 4096 == 0 then Some (mask + 0x800) else None
+mask_value (Some mask) = if mask % page_bytes == 0 then Some (mask + 0x800) else None
 
 abbrev pub pair_said : Option ℕ → ℕ → List (ℕ × List ℕ) → Said
 pair_said None number words = Nothing

@@ -1,4 +1,5 @@
--- Lines of Linux on MTRRs and the PAT (Linux 6.1): print_mtrr_state (arch/x86/kernel/cpu/mtrr/generic.c), mtrr_seq_show (arch/x86/kernel/cpu/mtrr/if.c) and __init_cache_modes (arch/x86/mm/pat/memtype.c).
+-- Lines of Linux on MTRRs and the PAT (Linux 6.1): print_mtrr_state (arch/x86/kernel/cpu/mtrr/generic.c),
+-- mtrr_seq_show (arch/x86/kernel/cpu/mtrr/if.c) and __init_cache_modes (arch/x86/mm/pat/memtype.c).
 --     linux_said number line      what a line says
 use Rattle.std.specs.Prelude.{ℕ, ◌+◌, ◌-◌, ◌*◌, ◌==◌, ◌&&◌, ◌||◌, not, nat_lt, is_some, codes, false, List, [], ◌∷◌, length, take, drop, if◌then◌else◌, Option, Some, None}
 use Rattle.mt_text.specs.Words.{text_of, place_of, first_words}

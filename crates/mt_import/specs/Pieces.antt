@@ -4,6 +4,7 @@ use Rattle.std.specs.Cmp.Lexicographic.{pointwise}
 use Rattle.mt_text.specs.Number.{hex_number}
 use Rattle.mt_text.specs.declared.fault.NumberFault.{NumberFault}
 use Rattle.mt_text.specs.declared.place.Place.{Place}
+use Rattle.mt_regs.specs.Registers.{number_limit}
 use Rattle.mt_import.specs.declared.reading.Said.{Said}
 use Rattle.mt_import.specs.declared.reading.Said.TheVariants.{Nothing, Shows, Width}
 use Rattle.mt_import.specs.declared.reading.Shown.{Shown}
@@ -44,7 +45,7 @@ sixteen_digits word = if length word == 16 then number_in (hex_number word) else
 
 -- the number, where it has three hexadecimal digits at most
 abbrev pub register_in : Result ℕ NumberFault → Option ℕ
-register_in (Ok number) = if nat_lt number 0x1000 then Some number else None
+register_in (Ok number) = if nat_lt number number_limit then Some number else None
 register_in (Err fault) = None
 
 -- a register's number in hexadecimal behind `0x`

@@ -1,7 +1,8 @@
 -- What a reader of a log keeps of the facts that it has taken (own).
-use Rattle.std.specs.Prelude.{ℕ, ◌≡◌, ◌≤◌, ◌<◌, ◌+◌, ◌-◌, ◌*◌, ◌==◌, nat_lt, List, length, if◌then◌else◌, Option, Some, None, IfSome, ⊤}
+use Rattle.std.specs.Prelude.{ℕ, ◌≡◌, ◌≤◌, ◌+◌, ◌-◌, ◌*◌, ◌==◌, nat_lt, List, length, if◌then◌else◌, Option, Some, None, IfSome, ⊤}
 use Rattle.std.specs.List.{slice_index_or}
 use Rattle.mt_regs.specs.RegisterFile.{low_byte}
+use Rattle.mt_regs.specs.Registers.{HasThreeDigits}
 use Rattle.mt_import.specs.declared.fault.ImportFault.{ImportFault}
 use Rattle.mt_import.specs.declared.fault.ImportFault.TheVariants.{LongLine, BadProcessor, TooManyPairs, BadWidth, Contradiction, WidthContradiction}
 use Rattle.mt_import.specs.declared.reading.Context.{Context}
@@ -52,5 +53,5 @@ IsShort (LongLine place) = ⊤
 IsShort (BadProcessor place) = ⊤
 IsShort (TooManyPairs place) = ⊤
 IsShort (BadWidth place) = ⊤
-IsShort (Contradiction place number) = number < 0x1000
+IsShort (Contradiction place number) = HasThreeDigits number
 IsShort (WidthContradiction place) = ⊤

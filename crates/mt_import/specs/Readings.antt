@@ -2,7 +2,7 @@
 --     facts_from context says      the facts of these lines, behind lines that lead to this
 use Rattle.std.specs.Prelude.{ℕ, nat_lt, ◌&&◌, Bool, List, [], ◌∷◌, ◌++◌, if◌then◌else◌, Option, Some, None, is_some, unwrap_or}
 use Rattle.mt_regs.specs.RegisterFile.{RegisterFile, blank_file}
-use Rattle.mt_regs.specs.Registers.{value_at}
+use Rattle.mt_regs.specs.Registers.{number_limit, value_at}
 use Rattle.mt_text.specs.declared.place.Place.{Place}
 use Rattle.mt_import.specs.declared.fault.ImportFault.{ImportFault}
 use Rattle.mt_import.specs.declared.fault.ImportFault.TheVariants.{Contradiction, LongLine}
@@ -21,7 +21,7 @@ all_registers = blank_file 36 0x120
 
 -- a register that some dump has
 abbrev pub is_register : ℕ → Bool
-is_register number = nat_lt number 0x1000 && is_some (value_at all_registers number)
+is_register number = nat_lt number number_limit && is_some (value_at all_registers number)
 
 -- A register's value, the address width and its place, a line of a kernel's table behind lines that show this, or why a log shows no dump.
 pub data Fact : Type 0 where

@@ -1,8 +1,8 @@
 -- What the lines of a log show, in each format (own).
 --     said_of format number line      what a line says, whatever the others say
 --     shown format text      the facts of a text
-use Rattle.std.specs.Prelude.{ℕ, ◌+◌, nat_lt, List, [], ◌∷◌, length, if◌then◌else◌}
-use Rattle.mt_text.specs.Text.{lines_of}
+use Rattle.std.specs.Prelude.{ℕ, ◌+◌, List, [], ◌∷◌, if◌then◌else◌}
+use Rattle.mt_text.specs.Text.{is_too_long, lines_of, past_limit}
 use Rattle.mt_import.specs.declared.format.Format.{Format}
 use Rattle.mt_import.specs.declared.format.Format.TheVariants.{Rdmsr, X86info, Inteltool, Coreboot, Edk2, Linux, Xen}
 use Rattle.mt_import.specs.declared.reading.Said.{Said}
@@ -28,7 +28,7 @@ said_by_line Xen number line = xen_said number line
 -- A line of more than 4,096 bytes isn't read.
 abbrev pub said_of : Format → ℕ → List ℕ → Said
 said_of format number line =
-    if nat_lt 4096 (length line) then Long (record { line = number; column = 4097 })
+    if is_too_long line then Long (past_limit number)
     else said_by_line format number line
 
 -- what lines say, the first of which has this number

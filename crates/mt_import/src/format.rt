@@ -9,7 +9,7 @@ use crate::linux::linux_said;
 use crate::rdmsr::rdmsr_said;
 use crate::x86info::x86info_said;
 use crate::xen::xen_said;
-use mt_text::{LIMIT_COLUMN, Line, Place};
+use mt_text::Line;
 
 /// A kind of log.
 #[derive(Clone, Copy, Debug, PartialEq, Eq)]
@@ -50,10 +50,7 @@ impl Format {
         ensures { result ≡ said_of self line.now.number line.now.bytes.now }
     {
         if line.too_long() {
-            return Said::Long(Place {
-                line: line.number,
-                column: LIMIT_COLUMN,
-            });
+            return Said::Long(line.past_limit());
         }
         self.said_by_line(line)
     }

@@ -1,7 +1,7 @@
-ghost use Rattle.std.specs.Prelude.{◌≡◌, ◌≤◌, ◌<◌, ◌+◌, ◌++◌, [], List, ℕ, Some, length, map, if◌then◌else◌};
+ghost use Rattle.std.specs.Prelude.{◌≡◌, ◌≤◌, ◌+◌, ◌++◌, [], List, ℕ, Some, length, map, if◌then◌else◌};
 ghost use Rattle.arrayvec.specs.ArrayVec.{array_vec_len};
 ghost use Rattle.mt_regs.specs.RegisterFile.{low_byte};
-ghost use Rattle.mt_regs.specs.Registers.{number_of, writable};
+ghost use Rattle.mt_regs.specs.Registers.{HasThreeDigits, number_of, writable};
 ghost use Rattle.mt_import.specs.Outcome.{is_missing, missing_line, missing_lines, missing_width, needed};
 ghost use Rattle.mt_import.specs.Reader.{values_of, width_of};
 
@@ -14,7 +14,7 @@ const USUAL_WIDTH: u8 = 36;
 
 fn append_line(text: &mut TextBuffer, number: u32)
     requires room { array_vec_len text.old + 12 ≤ 0x8000 }
-    requires number { number < 0x1000 }
+    requires number { HasThreeDigits number }
     ensures text { text.new.items ≡ text.old.items ++ missing_line number }
     ensures size { array_vec_len text.new ≡ array_vec_len text.old + 12 }
 {
@@ -41,7 +41,7 @@ impl LogReader {
     fn append_missing(&self, text: &mut TextBuffer, supplied: &Supplied, number: u32)
         requires few { self.now.processors ≤ 16 }
         requires room { array_vec_len text.old + 12 ≤ 0x8000 }
-        requires number { number < 0x1000 }
+        requires number { HasThreeDigits number }
         ensures text { text.new.items ≡ text.old.items ++ (if is_missing (values_of supplied.now self.now) self.now.processors number then missing_line number else []) }
         ensures size { array_vec_len text.new ≤ array_vec_len text.old + 12 }
     {
@@ -68,7 +68,8 @@ impl LogReader {
     pub(crate) fn missing(&self, supplied: &Supplied) -> TextBuffer
         requires few { self.now.processors ≤ 16 }
         requires pairs { (value : ℕ) → values_of supplied.now self.now 0 0xfe ≡ Some value → low_byte value ≤ 32 }
-        ensures { result.items ≡ missing_width (width_of supplied.now self.now) ++ missing_lines (values_of supplied.now self.now) self.now.processors (needed (values_of supplied.now self.now 0 0xfe)) }
+        ensures { result.items ≡ missing_width (width_of supplied.now self.now)
+            ++ missing_lines (values_of supplied.now self.now) self.now.processors (needed (values_of supplied.now self.now 0 0xfe)) }
     {
         let mut text = ArrayVec::new();
         if self.width(supplied).is_none() {

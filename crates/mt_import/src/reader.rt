@@ -1,5 +1,6 @@
 ghost use Rattle.std.specs.Prelude.{◌≡◌, ◌≤◌, ◌<◌, ◌+◌, ◌-◌, ◌*◌, ℕ, List, [], ◌∷◌, length, max, slice_get, unwrap_or, true, Some, None, Ok, IfErr, IfOk, IfSome, IsErrOf, MatchOption, MatchResult, ◌↔◌};
 ghost use Rattle.std.specs.Io.KnownBytes.{Consumes, IsAtEnd};
+ghost use Rattle.mt_text.specs.Text.{longest_input};
 ghost use Rattle.mt_ports.specs.Causes.{Rose};
 ghost use Rattle.mt_text.specs.Feed.{GaveTooMuch, IsLong, at_start, taken};
 ghost use Rattle.mt_text.specs.declared.fault.FeedFault.{FeedFault};
@@ -428,7 +429,7 @@ pub fn read_log<S: Source>(
     ensures written { IfOk result (λ answer. IsWritten answer.1) }
     ensures end { (bytes : List ℕ) → S.left source.old ≡ Some bytes → IfOk result (λ _. S.left source.new ≡ Some []) }
     ensures too_long { IsErrOf result FeedFault.TooLong ↔ GaveTooMuch (S.given source.old) (S.given source.new) }
-    ensures long { (bytes : List ℕ) → S.left source.old ≡ Some bytes → IsErrOf result FeedFault.TooLong → 16777216 < length bytes }
+    ensures long { (bytes : List ℕ) → S.left source.old ≡ Some bytes → IsErrOf result FeedFault.TooLong → longest_input < length bytes }
     ensures failed { IsErrOf result FeedFault.ReadFault → Rose (S.faults source.old) (S.faults source.new) }
     ensures stands { (IsErrOf result FeedFault.ReadFault → ⊥) → S.faults source.new ≡ S.faults source.old }
 {

@@ -2,6 +2,7 @@ ghost use Rattle.std.specs.Prelude.{◌≡◌, true, None};
 ghost use Rattle.mt_import.specs.Readings.{all_registers, announced_after, at_start, context_after, is_register, processor_after, table_behind};
 ghost use Rattle.mt_import.specs.Reader.{slot_of};
 
+use crate::pieces::REGISTERS;
 use crate::tabled::table_after;
 use crate::{Table, TableLine};
 use mt_regs::RegFile;
@@ -136,7 +137,7 @@ pub(crate) fn is_register(number: u64) -> bool
     ensures register { result ≡ is_register number }
     ensures slot { result ≡ true → slot_of number ≡ None → ⊥ }
 {
-    if number >= 0x1000 {
+    if number >= REGISTERS {
         return false;
     }
     let file = all_registers();

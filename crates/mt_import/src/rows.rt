@@ -2,6 +2,7 @@ ghost use Rattle.std.specs.Prelude.{◌≡◌, ◌≤◌, ◌<◌, IfSome, lengt
 ghost use Rattle.mt_import.specs.Reader.{IsShort};
 ghost use Rattle.mt_import.specs.Supplied.{differs, supplied_value};
 ghost use Rattle.mt_import.specs.Rows.{bit_differs, byte_differs, bytes_differ, clash, default_fault, disabled_fault, eight, enabled_fault, fixed_fault, flag_differs, or_fault, pair_fault, register_fault, row_fault, told_differs, type_differs, types_fault, unlike, valid_before, value_differs, word_differs};
+ghost use Rattle.mt_regs.specs.Registers.{HasThreeDigits};
 
 use crate::table::{FIXED_RANGES, PAIRS};
 use crate::tabled::types_with;
@@ -32,7 +33,7 @@ fn or_fault(fault: Option<ImportFault>, other: Option<ImportFault>) -> Option<Im
 }
 
 fn clash(place: Place, number: u32, is_found: bool) -> Option<ImportFault>
-    requires { number < 0x1000 }
+    requires { HasThreeDigits number }
     ensures fault { result ≡ clash place number is_found }
     ensures short { IfSome result IsShort }
 {
@@ -212,7 +213,7 @@ fn register_fault(
     number: u32,
 ) -> Option<ImportFault>
     requires within { k < 11 }
-    requires number { number < 0x1000 }
+    requires number { HasThreeDigits number }
     ensures fault { result ≡ register_fault supplied.now before.now after.now place k number }
     ensures short { IfSome result IsShort }
 {

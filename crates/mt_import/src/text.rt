@@ -1,7 +1,8 @@
-ghost use Rattle.std.specs.Prelude.{◌≡◌, ◌<◌};
+ghost use Rattle.std.specs.Prelude.{◌≡◌};
 ghost use Rattle.mt_ports.specs.declared.status.Status.TheVariants.{BadText};
 ghost use Rattle.mt_import.specs.Outcome.{contradiction_line, fault_line, width_line};
 ghost use Rattle.mt_import.specs.Reader.{IsShort};
+ghost use Rattle.mt_regs.specs.Registers.{HasThreeDigits};
 
 use crate::ImportFault;
 use arrayvec::ArrayVec;
@@ -27,7 +28,7 @@ impl Model for Imported {
 }
 
 fn contradiction_line(place: Place, number: u32) -> LineBuffer
-    requires { number < 0x1000 }
+    requires { HasThreeDigits number }
     ensures { result.items ≡ contradiction_line place number }
 {
     let mut line = ArrayVec::new();

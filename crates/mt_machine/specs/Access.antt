@@ -5,6 +5,7 @@
 -- update of memory, are this project's profile (own).
 use Rattle.std.specs.Prelude.{ℕ, ◌+◌, ◌*◌, ◌/◌, ◌%◌, Bool, true, false, not, ◌&&◌, if◌then◌else◌, slice_index, slice_get, Option, None, Some, is_some}
 use Rattle.std.specs.Option.{option_map_or, option_map}
+use Rattle.mt_kinds.specs.Sizes.{page_bytes}
 use Rattle.mt_kinds.specs.declared.mem_type.MemType.{MemType}
 use Rattle.mt_kinds.specs.declared.mem_type.MemType.TheVariants.{UC, WC, WT, WP, WB}
 use Rattle.mt_kinds.specs.EffectiveType.{effective_type}
@@ -49,7 +50,7 @@ abbrev pub keep_entry : Entry → Processor → Processor
 keep_entry e p = if is_some (find_entry e.vpage p.entries) then p else record p { entries = add_entry e p.entries }
 
 abbrev pub physical : Entry → ℕ → ℕ
-physical e address = 4096 * e.ppage + address % 4096
+physical e address = page_bytes * e.ppage + address % page_bytes
 
 -- ---- loads and stores of a physical word
 
@@ -153,7 +154,7 @@ access_at s k p Fence = record { answer = Fenced; after = drain k s }
 access_at s k p op =
     option_map_or
     (λ e. translated (change (keep_entry e) k s) k e op)
-    (entry_of p (address_of op / 4096))
+    (entry_of p (address_of op / page_bytes))
     (record { answer = Unmapped; after = s })
 
 -- busy where the processor is in an update, and where k is no processor's number (own)

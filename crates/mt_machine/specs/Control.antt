@@ -4,6 +4,7 @@
 -- buffers first.
 use Rattle.std.specs.Prelude.{ℕ, ◌/◌, Bool, true, false, not, [], if◌then◌else◌, slice_get}
 use Rattle.std.specs.Option.{option_map_or}
+use Rattle.mt_kinds.specs.Sizes.{page_bytes}
 use Rattle.mt_tlb.specs.Entries.{global_entries, is_full_for, set_mapping, without_page}
 use Rattle.mt_machine.specs.declared.control.Control.{Control}
 use Rattle.mt_machine.specs.declared.control.Control.TheVariants.{Map, Invlpg, Cr3, Pge, Cd}
@@ -37,7 +38,7 @@ abbrev pub control_at : System → ℕ → Processor → Control → RuledAfter
 control_at s k p (Map m) =
     if is_full_for m p.mappings then record { answer = Full; after = s }
     else record { answer = Okay; after = change (λ q. record q { mappings = set_mapping m q.mappings }) k s }
-control_at s k p (Invlpg address) = record { answer = Okay; after = change (drop_page (address / 4096)) k (drain k s) }
+control_at s k p (Invlpg address) = record { answer = Okay; after = change (drop_page (address / page_bytes)) k (drain k s) }
 control_at s k p Cr3 = record { answer = Okay; after = change reload_cr3 k (drain k s) }
 control_at s k p (Pge on) = record { answer = Okay; after = change (set_page_global on) k (drain k s) }
 control_at s k p (Cd on) = record { answer = Okay; after = change (λ q. record q { cache_disabled = on }) k (drain k s) }

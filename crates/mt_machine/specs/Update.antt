@@ -3,6 +3,7 @@
 use Rattle.std.specs.Prelude.{◌≡◌, ℕ, zero, suc, ◌+◌, ◌*◌, ◌/◌, ◌%◌, ◌==◌, Bool, true, false, List, [], ◌∷◌, ◌++◌, map, if◌then◌else◌, slice_get, Option, None, Some}
 use Rattle.std.specs.Option.{option_map_or, option_map}
 use Rattle.std.specs.List.{fold, filter_map, All, Contains, count_by}
+use Rattle.mt_kinds.specs.Sizes.{page_bytes}
 use Rattle.mt_regs.specs.RegisterFile.{RegisterFile}
 use Rattle.mt_cache.specs.declared.line.CacheLine.{CacheLine}
 use Rattle.mt_cache.specs.Lines.{eight, is_dirty}
@@ -36,7 +37,7 @@ is_stored other = false
 -- the physical address of an access, where its page has an entry or a mapping
 abbrev pub physical_of : System → ℕ → ℕ → Option ℕ
 physical_of s k address =
-    option_map_or (λ p. option_map (λ e. physical e address) (entry_of p (address / 4096))) (slice_get s.processors k) None
+    option_map_or (λ p. option_map (λ e. physical e address) (entry_of p (address / page_bytes))) (slice_get s.processors k) None
 
 -- the word that an event stores
 abbrev pub stored_word : Machine → MachineEvent → Option ℕ

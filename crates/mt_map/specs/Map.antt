@@ -7,6 +7,7 @@ use Rattle.std.specs.Prelude.{ℕ, ◌≡◌, ◌<◌, ◌⊎◌, codes, Bool, t
 use Rattle.std.specs.Vec.Iter.{into_iter_items}
 use Rattle.std.specs.declared.vec.IntoIter.{IntoIter}
 use Rattle.std.specs.List.{All}
+use Rattle.mt_text.specs.Text.{longest_input}
 use Rattle.mt_ports.specs.declared.status.Status.{Status}
 use Rattle.mt_ports.specs.declared.status.Status.TheVariants.{Done, Refused, Usage, BadText, ReadFault, NoMemory, TooLong}
 use Rattle.mt_regs.specs.declared.fault.Fault.{Fault}
@@ -71,7 +72,7 @@ left_of has_words bytes = if has_words then bytes else []
 -- The output for all bytes of the source was written, or nothing where the source failed or gave too much.
 pub data Maps (has_words : Bool) (bytes : List ℕ) (left old new : Option (List ℕ)) (result : Status) : Type 0 where
   told : left ≡ Some (left_of has_words bytes) → Tells (Output has_words bytes) old new result → Maps has_words bytes left old new result
-  unread : new ≡ old → (result ≡ ReadFault) ⊎ ((result ≡ TooLong) × (16777216 < length bytes)) → Maps has_words bytes left old new result
+  unread : new ≡ old → (result ≡ ReadFault) ⊎ ((result ≡ TooLong) × (longest_input < length bytes)) → Maps has_words bytes left old new result
 
 -- ---- the program
 

@@ -2,6 +2,7 @@ ghost use Rattle.std.specs.Prelude.{◌≡◌, ◌<◌, ◌≤◌, IfSome, lengt
 ghost use Rattle.std.specs.List.{filter};
 ghost use Rattle.mt_map.specs.Bands.{is_different};
 ghost use Rattle.mt_ranges.specs.Match.{is_valid};
+ghost use Rattle.mt_regs.specs.Registers.{HasThreeDigits};
 
 use crate::drawing::{append_box, append_label, is_same};
 use crate::edges::are_fixed_on;
@@ -62,7 +63,7 @@ fn accepted_text(alloc: Global) -> Result<Vec<u8>, AllocError> {
 }
 
 fn refused_text(alloc: Global, version: u8, k: u32, fault: &Fault) -> Result<Vec<u8>, AllocError>
-    requires { fault.now.msr < 0x1000 }
+    requires { HasThreeDigits fault.now.msr }
 {
     let mut text = Vec::new(alloc);
     text.extend_from_slice(b"<text class='refused' x='12' y='50'>")?;
@@ -77,7 +78,7 @@ pub(crate) fn verdict_text(
     version: u8,
     refusal: Option<(u32, Fault)>,
 ) -> Result<Vec<u8>, AllocError>
-    requires short { IfSome refusal (λ found. found.1.msr < 0x1000) }
+    requires short { IfSome refusal (λ found. HasThreeDigits found.1.msr) }
 {
     match refusal {
         None => accepted_text(alloc),

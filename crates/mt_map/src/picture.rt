@@ -1,6 +1,7 @@
 ghost use Rattle.std.specs.Prelude.{◌≤◌, ◌<◌, ◌^◌, IfSome};
 ghost use Rattle.std.specs.List.{All};
 ghost use Rattle.mt_map.specs.Bands.{IsPlaced};
+ghost use Rattle.mt_regs.specs.Registers.{HasThreeDigits};
 
 use crate::columns::{append_bars, append_other_bars};
 use crate::drawing::append_rule;
@@ -64,7 +65,7 @@ pub fn picture_text(
     others: &[RegFile],
     stack: &Stack,
 ) -> Result<Vec<u8>, AllocError>
-    requires short { IfSome refusal (λ found. found.1.msr < 0x1000) }
+    requires short { IfSome refusal (λ found. HasThreeDigits found.1.msr) }
     requires bottom { stack.now.bottom ≤ 2 ^ 50 }
     requires placed { All IsPlaced stack.now.bands.items }
 {

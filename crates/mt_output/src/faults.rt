@@ -1,5 +1,6 @@
-ghost use Rattle.std.specs.Prelude.{◌≡◌, ◌≤◌, ◌<◌, length};
+ghost use Rattle.std.specs.Prelude.{◌≡◌, ◌≤◌, length};
 ghost use Rattle.mt_output.specs.Lines.{bad_script_line, bad_text, bad_text_line, dump_reason_text, dump_refused_line, offence_line, reason_text, refused_cpu_line, refused_line, script_reason_text};
+ghost use Rattle.mt_regs.specs.Registers.{HasThreeDigits};
 
 use crate::line::{LineBuffer, append, append_decimal, append_number};
 use arrayvec::ArrayVec;
@@ -23,7 +24,7 @@ pub fn reason_text(reason: Reason) -> &'static [u8]
 
 /// The line about a register at fault.
 pub fn refused_line(fault: &Fault) -> LineBuffer
-    requires { fault.now.msr < 4096 }
+    requires { HasThreeDigits fault.now.msr }
     ensures { result.items ≡ refused_line fault.now }
 {
     let mut line = ArrayVec::new();
@@ -37,7 +38,7 @@ pub fn refused_line(fault: &Fault) -> LineBuffer
 
 // The line about a register at fault in the file of a processor.
 fn refused_cpu_line(k: u32, fault: &Fault) -> LineBuffer
-    requires { fault.now.msr < 4096 }
+    requires { HasThreeDigits fault.now.msr }
     ensures { result.items ≡ refused_cpu_line k fault.now }
 {
     let mut line = ArrayVec::new();
@@ -53,7 +54,7 @@ fn refused_cpu_line(k: u32, fault: &Fault) -> LineBuffer
 
 /// The line about file `k` of a dump of this version, which names a processor in version 2 alone.
 pub fn dump_refused_line(version: u8, k: u32, fault: &Fault) -> LineBuffer
-    requires { fault.now.msr < 4096 }
+    requires { HasThreeDigits fault.now.msr }
     ensures { result.items ≡ dump_refused_line version k fault.now }
 {
     if version == 2 {

@@ -1,8 +1,9 @@
 // Lines that are formed in the writer, behind the bytes that wait.
-ghost use Rattle.std.specs.Prelude.{◌≡◌, ◌≤◌, ◌+◌, ◌<◌, ◌++◌, length, decimal};
+ghost use Rattle.std.specs.Prelude.{◌≡◌, ◌≤◌, ◌+◌, ◌++◌, length, decimal};
 ghost use Rattle.mt_kinds.specs.Types.{name_of_type};
 ghost use Rattle.mt_dump.specs.Canon.{number_text, value_text};
 ghost use Rattle.mt_output.specs.Lines.{address_text};
+ghost use Rattle.mt_regs.specs.Registers.{HasThreeDigits};
 
 use crate::writer::{WRITER_ROOM, Writer};
 use itoa::Buffer;
@@ -41,7 +42,7 @@ impl Writer {
     /// Adds a register's number in three digits.
     pub fn append_number(&mut self, number: u32)
         requires room { length self.old + 3 ≤ WRITER_ROOM }
-        requires number { number < 0x1000 }
+        requires number { HasThreeDigits number }
         ensures text { self.new ≡ self.old ++ number_text number }
         ensures size { length self.new ≡ length self.old + 3 }
     {

@@ -3,6 +3,7 @@ ghost use Rattle.arrayvec.specs.ArrayVec.{array_vec_len};
 ghost use Rattle.mt_kinds.specs.Types.{name_of_pat_type, name_of_type};
 ghost use Rattle.mt_dump.specs.Canon.{number_text, value_text};
 ghost use Rattle.mt_output.specs.Lines.{accepted_line, address_text};
+ghost use Rattle.mt_regs.specs.Registers.{HasThreeDigits};
 
 use arrayvec::ArrayVec;
 use itoa::Buffer;
@@ -57,7 +58,7 @@ pub fn append_value(line: &mut LineBuffer, value: u64)
 /// Adds a register's number in three digits.
 pub fn append_number(line: &mut LineBuffer, number: u32)
     requires room { array_vec_len line.old + 3 ≤ LINE_ROOM }
-    requires number { number < 0x1000 }
+    requires number { HasThreeDigits number }
     ensures text { line.new.items ≡ line.old.items ++ number_text number }
     ensures size { array_vec_len line.new ≡ array_vec_len line.old + 3 }
 {

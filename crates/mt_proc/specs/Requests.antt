@@ -1,9 +1,10 @@
 -- What one line asks for, in the form of Linux's mtrr document, or its fault (own).
 --     request_of number line      the answer for the line of this number
--- A line is `base=HEX size=HEX type=NAME` or `disable=D`. Its tests come in the order of the definitions: the first word, the number of words, how they begin, the numbers from left to right, the type.
+-- A line is `base=HEX size=HEX type=NAME` or `disable=D`. Its tests come in the order of the definitions:
+-- the first word, the number of words, how they begin, the numbers from left to right, the type.
 use Rattle.std.specs.Prelude.{ℕ, ◌-◌, ◌==◌, nat_lt, nat_eq, codes, Bool, List, length, take, drop, if◌then◌else◌, Option, Some, None, Result, Ok, Err}
 use Rattle.std.specs.Cmp.Lexicographic.{pointwise}
-use Rattle.mt_text.specs.Text.{words_of}
+use Rattle.mt_text.specs.Text.{is_too_long, past_limit, words_of}
 use Rattle.mt_text.specs.Words.{text_of, place_of}
 use Rattle.mt_text.specs.Number.{hex_number, decimal_number}
 use Rattle.mt_text.specs.declared.fault.NumberFault.{NumberFault}
@@ -109,5 +110,5 @@ asked_by number words = if length words == 0 then Ok None else some_request (req
 
 abbrev pub request_of : ℕ → List ℕ → Result (Option Request) ProcFault
 request_of number line =
-    if nat_lt 4096 (length line) then Err (fault_at BadLine (record { line = number; column = 4097 }))
+    if is_too_long line then Err (fault_at BadLine (past_limit number))
     else asked_by number (words_of line)

@@ -1,12 +1,12 @@
 ghost use Rattle.std.specs.Prelude.{◌≡◌, ◌≤◌, ◌↔◌, [], length, MatchOption, MatchResult, Ok, Some, None};
-ghost use Rattle.mt_text.specs.Text.{words_of};
+ghost use Rattle.mt_text.specs.Text.{longest_line, words_of};
 ghost use Rattle.mt_text.specs.Words.{place_of, text_of};
 ghost use Rattle.mt_proc.specs.Requests.{asked_by, behind, count_fault, disable_of, fault_at, number_at, range_of, request_in, request_of};
 ghost use Rattle.mt_proc.specs.declared.request.ProcReason.TheVariants.{BadLine};
 
 use crate::names::type_named;
 use crate::{ProcFault, ProcReason, Request};
-use mt_text::{LIMIT_COLUMN, Line, NumberFault, Place, Words, decimal, hex64};
+use mt_text::{Line, NumberFault, Place, Words, decimal, hex64};
 
 const RANGE_WORDS: usize = 3;
 
@@ -127,13 +127,7 @@ fn read_line(line: &Line<'_>) -> Result<Option<Request>, ProcFault>
     ensures { result ≡ request_of line.now.number line.now.bytes.now }
 {
     if line.too_long() {
-        return Err(fault(
-            ProcReason::BadLine,
-            Place {
-                line: line.number,
-                column: LIMIT_COLUMN,
-            },
-        ));
+        return Err(fault(ProcReason::BadLine, line.past_limit()));
     }
     read_words(line)
 }
@@ -141,7 +135,7 @@ fn read_line(line: &Line<'_>) -> Result<Option<Request>, ProcFault>
 /// What a line asks for, or its offence. A line without words asks for nothing.
 pub fn read_request(line: &Line<'_>) -> Result<Option<Request>, ProcFault>
     ensures answer { result ≡ request_of line.now.number line.now.bytes.now }
-    ensures blank { (result ≡ Ok None) ↔ ((length line.now.bytes.now ≤ 4096) × (words_of line.now.bytes.now ≡ [])) }
+    ensures blank { (result ≡ Ok None) ↔ ((length line.now.bytes.now ≤ longest_line) × (words_of line.now.bytes.now ≡ [])) }
 {
     read_line(line)
 }

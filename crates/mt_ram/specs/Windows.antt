@@ -1,5 +1,6 @@
 -- Windows of memory as they are added (own).
 use Rattle.std.specs.Prelude.{◌≡◌, ◌↔◌, ◌<◌, ◌≤◌, ℕ, ◌+◌, ◌*◌, ◌%◌, ◌==◌, nat_lt, nat_le, Bool, true, false, ◌&&◌, ◌||◌, List, [], ◌∷◌, ◌++◌, length, replicate, take, drop, if◌then◌else◌, Option, None, Some, Result, Ok, Err}
+use Rattle.mt_kinds.specs.Sizes.{most_lines}
 use Rattle.mt_ram.specs.declared.fault.RamFault.{RamFault}
 use Rattle.mt_ram.specs.declared.fault.RamFault.TheVariants.{Misaligned, Overlaps, TooMuch, NoMemory}
 use Rattle.mt_ram.specs.declared.window.Window.{Window}
@@ -22,7 +23,7 @@ is_overlap (v ∷ vs) w = shares_byte v w || is_overlap vs w
 
 -- at most 4,096 lines in 16 windows
 abbrev pub is_too_much : List machine.Window → machine.Window → Bool
-is_too_much ws w = nat_lt (8 * 4096) (machine.word_count ws + 8 * w.lines) || nat_le 16 (length ws)
+is_too_much ws w = nat_lt (8 * most_lines) (machine.word_count ws + 8 * w.lines) || nat_le 16 (length ws)
 
 -- why a window cannot be added to these: the first that holds of a base that is no line's, a byte that
 -- an earlier window has, and too many lines or windows
@@ -50,7 +51,7 @@ with_line i m ws = record m { words = take (length m.words) (take i m.words ++ w
 -- what a memory of windows keeps
 pub record IsRam (m : machine.Memory) : Type 0 where
   pub memory : machine.IsMemory m
-  pub few : length m.words ≤ 8 * 4096
+  pub few : length m.words ≤ 8 * most_lines
 
 -- the byte at an address is in the window
 abbrev pub HasByte : machine.Window → ℕ → Type 0

@@ -1,6 +1,7 @@
 ghost use Rattle.std.specs.Prelude.{◌≡◌, ℕ, ◌<◌, ◌≤◌, ◌+◌, ◌*◌, ◌^◌, ◌%◌, [], length, map, replicate, slice_index, slice_range, slice_set, OnOk, OnErr, IfSome, None, nat_le, nat_lt, ◌&&◌};
 ghost use Rattle.std.specs.Borrow.{Array, Lends, sem, u64};
 ghost use Rattle.std.specs.List.{All};
+ghost use Rattle.mt_kinds.specs.Sizes.{most_lines};
 ghost use Rattle.mt_machine.specs.Memory.{IsMemory, Memory, place, place_in, put_word, window_end, word_at, word_count};
 ghost use Rattle.mt_machine.specs.Update.{addresses};
 ghost use Rattle.mt_ram.specs.contracts.ram.Ram.{the_row};
@@ -9,12 +10,12 @@ ghost use Rattle.mt_ram.specs.Windows.{is_overlap, refusal, refusal_in, shares_b
 use crate::fault::RamFault;
 use crate::window::Window;
 use arrayvec::ArrayVec;
-use mt_kinds::{LINE_BYTES, WORD_BYTES};
+use mt_kinds::{LINE_BYTES, MOST_LINES, WORD_BYTES};
 use std::alloc::Global;
 use std::marker::Model;
 
-/// The words of all windows together are at most these, those of 4,096 lines.
-const MOST_WORDS: usize = 8 * 4096;
+/// The words of all windows together are at most these, those of as many lines as memory has at most.
+const MOST_WORDS: usize = 8 * MOST_LINES as usize;
 
 /// Memory: at most 16 windows, which share no byte, and the words of all of them in a row.
 #[derive(Drop)]
@@ -72,7 +73,7 @@ fn is_overlap(windows: &[Window], base: u64, lines: u32) -> bool
 // The place of the word at this address, if one of these windows has it.
 fn place_in(windows: &[Window], address: u64) -> Option<usize>
     requires bounded { All (λ w. window_end w ≤ 2 ^ 52) (map window_of windows.now) }
-    requires few { word_count (map window_of windows.now) ≤ 8 * 4096 }
+    requires few { word_count (map window_of windows.now) ≤ 8 * most_lines }
     ensures { result ≡ place_in (map window_of windows.now) 0 address }
 {
     let mut before = 0;
@@ -126,7 +127,7 @@ impl Ram {
 
     // Why a window cannot be added.
     fn refusal(&self, base: u64, lines: u32) -> Option<RamFault>
-        requires few { lines ≤ 4096 }
+        requires few { lines ≤ most_lines }
         requires end { base + 64 * lines ≤ 2 ^ 52 }
         ensures { result ≡ refusal self.now.windows (window base lines) }
     {
@@ -150,7 +151,7 @@ impl Ram {
     /// NoMemory where none of these holds and the allocator has no room. Nothing then changes.
     pub fn add(&mut self, base: u64, lines: u32) -> Result<(), RamFault>
         requires some { 0 < lines }
-        requires few { lines ≤ 4096 }
+        requires few { lines ≤ most_lines }
         requires end { base + 64 * lines ≤ 2 ^ 52 }
         ensures refused { refusal_in result ≡ refusal self.old.windows (window base lines) }
         ensures added { OnOk result (self.new ≡ with_window (window base lines) self.old) }

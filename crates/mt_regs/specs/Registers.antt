@@ -57,6 +57,13 @@ HasNumber (FixedRange place) = place < 11
 HasNumber Pat = Unit {0}
 HasNumber DefaultType = Unit {0}
 
+-- Each register's number is below this: three hexadecimal digits write it.
+abbrev pub number_limit : ℕ
+number_limit = 0x1000
+
+abbrev pub HasThreeDigits : ℕ → Type 0
+HasThreeDigits number = number < number_limit
+
 -- the writable register that has a number
 abbrev pub register_of : RegisterFile → ℕ → Option Register
 register_of f number = find (λ r. number_of r == number) (writable f)

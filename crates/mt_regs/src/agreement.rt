@@ -2,8 +2,9 @@ ghost use Rattle.std.specs.Prelude.{◌≡◌, ◌<◌, ◌^◌, List, length, I
 ghost use Rattle.std.specs.List.{All};
 ghost use Rattle.mt_regs.specs.RegisterFile.{IsRegisterFile, RegisterFile};
 ghost use Rattle.mt_regs.specs.Faults.{IsAccepted};
-ghost use Rattle.mt_regs.specs.StartFiles.{SameKind};
+ghost use Rattle.mt_regs.specs.StartFiles.{AreOfOneKind, SameKind};
 ghost use Rattle.mt_regs.specs.Agreement.{differing_register, first_difference, first_refusal, AreEqual, IsFirstDifference, IsFirstRefusal};
+ghost use Rattle.mt_regs.specs.Registers.{HasThreeDigits};
 
 use crate::{Fault, RegFile};
 
@@ -11,7 +12,7 @@ use crate::{Fault, RegFile};
 pub fn first_refusal(files: &[RegFile]) -> Option<(u32, Fault)>
     requires { length files.now < 2 ^ 32 }
     ensures refusal { result ≡ first_refusal files.now }
-    ensures short { IfSome result (λ found. found.1.msr < 0x1000) }
+    ensures short { IfSome result (λ found. HasThreeDigits found.1.msr) }
 {
     for (k, file) in files.iter().enumerate() {
         file.is_register_file(); // a fact for the proof
@@ -27,7 +28,7 @@ impl RegFile {
     fn differing_register(&self, other: &RegFile) -> Option<u32>
         requires { SameKind self.now other.now }
         ensures number { result ≡ differing_register self.now other.now }
-        ensures short { IfSome result (λ msr. msr < 0x1000) }
+        ensures short { IfSome result HasThreeDigits }
     {
         self.is_register_file(); // a fact for the proof
         other.is_register_file(); // a fact for the proof
@@ -44,9 +45,9 @@ impl RegFile {
 /// The least number of a file that isn't the first one, and the first writable register in which it differs.
 pub fn first_difference(files: &[RegFile]) -> Option<(u32, u32)>
     requires few { length files.now < 2 ^ 32 }
-    requires one_kind { All (λ f. All (SameKind f) files.now) files.now }
+    requires one_kind { AreOfOneKind files.now }
     ensures difference { result ≡ first_difference files.now }
-    ensures short { IfSome result (λ found. found.1 < 0x1000) }
+    ensures short { IfSome result (λ found. HasThreeDigits found.1) }
 {
     let first = files.first()?;
     for (k, file) in files.iter().enumerate() {
@@ -64,5 +65,5 @@ pub fn a_first_refusal_is_the_least()
 
 /// Where no file differs all are equal; and the one that differs is the first that does, in the least register.
 pub fn a_first_difference_is_the_least()
-    ensures { (files : List RegisterFile) → All IsRegisterFile files → All (λ f. All (SameKind f) files) files → MatchOption (first_difference files) (AreEqual files) (λ found. IsFirstDifference files found.0 found.1) }
+    ensures { (files : List RegisterFile) → All IsRegisterFile files → AreOfOneKind files → MatchOption (first_difference files) (AreEqual files) (λ found. IsFirstDifference files found.0 found.1) }
 {}

@@ -1,7 +1,7 @@
-ghost use Rattle.std.specs.Prelude.{◌≡◌, ◌<◌, ℕ, Option, Some};
+ghost use Rattle.std.specs.Prelude.{◌≡◌, ℕ, Option, Some};
 ghost use Rattle.mt_regs.specs.declared.fault.Fault.{Fault};
 ghost use Rattle.mt_regs.specs.RegisterFile.{IsRegisterFile, RegisterFile};
-ghost use Rattle.mt_regs.specs.Registers.{ChangesOnly, written};
+ghost use Rattle.mt_regs.specs.Registers.{HasThreeDigits, ChangesOnly, written};
 ghost use Rattle.mt_regs.specs.Faults.{IsFirstFault};
 
 /// A file has one first fault, or none.
@@ -16,7 +16,7 @@ pub fn a_first_fault_or_none()
 
 /// The register at fault has a number of three hexadecimal digits.
 pub fn a_fault_has_a_short_number()
-    ensures { (f : RegisterFile) (fault : Fault) → IsRegisterFile f → IsFirstFault f (Some fault) → fault.msr < 0x1000 }
+    ensures { (f : RegisterFile) (fault : Fault) → IsRegisterFile f → IsFirstFault f (Some fault) → HasThreeDigits fault.msr }
 {}
 
 /// A write changes the value of one register.

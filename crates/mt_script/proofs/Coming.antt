@@ -3,7 +3,7 @@ use Rattle.std.proofs.Common.{◌≡◌, refl, nat_eq, sym, ◌∙◌, subst, �
 use Rattle.std.specs.Prelude.{◌⊎◌, IfSome, codes}
 use Rattle.std.specs.Result.{IfOk}
 use Rattle.std.specs.Set.{is_member}
-use Rattle.mt_text.specs.Text.{words_of, without_ending}
+use Rattle.mt_text.specs.Text.{is_too_long, without_ending, words_of}
 use Rattle.mt_text.specs.Number.{hex_number}
 use Rattle.mt_script.specs.Situation.{Situation, file_of}
 use Rattle.mt_script.specs.Words.{text_of, place_of}
@@ -11,7 +11,7 @@ use Rattle.mt_script.specs.Numbers.{address_limit, aligned_in, any, base_in, cou
 use Rattle.mt_script.specs.Newcomers.{begins_newcomer, brings_up}
 use Rattle.mt_script.specs.Rows.{is_word, row_of, stands}
 use Rattle.mt_script.specs.Shape.{shape_fault}
-use Rattle.mt_script.specs.Commands.{Answer, command_of, cpus_in, in_dump, invlpg_in, load_in, map_in, msr_in, ram_in, store_in, in_section, in_stage, is_end, not_too_long, outside, row_line, too_long, verb_answer, with}
+use Rattle.mt_script.specs.Commands.{Answer, command_of, cpus_in, in_dump, invlpg_in, load_in, map_in, msr_in, ram_in, store_in, in_section, in_stage, is_end, not_too_long, outside, row_line, verb_answer, with}
 use Rattle.mt_script.specs.declared.command.Stage.{Stage}
 use Rattle.mt_script.specs.declared.command.Stage.TheVariants.{NeedCpus, NeedDump, InDump, Rams, Commands, InUpdate, InBegin}
 use Rattle.mt_script.specs.declared.command.Command.{Command}
@@ -102,10 +102,10 @@ module _ (now : Situation) (number : ℕ) (line : List ℕ) where
   LineBegins c = is_coming c ≡ true → brings_up line ≡ true
 
   dump_begins : IfOk (in_dump line) LineBegins
-  dump_begins = fits_if LineBegins (too_long line) _ _ (λ long e. cc e) (λ short. fits_if LineBegins (is_end (words_of line)) _ _ (λ end e. cc e) (λ more e. cc e))
+  dump_begins = fits_if LineBegins (is_too_long line) _ _ (λ long e. cc e) (λ short. fits_if LineBegins (is_end (words_of line)) _ _ (λ end e. cc e) (λ more e. cc e))
 
   short_begins : (answer : Answer) → IfOk answer LineBegins → IfOk (not_too_long number line answer) LineBegins
-  short_begins answer begins = fits_if LineBegins (too_long line) _ answer (λ long. tt) (λ short. begins)
+  short_begins answer begins = fits_if LineBegins (is_too_long line) _ answer (λ long. tt) (λ short. begins)
 
   stage_begins : (stage : Stage) → IfOk (in_stage now number line stage) LineBegins
   stage_begins NeedCpus = short_begins _ (outside_begins now number (words_of line))

@@ -5,7 +5,7 @@ use Rattle.std.specs.Set.{is_member}
 use Rattle.std.specs.Result.{IfOk}
 use Rattle.std.proofs.lemmas.Bool.{and_parts, leb-true, ltb-true, eqb-true}
 use Rattle.mt_text.specs.Number.{hex_number, decimal_number}
-use Rattle.mt_text.specs.Text.{words_of, without_ending}
+use Rattle.mt_text.specs.Text.{is_too_long, without_ending, words_of}
 use Rattle.mt_text.specs.declared.fault.NumberFault.{NumberFault}
 use Rattle.mt_text.specs.declared.fault.NumberFault.TheVariants.{NotDigit, TooLarge}
 use Rattle.mt_text.specs.declared.place.Place.{Place}
@@ -16,7 +16,7 @@ use Rattle.mt_script.specs.Numbers.{fault_at, tested, at_least, below, any, alig
 use Rattle.mt_script.specs.Rows.{is_word, row_of, stands}
 use Rattle.mt_script.specs.Stages.{takes_cpus, takes_windows, takes_commands, takes_registers, takes_end, is_in_dump}
 use Rattle.mt_script.specs.Shape.{shape_fault}
-use Rattle.mt_script.specs.Commands.{Answer, with, unless, cpus_in, ram_in, load_in, store_in, map_in, invlpg_in, msr_in, switch_in, verb_answer, row_line, outside, register_line, is_end, in_section, too_long, in_dump, not_too_long, in_stage, command_of}
+use Rattle.mt_script.specs.Commands.{Answer, with, unless, cpus_in, ram_in, load_in, store_in, map_in, invlpg_in, msr_in, switch_in, verb_answer, row_line, outside, register_line, is_end, in_section, in_dump, not_too_long, in_stage, command_of}
 use Rattle.mt_script.specs.Accept.{Fits, IsAligned, IsFor}
 use Rattle.mt_dump.proofs.OneLine.{decimal_within}
 use Rattle.mt_script.proofs.Table.{row_all}
@@ -186,11 +186,11 @@ module _ (now : Situation) (line : ℕ) (words : List (ℕ × List ℕ)) where
 module _ (now : Situation) (line : ℕ) (bytes : List ℕ) where
   dump_fits : is_in_dump now.stage ≡ true → takes_end now.stage ≡ true → IfOk (in_dump bytes) (Fits now)
   dump_fits stage ends =
-      fits_if (Fits now) (too_long bytes) _ _ (λ long. stage) (λ short.
+      fits_if (Fits now) (is_too_long bytes) _ _ (λ long. stage) (λ short.
       fits_if (Fits now) (is_end (words_of bytes)) _ _ (λ end. ends) (λ more. stage))
 
   short_fits : (answer : Answer) → IfOk answer (Fits now) → IfOk (not_too_long line bytes answer) (Fits now)
-  short_fits answer fits = fits_if (Fits now) (too_long bytes) _ _ (λ long. tt) (λ short. fits)
+  short_fits answer fits = fits_if (Fits now) (is_too_long bytes) _ _ (λ long. tt) (λ short. fits)
 
   pub command_fits : IfOk (command_of now line bytes) (Fits now)
   command_fits = by now.stage refl

@@ -3,7 +3,7 @@ use Rattle.std.proofs.Common.{◌≡◌, refl, ℕ, Bool, true, false, List, [],
 use Rattle.std.specs.Prelude.{if◌then◌else◌, ⊤}
 use Rattle.std.specs.Option.{option_map}
 use Rattle.std.specs.Result.{IfOk}
-use Rattle.mt_text.specs.Text.{words_of}
+use Rattle.mt_text.specs.Text.{is_too_long, words_of}
 use Rattle.mt_dump.specs.Dumps.{Dump}
 use Rattle.mt_dump.specs.ForProcessors.{has_each}
 use Rattle.mt_dump.specs.Line.{Reading, said_of}
@@ -16,7 +16,7 @@ use Rattle.mt_script.specs.Stages.{is_in_dump}
 use Rattle.mt_script.specs.Words.{place_of}
 use Rattle.mt_script.specs.Kept.{IsSituation}
 use Rattle.mt_script.specs.Accept.{Fits, accepted}
-use Rattle.mt_script.specs.Commands.{command_of, in_stage, is_end, too_long}
+use Rattle.mt_script.specs.Commands.{command_of, in_stage, is_end}
 use Rattle.mt_script.specs.Head.{HeadStep, end_offence, ends_dump, goes_on, head_step, is_end_command, offends, shows, step_in_dump, step_of_answer, step_of_command, step_shown, step_unless}
 use Rattle.mt_script.specs.declared.command.Stage.{Stage}
 use Rattle.mt_script.specs.declared.command.Stage.TheVariants.{NeedCpus, NeedDump, InDump, Rams, Commands, InUpdate, InBegin}
@@ -50,7 +50,7 @@ module _ (now : Situation) (before : List Reading) (number : ℕ) (line : List �
       of_line false false = rw dump refl
 
       of_stage : (stage : Stage) → is_in_dump stage ≡ true → step_of_answer now before number line (in_stage now number line stage) ≡ step_in_dump now before number line (ends_dump line)
-      of_stage InDump is = of_line (too_long line) (is_end (words_of line))
+      of_stage InDump is = of_line (is_too_long line) (is_end (words_of line))
       of_stage NeedCpus is = cc is
       of_stage NeedDump is = cc is
       of_stage Rams is = cc is

@@ -7,7 +7,7 @@ use Rattle.std.specs.List.{slice_get}
 use Rattle.std.proofs.lemmas.Bool.{eqb-true, ltb-true}
 use Rattle.std.proofs.lemmas.Bool.Decides.{nat_tests}
 use Rattle.mt_text.specs.Number.{hex_number, decimal_number}
-use Rattle.mt_text.specs.Text.{words_of, without_ending}
+use Rattle.mt_text.specs.Text.{is_too_long, without_ending, words_of}
 use Rattle.mt_text.specs.declared.fault.NumberFault.{NumberFault}
 use Rattle.mt_text.specs.declared.fault.NumberFault.TheVariants.{NotDigit, TooLarge}
 use Rattle.mt_text.specs.declared.place.Place.{Place}
@@ -18,7 +18,7 @@ use Rattle.mt_script.specs.Numbers.{fault_at, tested, at_least, below, any, alig
 use Rattle.mt_script.specs.Rows.{row_of, stands, fits}
 use Rattle.mt_script.specs.Shape.{bad_line, shape_fault}
 use Rattle.mt_script.specs.Places.{StandsIn}
-use Rattle.mt_script.specs.Commands.{Answer, with, unless, cpus_in, ram_in, load_in, store_in, map_in, invlpg_in, msr_in, switch_in, verb_answer, row_line, outside, is_end, in_section, too_long, in_dump, not_too_long, in_stage, command_of}
+use Rattle.mt_script.specs.Commands.{Answer, with, unless, cpus_in, ram_in, load_in, store_in, map_in, invlpg_in, msr_in, switch_in, verb_answer, row_line, outside, is_end, in_section, in_dump, not_too_long, in_stage, command_of}
 use Rattle.mt_script.specs.declared.command.Stage.{Stage}
 use Rattle.mt_script.specs.declared.command.Stage.TheVariants.{NeedCpus, NeedDump, InDump, Rams, Commands, InUpdate, InBegin}
 use Rattle.mt_script.specs.declared.row.Row.{Row}
@@ -203,10 +203,10 @@ module _ (now : Situation) (number : ℕ) (line : List ℕ) where
   word_stands (Err fault) at = inl (word_of (words_of line) at.0, (at.0, word_found (words_of line) at.0 at.1), at.2)
 
   short_stands : (answer : Answer) → IfErr answer (AtWord number (words_of line)) → IfErr (not_too_long number line answer) Stands
-  short_stands answer at = fails_if Stands (too_long line) _ _ (λ long. inr (ltb-true 4096 (length line) long, refl)) (λ short. word_stands answer at)
+  short_stands answer at = fails_if Stands (is_too_long line) _ _ (λ long. inr (ltb-true 4096 (length line) long, refl)) (λ short. word_stands answer at)
 
   dump_stands : IfErr (in_dump line) Stands
-  dump_stands = fails_if Stands (too_long line) _ _ (λ long. tt) (λ short. fails_if Stands (is_end (words_of line)) _ _ (λ end. tt) (λ more. tt))
+  dump_stands = fails_if Stands (is_too_long line) _ _ (λ long. tt) (λ short. fails_if Stands (is_end (words_of line)) _ _ (λ end. tt) (λ more. tt))
 
   stage_stands : (stage : Stage) → IfErr (in_stage now number line stage) Stands
   stage_stands NeedCpus = short_stands _ (outside_fails number (words_of line) now)

@@ -4,6 +4,7 @@
 --     finished now dump      the situation after the dump's end
 use Rattle.std.specs.Prelude.{ℕ, nat_eq, ◌≡◌, ◌≤◌, ◌<◌, ◌^◌, ◌%◌, true, false, [], ◌∷◌, ◌++◌, Some}
 use Rattle.std.specs.Set.{is_member}
+use Rattle.mt_kinds.specs.Sizes.{most_lines, page_bytes}
 use Rattle.mt_dump.specs.Dumps.{Dump}
 use Rattle.mt_script.specs.Situation.{Situation, file_of, most_processors}
 use Rattle.mt_script.specs.Numbers.{has_room, is_register, is_writable, address_limit}
@@ -24,13 +25,13 @@ IsAligned step limit address = (address % step ≡ 0) × (address < limit)
 abbrev pub Fits : Situation → Command → Type 0
 Fits now (command.Cpus n) = (takes_cpus now.stage ≡ true) × (1 ≤ n) × (n ≤ 16)
 Fits now command.Dump = takes_dump now.stage ≡ true
-Fits now (command.Ram base lines) = (takes_windows now.stage ≡ true) × (base % 64 ≡ 0) × (1 ≤ lines) × (lines ≤ 4096) × (has_room now base lines ≡ true)
+Fits now (command.Ram base lines) = (takes_windows now.stage ≡ true) × (base % 64 ≡ 0) × (1 ≤ lines) × (lines ≤ most_lines) × (has_room now base lines ≡ true)
 Fits now (command.Selfsnoop k) = (takes_windows now.stage ≡ true) × (k < most_processors now)
 Fits now (command.Load k address) = IsFor now k × IsAligned 8 (2 ^ 48) address
 Fits now (command.Store k address value) = IsFor now k × IsAligned 8 (2 ^ 48) address × (value < 2 ^ 64)
 Fits now (command.Fence k) = IsFor now k
 Fits now (command.Map k address physical index global) =
-    IsFor now k × IsAligned 4096 (2 ^ 48) address × IsAligned 4096 (address_limit (file_of now)) physical × (index ≤ 7)
+    IsFor now k × IsAligned page_bytes (2 ^ 48) address × IsAligned page_bytes (address_limit (file_of now)) physical × (index ≤ 7)
 Fits now (command.Invlpg k address) = IsFor now k × IsAligned 1 (2 ^ 48) address
 Fits now (command.Cr3 k) = IsFor now k
 Fits now (command.Pge k on) = IsFor now k

@@ -3,7 +3,8 @@
 --     end_fault stage place      the fault where the text ends in this stage
 use Rattle.std.specs.Prelude.{ℕ, ◌==◌, nat_eq, nat_lt, codes, Bool, false, List, length, if◌then◌else◌, Option, Some, None, Result, Ok, Err}
 use Rattle.std.specs.Set.{is_member}
-use Rattle.mt_text.specs.Text.{words_of, without_ending}
+use Rattle.mt_kinds.specs.Sizes.{most_lines, page_bytes}
+use Rattle.mt_text.specs.Text.{is_too_long, past_limit, words_of, without_ending}
 use Rattle.mt_text.specs.Number.{hex_number}
 use Rattle.mt_text.specs.declared.place.Place.{Place}
 use Rattle.mt_script.specs.Situation.{Situation, file_of}
@@ -42,7 +43,7 @@ cpus_in line words = with (count_in line words 1 1 16) (λ n. Ok (command.Cpus n
 abbrev pub ram_in : Situation → ℕ → List (ℕ × List ℕ) → Answer
 ram_in now line words =
     with (base_in line words 1) (λ base.
-    with (count_in line words 2 1 4096) (λ lines.
+    with (count_in line words 2 1 most_lines) (λ lines.
     if has_room now base lines then Ok (command.Ram base lines) else Err (fault_at OutOfRange (place_of line words 2))))
 
 abbrev pub load_in : Situation → ℕ → List (ℕ × List ℕ) → Answer
@@ -61,8 +62,8 @@ store_in now line words =
 abbrev pub map_in : Situation → ℕ → List (ℕ × List ℕ) → Answer
 map_in now line words =
     with (processor_in now line words 1) (λ k.
-    with (virtual_in line words 2 4096) (λ address.
-    with (physical_in now line words 3 4096) (λ physical.
+    with (virtual_in line words 2 page_bytes) (λ address.
+    with (physical_in now line words 3 page_bytes) (λ physical.
     with (count_in line words 4 0 7) (λ index.
     Ok (command.Map k address physical index (is_word (codes "global") (text_of words 5)))))))
 
@@ -146,16 +147,13 @@ in_section now line words =
     else if nat_lt 2 (length words) then Err (fault_at BadLine (place_of line words 2))
     else register_line now line words
 
-abbrev pub too_long : List ℕ → Bool
-too_long bytes = nat_lt 4096 (length bytes)
-
 -- a line of the dump, which has no fault here
 abbrev pub in_dump : List ℕ → Answer
-in_dump bytes = if too_long bytes then Ok command.DumpLine else if is_end (words_of bytes) then Ok command.End else Ok command.DumpLine
+in_dump bytes = if is_too_long bytes then Ok command.DumpLine else if is_end (words_of bytes) then Ok command.End else Ok command.DumpLine
 
 -- a line that isn't one of the dump
 abbrev pub not_too_long : ℕ → List ℕ → Answer → Answer
-not_too_long line bytes answer = if too_long bytes then Err (fault_at BadLine (record { line = line; column = 4097 })) else answer
+not_too_long line bytes answer = if is_too_long bytes then Err (fault_at BadLine (past_limit line)) else answer
 
 abbrev pub in_stage : Situation → ℕ → List ℕ → Stage → Answer
 in_stage now line bytes InDump = in_dump bytes

@@ -3,7 +3,7 @@
 --     end_offence now place before      the offence of the dump's end, which is the word `end` at this place
 use Rattle.std.specs.Prelude.{ℕ, ◌≡◌, Bool, true, false, List, [], ◌∷◌, if◌then◌else◌, Option, Some, None, Result, Ok, Err, MatchOption, MatchResult}
 use Rattle.std.specs.Option.{option_map}
-use Rattle.mt_text.specs.Text.{words_of}
+use Rattle.mt_text.specs.Text.{is_too_long, words_of}
 use Rattle.mt_text.specs.declared.place.Place.{Place}
 use Rattle.mt_dump.specs.Dumps.{Dump}
 use Rattle.mt_dump.specs.ForProcessors.{has_each}
@@ -15,7 +15,7 @@ use Rattle.mt_script.specs.Situation.{Situation}
 use Rattle.mt_script.specs.Stages.{is_in_dump}
 use Rattle.mt_script.specs.Words.{place_of}
 use Rattle.mt_script.specs.Numbers.{fault_at}
-use Rattle.mt_script.specs.Commands.{command_of, is_end, too_long}
+use Rattle.mt_script.specs.Commands.{command_of, is_end}
 use Rattle.mt_script.specs.Accept.{accepted}
 use Rattle.mt_script.specs.declared.command.Command.{Command}
 use Rattle.mt_script.specs.declared.command.Command.TheVariants as command
@@ -65,7 +65,7 @@ step_in_dump now before number line false =
 
 -- the line's only word is `end`, and it isn't too long
 abbrev pub ends_dump : List ℕ → Bool
-ends_dump line = if too_long line then false else is_end (words_of line)
+ends_dump line = if is_too_long line then false else is_end (words_of line)
 
 -- a line of the dump
 abbrev pub dump_step : Situation → List Reading → ℕ → List ℕ → HeadStep

@@ -2,6 +2,7 @@
 use Rattle.std.specs.Prelude.{ℕ, ◌≡◌, ◌≤◌, nat_eq, true, false, [], length, IfSome, is_some}
 use Rattle.std.specs.List.{IsDistinct}
 use Rattle.std.specs.Set.{is_member}
+use Rattle.mt_kinds.specs.Sizes.{most_lines}
 use Rattle.mt_dump.specs.Dumps.{IsDump}
 use Rattle.mt_dump.specs.ForProcessors.{has_each}
 use Rattle.mt_script.specs.Situation.{Situation, file_of}
@@ -14,7 +15,7 @@ pub record IsSituation (now : Situation) : Type 0 where
   pub dump : IfSome now.dump IsDump
   pub each : IfSome now.dump (λ dump. has_each now.cpus dump ≡ true)  -- each processor has a file in it
   pub few : length now.windows ≤ 16
-  pub together : lines_together now.windows ≤ 4096
+  pub together : lines_together now.windows ≤ most_lines
   pub early : is_past_dump now.stage ≡ false → now.windows ≡ []  -- windows come after the dump
   pub distinct : IsDistinct nat_eq now.seen  -- no register is given twice in a section
   pub known : (msr : ℕ) → is_member nat_eq now.seen msr ≡ true → is_writable (file_of now) msr ≡ true  -- each of them is a writable register

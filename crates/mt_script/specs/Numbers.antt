@@ -1,6 +1,7 @@
 -- The numbers of a line, each with its range (own).
 use Rattle.std.specs.Prelude.{ℕ, ◌+◌, ◌*◌, ◌^◌, ◌%◌, ◌==◌, ◌&&◌, ◌||◌, not, nat_le, nat_lt, Bool, false, List, [], ◌∷◌, length, if◌then◌else◌, Option, Some, None, is_some, Result, Ok, Err}
 use Rattle.std.specs.List.{list_all}
+use Rattle.mt_kinds.specs.Sizes.{most_lines}
 use Rattle.mt_text.specs.Number.{hex_number, decimal_number}
 use Rattle.mt_text.specs.declared.fault.NumberFault.{NumberFault}
 use Rattle.mt_text.specs.declared.fault.NumberFault.TheVariants.{NotDigit, TooLarge}
@@ -113,4 +114,4 @@ has_room now base lines =
     nat_le (base + 64 * lines) (address_limit (file_of now))
     && list_all (are_apart base lines) now.windows
     && nat_lt (length now.windows) 16
-    && nat_le (lines_together now.windows + lines) 4096
+    && nat_le (lines_together now.windows + lines) most_lines

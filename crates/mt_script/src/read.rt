@@ -2,8 +2,8 @@ ghost use Rattle.std.specs.Prelude.{◌≡◌, nat_eq, codes, ◌≤◌, ◌<◌
 ghost use Rattle.std.specs.Set.{is_member};
 ghost use Rattle.std.specs.Result.{IfOk};
 ghost use Rattle.mt_script.specs.Accept.{Fits};
-ghost use Rattle.mt_text.specs.Text.{words_of};
-ghost use Rattle.mt_script.specs.Commands.{command_of, outside, in_section, in_dump, verb_answer, cpus_in, load_in, store_in, map_in, invlpg_in, switch_in, msr_in, ram_in, register_line, register_value, is_end, too_long, end_fault};
+ghost use Rattle.mt_text.specs.Text.{is_too_long, past_limit, words_of};
+ghost use Rattle.mt_script.specs.Commands.{command_of, outside, in_section, in_dump, verb_answer, cpus_in, load_in, store_in, map_in, invlpg_in, switch_in, msr_in, ram_in, register_line, register_value, is_end, end_fault};
 ghost use Rattle.mt_script.specs.Head.{ends_dump};
 ghost use Rattle.mt_script.specs.Numbers.{fault_at};
 ghost use Rattle.mt_script.specs.Words.{text_of};
@@ -15,12 +15,12 @@ use crate::number::{
     MOST_CPUS, any, base_at, count_at, fault, physical_at, processor_at, register_at, value_at,
     virtual_at, writable,
 };
-use crate::room::{MOST_LINES, has_room};
+use crate::room::has_room;
 use crate::row::Verb;
 use crate::shape::shape_fault;
 use crate::{Command, ScriptFault, ScriptReason, Setup, Stage};
-use mt_kinds::{PAGE_BYTES, WORD_BYTES};
-use mt_text::{LIMIT_COLUMN, Line, Place, Words, hex64, without_ending};
+use mt_kinds::{MOST_LINES, PAGE_BYTES, WORD_BYTES};
+use mt_text::{Line, Place, Words, hex64, without_ending};
 
 const LAST_INDEX: u64 = 7;
 
@@ -207,16 +207,12 @@ fn read_in_dump(line: &Line<'_>) -> Command
 }
 
 fn length_fault(line: &Line<'_>) -> Option<ScriptFault>
-    ensures { result ≡ (if too_long line.now.bytes.now then Some (fault_at BadLine (record { line = line.now.number; column = 4097 })) else None) }
+    ensures { result ≡ (if is_too_long line.now.bytes.now then Some (fault_at BadLine (past_limit line.now.number)) else None) }
 {
     if !line.too_long() {
         return None;
     }
-    let place = Place {
-        line: line.number,
-        column: LIMIT_COLUMN,
-    };
-    Some(fault(ScriptReason::BadLine, place))
+    Some(fault(ScriptReason::BadLine, line.past_limit()))
 }
 
 /// What a line asks for, or its offence. Each command fits the setup.

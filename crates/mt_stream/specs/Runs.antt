@@ -3,6 +3,7 @@
 --     RunsAs telling start early ..      where this is its transcript
 use Rattle.std.specs.Prelude.{ℕ, ◌≡◌, ◌<◌, List, [], ◌++◌, length, Option, Some}
 use Rattle.std.specs.Io.KnownBytes.{Appends}
+use Rattle.mt_text.specs.Text.{longest_input}
 use Rattle.mt_ports.specs.Puts.{AppendsFront}
 use Rattle.mt_ports.specs.declared.status.Status.{Status}
 use Rattle.mt_ports.specs.declared.status.Status.TheVariants.{Done, Refused, Usage, BadText, ReadFault, WriteFault, NoMemory, TooLong, TooFew, Disabled}
@@ -32,7 +33,7 @@ RunsAs t start early bytes left before after BadText = TellsAll t left before af
 RunsAs t start early bytes left before after ReadFault = TellsKnown start bytes left before after
 RunsAs t start early bytes left before after WriteFault = AppendsFront before after t.text
 RunsAs t start early bytes left before after NoMemory = AppendsFront before after early × AppendsFront before after t.text
-RunsAs t start early bytes left before after TooLong = (16777216 < length bytes) × AppendsFront before after t.text
+RunsAs t start early bytes left before after TooLong = (longest_input < length bytes) × AppendsFront before after t.text
 RunsAs t start early bytes left before after TooFew = ⊥
 RunsAs t start early bytes left before after Disabled = ⊥
 

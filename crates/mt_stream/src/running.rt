@@ -1,6 +1,6 @@
-ghost use Rattle.std.specs.Prelude.{◌≡◌, ◌≢◌, ◌⊎◌, ◌≤◌, ◌<◌, ◌+◌, ◌↔◌, ◌++◌, ℕ, List, [], length, None, Some, Ok, IfOk};
-ghost use Rattle.std.specs.Io.KnownBytes.{Consumes};
-ghost use Rattle.mt_text.specs.Feed.{IsLong, taken};
+ghost use Rattle.std.specs.Prelude.{◌≡◌, ◌≢◌, ◌⊎◌, ◌≤◌, ◌<◌, ◌+◌, ◌↔◌, ◌++◌, [], length, None, Some, Ok, IfOk};
+ghost use Rattle.mt_text.specs.Text.{longest_input};
+ghost use Rattle.mt_text.specs.Feed.{IsLong, TakesMore, taken};
 ghost use Rattle.mt_ports.specs.Causes.{HasCause, StatusHasCause};
 ghost use Rattle.mt_output.specs.Writing.{Adds};
 ghost use Rattle.mt_stream.specs.Lines.{Closes, IsEnding, Leaves, Next, SinkHasCause, SourceHasCause, cut_status};
@@ -40,8 +40,8 @@ pub fn next_line<S: Source, K: Sink>(
     sink: &mut K,
 ) -> Result<bool, Cut>
     requires { feed.old.fault ≡ None }
-    ensures bytes { (more : List ℕ) × Consumes (S.left source.old) (S.left source.new) more × (S.given source.new ≡ S.given source.old + length more)
-        × Next feed.old feed.new (feed.old.pending ++ more) (S.left source.new) writer.old writer.new (K.taken sink.old) (K.taken sink.new) result }
+    ensures bytes { TakesMore (S.left source.old) (S.left source.new) (S.given source.old) (S.given source.new)
+        (λ more. Next feed.old feed.new (feed.old.pending ++ more) (S.left source.new) writer.old writer.new (K.taken sink.old) (K.taken sink.new) result) }
     ensures long { IsLong feed.new }
     ensures source { SourceHasCause (S.faults source.old) (S.faults source.new) result }
     ensures sink { SinkHasCause (K.faults sink.old) (K.faults sink.new) result }
@@ -107,9 +107,9 @@ pub fn leave<S: Source, K: Sink>(
 ) -> Status
     requires fault { feed.old.fault ≡ None }
     requires status { IsEnding status }
-    ensures bytes { (more : List ℕ) × Consumes (S.left source.old) (S.left source.new) more × (S.given source.new ≡ S.given source.old + length more) × (taken feed.new ≡ taken feed.old + length more)
-        × Leaves status last more (S.left source.new) writer.old (K.taken sink.old) (K.taken sink.new) result }
-    ensures long { (result ≡ Status.TooLong) ↔ (16777216 < taken feed.new) }
+    ensures bytes { TakesMore (S.left source.old) (S.left source.new) (S.given source.old) (S.given source.new)
+        (λ more. (taken feed.new ≡ taken feed.old + length more) × Leaves status last more (S.left source.new) writer.old (K.taken sink.old) (K.taken sink.new) result) }
+    ensures long { (result ≡ Status.TooLong) ↔ (longest_input < taken feed.new) }
     ensures usage { result ≢ Status.Usage }
     ensures few { (result ≢ Status.TooFew) × (result ≢ Status.Disabled) }
     ensures read_fault { StatusHasCause Status.ReadFault (S.faults source.old) (S.faults source.new) result }

@@ -52,7 +52,7 @@ slices old new gone bytes more left (Err fault) has are = stays old new gone byt
 
 pub lends_slices : (old new : Feeding) (gone bytes : List ℕ) (before left : Option (List ℕ)) (given_before given_after : ℕ) (result : Result (Option Line) FeedFault) → HasTaken old gone bytes → Lines old new before left given_before given_after result
     → (more : List ℕ) × Consumes before left more × (given_after ≡ given_before + length more) × LendsSlices new gone (bytes ++ more) result
-lends_slices old new gone bytes before left given_before given_after result has lines = (lines.0, lines.1, lines.2, slices old new gone bytes lines.0 left result has lines.3)
+lends_slices old new gone bytes before left given_before given_after result has lines = (lines.0, lines.1, lines.2, slices old new gone bytes lines.0 left result has lines.3.0)
 
 pub slice_words : (new : Feeding) (gone bytes : List ℕ) (line : Line) → LendsSlice new gone bytes line → StandInOrder bytes line.offset (words_at line.offset line.bytes.now)
 slice_words new gone bytes line lent =

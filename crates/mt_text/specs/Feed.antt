@@ -5,7 +5,7 @@
 -- A line of more than 4,096 bytes is lent in its first 4,097; what follows them stays pending.
 use Rattle.std.specs.Prelude.{ℕ, ◌+◌, ◌≡◌, ◌≤◌, ◌<◌, ◌⊎◌, ◌↔◌, ◌++◌, ◌&&◌, ◌==◌, nat_lt, not, Bool, true, false, List, [], ◌∷◌, length, take, drop, position, slice_range, if◌then◌else◌, Option, Some, None, Result, MatchResult, MatchOption}
 use Rattle.std.specs.Io.KnownBytes.{Consumes, IsAtEnd, Keeps}
-use Rattle.mt_text.specs.Text.{is_line_end, lines_of}
+use Rattle.mt_text.specs.Text.{is_line_end, is_too_long, lines_of, longest_input, longest_line}
 use Rattle.mt_text.specs.declared.line.Line.{Line}
 use Rattle.mt_text.specs.declared.place.Place.{Place}
 use Rattle.mt_text.specs.declared.fault.FeedFault.{FeedFault}
@@ -14,8 +14,8 @@ use Rattle.mt_text.specs.declared.buffer.Buffer.{Buffer}
 use Rattle.mt_text.specs.declared.feed.Feed.TheInside.{Inside}
 
 abbrev pub known_at : ℕ → Option ℕ → Option (ℕ × Bool)
-known_at count (Some at) = if nat_lt 4096 at then Some (4097, false) else Some (at, true)
-known_at count None = if nat_lt 4096 count then Some (4097, false) else None
+known_at count (Some at) = if nat_lt longest_line at then Some (longest_line + 1, false) else Some (at, true)
+known_at count None = if nat_lt longest_line count then Some (longest_line + 1, false) else None
 
 abbrev pub known_front : List ℕ → Option (ℕ × Bool)
 known_front bytes = known_at (length bytes) (position is_line_end bytes)
@@ -38,11 +38,11 @@ taken feed = feed.offset + length feed.pending
 
 -- the fault that a feed has answered is TooLong exactly where it has taken more bytes than the limit
 abbrev pub IsLong : Feeding → Type 0
-IsLong feed = (feed.fault ≡ Some TooLong) ↔ (16777216 < taken feed)
+IsLong feed = (feed.fault ≡ Some TooLong) ↔ (longest_input < taken feed)
 
 -- more bytes than a feed takes were given since
 abbrev pub GaveTooMuch : ℕ → ℕ → Type 0
-GaveTooMuch before now = before + 16777216 < now
+GaveTooMuch before now = before + longest_input < now
 
 abbrev pub at_start : Feeding
 at_start = record {
@@ -96,7 +96,7 @@ MovesPending old new false = (new ≡ old) × (old.fault ≡ None → known_fron
 
 -- the line that was lent last has no LF behind it, and isn't too long
 abbrev pub is_last : Feeding → Bool
-is_last feed = not (nat_lt 4096 (length feed.line.bytes)) && (feed.offset == feed.line.offset + length feed.line.bytes)
+is_last feed = not (is_too_long feed.line.bytes) && (feed.offset == feed.line.offset + length feed.line.bytes)
 
 -- The bytes that it has seen are pending, and nothing is lent. After a failed read they tell no line, so each known line was lent.
 abbrev pub Stops : Feeding → Feeding → List ℕ → FeedFault → Type 0
@@ -117,10 +117,14 @@ LinesAre old new seen left result = MatchResult result
     (λ answer. MatchOption answer (Moves old new seen left false) (λ line. Moves old new seen left true × IsLent new line))
     (Stops old new seen)
 
+-- A call takes bytes off what the source has left, which has given as many more, and this holds of them.
+abbrev pub TakesMore : Option (List ℕ) → Option (List ℕ) → ℕ → ℕ → (List ℕ → Type 0) → Type 0
+TakesMore left after given_before given_after Holds = (more : List ℕ) × Consumes left after more × (given_after ≡ given_before + length more) × Holds more
+
 -- A call that asks for the next line: what it has taken from the source, and what the feed is then.
 abbrev pub Lines : Feeding → Feeding → Option (List ℕ) → Option (List ℕ) → ℕ → ℕ → Result (Option Line) FeedFault → Type 0
 Lines old new left after given_before given_after result =
-    (more : List ℕ) × Consumes left after more × (given_after ≡ given_before + length more) × LinesAre old new (old.pending ++ more) after result × IsLong new
+    TakesMore left after given_before given_after (λ more. LinesAre old new (old.pending ++ more) after result × IsLong new)
 
 -- A line that is lent is the first of all bytes that are left, which are those that are pending and those that the source has left behind them. A line too long is lent in its first
 -- 4,097 bytes, and a reader stops there. Behind any other the next lines are those of the bytes that are left then, and the next number is one more.
@@ -128,10 +132,10 @@ pub record LendsFirst (old new : Feeding) (before after : List ℕ) (line : Line
   pub first : List ℕ
   pub others : List (List ℕ)
   pub lines : lines_of (old.pending ++ before) ≡ first ∷ others
-  pub bytes : line.bytes.now ≡ take 4097 first
+  pub bytes : line.bytes.now ≡ take (longest_line + 1) first
   pub number : line.number ≡ old.place.line
-  pub rest : length first ≤ 4096 → lines_of (new.pending ++ after) ≡ others
-  pub next : length first ≤ 4096 → (others ≡ []) ⊎ (new.place.line ≡ old.place.line + 1)
+  pub rest : length first ≤ longest_line → lines_of (new.pending ++ after) ≡ others
+  pub next : length first ≤ longest_line → (others ≡ []) ⊎ (new.place.line ≡ old.place.line + 1)
 
 -- what a call lends of all bytes that are left; at a fault they stay as they were
 abbrev pub LendsLines : Feeding → Feeding → List ℕ → List ℕ → Result (Option Line) FeedFault → Type 0
@@ -166,7 +170,7 @@ Reads old new left after result = MatchResult result
 abbrev pub Fills : Feeding → Feeding → List ℕ → Option (List ℕ) → Result Bool FeedFault → Type 0
 Fills old new more left result =
     (new.pending ≡ old.pending ++ more) × (new.offset ≡ old.offset) × (new.place ≡ old.place)
-    × MatchResult result (λ some. (new.fault ≡ None) × (some ≡ nat_lt 0 (length more)) × (some ≡ false → IsAtEnd left) × (taken new ≤ 16777216)) (λ fault. new.fault ≡ Some fault)
+    × MatchResult result (λ some. (new.fault ≡ None) × (some ≡ nat_lt 0 (length more)) × (some ≡ false → IsAtEnd left) × (taken new ≤ longest_input)) (λ fault. new.fault ≡ Some fault)
 
 -- what holds of each feed
 pub record IsFeeding (feed : Feeding) : Type 0 where
@@ -174,7 +178,7 @@ pub record IsFeeding (feed : Feeding) : Type 0 where
   pub behind : feed.line.offset + length feed.line.bytes ≤ feed.offset
   pub lines : feed.place.line ≤ feed.offset + 1
   pub columns : feed.place.column ≤ feed.offset + 1
-  pub bound : taken feed ≤ 16777216 + 8192
+  pub bound : taken feed ≤ longest_input + 8192
   pub long : IsLong feed
 
 -- what a buffer holds: the line that was lent last, and what is pending

@@ -3,7 +3,10 @@
 --     content line       what words stand in: the line without a CR at its end, up to the first `#`
 --     words_of line      the words, each with its offset in the line; a word is a longest run of bytes that are no blanks
 --     words_at offset line      the same words, each with its offset in a source in which the line stands at this offset
-use Rattle.std.specs.Prelude.{ℕ, ◌+◌, ◌≡◌, ◌≤◌, ⊤, drop, Bool, true, false, count_by, ◌==◌, ◌||◌, not, List, [], ◌∷◌, if◌then◌else◌, length, take, Some}
+--     longest_input      the bytes of the longest input that is read
+--     longest_line      the bytes of the longest line that is read
+--     is_too_long line      whether a line has more
+use Rattle.std.specs.Prelude.{ℕ, ◌+◌, ◌≡◌, ◌≤◌, ⊤, drop, Bool, true, false, count_by, ◌==◌, ◌||◌, not, nat_lt, List, [], ◌∷◌, if◌then◌else◌, length, take, Some}
 use Rattle.std.specs.List.{onto_first, before_first, slice_get, slice_split, filter, list_any}
 use Rattle.mt_text.specs.declared.place.Place.{Place}
 
@@ -47,6 +50,19 @@ content line = before_comment (without_return line)
 abbrev pub goes_on : List ℕ → Bool
 goes_on [] = false
 goes_on (byte ∷ bytes) = is_word_byte byte
+
+abbrev pub longest_input : ℕ
+longest_input = 16777216
+
+abbrev pub longest_line : ℕ
+longest_line = 4096
+
+abbrev pub is_too_long : List ℕ → Bool
+is_too_long line = nat_lt longest_line (length line)
+
+-- where the offence of such a line of this number stands: just past the longest
+abbrev pub past_limit : ℕ → Place
+past_limit number = record { line = number; column = longest_line + 1 }
 
 -- the words, the first of which begins one byte earlier, with this byte
 abbrev pub lengthened : ℕ → ℕ → List (ℕ × List ℕ) → List (ℕ × List ℕ)

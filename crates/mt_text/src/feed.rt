@@ -1,9 +1,10 @@
-ghost use Rattle.std.specs.Prelude.{◌≡◌, ◌+◌, ◌≤◌, ◌<◌, ◌↔◌, ℕ, Bool, List, [], length, Some, None, Err, IsErrOf, IfErr, IfOk};
+ghost use Rattle.std.specs.Prelude.{◌≡◌, ◌+◌, ◌≤◌, ◌<◌, ◌↔◌, ℕ, Bool, [], length, Some, None, Err, IsErrOf, IfErr, IfOk};
 ghost use Rattle.std.specs.Borrow.{sem};
-ghost use Rattle.std.specs.Io.KnownBytes.{Consumes, IsAtEnd};
+ghost use Rattle.std.specs.Io.KnownBytes.{IsAtEnd};
 ghost use Rattle.std.specs.Io.BufRead.{Rests};
 ghost use Rattle.mt_ports.specs.Causes.{Rose};
-ghost use Rattle.mt_text.specs.Feed.{Advances, Fills, IsLong, Lines, MovesPending, at_start, is_last, known_front, moved_on, taken, with_end};
+ghost use Rattle.mt_text.specs.Feed.{Advances, Fills, IsLong, Lines, MovesPending, TakesMore, at_start, is_last, known_front, moved_on, taken, with_end};
+ghost use Rattle.mt_text.specs.Text.{longest_input, longest_line};
 ghost use Rattle.mt_text.specs.contracts.feed.Feed.{the_row};
 ghost use Rattle.mt_text.specs.declared.fault.FeedFault.{FeedFault};
 
@@ -76,7 +77,7 @@ impl Feed {
     /// The fault that a call has answered.
     pub fn fault(&self) -> Option<FeedFault>
         ensures value { result ≡ self.now.fault }
-        ensures long { (result ≡ Some FeedFault.TooLong) ↔ (16777216 < taken self.now) }
+        ensures long { (result ≡ Some FeedFault.TooLong) ↔ (longest_input < taken self.now) }
     {
         self.fault
     }
@@ -117,8 +118,8 @@ impl Feed {
     #[inline(never)] // one call a buffer, and each line is read around it
     fn fill<S: Source>(&mut self, source: &mut S) -> Result<bool, FeedFault>
         requires fault { self.old.fault ≡ None }
-        requires room { length self.old.pending ≤ 4096 }
-        ensures bytes { (more : List ℕ) × Consumes (S.left source.old) (S.left source.new) more × (S.given source.new ≡ S.given source.old + length more) × Fills self.old self.new more (S.left source.new) result }
+        requires room { length self.old.pending ≤ longest_line }
+        ensures bytes { TakesMore (S.left source.old) (S.left source.new) (S.given source.old) (S.given source.new) (λ more. Fills self.old self.new more (S.left source.new) result) }
         ensures long { IsLong self.new }
         ensures failed { IsErrOf result FeedFault.ReadFault → Rose (S.faults source.old) (S.faults source.new) × (self.new.pending ≡ self.old.pending) }
         ensures stands { (IsErrOf result FeedFault.ReadFault → ⊥) → S.faults source.new ≡ S.faults source.old }
@@ -160,7 +161,7 @@ impl Feed {
     /// fault, and the source isn't asked.
     #[inline(always)]
     pub fn advance<S: Source>(&mut self, source: &mut S) -> Result<bool, FeedFault>
-        ensures bytes { (more : List ℕ) × Consumes (S.left source.old) (S.left source.new) more × (S.given source.new ≡ S.given source.old + length more) × Advances self.old self.new more (S.left source.new) result }
+        ensures bytes { TakesMore (S.left source.old) (S.left source.new) (S.given source.old) (S.given source.new) (λ more. Advances self.old self.new more (S.left source.new) result) }
         ensures long { IsLong self.new }
         ensures stays { (fault : FeedFault) → self.old.fault ≡ Some fault → (result ≡ Err fault) × (self.new ≡ self.old) × (source.new ≡ source.old) }
         ensures unasked { (front : ℕ × Bool) → known_front self.old.pending ≡ Some front → source.new ≡ source.old }
@@ -203,7 +204,7 @@ impl Feed {
 
     /// Drops the pending bytes and all that the source has left.
     pub fn drain<S: Source>(&mut self, source: &mut S) -> Result<(), FeedFault>
-        ensures bytes { (more : List ℕ) × Consumes (S.left source.old) (S.left source.new) more × (S.given source.new ≡ S.given source.old + length more) × (taken self.new ≡ taken self.old + length more) }
+        ensures bytes { TakesMore (S.left source.old) (S.left source.new) (S.given source.old) (S.given source.new) (λ more. taken self.new ≡ taken self.old + length more) }
         ensures end { IfOk result (λ _. IsAtEnd (S.left source.new) × (self.new.pending ≡ []) × (self.new.fault ≡ None)) }
         ensures fault { IfErr result (λ fault. self.new.fault ≡ Some fault) }
         ensures long { IsLong self.new }

@@ -14,13 +14,10 @@ pub struct Line<'a> {
     pub ghost within: { offset + length bytes.now ≤ next },
 }
 
-ghost use Rattle.mt_text.specs.Text.{is_line_end, lines_of, end_of, words_at, StandInOrder};
+ghost use Rattle.mt_text.specs.Text.{is_line_end, lines_of, longest_line, past_limit, end_of, words_at, StandInOrder};
 
 /// The bytes of the longest line that is read.
 pub const LONGEST: usize = 4096;
-
-/// Where the offence of a longer line stands: just past the longest.
-pub const LIMIT_COLUMN: u64 = LONGEST as u64 + 1;
 
 /// Where the first LF of a text stands.
 #[inline(always)]
@@ -88,8 +85,18 @@ pub fn end_place(source: &[u8]) -> Place
 impl<'a> Line<'a> {
     /// Whether the line has more bytes than a line may have.
     pub fn too_long(&self) -> bool
-        ensures { IsTrue result ↔ (4096 < length self.now.bytes.now) }
+        ensures { IsTrue result ↔ (longest_line < length self.now.bytes.now) }
     {
         self.bytes.len() > LONGEST
+    }
+
+    /// Where the offence of a line that is too long stands: just past the longest.
+    pub fn past_limit(&self) -> Place
+        ensures { result ≡ past_limit self.now.number }
+    {
+        Place {
+            line: self.number,
+            column: LONGEST as u64 + 1,
+        }
     }
 }
