@@ -1,6 +1,7 @@
 -- What keeps that each line of each cache is one that it may have.
-use Rattle.std.proofs.Common.{◌≡◌, ◌∙◌, ◌⊎◌, ap, sym, refl, subst, arith, inl, inr, ℕ, zero, suc, ◌+◌, ◌<◌, ◌≤◌, ◌%◌, ◌==◌, ◌&&◌, Bool, true, false, not, if◌then◌else◌, List, [], ◌∷◌, ◌++◌, length, Option, None, Some, is_some, slice_get, count_by, cond, ⊎_elim, map, take}
-use Rattle.std.specs.Prelude.{slice_set}
+use Rattle.std.proofs.Common.{◌≡◌, ◌∙◌, ◌⊎◌, ap, sym, refl, subst, arith, inl, inr, ℕ, zero, suc, ◌+◌, ◌<◌, ◌≤◌, ◌%◌, ◌==◌, ◌&&◌}
+use Rattle.std.proofs.Common.{Bool, true, false, not, if◌then◌else◌, List, [], ◌∷◌, ◌++◌, length, Option, None, Some, is_some, slice_get, count_by, cond, ⊎_elim, map, take}
+use Rattle.std.specs.Prelude.{slice_index_or, slice_set}
 use Rattle.std.specs.Option.{option_map, option_map_or}
 use Rattle.std.proofs.lemmas.Bool.{eq-eqb, eqb-true, not-false}
 use Rattle.std.proofs.lemmas.Option.{slice_get_within}
@@ -25,7 +26,7 @@ use Rattle.mt_bus.specs.Parts.{lines_in, with_changed, without_memory}
 use Rattle.mt_bus.specs.Holders.{AreHeldBy, Covers, CoversBut, IsNowhere, IsNowhereElse, all_may, may_hold}
 use Rattle.mt_bus.proofs.Newcomers.{get_front}
 use Rattle.mt_bus.proofs.Tables.{pushed_at}
-use Rattle.mt_bus.proofs.Masks.{none_unknown}
+use Rattle.mt_bus.proofs.Masks.{full_may}
 
 -- ---- the lines of one cache
 
@@ -62,7 +63,8 @@ none_counted l ls r none = one (l.number % 4096 == r) refl (sym (sum_by-cons (λ
     one true is e = absurd (omega (arith, e))
     one false is e = (λ same. no (l.number % 4096 == r) (eq-eqb _ _ same) is, omega (arith, e))
 
-all_but : (masks others : List ℕ) (k n j : ℕ) → CoversBut k n masks others → (ls : List CacheLine) → (j ≡ k → count_by (has_residue (n % 4096)) ls ≡ 0) → all_may others j ls ≡ true → all_may masks j ls ≡ true
+all_but : (masks others : List ℕ) (k n j : ℕ) → CoversBut k n masks others → (ls : List CacheLine) → (j ≡ k
+    → count_by (has_residue (n % 4096)) ls ≡ 0) → all_may others j ls ≡ true → all_may masks j ls ≡ true
 all_but masks others k n j but [] none h = refl
 all_but masks others k n j but (l ∷ ls) none h =
     and_true _ _
@@ -97,13 +99,16 @@ lacks ps masks k n h not = one (slice_get ps k) refl
     one None is = refl
     one (Some p) is = absent masks k n p.lines (h.each k p is) not
 
--- no masks
-all_unknown : (k : ℕ) (ls : List CacheLine) → all_may [] k ls ≡ true
-all_unknown k [] = refl
-all_unknown k (l ∷ ls) = and_true _ _ (none_unknown k l.number) (all_unknown k ls)
+-- masks with all bits, or none
+all_open : (masks : List ℕ) (k : ℕ) → ((n : ℕ) → may_hold masks k n ≡ true) → (ls : List CacheLine) → all_may masks k ls ≡ true
+all_open masks k may [] = refl
+all_open masks k may (l ∷ ls) = and_true _ _ (may l.number) (all_open masks k may ls)
+
+pub held_open : (ps : List Processor) (masks : List ℕ) → ((r : ℕ) → slice_index_or masks r 0xffff ≡ 0xffff) → AreHeldBy ps masks
+held_open ps masks full = record { each = λ k p at. all_open masks k (full_may masks full k) p.lines }
 
 pub held_unknown : (ps : List Processor) → AreHeldBy ps []
-held_unknown ps = record { each = λ k p at. all_unknown k p.lines }
+held_unknown ps = held_open ps [] (λ r. refl)
 
 -- ---- another processor in a place
 
@@ -115,7 +120,8 @@ put_at (x ∷ ps) (suc i) zero p q r at h = inr h
 put_at (x ∷ ps) (suc i) (suc j) p q r at h =
     ⊎_elim (λ (e : (j ≡ i) × (q ≡ r)). inl (ap suc e.0, e.1)) (λ (e : slice_get ps j ≡ Some r). inr e) (put_at ps i j p q r at h)
 
-pub held_put : (ps : List Processor) (masks : List ℕ) (i : ℕ) (p q : Processor) → slice_get ps i ≡ Some p → (all_may masks i p.lines ≡ true → all_may masks i q.lines ≡ true) → AreHeldBy ps masks → AreHeldBy (slice_set ps i q) masks
+pub held_put : (ps : List Processor) (masks : List ℕ) (i : ℕ) (p q : Processor) → slice_get ps i ≡ Some p → (all_may masks i p.lines ≡ true
+    → all_may masks i q.lines ≡ true) → AreHeldBy ps masks → AreHeldBy (slice_set ps i q) masks
 held_put ps masks i p q at keeps h = record {
   each = λ j r there.
       ⊎_elim
@@ -124,7 +130,8 @@ held_put ps masks i p q at keeps h = record {
       (put_at ps i j p q r at there);
 }
 
-pub held_changed : (f : Processor → Processor) (k : ℕ) (ps : List Processor) (masks : List ℕ) → ((p : Processor) → all_may masks k p.lines ≡ true → all_may masks k (f p).lines ≡ true) → AreHeldBy ps masks → AreHeldBy (with_changed f k ps) masks
+pub held_changed : (f : Processor → Processor) (k : ℕ) (ps : List Processor) (masks : List ℕ) → ((p : Processor) → all_may masks k p.lines ≡ true
+    → all_may masks k (f p).lines ≡ true) → AreHeldBy ps masks → AreHeldBy (with_changed f k ps) masks
 held_changed f k ps masks keeps h = one (slice_get ps k) refl
   where
     one : (o : Option Processor) → slice_get ps k ≡ o → AreHeldBy (option_map_or (λ p. record (without_memory ps) { processors = slice_set ps k (f p) }) o (without_memory ps)).processors masks
@@ -132,13 +139,15 @@ held_changed f k ps masks keeps h = one (slice_get ps k) refl
     one (Some p) is = held_put ps masks k p (f p) is (keeps p) h
 
 -- a change that leaves the lines
-pub held_aside : (f : Processor → Processor) (k : ℕ) (ps qs : List Processor) (masks : List ℕ) → ((p : Processor) → (f p).lines ≡ p.lines) → qs ≡ with_changed f k ps → AreHeldBy ps masks → AreHeldBy qs masks
+pub held_aside : (f : Processor → Processor) (k : ℕ) (ps qs : List Processor) (masks : List ℕ) → ((p : Processor) → (f p).lines ≡ p.lines)
+    → qs ≡ with_changed f k ps → AreHeldBy ps masks → AreHeldBy qs masks
 held_aside f k ps qs masks same is h =
     subst (λ (xs : List Processor). AreHeldBy xs masks) (sym is) (held_changed f k ps masks (λ p. less_same (f p).lines p.lines (same p) masks k) h)
 
 -- ---- one processor of a pass over all
 
-pub lacks_at : (ps : List Processor) (masks : List ℕ) (i n : ℕ) (p : Processor) (may : Bool) → AreHeldBy ps masks → slice_get ps i ≡ Some p → may ≡ may_hold masks i n → may ≡ false → find_line n p.lines ≡ None
+pub lacks_at : (ps : List Processor) (masks : List ℕ) (i n : ℕ) (p : Processor) (may : Bool) → AreHeldBy ps masks → slice_get ps i ≡ Some p
+    → may ≡ may_hold masks i n → may ≡ false → find_line n p.lines ≡ None
 lacks_at ps masks i n p may h at is not = absent masks i n p.lines (h.each i p at) (sym is ∙ not)
 
 -- its lines hold after as before
@@ -151,7 +160,8 @@ keeps_cleaned n p q is masks k h = ap (λ (x : Processor). all_may masks k x.lin
 pub keeps_dropped : (n : ℕ) (p q : Processor) → q ≡ with_lines (without_line n) p → Keeps p q
 keeps_dropped n p q is masks k h = ap (λ (x : Processor). all_may masks k x.lines) is ∙ less_without n p.lines masks k h
 
-pub keeps_cleaned_or_dropped : (n : ℕ) (own : Bool) (p q : Processor) → q ≡ (if own then with_lines (change_line n clean_line) p else with_lines (without_line n) (with_lines (change_line n clean_line) p)) → Keeps p q
+pub keeps_cleaned_or_dropped : (n : ℕ) (own : Bool) (p q : Processor)
+    → q ≡ (if own then with_lines (change_line n clean_line) p else with_lines (without_line n) (with_lines (change_line n clean_line) p)) → Keeps p q
 keeps_cleaned_or_dropped n true p q is masks k h = keeps_cleaned n p q is masks k h
 keeps_cleaned_or_dropped n false p q is masks k h =
     keeps_dropped n (with_lines (change_line n clean_line) p) q is masks k (keeps_cleaned n p (with_lines (change_line n clean_line) p) refl masks k h)
@@ -165,7 +175,8 @@ held_after ps masks i p q at keeps h = held_put ps masks i p q at (keeps masks i
 
 -- ---- what one look tells
 
-pub none_there : (ps : List Processor) (k n : ℕ) (p : Processor) (ls : List CacheLine) (may : Bool) → slice_get ps k ≡ Some p → ls ≡ p.lines → may ≡ not (count_by (has_residue (n % 4096)) ls == 0) → may ≡ false
+pub none_there : (ps : List Processor) (k n : ℕ) (p : Processor) (ls : List CacheLine) (may : Bool) → slice_get ps k ≡ Some p → ls ≡ p.lines
+    → may ≡ not (count_by (has_residue (n % 4096)) ls == 0) → may ≡ false
     → count_by (has_residue (n % 4096)) (lines_in k ps) ≡ 0
 none_there ps k n p ls may at lent is none =
     ap (λ (o : Option Processor). count_by (has_residue (n % 4096)) (option_map_or (λ x. x.lines) o [])) at
@@ -209,7 +220,8 @@ pub held_entered : (ps qs : List Processor) (masks : List ℕ) (k : ℕ) (o : Op
 held_entered ps qs masks k None is h = subst (λ (xs : List Processor). AreHeldBy xs masks) (sym is) h
 held_entered ps qs masks k (Some e) is h = held_aside (keep_entry e) k ps qs masks (λ p. entered_lines e p) is h
 
-pub held_written : (k n : ℕ) (word v : ℕ) (dirty : Bool) (ps qs : List Processor) (masks : List ℕ) → qs ≡ with_changed (with_lines (change_line n (write_word word v dirty))) k ps → AreHeldBy ps masks → AreHeldBy qs masks
+pub held_written : (k n : ℕ) (word v : ℕ) (dirty : Bool) (ps qs : List Processor) (masks : List ℕ)
+    → qs ≡ with_changed (with_lines (change_line n (write_word word v dirty))) k ps → AreHeldBy ps masks → AreHeldBy qs masks
 held_written k n word v dirty ps qs masks is h =
     subst (λ (xs : List Processor). AreHeldBy xs masks) (sym is)
     (held_changed (with_lines (change_line n (write_word word v dirty))) k ps masks (λ p g. less_changed n (write_word word v dirty) (write_keeps word v dirty) p.lines masks k g) h)

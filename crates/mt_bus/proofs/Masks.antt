@@ -1,5 +1,5 @@
 -- A mask is put into its place: which caches may have which lines then.
-use Rattle.std.proofs.Common.{◌≡◌, ◌∙◌, ap, sym, refl, arith, ℕ, ◌-◌, ◌<◌, ◌≤◌, ◌%◌, ◌^◌, ◌==◌, Bool, true, false, if◌then◌else◌, List, [], length, bit_and, bit_or, ⊎_elim, w16}
+use Rattle.std.proofs.Common.{◌≡◌, ◌∙◌, ap, sym, refl, arith, ℕ, ◌+◌, ◌-◌, ◌<◌, ◌≤◌, ◌%◌, ◌^◌, ◌==◌, Bool, true, false, if◌then◌else◌, List, [], length, bit_and, bit_or, ⊎_elim, w16}
 use Rattle.std.specs.Prelude.{min, nat_lt, slice_index_or, slice_set}
 use Rattle.std.specs.Int.{bit_at, bit_not}
 use Rattle.std.proofs.lemmas.Bool.{cases_eq, cases_lt, lt-ltb, ltb-true}
@@ -53,13 +53,19 @@ put_keeps masks n m j i given before = by_test (nat_lt j 16) refl before
 all_bits : (k : ℕ) → k < 16 → is_bit_set 0xffff k ≡ true
 all_bits k small = ap (λ b. b == 1) (bit_at_ones 16 k small)
 
--- where there are no masks
-pub none_unknown : (k n : ℕ) → may_hold [] k n ≡ true
-none_unknown k n = one (nat_lt k 16) refl
+-- where all bits are set, or there are no masks
+pub full_may : (masks : List ℕ) → ((r : ℕ) → slice_index_or masks r 0xffff ≡ 0xffff) → (k n : ℕ) → may_hold masks k n ≡ true
+full_may masks full k n = one (nat_lt k 16) refl
   where
-    one : (b : Bool) → nat_lt k 16 ≡ b → (if b then is_bit_set 0xffff k else true) ≡ true
-    one true is = all_bits k (ltb-true k 16 is)
+    one : (b : Bool) → nat_lt k 16 ≡ b → (if b then is_bit_set (mask_of masks n) k else true) ≡ true
+    one true is = ap (λ x. is_bit_set x k) (full (n % 4096)) ∙ all_bits k (ltb-true k 16 is)
     one false is = refl
+
+pub one_more_set : (masks : List ℕ) (i : ℕ) → i < length masks → ((r : ℕ) → r < i → slice_index_or masks r 0xffff ≡ 0xffff)
+    → (r : ℕ) → r < i + 1 → slice_index_or (slice_set masks i 0xffff) r 0xffff ≡ 0xffff
+one_more_set masks i within before r low =
+    ⊎_elim (λ (e : r ≡ i). ap (λ x. slice_index_or (slice_set masks i 0xffff) x 0xffff) e ∙ get_or-set_same masks i 0xffff 0xffff within)
+    (λ (ne : r ≡ i → ⊥). get_or-set_other masks i r 0xffff 0xffff ne ∙ before r (omega (arith, low, ne))) (cases_eq r i)
 
 pub bit_added : (masks : List ℕ) (k n : ℕ) → k < 16 → may_hold (slice_set masks (n % 4096) (bit_or (mask_of masks n) (2 ^ k))) k n ≡ true
 bit_added masks k n small = by_bit (slice_set masks (n % 4096) more) k n small ∙ ⊎_elim there past (cases_lt (n % 4096) (length masks))

@@ -29,7 +29,8 @@ none_of_number : (n : ℕ) (ls : List CacheLine) → find_line n ls ≡ None →
 none_of_number n [] none = refl
 none_of_number n (l ∷ ls) none = one (has_number n l) none (λ e. none_of_number n ls e)
   where
-    one : (b : Bool) → (if b then Some l else find_line n ls) ≡ None → (find_line n ls ≡ None → filter (has_number n) ls ≡ []) → (if b then l ∷ filter (has_number n) ls else filter (has_number n) ls) ≡ []
+    one : (b : Bool) → (if b then Some l else find_line n ls) ≡ None → (find_line n ls ≡ None → filter (has_number n) ls ≡ [])
+        → (if b then l ∷ filter (has_number n) ls else filter (has_number n) ls) ≡ []
     one true e rest = absurd (cc)
     one false e rest = rest e
 

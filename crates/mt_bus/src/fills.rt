@@ -8,7 +8,7 @@ ghost use Rattle.mt_bus.specs.Holders.{AreHeldBy};
 ghost use Rattle.mt_bus.specs.Parts.{lines_in, system, with_changed};
 
 use crate::holders::Holders;
-use crate::snoops::forget;
+use crate::snoops::look_at;
 use crate::words::{line_words, write_back};
 use mt_cpu::Cpu;
 use mt_ram::Ram;
@@ -60,6 +60,6 @@ pub(crate) fn fill_line(
     holders.add(k, number);
     add_line(cpus, k, number, words);
     if let Some(dropped) = oldest {
-        forget(cpus, holders, k, dropped);
+        look_at(cpus, holders, k, dropped);
     }
 }

@@ -1,6 +1,7 @@
 // Which caches may have a line.
-ghost use Rattle.std.specs.Prelude.{◌≡◌, ℕ, ◌<◌, ◌%◌, ◌^◌, List, [], false, replicate, slice_set, true, IfOk, IsTrue};
-ghost use Rattle.mt_bus.specs.Holders.{Covers, CoversBut, mask_of, may_hold};
+ghost use Rattle.std.specs.Prelude.{◌≡◌, ℕ, ◌<◌, ◌%◌, ◌^◌, List, [], false, replicate, slice_index_or, slice_set, true, IfOk, IsTrue};
+ghost use Rattle.mt_machine.specs.System.{Processor};
+ghost use Rattle.mt_bus.specs.Holders.{AreHeldBy, Covers, CoversBut, mask_of, may_hold};
 
 use mt_kinds::is_bit_set;
 use mt_ports::NoMemory;
@@ -19,6 +20,15 @@ fn bit(k: usize) -> u16
     ensures { result ≡ 2 ^ k }
 {
     1 << k as u16
+}
+
+// Sets all bits.
+fn set_all(masks: &mut [u16])
+    ensures { (r : ℕ) → slice_index_or masks.new r 0xffff ≡ 0xffff }
+{
+    for i in 0..masks.len() {
+        masks[i] = 0xffff;
+    }
 }
 
 /// Which caches may have a line: a mask for the lines whose numbers have one residue modulo 4096, with bit k for the
@@ -52,6 +62,13 @@ impl Holders {
             Ok(masks) => Ok(Holders { masks }),
             Err(_) => Err(NoMemory),
         }
+    }
+
+    /// From here on any cache may have any line.
+    pub fn forget(&mut self)
+        ensures { (ps : List Processor) → AreHeldBy ps self.new }
+    {
+        set_all(self.masks.as_mut_slice());
     }
 
     /// Whether there are masks.

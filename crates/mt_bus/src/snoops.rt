@@ -32,8 +32,8 @@ fn is_nowhere_else(cpus: &[Cpu], holders: &Holders, k: usize, number: u64) -> bo
     cpus.len() <= BITS && holders.only(k, number)
 }
 
-// Keeps that the cache of a processor has no line whose number has a residue, if it has none.
-pub(crate) fn forget(cpus: &[Cpu], holders: &mut Holders, k: usize, number: u64)
+// Looks whether the cache of a processor may still have a line.
+pub(crate) fn look_at(cpus: &[Cpu], holders: &mut Holders, k: usize, number: u64)
     requires held { AreHeldBy cpus.now holders.old }
     requires processor { k < length cpus.now }
     ensures { AreHeldBy cpus.now holders.new }
@@ -53,7 +53,7 @@ fn look_again(cpus: &[Cpu], holders: &mut Holders, number: u64)
     }
     for i in 0..cpus.len() {
         if holders.may_hold(i, number) {
-            forget(cpus, holders, i, number);
+            look_at(cpus, holders, i, number);
         }
     }
 }

@@ -17,7 +17,11 @@ returns-in_default-clause-after c =
     ∙ combined c.args.k c.args.number c.args.word c.args.v c.args.cpus.now c.join.new.cpus c.args.ram.now c.join.result c.requires.word c.requires.processor c.join.ensures.out c.join.ensures.cpus
 
 pub empty_buffer-requires : goal.empty_buffer-requires
-empty_buffer-requires c = held_aside (λ p. record p { buffers = left_by_combine c.args.number c.args.word c.args.v p.era p.buffers }) c.args.k c.args.cpus.now c.join.new.cpus c.args.holders.now (λ p. refl) c.join.ensures.cpus c.requires.held
+empty_buffer-requires c =
+    held_aside (λ p. record p { buffers = left_by_combine c.args.number c.args.word c.args.v p.era p.buffers })
+    c.args.k c.args.cpus.now c.join.new.cpus c.args.holders.now (λ p. refl) c.join.ensures.cpus c.requires.held
 
 pub returns-in_default-clause-held : goal.returns-in_default-clause-held
-returns-in_default-clause-held c = held_aside (λ p. record p { buffers = left_by_combine c.args.number c.args.word c.args.v p.era p.buffers }) c.args.k c.args.cpus.now c.join.new.cpus c.args.holders.now (λ p. refl) c.join.ensures.cpus c.requires.held
+returns-in_default-clause-held c =
+    held_aside (λ p. record p { buffers = left_by_combine c.args.number c.args.word c.args.v p.era p.buffers })
+    c.args.k c.args.cpus.now c.join.new.cpus c.args.holders.now (λ p. refl) c.join.ensures.cpus c.requires.held

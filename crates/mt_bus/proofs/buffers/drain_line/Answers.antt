@@ -18,7 +18,11 @@ returns-in_default-clause-after c =
     ∙ taken c.args.k c.args.number c.args.cpus.now c.take_buffer.new.cpus c.args.ram.now c.take_buffer.result c.take_buffer.ensures.out c.take_buffer.ensures.cpus
 
 pub empty_buffer-requires : goal.empty_buffer-requires
-empty_buffer-requires c = held_aside (with_buffers (without_line c.args.number)) c.args.k c.args.cpus.now c.take_buffer.new.cpus c.args.holders.now (λ p. refl) c.take_buffer.ensures.cpus c.requires.held
+empty_buffer-requires c =
+    held_aside (with_buffers (without_line c.args.number))
+    c.args.k c.args.cpus.now c.take_buffer.new.cpus c.args.holders.now (λ p. refl) c.take_buffer.ensures.cpus c.requires.held
 
 pub returns-in_default-clause-held : goal.returns-in_default-clause-held
-returns-in_default-clause-held c = held_aside (with_buffers (without_line c.args.number)) c.args.k c.args.cpus.now c.take_buffer.new.cpus c.args.holders.now (λ p. refl) c.take_buffer.ensures.cpus c.requires.held
+returns-in_default-clause-held c =
+    held_aside (with_buffers (without_line c.args.number))
+    c.args.k c.args.cpus.now c.take_buffer.new.cpus c.args.holders.now (λ p. refl) c.take_buffer.ensures.cpus c.requires.held

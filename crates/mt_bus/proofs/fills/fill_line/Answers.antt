@@ -2,8 +2,8 @@ use Rattle.mt_bus.proofs.Held.{held_filled}
 use Rattle.mt_bus.proofs.Rooms.{filled}
 use Rattle.mt_bus.proofs.fills.fill_line.Goals as goal
 
-pub forget-requires-clause-held : goal.forget-requires-clause-held
-forget-requires-clause-held c =
+pub look_at-requires-clause-held : goal.look_at-requires-clause-held
+look_at-requires-clause-held c =
     held_filled c.args.k c.args.number c.line_words-words.result c.args.cpus.now c.add_line.new.cpus c.add.new.self c.args.holders.now
     c.add.ensures.added c.add.ensures.kept c.add_line.ensures c.requires.held
 

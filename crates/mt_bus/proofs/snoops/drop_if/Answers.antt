@@ -12,7 +12,8 @@ returns-else-may-clause-cpu c =
 pub returns-else-may-clause-read : goal.returns-else-may-clause-read
 returns-else-may-clause-read c =
     sym
-    (ap (with_lines (without_line c.args.number)) (processor_left (change_line c.args.number clean_line) c.args.cpu.now (change_absent c.args.number clean_line c.args.cpu.now.lines (c.requires c.if-may.false)))
+    (ap (with_lines (without_line c.args.number))
+    (processor_left (change_line c.args.number clean_line) c.args.cpu.now (change_absent c.args.number clean_line c.args.cpu.now.lines (c.requires c.if-may.false)))
     ∙ processor_left (without_line c.args.number) c.args.cpu.now (without_absent c.args.number c.args.cpu.now.lines (c.requires c.if-may.false)))
 
 pub returns-else-may-clause-ram : goal.returns-else-may-clause-ram

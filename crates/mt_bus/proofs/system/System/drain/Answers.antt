@@ -16,5 +16,6 @@ invariant_of-self c =
     let kept : IsSound (system c.drain.new.cpus c.drain.new.ram) × AreTablesOf c.drain.new.cpus c.self.inside.tables.items =
     subst (λ (t : System). IsSound t × AreTablesOf t.processors c.self.inside.tables.items) (sym is)
     (drain_keeps_sound s c.args.k c.self.invariant.0, tables_drained c.args.k s c.self.inside.tables.items c.self.invariant.1) in
-    subst (λ ps. IsSound (system ps c.drain.new.ram) × AreTablesOf ps c.self.inside.tables.items × AreHeldBy ps c.drain.new.holders) (sym (take_at c.drain.new.cpus (drop (length c.drain.new.cpus) c.self.inside.cpus.items) c.self.inside.cpus.len (search rules)))
+    subst (λ ps. IsSound (system ps c.drain.new.ram) × AreTablesOf ps c.self.inside.tables.items × AreHeldBy ps c.drain.new.holders)
+    (sym (take_at c.drain.new.cpus (drop (length c.drain.new.cpus) c.self.inside.cpus.items) c.self.inside.cpus.len (search rules)))
     (kept.0, kept.1, c.drain.ensures.held)

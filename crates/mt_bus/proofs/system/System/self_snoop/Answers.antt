@@ -18,5 +18,6 @@ invariant_of-self c =
     let kept : IsSound (system c.set_self_snoop.new.cpus c.self.inside.ram) × AreTablesOf c.set_self_snoop.new.cpus c.self.inside.tables.items =
     subst (λ (t : System). IsSound t × AreTablesOf t.processors c.self.inside.tables.items) (sym is)
     (snooping_stays_sound s c.args.k c.self.invariant.0, tables_snooping c.args.k s c.self.inside.tables.items c.self.invariant.1) in
-    subst (λ ps. IsSound (system ps c.self.inside.ram) × AreTablesOf ps c.self.inside.tables.items × AreHeldBy ps c.self.inside.holders) (sym (take_at c.set_self_snoop.new.cpus (drop (length c.set_self_snoop.new.cpus) c.self.inside.cpus.items) c.self.inside.cpus.len (search rules)))
+    subst (λ ps. IsSound (system ps c.self.inside.ram) × AreTablesOf ps c.self.inside.tables.items × AreHeldBy ps c.self.inside.holders)
+    (sym (take_at c.set_self_snoop.new.cpus (drop (length c.set_self_snoop.new.cpus) c.self.inside.cpus.items) c.self.inside.cpus.len (search rules)))
     (kept.0, kept.1, c.set_self_snoop.ensures.held c.self.inside.holders (subst (λ ps. AreHeldBy ps c.self.inside.holders) (sym c.as_mut_slice.ensures.value) c.self.invariant.2))
