@@ -5,7 +5,10 @@ mod Emptying
 pub mod Grown
 mod Lines
 mod Misses
+mod Masks
+pub mod Held
 mod Others
+mod Skipped
 mod Places
 mod Refusing
 mod Rooms

@@ -59,7 +59,7 @@ come_keeps s ts q t sound tables is own false ps us added kept =
 
 -- ---- the last one less
 
-get_front : {X : Type 0} → (xs : List X) (k i : ℕ) (x : X) → slice_get (take k xs) i ≡ Some x → slice_get xs i ≡ Some x
+pub get_front : {X : Type 0} → (xs : List X) (k i : ℕ) (x : X) → slice_get (take k xs) i ≡ Some x → slice_get xs i ≡ Some x
 get_front [] zero i x at = absurd (cc)
 get_front [] (suc k) i x at = absurd (cc)
 get_front (y ∷ xs) zero i x at = absurd (cc)

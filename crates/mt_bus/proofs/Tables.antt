@@ -54,7 +54,7 @@ tables_snooping k s ts h = record {
 -- ---- at the start
 
 -- an element of a list with one more is of the list, or the new one
-pushed_at : {X : Type 0} (xs : List X) (x y : X) (k : ℕ) → slice_get (xs ++ x ∷ []) k ≡ Some y → (slice_get xs k ≡ Some y) ⊎ ((k ≡ length xs) × (x ≡ y))
+pub pushed_at : {X : Type 0} (xs : List X) (x y : X) (k : ℕ) → slice_get (xs ++ x ∷ []) k ≡ Some y → (slice_get xs k ≡ Some y) ⊎ ((k ≡ length xs) × (x ≡ y))
 pushed_at [] x y zero at = inr (refl, cc)
 pushed_at [] x y (suc k) at = absurd (cc)
 pushed_at (z ∷ zs) x y zero at = inl at

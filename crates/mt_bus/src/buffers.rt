@@ -4,8 +4,10 @@ ghost use Rattle.mt_cache.specs.declared.line.CacheLine.{CacheLine};
 ghost use Rattle.mt_cache.specs.Lines.{find_line, without_line};
 ghost use Rattle.mt_cache.specs.Calls.{handed_back, left_by_combine};
 ghost use Rattle.mt_machine.specs.Bus.{combine, drain, drain_line, with_buffers};
+ghost use Rattle.mt_bus.specs.Holders.{AreHeldBy};
 ghost use Rattle.mt_bus.specs.Parts.{buffers_in, system, with_changed};
 
+use crate::holders::Holders;
 use crate::snoops::empty_buffer;
 use mt_cache::{Buffers, CacheLine};
 use mt_cpu::Cpu;
@@ -44,9 +46,11 @@ fn take_buffer(cpus: &mut [Cpu], k: usize, number: u64) -> Option<CacheLine>
 }
 
 /// Empties all buffers of a processor, the oldest first.
-pub(crate) fn drain(cpus: &mut [Cpu], ram: &mut Ram, k: usize)
-    requires { k < length cpus.old }
-    ensures { system cpus.new ram.new ≡ drain k (system cpus.old ram.old) }
+pub(crate) fn drain(cpus: &mut [Cpu], ram: &mut Ram, holders: &mut Holders, k: usize)
+    requires processor { k < length cpus.old }
+    requires held { AreHeldBy cpus.old holders.old }
+    ensures after { system cpus.new ram.new ≡ drain k (system cpus.old ram.old) }
+    ensures held { AreHeldBy cpus.new holders.new }
 {
     let count = buffer_count(cpus, k);
     if count == 0 {
@@ -54,21 +58,29 @@ pub(crate) fn drain(cpus: &mut [Cpu], ram: &mut Ram, k: usize)
     }
     for i in 0..count {
         let buffer = buffer_at(cpus, k, i);
-        empty_buffer(cpus, ram, &buffer);
+        empty_buffer(cpus, ram, holders, &buffer);
     }
     clear_buffers(cpus, k);
 }
 
 /// Empties a processor's buffer of a line.
-pub(crate) fn drain_line(cpus: &mut [Cpu], ram: &mut Ram, k: usize, number: u64)
-    requires { k < length cpus.old }
-    ensures { system cpus.new ram.new ≡ drain_line k number (system cpus.old ram.old) }
+pub(crate) fn drain_line(
+    cpus: &mut [Cpu],
+    ram: &mut Ram,
+    holders: &mut Holders,
+    k: usize,
+    number: u64,
+)
+    requires processor { k < length cpus.old }
+    requires held { AreHeldBy cpus.old holders.old }
+    ensures after { system cpus.new ram.new ≡ drain_line k number (system cpus.old ram.old) }
+    ensures held { AreHeldBy cpus.new holders.new }
 {
     if buffer_count(cpus, k) == 0 {
         return;
     }
     if let Some(buffer) = take_buffer(cpus, k, number) {
-        empty_buffer(cpus, ram, &buffer);
+        empty_buffer(cpus, ram, holders, &buffer);
     }
 }
 
@@ -86,12 +98,22 @@ fn join(cpus: &mut [Cpu], k: usize, number: u64, word: u8, v: u64) -> Option<Cac
 
 /// Combines a word into a processor's buffers, and empties the buffer that is handed back: the oldest of
 /// four, where one is added, or the one that now has all its words.
-pub(crate) fn combine(cpus: &mut [Cpu], ram: &mut Ram, k: usize, number: u64, word: u8, v: u64)
+pub(crate) fn combine(
+    cpus: &mut [Cpu],
+    ram: &mut Ram,
+    holders: &mut Holders,
+    k: usize,
+    number: u64,
+    word: u8,
+    v: u64,
+)
     requires processor { k < length cpus.old }
     requires word { word < 8 }
-    ensures { system cpus.new ram.new ≡ combine k number word v (system cpus.old ram.old) }
+    requires held { AreHeldBy cpus.old holders.old }
+    ensures after { system cpus.new ram.new ≡ combine k number word v (system cpus.old ram.old) }
+    ensures held { AreHeldBy cpus.new holders.new }
 {
     if let Some(buffer) = join(cpus, k, number, word, v) {
-        empty_buffer(cpus, ram, &buffer);
+        empty_buffer(cpus, ram, holders, &buffer);
     }
 }

@@ -8,9 +8,11 @@ ghost use Rattle.mt_machine.specs.Access.{is_running};
 ghost use Rattle.mt_machine.specs.Bus.{drain};
 ghost use Rattle.mt_machine.specs.Machine.{FitsGoal, common_era};
 ghost use Rattle.mt_machine.specs.ComingAndGoing.{gone, last_number, newcomer_beside, reset, taken_away};
+ghost use Rattle.mt_bus.specs.Holders.{AreHeldBy};
 ghost use Rattle.mt_bus.specs.Parts.{lines_in, system};
 
 use crate::buffers::drain;
+use crate::holders::Holders;
 use crate::system::System;
 use crate::words::write_back;
 use mt_cache::Cache;
@@ -66,12 +68,14 @@ fn write_lines(cpus: &[Cpu], ram: &mut Ram, k: usize)
 }
 
 // Memory gets what the last processor holds.
-fn hand_over(cpus: &mut [Cpu], ram: &mut Ram, k: usize)
-    requires { k < length cpus.old }
+fn hand_over(cpus: &mut [Cpu], ram: &mut Ram, holders: &mut Holders, k: usize)
+    requires processor { k < length cpus.old }
+    requires held { AreHeldBy cpus.old holders.old }
     ensures left { system (take k cpus.new) ram.new ≡ taken_away k (drain k (system cpus.old ram.old)) }
     ensures processors { cpus.new ≡ (drain k (system cpus.old ram.old)).processors }
+    ensures held { AreHeldBy cpus.new holders.new }
 {
-    drain(cpus, ram, k);
+    drain(cpus, ram, holders, k);
     write_lines(cpus, ram, k);
 }
 
@@ -111,7 +115,12 @@ impl System {
         ensures gone { self.new ≡ gone self.old }
     {
         let k = self.cpus.len() - 1;
-        hand_over(self.cpus.as_mut_slice(), &mut self.ram, k);
+        hand_over(
+            self.cpus.as_mut_slice(),
+            &mut self.ram,
+            &mut self.holders,
+            k,
+        );
         self.cpus.truncate(k);
         self.tables.truncate(k);
         k as u32

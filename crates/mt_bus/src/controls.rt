@@ -1,13 +1,15 @@
-ghost use Rattle.std.specs.Prelude.{◌≡◌, ◌<◌, ◌/◌, length, slice_get, is_err, OnOk, OnErr, Some, IsTrue};
+ghost use Rattle.std.specs.Prelude.{◌≡◌, ℕ, List, ◌<◌, ◌/◌, length, slice_get, is_err, OnOk, OnErr, Some, IsTrue};
 ghost use Rattle.mt_kinds.specs.Sizes.{page_bytes};
 ghost use Rattle.mt_tlb.specs.Entries.{is_full_for, set_mapping};
 ghost use Rattle.mt_machine.specs.Machine.{FitsControl};
 ghost use Rattle.mt_machine.specs.System.{Processor, snooping};
 ghost use Rattle.mt_machine.specs.Control.{control, drop_page, reload_cr3, set_page_global};
+ghost use Rattle.mt_bus.specs.Holders.{AreHeldBy};
 ghost use Rattle.mt_bus.specs.Parts.{is_running_in, mappings_in, ruled, system, with_changed};
 
 use crate::accesses::is_running;
 use crate::buffers::drain;
+use crate::holders::Holders;
 use mt_cpu::Cpu;
 use mt_kinds::PAGE_BYTES;
 use mt_machine::{Control, Ruled};
@@ -30,7 +32,8 @@ fn map(cpus: &mut [Cpu], k: usize, x: Mapping) -> Result<(), Full>
 
 fn invlpg(cpus: &mut [Cpu], k: usize, va: u64)
     requires { k < length cpus.old }
-    ensures { cpus.new ≡ with_changed (drop_page (va / page_bytes)) k cpus.old }
+    ensures after { cpus.new ≡ with_changed (drop_page (va / page_bytes)) k cpus.old }
+    ensures held { (masks : List ℕ) → AreHeldBy cpus.old masks → AreHeldBy cpus.new masks }
 {
     let cpu = &mut cpus[k];
     cpu.invlpg(va / PAGE_BYTES);
@@ -38,7 +41,8 @@ fn invlpg(cpus: &mut [Cpu], k: usize, va: u64)
 
 fn reload_cr3(cpus: &mut [Cpu], k: usize)
     requires { k < length cpus.old }
-    ensures { cpus.new ≡ with_changed reload_cr3 k cpus.old }
+    ensures after { cpus.new ≡ with_changed reload_cr3 k cpus.old }
+    ensures held { (masks : List ℕ) → AreHeldBy cpus.old masks → AreHeldBy cpus.new masks }
 {
     let cpu = &mut cpus[k];
     cpu.reload_cr3();
@@ -46,7 +50,8 @@ fn reload_cr3(cpus: &mut [Cpu], k: usize)
 
 fn set_pge(cpus: &mut [Cpu], k: usize, on: bool)
     requires { k < length cpus.old }
-    ensures { cpus.new ≡ with_changed (set_page_global on) k cpus.old }
+    ensures after { cpus.new ≡ with_changed (set_page_global on) k cpus.old }
+    ensures held { (masks : List ℕ) → AreHeldBy cpus.old masks → AreHeldBy cpus.new masks }
 {
     let cpu = &mut cpus[k];
     cpu.set_pge(on);
@@ -55,7 +60,8 @@ fn set_pge(cpus: &mut [Cpu], k: usize, on: bool)
 /// Makes a processor a self-snooping one.
 pub(crate) fn set_self_snoop(cpus: &mut [Cpu], k: usize)
     requires { k < length cpus.old }
-    ensures { cpus.new ≡ with_changed snooping k cpus.old }
+    ensures after { cpus.new ≡ with_changed snooping k cpus.old }
+    ensures held { (masks : List ℕ) → AreHeldBy cpus.old masks → AreHeldBy cpus.new masks }
 {
     let cpu = &mut cpus[k];
     cpu.set_self_snoop();
@@ -63,7 +69,8 @@ pub(crate) fn set_self_snoop(cpus: &mut [Cpu], k: usize)
 
 fn set_cd(cpus: &mut [Cpu], k: usize, on: bool)
     requires { k < length cpus.old }
-    ensures { cpus.new ≡ with_changed (λ p. record p { cache_disabled = on }) k cpus.old }
+    ensures after { cpus.new ≡ with_changed (λ p. record p { cache_disabled = on }) k cpus.old }
+    ensures held { (masks : List ℕ) → AreHeldBy cpus.old masks → AreHeldBy cpus.new masks }
 {
     let cpu = &mut cpus[k];
     cpu.set_cd(on);
@@ -73,7 +80,8 @@ fn map_at(cpus: &mut [Cpu], ram: &Ram, k: usize, x: Mapping) -> Ruled
     requires processor { k < length cpus.old }
     requires running { IsTrue (is_running_in k cpus.old) }
     requires fits { (p : Processor) → slice_get cpus.old k ≡ Some p → FitsControl p (Control.Map x) }
-    ensures { ruled result (system cpus.new ram.now) ≡ control (system cpus.old ram.now) k (Control.Map x) }
+    ensures after { ruled result (system cpus.new ram.now) ≡ control (system cpus.old ram.now) k (Control.Map x) }
+    ensures held { (masks : List ℕ) → AreHeldBy cpus.old masks → AreHeldBy cpus.new masks }
 {
     match map(cpus, k, x) {
         Ok(()) => Ruled::Okay,
@@ -82,10 +90,18 @@ fn map_at(cpus: &mut [Cpu], ram: &Ram, k: usize, x: Mapping) -> Ruled
 }
 
 /// One control instruction of one processor.
-pub(crate) fn control(cpus: &mut [Cpu], ram: &mut Ram, k: usize, c: Control) -> Ruled
+pub(crate) fn control(
+    cpus: &mut [Cpu],
+    ram: &mut Ram,
+    holders: &mut Holders,
+    k: usize,
+    c: Control,
+) -> Ruled
     requires processor { k < length cpus.old }
     requires fits { (p : Processor) → slice_get cpus.old k ≡ Some p → FitsControl p c }
-    ensures { ruled result (system cpus.new ram.new) ≡ control (system cpus.old ram.old) k c }
+    requires held { AreHeldBy cpus.old holders.old }
+    ensures after { ruled result (system cpus.new ram.new) ≡ control (system cpus.old ram.old) k c }
+    ensures held { AreHeldBy cpus.new holders.new }
 {
     if !is_running(cpus, k) {
         return Ruled::Busy;
@@ -93,19 +109,19 @@ pub(crate) fn control(cpus: &mut [Cpu], ram: &mut Ram, k: usize, c: Control) -> 
     match c {
         Control::Map(x) => return map_at(cpus, ram, k, x),
         Control::Invlpg(va) => {
-            drain(cpus, ram, k);
+            drain(cpus, ram, holders, k);
             invlpg(cpus, k, va);
         }
         Control::Cr3 => {
-            drain(cpus, ram, k);
+            drain(cpus, ram, holders, k);
             reload_cr3(cpus, k);
         }
         Control::Pge(on) => {
-            drain(cpus, ram, k);
+            drain(cpus, ram, holders, k);
             set_pge(cpus, k, on);
         }
         Control::Cd(on) => {
-            drain(cpus, ram, k);
+            drain(cpus, ram, holders, k);
             set_cd(cpus, k, on);
         }
     }

@@ -7,6 +7,7 @@ mod coming;
 mod controls;
 mod copies;
 mod fills;
+mod holders;
 mod laws;
 mod loads;
 mod snoops;
@@ -17,6 +18,7 @@ mod tests;
 mod words;
 mod worked;
 
+pub use holders::Holders;
 pub use laws::{a_system_is_sound, accesses_refuse_in_order, controls_refuse_in_order};
 pub use mt_machine::{Control, Done, Op, Ruled};
 pub use system::System;

@@ -12,6 +12,7 @@ ghost use Rattle.mt_machine.specs.Bus.{drain};
 ghost use Rattle.mt_machine.specs.Access.{access};
 ghost use Rattle.mt_bus.specs.Tables.{AreTablesOf};
 
+use crate::holders::Holders;
 use crate::{accesses, buffers, controls};
 use mt_cpu::Cpu;
 use mt_machine::{Control, Done, Op, Ruled};
@@ -24,24 +25,28 @@ use std::marker::Model;
 
 /// Processors over one memory. Caches and memory agree, and each cached or buffered line lies in
 /// a window. There is one table of types for each processor, by which it translates; it has the types of the
-/// processor's registers but while these are written. The tables are no part of the system's value.
+/// processor's registers but while these are written. The holders say of each line of each cache that this cache
+/// may have it. The tables and the holders are no part of the system's value.
 #[derive(Drop)]
 pub struct System {
     pub cpus: Vec<Cpu>,
     pub ram: Ram,
     /// Each processor's table of types.
     pub tables: Vec<KindTable>,
+    /// Which caches may have a line.
+    pub holders: Holders,
 }
 
 impl Model for System {
     ghost use Rattle.mt_machine.specs.System.{System as MachineSystem, IsSound};
+    ghost use Rattle.mt_bus.specs.Holders.{AreHeldBy};
     ghost use Rattle.mt_bus.specs.Tables.{AreTablesOf};
 
     ghost Value = { MachineSystem };
 
     ghost view = { λ s. record { processors = s.cpus.items; memory = s.ram } };
 
-    ghost invariant = { λ s. IsSound (record { processors = s.cpus.items; memory = s.ram }) × AreTablesOf s.cpus.items s.tables.items };
+    ghost invariant = { λ s. IsSound (record { processors = s.cpus.items; memory = s.ram }) × AreTablesOf s.cpus.items s.tables.items × AreHeldBy s.cpus.items s.holders };
 }
 
 // A processor at the start for each file.
@@ -72,6 +77,15 @@ fn start_tables(alloc: Global, files: &[RegFile]) -> Result<Vec<KindTable>, NoMe
     Ok(tables)
 }
 
+// One cache needs no masks.
+fn start_holders(alloc: Global, count: usize) -> Result<Holders, NoMemory> {
+    if count == 1 {
+        Ok(Holders::unknown(alloc))
+    } else {
+        Holders::new(alloc)
+    }
+}
+
 impl System {
     /// A processor for each file, which runs with it, over memory without windows. The error comes
     /// only where the allocator has no room.
@@ -83,8 +97,14 @@ impl System {
     {
         let tables = start_tables(alloc, files)?;
         let cpus = start_cpus(alloc, files)?;
+        let holders = start_holders(alloc, files.len())?;
         let ram = Ram::new(alloc);
-        Ok(System { cpus, ram, tables })
+        Ok(System {
+            cpus,
+            ram,
+            tables,
+            holders,
+        })
     }
 
     /// Adds a window of zero words to the memory, from an address in bytes on.
@@ -121,7 +141,13 @@ impl System {
         ensures answer { result ≡ (control self.old k c).answer }
         ensures after { self.new ≡ (control self.old k c).after }
     {
-        controls::control(self.cpus.as_mut_slice(), &mut self.ram, k as usize, c)
+        controls::control(
+            self.cpus.as_mut_slice(),
+            &mut self.ram,
+            &mut self.holders,
+            k as usize,
+            c,
+        )
     }
 
     /// One access of a processor, an address being in bytes.
@@ -135,6 +161,7 @@ impl System {
             self.cpus.as_mut_slice(),
             table,
             &mut self.ram,
+            &mut self.holders,
             k as usize,
             op,
         )
@@ -145,6 +172,11 @@ impl System {
         requires { k < length self.old.processors }
         ensures { self.new ≡ drain k self.old }
     {
-        buffers::drain(self.cpus.as_mut_slice(), &mut self.ram, k as usize);
+        buffers::drain(
+            self.cpus.as_mut_slice(),
+            &mut self.ram,
+            &mut self.holders,
+            k as usize,
+        );
     }
 }

@@ -132,6 +132,9 @@ none_at n ls none = none_of (position (has_number n) ls) never
 pub not_counted : (n : ℕ) (ls : List CacheLine) (counts : List ℕ) → AreCounted ls counts → not (slice_index_or counts (n % 4096) 0 == 0) ≡ false → position (has_number n) ls ≡ None
 not_counted n ls counts counted is = none_at n ls (sym (counted.each (n % 4096) (residue_within n)) ∙ eqb-true (slice_index_or counts (n % 4096) 0) 0 (not-false (slice_index_or counts (n % 4096) 0 == 0) is))
 
+pub counted_here : (n : ℕ) (ls : List CacheLine) (counts : List ℕ) → AreCounted ls counts → not (slice_index_or counts (n % 4096) 0 == 0) ≡ not (count_by (has_residue (n % 4096)) ls == 0)
+counted_here n ls counts counted = ap (λ c. not (c == 0)) (counted.each (n % 4096) (residue_within n))
+
 -- ---- what the calls leave
 
 pub no_lines : (ls : List CacheLine) (counts : List ℕ) → ls ≡ [] → counts ≡ replicate 4096 0 → AreLines ls × AreCounted ls counts

@@ -1,9 +1,9 @@
-ghost use Rattle.std.specs.Prelude.{◌≡◌, ℕ, ◌<◌, ◌≤◌, List, [], ◌∷◌, ◌++◌, length, slice_get, None, Some, IfSome, IfNone, MatchOption};
-ghost use Rattle.std.specs.List.{All, position};
+ghost use Rattle.std.specs.Prelude.{◌≡◌, ℕ, ◌<◌, ◌≤◌, ◌%◌, ◌==◌, not, List, [], ◌∷◌, ◌++◌, length, slice_get, None, Some, IfSome, IfNone, MatchOption};
+ghost use Rattle.std.specs.List.{All, count_by, position};
 ghost use Rattle.std.specs.Option.{option_map};
 ghost use Rattle.mt_cache.specs.declared.line.CacheLine.{CacheLine};
 ghost use Rattle.mt_cache.specs.Lines.{AreDistinct, IsLine, clean_line, clean_word, find_line, first_dirty_line, first_dirty_word, has_number, oldest_of_full};
-ghost use Rattle.mt_cache.specs.Counts.{AreCounted};
+ghost use Rattle.mt_cache.specs.Counts.{AreCounted, has_residue};
 ghost use Rattle.mt_cache.specs.Calls.{AreLines, change_at, clean_line_of, has_dirty_word, with_room, without_at, write_word};
 
 use crate::counts::LineCounts;
@@ -73,6 +73,14 @@ impl Cache {
         ensures { slice_get self.now i ≡ Some result.now }
     {
         self.lines.get(i)
+    }
+
+    /// Whether a line has a number with the low twelve bits of this one.
+    #[inline(always)]
+    pub fn may_have(&self, number: u64) -> bool
+        ensures { result ≡ not (count_by (has_residue (number % 4096)) self.now == 0) }
+    {
+        self.counts.may_have(number)
     }
 
     /// The place of the line of this number.

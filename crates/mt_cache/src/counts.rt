@@ -1,7 +1,8 @@
 ghost use Rattle.std.specs.Prelude.{◌≡◌, ℕ, ◌<◌, ◌%◌, ◌==◌, not, replicate, slice_index_or};
 ghost use Rattle.mt_cache.specs.Counts.{lowered, modulus, raised};
 
-const MODULUS: u64 = 4096;
+/// Lines' numbers are told apart by their residues modulo this one, where a table has a place for each residue.
+pub const MODULUS: u64 = 4096;
 
 /// How many lines of a cache have a number with each residue modulo `MODULUS`.
 #[derive(Drop)]

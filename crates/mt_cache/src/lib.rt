@@ -15,5 +15,6 @@ mod worked;
 
 pub use buffers::Buffers;
 pub use cache::Cache;
+pub use counts::MODULUS;
 pub use line::CacheLine;
 pub use worked::{worked_buffers, worked_dirty_words, worked_fills, worked_writes};

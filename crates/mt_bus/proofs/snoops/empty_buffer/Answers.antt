@@ -3,7 +3,7 @@ use Rattle.mt_machine.specs.Memory.{write_back}
 use Rattle.mt_machine.specs.System.{System}
 use Rattle.mt_bus.proofs.snoops.empty_buffer.Goals as goal
 
-pub returns : goal.returns
-returns c =
+pub returns-clause-after : goal.returns-clause-after
+returns-clause-after c =
     rw c.write_back.ensures
-    (ap (λ (s : System). record s { memory = write_back s.memory c.args.buffer.now }) c.read_and_drop.ensures)
+    (ap (λ (s : System). record s { memory = write_back s.memory c.args.buffer.now }) c.read_and_drop.ensures.after)

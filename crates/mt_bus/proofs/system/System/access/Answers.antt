@@ -4,6 +4,7 @@ use Rattle.mt_machine.specs.System.{IsSound, System}
 use Rattle.mt_machine.specs.Access.{Answered, access}
 use Rattle.mt_laws.proofs.Invariant.SoundSteps.{access_keeps_sound}
 use Rattle.mt_bus.specs.Parts.{system}
+use Rattle.mt_bus.specs.Holders.{AreHeldBy}
 use Rattle.mt_bus.specs.Tables.{AreTablesOf}
 use Rattle.mt_bus.proofs.Tables.{tables_accessed, translated_by}
 use Rattle.mt_bus.proofs.system.System.access.Goals as goal
@@ -16,7 +17,11 @@ access-requires-clause-table c =
 pub invariant_of-self : goal.invariant_of-self
 invariant_of-self c =
     let s : System = system c.self.inside.cpus.items c.self.inside.ram in
-    let is : system c.access.new.cpus c.access.new.ram ≡ (access s c.args.k c.args.op).after = ap (λ (r : Answered). r.after) c.access.ensures ∙ ap (λ ps. (access (system ps c.self.inside.ram) c.args.k c.args.op).after) c.as_mut_slice.ensures.value in
-    subst (λ ps. IsSound (system ps c.access.new.ram) × AreTablesOf ps c.self.inside.tables.items) (sym (take_at c.access.new.cpus (drop (length c.access.new.cpus) c.self.inside.cpus.items) c.self.inside.cpus.len (search rules)))
-    (subst (λ (t : System). IsSound t × AreTablesOf t.processors c.self.inside.tables.items) (sym is)
-    (access_keeps_sound s c.args.k c.args.op c.self.invariant.0, tables_accessed s c.args.k c.args.op c.self.inside.tables.items c.self.invariant.1))
+    let is : system c.access.new.cpus c.access.new.ram ≡ (access s c.args.k c.args.op).after =
+    ap (λ (r : Answered). r.after) c.access.ensures.after ∙ ap (λ ps. (access (system ps c.self.inside.ram) c.args.k c.args.op).after) c.as_mut_slice.ensures.value in
+    let kept : IsSound (system c.access.new.cpus c.access.new.ram) × AreTablesOf c.access.new.cpus c.self.inside.tables.items =
+    subst (λ (t : System). IsSound t × AreTablesOf t.processors c.self.inside.tables.items) (sym is)
+    (access_keeps_sound s c.args.k c.args.op c.self.invariant.0, tables_accessed s c.args.k c.args.op c.self.inside.tables.items c.self.invariant.1) in
+    subst (λ ps. IsSound (system ps c.access.new.ram) × AreTablesOf ps c.self.inside.tables.items × AreHeldBy ps c.access.new.holders)
+    (sym (take_at c.access.new.cpus (drop (length c.access.new.cpus) c.self.inside.cpus.items) c.self.inside.cpus.len (search rules)))
+    (kept.0, kept.1, c.access.ensures.held)

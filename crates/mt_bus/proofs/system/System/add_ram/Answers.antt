@@ -12,4 +12,5 @@ invariant_of-self-2 c =
       subst (λ m. IsSound (system c.self.inside.cpus.items m)) (sym grown)
           (sound_grown (system c.self.inside.cpus.items c.self.inside.ram) (window c.args.base c.args.lines) c.self.invariant.0 (subst IsMemory grown c.words.ensures.memory)),
       c.self.invariant.1,
+      c.self.invariant.2,
     )

@@ -2,10 +2,12 @@ use Rattle.std.proofs.Common.{◌≡◌, ◌++◌, drop, take}
 use Rattle.mt_cache.specs.Lines.{without_line}
 use Rattle.mt_machine.specs.Bus.{others_from, with_lines}
 use Rattle.mt_bus.proofs.Others.{others_back}
-use Rattle.mt_bus.proofs.snoops.take_over.Given as goal
+use Rattle.mt_bus.specs.Holders.{AreHeldBy}
+use Rattle.mt_bus.proofs.snoops.take_from_each.Given as goal
 
 abbrev pub invariant-loop-i : goal.invariant-loop-i
 invariant-loop-i l = record {
   cpus : take l.i l.cpus ++ others_from l.i l.k (with_lines (without_line l.number)) (drop l.i l.cpus) ≡ others_from 0 l.k (with_lines (without_line l.number)) l.fn.cpus;
   ram : others_back l.i l.k l.number l.ram (drop l.i l.cpus) ≡ others_back 0 l.k l.number l.fn.ram l.fn.cpus;
+  held : AreHeldBy l.cpus l.holders;
 }

@@ -1,0 +1,20 @@
+use Rattle.std.proofs.Common.{◌∙◌, ap, sym}
+use Rattle.mt_cache.specs.Lines.{change_line, clean_line, without_line}
+use Rattle.mt_machine.specs.Bus.{with_lines}
+use Rattle.mt_bus.proofs.Lines.{change_absent, without_absent}
+use Rattle.mt_bus.proofs.Skipped.{none_written, processor_left}
+use Rattle.mt_bus.proofs.snoops.drop_if.Goals as goal
+
+pub returns-else-may-clause-cpu : goal.returns-else-may-clause-cpu
+returns-else-may-clause-cpu c =
+    sym (processor_left (without_line c.args.number) c.args.cpu.now (without_absent c.args.number c.args.cpu.now.lines (c.requires c.if-may.false)))
+
+pub returns-else-may-clause-read : goal.returns-else-may-clause-read
+returns-else-may-clause-read c =
+    sym
+    (ap (with_lines (without_line c.args.number))
+    (processor_left (change_line c.args.number clean_line) c.args.cpu.now (change_absent c.args.number clean_line c.args.cpu.now.lines (c.requires c.if-may.false)))
+    ∙ processor_left (without_line c.args.number) c.args.cpu.now (without_absent c.args.number c.args.cpu.now.lines (c.requires c.if-may.false)))
+
+pub returns-else-may-clause-ram : goal.returns-else-may-clause-ram
+returns-else-may-clause-ram c = sym (none_written c.args.number c.args.ram.now c.args.cpu.now.lines (c.requires c.if-may.false))

@@ -1,0 +1,150 @@
+// Which caches may have a line.
+ghost use Rattle.std.specs.Prelude.{◌≡◌, ℕ, ◌<◌, ◌%◌, ◌^◌, List, [], false, replicate, slice_index_or, slice_set, true, IfOk, IsTrue};
+ghost use Rattle.mt_cache.specs.Counts.{modulus};
+ghost use Rattle.mt_machine.specs.System.{Processor};
+ghost use Rattle.mt_bus.specs.Holders.{AreHeldBy, Covers, CoversBut, mask_of, may_hold};
+
+use mt_cache::MODULUS;
+use mt_kinds::is_bit_set;
+use mt_ports::NoMemory;
+use std::alloc::Global;
+use std::marker::Model;
+
+/// The processors that have a bit in a mask.
+pub(crate) const BITS: usize = 16;
+
+// The bit of a processor.
+fn bit(k: usize) -> u16
+    requires { k < 16 }
+    ensures { result ≡ 2 ^ k }
+{
+    1 << k as u16
+}
+
+// Sets all bits.
+fn set_all(masks: &mut [u16])
+    ensures { (r : ℕ) → slice_index_or masks.new r 0xffff ≡ 0xffff }
+{
+    for i in 0..masks.len() {
+        masks[i] = 0xffff;
+    }
+}
+
+/// Which caches may have a line: a mask for the lines whose numbers have one residue modulo `MODULUS`, with bit k for the
+/// cache of processor k. Any cache may have a line that has no mask, and so may a processor past the sixteenth.
+#[derive(Drop)]
+pub struct Holders {
+    masks: Vec<u16>,
+}
+
+impl Model for Holders {
+    ghost Value = { List ℕ };
+
+    ghost view = { λ h. h.masks.items };
+}
+
+impl Holders {
+    /// No masks, which takes no memory: any cache may have any line.
+    pub fn unknown(alloc: Global) -> Holders
+        ensures { result ≡ [] }
+    {
+        Holders {
+            masks: Vec::new(alloc),
+        }
+    }
+
+    /// The masks of caches that have no line. The error comes only where the allocator has no room.
+    pub fn new(alloc: Global) -> Result<Holders, NoMemory>
+        ensures { IfOk result (λ h. h ≡ replicate modulus 0) }
+    {
+        match vec![in alloc; 0u16; MODULUS as usize] {
+            Ok(masks) => Ok(Holders { masks }),
+            Err(_) => Err(NoMemory),
+        }
+    }
+
+    /// From here on any cache may have any line.
+    pub fn forget(&mut self)
+        ensures { (ps : List Processor) → AreHeldBy ps self.new }
+    {
+        set_all(self.masks.as_mut_slice());
+    }
+
+    /// Whether there are masks.
+    pub(crate) fn is_known(&self) -> bool {
+        !self.masks.is_empty()
+    }
+
+    // The mask of a line.
+    #[inline(always)]
+    fn mask(&self, number: u64) -> u16
+        ensures { result ≡ mask_of self.now number }
+    {
+        match self.masks.get((number % MODULUS) as usize) {
+            Some(mask) => *mask,
+            None => 0xffff,
+        }
+    }
+
+    /// Whether the cache of a processor may have a line.
+    #[inline(always)]
+    pub fn may_hold(&self, k: usize, number: u64) -> bool
+        ensures { result ≡ may_hold self.now k number }
+    {
+        if k < BITS {
+            is_bit_set(self.mask(number) as u64, k as u8)
+        } else {
+            true
+        }
+    }
+
+    /// Whether none of the first sixteen caches may have a line.
+    #[inline(always)]
+    pub fn none(&self, number: u64) -> bool
+        ensures { IsTrue result → (j : ℕ) → j < 16 → may_hold self.now j number ≡ false }
+    {
+        self.mask(number) == 0
+    }
+
+    /// Whether none of the first sixteen caches but that of one processor may have a line.
+    #[inline(always)]
+    pub fn only(&self, k: usize, number: u64) -> bool
+        requires { k < 16 }
+        ensures { IsTrue result → (j : ℕ) → j < 16 → (j ≡ k → ⊥) → may_hold self.now j number ≡ false }
+    {
+        let mask = self.mask(number);
+        mask == 0 || mask == bit(k)
+    }
+
+    // Sets the mask of a line, where there are masks.
+    fn set(&mut self, number: u64, mask: u16)
+        ensures { self.new ≡ slice_set self.old (number % modulus) mask }
+    {
+        let r = (number % MODULUS) as usize;
+        if r < self.masks.len() {
+            let masks = self.masks.as_mut_slice();
+            masks[r] = mask;
+        }
+    }
+
+    /// From here on the cache of a processor may have a line.
+    pub fn add(&mut self, k: usize, number: u64)
+        ensures added { may_hold self.new k number ≡ true }
+        ensures kept { Covers self.new self.old }
+    {
+        if k < BITS {
+            let mask = self.mask(number);
+            self.set(number, mask | bit(k));
+        }
+    }
+
+    /// From here on the cache of a processor may not have a line, nor one whose number has the same residue.
+    pub fn remove(&mut self, k: usize, number: u64)
+        ensures { CoversBut k number self.new self.old }
+    {
+        if k < BITS {
+            let mask = self.mask(number);
+            self.set(number, mask & !bit(k));
+        }
+    }
+}
