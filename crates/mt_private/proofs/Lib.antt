@@ -15,3 +15,5 @@ mod Walk
 pub mod Residents
 mod GuestJob
 mod Returned
+mod LoneGuest
+mod OnVisitors

@@ -137,18 +137,18 @@ none_there (a ∷ []) n = absurd (omega arith)
 none_there (a ∷ b ∷ []) n = refl
 none_there (a ∷ b ∷ c ∷ all) n = absurd (omega arith)
 
+pub zeros : (i : ℕ) → slice_index (0 ∷ 0 ∷ 0 ∷ 0 ∷ []) i ≡ 0
+zeros zero = refl
+zeros (suc zero) = refl
+zeros (suc (suc zero)) = refl
+zeros (suc (suc (suc zero))) = refl
+zeros (suc (suc (suc (suc i)))) = refl
+
 -- ---- of a key with its start
 
 module _ (key : Key) (is : start_of key ≡ lodging) where
   pub opened_lodging : MeetsYard key (at_start key (0 ∷ 0 ∷ 0 ∷ 0 ∷ []))
   opened_lodging = opened key (0 ∷ 0 ∷ 0 ∷ 0 ∷ []) (subst Opens (sym is) opens_lodging) (let e : length key.cpus.value.items ≡ 2 = ap (λ (t : Start). length t.cpus) is in omega arith) zeros
-    where
-      zeros : (i : ℕ) → slice_index (0 ∷ 0 ∷ 0 ∷ 0 ∷ []) i ≡ 0
-      zeros zero = refl
-      zeros (suc zero) = refl
-      zeros (suc (suc zero)) = refl
-      zeros (suc (suc (suc zero))) = refl
-      zeros (suc (suc (suc (suc i)))) = refl
 
   pub two_residents : (s : YardState) (m : MeetsYard key s) → length m.all ≡ 2
   two_residents s m = m.yard.resides.size ∙ ap (λ (t : Start). length t.cpus) is

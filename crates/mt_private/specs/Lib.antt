@@ -15,3 +15,5 @@ pub mod Alone
 pub mod WorkedLeft
 pub mod WorkedGathered
 pub mod Visitors
+pub mod WorkedWay
+pub mod WorkedVisitors

@@ -20,10 +20,12 @@ mod worked_event_steps;
 mod worked_fitting;
 mod worked_gathered;
 mod worked_guests;
+mod worked_laws;
 mod worked_left;
 mod worked_own;
 mod worked_steps;
 mod worked_visit_ends;
+mod worked_visitors;
 mod worked_yard;
 mod yard_laws;
 #[cfg(test)]
@@ -48,6 +50,10 @@ pub use worked_gathered::{
     worked_gathered_guests, worked_keeps, worked_offers, worked_rooms, worked_taking_part,
 };
 pub use worked_guests::{worked_lodges, worked_visits};
+pub use worked_laws::{
+    worked_laws_of_additions, worked_laws_of_ends, worked_laws_of_loads, worked_laws_of_own_words,
+    worked_laws_of_tables,
+};
 pub use worked_left::{
     worked_back, worked_leaves, worked_own_jobs, worked_parts, worked_words_left,
 };
@@ -56,6 +62,10 @@ pub use worked_steps::{
     worked_moves, worked_sayings, worked_stands_for, worked_yard_rule, worked_yards,
 };
 pub use worked_visit_ends::{worked_cancelled_visits, worked_complete_visits};
+pub use worked_visitors::{
+    worked_ended_visitors, worked_fresh_hosts, worked_new_visitors, worked_rests, worked_returns,
+    worked_waiting_guests,
+};
 pub use worked_yard::{
     worked_hosts, worked_opens, worked_residents, worked_yard_fits, worked_yard_pages,
     worked_yard_views,

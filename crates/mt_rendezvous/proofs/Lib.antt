@@ -16,3 +16,4 @@ mod Begun
 mod Renewed
 mod WorkedStart
 mod OnWorked
+mod OnLone

@@ -4,3 +4,4 @@ pub mod Calls
 pub mod Laws
 pub mod WorkedStations
 pub mod Update
+pub mod WorkedLone

@@ -13,7 +13,7 @@ use Rattle.mt_rendezvous.specs.declared.view.Held.{Held}
 use Rattle.mt_rendezvous.specs.declared.view.Start.{Start}
 use Rattle.mt_rendezvous.specs.declared.view.View.{View}
 use Rattle.mt_rendezvous.specs.declared.view.Key.{Key}
-use Rattle.mt_rendezvous.specs.Station.{first_view, held, numbered, pass_right, view, with_held}
+use Rattle.mt_rendezvous.specs.Station.{first_view, held, numbered, pass_right, root_left, view, with_held}
 use Rattle.mt_rendezvous.specs.Plays.{Sat}
 use Rattle.mt_rendezvous.specs.Calls.{gathered, opening_words}
 
@@ -81,6 +81,10 @@ start_in phase era = gathered (record (first phase) { era = era } ∷ record (se
 
 abbrev pub at_start : Key → State (Unit {0}) View
 at_start key = opening (opening_words 2 zeros) [] (first_view key)
+
+-- when the root has given the first processor away
+abbrev pub split_once : Key → State (Unit {0}) View
+split_once key = record { words = opening_words 2 zeros; homes = []; views = root_left (first_view key) ∷ pass_right (first_view key) ∷ [] }
 
 -- two words and one view
 abbrev pub two_words : State (Unit {0}) View

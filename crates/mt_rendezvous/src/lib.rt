@@ -13,6 +13,7 @@ mod update_tests;
 mod view;
 mod worked;
 mod worked_calls;
+mod worked_laws;
 mod worked_steps;
 
 pub use broadcast::call_and_take;
@@ -27,6 +28,10 @@ pub use view::{Held, Key, Start, View};
 pub use worked::{worked_fits, worked_machines, worked_views};
 pub use worked_calls::{
     worked_attends, worked_carries, worked_ends, worked_outcomes, worked_roots,
+};
+pub use worked_laws::{
+    worked_laws_of_ends, worked_laws_of_stations, worked_laws_of_the_change,
+    worked_laws_of_the_first_barrier, worked_laws_of_the_root,
 };
 pub use worked_steps::{
     worked_begins, worked_decisions, worked_follows, worked_pass_steps, worked_places, worked_rule,

@@ -1,11 +1,11 @@
 -- Steps at which the headline's laws are shown to speak of something.
-use Rattle.std.specs.Prelude.{ℕ, List, ◌++◌, drop, slice_index_or, take}
+use Rattle.std.specs.Prelude.{ℕ, Bool, not, List, ◌++◌, drop, is_some, slice_index_or, take}
 use Rattle.mt_regs.specs.RegisterFile.{RegisterFile}
 use Rattle.mt_machine.specs.Machine.{Machine}
 use Rattle.mt_machine.specs.System.{now}
 use Rattle.mt_machine.specs.Update.{emptied}
 use Rattle.mt_replay.specs.Headline.{Keeps, Step, UpdateOf, called_goal, course, last_of, left, next_era, stored_in}
-use Rattle.mt_replay.specs.ReplayState.{each_processor}
+use Rattle.mt_replay.specs.ReplayState.{ReplayState, each_processor}
 use Rattle.mt_replay.specs.WorkedJoins.{join_script}
 use Rattle.mt_replay.specs.WorkedScript.{no_step, step_at, steps_at, worked_script}
 
@@ -32,3 +32,7 @@ join_at k = slice_index_or (course join_script) k no_step
 
 abbrev pub joins_at : ℕ → ℕ → List Step
 joins_at k count = take count (drop k (course join_script))
+
+-- no update is under way
+abbrev pub is_idle : ReplayState → Bool
+is_idle s = not (is_some s.machine.order)

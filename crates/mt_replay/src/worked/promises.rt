@@ -1,5 +1,5 @@
 // Laws on refusals, on updates, and on what each state of a script keeps, each at a script of which it speaks.
-ghost use Rattle.std.specs.Prelude.{◌≡◌, ◌≢◌, ◌∷◌, ◌+◌, ◌++◌, ◌⊎◌, [], ℕ, None, Ok, Option, Some, List, codes, length};
+ghost use Rattle.std.specs.Prelude.{◌≡◌, ◌≢◌, ◌∷◌, ◌+◌, ◌++◌, ◌⊎◌, [], ℕ, None, Ok, Option, Some, List, codes, length, true};
 ghost use Rattle.std.specs.List.{All};
 ghost use Rattle.mt_dump.specs.Dumps.{Dump, dump_of};
 ghost use Rattle.mt_machine.specs.Machine.{Calls, Machine, Order, next};
@@ -26,14 +26,15 @@ ghost use Rattle.mt_script.specs.declared.fault.Offence.TheVariants as offence;
 ghost use Rattle.mt_script.specs.declared.fault.ScriptReason.TheVariants.{BadLine};
 ghost use Rattle.mt_stream.specs.Told.{told};
 ghost use Rattle.mt_text.specs.Text.{lines_of};
-ghost use Rattle.mt_replay.specs.Headline.{Beginning, ReplaysAreOfTheCourse, StartsAsTheDumpShows, StepsAreOfTheirLines, TranscriptIsOneLine, beginning, left, told_by_course};
+ghost use Rattle.mt_replay.specs.Headline.{Beginning, ReplaysAreOfTheCourse, StartsAsTheDumpShows, StatesAreOfTheCourse, StepsAreOfTheirLines, TranscriptIsOneLine, beginning, left, told_by_course};
 ghost use Rattle.mt_replay.specs.Kept.{CommandsFinishOne, CommandsKeep, HasEras, HoldsThrough, IsReplayState, NothingIsStale, ScriptsKeep, start_of};
 ghost use Rattle.mt_replay.specs.ReplayState.{call_fault, command_text, machine_after, state_after};
 ghost use Rattle.mt_replay.specs.Running.{Replays, ReplaysAs};
-ghost use Rattle.mt_replay.specs.Statuses.{AbsentProcessorsDoNothing, AbsentWhereNoProcessor, AcceptedCallsAreUnderWay, AcceptedFirst, AcceptedUnlessRefused, AcceptedWhereIdle, AreHeld, BadTextEndsWithOffence, BadTextWhereOffence, BeginsWith, CallsUnderWayChangeNothing, CompleteUpdatesSettle, DoneWhereNoOffence, EndsIdle, EndsWith, HasRefusedFile, IsAdmittedAfter, IsSettledAfter, JoinsSettle, OffenceAlone, OneDumpShown, RefusedAlone, RefusedCallsChangeNothing, RefusedWhereFileIsRefused, ReleasedStatesSettle, ReleasedWordsAreHeld, ShowsDump, StatesHaveTheShownDump, UpdatedWordsAreHeld};
+ghost use Rattle.mt_replay.specs.Statuses.{AbsentProcessorsDoNothing, AbsentWhereNoProcessor, AcceptedCallsAreUnderWay, AcceptedFirst, AcceptedUnlessRefused, AcceptedWhereIdle, AreHeld, BadTextEndsWithOffence, BadTextWhereOffence, BeginsWith, CallsUnderWayChangeNothing, CompleteUpdatesSettle, DoneWhereNoOffence, EndsIdle, EndsWith, HasRefusedFile, IsAdmittedAfter, IsSettledAfter, JoinsSettle, OffenceAlone, OneDumpShown, OneOfThreeStatuses, RefusedAlone, RefusedCallsChangeNothing, RefusedWhereFileIsRefused, ReleasedStatesSettle, ReleasedWordsAreHeld, ShowsDump, StatesHaveTheShownDump, UpdatedWordsAreHeld};
 ghost use Rattle.mt_replay.specs.Texts.{absent_line, called_line, stale_count, under_way_line};
 ghost use Rattle.mt_replay.specs.Transcript.{told_offence, transcript};
 ghost use Rattle.mt_replay.specs.WorkedJoins.{after_join, just_dumped};
+ghost use Rattle.mt_replay.specs.WorkedLaws.{is_idle, join_at};
 ghost use Rattle.mt_replay.specs.WorkedScript.{step_at, worked_script};
 ghost use Rattle.mt_replay.specs.WorkedStates.{busy, crowd, later_refused, resting, small_dump};
 ghost use Rattle.mt_replay.specs.WorkedSummary.{bad_script};
@@ -49,11 +50,14 @@ pub fn worked_laws_of_dumps()
     ensures accepted_first { AcceptedFirst → All IsAccepted (bare_file 0x806 ∷ []) → BeginsWith (transcript small_dump).text accepted_line }
 {}
 
-/// A script with an offence behind some commands, one without any, and one whose dump isn't read to its end.
+/// A script with an offence behind some commands, one without any, one that is refused, and one whose dump isn't read to
+/// its end.
 pub fn worked_laws_of_statuses()
     ensures bad_text { BadTextWhereOffence → ((o : Offence) × (script_offence bad_script ≡ Some o)) × ((transcript bad_script).status ≢ status.Refused) }
     ensures last { BadTextEndsWithOffence → EndsWith (transcript bad_script).text (offence_line (offence.Script (fault_at BadLine (record { line = 9; column = 1 })))) }
     ensures done { DoneWhereNoOffence → script_offence small_dump ≡ None }
+    ensures each { ((transcript small_dump).status ≡ status.Done) × ((transcript later_refused).status ≡ status.Refused) × ((transcript bad_script).status ≡ status.BadText) }
+    ensures three { OneOfThreeStatuses → ((transcript bad_script).status ≡ status.Done) ⊎ ((transcript bad_script).status ≡ status.Refused) ⊎ ((transcript bad_script).status ≡ status.BadText) }
     ensures no_dump { OffenceAlone → (o : Offence) × (script_offence (codes "cpus 1\ndump\n0fe 400\n") ≡ Some o) × (transcript (codes "cpus 1\ndump\n0fe 400\n") ≡ told_offence o) }
 {}
 
@@ -84,11 +88,13 @@ pub fn worked_laws_of_states()
     ensures stale { NothingIsStale → IsReplayState just_dumped → All (λ p. stale_count p ≡ 0) just_dumped.machine.system.processors }
 {}
 
-/// What a replay of the worked script leaves, the line of one of its steps, and where a course begins and where none does.
+/// What a replay of the worked script leaves, the line of one of its steps, what holds through a script in which a
+/// processor joins, and where a course begins and where none does.
 pub fn worked_laws_of_beginnings()
     ensures written { ReplaysAreOfTheCourse → (rest before after : Option (List ℕ)) (status : Status) → Replays worked_script rest before after status → ReplaysAs (told_by_course worked_script) worked_script rest before after status }
     ensures line { StepsAreOfTheirLines → (above : List (List ℕ)) × (line : List ℕ) × (below : List (List ℕ))
         × (lines_of worked_script ≡ above ++ line ∷ below) × ((step_at 6).number ≡ length above + 1) × (command_of (step_at 6).before.now (step_at 6).number line ≡ Ok asks.End) }
+    ensures states { StatesAreOfTheCourse → (is_idle (join_at 1).before ≡ true) × (is_idle (left (join_at 1)) ≡ true) }
     ensures starts { StartsAsTheDumpShows → All IsAccepted (bare_file 0x806 ∷ []) → (b : Beginning) × (beginning small_dump ≡ Some b) × (b.state.machine ≡ start_of b.state.now (dump_of (bare_file 0x806))) }
     ensures one_line { TranscriptIsOneLine → ((o : Offence) × (transcript later_refused ≡ told_offence o))
         ⊎ ((version : ℕ) × (k : ℕ) × (fault : Fault) × (transcript later_refused ≡ told (dump_refused_line version k fault) status.Refused)) }

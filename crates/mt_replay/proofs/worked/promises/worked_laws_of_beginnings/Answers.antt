@@ -1,14 +1,20 @@
-use Rattle.std.proofs.Common.{refl}
-use Rattle.std.specs.Prelude.{drop}
+use Rattle.std.proofs.Common.{◌≡◌, refl, true}
+use Rattle.std.specs.Prelude.{drop, take}
 use Rattle.mt_dump.specs.Dumps.{dump_of}
 use Rattle.mt_machine.specs.WorkedRuns.{bare_file}
 use Rattle.mt_replay.specs.Headline.{course}
-use Rattle.mt_replay.specs.WorkedLaws.{front_of}
+use Rattle.mt_replay.specs.Kept.{HoldsThrough}
+use Rattle.mt_replay.specs.WorkedJoins.{join_script}
+use Rattle.mt_replay.specs.WorkedLaws.{front_of, is_idle, join_at}
 use Rattle.mt_replay.specs.WorkedScript.{step_at, worked_script}
 use Rattle.mt_replay.specs.WorkedStates.{later_refused, small_dump}
 use Rattle.mt_replay.proofs.Courses.Worked.{stands}
 use Rattle.mt_replay.proofs.WorkedDumps.{shows}
 use Rattle.mt_replay.proofs.worked.promises.worked_laws_of_beginnings.Goals as goal
+
+-- before each of its five commands, and behind the last
+none_under_way : HoldsThrough (λ s. is_idle s ≡ true) join_script
+none_under_way = (refl, (refl, (refl, (refl, (refl, refl)))))
 
 pub returns-clause-written : goal.returns-clause-written
 returns-clause-written c = λ law rest before after status. law worked_script rest before after status refl
@@ -21,3 +27,6 @@ returns-clause-starts c = λ law accepted. let told = law small_dump (dump_of (b
 
 pub returns-clause-one_line : goal.returns-clause-one_line
 returns-clause-one_line c = λ law. law later_refused refl
+
+pub returns-clause-states : goal.returns-clause-states
+returns-clause-states c = λ law. law join_script is_idle none_under_way (take 1 (course join_script)) (drop 2 (course join_script)) (join_at 1) (stands (course join_script) 1 0 refl)

@@ -1,0 +1,77 @@
+-- The way of a worked resident, which is alone in its yard, through an update; and a worked yard of two whose first resident was given away.
+use Rattle.std.specs.Prelude.{◌≡◌, ℕ, Bool, true, false, List, [], ◌∷◌, None, Option, Some}
+use Rattle.mt_machine.specs.declared.phase.Phase.{Phase}
+use Rattle.mt_machine.specs.declared.phase.Phase.TheVariants.{NoFill}
+use Rattle.mt_machine.specs.declared.go.Go.{Go}
+use Rattle.mt_machine.specs.declared.go.Go.TheVariants.{Given, Pending}
+use Rattle.mt_machine.specs.System.{System}
+use Rattle.mt_machine.specs.Machine.{MachineEvent}
+use Rattle.mt_machine.specs.WorkedRuns.{bare_file}
+use Rattle.mt_rendezvous.specs.declared.view.Key.{Key}
+use Rattle.mt_private.specs.declared.job.Job.{Job}
+use Rattle.mt_private.specs.declared.job.Told.{Told}
+use Rattle.mt_private.specs.declared.view.Resident.{Resident}
+use Rattle.mt_private.specs.Residents.{Follows, Yard}
+use Rattle.mt_private.specs.WorkedGathered.{come, first_words}
+use Rattle.mt_private.specs.WorkedYard.{alone, at_start, first_taken, lodger}
+use Rattle.mt_private.specs.YardLaws.{IsOneEvent, YardState}
+use Rattle.mt_private.specs.YardPlays.{YardSat}
+use Rattle.mt_private.specs.YardRule.{MeetsYard, first_yard_view, with_one, with_said, yard_both, yard_left, yard_right, yard_spent}
+
+-- before its change, in no-fill mode, and behind its change
+abbrev pub guest : Phase → Bool → Resident
+guest phase added = come (record (lodger 0x100) { phase = phase }) first_words added false []
+
+abbrev pub fills_not : Resident
+fills_not = come (record (lodger 0x100) { phase = NoFill; cache_disabled = true }) first_words true false []
+
+abbrev pub changed : Phase → Bool → Resident
+changed phase again = come (record (lodger 0x100) { file = bare_file 0x800; phase = phase }) first_words true again []
+
+abbrev pub released : Resident
+released = come (record (lodger 0x100) { file = bare_file 0x800; era = 1 }) first_words true true []
+
+-- some system makes a yard of it with these counts, and on that the next follows by this event, with the next counts
+abbrev pub GoesOn : Go → ℕ → ℕ → Resident → Resident → Option MachineEvent → ℕ → ℕ → Type 0
+GoesOn go first second y w e first_then second_then = (s : System) × Yard alone (y ∷ []) go first second s × Follows alone (y ∷ []) go s 0 w e first_then second_then
+
+-- ---- seats
+
+abbrev pub no_counts : List ℕ
+no_counts = 0 ∷ 0 ∷ 0 ∷ 0 ∷ []
+
+abbrev pub opened : Key → YardState
+opened key = at_start key no_counts
+
+-- the root has said go; or it has given its first resident away, which then takes, or is taken back
+abbrev pub given : Key → YardState
+given key = record { words = 1 ∷ 0 ∷ 0 ∷ 0 ∷ []; homes = []; views = with_said (first_yard_view key) Given ∷ [] }
+
+abbrev pub split : Key → YardState
+split key = record { words = no_counts; homes = []; views = yard_left (first_yard_view key) ∷ yard_right (first_yard_view key) ∷ [] }
+
+abbrev pub split_taken : Key → YardState
+split_taken key = record { words = no_counts; homes = []; views = yard_left (first_yard_view key) ∷ with_one (yard_right (first_yard_view key)) first_taken None false ∷ [] }
+
+abbrev pub joined : Key → YardState
+joined key = record { words = no_counts; homes = []; views = yard_both (yard_left (first_yard_view key)) (yard_right (first_yard_view key)) ∷ yard_spent ∷ [] }
+
+-- one state meets the rule, and the next follows on it by this event
+abbrev pub Becomes : Key → YardState → YardState → Option MachineEvent → Type 0
+Becomes key s later e = (m : MeetsYard key s) × IsOneEvent key s later m e
+
+-- ---- the end of a yard
+
+-- the seats of its pass and of its host, which has it back
+abbrev pub released_seat : YardSat
+released_seat = (record { root = false; held = released ∷ []; go = Pending; shown = Some 1; cancel = false; start = alone }, [])
+
+abbrev pub last_seat : YardSat
+last_seat = (record { root = true; held = released ∷ []; go = Given; shown = None; cancel = false; start = alone }, [])
+
+-- a job without accesses, and its answers
+abbrev pub IsEmptyJob : Job → Type 0
+IsEmptyJob job = (job.before.items ≡ []) × (job.after.items ≡ [])
+
+abbrev pub HasNoAnswers : Told → Type 0
+HasNoAnswers told = (told.before.items ≡ []) × (told.after.items ≡ [])
