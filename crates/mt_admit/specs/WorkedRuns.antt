@@ -106,3 +106,14 @@ behind_release = Accesses 1 Fence ∷ Steps 0 Release ∷ []
 -- one processor, with a dirty line, behind its pass
 abbrev pub in_change : Machine
 in_change = next at_pass (Steps 0 Pass)
+
+-- the same of the first of two, while the second has arrived
+abbrev pub two_in_change : Machine
+two_in_change = next before_pass (Steps 0 Pass)
+
+-- the newcomer's update from the go on, and what comes between the second's take, which is the first event, and its release
+abbrev pub two_called : Machine
+two_called = run (brought_up one_line) (Goes ∷ [])
+
+abbrev pub between_of_second : List MachineEvent
+between_of_second = Steps 1 Arrive ∷ Steps 0 Take ∷ Steps 0 Arrive ∷ Steps 0 Pass ∷ between_pass_and_release

@@ -16,7 +16,7 @@ ghost use Rattle.mt_core.specs.Rounds.{Rounds, TurnsEnd, UpdatedWordsAreHeld, Up
 ghost use Rattle.mt_core.specs.Since.{HaveNoBuffers, IsHeldSince, IsSettledSince, KeepsWord};
 ghost use Rattle.mt_core.specs.Stops.{StopsOutside, StopsWhereOutside};
 ghost use Rattle.mt_core.specs.WorkedRuns.{come, count};
-ghost use Rattle.mt_admit.specs.WorkedRuns.{before_pass, behind_release, in_change, released, unlike};
+ghost use Rattle.mt_admit.specs.WorkedRuns.{before_pass, behind_release, between_of_second, in_change, released, two_called, two_in_change, unlike};
 
 /// One processor, which has a dirty line, passes the first barrier, and releases.
 pub fn worked_laws_of_passes()
@@ -30,6 +30,17 @@ pub fn worked_laws_of_passes()
     ensures counted { StepsCountThroughout → IsCounted bare_called 0 between_of_bare }
     ensures settled { SettledFromRelease → IsSettledSince dirty_released 0 (bare_file 0x806) (load 0 0x1000 ∷ []) }
     ensures held { HeldFromFirstRelease → IsHeld before_pass.system released behind_release }
+{}
+
+/// Two processors of which the first changes its registers, and the second has arrived; and the events of the second, among
+/// those of the first.
+pub fn worked_laws_of_two()
+    ensures no_buffers { NoBuffersWhereOnePasses → HaveNoBuffers before_pass.system.processors }
+    ensures barriers { BarriersHoldThroughout → BarriersHold two_in_change }
+    ensures exclusive { NoneRunsThroughout → NoneRunsInChange two_in_change }
+    ensures busy { NoneActsThroughout → NoneActsInChange two_in_change }
+    ensures orders { OrdersHoldThroughout → OrderHolds two_in_change (record given_order { goal = bare_file 0x800 }) }
+    ensures counted { StepsCountThroughout → IsCounted two_called 1 between_of_second }
 {}
 
 /// Where steps wait and stop, and turns end.

@@ -2,8 +2,8 @@
 use Rattle.std.specs.Prelude.{List, [], ◌∷◌}
 use Rattle.mt_machine.specs.declared.event.Event.TheVariants.{Leave}
 use Rattle.mt_machine.specs.Machine.{Machine, Cancels, Steps}
-use Rattle.mt_machine.specs.WorkedRuns.{alone, call_order, calling, idle, line_of, machine_of, whole}
-use Rattle.mt_flat.specs.Courses.{Does, Turn}
+use Rattle.mt_machine.specs.WorkedRuns.{alone, bare_file, call_order, calling, idle, line_of, machine_of, mapping, whole}
+use Rattle.mt_flat.specs.Courses.{Does, Turn, Updates}
 
 -- its update is called, and its buffer isn't taken yet
 abbrev pub called_whole : Machine
@@ -21,3 +21,11 @@ both_combine =
 -- all have taken, and the update is cancelled
 abbrev pub cancelled_turns : List Turn
 cancelled_turns = Does Cancels ∷ Does (Steps 0 Leave) ∷ []
+
+-- a dirty line, and another processor with a page that has it
+abbrev pub two_sharing : Machine
+two_sharing = machine_of (whole ∷ record idle { mappings = mapping 1 0x100 0 ∷ [] } ∷ [])
+
+-- the second takes first
+abbrev pub updated_by_two : List Turn
+updated_by_two = Updates (bare_file 0x806) (1 ∷ 0 ∷ []) ∷ []

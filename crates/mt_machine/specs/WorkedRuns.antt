@@ -1,5 +1,5 @@
 -- Machines of worked examples, and what is seen of them.
-use Rattle.std.specs.Prelude.{ℕ, zero, suc, ◌+◌, nat_lt, Bool, true, false, List, [], ◌∷◌, length, map, if◌then◌else◌, replicate, slice_get, None, Some}
+use Rattle.std.specs.Prelude.{ℕ, zero, suc, ◌+◌, nat_lt, Bool, true, false, List, [], ◌∷◌, ◌++◌, length, map, if◌then◌else◌, replicate, slice_get, None, Some}
 use Rattle.std.specs.Option.{option_map_or}
 use Rattle.std.specs.List.{count_by}
 use Rattle.mt_kinds.specs.declared.mem_type.MemType.TheVariants.{WB}
@@ -290,3 +290,14 @@ two_windows = record {
   windows = record { base = 0x100000; lines = 1 } ∷ record { base = 0x80; lines = 2 } ∷ [];
   words = 10 ∷ 11 ∷ 12 ∷ 13 ∷ 14 ∷ 15 ∷ 16 ∷ 17 ∷ 18 ∷ 19 ∷ 20 ∷ 21 ∷ 22 ∷ 23 ∷ 24 ∷ 25 ∷ 26 ∷ 27 ∷ 28 ∷ 29 ∷ 30 ∷ 31 ∷ 32 ∷ 33 ∷ [];
 }
+
+-- and a third window behind them
+abbrev pub three_windows : Memory
+three_windows = record {
+  windows = record { base = 0x100000; lines = 1 } ∷ record { base = 0x80; lines = 2 } ∷ record { base = 0x200000; lines = 1 } ∷ [];
+  words = two_windows.words ++ replicate 8 0;
+}
+
+-- page 1 has the type of a PAT entry: the entries from 5 on are WC, WP and WT, all others WB
+abbrev pub choosing : ℕ → Processor
+choosing index = record (start_processor (with_value four_gigabytes Pat 0x0405010606060606)) { mappings = mapping 1 0x100 index ∷ [] }

@@ -96,6 +96,7 @@ pub fn worked_pairs()
 /// A tidied file, and what isn't one for one thing. Where ranges are told they are those of its pairs.
 pub fn worked_tidy()
     ensures tidy { IsTidy cached 0 8 cached 0 }
+    ensures more_spared_than_there_are { IsTidy cached 0 32 cached 0 }
     ensures not_accepted { IsTidy clash 0 0 clash 2 → ⊥ }
     ensures reserved_bit { IsTidy with_reserved_bit 0 0 cached 0 → ⊥ }
     ensures ranges_off { IsTidy (record cached { default_type = 6 }) 0 0 cached 0 → ⊥ }
@@ -121,6 +122,7 @@ pub fn worked_why()
     ensures enough { IsWhy four_gigabytes 0 7 (TooFew 1 1) → ⊥ }
     ensures other_count { IsWhy four_gigabytes 0 7 (TooFew 1 0) → ⊥ }
     ensures fewer_needed { IsWhy cached 0 8 (TooFew 1 0) → ⊥ }
+    ensures none_needed { IsWhy cached 0 32 (TooFew 0 0) → ⊥ }
     ensures not_accepted { IsWhy with_reserved_bit 0 8 (TooFew 1 0) → ⊥ }
 {}
 
@@ -137,10 +139,12 @@ pub fn worked_fits()
     ensures not_in_order { IsLeastList uncached two_pages 0 (range 8 0 WB ∷ range 0 0 WB ∷ []) → ⊥ }
     ensures not_allowed { IsLeastList (record cached { default_type = 0x804 }) side_by_side 0 (range 0 3 WB ∷ range 4 2 UC ∷ []) → ⊥ }
     ensures tidied { IsTidied cached (all_of WB) 0 8 cached 0 }
+    ensures more_spared_than_there_are { IsTidied cached (all_of WB) 0 32 cached 0 }
     ensures other_pat { IsTidied cached (all_of WB) 0 0 (record cached { pat = 0x0007040600070407 }) 0 → ⊥ }
     ensures miscounted { (t : IsTidied cached (all_of UC) 0 0 (with_ranges cached (range 0 24 UC ∷ [])) 0) → t.ranges ≡ range 0 24 UC ∷ [] → ⊥ }
     ensures none_left { IsTidied cached (all_of UC) 0 8 (with_ranges cached (range 0 24 UC ∷ [])) 1 → ⊥ }
     ensures enough { IsTooFew cached (all_of UC) 0 7 1 1 → ⊥ }
     ensures other_count { IsTooFew cached (all_of UC) 0 7 1 0 → ⊥ }
     ensures fewer_needed { IsTooFew cached (all_of WB) 0 8 1 0 → ⊥ }
+    ensures none_needed { IsTooFew cached (all_of WB) 0 32 0 0 → ⊥ }
 {}

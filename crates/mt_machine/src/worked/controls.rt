@@ -17,6 +17,8 @@ pub fn worked_refusals()
     ensures no_ram_empties_nothing { pending (run palette (maps 0 (mapping 6 0x200 3) ∷ store 0 0x3000 7 ∷ load 0 0x6000 ∷ [])) 0 ≡ (0x4000, 1) ∷ [] }
     ensures no_ram_store_empties_nothing { pending (run palette (maps 0 (mapping 6 0x200 3) ∷ store 0 0x3000 7 ∷ store 0 0x6000 1 ∷ [])) 0 ≡ (0x4000, 1) ∷ [] }
     ensures no_ram_fills_an_entry { length (own (run palette (maps 0 (mapping 6 0x200 0) ∷ load 0 0x6000 ∷ [])) 0).entries ≡ 1 }
+    ensures no_ram_store_fills_an_entry { length (own (run palette (maps 0 (mapping 6 0x200 0) ∷ store 0 0x6000 1 ∷ [])) 0).entries ≡ 1 }
+    ensures no_ram_store_keeps_its_entry { length (own (run palette (maps 0 (mapping 6 0x200 0) ∷ load 0 0x6000 ∷ store 0 0x6000 1 ∷ [])) 0).entries ≡ 1 }
     ensures busy { answer_of (walk 1 0 (called palette)) 0 (Load 0x6000) ≡ Busy }
     ensures busy_fence { answer_of (walk 1 0 (called palette)) 0 Fence ≡ Busy }
     ensures fence { memory_at (run palette (store 0 0x3000 7 ∷ Accesses 0 Fence ∷ [])) 0x100000 ≡ 7 }

@@ -5,7 +5,7 @@ ghost use Rattle.mt_machine.specs.declared.control.Control.TheVariants.{Invlpg, 
 ghost use Rattle.mt_machine.specs.declared.done.Done.TheVariants.{Value};
 ghost use Rattle.mt_machine.specs.declared.op.Op.TheVariants.{Load};
 ghost use Rattle.mt_machine.specs.Machine.{Controls, run};
-ghost use Rattle.mt_machine.specs.WorkedRuns.{alone, answer_of, cached, crowded, entry, global_mapping, holder, load, mapping, maps, memory_at, no_fill, own, palette, pending, setup, store, uncached_goal, wide_alone};
+ghost use Rattle.mt_machine.specs.WorkedRuns.{alone, answer_of, cached, choosing, crowded, entry, global_mapping, holder, load, machine_of, mapping, maps, memory_at, no_fill, own, painter, palette, pending, setup, store, uncached_goal, wide_alone};
 
 /// Rows of the table of loads.
 pub fn worked_loads()
@@ -34,6 +34,7 @@ pub fn worked_loads()
     ensures wp_fills { cached (run palette (load 0 0x5000 ∷ [])) 0 ≡ (0x4000, 0) ∷ [] }
     ensures wb_fills { cached (run palette (load 0 0x1000 ∷ [])) 0 ≡ (0x4000, 0) ∷ [] }
     ensures wb_reads_the_bus { memory_at (run palette (store 1 0x1008 9 ∷ load 0 0x1000 ∷ [])) 0x100008 ≡ 9 }
+    ensures wb_reads_a_third_cache { memory_at (run (machine_of (painter ∷ painter ∷ painter ∷ [])) (store 2 0x1008 9 ∷ load 0 0x1000 ∷ [])) 0x100008 ≡ 9 }
     ensures wb_leaves_copies { cached (run palette (store 1 0x1008 9 ∷ load 0 0x1000 ∷ [])) 1 ≡ (0x4000, 0) ∷ [] }
     ensures hit_reads_the_cache { answer_of (run palette (store 0 0x1000 5 ∷ [])) 0 (Load 0x2000) ≡ Value 5 WT }
     ensures hit_writes_nothing { memory_at (run palette (store 0 0x1000 5 ∷ load 0 0x1000 ∷ [])) 0x100000 ≡ 0 }
@@ -65,6 +66,9 @@ pub fn worked_translations()
     ensures not_marked_global { (own (run palette (Controls 0 (Pge true) ∷ load 0 0x1000 ∷ [])) 0).entries ≡ entry 1 false ∷ [] }
     ensures global { (own (run palette (maps 0 (global_mapping 1) ∷ Controls 0 (Pge true) ∷ load 0 0x1000 ∷ [])) 0).entries ≡ entry 1 true ∷ [] }
     ensures era { map (λ e. e.era) (own (run (alone (record (holder true) { era = 3; entries = [] })) (load 0 0x1000 ∷ [])) 0).entries ≡ 3 ∷ [] }
+    ensures index_5 { answer_of (alone (choosing 5)) 0 (Load 0x1000) ≡ Value 0 WC }
+    ensures index_6 { answer_of (alone (choosing 6)) 0 (Load 0x1000) ≡ Value 0 WP }
+    ensures index_7 { answer_of (alone (choosing 7)) 0 (Load 0x1000) ≡ Value 0 WT }
     ensures full { length (own (run (wide_alone crowded) (load 0 0x1000 ∷ [])) 0).entries ≡ 64 }
     ensures oldest_goes { slice_get (own (run (wide_alone crowded) (load 0 0x1000 ∷ [])) 0).entries 0 ≡ Some (entry 3 false) }
     ensures newest_comes_last { slice_get (own (run (wide_alone crowded) (load 0 0x1000 ∷ [])) 0).entries 63 ≡ Some (entry 1 false) }

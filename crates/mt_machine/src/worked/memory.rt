@@ -3,7 +3,7 @@ ghost use Rattle.std.specs.Prelude.{◌≡◌, ◌∷◌, [], length, None, slic
 ghost use Rattle.mt_machine.specs.Memory.{line_words, place, put_word, word_at};
 ghost use Rattle.mt_machine.specs.System.{start_processor};
 ghost use Rattle.mt_machine.specs.Update.{addresses, settled_processor};
-ghost use Rattle.mt_machine.specs.WorkedRuns.{goal_of, mapping, two_windows, whole};
+ghost use Rattle.mt_machine.specs.WorkedRuns.{goal_of, mapping, three_windows, two_windows, whole};
 
 /// Places of words, where the window that stands last lies lower.
 pub fn worked_places()
@@ -15,6 +15,7 @@ pub fn worked_places()
     ensures between { place two_windows 0x100 ≡ None }
     ensures behind { place two_windows 0x100040 ≡ None }
     ensures within_a_word { place two_windows 0x84 ≡ None }
+    ensures first_of_a_third { place three_windows 0x200000 ≡ Some 24 }
     ensures word { word_at two_windows 0x88 ≡ 19 }
     ensures no_word { word_at two_windows 0x100 ≡ 0 }
     ensures put { word_at (put_word two_windows 0xf8 7) 0xf8 ≡ 7 }

@@ -62,6 +62,7 @@ pub fn worked_phases()
     ensures arrive_again { due_at (walk 42 0 (called (alone (holder true)))) 0 ≡ Some ArriveAgain }
     ensures release { due_at (walk 43 0 (called (alone (holder true)))) 0 ≡ Some Release }
     ensures released { (own (walk 44 0 (called (alone (holder true)))) 0).era ≡ 1 }
+    ensures released_of_a_later_era { (own (walk 44 0 (called (alone (record (holder true) { era = 3 })))) 0).era ≡ 4 }
     ensures over { due_at (walk 44 0 (called (alone (holder true)))) 0 ≡ None }
     ensures arrived_again { (own (walk 39 0 (both_arrived palette)) 0).phase ≡ Arrived2 }
     ensures waits_at_the_second { due_at (walk 39 0 (both_arrived palette)) 0 ≡ None }

@@ -6,6 +6,7 @@ use Rattle.mt_kinds.specs.declared.mem_type.MemType.TheVariants.{WB, WC}
 use Rattle.mt_regs.specs.RegisterFile.{RegisterFile}
 use Rattle.mt_regs.specs.declared.page_type.PageType.TheVariants.{Kind, Undefined}
 use Rattle.mt_tidy.specs.LeastList.{IsLeastList}
+use Rattle.mt_tidy.specs.Tidied.{IsTidied}
 use Rattle.mt_tidy.specs.Wanted.{Gives, is_supported_type}
 use Rattle.mt_tidy.specs.WorkedRanges.{all_of, cached, uncached}
 use Rattle.mt_tidy.proofs.worked.worked_fits.Goals as goal
@@ -52,8 +53,9 @@ returns-clause-not_in_order c = λ h. ⊎_elim (λ w. omega (arith, w)) (λ x. o
 pub returns-clause-not_allowed : goal.returns-clause-not_allowed
 returns-clause-not_allowed c = λ h. omega (arith, h.allowed.0.0 (4, refl, refl))
 
-pub returns-clause-tidied : goal.returns-clause-tidied
-returns-clause-tidied c = record {
+-- whatever number is to be spared
+as_it_was : (spare : ℕ) → IsTidied cached (all_of WB) 0 spare cached 0
+as_it_was spare = record {
   ranges = [];
   file = refl;
   count = refl;
@@ -63,6 +65,12 @@ returns-clause-tidied c = record {
   kinds = λ page within free. rw (below page 0x1000000 within) refl;
   free = λ page free. refl;
 }
+
+pub returns-clause-tidied : goal.returns-clause-tidied
+returns-clause-tidied c = as_it_was 8
+
+pub returns-clause-more_spared_than_there_are : goal.returns-clause-more_spared_than_there_are
+returns-clause-more_spared_than_there_are c = as_it_was 32
 
 pub returns-clause-other_pat : goal.returns-clause-other_pat
 returns-clause-other_pat c = λ h. omega (arith, ap (λ (f : RegisterFile). f.pat) h.file)
@@ -81,3 +89,6 @@ returns-clause-other_count c = λ h. omega (arith, h.has_is)
 
 pub returns-clause-fewer_needed : goal.returns-clause-fewer_needed
 returns-clause-fewer_needed c = λ h. omega (arith, h.least.none_shorter [] by_default tt)
+
+pub returns-clause-none_needed : goal.returns-clause-none_needed
+returns-clause-none_needed c = λ h. omega (arith, h.above, h.has_is)

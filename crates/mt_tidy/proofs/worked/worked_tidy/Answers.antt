@@ -1,7 +1,8 @@
-use Rattle.std.proofs.Common.{[], ◌∷◌, length, refl, arith, ap, subst, ⊎_elim}
+use Rattle.std.proofs.Common.{ℕ, [], ◌∷◌, length, refl, arith, ap, subst, ⊎_elim}
 use Rattle.mt_kinds.specs.declared.mem_type.MemType.TheVariants.{WB}
 use Rattle.mt_regs.specs.RegisterFile.{RegisterFile}
 use Rattle.mt_tidy.specs.Keeps.{Keeps}
+use Rattle.mt_tidy.specs.Kept.{IsTidy}
 use Rattle.mt_tidy.specs.Ranges.{InOrder, IsAllowed}
 use Rattle.mt_tidy.specs.WorkedRanges.{cached, one_range, range}
 use Rattle.mt_tidy.proofs.worked.worked_tidy.Goals as goal
@@ -13,8 +14,9 @@ by_default = record {
   defined = λ page within undefined. absurd (cc undefined);
 }
 
-pub returns-clause-tidy : goal.returns-clause-tidy
-returns-clause-tidy c = record {
+-- whatever number is to be spared
+as_it_was : (spare : ℕ) → IsTidy cached 0 spare cached 0
+as_it_was spare = record {
   old_accepted = λ page within undefined. absurd (cc undefined);
   enabled = refl;
   ranges = [];
@@ -28,6 +30,12 @@ returns-clause-tidy c = record {
   accepted = λ page within undefined. absurd (cc undefined);
   same_types = λ page within. refl;
 }
+
+pub returns-clause-tidy : goal.returns-clause-tidy
+returns-clause-tidy c = as_it_was 8
+
+pub returns-clause-more_spared_than_there_are : goal.returns-clause-more_spared_than_there_are
+returns-clause-more_spared_than_there_are c = as_it_was 32
 
 pub returns-clause-not_accepted : goal.returns-clause-not_accepted
 returns-clause-not_accepted c = λ h. h.old_accepted 0xc0000 (omega arith) refl
