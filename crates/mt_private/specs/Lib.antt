@@ -15,3 +15,4 @@ pub mod Alone
 pub mod WorkedLeft
 pub mod WorkedGathered
 pub mod Visitors
+pub mod InYard
