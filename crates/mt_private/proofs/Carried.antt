@@ -22,7 +22,7 @@ use Rattle.mt_private.specs.declared.view.Resident.{Resident}
 use Rattle.mt_private.specs.declared.view.YardView.{YardView}
 use Rattle.mt_private.specs.Residents.{Opens, accessed_by, in_system, own_of, stepped_by, with_first, with_stored}
 use Rattle.mt_private.specs.YardRule.{with_one}
-use Rattle.mt_private.specs.YardPlays.{ArrivesAgainYard, ArrivesYard, OfOne, PassesYard, ReleasesYard, TakesYard, Turns, YardSat}
+use Rattle.mt_private.specs.YardPlays.{ArrivesAgainYard, ArrivesYard, IsCallable, OfOne, PassesYard, ReleasesYard, TakesYard, TurnsUnshown, YardSat}
 use Rattle.mt_private.specs.YardCalls.{Lodges, Visits, done_by, done_in, stored_by, stored_in}
 use Rattle.mt_private.proofs.Alone.{Onward, called_given, change_one, due_take, round_on}
 
@@ -152,14 +152,15 @@ module _ {table : TableId} {t : Start} {its : TableId} {me : YardSat} {number : 
       first a b h = cc
 
   -- what a load that shows no cancel tells of it
-  pub took : (found : ℕ) (new : YardSat) → (found < 4294967296 → Opens me.0.start × OfOne me.0 (λ y. Turns me.0 new.0 y (stepped_by me.0.start Take y) me.0.shown me.0.cancel (Some (Steps y.held.number Take)) × FitsGoal me.0.start.goal y.held.cpu × (y.held.cpu.era ≡ common_era me.0.start.cpus)))
+  pub took : (found : ℕ) (new : YardSat)
+      → (found < 4294967296 → Opens me.0.start × OfOne me.0 (λ y. TurnsUnshown me new y (stepped_by me.0.start Take y) (Some (Steps y.held.number Take)) × IsCallable me.0.start y))
       → found < 4294967296 → Opens t × (new.0 ≡ with_one me.0 (stepped_by t Take its_guest) me.0.shown me.0.cancel) × FitsGoal t.goal r.cpu × (r.cpu.era ≡ common_era t.cpus)
   took found new tells low =
       let o = tells low in (
         subst Opens r.told o.0,
         of_guest (λ u y. new.0 ≡ with_one me.0 (stepped_by u Take y) me.0.shown me.0.cancel) (λ y same. (o.1 y same).0.0),
-        of_guest (λ u y. FitsGoal u.goal y.held.cpu) (λ y same. (o.1 y same).1),
-        of_guest (λ u y. y.held.cpu.era ≡ common_era u.cpus) (λ y same. (o.1 y same).2),
+        of_guest (λ u y. FitsGoal u.goal y.held.cpu) (λ y same. (o.1 y same).1.0),
+        of_guest (λ u y. y.held.cpu.era ≡ common_era u.cpus) (λ y same. (o.1 y same).1.1),
       )
 
   -- and its own machine after the call and the take

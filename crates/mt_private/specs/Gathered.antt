@@ -1,5 +1,5 @@
 -- What a gathering makes (own).
-use Rattle.std.specs.Prelude.{◌≡◌, ℕ, ◌≤◌, false, List, [], drop, length, slice_get, vec_capacity, None, Some}
+use Rattle.std.specs.Prelude.{◌≡◌, ℕ, ◌≤◌, false, List, [], ◌∷◌, drop, length, slice_get, vec_capacity, None, Some}
 use Rattle.atomic_table.specs.Seated.{TableId}
 use Rattle.mt_machine.specs.Memory.{Memory}
 use Rattle.mt_machine.specs.System.{Processor, System}
@@ -15,6 +15,10 @@ use Rattle.mt_private.specs.YardRule.{residents}
 -- the root has the residents from number i on
 abbrev pub OffersFrom : Start → ℕ → YardSat → Type 0
 OffersFrom t i me = me.0.held ≡ residents t i (drop i t.cpus)
+
+-- processor k alone, as it was gathered: with the words of the pages that it names
+abbrev pub IsOwnOf : Start → ℕ → System → Type 0
+IsOwnOf t k own = (p : Processor) × (slice_get t.cpus k ≡ Some p) × (own ≡ record { processors = p ∷ []; memory = own_memory (pages_of p) t.ram })
 
 -- guest k as it was gathered: it has processor k, with the words of the pages that it names, and its pass has added nothing and was shown nothing
 pub record IsGathered (table : TableId) (t : Start) (k : ℕ) (its : TableId) (me : YardSat) (number : ℕ) (own : System) : Type 0 where

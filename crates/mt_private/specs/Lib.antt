@@ -17,3 +17,4 @@ pub mod WorkedGathered
 pub mod Visitors
 pub mod WorkedWay
 pub mod WorkedVisitors
+pub mod InYard

@@ -7,6 +7,9 @@ use Rattle.mt_machine.specs.Memory.{Window, put_word}
 use Rattle.mt_machine.specs.System.{Processor, System, start_processor}
 use Rattle.mt_machine.specs.Start.{zero_memory}
 use Rattle.mt_machine.specs.WorkedRuns.{line_of, mapping, uncached_goal}
+use Rattle.mt_private.specs.declared.job.Job.{Job}
+use Rattle.mt_private.specs.declared.job.Part.{Part}
+use Rattle.mt_private.specs.Jobs.{ops_in}
 use Rattle.mt_private.specs.OneByOne.{OneByOne, one_by_one}
 
 -- page 1 is mapped to this physical page
@@ -33,6 +36,10 @@ stores = (Store 0x1000 0x2a ∷ []) ∷ (Store 0x1000 0x2b ∷ []) ∷ []
 
 abbrev pub loads : List (List Op)
 loads = (Load 0x1000 ∷ []) ∷ (Load 0x1000 ∷ []) ∷ []
+
+-- what two jobs do in this part
+abbrev pub both_ops : Part → Job → Job → List (List Op)
+both_ops part first second = ops_in part first ∷ ops_in part second ∷ []
 
 -- all memory turns to UC between them
 abbrev pub pair_done : OneByOne

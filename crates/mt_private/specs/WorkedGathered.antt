@@ -1,5 +1,5 @@
 -- Views of a worked yard: what a gathering gives each seat, and what a guest's job leaves.
-use Rattle.std.specs.Prelude.{◌≡◌, ℕ, Bool, false, List, [], ◌∷◌, None, Some}
+use Rattle.std.specs.Prelude.{◌≡◌, ℕ, Bool, false, true, List, [], ◌∷◌, ◌++◌, None, Some}
 use Rattle.atomic_table.specs.Seated.{TableId}
 use Rattle.mt_kinds.specs.declared.mem_type.MemType.TheVariants.{UC, WB}
 use Rattle.mt_cache.specs.declared.line.CacheLine.{CacheLine}
@@ -18,8 +18,9 @@ use Rattle.mt_private.specs.declared.job.Told.{Told}
 use Rattle.mt_private.specs.declared.view.Resident.{Resident}
 use Rattle.mt_private.specs.declared.view.YardView.{YardView}
 use Rattle.mt_private.specs.declared.visiting.Visited.TheVariants.{Cancelled, Complete}
-use Rattle.mt_private.specs.Own.{own_memory}
-use Rattle.mt_private.specs.Residents.{own_of, pages_at}
+use Rattle.mt_private.specs.Own.{own_memory, pages_of}
+use Rattle.mt_private.specs.Residents.{accessed_by, own_of, pages_at, with_held, with_stored}
+use Rattle.mt_private.specs.Worked.{marked}
 use Rattle.mt_private.specs.WorkedYard.{first_lodged, lodger, lodging}
 use Rattle.mt_private.specs.YardCalls.{VisitEnds}
 
@@ -29,6 +30,10 @@ view_of y = record { root = false; held = y ∷ []; go = Pending; shown = None; 
 
 abbrev pub second_lodged : Resident
 second_lodged = record { held = held 1 (lodger 0x200) false false; ram = own_memory (pages_at lodging 1) lodging.ram; done = []; stored = 0 }
+
+-- the words of the page that this lodger names
+abbrev pub words_of_lodger : ℕ → Memory
+words_of_lodger page = own_memory (pages_of (lodger page)) marked.memory
 
 -- the first processor with the second's words
 abbrev pub with_other_words : Resident
@@ -77,6 +82,25 @@ finished_without = record { processors = loader ∷ []; memory = first_words }
 -- the resident with this processor and these words, and what its pass has added and it has done
 abbrev pub come : Processor → Memory → Bool → Bool → List Op → Resident
 come p m added again done = record { held = held 0 p added again; ram = m; done = done; stored = 0 }
+
+-- once it has loaded a word
+abbrev pub first_accessed : Resident
+first_accessed = with_stored (accessed_by (Load 0x1000) first_lodged) 1
+
+-- once its pass has added to both counts
+abbrev pub first_out : Resident
+first_out = with_held first_lodged (held 0 (lodger 0x100) true true)
+
+-- once its job is done, and where its update was cancelled
+abbrev pub job_done : Resident
+job_done = come loader finished.memory true true (store_ops ++ load_ops)
+
+abbrev pub job_cancelled : Resident
+job_cancelled = come storer first_words true false store_ops
+
+-- the loader once it is released
+abbrev pub released_loader : Resident
+released_loader = come loader finished.memory true true []
 
 abbrev pub IsJob : Job → Type 0
 IsJob job = (job.before.items ≡ store_ops) × (job.after.items ≡ load_ops)

@@ -17,8 +17,9 @@ use Rattle.mt_private.specs.declared.view.YardView.{YardView}
 use Rattle.mt_private.specs.Worked.{marked}
 use Rattle.mt_private.specs.Own.{own_memory}
 use Rattle.mt_private.specs.Residents.{pages_at, stepped_by, system_of, with_held}
-use Rattle.mt_private.specs.YardRule.{first_yard_view, residents}
+use Rattle.mt_private.specs.YardRule.{first_yard_view, residents, yard_left, yard_right}
 use Rattle.mt_private.specs.YardLaws.{YardState}
+use Rattle.mt_private.specs.YardPlays.{YardSat}
 
 -- page 1 is mapped to this physical page
 abbrev pub lodger : ℕ → Processor
@@ -51,6 +52,14 @@ first_taken = stepped_by lodging Take first_lodged
 abbrev pub at_start : Key → List ℕ → YardState
 at_start key words = opening words [] (first_yard_view key)
 
+-- nobody has done anything yet
+abbrev pub first_state : Key → YardState
+first_state key = at_start key (0 ∷ 0 ∷ 0 ∷ 0 ∷ [])
+
+-- the root has given its first resident away
+abbrev pub split_state : Key → YardState
+split_state key = record { words = 0 ∷ 0 ∷ 0 ∷ 0 ∷ []; homes = []; views = yard_left (first_yard_view key) ∷ yard_right (first_yard_view key) ∷ [] }
+
 -- an addition of this to the first count
 abbrev pub adds : ℕ → Step Op
 adds n = step 0 0 n 0 none
@@ -73,3 +82,11 @@ numbers_of ys = map (λ y. y.held.number) ys
 -- the view of a pass with this processor, and the words of the first
 abbrev pub guest_with : Held → YardView
 guest_with h = record { root = false; held = with_held first_lodged h ∷ []; go = Pending; shown = None; cancel = false; start = lodging }
+
+-- the seat of the first's pass, with this processor
+abbrev pub seat_with : Held → YardSat
+seat_with h = (guest_with h, [])
+
+-- as it was gathered
+abbrev pub first_seat : YardSat
+first_seat = seat_with (held 0 (lodger 0x100) false false)

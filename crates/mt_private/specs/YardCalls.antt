@@ -85,7 +85,8 @@ updated_own goal s = (updated s (0 ∷ []) goal).system
 abbrev pub IsLeft : System → System → Type 0
 IsLeft first own = (own ≡ first) ⊎ (own ≡ in_phase Running (drain 0 first))
 
--- what comes of a guest. Complete: the accesses before, the whole update and the accesses after, and a load showed that all had arrived again. Cancelled: the accesses before, and a load showed the cancel
+-- what comes of a guest. Complete: the accesses before, the whole update and the accesses after, and a load showed that all had arrived again.
+-- Cancelled: the accesses before, and a load showed the cancel
 abbrev pub VisitEnds : Visited → TableId → Start → ℕ → RegisterFile → Job → System → TableId → YardSat → System → Told → Type 0
 VisitEnds Complete table t number goal job own its me new told =
     Lodges table t its me number new true true

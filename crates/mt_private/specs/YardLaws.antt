@@ -53,8 +53,8 @@ LoadPasses =
 
 abbrev pub LoadLeaves : Type 0
 LoadLeaves =
-    (t : Start) (all : List Resident) (go : Go) (first second : ℕ) (s : System) (k : ℕ) (y : Resident) → Has t all go first second s k y true false → (y.held.cpu.phase ≡ Taken) ⊎ (y.held.cpu.phase ≡ Arrived)
-    → 4294967296 ≤ first → Follows t all go s k (with_held y (does t Leave y.held)) (Some (Steps k Leave)) first second
+    (t : Start) (all : List Resident) (go : Go) (first second : ℕ) (s : System) (k : ℕ) (y : Resident) → Has t all go first second s k y true false
+    → (y.held.cpu.phase ≡ Taken) ⊎ (y.held.cpu.phase ≡ Arrived) → 4294967296 ≤ first → Follows t all go s k (with_held y (does t Leave y.held)) (Some (Steps k Leave)) first second
 
 -- ---- an addition to the first count
 
@@ -87,14 +87,15 @@ LoadReleases =
 -- an access, before the processor takes or after it is released or has left; the answer is that of its own system
 abbrev pub StoreAccesses : Type 0
 StoreAccesses =
-    (t : Start) (all : List Resident) (go : Go) (first second : ℕ) (s : System) (k : ℕ) (y : Resident) (op : Op) (n : ℕ) → Yard t all go first second s → get_elem? all k ≡ some y → y.held.cpu.phase ≡ Running → FitsOp op
-    → Follows t all go s k (with_stored (accessed_by op y) n) (Some (Accesses k op)) first second × ((access s k op).answer ≡ (access (own_of y) 0 op).answer)
+    (t : Start) (all : List Resident) (go : Go) (first second : ℕ) (s : System) (k : ℕ) (y : Resident) (op : Op) (n : ℕ) → Yard t all go first second s → get_elem? all k ≡ some y
+    → y.held.cpu.phase ≡ Running → FitsOp op → Follows t all go s k (with_stored (accessed_by op y) n) (Some (Accesses k op)) first second × ((access s k op).answer ≡ (access (own_of y) 0 op).answer)
 
 -- the event that is due between the barriers
 abbrev pub StoreWorks : Type 0
 StoreWorks =
-    (t : Start) (all : List Resident) (go : Go) (first second : ℕ) (s : System) (k : ℕ) (y : Resident) (e : Event) (n : ℕ) → Has t all go first second s k y true false → is_local y.held.cpu.phase ≡ true
-    → ((o : Order) (ps : List Processor) → due o ps y.held.cpu y.held.cpu.phase ≡ Some e) → Follows t all go s k (with_stored (stepped_by t e y) n) (Some (Steps k e)) first second
+    (t : Start) (all : List Resident) (go : Go) (first second : ℕ) (s : System) (k : ℕ) (y : Resident) (e : Event) (n : ℕ) → Has t all go first second s k y true false
+    → is_local y.held.cpu.phase ≡ true → ((o : Order) (ps : List Processor) → due o ps y.held.cpu y.held.cpu.phase ≡ Some e)
+    → Follows t all go s k (with_stored (stepped_by t e y) n) (Some (Steps k e)) first second
 
 -- ---- the table
 
@@ -167,5 +168,6 @@ SplitIsNone =
 
 abbrev pub JoinIsNone : Type 0
 JoinIsNone =
-    (key : Key) (s : YardState) (m : MeetsYard key s) (id other : ℕ) (v w : YardView) (y : Resident) → get_elem? s.views id ≡ some v → v.root ≡ true → ¬ (other ≡ id) → get_elem? s.views other ≡ some w → w.held ≡ y ∷ []
+    (key : Key) (s : YardState) (m : MeetsYard key s) (id other : ℕ) (v w : YardView) (y : Resident) → get_elem? s.views id ≡ some v → v.root ≡ true → ¬ (other ≡ id)
+    → get_elem? s.views other ≡ some w → w.held ≡ y ∷ []
     → IsOneEvent key s (record { words = s.words; homes = s.homes; views = slice_set (slice_set s.views id (yard_both v w)) other yard_spent }) m None

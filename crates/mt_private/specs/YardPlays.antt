@@ -64,27 +64,35 @@ pub record PassMoves (t : Start) (y w : Resident) (e : Option MachineEvent) : Ty
 abbrev pub Turns : YardView → YardView → Resident → Resident → Option ℕ → Bool → Option MachineEvent → Type 0
 Turns v new y w shown cancel e = (new ≡ with_one v w shown cancel) × PassMoves v.start y w e
 
+-- so, and the view says as before what it was shown
+abbrev pub TurnsUnshown : YardSat → YardSat → Resident → Resident → Option MachineEvent → Type 0
+TurnsUnshown me new y w e = Turns me.0 new.0 y w me.0.shown me.0.cancel e
+
+-- its processor fits the goal, and holds nothing of another era
+abbrev pub IsCallable : Start → Resident → Type 0
+IsCallable t y = FitsGoal t.goal y.held.cpu × (y.held.cpu.era ≡ common_era t.cpus)
+
 -- a load of the first count by a resident that hasn't taken: Take, or none where it shows the cancel. It tells besides that the resident's own machine may be called
 abbrev pub TakesYard : Step Op → YardSat → ℕ → YardSat → Type 0
 TakesYard st me found new =
     (new.1 ≡ me.1)
-    × (found < 4294967296 → Opens me.0.start × OfOne me.0 (λ y. Turns me.0 new.0 y (stepped_by me.0.start Take y) me.0.shown me.0.cancel (Some (Steps y.held.number Take)) × FitsGoal me.0.start.goal y.held.cpu × (y.held.cpu.era ≡ common_era me.0.start.cpus)))
+    × (found < 4294967296 → Opens me.0.start × OfOne me.0 (λ y. TurnsUnshown me new y (stepped_by me.0.start Take y) (Some (Steps y.held.number Take)) × IsCallable me.0.start y))
     × (4294967296 ≤ found → OfOne me.0 (λ y. Turns me.0 new.0 y y me.0.shown true None))
 
 -- an addition to the first count: Arrive, or none where the count held the cancel before
 abbrev pub ArrivesYard : Step Op → YardSat → ℕ → YardSat → Type 0
 ArrivesYard st me found new =
     (new.1 ≡ me.1)
-    × (found < 4294967296 → OfOne me.0 (λ y. Turns me.0 new.0 y (with_held y (arrive me.0.start y.held)) me.0.shown me.0.cancel (Some (Steps y.held.number Arrive))))
-    × (4294967296 ≤ found → OfOne me.0 (λ y. Turns me.0 new.0 y (with_held y (late y.held)) me.0.shown me.0.cancel None))
+    × (found < 4294967296 → OfOne me.0 (λ y. TurnsUnshown me new y (with_held y (arrive me.0.start y.held)) (Some (Steps y.held.number Arrive))))
+    × (4294967296 ≤ found → OfOne me.0 (λ y. TurnsUnshown me new y (with_held y (late y.held)) None))
 
 -- a load of the first count by one that waits: Pass where all have added and go is given, Leave where it shows the cancel, else none
 abbrev pub PassesYard : Step Op → YardSat → ℕ → YardSat → Type 0
 PassesYard st me found new =
     (new.1 ≡ me.1)
-    × (found ≡ length me.0.start.cpus + 1 → OfOne me.0 (λ y. Turns me.0 new.0 y (with_held y (does me.0.start Pass y.held)) me.0.shown me.0.cancel (Some (Steps y.held.number Pass)) × (y.held.cpu.phase ≡ Arrived)))
+    × (found ≡ length me.0.start.cpus + 1 → OfOne me.0 (λ y. TurnsUnshown me new y (with_held y (does me.0.start Pass y.held)) (Some (Steps y.held.number Pass)) × (y.held.cpu.phase ≡ Arrived)))
     × (4294967296 ≤ found → OfOne me.0 (λ y. Turns me.0 new.0 y (with_held y (does me.0.start Leave y.held)) me.0.shown true (Some (Steps y.held.number Leave))))
-    × (found < 4294967296 → found ≢ length me.0.start.cpus + 1 → OfOne me.0 (λ y. Turns me.0 new.0 y y me.0.shown me.0.cancel None))
+    × (found < 4294967296 → found ≢ length me.0.start.cpus + 1 → OfOne me.0 (λ y. TurnsUnshown me new y y None))
 
 -- the word of the pass's own events
 abbrev pub IsOwnWord : ℕ → YardSat → Type 0
@@ -94,15 +102,15 @@ IsOwnWord i me = OfOne me.0 (λ y. i ≡ y.held.number + 2)
 abbrev pub WorksYard : Step Op → YardSat → ℕ → YardSat → Type 0
 WorksYard st me found new =
     (new.1 ≡ me.1)
-    × OfOne me.0 (λ y. Turns me.0 new.0 y (with_stored (stepped_by me.0.start (own_event me.0.start y.held.cpu) y) st.first) me.0.shown me.0.cancel (Some (Steps y.held.number (own_event me.0.start y.held.cpu))))
+    × OfOne me.0 (λ y. TurnsUnshown me new y (with_stored (stepped_by me.0.start (own_event me.0.start y.held.cpu) y) st.first) (Some (Steps y.held.number (own_event me.0.start y.held.cpu))))
     × IsOwnWord st.word me
 
 -- an exchange of the own event word that announces an access, which it is where it finds what it compares with; else it is none. What it finds is what the pass stored last
 abbrev pub AccessesYard : Step Op → YardSat → ℕ → YardSat → Type 0
 AccessesYard st me found new =
     (new.1 ≡ me.1)
-    × (found ≡ st.first → (op : Op) → st.said ≡ some op → OfOne me.0 (λ y. Turns me.0 new.0 y (with_stored (accessed_by op y) st.second) me.0.shown me.0.cancel (Some (Accesses y.held.number op))))
-    × (found ≢ st.first → OfOne me.0 (λ y. Turns me.0 new.0 y y me.0.shown me.0.cancel None))
+    × (found ≡ st.first → (op : Op) → st.said ≡ some op → OfOne me.0 (λ y. TurnsUnshown me new y (with_stored (accessed_by op y) st.second) (Some (Accesses y.held.number op))))
+    × (found ≢ st.first → OfOne me.0 (λ y. TurnsUnshown me new y y None))
     × OfOne me.0 (λ y. found ≡ y.stored)
     × IsOwnWord st.word me
 
@@ -110,7 +118,7 @@ AccessesYard st me found new =
 abbrev pub ArrivesAgainYard : Step Op → YardSat → ℕ → YardSat → Type 0
 ArrivesAgainYard st me found new =
     (new.1 ≡ me.1)
-    × OfOne me.0 (λ y. Turns me.0 new.0 y (with_held y (arrive_again me.0.start y.held)) me.0.shown me.0.cancel (Some (Steps y.held.number ArriveAgain)))
+    × OfOne me.0 (λ y. TurnsUnshown me new y (with_held y (arrive_again me.0.start y.held)) (Some (Steps y.held.number ArriveAgain)))
 
 -- a load of the second count, which the view keeps: Release where all have arrived again, else none
 abbrev pub ReleasesYard : Step Op → YardSat → ℕ → YardSat → Type 0

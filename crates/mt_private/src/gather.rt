@@ -6,14 +6,13 @@ ghost use lib.ListN.{get_elem?};
 ghost use Rattle.mt_machine.specs.Memory.{IsMemory};
 ghost use Rattle.mt_machine.specs.System.{IsSound, Processor, System as MachineSystem};
 ghost use Rattle.mt_bus.specs.Tables.{AreTablesOf};
-ghost use Rattle.mt_rendezvous.specs.Calls.{Leads, gathered};
-ghost use Rattle.mt_rendezvous.specs.Station.{start_of};
+ghost use Rattle.mt_rendezvous.specs.Calls.{gathered};
 ghost use Rattle.mt_private.specs.Alone.{named_by_none};
 ghost use Rattle.mt_private.specs.Own.{own_memory, own_system, pages_of};
 ghost use Rattle.mt_private.specs.Residents.{Opens, pages_at, system_of};
-ghost use Rattle.mt_private.specs.Gathered.{AreGathered, AreRooms, IsGathered, IsRest, IsRoom, OffersFrom};
+ghost use Rattle.mt_private.specs.Gathered.{AreRooms, IsOwnOf, IsRest, IsRoom, OffersFrom};
+ghost use Rattle.mt_private.specs.InYard.{AreGatheredIn, IsGatheredIn, LeadsIn, start_at};
 ghost use Rattle.mt_private.specs.Left.{less, word_by_word};
-ghost use Rattle.mt_private.specs.YardPlays.{as_sat};
 
 use crate::host::{Host, Yard};
 use crate::pages::names;
@@ -162,12 +161,12 @@ fn settle(cpu: Cpu, table: KindTable, room: Room) -> System
 
 // The root's next resident goes to a new pass.
 fn give_away(yard: &Yard, seat: &mut Seat<Op, YardView>, own: System, i: usize) -> Guest
-    requires hosts { Leads yard.now.table.shared.table_id (start_of yard.now.table.shared.key) seat.old.table_id (as_sat seat.old.me) Pending }
-    requires offers { OffersFrom (start_of yard.now.table.shared.key) i seat.old.me }
-    requires own { (p : Processor) × (slice_get yard.now.table.shared.key.cpus.value.items i ≡ Some p) × (own ≡ record { processors = p ∷ []; memory = own_memory (pages_of p) yard.now.table.shared.key.ram.value }) }
-    ensures hosts { Leads yard.now.table.shared.table_id (start_of yard.now.table.shared.key) seat.new.table_id (as_sat seat.new.me) Pending }
-    ensures offers { OffersFrom (start_of yard.now.table.shared.key) (i + 1) seat.new.me }
-    ensures guest { IsGathered yard.now.table.shared.table_id (start_of yard.now.table.shared.key) i result.pass.seat.table_id result.pass.seat.me result.pass.number result.own }
+    requires hosts { LeadsIn yard.now seat.old Pending }
+    requires offers { OffersFrom (start_at yard.now) i seat.old.me }
+    requires own { IsOwnOf (start_at yard.now) i own }
+    ensures hosts { LeadsIn yard.now seat.new Pending }
+    ensures offers { OffersFrom (start_at yard.now) (i + 1) seat.new.me }
+    ensures guest { IsGatheredIn yard.now i result }
 {
     let seat = yard.table.shared.split_seat::<Lodges>(seat);
     Guest {
@@ -189,21 +188,21 @@ fn give_all(
     rooms: &mut Vec<Room>,
     guests: &mut Vec<Guest>,
 )
-    requires hosts { Leads yard.now.table.shared.table_id (start_of yard.now.table.shared.key) seat.old.table_id (as_sat seat.old.me) Pending }
-    requires offers { OffersFrom (start_of yard.now.table.shared.key) 0 seat.old.me }
-    requires sound { IsSound (system_of (start_of yard.now.table.shared.key)) }
+    requires hosts { LeadsIn yard.now seat.old Pending }
+    requires offers { OffersFrom (start_at yard.now) 0 seat.old.me }
+    requires sound { IsSound (system_of (start_at yard.now)) }
     requires first { (k : ℕ) (p : Processor) → slice_get cpus.old.items k ≡ Some p → slice_get yard.now.table.shared.key.cpus.value.items k ≡ Some p }
     requires tables { AreTablesOf cpus.old.items tables.old.items }
     requires rooms { AreRooms cpus.old.items yard.now.table.shared.key.ram.value rooms.old.items }
     requires room { length cpus.old.items ≤ vec_capacity guests.old }
     requires empty { guests.old.items ≡ [] }
-    ensures hosts { Leads yard.now.table.shared.table_id (start_of yard.now.table.shared.key) seat.new.table_id (as_sat seat.new.me) Pending }
-    ensures offers { OffersFrom (start_of yard.now.table.shared.key) (length cpus.old.items) seat.new.me }
+    ensures hosts { LeadsIn yard.now seat.new Pending }
+    ensures offers { OffersFrom (start_at yard.now) (length cpus.old.items) seat.new.me }
     ensures emptied { (cpus.new.items ≡ []) × (tables.new.items ≡ []) }
     ensures places { (vec_capacity cpus.new ≡ vec_capacity cpus.old) × (vec_capacity tables.new ≡ vec_capacity tables.old) }
     ensures count { length guests.new.items ≡ length cpus.old.items }
     ensures room { vec_capacity guests.new ≡ vec_capacity guests.old }
-    ensures each { AreGathered yard.now.table.shared.table_id (start_of yard.now.table.shared.key) guests.new.items }
+    ensures each { AreGatheredIn yard.now guests.new.items }
 {
     let Some(cpu) = cpus.pop() else {
         return;
@@ -229,8 +228,8 @@ fn open(
     goal: &RegFile,
 ) -> Option<(Yard, Seat<Op, YardView>)>
     requires opens { Opens (gathered cpus.now.items ram.now goal.now) }
-    ensures host { IfSome result (λ y. Leads y.0.table.shared.table_id (start_of y.0.table.shared.key) y.1.table_id (as_sat y.1.me) Pending × OffersFrom (start_of y.0.table.shared.key) 0 y.1.me) }
-    ensures key { IfSome result (λ y. start_of y.0.table.shared.key ≡ gathered cpus.now.items ram.now goal.now) }
+    ensures host { IfSome result (λ y. LeadsIn y.0 y.1 Pending × OffersFrom (start_at y.0) 0 y.1.me) }
+    ensures key { IfSome result (λ y. start_at y.0 ≡ gathered cpus.now.items ram.now goal.now) }
 {
     let count = cpus.len();
     let Ok(words) = vec![in alloc; 0u64; count + 2] else {
@@ -261,12 +260,12 @@ impl Yard {
         goal: &RegFile,
     ) -> Result<(Yard, Host, Vec<Guest>), System>
         requires opens { Opens (gathered system.processors system.memory goal.now) }
-        ensures host { IfOk result (λ y. Leads y.0.table.shared.table_id (start_of y.0.table.shared.key) y.1.seat.table_id (as_sat y.1.seat.me) Pending) }
+        ensures host { IfOk result (λ y. LeadsIn y.0 y.1.seat Pending) }
         ensures empty { IfOk result (λ y. (y.1.seat.me.0.held ≡ []) × (y.1.owns.items ≡ replicate (length system.processors) None)) }
-        ensures rest { IfOk result (λ y. IsRest (start_of y.0.table.shared.key) y.1.rest) }
-        ensures key { IfOk result (λ y. start_of y.0.table.shared.key ≡ gathered system.processors system.memory goal.now) }
+        ensures rest { IfOk result (λ y. IsRest (start_at y.0) y.1.rest) }
+        ensures key { IfOk result (λ y. start_at y.0 ≡ gathered system.processors system.memory goal.now) }
         ensures count { IfOk result (λ y. length y.2.items ≡ length system.processors) }
-        ensures guests { IfOk result (λ y. AreGathered y.0.table.shared.table_id (start_of y.0.table.shared.key) y.2.items) }
+        ensures guests { IfOk result (λ y. AreGatheredIn y.0 y.2.items) }
         ensures refused { IfErr result (λ s. s ≡ system) }
     {
         a_system_is_sound(&system); // a fact for the proof

@@ -2,10 +2,8 @@
 ghost use Rattle.std.specs.Prelude.{◌≡◌, ℕ, ◌+◌, ◌<◌, Bool, Some, length, slice_set};
 ghost use Rattle.mt_machine.specs.declared.go.Go.TheVariants.{Cancelled, Given, Pending};
 ghost use Rattle.mt_machine.specs.Machine.{Cancels as CancelsUpdate, Goes};
-ghost use Rattle.mt_rendezvous.specs.Calls.{IsRoot, Leads};
-ghost use Rattle.mt_rendezvous.specs.Station.{start_of};
-ghost use Rattle.mt_private.specs.YardCalls.{Keeps, Lodges};
-ghost use Rattle.mt_private.specs.YardPlays.{Said, as_sat};
+ghost use Rattle.mt_private.specs.YardCalls.{Keeps};
+ghost use Rattle.mt_private.specs.YardPlays.{Said};
 ghost use Rattle.mt_private.specs.YardRule.{yard_both};
 
 use crate::gather::Room;
@@ -43,14 +41,16 @@ pub struct Host {
 }
 
 impl Host {
+    ghost use Rattle.mt_private.specs.InYard.{IsRootIn, LeadsIn, LodgesIn, start_at};
+
     /// Gives the go, once. Its addition to the first count is the event Go.
     pub fn go(&mut self, yard: &Yard)
-        requires { Leads yard.now.table.shared.table_id (start_of yard.now.table.shared.key) self.old.seat.table_id (as_sat self.old.seat.me) Pending }
-        ensures hosts { Leads yard.now.table.shared.table_id (start_of yard.now.table.shared.key) self.new.seat.table_id (as_sat self.new.seat.me) Given }
+        requires { LeadsIn yard.now self.old.seat Pending }
+        ensures hosts { LeadsIn yard.now self.new.seat Given }
         ensures held { self.new.seat.me.0.held ≡ self.old.seat.me.0.held }
         ensures owns { self.new.owns ≡ self.old.owns }
         ensures rest { self.new.rest ≡ self.old.rest }
-        ensures event { (count : ℕ) × Said (start_of yard.now.table.shared.key) count Goes Given }
+        ensures event { (count : ℕ) × Said (start_at yard.now) count Goes Given }
     {
         yard.table
             .shared
@@ -59,12 +59,12 @@ impl Host {
 
     /// Cancels, once, in place of the go. Its addition to the first count is the event Cancel.
     pub fn cancel(&mut self, yard: &Yard)
-        requires { Leads yard.now.table.shared.table_id (start_of yard.now.table.shared.key) self.old.seat.table_id (as_sat self.old.seat.me) Pending }
-        ensures hosts { Leads yard.now.table.shared.table_id (start_of yard.now.table.shared.key) self.new.seat.table_id (as_sat self.new.seat.me) Cancelled }
+        requires { LeadsIn yard.now self.old.seat Pending }
+        ensures hosts { LeadsIn yard.now self.new.seat Cancelled }
         ensures held { self.new.seat.me.0.held ≡ self.old.seat.me.0.held }
         ensures owns { self.new.owns ≡ self.old.owns }
         ensures rest { self.new.rest ≡ self.old.rest }
-        ensures event { (count : ℕ) × Said (start_of yard.now.table.shared.key) count CancelsUpdate Cancelled }
+        ensures event { (count : ℕ) × Said (start_at yard.now) count CancelsUpdate Cancelled }
     {
         yard.table
             .shared
@@ -73,10 +73,10 @@ impl Host {
 
     /// Takes a guest back: joins its pass, and keeps its processor and the words of its pages.
     pub fn take_back(&mut self, yard: &Yard, guest: Guest)
-        requires hosts { IsRoot yard.now.table.shared.table_id self.old.seat.table_id (as_sat self.old.seat.me) }
-        requires lodges { (added : Bool) × (again : Bool) × Lodges yard.now.table.shared.table_id (start_of yard.now.table.shared.key) guest.pass.seat.table_id guest.pass.seat.me guest.pass.number guest.own added again }
+        requires hosts { IsRootIn yard.now self.old.seat }
+        requires lodges { (added : Bool) × (again : Bool) × LodgesIn yard.now guest.pass guest.own added again }
         requires long { length self.old.owns.items ≡ yard.now.count }
-        ensures hosts { IsRoot yard.now.table.shared.table_id self.new.seat.table_id (as_sat self.new.seat.me) }
+        ensures hosts { IsRootIn yard.now self.new.seat }
         ensures view { self.new.seat.me.0 ≡ yard_both self.old.seat.me.0 guest.pass.seat.me.0 }
         ensures owns { self.new.owns.items ≡ slice_set self.old.owns.items guest.pass.number (Some guest.own) }
         ensures rest { self.new.rest ≡ self.old.rest }

@@ -1,13 +1,8 @@
 // Laws on accesses to pages that one processor alone names. Each is the contract of a function that does nothing.
-ghost use Rattle.std.specs.Prelude.{◌≡◌, ◌≢◌, ℕ, Bool, List, Some, slice_get};
-ghost use Rattle.mt_machine.specs.declared.op.Op.{Op as MachineOp};
-ghost use Rattle.mt_machine.specs.declared.event.Event.{Event as MachineStep};
-ghost use Rattle.mt_regs.specs.RegisterFile.{RegisterFile};
-ghost use Rattle.mt_machine.specs.Machine.{step};
-ghost use Rattle.mt_machine.specs.Memory.{IsMemory};
+ghost use Rattle.std.specs.Prelude.{◌≡◌, ℕ, Some, slice_get};
 ghost use Rattle.mt_machine.specs.System.{Processor, System as MachineSystem};
-ghost use Rattle.mt_private.specs.Alone.{JobsRunAlone, UpdatesRunAlone};
-ghost use Rattle.mt_private.specs.Own.{AreApart, Becomes, Commute, IsOwner, RunsAlone, WritesOn, own_system, pages_of};
+ghost use Rattle.mt_private.specs.Alone.{AccessesCommute, AccessesRunAlone, JobsRunAlone, StepsRunAlone, UpdatesRunAlone};
+ghost use Rattle.mt_private.specs.Own.{IsOwner, pages_of};
 ghost use Rattle.mt_private.specs.Pages.{IsPrivate};
 
 /// Where no page is named by two processors, each owns the pages that it names.
@@ -19,17 +14,17 @@ pub fn private_pages_are_owned()
 /// all words outside these pages are 0: the answers are the same, its own system becomes what it becomes alone, and all
 /// other processors and words stay as they are. No snoop, eviction, buffer or fill reaches beyond its pages.
 pub fn own_accesses_run_alone()
-    ensures { (pages : ℕ → Bool) (k : ℕ) (ops : List MachineOp) (s : MachineSystem) → IsMemory s.memory → IsOwner pages k s → RunsAlone pages k ops s }
+    ensures { AccessesRunAlone }
 {}
 
 /// So is a step of an update that writes memory in these pages alone, and each step that writes none.
 pub fn own_steps_run_alone()
-    ensures { (pages : ℕ → Bool) (k : ℕ) (goal : RegisterFile) (e : MachineStep) (s : MachineSystem) → IsMemory s.memory → IsOwner pages k s → WritesOn pages e → Becomes pages k s (step goal e k s) (step goal e 0 (own_system pages k s)) }
+    ensures { StepsRunAlone }
 {}
 
 /// Accesses of two processors to pages of their own commute.
 pub fn own_accesses_commute()
-    ensures { (pages others : ℕ → Bool) (k j : ℕ) (s : MachineSystem) → IsMemory s.memory → IsOwner pages k s → IsOwner others j s → k ≢ j → AreApart pages others → (ops bs : List MachineOp) → Commute k j ops bs s }
+    ensures { AccessesCommute }
 {}
 
 /// A whole update, with the takes in ascending order, is for each processor that of its own system, and the words of pages

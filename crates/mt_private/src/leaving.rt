@@ -3,12 +3,10 @@ ghost use Rattle.std.specs.Prelude.{◌≡◌, ◌+◌, ◌++◌, ◌<◌, ◌�
 ghost use Rattle.std.specs.List.{fold};
 ghost use Rattle.mt_machine.specs.System.{IsSound};
 ghost use Rattle.mt_bus.specs.Tables.{AreTablesOf};
-ghost use Rattle.mt_rendezvous.specs.Calls.{IsRoot};
-ghost use Rattle.mt_rendezvous.specs.Station.{start_of};
 ghost use Rattle.mt_private.specs.Gathered.{IsRest};
+ghost use Rattle.mt_private.specs.InYard.{IsRootIn, start_at};
 ghost use Rattle.mt_private.specs.Left.{AreAsGathered, AreBack, AreOwnsOf, AreParts, Leaves, over, processors_in, with_words_of, word_by_word};
 ghost use Rattle.mt_private.specs.Residents.{system_of};
-ghost use Rattle.mt_private.specs.YardPlays.{as_sat};
 
 use crate::gather::Room;
 use crate::host::{Host, Yard};
@@ -95,12 +93,12 @@ fn assembled(rest: Room) -> System
 /// processors and the words of their pages are those of the guests' own systems; all other words are as they were
 /// gathered. It takes no memory.
 pub fn leave(yard: Yard, host: Host) -> System
-    requires hosts { IsRoot yard.table.shared.table_id host.seat.table_id (as_sat host.seat.me) }
+    requires hosts { IsRootIn yard host.seat }
     requires back { AreBack yard.count host.seat.me.0 host.owns.items }
-    requires rest { IsRest (start_of yard.table.shared.key) host.rest }
-    ensures leaves { Leaves (start_of yard.table.shared.key) host.seat.me.0 result }
-    ensures owns { AreOwnsOf (start_of yard.table.shared.key) host.owns.items result }
-    ensures unvisited { AreAsGathered (start_of yard.table.shared.key) host.owns.items → result ≡ system_of (start_of yard.table.shared.key) }
+    requires rest { IsRest (start_at yard) host.rest }
+    ensures leaves { Leaves (start_at yard) host.seat.me.0 result }
+    ensures owns { AreOwnsOf (start_at yard) host.owns.items result }
+    ensures unvisited { AreAsGathered (start_at yard) host.owns.items → result ≡ system_of (start_at yard) }
 {
     let Yard { table, count: _ } = yard;
     let Host {

@@ -8,11 +8,10 @@ ghost use Rattle.mt_machine.specs.Machine.{Calls, FitsGoal, FitsOp, IsEnabled};
 ghost use Rattle.mt_machine.specs.Start.{HasEraRoom, IsQuiet};
 ghost use Rattle.mt_machine.specs.Update.{updated};
 ghost use Rattle.mt_core.specs.Rounds.{in_order};
-ghost use Rattle.mt_rendezvous.specs.Calls.{Leads, gathered};
-ghost use Rattle.mt_rendezvous.specs.Station.{start_of};
-ghost use Rattle.mt_private.specs.Gathered.{AreGathered, IsRest};
+ghost use Rattle.mt_rendezvous.specs.Calls.{gathered};
+ghost use Rattle.mt_private.specs.Gathered.{IsRest};
+ghost use Rattle.mt_private.specs.InYard.{AreGatheredIn, LeadsIn, start_at};
 ghost use Rattle.mt_private.specs.Residents.{Opens};
-ghost use Rattle.mt_private.specs.YardPlays.{as_sat};
 ghost use Rattle.mt_private.specs.Jobs.{AreOpen, FitsJob, IsOpen, answers_in, ops_in, other_part, room_in};
 ghost use Rattle.mt_private.specs.OneByOne.{at_rest, jobs_one_by_one, ran, ran_each};
 ghost use Rattle.mt_private.specs.Pages.{IsLeastShared, IsPrivate};
@@ -135,12 +134,12 @@ fn gather_core(alloc: Global, core: &mut Core, goal: &RegFile) -> Option<(Yard, 
     requires none { core.old.order ≡ None }
     requires opens { Opens (gathered core.old.system.processors core.old.system.memory goal.now) }
     ensures kept { IfNone result (core.new ≡ core.old) }
-    ensures host { IfSome result (λ y. Leads y.0.table.shared.table_id (start_of y.0.table.shared.key) y.1.seat.table_id (as_sat y.1.seat.me) Pending) }
+    ensures host { IfSome result (λ y. LeadsIn y.0 y.1.seat Pending) }
     ensures empty { IfSome result (λ y. (y.1.seat.me.0.held ≡ []) × (y.1.owns.items ≡ replicate (length core.old.system.processors) None)) }
-    ensures rest { IfSome result (λ y. IsRest (start_of y.0.table.shared.key) y.1.rest) }
-    ensures key { IfSome result (λ y. start_of y.0.table.shared.key ≡ gathered core.old.system.processors core.old.system.memory goal.now) }
+    ensures rest { IfSome result (λ y. IsRest (start_at y.0) y.1.rest) }
+    ensures key { IfSome result (λ y. start_at y.0 ≡ gathered core.old.system.processors core.old.system.memory goal.now) }
     ensures count { IfSome result (λ y. length y.2.items ≡ length core.old.system.processors) }
-    ensures guests { IfSome result (λ y. AreGathered y.0.table.shared.table_id (start_of y.0.table.shared.key) y.2.items) }
+    ensures guests { IfSome result (λ y. AreGatheredIn y.0 y.2.items) }
 {
     let system = mem::replace(core, stand_in(alloc)).into_system();
     match Yard::gather(alloc, system, goal) {

@@ -3,17 +3,16 @@ ghost use Rattle.std.specs.Prelude.{◌≡◌, ℕ, ◌+◌, ◌<◌, ◌≤◌,
 ghost use Rattle.std.specs.Prelude.{Some, IfOk, IfErr, IfSome, IfNone};
 ghost use Rattle.std.specs.Thread.{IsSync};
 ghost use Rattle.mt_machine.specs.declared.go.Go.TheVariants.{Cancelled, Pending};
-ghost use Rattle.mt_rendezvous.specs.Station.{start_of};
-ghost use Rattle.mt_rendezvous.specs.Calls.{IsRoot, Leads};
 ghost use Rattle.mt_rendezvous.specs.Update.{decided};
 ghost use Rattle.mt_private.specs.declared.job.Job.{Job as ItsJob};
-ghost use Rattle.mt_private.specs.Visitors.{AreWaiting, HasCome, IsFresh, IsNew, OneLess, Returned};
-ghost use Rattle.mt_private.specs.YardPlays.{as_sat};
+ghost use Rattle.mt_private.specs.InYard.{AreWaitingIn, HasComeIn, IsNewIn, IsRootIn, LeadsIn, OneLessIn, ReturnedIn, goal_at, start_at};
+ghost use Rattle.mt_private.specs.Visitors.{IsFresh};
 
 use crate::host::{Host, Yard};
 use crate::job::{Job, Told};
-use crate::visiting::{Guest, Visited, core_of, visit_with};
+use crate::visiting::{Guest, Visited};
 use crate::visitor::Visitor;
+use crate::visits::{core_of, visit_with};
 use mt_ports::Gate;
 use mt_regs::RegFile;
 use std::alloc::Global;
@@ -31,10 +30,9 @@ struct Visits {
 }
 
 impl Promise<Box<Visitor>> for Visits {
-    ghost use Rattle.mt_rendezvous.specs.Station.{start_of};
-    ghost use Rattle.mt_private.specs.Visitors.{HasCome};
+    ghost use Rattle.mt_private.specs.InYard.{HasComeIn};
 
-    ghost kept_by = { λ p v. HasCome p.yard.value.table.shared.table_id (start_of p.yard.value.table.shared.key) p.job.value p.number v.value };
+    ghost kept_by = { λ p v. HasComeIn p.yard.value p.job.value p.number v.value };
 }
 
 // The whole visit, on the thread that calls it.
@@ -46,9 +44,9 @@ fn come<R: Wait, G: Gate>(
     job: &Job,
     gate: &G,
 )
-    requires waits { IsNew yard.now.table.shared.table_id (start_of yard.now.table.shared.key) job.now visitor.old.pass.number visitor.old }
-    requires goal { goal.now ≡ yard.now.table.shared.key.goal.value }
-    ensures { HasCome yard.now.table.shared.table_id (start_of yard.now.table.shared.key) job.now visitor.old.pass.number visitor.new }
+    requires waits { IsNewIn yard.now job.now visitor.old.pass.number visitor.old }
+    requires goal { goal.now ≡ goal_at yard.now }
+    ensures { HasComeIn yard.now job.now visitor.old.pass.number visitor.new }
 {
     visitor.visited = visit_with(
         rt,
@@ -72,12 +70,12 @@ fn give_up<R: Wait, G: Gate>(
     job: &Job,
     gate: &G,
 ) -> Visitor
-    requires hosts { Leads yard.now.table.shared.table_id (start_of yard.now.table.shared.key) host.old.seat.table_id (as_sat host.old.seat.me) Pending }
-    requires waits { IsNew yard.now.table.shared.table_id (start_of yard.now.table.shared.key) job.now visitor.pass.number visitor }
-    requires goal { goal.now ≡ yard.now.table.shared.key.goal.value }
+    requires hosts { LeadsIn yard.now host.old.seat Pending }
+    requires waits { IsNewIn yard.now job.now visitor.pass.number visitor }
+    requires goal { goal.now ≡ goal_at yard.now }
     ensures same { (host.new.seat.me.0.held ≡ host.old.seat.me.0.held) × (host.new.owns ≡ host.old.owns) × (host.new.rest ≡ host.old.rest) }
-    ensures cancelled { Leads yard.now.table.shared.table_id (start_of yard.now.table.shared.key) host.new.seat.table_id (as_sat host.new.seat.me) Cancelled }
-    ensures come { HasCome yard.now.table.shared.table_id (start_of yard.now.table.shared.key) job.now visitor.pass.number result }
+    ensures cancelled { LeadsIn yard.now host.new.seat Cancelled }
+    ensures come { HasComeIn yard.now job.now visitor.pass.number result }
 {
     host.cancel(yard);
     come(rt, yard, &mut visitor, goal, job, gate);
@@ -97,14 +95,14 @@ fn start<'s, E, R: Threads + Wait + Sync, G: Gate>(
     job: &'s Job,
     gate: &'s G,
 ) -> Result<PromisedHandle<Box<Visitor>, Visits>, Visitor>
-    requires hosts { Leads yard.now.table.shared.table_id (start_of yard.now.table.shared.key) host.old.seat.table_id (as_sat host.old.seat.me) Pending }
-    requires waits { IsNew yard.now.table.shared.table_id (start_of yard.now.table.shared.key) job.now visitor.pass.number visitor }
-    requires goal { goal.now ≡ yard.now.table.shared.key.goal.value }
+    requires hosts { LeadsIn yard.now host.old.seat Pending }
+    requires waits { IsNewIn yard.now job.now visitor.pass.number visitor }
+    requires goal { goal.now ≡ goal_at yard.now }
     ensures same { (host.new.seat.me.0.held ≡ host.old.seat.me.0.held) × (host.new.owns ≡ host.old.owns) × (host.new.rest ≡ host.old.rest) }
-    ensures pending { IfOk result (λ h. Leads yard.now.table.shared.table_id (start_of yard.now.table.shared.key) host.new.seat.table_id (as_sat host.new.seat.me) Pending) }
+    ensures pending { IfOk result (λ h. LeadsIn yard.now host.new.seat Pending) }
     ensures child { IfOk result (λ h. (h.promise.yard.value ≡ yard.now) × (h.promise.job.value ≡ job.now) × (h.promise.number ≡ visitor.pass.number)) }
-    ensures cancelled { IfErr result (λ v. Leads yard.now.table.shared.table_id (start_of yard.now.table.shared.key) host.new.seat.table_id (as_sat host.new.seat.me) Cancelled) }
-    ensures come { IfErr result (λ v. HasCome yard.now.table.shared.table_id (start_of yard.now.table.shared.key) job.now visitor.pass.number v) }
+    ensures cancelled { IfErr result (λ v. LeadsIn yard.now host.new.seat Cancelled) }
+    ensures come { IfErr result (λ v. HasComeIn yard.now job.now visitor.pass.number v) }
 {
     let number = visitor.pass.number;
     if !gate.may_start(number as u32) {
@@ -125,9 +123,9 @@ fn start<'s, E, R: Threads + Wait + Sync, G: Gate>(
         promise,
         move || -> Box<Visitor>
             requires shared { IsSync R.row }
-            requires waits { IsNew yard.now.table.shared.table_id (start_of yard.now.table.shared.key) job.now boxed.value.pass.number boxed.value }
-            requires same { goal.now ≡ yard.now.table.shared.key.goal.value }
-            ensures { HasCome yard.entry.now.table.shared.table_id (start_of yard.entry.now.table.shared.key) job.entry.now boxed.value.pass.number result.value }
+            requires waits { IsNewIn yard.now job.now boxed.value.pass.number boxed.value }
+            requires same { goal.now ≡ goal_at yard.now }
+            ensures { HasComeIn yard.entry.now job.entry.now boxed.value.pass.number result.value }
         {
             let mut boxed = boxed;
             come(rt, yard, &mut boxed, goal, job, gate);
@@ -144,12 +142,12 @@ fn start<'s, E, R: Threads + Wait + Sync, G: Gate>(
 
 // The visitor's guest comes back, and its answers go behind those of the ones before it.
 fn finish(yard: &Yard, jobs: &[Job], visitor: Visitor, host: &mut Host, told: &mut Vec<Told>)
-    requires returned { Returned yard.now.table.shared.table_id (start_of yard.now.table.shared.key) jobs.now host.old.seat.table_id host.old.seat.me host.old.owns.items told.old.items }
-    requires come { (job : ItsJob) → slice_get jobs.now (length told.old.items) ≡ Some job → HasCome yard.now.table.shared.table_id (start_of yard.now.table.shared.key) job (length told.old.items) visitor }
+    requires returned { ReturnedIn yard.now jobs.now host.old told.old.items }
+    requires come { (job : ItsJob) → slice_get jobs.now (length told.old.items) ≡ Some job → HasComeIn yard.now job (length told.old.items) visitor }
     requires below { length told.old.items < yard.now.count }
     requires job { length told.old.items < length jobs.now }
     requires room { vec_len told.old < vec_capacity told.old }
-    ensures returned { Returned yard.now.table.shared.table_id (start_of yard.now.table.shared.key) jobs.now host.new.seat.table_id host.new.seat.me host.new.owns.items told.new.items }
+    ensures returned { ReturnedIn yard.now jobs.now host.new told.new.items }
     ensures go { host.new.seat.me.0.go ≡ host.old.seat.me.0.go }
     ensures rest { host.new.rest ≡ host.old.rest }
     ensures count { length told.new.items ≡ length told.old.items + 1 }
@@ -174,11 +172,11 @@ fn last(
     waiting: &mut Vec<Guest>,
     told: &mut Vec<Told>,
 ) -> Option<Visitor>
-    requires { AreWaiting yard.now.table.shared.table_id (start_of yard.now.table.shared.key) jobs.now waiting.old.items told.old.items }
+    requires { AreWaitingIn yard.now jobs.now waiting.old.items told.old.items }
     ensures none { IfNone result ((length waiting.old.items ≡ 0) × (told.new.items ≡ [])) }
     ensures number { IfSome result (λ v. v.pass.number ≡ length waiting.new.items) }
-    ensures some { IfSome result (λ v. (job : ItsJob) → slice_get jobs.now (length waiting.new.items) ≡ Some job → IsNew yard.now.table.shared.table_id (start_of yard.now.table.shared.key) job (length waiting.new.items) v) }
-    ensures rest { IfSome result (λ v. OneLess yard.now.table.shared.table_id (start_of yard.now.table.shared.key) jobs.now waiting.old.items waiting.new.items told.new.items) }
+    ensures some { IfSome result (λ v. (job : ItsJob) → slice_get jobs.now (length waiting.new.items) ≡ Some job → IsNewIn yard.now job (length waiting.new.items) v) }
+    ensures rest { IfSome result (λ v. OneLessIn yard.now jobs.now waiting.old.items waiting.new.items told.new.items) }
     ensures capacity { vec_capacity told.new ≡ vec_capacity told.old }
 {
     let _ = (yard.count, jobs.len()); // a fact for the proof
@@ -212,14 +210,14 @@ fn leave_all<R: Wait, G: Gate>(
     waiting: &mut Vec<Guest>,
     told: &mut Vec<Told>,
 )
-    requires hosts { IsRoot yard.now.table.shared.table_id host.old.seat.table_id (as_sat host.old.seat.me) }
-    requires fresh { IsFresh (start_of yard.now.table.shared.key) host.old.seat.me.0 host.old.owns.items }
-    requires waiting { AreWaiting yard.now.table.shared.table_id (start_of yard.now.table.shared.key) jobs.now waiting.old.items told.old.items }
+    requires hosts { IsRootIn yard.now host.old.seat }
+    requires fresh { IsFresh (start_at yard.now) host.old.seat.me.0 host.old.owns.items }
+    requires waiting { AreWaitingIn yard.now jobs.now waiting.old.items told.old.items }
     requires few { length waiting.old.items ≤ yard.now.count }
     requires room { length waiting.old.items ≤ vec_capacity told.old }
-    requires goal { goal.now ≡ yard.now.table.shared.key.goal.value }
+    requires goal { goal.now ≡ goal_at yard.now }
     ensures go { host.new.seat.me.0.go ≡ host.old.seat.me.0.go }
-    ensures returned { Returned yard.now.table.shared.table_id (start_of yard.now.table.shared.key) jobs.now host.new.seat.table_id host.new.seat.me host.new.owns.items told.new.items }
+    ensures returned { ReturnedIn yard.now jobs.now host.new told.new.items }
     ensures rest { host.new.rest ≡ host.old.rest }
     ensures count { length told.new.items ≡ length waiting.old.items }
     ensures capacity { vec_capacity told.new ≡ vec_capacity told.old }
@@ -247,14 +245,14 @@ fn run_all<'s, E, R: Threads + Wait + Sync, G: Gate>(
     waiting: &mut Vec<Guest>,
     told: &mut Vec<Told>,
 ) -> bool
-    requires hosts { Leads yard.now.table.shared.table_id (start_of yard.now.table.shared.key) host.old.seat.table_id (as_sat host.old.seat.me) Pending }
-    requires fresh { IsFresh (start_of yard.now.table.shared.key) host.old.seat.me.0 host.old.owns.items }
-    requires waiting { AreWaiting yard.now.table.shared.table_id (start_of yard.now.table.shared.key) jobs.now waiting.old.items told.old.items }
+    requires hosts { LeadsIn yard.now host.old.seat Pending }
+    requires fresh { IsFresh (start_at yard.now) host.old.seat.me.0 host.old.owns.items }
+    requires waiting { AreWaitingIn yard.now jobs.now waiting.old.items told.old.items }
     requires few { length waiting.old.items ≤ yard.now.count }
     requires room { length waiting.old.items ≤ vec_capacity told.old }
-    requires goal { goal.now ≡ yard.now.table.shared.key.goal.value }
+    requires goal { goal.now ≡ goal_at yard.now }
     ensures go { host.new.seat.me.0.go ≡ decided result }
-    ensures returned { Returned yard.now.table.shared.table_id (start_of yard.now.table.shared.key) jobs.now host.new.seat.table_id host.new.seat.me host.new.owns.items told.new.items }
+    ensures returned { ReturnedIn yard.now jobs.now host.new told.new.items }
     ensures rest { host.new.rest ≡ host.old.rest }
     ensures count { length told.new.items ≡ length waiting.old.items }
     ensures capacity { vec_capacity told.new ≡ vec_capacity told.old }
@@ -299,13 +297,13 @@ pub(crate) fn meet<R: Threads + Wait + Sync, G: Gate>(
     mut waiting: Vec<Guest>,
     mut told: Vec<Told>,
 ) -> Ended
-    requires hosts { Leads yard.now.table.shared.table_id (start_of yard.now.table.shared.key) host.seat.table_id (as_sat host.seat.me) Pending }
-    requires fresh { IsFresh (start_of yard.now.table.shared.key) host.seat.me.0 host.owns.items }
-    requires waiting { AreWaiting yard.now.table.shared.table_id (start_of yard.now.table.shared.key) jobs.now waiting.items told.items }
+    requires hosts { LeadsIn yard.now host.seat Pending }
+    requires fresh { IsFresh (start_at yard.now) host.seat.me.0 host.owns.items }
+    requires waiting { AreWaitingIn yard.now jobs.now waiting.items told.items }
     requires few { length waiting.items ≤ yard.now.count }
     requires room { length waiting.items ≤ vec_capacity told }
-    requires goal { goal.now ≡ yard.now.table.shared.key.goal.value }
-    ensures returned { Returned yard.now.table.shared.table_id (start_of yard.now.table.shared.key) jobs.now result.host.seat.table_id result.host.seat.me result.host.owns.items result.told.items }
+    requires goal { goal.now ≡ goal_at yard.now }
+    ensures returned { ReturnedIn yard.now jobs.now result.host result.told.items }
     ensures go { result.host.seat.me.0.go ≡ decided result.given }
     ensures rest { result.host.rest ≡ host.rest }
     ensures count { length result.told.items ≡ length waiting.items }
@@ -314,13 +312,13 @@ pub(crate) fn meet<R: Threads + Wait + Sync, G: Gate>(
         thread::scope_env(),
         rt,
         move |scope| -> Ended
-            requires hosts { Leads yard.now.table.shared.table_id (start_of yard.now.table.shared.key) host.seat.table_id (as_sat host.seat.me) Pending }
-            requires fresh { IsFresh (start_of yard.now.table.shared.key) host.seat.me.0 host.owns.items }
-            requires waiting { AreWaiting yard.now.table.shared.table_id (start_of yard.now.table.shared.key) jobs.now waiting.items told.items }
+            requires hosts { LeadsIn yard.now host.seat Pending }
+            requires fresh { IsFresh (start_at yard.now) host.seat.me.0 host.owns.items }
+            requires waiting { AreWaitingIn yard.now jobs.now waiting.items told.items }
             requires few { length waiting.items ≤ yard.now.count }
             requires room { length waiting.items ≤ vec_capacity told }
-            requires same { goal.now ≡ yard.now.table.shared.key.goal.value }
-            ensures returned { Returned yard.entry.now.table.shared.table_id (start_of yard.entry.now.table.shared.key) jobs.entry.now result.host.seat.table_id result.host.seat.me result.host.owns.items result.told.items }
+            requires same { goal.now ≡ goal_at yard.now }
+            ensures returned { ReturnedIn yard.entry.now jobs.entry.now result.host result.told.items }
             ensures go { result.host.seat.me.0.go ≡ decided result.given }
             ensures rest { result.host.rest ≡ host.rest }
             ensures count { length result.told.items ≡ length waiting.items }

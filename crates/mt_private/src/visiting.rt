@@ -11,15 +11,10 @@ ghost use Rattle.mt_machine.specs.Machine.{Calls, FitsOp, IsEnabled, is_changing
 ghost use Rattle.mt_machine.specs.Start.{IsQuiet};
 ghost use Rattle.mt_machine.specs.Update.{updated};
 ghost use Rattle.mt_cpu.specs.Steps.{is_local};
-ghost use Rattle.mt_rendezvous.specs.Station.{start_of};
-ghost use Rattle.mt_private.specs.declared.job.Part.{Part as JobPart};
-ghost use Rattle.mt_private.specs.declared.job.Part.TheVariants.{After};
-ghost use Rattle.mt_private.specs.Jobs.{FitsJob, IsOpen};
 ghost use Rattle.mt_private.specs.OneByOne.{at_rest, ran};
-ghost use Rattle.mt_private.specs.YardCalls.{AreIn, HasTaken, IsLeft, Lodges, VisitEnds, Visits, done_in, in_phase, stored_in};
+ghost use Rattle.mt_private.specs.YardCalls.{AreIn, HasTaken, IsLeft, done_in, in_phase, stored_in};
 
 use crate::host::Yard;
-use crate::job::{Job, Told};
 use crate::view::{
     AccessesYard, ArrivesAgainYard, ArrivesYard, PassesYard, ReleasesYard, TakesYard, WorksYard,
     YardView,
@@ -93,13 +88,15 @@ impl Arrival {
 }
 
 impl YardPass {
+    ghost use Rattle.mt_private.specs.InYard.{IsWholeUpdate, KeepsLodging, KeepsVisit, LodgesIn, VisitsIn, goal_at};
+
     // Exchanges the own event word, which holds what was stored last. That announces the access and is that event. Does
     // the access.
     fn access(&mut self, yard: &Yard, core: &mut Core, op: Op) -> Done
-        requires lodges { (added : Bool) × (again : Bool) × Lodges yard.now.table.shared.table_id (start_of yard.now.table.shared.key) self.old.seat.table_id self.old.seat.me self.old.number core.old.system added again }
+        requires lodges { (added : Bool) × (again : Bool) × LodgesIn yard.now self.old core.old.system added again }
         requires runs { AreIn Running core.old.system }
         requires fits { FitsOp op }
-        ensures lodges { (added again : Bool) → Lodges yard.now.table.shared.table_id (start_of yard.now.table.shared.key) self.old.seat.table_id self.old.seat.me self.old.number core.old.system added again → Lodges yard.now.table.shared.table_id (start_of yard.now.table.shared.key) self.new.seat.table_id self.new.seat.me self.new.number core.new.system added again }
+        ensures lodges { KeepsLodging yard.now self.old core.old.system self.new core.new.system }
         ensures runs { AreIn Running core.new.system }
         ensures done { done_in self.new.seat.me ≡ done_in self.old.seat.me ++ op ∷ [] }
         ensures shown { self.new.seat.me.0.shown ≡ self.old.seat.me.0.shown }
@@ -117,13 +114,19 @@ impl YardPass {
     }
 
     // Does these accesses, in order.
-    fn access_all(&mut self, yard: &Yard, core: &mut Core, ops: &[Op], told: &mut Vec<Done>)
-        requires lodges { (added : Bool) × (again : Bool) × Lodges yard.now.table.shared.table_id (start_of yard.now.table.shared.key) self.old.seat.table_id self.old.seat.me self.old.number core.old.system added again }
+    pub(crate) fn access_all(
+        &mut self,
+        yard: &Yard,
+        core: &mut Core,
+        ops: &[Op],
+        told: &mut Vec<Done>,
+    )
+        requires lodges { (added : Bool) × (again : Bool) × LodgesIn yard.now self.old core.old.system added again }
         requires runs { AreIn Running core.old.system }
         requires fits { All FitsOp ops.now }
         requires empty { told.old.items ≡ [] }
         requires room { length ops.now ≤ vec_capacity told.old }
-        ensures lodges { (added again : Bool) → Lodges yard.now.table.shared.table_id (start_of yard.now.table.shared.key) self.old.seat.table_id self.old.seat.me self.old.number core.old.system added again → Lodges yard.now.table.shared.table_id (start_of yard.now.table.shared.key) self.new.seat.table_id self.new.seat.me self.new.number core.new.system added again }
+        ensures lodges { KeepsLodging yard.now self.old core.old.system self.new core.new.system }
         ensures runs { AreIn Running core.new.system }
         ensures done { done_in self.new.seat.me ≡ done_in self.old.seat.me ++ ops.now }
         ensures shown { self.new.seat.me.0.shown ≡ self.old.seat.me.0.shown }
@@ -138,16 +141,16 @@ impl YardPass {
 
     // Loads the first count. Where it shows no cancel that is Take, and the answer is true; else it is no event.
     fn take(&mut self, yard: &Yard, core: &mut Core, goal: &RegFile) -> bool
-        requires lodges { Lodges yard.now.table.shared.table_id (start_of yard.now.table.shared.key) self.old.seat.table_id self.old.seat.me self.old.number core.old.system false false }
+        requires lodges { LodgesIn yard.now self.old core.old.system false false }
         requires runs { AreIn Running core.old.system }
         requires idle { core.old.order ≡ None }
-        requires goal { goal.now ≡ yard.now.table.shared.key.goal.value }
+        requires goal { goal.now ≡ goal_at yard.now }
         ensures number { self.new.number ≡ self.old.number }
         ensures done { done_in self.new.seat.me ≡ done_in self.old.seat.me }
-        ensures visits { IsTrue result → Visits yard.now.table.shared.table_id (start_of yard.now.table.shared.key) self.new.seat.table_id self.new.seat.me self.new.number core.new false false Pending core.old.system }
+        ensures visits { IsTrue result → VisitsIn yard.now self.new core.new false false Pending core.old.system }
         ensures taken { IsTrue result → AreIn Taken core.new.system × HasTaken core.old.system core.new.system }
         ensures callable { IsTrue result → IsQuiet (at_rest core.old.system) × IsEnabled (at_rest core.old.system) (Calls goal.now) }
-        ensures stays { result ≡ false → Lodges yard.now.table.shared.table_id (start_of yard.now.table.shared.key) self.new.seat.table_id self.new.seat.me self.new.number core.new.system false false × (self.new.seat.me.0.cancel ≡ true) × (core.new ≡ core.old) }
+        ensures stays { result ≡ false → LodgesIn yard.now self.new core.new.system false false × (self.new.seat.me.0.cancel ≡ true) × (core.new ≡ core.old) }
     {
         a_core_arises(core); // a fact for the proof
         let found = yard.table.shared.load::<TakesYard>(&mut self.seat, 0);
@@ -163,11 +166,11 @@ impl YardPass {
 
     // Adds to the first count: the event Arrive, or none where it held the cancel before.
     fn arrive(&mut self, yard: &Yard, core: &mut Core) -> Arrival
-        requires visits { (first : MachineSystem) × Visits yard.now.table.shared.table_id (start_of yard.now.table.shared.key) self.old.seat.table_id self.old.seat.me self.old.number core.old false false Pending first }
+        requires visits { (first : MachineSystem) × VisitsIn yard.now self.old core.old false false Pending first }
         requires taken { AreIn Taken core.old.system }
         ensures number { self.new.number ≡ self.old.number }
         ensures done { done_in self.new.seat.me ≡ done_in self.old.seat.me }
-        ensures visits { (first : MachineSystem) → Visits yard.now.table.shared.table_id (start_of yard.now.table.shared.key) self.old.seat.table_id self.old.seat.me self.old.number core.old false false Pending first → Visits yard.now.table.shared.table_id (start_of yard.now.table.shared.key) self.new.seat.table_id self.new.seat.me self.new.number core.new true false Pending first }
+        ensures visits { KeepsVisit (VisitsIn yard.now self.old core.old false false Pending) (VisitsIn yard.now self.new core.new true false Pending) }
         ensures waits { AreIn Taken core.new.system ⊎ AreIn Arrived core.new.system }
         ensures taken { (first : MachineSystem) → HasTaken first core.old.system → HasTaken first core.new.system }
     {
@@ -186,13 +189,13 @@ impl YardPass {
     // Waits for the others. The load of the first count that ends it is the event Pass, and the answer is true, or
     // Leave. Each load before it is none.
     fn wait_first<R: Wait>(&mut self, rt: &R, yard: &Yard, core: &mut Core) -> bool
-        requires visits { (first : MachineSystem) × Visits yard.now.table.shared.table_id (start_of yard.now.table.shared.key) self.old.seat.table_id self.old.seat.me self.old.number core.old true false Pending first }
+        requires visits { (first : MachineSystem) × VisitsIn yard.now self.old core.old true false Pending first }
         requires waits { AreIn Taken core.old.system ⊎ AreIn Arrived core.old.system }
         ensures number { self.new.number ≡ self.old.number }
         ensures done { done_in self.new.seat.me ≡ done_in self.old.seat.me }
-        ensures visits { IsTrue result → (first : MachineSystem) → Visits yard.now.table.shared.table_id (start_of yard.now.table.shared.key) self.old.seat.table_id self.old.seat.me self.old.number core.old true false Pending first → Visits yard.now.table.shared.table_id (start_of yard.now.table.shared.key) self.new.seat.table_id self.new.seat.me self.new.number core.new true false Given first }
+        ensures visits { IsTrue result → KeepsVisit (VisitsIn yard.now self.old core.old true false Pending) (VisitsIn yard.now self.new core.new true false Given) }
         ensures passed { IsTrue result → AreIn Passed core.new.system }
-        ensures lodges { result ≡ false → Lodges yard.now.table.shared.table_id (start_of yard.now.table.shared.key) self.new.seat.table_id self.new.seat.me self.new.number core.new.system true false }
+        ensures lodges { result ≡ false → LodgesIn yard.now self.new core.new.system true false }
         ensures cancel { result ≡ false → self.new.seat.me.0.cancel ≡ true }
         ensures left { result ≡ false → (first : MachineSystem) → HasTaken first core.old.system → core.new.system ≡ in_phase Running (drain 0 first) }
     {
@@ -215,11 +218,11 @@ impl YardPass {
 
     // Does the processor's next event between the barriers. Its store of the own event word is that event.
     fn work(&mut self, yard: &Yard, core: &mut Core)
-        requires visits { (first : MachineSystem) × Visits yard.now.table.shared.table_id (start_of yard.now.table.shared.key) self.old.seat.table_id self.old.seat.me self.old.number core.old true false Given first }
+        requires visits { (first : MachineSystem) × VisitsIn yard.now self.old core.old true false Given first }
         requires between { (phase : MachinePhase) × AreIn phase core.old.system × IsTrue (is_local phase) }
         ensures number { self.new.number ≡ self.old.number }
         ensures done { done_in self.new.seat.me ≡ done_in self.old.seat.me }
-        ensures visits { (first : MachineSystem) → Visits yard.now.table.shared.table_id (start_of yard.now.table.shared.key) self.old.seat.table_id self.old.seat.me self.old.number core.old true false Given first → Visits yard.now.table.shared.table_id (start_of yard.now.table.shared.key) self.new.seat.table_id self.new.seat.me self.new.number core.new true false Given first }
+        ensures visits { KeepsVisit (VisitsIn yard.now self.old core.old true false Given) (VisitsIn yard.now self.new core.new true false Given) }
         ensures between { (phase : MachinePhase) × AreIn phase core.new.system × (is_changing phase ≡ true) }
     {
         let word = self.number as usize + 2;
@@ -233,11 +236,11 @@ impl YardPass {
 
     // Does all events between the barriers.
     fn work_all<R: Wait>(&mut self, rt: &R, yard: &Yard, core: &mut Core)
-        requires visits { (first : MachineSystem) × Visits yard.now.table.shared.table_id (start_of yard.now.table.shared.key) self.old.seat.table_id self.old.seat.me self.old.number core.old true false Given first }
+        requires visits { (first : MachineSystem) × VisitsIn yard.now self.old core.old true false Given first }
         requires between { (phase : MachinePhase) × AreIn phase core.old.system × (is_changing phase ≡ true) }
         ensures number { self.new.number ≡ self.old.number }
         ensures done { done_in self.new.seat.me ≡ done_in self.old.seat.me }
-        ensures visits { (first : MachineSystem) → Visits yard.now.table.shared.table_id (start_of yard.now.table.shared.key) self.old.seat.table_id self.old.seat.me self.old.number core.old true false Given first → Visits yard.now.table.shared.table_id (start_of yard.now.table.shared.key) self.new.seat.table_id self.new.seat.me self.new.number core.new true false Given first }
+        ensures visits { KeepsVisit (VisitsIn yard.now self.old core.old true false Given) (VisitsIn yard.now self.new core.new true false Given) }
         ensures restored { AreIn Restored core.new.system }
     {
         for _ in rt.forever() {
@@ -251,11 +254,11 @@ impl YardPass {
 
     // Adds to the second count: the event ArriveAgain.
     fn arrive_again(&mut self, yard: &Yard, core: &mut Core)
-        requires visits { (first : MachineSystem) × Visits yard.now.table.shared.table_id (start_of yard.now.table.shared.key) self.old.seat.table_id self.old.seat.me self.old.number core.old true false Given first }
+        requires visits { (first : MachineSystem) × VisitsIn yard.now self.old core.old true false Given first }
         requires restored { AreIn Restored core.old.system }
         ensures number { self.new.number ≡ self.old.number }
         ensures done { done_in self.new.seat.me ≡ done_in self.old.seat.me }
-        ensures visits { (first : MachineSystem) → Visits yard.now.table.shared.table_id (start_of yard.now.table.shared.key) self.old.seat.table_id self.old.seat.me self.old.number core.old true false Given first → Visits yard.now.table.shared.table_id (start_of yard.now.table.shared.key) self.new.seat.table_id self.new.seat.me self.new.number core.new true true Given first }
+        ensures visits { KeepsVisit (VisitsIn yard.now self.old core.old true false Given) (VisitsIn yard.now self.new core.new true true Given) }
         ensures waits { AreIn Arrived2 core.new.system }
     {
         yard.table
@@ -267,14 +270,14 @@ impl YardPass {
     // Waits for the others again. The load of the second count that ends it is the event Release. Each load before it
     // is none.
     fn wait_second<R: Wait>(&mut self, rt: &R, yard: &Yard, core: &mut Core)
-        requires visits { (first : MachineSystem) × Visits yard.now.table.shared.table_id (start_of yard.now.table.shared.key) self.old.seat.table_id self.old.seat.me self.old.number core.old true true Given first }
+        requires visits { (first : MachineSystem) × VisitsIn yard.now self.old core.old true true Given first }
         requires waits { AreIn Arrived2 core.old.system }
         ensures number { self.new.number ≡ self.old.number }
         ensures done { done_in self.new.seat.me ≡ done_in self.old.seat.me }
-        ensures lodges { Lodges yard.now.table.shared.table_id (start_of yard.now.table.shared.key) self.new.seat.table_id self.new.seat.me self.new.number core.new.system true true }
+        ensures lodges { LodgesIn yard.now self.new core.new.system true true }
         ensures shown { self.new.seat.me.0.shown ≡ Some yard.now.count }
         ensures runs { AreIn Running core.new.system }
-        ensures whole { (first : MachineSystem) → Visits yard.now.table.shared.table_id (start_of yard.now.table.shared.key) self.old.seat.table_id self.old.seat.me self.old.number core.old true true Given first → IsQuiet (at_rest first) → IsEnabled (at_rest first) (Calls yard.now.table.shared.key.goal.value) → core.new ≡ updated first (0 ∷ []) yard.now.table.shared.key.goal.value }
+        ensures whole { IsWholeUpdate yard.now self.old core.old core.new }
     {
         for _ in rt.forever() {
             let found = yard.table.shared.load::<ReleasesYard>(&mut self.seat, 1);
@@ -288,7 +291,7 @@ impl YardPass {
     }
 
     // Takes the processor through the update, once its accesses before it are done.
-    fn go_through<R: Wait, G: Gate>(
+    pub(crate) fn go_through<R: Wait, G: Gate>(
         &mut self,
         rt: &R,
         yard: &Yard,
@@ -296,14 +299,15 @@ impl YardPass {
         goal: &RegFile,
         gate: &G,
     ) -> Visited
-        requires lodges { Lodges yard.now.table.shared.table_id (start_of yard.now.table.shared.key) self.old.seat.table_id self.old.seat.me self.old.number core.old.system false false }
+        requires lodges { LodgesIn yard.now self.old core.old.system false false }
         requires runs { AreIn Running core.old.system }
         requires idle { core.old.order ≡ None }
-        requires goal { goal.now ≡ yard.now.table.shared.key.goal.value }
+        requires goal { goal.now ≡ goal_at yard.now }
         ensures number { self.new.number ≡ self.old.number }
         ensures done { done_in self.new.seat.me ≡ done_in self.old.seat.me }
-        ensures complete { result ≡ Visited.Complete → Lodges yard.now.table.shared.table_id (start_of yard.now.table.shared.key) self.new.seat.table_id self.new.seat.me self.new.number core.new.system true true × (self.new.seat.me.0.shown ≡ Some yard.now.count) × AreIn Running core.new.system × (core.new ≡ updated core.old.system (0 ∷ []) goal.now) }
-        ensures cancelled { result ≡ Visited.Cancelled → ((added : Bool) × Lodges yard.now.table.shared.table_id (start_of yard.now.table.shared.key) self.new.seat.table_id self.new.seat.me self.new.number core.new.system added false) × (self.new.seat.me.0.cancel ≡ true) × IsLeft core.old.system core.new.system }
+        ensures complete { result ≡ Visited.Complete → LodgesIn yard.now self.new core.new.system true true × (self.new.seat.me.0.shown ≡ Some yard.now.count) }
+        ensures whole { result ≡ Visited.Complete → AreIn Running core.new.system × (core.new ≡ updated core.old.system (0 ∷ []) goal.now) }
+        ensures cancelled { result ≡ Visited.Cancelled → ((added : Bool) × LodgesIn yard.now self.new core.new.system added false) × (self.new.seat.me.0.cancel ≡ true) × IsLeft core.old.system core.new.system }
     {
         if !self.take(yard, core, goal) {
             return Visited::Cancelled;
@@ -317,76 +321,4 @@ impl YardPass {
         self.wait_second(rt, yard, core);
         Visited::Complete
     }
-}
-
-// A core over the one processor, which runs.
-pub(crate) fn core_of(own: System) -> Core
-    requires { AreIn Running own }
-    ensures { result ≡ at_rest own }
-{
-    Core::new(own)
-}
-
-// The accesses, the update, and where it is done the accesses after it.
-pub(crate) fn visit_with<R: Wait, G: Gate>(
-    rt: &R,
-    yard: &Yard,
-    pass: &mut YardPass,
-    core: &mut Core,
-    goal: &RegFile,
-    job: &Job,
-    told: &mut Told,
-    gate: &G,
-) -> Visited
-    requires lodges { Lodges yard.now.table.shared.table_id (start_of yard.now.table.shared.key) pass.old.seat.table_id pass.old.seat.me pass.old.number core.old.system false false }
-    requires runs { AreIn Running core.old.system }
-    requires idle { core.old.order ≡ None }
-    requires new { done_in pass.old.seat.me ≡ [] }
-    requires goal { goal.now ≡ yard.now.table.shared.key.goal.value }
-    requires addresses { FitsJob job.now }
-    requires open { (part : JobPart) → IsOpen part job.now told.old }
-    ensures ends { VisitEnds result yard.now.table.shared.table_id (start_of yard.now.table.shared.key) pass.old.number goal.now job.now core.old.system pass.new.seat.table_id pass.new.seat.me core.new.system told.new }
-    ensures runs { AreIn Running core.new.system }
-    ensures has_room { result ≡ Visited.Cancelled → IsOpen After job.now told.new }
-    ensures number { pass.new.number ≡ pass.old.number }
-{
-    pass.access_all(yard, core, job.before.as_slice(), &mut told.before);
-    match pass.go_through(rt, yard, core, goal, gate) {
-        Visited::Complete => {
-            pass.access_all(yard, core, job.after.as_slice(), &mut told.after);
-            Visited::Complete
-        }
-        Visited::Cancelled => Visited::Cancelled,
-    }
-}
-
-/// Does the accesses of the job before the update, the processor's events of one update, and where that is done the
-/// accesses after it. Others may wait meanwhile, or access pages of their own. It tells the gate once that its
-/// processor has arrived, where it has taken. It waits for the others, and for the host.
-///
-/// Complete comes only after a load of the second count that showed all processors, and Cancelled only after a load of
-/// the first count that showed the host's cancel; the pass's view then says so.
-pub fn visit<R: Wait, G: Gate>(
-    rt: &R,
-    yard: &Yard,
-    guest: Guest,
-    goal: &RegFile,
-    job: &Job,
-    told: &mut Told,
-    gate: &G,
-) -> (Guest, Visited)
-    requires lodges { Lodges yard.now.table.shared.table_id (start_of yard.now.table.shared.key) guest.pass.seat.table_id guest.pass.seat.me guest.pass.number guest.own false false }
-    requires runs { AreIn Running guest.own }
-    requires new { done_in guest.pass.seat.me ≡ [] }
-    requires goal { goal.now ≡ yard.now.table.shared.key.goal.value }
-    requires addresses { FitsJob job.now }
-    requires open { (part : JobPart) → IsOpen part job.now told.old }
-    ensures ends { VisitEnds result.1 yard.now.table.shared.table_id (start_of yard.now.table.shared.key) guest.pass.number goal.now job.now guest.own result.0.pass.seat.table_id result.0.pass.seat.me result.0.own told.new }
-    ensures number { result.0.pass.number ≡ guest.pass.number }
-{
-    let Guest { own, mut pass } = guest;
-    let mut core = core_of(own);
-    let visited = visit_with(rt, yard, &mut pass, &mut core, goal, job, told, gate);
-    let own = core.into_system();
-    (Guest { own, pass }, visited)
 }

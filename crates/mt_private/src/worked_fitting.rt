@@ -9,7 +9,7 @@ ghost use Rattle.mt_private.specs.declared.job.Part.TheVariants.{After, Before};
 ghost use Rattle.mt_private.specs.declared.job.Told.{Told as YardTold};
 ghost use Rattle.mt_private.specs.Jobs.{FitsJob, IsOpen, answers_in};
 ghost use Rattle.mt_private.specs.OneByOne.{jobs_one_by_one};
-ghost use Rattle.mt_private.specs.Worked.{loads, pair, pair_done, stores};
+ghost use Rattle.mt_private.specs.Worked.{both_ops, loads, pair, pair_done, stores};
 
 /// A job whose addresses and values fit, up to the last word and the largest value, and what doesn't fit for one thing.
 pub fn worked_fitting_jobs()
@@ -30,5 +30,5 @@ pub fn worked_open_answers()
 
 /// Jobs of two processors: what each does before the update and after it.
 pub fn worked_jobs_of_two()
-    ensures { (first second : YardJob) → first.before.items ∷ second.before.items ∷ [] ≡ stores → first.after.items ∷ second.after.items ∷ [] ≡ loads → jobs_one_by_one pair uncached_goal (first ∷ second ∷ []) ≡ pair_done }
+    ensures { (first second : YardJob) → both_ops Before first second ≡ stores → both_ops After first second ≡ loads → jobs_one_by_one pair uncached_goal (first ∷ second ∷ []) ≡ pair_done }
 {}

@@ -9,25 +9,24 @@ ghost use Rattle.mt_rendezvous.specs.Station.{held};
 ghost use Rattle.mt_private.specs.declared.gather.Room.{Room as YardRoom};
 ghost use Rattle.mt_private.specs.declared.visiting.Guest.{Guest as YardGuest};
 ghost use Rattle.mt_private.specs.Gathered.{AreGathered, AreRooms, IsGathered, IsRoom, OffersFrom};
-ghost use Rattle.mt_private.specs.Own.{own_memory, pages_of};
 ghost use Rattle.mt_private.specs.Residents.{own_of, with_held};
 ghost use Rattle.mt_private.specs.Worked.{marked};
 ghost use Rattle.mt_private.specs.WorkedYard.{first_lodged, host_view, lodger, lodging};
-ghost use Rattle.mt_private.specs.WorkedGathered.{combining, own_machine, second_lodged, view_of, with_other_words};
+ghost use Rattle.mt_private.specs.WorkedGathered.{combining, own_machine, second_lodged, view_of, with_other_words, words_of_lodger};
 ghost use Rattle.mt_private.specs.YardCalls.{HasTaken, Keeps, Visits, in_phase};
 ghost use Rattle.mt_private.specs.YardRule.{yard_left};
 
 /// Room for a guest, and what is none for one thing.
 pub fn worked_rooms()
-    ensures room { (r : YardRoom) → r.ram ≡ own_memory (pages_of (lodger 0x100)) marked.memory → r.cpus.items ≡ [] → 1 ≤ vec_capacity r.cpus → r.tables.items ≡ [] → 1 ≤ vec_capacity r.tables → IsRoom (lodger 0x100) marked.memory r }
-    ensures other_words { (r : YardRoom) → r.ram ≡ own_memory (pages_of (lodger 0x200)) marked.memory → IsRoom (lodger 0x100) marked.memory r → ⊥ }
+    ensures room { (r : YardRoom) → r.ram ≡ words_of_lodger 0x100 → r.cpus.items ≡ [] → 1 ≤ vec_capacity r.cpus → r.tables.items ≡ [] → 1 ≤ vec_capacity r.tables → IsRoom (lodger 0x100) marked.memory r }
+    ensures other_words { (r : YardRoom) → r.ram ≡ words_of_lodger 0x200 → IsRoom (lodger 0x100) marked.memory r → ⊥ }
     ensures has_a_processor { (r : YardRoom) → length r.cpus.items ≡ 1 → IsRoom (lodger 0x100) marked.memory r → ⊥ }
     ensures no_place { (r : YardRoom) → vec_capacity r.cpus ≡ 0 → IsRoom (lodger 0x100) marked.memory r → ⊥ }
     ensures has_a_table { (r : YardRoom) → length r.tables.items ≡ 1 → IsRoom (lodger 0x100) marked.memory r → ⊥ }
     ensures no_place_for_a_table { (r : YardRoom) → vec_capacity r.tables ≡ 0 → IsRoom (lodger 0x100) marked.memory r → ⊥ }
     ensures rooms { AreRooms [] marked.memory [] }
     ensures room_missing { AreRooms (lodger 0x100 ∷ []) marked.memory [] → ⊥ }
-    ensures room_of_the_first { (r s : YardRoom) → s.ram ≡ own_memory (pages_of (lodger 0x100)) marked.memory → AreRooms (lodger 0x100 ∷ lodger 0x200 ∷ []) marked.memory (r ∷ s ∷ []) → ⊥ }
+    ensures room_of_the_first { (r s : YardRoom) → s.ram ≡ words_of_lodger 0x100 → AreRooms (lodger 0x100 ∷ lodger 0x200 ∷ []) marked.memory (r ∷ s ∷ []) → ⊥ }
 {}
 
 /// What the root has before, while and after it gives its residents away.

@@ -10,11 +10,11 @@ ghost use Rattle.mt_machine.specs.Memory.{put_word};
 ghost use Rattle.mt_rendezvous.specs.declared.view.Key.{Key};
 ghost use Rattle.mt_rendezvous.specs.Station.{held, start_of};
 ghost use Rattle.mt_private.specs.Worked.{marked, pair};
-ghost use Rattle.mt_private.specs.WorkedYard.{adds, alone, at_start, both_lodged, both_with, first_lodged, first_taken, host_view, lodged, lodger, lodging, start_in};
+ghost use Rattle.mt_private.specs.WorkedYard.{adds, alone, at_start, both_lodged, both_with, first_lodged, first_state, first_taken, host_view, lodged, lodger, lodging, split_state, start_in};
 ghost use Rattle.mt_private.specs.Residents.{Decides, Follows, Moves, Resides, StandsFor, Yard, system_of, with_held};
 ghost use Rattle.mt_private.specs.YardLaws.{Has, IsOneEvent};
 ghost use Rattle.mt_private.specs.YardPlays.{CancelsYard, GivesYard, Said};
-ghost use Rattle.mt_private.specs.YardRule.{MeetsYard, first_yard_view, residents, with_said, yard_left, yard_right};
+ghost use Rattle.mt_private.specs.YardRule.{MeetsYard, first_yard_view, residents, with_said, yard_left};
 
 /// The system that residents stand for.
 pub fn worked_stands_for()
@@ -75,15 +75,15 @@ pub fn worked_sayings()
 
 /// Words and views that meet the rule, and that don't for one thing; and that a split of the root is no event.
 pub fn worked_yard_rule()
-    ensures opened { (key : Key) → start_of key ≡ lodging → MeetsYard key (at_start key (0 ∷ 0 ∷ 0 ∷ 0 ∷ [])) }
+    ensures opened { (key : Key) → start_of key ≡ lodging → MeetsYard key (first_state key) }
     ensures unstored { (key : Key) → start_of key ≡ lodging → MeetsYard key (at_start key (0 ∷ 0 ∷ 7 ∷ 0 ∷ [])) → ⊥ }
     ensures short { (key : Key) → start_of key ≡ lodging → MeetsYard key (at_start key (0 ∷ 0 ∷ 0 ∷ [])) → ⊥ }
     ensures counted { (key : Key) → start_of key ≡ lodging → MeetsYard key (at_start key (1 ∷ 0 ∷ 0 ∷ 0 ∷ [])) → ⊥ }
     ensures missing { (key : Key) → start_of key ≡ lodging → MeetsYard key (opening (0 ∷ 0 ∷ 0 ∷ 0 ∷ []) [] (yard_left (first_yard_view key))) → ⊥ }
     ensures uncounted { (key : Key) → start_of key ≡ lodging → MeetsYard key (opening (0 ∷ 0 ∷ 0 ∷ 0 ∷ []) [] (with_said (first_yard_view key) Given)) → ⊥ }
     ensures untold { (key : Key) → start_of key ≡ lodging → MeetsYard key (opening (0 ∷ 0 ∷ 0 ∷ 0 ∷ []) [] (record (first_yard_view key) { cancel = true })) → ⊥ }
-    ensures split { (key : Key) → start_of key ≡ lodging → (m : MeetsYard key (at_start key (0 ∷ 0 ∷ 0 ∷ 0 ∷ []))) → IsOneEvent key (at_start key (0 ∷ 0 ∷ 0 ∷ 0 ∷ [])) (record { words = 0 ∷ 0 ∷ 0 ∷ 0 ∷ []; homes = []; views = yard_left (first_yard_view key) ∷ yard_right (first_yard_view key) ∷ [] }) m None }
-    ensures not_kept { (key : Key) → start_of key ≡ lodging → (m : MeetsYard key (at_start key (0 ∷ 0 ∷ 0 ∷ 0 ∷ []))) → IsOneEvent key (at_start key (0 ∷ 0 ∷ 0 ∷ 0 ∷ [])) (at_start key (0 ∷ 0 ∷ 0 ∷ [])) m None → ⊥ }
-    ensures not_enabled { (key : Key) → start_of key ≡ lodging → (m : MeetsYard key (at_start key (0 ∷ 0 ∷ 0 ∷ 0 ∷ []))) → IsOneEvent key (at_start key (0 ∷ 0 ∷ 0 ∷ 0 ∷ [])) (at_start key (0 ∷ 0 ∷ 0 ∷ 0 ∷ [])) m (Some (Steps 7 Arrive)) → ⊥ }
-    ensures not_gone_on { (key : Key) → start_of key ≡ lodging → (m : MeetsYard key (at_start key (0 ∷ 0 ∷ 0 ∷ 0 ∷ []))) → IsOneEvent key (at_start key (0 ∷ 0 ∷ 0 ∷ 0 ∷ [])) (at_start key (0 ∷ 0 ∷ 0 ∷ 0 ∷ [])) m (Some Goes) → ⊥ }
+    ensures split { (key : Key) → start_of key ≡ lodging → (m : MeetsYard key (first_state key)) → IsOneEvent key (first_state key) (split_state key) m None }
+    ensures not_kept { (key : Key) → start_of key ≡ lodging → (m : MeetsYard key (first_state key)) → IsOneEvent key (first_state key) (at_start key (0 ∷ 0 ∷ 0 ∷ [])) m None → ⊥ }
+    ensures not_enabled { (key : Key) → start_of key ≡ lodging → (m : MeetsYard key (first_state key)) → IsOneEvent key (first_state key) (first_state key) m (Some (Steps 7 Arrive)) → ⊥ }
+    ensures not_gone_on { (key : Key) → start_of key ≡ lodging → (m : MeetsYard key (first_state key)) → IsOneEvent key (first_state key) (first_state key) m (Some Goes) → ⊥ }
 {}

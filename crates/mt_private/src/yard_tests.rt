@@ -5,19 +5,17 @@ ghost use Rattle.mt_machine.specs.declared.go.Go.TheVariants.{Pending};
 ghost use Rattle.mt_machine.specs.declared.phase.Phase.TheVariants.{Running};
 ghost use Rattle.mt_machine.specs.Machine.{FitsGoal};
 ghost use Rattle.mt_machine.specs.Start.{HasEraRoom};
-ghost use Rattle.mt_rendezvous.specs.Calls.{IsRoot, Leads};
-ghost use Rattle.mt_rendezvous.specs.Station.{start_of};
 ghost use Rattle.mt_private.specs.declared.job.Part.{Part as JobPart};
-ghost use Rattle.mt_private.specs.Gathered.{AreGathered, IsGathered};
+ghost use Rattle.mt_private.specs.InYard.{AreGatheredIn, IsGatheredIn, IsRootIn, LeadsIn, LodgesIn, goal_at};
 ghost use Rattle.mt_private.specs.Jobs.{FitsJob, IsOpen};
-ghost use Rattle.mt_private.specs.YardCalls.{AreIn, Lodges};
-ghost use Rattle.mt_private.specs.YardPlays.{as_sat};
+ghost use Rattle.mt_private.specs.YardCalls.{AreIn};
 
 use crate::host::{Host, Yard};
 use crate::job::{Job, Told};
 use crate::pages::shared_page;
 use crate::tests::{core_of, file, fits_job, jobs_of, may_call};
-use crate::visiting::{Guest, Visited, visit};
+use crate::visiting::{Guest, Visited};
+use crate::visits::visit;
 use mt_bus::System;
 use mt_core::{Core, a_core_arises};
 use mt_gates::AllBut;
@@ -32,9 +30,9 @@ fn gather_of(alloc: Global, core: Core, goal: &RegFile) -> Option<(Yard, Host, V
     requires some { 0 < length core.system.processors }
     requires fits { All (FitsGoal goal.now) core.system.processors }
     requires room { HasEraRoom core }
-    ensures host { IfSome result (λ y. Leads y.0.table.shared.table_id (start_of y.0.table.shared.key) y.1.seat.table_id (as_sat y.1.seat.me) Pending) }
-    ensures goal { IfSome result (λ y. goal.now ≡ y.0.table.shared.key.goal.value) }
-    ensures guests { IfSome result (λ y. AreGathered y.0.table.shared.table_id (start_of y.0.table.shared.key) y.2.items) }
+    ensures host { IfSome result (λ y. LeadsIn y.0 y.1.seat Pending) }
+    ensures goal { IfSome result (λ y. goal.now ≡ goal_at y.0) }
+    ensures guests { IfSome result (λ y. AreGatheredIn y.0 y.2.items) }
 {
     a_core_arises(&core); // a fact for the proof
     goal.is_register_file(); // a fact for the proof
@@ -55,11 +53,11 @@ fn gather_of(alloc: Global, core: Core, goal: &RegFile) -> Option<(Yard, Host, V
 
 /// The last guest.
 fn last(yard: &Yard, waiting: &mut Vec<Guest>) -> Option<Guest>
-    requires { AreGathered yard.now.table.shared.table_id (start_of yard.now.table.shared.key) waiting.old.items }
+    requires { AreGatheredIn yard.now waiting.old.items }
     ensures none { IfNone result (length waiting.old.items ≡ 0) }
-    ensures gathered { IfSome result (λ g. IsGathered yard.now.table.shared.table_id (start_of yard.now.table.shared.key) (length waiting.new.items) g.pass.seat.table_id g.pass.seat.me g.pass.number g.own) }
+    ensures gathered { IfSome result (λ g. IsGatheredIn yard.now (length waiting.new.items) g) }
     ensures fewer { IfSome result (λ g. length waiting.old.items ≡ length waiting.new.items + 1) }
-    ensures rest { AreGathered yard.now.table.shared.table_id (start_of yard.now.table.shared.key) waiting.new.items }
+    ensures rest { AreGatheredIn yard.now waiting.new.items }
 {
     let _ = yard.count;
     waiting.pop()
@@ -92,12 +90,12 @@ fn visit_whole<R: Wait>(
     mut told: Told,
     gate: &AllBut,
 ) -> Visit
-    requires gathered { IsGathered yard.now.table.shared.table_id (start_of yard.now.table.shared.key) k guest.pass.seat.table_id guest.pass.seat.me guest.pass.number guest.own }
+    requires gathered { IsGatheredIn yard.now k guest }
     requires runs { AreIn Running guest.own }
-    requires goal { goal.now ≡ yard.now.table.shared.key.goal.value }
+    requires goal { goal.now ≡ goal_at yard.now }
     requires addresses { FitsJob job.now }
     requires open { (part : JobPart) → IsOpen part job.now told }
-    ensures { (added : Bool) × (again : Bool) × Lodges yard.now.table.shared.table_id (start_of yard.now.table.shared.key) result.guest.pass.seat.table_id result.guest.pass.seat.me result.guest.pass.number result.guest.own added again }
+    ensures { (added : Bool) × (again : Bool) × LodgesIn yard.now result.guest.pass result.guest.own added again }
 {
     let _ = k;
     let (guest, visited) = visit(rt, yard, guest, goal, job, &mut told, gate);
@@ -110,8 +108,8 @@ fn visit_whole<R: Wait>(
 
 /// Gives the go, or cancels.
 fn say(yard: &Yard, host: &mut Host, given: bool)
-    requires { Leads yard.now.table.shared.table_id (start_of yard.now.table.shared.key) host.old.seat.table_id (as_sat host.old.seat.me) Pending }
-    ensures { IsRoot yard.now.table.shared.table_id host.new.seat.table_id (as_sat host.new.seat.me) }
+    requires { LeadsIn yard.now host.old.seat Pending }
+    ensures { IsRootIn yard.now host.new.seat }
 {
     if given {
         host.go(yard);
@@ -134,9 +132,9 @@ fn taken(owns: &mut Vec<Option<System>>, k: usize) -> Option<System> {
 
 /// Takes the guest back, and hands out what the host then keeps at this place.
 fn take_from(yard: &Yard, host: &mut Host, k: usize, done: Visit) -> Option<Came>
-    requires hosts { IsRoot yard.now.table.shared.table_id host.old.seat.table_id (as_sat host.old.seat.me) }
-    requires lodges { (added : Bool) × (again : Bool) × Lodges yard.now.table.shared.table_id (start_of yard.now.table.shared.key) done.guest.pass.seat.table_id done.guest.pass.seat.me done.guest.pass.number done.guest.own added again }
-    ensures { IsRoot yard.now.table.shared.table_id host.new.seat.table_id (as_sat host.new.seat.me) }
+    requires hosts { IsRootIn yard.now host.old.seat }
+    requires lodges { (added : Bool) × (again : Bool) × LodgesIn yard.now done.guest.pass done.guest.own added again }
+    ensures { IsRootIn yard.now host.new.seat }
 {
     let Visit {
         guest,
@@ -163,9 +161,9 @@ fn come_alone<R: Wait>(
     given: bool,
     gate: &AllBut,
 ) -> Option<Came>
-    requires hosts { Leads yard.now.table.shared.table_id (start_of yard.now.table.shared.key) host.old.seat.table_id (as_sat host.old.seat.me) Pending }
-    requires guests { AreGathered yard.now.table.shared.table_id (start_of yard.now.table.shared.key) waiting.old.items }
-    requires goal { goal.now ≡ yard.now.table.shared.key.goal.value }
+    requires hosts { LeadsIn yard.now host.old.seat Pending }
+    requires guests { AreGatheredIn yard.now waiting.old.items }
+    requires goal { goal.now ≡ goal_at yard.now }
 {
     let Ok(told) = Told::new(alloc, job) else {
         return None;

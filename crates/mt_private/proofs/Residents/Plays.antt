@@ -15,7 +15,7 @@ use Rattle.mt_machine.specs.declared.go.Go.TheVariants.{Cancelled, Given}
 use Rattle.mt_machine.specs.declared.op.Op.{Op}
 use Rattle.mt_machine.specs.Memory.{Memory}
 use Rattle.mt_machine.specs.System.{Processor}
-use Rattle.mt_machine.specs.Machine.{Accesses, Calls, FitsGoal, FitsOp, MachineEvent, Order, Steps, after, at_start, common_era}
+use Rattle.mt_machine.specs.Machine.{Accesses, Calls, FitsOp, MachineEvent, Order, Steps, after, at_start, common_era}
 use Rattle.mt_cpu.specs.Steps.{is_local}
 use Rattle.mt_core.proofs.Reaching.{reached_on}
 use Rattle.mt_laws.specs.Kept.{IsUnderWay}
@@ -34,7 +34,7 @@ use Rattle.mt_private.specs.OneByOne.{at_rest}
 use Rattle.mt_private.specs.Residents.{FitsYard, Follows, Opens, accessed_by, held_of, stepped_by, system_of, with_first, with_held, with_stored, yard_machine}
 use Rattle.mt_private.specs.YardLaws.{Stores}
 use Rattle.mt_private.specs.YardRule.{MeetsYard, as_view, with_one}
-use Rattle.mt_private.specs.YardPlays.{AccessesYard, ArrivesAgainYard, ArrivesYard, IsOwnWord, OfOne, PassMoves, PassesYard, ReleasesYard, TakesYard, Turns, WorksYard}
+use Rattle.mt_private.specs.YardPlays.{AccessesYard, ArrivesAgainYard, ArrivesYard, IsCallable, IsOwnWord, OfOne, PassMoves, PassesYard, ReleasesYard, TakesYard, Turns, WorksYard}
 use Rattle.mt_private.proofs.Residents.Barriers.{arrives, arrives_again, leaves, not_taken, own_fits, passes, releases, unmoved}
 use Rattle.mt_private.proofs.Residents.Moves.{processor_at}
 use Rattle.mt_private.proofs.Residents.Paths.{uncalled_reached}
@@ -135,7 +135,7 @@ module _ (key : Key) where
     )
 
     -- its own machine may be called
-    pub callable : m.go ≢ Cancelled → y.held.again ≡ false → y.held.cpu.phase ≡ Running → FitsGoal t.goal y.held.cpu × (y.held.cpu.era ≡ common_era t.cpus)
+    pub callable : m.go ≢ Cancelled → y.held.again ≡ false → y.held.cpu.phase ≡ Running → IsCallable t y
     callable apart out_again runs =
         let f = own_fits t m.all m.go (slice_index s.words 0) (slice_index s.words 1) m.system m.yard y.held.number y here in
         let up : rise y.held.again y.held.cpu.phase ≡ 0 = (λ i. rise (out_again i) (runs i)) in
@@ -199,7 +199,7 @@ module _ (key : Key) where
       taken = with_one me.0 (stepped_by me.0.start Take y) me.0.shown me.0.cancel
 
       abbrev HasTaken : Resident → Type 0
-      HasTaken x = Turns me.0 taken x (stepped_by me.0.start Take x) me.0.shown me.0.cancel (Some (Steps x.held.number Take)) × FitsGoal me.0.start.goal x.held.cpu × (x.held.cpu.era ≡ common_era me.0.start.cpus)
+      HasTaken x = Turns me.0 taken x (stepped_by me.0.start Take x) me.0.shown me.0.cancel (Some (Steps x.held.number Take)) × IsCallable me.0.start x
 
       pub take : m.go ≢ Cancelled → n < 4294967296 → Kept 0 n taken × Opens me.0.start × OfOne me.0 HasTaken
       take apart low =
@@ -208,7 +208,7 @@ module _ (key : Key) where
           let g : Goes w (Some (Steps k Take)) n z = of_start (λ (u : Start). Goes (stepped_by u Take y) (Some (Steps k Take)) n z) f in
           let p = by_load w me.0.cancel (Some (Steps k Take)) (in_number y _ _) (in_stored y _ _) (shown_before s m id me.0 at y is) g in
           let c = callable s m id me.0 at y is apart out_again runs in
-          (p.0, of_start Opens m.yard.resides.opens, one_of HasTaken (p.1, of_start (λ (u : Start). FitsGoal u.goal y.held.cpu) c.0, of_start (λ (u : Start). y.held.cpu.era ≡ common_era u.cpus) c.1))
+          (p.0, of_start Opens m.yard.resides.opens, one_of HasTaken (p.1, of_start (λ (u : Start). IsCallable u y) c))
 
     -- an addition to the first count
     module _ (out : y.held.added ≡ false) (out_again : y.held.again ≡ false) (taken : y.held.cpu.phase ≡ Taken) where

@@ -1,15 +1,14 @@
-use Rattle.std.proofs.Common.{◌≡◌, ◌≤◌, ◌++◌, Bool, drop, length}
+use Rattle.std.proofs.Common.{◌≡◌, ◌≤◌, ◌++◌, drop, length}
 use Rattle.std.specs.Prelude.{vec_capacity}
 use Rattle.mt_machine.specs.declared.phase.Phase.TheVariants.{Running}
-use Rattle.mt_rendezvous.specs.Station.{start_of}
+use Rattle.mt_private.specs.InYard.{KeepsLodging}
 use Rattle.mt_private.specs.OneByOne.{ran}
-use Rattle.mt_private.specs.YardCalls.{AreIn, Lodges, done_in}
+use Rattle.mt_private.specs.YardCalls.{AreIn, done_in}
 use Rattle.mt_private.proofs.visiting.YardPass.access_all.Given as goal
 
 abbrev pub invariant-loop-i : goal.invariant-loop-i
 invariant-loop-i l = record {
-  lodges : (added again : Bool) → Lodges l.yard.table.shared.table_id (start_of l.yard.table.shared.key) l.fn.self.seat.table_id l.fn.self.seat.me l.fn.self.number l.fn.core.system added again
-      → Lodges l.yard.table.shared.table_id (start_of l.yard.table.shared.key) l.self.seat.table_id l.self.seat.me l.self.number l.core.system added again;
+  lodges : KeepsLodging l.yard l.fn.self l.fn.core.system l.self l.core.system;
   runs : AreIn Running l.core.system;
   done : done_in l.self.seat.me ++ drop l.i l.ops ≡ done_in l.fn.self.seat.me ++ l.ops;
   shown : l.self.seat.me.0.shown ≡ l.fn.self.seat.me.0.shown;

@@ -59,11 +59,14 @@ pub returns-clause-done : goal.returns-clause-done
 returns-clause-done g c = c.wait_second.ensures.done ∙ c.arrive_again.ensures.done ∙ c.work_all.ensures.done ∙ c.wait_first.ensures.done ∙ c.arrive.ensures.done ∙ c.take.ensures.done
 
 pub returns-clause-complete : goal.returns-clause-complete
-returns-clause-complete g c _ =
+returns-clause-complete g c _ = let w = c.wait_second.ensures in (w.lodges, w.shown)
+
+pub returns-clause-whole : goal.returns-clause-whole
+returns-clause-whole g c _ =
     let s : System = c.args.core.now.system in
     let v = c.arrive_again.ensures.visits s (c.work_all.ensures.visits s (c.wait_first.ensures.visits c.if-not-wait_first.false s (c.arrive.ensures.visits s (c.take.ensures.visits c.if-not-take.false)))) in
     let k = c.take.ensures.callable c.if-not-take.false in
     let w = c.wait_second.ensures in
     let goal_is = c.requires.goal in
     let enabled = subst (λ (f : RegisterFile). IsEnabled (at_rest s) (Calls f)) goal_is k.1 in
-    (w.lodges, w.shown, w.runs, w.whole s v k.0 enabled ∙ ap (λ (f : RegisterFile). updated s (0 ∷ []) f) (sym goal_is))
+    (w.runs, w.whole s v k.0 enabled ∙ ap (λ (f : RegisterFile). updated s (0 ∷ []) f) (sym goal_is))

@@ -8,7 +8,7 @@ use Rattle.mt_private.specs.declared.job.Part.TheVariants.{After, Before}
 use Rattle.mt_private.specs.OneByOne.{ran}
 use Rattle.mt_private.specs.YardCalls.{IsLeft, Lodges, updated_own}
 use Rattle.mt_private.proofs.Alone.{left_runs}
-use Rattle.mt_private.proofs.visiting.visit_with.Goals as goal
+use Rattle.mt_private.proofs.visits.visit_with.Goals as goal
 
 pub access_all-requires-clause-lodges : goal.access_all-requires-clause-lodges
 access_all-requires-clause-lodges g c = (false, false, c.requires.lodges)
@@ -54,13 +54,14 @@ returns-in-Cancelled-clause-ends g c =
 pub returns-in-Complete-clause-ends : goal.returns-in-Complete-clause-ends
 returns-in-Complete-clause-ends g c =
     let e = c.go_through.ensures.complete c.in-Complete.is in
+    let all = c.go_through.ensures.whole c.in-Complete.is in
     let a = c.access_all.ensures in
     let b = c.access_all-in-Complete.ensures in
     let before = c.as_slice.ensures.value in
     let after = c.as_slice-in-Complete.ensures.value in
     let s : System = c.args.core.now.system in
     let first = ap (λ (m : Machine). m.system) a.after ∙ ap (λ (xs : List Op). (ran 0 xs s).after) before in
-    let whole = ap (λ (m : Machine). m.system) e.3 ∙ ap (updated_own c.args.goal.now) first in (
+    let whole = ap (λ (m : Machine). m.system) all.1 ∙ ap (updated_own c.args.goal.now) first in (
       subst (λ (n : ℕ). Lodges c.args.yard.now.table.shared.table_id (start_of c.args.yard.now.table.shared.key) c.access_all-in-Complete.new.self.seat.table_id c.access_all-in-Complete.new.self.seat.me n c.access_all-in-Complete.new.core.system true true)
           (b.number ∙ c.go_through.ensures.number ∙ a.number) (b.lodges true true e.0),
       b.shown ∙ e.1 ∙ ap (λ (n : ℕ). Some n) (sym c.args.yard.now.counted),
