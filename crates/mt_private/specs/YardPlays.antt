@@ -68,7 +68,7 @@ Turns v new y w shown cancel e = (new ≡ with_one v w shown cancel) × PassMove
 abbrev pub TurnsUnshown : YardSat → YardSat → Resident → Resident → Option MachineEvent → Type 0
 TurnsUnshown me new y w e = Turns me.0 new.0 y w me.0.shown me.0.cancel e
 
--- its processor fits the goal, and holds nothing of another era
+-- its processor fits the goal, and has the era of all
 abbrev pub IsCallable : Start → Resident → Type 0
 IsCallable t y = FitsGoal t.goal y.held.cpu × (y.held.cpu.era ≡ common_era t.cpus)
 
