@@ -3,6 +3,7 @@
 --     listing file      the lines of all pairs, in order
 --     ranges_of file      the blocks and types of the valid pairs, as requests, in order
 use Rattle.std.specs.Prelude.{ℕ, ◌+◌, ◌*◌, ◌^◌, ◌==◌, List, [], ◌∷◌, ◌++◌, codes, decimal, if◌then◌else◌, Option, Result, Ok, Some}
+use Rattle.mt_kinds.specs.Sizes.{page_bytes}
 use Rattle.mt_kinds.specs.declared.mem_type.MemType.{MemType}
 use Rattle.mt_ranges.specs.Match.{range_first, range_log}
 use Rattle.mt_regs.specs.RegisterFile.{RegisterFile, pair_at}
@@ -26,10 +27,10 @@ hex_text value = significant (value_text value)
 
 -- the first address and the bytes of a pair's range, m being the bits of a physical address
 abbrev pub base_of : ℕ → ℕ × ℕ → ℕ
-base_of m pair = 4096 * range_first m pair
+base_of m pair = page_bytes * range_first m pair
 
 abbrev pub size_of : ℕ → ℕ × ℕ → ℕ
-size_of m pair = 4096 * 2 ^ range_log m pair
+size_of m pair = page_bytes * 2 ^ range_log m pair
 
 abbrev pub range_text : ℕ → ℕ → MemType → ℕ → List ℕ
 range_text base size kind n =

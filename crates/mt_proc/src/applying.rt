@@ -1,5 +1,6 @@
 ghost use Rattle.std.specs.Prelude.{◌≡◌, ◌≤◌, ◌<◌, ◌+◌, ◌*◌, ◌-◌, ◌^◌, ◌↔◌, ℕ, true, false, length, if◌then◌else◌, MatchOption, Some, None};
 ghost use Rattle.std.specs.List.{AllPass};
+ghost use Rattle.mt_kinds.specs.Sizes.{page_bytes};
 ghost use Rattle.mt_kinds.specs.declared.mem_type.MemType.{MemType as Kind};
 ghost use Rattle.mt_ranges.specs.Blocks.{block_end};
 ghost use Rattle.mt_regs.specs.RegisterFile.{RegisterFile as File, pair_at};
@@ -37,7 +38,7 @@ pub(crate) fn power(k: u8) -> u64
 
 // The log of a size in pages, where it is a power of two of at least a page.
 fn size_log(size: u64) -> Option<u8>
-    ensures { MatchOption result (is_size size ≡ false) (λ log. (is_size size ≡ true) × (size ≡ 4096 * 2 ^ log) × (log ≤ 51)) }
+    ensures { MatchOption result (is_size size ≡ false) (λ log. (is_size size ≡ true) × (size ≡ page_bytes * 2 ^ log) × (log ≤ 51)) }
 {
     if size < PAGE_BYTES {
         return None;
@@ -55,7 +56,7 @@ fn range_block(base: u64, size: u64, m: u8) -> Option<Block>
     requires low { 32 ≤ m }
     requires high { m ≤ 52 }
     ensures { MatchOption result (is_good_range m base size ≡ false)
-        (λ b. (is_good_range m base size ≡ true) × (base ≡ 4096 * b.first) × (size ≡ 4096 * 2 ^ b.log) × (block_end b ≤ 2 ^ (m - 12))) }
+        (λ b. (is_good_range m base size ≡ true) × (base ≡ page_bytes * b.first) × (size ≡ page_bytes * 2 ^ b.log) × (block_end b ≤ 2 ^ (m - 12))) }
 {
     let Some(log) = size_log(size) else {
         return None;
@@ -126,7 +127,8 @@ fn change(f: &RegFile, r: &Request) -> Applied
 /// is to be cleared gets zeros. Each other register stays.
 pub fn apply(f: &RegFile, r: &Request) -> Applied
     ensures answer { result ≡ applied f.now r.now }
-    ensures least { (base size : ℕ) (kind : Kind) (goal : File) (n : ℕ) → r.now ≡ Request.Range base size kind → result ≡ Applied.Goal goal n → IsLeastFree f.now.pairs n × (goal ≡ with_pair f.now n (range_pair f.now.width base size kind)) }
+    ensures least { (base size : ℕ) (kind : Kind) (goal : File) (n : ℕ) → r.now ≡ Request.Range base size kind → result ≡ Applied.Goal goal n
+        → IsLeastFree f.now.pairs n × (goal ≡ with_pair f.now n (range_pair f.now.width base size kind)) }
     ensures none_free { (base size : ℕ) (kind : Kind) → r.now ≡ Request.Range base size kind → (result ≡ Applied.NoneFree) ↔ (IsGoodRange f.now.width base size × AllPass is_valid f.now.pairs) }
     ensures not_used { (n : ℕ) → r.now ≡ Request.Disable n → (result ≡ Applied.NotUsed) ↔ (is_valid (pair_at f.now.pairs n) ≡ false) }
     ensures bad_range { (base size : ℕ) (kind : Kind) → r.now ≡ Request.Range base size kind → (result ≡ Applied.BadRange) ↔ (IsGoodRange f.now.width base size → ⊥) }

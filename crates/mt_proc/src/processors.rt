@@ -7,6 +7,7 @@ ghost use Rattle.mt_output.specs.Lines.{line};
 ghost use Rattle.mt_proc.specs.After.{answer_text, asked, done_text};
 ghost use Rattle.mt_proc.specs.Applied.{applied};
 ghost use Rattle.mt_proc.specs.Serving.{Serves, changed, goal_after, idling, served, standing};
+ghost use Rattle.mt_regs.specs.Registers.{HasThreeDigits};
 
 use crate::{Applied, Request, apply};
 use arrayvec::ArrayVec;
@@ -92,7 +93,7 @@ fn update<R: Threads + Wait + Sync, G: Gate>(
     ensures fault { result ≡ first_fault goal }
     ensures after { core.new ≡ goal_after core.old goal }
     ensures serves { Serves core.new }
-    ensures short { IfSome result (λ fault. fault.msr < 4096) }
+    ensures short { IfSome result (λ fault. HasThreeDigits fault.msr) }
 {
     goal.is_register_file(); // a fact for the proof
     match mt_rendezvous::update(rt, alloc, core, goal, gate) {
@@ -175,7 +176,8 @@ impl Processors {
         ensures served { served self.new ≡ asked (served self.old) request.now }
         ensures unchanged { (asked (served self.old) request.now).count ≡ (served self.old).count → self.new ≡ self.old }
         ensures stands { (served self.old).count < (asked (served self.old) request.now).count → self.new ≡ standing (length self.old.system.processors) (asked (served self.old) request.now) }
-        ensures settled { (served self.old).count < (asked (served self.old) request.now).count → IsSettled self.new.system (asked (served self.old) request.now).count (asked (served self.old) request.now).file }
+        ensures settled { (served self.old).count < (asked (served self.old) request.now).count
+            → IsSettled self.new.system (asked (served self.old) request.now).count (asked (served self.old) request.now).file }
     {
         self.serve(); // a fact for the proof
         self.change(rt, alloc, request, gate)

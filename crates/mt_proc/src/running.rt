@@ -70,7 +70,8 @@ fn begin<K: Sink>(
     requires few { cpus ≤ 16 }
     requires dump { IsDump run.old }
     requires each { has_each cpus dump.now ≡ true }
-    ensures bytes { (from : Leading) (number : ℕ) → LeadsBy cpus from (begins dump.now (first_refusal dump.now.files)) number → Takes (proc_running cpus) from number [] run.new writer.old writer.new (K.taken sink.old) (K.taken sink.new) result }
+    ensures bytes { (from : Leading) (number : ℕ) → LeadsBy cpus from (begins dump.now (first_refusal dump.now.files)) number
+        → Takes (proc_running cpus) from number [] run.new writer.old writer.new (K.taken sink.old) (K.taken sink.new) result }
     ensures starts { (m : Machine) → run.new ≡ Run.Requests m → m ≡ idling (files_for cpus dump.now) 0 }
     ensures ending { (status : Status) → result ≡ Ok (Some status) → IsEnding status }
     ensures counts { (most : ℕ) → MatchResult result (λ ended. MatchOption ended (HasCount most run.new) (λ _. Unit {0})) (λ _. Unit {0}) }
@@ -100,7 +101,9 @@ fn take_request<R: Threads + Wait + Sync, K: Sink, G: Gate>(
     gate: &G,
 ) -> Result<Option<Status>, Failed>
     requires { (served processors.old).count < 2 ^ 64 - 1 }
-    ensures bytes { (cpus : ℕ) (from : Leading) (number : ℕ) (so_far : List ℕ) → LeadsBy cpus from (of_request (served processors.old) (request_of line.now.number line.now.bytes.now)) number → Takes (proc_running cpus) from number so_far (Run.Requests processors.new) writer.old writer.new (K.taken sink.old) (K.taken sink.new) result }
+    ensures bytes { (cpus : ℕ) (from : Leading) (number : ℕ) (so_far : List ℕ) →
+        LeadsBy cpus from (of_request (served processors.old) (request_of line.now.number line.now.bytes.now)) number
+        → Takes (proc_running cpus) from number so_far (Run.Requests processors.new) writer.old writer.new (K.taken sink.old) (K.taken sink.new) result }
     ensures ending { (status : Status) → result ≡ Ok (Some status) → IsEnding status }
     ensures counts { (most : ℕ) → (served processors.old).count ≤ most → MatchResult result (λ ended. MatchOption ended ((served processors.new).count ≤ most + 1) (λ _. Unit {0})) (λ _. Unit {0}) }
     ensures cause { HasCause (K.faults sink.old) (K.faults sink.new) result }

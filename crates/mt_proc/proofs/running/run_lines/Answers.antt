@@ -103,7 +103,7 @@ returns-in-Ok-Some-clause-bytes g c = λ bytes known.
     moves_line (proc_running c.args.cpus) (path_from c.args.cpus (in_dump [])) (proc_laws c.args.cpus) bytes more (g.S.Source.left c.lines.source) (g.S.Source.left c.next_line.new.source) c.lines.feed c.next_line.new.feed c.lines.run c.lines.writer c.next_line.new.writer
     (g.K.Sink.taken c.args.sink.now) (g.K.Sink.taken c.lines.sink) (g.K.Sink.taken c.next_line.new.sink) (c.lines.invariant.told bytes known) takes moves next.1 in
     let ends = rw (c.in-Ok-Some.field-0-is, c.current.ensures.bytes, c.current.ensures.number) at (c.in-Ok-Some.ensures.bytes h.text h.point h.at) in
-    let (dropped, drains, given, counted, leaves) = c.leave.ensures.bytes in
+    let (dropped, drains, given, (counted, leaves)) = c.leave.ensures.bytes in
     let left = rw c.is_last-last.ensures at leaves in
     elim ends [
       | inl e ↦ line_ends (proc_running c.args.cpus) (path_from c.args.cpus (in_dump [])) (proc_laws c.args.cpus) bytes (g.S.Source.left c.next_line.new.source) c.next_line.new.feed c.lines.run c.next_line.new.writer (g.K.Sink.taken c.args.sink.now) (g.K.Sink.taken c.next_line.new.sink) h
@@ -119,7 +119,7 @@ returns-in-Ok-Some-clause-too_long g c =
     let (more, takes, rises, next) = c.in-Ok-true.ensures.bytes in
     let moves = subst (Moves c.lines.feed c.next_line.new.feed (c.lines.feed.pending ++ more) (g.S.Source.left c.next_line.new.source)) c.in-Ok-true.field-0-test next.0 in
     let moved = moved_taken c.lines.feed c.next_line.new.feed more (g.S.Source.left c.next_line.new.source) moves in
-    let (dropped, drains, given, counted, leaves) = c.leave.ensures.bytes in (
+    let (dropped, drains, given, (counted, leaves)) = c.leave.ensures.bytes in (
       λ is. let many = c.leave.ensures.long.0 is in omega (arith, c.lines.invariant.given, rises, moved.0, given, counted, many),
       λ much. c.leave.ensures.long.1 (omega (arith, c.lines.invariant.given, rises, moved.0, given, counted, much)),
     )
