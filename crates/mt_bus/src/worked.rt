@@ -1,4 +1,4 @@
-// Worked runs of what the calls and the laws speak of: tables of types, and refusals of accesses and of control
+// Worked runs of what the calls and the laws speak of: tables of types, masks of caches, and refusals of accesses and of control
 // instructions. Of each part there is a run that fails in just that.
 ghost use Rattle.std.specs.Prelude.{◌∷◌, []};
 ghost use Rattle.mt_kinds.specs.declared.mem_type.MemType.TheVariants.{UC, WB};
@@ -10,10 +10,11 @@ ghost use Rattle.mt_machine.specs.declared.ruled.Ruled.TheVariants.{Busy, Full, 
 ghost use Rattle.mt_machine.specs.Access.{access};
 ghost use Rattle.mt_machine.specs.Control.{control};
 ghost use Rattle.mt_machine.specs.WorkedRuns.{alone, idle, mapping, ready, whole};
+ghost use Rattle.mt_bus.specs.Holders.{AreHeldBy};
 ghost use Rattle.mt_bus.specs.Refusals.{AccessesRefuseInOrder, ControlsRefuseInOrder, RefusesInOrder, RulesInOrder};
 ghost use Rattle.mt_bus.specs.Tables.{AreTablesOf};
 ghost use Rattle.mt_bus.specs.WorkedRefusals.{Refuses, Rules, astray, crammed, translated};
-ghost use Rattle.mt_bus.specs.WorkedTables.{in_phase, one_kind};
+ghost use Rattle.mt_bus.specs.WorkedTables.{in_phase, one_kind, two_caches};
 
 /// Tables of processors, and lists that are none for one thing. While its registers are written a
 /// processor may have any table.
@@ -56,4 +57,14 @@ pub fn worked_control_refusals()
     ensures mapped_without_room { Rules crammed (Map (mapping 65 0x100 0)) Okay crammed → ⊥ }
     ensures busy_and_changed { Rules ready Cr3 Busy idle → ⊥ }
     ensures full_and_changed { Rules crammed (Map (mapping 65 0x100 0)) Full idle → ⊥ }
+{}
+
+/// Masks of two caches, and masks that are none for want of one bit. A bit may stand without a line, and no mask
+/// says that any cache may have the line.
+pub fn worked_holders()
+    ensures masks { AreHeldBy two_caches (0 ∷ 0 ∷ 1 ∷ 2 ∷ []) }
+    ensures a_bit_more { AreHeldBy two_caches (0 ∷ 1 ∷ 1 ∷ 3 ∷ []) }
+    ensures no_masks { AreHeldBy two_caches [] }
+    ensures other_processor { AreHeldBy two_caches (0 ∷ 0 ∷ 1 ∷ 1 ∷ []) → ⊥ }
+    ensures other_residue { AreHeldBy two_caches (0 ∷ 1 ∷ 0 ∷ 2 ∷ []) → ⊥ }
 {}

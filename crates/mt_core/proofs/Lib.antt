@@ -1,5 +1,6 @@
 pub mod Arising
 pub mod Eras
+mod Holding
 mod OnWorked
 pub mod Progress
 pub mod Reaching

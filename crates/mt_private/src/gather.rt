@@ -19,7 +19,7 @@ use crate::pages::names;
 use crate::view::{Lodges, YardView};
 use crate::visiting::{Guest, YardPass};
 use atomic_table::{Seat, Table};
-use mt_bus::{System, a_system_is_sound};
+use mt_bus::{Holders, System, a_system_is_sound};
 use mt_cpu::Cpu;
 use mt_machine::Op;
 use mt_ram::Ram;
@@ -64,12 +64,13 @@ fn own_ram(alloc: Global, cpu: &Cpu, ram: &Ram) -> Option<Ram>
     Some(own)
 }
 
-// What a system is made in: lists with room for its processors and their tables, and its memory.
+// What a system is made in: lists with room for its processors and their tables, its memory, and its holders.
 #[derive(Drop)]
 pub struct Room {
     pub cpus: Vec<Cpu>,
     pub ram: Ram,
     pub tables: Vec<KindTable>,
+    pub holders: Holders,
 }
 
 fn room_for(alloc: Global, cpu: &Cpu, ram: &Ram) -> Option<Room>
@@ -82,7 +83,12 @@ fn room_for(alloc: Global, cpu: &Cpu, ram: &Ram) -> Option<Room>
         return None;
     };
     let ram = own_ram(alloc, cpu, ram)?;
-    Some(Room { cpus, ram, tables })
+    Some(Room {
+        cpus,
+        ram,
+        tables,
+        holders: Holders::unknown(alloc),
+    })
 }
 
 // Room for each guest.
@@ -153,10 +159,17 @@ fn settle(cpu: Cpu, table: KindTable, room: Room) -> System
         mut cpus,
         ram,
         mut tables,
+        mut holders,
     } = room;
     cpus.push_reserved(cpu);
     tables.push_reserved(table);
-    System { cpus, ram, tables }
+    holders.forget();
+    System {
+        cpus,
+        ram,
+        tables,
+        holders,
+    }
 }
 
 // The root's next resident goes to a new pass.
@@ -273,18 +286,39 @@ impl Yard {
             mut cpus,
             mut ram,
             mut tables,
+            holders,
         } = system;
         let Ok(mut guests) = Vec::with_capacity(alloc, cpus.len()) else {
-            return Err(System { cpus, ram, tables });
+            return Err(System {
+                cpus,
+                ram,
+                tables,
+                holders,
+            });
         };
         let Some(owns) = places_for(alloc, cpus.len()) else {
-            return Err(System { cpus, ram, tables });
+            return Err(System {
+                cpus,
+                ram,
+                tables,
+                holders,
+            });
         };
         let Some(mut rooms) = rooms_for(alloc, cpus.as_slice(), &ram) else {
-            return Err(System { cpus, ram, tables });
+            return Err(System {
+                cpus,
+                ram,
+                tables,
+                holders,
+            });
         };
         let Some((yard, mut seat)) = open(alloc, &cpus, &ram, goal) else {
-            return Err(System { cpus, ram, tables });
+            return Err(System {
+                cpus,
+                ram,
+                tables,
+                holders,
+            });
         };
         keep_left(cpus.as_slice(), rooms.as_slice(), &mut ram);
         give_all(
@@ -295,7 +329,12 @@ impl Yard {
             &mut rooms,
             &mut guests,
         );
-        let rest = Room { cpus, ram, tables };
+        let rest = Room {
+            cpus,
+            ram,
+            tables,
+            holders,
+        };
         Ok((yard, Host { seat, owns, rest }, guests))
     }
 }

@@ -48,6 +48,7 @@ fn bring(own: System, room: &mut Room)
         mut cpus,
         ram,
         mut tables,
+        ..
     } = own;
     let Some(cpu) = cpus.pop() else {
         unreachable!()
@@ -85,8 +86,19 @@ fn assembled(rest: Room) -> System
     requires tables { AreTablesOf rest.cpus.items rest.tables.items }
     ensures { result ≡ record { processors = rest.cpus.items; memory = rest.ram } }
 {
-    let Room { cpus, ram, tables } = rest;
-    System { cpus, ram, tables }
+    let Room {
+        cpus,
+        ram,
+        tables,
+        mut holders,
+    } = rest;
+    holders.forget();
+    System {
+        cpus,
+        ram,
+        tables,
+        holders,
+    }
 }
 
 /// Ends the yard, whose guests have all come back, and leaves the system that its words and views stand for. Its

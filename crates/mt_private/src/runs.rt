@@ -25,7 +25,7 @@ use crate::leaving::leave;
 use crate::pages::shared_page;
 use crate::threads::{Ended, meet};
 use crate::visiting::Guest;
-use mt_bus::System;
+use mt_bus::{Holders, System};
 use mt_core::{Core, a_core_arises};
 use mt_machine::{Done, Op};
 use mt_ports::{Gate, NoMemory};
@@ -118,6 +118,7 @@ fn stand_in(alloc: Global) -> Core {
         cpus: Vec::new(alloc),
         ram: Ram::new(alloc),
         tables: Vec::new(alloc),
+        holders: Holders::unknown(alloc),
     })
 }
 

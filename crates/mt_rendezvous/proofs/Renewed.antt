@@ -1,4 +1,4 @@
--- What is left of an update has its tables of types.
+-- What is left of an update has its tables of types, and each line of its caches is one that they may have.
 use Rattle.std.proofs.Common.{◌≡◌, ◌∙◌, ap, sym, refl, subst, ℕ, zero, suc, Bool, true, false, List, [], ◌∷◌, map, Some}
 use Rattle.std.specs.Prelude.{slice_get}
 use Rattle.std.specs.List.{All}
@@ -9,6 +9,7 @@ use Rattle.mt_machine.specs.declared.phase.Phase.TheVariants.{Taken}
 use Rattle.mt_machine.specs.System.{Processor, System, is_writing}
 use Rattle.mt_machine.specs.Update.{settled_processor}
 use Rattle.mt_laws.proofs.Barrier.Claims.{all_get}
+use Rattle.mt_bus.specs.Holders.{AreHeldBy, all_may}
 use Rattle.mt_bus.specs.Tables.{AreTablesOf}
 use Rattle.mt_rendezvous.specs.Update.{left_by, running, tables_left}
 
@@ -32,4 +33,17 @@ tables_are_left false s goal kinds ts new taken h = record {
       let old = map_at running s.processors k p at in
       let was = ap is_writing (all_get (λ q. q.phase ≡ Taken) s.processors taken k old.0 old.1) in
       subst (λ (q : Processor). IsTableOf q.file t) old.2 (h.each k old.0 t old.1 there was);
+}
+
+-- no cache has a line that it did not have
+pub held_is_left : (given : Bool) (s : System) (goal : RegisterFile) (masks : List ℕ) → AreHeldBy s.processors masks → AreHeldBy (left_by given s goal).processors masks
+held_is_left true s goal masks h = record {
+  each = λ k p at.
+      let old = map_at (settled_processor goal) s.processors k p at in
+      subst (λ (q : Processor). all_may masks k q.lines ≡ true) old.2 refl;
+}
+held_is_left false s goal masks h = record {
+  each = λ k p at.
+      let old = map_at running s.processors k p at in
+      subst (λ (q : Processor). all_may masks k q.lines ≡ true) old.2 (h.each k old.0 old.1);
 }

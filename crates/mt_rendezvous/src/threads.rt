@@ -16,13 +16,14 @@ ghost use Rattle.mt_rendezvous.specs.Station.{Begins, start_of};
 ghost use Rattle.mt_rendezvous.specs.Calls.{IsRoot, Leads, gathered};
 ghost use Rattle.mt_types.specs.Tables.{IsTableOf};
 ghost use Rattle.mt_bus.specs.Parts.{system};
+ghost use Rattle.mt_bus.specs.Holders.{AreHeldBy};
 ghost use Rattle.mt_bus.specs.Tables.{AreTablesOf};
 ghost use Rattle.mt_rendezvous.specs.Update.{AreOf, CameAs, CanUpdate, Came, IsQueue, IsReady, IsReadyAt, OneLess, Returned, Tied, decided, left_by, running, tables_left};
 
 use crate::broadcast::call_and_take;
 use crate::gather::disband;
 use crate::station::{Attendee, Root, Station};
-use mt_bus::System;
+use mt_bus::{Holders, System};
 use mt_core::{CallFault, Core, a_core_arises};
 use mt_cpu::Cpu;
 use mt_machine::Event;
@@ -411,12 +412,18 @@ fn renew_tables(tables: &mut Vec<KindTable>, given: bool, kinds: &KindTable)
     }
 }
 
-fn put_together(cpus: Vec<Cpu>, ram: Ram, tables: Vec<KindTable>) -> System
+fn put_together(cpus: Vec<Cpu>, ram: Ram, tables: Vec<KindTable>, holders: Holders) -> System
     requires sound { IsSound (system cpus.items ram) }
     requires tables { AreTablesOf cpus.items tables.items }
+    requires held { AreHeldBy cpus.items holders }
     ensures { result ≡ system cpus.items ram }
 {
-    System { cpus, ram, tables }
+    System {
+        cpus,
+        ram,
+        tables,
+        holders,
+    }
 }
 
 // A core without an update under way.
@@ -447,10 +454,11 @@ fn finished<R: Threads + Wait + Sync, G: Gate>(
         cpus,
         mut ram,
         mut tables,
+        holders,
     } = system;
     let Led { given, cpus } = lead_on_threads(rt, alloc, cpus, &mut ram, goal, gate);
     renew_tables(&mut tables, given, kinds);
-    let system = put_together(cpus, ram, tables);
+    let system = put_together(cpus, ram, tables, holders);
     if given {
         at_rest(system)
     } else {
@@ -466,6 +474,7 @@ fn stand_in(alloc: Global) -> Core
         cpus: Vec::new(alloc),
         ram: Ram::new(alloc),
         tables: Vec::new(alloc),
+        holders: Holders::unknown(alloc),
     })
 }
 

@@ -4,8 +4,10 @@ use Rattle.mt_machine.specs.System.{IsSound, System, change}
 use Rattle.mt_machine.specs.Machine.{before_own, own_step, step}
 use Rattle.mt_bus.specs.Parts.{system}
 use Rattle.mt_bus.proofs.Changed.{changed_is}
+use Rattle.mt_bus.specs.Holders.{AreHeldBy}
 use Rattle.mt_bus.specs.Tables.{AreTablesOf}
 use Rattle.mt_core.proofs.Stepping.{prepared, prepared_length, step_sound}
+use Rattle.mt_core.proofs.Holding.{held_stepped}
 use Rattle.mt_core.proofs.Tables.{tables_shifted}
 use Rattle.mt_core.proofs.steps.do_barrier_event.Goals as goal
 
@@ -37,12 +39,18 @@ invariant_of-system c =
     ∙ changed_is (own_step c.args.order.now.goal c.args.e) c.args.k c.as_mut_slice.result.now c.system.inside.ram
     ∙ ap (change (own_step c.args.order.now.goal c.args.e) c.args.k) is in
     let ts = c.system.inside.tables.items in
-    subst (λ ps. IsSound (system ps c.system.inside.ram) × AreTablesOf ps ts) (sym (take_at c.move_phase.new.cpus (drop (length c.move_phase.new.cpus) c.system.inside.cpus.items) c.system.inside.cpus.len (search rules)))
-    (subst (λ (s : System). IsSound s × AreTablesOf s.processors ts) (sym stepped) (
+    let kept : IsSound (system c.move_phase.new.cpus c.system.inside.ram) × AreTablesOf c.move_phase.new.cpus ts =
+    subst (λ (s : System). IsSound s × AreTablesOf s.processors ts) (sym stepped) (
       step_sound c.args.order.now c.args.system.now c.requires.core c.args.k c.args.e c.requires.due,
       tables_shifted c.args.order.now c.args.system.now c.requires.core c.args.k c.args.e c.requires.due c.requires.processor c.requires.shift ts
           (subst (λ (s : System). AreTablesOf s.processors ts) (c.system.view_is ∙ c.prepare.ensures) c.system.invariant.1),
-    ))
+    ) in
+    let held : AreHeldBy c.move_phase.new.cpus c.system.inside.holders =
+    held_stepped c.args.order.now.goal c.args.e c.args.k c.as_mut_slice.result.now c.move_phase.new.cpus c.system.inside.holders (c.move_phase.ensures c.args.order.now.goal)
+    (subst (λ ps. AreHeldBy ps c.system.inside.holders) (sym c.as_mut_slice.ensures.value) c.system.invariant.2) in
+    subst (λ ps. IsSound (system ps c.system.inside.ram) × AreTablesOf ps ts × AreHeldBy ps c.system.inside.holders)
+    (sym (take_at c.move_phase.new.cpus (drop (length c.move_phase.new.cpus) c.system.inside.cpus.items) c.system.inside.cpus.len (search rules)))
+    (kept.0, kept.1, held)
 
 pub returns : goal.returns
 returns c =

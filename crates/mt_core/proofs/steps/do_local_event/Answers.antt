@@ -7,9 +7,11 @@ use Rattle.mt_machine.specs.Machine.{FitsGoal, Order, due, due_at, own_step, ste
 use Rattle.mt_cpu.specs.Steps.{HasWritten}
 use Rattle.mt_bus.specs.Parts.{system, with_changed}
 use Rattle.mt_types.specs.Tables.{IsTableOf}
+use Rattle.mt_bus.specs.Holders.{AreHeldBy}
 use Rattle.mt_bus.specs.Tables.{AreTablesOf}
 use Rattle.mt_core.specs.Steps.{under_way}
 use Rattle.mt_core.specs.Tables.{tables_after}
+use Rattle.mt_core.proofs.Holding.{held_stepped}
 use Rattle.mt_core.proofs.Tables.{before_local, tables_stepped}
 use Rattle.mt_bus.proofs.Changed.{processor_of}
 use Rattle.mt_core.proofs.Stepping.{fits_at, goal_accepted, local_takes_not, low_at, step_sound, worked, written_at}
@@ -66,17 +68,24 @@ invariant_of-system c =
     let other = local_takes_not c.args.order.now c.args.system.now.processors here.0 c.do_own_part-e.result (c.requires.phase here.0 here.1) is_due in
     let renewed : c.renew_table.new.tables ≡ tables_after c.do_own_part-e.result c.args.k kinds ts =
     c.renew_table.ensures ∙ ap (tables_after c.do_own_part-e.result c.args.k kinds) c.as_mut_slice-2.ensures.value in
-    subst (λ ps. IsSound (system ps c.write_word_of.new.ram) × AreTablesOf ps (take c.system.inside.tables.len (c.renew_table.new.tables ++ drop (length c.renew_table.new.tables) ts)))
-    (sym (take_at c.do_own_part-e.new.cpus (drop (length c.do_own_part-e.new.cpus) c.system.inside.cpus.items) c.system.inside.cpus.len (search rules)))
-    (subst (λ us. IsSound (system c.do_own_part-e.new.cpus c.write_word_of.new.ram) × AreTablesOf c.do_own_part-e.new.cpus us)
-    (sym (take_at c.renew_table.new.tables (drop (length c.renew_table.new.tables) ts) c.system.inside.tables.len (search rules)))
-    (subst (λ (s : System). IsSound s × AreTablesOf s.processors c.renew_table.new.tables) (sym stepped) (
+    let kept : IsSound (system c.do_own_part-e.new.cpus c.write_word_of.new.ram) × AreTablesOf c.do_own_part-e.new.cpus c.renew_table.new.tables =
+    subst (λ (s : System). IsSound s × AreTablesOf s.processors c.renew_table.new.tables) (sym stepped) (
       step_sound c.args.order.now c.args.system.now c.requires.core c.args.k c.do_own_part-e.result due_there,
       subst (AreTablesOf (step c.args.order.now.goal c.do_own_part-e.result c.args.k c.args.system.now).processors) (sym renewed)
           (tables_stepped c.args.order.now c.args.system.now c.requires.core c.args.k c.do_own_part-e.result due_there kinds ts
           (λ enable. subst (λ (o : Order). IsTableOf o.goal kinds) c.order.view_is c.order.invariant)
           (subst (λ ps. AreTablesOf ps ts) (ap (λ (s : System). s.processors) c.system.view_is ∙ sym (before_local c.do_own_part-e.result c.args.k c.args.system.now other)) c.system.invariant.1)),
-    )))
+    ) in
+    let held : AreHeldBy c.do_own_part-e.new.cpus c.system.inside.holders =
+    held_stepped c.args.order.now.goal c.do_own_part-e.result c.args.k c.as_mut_slice.result.now c.do_own_part-e.new.cpus c.system.inside.holders moved
+    (subst (λ ps. AreHeldBy ps c.system.inside.holders) (sym c.as_mut_slice.ensures.value) c.system.invariant.2) in
+    subst
+    (λ ps. IsSound (system ps c.write_word_of.new.ram) × AreTablesOf ps (take c.system.inside.tables.len (c.renew_table.new.tables ++ drop (length c.renew_table.new.tables) ts)) × AreHeldBy ps c.system.inside.holders)
+    (sym (take_at c.do_own_part-e.new.cpus (drop (length c.do_own_part-e.new.cpus) c.system.inside.cpus.items) c.system.inside.cpus.len (search rules))) (
+      kept.0,
+      subst (AreTablesOf c.do_own_part-e.new.cpus) (sym (take_at c.renew_table.new.tables (drop (length c.renew_table.new.tables) ts) c.system.inside.tables.len (search rules))) kept.1,
+      held,
+    )
 
 pub returns-clause-step : goal.returns-clause-step
 returns-clause-step c =

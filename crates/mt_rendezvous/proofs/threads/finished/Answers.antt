@@ -3,9 +3,10 @@ use Rattle.mt_machine.specs.System.{IsSound, System}
 use Rattle.mt_machine.specs.Start.{IsQuiet}
 use Rattle.mt_machine.specs.Update.{updated}
 use Rattle.mt_rendezvous.specs.Calls.{gathered}
+use Rattle.mt_bus.specs.Holders.{AreHeldBy}
 use Rattle.mt_bus.specs.Tables.{AreTablesOf}
 use Rattle.mt_rendezvous.specs.Update.{CanUpdate, left_by, tables_left}
-use Rattle.mt_rendezvous.proofs.Renewed.{tables_are_left}
+use Rattle.mt_rendezvous.proofs.Renewed.{held_is_left, tables_are_left}
 use Rattle.mt_rendezvous.proofs.Running.{can_update, left_quiet, updated_again}
 use Rattle.mt_rendezvous.proofs.threads.finished.Goals as goal
 
@@ -19,6 +20,15 @@ put_together-system-requires-clause-tables g c =
     (subst (λ (s : System). AreTablesOf s.processors (tables_left led.result.given c.args.kinds.now ts)) (sym left)
     (tables_are_left led.result.given c.args.system goal c.args.kinds.now ts c.requires.kinds c.requires.begins.broadcasts.taken
     (subst (λ (s : System). AreTablesOf s.processors ts) c.system.view_is c.system.invariant.1)))
+
+pub put_together-system-requires-clause-held : goal.put_together-system-requires-clause-held
+put_together-system-requires-clause-held g c =
+    let led = c.lead_on_threads-given in
+    let goal = c.args.goal.now in
+    let masks = c.system.inside.holders in
+    let left = led.ensures.left ∙ ap (λ (s : System). left_by led.result.given s goal) c.system.view_is in
+    subst (λ (s : System). AreHeldBy s.processors masks) (sym left)
+    (held_is_left led.result.given c.args.system goal masks (subst (λ (s : System). AreHeldBy s.processors masks) c.system.view_is c.system.invariant.2))
 
 pub put_together-system-requires-clause-sound : goal.put_together-system-requires-clause-sound
 put_together-system-requires-clause-sound g c =
