@@ -12,9 +12,9 @@ ghost use Rattle.mt_machine.specs.Control.{control};
 ghost use Rattle.mt_machine.specs.WorkedRuns.{alone, idle, mapping, ready, whole};
 ghost use Rattle.mt_bus.specs.Holders.{AreHeldBy};
 ghost use Rattle.mt_bus.specs.Refusals.{AccessesRefuseInOrder, ControlsRefuseInOrder, RefusesInOrder, RulesInOrder};
-ghost use Rattle.mt_bus.specs.Tables.{AreTablesOf};
+ghost use Rattle.mt_bus.specs.Tables.{AreTablesOf, IsTranslatedBy};
 ghost use Rattle.mt_bus.specs.WorkedRefusals.{Refuses, Rules, astray, crammed, translated};
-ghost use Rattle.mt_bus.specs.WorkedTables.{in_phase, one_kind, two_caches};
+ghost use Rattle.mt_bus.specs.WorkedTables.{in_phase, mapped, one_kind, two_caches};
 
 /// Tables of processors, and lists that are none for one thing. While its registers are written a
 /// processor may have any table.
@@ -22,6 +22,13 @@ pub fn worked_tables()
     ensures tables { AreTablesOf (in_phase Running ∷ in_phase (Writing 3) ∷ []) (one_kind UC ∷ one_kind WB ∷ []) }
     ensures none_for_one { AreTablesOf (in_phase Running ∷ in_phase (Writing 3) ∷ []) (one_kind UC ∷ []) → ⊥ }
     ensures other_types { AreTablesOf (in_phase Running ∷ []) (one_kind WB ∷ []) → ⊥ }
+{}
+
+/// A processor with a table by which it can translate, a table of other types, and a mapping to where its pages end.
+pub fn worked_translated()
+    ensures translated { IsTranslatedBy (mapped 0x100) (one_kind UC) }
+    ensures other_types { IsTranslatedBy (mapped 0x100) (one_kind WB) → ⊥ }
+    ensures past_the_last_page { IsTranslatedBy (mapped 0x1000000) (one_kind UC) → ⊥ }
 {}
 
 /// Accesses that are refused for each reason, one that isn't, and answers that are none for one thing.

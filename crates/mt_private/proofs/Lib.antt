@@ -17,3 +17,4 @@ mod GuestJob
 mod Returned
 mod LoneGuest
 mod OnVisitors
+mod LoneSeats

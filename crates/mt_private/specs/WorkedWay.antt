@@ -4,13 +4,17 @@ use Rattle.mt_machine.specs.declared.phase.Phase.{Phase}
 use Rattle.mt_machine.specs.declared.phase.Phase.TheVariants.{NoFill}
 use Rattle.mt_machine.specs.declared.go.Go.{Go}
 use Rattle.mt_machine.specs.declared.go.Go.TheVariants.{Given, Pending}
+use Rattle.mt_machine.specs.declared.op.Op.TheVariants.{Fence}
 use Rattle.mt_machine.specs.System.{System}
 use Rattle.mt_machine.specs.Machine.{MachineEvent}
 use Rattle.mt_machine.specs.WorkedRuns.{bare_file}
 use Rattle.mt_rendezvous.specs.declared.view.Key.{Key}
+use Rattle.mt_rendezvous.specs.declared.view.Start.{Start}
+use Rattle.mt_rendezvous.specs.Station.{start_of}
 use Rattle.mt_private.specs.declared.job.Job.{Job}
 use Rattle.mt_private.specs.declared.job.Told.{Told}
 use Rattle.mt_private.specs.declared.view.Resident.{Resident}
+use Rattle.mt_private.specs.declared.view.YardView.{YardView}
 use Rattle.mt_private.specs.Residents.{Follows, Yard}
 use Rattle.mt_private.specs.WorkedGathered.{come, first_words}
 use Rattle.mt_private.specs.WorkedYard.{alone, at_start, first_taken, lodger}
@@ -35,7 +39,17 @@ released = come (record (lodger 0x100) { file = bare_file 0x800; era = 1 }) firs
 abbrev pub GoesOn : Go → ℕ → ℕ → Resident → Resident → Option MachineEvent → ℕ → ℕ → Type 0
 GoesOn go first second y w e first_then second_then = (s : System) × Yard alone (y ∷ []) go first second s × Follows alone (y ∷ []) go s 0 w e first_then second_then
 
--- ---- seats
+-- the seat of its pass, which was shown this count and whether there is a cancel; and as it is at first, and where a word is lent
+abbrev pub seat_with : Option ℕ → Bool → Resident → YardSat
+seat_with shown cancel y = (record { root = false; held = y ∷ []; go = Pending; shown = shown; cancel = cancel; start = alone }, [])
+
+abbrev pub seat : Resident → YardSat
+seat y = seat_with None false y
+
+abbrev pub lent : YardSat → YardSat
+lent me = (me.0, (0, Fence) ∷ [])
+
+-- ---- seats of a yard of two
 
 abbrev pub no_counts : List ℕ
 no_counts = 0 ∷ 0 ∷ 0 ∷ 0 ∷ []
@@ -56,16 +70,23 @@ split_taken key = record { words = no_counts; homes = []; views = yard_left (fir
 abbrev pub joined : Key → YardState
 joined key = record { words = no_counts; homes = []; views = yard_both (yard_left (first_yard_view key)) (yard_right (first_yard_view key)) ∷ yard_spent ∷ [] }
 
+-- and one whose only resident is released
+abbrev pub last_root : Start → YardView
+last_root t = record { root = true; held = []; go = Given; shown = None; cancel = false; start = t }
+
+abbrev pub last_pass : Start → YardView
+last_pass t = record { root = false; held = released ∷ []; go = Pending; shown = Some 1; cancel = false; start = t }
+
+abbrev pub settled : Key → YardState
+settled key = record { words = 2 ∷ 1 ∷ 0 ∷ []; homes = []; views = last_root (start_of key) ∷ last_pass (start_of key) ∷ [] }
+
 -- one state meets the rule, and the next follows on it by this event
 abbrev pub Becomes : Key → YardState → YardState → Option MachineEvent → Type 0
 Becomes key s later e = (m : MeetsYard key s) × IsOneEvent key s later m e
 
 -- ---- the end of a yard
 
--- the seats of its pass and of its host, which has it back
-abbrev pub released_seat : YardSat
-released_seat = (record { root = false; held = released ∷ []; go = Pending; shown = Some 1; cancel = false; start = alone }, [])
-
+-- the seat of its host, which has it back
 abbrev pub last_seat : YardSat
 last_seat = (record { root = true; held = released ∷ []; go = Given; shown = None; cancel = false; start = alone }, [])
 

@@ -24,6 +24,7 @@ mod worked_guests;
 mod worked_laws;
 mod worked_left;
 mod worked_own;
+mod worked_plays;
 mod worked_steps;
 mod worked_visit_ends;
 mod worked_visitors;
@@ -60,6 +61,9 @@ pub use worked_left::{
     worked_back, worked_leaves, worked_own_jobs, worked_parts, worked_words_left,
 };
 pub use worked_own::{worked_alone, worked_becomes, worked_commute, worked_owners, worked_words};
+pub use worked_plays::{
+    worked_arrivals, worked_own_events, worked_passes, worked_second_counts, worked_takes,
+};
 pub use worked_steps::{
     worked_moves, worked_sayings, worked_stands_for, worked_yard_rule, worked_yards,
 };

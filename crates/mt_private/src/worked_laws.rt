@@ -19,10 +19,10 @@ ghost use Rattle.mt_private.specs.Left.{Leaves};
 ghost use Rattle.mt_private.specs.OneByOne.{jobs_one_by_one};
 ghost use Rattle.mt_private.specs.Residents.{Decides, Follows, Yard, accessed_by, own_of, system_of, with_stored};
 ghost use Rattle.mt_private.specs.Visitors.{EndsOneByOne, Returned};
-ghost use Rattle.mt_private.specs.WorkedWay.{Becomes, GoesOn, HasNoAnswers, IsEmptyJob, changed, fills_not, given, guest, joined, last_seat, opened, released, split, split_taken};
+ghost use Rattle.mt_private.specs.WorkedWay.{Becomes, GoesOn, HasNoAnswers, IsEmptyJob, changed, fills_not, given, guest, joined, last_seat, opened, released, settled, split, split_taken};
 ghost use Rattle.mt_private.specs.WorkedYard.{alone, lodging};
 ghost use Rattle.mt_private.specs.YardLaws.{AdditionArrives, AdditionArrivesAgain, AdditionDecides, LoadLeaves, LoadPasses, LoadReleases, LoadStays, LoadTakes, StoreAccesses, StoreWorks};
-ghost use Rattle.mt_private.specs.YardLaws.{IsOneMachine, IsReached, JoinIsNone, MoveIsOneEvent, SayingIsOneEvent, SplitIsNone, StartMeetsRule};
+ghost use Rattle.mt_private.specs.YardLaws.{IsOneMachine, IsReached, JoinIsNone, MoveIsOneEvent, SayingIsOneEvent, Settles, SplitIsNone, StartMeetsRule, YardsSettle};
 ghost use Rattle.mt_private.specs.YardRule.{MeetsYard, its_machine};
 
 /// Loads of the counts.
@@ -51,7 +51,7 @@ pub fn worked_laws_of_own_words()
     ensures works { StoreWorks → GoesOn Given 2 0 (guest Passed true) (with_stored fills_not 1) (Some (Steps 0 SetNoFill)) 2 0 }
 {}
 
-/// A yard of two at its start, and steps of its seats.
+/// A yard of two at its start, and steps of its seats; and a yard of one whose resident is released.
 pub fn worked_laws_of_tables()
     ensures start { StartMeetsRule → (key : Key) → start_of key ≡ lodging → MeetsYard key (opened key) }
     ensures reached { IsReached → (key : Key) → start_of key ≡ lodging → (m : MeetsYard key (opened key)) × Reached (broadcast (start_of key)) (its_machine key (opened key) m) }
@@ -59,6 +59,7 @@ pub fn worked_laws_of_tables()
     ensures says { SayingIsOneEvent → (key : Key) → start_of key ≡ lodging → Becomes key (opened key) (given key) (Some Goes) }
     ensures split { SplitIsNone → (key : Key) → start_of key ≡ lodging → Becomes key (opened key) (split key) None }
     ensures moves { MoveIsOneEvent → (key : Key) → start_of key ≡ lodging → Becomes key (split key) (split_taken key) (Some (Steps 0 Take)) }
+    ensures settles { YardsSettle → (key : Key) → start_of key ≡ alone → (m : MeetsYard key (settled key)) × Settles (start_of key) (its_machine key (settled key) m) }
     ensures join { JoinIsNone → (key : Key) → start_of key ≡ lodging → Becomes key (split key) (joined key) None }
 {}
 

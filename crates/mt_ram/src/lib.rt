@@ -12,4 +12,4 @@ mod worked;
 pub use fault::RamFault;
 pub use laws::windows_overlap_by_bytes;
 pub use ram::Ram;
-pub use worked::{worked_bytes, worked_overlaps};
+pub use worked::{worked_bytes, worked_memories, worked_overlaps};

@@ -1,6 +1,6 @@
-// Worked windows: bytes of windows, and which windows overlap.
-ghost use Rattle.std.specs.Prelude.{◌≡◌, ℕ, true};
-ghost use Rattle.mt_ram.specs.Windows.{HasByte, OverlapsByBytes, shares_byte, window};
+// Worked windows: bytes of windows, which windows overlap, and memories of windows.
+ghost use Rattle.std.specs.Prelude.{◌≡◌, ◌∷◌, [], ℕ, replicate, true};
+ghost use Rattle.mt_ram.specs.Windows.{HasByte, IsRam, OverlapsByBytes, shares_byte, window};
 
 /// The first and the last byte of a window, and those beside them.
 pub fn worked_bytes()
@@ -20,4 +20,11 @@ pub fn worked_overlaps()
     ensures touch { OverlapsByBytes → (address : ℕ) → HasByte (window 0x1000 2) address → HasByte (window 0x1080 1) address → ⊥ }
     ensures touch_below { OverlapsByBytes → (address : ℕ) → HasByte (window 0x1080 1) address → HasByte (window 0x1000 2) address → ⊥ }
     ensures no_line { shares_byte (window 0x1000 2) (window 0x1040 0) ≡ true }
+{}
+
+/// A memory of one line, one whose window begins within a line, and one of a line too many.
+pub fn worked_memories()
+    ensures one_line { IsRam (record { windows = window 0x1000 1 ∷ []; words = replicate 8 0 }) }
+    ensures within_a_line { IsRam (record { windows = window 0x1008 1 ∷ []; words = replicate 8 0 }) → ⊥ }
+    ensures one_line_more { IsRam (record { windows = window 0x1000 4097 ∷ []; words = replicate 32776 0 }) → ⊥ }
 {}

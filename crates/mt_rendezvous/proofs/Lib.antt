@@ -17,3 +17,4 @@ mod Renewed
 mod WorkedStart
 mod OnWorked
 mod OnLone
+mod LonePlays

@@ -7,6 +7,7 @@ use lib.ListN.{get_elem?}
 use Rattle.mt_machine.specs.declared.go.Go.{Go}
 use Rattle.mt_machine.specs.declared.go.Go.TheVariants.{Cancelled, Given, Pending}
 use Rattle.mt_machine.specs.declared.event.Event.TheVariants.{Arrive, Leave}
+use Rattle.mt_machine.specs.declared.phase.Phase.{Phase}
 use Rattle.mt_machine.specs.declared.phase.Phase.TheVariants.{Arrived, Arrived2, Passed, Restored, Running, Taken}
 use Rattle.mt_machine.specs.Machine.{AreEnabled, Cancels, Machine, MachineEvent, Steps, run}
 use Rattle.mt_machine.specs.Update.{Led, is_led, led_on, led_start}
@@ -179,6 +180,9 @@ module _ (key : Key) (is : start_of key ≡ lone) where
 
 -- ---- steps
 
+abbrev no_one : Held
+no_one = held 0 (first Taken) false false
+
 abbrev first_one : Held → List Held → Held
 first_one h [] = h
 first_one h (g ∷ gs) = g
@@ -186,3 +190,35 @@ first_one h (g ∷ gs) = g
 -- what is so of the one processor of a view
 pub one_held : (P : Held → Type 0) (h : Held) → P h → (g : Held) → h ∷ [] ≡ g ∷ [] → P g
 one_held P h p g same = subst P (ap (first_one h) same) p
+
+-- what a view has of its first processor
+abbrev phase_of : View → Phase
+phase_of v = (first_one no_one v.held).cpu.phase
+
+abbrev is_arrived : Phase → Bool
+is_arrived Arrived = true
+is_arrived other = false
+
+abbrev is_running : Phase → Bool
+is_running Running = true
+is_running other = false
+
+abbrev is_passed : Phase → Bool
+is_passed Passed = true
+is_passed other = false
+
+abbrev pub has_come : View → Bool
+has_come v = is_arrived (phase_of v)
+
+abbrev pub has_left : View → Bool
+has_left v = is_running (phase_of v)
+
+abbrev pub fills_lines : View → Bool
+fills_lines v = is_passed (phase_of v)
+
+abbrev pub has_come_again : View → Bool
+has_come_again v = (first_one no_one v.held).again
+
+-- a seat lends nothing, or one word
+pub none_is_one : {xs : List (ℕ × Unit {0})} → (0, tt) ∷ xs ≡ [] → ⊥
+none_is_one e = absurd (cc e)

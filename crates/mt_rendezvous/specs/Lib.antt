@@ -5,3 +5,4 @@ pub mod Laws
 pub mod WorkedStations
 pub mod Update
 pub mod WorkedLone
+pub mod WorkedUpdates

@@ -14,8 +14,9 @@ use Rattle.mt_rendezvous.specs.declared.view.View.{View}
 use Rattle.mt_rendezvous.specs.declared.view.Key.{Key}
 use Rattle.mt_rendezvous.specs.Station.{Meets, both, held, spent, start_of}
 use Rattle.mt_rendezvous.specs.Laws.{Follows, Station}
+use Rattle.mt_rendezvous.specs.Plays.{Sat}
 use Rattle.mt_rendezvous.specs.Calls.{gathered}
-use Rattle.mt_rendezvous.specs.WorkedStations.{first, one_line, zeros}
+use Rattle.mt_rendezvous.specs.WorkedStations.{bare, first, one_line, zeros}
 
 abbrev pub lone : Start
 lone = gathered (first Taken ∷ []) (one_line zeros) (bare_file 0x800)
@@ -54,56 +55,96 @@ root_of t go = record { root = true; held = []; go = go; shown = None; start = t
 abbrev pub pass_of : Start → Option ℕ → Held → View
 pass_of t shown h = record { root = false; held = h ∷ []; go = Pending; shown = shown; start = t }
 
+-- ---- the processor in its view, and the seat of its pass
+
+-- the processor before it arrives, when it has, when it came too late, passed and left
+abbrev pub new : Held
+new = held 0 (first Taken) false false
+
+abbrev pub come : Held
+come = held 0 (first Arrived) true false
+
+abbrev pub behind : Held
+behind = held 0 (first Taken) true false
+
+abbrev pub gone : Held
+gone = held 0 (first Passed) true false
+
+abbrev pub out : Held
+out = held 0 (first Running) true false
+
+-- the seat of its pass
+abbrev pub sits : Start → Held → Sat
+sits t h = bare (pass_of t None h)
+
+-- the processor in its change, and at the second barrier
+abbrev pub fills : Held
+fills = held 0 unfilled true false
+
+abbrev pub wrote : Held
+wrote = held 0 half_clean true false
+
+abbrev pub back : Held
+back = held 0 (changed Restored) true false
+
+abbrev pub again : Held
+again = held 0 (changed Arrived2) true true
+
+abbrev pub free : Held
+free = held 0 released true true
+
+-- ---- its station
+
 -- the station with these words
 abbrev pub lone_station : Key → Go → Option ℕ → Held → List ℕ → Station
 lone_station key go shown h words = record { words = words; homes = []; views = root_of (start_of key) go ∷ pass_of (start_of key) shown h ∷ [] }
 
 -- where it has taken; and where it waits at the first barrier, before the go and after it
 abbrev pub taken : Key → Station
-taken key = lone_station key Pending None (held 0 (first Taken) false false) (0 ∷ 0 ∷ 0 ∷ zeros)
+taken key = lone_station key Pending None new (0 ∷ 0 ∷ 0 ∷ zeros)
 
 abbrev pub waits : Key → Station
-waits key = lone_station key Pending None (held 0 (first Arrived) true false) (1 ∷ 0 ∷ 0 ∷ zeros)
+waits key = lone_station key Pending None come (1 ∷ 0 ∷ 0 ∷ zeros)
 
 abbrev pub arrived : Key → Station
-arrived key = lone_station key Given None (held 0 (first Arrived) true false) (2 ∷ 0 ∷ 0 ∷ zeros)
+arrived key = lone_station key Given None come (2 ∷ 0 ∷ 0 ∷ zeros)
 
 -- in its change
 abbrev pub passed : Key → Station
-passed key = lone_station key Given None (held 0 (first Passed) true false) (2 ∷ 0 ∷ 0 ∷ zeros)
+passed key = lone_station key Given None gone (2 ∷ 0 ∷ 0 ∷ zeros)
 
 abbrev pub fills_not : Key → Station
-fills_not key = lone_station key Given None (held 0 unfilled true false) (2 ∷ 0 ∷ 1 ∷ zeros)
+fills_not key = lone_station key Given None fills (2 ∷ 0 ∷ 1 ∷ zeros)
 
 abbrev pub writes : Key → Station
-writes key = lone_station key Given None (held 0 half_clean true false) (2 ∷ 0 ∷ 1 ∷ half_written)
+writes key = lone_station key Given None wrote (2 ∷ 0 ∷ 1 ∷ half_written)
 
 -- before the second barrier, there, and released
 abbrev pub restored : Key → Station
-restored key = lone_station key Given None (held 0 (changed Restored) true false) (2 ∷ 0 ∷ 8 ∷ both_written)
+restored key = lone_station key Given None back (2 ∷ 0 ∷ 8 ∷ both_written)
 
 abbrev pub arrived_again : Key → Station
-arrived_again key = lone_station key Given None (held 0 (changed Arrived2) true true) (2 ∷ 1 ∷ 8 ∷ both_written)
+arrived_again key = lone_station key Given None again (2 ∷ 1 ∷ 8 ∷ both_written)
 
 abbrev pub ended : Key → Station
-ended key = lone_station key Given (Some 1) (held 0 released true true) (2 ∷ 1 ∷ 8 ∷ both_written)
+ended key = lone_station key Given (Some 1) free (2 ∷ 1 ∷ 8 ∷ both_written)
 
 -- where the cancel came while it had taken, when its pass has added since, and when it has left
 abbrev pub cancelled : Key → Station
-cancelled key = lone_station key Cancelled None (held 0 (first Taken) false false) (0x100000000 ∷ 0 ∷ 0 ∷ zeros)
+cancelled key = lone_station key Cancelled None new (0x100000000 ∷ 0 ∷ 0 ∷ zeros)
 
 abbrev pub late : Key → Station
-late key = lone_station key Cancelled None (held 0 (first Taken) true false) (0x100000001 ∷ 0 ∷ 0 ∷ zeros)
+late key = lone_station key Cancelled None behind (0x100000001 ∷ 0 ∷ 0 ∷ zeros)
 
 abbrev pub left : Key → Station
-left key = lone_station key Cancelled None (held 0 (first Running) true false) (0x100000001 ∷ 0 ∷ 0 ∷ zeros)
+left key = lone_station key Cancelled None out (0x100000001 ∷ 0 ∷ 0 ∷ zeros)
 
 -- and when the root has taken it back
 abbrev pub taken_back : Key → Station
 taken_back key = record {
   words = 0x100000001 ∷ 0 ∷ 0 ∷ zeros;
   homes = [];
-  views = both (root_of (start_of key) Cancelled) (pass_of (start_of key) None (held 0 (first Running) true false)) ∷ spent ∷ [];
+  views = both (root_of (start_of key) Cancelled) (pass_of (start_of key) None out) ∷ spent ∷ [];
 }
 
 -- one station meets the rule, and the next follows on it by this event

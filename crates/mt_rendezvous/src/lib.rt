@@ -14,7 +14,9 @@ mod view;
 mod worked;
 mod worked_calls;
 mod worked_laws;
+mod worked_plays;
 mod worked_steps;
+mod worked_updates;
 
 pub use broadcast::call_and_take;
 pub use gather::disband;
@@ -33,7 +35,11 @@ pub use worked_laws::{
     worked_laws_of_ends, worked_laws_of_stations, worked_laws_of_the_change,
     worked_laws_of_the_first_barrier, worked_laws_of_the_root,
 };
+pub use worked_plays::{
+    worked_arrivals, worked_passes, worked_root_plays, worked_second_barrier, worked_stores,
+};
 pub use worked_steps::{
     worked_begins, worked_decisions, worked_follows, worked_pass_steps, worked_places, worked_rule,
     worked_stands,
 };
+pub use worked_updates::{worked_attended, worked_beginnings, worked_offered, worked_returned};

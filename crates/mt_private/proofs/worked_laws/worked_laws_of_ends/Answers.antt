@@ -12,11 +12,11 @@ use Rattle.mt_private.specs.Left.{AreOwnsOf, Leaves}
 use Rattle.mt_private.specs.OneByOne.{ran}
 use Rattle.mt_private.specs.Residents.{own_of}
 use Rattle.mt_private.specs.Visitors.{CameBack, Returned, own_at}
-use Rattle.mt_private.specs.WorkedWay.{HasNoAnswers, IsEmptyJob, last_seat, released, released_seat}
+use Rattle.mt_private.specs.WorkedWay.{HasNoAnswers, IsEmptyJob, last_seat, released, seat_with}
 use Rattle.mt_private.specs.WorkedYard.{alone}
 use Rattle.mt_private.specs.YardCalls.{Keeps, VisitEnds, updated_own}
-use Rattle.mt_private.specs.YardRule.{AreAt}
 use Rattle.mt_private.proofs.LoneGuest.{released_yard}
+use Rattle.mt_private.proofs.LoneSeats.{same_place}
 use Rattle.mt_private.proofs.worked_laws.worked_laws_of_ends.Goals as goal
 
 abbrev kept : List (Option System)
@@ -25,7 +25,8 @@ kept = Some (own_of released) ∷ []
 updated : own_of released ≡ (ran 0 [] (updated_own alone.goal (ran 0 [] (own_at alone 0)).after)).after
 updated = refl
 
-ends : (table : TableId) (job : Job) (told : Told) → IsEmptyJob job → HasNoAnswers told → VisitEnds Complete table alone 0 alone.goal job (own_at alone 0) table released_seat (own_of released) told
+ends : (table : TableId) (job : Job) (told : Told) → IsEmptyJob job → HasNoAnswers told
+    → VisitEnds Complete table alone 0 alone.goal job (own_at alone 0) table (seat_with (Some 1) false released) (own_of released) told
 ends table job told is none = (
   record { cpu = released.held.cpu; same = refl; alone = refl; holds = refl; told = refl; below = omega arith; bare = refl },
   refl,
@@ -44,7 +45,7 @@ came table job told is none = record {
   visited = Complete;
   own = own_of released;
   its = table;
-  me = released_seat;
+  me = seat_with (Some 1) false released;
   ends = ends table job told is none;
   runs = refl;
   has_room = λ e. absurd (cc e);
@@ -65,10 +66,6 @@ keeps (suc k) o at = absurd (cc at)
 
 returned : (table : TableId) (job : Job) (told : Told) → IsEmptyJob job → HasNoAnswers told → Returned table alone (job ∷ []) table last_seat kept (told ∷ [])
 returned table job told is none = record { root = (refl, refl, refl); size = refl; keeps = keeps; each = each table job told is none }
-
-same_place : AreAt (released ∷ []) (released ∷ [])
-same_place zero y at = subst (λ (x : Resident). get_elem? (released ∷ []) x.held.number ≡ some x) (some-injective released y at) refl
-same_place (suc i) y at = absurd (some-ne-none y (sym at))
 
 leaves : Leaves alone last_seat.0 released_yard.0
 leaves = record { all = released ∷ []; first = 2; second = 1; yard = released_yard.1; same = same_place; shown = λ e. absurd (cc e) }

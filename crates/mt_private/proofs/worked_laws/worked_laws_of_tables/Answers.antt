@@ -4,16 +4,17 @@ use lib.ListN.{get_elem?}
 use Rattle.mt_machine.specs.declared.event.Event.TheVariants.{Take}
 use Rattle.mt_machine.specs.declared.go.Go.{Go}
 use Rattle.mt_machine.specs.declared.go.Go.TheVariants.{Given, Pending}
-use Rattle.mt_machine.specs.Machine.{Goes, Steps}
+use Rattle.mt_machine.specs.Machine.{Goes, Steps, common_era}
 use Rattle.mt_rendezvous.specs.declared.view.Key.{Key}
 use Rattle.mt_rendezvous.specs.declared.view.Start.{Start}
 use Rattle.mt_rendezvous.specs.Station.{start_of}
 use Rattle.mt_private.specs.declared.view.Resident.{Resident}
 use Rattle.mt_private.specs.Residents.{Follows, Opens, Yard}
-use Rattle.mt_private.specs.WorkedWay.{no_counts, opened, split}
+use Rattle.mt_private.specs.WorkedWay.{last_pass, no_counts, opened, released, settled, split}
 use Rattle.mt_private.specs.WorkedYard.{first_lodged, first_taken, lodging}
 use Rattle.mt_private.specs.YardRule.{MeetsYard, as_view, first_yard_view, one_of, residents, yard_left, yard_right}
 use Rattle.mt_private.proofs.Lodged.{opened_lodging, opens_lodging, second_lodged, zeros}
+use Rattle.mt_private.proofs.LoneSeats.{settled_meets}
 use Rattle.mt_private.proofs.Residents.Decisions.{gives}
 use Rattle.mt_private.proofs.Residents.Seats.{splits}
 use Rattle.mt_private.proofs.Residents.Work.{takes}
@@ -61,7 +62,8 @@ pub returns-clause-moves : goal.returns-clause-moves
 returns-clause-moves c = λ law key is.
     let m = split_meets key is in (
       m,
-      law key (split key) m 1 (yard_right (first_yard_view key)) first_lodged refl (one_held key is) 0 0 first_taken None false (Some (Steps 0 Take)) refl (inl (omega arith, refl)) (λ e. absurd (cc e)) (took key is m),
+      law key (split key) m 1 (yard_right (first_yard_view key)) first_lodged refl (one_held key is) 0 0 first_taken None false (Some (Steps 0 Take)) refl (inl (omega arith, refl)) (λ e. absurd (cc e))
+          (took key is m),
     )
 
 pub returns-clause-join : goal.returns-clause-join
@@ -69,4 +71,11 @@ returns-clause-join c = λ law key is.
     let m = split_meets key is in (
       m,
       law key (split key) m 0 1 (yard_left (first_yard_view key)) (yard_right (first_yard_view key)) first_lodged refl refl (λ same. omega (arith, same)) refl (one_held key is),
+    )
+
+pub returns-clause-settles : goal.returns-clause-settles
+returns-clause-settles c = λ law key is.
+    let m = settled_meets key is in (
+      m,
+      law key (settled key) m 0 released (m.same 1 (last_pass (start_of key)) refl 0 released refl) (ap (λ (t : Start). common_era t.cpus + 1) (sym is)),
     )
