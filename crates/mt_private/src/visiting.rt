@@ -307,7 +307,8 @@ impl YardPass {
         ensures done { done_in self.new.seat.me ≡ done_in self.old.seat.me }
         ensures complete { result ≡ Visited.Complete → LodgesIn yard.now self.new core.new.system true true × (self.new.seat.me.0.shown ≡ Some yard.now.count) }
         ensures whole { result ≡ Visited.Complete → AreIn Running core.new.system × (core.new ≡ updated core.old.system (0 ∷ []) goal.now) }
-        ensures cancelled { result ≡ Visited.Cancelled → ((added : Bool) × LodgesIn yard.now self.new core.new.system added false) × (self.new.seat.me.0.cancel ≡ true) × IsLeft core.old.system core.new.system }
+        ensures cancelled { result ≡ Visited.Cancelled → ((added : Bool) × LodgesIn yard.now self.new core.new.system added false)
+            × (self.new.seat.me.0.cancel ≡ true) × IsLeft core.old.system core.new.system }
     {
         if !self.take(yard, core, goal) {
             return Visited::Cancelled;

@@ -18,7 +18,8 @@ ghost use Rattle.mt_private.specs.YardRule.{yard_left};
 
 /// Room for a guest, and what is none for one thing.
 pub fn worked_rooms()
-    ensures room { (r : YardRoom) → r.ram ≡ words_of_lodger 0x100 → r.cpus.items ≡ [] → 1 ≤ vec_capacity r.cpus → r.tables.items ≡ [] → 1 ≤ vec_capacity r.tables → IsRoom (lodger 0x100) marked.memory r }
+    ensures room { (r : YardRoom) → r.ram ≡ words_of_lodger 0x100 → r.cpus.items ≡ [] → 1 ≤ vec_capacity r.cpus → r.tables.items ≡ [] → 1 ≤ vec_capacity r.tables
+        → IsRoom (lodger 0x100) marked.memory r }
     ensures other_words { (r : YardRoom) → r.ram ≡ words_of_lodger 0x200 → IsRoom (lodger 0x100) marked.memory r → ⊥ }
     ensures has_a_processor { (r : YardRoom) → length r.cpus.items ≡ 1 → IsRoom (lodger 0x100) marked.memory r → ⊥ }
     ensures no_place { (r : YardRoom) → vec_capacity r.cpus ≡ 0 → IsRoom (lodger 0x100) marked.memory r → ⊥ }

@@ -37,7 +37,8 @@ pub fn worked_visits()
     ensures as_it_was { IsLeft (own_of first_lodged) (own_of first_lodged) }
     ensures emptied { IsLeft (own_of first_lodged) (in_phase Running (drain 0 (own_of first_lodged))) }
     ensures other_phase { IsLeft (own_of first_lodged) (in_phase Taken (own_of first_lodged)) → ⊥ }
-    ensures cancelled { (table : TableId) (job : YardJob) (told : YardTold) → job.before.items ≡ [] → told.before.items ≡ [] → told.after.items ≡ [] → IsCancelled table job first_lodged true (own_of first_lodged) told }
+    ensures cancelled { (table : TableId) (job : YardJob) (told : YardTold) → job.before.items ≡ [] → told.before.items ≡ [] → told.after.items ≡ []
+        → IsCancelled table job first_lodged true (own_of first_lodged) told }
     ensures not_cancelled { (table : TableId) (job : YardJob) (told : YardTold) → IsCancelled table job first_lodged false (own_of first_lodged) told → ⊥ }
     ensures not_released { (table : TableId) (job : YardJob) (told : YardTold) → Completes table job first_out 1 (own_of first_lodged) told → ⊥ }
     ensures not_updated { (table : TableId) (job : YardJob) (told : YardTold) → job.before.items ≡ [] → job.after.items ≡ [] → Completes table job first_out 2 (own_of first_lodged) told → ⊥ }

@@ -19,7 +19,8 @@ pub fn worked_complete_visits()
     ensures complete { (table : TableId) (job : YardJob) (told : YardTold) → IsJob job → HasAnswers told → Completes table job job_done 2 finished told }
     ensures not_added_again { (table : TableId) (job : YardJob) (told : YardTold) → Completes table job (come loader finished.memory true false (store_ops ++ load_ops)) 2 finished told → ⊥ }
     ensures one_not_come { (table : TableId) (job : YardJob) (told : YardTold) → Completes table job job_done 1 finished told → ⊥ }
-    ensures store_lost { (table : TableId) (job : YardJob) (told : YardTold) → IsJob job → Completes table job (come loader first_words true true (store_ops ++ load_ops)) 2 finished_without told → ⊥ }
+    ensures store_lost { (table : TableId) (job : YardJob) (told : YardTold) → IsJob job
+        → Completes table job (come loader first_words true true (store_ops ++ load_ops)) 2 finished_without told → ⊥ }
     ensures no_answer { (table : TableId) (job : YardJob) (told : YardTold) → IsJob job → told.before.items ≡ [] → Completes table job job_done 2 finished told → ⊥ }
     ensures older_answer { (table : TableId) (job : YardJob) (told : YardTold) → IsJob job → told.after.items ≡ Value 5 UC ∷ [] → Completes table job job_done 2 finished told → ⊥ }
     ensures load_not_done { (table : TableId) (job : YardJob) (told : YardTold) → IsJob job → Completes table job (come loader finished.memory true true store_ops) 2 finished told → ⊥ }
@@ -27,10 +28,12 @@ pub fn worked_complete_visits()
 
 /// A visit whose update was cancelled, and what is none for one thing.
 pub fn worked_cancelled_visits()
-    ensures cancelled { (table : TableId) (job : YardJob) (told : YardTold) → IsJob job → told.before.items ≡ Stored WB ∷ [] → told.after.items ≡ [] → IsCancelled table job job_cancelled true stored told }
+    ensures cancelled { (table : TableId) (job : YardJob) (told : YardTold) → IsJob job → told.before.items ≡ Stored WB ∷ [] → told.after.items ≡ []
+        → IsCancelled table job job_cancelled true stored told }
     ensures added_again { (table : TableId) (job : YardJob) (told : YardTold) → IsCancelled table job (come storer first_words true true store_ops) true stored told → ⊥ }
     ensures not_shown { (table : TableId) (job : YardJob) (told : YardTold) → IsCancelled table job job_cancelled false stored told → ⊥ }
-    ensures store_lost { (table : TableId) (job : YardJob) (told : YardTold) → IsJob job → IsCancelled table job (come (lodger 0x100) first_words true false store_ops) true (own_of first_lodged) told → ⊥ }
+    ensures store_lost { (table : TableId) (job : YardJob) (told : YardTold) → IsJob job
+        → IsCancelled table job (come (lodger 0x100) first_words true false store_ops) true (own_of first_lodged) told → ⊥ }
     ensures no_answer { (table : TableId) (job : YardJob) (told : YardTold) → IsJob job → told.before.items ≡ [] → IsCancelled table job job_cancelled true stored told → ⊥ }
     ensures loaded { (table : TableId) (job : YardJob) (told : YardTold) → told.after.items ≡ Value 7 WB ∷ [] → IsCancelled table job job_cancelled true stored told → ⊥ }
     ensures not_done { (table : TableId) (job : YardJob) (told : YardTold) → IsJob job → IsCancelled table job (come storer first_words true false []) true stored told → ⊥ }

@@ -69,7 +69,7 @@ pass_follows key s m id k c me new p waits says = by_case (passing key s m id me
     )
 
 pub work_follows : WorkFollows
-work_follows key s m id k i n c me new p local to says = told key s m id i n _ _ new (says.1 ∙ sym (moved me.0 (work me.0.start) (held k c true false) p.holds)) (by_case (written (own_event me.0.start c)) refl to).0.follows
+work_follows key s m id k c me new p i n local to says = told key s m id i n _ _ new (says.1 ∙ sym (moved me.0 (work me.0.start) (held k c true false) p.holds)) (by_case (written (own_event me.0.start c)) refl to).0.follows
   where
     is_due : IsDue key me (held k c true false) (own_event me.0.start c)
     is_due = record { is = p.holds; here = local; due_is = λ o ps. due_alone o (order_of me.0.start Given) ps [] c SetNoFill c.phase local }

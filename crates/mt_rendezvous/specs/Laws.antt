@@ -1,5 +1,5 @@
 -- What holds of a station between any two steps.
-use Rattle.std.specs.Prelude.{◌≡◌, ◌≢◌, ◌<◌, ◌≤◌, ◌+◌, ◌-◌, ◌^◌, ℕ, ◌%◌, true, false, List, [], ◌∷◌, ◌++◌, length, slice_index, slice_set, Option, Some, None, IsTrue}
+use Rattle.std.specs.Prelude.{◌≡◌, ◌≢◌, ◌<◌, ◌≤◌, ◌+◌, ◌-◌, ◌^◌, ℕ, ◌%◌, Bool, true, false, List, [], ◌∷◌, ◌++◌, length, slice_index, slice_set, Option, Some, None, IsTrue}
 use Rattle.std.specs.List.{All}
 use mathlib.Core.Option.{none, some}
 use lib.ListN.{get_elem?}
@@ -91,6 +91,12 @@ pub record HasPass (s : Station) (id : ℕ) (me : Sat) (h : Held) : Type 0 where
   pub at : get_elem? s.views id ≡ some me.0
   pub holds : me.0.held ≡ h ∷ []
 
+-- of each station, and each seat of a pass with this one processor, whatever a step leaves the seat as
+abbrev pub OfPass : Bool → Bool → ((key : Key) (s : Station) → Meets key s → ℕ → ℕ → Processor → Sat → Sat → Type 0) → Type 0
+OfPass added again P =
+    (key : Key) (s : Station) (m : Meets key s) (id k : ℕ) (c : Processor) (me new : Sat) → HasPass s id me (held k c added again)
+    → P key s m id k c me new
+
 -- the root's first processor is given away: no event
 abbrev pub SplitFollows : Type 0
 SplitFollows =
@@ -100,7 +106,8 @@ SplitFollows =
 -- a pass is taken back: no event
 abbrev pub JoinFollows : Type 0
 JoinFollows =
-    (key : Key) (s : Station) (m : Meets key s) (id other : ℕ) (v w : View) (h : Held) → get_elem? s.views id ≡ some v → v.root ≡ true → ¬ (other ≡ id) → get_elem? s.views other ≡ some w → w.held ≡ h ∷ []
+    (key : Key) (s : Station) (m : Meets key s) (id other : ℕ) (v w : View) (h : Held) → get_elem? s.views id ≡ some v → v.root ≡ true → ¬ (other ≡ id)
+    → get_elem? s.views other ≡ some w → w.held ≡ h ∷ []
     → Follows key s (record { words = s.words; homes = s.homes; views = slice_set (slice_set s.views id (both v w)) other spent }) m None
 
 -- the root's additions to word 0
@@ -117,17 +124,19 @@ CancelFollows =
 -- an addition of a pass to word 0
 abbrev pub ArriveFollows : Type 0
 ArriveFollows =
-    (key : Key) (s : Station) (m : Meets key s) (id k : ℕ) (c : Processor) (me new : Sat) → HasPass s id me (held k c false false) → c.phase ≡ Taken → Arrives (step 0 0 1 0 none) me (slice_index s.words 0) new
+    OfPass false false
+    (λ key s m id k c me new. c.phase ≡ Taken → Arrives (step 0 0 1 0 none) me (slice_index s.words 0) new
     → (slice_index s.words 0 < 4294967296 → Follows key s (raised s id new 0 1) m (Some (Steps k Arrive)))
-    × (4294967296 ≤ slice_index s.words 0 → Follows key s (raised s id new 0 1) m None)
+    × (4294967296 ≤ slice_index s.words 0 → Follows key s (raised s id new 0 1) m None))
 
 -- a load of word 0
 abbrev pub PassFollows : Type 0
 PassFollows =
-    (key : Key) (s : Station) (m : Meets key s) (id k : ℕ) (c : Processor) (me new : Sat) → HasPass s id me (held k c true false) → IsWaiting c.phase → Passes (step 0 0 0 0 none) me (slice_index s.words 0) new
+    OfPass true false
+    (λ key s m id k c me new. IsWaiting c.phase → Passes (step 0 0 0 0 none) me (slice_index s.words 0) new
     → (slice_index s.words 0 ≡ length me.0.start.cpus + 1 → Follows key s (loaded s id new 0) m (Some (Steps k Pass)))
     × (4294967296 ≤ slice_index s.words 0 → Follows key s (loaded s id new 0) m (Some (Steps k Leave)))
-    × (slice_index s.words 0 < 4294967296 → slice_index s.words 0 ≢ length me.0.start.cpus + 1 → Follows key s (loaded s id new 0) m None)
+    × (slice_index s.words 0 < 4294967296 → slice_index s.words 0 ≢ length me.0.start.cpus + 1 → Follows key s (loaded s id new 0) m None))
 
 -- the word that a store goes to, and its value: of the word of memory that the event writes back, or else of the own phase
 abbrev pub GoesTo : Start → ℕ → Processor → Option (ℕ × ℕ) → ℕ → ℕ → Type 0
@@ -137,19 +146,22 @@ GoesTo t k c (Some back) i n = (n ≡ back.1) × (j : ℕ) × (place t.ram back.
 -- a store
 abbrev pub WorkFollows : Type 0
 WorkFollows =
-    (key : Key) (s : Station) (m : Meets key s) (id k i n : ℕ) (c : Processor) (me new : Sat) → HasPass s id me (held k c true false) → IsTrue (is_local c.phase)
+    OfPass true false
+    (λ key s m id k c me new. (i n : ℕ) → IsTrue (is_local c.phase)
     → GoesTo me.0.start k c (written (own_event me.0.start c)) i n → Works (step 0 i n 0 none) me n new
-    → Follows key s (stored s id new i n) m (Some (Steps k (own_event me.0.start c)))
+    → Follows key s (stored s id new i n) m (Some (Steps k (own_event me.0.start c))))
 
 -- an addition to word 1
 abbrev pub ArriveAgainFollows : Type 0
 ArriveAgainFollows =
-    (key : Key) (s : Station) (m : Meets key s) (id k : ℕ) (c : Processor) (me new : Sat) → HasPass s id me (held k c true false) → c.phase ≡ Restored → ArrivesAgain (step 0 1 1 0 none) me (slice_index s.words 1) new
-    → Follows key s (raised s id new 1 1) m (Some (Steps k ArriveAgain))
+    OfPass true false
+    (λ key s m id k c me new. c.phase ≡ Restored → ArrivesAgain (step 0 1 1 0 none) me (slice_index s.words 1) new
+    → Follows key s (raised s id new 1 1) m (Some (Steps k ArriveAgain)))
 
 -- a load of word 1
 abbrev pub ReleaseFollows : Type 0
 ReleaseFollows =
-    (key : Key) (s : Station) (m : Meets key s) (id k : ℕ) (c : Processor) (me new : Sat) → HasPass s id me (held k c true true) → c.phase ≡ Arrived2 → Releases (step 0 1 0 0 none) me (slice_index s.words 1) new
+    OfPass true true
+    (λ key s m id k c me new. c.phase ≡ Arrived2 → Releases (step 0 1 0 0 none) me (slice_index s.words 1) new
     → (slice_index s.words 1 ≡ length me.0.start.cpus → Follows key s (loaded s id new 1) m (Some (Steps k Release)))
-    × (slice_index s.words 1 ≢ length me.0.start.cpus → Follows key s (loaded s id new 1) m None)
+    × (slice_index s.words 1 ≢ length me.0.start.cpus → Follows key s (loaded s id new 1) m None))

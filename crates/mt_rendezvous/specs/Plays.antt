@@ -32,7 +32,8 @@ abbrev pub CanFollow : Machine → Option MachineEvent → Type 0
 CanFollow m None = Unit {0}
 CanFollow m (Some e) = IsEnabled m e
 
--- A step of the pass that holds h, by which word i becomes new where it was found: the words and views stood for a machine that the broadcast leads to; with the new word, and with w in place of h, they stand for the machine after this event, which was enabled, or for the same machine if there is none.
+-- A step of the pass that holds h, by which word i becomes new where it was found: the words and views stood for a machine that the broadcast leads to.
+-- With the new word, and with w in place of h, they stand for the machine after this event, which was enabled, or for the same machine if there is none.
 pub record PassSteps (t : Start) (i found new : ℕ) (e : Option MachineEvent) (h w : Held) : Type 0 where
   pub all : List Held
   pub go : Go
@@ -102,28 +103,44 @@ work t h = does t (own_event t h.cpu) h
 abbrev pub sum_word : Step (Unit {0}) → ℕ → ℕ
 sum_word st found = (found + st.first) % 2 ^ 64
 
+-- each processor of the view becomes what this makes of it
+abbrev pub Turned : Sat → Sat → (Held → Held) → Type 0
+Turned me new f = new.0 ≡ with_held me.0 (map f me.0.held)
+
+-- the step is this event of the view's one processor, which becomes what f makes of it; the word that was found becomes this
+abbrev pub IsEvent : Step (Unit {0}) → Sat → ℕ → ℕ → Event → (Held → Held) → Type 0
+IsEvent st me found word e f = Of me.0 (λ h. PassSteps me.0.start st.word found word (Some (Steps h.number e)) h (f h))
+
+-- or none
+abbrev pub IsNoEvent : Step (Unit {0}) → Sat → ℕ → ℕ → (Held → Held) → Type 0
+IsNoEvent st me found word f = Of me.0 (λ h. PassSteps me.0.start st.word found word None h (f h))
+
 -- an addition of a pass to word 0: Arrive, or no event where the word held the cancel before. It tells besides that the processor is as it was gathered
 abbrev pub Arrives : Step (Unit {0}) → Sat → ℕ → Sat → Type 0
 Arrives st me found new =
     (new.1 ≡ me.1)
     × Begins me.0.start
     × Of me.0 (λ h. slice_get me.0.start.cpus h.number ≡ Some h.cpu)
-    × (found < 4294967296 → (new.0 ≡ with_held me.0 (map (arrive me.0.start) me.0.held)) × Of me.0 (λ h. PassSteps me.0.start st.word found (sum_word st found) (Some (Steps h.number Arrive)) h (arrive me.0.start h)))
-    × (4294967296 ≤ found → (new.0 ≡ with_held me.0 (map late me.0.held)) × Of me.0 (λ h. PassSteps me.0.start st.word found (sum_word st found) None h (late h)))
+    × (found < 4294967296 → Turned me new (arrive me.0.start) × IsEvent st me found (sum_word st found) Arrive (arrive me.0.start))
+    × (4294967296 ≤ found → Turned me new late × IsNoEvent st me found (sum_word st found) late)
+
+-- it has arrived, and stands then with the go given
+abbrev pub MayPass : Start → Held → Type 0
+MayPass t h = (h.cpu.phase ≡ Arrived) × Stands t Given h.number (does t Pass h).cpu
 
 -- a load of word 0: Pass where all have arrived and go is given, Leave where it shows the cancel, else no event
 abbrev pub Passes : Step (Unit {0}) → Sat → ℕ → Sat → Type 0
 Passes st me found new =
     (new.1 ≡ me.1)
-    × (found ≡ length me.0.start.cpus + 1 → (new.0 ≡ with_held me.0 (map (does me.0.start Pass) me.0.held)) × Of me.0 (λ h. PassSteps me.0.start st.word found found (Some (Steps h.number Pass)) h (does me.0.start Pass h)) × Of me.0 (λ h. (h.cpu.phase ≡ Arrived) × Stands me.0.start Given h.number (does me.0.start Pass h).cpu))
-    × (4294967296 ≤ found → (new.0 ≡ with_held me.0 (map (does me.0.start Leave) me.0.held)) × Of me.0 (λ h. PassSteps me.0.start st.word found found (Some (Steps h.number Leave)) h (does me.0.start Leave h)) × Of me.0 (λ h. Stands me.0.start Cancelled h.number h.cpu))
-    × (found < 4294967296 → found ≢ length me.0.start.cpus + 1 → (new.0 ≡ me.0) × Of me.0 (λ h. PassSteps me.0.start st.word found found None h h))
+    × (found ≡ length me.0.start.cpus + 1 → Turned me new (does me.0.start Pass) × IsEvent st me found found Pass (does me.0.start Pass) × Of me.0 (MayPass me.0.start))
+    × (4294967296 ≤ found → Turned me new (does me.0.start Leave) × IsEvent st me found found Leave (does me.0.start Leave) × Of me.0 (λ h. Stands me.0.start Cancelled h.number h.cpu))
+    × (found < 4294967296 → found ≢ length me.0.start.cpus + 1 → (new.0 ≡ me.0) × IsNoEvent st me found found (λ h. h))
 
 -- a store of the own phase word, or of a word of memory: the event that is due
 abbrev pub Works : Step (Unit {0}) → Sat → ℕ → Sat → Type 0
 Works st me found new =
     (new.1 ≡ me.1)
-    × (new.0 ≡ with_held me.0 (map (work me.0.start) me.0.held))
+    × Turned me new (work me.0.start)
     × Of me.0 (λ h. (was : ℕ) × PassSteps me.0.start st.word was st.first (Some (Steps h.number (own_event me.0.start h.cpu))) h (work me.0.start h))
     × Of me.0 (λ h. Stands me.0.start Given h.number (work me.0.start h).cpu)
 
@@ -131,19 +148,27 @@ Works st me found new =
 abbrev pub ArrivesAgain : Step (Unit {0}) → Sat → ℕ → Sat → Type 0
 ArrivesAgain st me found new =
     (new.1 ≡ me.1)
-    × (new.0 ≡ with_held me.0 (map (arrive_again me.0.start) me.0.held))
-    × Of me.0 (λ h. PassSteps me.0.start st.word found (sum_word st found) (Some (Steps h.number ArriveAgain)) h (arrive_again me.0.start h))
+    × Turned me new (arrive_again me.0.start)
+    × IsEvent st me found (sum_word st found) ArriveAgain (arrive_again me.0.start)
 
 abbrev pub with_shown : View → ℕ → View
 with_shown v n = view v.root v.held v.go (Some n) v
+
+-- and the view keeps what was found
+abbrev pub TurnedShown : Sat → Sat → (Held → Held) → ℕ → Type 0
+TurnedShown me new f n = new.0 ≡ with_shown (with_held me.0 (map f me.0.held)) n
+
+-- its era is that of the start
+abbrev pub HasFirstEra : Start → Held → Type 0
+HasFirstEra t h = h.cpu.era ≡ common_era t.cpus
 
 -- a load of word 1, which the view keeps: Release where all have arrived again, else no event
 abbrev pub Releases : Step (Unit {0}) → Sat → ℕ → Sat → Type 0
 Releases st me found new =
     (new.1 ≡ me.1)
     × (found < 65536)
-    × (found ≡ length me.0.start.cpus → (new.0 ≡ with_shown (with_held me.0 (map (does me.0.start Release) me.0.held)) found) × Of me.0 (λ h. PassSteps me.0.start st.word found found (Some (Steps h.number Release)) h (does me.0.start Release h)) × Of me.0 (λ h. h.cpu.era ≡ common_era me.0.start.cpus))
-    × (found ≢ length me.0.start.cpus → (new.0 ≡ with_shown me.0 found) × Of me.0 (λ h. PassSteps me.0.start st.word found found None h h))
+    × (found ≡ length me.0.start.cpus → TurnedShown me new (does me.0.start Release) found × IsEvent st me found found Release (does me.0.start Release) × Of me.0 (HasFirstEra me.0.start))
+    × (found ≢ length me.0.start.cpus → (new.0 ≡ with_shown me.0 found) × IsNoEvent st me found found (λ h. h))
 
 abbrev pub with_go : View → Go → View
 with_go v go = view v.root v.held go v.shown v

@@ -26,7 +26,8 @@ use Rattle.mt_rendezvous.specs.Calls.{Attends, Carries, HoldsOne, IsRoot, gather
 
 -- ---- before the threads
 
--- the first state is quiet, the goal may be called there, and the other is the one after the call and all takes in ascending order: the buffers are emptied in that order, all have taken, the order stands, and a station can be gathered
+-- the first state is quiet, the goal may be called there, and the other is the one after the call and all takes in ascending order:
+-- the buffers are emptied in that order, all have taken, the order stands, and a station can be gathered
 pub record HasTaken (s : Machine) (goal : RegisterFile) (m : Machine) : Type 0 where
   pub quiet : IsQuiet s
   pub enabled : IsEnabled s (Calls goal)
