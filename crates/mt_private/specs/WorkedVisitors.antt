@@ -1,5 +1,5 @@
 -- Visitors of a worked yard, and what a host has of them.
-use Rattle.std.specs.Prelude.{◌≡◌, ◌≤◌, ◌∷◌, ◌++◌, ℕ, List, [], None, Option, Some, true, vec_capacity}
+use Rattle.std.specs.Prelude.{◌≡◌, ◌≤◌, ◌∷◌, ℕ, List, [], None, Option, Some, vec_capacity}
 use Rattle.atomic_table.specs.Seated.{TableId}
 use Rattle.mt_machine.specs.System.{System}
 use Rattle.mt_rendezvous.specs.declared.view.Start.{Start}
@@ -12,7 +12,7 @@ use Rattle.mt_private.specs.declared.visiting.Guest.{Guest}
 use Rattle.mt_private.specs.declared.visitor.Visitor.{Visitor}
 use Rattle.mt_private.specs.Own.{own_memory}
 use Rattle.mt_private.specs.Residents.{own_of, pages_left}
-use Rattle.mt_private.specs.WorkedGathered.{come, finished, load_ops, loader, store_ops, view_of}
+use Rattle.mt_private.specs.WorkedGathered.{finished, job_done, view_of}
 use Rattle.mt_private.specs.WorkedYard.{first_lodged, host_view, lodging}
 use Rattle.mt_private.specs.Visitors.{AreWaiting, CameBack, Returned}
 use Rattle.mt_private.specs.YardPlays.{YardSat}
@@ -33,12 +33,9 @@ HasRoom told = (told.before.items ≡ []) × (told.after.items ≡ []) × (1 ≤
 abbrev pub new_seat : YardSat
 new_seat = (view_of first_lodged, [])
 
--- the first when it has stored, was updated and has loaded, and its seat when it was shown so many
-abbrev pub came : Resident
-came = come loader finished.memory true true (store_ops ++ load_ops)
-
+-- its seat once its job is done, when it was shown so many
 abbrev pub came_seat : ℕ → YardSat
-came_seat count = (record (view_of came) { shown = Some count }, [])
+came_seat count = (record (view_of job_done) { shown = Some count }, [])
 
 -- the host's view when it has this resident back
 abbrev pub host_with : List Resident → YardView

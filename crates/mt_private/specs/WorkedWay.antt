@@ -17,7 +17,7 @@ use Rattle.mt_private.specs.declared.view.Resident.{Resident}
 use Rattle.mt_private.specs.declared.view.YardView.{YardView}
 use Rattle.mt_private.specs.Residents.{Follows, Yard}
 use Rattle.mt_private.specs.WorkedGathered.{come, first_words}
-use Rattle.mt_private.specs.WorkedYard.{alone, at_start, first_taken, lodger}
+use Rattle.mt_private.specs.WorkedYard.{alone, first_taken, lodger, no_counts}
 use Rattle.mt_private.specs.YardLaws.{IsOneEvent, YardState}
 use Rattle.mt_private.specs.YardPlays.{YardSat}
 use Rattle.mt_private.specs.YardRule.{MeetsYard, first_yard_view, with_one, with_said, yard_both, yard_left, yard_right, yard_spent}
@@ -40,29 +40,20 @@ abbrev pub GoesOn : Go → ℕ → ℕ → Resident → Resident → Option Mach
 GoesOn go first second y w e first_then second_then = (s : System) × Yard alone (y ∷ []) go first second s × Follows alone (y ∷ []) go s 0 w e first_then second_then
 
 -- the seat of its pass, which was shown this count and whether there is a cancel; and as it is at first, and where a word is lent
-abbrev pub seat_with : Option ℕ → Bool → Resident → YardSat
-seat_with shown cancel y = (record { root = false; held = y ∷ []; go = Pending; shown = shown; cancel = cancel; start = alone }, [])
+abbrev pub seat_shown : Option ℕ → Bool → Resident → YardSat
+seat_shown shown cancel y = (record { root = false; held = y ∷ []; go = Pending; shown = shown; cancel = cancel; start = alone }, [])
 
 abbrev pub seat : Resident → YardSat
-seat y = seat_with None false y
+seat y = seat_shown None false y
 
 abbrev pub lent : YardSat → YardSat
 lent me = (me.0, (0, Fence) ∷ [])
 
 -- ---- seats of a yard of two
 
-abbrev pub no_counts : List ℕ
-no_counts = 0 ∷ 0 ∷ 0 ∷ 0 ∷ []
-
-abbrev pub opened : Key → YardState
-opened key = at_start key no_counts
-
--- the root has said go; or it has given its first resident away, which then takes, or is taken back
+-- the root has said go; or the first resident, which was given away, takes, or is taken back
 abbrev pub given : Key → YardState
 given key = record { words = 1 ∷ 0 ∷ 0 ∷ 0 ∷ []; homes = []; views = with_said (first_yard_view key) Given ∷ [] }
-
-abbrev pub split : Key → YardState
-split key = record { words = no_counts; homes = []; views = yard_left (first_yard_view key) ∷ yard_right (first_yard_view key) ∷ [] }
 
 abbrev pub split_taken : Key → YardState
 split_taken key = record { words = no_counts; homes = []; views = yard_left (first_yard_view key) ∷ with_one (yard_right (first_yard_view key)) first_taken None false ∷ [] }

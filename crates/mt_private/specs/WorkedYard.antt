@@ -52,13 +52,17 @@ first_taken = stepped_by lodging Take first_lodged
 abbrev pub at_start : Key → List ℕ → YardState
 at_start key words = opening words [] (first_yard_view key)
 
+-- the words of a new yard of two
+abbrev pub no_counts : List ℕ
+no_counts = 0 ∷ 0 ∷ 0 ∷ 0 ∷ []
+
 -- nobody has done anything yet
 abbrev pub first_state : Key → YardState
-first_state key = at_start key (0 ∷ 0 ∷ 0 ∷ 0 ∷ [])
+first_state key = at_start key no_counts
 
 -- the root has given its first resident away
 abbrev pub split_state : Key → YardState
-split_state key = record { words = 0 ∷ 0 ∷ 0 ∷ 0 ∷ []; homes = []; views = yard_left (first_yard_view key) ∷ yard_right (first_yard_view key) ∷ [] }
+split_state key = record { words = no_counts; homes = []; views = yard_left (first_yard_view key) ∷ yard_right (first_yard_view key) ∷ [] }
 
 -- an addition of this to the first count
 abbrev pub adds : ℕ → Step Op

@@ -19,8 +19,8 @@ ghost use Rattle.mt_private.specs.Left.{Leaves};
 ghost use Rattle.mt_private.specs.OneByOne.{jobs_one_by_one};
 ghost use Rattle.mt_private.specs.Residents.{Decides, Follows, Yard, accessed_by, own_of, system_of, with_stored};
 ghost use Rattle.mt_private.specs.Visitors.{EndsOneByOne, Returned};
-ghost use Rattle.mt_private.specs.WorkedWay.{Becomes, GoesOn, HasNoAnswers, IsEmptyJob, changed, fills_not, given, guest, joined, last_seat, opened, released, settled, split, split_taken};
-ghost use Rattle.mt_private.specs.WorkedYard.{alone, lodging};
+ghost use Rattle.mt_private.specs.WorkedWay.{Becomes, GoesOn, HasNoAnswers, IsEmptyJob, changed, fills_not, given, guest, joined, last_seat, released, settled, split_taken};
+ghost use Rattle.mt_private.specs.WorkedYard.{alone, first_state, lodging, split_state};
 ghost use Rattle.mt_private.specs.YardLaws.{AdditionArrives, AdditionArrivesAgain, AdditionDecides, LoadLeaves, LoadPasses, LoadReleases, LoadStays, LoadTakes, StoreAccesses, StoreWorks};
 ghost use Rattle.mt_private.specs.YardLaws.{IsOneMachine, IsReached, JoinIsNone, MoveIsOneEvent, SayingIsOneEvent, Settles, SplitIsNone, StartMeetsRule, YardsSettle};
 ghost use Rattle.mt_private.specs.YardRule.{MeetsYard, its_machine};
@@ -53,14 +53,14 @@ pub fn worked_laws_of_own_words()
 
 /// A yard of two at its start, and steps of its seats; and a yard of one whose resident is released.
 pub fn worked_laws_of_tables()
-    ensures start { StartMeetsRule → (key : Key) → start_of key ≡ lodging → MeetsYard key (opened key) }
-    ensures reached { IsReached → (key : Key) → start_of key ≡ lodging → (m : MeetsYard key (opened key)) × Reached (broadcast (start_of key)) (its_machine key (opened key) m) }
-    ensures one { IsOneMachine → (key : Key) (m n : MeetsYard key (opened key)) → its_machine key (opened key) m ≡ its_machine key (opened key) n }
-    ensures says { SayingIsOneEvent → (key : Key) → start_of key ≡ lodging → Becomes key (opened key) (given key) (Some Goes) }
-    ensures split { SplitIsNone → (key : Key) → start_of key ≡ lodging → Becomes key (opened key) (split key) None }
-    ensures moves { MoveIsOneEvent → (key : Key) → start_of key ≡ lodging → Becomes key (split key) (split_taken key) (Some (Steps 0 Take)) }
+    ensures start { StartMeetsRule → (key : Key) → start_of key ≡ lodging → MeetsYard key (first_state key) }
+    ensures reached { IsReached → (key : Key) → start_of key ≡ lodging → (m : MeetsYard key (first_state key)) × Reached (broadcast (start_of key)) (its_machine key (first_state key) m) }
+    ensures one { IsOneMachine → (key : Key) (m n : MeetsYard key (first_state key)) → its_machine key (first_state key) m ≡ its_machine key (first_state key) n }
+    ensures says { SayingIsOneEvent → (key : Key) → start_of key ≡ lodging → Becomes key (first_state key) (given key) (Some Goes) }
+    ensures split { SplitIsNone → (key : Key) → start_of key ≡ lodging → Becomes key (first_state key) (split_state key) None }
+    ensures moves { MoveIsOneEvent → (key : Key) → start_of key ≡ lodging → Becomes key (split_state key) (split_taken key) (Some (Steps 0 Take)) }
     ensures settles { YardsSettle → (key : Key) → start_of key ≡ alone → (m : MeetsYard key (settled key)) × Settles (start_of key) (its_machine key (settled key) m) }
-    ensures join { JoinIsNone → (key : Key) → start_of key ≡ lodging → Becomes key (split key) (joined key) None }
+    ensures join { JoinIsNone → (key : Key) → start_of key ≡ lodging → Becomes key (split_state key) (joined key) None }
 {}
 
 /// A yard whose one guest came back, with a job without accesses: it leaves what the update leaves.

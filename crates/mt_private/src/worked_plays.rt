@@ -5,13 +5,13 @@ ghost use mathlib.Core.Option.{none};
 ghost use Rattle.atomic_table.specs.Table.{step};
 ghost use Rattle.mt_machine.specs.declared.phase.Phase.TheVariants.{Arrived, Arrived2, Passed, Restored, Running, Taken};
 ghost use Rattle.mt_private.specs.Residents.{with_stored};
-ghost use Rattle.mt_private.specs.WorkedWay.{changed, fills_not, guest, lent, released, seat, seat_with};
+ghost use Rattle.mt_private.specs.WorkedWay.{changed, fills_not, guest, lent, released, seat, seat_shown};
 ghost use Rattle.mt_private.specs.YardPlays.{ArrivesAgainYard, ArrivesYard, PassesYard, ReleasesYard, TakesYard, WorksYard};
 
 /// A load of the first count by one that hasn't taken.
 pub fn worked_takes()
     ensures takes { TakesYard (step 0 0 0 0 none) (seat (guest Running false)) 0 (seat (guest Taken false)) }
-    ensures shown { TakesYard (step 0 0 0 0 none) (seat (guest Running false)) 0x100000000 (seat_with None true (guest Running false)) }
+    ensures shown { TakesYard (step 0 0 0 0 none) (seat (guest Running false)) 0x100000000 (seat_shown None true (guest Running false)) }
     ensures lends { TakesYard (step 0 0 0 0 none) (seat (guest Running false)) 0 (lent (seat (guest Taken false))) → ⊥ }
     ensures not_taken { TakesYard (step 0 0 0 0 none) (seat (guest Running false)) 0 (seat (guest Running false)) → ⊥ }
     ensures not_shown { TakesYard (step 0 0 0 0 none) (seat (guest Running false)) 0x100000000 (seat (guest Running false)) → ⊥ }
@@ -29,7 +29,7 @@ pub fn worked_arrivals()
 /// A load of it by one that waits.
 pub fn worked_passes()
     ensures passes { PassesYard (step 0 0 0 0 none) (seat (guest Arrived true)) 2 (seat (guest Passed true)) }
-    ensures leaves { PassesYard (step 0 0 0 0 none) (seat (guest Taken true)) 0x100000001 (seat_with None true (guest Running true)) }
+    ensures leaves { PassesYard (step 0 0 0 0 none) (seat (guest Taken true)) 0x100000001 (seat_shown None true (guest Running true)) }
     ensures waits { PassesYard (step 0 0 0 0 none) (seat (guest Arrived true)) 1 (seat (guest Arrived true)) }
     ensures lends { PassesYard (step 0 0 0 0 none) (seat (guest Arrived true)) 1 (lent (seat (guest Arrived true))) → ⊥ }
     ensures not_passed { PassesYard (step 0 0 0 0 none) (seat (guest Arrived true)) 2 (seat (guest Arrived true)) → ⊥ }
@@ -51,9 +51,9 @@ pub fn worked_second_counts()
     ensures arrives { ArrivesAgainYard (step 0 1 1 0 none) (seat (changed Restored false)) 0 (seat (changed Arrived2 true)) }
     ensures lends { ArrivesAgainYard (step 0 1 1 0 none) (seat (changed Restored false)) 0 (lent (seat (changed Arrived2 true))) → ⊥ }
     ensures not_come { ArrivesAgainYard (step 0 1 1 0 none) (seat (changed Restored false)) 0 (seat (changed Restored false)) → ⊥ }
-    ensures releases { ReleasesYard (step 0 1 0 0 none) (seat (changed Arrived2 true)) 1 (seat_with (Some 1) false released) }
-    ensures lends_released { ReleasesYard (step 0 1 0 0 none) (seat (changed Arrived2 true)) 1 (lent (seat_with (Some 1) false released)) → ⊥ }
-    ensures not_released { ReleasesYard (step 0 1 0 0 none) (seat (changed Arrived2 true)) 1 (seat_with (Some 1) false (changed Arrived2 true)) → ⊥ }
+    ensures releases { ReleasesYard (step 0 1 0 0 none) (seat (changed Arrived2 true)) 1 (seat_shown (Some 1) false released) }
+    ensures lends_released { ReleasesYard (step 0 1 0 0 none) (seat (changed Arrived2 true)) 1 (lent (seat_shown (Some 1) false released)) → ⊥ }
+    ensures not_released { ReleasesYard (step 0 1 0 0 none) (seat (changed Arrived2 true)) 1 (seat_shown (Some 1) false (changed Arrived2 true)) → ⊥ }
     ensures not_kept { ReleasesYard (step 0 1 0 0 none) (seat (changed Arrived2 true)) 1 (seat released) → ⊥ }
-    ensures released_early { ReleasesYard (step 0 1 0 0 none) (seat (changed Arrived2 true)) 0 (seat_with (Some 0) false released) → ⊥ }
+    ensures released_early { ReleasesYard (step 0 1 0 0 none) (seat (changed Arrived2 true)) 0 (seat_shown (Some 0) false released) → ⊥ }
 {}

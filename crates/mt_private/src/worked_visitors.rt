@@ -17,8 +17,8 @@ ghost use Rattle.mt_private.specs.Gathered.{IsRest};
 ghost use Rattle.mt_private.specs.Own.{own_memory};
 ghost use Rattle.mt_private.specs.Residents.{own_of, pages_at};
 ghost use Rattle.mt_private.specs.Visitors.{AreWaiting, HasCome, IsFresh, IsNew, OneLess};
-ghost use Rattle.mt_private.specs.WorkedGathered.{HasAnswers, IsJob, finished, second_lodged, view_of};
-ghost use Rattle.mt_private.specs.WorkedVisitors.{HasBack, HasRoom, IsBack, IsGuest, IsLeftRoom, IsVisitor, WaitsFor, came, came_seat, host_with, kept_first, new_seat};
+ghost use Rattle.mt_private.specs.WorkedGathered.{HasAnswers, IsJob, finished, job_done, second_lodged, view_of};
+ghost use Rattle.mt_private.specs.WorkedVisitors.{HasBack, HasRoom, IsBack, IsGuest, IsLeftRoom, IsVisitor, WaitsFor, came_seat, host_with, kept_first, new_seat};
 ghost use Rattle.mt_private.specs.WorkedYard.{first_lodged, host_view, lodging};
 ghost use Rattle.mt_private.specs.YardCalls.{in_phase};
 
@@ -70,19 +70,19 @@ pub fn worked_fresh_hosts()
 
 /// A visitor that came back to its host, and the first ones.
 pub fn worked_returns()
-    ensures back { (table : TableId) (job : YardJob) (told : YardTold) → IsJob job → HasAnswers told → IsBack table job (came ∷ []) kept_first told }
-    ensures one_not_come { (table : TableId) (job : YardJob) (told : YardTold) (r : IsBack table job (came ∷ []) kept_first told) → r.visited ≡ Complete → r.me ≡ came_seat 1 → ⊥ }
-    ensures not_running { (table : TableId) (job : YardJob) (told : YardTold) (r : IsBack table job (came ∷ []) kept_first told) → r.own ≡ in_phase Taken finished → ⊥ }
-    ensures no_room { (table : TableId) (job : YardJob) (told : YardTold) (r : IsBack table job (came ∷ []) kept_first told) → r.visited ≡ Cancelled
+    ensures back { (table : TableId) (job : YardJob) (told : YardTold) → IsJob job → HasAnswers told → IsBack table job (job_done ∷ []) kept_first told }
+    ensures one_not_come { (table : TableId) (job : YardJob) (told : YardTold) (r : IsBack table job (job_done ∷ []) kept_first told) → r.visited ≡ Complete → r.me ≡ came_seat 1 → ⊥ }
+    ensures not_running { (table : TableId) (job : YardJob) (told : YardTold) (r : IsBack table job (job_done ∷ []) kept_first told) → r.own ≡ in_phase Taken finished → ⊥ }
+    ensures no_room { (table : TableId) (job : YardJob) (told : YardTold) (r : IsBack table job (job_done ∷ []) kept_first told) → r.visited ≡ Cancelled
         → job.after.items ≡ Fence ∷ [] → vec_capacity told.after ≡ 0 → ⊥ }
-    ensures not_kept { (table : TableId) (job : YardJob) (told : YardTold) → IsBack table job (came ∷ []) (None ∷ None ∷ []) told → ⊥ }
+    ensures not_kept { (table : TableId) (job : YardJob) (told : YardTold) → IsBack table job (job_done ∷ []) (None ∷ None ∷ []) told → ⊥ }
     ensures not_held { (table : TableId) (job : YardJob) (told : YardTold) (r : IsBack table job [] kept_first told) → r.me ≡ came_seat 2 → ⊥ }
-    ensures not_told { (table : TableId) (job : YardJob) (told : YardTold) (r : IsBack table job (came ∷ []) kept_first told) → r.me ≡ (record (view_of came) { cancel = true }, []) → ⊥ }
-    ensures returned { (table : TableId) (job : YardJob) (told : YardTold) → IsJob job → HasAnswers told → HasBack table (job ∷ []) (host_with (came ∷ [])) kept_first (told ∷ []) }
-    ensures a_pass { (table : TableId) (job : YardJob) (told : YardTold) → HasBack table (job ∷ []) (view_of came) kept_first (told ∷ []) → ⊥ }
-    ensures one_place { (table : TableId) (job : YardJob) (told : YardTold) → HasBack table (job ∷ []) (host_with (came ∷ [])) (Some finished ∷ []) (told ∷ []) → ⊥ }
-    ensures keeps_another { (table : TableId) → HasBack table [] (host_with (came ∷ [])) (Some (own_of second_lodged) ∷ None ∷ []) [] → ⊥ }
-    ensures second_not_back { (table : TableId) (job : YardJob) (told : YardTold) → HasBack table (job ∷ job ∷ []) (host_with (came ∷ [])) kept_first (told ∷ told ∷ []) → ⊥ }
+    ensures not_told { (table : TableId) (job : YardJob) (told : YardTold) (r : IsBack table job (job_done ∷ []) kept_first told) → r.me ≡ (record (view_of job_done) { cancel = true }, []) → ⊥ }
+    ensures returned { (table : TableId) (job : YardJob) (told : YardTold) → IsJob job → HasAnswers told → HasBack table (job ∷ []) (host_with (job_done ∷ [])) kept_first (told ∷ []) }
+    ensures a_pass { (table : TableId) (job : YardJob) (told : YardTold) → HasBack table (job ∷ []) (view_of job_done) kept_first (told ∷ []) → ⊥ }
+    ensures one_place { (table : TableId) (job : YardJob) (told : YardTold) → HasBack table (job ∷ []) (host_with (job_done ∷ [])) (Some finished ∷ []) (told ∷ []) → ⊥ }
+    ensures keeps_another { (table : TableId) → HasBack table [] (host_with (job_done ∷ [])) (Some (own_of second_lodged) ∷ None ∷ []) [] → ⊥ }
+    ensures second_not_back { (table : TableId) (job : YardJob) (told : YardTold) → HasBack table (job ∷ job ∷ []) (host_with (job_done ∷ [])) kept_first (told ∷ told ∷ []) → ⊥ }
 {}
 
 /// What is left of the gathered system.

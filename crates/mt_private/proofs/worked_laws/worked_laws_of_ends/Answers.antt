@@ -12,7 +12,7 @@ use Rattle.mt_private.specs.Left.{AreOwnsOf, Leaves}
 use Rattle.mt_private.specs.OneByOne.{ran}
 use Rattle.mt_private.specs.Residents.{own_of}
 use Rattle.mt_private.specs.Visitors.{CameBack, Returned, own_at}
-use Rattle.mt_private.specs.WorkedWay.{HasNoAnswers, IsEmptyJob, last_seat, released, seat_with}
+use Rattle.mt_private.specs.WorkedWay.{HasNoAnswers, IsEmptyJob, last_seat, released, seat_shown}
 use Rattle.mt_private.specs.WorkedYard.{alone}
 use Rattle.mt_private.specs.YardCalls.{Keeps, VisitEnds, updated_own}
 use Rattle.mt_private.proofs.LoneGuest.{released_yard}
@@ -26,7 +26,7 @@ updated : own_of released ≡ (ran 0 [] (updated_own alone.goal (ran 0 [] (own_a
 updated = refl
 
 ends : (table : TableId) (job : Job) (told : Told) → IsEmptyJob job → HasNoAnswers told
-    → VisitEnds Complete table alone 0 alone.goal job (own_at alone 0) table (seat_with (Some 1) false released) (own_of released) told
+    → VisitEnds Complete table alone 0 alone.goal job (own_at alone 0) table (seat_shown (Some 1) false released) (own_of released) told
 ends table job told is none = (
   record { cpu = released.held.cpu; same = refl; alone = refl; holds = refl; told = refl; below = omega arith; bare = refl },
   refl,
@@ -45,7 +45,7 @@ came table job told is none = record {
   visited = Complete;
   own = own_of released;
   its = table;
-  me = seat_with (Some 1) false released;
+  me = seat_shown (Some 1) false released;
   ends = ends table job told is none;
   runs = refl;
   has_room = λ e. absurd (cc e);

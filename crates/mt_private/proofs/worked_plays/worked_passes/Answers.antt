@@ -6,7 +6,7 @@ use Rattle.mt_machine.specs.Machine.{Steps}
 use Rattle.mt_rendezvous.specs.Plays.{does}
 use Rattle.mt_private.specs.declared.view.YardView.{YardView}
 use Rattle.mt_private.specs.Residents.{with_held}
-use Rattle.mt_private.specs.WorkedWay.{guest, seat, seat_with}
+use Rattle.mt_private.specs.WorkedWay.{guest, seat, seat_shown}
 use Rattle.mt_private.specs.WorkedYard.{alone}
 use Rattle.mt_private.specs.YardPlays.{Turns}
 use Rattle.mt_private.proofs.LoneGuest.{arrived_yard, given_yard, has_passed, late_yard, moves, none_is_one}
@@ -43,7 +43,7 @@ returns-clause-leaves c = (
   (λ full. absurd (omega (arith, full))),
   (λ above.
       of_resident behind (guest Taken true)
-      (λ y. Turns behind (seat_with None true (guest Running true)).0 y (with_held y (does alone Leave y.held)) None true (Some (Steps y.held.number Leave))) refl (
+      (λ y. Turns behind (seat_shown None true (guest Running true)).0 y (with_held y (does alone Leave y.held)) None true (Some (Steps y.held.number Leave))) refl (
         refl,
         moves Cancelled 0x100000001 0 (guest Taken true) (guest Running true) (Some (Steps 0 Leave)) 0x100000001 0 late_yard refl
             (leaves alone (guest Taken true ∷ []) Cancelled 0x100000001 0 late_yard.0 late_yard.1 0 (guest Taken true) refl refl refl (inl refl) (omega arith)),

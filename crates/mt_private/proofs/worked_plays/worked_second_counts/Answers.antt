@@ -6,7 +6,7 @@ use Rattle.mt_machine.specs.Machine.{Steps}
 use Rattle.mt_rendezvous.specs.Plays.{arrive_again, does}
 use Rattle.mt_private.specs.declared.view.YardView.{YardView}
 use Rattle.mt_private.specs.Residents.{with_held}
-use Rattle.mt_private.specs.WorkedWay.{changed, released, seat, seat_with}
+use Rattle.mt_private.specs.WorkedWay.{changed, released, seat, seat_shown}
 use Rattle.mt_private.specs.WorkedYard.{alone}
 use Rattle.mt_private.specs.YardPlays.{Turns}
 use Rattle.mt_private.proofs.LoneGuest.{again_yard, has_come_again, moves, none_is_one, restored_yard, runs}
@@ -41,7 +41,7 @@ returns-clause-releases c = (
   refl,
   (λ full.
       of_resident there (changed Arrived2 true)
-      (λ y. Turns there (seat_with (Some 1) false released).0 y (with_held y (does alone Release y.held)) (Some 1) false (Some (Steps y.held.number Release))) refl (
+      (λ y. Turns there (seat_shown (Some 1) false released).0 y (with_held y (does alone Release y.held)) (Some 1) false (Some (Steps y.held.number Release))) refl (
         refl,
         moves Given 2 1 (changed Arrived2 true) released (Some (Steps 0 Release)) 2 1 again_yard refl
             (releases alone (changed Arrived2 true ∷ []) Given 2 1 again_yard.0 again_yard.1 0 (changed Arrived2 true) refl refl refl refl refl),

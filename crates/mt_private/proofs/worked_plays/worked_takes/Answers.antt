@@ -5,7 +5,7 @@ use Rattle.mt_machine.specs.declared.phase.Phase.TheVariants.{Running, Taken}
 use Rattle.mt_machine.specs.Machine.{FitsGoal, Steps, common_era}
 use Rattle.mt_private.specs.declared.view.YardView.{YardView}
 use Rattle.mt_private.specs.Residents.{stepped_by}
-use Rattle.mt_private.specs.WorkedWay.{guest, seat, seat_with}
+use Rattle.mt_private.specs.WorkedWay.{guest, seat, seat_shown}
 use Rattle.mt_private.specs.WorkedYard.{alone}
 use Rattle.mt_private.specs.YardPlays.{Turns}
 use Rattle.mt_private.proofs.LoneGuest.{at_rest_yard, cancelled_at_rest, has_taken, moves, none_is_one, opens}
@@ -44,7 +44,7 @@ returns-clause-shown c = (
   refl,
   (λ below. absurd (omega (arith, below))),
   (λ above.
-      of_resident before (guest Running false) (λ y. Turns before (seat_with None true (guest Running false)).0 y y None true None) refl (
+      of_resident before (guest Running false) (λ y. Turns before (seat_shown None true (guest Running false)).0 y y None true None) refl (
         refl,
         moves Cancelled 0x100000000 0 (guest Running false) (guest Running false) None 0x100000000 0 cancelled_at_rest refl
             (unmoved alone (guest Running false ∷ []) Cancelled 0x100000000 0 cancelled_at_rest.0 cancelled_at_rest.1 0 (guest Running false) refl),
