@@ -1,6 +1,7 @@
 -- A processor alone with the words of some pages, and what it is to own these pages (own).
 use Rattle.std.specs.Prelude.{◌≡◌, ◌≢◌, ℕ, ◌/◌, Bool, true, false, List, [], ◌∷◌, if◌then◌else◌, slice_get, slice_set, Some}
 use Rattle.std.specs.Option.{option_map_or}
+use Rattle.mt_kinds.specs.Sizes.{page_bytes}
 use Rattle.mt_machine.specs.declared.op.Op.{Op}
 use Rattle.mt_machine.specs.declared.event.Event.{Event}
 use Rattle.mt_machine.specs.declared.event.Event.TheVariants.{WriteBack}
@@ -16,14 +17,14 @@ use Rattle.mt_private.specs.Pages.{names}
 abbrev pub words_on : (ℕ → Bool) → List ℕ → List ℕ → List ℕ
 words_on pages [] ws = []
 words_on pages (a ∷ xs) [] = []
-words_on pages (a ∷ xs) (w ∷ ws) = (if pages (a / 4096) then w else 0) ∷ words_on pages xs ws
+words_on pages (a ∷ xs) (w ∷ ws) = (if pages (a / page_bytes) then w else 0) ∷ words_on pages xs ws
 
 -- the last list with the words in these pages taken from the one before it
 abbrev pub words_from : (ℕ → Bool) → List ℕ → List ℕ → List ℕ → List ℕ
 words_from pages [] vs ws = ws
 words_from pages (a ∷ xs) [] ws = ws
 words_from pages (a ∷ xs) (v ∷ vs) [] = []
-words_from pages (a ∷ xs) (v ∷ vs) (w ∷ ws) = (if pages (a / 4096) then v else w) ∷ words_from pages xs vs ws
+words_from pages (a ∷ xs) (v ∷ vs) (w ∷ ws) = (if pages (a / page_bytes) then v else w) ∷ words_from pages xs vs ws
 
 abbrev pub own_memory : (ℕ → Bool) → Memory → Memory
 own_memory pages m = record m { words = words_on pages (addresses m.windows) m.words }
@@ -80,5 +81,5 @@ pub record Commute (k j : ℕ) (ops others : List Op) (s : System) : Type 0 wher
 
 -- an event writes memory in these pages alone
 abbrev pub WritesOn : (ℕ → Bool) → Event → Type 0
-WritesOn pages (WriteBack address value) = pages (address / 4096) ≡ true
+WritesOn pages (WriteBack address value) = pages (address / page_bytes) ≡ true
 WritesOn pages other = Unit {0}

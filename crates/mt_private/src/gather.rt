@@ -21,6 +21,7 @@ use crate::visiting::{Guest, YardPass};
 use atomic_table::{Seat, Table};
 use mt_bus::{Holders, System, a_system_is_sound};
 use mt_cpu::Cpu;
+use mt_kinds::PAGE_BYTES;
 use mt_machine::Op;
 use mt_ram::Ram;
 use mt_regs::RegFile;
@@ -29,16 +30,13 @@ use mt_types::KindTable;
 use std::alloc::Global;
 use std::snapshot::Snapshot;
 
-// A page has 4,096 bytes.
-const PAGE: u64 = 4096;
-
 // The word at a place where the processor names its page, and else 0.
 fn word_for(cpu: &Cpu, ram: &Ram, i: usize) -> u64
     requires place { i < length ram.now.words }
     requires memory { IsMemory ram.now }
     ensures { get_elem? (own_memory (pages_of cpu.now) ram.now).words i ≡ some result }
 {
-    if names(cpu, ram.address(i) / PAGE) {
+    if names(cpu, ram.address(i) / PAGE_BYTES) {
         ram.word(i)
     } else {
         0

@@ -3,6 +3,7 @@
 --     state_after state command      what it leaves
 use Rattle.std.specs.Prelude.{ℕ, ◌/◌, ◌&&◌, nat_lt, not, Bool, true, false, List, [], length, if◌then◌else◌, slice_get, Option, None, Some, is_some}
 use Rattle.std.specs.Option.{option_map, option_map_or}
+use Rattle.mt_kinds.specs.Sizes.{page_bytes}
 use Rattle.mt_regs.specs.RegisterFile.{RegisterFile}
 use Rattle.mt_regs.specs.Registers.{value_at, written}
 use Rattle.mt_tlb.specs.declared.mapping.Mapping.{Mapping}
@@ -57,7 +58,7 @@ controlled_line m k c = ruled_line (control m.system k c).answer
 
 -- addresses are of bytes, and a mapping is of pages
 abbrev pub mapping : ℕ → ℕ → ℕ → Bool → Mapping
-mapping address physical index global = record { vpage = address / 4096; ppage = physical / 4096; index = index; global = global }
+mapping address physical index global = record { vpage = address / page_bytes; ppage = physical / page_bytes; index = index; global = global }
 
 -- ---- updates
 

@@ -12,8 +12,9 @@ ghost use Rattle.mt_core.specs.Steps.{step_after, step_answer};
 ghost use Rattle.mt_machine.specs.Update.{updated};
 ghost use Rattle.mt_replay.specs.ReplayState.{accessed_line, after_call, after_join, after_retire, after_up, after_update, after_word, call_fault, call_line, controlled_line, file_at, is_absent, is_undecided, join_text, memory_word, named, retire_text, up_text, update_line};
 ghost use Rattle.mt_replay.specs.Texts.{cancel_line, go_line, memory_line, register_line, stepped_line};
-ghost use Rattle.mt_regs.specs.Registers.{value_at};
+ghost use Rattle.mt_regs.specs.Registers.{HasThreeDigits, value_at};
 ghost use Rattle.std.specs.Option.{option_map_or};
+ghost use Rattle.mt_kinds.specs.Sizes.{most_lines};
 
 use crate::texts::{
     append_done, append_ruled, append_stepped, call_fault_line, called_line, cancel_line,
@@ -114,7 +115,7 @@ fn begin(core: &mut Core, goal: &RegFile) -> Option<CallFault>
     requires room { HasEraRoom core.old }
     ensures fault { result ≡ call_fault core.old goal.now }
     ensures called { MatchOption result ((core.new ≡ next core.old (Calls goal.now)) × IsQuiet core.old × IsEnabled core.old (Calls goal.now)) (λ _. core.new ≡ core.old) }
-    ensures short { (own : Fault) → result ≡ Some (CallFault.Refused own) → own.msr < 0x1000 }
+    ensures short { (own : Fault) → result ≡ Some (CallFault.Refused own) → HasThreeDigits own.msr }
 {
     a_core_arises(core); // a fact for the proof
     goal.is_register_file(); // a fact for the proof
@@ -137,7 +138,7 @@ fn lead<R: Threads + Wait + Sync, G: Gate>(
     requires room { HasEraRoom core.old }
     ensures fault { result ≡ call_fault core.old goal.now }
     ensures updated { MatchOption result (core.new ≡ updated core.old.system (in_order core.old) goal.now) (λ _. core.new ≡ core.old) }
-    ensures short { (own : Fault) → result ≡ Some (CallFault.Refused own) → own.msr < 0x1000 }
+    ensures short { (own : Fault) → result ≡ Some (CallFault.Refused own) → HasThreeDigits own.msr }
 {
     goal.is_register_file(); // a fact for the proof
     match mt_rendezvous::update(rt, alloc, core, goal.same(), gate) {
@@ -203,7 +204,7 @@ pub(crate) fn word(writer: &mut Writer, core: &Core, address: u64)
 pub(crate) fn register(writer: &mut Writer, core: &Core, k: u32, msr: u32)
     requires line { length writer.old + LINE_ROOM ≤ WRITER_ROOM }
     requires processor { k < length core.now.system.processors }
-    requires short { msr < 0x1000 }
+    requires short { HasThreeDigits msr }
     ensures { (f : RegisterFile) → writer.new ≡ writer.old ++ register_line msr (option_map_or (λ value. value) (value_at (file_at core.now.system.processors k f) msr) 0) }
 {
     let value = file_at(core, k).get(msr).unwrap_or(0);
@@ -214,7 +215,7 @@ pub(crate) fn register(writer: &mut Writer, core: &Core, k: u32, msr: u32)
 /// then changes.
 pub(crate) fn add_window(core: &mut Core, base: u64, lines: u32) -> Result<(), NoMemory>
     requires some { 0 < lines }
-    requires few { lines ≤ 4096 }
+    requires few { lines ≤ most_lines }
     requires end { base + 64 * lines ≤ 2 ^ 52 }
     requires room { refusal core.old.system.memory.windows (window base lines) ≡ None }
     ensures added { OnOk result (core.new ≡ grown (window base lines) core.old) }

@@ -8,6 +8,7 @@ ghost use Rattle.mt_output.specs.Lines.{address_text, line};
 ghost use Rattle.mt_regs.specs.declared.fault.Fault.{Fault};
 ghost use Rattle.mt_regs.specs.RegisterFile.{RegisterFile};
 ghost use Rattle.mt_replay.specs.Texts.{call_fault_line, called_line, cancel_line, complete_line, done_line, full_line, go_line, have_one_file, is_same_file, joined_line, memory_line, number_at, phase_text, processor_line, register_line, registers_line, retired_line, ruled_line, stale_count, stepped_line, switch_text, under_way_line, up_line};
+ghost use Rattle.mt_regs.specs.Registers.{HasThreeDigits};
 
 use arrayvec::ArrayVec;
 use mt_cache::{Cache, CacheLine};
@@ -98,7 +99,7 @@ pub(crate) fn called_line() -> LineBuffer
 
 /// An update isn't begun.
 pub(crate) fn call_fault_line(fault: &CallFault) -> LineBuffer
-    requires { (own : Fault) → fault.now ≡ CallFault.Refused own → own.msr < 0x1000 }
+    requires { (own : Fault) → fault.now ≡ CallFault.Refused own → HasThreeDigits own.msr }
     ensures { result.items ≡ call_fault_line fault.now }
 {
     match fault {
@@ -175,7 +176,7 @@ pub(crate) fn full_line() -> LineBuffer
 // The number of the writable register at a place.
 fn number_at(f: &RegFile, i: u32) -> u32
     ensures number { result ≡ number_at f.now i }
-    ensures short { result < 0x1000 }
+    ensures short { HasThreeDigits result }
 {
     let register = f.register_at(i).unwrap_or(Register::DefaultType);
     register.number()
@@ -192,7 +193,7 @@ fn written_back_line(address: u64) -> [u8; 25]
 
 // The line of a register of this number that was written.
 fn written_line(number: u32) -> [u8; 10]
-    requires { number < 0x1000 }
+    requires { HasThreeDigits number }
     ensures { result ≡ line (codes "write " ++ number_text number) }
 {
     let mut line = *b"write 000\n";
@@ -272,7 +273,7 @@ pub(crate) fn memory_line(word: Option<u64>) -> LineBuffer
 
 /// A register's number and value.
 pub(crate) fn register_line(number: u32, value: u64) -> LineBuffer
-    requires { number < 0x1000 }
+    requires { HasThreeDigits number }
     ensures { result.items ≡ register_line number value }
 {
     let mut line = ArrayVec::new();

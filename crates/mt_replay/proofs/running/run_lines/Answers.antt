@@ -111,7 +111,7 @@ returns-in-Ok-Some-clause-bytes g c = λ bytes known.
     let ends =
     at_point h.point h.at.1 h.text h.at.0 (λ from. Ends from c.next_line.new.writer c.take_line.new.writer (g.K.Sink.taken c.next_line.new.sink) (g.K.Sink.taken c.take_line.new.sink) c.in-Ok-Some.status ⊎ Wants from h.text c.next_line.new.writer c.take_line.new.writer (g.K.Sink.taken c.next_line.new.sink) (g.K.Sink.taken c.take_line.new.sink) c.in-Ok-Some.status) c.next_line.new.feed.line.number c.next_line.new.feed.line.bytes h.at.4
     (rw (c.in-Ok-Some.field-0-is, c.current.ensures.bytes, c.current.ensures.number) at (c.in-Ok-Some.ensures.bytes h.at.1 h.text h.at.0 h.at.2 h.at.3)) in
-    let (dropped, drains, given, counted, leaves) = c.leave.ensures.bytes in
+    let (dropped, drains, given, (counted, leaves)) = c.leave.ensures.bytes in
     let left = rw c.is_last-last.ensures at leaves in
     elim ends [
       | inl e ↦ line_ends replay_running (path_from false [] (in_head at_start [])) replay_laws bytes (g.S.Source.left c.next_line.new.source) c.next_line.new.feed c.lines.run c.next_line.new.writer (g.K.Sink.taken c.args.sink.now) (g.K.Sink.taken c.next_line.new.sink) h
@@ -127,7 +127,7 @@ returns-in-Ok-Some-clause-too_long g c =
     let (more, takes, rises, next) = c.in-Ok-true.ensures.bytes in
     let moves = subst (Moves c.lines.feed c.next_line.new.feed (c.lines.feed.pending ++ more) (g.S.Source.left c.next_line.new.source)) c.in-Ok-true.field-0-test next.0 in
     let moved = moved_taken c.lines.feed c.next_line.new.feed more (g.S.Source.left c.next_line.new.source) moves in
-    let (dropped, drains, given, counted, leaves) = c.leave.ensures.bytes in (
+    let (dropped, drains, given, (counted, leaves)) = c.leave.ensures.bytes in (
       λ is. let many = c.leave.ensures.long.0 is in omega (arith, c.lines.invariant.given, rises, moved.0, given, counted, many),
       λ much. c.leave.ensures.long.1 (omega (arith, c.lines.invariant.given, rises, moved.0, given, counted, much)),
     )
