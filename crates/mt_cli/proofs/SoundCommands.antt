@@ -12,7 +12,7 @@ use Rattle.mt_cli.specs.declared.command.DumpCommand.{DumpCommand}
 use Rattle.mt_cli.specs.declared.command.DumpCommand.TheVariants.{Check, Show, Types, Page, Tidy, Gran}
 use Rattle.mt_cli.specs.declared.command.TidyOption.{TidyOption}
 use Rattle.mt_cli.specs.declared.command.TidyOption.TheVariants.{Spare, Chunk}
-use Rattle.mt_cli.specs.CommandLine.{IsSound, command_of, command_of_one, command_of_three, gran_as, gran_with, big_with, index_of, is_text, log_of, greatest, make_with, of_dump, option_of, page_at, private_with, proc_with, tidy_with, tidy_with_both, usual_chunk, usual_spare}
+use Rattle.mt_cli.specs.CommandLine.{IsSound, command_of, command_of_one, command_of_three, gran_as, gran_with, big_with, index_of, is_text, log_of, greatest, make_with, most_accesses, of_dump, option_of, page_at, private_with, proc_with, tidy_with, tidy_with_both, usual_chunk, usual_spare}
 
 -- a command on a dump is sound
 abbrev IsSoundCommand : Command → Type 0
@@ -133,7 +133,7 @@ sound (name ∷ option ∷ []) =
 sound (name ∷ first ∷ second ∷ []) = sound_three name first second
 sound (name ∷ first ∷ second ∷ third ∷ []) =
     choice (is_text name (codes "gran")) _ _ (on_dump _ (sound_gran first (tidy_with_both (option_of second) (option_of third))))
-    (choice (is_text name (codes "private")) _ None (sound_private (decimal_number first greatest) (decimal_number second greatest) (decimal_number third 4096)) tt)
+    (choice (is_text name (codes "private")) _ None (sound_private (decimal_number first greatest) (decimal_number second greatest) (decimal_number third most_accesses)) tt)
 sound (name ∷ first ∷ second ∷ third ∷ fourth ∷ more) = tt
 
 pub sound_command : (words : List (List ℕ)) (command : DumpCommand) → command_of words ≡ Some (Dump command) → IsSound command

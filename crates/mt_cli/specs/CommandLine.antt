@@ -90,6 +90,10 @@ gran_with size command = gran_as (log_of (hex_number size)) command
 abbrev pub greatest : ℕ
 greatest = 0xffffffffffffffff
 
+-- how many accesses each processor of `private` makes before and after the update, at most
+abbrev pub most_accesses : ℕ
+most_accesses = 4096
+
 abbrev pub make_with : Result ℕ NumberFault → Option Command
 make_with (Ok n) = Some (Make n)
 make_with (Err fault) = None
@@ -141,7 +145,7 @@ command_of_three name first second =
 abbrev pub command_of_four : List ℕ → List ℕ → List ℕ → List ℕ → Option Command
 command_of_four name first second third =
     if is_text name (codes "gran") then of_dump (gran_with first (tidy_with_both (option_of second) (option_of third)))
-    else if is_text name (codes "private") then private_with (decimal_number first greatest) (decimal_number second greatest) (decimal_number third 4096)
+    else if is_text name (codes "private") then private_with (decimal_number first greatest) (decimal_number second greatest) (decimal_number third most_accesses)
     else None
 
 abbrev pub command_of : List (List ℕ) → Option Command

@@ -4,6 +4,7 @@
 --     make_text n      the text
 use Rattle.std.specs.Prelude.{ℕ, zero, suc, ◌+◌, ◌*◌, ◌/◌, ◌%◌, ◌^◌, ◌==◌, nat_lt, false, List, [], ◌++◌, codes, decimal, if◌then◌else◌}
 use Rattle.std.specs.Fmt.{digits}
+use Rattle.mt_kinds.specs.Sizes.{page_bytes}
 
 abbrev pub stepped : ℕ → ℕ
 stepped x = (x * 6364136223846793005 + 1442695040888963407) % 2 ^ 64
@@ -66,7 +67,7 @@ abbrev pub global_line : ℕ → ℕ → List ℕ
 global_line cpu address = codes "map " ++ decimal cpu ++ codes " " ++ hexadecimal address ++ codes " " ++ hexadecimal address ++ codes " 0 global\n"
 
 abbrev pub map_line : ℕ → ℕ → List ℕ
-map_line cpu page = if page % 2 == 0 then global_line cpu (4096 * page) else local_line cpu (4096 * page)
+map_line cpu page = if page % 2 == 0 then global_line cpu (page_bytes * page) else local_line cpu (page_bytes * page)
 
 -- so many pages from one on
 unfoldable pub maps : ℕ → ℕ → ℕ → List ℕ

@@ -1,5 +1,6 @@
 -- The lines that the commands write, but for those of mt_output (own). Each ends with LF.
 use Rattle.std.specs.Prelude.{ℕ, ◌-◌, ◌*◌, ◌/◌, ◌^◌, ◌<◌, ◌≤◌, ◌==◌, nat_lt, List, ◌++◌, codes, decimal, flat_map, if◌then◌else◌, Option, Some, None}
+use Rattle.mt_kinds.specs.Sizes.{page_bytes}
 use Rattle.mt_kinds.specs.declared.mem_type.MemType.{MemType}
 use Rattle.mt_kinds.specs.declared.pat_type.PatType.{PatType}
 use Rattle.mt_kinds.specs.EffectiveType.{effective_type}
@@ -29,7 +30,7 @@ check_text dump = if dump.version == 2 then accepted_line ++ agreement_line (fir
 
 -- the first and the last byte address of a run, and its type
 abbrev pub run_line : Run → List ℕ
-run_line r = line (address_text (4096 * r.first) ++ codes "-" ++ address_text (4096 * run_end r - 1) ++ codes " " ++ name_of_type (defined_type r.kind))
+run_line r = line (address_text (page_bytes * r.first) ++ codes "-" ++ address_text (page_bytes * run_end r - 1) ++ codes " " ++ name_of_type (defined_type r.kind))
 
 -- a run that has a line: it has pages, and they lie below 2 ^ 40
 abbrev pub IsLine : Run → Type 0
@@ -41,17 +42,17 @@ types_text runs = flat_map run_line runs
 -- the first address of a page, its MTRR type, the type of the PAT entry and the effective type
 abbrev pub page_line : ℕ → MemType → PatType → List ℕ
 page_line page m p =
-    line (codes "page " ++ address_text (4096 * page) ++ codes " mtrr " ++ name_of_type m ++ codes " pat " ++ name_of_pat_type p ++ codes " effective " ++ name_of_type (effective_type m p))
+    line (codes "page " ++ address_text (page_bytes * page) ++ codes " mtrr " ++ name_of_type m ++ codes " pat " ++ name_of_pat_type p ++ codes " effective " ++ name_of_type (effective_type m p))
 
 abbrev pub outside_line : ℕ → List ℕ
-outside_line page = line (codes "page " ++ address_text (4096 * page) ++ codes " outside")
+outside_line page = line (codes "page " ++ address_text (page_bytes * page) ++ codes " outside")
 
 -- what is said of the page of an address, mapped with an index of a PAT entry
 abbrev pub page_text : RegisterFile → ℕ → ℕ → List ℕ
 page_text f address index =
-    if nat_lt (address / 4096) (page_count f)
-    then page_line (address / 4096) (defined_type (page_type f (address / 4096))) (pat_entry f.pat index)
-    else outside_line (address / 4096)
+    if nat_lt (address / page_bytes) (page_count f)
+    then page_line (address / page_bytes) (defined_type (page_type f (address / page_bytes))) (pat_entry f.pat index)
+    else outside_line (address / page_bytes)
 
 abbrev pub used_line : ℕ → List ℕ
 used_line used = line (codes "# used " ++ decimal used)

@@ -26,7 +26,8 @@ big_text n = summary_text (summary (make_text n))
 pub data Output (words : List (List ℕ)) (bytes : List ℕ) : List ℕ → Status → Type 0 where
   usage : command_of words ≡ None → Output words bytes usage_line Usage
   bad_text : (command : DumpCommand) (fault : DumpFault) → command_of words ≡ Some (Dump command) → dump_offence bytes ≡ Some fault → Output words bytes (bad_text_line fault) BadText
-  answered : (command : DumpCommand) (dump : Shows) (text : List ℕ) (status : Status) → command_of words ≡ Some (Dump command) → Shown bytes dump → Answer dump command text status → Output words bytes text status
+  answered : (command : DumpCommand) (dump : Shows) (text : List ℕ) (status : Status) → command_of words ≡ Some (Dump command) → Shown bytes dump
+      → Answer dump command text status → Output words bytes text status
   made : (n : ℕ) → command_of words ≡ Some (Make n) → Output words bytes (make_text n) Done
   summed : (n : ℕ) → command_of words ≡ Some (Big n) → Output words bytes (big_text n) Done
   measured : (cpus n accesses : ℕ) → command_of words ≡ Some (Private cpus n accesses) → Output words bytes (measured_text cpus n accesses) Done

@@ -1,5 +1,6 @@
 -- What a run of the program leaves in the source and the sink (own).
 use Rattle.std.specs.Prelude.{ℕ, ◌≡◌, ◌<◌, ◌⊎◌, true, List, ◌++◌, length, Option, None, Some, ⊤}
+use Rattle.mt_text.specs.Text.{longest_input}
 use Rattle.mt_ports.specs.declared.status.Status.{Status}
 use Rattle.mt_ports.specs.declared.status.Status.TheVariants.{Done, Refused, Usage, BadText, ReadFault, WriteFault, NoMemory, TooLong, TooFew, Disabled}
 use Rattle.mt_cli.specs.declared.command.Command.{Command}
@@ -91,7 +92,7 @@ Reads words bytes left BadText = Answered words bytes left BadText
 Reads words bytes left ReadFault = ⊤
 Reads words bytes left WriteFault = ⊤
 Reads words bytes left NoMemory = ⊤
-Reads words bytes left TooLong = 16777216 < length bytes
+Reads words bytes left TooLong = longest_input < length bytes
 Reads words bytes left TooFew = Answered words bytes left TooFew
 Reads words bytes left Disabled = Answered words bytes left Disabled
 

@@ -1,5 +1,6 @@
 -- What a command that writes one text and answers a status leaves in the sink.
 use Rattle.std.specs.Prelude.{ℕ, ◌≡◌, ◌<◌, ◌⊎◌, List, [], length, Option, Some}
+use Rattle.mt_text.specs.Text.{longest_input}
 use Rattle.mt_ports.specs.declared.status.Status.{Status}
 use Rattle.mt_ports.specs.declared.status.Status.TheVariants.{Done, BadText, ReadFault, NoMemory, TooLong}
 use Rattle.mt_cli.specs.declared.command.DumpCommand.{DumpCommand}
@@ -28,4 +29,4 @@ pub data Answers (answer : List ℕ → Status → Type 0) (old new : Option (Li
 pub data AnswersInput (bytes : List ℕ) (command : DumpCommand) (left old new : Option (List ℕ)) (result : Status) : Type 0 where
   bad_input : (fault : DumpFault) → dump_offence bytes ≡ Some fault → left ≡ Some [] → Writes (bad_text_line fault) BadText old new result → AnswersInput bytes command left old new result
   good_input : (dump : Dump) → Shown bytes dump → left ≡ Some [] → Answers (Answer dump command) old new result → AnswersInput bytes command left old new result
-  no_input : new ≡ old → (result ≡ ReadFault) ⊎ ((result ≡ TooLong) × (16777216 < length bytes)) → AnswersInput bytes command left old new result
+  no_input : new ≡ old → (result ≡ ReadFault) ⊎ ((result ≡ TooLong) × (longest_input < length bytes)) → AnswersInput bytes command left old new result

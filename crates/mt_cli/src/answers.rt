@@ -10,6 +10,7 @@ ghost use Rattle.mt_cli.specs.Generator.{make_text};
 ghost use Rattle.mt_cli.specs.Output.{big_text};
 ghost use Rattle.mt_cli.specs.declared.command.Command.TheVariants.{Dump as OfDump};
 ghost use Rattle.mt_cli.specs.Written.{Answers, AnswersInput, Makes, Sums};
+ghost use Rattle.mt_regs.specs.Registers.{HasThreeDigits};
 
 use crate::DumpCommand;
 use crate::generator::make_text;
@@ -32,7 +33,7 @@ use std::thread::Threads;
 // Names the first file that isn't accepted, and its register at fault.
 fn refuse<K: Sink>(d: &Dump, k: u32, fault: &Fault, sink: &mut K, command: DumpCommand) -> Status
     requires fault { first_refusal d.now.files ≡ Some (k, fault.now) }
-    requires short { fault.now.msr < 0x1000 }
+    requires short { HasThreeDigits fault.now.msr }
     requires command { command ≢ Show }
     ensures bytes { Answers (Answer d.now command) (K.taken sink.old) (K.taken sink.new) result }
     ensures no_memory { result ≢ Status.NoMemory }

@@ -1,6 +1,6 @@
 ghost use Rattle.std.specs.Prelude.{◌≡◌, ◌≤◌, ◌<◌, ◌+◌, ◌^◌, map, string_bytes, IfSome, MatchOption};
 ghost use Rattle.mt_text.specs.Number.{decimal_number, hex_number};
-ghost use Rattle.mt_cli.specs.CommandLine.{behind, greatest, command_of, command_of_four, command_of_one, command_of_three, command_of_two, gran_as, gran_with, big_with, index_of, log_of, make_with, of_dump, option_of, private_with, proc_with, tidy_with, tidy_with_both};
+ghost use Rattle.mt_cli.specs.CommandLine.{behind, greatest, command_of, command_of_four, command_of_one, command_of_three, command_of_two, gran_as, gran_with, big_with, index_of, log_of, make_with, most_accesses, of_dump, option_of, private_with, proc_with, tidy_with, tidy_with_both};
 
 use crate::{Command, DumpCommand, TidyOption};
 use mt_gran::granule_log;
@@ -153,7 +153,7 @@ fn big_with(number: &[u8]) -> Option<Command>
 }
 
 fn private_with(cpus: &[u8], number: &[u8], accesses: &[u8]) -> Option<Command>
-    ensures { result ≡ private_with (decimal_number cpus.now greatest) (decimal_number number.now greatest) (decimal_number accesses.now 4096) }
+    ensures { result ≡ private_with (decimal_number cpus.now greatest) (decimal_number number.now greatest) (decimal_number accesses.now most_accesses) }
 {
     let (Ok(cpus), Ok(n), Ok(accesses)) = (
         decimal(cpus, u64::MAX),
