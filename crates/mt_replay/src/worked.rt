@@ -8,7 +8,7 @@ mod states;
 mod steps;
 mod summaries;
 
-ghost use Rattle.std.specs.Prelude.{◌≡◌, ◌∷◌, [], codes, replicate, true, false, None, Some};
+ghost use Rattle.std.specs.Prelude.{◌≡◌, ◌∷◌, ◌++◌, [], codes, replicate, true, false, None, Some};
 ghost use Rattle.mt_kinds.specs.declared.mem_type.MemType.TheVariants.{UC, WC, WB};
 ghost use Rattle.mt_regs.specs.declared.fault.Reason.TheVariants.{ReservedBit, UnsupportedType, BrokenMask, UndefinedOverlap};
 ghost use Rattle.mt_regs.specs.RegisterFile.{blank_file};
@@ -19,7 +19,7 @@ ghost use Rattle.mt_machine.specs.declared.phase.Phase.TheVariants as phase;
 ghost use Rattle.mt_machine.specs.System.{start_processor};
 ghost use Rattle.mt_core.specs.declared.fault.CallFault.TheVariants.{Refused, UnderWay};
 ghost use Rattle.mt_core.specs.declared.stepped.Stepped.TheVariants.{Did, Waits, NoUpdate};
-ghost use Rattle.mt_replay.specs.Texts.{call_fault_line, called_line, cancel_line, complete_line, done_line, event_text, go_line, have_one_file, memory_line, phase_text, processor_line, register_line, registers_line, report_text, ruled_line, stepped_line};
+ghost use Rattle.mt_replay.specs.Texts.{call_fault_line, called_line, cancel_line, complete_line, done_line, event_text, go_line, have_one_file, memory_line, phase_text, processor_line, processor_lines, register_line, registers_line, report_text, ruled_line, stepped_line};
 
 pub use commands::{worked_commands, worked_effects};
 pub use joining::{
@@ -144,4 +144,6 @@ pub fn worked_reports()
     ensures none { have_one_file [] ≡ true }
     ensures last_differs { have_one_file (start_processor (blank_file 36 0x508) ∷ start_processor (blank_file 36 0x508) ∷ start_processor (record (blank_file 36 0x508) { default_type = 0x800 }) ∷ []) ≡ false }
     ensures report { report_text (start_processor (blank_file 36 0x508) ∷ []) ≡ codes "cpu 0 running era 0 lines 0 dirty 0 buffers 0 entries 0 stale 0 cd 0 pge 0\nregisters same\n" }
+    ensures each_its_number { processor_lines 14 (start_processor (blank_file 36 0x508) ∷ start_processor (blank_file 36 0x508) ∷ [])
+        ≡ processor_line 14 (start_processor (blank_file 36 0x508)) ++ (processor_line 15 (start_processor (blank_file 36 0x508)) ++ []) }
 {}

@@ -36,6 +36,7 @@ pub fn worked_commands()
     ensures step { command_text (busy stage.Commands) (asks.Step 1) ≡ codes "take\n" }
     ensures no_step { command_text (resting stage.Commands) (asks.Step 1) ≡ codes "no update\n" }
     ensures waits { command_text (state_of stage.Commands (walk 2 0 (begun goal_of palette))) (asks.Step 0) ≡ stepped_line (bare_file 0x800) (Waits 1 3) }
+    ensures blank { command_text painted asks.Blank ≡ [] }
     ensures selfsnoop { command_text painted (asks.Selfsnoop 1) ≡ [] }
     ensures begin { command_text painted asks.Begin ≡ [] }
     ensures line_of_a_section { command_text painted (asks.Register 0x2ff 0x806) ≡ [] }
@@ -49,6 +50,7 @@ pub fn worked_effects()
     ensures selfsnoop { flags (machine_after (resting stage.Rams) (asks.Selfsnoop 1)) ≡ false ∷ true ∷ [] }
     ensures fence { pending (machine_after (painted_by (store 1 0x3000 7 ∷ [])) (asks.Fence 1)) 1 ≡ [] }
     ensures map { (own (machine_after (resting stage.Commands) (asks.Map 1 0x6123 0x200456 3 true)) 1).mappings ≡ record { vpage = 6; ppage = 0x200; index = 3; global = true } ∷ [] }
+    ensures map_last_index { (own (machine_after (resting stage.Commands) (asks.Map 1 0x6000 0x200000 7 false)) 1).mappings ≡ record { vpage = 6; ppage = 0x200; index = 7; global = false } ∷ [] }
     ensures invlpg { length (own (machine_after (painted_by (load 0 0x1000 ∷ load 0 0x2000 ∷ [])) (asks.Invlpg 0 0x1abc)) 0).entries ≡ 1 }
     ensures cr3 { (own (machine_after (painted_by (load 0 0x1000 ∷ load 0 0x2000 ∷ [])) (asks.Cr3 0)) 0).entries ≡ [] }
     ensures pge_set { (own (machine_after painted (asks.Pge 1 true)) 1).page_global ≡ true }
