@@ -35,7 +35,8 @@ NewcomersAgree =
     → AreEnabled (brought_up m) (before ++ Steps k Release ∷ since) → list_all (λ e. not (is_call e)) before ≡ true → list_all (λ e. not (is_call e)) since ≡ true
     → AllAgree m (run (brought_up m) (before ++ Steps k Release ∷ since)).system
 
--- from the first release in the update of a newcomer, over every list of events, each word that no access stored since is in memory as it was before the first pass, when the buffers were empty: whoever is told of completion knows it. So it is in each later update
+-- from the first release in the update of a newcomer, over every list of events, each word that no access stored since is in memory as it was before
+-- the first pass, when the buffers were empty: whoever is told of completion knows it. So it is in each later update
 abbrev pub NewcomersKeepWords : Type 0
 NewcomersKeepWords =
     (m r : Machine) (o : Order) (before since : List MachineEvent) → CanGrow m

@@ -82,10 +82,14 @@ WaitsFor o ps p c =
     ((p.phase ≡ Arrived) × (is_cancelled o.go ≡ false) × (c ≡ first_barrier_count o ps) × IsBelowFull c)
     ⊎ ((p.phase ≡ Arrived2) × (c ≡ second_barrier_count o ps) × IsBelowFull c)
 
+-- so it waits in an update that is under way
+abbrev pub WaitsIn : Machine → Processor → BarrierCount → Type 0
+WaitsIn m p c = (o : Order) × (m.order ≡ Some o) × WaitsFor o m.system.processors p c
+
 -- a step of processor k answers Waits with this count exactly where p waits for it
 abbrev pub WaitsWhereFor : Machine → ℕ → Processor → BarrierCount → Type 0
 WaitsWhereFor m k p c =
-    (step_answer m k ≡ Waits c.arrived c.awaited → (o : Order) × (m.order ≡ Some o) × WaitsFor o m.system.processors p c)
+    (step_answer m k ≡ Waits c.arrived c.awaited → WaitsIn m p c)
     × ((o : Order) → m.order ≡ Some o → WaitsFor o m.system.processors p c → step_answer m k ≡ Waits c.arrived c.awaited)
 
 abbrev pub WaitsAtBarriers : Type 0

@@ -14,7 +14,7 @@ ghost use Rattle.mt_machine.specs.Update.{IsSettled};
 ghost use Rattle.mt_machine.specs.declared.event.Event.TheVariants.{Release};
 ghost use Rattle.mt_core.specs.declared.stepped.Stepped.TheVariants.{Did, NoUpdate, Waits};
 ghost use Rattle.mt_core.specs.Arises.{IsCore, grown, snooped};
-ghost use Rattle.mt_core.specs.Headline.{WaitsFor};
+ghost use Rattle.mt_core.specs.Headline.{WaitsIn};
 ghost use Rattle.mt_core.specs.Rounds.{IsWholeUpdate, Rounds, each_steps, with_go_given};
 ghost use Rattle.mt_core.specs.Steps.{pause_at, step_after, step_answer, under_way};
 ghost use Rattle.mt_core.specs.Stops.{is_outside};
@@ -233,7 +233,7 @@ impl Core {
         ensures answer { result ≡ step_answer self.old k }
         ensures after { self.new ≡ step_after self.old k }
         ensures settled { (o : MachineOrder) → result ≡ Did Release → self.old.order ≡ Some o → IsSettled self.new.system (o.from_era + 1) o.goal }
-        ensures waits { (p : Processor) (c : BarrierCount) → slice_get self.old.system.processors k ≡ Some p → (result ≡ Waits c.arrived c.awaited) ↔ ((o : MachineOrder) × (self.old.order ≡ Some o) × WaitsFor o self.old.system.processors p c) }
+        ensures waits { (p : Processor) (c : BarrierCount) → slice_get self.old.system.processors k ≡ Some p → (result ≡ Waits c.arrived c.awaited) ↔ WaitsIn self.old p c }
         ensures stops { (p : Processor) → slice_get self.old.system.processors k ≡ Some p → (result ≡ NoUpdate) ↔ ((is_running p.phase ≡ true) × (is_outside self.old p ≡ true)) }
     {
         self.do_due(k)

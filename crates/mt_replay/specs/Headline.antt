@@ -23,7 +23,7 @@ use Rattle.mt_machine.specs.Memory.{place, word_at}
 use Rattle.mt_machine.specs.System.{now}
 use Rattle.mt_machine.specs.Machine.{Machine, common_era}
 use Rattle.mt_machine.specs.ComingAndGoing.{with_newcomer}
-use Rattle.mt_machine.specs.Update.{IsSettled, emptied}
+use Rattle.mt_machine.specs.Update.{IsSettled}
 use Rattle.mt_script.specs.Situation.{Situation}
 use Rattle.mt_script.specs.Commands.{command_of}
 use Rattle.mt_script.specs.Script.{script_offence}
@@ -35,9 +35,9 @@ use Rattle.mt_output.specs.Lines.{accepted_line, dump_refused_line, line, refuse
 use Rattle.mt_replay.specs.Heads.{HeadEnd, head_end, head_of, has_offence, shows_dump, stays_open}
 use Rattle.mt_replay.specs.Kept.{HoldsThrough, start_of}
 use Rattle.mt_replay.specs.Parts.{IsComing}
-use Rattle.mt_replay.specs.ReplayState.{ReplayState, command_text, each_processor, first_file, first_state, state_after, with_register}
+use Rattle.mt_replay.specs.ReplayState.{ReplayState, command_text, first_file, first_state, state_after, with_register}
 use Rattle.mt_replay.specs.Running.{Replays, ReplaysAs}
-use Rattle.mt_replay.specs.Statuses.{ShowsDump, stored_by}
+use Rattle.mt_replay.specs.Statuses.{ShowsDump, emptied_now, stored_by}
 use Rattle.mt_replay.specs.Texts.{called_line, complete_line, joined_line, under_way_line, up_line}
 use Rattle.mt_replay.specs.Transcript.{told_offence, transcript}
 use Rattle.mt_stream.specs.Told.{Told, behind, told}
@@ -261,7 +261,7 @@ CompleteUpdatesAreKept =
     (text : List ℕ) (front since rest : List Step) (update : Step) (era : ℕ)
     → course text ≡ front ++ update ∷ (since ++ rest) → wrote update ≡ complete_line era → NoneOf IsCall since
     → (wrote update ≡ complete_line (next_era update))
-    × Keeps update.before.goal (next_era update) (now (emptied update.before.machine.system (each_processor update.before.machine.system))) (stored_in since) (last_of (left update) since).machine
+    × Keeps update.before.goal (next_era update) (emptied_now update.before.machine) (stored_in since) (last_of (left update) since).machine
 
 -- ---- the same, by `joined K`
 
@@ -276,7 +276,7 @@ JoinsAreKept =
     (text : List ℕ) (front since rest : List Step) (join : Step) (k : ℕ)
     → course text ≡ front ++ join ∷ (since ++ rest) → Joins join k → NoneOf IsCall since
     → HasNewcomer join
-    × Keeps (first_file join.before) (next_era join) (now (emptied (with_newcomer join.before.machine).system (each_processor (with_newcomer join.before.machine).system))) (stored_in since) (last_of (left join) since).machine
+    × Keeps (first_file join.before) (next_era join) (emptied_now (with_newcomer join.before.machine)) (stored_in since) (last_of (left join) since).machine
 
 -- ---- the same, one after the other by `release`
 

@@ -1,6 +1,6 @@
 -- A replay between two lines, as its code keeps it, and what it leaves in the source and the sink (own).
 --     Replays bytes left before after status      of a source that held these bytes; ReplaysAs telling .., where this is its transcript
-use Rattle.std.specs.Prelude.{ℕ, ◌≡◌, ◌||◌, ◌++◌, Bool, true, false, List, [], ◌∷◌, ⊤, MatchOption, MatchResult, Option, Result}
+use Rattle.std.specs.Prelude.{ℕ, ◌≡◌, ◌||◌, ◌++◌, Bool, true, false, List, [], ◌∷◌, ⊤, MatchOption, MatchResult, Option, Result, None}
 use Rattle.mt_text.specs.declared.place.Place.{Place}
 use Rattle.mt_ports.specs.declared.status.Status.{Status}
 use Rattle.mt_ports.specs.declared.status.Status.TheVariants.{NoMemory}
@@ -58,6 +58,11 @@ end_of_run now place = told_at_end (end_fault (setup_of now).stage place)
 abbrev pub IsQuiet : Run → Bool → List ℕ → Type 0
 IsQuiet (run.Head h) came text = (text ≡ []) × (came ≡ false)
 IsQuiet (run.Body r) came text = takes_windows r.now.stage ≡ true → text ≡ accepted_line
+
+-- A text went through the writer, and the run goes on; or a write failed, and a front of it was taken.
+abbrev pub Writes : List ℕ → List ℕ → List ℕ → Option (List ℕ) → Option (List ℕ) → Result (Option Status) Failed → Type 0
+Writes waiting text left before after result =
+    MatchResult result (λ ended. (ended ≡ None) × Passes waiting text left before after) (λ _. AppendsFront before after (waiting ++ text))
 
 -- A command was done: its text went through the writer, and its state stands. For want of memory nothing was done, and
 -- after a failed write a front of the text was taken.

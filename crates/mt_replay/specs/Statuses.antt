@@ -154,6 +154,10 @@ abbrev pub state_after_all : ReplayState → List Command → ReplayState
 state_after_all s [] = s
 state_after_all s (c ∷ cs) = state_after_all (state_after s c) cs
 
+-- the value of each word once the buffers were emptied
+abbrev pub emptied_now : Machine → ℕ → ℕ
+emptied_now m = now (emptied m.system (each_processor m.system))
+
 -- The machine after a whole update to the goal, and after commands since.
 pub record IsSettledAfter (s : ReplayState) (m : Machine) : Type 0 where
   pub era : ℕ
@@ -165,7 +169,7 @@ pub record IsSettledAfter (s : ReplayState) (m : Machine) : Type 0 where
   pub no_order : m.order ≡ None
   pub windows : m.system.memory.windows ≡ s.machine.system.memory.windows
   pub words : (address : ℕ) → IsSome (place s.machine.system.memory address)
-      → word_at m.system.memory address ≡ now (emptied s.machine.system (each_processor s.machine.system)) address  -- as it was once the buffers were emptied
+      → word_at m.system.memory address ≡ emptied_now s.machine address  -- as it was once the buffers were emptied
 
 abbrev pub CompleteUpdatesSettle : Type 0
 CompleteUpdatesSettle = (s : ReplayState) → IsReplayState s → is_update s.now.stage ≡ true → call_fault s.machine s.goal ≡ None → IsSettledAfter s (machine_after s command.End)
@@ -182,7 +186,7 @@ pub record IsAdmittedAfter (s : ReplayState) (m : Machine) : Type 0 where
   pub idle : m.order ≡ None
   pub windows : m.system.memory.windows ≡ s.machine.system.memory.windows
   pub words : (address : ℕ) → IsSome (place s.machine.system.memory address)
-      → word_at m.system.memory address ≡ now (emptied (with_newcomer s.machine).system (each_processor (with_newcomer s.machine).system)) address  -- as it was once the buffers were emptied
+      → word_at m.system.memory address ≡ emptied_now (with_newcomer s.machine) address  -- as it was once the buffers were emptied
 
 abbrev pub JoinsSettle : Type 0
 JoinsSettle = (s : ReplayState) → IsReplayState s → Fits s.now command.Join → may_come s.machine ≡ true → IsAdmittedAfter s (machine_after s command.Join)
@@ -247,4 +251,5 @@ ReleasedWordsAreHeld =
     (s : ReplayState) (d : Dump) (o : Order) (k : ℕ) (since : List Command) → IsReplayState s → s.now.dump ≡ Some d → Fits s.now (command.Step k)
     → step_answer s.machine k ≡ Did Release → s.machine.order ≡ Some o → All (λ q. has_released o q ≡ false) s.machine.system.processors
     → AreWithoutCall (state_after s (command.Step k)) since
-    → (p : Machine) × Arises p × (s.now.moving ≡ false → Reached (start_like s d) p) × IsFirstRelease p (machine_after s (command.Step k)) o × AreHeld (now p.system) (state_after s (command.Step k)) since
+    → (p : Machine) × Arises p × (s.now.moving ≡ false → Reached (start_like s d) p) × IsFirstRelease p (machine_after s (command.Step k)) o
+    × AreHeld (now p.system) (state_after s (command.Step k)) since

@@ -1,14 +1,28 @@
 -- States of worked examples.
 use Rattle.std.specs.Prelude.{ℕ, true, false, replicate, List, [], ◌∷◌, codes, slice_set, Some}
+use Rattle.mt_kinds.specs.declared.mem_type.MemType.TheVariants.{WB}
+use Rattle.mt_regs.specs.RegisterFile.{blank_file}
 use Rattle.mt_dump.specs.Dumps.{Dump, dump_of}
-use Rattle.mt_machine.specs.System.{Processor}
+use Rattle.mt_machine.specs.System.{Processor, start_processor}
 use Rattle.mt_machine.specs.Machine.{Machine, MachineEvent, Calls, run}
+use Rattle.mt_machine.specs.Start.{start_machine}
 use Rattle.mt_machine.specs.Update.{updated}
 use Rattle.mt_machine.specs.WorkedRuns.{bare_file, idle, machine_of, mapping, palette, store}
 use Rattle.mt_script.specs.Situation.{Situation}
 use Rattle.mt_script.specs.declared.command.Stage.{Stage}
-use Rattle.mt_script.specs.declared.command.Stage.TheVariants.{Commands, InUpdate}
+use Rattle.mt_script.specs.declared.command.Stage.TheVariants.{Commands, InUpdate, Rams}
 use Rattle.mt_replay.specs.ReplayState.{ReplayState}
+
+-- a processor as it starts
+abbrev pub starter : Processor
+starter = start_processor (blank_file 36 0x508)
+
+-- with a dirty word and an entry
+abbrev pub holder_of_one : Processor
+holder_of_one = record starter {
+  lines = record { number = 0x4000; words = replicate 8 0x2b; dirty = 1; era = 0 } ∷ [];
+  entries = record { vpage = 1; ppage = 0x100; kind = WB; global = false; era = 0 } ∷ [];
+}
 
 abbrev pub two_processors : Stage → Situation
 two_processors stage = record { stage = stage; cpus = 2; dump = Some (dump_of (bare_file 0x800)); windows = (0x100000, 64) ∷ []; seen = []; moving = false }
@@ -71,6 +85,10 @@ small_dump = codes "cpus 1\ndump\n0fe 400\n2ff 806\nend\n"
 -- two sections, with a register that differs
 abbrev pub pair : Dump
 pair = record { version = 2; files = bare_file 0x806 ∷ bare_file 0x800 ∷ [] }
+
+-- both have a file that isn't the dump's
+abbrev pub with_other_files : ReplayState
+with_other_files = record (state_of Rams (start_machine (bare_file 0x806 ∷ bare_file 0x806 ∷ []) [])) { now = record (two_processors Rams) { dump = Some pair; windows = [] } }
 
 abbrev pub paired_dump : List ℕ
 paired_dump = codes "cpus 2\ndump\nversion 2\ncpu 0\n0fe 400\n2ff 806\ncpu 1\n2ff 800\nend\n"

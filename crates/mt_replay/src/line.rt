@@ -1,16 +1,15 @@
-ghost use Rattle.std.specs.Prelude.{◌≡◌, ◌≢◌, ◌+◌, ℕ, List, [], Bool, true, MatchOption, MatchResult, IfOk, OnOk, OnErr, Some, Ok, Err, ◌++◌};
+ghost use Rattle.std.specs.Prelude.{◌≡◌, ◌≢◌, ◌+◌, ℕ, List, [], Bool, true, MatchOption, MatchResult, IfOk, OnOk, OnErr, Some, Ok, Err};
 ghost use Rattle.mt_ports.specs.Causes.{HasCause};
-ghost use Rattle.mt_ports.specs.Puts.{AppendsFront};
 ghost use Rattle.mt_machine.specs.Start.{HasEraRoom};
 ghost use Rattle.mt_output.specs.Lines.{offence_line};
-ghost use Rattle.mt_output.specs.Writing.{Adds, Passes};
+ghost use Rattle.mt_output.specs.Writing.{Adds};
 ghost use Rattle.mt_script.specs.Accept.{Fits};
 ghost use Rattle.mt_script.specs.Stages.{is_in_dump};
 ghost use Rattle.mt_dump.specs.ForProcessors.{has_each};
 ghost use Rattle.mt_replay.specs.Kept.{HasEras};
 ghost use Rattle.mt_replay.specs.Parts.{AsksForMemory, IsComing};
 ghost use Rattle.mt_replay.specs.ReplayState.{ReplayState, command_text, state_after};
-ghost use Rattle.mt_replay.specs.Running.{CarriesOut, HasEraRoomAt, HasErasAt, IsAt, IsQuiet, leading, leading_dump, replay_running, setup_of};
+ghost use Rattle.mt_replay.specs.Running.{CarriesOut, HasEraRoomAt, HasErasAt, IsAt, IsQuiet, Writes, leading, leading_dump, replay_running, setup_of};
 ghost use Rattle.mt_stream.specs.Lines.{IsEnding, Takes};
 ghost use Rattle.mt_replay.specs.Summing.{Begins, Lasts, state_in};
 ghost use Rattle.mt_replay.specs.Transcript.{Point, in_body};
@@ -138,7 +137,7 @@ fn write_newcomer<K: Sink>(
     writer: &mut Writer,
     sink: &mut K,
 ) -> Result<Option<Status>, Failed>
-    ensures told { IfOk line (λ text. MatchResult result (λ ended. (ended ≡ None) × Passes writer.old text.items writer.new (K.taken sink.old) (K.taken sink.new)) (λ _. AppendsFront (K.taken sink.old) (K.taken sink.new) (writer.old ++ text.items))) }
+    ensures told { IfOk line (λ text. Writes writer.old text.items writer.new (K.taken sink.old) (K.taken sink.new) result) }
     ensures refused { OnErr line ((result ≡ Ok (Some Status.NoMemory)) × (writer.new ≡ writer.old) × (K.taken sink.new ≡ K.taken sink.old)) }
     ensures cause { HasCause (K.faults sink.old) (K.faults sink.new) result }
 {
@@ -229,7 +228,8 @@ fn take_command<R: Threads + Wait + Sync, K: Sink, G: Gate>(
     gate: &G,
 ) -> Result<Option<Status>, Failed>
     requires { HasEraRoom replayer.old.machine }
-    ensures bytes { (came : Bool) (so_far : List ℕ) → IsQuiet (Run.Body replayer.old) came so_far → Takes replay_running (leading came so_far line.now.number line.now.bytes.now (in_body replayer.old)) (line.now.number + 1) so_far (Run.Body replayer.new) writer.old writer.new (K.taken sink.old) (K.taken sink.new) result }
+    ensures bytes { (came : Bool) (so_far : List ℕ) → IsQuiet (Run.Body replayer.old) came so_far →
+        Takes replay_running (leading came so_far line.now.number line.now.bytes.now (in_body replayer.old)) (line.now.number + 1) so_far (Run.Body replayer.new) writer.old writer.new (K.taken sink.old) (K.taken sink.new) result }
     ensures ending { (status : Status) → result ≡ Ok (Some status) → IsEnding status }
     ensures eras { (most : ℕ) → HasEras most replayer.old → MatchResult result (λ ended. MatchOption ended (HasEras (most + 1) replayer.new) (λ _. Unit {0})) (λ _. Unit {0}) }
     ensures last { Lasts line.now.number line.now.bytes.now (in_body replayer.old) (Run.Body replayer.new) result }

@@ -19,6 +19,7 @@ ghost use Rattle.mt_machine.specs.declared.phase.Phase.TheVariants as phase;
 ghost use Rattle.mt_machine.specs.System.{start_processor};
 ghost use Rattle.mt_core.specs.declared.fault.CallFault.TheVariants.{Refused, UnderWay};
 ghost use Rattle.mt_core.specs.declared.stepped.Stepped.TheVariants.{Did, Waits, NoUpdate};
+ghost use Rattle.mt_replay.specs.WorkedStates.{holder_of_one, starter};
 ghost use Rattle.mt_replay.specs.Texts.{call_fault_line, called_line, cancel_line, complete_line, done_line, event_text, go_line, have_one_file, memory_line, phase_text, processor_line, processor_lines, register_line, registers_line, report_text, ruled_line, stepped_line};
 
 pub use commands::{worked_commands, worked_effects};
@@ -130,20 +131,21 @@ pub fn worked_values()
 
 /// Lines of reports.
 pub fn worked_reports()
-    ensures start { processor_line 0 (start_processor (blank_file 36 0x508)) ≡ codes "cpu 0 running era 0 lines 0 dirty 0 buffers 0 entries 0 stale 0 cd 0 pge 0\n" }
-    ensures stored { processor_line 1 (record (start_processor (blank_file 36 0x508)) { lines = record { number = 0x4000; words = replicate 8 0x2b; dirty = 1; era = 0 } ∷ []; entries = record { vpage = 1; ppage = 0x100; kind = WB; global = false; era = 0 } ∷ [] }) ≡ codes "cpu 1 running era 0 lines 1 dirty 1 buffers 0 entries 1 stale 0 cd 0 pge 0\n" }
-    ensures stale { processor_line 15 (record (start_processor (blank_file 36 0x508)) {
+    ensures start { processor_line 0 starter ≡ codes "cpu 0 running era 0 lines 0 dirty 0 buffers 0 entries 0 stale 0 cd 0 pge 0\n" }
+    ensures stored { processor_line 1 holder_of_one ≡ codes "cpu 1 running era 0 lines 1 dirty 1 buffers 0 entries 1 stale 0 cd 0 pge 0\n" }
+    ensures stale { processor_line 15 (record starter {
       cache_disabled = true;
       page_global = true;
-      lines = record { number = 1; words = replicate 8 0; dirty = 0x81; era = 1 } ∷ record { number = 2; words = replicate 8 0; dirty = 0xff; era = 2 } ∷ record { number = 3; words = replicate 8 0; dirty = 0; era = 0 } ∷ [];
+      lines =
+          record { number = 1; words = replicate 8 0; dirty = 0x81; era = 1 } ∷ record { number = 2; words = replicate 8 0; dirty = 0xff; era = 2 }
+          ∷ record { number = 3; words = replicate 8 0; dirty = 0; era = 0 } ∷ [];
       buffers = record { number = 4; words = replicate 8 0; dirty = 6; era = 1 } ∷ [];
       entries = record { vpage = 1; ppage = 1; kind = WB; global = true; era = 1 } ∷ record { vpage = 2; ppage = 2; kind = UC; global = false; era = 2 } ∷ [];
       phase = phase.Writing 3;
       era = 2;
     }) ≡ codes "cpu 15 writing era 2 lines 3 dirty 10 buffers 1 entries 2 stale 4 cd 1 pge 1\n" }
     ensures none { have_one_file [] ≡ true }
-    ensures last_differs { have_one_file (start_processor (blank_file 36 0x508) ∷ start_processor (blank_file 36 0x508) ∷ start_processor (record (blank_file 36 0x508) { default_type = 0x800 }) ∷ []) ≡ false }
-    ensures report { report_text (start_processor (blank_file 36 0x508) ∷ []) ≡ codes "cpu 0 running era 0 lines 0 dirty 0 buffers 0 entries 0 stale 0 cd 0 pge 0\nregisters same\n" }
-    ensures each_its_number { processor_lines 14 (start_processor (blank_file 36 0x508) ∷ start_processor (blank_file 36 0x508) ∷ [])
-        ≡ processor_line 14 (start_processor (blank_file 36 0x508)) ++ (processor_line 15 (start_processor (blank_file 36 0x508)) ++ []) }
+    ensures last_differs { have_one_file (starter ∷ starter ∷ start_processor (record (blank_file 36 0x508) { default_type = 0x800 }) ∷ []) ≡ false }
+    ensures report { report_text (starter ∷ []) ≡ codes "cpu 0 running era 0 lines 0 dirty 0 buffers 0 entries 0 stale 0 cd 0 pge 0\nregisters same\n" }
+    ensures each_its_number { processor_lines 14 (starter ∷ starter ∷ []) ≡ processor_line 14 starter ++ (processor_line 15 starter ++ []) }
 {}

@@ -45,7 +45,8 @@ pub fn worked_laws_of_dumps()
     ensures states { StatesHaveTheShownDump → HoldsThrough (λ s. s.now.dump ≡ Some (dump_of (bare_file 0x806))) small_dump }
     ensures refused { RefusedWhereFileIsRefused → HasRefusedFile later_refused }
     ensures not_refused { RefusedWhereFileIsRefused → HasRefusedFile small_dump → ⊥ }
-    ensures alone { RefusedAlone → (dump : Dump) (k : ℕ) (fault : Fault) → ShowsDump later_refused dump → IsFirstRefusal dump.files k fault → transcript later_refused ≡ told (dump_refused_line dump.version k fault) status.Refused }
+    ensures alone { RefusedAlone → (dump : Dump) (k : ℕ) (fault : Fault) → ShowsDump later_refused dump → IsFirstRefusal dump.files k fault
+        → transcript later_refused ≡ told (dump_refused_line dump.version k fault) status.Refused }
     ensures accepted { AcceptedUnlessRefused → All IsAccepted (bare_file 0x806 ∷ []) }
     ensures accepted_first { AcceptedFirst → All IsAccepted (bare_file 0x806 ∷ []) → BeginsWith (transcript small_dump).text accepted_line }
 {}
@@ -65,7 +66,8 @@ pub fn worked_laws_of_statuses()
 pub fn worked_laws_of_calls()
     ensures refused { RefusedCallsChangeNothing → EndsIdle (record (resting stage.InBegin) { goal = bare_file 0x803 }) (refused_line (record { msr = 0x2ff; reason = UnsupportedType })) }
     ensures under_way { CallsUnderWayChangeNothing → EndsIdle (busy stage.InUpdate) under_way_line }
-    ensures called { AcceptedCallsAreUnderWay → (command_text (resting stage.InBegin) asks.End ≡ called_line) × (machine_after (resting stage.InBegin) asks.End ≡ next (resting stage.InBegin).machine (Calls (bare_file 0x800))) }
+    ensures called { AcceptedCallsAreUnderWay → (command_text (resting stage.InBegin) asks.End ≡ called_line)
+        × (machine_after (resting stage.InBegin) asks.End ≡ next (resting stage.InBegin).machine (Calls (bare_file 0x800))) }
     ensures idle { AcceptedWhereIdle → call_fault (resting stage.InBegin).machine (bare_file 0x800) ≡ None }
     ensures absent { AbsentProcessorsDoNothing → (command_text (crowd 1) (asks.Store 1 0x1000 7) ≡ absent_line) × (machine_after (crowd 1) (asks.Store 1 0x1000 7) ≡ (crowd 1).machine) }
     ensures there { AbsentWhereNoProcessor → command_text (crowd 2) (asks.Fence 1) ≡ absent_line → ⊥ }
@@ -91,11 +93,13 @@ pub fn worked_laws_of_states()
 /// What a replay of the worked script leaves, the line of one of its steps, what holds through a script in which a
 /// processor joins, and where a course begins and where none does.
 pub fn worked_laws_of_beginnings()
-    ensures written { ReplaysAreOfTheCourse → (rest before after : Option (List ℕ)) (status : Status) → Replays worked_script rest before after status → ReplaysAs (told_by_course worked_script) worked_script rest before after status }
+    ensures written { ReplaysAreOfTheCourse → (rest before after : Option (List ℕ)) (status : Status) → Replays worked_script rest before after status
+        → ReplaysAs (told_by_course worked_script) worked_script rest before after status }
     ensures line { StepsAreOfTheirLines → (above : List (List ℕ)) × (line : List ℕ) × (below : List (List ℕ))
         × (lines_of worked_script ≡ above ++ line ∷ below) × ((step_at 6).number ≡ length above + 1) × (command_of (step_at 6).before.now (step_at 6).number line ≡ Ok asks.End) }
     ensures states { StatesAreOfTheCourse → (is_idle (join_at 1).before ≡ true) × (is_idle (left (join_at 1)) ≡ true) }
-    ensures starts { StartsAsTheDumpShows → All IsAccepted (bare_file 0x806 ∷ []) → (b : Beginning) × (beginning small_dump ≡ Some b) × (b.state.machine ≡ start_of b.state.now (dump_of (bare_file 0x806))) }
+    ensures starts { StartsAsTheDumpShows → All IsAccepted (bare_file 0x806 ∷ []) → (b : Beginning) × (beginning small_dump ≡ Some b)
+        × (b.state.machine ≡ start_of b.state.now (dump_of (bare_file 0x806))) }
     ensures one_line { TranscriptIsOneLine → ((o : Offence) × (transcript later_refused ≡ told_offence o))
         ⊎ ((version : ℕ) × (k : ℕ) × (fault : Fault) × (transcript later_refused ≡ told (dump_refused_line version k fault) status.Refused)) }
 {}

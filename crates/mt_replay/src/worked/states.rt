@@ -1,6 +1,6 @@
 ghost use Rattle.std.specs.Prelude.{◌≡◌, ◌∷◌, [], codes, false, map, None, Some};
 ghost use Rattle.mt_machine.specs.Machine.{Calls, run};
-ghost use Rattle.mt_machine.specs.Start.{start_machine, zero_memory};
+ghost use Rattle.mt_machine.specs.Start.{zero_memory};
 ghost use Rattle.mt_regs.specs.RegisterFile.{blank_file};
 ghost use Rattle.mt_script.specs.Situation.{at_start};
 ghost use Rattle.mt_script.specs.Numbers.{fault_at};
@@ -17,7 +17,7 @@ ghost use Rattle.mt_replay.specs.ReplayState.{goal_after};
 ghost use Rattle.mt_replay.specs.Transcript.{transcript};
 ghost use Rattle.mt_stream.specs.Told.{told};
 ghost use Rattle.mt_replay.specs.Statuses.{AreHeld, AreWithoutCall, IsSettledAfter, ShowsDump, ShowsNoDump, stored_by, stored_by_all};
-ghost use Rattle.mt_replay.specs.WorkedStates.{after_end, at_end, busy, crowd, late_after_end, late_at_end, painted, painted_by, resting, later_refused, pair, paired_dump, small_dump, state_of, two_processors, with_first};
+ghost use Rattle.mt_replay.specs.WorkedStates.{after_end, at_end, busy, crowd, late_after_end, late_at_end, painted, painted_by, resting, later_refused, pair, paired_dump, small_dump, state_of, two_processors, with_first, with_other_files};
 
 /// Commands among which no call is accepted, and such as one is among or one doesn't fit.
 pub fn worked_without_call()
@@ -45,7 +45,8 @@ pub fn worked_words()
     ensures stored { stored_by painted (asks.Store 0 0x1008 7) ≡ Some 0x100008 }
     ensures unmapped { stored_by painted (asks.Store 0 0x6000 7) ≡ None }
     ensures loaded { stored_by painted (asks.Load 0 0x1000) ≡ None }
-    ensures in_turn { stored_by_all painted (asks.Store 0 0x6000 1 ∷ asks.Map 0 0x6000 0x100000 0 false ∷ asks.Store 0 0x6010 1 ∷ asks.Load 0 0x1008 ∷ asks.Store 1 0x1000 2 ∷ []) ≡ 0x100010 ∷ 0x100000 ∷ [] }
+    ensures in_turn { stored_by_all painted (asks.Store 0 0x6000 1 ∷ asks.Map 0 0x6000 0x100000 0 false ∷ asks.Store 0 0x6010 1 ∷ asks.Load 0 0x1008 ∷ asks.Store 1 0x1000 2 ∷ []) ≡
+        0x100010 ∷ 0x100000 ∷ [] }
     ensures other_value { AreHeld (λ address. 1) painted [] → ⊥ }
     ensures emptied_since_of_the_second_word { AreHeld (λ address. 0) (painted_by (store 0 0x3008 7 ∷ [])) (asks.Fence 0 ∷ []) → ⊥ }
     ensures emptied_since { AreHeld (λ address. 0) (painted_by (store 0 0x3000 7 ∷ [])) (asks.Fence 0 ∷ []) → ⊥ }
@@ -101,7 +102,7 @@ pub fn worked_kept()
     ensures other_width { IsReplayState (record painted { goal = record (bare_file 0x800) { width = 40 } }) → ⊥ }
     ensures no_file { IsReplayState (record painted { goal = record (bare_file 0x800) { width = 53 } }) → ⊥ }
     ensures other_kind { IsReplayState (record painted { now = record painted.now { dump = Some (dump_of (blank_file 40 0x400)) } }) → ⊥ }
-    ensures other_files { IsReplayState (record (state_of stage.Rams (start_machine (bare_file 0x806 ∷ bare_file 0x806 ∷ []) [])) { now = record (two_processors stage.Rams) { dump = Some pair; windows = [] } }) → ⊥ }
+    ensures other_files { IsReplayState with_other_files → ⊥ }
     ensures none_there { IsReplayState (crowd 0) → ⊥ }
     ensures too_many { IsReplayState (crowd 17) → ⊥ }
     ensures older_line { IsReplayState (record (crowd 1) { machine = machine_of (record idle { lines = line_of 0x4000 0 ∷ []; era = 1 } ∷ []) }) → ⊥ }
