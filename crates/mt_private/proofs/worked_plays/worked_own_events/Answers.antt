@@ -1,10 +1,9 @@
-use Rattle.std.proofs.Common.{◌≡◌, ◌+◌, ◌∷◌, [], List, ℕ, None, Some, ap, arith, false, refl, sym, true, true≢false}
+use Rattle.std.proofs.Common.{◌≡◌, ◌+◌, ◌∷◌, [], None, Some, ap, arith, false, refl, true, true≢false}
 use Rattle.mt_machine.specs.declared.event.Event.TheVariants.{SetNoFill}
 use Rattle.mt_machine.specs.declared.go.Go.TheVariants.{Given}
 use Rattle.mt_machine.specs.declared.phase.Phase.TheVariants.{Passed}
 use Rattle.mt_machine.specs.Machine.{Steps}
 use Rattle.mt_rendezvous.specs.Plays.{own_event}
-use Rattle.mt_private.specs.declared.view.Resident.{Resident}
 use Rattle.mt_private.specs.declared.view.YardView.{YardView}
 use Rattle.mt_private.specs.Residents.{stepped_by, with_stored}
 use Rattle.mt_private.specs.WorkedWay.{fills_not, guest, seat}

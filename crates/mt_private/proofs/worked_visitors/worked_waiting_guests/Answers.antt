@@ -15,7 +15,6 @@ use Rattle.mt_private.specs.declared.visiting.Guest.{Guest}
 use Rattle.mt_private.specs.Gathered.{AreGathered, IsGathered}
 use Rattle.mt_private.specs.Jobs.{AreOpen, FitsJob, IsOpen}
 use Rattle.mt_private.specs.Residents.{own_of}
-use Rattle.mt_private.specs.Visitors.{AreWaiting}
 use Rattle.mt_private.specs.WorkedGathered.{IsJob}
 use Rattle.mt_private.specs.WorkedVisitors.{IsGuest, new_seat}
 use Rattle.mt_private.specs.WorkedYard.{first_lodged, lodging}
