@@ -26,7 +26,8 @@ module _ (table : TableId) (g : Guest) (its : IsGuest table new_seat 0 (own_of f
   each_gathered : AreGathered table lodging (g ∷ [])
   each_gathered zero x at =
       let same : g ≡ x = cc at in
-      subst (λ (x : Guest). IsGathered table lodging 0 x.pass.seat.table_id x.pass.seat.me x.pass.number x.own) same (as_gathered table g.pass.seat.table_id g.pass.seat.me g.pass.number g.own its.0 its.1 its.2 its.3)
+      subst (λ (x : Guest). IsGathered table lodging 0 x.pass.seat.table_id x.pass.seat.me x.pass.number x.own) same
+      (as_gathered table g.pass.seat.table_id g.pass.seat.me g.pass.number g.own its.0 its.1 its.2 its.3)
   each_gathered (suc k) x at = absurd (cc at)
 
   each_runs : (k : ℕ) (x : Guest) → slice_get (g ∷ []) k ≡ Some x → AreIn Running x.own
