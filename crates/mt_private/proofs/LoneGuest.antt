@@ -1,5 +1,5 @@
 -- The worked resident that is alone in its yard, and where its update leads it.
-use Rattle.std.proofs.Common.{◌≡◌, ◌∙◌, ap, sym, subst, refl, rules, arith, ℕ, ◌+◌, ◌≤◌, ◌==◌, Bool, true, false, List, [], ◌∷◌, cond, Some, Option, inl}
+use Rattle.std.proofs.Common.{◌≡◌, ◌∙◌, ap, sym, subst, refl, rules, arith, ℕ, ◌+◌, ◌≤◌, Bool, true, false, List, [], ◌∷◌, cond, Some, Option}
 use mathlib.Core.Option.{some}
 use lib.ListN.{get_elem?}
 use Rattle.mt_machine.specs.declared.event.Event.{Event}

@@ -1,10 +1,8 @@
 -- The yard of one whose resident is released meets the rule.
-use Rattle.std.proofs.Common.{◌≡◌, ◌∙◌, ◌<◌, ◌+◌, ℕ, zero, suc, true, true≢false, List, [], ◌∷◌, ap, refl, subst, sym, inr, arith, length}
-use Rattle.std.specs.Prelude.{map, slice_index}
+use Rattle.std.proofs.Common.{◌≡◌, ◌∙◌, ◌<◌, ℕ, zero, suc, true, true≢false, [], ◌∷◌, ap, refl, subst, sym, inr, arith}
 use mathlib.Core.Option.{some, some-injective, some-ne-none}
 use lib.ListN.{get_elem?}
 use Rattle.mt_machine.specs.declared.go.Go.TheVariants.{Cancelled, Given}
-use Rattle.mt_machine.specs.System.{System}
 use Rattle.mt_rendezvous.specs.declared.view.Held.{Held}
 use Rattle.mt_rendezvous.specs.declared.view.Key.{Key}
 use Rattle.mt_rendezvous.specs.declared.view.Start.{Start}

@@ -1,5 +1,5 @@
 -- The first worked guest as it was gathered, its job's room, and the end of its visit.
-use Rattle.std.proofs.Common.{◌≡◌, ◌∙◌, ◌≤◌, ap, sym, refl, subst, rules, arith, ℕ, Bool, true, false, List, [], ◌∷◌, ◌++◌, length, map}
+use Rattle.std.proofs.Common.{◌≡◌, ◌∙◌, ap, sym, refl, subst, rules, arith, ℕ, Bool, true, false, List, [], ◌∷◌, ◌++◌, length, map}
 use Rattle.std.specs.Prelude.{vec_capacity}
 use Rattle.std.specs.List.{All}
 use Rattle.atomic_table.specs.Seated.{TableId}

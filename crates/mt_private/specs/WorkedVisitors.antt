@@ -11,7 +11,7 @@ use Rattle.mt_private.specs.declared.view.YardView.{YardView}
 use Rattle.mt_private.specs.declared.visiting.Guest.{Guest}
 use Rattle.mt_private.specs.declared.visitor.Visitor.{Visitor}
 use Rattle.mt_private.specs.Own.{own_memory}
-use Rattle.mt_private.specs.Residents.{own_of, pages_left}
+use Rattle.mt_private.specs.Residents.{pages_left}
 use Rattle.mt_private.specs.WorkedGathered.{finished, job_done, view_of}
 use Rattle.mt_private.specs.WorkedYard.{first_lodged, host_view, lodging}
 use Rattle.mt_private.specs.Visitors.{AreWaiting, CameBack, Returned}

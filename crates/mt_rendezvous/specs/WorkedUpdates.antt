@@ -1,7 +1,6 @@
 -- Attendees of a worked station, what a root has at the end, and systems at rest that may be updated.
 use Rattle.std.specs.Prelude.{◌≡◌, ℕ, false, true, List, [], ◌∷◌, Some}
 use Rattle.atomic_table.specs.Seated.{TableId}
-use Rattle.mt_regs.specs.RegisterFile.{RegisterFile}
 use Rattle.mt_machine.specs.declared.phase.Phase.TheVariants.{Running}
 use Rattle.mt_machine.specs.declared.event.Event.TheVariants.{Release}
 use Rattle.mt_machine.specs.declared.go.Go.{Go}

@@ -1,14 +1,13 @@
 // Each law on the steps of a station at a step of a worked station that meets the rule, and the laws on a station whose
 // second count is full, on processors that have ended, and on where a station begins. A load that finds the second count
 // not full wants a second processor, and is left out.
-ghost use Rattle.std.specs.Prelude.{◌≡◌, ◌≤◌, ◌∷◌, [], None, Some, length, slice_index};
+ghost use Rattle.std.specs.Prelude.{◌≡◌, ◌≤◌, [], None, Some, length, slice_index};
 ghost use Rattle.std.specs.List.{All};
 ghost use Rattle.mt_machine.specs.declared.go.Go.TheVariants.{Given, Cancelled};
 ghost use Rattle.mt_machine.specs.declared.event.Event.TheVariants.{Arrive, ArriveAgain, Leave, Pass, Release, SetNoFill, WriteBack};
 ghost use Rattle.mt_machine.specs.Machine.{Cancels as CancelsUpdate, Goes, Steps};
 ghost use Rattle.mt_machine.specs.Memory.{word_at};
 ghost use Rattle.mt_machine.specs.Update.{Led};
-ghost use Rattle.mt_machine.specs.WorkedRuns.{bare_file};
 ghost use Rattle.mt_laws.specs.Updates.{HoldsNothing};
 ghost use Rattle.mt_rendezvous.specs.declared.view.Key.{Key};
 ghost use Rattle.mt_rendezvous.specs.Station.{Begins, Meets, broadcast, first_view, start_of};

@@ -9,7 +9,7 @@ ghost use Rattle.mt_rendezvous.specs.Plays.{Arrives as TellsArrival, ArrivesAgai
 ghost use Rattle.mt_rendezvous.specs.Plays.{Cancels as TellsCancel, Gives as TellsGo};
 ghost use Rattle.mt_rendezvous.specs.Station.{held};
 ghost use Rattle.mt_rendezvous.specs.WorkedLone.{again, back, behind, come, fills, free, gone, lone, new, out, pass_of, sits, wrote};
-ghost use Rattle.mt_rendezvous.specs.WorkedStations.{bare, both_taken, first, lent, root_view, root_with, second};
+ghost use Rattle.mt_rendezvous.specs.WorkedStations.{bare, both_taken, lent, root_view, root_with, second};
 
 /// An addition of a pass to word 0.
 pub fn worked_arrivals()

@@ -1,16 +1,15 @@
 // Worked updates: what comes of attendees, those that have not begun and those that have ended, what the root has then,
 // and what an update begins with. Of each part there is a run that fails there, but of what other parts fix.
-ghost use Rattle.std.specs.Prelude.{◌≡◌, ◌∷◌, [], Some, None, false, replicate, true};
+ghost use Rattle.std.specs.Prelude.{◌≡◌, ◌∷◌, [], Some, false, replicate, true};
 ghost use Rattle.atomic_table.specs.Seated.{TableId};
 ghost use Rattle.mt_machine.specs.declared.go.Go.TheVariants.{Cancelled as Stopped, Given};
 ghost use Rattle.mt_machine.specs.declared.phase.Phase.TheVariants.{Arrived, Passed, Running, Taken};
-ghost use Rattle.mt_machine.specs.Machine.{own_step};
-ghost use Rattle.mt_machine.specs.WorkedRuns.{bare, bare_file, begun, idle, line_of, ready, alone};
+ghost use Rattle.mt_machine.specs.WorkedRuns.{bare, bare_file, begun, idle, line_of, ready};
 ghost use Rattle.mt_rendezvous.specs.declared.station.Attendee.{Attendee as StationAttendee};
 ghost use Rattle.mt_rendezvous.specs.declared.station.Outcome.TheVariants.{Cancelled, Complete};
 ghost use Rattle.mt_rendezvous.specs.Calls.{Attended, HoldsOne, Offers, Waited};
-ghost use Rattle.mt_rendezvous.specs.Station.{held, pass_right, root_left};
-ghost use Rattle.mt_rendezvous.specs.Update.{AllNew, AreOf, CameAs, CanUpdate, HasTaken, IsQueue, IsReady, OneLess, Tied};
+ghost use Rattle.mt_rendezvous.specs.Station.{held, root_left};
+ghost use Rattle.mt_rendezvous.specs.Update.{AllNew, AreOf, CameAs, HasTaken, IsQueue, IsReady, OneLess, Tied};
 ghost use Rattle.mt_rendezvous.specs.WorkedLone.{lone};
 ghost use Rattle.mt_rendezvous.specs.WorkedStations.{bare as sits, both_taken, clean, clean_start, first, one_line, pass_with, root_view, root_with, second, start, zeros};
 ghost use Rattle.mt_rendezvous.specs.WorkedUpdates.{ComesBack, IsAttendee, MayUpdate, bare_taken, both_back, both_run, free, free_view, new_seat};

@@ -1,4 +1,4 @@
-use Rattle.std.proofs.Common.{◌≡◌, arith, refl}
+use Rattle.std.proofs.Common.{◌≡◌, arith}
 use Rattle.mt_kinds.specs.declared.mem_type.MemType.TheVariants.{UC, WB}
 use Rattle.mt_machine.specs.WorkedRuns.{mapping}
 use Rattle.mt_regs.specs.declared.page_type.PageType.TheVariants.{Kind}

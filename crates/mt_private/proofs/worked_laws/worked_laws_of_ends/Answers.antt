@@ -1,7 +1,6 @@
-use Rattle.std.proofs.Common.{◌≡◌, ◌∙◌, ℕ, zero, suc, List, [], ◌∷◌, ◌++◌, Option, Some, ap, arith, refl, subst, sym, true, false}
+use Rattle.std.proofs.Common.{◌≡◌, ◌∙◌, ℕ, zero, suc, List, [], ◌∷◌, ◌++◌, Option, Some, ap, arith, refl, subst, sym, false}
 use Rattle.std.specs.Prelude.{slice_get}
-use mathlib.Core.Option.{some, some-injective, some-ne-none}
-use lib.ListN.{get_elem?}
+use mathlib.Core.Option.{some}
 use Rattle.atomic_table.specs.Seated.{TableId}
 use Rattle.mt_machine.specs.System.{System}
 use Rattle.mt_private.specs.declared.job.Job.{Job}

@@ -62,7 +62,8 @@ pub returns-clause-moves : goal.returns-clause-moves
 returns-clause-moves c = λ law key is.
     let m = split_meets key is in (
       m,
-      law key (split_state key) m 1 (yard_right (first_yard_view key)) first_lodged refl (one_held key is) 0 0 first_taken None false (Some (Steps 0 Take)) refl (inl (omega arith, refl)) (λ e. absurd (cc e))
+      law key (split_state key) m 1 (yard_right (first_yard_view key)) first_lodged refl (one_held key is) 0 0 first_taken None false (Some (Steps 0 Take)) refl (inl (omega arith, refl))
+          (λ e. absurd (cc e))
           (took key is m),
     )
 

@@ -1,10 +1,9 @@
-use Rattle.std.proofs.Common.{◌≡◌, ◌+◌, ◌∷◌, [], List, ℕ, None, Some, ap, arith, false, refl, sym, true, true≢false}
+use Rattle.std.proofs.Common.{◌≡◌, ◌+◌, ◌∷◌, [], None, Some, ap, arith, false, refl, true, true≢false}
 use Rattle.mt_machine.specs.declared.event.Event.TheVariants.{SetNoFill}
 use Rattle.mt_machine.specs.declared.go.Go.TheVariants.{Given}
 use Rattle.mt_machine.specs.declared.phase.Phase.TheVariants.{Passed}
 use Rattle.mt_machine.specs.Machine.{Steps}
 use Rattle.mt_rendezvous.specs.Plays.{own_event}
-use Rattle.mt_private.specs.declared.view.Resident.{Resident}
 use Rattle.mt_private.specs.declared.view.YardView.{YardView}
 use Rattle.mt_private.specs.Residents.{stepped_by, with_stored}
 use Rattle.mt_private.specs.WorkedWay.{fills_not, guest, seat}
@@ -23,7 +22,8 @@ pub returns-clause-works : goal.returns-clause-works
 returns-clause-works c = (
   refl,
   of_resident before (guest Passed true)
-      (λ y. Turns before (seat (with_stored fills_not 1)).0 y (with_stored (stepped_by alone (own_event alone y.held.cpu) y) 1) None false (Some (Steps y.held.number (own_event alone y.held.cpu)))) refl (
+      (λ y. Turns before (seat (with_stored fills_not 1)).0 y (with_stored (stepped_by alone (own_event alone y.held.cpu) y) 1) None false
+      (Some (Steps y.held.number (own_event alone y.held.cpu)))) refl (
         refl,
         moves Given 2 0 (guest Passed true) (with_stored fills_not 1) (Some (Steps 0 SetNoFill)) 2 0 passed_yard refl
             (works alone (guest Passed true ∷ []) Given 2 0 passed_yard.0 passed_yard.1 0 (guest Passed true) refl refl refl refl SetNoFill (λ o ps. refl) 1),

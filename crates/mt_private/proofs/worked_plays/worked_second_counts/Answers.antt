@@ -1,4 +1,4 @@
-use Rattle.std.proofs.Common.{◌≡◌, ◌∷◌, [], None, Some, ap, arith, false, refl, sym, true, true≢false}
+use Rattle.std.proofs.Common.{◌∷◌, [], None, Some, ap, arith, false, refl, sym, true, true≢false}
 use Rattle.mt_machine.specs.declared.event.Event.TheVariants.{ArriveAgain, Release}
 use Rattle.mt_machine.specs.declared.go.Go.TheVariants.{Given}
 use Rattle.mt_machine.specs.declared.phase.Phase.TheVariants.{Arrived2, Restored}

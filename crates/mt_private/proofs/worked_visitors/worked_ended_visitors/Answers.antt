@@ -18,7 +18,8 @@ shown_at (Some n) = n
 
 pub returns-clause-come : goal.returns-clause-come
 returns-clause-come c = λ table job v its complete is has. record {
-  ends = subst (λ (x : Visited × TableId × YardSat × System). VisitEnds x.0 table lodging 0 (bare_file 0x800) job (own_at lodging 0) x.1 x.2 x.3 v.told) (λ i. (sym complete i, sym its.0 i, sym its.1 i, sym its.3 i)) (ends table job v.told is has);
+  ends = subst (λ (x : Visited × TableId × YardSat × System). VisitEnds x.0 table lodging 0 (bare_file 0x800) job (own_at lodging 0) x.1 x.2 x.3 v.told)
+      (λ i. (sym complete i, sym its.0 i, sym its.1 i, sym its.3 i)) (ends table job v.told is has);
   numbered = its.2;
   runs = subst (λ (s : System). AreIn Running s) (sym its.3) refl;
   has_room = λ cancelled. absurd (let e = sym complete ∙ cancelled in cc e);

@@ -1,6 +1,4 @@
-use Rattle.std.proofs.Common.{◌≡◌, List, Option, [], ◌∷◌, None, Some, ap, arith, length, refl}
-use Rattle.std.specs.Prelude.{is_some}
-use Rattle.mt_machine.specs.System.{System}
+use Rattle.std.proofs.Common.{◌≡◌, ap, arith, length, refl}
 use Rattle.mt_private.proofs.worked_visitors.worked_fresh_hosts.Goals as goal
 
 pub returns-clause-fresh : goal.returns-clause-fresh

@@ -15,7 +15,6 @@ use Rattle.mt_private.specs.declared.visiting.Guest.{Guest}
 use Rattle.mt_private.specs.Gathered.{AreGathered, IsGathered}
 use Rattle.mt_private.specs.Jobs.{AreOpen, FitsJob, IsOpen}
 use Rattle.mt_private.specs.Residents.{own_of}
-use Rattle.mt_private.specs.Visitors.{AreWaiting}
 use Rattle.mt_private.specs.WorkedGathered.{IsJob}
 use Rattle.mt_private.specs.WorkedVisitors.{IsGuest, new_seat}
 use Rattle.mt_private.specs.WorkedYard.{first_lodged, lodging}
@@ -27,7 +26,8 @@ module _ (table : TableId) (g : Guest) (its : IsGuest table new_seat 0 (own_of f
   each_gathered : AreGathered table lodging (g ∷ [])
   each_gathered zero x at =
       let same : g ≡ x = cc at in
-      subst (λ (x : Guest). IsGathered table lodging 0 x.pass.seat.table_id x.pass.seat.me x.pass.number x.own) same (as_gathered table g.pass.seat.table_id g.pass.seat.me g.pass.number g.own its.0 its.1 its.2 its.3)
+      subst (λ (x : Guest). IsGathered table lodging 0 x.pass.seat.table_id x.pass.seat.me x.pass.number x.own) same
+      (as_gathered table g.pass.seat.table_id g.pass.seat.me g.pass.number g.own its.0 its.1 its.2 its.3)
   each_gathered (suc k) x at = absurd (cc at)
 
   each_runs : (k : ℕ) (x : Guest) → slice_get (g ∷ []) k ≡ Some x → AreIn Running x.own

@@ -1,5 +1,5 @@
-use Rattle.std.proofs.Common.{arith, refl, true, false, None, Some}
-use Rattle.mt_machine.specs.declared.go.Go.TheVariants.{Given, Cancelled, Pending}
+use Rattle.std.proofs.Common.{refl, true, false, None, Some}
+use Rattle.mt_machine.specs.declared.go.Go.TheVariants.{Pending}
 use Rattle.mt_machine.specs.declared.phase.Phase.TheVariants.{Running}
 use Rattle.mt_rendezvous.specs.Station.{broadcast, held, order_of, start_of}
 use Rattle.mt_rendezvous.specs.WorkedLone.{ended, left, pass_of, released}

@@ -1,9 +1,9 @@
-use Rattle.std.proofs.Common.{◌≡◌, ◌∙◌, ap, refl, subst, sym}
+use Rattle.std.proofs.Common.{◌∙◌, ap, refl, sym}
 use Rattle.std.specs.Prelude.{length}
 use Rattle.mt_machine.specs.System.{now}
 use Rattle.mt_rendezvous.specs.declared.view.Start.{Start}
-use Rattle.mt_rendezvous.specs.Station.{broadcast, start_of}
-use Rattle.mt_rendezvous.specs.WorkedLone.{arrived_again, lone}
+use Rattle.mt_rendezvous.specs.Station.{broadcast}
+use Rattle.mt_rendezvous.specs.WorkedLone.{arrived_again}
 use Rattle.mt_rendezvous.proofs.OnLone.{again_meets}
 use Rattle.mt_rendezvous.proofs.worked_laws.worked_laws_of_stations.Goals as goal
 

@@ -1,10 +1,10 @@
-use Rattle.std.proofs.Common.{◌≡◌, ℕ, ◌∷◌, [], None, Some, arith, false, length, refl, subst, sym, true}
+use Rattle.std.proofs.Common.{◌≡◌, Some, length, refl, subst, sym}
 use mathlib.Core.Option.{none}
 use Rattle.atomic_table.specs.Table.{step}
 use Rattle.mt_machine.specs.declared.phase.Phase.TheVariants.{Arrived2, Passed, Restored}
 use Rattle.mt_rendezvous.specs.declared.view.Start.{Start}
 use Rattle.mt_rendezvous.specs.Station.{start_of}
-use Rattle.mt_rendezvous.specs.Plays.{ArrivesAgain, Releases, Works, arrive_again, own_event, written}
+use Rattle.mt_rendezvous.specs.Plays.{ArrivesAgain, Releases, Works, own_event, written}
 use Rattle.mt_rendezvous.specs.Laws.{GoesTo}
 use Rattle.mt_rendezvous.specs.WorkedLone.{again, arrived_again, back, changed, fills, fills_not, free, gone, pass_of, passed, restored, sits, unfilled, wrote}
 use Rattle.mt_rendezvous.specs.WorkedStations.{bare, first}

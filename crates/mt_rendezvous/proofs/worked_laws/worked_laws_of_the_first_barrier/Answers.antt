@@ -1,10 +1,10 @@
-use Rattle.std.proofs.Common.{◌≡◌, ◌≢◌, ◌+◌, ◌∷◌, [], None, Some, false, inl, inr, length, refl, subst, sym, true, arith}
+use Rattle.std.proofs.Common.{◌≡◌, ◌≢◌, ◌+◌, inl, inr, length, refl, subst, sym, arith}
 use mathlib.Core.Option.{none}
 use Rattle.atomic_table.specs.Table.{step}
 use Rattle.mt_machine.specs.declared.phase.Phase.TheVariants.{Arrived, Taken}
 use Rattle.mt_rendezvous.specs.declared.view.Start.{Start}
 use Rattle.mt_rendezvous.specs.Station.{start_of}
-use Rattle.mt_rendezvous.specs.Plays.{Arrives, Passes, arrive}
+use Rattle.mt_rendezvous.specs.Plays.{Arrives, Passes}
 use Rattle.mt_rendezvous.specs.WorkedLone.{arrived, behind, cancelled, come, gone, late, new, out, sits, taken, waits}
 use Rattle.mt_rendezvous.specs.WorkedStations.{first}
 use Rattle.mt_rendezvous.proofs.LonePlays.{arrives, arrives_late, leaves, passes, stays_there}

@@ -1,6 +1,4 @@
 use Rattle.std.proofs.Common.{◌∷◌, [], None, ap, arith, false, refl, subst, sym, true}
-use mathlib.Core.Option.{none}
-use Rattle.atomic_table.specs.Table.{step}
 use Rattle.mt_machine.specs.declared.go.Go.TheVariants.{Cancelled, Given}
 use Rattle.mt_machine.specs.declared.phase.Phase.TheVariants.{Running, Taken}
 use Rattle.mt_machine.specs.Machine.{Cancels as CancelsUpdate, Goes}

@@ -1,4 +1,4 @@
-use Rattle.std.proofs.Common.{◌≡◌, ap, arith, refl, sym, true≢false}
+use Rattle.std.proofs.Common.{ap, arith, refl, sym, true≢false}
 use Rattle.mt_rendezvous.specs.declared.view.View.{View}
 use Rattle.mt_rendezvous.proofs.LonePlays.{arrives_again, releases}
 use Rattle.mt_rendezvous.proofs.OnLone.{has_come_again, has_left, none_is_one}

@@ -1,4 +1,4 @@
-use Rattle.std.proofs.Common.{ap, sym, true≢false}
+use Rattle.std.proofs.Common.{ap, true≢false}
 use Rattle.mt_rendezvous.proofs.LonePlays.{works, works_back}
 use Rattle.mt_rendezvous.proofs.OnLone.{fills_lines, none_is_one}
 use Rattle.mt_rendezvous.proofs.worked_plays.worked_stores.Goals as goal

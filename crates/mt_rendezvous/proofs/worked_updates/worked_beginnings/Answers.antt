@@ -1,8 +1,7 @@
 use Rattle.std.proofs.Common.{◌≡◌, ap, arith, length, refl, rules}
-use Rattle.mt_machine.specs.Machine.{Calls, IsEnabled, Machine, Order}
-use Rattle.mt_machine.specs.Start.{HasEraRoom, IsQuiet}
+use Rattle.mt_machine.specs.Machine.{Calls, IsEnabled}
+use Rattle.mt_machine.specs.Start.{IsQuiet}
 use Rattle.mt_machine.specs.WorkedRuns.{bare, bare_file, idle, machine_of, ready}
-use Rattle.mt_machine.specs.declared.phase.Phase.TheVariants.{Taken}
 use Rattle.std.proofs.Common.{[], ◌∷◌}
 use Rattle.mt_rendezvous.specs.Calls.{gathered}
 use Rattle.mt_rendezvous.specs.Station.{Begins}

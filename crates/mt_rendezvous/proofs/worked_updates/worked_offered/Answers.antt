@@ -1,14 +1,14 @@
-use Rattle.std.proofs.Common.{◌≡◌, ◌∙◌, ℕ, zero, suc, List, [], ◌∷◌, ap, arith, false, length, refl, subst, sym, true, true≢false}
+use Rattle.std.proofs.Common.{◌≡◌, ◌∙◌, ℕ, zero, suc, [], ◌∷◌, ap, arith, false, length, refl, subst, sym, true≢false}
 use mathlib.Core.Option.{some, some-injective, some-ne-none}
 use lib.ListN.{get_elem?}
 use Rattle.atomic_table.specs.Seated.{TableId}
-use Rattle.mt_machine.specs.declared.phase.Phase.TheVariants.{Running, Taken}
+use Rattle.mt_machine.specs.declared.phase.Phase.TheVariants.{Taken}
 use Rattle.mt_machine.specs.System.{Processor}
 use Rattle.mt_regs.specs.RegisterFile.{RegisterFile}
 use Rattle.mt_rendezvous.specs.declared.station.Attendee.{Attendee}
 use Rattle.mt_rendezvous.specs.Calls.{Attends, Carries}
 use Rattle.mt_rendezvous.specs.Plays.{Sat}
-use Rattle.mt_rendezvous.specs.Update.{IsNew, IsQueue, IsReady, IsReadyAt}
+use Rattle.mt_rendezvous.specs.Update.{IsNew, IsReady, IsReadyAt}
 use Rattle.mt_rendezvous.specs.WorkedStations.{first, start}
 use Rattle.mt_rendezvous.specs.WorkedUpdates.{IsAttendee, new_seat}
 use Rattle.mt_rendezvous.proofs.OnWorked.{first_added}
