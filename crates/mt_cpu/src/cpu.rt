@@ -38,9 +38,33 @@ impl Model for Cpu {
 
     ghost Value = { Processor };
 
-    ghost view = { λ c. record { file = c.regs; cache_disabled = c.cd; page_global = c.pge; remembered_global = c.had_pge; mappings = c.maps; lines = c.cache; buffers = c.buffers; entries = c.tlb; phase = c.phase; era = c.era; self_snoop = c.self_snoop } };
+    ghost view = { λ c. record {
+      file = c.regs;
+      cache_disabled = c.cd;
+      page_global = c.pge;
+      remembered_global = c.had_pge;
+      mappings = c.maps;
+      lines = c.cache;
+      buffers = c.buffers;
+      entries = c.tlb;
+      phase = c.phase;
+      era = c.era;
+      self_snoop = c.self_snoop;
+    } };
 
-    ghost invariant = { λ c. KeepsFacts (record { file = c.regs; cache_disabled = c.cd; page_global = c.pge; remembered_global = c.had_pge; mappings = c.maps; lines = c.cache; buffers = c.buffers; entries = c.tlb; phase = c.phase; era = c.era; self_snoop = c.self_snoop }) };
+    ghost invariant = { λ c. KeepsFacts (record {
+      file = c.regs;
+      cache_disabled = c.cd;
+      page_global = c.pge;
+      remembered_global = c.had_pge;
+      mappings = c.maps;
+      lines = c.cache;
+      buffers = c.buffers;
+      entries = c.tlb;
+      phase = c.phase;
+      era = c.era;
+      self_snoop = c.self_snoop;
+    }) };
 }
 
 impl Cpu {

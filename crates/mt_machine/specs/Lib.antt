@@ -8,3 +8,4 @@ pub mod Start
 pub mod Update
 pub mod ComingAndGoing
 pub mod WorkedRuns
+pub mod WorkedSetups

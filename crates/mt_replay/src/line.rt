@@ -229,7 +229,8 @@ fn take_command<R: Threads + Wait + Sync, K: Sink, G: Gate>(
 ) -> Result<Option<Status>, Failed>
     requires { HasEraRoom replayer.old.machine }
     ensures bytes { (came : Bool) (so_far : List ℕ) → IsQuiet (Run.Body replayer.old) came so_far →
-        Takes replay_running (leading came so_far line.now.number line.now.bytes.now (in_body replayer.old)) (line.now.number + 1) so_far (Run.Body replayer.new) writer.old writer.new (K.taken sink.old) (K.taken sink.new) result }
+        Takes replay_running (leading came so_far line.now.number line.now.bytes.now (in_body replayer.old)) (line.now.number + 1) so_far
+        (Run.Body replayer.new) writer.old writer.new (K.taken sink.old) (K.taken sink.new) result }
     ensures ending { (status : Status) → result ≡ Ok (Some status) → IsEnding status }
     ensures eras { (most : ℕ) → HasEras most replayer.old → MatchResult result (λ ended. MatchOption ended (HasEras (most + 1) replayer.new) (λ _. Unit {0})) (λ _. Unit {0}) }
     ensures last { Lasts line.now.number line.now.bytes.now (in_body replayer.old) (Run.Body replayer.new) result }

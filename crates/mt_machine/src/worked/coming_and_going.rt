@@ -3,6 +3,7 @@ ghost use Rattle.mt_regs.specs.RegisterFile.{blank_file};
 ghost use Rattle.mt_machine.specs.declared.phase.Phase.TheVariants.{Running};
 ghost use Rattle.mt_machine.specs.ComingAndGoing.{newcomer, reset, with_newcomer, without_last};
 ghost use Rattle.mt_machine.specs.WorkedRuns.{alone, cached, copier, idle, line_of, machine_of, memory_at, mixed, mixed_dirty, own, pending, reports, wide_one, with_first_word};
+ghost use Rattle.mt_machine.specs.WorkedSetups.{liner, second_word, three_eras};
 
 /// A processor as it comes up beside one that has other registers, PGE, an era and a cached line, and is self-snooping.
 pub fn worked_newcomers()
@@ -32,19 +33,19 @@ pub fn worked_coming()
 
 /// A processor goes: its buffers are emptied as on the bus, and then its dirty words are written.
 pub fn worked_going()
-    ensures last { reports (without_last (machine_of (idle ∷ record idle { era = 1 } ∷ record idle { era = 2 } ∷ []))) ≡ take 2 (reports (machine_of (idle ∷ record idle { era = 1 } ∷ record idle { era = 2 } ∷ []))) }
+    ensures last { reports (without_last three_eras) ≡ take 2 (reports three_eras) }
     ensures only_one { (without_last (alone idle)).system.processors ≡ [] }
-    ensures dirty_word { memory_at (without_last (machine_of (idle ∷ record idle { lines = line_of 0x4000 0 ∷ [] } ∷ []))) 0x100008 ≡ 6 }
-    ensures next_dirty_word { memory_at (without_last (machine_of (idle ∷ record idle { lines = line_of 0x4000 0 ∷ [] } ∷ []))) 0x100010 ≡ 7 }
+    ensures dirty_word { memory_at (without_last (machine_of (idle ∷ liner ∷ []))) 0x100008 ≡ 6 }
+    ensures next_dirty_word { memory_at (without_last (machine_of (idle ∷ liner ∷ []))) 0x100010 ≡ 7 }
     ensures second_line { memory_at (without_last (machine_of (idle ∷ record idle { lines = line_of 0x4000 0 ∷ line_of 0x4001 0 ∷ [] } ∷ []))) 0x100050 ≡ 7 }
-    ensures clean_word { memory_at (without_last (with_first_word 9 (machine_of (idle ∷ record idle { lines = line_of 0x4000 0 ∷ [] } ∷ [])))) 0x100000 ≡ 9 }
+    ensures clean_word { memory_at (without_last (with_first_word 9 (machine_of (idle ∷ liner ∷ [])))) 0x100000 ≡ 9 }
     ensures written_word { memory_at (without_last (machine_of (idle ∷ record idle { buffers = line_of 0x4000 0 ∷ [] } ∷ []))) 0x100008 ≡ 6 }
-    ensures buffer_over_cache { memory_at (without_last (machine_of (idle ∷ record idle { lines = line_of 0x4000 0 ∷ []; buffers = record (line_of 0x4000 0) { words = 0 ∷ 8 ∷ 0 ∷ 0 ∷ 0 ∷ 0 ∷ 0 ∷ 0 ∷ []; dirty = 2 } ∷ [] } ∷ []))) 0x100008 ≡ 8 }
-    ensures cached_beside_buffer { memory_at (without_last (machine_of (idle ∷ record idle { lines = line_of 0x4000 0 ∷ []; buffers = record (line_of 0x4000 0) { words = 0 ∷ 8 ∷ 0 ∷ 0 ∷ 0 ∷ 0 ∷ 0 ∷ 0 ∷ []; dirty = 2 } ∷ [] } ∷ []))) 0x100010 ≡ 7 }
-    ensures anothers_line_is_read { memory_at (without_last (machine_of (record idle { lines = line_of 0x4000 0 ∷ [] } ∷ record idle { buffers = record (line_of 0x4000 0) { words = 0 ∷ 8 ∷ 0 ∷ 0 ∷ 0 ∷ 0 ∷ 0 ∷ 0 ∷ []; dirty = 2 } ∷ [] } ∷ []))) 0x100010 ≡ 7 }
-    ensures anothers_line_goes { cached (without_last (machine_of (record idle { lines = line_of 0x4000 0 ∷ [] } ∷ record idle { buffers = line_of 0x4000 0 ∷ [] } ∷ []))) 0 ≡ [] }
-    ensures others_lines_stay { cached (without_last (machine_of (record idle { lines = line_of 0x4000 0 ∷ [] } ∷ record idle { buffers = line_of 0x4001 0 ∷ [] } ∷ []))) 0 ≡ (0x4000, 6) ∷ [] }
+    ensures buffer_over_cache { memory_at (without_last (machine_of (idle ∷ record liner { buffers = second_word ∷ [] } ∷ []))) 0x100008 ≡ 8 }
+    ensures cached_beside_buffer { memory_at (without_last (machine_of (idle ∷ record liner { buffers = second_word ∷ [] } ∷ []))) 0x100010 ≡ 7 }
+    ensures anothers_line_is_read { memory_at (without_last (machine_of (liner ∷ record idle { buffers = second_word ∷ [] } ∷ []))) 0x100010 ≡ 7 }
+    ensures anothers_line_goes { cached (without_last (machine_of (liner ∷ record idle { buffers = line_of 0x4000 0 ∷ [] } ∷ []))) 0 ≡ [] }
+    ensures others_lines_stay { cached (without_last (machine_of (liner ∷ record idle { buffers = line_of 0x4001 0 ∷ [] } ∷ []))) 0 ≡ (0x4000, 6) ∷ [] }
     ensures others_buffers_stay { pending (without_last (machine_of (record idle { buffers = line_of 0x4000 0 ∷ [] } ∷ idle ∷ []))) 0 ≡ (0x4000, 6) ∷ [] }
-    ensures others_words_wait { memory_at (without_last (machine_of (record idle { lines = line_of 0x4000 0 ∷ [] } ∷ idle ∷ []))) 0x100008 ≡ 0 }
+    ensures others_words_wait { memory_at (without_last (machine_of (liner ∷ idle ∷ []))) 0x100008 ≡ 0 }
     ensures copies_stay { (own (without_last (machine_of (copier ∷ idle ∷ []))) 0) ≡ copier }
 {}

@@ -45,7 +45,8 @@ pub fn worked_loads()
     ensures no_fill_hit_wp { answer_of (run palette (store 0 0x1000 5 ∷ no_fill 0 ∷ [])) 0 (Load 0x5000) ≡ Value 5 WP }
     ensures no_fill_hit { answer_of (run palette (store 0 0x1000 5 ∷ no_fill 0 ∷ [])) 0 (Load 0x1000) ≡ Value 5 WB }
     ensures no_fill_hit_stays { cached (run palette (store 0 0x1000 5 ∷ no_fill 0 ∷ load 0 0x1000 ∷ [])) 0 ≡ (0x4000, 1) ∷ [] }
-    ensures era { (own (run (alone (record (holder true) { era = 3; lines = [] })) (load 0 0x1000 ∷ [])) 0).lines ≡ record { number = 0x4000; words = 0 ∷ 0 ∷ 0 ∷ 0 ∷ 0 ∷ 0 ∷ 0 ∷ 0 ∷ []; dirty = 0; era = 3 } ∷ [] }
+    ensures era { (own (run (alone (record (holder true) { era = 3; lines = [] })) (load 0 0x1000 ∷ [])) 0).lines ≡
+        record { number = 0x4000; words = 0 ∷ 0 ∷ 0 ∷ 0 ∷ 0 ∷ 0 ∷ 0 ∷ 0 ∷ []; dirty = 0; era = 3 } ∷ [] }
     ensures full_cache { length (cached (run (wide_alone crowded) (load 0 0x1000 ∷ [])) 0) ≡ 64 }
     ensures oldest_goes { slice_get (cached (run (wide_alone crowded) (load 0 0x1000 ∷ [])) 0) 0 ≡ Some (0x4002, 1) }
     ensures newest_comes_last { slice_get (cached (run (wide_alone crowded) (load 0 0x1000 ∷ [])) 0) 63 ≡ Some (0x4000, 0) }

@@ -1,12 +1,12 @@
 ghost use Rattle.std.specs.Prelude.{◌≡◌, ◌∷◌, [], Some, false, map, true};
-ghost use Rattle.mt_machine.specs.declared.control.Control.TheVariants.{Cd, Cr3, Invlpg, Pge};
 ghost use Rattle.mt_machine.specs.declared.event.Event.TheVariants.{Arrive, ArriveAgain, Disable, DropLines, Enable, FlushTlb, Pass, Release, RestorePge, SetNoFill, SetNormal, Take, Write, WriteBack};
 ghost use Rattle.mt_machine.specs.declared.op.Op.TheVariants.{Fence};
-ghost use Rattle.mt_machine.specs.Machine.{Accesses, Calls, Cancels, Controls, Goes, due_at, run};
+ghost use Rattle.mt_machine.specs.Machine.{Accesses, Calls, Cancels, Goes, due_at, run};
 ghost use Rattle.mt_machine.specs.Start.{start_with};
 ghost use Rattle.mt_machine.specs.System.{with_self_snoop};
 ghost use Rattle.mt_machine.specs.Update.{updated};
-ghost use Rattle.mt_machine.specs.WorkedRuns.{alone, bare_file, bare_snooper, begun, cached, called, flags, load, mapping, maps, memory_at, mixed, mixed_dirty, own, reports, rounds, snooper, steps_of, store, walk};
+ghost use Rattle.mt_machine.specs.WorkedRuns.{alone, bare_file, bare_snooper, begun, cached, called, flags, load, memory_at, mixed, mixed_dirty, own, reports, rounds, snooper, steps_of, store, walk};
+ghost use Rattle.mt_machine.specs.WorkedSetups.{all_controls};
 
 /// The rows of the table of events in which a self-snooping processor differs.
 pub fn worked_self_snoop()
@@ -28,7 +28,8 @@ pub fn worked_self_snoop()
     ensures dropped { cached (walk 38 0 (called (alone (snooper true)))) 0 ≡ [] }
     ensures flush_again { due_at (walk 38 0 (called (alone (snooper true)))) 0 ≡ Some FlushTlb }
     ensures release { due_at (walk 42 0 (called (alone (snooper true)))) 0 ≡ Some Release }
-    ensures all_events { steps_of 20 0 (run bare_snooper (Calls (bare_file 0x806) ∷ Goes ∷ [])) ≡ Take ∷ Arrive ∷ Pass ∷ SetNoFill ∷ FlushTlb ∷ Disable ∷ Write 0 ∷ Enable ∷ DropLines ∷ FlushTlb ∷ SetNormal ∷ RestorePge ∷ ArriveAgain ∷ Release ∷ [] }
+    ensures all_events { steps_of 20 0 (run bare_snooper (Calls (bare_file 0x806) ∷ Goes ∷ [])) ≡
+        Take ∷ Arrive ∷ Pass ∷ SetNoFill ∷ FlushTlb ∷ Disable ∷ Write 0 ∷ Enable ∷ DropLines ∷ FlushTlb ∷ SetNormal ∷ RestorePge ∷ ArriveAgain ∷ Release ∷ [] }
     ensures by_events { rounds 18 (run mixed_dirty (Calls (bare_file 0x800) ∷ Goes ∷ [])) ≡ updated mixed_dirty.system (0 ∷ 1 ∷ []) (bare_file 0x800) }
     ensures not_before { reports mixed_dirty ≡ (0 ∷ 1 ∷ 1 ∷ 0 ∷ 1 ∷ 0 ∷ 0 ∷ 0 ∷ []) ∷ (0 ∷ 1 ∷ 1 ∷ 0 ∷ 1 ∷ 0 ∷ 0 ∷ 0 ∷ []) ∷ [] }
     ensures written { memory_at (updated mixed_dirty.system (0 ∷ 1 ∷ []) (bare_file 0x800)) 0x100000 ≡ 0x2a }
@@ -42,8 +43,8 @@ pub fn worked_self_snoop_flags()
     ensures set_again { record mixed { system = with_self_snoop 0 mixed.system } ≡ mixed }
     ensures no_processor { record mixed { system = with_self_snoop 2 mixed.system } ≡ mixed }
     ensures accesses { flags (run mixed (load 0 0x1000 ∷ store 0 0x1000 7 ∷ Accesses 0 Fence ∷ load 1 0x1000 ∷ store 1 0x1000 8 ∷ Accesses 1 Fence ∷ [])) ≡ true ∷ false ∷ [] }
-    ensures controls { flags (run mixed (maps 0 (mapping 6 0x200 0) ∷ Controls 0 (Invlpg 0) ∷ Controls 0 Cr3 ∷ Controls 0 (Pge true) ∷ Controls 0 (Cd true) ∷ Controls 0 (Cd false) ∷ [])) ≡ true ∷ false ∷ [] }
-    ensures controls_of_the_other { flags (run mixed (maps 1 (mapping 6 0x200 0) ∷ Controls 1 (Invlpg 0) ∷ Controls 1 Cr3 ∷ Controls 1 (Pge true) ∷ Controls 1 (Cd true) ∷ Controls 1 (Cd false) ∷ [])) ≡ true ∷ false ∷ [] }
+    ensures controls { flags (run mixed (all_controls 0)) ≡ true ∷ false ∷ [] }
+    ensures controls_of_the_other { flags (run mixed (all_controls 1)) ≡ true ∷ false ∷ [] }
     ensures update { flags (rounds 18 (run mixed (Calls (bare_file 0x800) ∷ Goes ∷ []))) ≡ true ∷ false ∷ [] }
     ensures cancelled { flags (walk 1 1 (walk 1 0 (run (walk 2 1 (walk 1 0 (begun (bare_file 0x800) mixed))) (Cancels ∷ [])))) ≡ true ∷ false ∷ [] }
     ensures starts { flags (start_with (true ∷ false ∷ []) (bare_file 0x806 ∷ bare_file 0x800 ∷ []) []) ≡ true ∷ false ∷ [] }

@@ -7,6 +7,7 @@ ghost use Rattle.mt_machine.specs.declared.phase.Phase.TheVariants.{Arrived, Res
 ghost use Rattle.mt_machine.specs.Start.{HasEraRoom, IsBroadcast, IsQuiet, start_machine};
 ghost use Rattle.mt_machine.specs.System.{start_processor};
 ghost use Rattle.mt_machine.specs.WorkedRuns.{alone, bare, bare_file, begun, call_order, calling, idle, line_of, machine_of, ready, whole, with_first_word};
+ghost use Rattle.mt_machine.specs.WorkedSetups.{order_for};
 
 /// What is quiet, and what is not for one thing.
 pub fn worked_quiet()
@@ -25,15 +26,15 @@ pub fn worked_quiet()
 pub fn worked_broadcast()
     ensures broadcast { IsBroadcast (calling call_order (ready ∷ ready ∷ [])) call_order }
     ensures unsound { IsBroadcast (with_first_word 9 (calling call_order (record whole { phase = Taken; buffers = [] } ∷ []))) call_order → ⊥ }
-    ensures other_order { IsBroadcast (calling call_order (ready ∷ [])) (record call_order { goal = bare_file 0x800 }) → ⊥ }
+    ensures other_order { IsBroadcast (calling call_order (ready ∷ [])) (order_for (bare_file 0x800)) → ⊥ }
     ensures no_order { IsBroadcast (alone ready) call_order → ⊥ }
     ensures given { IsBroadcast (calling (record call_order { go = Given }) (ready ∷ [])) (record call_order { go = Given }) → ⊥ }
     ensures arrived { IsBroadcast (calling call_order (ready ∷ record ready { phase = Arrived } ∷ [])) call_order → ⊥ }
     ensures buffer { IsBroadcast (calling call_order (ready ∷ record ready { buffers = line_of 0x4000 0 ∷ [] } ∷ [])) call_order → ⊥ }
     ensures two_eras { IsBroadcast (calling call_order (ready ∷ record ready { era = 1 } ∷ [])) call_order → ⊥ }
-    ensures no_file { IsBroadcast (calling (record call_order { goal = record (bare_file 0x806) { fixed = [] } }) (ready ∷ [])) (record call_order { goal = record (bare_file 0x806) { fixed = [] } }) → ⊥ }
-    ensures not_accepted { IsBroadcast (calling (record call_order { goal = bare_file 0x802 }) (ready ∷ [])) (record call_order { goal = bare_file 0x802 }) → ⊥ }
-    ensures other_width { IsBroadcast (calling (record call_order { goal = with_value (blank_file 40 0x400) DefaultType 0x806 }) (ready ∷ [])) (record call_order { goal = with_value (blank_file 40 0x400) DefaultType 0x806 }) → ⊥ }
+    ensures no_file { IsBroadcast (calling (order_for (record (bare_file 0x806) { fixed = [] })) (ready ∷ [])) (order_for (record (bare_file 0x806) { fixed = [] })) → ⊥ }
+    ensures not_accepted { IsBroadcast (calling (order_for (bare_file 0x802)) (ready ∷ [])) (order_for (bare_file 0x802)) → ⊥ }
+    ensures other_width { IsBroadcast (calling (order_for (with_value (blank_file 40 0x400) DefaultType 0x806)) (ready ∷ [])) (order_for (with_value (blank_file 40 0x400) DefaultType 0x806)) → ⊥ }
 {}
 
 /// Each of two processors has its own file.

@@ -1,9 +1,10 @@
-ghost use Rattle.std.specs.Prelude.{◌≡◌, ◌∷◌, [], Some, length, map, slice_get};
+ghost use Rattle.std.specs.Prelude.{◌≡◌, ◌∷◌, ◌++◌, [], Some, length, map, slice_get};
 ghost use Rattle.mt_kinds.specs.declared.mem_type.MemType.TheVariants.{WB};
 ghost use Rattle.mt_machine.specs.declared.done.Done.TheVariants.{Value};
 ghost use Rattle.mt_machine.specs.declared.op.Op.TheVariants.{Load};
 ghost use Rattle.mt_machine.specs.Machine.{run};
 ghost use Rattle.mt_machine.specs.WorkedRuns.{alone, answer_of, cached, crowded, load, memory_at, no_fill, own, painter, palette, pending, store, wide_alone};
+ghost use Rattle.mt_machine.specs.WorkedSetups.{four_lines, whole_line};
 
 /// Rows of the table of stores.
 pub fn worked_stores()
@@ -56,10 +57,10 @@ pub fn worked_combining()
     ensures one_buffer_a_line { pending (run palette (store 0 0x3000 3 ∷ store 0 0x3040 4 ∷ store 0 0x3008 5 ∷ [])) 0 ≡ (0x4000, 3) ∷ (0x4001, 1) ∷ [] }
     ensures its_own { pending (run palette (store 0 0x3000 3 ∷ [])) 1 ≡ [] }
     ensures era { map (λ b. b.era) (own (run (alone (record painter { era = 3 })) (store 0 0x3000 3 ∷ [])) 0).buffers ≡ 3 ∷ [] }
-    ensures whole_one_is_emptied { pending (run palette (store 0 0x3000 1 ∷ store 0 0x3008 2 ∷ store 0 0x3010 3 ∷ store 0 0x3018 4 ∷ store 0 0x3020 5 ∷ store 0 0x3028 6 ∷ store 0 0x3030 7 ∷ store 0 0x3038 8 ∷ [])) 0 ≡ [] }
-    ensures oldest_is_emptied { pending (run palette (store 0 0x3000 1 ∷ store 0 0x3040 2 ∷ store 0 0x3080 3 ∷ store 0 0x30c0 4 ∷ store 0 0x3100 5 ∷ [])) 0 ≡ (0x4001, 1) ∷ (0x4002, 1) ∷ (0x4003, 1) ∷ (0x4004, 1) ∷ [] }
-    ensures oldest_in_memory { memory_at (run palette (store 0 0x3000 1 ∷ store 0 0x3040 2 ∷ store 0 0x3080 3 ∷ store 0 0x30c0 4 ∷ store 0 0x3100 5 ∷ [])) 0x100000 ≡ 1 }
-    ensures full_but_found { pending (run palette (store 0 0x3000 1 ∷ store 0 0x3040 2 ∷ store 0 0x3080 3 ∷ store 0 0x30c0 4 ∷ store 0 0x3048 5 ∷ [])) 0 ≡ (0x4000, 1) ∷ (0x4001, 3) ∷ (0x4002, 1) ∷ (0x4003, 1) ∷ [] }
+    ensures whole_one_is_emptied { pending (run palette (whole_line 0x3000)) 0 ≡ [] }
+    ensures oldest_is_emptied { pending (run palette (four_lines 0x3000 ++ store 0 0x3100 5 ∷ [])) 0 ≡ (0x4001, 1) ∷ (0x4002, 1) ∷ (0x4003, 1) ∷ (0x4004, 1) ∷ [] }
+    ensures oldest_in_memory { memory_at (run palette (four_lines 0x3000 ++ store 0 0x3100 5 ∷ [])) 0x100000 ≡ 1 }
+    ensures full_but_found { pending (run palette (four_lines 0x3000 ++ store 0 0x3048 5 ∷ [])) 0 ≡ (0x4000, 1) ∷ (0x4001, 3) ∷ (0x4002, 1) ∷ (0x4003, 1) ∷ [] }
     ensures emptied_past_the_caches { cached (run palette (store 1 0x1008 9 ∷ store 0 0x3000 3 ∷ load 0 0x3000 ∷ [])) 1 ≡ [] }
     ensures emptied_after_a_bus_read { memory_at (run palette (store 1 0x1008 9 ∷ store 0 0x3000 3 ∷ load 0 0x3000 ∷ [])) 0x100008 ≡ 9 }
     ensures emptied_over_what_was_dirty { memory_at (run palette (store 1 0x1000 9 ∷ store 0 0x3000 3 ∷ load 0 0x3000 ∷ [])) 0x100000 ≡ 3 }
