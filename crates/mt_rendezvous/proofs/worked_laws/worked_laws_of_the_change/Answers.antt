@@ -15,14 +15,14 @@ use Rattle.mt_rendezvous.proofs.worked_laws.worked_laws_of_the_change.Goals as g
 pub returns-clause-phase : goal.returns-clause-phase
 returns-clause-phase c = λ law key is. (
   passed_meets key is,
-  law key (passed key) (passed_meets key is) 1 0 2 1 (first Passed) (sits (start_of key) gone) (sits (start_of key) fills) (record { at = refl; holds = refl }) refl (refl, refl)
+  law key (passed key) (passed_meets key is) 1 0 (first Passed) (sits (start_of key) gone) (sits (start_of key) fills) (record { at = refl; holds = refl }) 2 1 refl (refl, refl)
       (subst (λ (t : Start). Works (step 0 2 1 0 none) (sits t gone) 1 (sits t fills)) (sym is) works),
 )
 
 pub returns-clause-word : goal.returns-clause-word
 returns-clause-word c = λ law key is. (
   unfilled_meets key is,
-  law key (fills_not key) (unfilled_meets key is) 1 0 4 6 unfilled (sits (start_of key) fills) (sits (start_of key) wrote) (record { at = refl; holds = refl }) refl
+  law key (fills_not key) (unfilled_meets key is) 1 0 unfilled (sits (start_of key) fills) (sits (start_of key) wrote) (record { at = refl; holds = refl }) 4 6 refl
       (subst (λ (t : Start). GoesTo t 0 unfilled (written (own_event t unfilled)) 4 6) (sym is) (refl, 1, refl, refl))
       (subst (λ (t : Start). Works (step 0 4 6 0 none) (sits t fills) 6 (sits t wrote)) (sym is) works_back),
 )
