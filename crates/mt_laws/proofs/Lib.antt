@@ -7,4 +7,4 @@ pub mod Invariant
 pub mod Steps
 pub mod Updates
 mod WorkedBare
-mod WorkedUpdates
+pub mod WorkedUpdates

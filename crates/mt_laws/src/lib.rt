@@ -11,6 +11,7 @@ mod worked_ends;
 mod worked_others;
 mod worked_reached;
 mod worked_systems;
+mod worked_two;
 mod worked_unlike;
 mod worked_uses;
 
@@ -37,6 +38,10 @@ pub use worked_reached::{
 pub use worked_systems::{
     worked_laws_of_barriers, worked_laws_of_comers_and_goers, worked_laws_of_flags,
     worked_laws_of_quiet_machines, worked_laws_of_sound_systems,
+};
+pub use worked_two::{
+    worked_laws_of_two, worked_laws_of_two_releases, worked_laws_of_two_systems,
+    worked_laws_of_two_takes,
 };
 pub use worked_unlike::worked_unlike_files;
 pub use worked_uses::{worked_laws_of_steps, worked_laws_of_updates, worked_updates_alike};
