@@ -10,6 +10,7 @@ mod Ended
 mod Left
 mod Lists
 mod Meeting
+mod Nearer
 pub mod Own
 mod Walk
 pub mod Residents

@@ -11,6 +11,7 @@ ghost use Rattle.mt_machine.specs.Machine.{Calls, FitsOp, IsEnabled, is_changing
 ghost use Rattle.mt_machine.specs.Start.{IsQuiet};
 ghost use Rattle.mt_machine.specs.Update.{updated};
 ghost use Rattle.mt_cpu.specs.Steps.{is_local};
+ghost use Rattle.mt_core.specs.Steps.{step_after};
 ghost use Rattle.mt_private.specs.OneByOne.{at_rest, ran};
 ghost use Rattle.mt_private.specs.YardCalls.{AreIn, HasTaken, IsLeft, done_in, in_phase, stored_in};
 
@@ -224,6 +225,7 @@ impl YardPass {
         ensures done { done_in self.new.seat.me ≡ done_in self.old.seat.me }
         ensures visits { KeepsVisit (VisitsIn yard.now self.old core.old true false Given) (VisitsIn yard.now self.new core.new true false Given) }
         ensures between { (phase : MachinePhase) × AreIn phase core.new.system × (is_changing phase ≡ true) }
+        ensures after { core.new ≡ step_after core.old 0 }
     {
         let word = self.number as usize + 2;
         let next = self.stored.wrapping_add(1);
@@ -234,8 +236,8 @@ impl YardPass {
         core.step(0);
     }
 
-    // Does all events between the barriers.
-    fn work_all<R: Wait>(&mut self, rt: &R, yard: &Yard, core: &mut Core)
+    // Does all events between the barriers, which are so many as are left to do.
+    fn work_all(&mut self, yard: &Yard, core: &mut Core)
         requires visits { (first : MachineSystem) × VisitsIn yard.now self.old core.old true false Given first }
         requires between { (phase : MachinePhase) × AreIn phase core.old.system × (is_changing phase ≡ true) }
         ensures number { self.new.number ≡ self.old.number }
@@ -243,13 +245,10 @@ impl YardPass {
         ensures visits { KeepsVisit (VisitsIn yard.now self.old core.old true false Given) (VisitsIn yard.now self.new core.new true false Given) }
         ensures restored { AreIn Restored core.new.system }
     {
-        for _ in rt.forever() {
-            if !is_local(phase_of(core)) {
-                return;
-            }
+        while is_local(phase_of(core)) {
+            a_core_arises(core); // a fact for the proof
             self.work(yard, core);
         }
-        unreachable!()
     }
 
     // Adds to the second count: the event ArriveAgain.
@@ -317,7 +316,7 @@ impl YardPass {
         if !self.wait_first(rt, yard, core) {
             return Visited::Cancelled;
         }
-        self.work_all(rt, yard, core);
+        self.work_all(yard, core);
         self.arrive_again(yard, core);
         self.wait_second(rt, yard, core);
         Visited::Complete

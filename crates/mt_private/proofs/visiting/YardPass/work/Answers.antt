@@ -84,3 +84,6 @@ returns-clause-between c =
       in_its_phase o.q.cpu.phase c.step.new.self.system o.q.cpu (ap (λ (m : Machine). m.system.processors) o.is ∙ o.q.alone) refl,
       ap (λ (x : Stage). is_changing x.0) o.q.stage ∙ (keeps t r.cpu local).0,
     )
+
+pub returns-clause-after : goal.returns-clause-after
+returns-clause-after c = c.step.ensures.after
