@@ -1,6 +1,6 @@
 -- States at which each law is shown to speak of something.
 use Rattle.std.specs.Prelude.{List, [], ◌∷◌}
-use Rattle.mt_machine.specs.declared.event.Event.TheVariants.{Leave}
+use Rattle.mt_machine.specs.declared.event.Event.TheVariants.{Arrive, Leave}
 use Rattle.mt_machine.specs.Machine.{Machine, Cancels, Steps}
 use Rattle.mt_machine.specs.WorkedRuns.{alone, bare_file, call_order, calling, idle, line_of, machine_of, mapping, whole}
 use Rattle.mt_flat.specs.Courses.{Does, Turn, Updates}
@@ -29,3 +29,7 @@ two_sharing = machine_of (whole ∷ record idle { mappings = mapping 1 0x100 0 �
 -- the second takes first
 abbrev pub updated_by_two : List Turn
 updated_by_two = Updates (bare_file 0x806) (1 ∷ 0 ∷ []) ∷ []
+
+-- both have taken, the first has arrived, and the update is cancelled
+abbrev pub cancelled_by_two : List Turn
+cancelled_by_two = Does (Steps 0 Arrive) ∷ Does Cancels ∷ Does (Steps 1 Leave) ∷ Does (Steps 0 Leave) ∷ []

@@ -26,5 +26,5 @@ pub use worked_laws::{
     worked_laws_of_broadcasts, worked_laws_of_starts, worked_laws_of_takes, worked_laws_under_way,
 };
 pub use worked_related::{worked_flat_answers, worked_flat_held, worked_flat_laws, worked_flat_of};
-pub use worked_two::worked_laws_of_two;
+pub use worked_two::{worked_laws_of_two, worked_updates_of_two};
 pub use worked_updates::{worked_laws_of_courses, worked_states_on_the_way};

@@ -3,7 +3,7 @@ ghost use Rattle.std.specs.Prelude.{◌≡◌, ◌⊎◌, ◌<◌, ◌^◌, ◌%
 ghost use Rattle.std.specs.List.{All};
 ghost use Rattle.mt_machine.specs.declared.control.Control.TheVariants.{Cr3};
 ghost use Rattle.mt_machine.specs.declared.event.Event.TheVariants.{Pass, Release, Take, WriteBack};
-ghost use Rattle.mt_machine.specs.declared.op.Op.TheVariants.{Fence, Load};
+ghost use Rattle.mt_machine.specs.declared.op.Op.TheVariants.{Fence, Store};
 ghost use Rattle.mt_machine.specs.declared.phase.Phase.TheVariants.{Taken};
 ghost use Rattle.mt_machine.specs.Access.{access};
 ghost use Rattle.mt_machine.specs.Bus.{drain};
@@ -60,7 +60,7 @@ pub fn worked_laws_of_two_takes()
 
 /// What the second of two does leaves their system sound, and what the second has is low and has places.
 pub fn worked_laws_of_two_systems()
-    ensures access { AccessKeepsSound → IsSound (access two_holding.system 1 (Load 0x1008)).after }
+    ensures access { AccessKeepsSound → IsSound (access two_holding.system 1 (Store 0x1008 9)).after }
     ensures control { ControlKeepsSound → IsSound (control two_holding.system 1 Cr3).after }
     ensures drained { DrainKeepsSound → IsSound (drain 1 two_holding.system) }
     ensures low { LinesAreLow → All (λ p. All (λ l. l.number < 2 ^ 46) p.lines × All (λ l. l.number < 2 ^ 46) p.buffers) two_holding.system.processors }

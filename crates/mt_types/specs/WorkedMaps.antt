@@ -20,6 +20,10 @@ three = run 0 0x80 WB ∷ run 0x80 0x20 WP ∷ run 0xa0 0x60 UC ∷ []
 abbrev pub off : RegisterFile
 off = blank_file 36 0x400
 
+-- of sixteen times as many pages
+abbrev pub wide_off : RegisterFile
+wide_off = blank_file 40 0x400
+
 -- the pages from 80H to 8FH
 abbrev pub sixteen : Block
 sixteen = record { first = 0x80; log = 4; small = omega arith; aligned = refl; within_memory = omega arith }

@@ -4,7 +4,7 @@ ghost use Rattle.mt_kinds.specs.declared.mem_type.MemType.TheVariants.{UC, WB, W
 ghost use Rattle.mt_regs.specs.RegisterFile.{RegisterFile};
 ghost use Rattle.mt_types.specs.Runs.{HasPage, IsChain, IsRunsOf, NeighboursDiffer, run_end};
 ghost use Rattle.mt_types.specs.Tables.{IsPartsOf, IsTableOf, IsTypeTable};
-ghost use Rattle.mt_types.specs.WorkedMaps.{off, run, three};
+ghost use Rattle.mt_types.specs.WorkedMaps.{off, run, three, wide_off};
 
 /// Neighbours that differ, and lists in which two are alike.
 pub fn worked_neighbours()
@@ -16,7 +16,7 @@ pub fn worked_neighbours()
     ensures last_two_alike { NeighboursDiffer (run 0 0x80 WB ∷ run 0x80 0x20 UC ∷ run 0xa0 0x60 UC ∷ []) → ⊥ }
 {}
 
-/// The pages of runs, chains of them, a second run of another type than the file's, and more parts than a file may have.
+/// The pages of runs, chains of them, a second run or part of another type than the file's, and more parts than a file may have.
 pub fn worked_pages_of_runs()
     ensures end { run_end (run 0x80 0x20 WP) ≡ 0xa0 }
     ensures first { HasPage (run 0x80 0x20 WP) 0x80 }
@@ -28,5 +28,6 @@ pub fn worked_pages_of_runs()
     ensures second_of_another_type { IsRunsOf off (run 0 0x80 UC ∷ run 0x80 0xffff80 WB ∷ []) → ⊥ }
     ensures two_parts_from_one_page { IsTypeTable (record { parts = (0, WB) ∷ (0x80, UC) ∷ (0x80, WP) ∷ []; covered = 0x100 }) → ⊥ }
     ensures other_type_far_up { IsTableOf off (record { parts = (0, UC) ∷ (0xffffff, WB) ∷ []; covered = 0x1000000 }) → ⊥ }
+    ensures other_type_in_a_wider_file { IsTableOf wide_off (record { parts = (0, UC) ∷ (0x1000000, WB) ∷ []; covered = 0x10000000 }) → ⊥ }
     ensures too_many_parts { (f : RegisterFile) (parts : List (ℕ × MemType)) → length parts ≡ 154 → IsPartsOf f parts → ⊥ }
 {}

@@ -1,13 +1,13 @@
 use Rattle.std.proofs.Common.{◌∷◌, [], refl}
 use Rattle.mt_machine.specs.declared.control.Control.TheVariants.{Cr3}
-use Rattle.mt_machine.specs.declared.op.Op.TheVariants.{Load}
+use Rattle.mt_machine.specs.declared.op.Op.TheVariants.{Store}
 use Rattle.mt_machine.specs.WorkedRuns.{bare_file, own}
 use Rattle.mt_laws.specs.WorkedUpdates.{two_holding}
 use Rattle.mt_laws.proofs.WorkedUpdates.{two_can_be_called, two_quiet}
 use Rattle.mt_laws.proofs.worked_two.worked_laws_of_two_systems.Goals as goal
 
 pub returns-clause-access : goal.returns-clause-access
-returns-clause-access c = λ law. law two_holding.system 1 (Load 0x1008) two_quiet.sound
+returns-clause-access c = λ law. law two_holding.system 1 (Store 0x1008 9) two_quiet.sound
 
 pub returns-clause-control : goal.returns-clause-control
 returns-clause-control c = λ law. law two_holding.system 1 Cr3 two_quiet.sound (λ p at. tt)

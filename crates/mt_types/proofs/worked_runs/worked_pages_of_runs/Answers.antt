@@ -12,3 +12,6 @@ returns-clause-other_type_far_up c = λ h. let e : Kind UC ≡ Kind WB = h.types
 
 pub returns-clause-two_parts_from_one_page : goal.returns-clause-two_parts_from_one_page
 returns-clause-two_parts_from_one_page c = λ h. omega (arith, h.ascends 1 2 (0, UC) (omega arith) (omega arith))
+
+pub returns-clause-other_type_in_a_wider_file : goal.returns-clause-other_type_in_a_wider_file
+returns-clause-other_type_in_a_wider_file c = λ h. let e : Kind UC ≡ Kind WB = h.types 0x1000000 (omega arith) in absurd (cc)
