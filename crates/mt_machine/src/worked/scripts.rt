@@ -30,8 +30,8 @@ pub fn worked_updates()
 pub fn worked_barrier()
     ensures first { steps_of 3 0 pair_called ≡ Take ∷ Arrive ∷ [] }
     ensures waits { option_map (λ o. first_barrier_count o first_waits.system.processors) first_waits.order ≡ Some (record { arrived = 2; awaited = 3 }) }
-    ensures waits_for_the_go { option_map (λ o. first_barrier_count o (walk 2 0 (begun uncached_goal (setup 2 four_gigabytes))).system.processors)
-        (walk 2 0 (begun uncached_goal (setup 2 four_gigabytes))).order ≡ Some (record { arrived = 1; awaited = 3 }) }
+    ensures waits_for_the_go { option_map (λ o. first_barrier_count o (walk 2 0 (begun uncached_goal pair)).system.processors) (walk 2 0 (begun uncached_goal pair)).order
+        ≡ Some (record { arrived = 1; awaited = 3 }) }
     ensures other_runs { answer_of first_waits 1 (Store 0x1000 7) ≡ Stored WB }
     ensures still_waits { due_at (run first_waits (store 1 0x1000 7 ∷ [])) 0 ≡ None }
     ensures busy { answer_of first_waits 0 (Load 0x1000) ≡ Busy }
