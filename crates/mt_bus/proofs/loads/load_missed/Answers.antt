@@ -13,7 +13,8 @@ pub returns-then-is_filled-clause-after : goal.returns-then-is_filled-clause-aft
 returns-then-is_filled-clause-after c =
     load_missed c.args.kind c.args.k c.args.address c.read-v.result c.args.cpus.now c.bus_read.new.cpus c.args.ram.now c.bus_read.new.ram c.fills-is_filled.result (system c.fill_line.new.cpus c.fill_line.new.ram)
     c.requires.missed c.bus_read.ensures.after c.read-v.ensures c.fills-is_filled.ensures
-    (c.fill_line.ensures.after ∙ sym (ap (λ b. if b then fill_line c.args.k (c.args.address / 64) (system c.bus_read.new.cpus c.bus_read.new.ram) else system c.bus_read.new.cpus c.bus_read.new.ram) c.if-is_filled.true))
+    (c.fill_line.ensures.after
+    ∙ sym (ap (λ b. if b then fill_line c.args.k (c.args.address / 64) (system c.bus_read.new.cpus c.bus_read.new.ram) else system c.bus_read.new.cpus c.bus_read.new.ram) c.if-is_filled.true))
 
 pub returns-else-is_filled-clause-after : goal.returns-else-is_filled-clause-after
 returns-else-is_filled-clause-after c =

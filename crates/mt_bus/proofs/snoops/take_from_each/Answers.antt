@@ -12,8 +12,10 @@ use Rattle.mt_bus.proofs.snoops.take_from_each.Goals as goal
 
 pub returns-clause-after : goal.returns-clause-after
 returns-clause-after c =
-    ap (λ (m : Memory). system c.loop-i.cpus m) (passed_back c.loop-i.i c.args.k c.args.number c.loop-i.ram c.args.ram.now c.loop-i.cpus c.args.cpus.now (omega arith) c.requires.processor c.loop-i.invariant.ram)
-    ∙ ap (λ ps. system ps (written_back c.args.number c.args.ram.now (remove c.args.cpus.now c.args.k))) (passed (with_lines (without_line c.args.number)) c.loop-i.i c.args.k c.loop-i.cpus _ (omega arith) c.loop-i.invariant.cpus)
+    ap (λ (m : Memory). system c.loop-i.cpus m)
+    (passed_back c.loop-i.i c.args.k c.args.number c.loop-i.ram c.args.ram.now c.loop-i.cpus c.args.cpus.now (omega arith) c.requires.processor c.loop-i.invariant.ram)
+    ∙ ap (λ ps. system ps (written_back c.args.number c.args.ram.now (remove c.args.cpus.now c.args.k)))
+    (passed (with_lines (without_line c.args.number)) c.loop-i.i c.args.k c.loop-i.cpus _ (omega arith) c.loop-i.invariant.cpus)
 
 pub drop_unless-requires : goal.drop_unless-requires
 drop_unless-requires c =

@@ -80,7 +80,9 @@ invariant_of-system c =
     held_stepped c.args.order.now.goal c.do_own_part-e.result c.args.k c.as_mut_slice.result.now c.do_own_part-e.new.cpus c.system.inside.holders moved
     (subst (λ ps. AreHeldBy ps c.system.inside.holders) (sym c.as_mut_slice.ensures.value) c.system.invariant.2) in
     subst
-    (λ ps. IsSound (system ps c.write_word_of.new.ram) × AreTablesOf ps (take c.system.inside.tables.len (c.renew_table.new.tables ++ drop (length c.renew_table.new.tables) ts)) × AreHeldBy ps c.system.inside.holders)
+    (λ ps. IsSound (system ps c.write_word_of.new.ram)
+    × AreTablesOf ps (take c.system.inside.tables.len (c.renew_table.new.tables ++ drop (length c.renew_table.new.tables) ts))
+    × AreHeldBy ps c.system.inside.holders)
     (sym (take_at c.do_own_part-e.new.cpus (drop (length c.do_own_part-e.new.cpus) c.system.inside.cpus.items) c.system.inside.cpus.len (search rules))) (
       kept.0,
       subst (AreTablesOf c.do_own_part-e.new.cpus) (sym (take_at c.renew_table.new.tables (drop (length c.renew_table.new.tables) ts) c.system.inside.tables.len (search rules))) kept.1,
