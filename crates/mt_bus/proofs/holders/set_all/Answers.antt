@@ -1,4 +1,4 @@
-use Rattle.std.proofs.Common.{◌≡◌, ◌⊎◌, ◌<◌, ◌≤◌, arith, length, ⊎_elim}
+use Rattle.std.proofs.Common.{◌<◌, ◌≤◌, arith, length, ⊎_elim}
 use Rattle.std.proofs.lemmas.Bool.{cases_lt}
 use Rattle.std.proofs.lemmas.List.{get_or_past}
 use Rattle.mt_bus.proofs.Masks.{one_more_set}

@@ -1,4 +1,4 @@
-use Rattle.std.proofs.Common.{◌≡◌, ◌∙◌, ◌%◌, ◌==◌, ap, count_by, not, List}
+use Rattle.std.proofs.Common.{◌∙◌, ◌%◌, ◌==◌, ap, count_by, not, List}
 use Rattle.mt_cache.specs.declared.line.CacheLine.{CacheLine}
 use Rattle.mt_cache.specs.Counts.{has_residue}
 use Rattle.mt_cache.proofs.Counted.{counted_here}
