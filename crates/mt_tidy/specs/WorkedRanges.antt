@@ -59,3 +59,10 @@ with_reserved_bit = with_value cached (PhysBase 0) 0x100
 -- by default each page has UC, and one pair gives all of them WB
 abbrev pub written_back : RegisterFile
 written_back = with_ranges uncached (range 0 24 WB ∷ [])
+
+-- all else is UC, and pages 0 to 6 are WB: in the pairs of its own a page of UC lies in eight pages of WB
+abbrev pub one_hole : RegisterFile
+one_hole = with_ranges (with_value cached DefaultType 0x800) holed
+
+abbrev pub seven_pages : List Run
+seven_pages = record { first = 0; count = 7; kind = Kind WB } ∷ record { first = 7; count = 0xfffff9; kind = Kind UC } ∷ []
