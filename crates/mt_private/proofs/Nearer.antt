@@ -39,7 +39,7 @@ rests other h = refl
 fewer : (a b c d : ℕ) → a ≡ c → b ≡ d → c + 1 ≡ d → a < b
 fewer a b c d now before falls = omega arith
 
-module _ {table : TableId} {t : Start} {its : TableId} {me : YardSat} {number : ℕ} {core : Machine} {added again : Bool} {first : System} (v : Visits table t its me number core added again Given first) where
+module _ {table : TableId} {t : Start} {its : TableId} {me : YardSat} {k : ℕ} {core : Machine} {added again : Bool} {first : System} (v : Visits table t its me k core added again Given first) where
   abbrev own : System
   own = core.system
 

@@ -1,13 +1,13 @@
-use Rattle.std.proofs.Common.{◌≡◌, ◌∷◌, [], None, Some, ap, arith, false, refl, sym, true, true≢false}
+use Rattle.std.proofs.Common.{◌∷◌, [], None, Some, ap, arith, false, refl, sym, true, true≢false}
 use Rattle.mt_machine.specs.declared.event.Event.TheVariants.{Take}
 use Rattle.mt_machine.specs.declared.go.Go.TheVariants.{Cancelled, Pending}
 use Rattle.mt_machine.specs.declared.phase.Phase.TheVariants.{Running, Taken}
-use Rattle.mt_machine.specs.Machine.{FitsGoal, Steps, common_era}
+use Rattle.mt_machine.specs.Machine.{Steps}
 use Rattle.mt_private.specs.declared.view.YardView.{YardView}
 use Rattle.mt_private.specs.Residents.{stepped_by}
 use Rattle.mt_private.specs.WorkedWay.{guest, seat, seat_shown}
 use Rattle.mt_private.specs.WorkedYard.{alone}
-use Rattle.mt_private.specs.YardPlays.{Turns}
+use Rattle.mt_private.specs.YardPlays.{IsCallable, Turns}
 use Rattle.mt_private.proofs.LoneGuest.{at_rest_yard, cancelled_at_rest, has_taken, moves, none_is_one, opens}
 use Rattle.mt_private.proofs.Residents.Barriers.{unmoved}
 use Rattle.mt_private.proofs.Residents.Plays.{of_resident}
@@ -26,14 +26,13 @@ returns-clause-takes c = (
   (λ below. (
     opens,
     of_resident before (guest Running false)
-        (λ y. Turns before after y (stepped_by alone Take y) None false (Some (Steps y.held.number Take)) × FitsGoal alone.goal y.held.cpu × (y.held.cpu.era ≡ common_era alone.cpus)) refl (
+        (λ y. Turns before after y (stepped_by alone Take y) None false (Some (Steps y.held.number Take)) × IsCallable alone y) refl (
           (
             refl,
             moves Pending 0 0 (guest Running false) (guest Taken false) (Some (Steps 0 Take)) 0 0 at_rest_yard refl
                 (takes alone (guest Running false ∷ []) Pending 0 0 at_rest_yard.0 at_rest_yard.1 0 (guest Running false) refl refl refl refl (omega arith)),
           ),
-          record { width = refl; capabilities = refl },
-          refl,
+          (record { width = refl; capabilities = refl }, refl),
         ),
   )),
   (λ above. absurd (omega (arith, above))),
