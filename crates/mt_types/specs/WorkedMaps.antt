@@ -1,5 +1,5 @@
 -- Lists of runs of worked examples.
-use Rattle.std.specs.Prelude.{ℕ, List, [], ◌∷◌, refl}
+use Rattle.std.specs.Prelude.{ℕ, List, [], ◌∷◌, refl, replicate}
 use Rattle.std.proofs.Common.{arith}
 use Rattle.mt_kinds.specs.declared.mem_type.MemType.{MemType}
 use Rattle.mt_kinds.specs.declared.mem_type.MemType.TheVariants.{UC, WB, WP}
@@ -19,6 +19,10 @@ three = run 0 0x80 WB ∷ run 0x80 0x20 WP ∷ run 0xa0 0x60 UC ∷ []
 -- 2 ^ 24 pages, all of them UC, as the ranges are off
 abbrev pub off : RegisterFile
 off = blank_file 36 0x400
+
+-- the same, where the fixed ranges would be on and have WB
+abbrev pub off_with_fixed : RegisterFile
+off_with_fixed = record (blank_file 36 0x508) { fixed = replicate 11 0x0606060606060606; default_type = 0x406 }
 
 -- the pages from 80H to 8FH
 abbrev pub sixteen : Block
