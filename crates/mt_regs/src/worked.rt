@@ -34,6 +34,7 @@ pub fn worked_page_types()
     ensures no_pair { page_type (with_value four_gigabytes DefaultType 0x801) 0x100000 ≡ Kind WC }
     ensures invalid_pair { page_type (with_pair four_gigabytes 1 0xc0000001 0xff0000000) 0xc0000 ≡ Kind WB }
     ensures off { page_type (with_value clash DefaultType 0) 0xc0000 ≡ Kind UC }
+    ensures fixed_ranges_off_too { page_type (with_value video_memory DefaultType 0x400) 0xa0 ≡ Kind UC }
     ensures everywhere { page_type (with_value (with_pair plain 0 6 0x800) DefaultType 0x800) 0xffffff ≡ Kind WB }
     ensures low { page_type video_memory 0x9f ≡ Kind UC }
     ensures video { page_type video_memory 0xa0 ≡ Kind WC }
@@ -61,6 +62,14 @@ pub fn worked_faults()
     ensures width { register_fault (record (with_value plain (PhysMask 0) 0x7f80000800) { width = 39 }) ≡ None }
     ensures pat_type { register_fault (with_value four_gigabytes Pat 0x0007040600070402) ≡ Some (record { msr = 0x277; reason = UnsupportedType }) }
     ensures pat_bit { register_fault (with_value four_gigabytes Pat 0x0007040600070408) ≡ Some (record { msr = 0x277; reason = ReservedBit }) }
+    ensures last_pat_type { register_fault (with_value four_gigabytes Pat 0x0207040600070406) ≡ Some (record { msr = 0x277; reason = UnsupportedType }) }
+    ensures last_pat_bit { register_fault (with_value four_gigabytes Pat 0x0807040600070406) ≡ Some (record { msr = 0x277; reason = ReservedBit }) }
+    ensures base_bit_9 { register_fault (with_value plain (PhysBase 0) 0x206) ≡ Some (record { msr = 0x200; reason = ReservedBit }) }
+    ensures base_bit_10 { register_fault (with_value plain (PhysBase 0) 0x406) ≡ Some (record { msr = 0x200; reason = ReservedBit }) }
+    ensures base_bit_11 { register_fault (with_value plain (PhysBase 0) 0x806) ≡ Some (record { msr = 0x200; reason = ReservedBit }) }
+    ensures mask_bit_9 { register_fault (with_value plain (PhysMask 0) 0xf80000a00) ≡ Some (record { msr = 0x201; reason = ReservedBit }) }
+    ensures default_bit_9 { register_fault (with_value plain DefaultType 0xa06) ≡ Some (record { msr = 0x2ff; reason = ReservedBit }) }
+    ensures default_bit_63 { register_fault (with_value plain DefaultType 0x8000000000000806) ≡ Some (record { msr = 0x2ff; reason = ReservedBit }) }
     ensures first_register { register_fault (with_value (with_value plain (PhysMask 0) 0xfa0000800) (PhysBase 1) 7) ≡ Some (record { msr = 0x201; reason = BrokenMask }) }
     ensures first_reason { register_fault (with_value plain (PhysBase 0) 0x107) ≡ Some (record { msr = 0x200; reason = ReservedBit }) }
     ensures invalid_base { register_fault (with_value plain (PhysBase 0) 7) ≡ Some (record { msr = 0x200; reason = UnsupportedType }) }

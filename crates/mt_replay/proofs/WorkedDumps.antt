@@ -9,6 +9,7 @@ use Rattle.mt_dump.proofs.Stands.{clean_shown}
 use Rattle.mt_machine.specs.WorkedRuns.{bare_file}
 use Rattle.mt_script.specs.declared.command.Command.TheVariants as command
 use Rattle.mt_replay.specs.Statuses.{ShowsDump}
+use Rattle.mt_replay.specs.WorkedJoins.{join_script}
 use Rattle.mt_replay.specs.WorkedStates.{small_dump}
 
 -- the lines of the dump, the last first
@@ -20,3 +21,13 @@ shown = clean_shown readings (dump_of (bare_file 0x806)) (λ is. omega arith, re
 
 pub shows : ShowsDump small_dump (dump_of (bare_file 0x806))
 shows = (command.Cpus 1, refl, (command.Dump, refl, (command.DumpLine, refl, (refl, (command.DumpLine, refl, (refl, (command.End, refl, (shown, refl))))))))
+
+-- and the one of the script in which a processor joins
+abbrev join_readings : List Reading
+join_readings = said_of 4 (codes "2ff 800") ∷ said_of 3 (codes "0fe 400") ∷ []
+
+join_shown : ShownBy (onto join_readings []) (dump_of (bare_file 0x800))
+join_shown = clean_shown join_readings (dump_of (bare_file 0x800)) (λ is. omega arith, refl, (λ is. omega arith, refl, tt)) refl
+
+pub join_shows : ShowsDump join_script (dump_of (bare_file 0x800))
+join_shows = (command.Cpus 1, refl, (command.Dump, refl, (command.DumpLine, refl, (refl, (command.DumpLine, refl, (refl, (command.End, refl, (join_shown, refl))))))))

@@ -1,5 +1,5 @@
 -- Lists of runs of worked examples.
-use Rattle.std.specs.Prelude.{ℕ, List, [], ◌∷◌, refl}
+use Rattle.std.specs.Prelude.{ℕ, List, [], ◌∷◌, refl, replicate}
 use Rattle.std.proofs.Common.{arith}
 use Rattle.mt_kinds.specs.declared.mem_type.MemType.{MemType}
 use Rattle.mt_kinds.specs.declared.mem_type.MemType.TheVariants.{UC, WB, WP}
@@ -23,6 +23,10 @@ off = blank_file 36 0x400
 -- of sixteen times as many pages
 abbrev pub wide_off : RegisterFile
 wide_off = blank_file 40 0x400
+
+-- its ranges are off, where the fixed ranges would be on and have WB
+abbrev pub off_with_fixed : RegisterFile
+off_with_fixed = record (blank_file 36 0x508) { fixed = replicate 11 0x0606060606060606; default_type = 0x406 }
 
 -- the pages from 80H to 8FH
 abbrev pub sixteen : Block

@@ -4,7 +4,7 @@ ghost use Rattle.mt_regs.specs.declared.page_type.PageType.TheVariants.{Kind, Un
 ghost use Rattle.mt_types.specs.Follow.{Follows};
 ghost use Rattle.mt_types.specs.Runs.{IsLongestRun, IsRunsOf, IsTypeMap, kind_at, pages_end, shares_page};
 ghost use Rattle.mt_types.specs.Tables.{HasPart, IsPartsOf, IsTableOf, IsTypeTable, type_in};
-ghost use Rattle.mt_types.specs.WorkedMaps.{off, run, sixteen, three};
+ghost use Rattle.mt_types.specs.WorkedMaps.{off, off_with_fixed, run, sixteen, three};
 
 /// A type map, and lists that are none for one thing.
 pub fn worked_maps()
@@ -39,6 +39,7 @@ pub fn worked_types()
 /// The type map of a file, and maps that are not its own for one thing.
 pub fn worked_maps_of_a_file()
     ensures runs { IsRunsOf off (run 0 0x1000000 UC ∷ []) }
+    ensures fixed_ranges_off_too { IsRunsOf off_with_fixed (run 0 0x1000000 UC ∷ []) }
     ensures other_type { IsRunsOf off (run 0 0x1000000 WB ∷ []) → ⊥ }
     ensures short { IsRunsOf off (run 0 0xffffff UC ∷ []) → ⊥ }
     ensures no_map { IsRunsOf off (run 0 0x80 UC ∷ run 0x80 0xffff80 UC ∷ []) → ⊥ }

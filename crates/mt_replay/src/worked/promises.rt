@@ -33,7 +33,7 @@ ghost use Rattle.mt_replay.specs.Running.{Replays, ReplaysAs};
 ghost use Rattle.mt_replay.specs.Statuses.{AbsentProcessorsDoNothing, AbsentWhereNoProcessor, AcceptedCallsAreUnderWay, AcceptedFirst, AcceptedUnlessRefused, AcceptedWhereIdle, AreHeld, BadTextEndsWithOffence, BadTextWhereOffence, BeginsWith, CallsUnderWayChangeNothing, CompleteUpdatesSettle, DoneWhereNoOffence, EndsIdle, EndsWith, HasRefusedFile, IsAdmittedAfter, IsSettledAfter, JoinsSettle, OffenceAlone, OneDumpShown, OneOfThreeStatuses, RefusedAlone, RefusedCallsChangeNothing, RefusedWhereFileIsRefused, ReleasedStatesSettle, ReleasedWordsAreHeld, ShowsDump, StatesHaveTheShownDump, UpdatedWordsAreHeld};
 ghost use Rattle.mt_replay.specs.Texts.{absent_line, called_line, stale_count, under_way_line};
 ghost use Rattle.mt_replay.specs.Transcript.{told_offence, transcript};
-ghost use Rattle.mt_replay.specs.WorkedJoins.{after_join, just_dumped};
+ghost use Rattle.mt_replay.specs.WorkedJoins.{after_join, join_script, just_dumped};
 ghost use Rattle.mt_replay.specs.WorkedLaws.{is_idle, join_at};
 ghost use Rattle.mt_replay.specs.WorkedScript.{step_at, worked_script};
 ghost use Rattle.mt_replay.specs.WorkedStates.{busy, crowd, later_refused, resting, small_dump};
@@ -77,6 +77,7 @@ pub fn worked_laws_of_calls()
 pub fn worked_laws_of_told_updates()
     ensures complete { CompleteUpdatesSettle → IsSettledAfter (step_at 44).before (left (step_at 44)).machine }
     ensures words { UpdatedWordsAreHeld → AreHeld (word_at (left (step_at 44)).machine.system.memory) (left (step_at 44)) (asks.Load 0 0x1000 ∷ []) }
+    ensures stale { NothingIsStale → All (λ p. stale_count p ≡ 0) (step_at 16).before.machine.system.processors }
     ensures released { ReleasedStatesSettle → (o : Order) × ((step_at 37).before.machine.order ≡ Some o) × IsSettled (left (step_at 37)).machine.system (o.from_era + 1) o.goal }
     ensures held { ReleasedWordsAreHeld → (p : Machine) × IsFirstRelease p (left (step_at 37)).machine (record pair_order { goal = bare_file 0x800 }) × AreHeld (now p.system) (left (step_at 37)) [] }
     ensures joined { JoinsSettle → IsAdmittedAfter just_dumped (after_join just_dumped) }
@@ -100,6 +101,7 @@ pub fn worked_laws_of_beginnings()
     ensures states { StatesAreOfTheCourse → (is_idle (join_at 1).before ≡ true) × (is_idle (left (join_at 1)) ≡ true) }
     ensures starts { StartsAsTheDumpShows → All IsAccepted (bare_file 0x806 ∷ []) → (b : Beginning) × (beginning small_dump ≡ Some b)
         × (b.state.machine ≡ start_of b.state.now (dump_of (bare_file 0x806))) }
+    ensures first_step { StartsAsTheDumpShows → All IsAccepted (bare_file 0x800 ∷ []) → (b : Beginning) × (beginning join_script ≡ Some b) × ((join_at 0).before ≡ b.state) }
     ensures one_line { TranscriptIsOneLine → ((o : Offence) × (transcript later_refused ≡ told_offence o))
         ⊎ ((version : ℕ) × (k : ℕ) × (fault : Fault) × (transcript later_refused ≡ told (dump_refused_line version k fault) status.Refused)) }
 {}

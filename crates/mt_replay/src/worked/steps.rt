@@ -3,12 +3,14 @@ ghost use Rattle.mt_kinds.specs.declared.mem_type.MemType.TheVariants.{WB};
 ghost use Rattle.mt_machine.specs.declared.done.Done.TheVariants.{Busy, Value};
 ghost use Rattle.mt_machine.specs.WorkedRuns.{palette};
 ghost use Rattle.mt_flat.specs.Flat.{flat_start};
+ghost use Rattle.mt_ports.specs.declared.status.Status.TheVariants.{Done};
 ghost use Rattle.mt_script.specs.declared.command.Command.TheVariants as asks;
 ghost use Rattle.mt_script.specs.declared.command.Stage.TheVariants as stage;
-ghost use Rattle.mt_replay.specs.Flat.{flat_command, flat_done, flat_text};
+ghost use Rattle.mt_replay.specs.Flat.{flat_command, flat_done, flat_text, flat_told_in};
 ghost use Rattle.mt_replay.specs.Headline.{IsRefused, SectionOf, UpdateOf, last_of, left};
 ghost use Rattle.mt_replay.specs.ReplayState.{command_text};
 ghost use Rattle.mt_replay.specs.Statuses.{BeginsWith, EndsIdle, EndsWith, IsSettledAfter};
+ghost use Rattle.mt_stream.specs.Told.{told};
 ghost use Rattle.mt_replay.specs.WorkedScript.{IsKept, updated_processor};
 ghost use Rattle.mt_replay.specs.WorkedStates.{busy, painted, resting};
 ghost use Rattle.mt_replay.specs.WorkedSteps.{begins, calls, first_store, is_late, nines, passes, passes_over_a_buffer, releases, second_at_end, second_is_seven, second_lost, second_store};
@@ -20,6 +22,8 @@ pub fn worked_short_updates()
     ensures update { UpdateOf (calls ∷ passes ∷ []) releases }
     ensures update_elsewhere { (u : UpdateOf (calls ∷ passes ∷ []) releases) → u.before ≡ calls ∷ passes ∷ releases ∷ [] → ⊥ }
     ensures two_calls { (u : UpdateOf (calls ∷ calls ∷ passes ∷ []) releases) → u.waiting ≡ calls ∷ [] → ⊥ }
+    ensures call_behind_the_first_release { (u : UpdateOf (calls ∷ passes ∷ releases ∷ calls ∷ passes ∷ []) releases)
+        → u.waiting ≡ [] → u.pass ≡ passes → u.between ≡ [] → u.first ≡ releases → u.again ≡ calls ∷ passes ∷ releases ∷ [] → ⊥ }
     ensures store_waits { (u : UpdateOf (calls ∷ passes_over_a_buffer ∷ []) releases) → u.pass ≡ passes_over_a_buffer → ⊥ }
     ensures under_way { IsRefused is_late }
     ensures not_refused { IsRefused calls → ⊥ }
@@ -42,6 +46,8 @@ pub fn worked_flat_values()
     ensures load { flat_text painted nines (asks.Load 0 0x1000) ≡ codes "value 0000000000000009 WB\n" }
     ensures word { flat_text painted nines (asks.Word 0x100000) ≡ command_text painted (asks.Word 0x100000) }
     ensures store { (flat_command painted (asks.Store 0 0x1000 7) flat_start).values 0x100000 ≡ 7 }
+    ensures lines { flat_told_in (record { line = 4; column = 1 }) 1 (codes "store 0 1000 7" ∷ codes "load 0 1000" ∷ codes "load 0 1008" ∷ []) painted nines
+        ≡ told (codes "stored WB\nvalue 0000000000000007 WB\nvalue 0000000000000009 WB\n") Done }
     ensures load_sets_nothing { (flat_command painted (asks.Load 0 0x1000) nines).values 0x100000 ≡ 9 }
 {}
 

@@ -9,7 +9,7 @@ use Rattle.mt_replay.specs.WorkedLaws.{front_of, is_idle, join_at}
 use Rattle.mt_replay.specs.WorkedScript.{step_at, worked_script}
 use Rattle.mt_replay.specs.WorkedStates.{later_refused, small_dump}
 use Rattle.mt_replay.proofs.Courses.Worked.{stands}
-use Rattle.mt_replay.proofs.WorkedDumps.{shows}
+use Rattle.mt_replay.proofs.WorkedDumps.{join_shows, shows}
 use Rattle.mt_replay.proofs.worked.promises.worked_laws_of_beginnings.Goals as goal
 
 -- before each of its five commands, and behind the last
@@ -24,6 +24,11 @@ returns-clause-line c = λ law. law worked_script (front_of 6) (drop 7 (course w
 
 pub returns-clause-starts : goal.returns-clause-starts
 returns-clause-starts c = λ law accepted. let told = law small_dump (dump_of (bare_file 0x806)) shows accepted in (told.0, told.1, told.2)
+
+pub returns-clause-first_step : goal.returns-clause-first_step
+returns-clause-first_step c = λ law accepted.
+    let told = law join_script (dump_of (bare_file 0x800)) join_shows accepted in
+    (told.0, told.1, told.3 (join_at 0) (drop 1 (course join_script)) (stands (course join_script) 0 0 refl))
 
 pub returns-clause-one_line : goal.returns-clause-one_line
 returns-clause-one_line c = λ law. law later_refused refl

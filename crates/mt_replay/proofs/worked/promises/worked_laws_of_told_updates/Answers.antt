@@ -26,6 +26,10 @@ at_update = (around_step IsReplayState worked_script (scripts_keep worked_script
 at_release : IsReplayState (step_at 37).before
 at_release = (around_step IsReplayState worked_script (scripts_keep worked_script) (front_of 37) (drop 38 (course worked_script)) (step_at 37) (stands (course worked_script) 37 0 refl)).0
 
+-- an update is under way, and a word is dirty
+under_way : IsReplayState (step_at 16).before
+under_way = (around_step IsReplayState worked_script (scripts_keep worked_script) (front_of 16) (drop 17 (course worked_script)) (step_at 16) (stands (course worked_script) 16 0 refl)).0
+
 without : AreWithoutCall (left (step_at 44)) (asks.Load 0 0x1000 ∷ [])
 without = (((refl, omega arith), (refl, omega arith)), (λ e. absurd (cc e), λ h. ⊎_elim (λ e. absurd (cc e)) (λ e. absurd (cc e)) h), tt)
 
@@ -39,6 +43,9 @@ returns-clause-complete c = λ law. law (step_at 44).before at_update refl refl
 
 pub returns-clause-words : goal.returns-clause-words
 returns-clause-words c = λ law. law (step_at 44).before (asks.Load 0 0x1000 ∷ []) at_update refl refl without
+
+pub returns-clause-stale : goal.returns-clause-stale
+returns-clause-stale c = λ law. law (step_at 16).before under_way
 
 pub returns-clause-released : goal.returns-clause-released
 returns-clause-released c = λ law. law (step_at 37).before 1 [] at_release (refl, omega arith) refl tt

@@ -1,7 +1,7 @@
-use Rattle.std.proofs.Common.{◌≡◌, refl, rules, subst, arith, inr, [], inl, ◌∷◌}
+use Rattle.std.proofs.Common.{◌≡◌, refl, rules, subst, arith, inr, [], inl, ◌∷◌, ◌++◌}
 use Rattle.std.specs.List.{All}
 use Rattle.mt_machine.specs.WorkedRuns.{idle}
-use Rattle.mt_replay.specs.Headline.{Step}
+use Rattle.mt_replay.specs.Headline.{IsCall, NoneOf, Step}
 use Rattle.mt_replay.specs.WorkedSteps.{begins, calls, passes, releases}
 use Rattle.mt_replay.proofs.Courses.Tells.{none_calls}
 use Rattle.mt_replay.proofs.worked.steps.worked_short_updates.Goals as goal
@@ -36,6 +36,10 @@ returns-clause-update c = record {
   first_release = search rules;
   no_store_waits = search rules;
 }
+
+pub returns-clause-call_behind_the_first_release : goal.returns-clause-call_behind_the_first_release
+returns-clause-call_behind_the_first_release c = λ u waiting pass between first again.
+    (subst (NoneOf IsCall) (λ i. waiting i ++ pass i ∷ (between i ++ first i ∷ again i)) u.no_other_call).1.1.0 (inl (inl refl))
 
 pub returns-clause-store_waits : goal.returns-clause-store_waits
 returns-clause-store_waits c = λ u pass.
