@@ -1,7 +1,7 @@
 -- What keeps that each line of each cache is one that it may have.
 use Rattle.std.proofs.Common.{◌≡◌, ◌∙◌, ◌⊎◌, ap, sym, refl, subst, arith, inl, inr, ℕ, zero, suc, ◌+◌, ◌<◌, ◌≤◌, ◌%◌, ◌==◌, ◌&&◌}
 use Rattle.std.proofs.Common.{Bool, true, false, not, if◌then◌else◌, List, [], ◌∷◌, ◌++◌, length, Option, None, Some, is_some, slice_get, count_by, cond, ⊎_elim, map, take}
-use Rattle.std.specs.Prelude.{slice_index_or, slice_set}
+use Rattle.std.specs.Prelude.{◌≢◌, slice_index_or, slice_set}
 use Rattle.std.specs.Option.{option_map, option_map_or}
 use Rattle.std.proofs.lemmas.Bool.{eq-eqb, eqb-true, not-false}
 use Rattle.std.proofs.lemmas.Option.{slice_get_within}
@@ -21,9 +21,10 @@ use Rattle.mt_machine.specs.ComingAndGoing.{newcomer_beside}
 use Rattle.mt_types.specs.Tables.{TypeTable}
 use Rattle.mt_machine.specs.Bus.{with_lines}
 use Rattle.mt_laws.proofs.Barrier.Ranks.{and_left, and_right}
+use Rattle.mt_laws.proofs.Clearing.Renewed.{at_change}
 use Rattle.mt_laws.proofs.Words.LineLists.{KeepsNumber, find_miss, passes_append, passes_changed, passes_without}
 use Rattle.mt_bus.specs.Parts.{lines_in, with_changed, without_memory}
-use Rattle.mt_bus.specs.Holders.{AreHeldBy, Covers, CoversBut, IsNowhere, IsNowhereElse, all_may, may_hold}
+use Rattle.mt_bus.specs.Holders.{AreHeldBy, Covers, CoversBut, CoversOthers, IsNowhere, IsNowhereElse, all_may, may_hold}
 use Rattle.mt_bus.proofs.Newcomers.{get_front}
 use Rattle.mt_bus.proofs.Tables.{pushed_at}
 use Rattle.mt_bus.proofs.Masks.{full_may}
@@ -143,6 +144,17 @@ pub held_aside : (f : Processor → Processor) (k : ℕ) (ps qs : List Processor
     → qs ≡ with_changed f k ps → AreHeldBy ps masks → AreHeldBy qs masks
 held_aside f k ps qs masks same is h =
     subst (λ (xs : List Processor). AreHeldBy xs masks) (sym is) (held_changed f k ps masks (λ p. less_same (f p).lines p.lines (same p) masks k) h)
+
+-- a processor that drops its lines needs no bit
+pub held_emptied : (f : Processor → Processor) (k : ℕ) (ps : List Processor) (masks others : List ℕ) → ((p : Processor) → (f p).lines ≡ [])
+    → CoversOthers k masks others → AreHeldBy ps others → AreHeldBy (with_changed f k ps) masks
+held_emptied f k ps masks others empty covers h = record {
+  each = λ j q at.
+      ⊎_elim
+      (λ (here : (j ≡ k) × (x : Processor) × (slice_get ps k ≡ Some x) × (f x ≡ q)). ap (all_may masks j) (ap (λ (p : Processor). p.lines) (sym here.3) ∙ empty here.1))
+      (λ (there : (j ≢ k) × (slice_get ps j ≡ Some q)). all_more masks others j (λ n. covers.each j n there.0) q.lines (h.each j q there.1))
+      (at_change f k (without_memory ps) j q at);
+}
 
 -- ---- one processor of a pass over all
 

@@ -1,5 +1,5 @@
 -- A mask is put into its place: which caches may have which lines then.
-use Rattle.std.proofs.Common.{◌≡◌, ◌∙◌, ap, sym, refl, arith, ℕ, ◌+◌, ◌-◌, ◌<◌, ◌≤◌, ◌%◌, ◌^◌, ◌==◌, Bool, true, false, if◌then◌else◌, List, length, bit_and, bit_or, ⊎_elim, w16}
+use Rattle.std.proofs.Common.{◌≡◌, ◌∙◌, ap, sym, refl, arith, ℕ, ◌+◌, ◌-◌, ◌<◌, ◌≤◌, ◌%◌, ◌^◌, ◌==◌, Bool, true, false, if◌then◌else◌, List, [], ◌∷◌, zero, suc, length, bit_and, bit_or, ⊎_elim, w16}
 use Rattle.std.specs.Prelude.{min, nat_lt, slice_index_or, slice_set}
 use Rattle.std.specs.Int.{bit_at, bit_not}
 use Rattle.std.proofs.lemmas.Bool.{cases_eq, cases_lt, lt-ltb, ltb-true}
@@ -8,7 +8,7 @@ use Rattle.std.proofs.lemmas.Nat.{pow_below}
 use Rattle.std.proofs.lemmas.Nat.Bits.{bit_at-lt, bit_at-pow_other, bit_at_and, bit_at_not, bit_at_ones}
 use Rattle.mt_kinds.specs.Bits.{is_bit_set}
 use Rattle.mt_laws.proofs.Words.BitLaws.{set_other, set_same}
-use Rattle.mt_bus.specs.Holders.{Covers, CoversBut, mask_of, may_hold}
+use Rattle.mt_bus.specs.Holders.{Covers, CoversBut, CoversOthers, mask_of, may_hold}
 
 within : (b : Bool) → b ≡ true → (x : Bool) → (if b then x else true) ≡ x
 within true is x = refl
@@ -106,6 +106,29 @@ bit_cleared masks k n small = record {
       put_keeps masks n (bit_and (mask_of masks n) (bit_not w16 (2 ^ k))) j i
       (λ e low h. clear_other (mask_of masks n) k j small low (λ is. apart is e) ∙ h) before;
 }
+
+-- the same in any place of the table
+pub covers_cleared : (masks : List ℕ) (k r m : ℕ) → k < 16 → m ≡ bit_and (slice_index_or masks r 0xffff) (bit_not w16 (2 ^ k)) → CoversOthers k (slice_set masks r m) masks
+covers_cleared masks k r m small is = record { each = λ j i ne before. ⊎_elim (low j i ne before) (high j i before) (cases_lt r 4096) }
+  where
+    low : (j i : ℕ) → (j ≡ k → ⊥) → may_hold masks j i ≡ true → r < 4096 → may_hold (slice_set masks r m) j i ≡ true
+    low j i ne before lt =
+        let same : r % 4096 ≡ r = omega arith in
+        ap (λ x. may_hold (slice_set masks x m) j i) (sym same)
+        ∙ put_keeps masks r m j i
+        (λ e few h. ap (λ x. is_bit_set x j) (is ∙ ap (λ x. bit_and (slice_index_or masks x 0xffff) (bit_not w16 (2 ^ k))) (sym same)) ∙ clear_other (mask_of masks r) k j small few ne ∙ h) before
+
+    high : (j i : ℕ) → may_hold masks j i ≡ true → 4096 ≤ r → may_hold (slice_set masks r m) j i ≡ true
+    high j i before ge = ap (λ x. if nat_lt j 16 then is_bit_set x j else true) (get_or-set_other masks r (i % 4096) m 0xffff (λ e. omega (arith, e))) ∙ before
+
+-- a place within a list has no need of a default
+pub same_within : (xs : List ℕ) (i d e : ℕ) → i < length xs → slice_index_or xs i d ≡ slice_index_or xs i e
+same_within [] i d e low = absurd (omega (arith, low))
+same_within (x ∷ xs) zero d e low = refl
+same_within (x ∷ xs) (suc i) d e low = same_within xs i d e (omega (arith, low))
+
+pub covers_on : (k : ℕ) (masks others first : List ℕ) → CoversOthers k masks others → CoversOthers k others first → CoversOthers k masks first
+covers_on k masks others first more before = record { each = λ j i ne h. more.each j i ne (before.each j i ne h) }
 
 -- ---- masks that have no bit but one
 

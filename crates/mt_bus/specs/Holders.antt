@@ -32,6 +32,10 @@ pub record Covers (masks others : List ℕ) : Type 0 where
 pub record CoversBut (k n : ℕ) (masks others : List ℕ) : Type 0 where
   pub each : (j i : ℕ) → (j ≡ k → i % modulus ≡ n % modulus → ⊥) → may_hold others j i ≡ true → may_hold masks j i ≡ true
 
+-- but for processor k
+pub record CoversOthers (k : ℕ) (masks others : List ℕ) : Type 0 where
+  pub each : (j i : ℕ) → (j ≡ k → ⊥) → may_hold others j i ≡ true → may_hold masks j i ≡ true
+
 -- no cache has the line, and none but that of processor k
 pub record IsNowhere (n : ℕ) (ps : List Processor) : Type 0 where
   pub each : (j : ℕ) → find_line n (lines_in j ps) ≡ None

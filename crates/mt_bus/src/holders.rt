@@ -2,7 +2,7 @@
 ghost use Rattle.std.specs.Prelude.{◌≡◌, ℕ, ◌<◌, ◌%◌, ◌^◌, List, [], false, replicate, slice_index_or, slice_set, true, IfOk, IsTrue};
 ghost use Rattle.mt_cache.specs.Counts.{modulus};
 ghost use Rattle.mt_machine.specs.System.{Processor};
-ghost use Rattle.mt_bus.specs.Holders.{AreHeldBy, Covers, CoversBut, mask_of, may_hold};
+ghost use Rattle.mt_bus.specs.Holders.{AreHeldBy, Covers, CoversBut, CoversOthers, mask_of, may_hold};
 
 use mt_cache::MODULUS;
 use mt_kinds::is_bit_set;
@@ -27,6 +27,17 @@ fn set_all(masks: &mut [u16])
 {
     for i in 0..masks.len() {
         masks[i] = 0xffff;
+    }
+}
+
+// Clears the bit of a processor in each mask.
+fn clear_bit(masks: &mut [u16], k: usize)
+    requires { k < 16 }
+    ensures { CoversOthers k masks.new masks.old }
+{
+    let others = !bit(k);
+    for i in 0..masks.len() {
+        masks[i] = masks[i] & others;
     }
 }
 
@@ -145,6 +156,15 @@ impl Holders {
         if k < BITS {
             let mask = self.mask(number);
             self.set(number, mask & !bit(k));
+        }
+    }
+
+    /// From here on the cache of a processor may not have any line.
+    pub fn remove_all(&mut self, k: usize)
+        ensures { CoversOthers k self.new self.old }
+    {
+        if k < BITS {
+            clear_bit(self.masks.as_mut_slice(), k);
         }
     }
 }

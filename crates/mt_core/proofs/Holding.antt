@@ -1,4 +1,4 @@
--- No event adds a line to a cache.
+-- No event adds a line to a cache, and a processor that drops its lines needs no bit.
 use Rattle.std.proofs.Common.{◌≡◌, ◌∙◌, ap, sym, refl, subst, ℕ, ◌/◌, Bool, false, true, if◌then◌else◌, List, []}
 use Rattle.mt_regs.specs.RegisterFile.{RegisterFile}
 use Rattle.mt_cache.specs.Lines.{clean_word}
@@ -11,8 +11,8 @@ use Rattle.mt_machine.specs.System.{Processor}
 use Rattle.mt_machine.specs.Machine.{flush_tlb, own_step}
 use Rattle.mt_machine.specs.Control.{reload_cr3}
 use Rattle.mt_bus.specs.Parts.{with_changed}
-use Rattle.mt_bus.specs.Holders.{AreHeldBy, all_may}
-use Rattle.mt_bus.proofs.Held.{held_changed, less_changed}
+use Rattle.mt_bus.specs.Holders.{AreHeldBy, CoversOthers, all_may}
+use Rattle.mt_bus.proofs.Held.{held_changed, held_emptied, less_changed}
 
 flush_lines : (ph : Phase) (p : Processor) → (flush_tlb ph p).lines ≡ p.lines
 flush_lines Flushed2 p = refl
@@ -32,3 +32,9 @@ pub held_stepped : (goal : RegisterFile) (e : Event) (k : ℕ) (ps qs : List Pro
     → qs ≡ with_changed (own_step goal e) k ps → AreHeldBy ps masks → AreHeldBy qs masks
 held_stepped goal e k ps qs masks is h =
     subst (λ (xs : List Processor). AreHeldBy xs masks) (sym is) (held_changed (own_step goal e) k ps masks (own_less goal e masks k) h)
+
+pub held_after : (goal : RegisterFile) (e : Event) (k : ℕ) (ps qs : List Processor) (masks news : List ℕ) → qs ≡ with_changed (own_step goal e) k ps
+    → (e ≡ DropLines → CoversOthers k news masks) → ((e ≡ DropLines → ⊥) → news ≡ masks) → AreHeldBy ps masks → AreHeldBy qs news
+held_after goal DropLines k ps qs masks news is drops stays h =
+    subst (λ (xs : List Processor). AreHeldBy xs news) (sym is) (held_emptied (own_step goal DropLines) k ps news masks (λ p. refl) (drops refl) h)
+held_after goal e k ps qs masks news is drops stays h = subst (AreHeldBy qs) (sym (stays (λ d. cc d))) (held_stepped goal e k ps qs masks is h)

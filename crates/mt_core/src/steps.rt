@@ -6,6 +6,7 @@ ghost use Rattle.mt_regs.specs.Faults.{IsAccepted};
 ghost use Rattle.mt_cpu.specs.Steps.{HasWritten, is_local, is_shift};
 ghost use Rattle.mt_machine.specs.System.{Processor};
 ghost use Rattle.mt_machine.specs.Machine.{FitsGoal, Order, before_own, due, due_at, own_step, step};
+ghost use Rattle.mt_bus.specs.Holders.{CoversOthers};
 ghost use Rattle.mt_bus.specs.Parts.{with_changed};
 ghost use Rattle.mt_core.specs.Arises.{IsCore};
 ghost use Rattle.mt_core.specs.Steps.{pause, under_way, with_word_of};
@@ -14,7 +15,7 @@ ghost use Rattle.mt_core.specs.Tables.{tables_after};
 use crate::barriers::{first_count, is_cancelled, is_first_open, is_second_open, second_count};
 use crate::order::Order as CalledOrder;
 use crate::stepped::Stepped;
-use mt_bus::System;
+use mt_bus::{Holders, System};
 use mt_cpu::{Cpu, is_local};
 use mt_machine::{Event, Phase};
 use mt_ram::Ram;
@@ -106,6 +107,16 @@ fn renew_table(tables: &mut [KindTable], k: usize, e: Event, kinds: &KindTable)
     }
 }
 
+// A cache that dropped its lines may have none.
+fn forget_lines(holders: &mut Holders, k: usize, e: Event)
+    ensures dropped { e ≡ Event.DropLines → CoversOthers k holders.new holders.old }
+    ensures kept { (e ≡ Event.DropLines → ⊥) → holders.new ≡ holders.old }
+{
+    if let Event::DropLines = e {
+        holders.remove_all(k);
+    }
+}
+
 // Does the local event of a processor between the barriers.
 fn do_local_event(system: &mut System, order: &CalledOrder, k: u32) -> Event
     requires processor { k < length system.old.processors }
@@ -117,6 +128,7 @@ fn do_local_event(system: &mut System, order: &CalledOrder, k: u32) -> Event
     let e = do_own_part(system.cpus.as_mut_slice(), k as usize, &order.goal);
     write_word_of(&mut system.ram, e);
     renew_table(system.tables.as_mut_slice(), k as usize, e, &order.kinds);
+    forget_lines(&mut system.holders, k as usize, e);
     e
 }
 

@@ -11,7 +11,7 @@ use Rattle.mt_bus.specs.Holders.{AreHeldBy}
 use Rattle.mt_bus.specs.Tables.{AreTablesOf}
 use Rattle.mt_core.specs.Steps.{under_way}
 use Rattle.mt_core.specs.Tables.{tables_after}
-use Rattle.mt_core.proofs.Holding.{held_stepped}
+use Rattle.mt_core.proofs.Holding.{held_after}
 use Rattle.mt_core.proofs.Tables.{before_local, tables_stepped}
 use Rattle.mt_bus.proofs.Changed.{processor_of}
 use Rattle.mt_core.proofs.Stepping.{fits_at, goal_accepted, local_takes_not, low_at, step_sound, worked, written_at}
@@ -76,13 +76,14 @@ invariant_of-system c =
           (λ enable. subst (λ (o : Order). IsTableOf o.goal kinds) c.order.view_is c.order.invariant)
           (subst (λ ps. AreTablesOf ps ts) (ap (λ (s : System). s.processors) c.system.view_is ∙ sym (before_local c.do_own_part-e.result c.args.k c.args.system.now other)) c.system.invariant.1)),
     ) in
-    let held : AreHeldBy c.do_own_part-e.new.cpus c.system.inside.holders =
-    held_stepped c.args.order.now.goal c.do_own_part-e.result c.args.k c.as_mut_slice.result.now c.do_own_part-e.new.cpus c.system.inside.holders moved
+    let held : AreHeldBy c.do_own_part-e.new.cpus c.forget_lines.new.holders =
+    held_after c.args.order.now.goal c.do_own_part-e.result c.args.k c.as_mut_slice.result.now c.do_own_part-e.new.cpus c.system.inside.holders c.forget_lines.new.holders moved
+    c.forget_lines.ensures.dropped c.forget_lines.ensures.kept
     (subst (λ ps. AreHeldBy ps c.system.inside.holders) (sym c.as_mut_slice.ensures.value) c.system.invariant.2) in
     subst
     (λ ps. IsSound (system ps c.write_word_of.new.ram)
     × AreTablesOf ps (take c.system.inside.tables.len (c.renew_table.new.tables ++ drop (length c.renew_table.new.tables) ts))
-    × AreHeldBy ps c.system.inside.holders)
+    × AreHeldBy ps c.forget_lines.new.holders)
     (sym (take_at c.do_own_part-e.new.cpus (drop (length c.do_own_part-e.new.cpus) c.system.inside.cpus.items) c.system.inside.cpus.len (search rules))) (
       kept.0,
       subst (AreTablesOf c.do_own_part-e.new.cpus) (sym (take_at c.renew_table.new.tables (drop (length c.renew_table.new.tables) ts) c.system.inside.tables.len (search rules))) kept.1,
