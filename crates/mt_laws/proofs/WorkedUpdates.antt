@@ -1,26 +1,17 @@
 -- One processor with a buffer, one with a dirty line, and two: their starts and events.
-use Rattle.std.proofs.Common.{◌≡◌, ◌&&◌, List, [], ◌∷◌, ◌++◌, true, false, Bool, rules, refl, inl, inr}
+use Rattle.std.proofs.Common.{◌≡◌, [], ◌∷◌, ◌++◌, false, rules, refl, inl, inr}
 use Rattle.std.proofs.lemmas.Bool.{not-true}
-use Rattle.std.specs.List.{list_all}
 use Rattle.std.specs.Prelude.{not}
 use Rattle.mt_machine.specs.declared.event.Event.TheVariants.{Arrive, Leave, Pass, Release, Take}
-use Rattle.mt_machine.specs.Machine.{AreEnabled, Calls, Cancels, Goes, IsEnabled, Machine, MachineEvent, Reached, Steps, at_start, has_passed, run}
+use Rattle.mt_machine.specs.Machine.{AreEnabled, Calls, Cancels, Goes, IsEnabled, Reached, Steps, at_start, has_passed, run}
 use Rattle.mt_machine.specs.Start.{IsBroadcast, IsQuiet, IsStart}
-use Rattle.mt_machine.specs.Update.{Led, is_led, led_on, led_start}
+use Rattle.mt_machine.specs.Update.{Led, led_on, led_start}
 use Rattle.mt_machine.specs.WorkedRuns.{bare_file, call_order}
 use Rattle.mt_laws.specs.Settled.{IsFirstRelease}
 use Rattle.mt_laws.specs.WorkedRuns.{pair, pair_arrived, pair_between}
 use Rattle.mt_laws.specs.WorkedUpdates.{at_pass, buffered, by_buffered, dirty_released, dirty_taken, by_two, given_order, ready_pair, to_flush, to_pass, to_release, two_at_pass, two_called, two_holding, two_released, two_taken, two_to_change, two_to_pass, two_to_release, two_way}
-use Rattle.mt_laws.proofs.Invariant.Runs.{reached_run}
+use Rattle.mt_laws.proofs.Invariant.Runs.{led_run, reached_run}
 use Rattle.mt_laws.proofs.Words.Sound.{test_all}
-
-both : (a b : Bool) → (a && b) ≡ true → (a ≡ true) × (b ≡ true)
-both true b h = (refl, h)
-both false b h = absurd (cc)
-
-pub led_run : (es : List MachineEvent) (s t : Machine) → Led s t → AreEnabled t es → list_all is_led es ≡ true → Led s (run t es)
-led_run [] s t l h is = l
-led_run (e ∷ es) s t l h is = led_run es s _ (led_on e l h.0 (both _ _ is).0) h.1 (both _ _ is).1
 
 pub quiet : IsQuiet buffered
 quiet = search rules

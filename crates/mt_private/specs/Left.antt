@@ -5,6 +5,8 @@ use Rattle.mt_machine.specs.declared.go.Go.TheVariants.{Cancelled}
 use Rattle.mt_machine.specs.Memory.{Memory}
 use Rattle.mt_machine.specs.System.{Processor, System}
 use Rattle.mt_rendezvous.specs.declared.view.Start.{Start}
+use Rattle.mt_private.specs.declared.joint.Joint.{Joint}
+use Rattle.mt_private.specs.declared.joint.Joint.TheVariants.{Less, Over}
 use Rattle.mt_private.specs.declared.view.Resident.{Resident}
 use Rattle.mt_private.specs.declared.view.YardView.{YardView}
 use Rattle.mt_private.specs.Own.{own_system}
@@ -21,6 +23,10 @@ less v w = if v == 0 then w else 0
 -- the own word where it isn't 0
 abbrev pub over : ℕ → ℕ → ℕ
 over v w = if v == 0 then w else v
+
+abbrev pub word_beside : Joint → ℕ → ℕ → ℕ
+word_beside Less = less
+word_beside Over = over
 
 -- so for each of them
 abbrev pub word_by_word : (ℕ → ℕ → ℕ) → List ℕ → List ℕ → List ℕ

@@ -12,9 +12,10 @@ ghost use Rattle.mt_private.specs.Own.{own_memory, own_system, pages_of};
 ghost use Rattle.mt_private.specs.Residents.{Opens, pages_at, system_of};
 ghost use Rattle.mt_private.specs.Gathered.{AreRooms, IsOwnOf, IsRest, IsRoom, OffersFrom};
 ghost use Rattle.mt_private.specs.InYard.{AreGatheredIn, IsGatheredIn, LeadsIn, start_at};
-ghost use Rattle.mt_private.specs.Left.{less, word_by_word};
+ghost use Rattle.mt_private.specs.Left.{word_beside, word_by_word};
 
 use crate::host::{Host, Yard};
+use crate::joint::Joint;
 use crate::pages::names;
 use crate::view::{Lodges, YardView};
 use crate::visiting::{Guest, YardPass};
@@ -103,20 +104,24 @@ fn rooms_for(alloc: Global, cpus: &[Cpu], ram: &Ram) -> Option<Vec<Room>>
     Some(rooms)
 }
 
-// The word, or 0 where this processor's own system has one that isn't 0.
-fn word_less(own: u64, word: u64) -> u64
-    ensures { result ≡ less own word }
+// What stands at a word beside the own one.
+fn word_beside(joint: Joint, own: u64, word: u64) -> u64
+    ensures { result ≡ word_beside joint own word }
 {
-    if own == 0 { word } else { 0 }
+    match joint {
+        _ if own == 0 => word,
+        Joint::Less => 0,
+        Joint::Over => own,
+    }
 }
 
-// Puts 0 in place of each word that is another in the own memory.
-fn put_less(own: &Ram, ram: &mut Ram)
+// Puts at each word what stands there beside the own one.
+pub(crate) fn put_words(joint: Joint, own: &Ram, ram: &mut Ram)
     requires { length own.now.words ≡ length ram.old.words }
-    ensures { ram.new ≡ record ram.old { words = word_by_word less own.now.words ram.old.words } }
+    ensures { ram.new ≡ record ram.old { words = word_by_word (word_beside joint) own.now.words ram.old.words } }
 {
     for i in 0..ram.words() {
-        let word = word_less(own.word(i), ram.word(i));
+        let word = word_beside(joint, own.word(i), ram.word(i));
         ram.put(i, word);
     }
 }
@@ -128,7 +133,7 @@ fn keep_left(cpus: &[Cpu], rooms: &[Room], ram: &mut Ram)
     ensures { ram.new ≡ own_memory (named_by_none cpus.now) ram.old }
 {
     for k in 0..cpus.len() {
-        put_less(&rooms[k].ram, ram);
+        put_words(Joint::Less, &rooms[k].ram, ram);
     }
 }
 

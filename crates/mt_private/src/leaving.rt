@@ -8,28 +8,11 @@ ghost use Rattle.mt_private.specs.InYard.{IsRootIn, start_at};
 ghost use Rattle.mt_private.specs.Left.{AreAsGathered, AreBack, AreOwnsOf, AreParts, Leaves, over, processors_in, with_words_of, word_by_word};
 ghost use Rattle.mt_private.specs.Residents.{system_of};
 
-use crate::gather::Room;
+use crate::gather::{Room, put_words};
 use crate::host::{Host, Yard};
+use crate::joint::Joint;
 use mt_bus::System;
 use mt_ram::Ram;
-
-// The own word, or the other one where it is 0.
-fn word_over(own: u64, word: u64) -> u64
-    ensures { result ≡ over own word }
-{
-    if own == 0 { word } else { own }
-}
-
-// Puts the own words, which are 0 outside the own pages, over the others.
-fn put_over(own: &Ram, ram: &mut Ram)
-    requires { length own.now.words ≡ length ram.old.words }
-    ensures { ram.new ≡ record ram.old { words = word_by_word over own.now.words ram.old.words } }
-{
-    for i in 0..ram.words() {
-        let word = word_over(own.word(i), ram.word(i));
-        ram.put(i, word);
-    }
-}
 
 // The one processor and its table go to the end of the lists, and its words to their places.
 fn bring(own: System, room: &mut Room)
@@ -58,7 +41,7 @@ fn bring(own: System, room: &mut Room)
     };
     room.cpus.push_reserved(cpu);
     room.tables.push_reserved(table);
-    put_over(&ram, &mut room.ram);
+    put_words(Joint::Over, &ram, &mut room.ram);
 }
 
 // All of these, by their numbers.

@@ -5,6 +5,7 @@ mod fault;
 mod gather;
 mod host;
 mod job;
+mod joint;
 mod laws;
 mod leaving;
 mod pages;

@@ -476,7 +476,7 @@ fn jobs_end_alike<R: Threads + Wait + Sync, G: Gate>(
 
 #[test]
 fn many_accesses_end_as_one_by_one(rt: HostRuntime) {
-    for round in 0..200 {
+    for round in 0..50 {
         let alike = jobs_end_alike(&rt, rt.alloc(), 16, 6, round, &OpenGate);
         assert!(rt; alike == Some(true), "{round}");
     }

@@ -1,6 +1,6 @@
 -- The stations of the worked processor that stands alone meet the rule, and what each of its steps tells.
 use Rattle.std.proofs.Common.{◌≡◌, ◌<◌, ◌+◌, ℕ, zero, suc, Bool, true, false, List, [], ◌∷◌, ap, sym, refl, subst, inl, inr, arith, rules, length, Option, None, Some}
-use Rattle.std.specs.Prelude.{◌&&◌, slice_index, take}
+use Rattle.std.specs.Prelude.{slice_index, take}
 use Rattle.std.specs.List.{list_all}
 use mathlib.Core.Option.{some, some-injective, some-ne-none}
 use lib.ListN.{get_elem?}
@@ -10,7 +10,9 @@ use Rattle.mt_machine.specs.declared.event.Event.TheVariants.{Arrive, Leave}
 use Rattle.mt_machine.specs.declared.phase.Phase.{Phase}
 use Rattle.mt_machine.specs.declared.phase.Phase.TheVariants.{Arrived, Arrived2, Passed, Restored, Running, Taken}
 use Rattle.mt_machine.specs.Machine.{AreEnabled, Cancels, Machine, MachineEvent, Steps, run}
-use Rattle.mt_machine.specs.Update.{Led, is_led, led_on, led_start}
+use Rattle.mt_machine.specs.Update.{Led, is_led, led_start}
+use Rattle.mt_laws.proofs.Barrier.Ranks.{and_left, and_right}
+use Rattle.mt_laws.proofs.Invariant.Runs.{led_run}
 use Rattle.mt_rendezvous.specs.declared.view.Held.{Held}
 use Rattle.mt_rendezvous.specs.declared.view.Start.{Start}
 use Rattle.mt_rendezvous.specs.declared.view.View.{View}
@@ -19,14 +21,6 @@ use Rattle.mt_rendezvous.specs.Station.{Begins, FitsHeld, IsHeld, Meets, Sits, a
 use Rattle.mt_rendezvous.specs.WorkedLone.{arrived, arrived_again, both_written, cancelled, changed, ended, fills_not, late, left, lone}
 use Rattle.mt_rendezvous.specs.WorkedLone.{lone_events, lone_station, passed, pass_of, released, restored, root_of, taken, unfilled, waits}
 use Rattle.mt_rendezvous.specs.WorkedStations.{first, zeros}
-
-both : (a b : Bool) → (a && b) ≡ true → (a ≡ true) × (b ≡ true)
-both true b h = (refl, h)
-both false b h = absurd (cc)
-
-led_run : (es : List MachineEvent) (s t : Machine) → Led s t → AreEnabled t es → list_all is_led es ≡ true → Led s (run t es)
-led_run [] s t l h is = l
-led_run (e ∷ es) s t l h is = led_run es s _ (led_on e l h.0 (both _ _ is).0) h.1 (both _ _ is).1
 
 pub begins_lone : Begins lone
 begins_lone = search rules
@@ -102,7 +96,8 @@ front_enabled (suc n) m (e ∷ es) h = (h.0, front_enabled n _ es h.1)
 front_led : (n : ℕ) (es : List MachineEvent) → list_all is_led es ≡ true → list_all is_led (take n es) ≡ true
 front_led zero es is = refl
 front_led (suc n) [] is = refl
-front_led (suc n) (e ∷ es) is = let h = both (is_led e) (list_all is_led es) is in let r = front_led n es h.1 in rw h.0 r
+front_led (suc n) (e ∷ es) is =
+    let h = and_left (is_led e) (list_all is_led es) is in let r = front_led n es (and_right (is_led e) (list_all is_led es) is) in rw h r
 
 -- after so many of its events
 pub led_by : (n : ℕ) → Led (broadcast lone) (run (broadcast lone) (take n lone_events))

@@ -6,7 +6,8 @@ use Rattle.mt_machine.specs.WorkedRuns.{bare_file, call_order, own, ready}
 use Rattle.mt_laws.specs.Counts.{IsEachOnce}
 use Rattle.mt_laws.specs.WorkedRuns.{unlike_pair}
 use Rattle.mt_laws.specs.WorkedUpdates.{buffered, by_buffered, dirty_released, dirty_taken, given_order, pair_to_release, ready_pair, to_release}
-use Rattle.mt_laws.proofs.WorkedUpdates.{broadcast, broadcast_pair, buffered_enabled, led_released, led_run, led_to_release, quiet}
+use Rattle.mt_laws.proofs.Invariant.Runs.{led_run}
+use Rattle.mt_laws.proofs.WorkedUpdates.{broadcast, broadcast_pair, buffered_enabled, led_released, led_to_release, quiet}
 use Rattle.mt_laws.proofs.worked_reached.worked_laws_of_ends.Goals as goal
 
 to_release_enabled : AreEnabled ready_pair pair_to_release

@@ -3,8 +3,8 @@ use Rattle.mt_machine.specs.declared.event.Event.TheVariants.{Pass, WriteBack}
 use Rattle.mt_machine.specs.Machine.{Reached, Steps, after, at_start, next}
 use Rattle.mt_machine.specs.Update.{Led, led_start}
 use Rattle.mt_laws.specs.WorkedUpdates.{given_order, two_at_pass, two_in_change, two_taken, two_to_change}
-use Rattle.mt_laws.proofs.Invariant.Runs.{reached_run}
-use Rattle.mt_laws.proofs.WorkedUpdates.{led_run, two_change_enabled, two_pass_reached, two_start}
+use Rattle.mt_laws.proofs.Invariant.Runs.{led_run, reached_run}
+use Rattle.mt_laws.proofs.WorkedUpdates.{two_change_enabled, two_pass_reached, two_start}
 use Rattle.mt_laws.proofs.worked_two.worked_laws_of_two.Goals as goal
 
 reached : Reached two_taken two_in_change

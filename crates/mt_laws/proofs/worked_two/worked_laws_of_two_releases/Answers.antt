@@ -8,9 +8,9 @@ use Rattle.mt_machine.specs.Update.{Led, led_on, led_start}
 use Rattle.mt_machine.specs.WorkedRuns.{call_order, load}
 use Rattle.mt_laws.specs.Starts.{HasEras}
 use Rattle.mt_laws.specs.WorkedUpdates.{given_order, two_at_pass, two_before_release, two_released, two_taken, two_to_release}
-use Rattle.mt_laws.proofs.Invariant.Runs.{reached_run}
+use Rattle.mt_laws.proofs.Invariant.Runs.{led_run, reached_run}
 use Rattle.mt_laws.proofs.Words.Sound.{test_all}
-use Rattle.mt_laws.proofs.WorkedUpdates.{led_run, two_broadcast, two_first_release, two_pass_reached, two_release_enabled, two_start}
+use Rattle.mt_laws.proofs.WorkedUpdates.{two_broadcast, two_first_release, two_pass_reached, two_release_enabled, two_start}
 use Rattle.mt_laws.proofs.worked_two.worked_laws_of_two_releases.Goals as goal
 
 reached : Reached two_taken two_before_release

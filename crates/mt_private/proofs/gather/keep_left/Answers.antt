@@ -12,8 +12,8 @@ use Rattle.mt_private.proofs.gather.keep_left.Goals as goal
 pub loop-k-init : goal.loop-k-init
 loop-k-init c = record { left = sym (all_memory c.args.ram.now c.requires.memory) }
 
-pub put_less-requires : goal.put_less-requires
-put_less-requires c =
+pub put_words-requires : goal.put_words-requires
+put_words-requires c =
     let size = c.requires.rooms.count in
     let test = c.loop-k-test.true in
     let p = got c.args.cpus.now c.loop-k.k (omega arith) in
@@ -28,7 +28,7 @@ loop-k-preserved c =
     let p = got c.args.cpus.now c.loop-k.k (omega arith) in
     let r : Room = get_or c.args.rooms.now c.loop-k.k c.index-rooms-k.result in
     let room = c.requires.rooms.each c.loop-k.k p.0 r p.1 (slice_get-get_or c.args.rooms.now c.loop-k.k c.index-rooms-k.result (omega arith)) in
-    record { left = c.put_less.ensures ∙ (less_of c.args.cpus.now c.args.ram.now c.loop-k.k p.0 r.ram c.loop-k.ram c.requires.memory p.1 room.0 c.loop-k.invariant.left).1 }
+    record { left = c.put_words.ensures ∙ (less_of c.args.cpus.now c.args.ram.now c.loop-k.k p.0 r.ram c.loop-k.ram c.requires.memory p.1 room.0 c.loop-k.invariant.left).1 }
 
 pub returns : goal.returns
 returns c =

@@ -7,8 +7,8 @@ use Rattle.mt_private.specs.Left.{over, word_by_word}
 use Rattle.mt_private.proofs.Left.{more_tables, one_left}
 use Rattle.mt_private.proofs.leaving.bring.Goals as goal
 
-pub put_over-requires : goal.put_over-requires
-put_over-requires c = ap (λ (s : System). length s.memory.words) c.own.view_is ∙ c.requires.words
+pub put_words-requires : goal.put_words-requires
+put_words-requires c = ap (λ (s : System). length s.memory.words) c.own.view_is ∙ c.requires.words
 
 pub returns-clause-processors : goal.returns-clause-processors
 returns-clause-processors c =
@@ -28,5 +28,5 @@ returns-clause-tables c =
 
 pub returns-clause-words : goal.returns-clause-words
 returns-clause-words c =
-    c.put_over.ensures
+    c.put_words.ensures
     ∙ ap (λ (s : System). record { windows = c.args.room.now.ram.windows; words = word_by_word over s.memory.words c.args.room.now.ram.words }) c.own.view_is
