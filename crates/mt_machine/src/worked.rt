@@ -25,5 +25,5 @@ pub use self_snoop::{worked_self_snoop, worked_self_snoop_flags};
 pub use settled::{worked_held, worked_kinds, worked_settled, worked_stored_words};
 pub use sound::{worked_memory, worked_processors, worked_sound};
 pub use starts::{worked_broadcast, worked_quiet, worked_start_files};
-pub use steps::{worked_phases, worked_steps};
+pub use steps::{worked_own_steps, worked_phases, worked_steps};
 pub use stores::{worked_combining, worked_stores};

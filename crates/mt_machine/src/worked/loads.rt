@@ -5,7 +5,7 @@ ghost use Rattle.mt_machine.specs.declared.control.Control.TheVariants.{Invlpg, 
 ghost use Rattle.mt_machine.specs.declared.done.Done.TheVariants.{Value};
 ghost use Rattle.mt_machine.specs.declared.op.Op.TheVariants.{Load};
 ghost use Rattle.mt_machine.specs.Machine.{Controls, run};
-ghost use Rattle.mt_machine.specs.WorkedRuns.{alone, answer_of, cached, choosing, crowded, entry, global_mapping, holder, load, machine_of, mapping, maps, memory_at, no_fill, own, painter, palette, pending, setup, store, uncached_goal, wide_alone};
+ghost use Rattle.mt_machine.specs.WorkedRuns.{alone, answer_of, cached, choosing, crowded, dirty_lines, entry, global_mapping, holder, load, machine_of, mapping, maps, memory_at, no_fill, own, painter, palette, pending, setup, store, uncached_goal, wide_alone, with_word};
 
 /// Rows of the table of loads.
 pub fn worked_loads()
@@ -37,6 +37,12 @@ pub fn worked_loads()
     ensures wb_reads_a_third_cache { memory_at (run (machine_of (painter ∷ painter ∷ painter ∷ [])) (store 2 0x1008 9 ∷ load 0 0x1000 ∷ [])) 0x100008 ≡ 9 }
     ensures wb_leaves_copies { cached (run palette (store 1 0x1008 9 ∷ load 0 0x1000 ∷ [])) 1 ≡ (0x4000, 0) ∷ [] }
     ensures hit_reads_the_cache { answer_of (run palette (store 0 0x1000 5 ∷ [])) 0 (Load 0x2000) ≡ Value 5 WT }
+    ensures hit_word { answer_of (alone (holder false)) 0 (Load 0x1010) ≡ Value 7 WB }
+    ensures miss_word { answer_of (with_word 0x100010 9 palette) 0 (Load 0x2010) ≡ Value 9 WT }
+    ensures hit_after_its_buffer { answer_of (run palette (load 0 0x1000 ∷ store 0 0x3000 7 ∷ [])) 0 (Load 0x1000) ≡ Value 7 WB }
+    ensures hit_keeps_the_order { cached (run palette (load 0 0x1000 ∷ load 0 0x1040 ∷ load 0 0x1000 ∷ [])) 0 ≡ (0x4000, 0) ∷ (0x4001, 0) ∷ [] }
+    ensures miss_leaves_other_lines { cached (run palette (store 1 0x1000 9 ∷ store 1 0x1040 8 ∷ load 0 0x1000 ∷ [])) 1 ≡ (0x4000, 0) ∷ (0x4001, 1) ∷ [] }
+    ensures other_lines_not_in_memory { memory_at (run palette (store 1 0x1000 9 ∷ store 1 0x1040 8 ∷ load 0 0x1000 ∷ [])) 0x100040 ≡ 0 }
     ensures hit_writes_nothing { memory_at (run palette (store 0 0x1000 5 ∷ load 0 0x1000 ∷ [])) 0x100000 ≡ 0 }
     ensures no_fill { cached (run palette (no_fill 0 ∷ load 0 0x1000 ∷ [])) 0 ≡ [] }
     ensures no_fill_wt { cached (run palette (no_fill 0 ∷ load 0 0x2000 ∷ [])) 0 ≡ [] }
@@ -51,6 +57,7 @@ pub fn worked_loads()
     ensures oldest_goes { slice_get (cached (run (wide_alone crowded) (load 0 0x1000 ∷ [])) 0) 0 ≡ Some (0x4002, 1) }
     ensures newest_comes_last { slice_get (cached (run (wide_alone crowded) (load 0 0x1000 ∷ [])) 0) 63 ≡ Some (0x4000, 0) }
     ensures oldest_in_memory { memory_at (run (wide_alone crowded) (load 0 0x1000 ∷ [])) 0x100040 ≡ 0x4001 }
+    ensures room_for_one { length (cached (run (wide_alone (record crowded { lines = dirty_lines 0x4001 63 })) (load 0 0x1000 ∷ [])) 0) ≡ 64 }
     ensures others_not_in_memory { memory_at (run (wide_alone crowded) (load 0 0x1000 ∷ [])) 0x100080 ≡ 0 }
 {}
 
@@ -58,6 +65,7 @@ pub fn worked_loads()
 pub fn worked_translations()
     ensures filled { (own (run palette (load 0 0x1000 ∷ [])) 0).entries ≡ entry 1 false ∷ [] }
     ensures filled_once { (own (run palette (load 0 0x1000 ∷ load 0 0x1008 ∷ [])) 0).entries ≡ entry 1 false ∷ [] }
+    ensures found_keeps_the_order { (own (run (alone (holder true)) (load 0 0x1000 ∷ [])) 0).entries ≡ (holder true).entries }
     ensures by_the_registers { answer_of (setup 1 uncached_goal) 0 (Load 0x1000) ≡ Value 0 UC }
     ensures by_the_physical_page { answer_of (run (setup 1 four_gigabytes) (maps 0 (mapping 0x100000 0x100 0) ∷ [])) 0 (Load 0x100000000) ≡ Value 0 WB }
     ensures kept_past_the_mapping { answer_of (run palette (load 0 0x1000 ∷ maps 0 (mapping 1 0x100 3) ∷ [])) 0 (Load 0x1000) ≡ Value 0 WB }

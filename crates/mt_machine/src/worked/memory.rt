@@ -3,7 +3,7 @@ ghost use Rattle.std.specs.Prelude.{◌≡◌, ◌∷◌, [], length, None, slic
 ghost use Rattle.mt_machine.specs.Memory.{line_words, place, put_word, word_at};
 ghost use Rattle.mt_machine.specs.System.{start_processor};
 ghost use Rattle.mt_machine.specs.Update.{addresses, settled_processor};
-ghost use Rattle.mt_machine.specs.WorkedRuns.{goal_of, mapping, three_windows, two_windows, whole};
+ghost use Rattle.mt_machine.specs.WorkedRuns.{goal_of, mapping, three_windows, two_windows, whole, wide_one};
 
 /// Places of words, where the window that stands last lies lower.
 pub fn worked_places()
@@ -28,8 +28,10 @@ pub fn worked_places()
     ensures last_address { slice_index (addresses two_windows.windows) 23 ≡ 0xf8 }
 {}
 
-/// A processor in no-fill mode, with global pages, after a whole update.
+/// A processor in no-fill mode, with global pages, after a whole update, and a self-snooping one of a later era.
 pub fn worked_settled_processor()
-    ensures { settled_processor goal_of (record whole { cache_disabled = true; page_global = true; remembered_global = true })
+    ensures no_fill { settled_processor goal_of (record whole { cache_disabled = true; page_global = true; remembered_global = true })
         ≡ record (start_processor goal_of) { page_global = true; mappings = mapping 1 0x100 7 ∷ []; era = 1 } }
+    ensures later_era { settled_processor goal_of wide_one
+        ≡ record (start_processor goal_of) { page_global = true; mappings = mapping 1 0x100 0 ∷ []; era = 4; self_snoop = true } }
 {}

@@ -1,4 +1,4 @@
-ghost use Rattle.std.specs.Prelude.{◌≡◌, ◌∷◌, ◌++◌, [], None, Some, is_some, true};
+ghost use Rattle.std.specs.Prelude.{◌≡◌, ◌∷◌, ◌++◌, [], None, Some, is_some, map, replicate, true};
 ghost use Rattle.std.specs.Option.{option_map};
 ghost use Rattle.mt_kinds.specs.declared.mem_type.MemType.TheVariants.{UC, WB, WC};
 ghost use Rattle.mt_regs.specs.declared.registers.Register.TheVariants.{PhysBase};
@@ -8,8 +8,8 @@ ghost use Rattle.mt_machine.specs.declared.event.Event.TheVariants.{Arrive, Arri
 ghost use Rattle.mt_machine.specs.declared.op.Op.TheVariants.{Load, Store};
 ghost use Rattle.mt_machine.specs.Machine.{Calls, Cancels, Goes, due_at, first_barrier_count, go_of, run, second_barrier_count};
 ghost use Rattle.mt_machine.specs.Update.{updated};
-ghost use Rattle.mt_machine.specs.WorkedRuns.{answer_of, bare, bare_file, begun, combining, load, mapping, maps, memory_at, no_fill, own, pending, reports, rounds, setup, small, steps_of, store, uncached_goal, walk};
-ghost use Rattle.mt_machine.specs.WorkedSetups.{fills_global, first_waits, first_waits_again, four_lines, pair, pair_called, pair_stored, pair_updated, second_holds, single, single_filled, small_pair, waits_dirty, whole_line};
+ghost use Rattle.mt_machine.specs.WorkedRuns.{alone, answer_of, bare, bare_file, begun, combining, load, mapping, maps, memory_at, no_fill, own, pending, reports, rounds, setup, small, steps_of, store, uncached_goal, walk};
+ghost use Rattle.mt_machine.specs.WorkedSetups.{fills_global, first_count, first_goes_on, first_released, first_waits, first_waits_again, four_lines, marked, pair, pair_called, pair_stored, pair_updated, second_count, second_holds, single, single_filled, small_pair, waits_dirty, whole_line};
 
 /// Whole updates: a dirty word and a global entry of before.
 pub fn worked_updates()
@@ -37,8 +37,14 @@ pub fn worked_barrier()
     ensures busy { answer_of first_waits 0 (Load 0x1000) ≡ Busy }
     ensures second { steps_of 2 1 (run first_waits (store 1 0x1000 7 ∷ [])) ≡ Take ∷ Arrive ∷ [] }
     ensures open { due_at (walk 2 1 (run first_waits (store 1 0x1000 7 ∷ []))) 0 ≡ Some Pass }
+    ensures taken_is_awaited { due_at (walk 1 1 first_waits) 0 ≡ None }
+    ensures taken_is_not_counted { first_count (walk 1 1 first_waits) ≡ Some (record { arrived = 2; awaited = 3 }) }
+    ensures open_for_the_next { map (λ m. due_at m 1) first_goes_on ≡ replicate 12 (Some Pass) }
+    ensures gone_on_is_counted { map first_count first_goes_on ≡ replicate 12 (Some (record { arrived = 3; awaited = 3 })) }
     ensures under_way { is_some (walk 1 0 (walk 2 1 (run first_waits (store 1 0x1000 7 ∷ [])))).order ≡ true }
     ensures at_the_second { option_map (λ o. second_barrier_count o first_waits_again.system.processors) first_waits_again.order ≡ Some (record { arrived = 1; awaited = 2 }) }
+    ensures released_is_counted { second_count first_released ≡ Some (record { arrived = 2; awaited = 2 }) }
+    ensures released_is_counted_at_the_first { first_count first_released ≡ Some (record { arrived = 3; awaited = 3 }) }
 {}
 
 /// Combined stores, and who comes last.
@@ -67,6 +73,7 @@ pub fn worked_cancel()
     ensures as_before { value_of (own (walk 1 0 (run (walk 1 0 (begun uncached_goal pair)) (Cancels ∷ []))) 0).file (PhysBase 0) ≡ 6 }
     ensures whole { walk 1 0 (run (walk 1 0 (begun uncached_goal pair)) (Cancels ∷ [])) ≡ pair }
     ensures whole_after_arrive { walk 1 0 (run (walk 2 0 (begun uncached_goal pair)) (Cancels ∷ [])) ≡ pair }
+    ensures as_it_was { walk 1 0 (run (walk 2 0 (begun uncached_goal (alone (record (marked true) { buffers = [] })))) (Cancels ∷ [])) ≡ alone (record (marked true) { buffers = [] }) }
     ensures at_once { run (begun uncached_goal pair) (Cancels ∷ []) ≡ pair }
     ensures waiting_is_snooped { answer_of waits_dirty 1 (Load 0x1000) ≡ Value 0x2a WB }
     ensures in_memory { memory_at (run waits_dirty (load 1 0x1000 ∷ [])) 0x100000 ≡ 0x2a }

@@ -6,7 +6,7 @@ ghost use Rattle.mt_machine.specs.Start.{start_with};
 ghost use Rattle.mt_machine.specs.System.{with_self_snoop};
 ghost use Rattle.mt_machine.specs.Update.{updated};
 ghost use Rattle.mt_machine.specs.WorkedRuns.{alone, bare_file, bare_snooper, begun, cached, called, flags, load, memory_at, mixed, mixed_dirty, own, reports, rounds, snooper, steps_of, store, walk};
-ghost use Rattle.mt_machine.specs.WorkedSetups.{all_controls};
+ghost use Rattle.mt_machine.specs.WorkedSetups.{all_controls, marked};
 
 /// The rows of the table of events in which a self-snooping processor differs.
 pub fn worked_self_snoop()
@@ -41,6 +41,7 @@ pub fn worked_self_snoop_flags()
     ensures start { flags mixed ≡ true ∷ false ∷ [] }
     ensures set { flags (record mixed { system = with_self_snoop 1 mixed.system }) ≡ true ∷ true ∷ [] }
     ensures set_again { record mixed { system = with_self_snoop 0 mixed.system } ≡ mixed }
+    ensures set_alone { with_self_snoop 0 (alone (marked false)).system ≡ (alone (record (marked false) { self_snoop = true })).system }
     ensures no_processor { record mixed { system = with_self_snoop 2 mixed.system } ≡ mixed }
     ensures accesses { flags (run mixed (load 0 0x1000 ∷ store 0 0x1000 7 ∷ Accesses 0 Fence ∷ load 1 0x1000 ∷ store 1 0x1000 8 ∷ Accesses 1 Fence ∷ [])) ≡ true ∷ false ∷ [] }
     ensures controls { flags (run mixed (all_controls 0)) ≡ true ∷ false ∷ [] }

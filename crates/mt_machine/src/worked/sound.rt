@@ -1,8 +1,9 @@
 ghost use Rattle.std.specs.Prelude.{◌≡◌, ◌∷◌, [], ◌++◌, Some, false, replicate, true};
-ghost use Rattle.mt_machine.specs.declared.phase.Phase.TheVariants.{Flushed, Flushed2, Normal, Restored, TlbFlushed, TlbFlushed2, Writing};
+ghost use Rattle.mt_machine.specs.declared.phase.Phase.TheVariants.{Enabled, Flushed, Flushed2, Normal, Restored, TlbFlushed, TlbFlushed2, Writing};
 ghost use Rattle.mt_machine.specs.Memory.{IsMemory};
 ghost use Rattle.mt_machine.specs.System.{IsCoherent, IsProcessor, IsSound, is_tlb_flushed};
 ghost use Rattle.mt_machine.specs.WorkedRuns.{alone, bare_file, copier, dirty_lines, entries_from, entry, idle, line_of, machine_of, mapping, mappings_from, one_window, whole, with_first_word, with_word};
+ghost use Rattle.mt_machine.specs.WorkedSetups.{liner, two_liner, with_copies};
 
 /// A memory, and what is none for one thing.
 pub fn worked_memory()
@@ -15,6 +16,15 @@ pub fn worked_memory()
     ensures descending { IsMemory (record { windows = record { base = 0x40; lines = 1 } ∷ record { base = 0; lines = 1 } ∷ []; words = replicate 16 0 }) }
     ensures at_the_end { IsMemory (record { windows = record { base = 0xfffffffffffc0; lines = 1 } ∷ []; words = replicate 8 0 }) }
     ensures word_missing { IsMemory (record { windows = record { base = 0; lines = 1 } ∷ []; words = replicate 7 0 }) → ⊥ }
+    ensures word_too_many { IsMemory (record { windows = record { base = 0; lines = 1 } ∷ []; words = replicate 9 0 }) → ⊥ }
+    ensures ascending { IsMemory (record { windows = record { base = 0; lines = 1 } ∷ record { base = 0x40; lines = 1 } ∷ []; words = replicate 16 0 }) }
+    ensures second_without_lines { IsMemory (record { windows = record { base = 0x40; lines = 1 } ∷ record { base = 0; lines = 0 } ∷ []; words = replicate 8 0 }) → ⊥ }
+    ensures second_within_a_line { IsMemory (record { windows = record { base = 0; lines = 1 } ∷ record { base = 0x60; lines = 1 } ∷ []; words = replicate 16 0 }) → ⊥ }
+    ensures second_past_the_end { IsMemory (record { windows = record { base = 0; lines = 1 } ∷ record { base = 0xfffffffffffc0; lines = 2 } ∷ []; words = replicate 24 0 }) → ⊥ }
+    ensures shared_line_of_a_third { IsMemory (record {
+      windows = record { base = 0x40; lines = 1 } ∷ record { base = 0x80; lines = 1 } ∷ record { base = 0x40; lines = 1 } ∷ [];
+      words = replicate 24 0;
+    }) → ⊥ }
 {}
 
 /// What is coherent and sound, and what is not for one thing.
@@ -26,8 +36,13 @@ pub fn worked_sound()
     ensures copied_by_the_next { IsCoherent (machine_of (whole ∷ copier ∷ [])).system → ⊥ }
     ensures copied_by_the_one_before { IsCoherent (machine_of (copier ∷ whole ∷ [])).system → ⊥ }
     ensures clean_copies { IsCoherent (machine_of (copier ∷ copier ∷ [])).system }
+    ensures second_line_differs { IsCoherent (with_word 0x100040 9 (machine_of (idle ∷ two_liner ∷ []))).system → ⊥ }
+    ensures second_line_copied { IsCoherent (machine_of (two_liner ∷ with_copies ∷ [])).system → ⊥ }
+    ensures two_dirty_lines { IsCoherent (machine_of (liner ∷ record idle { lines = line_of 0x4001 0 ∷ [] } ∷ [])).system }
     ensures line_outside { IsSound (alone (record whole { lines = line_of 0x4040 0 ∷ [] })).system → ⊥ }
     ensures buffer_outside { IsSound (alone (record whole { buffers = line_of 0x3fff 0 ∷ [] })).system → ⊥ }
+    ensures second_line_outside { IsSound (machine_of (idle ∷ record idle { lines = line_of 0x4001 0 ∷ line_of 0x4040 0 ∷ [] } ∷ [])).system → ⊥ }
+    ensures second_buffer_outside { IsSound (machine_of (idle ∷ record idle { buffers = line_of 0x4001 0 ∷ line_of 0x4040 0 ∷ [] } ∷ [])).system → ⊥ }
     ensures incoherent { IsSound (with_first_word 9 (alone whole)).system → ⊥ }
     ensures memory_misses_a_word { IsSound (record { processors = []; memory = record { windows = one_window; words = [] } }) → ⊥ }
     ensures second_no_processor { IsSound (machine_of (whole ∷ record idle { phase = Writing 9 } ∷ [])).system → ⊥ }
@@ -60,6 +75,7 @@ pub fn worked_processors()
     ensures before_the_flush { is_tlb_flushed Flushed ≡ false }
     ensures after_the_flush { is_tlb_flushed TlbFlushed ≡ true }
     ensures while_written { is_tlb_flushed (Writing 3) ≡ true }
+    ensures written { is_tlb_flushed Enabled ≡ true }
     ensures at_the_second_flush { is_tlb_flushed Flushed2 ≡ true }
     ensures after_the_second_flush { is_tlb_flushed TlbFlushed2 ≡ true }
     ensures normal { is_tlb_flushed Normal ≡ true }

@@ -1,11 +1,12 @@
-ghost use Rattle.std.specs.Prelude.{◌≡◌, ◌∷◌, [], None, Some, false, is_some, true};
-ghost use Rattle.mt_regs.specs.declared.registers.Register.TheVariants.{DefaultType, PhysBase};
+ghost use Rattle.std.specs.Prelude.{◌≡◌, ◌∷◌, [], None, Some, false, is_some, map, true};
+ghost use Rattle.mt_regs.specs.declared.registers.Register.TheVariants.{DefaultType, PhysBase, PhysMask};
 ghost use Rattle.mt_regs.specs.Registers.{value_of, with_value};
-ghost use Rattle.mt_regs.specs.WorkedRows.{four_gigabytes};
-ghost use Rattle.mt_machine.specs.declared.event.Event.TheVariants.{Arrive, ArriveAgain, Disable, DropLines, Enable, FlushTlb, Leave, Pass, Release, RestorePge, SetNoFill, SetNormal, Write, WriteBack};
-ghost use Rattle.mt_machine.specs.declared.phase.Phase.TheVariants.{Arrived2, Enabled, Flushed2, Running};
-ghost use Rattle.mt_machine.specs.Machine.{Calls, Cancels, Goes, due_at, run};
-ghost use Rattle.mt_machine.specs.WorkedRuns.{alone, begun, both_arrived, cached, called, dirty_lines, goal_of, holder, memory_at, own, palette, store, uncached_goal, walk};
+ghost use Rattle.mt_regs.specs.WorkedRows.{four_gigabytes, ordinary};
+ghost use Rattle.mt_machine.specs.declared.event.Event.TheVariants.{Arrive, ArriveAgain, Disable, DropLines, Enable, FlushTlb, Leave, Pass, Release, RestorePge, SetNoFill, SetNormal, Take, Write, WriteBack};
+ghost use Rattle.mt_machine.specs.declared.phase.Phase.TheVariants.{Arrived, Arrived2, Enabled, Flushed, Flushed2, NoFill, Normal, Passed, Restored, Running, Taken, TlbFlushed, TlbFlushed2, Writing};
+ghost use Rattle.mt_machine.specs.Machine.{Calls, Cancels, Goes, due_at, own_step, run};
+ghost use Rattle.mt_machine.specs.WorkedRuns.{alone, begun, both_arrived, cached, called, dirty_lines, goal_of, holder, line_of, memory_at, own, palette, store, uncached_goal, walk};
+ghost use Rattle.mt_machine.specs.WorkedSetups.{marked, of_marked};
 
 /// Rows of the table of events, up to where the ranges are off.
 pub fn worked_steps()
@@ -39,6 +40,29 @@ pub fn worked_steps()
     ensures first_line_first { due_at (walk 4 0 (called (alone (record (holder true) { lines = dirty_lines 0x4001 2 })))) 0 ≡ Some (WriteBack 0x100040 0x4001) }
     ensures then_the_second { due_at (walk 5 0 (called (alone (record (holder true) { lines = dirty_lines 0x4001 2 })))) 0 ≡ Some (WriteBack 0x100080 0x4002) }
     ensures disabled_already { (own (walk 9 0 (called (alone (record (holder true) { file = with_value four_gigabytes DefaultType 0x406 })))) 0).file.default_type ≡ 0x406 }
+{}
+
+/// What each event sets, and that the processor keeps all else.
+pub fn worked_own_steps()
+    ensures take { of_marked (own_step ordinary Take) ≡ of_marked (λ p. record p { phase = Taken }) }
+    ensures arrive { of_marked (own_step ordinary Arrive) ≡ of_marked (λ p. record p { phase = Arrived }) }
+    ensures leave { of_marked (own_step ordinary Leave) ≡ of_marked (λ p. p) }
+    ensures pass { of_marked (own_step ordinary Pass) ≡ of_marked (λ p. record p { phase = Passed }) }
+    ensures no_fill { of_marked (own_step ordinary SetNoFill) ≡ of_marked (λ p. record p { phase = NoFill; cache_disabled = true }) }
+    ensures write_back { of_marked (own_step ordinary (WriteBack 0x100010 7)) ≡ of_marked (λ p. record p { lines = record (line_of 0x4000 3) { dirty = 2 } ∷ line_of 0x4001 3 ∷ [] }) }
+    ensures drop { of_marked (own_step ordinary DropLines) ≡ of_marked (λ p. record p { phase = Flushed; lines = [] }) }
+    ensures drop_again { own_step ordinary DropLines (record (marked true) { phase = Enabled }) ≡ record (marked true) { phase = Flushed2; lines = [] } }
+    ensures flush { of_marked (own_step ordinary FlushTlb) ≡ of_marked (λ p. record p { phase = TlbFlushed; remembered_global = p.page_global; page_global = false; entries = [] }) }
+    ensures flush_again { own_step ordinary FlushTlb (record (marked false) { phase = Flushed2; remembered_global = true })
+        ≡ record (marked false) { phase = TlbFlushed2; remembered_global = true; entries = [] } }
+    ensures disable { of_marked (own_step ordinary Disable) ≡ of_marked (λ p. record p { phase = Writing 0; file = with_value four_gigabytes DefaultType 0 }) }
+    ensures write { of_marked (own_step ordinary (Write 3)) ≡ of_marked (λ p. record p { phase = Writing 4; file = with_value four_gigabytes (PhysMask 1) 0xf00000800 }) }
+    ensures enable { of_marked (own_step ordinary Enable) ≡ of_marked (λ p. record p { phase = Enabled; file = with_value four_gigabytes DefaultType 0xc00 }) }
+    ensures normal { of_marked (own_step ordinary SetNormal) ≡ of_marked (λ p. record p { phase = Normal; cache_disabled = false }) }
+    ensures restore { own_step ordinary RestorePge (record (marked true) { page_global = false }) ≡ record (marked true) { phase = Restored; remembered_global = false } }
+    ensures restore_clear { own_step ordinary RestorePge (marked false) ≡ record (marked false) { phase = Restored } }
+    ensures arrive_again { of_marked (own_step ordinary ArriveAgain) ≡ of_marked (λ p. record p { phase = Arrived2 }) }
+    ensures release { of_marked (own_step ordinary Release) ≡ of_marked (λ p. record p { era = 4 }) }
 {}
 
 /// Rows of the table of events, from there on.

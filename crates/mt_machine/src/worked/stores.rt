@@ -1,10 +1,11 @@
-ghost use Rattle.std.specs.Prelude.{◌≡◌, ◌∷◌, ◌++◌, [], Some, length, map, slice_get};
+ghost use Rattle.std.specs.Prelude.{◌≡◌, ◌∷◌, ◌++◌, [], Some, false, length, map, slice_get};
 ghost use Rattle.mt_kinds.specs.declared.mem_type.MemType.TheVariants.{WB};
 ghost use Rattle.mt_machine.specs.declared.done.Done.TheVariants.{Value};
 ghost use Rattle.mt_machine.specs.declared.op.Op.TheVariants.{Load};
 ghost use Rattle.mt_machine.specs.Machine.{run};
-ghost use Rattle.mt_machine.specs.WorkedRuns.{alone, answer_of, cached, crowded, load, memory_at, no_fill, own, painter, palette, pending, store, wide_alone};
-ghost use Rattle.mt_machine.specs.WorkedSetups.{four_lines, whole_line};
+ghost use Rattle.mt_machine.specs.Memory.{line_words};
+ghost use Rattle.mt_machine.specs.WorkedRuns.{alone, answer_of, cached, crowded, holder, load, machine_of, memory_at, no_fill, own, painter, palette, pending, store, wide_alone};
+ghost use Rattle.mt_machine.specs.WorkedSetups.{clean_copy, four_lines, liner, whole_line};
 
 /// Rows of the table of stores.
 pub fn worked_stores()
@@ -30,6 +31,10 @@ pub fn worked_stores()
     ensures wb_hit_is_dirty { cached (run palette (load 0 0x1000 ∷ load 1 0x1000 ∷ store 0 0x1008 4 ∷ [])) 0 ≡ (0x4000, 2) ∷ [] }
     ensures wb_hit_invalidates_the_others { cached (run palette (load 0 0x1000 ∷ load 1 0x1000 ∷ store 0 0x1008 4 ∷ [])) 1 ≡ [] }
     ensures wb_hit_stays_dirty { cached (run palette (store 0 0x1000 3 ∷ store 0 0x1008 4 ∷ [])) 0 ≡ (0x4000, 3) ∷ [] }
+    ensures wb_hit_keeps_the_order { cached (run palette (store 0 0x1000 3 ∷ store 0 0x1040 4 ∷ store 0 0x1008 5 ∷ [])) 0 ≡ (0x4000, 3) ∷ (0x4001, 1) ∷ [] }
+    ensures wb_hit_of_a_dirty_line_keeps_memory { memory_at (run palette (store 1 0x1000 3 ∷ store 1 0x1008 4 ∷ [])) 0x100000 ≡ 0 }
+    ensures wb_hit_writes_back_the_others { memory_at (run (machine_of (record (holder false) { lines = clean_copy 0x4000 ∷ [] } ∷ liner ∷ [])) (store 0 0x1000 4 ∷ [])) 0x100008 ≡ 6 }
+    ensures wb_hit_leaves_other_lines { cached (run palette (load 1 0x1000 ∷ load 1 0x1040 ∷ load 0 0x1000 ∷ store 0 0x1000 4 ∷ [])) 1 ≡ (0x4001, 0) ∷ [] }
     ensures wb_miss_fills { cached (run palette (store 0 0x1008 4 ∷ [])) 0 ≡ (0x4000, 2) ∷ [] }
     ensures wb_miss_reads_the_bus { memory_at (run palette (store 1 0x1000 9 ∷ store 0 0x1008 4 ∷ [])) 0x100000 ≡ 9 }
     ensures wb_miss_has_what_was_dirty { answer_of (run palette (store 1 0x1000 9 ∷ store 0 0x1008 4 ∷ [])) 0 (Load 0x1000) ≡ Value 9 WB }
@@ -58,6 +63,8 @@ pub fn worked_combining()
     ensures its_own { pending (run palette (store 0 0x3000 3 ∷ [])) 1 ≡ [] }
     ensures era { map (λ b. b.era) (own (run (alone (record painter { era = 3 })) (store 0 0x3000 3 ∷ [])) 0).buffers ≡ 3 ∷ [] }
     ensures whole_one_is_emptied { pending (run palette (whole_line 0x3000)) 0 ≡ [] }
+    ensures whole_one_alone_is_emptied { pending (run palette (store 0 0x3040 9 ∷ whole_line 0x3000)) 0 ≡ (0x4001, 1) ∷ [] }
+    ensures all_words_in_memory { line_words (run palette (whole_line 0x3000)).system.memory 0x4000 ≡ 1 ∷ 2 ∷ 3 ∷ 4 ∷ 5 ∷ 6 ∷ 7 ∷ 8 ∷ [] }
     ensures oldest_is_emptied { pending (run palette (four_lines 0x3000 ++ store 0 0x3100 5 ∷ [])) 0 ≡ (0x4001, 1) ∷ (0x4002, 1) ∷ (0x4003, 1) ∷ (0x4004, 1) ∷ [] }
     ensures oldest_in_memory { memory_at (run palette (four_lines 0x3000 ++ store 0 0x3100 5 ∷ [])) 0x100000 ≡ 1 }
     ensures full_but_found { pending (run palette (four_lines 0x3000 ++ store 0 0x3048 5 ∷ [])) 0 ≡ (0x4000, 1) ∷ (0x4001, 3) ∷ (0x4002, 1) ∷ (0x4003, 1) ∷ [] }

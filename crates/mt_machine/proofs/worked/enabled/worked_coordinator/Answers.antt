@@ -16,3 +16,6 @@ returns-clause-other_width c = λ h. omega (arith, (h.3 0 idle (omega arith)).wi
 
 pub returns-clause-other_capabilities : goal.returns-clause-other_capabilities
 returns-clause-other_capabilities c = λ h. omega (arith, (h.3 0 idle (omega arith)).capabilities)
+
+pub returns-clause-other_width_of_the_second : goal.returns-clause-other_width_of_the_second
+returns-clause-other_width_of_the_second c = λ h. omega (arith, (h.3 1 idle (omega arith)).width)

@@ -26,3 +26,6 @@ returns-clause-refused_store c = λ h. omega (arith, h 0x100000 refl (none 0x100
 
 pub returns-clause-after_the_events : goal.returns-clause-after_the_events
 returns-clause-after_the_events c = λ h. omega (arith, h 0x100000 refl (none 0x100000))
+
+pub returns-clause-still_in_a_cache : goal.returns-clause-still_in_a_cache
+returns-clause-still_in_a_cache c = λ h. omega (arith, h 0x100000 refl (none 0x100000))

@@ -17,3 +17,9 @@ returns-clause-newer_entry c = λ h. omega (arith, h.entries 0 (entry 0 false) (
 
 pub returns-clause-second_processor : goal.returns-clause-second_processor
 returns-clause-second_processor c = λ h. omega (arith, ap (λ (f : RegisterFile). f.default_type) (h 1 keeper (omega arith)).file)
+
+pub returns-clause-newer_line : goal.returns-clause-newer_line
+returns-clause-newer_line c = λ h. omega (arith, h.lines 0 (line_of 0 0) (omega arith))
+
+pub returns-clause-newer_buffer : goal.returns-clause-newer_buffer
+returns-clause-newer_buffer c = λ h. omega (arith, h.buffers 0 (line_of 0 0) (omega arith))

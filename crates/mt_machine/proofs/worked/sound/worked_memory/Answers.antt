@@ -19,3 +19,15 @@ returns-clause-shared_line c = λ h. ⊎_elim (λ w. omega (arith, w)) (λ w. om
 
 pub returns-clause-shared_line_of_the_second : goal.returns-clause-shared_line_of_the_second
 returns-clause-shared_line_of_the_second c = λ h. ⊎_elim (λ w. omega (arith, w)) (λ w. omega (arith, w)) (h.apart 0 1 none (omega arith) (omega arith))
+
+pub returns-clause-second_without_lines : goal.returns-clause-second_without_lines
+returns-clause-second_without_lines c = λ h. omega (arith, h.some_lines 1 none (omega arith))
+
+pub returns-clause-second_within_a_line : goal.returns-clause-second_within_a_line
+returns-clause-second_within_a_line c = λ h. omega (arith, h.aligned 1 none (omega arith))
+
+pub returns-clause-second_past_the_end : goal.returns-clause-second_past_the_end
+returns-clause-second_past_the_end c = λ h. omega (arith, h.bounded 1 none (omega arith))
+
+pub returns-clause-shared_line_of_a_third : goal.returns-clause-shared_line_of_a_third
+returns-clause-shared_line_of_a_third c = λ h. ⊎_elim (λ w. omega (arith, w)) (λ w. omega (arith, w)) (h.apart 0 2 none (omega arith) (omega arith))

@@ -1,6 +1,7 @@
 use Rattle.std.proofs.Common.{arith, refl}
 use Rattle.mt_machine.specs.System.{IsCoherent}
 use Rattle.mt_machine.specs.WorkedRuns.{alone, copier, idle, line_of, whole, with_first_word}
+use Rattle.mt_machine.specs.WorkedSetups.{two_liner, with_copies}
 use Rattle.mt_machine.proofs.worked.sound.worked_sound.Goals as goal
 
 clean_word : IsCoherent (with_first_word 9 (alone whole)).system → ⊥
@@ -32,3 +33,15 @@ returns-clause-incoherent c = λ h. clean_word h.coherent
 
 pub returns-clause-second_no_processor : goal.returns-clause-second_no_processor
 returns-clause-second_no_processor c = λ h. omega (arith, (h.each 1 idle (omega arith)).in_range 9 refl)
+
+pub returns-clause-second_line_differs : goal.returns-clause-second_line_differs
+returns-clause-second_line_differs c = λ h. omega (arith, h.clean 1 idle (omega arith) 1 (line_of 0 0) (omega arith) 0 (omega arith) refl)
+
+pub returns-clause-second_line_copied : goal.returns-clause-second_line_copied
+returns-clause-second_line_copied c = λ h. absurd (cc (h.sole 0 1 two_liner with_copies (omega arith) refl refl 1 (line_of 0 0) (omega arith) (omega arith)))
+
+pub returns-clause-second_line_outside : goal.returns-clause-second_line_outside
+returns-clause-second_line_outside c = λ h. absurd (cc (h.lines_in_memory 1 idle (omega arith) 1 (line_of 0 0) (omega arith)))
+
+pub returns-clause-second_buffer_outside : goal.returns-clause-second_buffer_outside
+returns-clause-second_buffer_outside c = λ h. absurd (cc (h.buffers_in_memory 1 idle (omega arith) 1 (line_of 0 0) (omega arith)))

@@ -36,3 +36,6 @@ returns-clause-not_accepted c = λ h. absurd (cc h.goal_accepted)
 
 pub returns-clause-other_width : goal.returns-clause-other_width
 returns-clause-other_width c = λ h. omega (arith, (h.fits 0 ready (omega arith)).width)
+
+pub returns-clause-other_era : goal.returns-clause-other_era
+returns-clause-other_era c = λ h. omega (arith, h.one_era 0 ready (omega arith))
