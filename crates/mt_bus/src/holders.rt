@@ -109,7 +109,7 @@ impl Holders {
         }
     }
 
-    /// Whether none of the first sixteen caches may have a line.
+    /// Answers true only where none of the first sixteen caches may have a line.
     #[inline(always)]
     pub fn none(&self, number: u64) -> bool
         ensures { IsTrue result → (j : ℕ) → j < 16 → may_hold self.now j number ≡ false }
@@ -117,7 +117,7 @@ impl Holders {
         self.mask(number) == 0
     }
 
-    /// Whether none of the first sixteen caches but that of one processor may have a line.
+    /// Answers true only where none of the first sixteen caches but that of one processor may have a line.
     #[inline(always)]
     pub fn only(&self, k: usize, number: u64) -> bool
         requires { k < 16 }
@@ -149,7 +149,7 @@ impl Holders {
         }
     }
 
-    /// From here on the cache of a processor may not have a line, nor one whose number has the same residue.
+    /// Takes away no bit but that of a processor for a line and those whose numbers have the same residue.
     pub fn remove(&mut self, k: usize, number: u64)
         ensures { CoversBut k number self.new self.old }
     {
@@ -159,7 +159,7 @@ impl Holders {
         }
     }
 
-    /// From here on the cache of a processor may not have any line.
+    /// Takes away no bit but those of one processor.
     pub fn remove_all(&mut self, k: usize)
         ensures { CoversOthers k self.new self.old }
     {

@@ -30,15 +30,16 @@ pub fn tool<R: AllocGlobal + Threads + Wait + Sync, S: Source, K: Sink, G: Gate>
     ensures leaves { (bytes before : List ℕ) → S.left source.old ≡ Some bytes → K.taken sink.old ≡ Some before →
         Leaves (map string_bytes words.now) bytes (S.left source.new) before (K.taken sink.new) result }
 
-    // Where the source tells its bytes, the status is that of the output for them, and a source of
-    // at most 16,777,216 bytes is not too long.
+    // Where the source tells its bytes, the status is that of the output for them, unless a port fails,
+    // memory is refused or the input is too long; and a source of at most 16,777,216 bytes is not too long.
     ensures reads { (bytes : List ℕ) → S.left source.old ≡ Some bytes → Reads (map string_bytes words.now) bytes (S.left source.new) result }
 
     // Whatever the ports tell, the statuses about an input come only of commands that read it, and
     // TooFew and Disabled only of `tidy` and `gran`.
     ensures statuses { MayEnd (command_of (map string_bytes words.now)) result }
 
-    // Usage comes exactly where the words are no command line. Then nothing is read, nor by `make`, `big` and `private`.
+    // Usage comes only where the words are no command line, and there always unless the line can't be written. Nothing
+    // is then read, nor by `make`, `big` and `private`.
     ensures usage { result ≡ Status.Usage → command_of (map string_bytes words.now) ≡ None }
     ensures no_command { command_of (map string_bytes words.now) ≡ None → (result ≡ Status.Usage) ⊎ (result ≡ Status.WriteFault) }
     ensures unread { reads_input (command_of (map string_bytes words.now)) ≡ false → source.new ≡ source.old }

@@ -14,8 +14,8 @@ pub fn a_core_arises(core: &Core)
     let _ = &core.order; // a fact for the proof
 }
 
-/// A step answers `NoUpdate` exactly where the processor runs and no update is under way, or it is
-/// cancelled, or the processor has released already.
+/// In a state that arises a step answers `NoUpdate` exactly where the processor runs, and either no update is
+/// under way, or it is cancelled, or the processor has released already.
 pub fn steps_stop()
     ensures { StopsOutside }
 {}
@@ -26,20 +26,20 @@ pub fn steps_wait()
     ensures { WaitsAtBarriers }
 {}
 
-/// From each release on, and up to the next call, each processor has the goal's registers and holds
-/// nothing older than the update.
+/// From each release on in a state that arises, and up to the next call, each processor has the goal's
+/// registers and holds nothing older than the update.
 pub fn releases_settle()
     ensures { SettledFromRelease }
 {}
 
-/// From the first release of an update on, each word that no access has stored since is in memory
-/// as it was before the first pass. Where some processor may pass, no buffer is left.
+/// From the first release of an update on, in a state that arises, each word that no access has stored since
+/// is in memory as it was before the first pass. Where some processor may pass, no buffer is left.
 pub fn words_are_held()
     ensures held { HeldFromFirstRelease }
     ensures buffers { NoBuffersWhereOnePasses }
 {}
 
-/// A state without an update under way is quiet, so each law on one update holds from it on.
+/// A state that arises and has no update under way is quiet, so each law on one update holds from it on.
 pub fn rests_quiet()
     ensures { IsQuietWithoutOrder }
 {}
@@ -57,12 +57,12 @@ pub fn states_hold()
     ensures counts { StepsCountThroughout }
 {}
 
-/// An event leaves the number of processors, and raises no era by more than one.
+/// An enabled event leaves the number of processors, and raises no era by more than one.
 pub fn eras_rise()
     ensures { ErasRise }
 {}
 
-/// Turns of steps end whatever state arose, and the state after a whole update is reached by events:
+/// Once the go is given where it is pending, turns of steps end whatever state arose, and the state after a whole update is reached by events:
 /// the call, the go and steps, of which a release is the last. So each law on reached states holds
 /// from a whole update on too.
 pub fn updates_are_reached()

@@ -17,8 +17,8 @@ use mt_regs::{RegFile, Register};
 // The bit E of the default-type register.
 const ENABLE: u8 = 11;
 
-/// Whether a processor's next event in this phase looks at nothing but the processor and the goal. So it
-/// is from the first barrier up to the return of PGE.
+/// Whether a phase is one from Passed to Normal, in each of which a processor's next event looks at nothing
+/// but the processor and the goal.
 pub fn is_local(phase: Phase) -> bool
     ensures { result ≡ is_local phase }
 {

@@ -25,8 +25,8 @@ pub fn updated_words()
     ensures { UpdatedWords }
 {}
 
-/// Where all have arrived at the second barrier each processor has the goal's registers and holds nothing,
-/// and each word is in memory.
+/// From a broadcast state, by go, cancel and steps alone: where all have arrived at the second barrier each
+/// processor has the goal's registers and holds nothing, and each word is in memory.
 pub fn led_to_second_barrier()
     ensures { LedToSecondBarrier }
 {}
@@ -41,7 +41,8 @@ pub fn cancelled_broadcast()
     ensures { CancelledBroadcast }
 {}
 
-/// A processor that has released is the one that the update leaves.
+/// From a broadcast state, by go, cancel and steps alone: a processor that has released is the one that the
+/// update leaves.
 pub fn led_released()
     ensures { LedReleased }
 {}
