@@ -6,7 +6,8 @@ pub fn ups_arise()
 {}
 
 /// In the update that `up` calls, over every list of events, each processor has processor 0's registers and holds
-/// nothing older than the update from the first release on, the newcomer too: whoever is told of completion knows it.
+/// nothing older than the update from the first release on and up to the next call, the newcomer too: whoever is told
+/// of completion knows it.
 pub fn newcomers_agree()
     ensures { NewcomersAgree }
 {}

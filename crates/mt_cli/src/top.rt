@@ -17,7 +17,8 @@ use std::thread::Threads;
 /// Does all that the program does, and answers its status. The words are the command line without
 /// the program's name. Nothing is read where they are no command line, nor by `make`, `big` and
 /// `private`; otherwise the input is read to its end, unless the source or the sink fails, memory is refused or
-/// there are more than 16,777,216 bytes. Nothing is read or written after a failed read or write.
+/// there are more than 16,777,216 bytes. A port that failed isn't called
+/// again, since that call might fail too.
 pub fn tool<R: AllocGlobal + Threads + Wait + Sync, S: Source, K: Sink, G: Gate>(
     rt: &R,
     words: &[String],

@@ -1,4 +1,4 @@
--- The value of a dump: its version and a file for each processor (own).
+-- The value of a dump: its version and a file for each processor, or in version 1 one for all (own).
 --     dump_of file      version 1 with this file
 --     IsDump dump      what every dump keeps
 use Rattle.std.specs.Prelude.{ℕ, ◌≡◌, ◌≤◌, ◌<◌, ◌⊎◌, List, [], ◌∷◌, length}

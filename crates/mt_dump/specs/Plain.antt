@@ -64,6 +64,6 @@ pub record PlainlyShown (text : List ℕ) (file : RegisterFile) : Type 0 where
   pub once : (number : ℕ) → times number (plain_registers lines) ≤ 1  -- no register is given twice
   pub one_width : length (plain_widths lines) ≤ 1  -- nor is the width
   pub values : AllByRecursion (λ register. value_at file register.0 ≡ Some register.1) (plain_registers lines)  -- each is a register of the file, with its value
-  pub defaults : (number : ℕ) → times number (plain_registers lines) ≡ 0 → value_at file number ≡ value_at (blank_file file.width file.capabilities) number  -- other registers are as at power-up
+  pub defaults : (number : ℕ) → times number (plain_registers lines) ≡ 0 → value_at file number ≡ value_at (blank_file file.width file.capabilities) number  -- other registers are 0, and the PAT has its power-up value
   pub width : file.width ≡ width_of (plain_widths lines)  -- the width is the one that is given, or 36
   pub is_file : IsRegisterFile file  -- so VCNT is at most 32

@@ -7,7 +7,7 @@ use arrayvec::ArrayVec;
 use mt_regs::RegFile;
 use std::marker::Model;
 
-/// What a dump shows: a file for each processor. All have one width and one capability value.
+/// What a dump shows: a file for each processor, or in version 1 one for all. All have one width and one capability value.
 #[derive(Drop)]
 pub struct Dump {
     /// 1, with one file, or 2.

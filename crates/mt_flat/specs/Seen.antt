@@ -110,7 +110,7 @@ CachesAreNeverSeen =
 abbrev pub AreFew : List PendingLine → Type 0
 AreFew ps = length ps ≤ 4
 
--- no processor ever has more than four pending lines
+-- beside a sound system, over enabled events, no processor has more than four pending lines
 abbrev pub PendingStaysFew : Type 0
 PendingStaysFew =
     (s : Machine) (f : Flat) (es : List MachineEvent) (k : ℕ) → IsSound s.system → IsFlatOf s.system f → AreEnabled s es

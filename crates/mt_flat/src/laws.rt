@@ -22,7 +22,7 @@ pub fn caches_are_never_seen()
     ensures run { CachesAreNeverSeen }
 {}
 
-/// No processor ever has more than four pending lines.
+/// Beside a sound system, over enabled events, no processor has more than four pending lines.
 pub fn pending_stays_few()
     ensures { PendingStaysFew }
 {}

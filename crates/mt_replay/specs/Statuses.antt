@@ -46,7 +46,7 @@ use Rattle.mt_stream.specs.Told.{told}
 -- ---- the dump of a text
 
 -- A line of the dump, which ends it where the last argument is true: the lines before it then show the dump, with a file for each
--- of the processors.
+-- of the processors, or in version 1 one for all.
 abbrev pub ShowsAt : Dump → Situation → List Reading → Reading → (Situation → List Reading → Type 0) → Bool → Type 0
 ShowsAt dump now before says rest true = ShownBy (onto before []) dump × (has_each now.cpus dump ≡ true)
 ShowsAt dump now before says rest false = (offence_of before says ≡ None) × rest now (says ∷ before)

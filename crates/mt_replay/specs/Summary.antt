@@ -1,4 +1,4 @@
--- The four numbers of a script's transcript (own).
+-- Three numbers of a script's transcript, and the sum of memory at its end (own).
 --     is_complete line, value_in line      whether a line says `complete E`, and V where it says `value V T`
 --     lines_in text, updates_in text, values_in text      of a text: how many lines it has, how many of them say so, and the sum of their values
 --     last_state text      the last state of a script; none where no dump was accepted

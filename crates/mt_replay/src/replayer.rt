@@ -225,8 +225,8 @@ fn act<R: Threads + Wait + Sync, G: Gate>(
 }
 
 impl Replayer {
-    /// A script after its dump, which has an accepted file for each processor. The error comes only
-    /// where the allocator has no room.
+    /// A script after its dump, which has an accepted file for each processor, or in version 1 one for all. The error
+    /// comes only where the allocator has no room.
     pub fn begin(alloc: Global, setup: Setup, dump: Dump) -> Result<Replayer, NoMemory>
         requires stage { is_in_dump setup.stage ≡ true }
         requires each { has_each setup.cpus dump ≡ true }

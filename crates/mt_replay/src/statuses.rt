@@ -10,8 +10,8 @@ pub fn states_have_the_shown_dump()
     ensures { StatesHaveTheShownDump }
 {}
 
-/// A script is refused exactly where its dump is read whole, has a file for each processor and shows
-/// one with a fault. The first such file is then all that is told.
+/// A script is refused exactly where its dump is read whole, has a file for each processor or in version 1 one for
+/// all, and shows one with a fault. The first such file is then all that is told.
 pub fn refused_dumps_are_told_alone()
     ensures exactly { RefusedWhereFileIsRefused }
     ensures alone { RefusedAlone }

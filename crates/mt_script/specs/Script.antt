@@ -1,6 +1,6 @@
 -- The first offence of a script, and when it has none (own).
 --     script_offence text      the first offence of a whole text, with its reason and place, whatever the files of its dump are
---     IsGoodScript text      each line is accepted in its turn, the dump shows a file for each processor, and the text may end where it ends
+--     IsGoodScript text      each line is accepted in its turn, the dump shows a file for each processor or in version 1 one for all, and the text may end where it ends
 use Rattle.std.specs.Prelude.{ℕ, ◌≡◌, ◌+◌, ◌∷◌, List, [], Bool, true, false, Option, Some, None, Ok}
 use Rattle.mt_text.specs.Text.{lines_of, end_of}
 use Rattle.mt_text.specs.declared.place.Place.{Place}
@@ -46,7 +46,8 @@ offence_in end number (line ∷ lines) now before =
 abbrev pub script_offence : List ℕ → Option Offence
 script_offence text = offence_in (end_of text) 1 (lines_of text) at_start []
 
--- A line of the dump has no offence after those before it. The end of the dump comes where its lines show a dump with a file for each processor.
+-- A line of the dump has no offence after those before it. The end of the dump comes where its lines show a dump with a file for each
+-- processor, or in version 1 one for all.
 abbrev pub GoesOn : Situation → List Reading → Reading → (Situation → List Reading → Type 0) → Bool → Type 0
 GoesOn now before says rest true = (dump : Dump) × ShownBy (onto before []) dump × (has_each now.cpus dump ≡ true) × rest (finished now dump) []
 GoesOn now before says rest false = (offence_of before says ≡ None) × rest now (says ∷ before)

@@ -178,7 +178,7 @@ impl Setup {
         }
     }
 
-    /// Keeps the dump, at its end. It has a file for each processor.
+    /// Keeps the dump, at its end. It has a file for each processor, or in version 1 one for all.
     pub fn dumped(&mut self, d: Dump)
         requires stage { is_in_dump self.old.stage ≡ true }
         requires each { has_each self.old.cpus d ≡ true }
