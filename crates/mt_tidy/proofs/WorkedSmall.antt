@@ -153,3 +153,10 @@ own_least_three = (least_is_least_for apart accepted refl seven own_runs 0x7fff 
 
 pub list : IsLeastList apart seven 0x8000 holed
 list = record { gives = gives; allowed = allowed; in_order = in_order; none_shorter = λ others g a. least_two.none_shorter others g a }
+
+-- a list of two that may share no page would be shorter than each such list
+pub not_two : IsLeastFor apart seven 0x7fff 2 → ⊥
+not_two h = omega (arith, least_three.none_shorter h.some.0 h.some.1 h.some.2, h.some.3)
+
+pub not_two_of_its_own : IsLeast apart 0x7fff 2 → ⊥
+not_two_of_its_own h = omega (arith, own_least_three.none_shorter h.some.0 h.some.1 h.some.2, h.some.3)

@@ -17,8 +17,10 @@ pub fn worked_least_of_sixteen()
     ensures cost_apart { whole_cost apart seven 0x7fff ≡ Some 3 }
     ensures least { IsLeastFor apart seven 0x8000 2 }
     ensures least_apart { IsLeastFor apart seven 0x7fff 3 }
+    ensures two_apart { IsLeastFor apart seven 0x7fff 2 → ⊥ }
     ensures least_of_its_own { IsLeast apart 0x8000 2 }
     ensures least_of_its_own_apart { IsLeast apart 0x7fff 3 }
+    ensures two_of_its_own_apart { IsLeast apart 0x7fff 2 → ⊥ }
     ensures list { IsLeastList apart seven 0x8000 holed }
 {}
 

@@ -1,4 +1,4 @@
-use Rattle.mt_tidy.proofs.WorkedSmall.{cost_three, cost_two, least_three, least_two, list, own_least_three, own_least_two, wanted}
+use Rattle.mt_tidy.proofs.WorkedSmall.{cost_three, cost_two, least_three, least_two, list, not_two, not_two_of_its_own, own_least_three, own_least_two, wanted}
 use Rattle.mt_tidy.proofs.worked_small.worked_least_of_sixteen.Goals as goal
 
 pub returns-clause-wanted : goal.returns-clause-wanted
@@ -24,3 +24,9 @@ returns-clause-least_of_its_own_apart c = own_least_three
 
 pub returns-clause-list : goal.returns-clause-list
 returns-clause-list c = list
+
+pub returns-clause-two_apart : goal.returns-clause-two_apart
+returns-clause-two_apart c = λ h. not_two h
+
+pub returns-clause-two_of_its_own_apart : goal.returns-clause-two_of_its_own_apart
+returns-clause-two_of_its_own_apart c = λ h. not_two_of_its_own h
