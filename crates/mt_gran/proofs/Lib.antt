@@ -14,3 +14,4 @@ mod WorkedParts
 pub mod SomeRounding
 pub mod WorkedFile
 pub mod WorkedRounded
+mod WorkedSixteen

@@ -97,6 +97,10 @@ pub not_kept : AreRounded sixteen 2 (run 0 2 WP ∷ run 2 2 WB ∷ run 4 4 WP �
 unfolding is_whole has_type
 not_kept h = absurd (cc (h.kinds 2 (run 0 0 UC) (omega arith) 4 (omega arith, omega arith)))
 
+pub too_long : AreRounded sixteen 2 (run 0 2 WP ∷ run 2 3 WB ∷ run 5 3 UC ∷ run 8 4 WT ∷ run 12 4 WB ∷ []) → ⊥
+unfolding is_whole has_type
+too_long h = absurd (cc (h.kinds 1 (run 0 0 UC) (omega arith) 4 (omega arith, omega arith)))
+
 -- ---- files
 
 pub least : IsLeastRounded uncached 4 0 0

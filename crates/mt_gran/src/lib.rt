@@ -28,5 +28,5 @@ pub use worked::{
     worked_grained, worked_granules, worked_losses, worked_parts, worked_rounding, worked_sizes,
     worked_why,
 };
-pub use worked_cuts::{worked_cuts_of_runs, worked_longest_runs, worked_whole_runs};
-pub use worked_rounded::{worked_least_rounded, worked_rounded_maps};
+pub use worked_cuts::{worked_cuts_of_runs, worked_longest_runs, worked_marks, worked_whole_runs};
+pub use worked_rounded::{worked_least_rounded, worked_rounded_maps, worked_sixteen_rounded};

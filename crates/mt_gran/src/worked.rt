@@ -22,6 +22,8 @@ pub fn worked_granules()
     ensures of_one_page { is_whole sixteen 0 7 ≡ true }
     ensures free_alone { is_whole sixteen 1 0 ≡ true }
     ensures cut { is_whole (with_free 11) 3 1 ≡ true }
+    ensures without_the_last { is_whole (record sixteen { count = 7 }) 2 1 ≡ true }
+    ensures with_the_last { is_whole (record sixteen { count = 8 }) 2 1 ≡ false }
     ensures larger_than_all { is_whole (with_free 11) 28 0 ≡ true }
     ensures larger_and_broken { is_whole sixteen 28 0 ≡ false }
 {}
@@ -45,6 +47,7 @@ pub fn worked_losses()
     ensures nine { lost_pages sixteen 3 ≡ 9 }
     ensures not_free { lost_pages sixteen 28 ≡ 9 }
     ensures cut { lost_pages (with_free 11) 3 ≡ 0 }
+    ensures of_thirteen_pages { lost_pages (record sixteen { count = 13 }) 3 ≡ 6 }
     ensures uncacheable_is_not_lost { loses sixteen 2 MemType.UC 7 ≡ false }
     ensures write_through_is { loses sixteen 3 MemType.WT 8 ≡ true }
     ensures of_its_own_type { loses sixteen 3 MemType.WB 8 ≡ false }
@@ -61,6 +64,7 @@ pub fn worked_sizes()
     ensures odd { log_among 0x3000 0 29 ≡ None }
     ensures none { log_among 0 0 29 ≡ None }
     ensures size { IsGranuleSize 0x1000000 12 }
+    ensures largest_size { IsGranuleSize 0x10000000000 28 }
     ensures other_log { IsGranuleSize 0x1000000 11 → ⊥ }
     ensures too_many_pages { IsGranuleSize 0x20000000000 29 → ⊥ }
 {}
@@ -74,6 +78,10 @@ pub fn worked_parts()
     ensures not_uncacheable { ArePartsOf sixteen 2 (run 4 3 MemType.WB ∷ run 7 1 MemType.UC ∷ []) → ⊥ }
     ensures not_free { ArePartsOf sixteen 3 (run 0 2 MemType.WP ∷ run 2 5 MemType.WB ∷ run 8 4 MemType.WT ∷ run 12 4 MemType.WB ∷ []) → ⊥ }
     ensures not_joined { ArePartsOf sixteen 3 (run 2 5 MemType.WB ∷ run 8 8 MemType.WT ∷ []) → ⊥ }
+    ensures one_without_pages { ArePartsOf sixteen 2 (run 4 3 MemType.WB ∷ run 9 0 MemType.WB ∷ []) → ⊥ }
+    ensures past_the_end { ArePartsOf sixteen 28 (run 2 5 MemType.WB ∷ run 8 4 MemType.WT ∷ run 12 5 MemType.WB ∷ []) → ⊥ }
+    ensures twice { ArePartsOf sixteen 2 (run 4 3 MemType.WB ∷ run 4 3 MemType.WB ∷ []) → ⊥ }
+    ensures not_in_order { ArePartsOf sixteen 3 (run 8 4 MemType.WT ∷ run 2 5 MemType.WB ∷ run 12 4 MemType.WB ∷ []) → ⊥ }
 {}
 
 /// Why nothing is rounded.

@@ -1,12 +1,31 @@
 // Longest runs of marked pages, runs of a type map, and their cuts.
-ghost use Rattle.std.specs.Prelude.{◌∷◌, [], None};
-ghost use Rattle.mt_regs.specs.declared.page_type.PageType.TheVariants.{Undefined};
+ghost use Rattle.std.specs.Prelude.{◌≡◌, ◌∷◌, [], None, Some, false, true};
+ghost use Rattle.mt_regs.specs.WorkedRows.{four_gigabytes, video_memory};
+ghost use Rattle.mt_regs.specs.declared.page_type.PageType.TheVariants.{Kind, Undefined};
 ghost use Rattle.mt_tidy.specs.WorkedRanges.{cached};
-ghost use Rattle.mt_gran.specs.Marks.{AreRunsOf, IsCut, IsWholeRun};
+ghost use Rattle.mt_gran.specs.Granules.{pages_of};
+ghost use Rattle.mt_gran.specs.Marks.{AreRunsOf, IsCut, IsWholeRun, lost_mark, part_loss, rounded_mark};
 ghost use Rattle.mt_gran.specs.WorkedCuts.{broken_ends, cut, marked};
-ghost use Rattle.mt_gran.specs.WorkedGranules.{run};
+ghost use Rattle.mt_gran.specs.WorkedGranules.{run, sixteen};
 
 use mt_kinds::MemType;
+
+/// The pages of a file with fixed ranges, and marks of sixteen pages in granules of four and of eight.
+#[tactic(auto, unfolding(crate::specs::Granules::is_whole, crate::specs::Granules::has_type))]
+pub fn worked_marks()
+    ensures count { (pages_of video_memory).count ≡ 0x1000000 }
+    ensures free { (pages_of video_memory).free 0xff ≡ true }
+    ensures not_free { (pages_of video_memory).free 0x100 ≡ false }
+    ensures kind { (pages_of video_memory).kind 0xa0 ≡ Kind MemType.WC }
+    ensures rounded { rounded_mark sixteen 2 4 ≡ Some (Kind MemType.UC) }
+    ensures whole { rounded_mark sixteen 2 2 ≡ Some (Kind MemType.WB) }
+    ensures lost { lost_mark sixteen 2 4 ≡ Some (Kind MemType.WB) }
+    ensures uncacheable { lost_mark sixteen 2 7 ≡ None }
+    ensures in_a_whole_one { lost_mark sixteen 2 2 ≡ None }
+    ensures free_in_a_broken_one { lost_mark sixteen 3 1 ≡ None }
+    ensures loss { part_loss (run 4 3 MemType.WB) ≡ 3 }
+    ensures other_loss { part_loss (run 8 4 MemType.WT) ≡ 0 }
+{}
 
 /// The longest runs of eight pages, and lists that aren't for one thing.
 pub fn worked_longest_runs()
@@ -24,6 +43,8 @@ pub fn worked_longest_runs()
 /// The one run of a file whose pages all have WB, and what is no run of its map for one thing.
 pub fn worked_whole_runs()
     ensures whole { IsWholeRun cached (run 0 0x1000000 MemType.WB) }
+    ensures first_of_two { IsWholeRun four_gigabytes (run 0 0x100000 MemType.WB) }
+    ensures last_of_two { IsWholeRun four_gigabytes (run 0x100000 0xf00000 MemType.UC) }
     ensures no_type { IsWholeRun cached (record { first = 0; count = 0x1000000; kind = Undefined }) → ⊥ }
     ensures without_pages { IsWholeRun cached (run 0 0 MemType.UC) → ⊥ }
     ensures past_the_end { IsWholeRun cached (run 0 0x1000001 MemType.WB) → ⊥ }

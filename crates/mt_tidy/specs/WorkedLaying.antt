@@ -3,7 +3,7 @@ use Rattle.std.specs.Prelude.{ℕ, ◌+◌, ◌^◌, ◌==◌, Bool, true, false
 use Rattle.mt_kinds.specs.declared.mem_type.MemType.TheVariants.{UC, WT, WB}
 use Rattle.mt_kinds.specs.declared.mem_type.MemType.{MemType}
 use Rattle.mt_trie.specs.declared.context.Context.{Context}
-use Rattle.mt_trie.specs.declared.context.Context.TheVariants.{Untouched}
+use Rattle.mt_trie.specs.declared.context.Context.TheVariants.{Clash, Untouched}
 use Rattle.mt_tidy.specs.declared.costs.Costs.{Costs}
 use Rattle.mt_tidy.specs.declared.costs.Reach.{Reach}
 use Rattle.mt_tidy.specs.declared.rules.Rules.{Rules}
@@ -44,6 +44,17 @@ pair_slot = record {
   clash = 0xffffffffffffffff;
 }
 
+-- what the second one costs alone
+abbrev pub second_costs : Costs
+second_costs = record { untouched = Some 1; uc = Some 0; wc = Some 1; wt = Some 1; wp = Some 1; wb = Some 1; clash = Some 1 }
+
+-- seven costs that differ, and their slot
+abbrev pub seven_costs : Costs
+seven_costs = record { untouched = Some 1; uc = Some 2; wc = Some 3; wt = Some 4; wp = Some 5; wb = Some 6; clash = Some 7 }
+
+abbrev pub seven_slot : Slot
+seven_slot = record { key = 9; untouched = 1; uc = 2; wc = 3; wt = 4; wp = 5; wb = 6; clash = 7 }
+
 -- what both halves of a block of twice 2 ^ log pages cost together
 abbrev pub halves_cost : Task → ℕ → ℕ → Context → Option ℕ
 halves_cost k log first x = plus (cost k log first x) (cost k log (first + 2 ^ log) x)
@@ -52,6 +63,11 @@ halves_cost k log first x = plus (cost k log first x) (cost k log (first + 2 ^ l
 abbrev pub one_or_none : Context → Option ℕ
 one_or_none Untouched = Some 1
 one_or_none other = Some 0
+
+-- halves that cost none over a clash, and else one range
+abbrev pub none_over_a_clash : Context → Option ℕ
+none_over_a_clash Clash = Some 0
+none_over_a_clash other = Some 1
 
 abbrev pub reach : ℕ → Option MemType → Reach
 reach cost range = record { cost = Some cost; range = range }

@@ -1,5 +1,5 @@
 -- Ranges and files of worked examples.
-use Rattle.std.specs.Prelude.{ℕ, List, [], ◌∷◌}
+use Rattle.std.specs.Prelude.{ℕ, List, [], ◌∷◌, replicate}
 use Rattle.mt_kinds.specs.declared.mem_type.MemType.{MemType}
 use Rattle.mt_kinds.specs.declared.mem_type.MemType.TheVariants.{UC, WB, WT}
 use Rattle.mt_regs.specs.declared.page_type.PageType.TheVariants.{Kind}
@@ -51,6 +51,17 @@ two_ranges = with_ranges (with_value cached DefaultType 0x800) (range 0 0 WB ∷
 -- all else is WT: four pages of WB and four of UC side by side
 abbrev pub beside : RegisterFile
 beside = with_ranges (with_value cached DefaultType 0x804) (range 0 2 WB ∷ range 4 2 UC ∷ [])
+
+-- WB from 0 to 4 GB; the PAT and the fixed-range registers, which are off, have values of their own
+abbrev pub with_own_values : RegisterFile
+with_own_values = record {
+  width = 36;
+  capabilities = 0x502;
+  pairs = (6, 0xf00000800) ∷ (0, 0) ∷ [];
+  fixed = 0 ∷ 1 ∷ 4 ∷ 5 ∷ replicate 7 0x0606060606060606;
+  pat = 0x0106050400070406;
+  default_type = 0x804;
+}
 
 -- the base of the first pair, which isn't valid, has a reserved bit
 abbrev pub with_reserved_bit : RegisterFile

@@ -10,7 +10,7 @@ ghost use Rattle.mt_tidy.specs.LeastList.{IsLeastList};
 ghost use Rattle.mt_tidy.specs.Ranges.{InOrder, IsAllowed, Precedes, holds_page, types_at};
 ghost use Rattle.mt_tidy.specs.Tidied.{IsTidied, IsTooFew, StandsFor, pairs_for, valid_count, with_ranges};
 ghost use Rattle.mt_tidy.specs.Wanted.{Gives, IsBlock, IsLeastFor, IsRangeOf, IsWanted, is_free, is_supported_type};
-ghost use Rattle.mt_tidy.specs.WorkedRanges.{all_of, beside, cached, holed, one_range, range, side_by_side, two_pages, two_ranges, uncached, with_reserved_bit};
+ghost use Rattle.mt_tidy.specs.WorkedRanges.{all_of, beside, cached, holed, one_range, range, side_by_side, two_pages, two_ranges, uncached, with_own_values, with_reserved_bit};
 
 /// The pages of ranges, and which lists are allowed.
 pub fn worked_ranges()
@@ -86,10 +86,12 @@ pub fn worked_pairs()
     ensures pairs { pairs_for 36 3 (range 0 20 WB ∷ range 0xc0000 16 UC ∷ []) ≡ (6, 0xf00000800) ∷ (0xc0000000, 0xff0000800) ∷ (0, 0) ∷ [] }
     ensures file { (with_ranges cached (range 0 20 WT ∷ [])).pairs ≡ (4, 0xf00000800) ∷ (0, 0) ∷ (0, 0) ∷ (0, 0) ∷ (0, 0) ∷ (0, 0) ∷ (0, 0) ∷ (0, 0) ∷ [] }
     ensures default { (with_ranges cached (range 0 20 WT ∷ [])).default_type ≡ 0x806 }
+    ensures all_else_stays { with_ranges with_own_values (range 0 20 WB ∷ []) ≡ with_own_values }
     ensures count { valid_count four_gigabytes ≡ 1 }
     ensures stands_not_valid { StandsFor 36 (range 0 20 WB) (6, 0xf00000000) → ⊥ }
     ensures stands_for_others { StandsFor 36 (range 0 20 WB) (6, 0xff0000800) → ⊥ }
     ensures stands_for_others_far_up { StandsFor 36 (range 0 20 WB) (6, 0x700000800) → ⊥ }
+    ensures stands_past_the_last_page_not_valid { StandsFor 36 (range 0x1000000 0 WB) (6, 0) → ⊥ }
     ensures stands_for_another_type { StandsFor 36 (range 0 20 WB) (4, 0xf00000800) → ⊥ }
 {}
 
@@ -141,6 +143,7 @@ pub fn worked_fits()
     ensures tidied { IsTidied cached (all_of WB) 0 8 cached 0 }
     ensures more_spared_than_there_are { IsTidied cached (all_of WB) 0 32 cached 0 }
     ensures other_pat { IsTidied cached (all_of WB) 0 0 (record cached { pat = 0x0007040600070407 }) 0 → ⊥ }
+    ensures not_accepted { IsTidied (record cached { pat = 2 }) (all_of WB) 0 0 (record cached { pat = 2 }) 0 → ⊥ }
     ensures miscounted { (t : IsTidied cached (all_of UC) 0 0 (with_ranges cached (range 0 24 UC ∷ [])) 0) → t.ranges ≡ range 0 24 UC ∷ [] → ⊥ }
     ensures none_left { IsTidied cached (all_of UC) 0 8 (with_ranges cached (range 0 24 UC ∷ [])) 1 → ⊥ }
     ensures enough { IsTooFew cached (all_of UC) 0 7 1 1 → ⊥ }

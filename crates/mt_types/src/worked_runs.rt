@@ -2,8 +2,8 @@ ghost use Rattle.std.specs.Prelude.{◌≡◌, ◌∷◌, [], List, length, ℕ}
 ghost use Rattle.mt_kinds.specs.declared.mem_type.MemType.{MemType};
 ghost use Rattle.mt_kinds.specs.declared.mem_type.MemType.TheVariants.{UC, WB, WP};
 ghost use Rattle.mt_regs.specs.RegisterFile.{RegisterFile};
-ghost use Rattle.mt_types.specs.Runs.{HasPage, IsChain, IsRunsOf, NeighboursDiffer, run_end};
-ghost use Rattle.mt_types.specs.Tables.{IsPartsOf, IsTableOf, IsTypeTable};
+ghost use Rattle.mt_types.specs.Runs.{HasPage, IsChain, IsRunsOf, NeighboursDiffer, pages_end, run_end};
+ghost use Rattle.mt_types.specs.Tables.{IsPartsOf, IsTableOf, IsTypeTable, part_of};
 ghost use Rattle.mt_types.specs.WorkedMaps.{off, run, three, wide_off};
 
 /// Neighbours that differ, and lists in which two are alike.
@@ -23,6 +23,8 @@ pub fn worked_pages_of_runs()
     ensures last { HasPage (run 0x80 0x20 WP) 0x9f }
     ensures before { HasPage (run 0x80 0x20 WP) 0x7f → ⊥ }
     ensures behind { HasPage (run 0x80 0x20 WP) 0xa0 → ⊥ }
+    ensures end_of_all { pages_end 0 (run 0x80 0x20 WP ∷ []) ≡ 0xa0 }
+    ensures part { part_of (run 0x80 0x20 WP) ≡ (0x80, WP) }
     ensures chain { IsChain 0x80 (run 0x80 0x20 WP ∷ run 0xa0 0x60 WP ∷ []) }
     ensures late_chain { IsChain 0 (run 0x80 0x20 WP ∷ []) → ⊥ }
     ensures second_of_another_type { IsRunsOf off (run 0 0x80 UC ∷ run 0x80 0xffff80 WB ∷ []) → ⊥ }

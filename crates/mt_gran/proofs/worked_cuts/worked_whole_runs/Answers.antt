@@ -1,5 +1,6 @@
-use Rattle.std.proofs.Common.{refl, arith}
-use Rattle.mt_kinds.specs.declared.mem_type.MemType.TheVariants.{WB}
+use Rattle.std.proofs.Common.{refl, sym, ◌∙◌, arith}
+use Rattle.mt_kinds.specs.declared.mem_type.MemType.TheVariants.{UC, WB}
+use Rattle.mt_types.proofs.TwoTypes.{uncached, written_back}
 use Rattle.mt_gran.proofs.worked_cuts.worked_whole_runs.Goals as goal
 
 pub returns-clause-whole : goal.returns-clause-whole
@@ -30,3 +31,25 @@ returns-clause-not_from_the_first c = λ h. h.before 0 refl refl
 
 pub returns-clause-not_to_the_last : goal.returns-clause-not_to_the_last
 returns-clause-not_to_the_last c = λ h. h.behind (omega arith) refl
+
+pub returns-clause-first_of_two : goal.returns-clause-first_of_two
+returns-clause-first_of_two c = record {
+  type = WB;
+  kind = refl;
+  some = omega arith;
+  within = omega arith;
+  pages = λ page has. written_back page has.1;
+  before = λ page is. omega (arith, is);
+  behind = λ more same. absurd (cc same);
+}
+
+pub returns-clause-last_of_two : goal.returns-clause-last_of_two
+returns-clause-last_of_two c = record {
+  type = UC;
+  kind = refl;
+  some = omega arith;
+  within = omega arith;
+  pages = λ page has. uncached page has.0 has.1;
+  before = λ page is same. absurd (cc (sym (written_back page (omega (arith, is))) ∙ same));
+  behind = λ more. omega (arith, more);
+}

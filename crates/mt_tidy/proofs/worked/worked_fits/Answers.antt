@@ -92,3 +92,6 @@ returns-clause-fewer_needed c = λ h. omega (arith, h.least.none_shorter [] by_d
 
 pub returns-clause-none_needed : goal.returns-clause-none_needed
 returns-clause-none_needed c = λ h. omega (arith, h.above, h.has_is)
+
+pub returns-clause-not_accepted : goal.returns-clause-not_accepted
+returns-clause-not_accepted c = λ h. absurd (cc h.accepted)

@@ -12,3 +12,6 @@ returns-clause-stands_for_others_far_up c = λ h. absurd (cc (h.pages 0x800000 (
 
 pub returns-clause-stands_for_another_type : goal.returns-clause-stands_for_another_type
 returns-clause-stands_for_another_type c = λ h. absurd (cc h.kind)
+
+pub returns-clause-stands_past_the_last_page_not_valid : goal.returns-clause-stands_past_the_last_page_not_valid
+returns-clause-stands_past_the_last_page_not_valid c = λ h. absurd (cc h.valid)

@@ -24,3 +24,9 @@ returns-clause-not_added c = λ h is. omega (arith, ap length (h.after ∙ ap (r
 
 pub returns-clause-others_dropped : goal.returns-clause-others_dropped
 returns-clause-others_dropped c = λ h is. omega (arith, ap length (h.after ∙ ap (λ choice. range 9 0 WC ∷ ranges_on 0 3 choice) is))
+
+pub returns-clause-over_another_type : goal.returns-clause-over_another_type
+returns-clause-over_another_type c = record { choice = Some WB; chosen = (refl, omega arith, refl); context = refl; after = refl }
+
+pub returns-clause-none_over_another_type : goal.returns-clause-none_over_another_type
+returns-clause-none_over_another_type c = record { choice = None; chosen = refl; context = refl; after = refl }

@@ -1,5 +1,5 @@
 use Rattle.std.proofs.Common.{◌≡◌, Some, None, refl, sym, ◌∙◌, arith}
-use Rattle.mt_tidy.proofs.WorkedLaying.{costs_two, halves_cost_three, none_over, number, one_over, over_one_type}
+use Rattle.mt_tidy.proofs.WorkedLaying.{costs_two, halves_cost_three, none_over, none_over_wb, number, one_over, one_over_wb, over_one_type}
 use Rattle.mt_tidy.proofs.worked_laying.worked_choices.Goals as goal
 
 pub returns-clause-range : goal.returns-clause-range
@@ -31,3 +31,15 @@ returns-clause-other_cost c = λ h. omega (arith, number 3 2 (h.cost ∙ costs_t
 
 pub returns-clause-other_range : goal.returns-clause-other_range
 returns-clause-other_range c = λ h. omega (arith, number 2 3 (sym costs_two ∙ h.range ∙ halves_cost_three))
+
+pub returns-clause-too_large_for_its_size : goal.returns-clause-too_large_for_its_size
+returns-clause-too_large_for_its_size c = λ h. omega (arith, h.1)
+
+pub returns-clause-none_over_a_type : goal.returns-clause-none_over_a_type
+returns-clause-none_over_a_type c = none_over_wb
+
+pub returns-clause-over_another_type : goal.returns-clause-over_another_type
+returns-clause-over_another_type c = (refl, omega arith, refl)
+
+pub returns-clause-best_over_a_type : goal.returns-clause-best_over_a_type
+returns-clause-best_over_a_type c = record { cost = sym one_over_wb; range = none_over_wb }

@@ -1,6 +1,6 @@
 use Rattle.std.proofs.Common.{refl, arith}
 use Rattle.mt_kinds.specs.declared.mem_type.MemType.TheVariants.{UC, WB}
-use Rattle.mt_tidy.proofs.WorkedLaying.{fits_apart, fits_over}
+use Rattle.mt_tidy.proofs.WorkedLaying.{first_page, fits_apart, fits_over, second_page}
 use Rattle.mt_tidy.proofs.worked_laying.worked_fitting_lists.Goals as goal
 
 pub returns-clause-apart : goal.returns-clause-apart
@@ -29,3 +29,15 @@ returns-clause-other_type c = λ h. absurd (cc (h.gives 0 (record { from = omega
 
 pub returns-clause-last_page : goal.returns-clause-last_page
 returns-clause-last_page c = λ h. absurd (cc (h.gives 1 (record { from = omega arith; to = omega arith }) UC refl))
+
+pub returns-clause-first_page : goal.returns-clause-first_page
+returns-clause-first_page c = first_page
+
+pub returns-clause-second_page : goal.returns-clause-second_page
+returns-clause-second_page c = second_page
+
+pub returns-clause-second_page_left_out : goal.returns-clause-second_page_left_out
+returns-clause-second_page_left_out c = λ h. absurd (cc (h.gives 1 (record { from = omega arith; to = omega arith }) UC refl))
+
+pub returns-clause-larger_than_the_block : goal.returns-clause-larger_than_the_block
+returns-clause-larger_than_the_block c = λ h. omega (arith, h.inside.0.to)

@@ -6,7 +6,7 @@ use Rattle.mt_tidy.specs.Fits.{Fits}
 use Rattle.mt_tidy.specs.Ranges.{InOrder}
 use Rattle.mt_tidy.specs.WorkedLaying.{pair_task}
 use Rattle.mt_tidy.specs.WorkedRanges.{range}
-use Rattle.mt_tidy.proofs.WorkedLaying.{fits_apart, number}
+use Rattle.mt_tidy.proofs.WorkedLaying.{both_cost_over, fits_apart, fits_over, number, second_cost_over, second_page_over}
 use Rattle.mt_tidy.proofs.worked_laying.worked_laid_lists.Goals as goal
 
 costs_two : cost (pair_task 0) 1 0 Untouched ≡ Some 2
@@ -40,3 +40,9 @@ returns-clause-not_in_order c = λ h is. turned (subst InOrder is h.in_order)
 
 pub returns-clause-one_too_many : goal.returns-clause-one_too_many
 returns-clause-one_too_many c = λ h is. omega (arith, number 2 (length h.added) (sym costs_two_too ∙ h.count), ap length is)
+
+pub returns-clause-second_page : goal.returns-clause-second_page
+returns-clause-second_page c = record { added = range 1 0 UC ∷ []; after = refl; fits = second_page_over; in_order = (tt, tt); count = second_cost_over }
+
+pub returns-clause-over_another : goal.returns-clause-over_another
+returns-clause-over_another c = record { added = range 1 0 UC ∷ []; after = refl; fits = fits_over; in_order = (tt, tt); count = both_cost_over }

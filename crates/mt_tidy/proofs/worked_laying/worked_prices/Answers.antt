@@ -1,7 +1,7 @@
 use Rattle.std.proofs.Common.{◌≡◌, Some, None, refl, sym, ◌∙◌, arith}
 use Rattle.mt_kinds.specs.declared.mem_type.MemType.TheVariants.{WB}
 use Rattle.mt_trie.specs.declared.context.Context.TheVariants.{Clash, Has, Untouched}
-use Rattle.mt_tidy.proofs.WorkedLaying.{number, pair_cost}
+use Rattle.mt_tidy.proofs.WorkedLaying.{number, pair_cost, second_cost}
 use Rattle.mt_tidy.proofs.worked_laying.worked_prices.Goals as goal
 
 pub returns-clause-costs : goal.returns-clause-costs
@@ -24,3 +24,6 @@ returns-clause-infinite c = λ n is. absurd (cc is)
 
 pub returns-clause-not_below : goal.returns-clause-not_below
 returns-clause-not_below c = λ h. omega (arith, h 2 refl)
+
+pub returns-clause-second_page : goal.returns-clause-second_page
+returns-clause-second_page c = second_cost

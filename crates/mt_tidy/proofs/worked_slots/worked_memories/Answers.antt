@@ -1,9 +1,9 @@
 use Rattle.std.proofs.Common.{◌≡◌, Some, None, refl, sym, ◌∙◌, arith}
 use Rattle.mt_kinds.specs.declared.mem_type.MemType.TheVariants.{UC, WC, WT, WP, WB}
 use Rattle.mt_trie.specs.declared.context.Context.TheVariants.{Clash, Has, Untouched}
-use Rattle.mt_tidy.specs.WorkedLaying.{pair_costs, pair_task}
+use Rattle.mt_tidy.specs.WorkedLaying.{pair_costs, pair_task, second_costs}
 use Rattle.mt_tidy.proofs.Remembering.{nothing_remembers, slot_remembers}
-use Rattle.mt_tidy.proofs.WorkedLaying.{free_cost, number, page_cost, pair_cost}
+use Rattle.mt_tidy.proofs.WorkedLaying.{free_cost, number, page_cost, pair_cost, second_cost}
 use Rattle.mt_tidy.proofs.worked_slots.worked_memories.Goals as goal
 
 pub returns-clause-remembers : goal.returns-clause-remembers
@@ -38,3 +38,9 @@ returns-clause-wb c = λ h. let e : None ≡ Some 1 = h.right 1 0 (omega arith) 
 
 pub returns-clause-clash : goal.returns-clause-clash
 returns-clause-clash c = λ h. let e : Some 0 ≡ None = h.right 1 0 (omega arith) refl Clash ∙ sym (pair_cost Clash) in absurd (cc e)
+
+pub returns-clause-second_page : goal.returns-clause-second_page
+returns-clause-second_page c = slot_remembers (pair_task 8192) 0 1 second_costs (omega arith) second_cost
+
+pub returns-clause-of_any_size : goal.returns-clause-of_any_size
+returns-clause-of_any_size c = λ k slot first h is. h.right 63 first (omega arith) is
