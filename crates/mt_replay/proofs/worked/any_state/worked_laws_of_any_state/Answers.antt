@@ -1,4 +1,4 @@
-use Rattle.std.proofs.Common.{◌≡◌, refl, ℕ, ◌+◌, List, [], ◌∷◌, Option, None, Some, Result, Ok, Err}
+use Rattle.std.proofs.Common.{ℕ, ◌+◌, List, [], ◌∷◌, Option, None, Some, Result, Ok, Err}
 use Rattle.mt_regs.specs.declared.fault.Fault.{Fault}
 use Rattle.mt_regs.specs.Agreement.{first_refusal}
 use Rattle.mt_dump.specs.Dumps.{Dump}
@@ -7,7 +7,7 @@ use Rattle.mt_script.specs.Commands.{command_of}
 use Rattle.mt_script.specs.declared.command.Command.{Command}
 use Rattle.mt_script.specs.declared.fault.ScriptFault.{ScriptFault}
 use Rattle.mt_replay.specs.Heads.{HeadEnd, head_of, has_offence, shows_dump, stays_open}
-use Rattle.mt_replay.specs.Kept.{EachAfter, EachBy, EachIn, EachOfDump, HoldsThrough}
+use Rattle.mt_replay.specs.Kept.{EachAfter, EachBy, EachIn, EachOfDump}
 use Rattle.mt_replay.specs.ReplayState.{ReplayState, first_state, state_after}
 use Rattle.mt_replay.proofs.worked.any_state.worked_laws_of_any_state.Goals as goal
 

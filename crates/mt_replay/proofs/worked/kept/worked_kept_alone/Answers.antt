@@ -1,6 +1,5 @@
-use Rattle.std.proofs.Common.{◌≡◌, Bool, false, true, ap, refl, sym, subst, inl, rules, arith, lit≤, ◌∷◌, [], Some, length, ℕ, List, All}
+use Rattle.std.proofs.Common.{◌≡◌, Bool, false, true, ap, refl, sym, subst, inl, rules, arith, lit≤, ◌∷◌, [], length, List, All}
 use Rattle.std.specs.List.{IsDistinct}
-use Rattle.mt_laws.specs.Kept.{flags_of}
 use Rattle.mt_laws.proofs.Clearing.Fresh.{starts_fresh}
 use Rattle.mt_laws.proofs.Invariant.Starts.{start_is_quiet}
 use Rattle.mt_regs.specs.RegisterFile.{blank_file}
@@ -12,7 +11,7 @@ use Rattle.mt_machine.specs.Memory.{IsMemory}
 use Rattle.mt_machine.specs.Start.{IsQuiet, zero_memory}
 use Rattle.mt_machine.specs.System.{Processor}
 use Rattle.mt_machine.specs.WorkedRuns.{bare_file, idle, machine_of, one_window}
-use Rattle.mt_core.specs.Arises.{Arises, from_start}
+use Rattle.mt_core.specs.Arises.{from_start}
 use Rattle.mt_script.specs.Kept.{IsSituation}
 use Rattle.mt_script.specs.Stages.{HasCpus, is_past_dump, is_past_windows}
 use Rattle.mt_script.specs.declared.command.Stage.{Stage}

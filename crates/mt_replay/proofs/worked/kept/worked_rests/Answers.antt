@@ -1,4 +1,4 @@
-use Rattle.std.proofs.Common.{◌≡◌, ◌∙◌, ap, refl, sym, subst, inl, rules, arith, false, ◌∷◌, [], length, None}
+use Rattle.std.proofs.Common.{◌≡◌, ◌∙◌, ap, refl, subst, inl, rules, arith, false, ◌∷◌, [], length, None}
 use Rattle.mt_laws.proofs.Clearing.Fresh.{starts_fresh}
 use Rattle.mt_laws.proofs.Invariant.Starts.{start_is_quiet}
 use Rattle.mt_regs.specs.StartFiles.{AreStartFiles}
@@ -9,7 +9,7 @@ use Rattle.mt_machine.specs.WorkedRuns.{bare_file, idle, machine_of, one_window}
 use Rattle.mt_core.specs.Arises.{Arises, from_start}
 use Rattle.mt_core.proofs.Eras.{eras_rise}
 use Rattle.mt_replay.specs.Kept.{CameFromRest}
-use Rattle.mt_replay.specs.WorkedStates.{crowd, crowd_in_update}
+use Rattle.mt_replay.specs.WorkedStates.{crowd_in_update}
 use Rattle.mt_replay.proofs.Keeping.Machines.{follows_event}
 use Rattle.mt_replay.proofs.Keeping.Moving.{came_on, rests_now}
 use Rattle.mt_replay.proofs.worked.kept.worked_rests.Goals as goal
