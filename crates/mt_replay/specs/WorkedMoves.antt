@@ -54,7 +54,7 @@ first_taken = state_of Commands (walk 1 0 (called palette))
 abbrev pub given_up : ReplayState
 given_up = state_of Commands (run (machine_of (idle ∷ idle ∷ [])) (Calls (bare_file 0x800) ∷ Steps 0 Take ∷ Cancels ∷ []))
 
--- both processors have stored the same word into a buffer, at the end of a section
+-- both processors have stored the same word, into a buffer each, at the end of a section
 abbrev pub stored_twice : ReplayState
 stored_twice = state_of InUpdate (run palette (store 0 0x3000 7 ∷ store 1 0x3000 8 ∷ []))
 

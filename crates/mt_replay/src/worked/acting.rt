@@ -2,7 +2,7 @@
 ghost use Rattle.std.specs.Prelude.{◌≡◌, ◌∷◌, ◌++◌, [], codes, false, length, map, replicate, None, Some};
 ghost use Rattle.mt_machine.specs.Memory.{word_at};
 ghost use Rattle.mt_machine.specs.Start.{start_machine};
-ghost use Rattle.mt_machine.specs.WorkedRuns.{alone, bare_file, crowded, load, palette, seen};
+ghost use Rattle.mt_machine.specs.WorkedRuns.{alone, bare_file, crowded, load, seen};
 ghost use Rattle.mt_script.specs.Situation.{at_start};
 ghost use Rattle.mt_script.specs.declared.command.Command.TheVariants as asks;
 ghost use Rattle.mt_script.specs.declared.command.Stage.TheVariants as stage;
@@ -21,7 +21,7 @@ pub fn worked_kinds_of_commands()
     ensures named { map named (asked_of 3 ++ (asks.Step 3 ∷ asks.Msr 3 0x2ff ∷ [])) ≡ replicate 10 (Some 3) }
     ensures unnamed { map named of_none ≡ replicate 17 None }
     ensures silent { map (command_text painted) silent ≡ replicate 9 [] }
-    ensures still { map (machine_after painted) still ≡ replicate 10 palette }
+    ensures still { map (machine_after stored_twice) still ≡ replicate 10 stored_twice.machine }
     ensures in_an_update { map (command_text first_taken) (asked_of 0) ≡ replicate 8 (codes "busy\n") }
     ensures not_in_it { map (command_text first_taken) (asked_of 1) ≡ codes "value 0000000000000000 WB\n" ∷ codes "stored WB\n" ∷ codes "fenced\n" ∷ replicate 5 (codes "ok\n") }
     ensures first_steps { command_text first_taken (asks.Step 0) ≡ codes "arrive\n" }
