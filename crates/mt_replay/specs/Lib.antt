@@ -15,6 +15,7 @@ pub mod Texts
 pub mod Transcript
 pub mod WorkedJoins
 pub mod WorkedLaws
+pub mod WorkedMoves
 pub mod WorkedScript
 pub mod WorkedStates
 pub mod WorkedSteps

@@ -2,7 +2,7 @@ ghost use Rattle.std.specs.Prelude.{◌≡◌, ◌++◌, [], List, ℕ, Some, co
 ghost use Rattle.mt_ports.specs.declared.status.Status.TheVariants as status;
 ghost use Rattle.mt_stream.specs.Known.{known_text};
 ghost use Rattle.mt_stream.specs.Told.{told};
-ghost use Rattle.mt_replay.specs.Running.{ReplaysAs};
+ghost use Rattle.mt_replay.specs.Running.{Replays, ReplaysAs};
 ghost use Rattle.mt_replay.specs.Transcript.{replay_told, transcript};
 
 /// What the known lines of a front of a script write is a front of the script's transcript, whatever
@@ -22,5 +22,12 @@ pub fn worked_known_lines()
 pub fn worked_replays()
     ensures early { ReplaysAs (told (codes "accepted\nok\n") status.Done) (codes "x") (Some []) (Some []) (Some (codes "accepted\n")) status.NoMemory }
     ensures other_text { ReplaysAs (told (codes "accepted\nok\n") status.Done) (codes "x") (Some []) (Some []) (Some (codes "ok\n")) status.NoMemory → ⊥ }
+    ensures too_much { ReplaysAs (told (codes "accepted\nok\n") status.Done) (codes "x") (Some []) (Some []) (Some (codes "accepted\nok\n")) status.NoMemory → ⊥ }
+    ensures behind_a_newcomer { ReplaysAs (told (codes "accepted\nup 1\n") status.Done) (codes "cpus 1\ndump\n0fe 400\nend\nup\n") (Some []) (Some []) (Some (codes "accepted\nup")) status.NoMemory }
+    ensures known { ReplaysAs (told [] status.Done) (codes "end\ncpus") (Some []) (Some []) (Some (codes "bad text 1:1 bad line\n")) status.ReadFault }
+    ensures known_is_told { (h : ReplaysAs (told [] status.Done) (codes "end\n") (Some []) (Some []) (Some []) status.ReadFault) → h.front ≡ codes "end\n" → ⊥ }
+    ensures transcript { Replays (codes "end\n") (Some []) (Some []) (Some (codes "bad text 1:1 bad line\n")) status.BadText }
+    ensures untold { Replays (codes "end\n") (Some []) (Some []) (Some []) status.BadText → ⊥ }
+    ensures other_status { Replays (codes "end\n") (Some []) (Some []) (Some (codes "bad text 1:1 bad line\n")) status.Done → ⊥ }
     ensures not_told { ReplaysAs (told [] status.Done) (codes "x") (Some []) (Some []) (Some (codes "accepted\n")) status.NoMemory → ⊥ }
 {}

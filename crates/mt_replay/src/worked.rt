@@ -1,12 +1,18 @@
+mod acting;
+mod any_state;
+mod asking;
 mod commands;
 mod joining;
+mod kept;
 mod laws;
 mod moving;
 mod points;
 mod promises;
+mod runs;
 mod states;
 mod steps;
 mod summaries;
+mod tellings;
 
 ghost use Rattle.std.specs.Prelude.{◌≡◌, ◌∷◌, ◌++◌, [], codes, replicate, true, false, None, Some};
 ghost use Rattle.mt_kinds.specs.declared.mem_type.MemType.TheVariants.{UC, WC, WB};
@@ -22,10 +28,14 @@ ghost use Rattle.mt_core.specs.declared.stepped.Stepped.TheVariants.{Did, Waits,
 ghost use Rattle.mt_replay.specs.WorkedStates.{holder_of_one, starter};
 ghost use Rattle.mt_replay.specs.Texts.{call_fault_line, called_line, cancel_line, complete_line, done_line, event_text, go_line, have_one_file, memory_line, phase_text, processor_line, processor_lines, register_line, registers_line, report_text, ruled_line, stepped_line};
 
+pub use acting::{worked_effects_of_the_second, worked_kinds_of_commands, worked_rare_texts};
+pub use any_state::{worked_laws_of_any_state, worked_laws_of_any_step};
+pub use asking::{worked_asking, worked_newcomers_from};
 pub use commands::{worked_commands, worked_effects};
 pub use joining::{
     worked_called_goals, worked_join_summary, worked_joined_states, worked_moving_steps,
 };
+pub use kept::{worked_kept_alone, worked_rests, worked_starts};
 pub use laws::{
     worked_laws_of_movers, worked_laws_of_sections, worked_laws_of_transcripts,
     worked_laws_of_updates,
@@ -39,12 +49,16 @@ pub use promises::{
     worked_laws_of_beginnings, worked_laws_of_calls, worked_laws_of_dumps, worked_laws_of_states,
     worked_laws_of_statuses, worked_laws_of_told_updates,
 };
+pub use runs::{
+    worked_carried_out, worked_ends_of_runs, worked_paths, worked_points_of_heads, worked_writes,
+};
 pub use states::{
     worked_dumps, worked_each_state, worked_heads, worked_kept, worked_sections,
     worked_settled_states, worked_without_call, worked_words,
 };
 pub use steps::{worked_flat_values, worked_last_states, worked_line_ends, worked_short_updates};
 pub use summaries::{worked_summaries, worked_told_lines, worked_told_texts};
+pub use tellings::worked_tellings;
 
 /// What accesses and control instructions are answered.
 #[tactic(auto, unfolding(hex::specs::Hex::encode_with))]
@@ -147,5 +161,8 @@ pub fn worked_reports()
     ensures none { have_one_file [] ≡ true }
     ensures last_differs { have_one_file (starter ∷ starter ∷ start_processor (record (blank_file 36 0x508) { default_type = 0x800 }) ∷ []) ≡ false }
     ensures report { report_text (starter ∷ []) ≡ codes "cpu 0 running era 0 lines 0 dirty 0 buffers 0 entries 0 stale 0 cd 0 pge 0\nregisters same\n" }
+    ensures cd_alone { processor_line 1 (record starter { cache_disabled = true }) ≡ codes "cpu 1 running era 0 lines 0 dirty 0 buffers 0 entries 0 stale 0 cd 1 pge 0\n" }
+    ensures all_same { have_one_file (starter ∷ starter ∷ starter ∷ []) ≡ true }
+    ensures second_differs { have_one_file (starter ∷ start_processor (record (blank_file 36 0x508) { default_type = 0x800 }) ∷ starter ∷ []) ≡ false }
     ensures each_its_number { processor_lines 14 (starter ∷ starter ∷ []) ≡ processor_line 14 starter ++ (processor_line 15 starter ++ []) }
 {}

@@ -17,3 +17,7 @@ returns-clause-stale c = refl
 pub returns-clause-report : goal.returns-clause-report
 unfolding digits
 returns-clause-report c = refl
+
+pub returns-clause-cd_alone : goal.returns-clause-cd_alone
+unfolding digits
+returns-clause-cd_alone c = refl
