@@ -11,7 +11,7 @@ use Rattle.mt_machine.specs.declared.phase.Phase.TheVariants.{Running, Taken, Ar
 use Rattle.mt_machine.specs.System.{Processor}
 use Rattle.mt_machine.specs.Machine.{BarrierCount, Calls, Controls, Goes, Machine, MachineEvent, Order, first_barrier_count, run, second_barrier_count}
 use Rattle.mt_machine.specs.Update.{updated}
-use Rattle.mt_machine.specs.WorkedRuns.{bare_file, begun, call_order, entry, global_mapping, holder, idle, line_of, load, machine_of, mapping, maps, palette, setup, small, store, uncached_goal, walk}
+use Rattle.mt_machine.specs.WorkedRuns.{bare_file, begun, call_order, crowded, dirty_lines, entry, global_mapping, holder, idle, line_of, load, machine_of, mapping, maps, palette, setup, small, store, uncached_goal, walk, whole}
 
 -- ---- events
 
@@ -132,6 +132,10 @@ two_liner = record idle { lines = line_of 0x4000 0 ∷ line_of 0x4001 0 ∷ [] }
 abbrev pub clean_copy : ℕ → CacheLine
 clean_copy number = record (line_of number 0) { words = replicate 8 0; dirty = 0 }
 
+-- 64 lines, of which the second oldest is clean
+abbrev pub clean_second : Processor
+clean_second = record crowded { lines = line_of 0x4001 0 ∷ clean_copy 0x4002 ∷ dirty_lines 0x4003 62 }
+
 abbrev pub with_copies : Processor
 with_copies = record idle { lines = clean_copy 0x4002 ∷ clean_copy 0x4001 ∷ [] }
 
@@ -149,6 +153,16 @@ marked on = record {
   phase = Running;
   era = 3;
   self_snoop = on;
+}
+
+-- in no-fill mode, with a global entry, a line and a buffer
+abbrev pub no_filler : Processor
+no_filler = record whole {
+  cache_disabled = true;
+  page_global = true;
+  lines = line_of 0x4001 0 ∷ [];
+  entries = entry 1 true ∷ [];
+  self_snoop = true;
 }
 
 -- it waits at the second barrier

@@ -6,6 +6,7 @@ ghost use Rattle.mt_machine.specs.declared.done.Done.TheVariants.{Value};
 ghost use Rattle.mt_machine.specs.declared.op.Op.TheVariants.{Load};
 ghost use Rattle.mt_machine.specs.Machine.{Controls, run};
 ghost use Rattle.mt_machine.specs.WorkedRuns.{alone, answer_of, cached, choosing, crowded, dirty_lines, entry, global_mapping, holder, load, machine_of, mapping, maps, memory_at, no_fill, own, painter, palette, pending, setup, store, uncached_goal, wide_alone, with_word};
+ghost use Rattle.mt_machine.specs.WorkedSetups.{clean_second};
 
 /// Rows of the table of loads.
 pub fn worked_loads()
@@ -55,6 +56,7 @@ pub fn worked_loads()
         record { number = 0x4000; words = 0 ∷ 0 ∷ 0 ∷ 0 ∷ 0 ∷ 0 ∷ 0 ∷ 0 ∷ []; dirty = 0; era = 3 } ∷ [] }
     ensures full_cache { length (cached (run (wide_alone crowded) (load 0 0x1000 ∷ [])) 0) ≡ 64 }
     ensures oldest_goes { slice_get (cached (run (wide_alone crowded) (load 0 0x1000 ∷ [])) 0) 0 ≡ Some (0x4002, 1) }
+    ensures oldest_before_a_clean_one { slice_get (cached (run (wide_alone clean_second) (load 0 0x1000 ∷ [])) 0) 0 ≡ Some (0x4002, 0) }
     ensures newest_comes_last { slice_get (cached (run (wide_alone crowded) (load 0 0x1000 ∷ [])) 0) 63 ≡ Some (0x4000, 0) }
     ensures oldest_in_memory { memory_at (run (wide_alone crowded) (load 0 0x1000 ∷ [])) 0x100040 ≡ 0x4001 }
     ensures room_for_one { length (cached (run (wide_alone (record crowded { lines = dirty_lines 0x4001 63 })) (load 0 0x1000 ∷ [])) 0) ≡ 64 }
