@@ -3,7 +3,7 @@
 ghost use Rattle.std.specs.Prelude.{◌≡◌, ◌++◌, ◌∷◌, [], None, Some, length, map, replicate, true, false};
 ghost use Rattle.mt_machine.specs.System.{with_self_snoop};
 ghost use Rattle.mt_machine.specs.declared.control.Control.TheVariants.{Cr3};
-ghost use Rattle.mt_machine.specs.declared.event.Event.TheVariants.{Arrive, Leave, Pass, Release, Take};
+ghost use Rattle.mt_machine.specs.declared.event.Event.TheVariants.{Arrive, DropLines, Leave, Pass, Release, SetNoFill, Take};
 ghost use Rattle.mt_machine.specs.declared.go.Go.TheVariants.{Given};
 ghost use Rattle.mt_machine.specs.declared.op.Op.TheVariants.{Fence};
 ghost use Rattle.mt_machine.specs.declared.phase.Phase.TheVariants.{Arrived, Passed, Running, Taken};
@@ -162,6 +162,7 @@ pub fn worked_arises()
     ensures by_events { Arises (run bare (Accesses 0 Fence ∷ Controls 0 Cr3 ∷ [])) }
     ensures by_window { Arises (grown (line_at 0) bare) }
     ensures by_snooping { Arises (snooped 0 bare) }
+    ensures snooping_under_way { Arises (snooped 0 (run bare_called (map (Steps 0) (Take ∷ Arrive ∷ Pass ∷ SetNoFill ∷ DropLines ∷ [])))) → ⊥ }
     ensures no_start { Arises (alone restored) → ⊥ }
     ensures not_enabled { Arises (run (begun (bare_file 0x806) bare) (Steps 0 Pass ∷ [])) → ⊥ }
     ensures no_memory { Arises (grown (line_at 0x20) bare) → ⊥ }
