@@ -7,3 +7,4 @@ pub mod Steps
 pub mod Stops
 pub mod Tables
 pub mod WorkedRuns
+pub mod WorkedLaws

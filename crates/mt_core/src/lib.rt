@@ -16,6 +16,7 @@ mod steps;
 mod tests;
 mod worked;
 mod worked_coming;
+mod worked_laws;
 
 pub use core_type::Core;
 pub use fault::CallFault;
@@ -31,3 +32,4 @@ pub use worked::{
     worked_turns, worked_updates_by_events, worked_waits,
 };
 pub use worked_coming::worked_coming_and_going;
+pub use worked_laws::{worked_laws_of_steps, worked_laws_of_two, worked_laws_of_whole_updates};

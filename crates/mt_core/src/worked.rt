@@ -3,7 +3,7 @@
 ghost use Rattle.std.specs.Prelude.{◌≡◌, ◌++◌, ◌∷◌, [], None, Some, length, map, replicate, true, false};
 ghost use Rattle.mt_machine.specs.System.{with_self_snoop};
 ghost use Rattle.mt_machine.specs.declared.control.Control.TheVariants.{Cr3};
-ghost use Rattle.mt_machine.specs.declared.event.Event.TheVariants.{Arrive, Leave, Pass, Release, Take};
+ghost use Rattle.mt_machine.specs.declared.event.Event.TheVariants.{Arrive, DropLines, Leave, Pass, Release, SetNoFill, Take};
 ghost use Rattle.mt_machine.specs.declared.go.Go.TheVariants.{Given};
 ghost use Rattle.mt_machine.specs.declared.op.Op.TheVariants.{Fence};
 ghost use Rattle.mt_machine.specs.declared.phase.Phase.TheVariants.{Arrived, Passed, Running, Taken};
@@ -20,12 +20,14 @@ ghost use Rattle.mt_core.specs.Rounds.{EndsByRelease, IsUpdateByEvents, IsWholeU
 ghost use Rattle.mt_core.specs.Since.{HaveNoBuffers, IsHeldSince, IsSettledSince, KeepsWord};
 ghost use Rattle.mt_core.specs.Steps.{step_after, step_answer};
 ghost use Rattle.mt_core.specs.Stops.{StopsWhereOutside, is_outside};
+ghost use Rattle.mt_core.specs.WorkedLaws.{two_unlike};
 ghost use Rattle.mt_core.specs.WorkedRuns.{cancelled_order, cancelled_pair, come, come_again, count, events_of_bare, line_at, pair_begun, restored, to_first_release, without_arrive};
 
 /// What a step answers, and leaves.
 pub fn worked_answers()
     ensures no_update { step_answer bare 0 ≡ NoUpdate }
     ensures stays { step_after bare 0 ≡ bare }
+    ensures waiting_stays { step_after (walk 2 0 pair_begun) 0 ≡ walk 2 0 pair_begun }
     ensures takes { step_answer bare_called 0 ≡ Did Take }
     ensures taken { map (λ p. p.phase) (step_after bare_called 0).system.processors ≡ Taken ∷ [] }
     ensures arrives { step_answer (walk 1 0 pair_begun) 0 ≡ Did Arrive }
@@ -72,10 +74,12 @@ pub fn worked_waits()
     ensures not_come { WaitsFor pair_order (come ∷ ready ∷ []) ready (count 2 3) → ⊥ }
     ensures cancelled { WaitsFor cancelled_order (come ∷ ready ∷ []) come (count 1 3) → ⊥ }
     ensures other_count { WaitsFor pair_order (come ∷ ready ∷ []) come (count 1 3) → ⊥ }
+    ensures other_awaited { WaitsFor pair_order (come ∷ ready ∷ []) come (count 2 4) → ⊥ }
     ensures full_first { WaitsFor pair_order (come ∷ come ∷ []) come (count 3 3) → ⊥ }
     ensures second { WaitsFor pair_order (come_again ∷ restored ∷ []) come_again (count 1 2) }
     ensures not_come_again { WaitsFor pair_order (come_again ∷ restored ∷ []) restored (count 1 2) → ⊥ }
     ensures other_second_count { WaitsFor pair_order (come_again ∷ restored ∷ []) come_again (count 0 2) → ⊥ }
+    ensures other_second_awaited { WaitsFor pair_order (come_again ∷ restored ∷ []) come_again (count 1 3) → ⊥ }
     ensures full_second { WaitsFor pair_order (come_again ∷ come_again ∷ []) come_again (count 2 2) → ⊥ }
     ensures waits { WaitsWhereFor (calling pair_order (come ∷ ready ∷ [])) 0 come (count 2 3) }
     ensures answers_alone { WaitsWhereFor (calling pair_order (come ∷ ready ∷ [])) 0 ready (count 2 3) → ⊥ }
@@ -103,6 +107,7 @@ pub fn worked_rounds()
     ensures not_ended { Rounds cancelled_pair cancelled_pair → ⊥ }
     ensures other_end { Rounds bare (alone ready) → ⊥ }
     ensures whole { IsWholeUpdate (begun (bare_file 0x806) bare) (updated bare.system (0 ∷ []) (bare_file 0x806)) }
+    ensures in_other_order { IsWholeUpdate (begun (bare_file 0x806) two_unlike) (updated two_unlike.system (1 ∷ 0 ∷ []) (bare_file 0x806)) → ⊥ }
     ensures not_whole { IsWholeUpdate (begun (bare_file 0x806) bare) bare → ⊥ }
 {}
 
@@ -115,7 +120,7 @@ pub fn worked_updates_by_events()
     ensures by_events { IsUpdateByEvents bare (bare_file 0x806) events_of_bare }
     ensures not_enabled { IsUpdateByEvents bare (bare_file 0x806) without_arrive → ⊥ }
     ensures access { IsUpdateByEvents bare (bare_file 0x806) (Accesses 0 Fence ∷ events_of_bare) → ⊥ }
-    ensures cancel { IsUpdateByEvents bare (bare_file 0x806) (Cancels ∷ []) → ⊥ }
+    ensures cancel { IsUpdateByEvents (start_machine [] []) (bare_file 0x806) (Cancels ∷ []) → ⊥ }
     ensures one_alone { IsUpdateByEvents pair (bare_file 0x806) to_first_release → ⊥ }
     ensures files_that_differ { IsUpdateByEvents unlike_pair (bare_file 0x806) (to_first_release ++ Steps 0 Release ∷ []) }
     ensures no_release { IsUpdateByEvents bare (bare_file 0x806) (Goes ∷ []) → ⊥ }
@@ -125,8 +130,10 @@ pub fn worked_updates_by_events()
 pub fn worked_since()
     ensures settled { IsSettledSince (alone keeper) 0 goal_of [] }
     ensures other_era { IsSettledSince (alone keeper) 1 goal_of [] → ⊥ }
+    ensures other_goal { IsSettledSince (alone keeper) 0 (bare_file 0x806) [] → ⊥ }
     ensures newer_entry_since { IsSettledSince (alone (record keeper { mappings = mapping 1 0x100 0 ∷ []; entries = []; era = 2 })) 0 goal_of (load 0 0x1000 ∷ []) → ⊥ }
     ensures held { IsHeldSince palette (load 0 0x1000 ∷ []) 0x100000 }
+    ensures dirty { IsHeldSince (run palette (store 0 0x1000 7 ∷ [])) [] 0x100000 }
     ensures emptied_since { IsHeldSince (run palette (store 0 0x3000 7 ∷ [])) (Accesses 0 Fence ∷ []) 0x100000 → ⊥ }
     ensures second_word { IsHeldSince (run palette (store 0 0x3008 7 ∷ [])) (Accesses 0 Fence ∷ []) 0x100008 → ⊥ }
     ensures stored_since { IsHeldSince palette (store 0 0x4000 7 ∷ []) 0x100000 }
@@ -143,6 +150,8 @@ pub fn worked_rises()
     ensures risen { HasRisenByOne (machine_of (idle ∷ idle ∷ [])).system (machine_of (record idle { era = 1 } ∷ idle ∷ [])).system }
     ensures by_two { HasRisenByOne (alone idle).system (alone (record idle { era = 2 })).system → ⊥ }
     ensures second_by_two { HasRisenByOne (machine_of (idle ∷ idle ∷ [])).system (machine_of (idle ∷ record idle { era = 2 } ∷ [])).system → ⊥ }
+    ensures later_by_two { HasRisenByOne (alone (record idle { era = 3 })).system (alone (record idle { era = 5 })).system → ⊥ }
+    ensures one_less { HasRisenByOne (machine_of (idle ∷ idle ∷ [])).system (alone idle).system → ⊥ }
     ensures one_more { HasRisenByOne (alone idle).system (machine_of (idle ∷ idle ∷ [])).system → ⊥ }
 {}
 
@@ -153,6 +162,7 @@ pub fn worked_arises()
     ensures by_events { Arises (run bare (Accesses 0 Fence ∷ Controls 0 Cr3 ∷ [])) }
     ensures by_window { Arises (grown (line_at 0) bare) }
     ensures by_snooping { Arises (snooped 0 bare) }
+    ensures snooping_under_way { Arises (snooped 0 (run bare_called (map (Steps 0) (Take ∷ Arrive ∷ Pass ∷ SetNoFill ∷ DropLines ∷ [])))) → ⊥ }
     ensures no_start { Arises (alone restored) → ⊥ }
     ensures not_enabled { Arises (run (begun (bare_file 0x806) bare) (Steps 0 Pass ∷ [])) → ⊥ }
     ensures no_memory { Arises (grown (line_at 0x20) bare) → ⊥ }

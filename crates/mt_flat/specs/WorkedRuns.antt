@@ -17,6 +17,10 @@ numbers f k = map (λ p. p.number) (f.pending k)
 abbrev pub pending_words : Flat → ℕ → List (ℕ × List (Option ℕ))
 pending_words f k = map (λ p. (p.number, map p.written eight)) (f.pending k)
 
+-- six words of a line that aren't written
+abbrev pub none_of_six : List (Option ℕ)
+none_of_six = None ∷ None ∷ None ∷ None ∷ None ∷ None ∷ []
+
 -- one with no word written
 abbrev pub pending_line : ℕ → PendingLine
 pending_line number = record { number = number; written = λ word. None }

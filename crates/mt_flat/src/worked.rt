@@ -9,15 +9,18 @@ ghost use Rattle.mt_machine.specs.WorkedRuns.{answer_of, bare_file, called, goal
 ghost use Rattle.mt_flat.specs.Courses.{CanTurn, Does, IsCourse, Updates, course, flat_course};
 ghost use Rattle.mt_flat.specs.Flat.{flat_answer, flat_start};
 ghost use Rattle.mt_flat.specs.Seen.{AreFew, IsFlatAnswer, IsFlatOf, IsHeldFlat, given};
-ghost use Rattle.mt_flat.specs.WorkedRuns.{flat_of, four_lines, numbers, pending_line, pending_words, seven_words};
+ghost use Rattle.mt_flat.specs.WorkedRuns.{flat_of, four_lines, none_of_six, numbers, pending_line, pending_words, seven_words};
 
 /// Words of write-combining stores, pending and then set.
 pub fn worked_pending()
     ensures pending { pending_words (flat_of (store 0 0x3008 7 ∷ [])) 0 ≡ (0x4000, None ∷ Some 7 ∷ None ∷ None ∷ None ∷ None ∷ None ∷ None ∷ []) ∷ [] }
     ensures not_set { (flat_of (store 0 0x3008 7 ∷ [])).values 0x100008 ≡ 0 }
+    ensures written_again { pending_words (flat_of (store 0 0x3000 1 ∷ store 0 0x3040 2 ∷ store 0 0x3008 3 ∷ store 0 0x3000 4 ∷ [])) 0
+        ≡ (0x4000, Some 4 ∷ Some 3 ∷ none_of_six) ∷ (0x4001, Some 2 ∷ None ∷ none_of_six) ∷ [] }
     ensures others_see_nothing { flat_answer (flat_of (store 0 0x3008 7 ∷ [])) 1 WC 0x100008 ≡ 0 }
     ensures its_own_load_empties { flat_answer (flat_of (store 0 0x3008 7 ∷ [])) 0 WC 0x100008 ≡ 7 }
     ensures after_its_own_load { numbers (flat_of (store 0 0x3008 7 ∷ store 0 0x3040 8 ∷ load 0 0x1000 ∷ [])) 0 ≡ 0x4001 ∷ [] }
+    ensures second_is_emptied { numbers (flat_of (store 0 0x3008 7 ∷ store 0 0x3040 8 ∷ load 0 0x1040 ∷ [])) 0 ≡ 0x4000 ∷ [] }
     ensures set_by_its_own_load { (flat_of (store 0 0x3008 7 ∷ load 0 0x1000 ∷ [])).values 0x100008 ≡ 7 }
     ensures uc_load_empties_all { numbers (flat_of (store 0 0x3008 7 ∷ store 0 0x3040 8 ∷ load 0 0x4000 ∷ [])) 0 ≡ [] }
     ensures wc_load_empties_its_line { numbers (flat_of (store 0 0x3008 7 ∷ store 0 0x3040 8 ∷ load 0 0x3000 ∷ [])) 0 ≡ 0x4001 ∷ [] }
@@ -77,6 +80,7 @@ pub fn worked_beside()
     ensures other_value_of_the_second_word { IsFlatOf (run palette (store 0 0x1008 7 ∷ [])).system flat_start → ⊥ }
     ensures line_not_pending { IsFlatOf (run palette (store 0 0x3000 7 ∷ [])).system flat_start → ⊥ }
     ensures line_of_the_second_not_pending { IsFlatOf (run palette (store 1 0x3000 7 ∷ [])).system flat_start → ⊥ }
+    ensures other_order { IsFlatOf (run palette (store 0 0x3040 2 ∷ store 0 0x3000 1 ∷ [])).system (flat_of (store 0 0x3000 1 ∷ store 0 0x3040 2 ∷ [])) → ⊥ }
     ensures another_answer { IsFlatAnswer palette (flat_of (store 0 0x1000 5 ∷ [])) 1 0x1000 0 WB → ⊥ }
     ensures still_pending { IsHeldFlat (flat_of (store 0 0x3000 7 ∷ [])) palette [] → ⊥ }
     ensures still_pending_of_the_second { IsHeldFlat (flat_of (store 1 0x3000 7 ∷ [])) palette [] → ⊥ }

@@ -1,5 +1,5 @@
 // Processors that come up and go beside a flat machine, and in a course.
-ghost use Rattle.std.specs.Prelude.{◌≡◌, ◌∷◌, []};
+ghost use Rattle.std.specs.Prelude.{◌≡◌, ◌∷◌, [], replicate};
 ghost use Rattle.mt_kinds.specs.declared.mem_type.MemType.TheVariants.{WB};
 ghost use Rattle.mt_machine.specs.declared.done.Done.TheVariants.{Value};
 ghost use Rattle.mt_machine.specs.declared.op.Op.TheVariants.{Load};
@@ -8,9 +8,10 @@ ghost use Rattle.mt_machine.specs.Machine.{Calls};
 ghost use Rattle.mt_machine.specs.Update.{updated};
 ghost use Rattle.mt_machine.specs.WorkedRuns.{alone, answer_of, bare_file, idle, machine_of, palette, small, store, whole};
 ghost use Rattle.mt_flat.specs.ComingAndGoing.{AdmittedIsFlat, GoneKeepsFlat, NewcomersKeepFlat};
-ghost use Rattle.mt_flat.specs.Courses.{CanTurn, ComesUp, Does, GoesDown, IsCourse, Updates, course, flat_course};
+ghost use Rattle.mt_flat.specs.Courses.{CanTurn, ComesUp, CoursesHideCaches, CoursesKeepFlat, Does, GoesDown, IsCourse, Updates, course, flat_course};
 ghost use Rattle.mt_flat.specs.Flat.{empty_all, flat_start, with_pending};
-ghost use Rattle.mt_flat.specs.Seen.{IsFlatOf, flat_takes};
+ghost use Rattle.mt_flat.specs.Seen.{IsFlatAnswer, IsFlatOf, flat_takes};
+ghost use Rattle.mt_flat.specs.WorkedLaws.{both_unlike, gone_and_come, incoherent, last_shares, taking};
 ghost use Rattle.mt_flat.specs.WorkedRuns.{beside, combiner, numbers, two_values};
 
 /// The last goes with a word in a buffer, of which another has another value in its cache.
@@ -28,6 +29,11 @@ pub fn worked_flat_going()
 pub fn worked_flat_comers()
     ensures come { NewcomersKeepFlat → IsFlatOf (reset (alone whole).system) (beside (alone whole).system) }
     ensures admitted { AdmittedIsFlat → IsFlatOf (updated (reset combiner.system) (0 ∷ 1 ∷ []) (bare_file 0x806)).system (flat_takes (0 ∷ 1 ∷ []) (beside combiner.system)) }
+    ensures come_beside_incoherent { NewcomersKeepFlat → IsFlatOf (reset incoherent.system) (beside incoherent.system) }
+    ensures admitted_beside_two { AdmittedIsFlat → IsFlatOf (updated (reset both_unlike.system) (2 ∷ 1 ∷ 0 ∷ []) (bare_file 0x806)).system (flat_takes (2 ∷ 1 ∷ 0 ∷ []) (beside both_unlike.system)) }
+    ensures none_left { GoneKeepsFlat → IsFlatOf (gone taking.system) (empty_all 0 (beside taking.system)) }
+    ensures course { CoursesKeepFlat → IsFlatOf (course last_shares gone_and_come).system (flat_course last_shares gone_and_come (beside last_shares.system)) }
+    ensures answer { CoursesHideCaches → IsFlatAnswer (course last_shares gone_and_come) (flat_course last_shares gone_and_come (beside last_shares.system)) 0 0x1008 6 WB }
     ensures gone { GoneKeepsFlat → IsFlatOf (gone two_values.system) (empty_all 1 (beside two_values.system)) }
 {}
 
@@ -37,6 +43,8 @@ pub fn worked_coming_turns()
     ensures newcomer_takes_not { IsCourse (alone idle) (ComesUp ∷ Updates (bare_file 0x806) (0 ∷ []) ∷ []) → ⊥ }
     ensures gone_takes { IsCourse (machine_of (idle ∷ idle ∷ [])) (GoesDown ∷ Updates (bare_file 0x806) (0 ∷ 1 ∷ []) ∷ []) → ⊥ }
     ensures only_one { CanTurn (alone idle) GoesDown }
+    ensures beside_none { CanTurn (machine_of []) ComesUp }
+    ensures beside_sixteen { CanTurn (machine_of (replicate 16 idle)) ComesUp }
     ensures none_left { CanTurn (machine_of []) GoesDown → ⊥ }
     ensures comes_under_way { IsCourse (machine_of (idle ∷ idle ∷ [])) (Does (Calls (bare_file 0x806)) ∷ ComesUp ∷ []) → ⊥ }
     ensures goes_under_way { IsCourse (machine_of (idle ∷ idle ∷ [])) (Does (Calls (bare_file 0x806)) ∷ GoesDown ∷ []) → ⊥ }

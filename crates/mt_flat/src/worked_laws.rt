@@ -1,6 +1,7 @@
 // Each law at a state in which what it speaks of is there: an update under way, dirty lines, words that two combine.
-ghost use Rattle.std.specs.Prelude.{◌≡◌, ◌∷◌, [], true};
+ghost use Rattle.std.specs.Prelude.{◌≡◌, ◌∷◌, ◌++◌, [], true};
 ghost use Rattle.mt_kinds.specs.declared.mem_type.MemType.TheVariants.{WB};
+ghost use Rattle.mt_regs.specs.RegisterFile.{blank_file};
 ghost use Rattle.mt_machine.specs.declared.event.Event.TheVariants.{Take};
 ghost use Rattle.mt_machine.specs.Machine.{Steps, next, run};
 ghost use Rattle.mt_machine.specs.Start.{start_with};
@@ -10,13 +11,15 @@ ghost use Rattle.mt_laws.specs.WorkedUpdates.{dirty_released, dirty_taken, to_pa
 ghost use Rattle.mt_flat.specs.Courses.{CoursesHideCaches, CoursesKeepFlat, course, flat_course};
 ghost use Rattle.mt_flat.specs.Flat.{flat_start};
 ghost use Rattle.mt_flat.specs.Seen.{AnswersAreFlat, CachesAreNeverSeen, EventsKeepFlat, HeldIsFlat, IsFlatAnswer, IsFlatOf, IsHeldFlat, NoBuffersIsFlat, RunsKeepFlat, StartIsFlat, UpdatedIsFlat, flat_after, flat_run, flat_takes};
-ghost use Rattle.mt_flat.specs.WorkedLaws.{both_combine, called_whole, cancelled_turns, unbuffered};
+ghost use Rattle.mt_flat.specs.WorkedLaws.{both_combine, both_unlike, called_whole, cancelled_turns, incoherent, unbuffered};
 ghost use Rattle.mt_flat.specs.WorkedRuns.{beside};
 
 /// A start with memory, of which one processor is self-snooping, and a dirty line without buffers.
 pub fn worked_laws_of_starts()
     ensures start { StartIsFlat → IsFlatOf (start_with (true ∷ []) (bare_file 0x806 ∷ bare_file 0x800 ∷ []) one_window).system flat_start }
+    ensures refused_files { StartIsFlat → IsFlatOf (start_with [] (bare_file 0x802 ∷ blank_file 40 0x508 ∷ []) (one_window ++ one_window)).system flat_start }
     ensures no_buffers { NoBuffersIsFlat → IsFlatOf unbuffered.system (record (beside unbuffered.system) { pending = λ k. [] }) }
+    ensures incoherent { NoBuffersIsFlat → IsFlatOf incoherent.system (record (beside incoherent.system) { pending = λ k. [] }) }
 {}
 
 /// A take and a load while an update is under way.
@@ -30,6 +33,7 @@ pub fn worked_laws_under_way()
 /// A whole update of two that combine one word: the value of the last to take stays.
 pub fn worked_laws_of_takes()
     ensures outright { UpdatedIsFlat → IsFlatOf (updated both_combine.system (1 ∷ 0 ∷ []) (bare_file 0x806)).system (flat_takes (1 ∷ 0 ∷ []) (beside both_combine.system)) }
+    ensures both_unlike { UpdatedIsFlat → IsFlatOf (updated both_unlike.system (1 ∷ 0 ∷ []) (bare_file 0x806)).system (flat_takes (1 ∷ 0 ∷ []) (beside both_unlike.system)) }
     ensures first_takes_last { (flat_takes (1 ∷ 0 ∷ []) (beside both_combine.system)).values 0x100008 ≡ 6 }
     ensures second_takes_last { (flat_takes (0 ∷ 1 ∷ []) (beside both_combine.system)).values 0x100008 ≡ 8 }
 {}

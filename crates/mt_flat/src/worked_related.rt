@@ -1,7 +1,8 @@
 // What stands beside a system, is its answer and is held, and what isn't for one thing.
 ghost use Rattle.std.specs.Prelude.{◌≡◌, ◌∷◌, None, Some, [], map};
 ghost use Rattle.mt_kinds.specs.declared.mem_type.MemType.TheVariants.{WB, WC};
-ghost use Rattle.mt_machine.specs.Machine.{run};
+ghost use Rattle.mt_machine.specs.declared.op.Op.TheVariants.{Fence};
+ghost use Rattle.mt_machine.specs.Machine.{Accesses, run};
 ghost use Rattle.mt_machine.specs.WorkedRuns.{alone, load, palette, store, whole};
 ghost use Rattle.mt_flat.specs.Flat.{flat_start, set_value, with_pending, write_pending};
 ghost use Rattle.mt_flat.specs.Seen.{CachesAreNeverSeen, IsFlatAnswer, IsFlatOf, IsHeldFlat, NoBuffersIsFlat, PendingStaysFew, RunsKeepFlat, AreFew, flat_run};
@@ -14,6 +15,7 @@ pub fn worked_flat_of()
     ensures written_words { pending_words (beside (alone whole).system) 0 ≡ (0x4000, None ∷ Some 6 ∷ Some 7 ∷ None ∷ None ∷ None ∷ None ∷ None ∷ []) ∷ [] }
     ensures within_a_word { IsFlatOf (alone whole).system (set_value 0x100001 9 (beside (alone whole).system)) }
     ensures other_value { IsFlatOf (alone whole).system (set_value 0x100008 9 (beside (alone whole).system)) → ⊥ }
+    ensures outside_memory { IsFlatOf (alone whole).system (set_value 0x200000 9 (beside (alone whole).system)) → ⊥ }
     ensures nothing_pending { IsFlatOf (alone whole).system (with_pending 0 (λ ps. []) (beside (alone whole).system)) → ⊥ }
     ensures clean_word_pending { IsFlatOf (alone whole).system (with_pending 0 (map (write_pending 0 0)) (beside (alone whole).system)) → ⊥ }
     ensures pending_of_none { IsFlatOf (alone whole).system (with_pending 1 (λ ps. (beside (alone whole).system).pending 0) (beside (alone whole).system)) → ⊥ }
@@ -35,6 +37,7 @@ pub fn worked_flat_held()
     ensures within_a_word { IsHeldFlat (set_value 0x100001 9 flat_start) palette [] }
     ensures stored_since { IsHeldFlat (set_value 0x100000 5 flat_start) palette (store 0 0x4000 7 ∷ []) }
     ensures other_word_stored { IsHeldFlat (set_value 0x100008 5 flat_start) palette (store 0 0x4000 7 ∷ []) → ⊥ }
+    ensures emptied_since { IsHeldFlat flat_start (run palette (store 0 0x3000 7 ∷ [])) (Accesses 0 Fence ∷ []) → ⊥ }
     ensures loaded { IsHeldFlat (set_value 0x100000 5 flat_start) palette (load 0 0x4000 ∷ []) → ⊥ }
 {}
 

@@ -9,6 +9,7 @@ use Rattle.mt_core.specs.Arises.{by_event, by_snooping, by_window, from_start}
 use Rattle.mt_core.specs.WorkedRuns.{line_at}
 use Rattle.mt_core.proofs.OnWorked.{bare_arises, one_line_is_memory, pair_is_broadcast}
 use Rattle.mt_core.proofs.Settling.{is_quiet_without_order}
+use Rattle.mt_core.proofs.Snooped.{ahead}
 use Rattle.mt_core.proofs.Throughout.{barriers_hold_throughout}
 use Rattle.mt_core.proofs.worked.worked_arises.Goals as goal
 
@@ -26,6 +27,9 @@ returns-clause-by_window c = by_window (line_at 0) bare_arises one_line_is_memor
 
 pub returns-clause-by_snooping : goal.returns-clause-by_snooping
 returns-clause-by_snooping c = by_snooping 0 bare_arises refl
+
+pub returns-clause-snooping_under_way : goal.returns-clause-snooping_under_way
+returns-clause-snooping_under_way c = λ h. let e : false ≡ true = ahead h in absurd (cc e)
 
 pub returns-clause-no_start : goal.returns-clause-no_start
 returns-clause-no_start c = λ h. let e : false ≡ true = (is_quiet_without_order _ h refl).running 0 idle (omega arith) in absurd (cc e)

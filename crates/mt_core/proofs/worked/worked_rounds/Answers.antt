@@ -4,10 +4,11 @@ use Rattle.mt_regs.specs.RegisterFile.{RegisterFile}
 use Rattle.mt_machine.specs.System.{Processor}
 use Rattle.mt_machine.specs.Machine.{Machine, Order}
 use Rattle.mt_machine.specs.Update.{updated}
-use Rattle.mt_machine.specs.WorkedRuns.{alone, bare, bare_file, ready}
+use Rattle.mt_machine.specs.WorkedRuns.{alone, bare, bare_file, memory_at, ready}
 use Rattle.mt_core.specs.Rounds.{Rounds, again, ascending, each_steps, ended}
+use Rattle.mt_core.specs.WorkedLaws.{two_unlike}
 use Rattle.mt_core.specs.WorkedRuns.{cancelled_order, cancelled_pair}
-use Rattle.mt_core.proofs.OnWorked.{bare_is_quiet, call_is_enabled}
+use Rattle.mt_core.proofs.OnWorked.{bare_is_quiet, call_is_enabled, two_unlike_can_be_called, two_unlike_is_quiet}
 use Rattle.mt_core.proofs.worked.worked_rounds.Goals as goal
 
 abbrev Apart : Machine → Machine → Type 0
@@ -47,6 +48,9 @@ returns-clause-whole c = λ s other quiet enabled is.
     let same : bare.system ≡ s.system = ap (λ (m : Machine). m.system) is in
     let file : bare_file 0x806 ≡ other = ap (λ (m : Machine). called_file (bare_file 0x806) m.order) is in
     λ i. updated (same i) (ascending (length (same i).processors)) (file i)
+
+pub returns-clause-in_other_order : goal.returns-clause-in_other_order
+returns-clause-in_other_order c = λ h. let e : 6 ≡ 8 = ap (λ m. memory_at m 0x100008) (h two_unlike (bare_file 0x806) two_unlike_is_quiet two_unlike_can_be_called refl) in omega (arith, e)
 
 pub returns-clause-not_whole : goal.returns-clause-not_whole
 returns-clause-not_whole c = λ h. let e : 0 ≡ 1 = ap (λ (m : Machine). first_era m.system.processors) (h bare (bare_file 0x806) bare_is_quiet call_is_enabled refl) in omega (arith, e)

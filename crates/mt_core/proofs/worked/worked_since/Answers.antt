@@ -1,5 +1,6 @@
-use Rattle.std.proofs.Common.{◌≡◌, ◌<◌, arith, refl, false, ℕ, []}
+use Rattle.std.proofs.Common.{◌≡◌, ◌<◌, ap, arith, refl, false, ℕ, []}
 use Rattle.std.specs.List.{Contains}
+use Rattle.mt_regs.specs.RegisterFile.{RegisterFile}
 use Rattle.mt_machine.specs.WorkedRuns.{entry, idle, line_of}
 use Rattle.mt_core.proofs.worked.worked_since.Goals as goal
 
@@ -9,6 +10,9 @@ none a (k, within, is) = omega (arith, within)
 pub returns-clause-other_era : goal.returns-clause-other_era
 returns-clause-other_era c = λ h. omega (arith, (h 0 idle (omega arith)).lines 0 (line_of 0 0) (omega arith))
 
+pub returns-clause-other_goal : goal.returns-clause-other_goal
+returns-clause-other_goal c = λ h. let e : 0x508 ≡ 0x400 = ap (λ (f : RegisterFile). f.capabilities) (h 0 idle (omega arith)).file in omega (arith, e)
+
 pub returns-clause-newer_entry_since : goal.returns-clause-newer_entry_since
 returns-clause-newer_entry_since c = λ h.
     let within : 0 < 1 = omega arith in
@@ -17,6 +21,9 @@ returns-clause-newer_entry_since c = λ h.
 
 pub returns-clause-held : goal.returns-clause-held
 returns-clause-held c = λ aligned other. refl
+
+pub returns-clause-dirty : goal.returns-clause-dirty
+returns-clause-dirty c = λ aligned other. refl
 
 pub returns-clause-emptied_since : goal.returns-clause-emptied_since
 returns-clause-emptied_since c = λ h. omega (arith, h refl (none 0x100000))

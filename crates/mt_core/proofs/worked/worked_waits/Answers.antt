@@ -17,6 +17,9 @@ returns-clause-cancelled c = ⊎_elim (λ w. absurd (cc w.1)) (λ w. absurd (cc 
 pub returns-clause-other_count : goal.returns-clause-other_count
 returns-clause-other_count c = ⊎_elim (λ w. let e : 1 ≡ 2 = ap (λ (n : BarrierCount). n.arrived) w.2 in omega (arith, e)) (λ w. absurd (cc w.0))
 
+pub returns-clause-other_awaited : goal.returns-clause-other_awaited
+returns-clause-other_awaited c = ⊎_elim (λ w. let e : 4 ≡ 3 = ap (λ (n : BarrierCount). n.awaited) w.2 in omega (arith, e)) (λ w. absurd (cc w.0))
+
 pub returns-clause-full_first : goal.returns-clause-full_first
 returns-clause-full_first c = ⊎_elim (λ w. omega (arith, w.3)) (λ w. absurd (cc w.0))
 
@@ -28,6 +31,9 @@ returns-clause-not_come_again c = ⊎_elim (λ w. absurd (cc w.0)) (λ w. absurd
 
 pub returns-clause-other_second_count : goal.returns-clause-other_second_count
 returns-clause-other_second_count c = ⊎_elim (λ w. absurd (cc w.0)) (λ w. let e : 0 ≡ 1 = ap (λ (n : BarrierCount). n.arrived) w.1 in omega (arith, e))
+
+pub returns-clause-other_second_awaited : goal.returns-clause-other_second_awaited
+returns-clause-other_second_awaited c = ⊎_elim (λ w. absurd (cc w.0)) (λ w. let e : 3 ≡ 2 = ap (λ (n : BarrierCount). n.awaited) w.1 in omega (arith, e))
 
 pub returns-clause-full_second : goal.returns-clause-full_second
 returns-clause-full_second c = ⊎_elim (λ w. absurd (cc w.0)) (λ w. omega (arith, w.2))

@@ -1,12 +1,16 @@
 use Rattle.std.proofs.Common.{arith, refl, ap, subst, sym, ◌≡◌, ℕ, ◌∷◌, []}
-use Rattle.std.specs.Prelude.{length, Option}
+use Rattle.std.specs.Prelude.{List, length, map, Option}
 use Rattle.std.specs.Option.{option_map_or}
 use Rattle.std.specs.List.{Contains}
 use Rattle.mt_kinds.specs.declared.mem_type.MemType.TheVariants.{WB}
 use Rattle.mt_machine.specs.WorkedRuns.{store}
-use Rattle.mt_flat.specs.Flat.{flat_answer}
+use Rattle.mt_flat.specs.Flat.{PendingLine, flat_answer}
 use Rattle.mt_flat.specs.WorkedRuns.{flat_of}
 use Rattle.mt_flat.proofs.worked.worked_beside.Goals as goal
+
+abbrev first_of : List ℕ → ℕ
+first_of [] = 0
+first_of (n ∷ ns) = n
 
 none : (a : ℕ) → Contains [] a → ⊥
 none a (k, within, is) = omega (arith, within)
@@ -22,6 +26,9 @@ returns-clause-line_not_pending c = λ h. omega (arith, ap length (h.pending 0))
 
 pub returns-clause-line_of_the_second_not_pending : goal.returns-clause-line_of_the_second_not_pending
 returns-clause-line_of_the_second_not_pending c = λ h. omega (arith, ap length (h.pending 1))
+
+pub returns-clause-other_order : goal.returns-clause-other_order
+returns-clause-other_order c = λ h. let e : 0x4000 ≡ 0x4001 = ap (λ (ps : List PendingLine). first_of (map (λ p. p.number) ps)) (h.pending 0) in omega (arith, e)
 
 pub returns-clause-another_answer : goal.returns-clause-another_answer
 returns-clause-another_answer c = λ h.

@@ -37,5 +37,8 @@ returns-clause-stored_since c = record {
 pub returns-clause-other_word_stored : goal.returns-clause-other_word_stored
 returns-clause-other_word_stored c = λ h. omega (arith, h.held 0x100008 refl (one 0x100008 0x100000 (omega arith)))
 
+pub returns-clause-emptied_since : goal.returns-clause-emptied_since
+returns-clause-emptied_since c = λ h. omega (arith, h.held 0x100000 refl (none 0x100000))
+
 pub returns-clause-loaded : goal.returns-clause-loaded
 returns-clause-loaded c = λ h. omega (arith, h.held 0x100000 refl (none 0x100000))

@@ -1,0 +1,21 @@
+use Rattle.std.proofs.Common.{◌∷◌, [], refl}
+use Rattle.mt_machine.specs.declared.event.Event.TheVariants.{Release}
+use Rattle.mt_machine.specs.Machine.{Steps}
+use Rattle.mt_machine.specs.WorkedRuns.{calling, ready}
+use Rattle.mt_laws.specs.WorkedRuns.{pair_order}
+use Rattle.mt_laws.specs.WorkedUpdates.{two_in_change, two_taken, two_to_change}
+use Rattle.mt_laws.proofs.WorkedUpdates.{two_change_enabled, two_start}
+use Rattle.mt_core.specs.Arises.{from_start}
+use Rattle.mt_core.specs.WorkedLaws.{unreached}
+use Rattle.mt_core.specs.WorkedRuns.{come, count}
+use Rattle.mt_core.proofs.OnWorked.{arises_run}
+use Rattle.mt_core.proofs.worked_laws.worked_laws_of_steps.Goals as goal
+
+pub returns-clause-rise : goal.returns-clause-rise
+returns-clause-rise c = λ law. law unreached (Steps 1 Release) refl
+
+pub returns-clause-waits : goal.returns-clause-waits
+returns-clause-waits c = λ law. law (calling pair_order (ready ∷ come ∷ come ∷ [])) 1 come (count 3 4) refl
+
+pub returns-clause-ends : goal.returns-clause-ends
+returns-clause-ends c = λ law. law two_in_change (arises_run two_to_change two_taken (from_start two_start) two_change_enabled)
