@@ -46,3 +46,15 @@ across_two b start size = record {
 
 pub wholly_free : (b : Block) → b.first ≡ 0 → b.log ≡ 8 → IsWish (wanted_type true two_runs) (InBlock b) Any
 wholly_free b start size page q = free_below page (omega (arith, start, page_end b 8 size page q))
+
+uc_below : (page : ℕ) → page < 256 → wanted_type false two_runs page ≡ Some UC
+uc_below page below = rw (lt-ltb page 256 below) refl
+
+pub wholly_uncached : (b : Block) → b.first ≡ 0 → b.log ≡ 8 → IsWish (wanted_type false two_runs) (InBlock b) (Only UC)
+wholly_uncached b start size = (
+  λ page q u e. same u (sym (uc_below page (omega (arith, start, page_end b 8 size page q))) ∙ e),
+  record { page = 0; within = is_in b 0 8 0 start size (omega arith) (omega arith); wants = refl },
+)
+  where
+    same : (u : MemType) → Some UC ≡ Some u → u ≡ UC
+    same u e = cc
