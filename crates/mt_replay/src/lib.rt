@@ -41,15 +41,18 @@ pub use statuses::{
 };
 pub use summing::{Totals, summary};
 pub use worked::{
-    worked_absent, worked_admitted_states, worked_answers, worked_called_goals, worked_commands,
-    worked_dumps, worked_each_state, worked_early_texts, worked_effects, worked_events,
-    worked_flat_moves, worked_flat_values, worked_heads, worked_join_summary, worked_joined_states,
-    worked_kept, worked_last_states, worked_laws_of_beginnings, worked_laws_of_calls,
+    worked_absent, worked_admitted_states, worked_answers, worked_begins, worked_called_goals,
+    worked_calling_steps, worked_calls_of_any_text, worked_commands, worked_courses_of_any_text,
+    worked_dumps, worked_each_state, worked_early_texts, worked_effects, worked_empty_course,
+    worked_events, worked_flat_moves, worked_flat_of_two, worked_flat_values, worked_heads,
+    worked_join_summary, worked_joined_states, worked_kept, worked_kept_by_two, worked_last_states,
+    worked_lasts, worked_laws_of_any_state, worked_laws_of_beginnings, worked_laws_of_calls,
     worked_laws_of_dumps, worked_laws_of_movers, worked_laws_of_sections, worked_laws_of_states,
     worked_laws_of_statuses, worked_laws_of_told_updates, worked_laws_of_transcripts,
     worked_laws_of_updates, worked_line_ends, worked_moved, worked_moves, worked_moving_steps,
-    worked_newcomer_lines, worked_newcomers, worked_phases, worked_points, worked_reports,
-    worked_sections, worked_settled_states, worked_short_updates, worked_summaries,
-    worked_told_lines, worked_told_texts, worked_updates, worked_values, worked_without_call,
-    worked_without_newcomer, worked_words,
+    worked_newcomer_lines, worked_newcomers, worked_phases, worked_points, worked_refused_steps,
+    worked_reports, worked_sections, worked_settled_of_two, worked_settled_states,
+    worked_short_updates, worked_statuses_of_any_text, worked_still_commands, worked_summaries,
+    worked_sums, worked_told_lines, worked_told_texts, worked_updates, worked_updates_of_any_text,
+    worked_values, worked_without_call, worked_without_newcomer, worked_words,
 };

@@ -1,4 +1,6 @@
+mod any_text;
 mod commands;
+mod headline;
 mod joining;
 mod laws;
 mod moving;
@@ -7,6 +9,7 @@ mod promises;
 mod states;
 mod steps;
 mod summaries;
+mod sums;
 
 ghost use Rattle.std.specs.Prelude.{◌≡◌, ◌∷◌, ◌++◌, [], codes, replicate, true, false, None, Some};
 ghost use Rattle.mt_kinds.specs.declared.mem_type.MemType.TheVariants.{UC, WC, WB};
@@ -22,7 +25,15 @@ ghost use Rattle.mt_core.specs.declared.stepped.Stepped.TheVariants.{Did, Waits,
 ghost use Rattle.mt_replay.specs.WorkedStates.{holder_of_one, starter};
 ghost use Rattle.mt_replay.specs.Texts.{call_fault_line, called_line, cancel_line, complete_line, done_line, event_text, go_line, have_one_file, memory_line, phase_text, processor_line, processor_lines, register_line, registers_line, report_text, ruled_line, stepped_line};
 
+pub use any_text::{
+    worked_calls_of_any_text, worked_courses_of_any_text, worked_laws_of_any_state,
+    worked_statuses_of_any_text, worked_updates_of_any_text,
+};
 pub use commands::{worked_commands, worked_effects};
+pub use headline::{
+    worked_calling_steps, worked_empty_course, worked_flat_of_two, worked_kept_by_two,
+    worked_refused_steps, worked_settled_of_two, worked_still_commands,
+};
 pub use joining::{
     worked_called_goals, worked_join_summary, worked_joined_states, worked_moving_steps,
 };
@@ -45,6 +56,7 @@ pub use states::{
 };
 pub use steps::{worked_flat_values, worked_last_states, worked_line_ends, worked_short_updates};
 pub use summaries::{worked_summaries, worked_told_lines, worked_told_texts};
+pub use sums::{worked_begins, worked_lasts, worked_sums};
 
 /// What accesses and control instructions are answered.
 #[tactic(auto, unfolding(hex::specs::Hex::encode_with))]
