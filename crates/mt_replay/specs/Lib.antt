@@ -13,6 +13,7 @@ pub mod Summary
 pub mod Summing
 pub mod Texts
 pub mod Transcript
+pub mod WorkedHeadline
 pub mod WorkedJoins
 pub mod WorkedLaws
 pub mod WorkedMoves

@@ -1,7 +1,9 @@
 mod acting;
 mod any_state;
+mod any_text;
 mod asking;
 mod commands;
+mod headline;
 mod joining;
 mod kept;
 mod laws;
@@ -12,6 +14,7 @@ mod runs;
 mod states;
 mod steps;
 mod summaries;
+mod sums;
 mod tellings;
 
 ghost use Rattle.std.specs.Prelude.{◌≡◌, ◌∷◌, ◌++◌, [], codes, replicate, true, false, None, Some};
@@ -30,8 +33,16 @@ ghost use Rattle.mt_replay.specs.Texts.{call_fault_line, called_line, cancel_lin
 
 pub use acting::{worked_effects_of_the_second, worked_kinds_of_commands, worked_rare_texts};
 pub use any_state::{worked_laws_of_any_state, worked_laws_of_any_step};
+pub use any_text::{
+    worked_calls_of_any_text, worked_courses_of_any_text, worked_statuses_of_any_text,
+    worked_updates_in_any_state, worked_updates_of_any_text,
+};
 pub use asking::{worked_asking, worked_newcomers_from};
 pub use commands::{worked_commands, worked_effects};
+pub use headline::{
+    worked_calling_steps, worked_empty_course, worked_flat_of_two, worked_kept_by_two,
+    worked_refused_steps, worked_settled_of_two, worked_still_commands,
+};
 pub use joining::{
     worked_called_goals, worked_join_summary, worked_joined_states, worked_moving_steps,
 };
@@ -58,6 +69,7 @@ pub use states::{
 };
 pub use steps::{worked_flat_values, worked_last_states, worked_line_ends, worked_short_updates};
 pub use summaries::{worked_summaries, worked_told_lines, worked_told_texts};
+pub use sums::{worked_begins, worked_lasts, worked_sums};
 pub use tellings::worked_tellings;
 
 /// What accesses and control instructions are answered.
