@@ -18,115 +18,25 @@ mod summing;
 #[cfg(test)]
 mod tests;
 mod texts;
-mod worked;
+pub mod worked;
 
-pub use headline::processors_come_and_go_by_lines;
-pub use headline::the_headline_holds;
-pub use headline::worked_course;
-pub use headline::worked_headline;
-pub use headline::worked_refusals;
-pub use headline::worked_since;
-pub use headline::worked_updates_of_steps;
+pub use headline::{
+    processors_come_and_go_by_lines, the_headline_holds, worked_course, worked_headline,
+    worked_refusals, worked_since, worked_updates_of_steps,
+};
 pub use hidden::caches_are_never_seen_in_scripts;
-pub use kept::commands_finish_one_update;
-pub use kept::commands_keep_a_state;
-pub use kept::nothing_is_stale_in_scripts;
-pub use kept::scripts_keep_each_state;
-pub use known::known_lines_write_a_front;
-pub use known::worked_known_lines;
-pub use known::worked_replays;
-pub use laws::same_files_are_equal;
-pub use laws::the_first_fault_is_first;
+pub use kept::{
+    commands_finish_one_update, commands_keep_a_state, nothing_is_stale_in_scripts,
+    scripts_keep_each_state,
+};
+pub use known::{known_lines_write_a_front, worked_known_lines, worked_replays};
+pub use laws::{same_files_are_equal, the_first_fault_is_first};
 pub use replayer::Replayer;
 pub use running::replay;
-pub use statuses::a_text_shows_one_dump;
-pub use statuses::absent_processors_do_nothing;
-pub use statuses::accepted_comes_first;
-pub use statuses::complete_updates_settle;
-pub use statuses::processors_join_settled;
-pub use statuses::refused_calls_change_nothing;
-pub use statuses::refused_dumps_are_told_alone;
-pub use statuses::released_states_settle;
-pub use statuses::states_have_the_shown_dump;
-pub use statuses::statuses_tell_of_offences;
-pub use statuses::stored_words_are_held;
-pub use summing::Totals;
-pub use summing::summary;
-pub use worked::worked_absent;
-pub use worked::worked_admitted_states;
-pub use worked::worked_answers;
-pub use worked::worked_asking;
-pub use worked::worked_begins;
-pub use worked::worked_called_goals;
-pub use worked::worked_calling_steps;
-pub use worked::worked_calls_of_any_text;
-pub use worked::worked_carried_out;
-pub use worked::worked_commands;
-pub use worked::worked_courses_of_any_text;
-pub use worked::worked_dumps;
-pub use worked::worked_each_state;
-pub use worked::worked_early_texts;
-pub use worked::worked_effects;
-pub use worked::worked_effects_of_the_second;
-pub use worked::worked_empty_course;
-pub use worked::worked_ends_of_runs;
-pub use worked::worked_events;
-pub use worked::worked_flat_moves;
-pub use worked::worked_flat_of_two;
-pub use worked::worked_flat_values;
-pub use worked::worked_heads;
-pub use worked::worked_join_summary;
-pub use worked::worked_joined_states;
-pub use worked::worked_kept;
-pub use worked::worked_kept_alone;
-pub use worked::worked_kept_by_two;
-pub use worked::worked_kinds_of_commands;
-pub use worked::worked_last_states;
-pub use worked::worked_lasts;
-pub use worked::worked_laws_of_any_state;
-pub use worked::worked_laws_of_any_step;
-pub use worked::worked_laws_of_beginnings;
-pub use worked::worked_laws_of_calls;
-pub use worked::worked_laws_of_dumps;
-pub use worked::worked_laws_of_movers;
-pub use worked::worked_laws_of_sections;
-pub use worked::worked_laws_of_states;
-pub use worked::worked_laws_of_statuses;
-pub use worked::worked_laws_of_told_updates;
-pub use worked::worked_laws_of_transcripts;
-pub use worked::worked_laws_of_updates;
-pub use worked::worked_line_ends;
-pub use worked::worked_moved;
-pub use worked::worked_moves;
-pub use worked::worked_moving_steps;
-pub use worked::worked_newcomer_lines;
-pub use worked::worked_newcomers;
-pub use worked::worked_newcomers_from;
-pub use worked::worked_paths;
-pub use worked::worked_phases;
-pub use worked::worked_points;
-pub use worked::worked_points_of_heads;
-pub use worked::worked_rare_texts;
-pub use worked::worked_refused_steps;
-pub use worked::worked_reports;
-pub use worked::worked_rests;
-pub use worked::worked_sections;
-pub use worked::worked_settled_of_two;
-pub use worked::worked_settled_states;
-pub use worked::worked_short_updates;
-pub use worked::worked_starts;
-pub use worked::worked_statuses_of_any_text;
-pub use worked::worked_still_commands;
-pub use worked::worked_summaries;
-pub use worked::worked_sums;
-pub use worked::worked_tellings;
-pub use worked::worked_told_lines;
-pub use worked::worked_told_texts;
-pub use worked::worked_updates;
-pub use worked::worked_updates_in_any_state;
-pub use worked::worked_updates_of_any_text;
-pub use worked::worked_values;
-pub use worked::worked_without_call;
-pub use worked::worked_without_newcomer;
-pub use worked::worked_words;
-pub use worked::worked_writes;
+pub use statuses::{
+    a_text_shows_one_dump, absent_processors_do_nothing, accepted_comes_first,
+    complete_updates_settle, processors_join_settled, refused_calls_change_nothing,
+    refused_dumps_are_told_alone, released_states_settle, states_have_the_shown_dump,
+    statuses_tell_of_offences, stored_words_are_held,
+};
+pub use summing::{Totals, summary};

@@ -1,3 +1,4 @@
+//! Worked runs: what lines, states, steps and texts of scripts come to, and instances of the laws.
 mod acting;
 mod any_state;
 mod any_text;
