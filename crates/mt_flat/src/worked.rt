@@ -9,6 +9,7 @@ ghost use Rattle.mt_machine.specs.WorkedRuns.{answer_of, bare_file, called, goal
 ghost use Rattle.mt_flat.specs.Courses.{CanTurn, Does, IsCourse, Updates, course, flat_course};
 ghost use Rattle.mt_flat.specs.Flat.{flat_answer, flat_start};
 ghost use Rattle.mt_flat.specs.Seen.{AreFew, IsFlatAnswer, IsFlatOf, IsHeldFlat, given};
+ghost use Rattle.mt_flat.specs.WorkedLaws.{both_unlike};
 ghost use Rattle.mt_flat.specs.WorkedRuns.{flat_of, four_lines, none_of_six, numbers, pending_line, pending_words, seven_words};
 
 /// Words of write-combining stores, pending and then set.
@@ -91,6 +92,7 @@ pub fn worked_beside()
 /// Events and whole updates in one course, and what is none for one thing.
 pub fn worked_turns()
     ensures course { IsCourse (machine_of (idle ∷ idle ∷ [])) (Does (Accesses 1 Fence) ∷ Updates (bare_file 0x806) (1 ∷ 0 ∷ []) ∷ Does (Accesses 0 Fence) ∷ []) }
+    ensures unlike { CanTurn both_unlike (Updates (bare_file 0x806) (1 ∷ 0 ∷ [])) }
     ensures no_processor { IsCourse (machine_of (idle ∷ idle ∷ [])) (Does (Accesses 2 Fence) ∷ []) → ⊥ }
     ensures no_go { IsCourse (machine_of (idle ∷ idle ∷ [])) (Does (Accesses 1 Fence) ∷ Does Goes ∷ []) → ⊥ }
     ensures one_takes_not { CanTurn (machine_of (idle ∷ idle ∷ [])) (Updates (bare_file 0x806) (0 ∷ [])) → ⊥ }
