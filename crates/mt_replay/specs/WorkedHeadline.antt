@@ -1,12 +1,11 @@
 -- Commands, processors, flat machines and words of worked clauses on the headline, and points of a summary.
-use Rattle.std.specs.Prelude.{ℕ, ◌+◌, true, false, List, [], ◌∷◌, ◌==◌, codes, if◌then◌else◌, slice_set, Some, None}
+use Rattle.std.specs.Prelude.{◌+◌, true, false, List, [], ◌∷◌, ◌==◌, codes, if◌then◌else◌, slice_set, Some, None}
 use Rattle.mt_machine.specs.System.{Processor}
-use Rattle.mt_machine.specs.Start.{zero_memory}
 use Rattle.mt_machine.specs.Machine.{Machine}
 use Rattle.mt_machine.specs.Update.{updated}
 use Rattle.mt_machine.specs.WorkedRuns.{bare_file}
 use Rattle.mt_flat.specs.Flat.{Flat}
-use Rattle.mt_dump.specs.Line.{Reading, said_of}
+use Rattle.mt_dump.specs.Line.{said_of}
 use Rattle.mt_script.specs.Situation.{Situation, at_start}
 use Rattle.mt_script.specs.declared.command.Command.{Command}
 use Rattle.mt_script.specs.declared.command.Command.TheVariants as command

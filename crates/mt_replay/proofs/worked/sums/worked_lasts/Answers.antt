@@ -1,5 +1,5 @@
-use Rattle.std.proofs.Common.{◌≡◌, ◌∙◌, ap, refl, sym, List, [], ◌∷◌, ℕ}
-use Rattle.std.specs.Prelude.{Option, None, Some, codes}
+use Rattle.std.proofs.Common.{◌≡◌, ◌∙◌, ap, refl, sym, [], ℕ}
+use Rattle.std.specs.Prelude.{Option, None, Some}
 use Rattle.mt_dump.specs.Dumps.{dump_of}
 use Rattle.mt_machine.specs.WorkedRuns.{bare_file}
 use Rattle.mt_regs.specs.RegisterFile.{blank_file}
@@ -11,7 +11,7 @@ use Rattle.mt_replay.specs.ReplayState.{ReplayState, first_state, state_after}
 use Rattle.mt_replay.specs.Running.{IsAt}
 use Rattle.mt_replay.specs.Summing.{last_lines}
 use Rattle.mt_replay.specs.Transcript.{Point, in_body, in_head}
-use Rattle.mt_replay.specs.WorkedHeadline.{dump_read, in_dump}
+use Rattle.mt_replay.specs.WorkedHeadline.{in_dump}
 use Rattle.mt_replay.specs.WorkedStates.{resting}
 use Rattle.mt_replay.specs.declared.line.Run.TheVariants as run
 use Rattle.mt_replay.proofs.worked.sums.worked_lasts.Goals as goal

@@ -1,4 +1,4 @@
-use Rattle.std.proofs.Common.{◌≡◌, ◌^◌, ◌-◌, ap, refl, min, ℕ}
+use Rattle.std.proofs.Common.{◌^◌, ◌-◌, ap, refl, min, ℕ}
 use Rattle.mt_replay.proofs.worked.sums.worked_sums.Goals as goal
 
 pub returns-clause-completed : goal.returns-clause-completed
