@@ -48,7 +48,7 @@ pub record IsGivenUp (m t : Machine) (takes : List ℕ) : Type 0 where
   pub fences : t ≡ record { system = emptied (with_newcomer m).system takes; order = None }
   pub blank : (p : Processor) → slice_get t.system.processors (length m.system.processors) ≡ Some p → p.file ≡ blank_file (first_file m.system).width (first_file m.system).capabilities
 
--- where the update of a newcomer is cancelled, without accesses and control instructions
+-- where the update of a newcomer is cancelled, and since its call nothing came but its steps and the cancel
 abbrev pub CancelledNewcomersStayBlank : Type 0
 CancelledNewcomersStayBlank =
     (m : Machine) (es : List MachineEvent) → CanGrow m → AreEnabled (brought_up m) es → list_all (λ e. is_led e && not (is_go e)) es ≡ true

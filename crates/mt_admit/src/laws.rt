@@ -18,8 +18,8 @@ pub fn newcomers_keep_words()
     ensures { NewcomersKeepWords }
 {}
 
-/// Where that update is cancelled, without accesses and control instructions, it leaves what fences of those that
-/// took leave, and the newcomer has the blank file.
+/// Where that update is cancelled, and since its call nothing came but its steps and the cancel, it leaves what fences of
+/// those that took leave, and the newcomer has the blank file.
 pub fn cancelled_newcomers_stay_blank()
     ensures { CancelledNewcomersStayBlank }
 {}

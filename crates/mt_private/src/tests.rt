@@ -526,7 +526,7 @@ impl Gate for OneFirst {
     }
 }
 
-/// Processor 1 has arrived before processor 0 begins, so that one's accesses are made while this one waits.
+/// Processor 0's thread is started once processor 1 has arrived, so that one's accesses are made while this one waits.
 #[test]
 fn one_accesses_while_another_waits(rt: HostRuntime) {
     for round in 0..8 {
