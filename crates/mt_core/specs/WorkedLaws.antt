@@ -1,4 +1,4 @@
--- States at which each law is shown to speak of something: two processors in era 3, of which none is like the other.
+-- States at which laws are shown to speak of something: two processors in era 3, of which but in `unreached` none is like the other.
 use Rattle.std.specs.Prelude.{false, true, List, [], ◌∷◌, ◌++◌, drop, map}
 use Rattle.mt_machine.specs.declared.control.Control.TheVariants.{Pge}
 use Rattle.mt_machine.specs.declared.event.Event.TheVariants.{Arrive, Pass, Release, SetNoFill, Take, WriteBack}

@@ -1,4 +1,4 @@
-// Each law at two processors of which none is like the other, where the second goes ahead.
+// Laws at two processors, most of them in era 3 and of which none is like the other, where the second goes ahead.
 ghost use Rattle.std.specs.Prelude.{◌∷◌, [], ℕ, List};
 ghost use Rattle.mt_machine.specs.declared.event.Event.TheVariants.{Pass, Release, WriteBack};
 ghost use Rattle.mt_machine.specs.Machine.{Calls, Machine, MachineEvent, Reached, Steps, next, run};

@@ -32,7 +32,7 @@ ControlKeepsSound =
 abbrev pub DrainKeepsSound : Type 0
 DrainKeepsSound = (s : System) (k : ℕ) → IsSound s → IsSound (drain k s)
 
--- the lines of a sound system lie below 2^52
+-- the lines of a sound system, whose numbers are below 2^46, lie below 2^52
 abbrev pub LinesAreLow : Type 0
 LinesAreLow = (s : System) → IsSound s → All (λ p. All (λ l. l.number < 2 ^ 46) p.lines × All (λ l. l.number < 2 ^ 46) p.buffers) s.processors
 

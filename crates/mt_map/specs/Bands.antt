@@ -37,7 +37,7 @@ band f others page end top = record {
   other = other_type others page;
 }
 
--- from a page and a place on; whole is the number of pages
+-- from a page and a place on
 abbrev pub bands_from : RegisterFile → List RegisterFile → ℕ → ℕ → List ℕ → List Band
 bands_from f others page top [] = []
 bands_from f others page top (cut ∷ cuts) =
