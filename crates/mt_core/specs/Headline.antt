@@ -63,7 +63,7 @@ StepsKeepThroughout =
     (m : Machine) (e : MachineEvent) (address : ℕ) → Arises m → IsEnabled m e → is_of_update e ≡ true → is_take_step e ≡ false
     → KeepsWord m.system (next m e).system address
 
--- from a take to the release that follows it
+-- from a take to the release that follows it, with no other take of the processor between
 abbrev pub StepsCountThroughout : Type 0
 StepsCountThroughout =
     (m : Machine) (k : ℕ) (between : List MachineEvent) → Arises m

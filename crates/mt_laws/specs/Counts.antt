@@ -26,7 +26,7 @@ pub record IsCounted (m : Machine) (k : ℕ) (between : List MachineEvent) : Typ
   pub phase : passed.phase ≡ Passed
   pub count : count_by (is_step_of k) (Steps k Take ∷ (between ++ Steps k Release ∷ [])) ≡ length (writable passed.file) + dirty_count passed.lines + other_events passed
 
--- from a take to the release that follows it
+-- from a take to the release that follows it, with no other take of the processor between
 abbrev pub CountOfSteps : Type 0
 CountOfSteps =
     (s m : Machine) (k : ℕ) (between : List MachineEvent) → IsStart s → Reached s m
