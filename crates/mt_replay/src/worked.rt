@@ -63,7 +63,8 @@ pub use promises::{
     worked_laws_of_statuses, worked_laws_of_told_updates,
 };
 pub use relations::{
-    worked_parts_of_states, worked_parts_of_the_flat_transcript, worked_parts_of_updates,
+    worked_parts_of_calls, worked_parts_of_sections, worked_parts_of_states,
+    worked_parts_of_the_flat_transcript, worked_parts_of_updates,
 };
 pub use runs::{
     worked_carried_out, worked_ends_of_runs, worked_paths, worked_points_of_heads, worked_writes,

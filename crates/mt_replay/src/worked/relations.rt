@@ -1,5 +1,5 @@
 // What relations say of any state, step and text, by their parts.
-ghost use Rattle.std.specs.Prelude.{◌≡◌, ◌∷◌, ◌++◌, ◌+◌, ◌%◌, [], ℕ, List, Option, false};
+ghost use Rattle.std.specs.Prelude.{◌≡◌, ◌∷◌, ◌++◌, ◌+◌, ◌%◌, ◌≤◌, ◌⊎◌, [], ℕ, IsSome, List, false};
 ghost use Rattle.std.specs.List.{All, Contains};
 ghost use Rattle.std.specs.Option.{option_map_or};
 ghost use Rattle.mt_kinds.specs.declared.mem_type.MemType.{MemType};
@@ -14,12 +14,14 @@ ghost use Rattle.mt_flat.specs.Flat.{Flat, flat_answer, flat_start};
 ghost use Rattle.mt_script.specs.Situation.{at_start};
 ghost use Rattle.mt_script.specs.declared.command.Command.{Command};
 ghost use Rattle.mt_script.specs.declared.command.Command.TheVariants as asks;
+ghost use Rattle.mt_script.specs.Accept.{Fits};
 ghost use Rattle.mt_replay.specs.Flat.{flat_done, flat_text, flat_told_in, flat_transcript};
-ghost use Rattle.mt_replay.specs.Headline.{IsCall, NoneOf, NoneWrote, SectionOf, Step, UpdateOf, goal_of, left, pass_line, release_line};
+ghost use Rattle.mt_replay.specs.Headline.{IsCall, NoneOf, NoneWrote, SectionOf, Step, UpdateOf, goal_of, left, pass_line, release_line, wrote};
+ghost use Rattle.mt_replay.specs.Kept.{HasEras};
 ghost use Rattle.mt_replay.specs.Movers.{Stays};
-ghost use Rattle.mt_replay.specs.ReplayState.{ReplayState, first_file, is_absent};
-ghost use Rattle.mt_replay.specs.Statuses.{AreHeld, IsAdmittedAfter, IsSettledAfter, state_after_all, stored_by_all};
-ghost use Rattle.mt_replay.specs.Texts.{done_line};
+ghost use Rattle.mt_replay.specs.ReplayState.{ReplayState, call_fault, first_file, is_absent, may_come, state_after};
+ghost use Rattle.mt_replay.specs.Statuses.{AreHeld, AreWithoutCall, IsAdmittedAfter, IsSettledAfter, IsWithoutCall, state_after_all, stored_by_all};
+ghost use Rattle.mt_replay.specs.Texts.{called_line, complete_line, done_line, joined_line, up_line};
 ghost use Rattle.mt_replay.specs.Transcript.{told_from};
 
 /// What is so of a step that leaves the machine, of words that are held, and of the machine behind an update or a join.
@@ -33,14 +35,37 @@ pub fn worked_parts_of_states()
     ensures joined_eras { (s : ReplayState) (m : Machine) → IsAdmittedAfter s m → All (λ p. p.era ≡ common_era s.machine.system.processors + 1) m.system.processors }
 {}
 
-/// What is so of the section that a call ends, and of the update of which a release tells.
-pub fn worked_parts_of_updates()
-    ensures goal { (front : List Step) (call : Step) (u : SectionOf front call) → call.before.goal ≡ goal_of (first_file u.opens.before) u.lines }
-    ensures no_store_waits { (front : List Step) (release : Step) (u : UpdateOf front release) → All (λ p. p.buffers ≡ []) u.pass.before.machine.system.processors }
+/// What calls for an update, what suffices for commands that call for none, and the eras of a state.
+pub fn worked_parts_of_calls()
+    ensures calls { (step : Step) → IsCall step → ((wrote step ≡ called_line) ⊎ ((era : ℕ) × (wrote step ≡ complete_line era)))
+        ⊎ ((k : ℕ) × (((step.command ≡ asks.Up) × (wrote step ≡ up_line k)) ⊎ ((step.command ≡ asks.Join) × (wrote step ≡ joined_line k)))) }
+    ensures without_call { (s : ReplayState) (c : Command) → (c ≡ asks.End → IsSome (call_fault s.machine s.goal))
+        → ((c ≡ asks.Up) ⊎ (c ≡ asks.Join) → may_come s.machine ≡ false) → IsWithoutCall s c }
+    ensures each_without_call { (s : ReplayState) (c : Command) (cs : List Command) → Fits s.now c → IsWithoutCall s c → AreWithoutCall (state_after s c) cs
+        → AreWithoutCall s (c ∷ cs) }
+    ensures eras { (most : ℕ) (s : ReplayState) → HasEras most s → All (λ p. p.era ≤ most) s.machine.system.processors }
+{}
+
+/// What is so of the section that a call ends.
+pub fn worked_parts_of_sections()
+    ensures stands { (front : List Step) (call : Step) (u : SectionOf front call) → front ≡ u.before ++ u.opens ∷ u.lines }
+    ensures begins { (front : List Step) (call : Step) (u : SectionOf front call) → (u.opens.command ≡ asks.Update) ⊎ (u.opens.command ≡ asks.Begin) }
     ensures no_other_end { (front : List Step) (call : Step) (u : SectionOf front call) → NoneOf (λ step. step.command ≡ asks.End) u.lines }
+    ensures ends { (front : List Step) (call : Step) → SectionOf front call → call.command ≡ asks.End }
+    ensures goal { (front : List Step) (call : Step) (u : SectionOf front call) → call.before.goal ≡ goal_of (first_file u.opens.before) u.lines }
+{}
+
+/// What is so of the update of which a release tells.
+pub fn worked_parts_of_updates()
+    ensures stands { (front : List Step) (release : Step) (u : UpdateOf front release)
+        → front ++ release ∷ [] ≡ u.before ++ u.call ∷ (u.waiting ++ u.pass ∷ (u.between ++ u.first ∷ u.again)) }
+    ensures calls { (front : List Step) (release : Step) (u : UpdateOf front release) → (wrote u.call ≡ called_line) ⊎ ((k : ℕ) × (u.call.command ≡ asks.Up) × (wrote u.call ≡ up_line k)) }
+    ensures passes { (front : List Step) (release : Step) (u : UpdateOf front release) → wrote u.pass ≡ pass_line }
+    ensures releases { (front : List Step) (release : Step) (u : UpdateOf front release) → wrote u.first ≡ release_line }
     ensures first_pass { (front : List Step) (release : Step) (u : UpdateOf front release) → NoneWrote pass_line u.waiting }
     ensures first_release { (front : List Step) (release : Step) (u : UpdateOf front release) → NoneWrote release_line (u.waiting ++ u.pass ∷ u.between) }
     ensures no_other_call { (front : List Step) (release : Step) (u : UpdateOf front release) → NoneOf IsCall (u.waiting ++ u.pass ∷ (u.between ++ u.first ∷ u.again)) }
+    ensures no_store_waits { (front : List Step) (release : Step) (u : UpdateOf front release) → All (λ p. p.buffers ≡ []) u.pass.before.machine.system.processors }
 {}
 
 /// What the flat machine shows of a text and of a load.
