@@ -11,6 +11,7 @@ mod laws;
 mod moving;
 mod points;
 mod promises;
+mod relations;
 mod runs;
 mod states;
 mod steps;
@@ -60,6 +61,10 @@ pub use points::worked_points;
 pub use promises::{
     worked_laws_of_beginnings, worked_laws_of_calls, worked_laws_of_dumps, worked_laws_of_states,
     worked_laws_of_statuses, worked_laws_of_told_updates,
+};
+pub use relations::{
+    worked_parts_of_calls, worked_parts_of_sections, worked_parts_of_states,
+    worked_parts_of_the_flat_transcript, worked_parts_of_updates,
 };
 pub use runs::{
     worked_carried_out, worked_ends_of_runs, worked_paths, worked_points_of_heads, worked_writes,

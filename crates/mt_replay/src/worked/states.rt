@@ -7,7 +7,7 @@ ghost use Rattle.mt_script.specs.Numbers.{fault_at};
 ghost use Rattle.mt_script.specs.declared.fault.ScriptReason.TheVariants.{BadLine};
 ghost use Rattle.mt_script.specs.declared.fault.Offence.TheVariants as offence;
 ghost use Rattle.mt_replay.specs.Heads.{has_offence, head_of, shows_dump, stays_open};
-ghost use Rattle.mt_machine.specs.WorkedRuns.{bare_file, idle, line_of, machine_of, one_window, palette, store};
+ghost use Rattle.mt_machine.specs.WorkedRuns.{bare_file, called, idle, line_of, machine_of, one_window, palette, store, walk};
 ghost use Rattle.mt_ports.specs.declared.status.Status.TheVariants as status;
 ghost use Rattle.mt_script.specs.declared.command.Command.TheVariants as asks;
 ghost use Rattle.mt_script.specs.declared.command.Stage.TheVariants as stage;
@@ -27,6 +27,7 @@ pub fn worked_without_call()
     ensures no_such_processor { AreWithoutCall painted (asks.Blank ∷ asks.Fence 2 ∷ []) → ⊥ }
     ensures no_section { AreWithoutCall (busy stage.Commands) (asks.End ∷ []) → ⊥ }
     ensures called { AreWithoutCall (resting stage.InBegin) (asks.End ∷ []) → ⊥ }
+    ensures refused { AreWithoutCall (record (resting stage.InBegin) { goal = bare_file 0x803 }) (asks.End ∷ []) }
     ensures updated_later { AreWithoutCall (resting stage.Commands) (asks.Fence 0 ∷ asks.Update ∷ asks.End ∷ []) → ⊥ }
 {}
 
@@ -44,6 +45,7 @@ pub fn worked_each_state()
 pub fn worked_words()
     ensures stored { stored_by painted (asks.Store 0 0x1008 7) ≡ Some 0x100008 }
     ensures unmapped { stored_by painted (asks.Store 0 0x6000 7) ≡ None }
+    ensures in_an_update { stored_by (state_of stage.Commands (walk 1 0 (called palette))) (asks.Store 0 0x1000 7) ≡ None }
     ensures loaded { stored_by painted (asks.Load 0 0x1000) ≡ None }
     ensures in_turn { stored_by_all painted (asks.Store 0 0x6000 1 ∷ asks.Map 0 0x6000 0x100000 0 false ∷ asks.Store 0 0x6010 1 ∷ asks.Load 0 0x1008 ∷ asks.Store 1 0x1000 2 ∷ []) ≡
         0x100010 ∷ 0x100000 ∷ [] }

@@ -1,4 +1,4 @@
-ghost use Rattle.std.specs.Prelude.{◌≡◌, ◌∷◌, [], codes};
+ghost use Rattle.std.specs.Prelude.{◌≡◌, ◌∷◌, ◌++◌, [], codes, map, replicate};
 ghost use Rattle.mt_kinds.specs.declared.mem_type.MemType.TheVariants.{WB};
 ghost use Rattle.mt_machine.specs.declared.done.Done.TheVariants.{Busy, Value};
 ghost use Rattle.mt_machine.specs.WorkedRuns.{palette};
@@ -11,8 +11,9 @@ ghost use Rattle.mt_replay.specs.Headline.{IsRefused, SectionOf, UpdateOf, last_
 ghost use Rattle.mt_replay.specs.ReplayState.{command_text};
 ghost use Rattle.mt_replay.specs.Statuses.{BeginsWith, EndsIdle, EndsWith, IsSettledAfter};
 ghost use Rattle.mt_stream.specs.Told.{told};
+ghost use Rattle.mt_replay.specs.WorkedMoves.{asked_of, of_none};
 ghost use Rattle.mt_replay.specs.WorkedScript.{IsKept, updated_processor};
-ghost use Rattle.mt_replay.specs.WorkedStates.{busy, painted, resting};
+ghost use Rattle.mt_replay.specs.WorkedStates.{at_end, busy, painted, resting};
 ghost use Rattle.mt_replay.specs.WorkedSteps.{begins, calls, first_store, is_late, nines, passes, passes_over_a_buffer, releases, second_at_end, second_is_seven, second_lost, second_store};
 
 /// A section and an update of a few steps, and what isn't theirs for one thing.
@@ -48,6 +49,9 @@ pub fn worked_flat_values()
     ensures store { (flat_command painted (asks.Store 0 0x1000 7) flat_start).values 0x100000 ≡ 7 }
     ensures lines { flat_told_in (record { line = 4; column = 1 }) 1 (codes "store 0 1000 7" ∷ codes "load 0 1000" ∷ codes "load 0 1008" ∷ []) painted nines
         ≡ told (codes "stored WB\nvalue 0000000000000007 WB\nvalue 0000000000000009 WB\n") Done }
+    ensures step_sets_nothing { (flat_command (busy stage.Commands) (asks.Step 1) nines).values 0x100000 ≡ 9 }
+    ensures update_sets_nothing { (flat_command at_end asks.End nines).values 0x100000 ≡ 9 }
+    ensures nothing_else_is_set { map (λ c. (flat_command painted c nines).values 0x100008) (asked_of 1 ++ (asks.Step 1 ∷ asks.Msr 1 0x2ff ∷ of_none)) ≡ replicate 27 9 }
     ensures load_sets_nothing { (flat_command painted (asks.Load 0 0x1000) nines).values 0x100000 ≡ 9 }
 {}
 
