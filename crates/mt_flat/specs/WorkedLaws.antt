@@ -5,7 +5,7 @@ use Rattle.mt_machine.specs.declared.event.Event.TheVariants.{Arrive, Leave, Rel
 use Rattle.mt_machine.specs.declared.phase.Phase.TheVariants.{Taken}
 use Rattle.mt_machine.specs.Machine.{Machine, MachineEvent, Calls, Cancels, Controls, Steps}
 use Rattle.mt_machine.specs.System.{Processor, start_processor}
-use Rattle.mt_machine.specs.WorkedRuns.{alone, bare_file, call_order, calling, idle, line_of, machine_of, mapping, ready, store, whole}
+use Rattle.mt_machine.specs.WorkedRuns.{alone, bare_file, call_order, calling, idle, line_of, load, machine_of, mapping, ready, store, whole}
 use Rattle.mt_machine.specs.WorkedSetups.{second_word}
 use Rattle.mt_flat.specs.Courses.{ComesUp, Does, GoesDown, Turn, Updates}
 
@@ -66,6 +66,17 @@ of_four = record (start_processor (bare_file 0x801)) {
 
 abbrev pub four_combined : Machine
 four_combined = calling call_order (ready ∷ of_four ∷ [])
+
+-- a fifth line is combined, a word joins the second, and the third is loaded
+abbrev pub combined_on : List MachineEvent
+combined_on = store 1 0x1100 5 ∷ store 1 0x1048 9 ∷ load 1 0x1090 ∷ []
+
+-- the same two without an update, which is carried out behind a store and a load
+abbrev pub beside_of_four : Machine
+beside_of_four = machine_of (idle ∷ of_four ∷ [])
+
+abbrev pub combined_and_updated : List Turn
+combined_and_updated = Does (store 1 0x1100 5) ∷ Does (load 1 0x1090) ∷ Updates (bare_file 0x806) (1 ∷ 0 ∷ []) ∷ []
 
 -- behind the release of the second the first releases, and the next update is called
 abbrev pub called_again : List MachineEvent

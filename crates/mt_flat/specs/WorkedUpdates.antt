@@ -1,7 +1,8 @@
 -- A worked update of one processor with a buffer, and a course through it.
 use Rattle.std.specs.Prelude.{List, [], ◌∷◌, ◌++◌, map}
+use Rattle.mt_machine.specs.declared.control.Control.TheVariants.{Invlpg}
 use Rattle.mt_machine.specs.declared.event.Event.TheVariants.{Arrive, Pass, Release, Take}
-use Rattle.mt_machine.specs.Machine.{Machine, MachineEvent, Calls, Goes, Steps, run}
+use Rattle.mt_machine.specs.Machine.{Machine, MachineEvent, Calls, Controls, Goes, Steps, run}
 use Rattle.mt_machine.specs.WorkedRuns.{bare_file, store}
 use Rattle.mt_laws.specs.WorkedRuns.{way_on}
 use Rattle.mt_laws.specs.WorkedUpdates.{buffered}
@@ -15,6 +16,13 @@ to_barrier = Calls (bare_file 0x806) ∷ Goes ∷ map (Steps 0) (Take ∷ Arrive
 
 abbrev pub buffered_released : Machine
 buffered_released = run (run buffered to_barrier) (map (Steps 0) (Pass ∷ way_on ++ Release ∷ []))
+
+-- the same with a control instruction and a store before the call
+abbrev pub stored_to_barrier : List MachineEvent
+stored_to_barrier = Controls 0 (Invlpg 0x1000) ∷ store 0 0x1010 9 ∷ to_barrier
+
+abbrev pub stored_released : Machine
+stored_released = run (run buffered stored_to_barrier) (map (Steps 0) (Pass ∷ way_on ++ Release ∷ []))
 
 -- the flat machine beside it
 abbrev pub beside_buffered : Flat

@@ -19,12 +19,12 @@ pub use laws::{
 };
 pub use worked::{worked_beside, worked_course, worked_pending, worked_stores, worked_turns};
 pub use worked_coming::{
-    worked_coming_course, worked_coming_turns, worked_flat_comers, worked_flat_going,
+    worked_coming_course, worked_coming_turns, worked_flat_comers, worked_flat_going, worked_turned,
 };
 pub use worked_courses::worked_updates_by_events;
 pub use worked_laws::{
     worked_laws_of_broadcasts, worked_laws_of_starts, worked_laws_of_takes, worked_laws_under_way,
 };
 pub use worked_related::{worked_flat_answers, worked_flat_held, worked_flat_laws, worked_flat_of};
-pub use worked_two::{worked_laws_of_two, worked_updates_of_two};
+pub use worked_two::{worked_laws_of_combining, worked_laws_of_two, worked_updates_of_two};
 pub use worked_updates::{worked_laws_of_courses, worked_states_on_the_way};

@@ -1,17 +1,17 @@
 // Processors that come up and go beside a flat machine, and in a course.
-ghost use Rattle.std.specs.Prelude.{◌≡◌, ◌∷◌, [], replicate};
+ghost use Rattle.std.specs.Prelude.{◌≡◌, ◌∷◌, [], map, replicate};
 ghost use Rattle.mt_kinds.specs.declared.mem_type.MemType.TheVariants.{WB};
 ghost use Rattle.mt_machine.specs.declared.done.Done.TheVariants.{Value};
 ghost use Rattle.mt_machine.specs.declared.op.Op.TheVariants.{Load};
-ghost use Rattle.mt_machine.specs.ComingAndGoing.{gone, reset};
-ghost use Rattle.mt_machine.specs.Machine.{Calls};
+ghost use Rattle.mt_machine.specs.ComingAndGoing.{gone, reset, with_newcomer, without_last};
+ghost use Rattle.mt_machine.specs.Machine.{Calls, next};
 ghost use Rattle.mt_machine.specs.Update.{updated};
-ghost use Rattle.mt_machine.specs.WorkedRuns.{alone, answer_of, bare_file, idle, machine_of, palette, small, store, whole};
+ghost use Rattle.mt_machine.specs.WorkedRuns.{alone, answer_of, bare_file, combining, idle, machine_of, palette, small, store, whole};
 ghost use Rattle.mt_flat.specs.ComingAndGoing.{AdmittedIsFlat, GoneKeepsFlat, NewcomersKeepFlat};
 ghost use Rattle.mt_flat.specs.Courses.{CanTurn, ComesUp, CoursesHideCaches, CoursesKeepFlat, Does, GoesDown, IsCourse, Updates, course, flat_course};
 ghost use Rattle.mt_flat.specs.Flat.{empty_all, flat_start, with_pending};
 ghost use Rattle.mt_flat.specs.Seen.{IsFlatAnswer, IsFlatOf, flat_takes};
-ghost use Rattle.mt_flat.specs.WorkedLaws.{both_unlike, gone_and_come, incoherent, last_shares, taking};
+ghost use Rattle.mt_flat.specs.WorkedLaws.{both_combine, both_unlike, gone_and_come, incoherent, last_shares, taking};
 ghost use Rattle.mt_flat.specs.WorkedRuns.{beside, combiner, numbers, two_values};
 
 /// The last goes with a word in a buffer, of which another has another value in its cache.
@@ -34,6 +34,7 @@ pub fn worked_flat_comers()
     ensures none_left { GoneKeepsFlat → IsFlatOf (gone taking.system) (empty_all 0 (beside taking.system)) }
     ensures course { CoursesKeepFlat → IsFlatOf (course last_shares gone_and_come).system (flat_course last_shares gone_and_come (beside last_shares.system)) }
     ensures answer { CoursesHideCaches → IsFlatAnswer (course last_shares gone_and_come) (flat_course last_shares gone_and_come (beside last_shares.system)) 0 0x1008 6 WB }
+    ensures gone_beside_buffers { GoneKeepsFlat → IsFlatOf (gone both_combine.system) (empty_all 1 (beside both_combine.system)) }
     ensures gone { GoneKeepsFlat → IsFlatOf (gone two_values.system) (empty_all 1 (beside two_values.system)) }
 {}
 
@@ -48,6 +49,15 @@ pub fn worked_coming_turns()
     ensures none_left { CanTurn (machine_of []) GoesDown → ⊥ }
     ensures comes_under_way { IsCourse (machine_of (idle ∷ idle ∷ [])) (Does (Calls (bare_file 0x806)) ∷ ComesUp ∷ []) → ⊥ }
     ensures goes_under_way { IsCourse (machine_of (idle ∷ idle ∷ [])) (Does (Calls (bare_file 0x806)) ∷ GoesDown ∷ []) → ⊥ }
+{}
+
+/// What each turn makes of a machine.
+pub fn worked_turned()
+    ensures event { course palette (Does (store 1 0x3000 7) ∷ []) ≡ next palette (store 1 0x3000 7) }
+    ensures update { course (small palette) (Does (store 1 0x3000 7) ∷ Updates combining (1 ∷ 0 ∷ []) ∷ []) ≡ updated (next (small palette) (store 1 0x3000 7)).system (1 ∷ 0 ∷ []) combining }
+    ensures registers { map (λ p. p.file) (course both_unlike (Updates (bare_file 0x806) (1 ∷ 0 ∷ []) ∷ [])).system.processors ≡ bare_file 0x806 ∷ bare_file 0x806 ∷ [] }
+    ensures come { course both_unlike (ComesUp ∷ []) ≡ with_newcomer both_unlike }
+    ensures gone { course both_unlike (GoesDown ∷ []) ≡ without_last both_unlike }
 {}
 
 /// A word that was combined by the last is set where it goes, and the machine loads it; others' words stay pending.

@@ -1,13 +1,13 @@
 // The laws at two processors, of which the second sees what the first has cached.
 ghost use Rattle.std.specs.Prelude.{◌≡◌, ◌∷◌, []};
-ghost use Rattle.mt_kinds.specs.declared.mem_type.MemType.TheVariants.{UC, WB};
+ghost use Rattle.mt_kinds.specs.declared.mem_type.MemType.TheVariants.{UC, WB, WC};
 ghost use Rattle.mt_machine.specs.declared.control.Control.TheVariants.{Cr3};
 ghost use Rattle.mt_machine.specs.Machine.{Controls, next, run};
 ghost use Rattle.mt_machine.specs.WorkedRuns.{load, store};
 ghost use Rattle.mt_laws.specs.WorkedUpdates.{two_released, two_taken, two_to_pass};
 ghost use Rattle.mt_flat.specs.Courses.{CoursesHideCaches, CoursesKeepFlat, course, flat_course};
 ghost use Rattle.mt_flat.specs.Seen.{AnswersAreFlat, AreFew, CachesAreNeverSeen, EventsKeepFlat, HeldIsFlat, IsFlatAnswer, IsFlatOf, IsHeldFlat, PendingStaysFew, RunsKeepFlat, flat_after, flat_run};
-ghost use Rattle.mt_flat.specs.WorkedLaws.{both_combine, called_again, cancelled_by_two, four_combined, taken_by_first, two_sharing, updated_by_two};
+ghost use Rattle.mt_flat.specs.WorkedLaws.{beside_of_four, both_combine, called_again, cancelled_by_two, combined_and_updated, combined_on, four_combined, taken_by_first, two_sharing, updated_by_two};
 ghost use Rattle.mt_flat.specs.WorkedRuns.{beside};
 
 /// A load and a store by the second of two, where the first has the line with dirty words, and an update of both.
@@ -22,6 +22,17 @@ pub fn worked_laws_of_two()
     ensures fifth { PendingStaysFew → AreFew ((flat_run four_combined (store 1 0x1100 5 ∷ []) (beside four_combined.system)).pending 1) }
     ensures few { PendingStaysFew → AreFew ((flat_run both_combine [] (beside both_combine.system)).pending 1) }
     ensures course { CoursesHideCaches → IsFlatAnswer (course two_sharing updated_by_two) (flat_course two_sharing updated_by_two (beside two_sharing.system)) 1 0x1008 6 WB }
+{}
+
+/// A processor that combines, of two whose update is called: it stores to four lines and to a fifth, and loads.
+pub fn worked_laws_of_combining()
+    ensures store { EventsKeepFlat → IsFlatOf (next four_combined (store 1 0x1048 9)).system (flat_after four_combined (store 1 0x1048 9) (beside four_combined.system)) }
+    ensures load { EventsKeepFlat → IsFlatOf (next four_combined (load 1 0x1048)).system (flat_after four_combined (load 1 0x1048) (beside four_combined.system)) }
+    ensures run { RunsKeepFlat → IsFlatOf (run four_combined combined_on).system (flat_run four_combined combined_on (beside four_combined.system)) }
+    ensures answer { AnswersAreFlat → IsFlatAnswer four_combined (beside four_combined.system) 1 0x1048 6 WC }
+    ensures answer_of_a_run { CachesAreNeverSeen → IsFlatAnswer (run four_combined combined_on) (flat_run four_combined combined_on (beside four_combined.system)) 1 0x1048 9 WC }
+    ensures course { CoursesKeepFlat → IsFlatOf (course beside_of_four combined_and_updated).system (flat_course beside_of_four combined_and_updated (beside beside_of_four.system)) }
+    ensures answer_of_a_course { CoursesHideCaches → IsFlatAnswer (course beside_of_four combined_and_updated) (flat_course beside_of_four combined_and_updated (beside beside_of_four.system)) 1 0x1100 5 WB }
 {}
 
 /// What the second of two has cached when an update begins is held after its first release, and a course of both goes on.

@@ -6,12 +6,14 @@ ghost use Rattle.mt_laws.specs.WorkedUpdates.{buffered};
 ghost use Rattle.mt_flat.specs.Courses.{CoursesHideCaches, CoursesKeepFlat, course, flat_course};
 ghost use Rattle.mt_flat.specs.Seen.{HeldIsFlat, IsFlatAnswer, IsFlatOf, IsHeldFlat, flat_run, flat_takes};
 ghost use Rattle.mt_flat.specs.WorkedRuns.{flat_of, numbers};
-ghost use Rattle.mt_flat.specs.WorkedUpdates.{beside_buffered, buffered_released, to_barrier, updated_and_stored};
+ghost use Rattle.mt_flat.specs.WorkedUpdates.{beside_buffered, buffered_released, stored_released, stored_to_barrier, to_barrier, updated_and_stored};
 
 /// What was combined before an update is held after it, and a course goes on from there.
 pub fn worked_laws_of_courses()
     ensures combined { (flat_run buffered to_barrier beside_buffered).values 0x100008 ≡ 6 }
     ensures held { HeldIsFlat → IsHeldFlat (flat_run buffered to_barrier beside_buffered) buffered_released (store 0 0x1010 9 ∷ []) }
+    ensures held_of_stored { HeldIsFlat → IsHeldFlat (flat_run buffered stored_to_barrier beside_buffered) stored_released [] }
+    ensures stored { (flat_run buffered stored_to_barrier beside_buffered).values 0x100010 ≡ 9 }
     ensures course { CoursesKeepFlat → IsFlatOf (course buffered updated_and_stored).system (flat_course buffered updated_and_stored beside_buffered) }
     ensures answer { CoursesHideCaches → IsFlatAnswer (course buffered updated_and_stored) (flat_course buffered updated_and_stored beside_buffered) 0 0x1008 6 UC }
 {}

@@ -9,7 +9,7 @@ use Rattle.std.specs.Prelude.{length}
 use Rattle.mt_laws.specs.Counts.{IsEachOnce}
 use Rattle.mt_flat.specs.Courses.{IsCourse}
 use Rattle.mt_flat.specs.Seen.{IsFlatOf}
-use Rattle.mt_flat.specs.WorkedLaws.{both_unlike, gone_and_come, incoherent, last_shares, taking}
+use Rattle.mt_flat.specs.WorkedLaws.{both_combine, both_unlike, gone_and_come, incoherent, last_shares, taking}
 use Rattle.mt_flat.specs.WorkedRuns.{beside, combiner, two_values}
 use Rattle.mt_flat.proofs.worked_coming.worked_flat_comers.Goals as goal
 
@@ -66,6 +66,12 @@ returns-clause-answer c = λ law. law last_shares (beside last_shares.system) go
 
 pub returns-clause-admitted : goal.returns-clause-admitted
 returns-clause-admitted c = λ law. law combiner (beside combiner.system) (bare_file 0x806) (0 ∷ 1 ∷ []) quiet enabled once (stands combiner.system)
+
+combine_sound : IsSound both_combine.system
+combine_sound = search rules
+
+pub returns-clause-gone_beside_buffers : goal.returns-clause-gone_beside_buffers
+returns-clause-gone_beside_buffers c = λ law. law both_combine.system (beside both_combine.system) (omega arith) combine_sound (stands both_combine.system)
 
 pub returns-clause-gone : goal.returns-clause-gone
 returns-clause-gone c = λ law. law two_values.system (beside two_values.system) (omega arith) sound (stands two_values.system)
