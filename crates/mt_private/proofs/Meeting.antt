@@ -1,6 +1,5 @@
 -- What the threads of a yard begin with.
-use Rattle.std.proofs.Common.{◌≡◌, ◌∙◌, ap, sym, refl, arith, ℕ, ◌<◌, true, List, [], ◌∷◌, length, map, Option, Some}
-use Rattle.std.specs.Prelude.{slice_get}
+use Rattle.std.proofs.Common.{◌≡◌, ◌∙◌, ap, sym, refl, arith, ℕ, true, List, [], ◌∷◌, length, map, Option}
 use Rattle.std.specs.List.{All}
 use Rattle.std.specs.Option.{option_map_or}
 use Rattle.std.proofs.lemmas.Option.{slice_get_within}
@@ -20,7 +19,6 @@ use Rattle.mt_private.specs.Jobs.{AreOpen, FitsJob}
 use Rattle.mt_private.specs.Residents.{Opens}
 use Rattle.mt_private.specs.Left.{AreBack}
 use Rattle.mt_private.specs.Visitors.{AreWaiting, Returned}
-use Rattle.mt_private.specs.YardCalls.{AreIn}
 use Rattle.mt_private.specs.YardPlays.{YardSat}
 use Rattle.mt_private.proofs.Lists.{got}
 

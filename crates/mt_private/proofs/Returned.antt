@@ -1,9 +1,8 @@
 -- Visitors that came back, one more at a time.
 use Rattle.std.proofs.Common.{◌≡◌, ◌≢◌, ◌∙◌, ap, sym, refl, subst, arith, ℕ, zero, suc, ◌+◌, ◌<◌, Bool, true, false, ◌||◌, List, [], ◌∷◌, ◌++◌, length, replicate, set, Option, None, Some, ⊎_elim, length-set}
-use Rattle.std.specs.Prelude.{◌⊎◌, slice_get, slice_set}
+use Rattle.std.specs.Prelude.{◌⊎◌, slice_get}
 use Rattle.std.proofs.lemmas.List.{length-replicate}
 use Rattle.std.proofs.lemmas.Option.{slice_get_within}
-use mathlib.Core.Option.{some}
 use lib.ListN.{get_elem?}
 use Rattle.atomic_table.specs.Seated.{TableId}
 use Rattle.mt_regs.specs.RegisterFile.{RegisterFile}
@@ -21,7 +20,7 @@ use Rattle.mt_private.specs.Visitors.{CameBack, HasCome, IsFresh, Returned, own_
 use Rattle.mt_private.specs.YardCalls.{Keeps, Lodges, VisitEnds}
 use Rattle.mt_private.specs.YardPlays.{YardSat, as_sat}
 use Rattle.mt_private.specs.YardRule.{yard_both}
-use Rattle.mt_private.proofs.Lists.{at_end, at_put, got}
+use Rattle.mt_private.proofs.Lists.{at_end, got}
 
 -- however a visit ended, the seat lodges its resident
 pub lodges_still : (v : Visited) (table : TableId) (t : Start) (k : ℕ) (f : RegisterFile) (job : Job) (own : System) (its : TableId) (me : YardSat) (new : System) (told : Told) → VisitEnds v table t k f job own its me new told

@@ -1,5 +1,5 @@
 -- Worked own systems that came back (own).
-use Rattle.std.specs.Prelude.{List, [], ◌∷◌, Option, None, Some}
+use Rattle.std.specs.Prelude.{List, [], ◌∷◌, Option, Some}
 use Rattle.mt_machine.specs.Memory.{Memory}
 use Rattle.mt_machine.specs.System.{System}
 use Rattle.mt_private.specs.declared.view.YardView.{YardView}

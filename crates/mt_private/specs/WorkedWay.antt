@@ -1,5 +1,5 @@
 -- The way of a worked resident, which is alone in its yard, through an update; and a worked yard of two whose first resident was given away.
-use Rattle.std.specs.Prelude.{◌≡◌, ℕ, Bool, true, false, List, [], ◌∷◌, None, Option, Some}
+use Rattle.std.specs.Prelude.{◌≡◌, ℕ, Bool, true, false, [], ◌∷◌, None, Option, Some}
 use Rattle.mt_machine.specs.declared.phase.Phase.{Phase}
 use Rattle.mt_machine.specs.declared.phase.Phase.TheVariants.{NoFill}
 use Rattle.mt_machine.specs.declared.go.Go.{Go}

@@ -1,15 +1,15 @@
 -- A whole update in the own systems: what each word is now, and what each processor is left as.
-use Rattle.std.proofs.Common.{◌≡◌, ◌≢◌, ◌∙◌, ap, sym, refl, subst, arith, ℕ, zero, suc, ◌+◌, ◌/◌, ◌<◌, ◌≤◌, ◌==◌, Bool, true, false, cond, List, [], ◌∷◌, get_or, length, map, Option, None, Some, eq-eqb, inl, inr, ⊎_elim}
-use Rattle.std.specs.Prelude.{◌⊎◌, if◌then◌else◌, ◌&&◌, ◌||◌, not, slice_get, slice_index}
-use Rattle.std.specs.List.{find, fold, list_any, range_with_len}
+use Rattle.std.proofs.Common.{◌≡◌, ◌≢◌, ◌∙◌, ap, sym, refl, subst, arith, ℕ, zero, suc, ◌+◌, ◌/◌, ◌<◌, ◌==◌, Bool, true, false, cond, List, [], ◌∷◌, length, map, Option, None, Some, eq-eqb}
+use Rattle.std.specs.Prelude.{if◌then◌else◌, ◌&&◌, ◌||◌, slice_get, slice_index}
+use Rattle.std.specs.List.{find, list_any, range_with_len}
 use Rattle.std.specs.Option.{option_map, option_map_or, option_or}
 use Rattle.std.proofs.lemmas.Bool.{eqb-true}
-use Rattle.std.proofs.lemmas.List.{ext_get_or, length-map}
+use Rattle.std.proofs.lemmas.List.{length-map}
 use Rattle.std.proofs.lemmas.Option.{slice_get-map, slice_get_within}
 use Rattle.mt_cache.specs.declared.line.CacheLine.{CacheLine}
 use Rattle.mt_cache.specs.Lines.{is_dirty}
 use Rattle.mt_regs.specs.RegisterFile.{RegisterFile}
-use Rattle.mt_machine.specs.Memory.{IsMemory, Memory, Window, line_of, place, word_at, word_of}
+use Rattle.mt_machine.specs.Memory.{IsMemory, Window, line_of, place, word_at, word_of}
 use Rattle.mt_machine.specs.System.{Processor, System, dirty_word, dirty_word_in, now}
 use Rattle.mt_machine.specs.Bus.{drain}
 use Rattle.mt_machine.specs.Update.{addresses, emptied, settled_processor, updated}

@@ -1,5 +1,4 @@
-use Rattle.std.proofs.Common.{◌≡◌, ◌∙◌, ap, sym, subst, arith, get_or, length, take_all, List, Some}
-use Rattle.std.specs.Prelude.{slice_get}
+use Rattle.std.proofs.Common.{◌∙◌, ap, sym, arith, get_or, take_all, List}
 use Rattle.std.proofs.lemmas.Option.{slice_get-get_or}
 use Rattle.mt_machine.specs.System.{Processor}
 use Rattle.mt_private.specs.declared.gather.Room.{Room}

@@ -1,9 +1,9 @@
-use Rattle.std.proofs.Common.{◌≡◌, ◌∙◌, ap, sym, subst, arith, rules, ℕ, ◌++◌, List, [], ◌∷◌, length, length-append, Option, Some}
+use Rattle.std.proofs.Common.{◌≡◌, ◌∙◌, ap, sym, subst, arith, rules, ◌++◌, List, [], ◌∷◌, length, length-append, Option, Some}
 use Rattle.std.specs.List.{fold}
 use Rattle.std.proofs.lemmas.List.Sums.{fold-append}
 use Rattle.mt_machine.specs.Memory.{Memory}
 use Rattle.mt_machine.specs.System.{Processor, System}
-use Rattle.mt_private.specs.Left.{AreParts, IsPart, processors_in, with_words_of}
+use Rattle.mt_private.specs.Left.{AreParts, processors_in, with_words_of}
 use Rattle.mt_private.proofs.Left.{brought_length, front_parts, last_part, processors_more}
 use Rattle.mt_private.proofs.leaving.+bring_all.Goals as goal
 

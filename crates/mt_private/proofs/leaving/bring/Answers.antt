@@ -1,6 +1,5 @@
-use Rattle.std.proofs.Common.{◌≡◌, ◌∙◌, ap, sym, subst, ℕ, ◌++◌, List, [], ◌∷◌, length}
+use Rattle.std.proofs.Common.{◌∙◌, ap, sym, subst, ◌++◌, List, [], ◌∷◌, length}
 use Rattle.mt_types.specs.Tables.{TypeTable}
-use Rattle.mt_machine.specs.Memory.{Memory}
 use Rattle.mt_machine.specs.System.{Processor, System}
 use Rattle.mt_bus.specs.Tables.{AreTablesOf}
 use Rattle.mt_private.specs.Left.{over, word_by_word}

@@ -1,8 +1,7 @@
-use Rattle.std.proofs.Common.{◌≡◌, ◌∙◌, ap, sym, subst, arith, ℕ, length}
-use Rattle.mt_machine.specs.System.{IsSound, System}
+use Rattle.std.proofs.Common.{◌∙◌, sym, subst, ℕ}
+use Rattle.mt_machine.specs.System.{IsSound}
 use Rattle.mt_rendezvous.specs.Station.{start_of}
 use Rattle.mt_private.specs.Left.{AreBack, AreOwnsOf, Leaves}
-use Rattle.mt_private.specs.Residents.{system_of}
 use Rattle.mt_private.proofs.Left.{leaves, owns_of, parts_there, sound_there, system_is, unvisited}
 use Rattle.mt_private.proofs.leaving.leave.Goals as goal
 

@@ -2,8 +2,6 @@ use Rattle.std.proofs.Common.{◌≡◌, ◌∙◌, rules, subst, sym, None, Som
 use Rattle.std.specs.List.{All}
 use Rattle.mt_regs.specs.Faults.{IsAccepted, IsFirstFault}
 use Rattle.mt_private.specs.declared.job.Job.{Job}
-use Rattle.mt_private.specs.declared.job.Part.{Part}
-use Rattle.mt_private.specs.declared.job.Told.{Told}
 use Rattle.mt_private.specs.Jobs.{AreOpen, FitsJob}
 use Rattle.mt_private.proofs.Causes.{accepted, opens_of, private_where_none, refused, shared, unshared}
 use Rattle.mt_private.proofs.runs.run_private.Goals as goal

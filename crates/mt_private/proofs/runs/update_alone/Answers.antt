@@ -1,8 +1,8 @@
-use Rattle.std.proofs.Common.{◌≡◌, ◌∙◌, ap, sym, subst, true, false, Err, None, Some}
+use Rattle.std.proofs.Common.{◌≡◌, ◌∙◌, sym, subst, true, false, Err, None, Some}
 use Rattle.std.specs.Prelude.{IsSome}
 use Rattle.mt_regs.specs.Faults.{IsAccepted}
 use Rattle.mt_regs.proofs.First.{one_first_fault_lem}
-use Rattle.mt_machine.specs.Machine.{Calls, Machine, next}
+use Rattle.mt_machine.specs.Machine.{Calls, next}
 use Rattle.mt_core.specs.declared.fault.CallFault.{CallFault}
 use Rattle.mt_core.specs.declared.fault.CallFault.TheVariants.{Refused, UnderWay}
 use Rattle.mt_private.proofs.runs.update_alone.Goals as goal

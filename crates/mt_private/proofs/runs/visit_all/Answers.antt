@@ -1,6 +1,5 @@
-use Rattle.std.proofs.Common.{◌≡◌, ◌∙◌, ap, sym, subst, arith, ℕ, ◌<◌, ◌≤◌, Bool, true, false, List, length, map, replicate, Option, None, Some}
+use Rattle.std.proofs.Common.{◌≡◌, ◌∙◌, ap, sym, subst, arith, ℕ, ◌<◌, length, map, replicate, None}
 use Rattle.mt_regs.specs.RegisterFile.{RegisterFile}
-use Rattle.mt_machine.specs.System.{System}
 use Rattle.mt_machine.specs.Machine.{Calls, IsEnabled, Machine}
 use Rattle.mt_machine.specs.Start.{HasEraRoom, IsQuiet}
 use Rattle.mt_machine.specs.Update.{updated}
@@ -8,9 +7,9 @@ use Rattle.mt_core.specs.Rounds.{in_order}
 use Rattle.mt_rendezvous.specs.declared.view.Start.{Start}
 use Rattle.mt_rendezvous.specs.Station.{start_of}
 use Rattle.mt_rendezvous.specs.Update.{decided}
-use Rattle.mt_private.specs.declared.job.Part.TheVariants.{After, Before}
+use Rattle.mt_private.specs.declared.job.Part.TheVariants.{After}
 use Rattle.mt_private.specs.Gathered.{IsRest}
-use Rattle.mt_private.specs.Jobs.{answers_in, ops_in}
+use Rattle.mt_private.specs.Jobs.{ops_in}
 use Rattle.mt_private.specs.OneByOne.{at_rest, jobs_one_by_one, ran_each}
 use Rattle.mt_private.specs.Residents.{Opens}
 use Rattle.mt_private.proofs.Ended.{answers_after, answers_before, answers_stopped, callable_stopped, few_ended, left_given, left_stopped, many_ended, open_after, quiet_ended, quiet_stopped, room_stopped, some_stopped}

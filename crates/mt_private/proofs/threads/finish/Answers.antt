@@ -1,4 +1,4 @@
-use Rattle.std.proofs.Common.{◌≡◌, ◌∙◌, ap, sym, subst, arith, ℕ, ◌<◌, length, set, List, Option, Some}
+use Rattle.std.proofs.Common.{◌∙◌, ap, sym, subst, arith, ◌<◌, length, set, Some}
 use Rattle.mt_machine.specs.System.{System}
 use Rattle.mt_rendezvous.specs.declared.view.Start.{Start}
 use Rattle.mt_rendezvous.specs.Station.{start_of}

@@ -1,12 +1,11 @@
-use Rattle.std.proofs.Common.{◌≡◌, ◌∙◌, ap, sym, refl, arith, ℕ, zero, suc, ◌<◌, length, get_or, Option, None, Some, [], ◌∷◌}
+use Rattle.std.proofs.Common.{◌≡◌, ◌∙◌, ap, sym, refl, arith, ℕ, zero, suc, ◌<◌, length, Option, Some}
 use Rattle.std.specs.Prelude.{slice_get}
 use mathlib.Core.Option.{some, some-injective, some-ne-none}
 use lib.ListN.{get_elem?}
 use Rattle.mt_machine.specs.System.{System}
 use Rattle.mt_private.specs.declared.view.Resident.{Resident}
 use Rattle.mt_private.specs.Left.{AreAsGathered, AreOwnsOf}
-use Rattle.mt_private.specs.Own.{own_system}
-use Rattle.mt_private.specs.Residents.{own_of, pages_at, system_of}
+use Rattle.mt_private.specs.Residents.{own_of}
 use Rattle.mt_private.specs.WorkedLeft.{back_view, first_back, part}
 use Rattle.mt_private.specs.WorkedYard.{first_lodged, lodged, lodging}
 use Rattle.mt_private.specs.YardCalls.{Keeps}

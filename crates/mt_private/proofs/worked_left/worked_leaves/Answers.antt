@@ -1,4 +1,4 @@
-use Rattle.std.proofs.Common.{◌≡◌, ◌∙◌, ap, sym, refl, subst, arith, ℕ, zero, suc, true, false, length, map, List, Option, Some}
+use Rattle.std.proofs.Common.{◌≡◌, ◌∙◌, ap, sym, refl, subst, arith, zero, suc, true, false, length, map, List}
 use Rattle.std.proofs.lemmas.List.{length-map}
 use mathlib.Core.Option.{some, some-injective, some-ne-none}
 use lib.ListN.{get_elem?}
@@ -8,7 +8,7 @@ use Rattle.mt_rendezvous.specs.Station.{cpu_of}
 use Rattle.mt_private.specs.declared.view.Resident.{Resident}
 use Rattle.mt_private.specs.Residents.{held_of}
 use Rattle.mt_private.specs.WorkedLeft.{rest}
-use Rattle.mt_private.specs.WorkedYard.{both_lodged, first_lodged, host_view, lodged, lodging}
+use Rattle.mt_private.specs.WorkedYard.{both_lodged, first_lodged, lodging}
 use Rattle.mt_private.specs.YardRule.{AreAt}
 use Rattle.mt_private.proofs.Lodged.{second_lodged, yard_lodged}
 use Rattle.mt_private.proofs.worked_left.worked_leaves.Goals as goal

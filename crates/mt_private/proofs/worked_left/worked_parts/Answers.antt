@@ -1,4 +1,4 @@
-use Rattle.std.proofs.Common.{◌≡◌, ap, sym, refl, arith, ◌∙◌, length, Option, None, Some}
+use Rattle.std.proofs.Common.{◌≡◌, ap, sym, refl, arith, ◌∙◌, length, None, Some}
 use Rattle.mt_machine.specs.System.{System}
 use Rattle.mt_private.specs.Left.{IsPart}
 use Rattle.mt_private.specs.WorkedLeft.{part, rest}

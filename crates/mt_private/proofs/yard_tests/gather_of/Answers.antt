@@ -1,16 +1,9 @@
-use Rattle.std.proofs.Common.{◌≡◌, ap, refl, subst, sym, ◌<◌, ◌≤◌, ◌-◌, ◌^◌, length, Option, None, rules}
-use Rattle.std.specs.List.{All}
-use Rattle.mt_regs.specs.RegisterFile.{IsRegisterFile, RegisterFile}
+use Rattle.std.proofs.Common.{◌≡◌, ap, subst, sym, ◌-◌, None, rules}
 use Rattle.mt_regs.specs.Faults.{IsAccepted}
 use Rattle.mt_machine.specs.System.{System}
-use Rattle.mt_machine.specs.Machine.{FitsGoal, Machine, Order}
-use Rattle.mt_machine.specs.Start.{HasEraRoom, IsQuiet}
-use Rattle.mt_core.specs.Arises.{IsCore}
-use Rattle.mt_core.proofs.Arising.{era_room}
-use Rattle.mt_core.proofs.Settling.{is_quiet_without_order}
+use Rattle.mt_machine.specs.Machine.{Machine}
 use Rattle.mt_rendezvous.specs.declared.view.Start.{Start}
 use Rattle.mt_rendezvous.specs.Calls.{gathered}
-use Rattle.mt_private.specs.Pages.{IsPrivate}
 use Rattle.mt_private.specs.Residents.{Opens}
 use Rattle.mt_private.proofs.Causes.{opens_of, private_where_none}
 use Rattle.mt_private.proofs.yard_tests.gather_of.Goals as goal

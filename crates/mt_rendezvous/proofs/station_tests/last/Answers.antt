@@ -1,4 +1,4 @@
-use Rattle.std.proofs.Common.{◌≡◌, ◌∙◌, ap, refl, ℕ, List, [], ◌∷◌, ◌++◌, length, Option, None, Some, rules}
+use Rattle.std.proofs.Common.{◌≡◌, ◌∙◌, ap, refl, ℕ, List, ◌++◌, length, Option, None, Some, rules}
 use Rattle.std.specs.Prelude.{IfSome, option_to_list}
 use mathlib.Core.Option.{some}
 use lib.ListN.{get_elem?}
