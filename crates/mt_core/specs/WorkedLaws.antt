@@ -3,7 +3,7 @@ use Rattle.std.specs.Prelude.{false, true, List, [], ◌∷◌, ◌++◌, drop, 
 use Rattle.mt_machine.specs.declared.control.Control.TheVariants.{Pge}
 use Rattle.mt_machine.specs.declared.event.Event.TheVariants.{Arrive, Pass, Release, SetNoFill, Take, WriteBack}
 use Rattle.mt_machine.specs.declared.op.Op.TheVariants.{Fence}
-use Rattle.mt_machine.specs.Machine.{Accesses, Calls, Controls, Goes, Machine, MachineEvent, Steps, next, run}
+use Rattle.mt_machine.specs.Machine.{Accesses, Calls, Cancels, Controls, Goes, Machine, MachineEvent, Steps, next, run}
 use Rattle.mt_machine.specs.System.{Processor, start_processor}
 use Rattle.mt_machine.specs.WorkedRuns.{bare_file, calling, entry, line_of, load, machine_of, mapping, store}
 use Rattle.mt_machine.specs.WorkedSetups.{second_word}
@@ -27,6 +27,13 @@ second_of_unlike = record (start_processor (bare_file 0x800)) {
 abbrev pub two_unlike : Machine
 two_unlike = machine_of (first_of_unlike ∷ second_of_unlike ∷ [])
 
+-- their update is called, the second has taken, and it is cancelled
+abbrev pub unlike_called : Machine
+unlike_called = run two_unlike (Calls (bare_file 0x806) ∷ Steps 1 Take ∷ [])
+
+abbrev pub unlike_cancelled : Machine
+unlike_cancelled = next unlike_called Cancels
+
 -- the go of their update is given, and both have arrived
 abbrev pub unlike_given : Machine
 unlike_given = run two_unlike (Calls (bare_file 0x806) ∷ Goes ∷ [])
@@ -41,6 +48,10 @@ behind_pass = map (Steps 1) way_of_snooper ++ map (Steps 0) (Pass ∷ SetNoFill 
 abbrev pub unlike_passed : Machine
 unlike_passed = run unlike_arrived (Steps 1 Pass ∷ behind_pass)
 
+-- the first has written its words back
+abbrev pub unlike_written : Machine
+unlike_written = run unlike_arrived (Steps 1 Pass ∷ map (Steps 1) way_of_snooper ++ map (Steps 0) (Pass ∷ SetNoFill ∷ WriteBack 0x100048 6 ∷ WriteBack 0x100050 7 ∷ []))
+
 -- the second releases
 abbrev pub unlike_released : Machine
 unlike_released = next unlike_passed (Steps 1 Release)
@@ -48,6 +59,9 @@ unlike_released = next unlike_passed (Steps 1 Release)
 -- from there on, up to the next call
 abbrev pub behind_release : List MachineEvent
 behind_release = load 1 0x1008 ∷ Steps 0 Release ∷ Controls 0 (Pge true) ∷ []
+
+abbrev pub stored_behind_release : List MachineEvent
+stored_behind_release = store 1 0x1008 9 ∷ Accesses 1 Fence ∷ []
 
 -- the next call behind an update, and a store before the take
 abbrev pub called_again : List MachineEvent

@@ -136,6 +136,7 @@ pub fn worked_since()
     ensures dirty { IsHeldSince (run palette (store 0 0x1000 7 ∷ [])) [] 0x100000 }
     ensures emptied_since { IsHeldSince (run palette (store 0 0x3000 7 ∷ [])) (Accesses 0 Fence ∷ []) 0x100000 → ⊥ }
     ensures second_word { IsHeldSince (run palette (store 0 0x3008 7 ∷ [])) (Accesses 0 Fence ∷ []) 0x100008 → ⊥ }
+    ensures other_word_stored { IsHeldSince (run palette (store 0 0x3000 7 ∷ [])) (store 0 0x4008 1 ∷ []) 0x100000 → ⊥ }
     ensures stored_since { IsHeldSince palette (store 0 0x4000 7 ∷ []) 0x100000 }
     ensures keeps { KeepsWord (with_first_word 7 palette).system (run palette (store 1 0x1000 7 ∷ [])).system 0x100000 }
     ensures changes { KeepsWord palette.system (with_first_word 7 palette).system 0x100000 → ⊥ }

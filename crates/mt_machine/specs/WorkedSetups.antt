@@ -165,6 +165,16 @@ no_filler = record whole {
   self_snoop = true;
 }
 
+-- it remembers PGE, and what it holds is of a later era than its own; no word of its buffer is written, and its entry isn't of its mapping's page
+abbrev pub odd : Processor
+odd = record no_filler {
+  remembered_global = true;
+  lines = line_of 0x4001 9 ∷ [];
+  buffers = record (clean_copy 0x4000) { era = 9 } ∷ [];
+  entries = record (entry 1 true) { ppage = 0x200; era = 9 } ∷ [];
+  era = 3;
+}
+
 -- it waits at the second barrier
 abbrev pub late : Processor
 late = record (marked false) { phase = Arrived2 }

@@ -1,8 +1,8 @@
-ghost use Rattle.std.specs.Prelude.{◌≡◌, ◌∷◌, [], false, map, take, true};
+ghost use Rattle.std.specs.Prelude.{◌≡◌, ◌∷◌, [], Some, false, map, take, true};
 ghost use Rattle.mt_regs.specs.RegisterFile.{blank_file};
 ghost use Rattle.mt_machine.specs.declared.phase.Phase.TheVariants.{Running};
 ghost use Rattle.mt_machine.specs.ComingAndGoing.{newcomer, reset, with_newcomer, without_last};
-ghost use Rattle.mt_machine.specs.WorkedRuns.{alone, cached, copier, idle, line_of, machine_of, memory_at, mixed, mixed_dirty, own, pending, reports, wide_one, with_first_word};
+ghost use Rattle.mt_machine.specs.WorkedRuns.{alone, bare, bare_file, begun, cached, call_order, copier, idle, line_of, machine_of, memory_at, mixed, mixed_dirty, own, pending, reports, wide_one, with_first_word};
 ghost use Rattle.mt_machine.specs.WorkedSetups.{liner, second_word, three_eras};
 
 /// A processor as it comes up beside one that has other registers, PGE, an era and a cached line, and is self-snooping.
@@ -26,6 +26,7 @@ pub fn worked_coming()
     ensures behind { (with_newcomer mixed_dirty).system.processors ≡ own mixed_dirty 0 ∷ own mixed_dirty 1 ∷ newcomer 36 0x400 0 ∷ [] }
     ensures memory { (with_newcomer mixed_dirty).system.memory ≡ mixed_dirty.system.memory }
     ensures order { (with_newcomer mixed_dirty).order ≡ mixed_dirty.order }
+    ensures order_under_way { (with_newcomer (begun (bare_file 0x806) bare)).order ≡ Some call_order }
     ensures twice { map (λ p. p.era) (reset (reset (alone wide_one).system)).processors ≡ 3 ∷ 3 ∷ 3 ∷ [] }
     ensures beside_none { with_newcomer (machine_of []) ≡ machine_of [] }
     ensures and_gone { without_last (with_newcomer mixed) ≡ mixed }
@@ -34,6 +35,7 @@ pub fn worked_coming()
 /// A processor goes: its buffers are emptied as on the bus, and then its dirty words are written.
 pub fn worked_going()
     ensures last { reports (without_last three_eras) ≡ take 2 (reports three_eras) }
+    ensures order_under_way { (without_last (begun (bare_file 0x806) bare)).order ≡ Some call_order }
     ensures only_one { (without_last (alone idle)).system.processors ≡ [] }
     ensures dirty_word { memory_at (without_last (machine_of (idle ∷ liner ∷ []))) 0x100008 ≡ 6 }
     ensures next_dirty_word { memory_at (without_last (machine_of (idle ∷ liner ∷ []))) 0x100010 ≡ 7 }

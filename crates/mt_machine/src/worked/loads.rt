@@ -36,6 +36,9 @@ pub fn worked_loads()
     ensures wb_fills { cached (run palette (load 0 0x1000 ∷ [])) 0 ≡ (0x4000, 0) ∷ [] }
     ensures wb_reads_the_bus { memory_at (run palette (store 1 0x1008 9 ∷ load 0 0x1000 ∷ [])) 0x100008 ≡ 9 }
     ensures wb_reads_a_third_cache { memory_at (run (machine_of (painter ∷ painter ∷ painter ∷ [])) (store 2 0x1008 9 ∷ load 0 0x1000 ∷ [])) 0x100008 ≡ 9 }
+    ensures wc_leaves_copies { cached (run palette (store 1 0x1008 9 ∷ load 0 0x3000 ∷ [])) 1 ≡ (0x4000, 0) ∷ [] }
+    ensures wt_leaves_copies { cached (run palette (store 1 0x1008 9 ∷ load 0 0x2000 ∷ [])) 1 ≡ (0x4000, 0) ∷ [] }
+    ensures wp_leaves_copies { cached (run palette (store 1 0x1008 9 ∷ load 0 0x5000 ∷ [])) 1 ≡ (0x4000, 0) ∷ [] }
     ensures wb_leaves_copies { cached (run palette (store 1 0x1008 9 ∷ load 0 0x1000 ∷ [])) 1 ≡ (0x4000, 0) ∷ [] }
     ensures hit_reads_the_cache { answer_of (run palette (store 0 0x1000 5 ∷ [])) 0 (Load 0x2000) ≡ Value 5 WT }
     ensures hit_word { answer_of (alone (holder false)) 0 (Load 0x1010) ≡ Value 7 WB }
@@ -45,12 +48,20 @@ pub fn worked_loads()
     ensures miss_leaves_other_lines { cached (run palette (store 1 0x1000 9 ∷ store 1 0x1040 8 ∷ load 0 0x1000 ∷ [])) 1 ≡ (0x4000, 0) ∷ (0x4001, 1) ∷ [] }
     ensures other_lines_not_in_memory { memory_at (run palette (store 1 0x1000 9 ∷ store 1 0x1040 8 ∷ load 0 0x1000 ∷ [])) 0x100040 ≡ 0 }
     ensures hit_writes_nothing { memory_at (run palette (store 0 0x1000 5 ∷ load 0 0x1000 ∷ [])) 0x100000 ≡ 0 }
+    ensures wt_hit_writes_nothing { memory_at (run palette (store 0 0x1000 5 ∷ load 0 0x2000 ∷ [])) 0x100000 ≡ 0 }
+    ensures wp_hit_writes_nothing { memory_at (run palette (store 0 0x1000 5 ∷ load 0 0x5000 ∷ [])) 0x100000 ≡ 0 }
+    ensures wt_hit_stays_dirty { cached (run palette (store 0 0x1000 5 ∷ load 0 0x2000 ∷ [])) 0 ≡ (0x4000, 1) ∷ [] }
+    ensures wp_hit_stays_dirty { cached (run palette (store 0 0x1000 5 ∷ load 0 0x5000 ∷ [])) 0 ≡ (0x4000, 1) ∷ [] }
+    ensures wt_hit_keeps_the_order { cached (run palette (load 0 0x1000 ∷ load 0 0x1040 ∷ load 0 0x2000 ∷ [])) 0 ≡ (0x4000, 0) ∷ (0x4001, 0) ∷ [] }
+    ensures wp_hit_keeps_the_order { cached (run palette (load 0 0x1000 ∷ load 0 0x1040 ∷ load 0 0x5000 ∷ [])) 0 ≡ (0x4000, 0) ∷ (0x4001, 0) ∷ [] }
     ensures no_fill { cached (run palette (no_fill 0 ∷ load 0 0x1000 ∷ [])) 0 ≡ [] }
     ensures no_fill_wt { cached (run palette (no_fill 0 ∷ load 0 0x2000 ∷ [])) 0 ≡ [] }
     ensures no_fill_wp { cached (run palette (no_fill 0 ∷ load 0 0x5000 ∷ [])) 0 ≡ [] }
     ensures no_fill_hit_wt { answer_of (run palette (store 0 0x1000 5 ∷ no_fill 0 ∷ [])) 0 (Load 0x2000) ≡ Value 5 WT }
     ensures no_fill_hit_wp { answer_of (run palette (store 0 0x1000 5 ∷ no_fill 0 ∷ [])) 0 (Load 0x5000) ≡ Value 5 WP }
     ensures no_fill_hit { answer_of (run palette (store 0 0x1000 5 ∷ no_fill 0 ∷ [])) 0 (Load 0x1000) ≡ Value 5 WB }
+    ensures no_fill_hit_wt_stays { cached (run palette (store 0 0x1000 5 ∷ no_fill 0 ∷ load 0 0x2000 ∷ [])) 0 ≡ (0x4000, 1) ∷ [] }
+    ensures no_fill_hit_wp_stays { cached (run palette (store 0 0x1000 5 ∷ no_fill 0 ∷ load 0 0x5000 ∷ [])) 0 ≡ (0x4000, 1) ∷ [] }
     ensures no_fill_hit_stays { cached (run palette (store 0 0x1000 5 ∷ no_fill 0 ∷ load 0 0x1000 ∷ [])) 0 ≡ (0x4000, 1) ∷ [] }
     ensures era { (own (run (alone (record (holder true) { era = 3; lines = [] })) (load 0 0x1000 ∷ [])) 0).lines ≡
         record { number = 0x4000; words = 0 ∷ 0 ∷ 0 ∷ 0 ∷ 0 ∷ 0 ∷ 0 ∷ 0 ∷ []; dirty = 0; era = 3 } ∷ [] }

@@ -1,9 +1,10 @@
-ghost use Rattle.std.specs.Prelude.{◌≡◌, ◌∷◌, [], ◌++◌, Some, false, replicate, true};
+ghost use Rattle.std.specs.Prelude.{◌≡◌, ◌∷◌, [], ◌++◌, None, Some, false, replicate, true};
+ghost use Rattle.mt_machine.specs.declared.phase.Phase.{Phase};
 ghost use Rattle.mt_machine.specs.declared.phase.Phase.TheVariants.{Enabled, Flushed, Flushed2, Normal, Restored, TlbFlushed, TlbFlushed2, Writing};
 ghost use Rattle.mt_machine.specs.Memory.{IsMemory};
-ghost use Rattle.mt_machine.specs.System.{IsCoherent, IsProcessor, IsSound, is_tlb_flushed};
+ghost use Rattle.mt_machine.specs.System.{IsCoherent, IsProcessor, IsSound, is_tlb_flushed, is_writing};
 ghost use Rattle.mt_machine.specs.WorkedRuns.{alone, bare_file, copier, dirty_lines, entries_from, entry, idle, line_of, machine_of, mapping, mappings_from, one_window, whole, with_first_word, with_word};
-ghost use Rattle.mt_machine.specs.WorkedSetups.{liner, two_liner, with_copies};
+ghost use Rattle.mt_machine.specs.WorkedSetups.{liner, odd, two_liner, with_copies};
 
 /// A memory, and what is none for one thing.
 pub fn worked_memory()
@@ -51,9 +52,11 @@ pub fn worked_sound()
 /// What a processor keeps, and what is none for one thing.
 pub fn worked_processors()
     ensures processor { IsProcessor whole }
+    ensures whatever_else_it_has { IsProcessor odd }
     ensures no_file { IsProcessor (record whole { file = record (bare_file 0x800) { width = 53 } }) → ⊥ }
     ensures not_accepted { IsProcessor (record whole { file = bare_file 0x802 }) → ⊥ }
     ensures not_accepted_while_written { IsProcessor (record idle { file = bare_file 0x802; phase = Writing 0 }) }
+    ensures not_accepted_but_while_written { (phase : Phase) → is_writing phase ≡ None → IsProcessor (record idle { file = bare_file 0x802; phase = phase }) → ⊥ }
     ensures past_the_registers { IsProcessor (record idle { phase = Writing 2 }) → ⊥ }
     ensures index { IsProcessor (record whole { mappings = mapping 1 0x100 8 ∷ [] }) → ⊥ }
     ensures mapped_page { IsProcessor (record whole { mappings = mapping 1 0x1000000 0 ∷ [] }) → ⊥ }

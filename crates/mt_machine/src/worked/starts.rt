@@ -7,13 +7,14 @@ ghost use Rattle.mt_machine.specs.declared.phase.Phase.TheVariants.{Arrived, Res
 ghost use Rattle.mt_machine.specs.Start.{HasEraRoom, IsBroadcast, IsQuiet, start_machine, start_with};
 ghost use Rattle.mt_machine.specs.System.{start_processor};
 ghost use Rattle.mt_machine.specs.WorkedRuns.{alone, bare, bare_file, begun, call_order, calling, idle, line_of, machine_of, one_window, ready, two_windows, whole, with_first_word};
-ghost use Rattle.mt_machine.specs.WorkedSetups.{no_filler, order_for};
+ghost use Rattle.mt_machine.specs.WorkedSetups.{no_filler, odd, order_for};
 
 /// What is quiet, and what is not for one thing.
 pub fn worked_quiet()
     ensures quiet { IsQuiet (machine_of (idle ∷ idle ∷ [])) }
     ensures quiet_of_a_later_era { IsQuiet (machine_of (record idle { era = 3 } ∷ record idle { era = 3 } ∷ [])) }
     ensures whatever_is_held { IsQuiet (alone no_filler) }
+    ensures whatever_else_it_has { IsQuiet (alone odd) }
     ensures unsound { IsQuiet (with_first_word 9 (alone whole)) → ⊥ }
     ensures not_running { IsQuiet (machine_of (idle ∷ record idle { phase = Restored } ∷ [])) → ⊥ }
     ensures two_eras { IsQuiet (machine_of (idle ∷ record idle { era = 1 } ∷ [])) → ⊥ }
@@ -29,6 +30,7 @@ pub fn worked_broadcast()
     ensures broadcast { IsBroadcast (calling call_order (ready ∷ ready ∷ [])) call_order }
     ensures of_a_later_era { IsBroadcast (calling (record call_order { from_era = 3 }) (record ready { era = 3 } ∷ [])) (record call_order { from_era = 3 }) }
     ensures whatever_else_is_held { IsBroadcast (calling call_order (record no_filler { phase = Taken; buffers = [] } ∷ [])) call_order }
+    ensures of_one_that_remembers { IsBroadcast (calling (record call_order { from_era = 3 }) (record odd { phase = Taken; buffers = [] } ∷ [])) (record call_order { from_era = 3 }) }
     ensures unsound { IsBroadcast (with_first_word 9 (calling call_order (record whole { phase = Taken; buffers = [] } ∷ []))) call_order → ⊥ }
     ensures other_order { IsBroadcast (calling call_order (ready ∷ [])) (order_for (bare_file 0x800)) → ⊥ }
     ensures no_order { IsBroadcast (alone ready) call_order → ⊥ }

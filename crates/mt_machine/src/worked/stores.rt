@@ -17,6 +17,9 @@ pub fn worked_stores()
     ensures wt_value { memory_at (run palette (load 0 0x1000 ∷ load 1 0x1000 ∷ store 0 0x2000 4 ∷ [])) 0x100000 ≡ 4 }
     ensures wt_keeps_its_line_clean { cached (run palette (load 0 0x1000 ∷ load 1 0x1000 ∷ store 0 0x2000 4 ∷ [])) 0 ≡ (0x4000, 0) ∷ [] }
     ensures wt_cleans_a_dirty_line { cached (run palette (store 0 0x1000 9 ∷ store 0 0x2000 4 ∷ [])) 0 ≡ (0x4000, 0) ∷ [] }
+    ensures wt_writes_back_its_own { memory_at (run palette (store 0 0x1008 9 ∷ store 0 0x2000 4 ∷ [])) 0x100008 ≡ 9 }
+    ensures wt_cleans_its_other_words { cached (run palette (store 0 0x1008 9 ∷ store 0 0x2000 4 ∷ [])) 0 ≡ (0x4000, 0) ∷ [] }
+    ensures wt_hit_keeps_the_order { cached (run palette (load 0 0x1000 ∷ load 0 0x1040 ∷ store 0 0x2000 4 ∷ [])) 0 ≡ (0x4000, 0) ∷ (0x4001, 0) ∷ [] }
     ensures wt_invalidates_the_others { cached (run palette (load 0 0x1000 ∷ load 1 0x1000 ∷ store 0 0x2000 4 ∷ [])) 1 ≡ [] }
     ensures wt_reads_the_bus { memory_at (run palette (store 1 0x1008 9 ∷ store 0 0x2000 4 ∷ [])) 0x100008 ≡ 9 }
     ensures wt_hit_has_the_word { answer_of (run palette (load 0 0x1000 ∷ store 0 0x2000 4 ∷ [])) 0 (Load 0x1000) ≡ Value 4 WB }

@@ -1,4 +1,4 @@
-use Rattle.std.proofs.Common.{◌≡◌, ◌<◌, ap, arith, refl, false, ℕ, []}
+use Rattle.std.proofs.Common.{◌≡◌, ◌<◌, ap, arith, refl, false, ℕ, zero, suc, ◌∷◌, []}
 use Rattle.std.specs.List.{Contains}
 use Rattle.mt_regs.specs.RegisterFile.{RegisterFile}
 use Rattle.mt_machine.specs.WorkedRuns.{entry, idle, line_of}
@@ -6,6 +6,10 @@ use Rattle.mt_core.proofs.worked.worked_since.Goals as goal
 
 none : (a : ℕ) → Contains [] a → ⊥
 none a (k, within, is) = omega (arith, within)
+
+one : (a b : ℕ) → (a ≡ b → ⊥) → Contains (b ∷ []) a → ⊥
+one a b differ (zero, within, is) = differ (omega (arith, is))
+one a b differ (suc k, within, is) = omega (arith, within)
 
 pub returns-clause-other_era : goal.returns-clause-other_era
 returns-clause-other_era c = λ h. omega (arith, (h 0 idle (omega arith)).lines 0 (line_of 0 0) (omega arith))
@@ -30,6 +34,9 @@ returns-clause-emptied_since c = λ h. omega (arith, h refl (none 0x100000))
 
 pub returns-clause-second_word : goal.returns-clause-second_word
 returns-clause-second_word c = λ h. omega (arith, h refl (none 0x100008))
+
+pub returns-clause-other_word_stored : goal.returns-clause-other_word_stored
+returns-clause-other_word_stored c = λ h. omega (arith, h refl (one 0x100000 0x100008 (omega arith)))
 
 pub returns-clause-stored_since : goal.returns-clause-stored_since
 returns-clause-stored_since c = λ aligned other. let within : 0 < 1 = omega arith in absurd (other (0, within, refl))

@@ -2,6 +2,9 @@ use Rattle.std.proofs.Common.{arith, refl, false}
 use Rattle.mt_machine.specs.WorkedRuns.{entry, line_of, mapping}
 use Rattle.mt_machine.proofs.worked.sound.worked_processors.Goals as goal
 
+pub returns-clause-not_accepted_but_while_written : goal.returns-clause-not_accepted_but_while_written
+returns-clause-not_accepted_but_while_written c = λ phase other h. absurd (cc (h.accepted other))
+
 pub returns-clause-index : goal.returns-clause-index
 returns-clause-index c = λ h. omega (arith, h.indexes 0 (mapping 0 0 0) (omega arith))
 
