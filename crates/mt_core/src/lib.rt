@@ -17,6 +17,8 @@ mod tests;
 mod worked;
 mod worked_coming;
 mod worked_laws;
+mod worked_relations;
+mod worked_statements;
 
 pub use core_type::Core;
 pub use fault::CallFault;
@@ -33,3 +35,5 @@ pub use worked::{
 };
 pub use worked_coming::worked_coming_and_going;
 pub use worked_laws::{worked_laws_of_steps, worked_laws_of_two, worked_laws_of_whole_updates};
+pub use worked_relations::{worked_any_core, worked_any_rise, worked_any_update};
+pub use worked_statements::{worked_laws_in_full, worked_laws_in_full_of_turns};

@@ -9,10 +9,12 @@ mod joining;
 mod kept;
 mod laws;
 mod moving;
+mod parts;
 mod points;
 mod promises;
 mod relations;
 mod runs;
+mod statements;
 mod states;
 mod steps;
 mod summaries;
@@ -57,6 +59,10 @@ pub use moving::{
     worked_absent, worked_admitted_states, worked_early_texts, worked_flat_moves, worked_moved,
     worked_moves, worked_newcomer_lines, worked_newcomers, worked_without_newcomer,
 };
+pub use parts::{
+    worked_any_complete_update, worked_any_join, worked_any_kept, worked_any_newcomer,
+    worked_any_rest, worked_any_state,
+};
 pub use points::worked_points;
 pub use promises::{
     worked_laws_of_beginnings, worked_laws_of_calls, worked_laws_of_dumps, worked_laws_of_states,
@@ -68,6 +74,9 @@ pub use relations::{
 };
 pub use runs::{
     worked_carried_out, worked_ends_of_runs, worked_paths, worked_points_of_heads, worked_writes,
+};
+pub use statements::{
+    worked_laws_in_full, worked_laws_in_full_of_states, worked_laws_in_full_of_statuses,
 };
 pub use states::{
     worked_dumps, worked_each_state, worked_heads, worked_kept, worked_sections,

@@ -24,6 +24,7 @@ pub fn worked_enabled()
     ensures busy_control { IsEnabled (walk 1 0 (called palette)) (Controls 0 Cr3) → ⊥ }
     ensures last_page { IsEnabled palette (maps 1 (mapping 0xfffffffff 0xffffff 7)) }
     ensures last_byte { IsEnabled palette (Controls 1 (Invlpg 0xffffffffffff)) }
+    ensures past_the_last_byte { IsEnabled palette (Controls 1 (Invlpg 0x1000000000000)) }
     ensures past_the_last_page { IsEnabled palette (maps 0 (mapping 0x1000000000 0x100 0)) → ⊥ }
     ensures past_the_memory { IsEnabled palette (maps 0 (mapping 6 0x1000000 0)) → ⊥ }
     ensures past_the_entries { IsEnabled palette (maps 0 (mapping 6 0x100 8)) → ⊥ }

@@ -1,5 +1,5 @@
 // What relations say of any state, step and text, by their parts.
-ghost use Rattle.std.specs.Prelude.{◌≡◌, ◌∷◌, ◌++◌, ◌+◌, ◌%◌, ◌≤◌, ◌⊎◌, [], ℕ, IsSome, List, false};
+ghost use Rattle.std.specs.Prelude.{◌≡◌, ◌∷◌, ◌++◌, ◌+◌, ◌%◌, ◌≤◌, ◌⊎◌, [], ℕ, IsSome, List, Ok, false};
 ghost use Rattle.std.specs.List.{All, Contains};
 ghost use Rattle.std.specs.Option.{option_map_or};
 ghost use Rattle.mt_kinds.specs.declared.mem_type.MemType.{MemType};
@@ -7,15 +7,17 @@ ghost use Rattle.mt_text.specs.Text.{end_of, lines_of};
 ghost use Rattle.mt_machine.specs.declared.done.Done.TheVariants.{Value};
 ghost use Rattle.mt_machine.specs.declared.op.Op.TheVariants as op;
 ghost use Rattle.mt_machine.specs.Access.{access};
-ghost use Rattle.mt_machine.specs.Machine.{Machine, common_era};
+ghost use Rattle.mt_machine.specs.Machine.{Machine, Steps, common_era, due_at};
 ghost use Rattle.mt_machine.specs.Memory.{word_at};
 ghost use Rattle.mt_machine.specs.Update.{physical_of};
 ghost use Rattle.mt_flat.specs.Flat.{Flat, flat_answer, flat_start};
+ghost use Rattle.mt_flat.specs.Seen.{flat_after};
 ghost use Rattle.mt_script.specs.Situation.{at_start};
 ghost use Rattle.mt_script.specs.declared.command.Command.{Command};
 ghost use Rattle.mt_script.specs.declared.command.Command.TheVariants as asks;
 ghost use Rattle.mt_script.specs.Accept.{Fits};
-ghost use Rattle.mt_replay.specs.Flat.{flat_done, flat_text, flat_told_in, flat_transcript};
+ghost use Rattle.mt_stream.specs.Told.{Told, behind};
+ghost use Rattle.mt_replay.specs.Flat.{flat_command, flat_done, flat_text, flat_told_command, flat_told_in, flat_transcript};
 ghost use Rattle.mt_replay.specs.Headline.{IsCall, NoneOf, NoneWrote, SectionOf, Step, UpdateOf, goal_of, left, pass_line, release_line, wrote};
 ghost use Rattle.mt_replay.specs.Kept.{HasEras};
 ghost use Rattle.mt_replay.specs.Movers.{Stays};
@@ -75,4 +77,10 @@ pub fn worked_parts_of_the_flat_transcript()
         → flat_text s f (asks.Load k address) ≡ done_line (flat_done s.machine f k address (access s.machine.system k (op.Load address)).answer) }
     ensures value { (s : ReplayState) (f : Flat) (k address value : ℕ) (kind : MemType)
         → flat_done s.machine f k address (Value value kind) ≡ Value (option_map_or (λ word. flat_answer f k kind word) (physical_of s.machine.system k address) 0) kind }
+    ensures step { (s : ReplayState) (f : Flat) (k : ℕ) → is_absent s.machine (asks.Step k) ≡ false
+        → flat_command s (asks.Step k) f ≡ option_map_or (λ e. flat_after s.machine (Steps k e) f) (due_at s.machine k) f }
+    ensures go { (s : ReplayState) (f : Flat) → flat_command s asks.Go f ≡ f }
+    ensures cancel { (s : ReplayState) (f : Flat) → flat_command s asks.Cancel f ≡ f }
+    ensures told { (s : ReplayState) (f : Flat) (rest : ReplayState → Flat → Told) (c : Command)
+        → flat_told_command s f rest (Ok c) ≡ behind (flat_text s f c) (rest (state_after s c) (flat_command s c f)) }
 {}
