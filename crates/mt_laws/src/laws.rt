@@ -14,7 +14,7 @@ pub use kept::{
     accesses_keep_sound, events_keep, flags_stay, lines_are_low, orders_hold, stays_coherent,
     stays_sound, steps_keep_now, write_backs_have_places,
 };
-pub use runs::{led_is_reached, reached_is_run};
+pub use runs::{led_is_reached, led_is_run, reached_is_run};
 pub use settled::{
     held_after_release, no_buffers_at_pass, nothing_is_stale, settled_after_each_release,
 };

@@ -10,6 +10,8 @@ mod worked_coming;
 mod worked_ends;
 mod worked_others;
 mod worked_reached;
+mod worked_relations;
+mod worked_statements;
 mod worked_systems;
 mod worked_two;
 mod worked_unlike;
@@ -19,11 +21,11 @@ pub use laws::{
     accesses_keep_sound, barriers_count, barriers_hold, broadcast_update, cancelled_broadcast,
     cancelled_update, comers_and_goers_stay_fresh, count_of_steps, eras_fit, events_keep,
     flagged_start_is_quiet, flags_stay, goers_keep_words, goers_stay_quiet, held_after_release,
-    led_cancelled, led_ends, led_is_reached, led_released, led_to_second_barrier, led_update,
-    lines_are_low, newcomers_stay_quiet, no_buffers_at_pass, nothing_is_stale, orders_hold,
-    reached_is_quiet, reached_is_run, settled_after_each_release, snooping_stays_quiet,
-    start_is_quiet, stays_coherent, stays_sound, steps_keep_now, takes_broadcast, updated_is_quiet,
-    updated_words, whole_update, write_backs_have_places,
+    led_cancelled, led_ends, led_is_reached, led_is_run, led_released, led_to_second_barrier,
+    led_update, lines_are_low, newcomers_stay_quiet, no_buffers_at_pass, nothing_is_stale,
+    orders_hold, reached_is_quiet, reached_is_run, settled_after_each_release,
+    snooping_stays_quiet, start_is_quiet, stays_coherent, stays_sound, steps_keep_now,
+    takes_broadcast, updated_is_quiet, updated_words, whole_update, write_backs_have_places,
 };
 pub use worked::{
     worked_barriers, worked_counts, worked_eras, worked_first_release, worked_fresh,
@@ -34,6 +36,16 @@ pub use worked_ends::{worked_cancelled_updates, worked_kept_by_steps, worked_who
 pub use worked_others::{worked_other_parts, worked_second_processors};
 pub use worked_reached::{
     worked_laws_of_ends, worked_laws_of_reached_states, worked_laws_of_releases,
+};
+pub use worked_relations::{
+    worked_any_counts, worked_any_eras, worked_any_first_release, worked_any_fresh,
+    worked_any_holdings, worked_any_order, worked_any_settled_processor, worked_parts_of_barriers,
+};
+pub use worked_statements::{
+    worked_laws_in_full_of_barriers, worked_laws_in_full_of_comers_and_goers,
+    worked_laws_in_full_of_counts, worked_laws_in_full_of_releases, worked_laws_in_full_of_runs,
+    worked_laws_in_full_of_sound_systems, worked_laws_in_full_of_starts,
+    worked_laws_in_full_of_steps, worked_laws_in_full_of_updates,
 };
 pub use worked_systems::{
     worked_laws_of_barriers, worked_laws_of_comers_and_goers, worked_laws_of_flags,

@@ -1,4 +1,4 @@
-ghost use Rattle.mt_laws.specs.Runs.{LedIsReached, ReachedIsRun};
+ghost use Rattle.mt_laws.specs.Runs.{LedIsReached, LedIsRun, ReachedIsRun};
 
 /// A reached state is the state after a list of enabled events, and the other way round.
 pub fn reached_is_run()
@@ -8,4 +8,9 @@ pub fn reached_is_run()
 /// What go, cancel and steps alone lead to, is reached.
 pub fn led_is_reached()
     ensures { LedIsReached }
+{}
+
+/// It is the state after a list of enabled events that are go, cancel and steps, and the other way round.
+pub fn led_is_run()
+    ensures { LedIsRun }
 {}
