@@ -7,6 +7,7 @@
 mod laws;
 mod worked;
 mod worked_coming;
+pub mod worked_definitions;
 mod worked_ends;
 mod worked_others;
 mod worked_reached;

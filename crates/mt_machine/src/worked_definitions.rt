@@ -15,7 +15,7 @@ ghost use Rattle.mt_machine.specs.declared.control.Control.{Control};
 ghost use Rattle.mt_machine.specs.declared.control.Control.TheVariants.{Cd, Cr3, Invlpg, Map, Pge};
 ghost use Rattle.mt_machine.specs.declared.done.Done.TheVariants.{Busy, Fenced, NoRam, Stored, Unmapped, Value};
 ghost use Rattle.mt_machine.specs.declared.event.Event.{Event};
-ghost use Rattle.mt_machine.specs.declared.event.Event.TheVariants.{Release, Take};
+ghost use Rattle.mt_machine.specs.declared.event.Event.TheVariants.{Arrive, ArriveAgain, Disable, DropLines, Enable, FlushTlb, Leave, Pass, Release, RestorePge, SetNoFill, SetNormal, Take, Write, WriteBack};
 ghost use Rattle.mt_machine.specs.declared.go.Go.{Go};
 ghost use Rattle.mt_machine.specs.declared.go.Go.TheVariants.{Cancelled, Given, Pending};
 ghost use Rattle.mt_machine.specs.declared.op.Op.{Op};
@@ -32,12 +32,26 @@ ghost use Rattle.std.specs.Prelude.{Bool, IsNone, IsSome, IsTrue, List, None, So
 
 /// Which events are which.
 pub fn worked_definitions_of_kinds()
-    ensures is_release_steps { (k : ℕ) → is_release (Steps k Release) ≡ true }
+    ensures is_release_steps_release { (k : ℕ) → is_release (Steps k Release) ≡ true }
     ensures is_release_accesses { (k : ℕ) (op : Op) → is_release (Accesses k op) ≡ false }
     ensures is_release_controls { (k : ℕ) (c : Control) → is_release (Controls k c) ≡ false }
     ensures is_release_calls { (goal : RegisterFile) → is_release (Calls goal) ≡ false }
     ensures is_release_goes { is_release Goes ≡ false }
     ensures is_release_cancels { is_release Cancels ≡ false }
+    ensures is_release_steps_take { (k : ℕ) → is_release (Steps k Take) ≡ false }
+    ensures is_release_steps_arrive { (k : ℕ) → is_release (Steps k Arrive) ≡ false }
+    ensures is_release_steps_leave { (k : ℕ) → is_release (Steps k Leave) ≡ false }
+    ensures is_release_steps_pass { (k : ℕ) → is_release (Steps k Pass) ≡ false }
+    ensures is_release_steps_set_no_fill { (k : ℕ) → is_release (Steps k SetNoFill) ≡ false }
+    ensures is_release_steps_write_back { (k address value : ℕ) → is_release (Steps k (WriteBack address value)) ≡ false }
+    ensures is_release_steps_drop_lines { (k : ℕ) → is_release (Steps k DropLines) ≡ false }
+    ensures is_release_steps_flush_tlb { (k : ℕ) → is_release (Steps k FlushTlb) ≡ false }
+    ensures is_release_steps_disable { (k : ℕ) → is_release (Steps k Disable) ≡ false }
+    ensures is_release_steps_write { (k n : ℕ) → is_release (Steps k (Write n)) ≡ false }
+    ensures is_release_steps_enable { (k : ℕ) → is_release (Steps k Enable) ≡ false }
+    ensures is_release_steps_set_normal { (k : ℕ) → is_release (Steps k SetNormal) ≡ false }
+    ensures is_release_steps_restore_pge { (k : ℕ) → is_release (Steps k RestorePge) ≡ false }
+    ensures is_release_steps_arrive_again { (k : ℕ) → is_release (Steps k ArriveAgain) ≡ false }
     ensures is_call_calls { (goal : RegisterFile) → is_call (Calls goal) ≡ true }
     ensures is_call_accesses { (k : ℕ) (op : Op) → is_call (Accesses k op) ≡ false }
     ensures is_call_controls { (k : ℕ) (c : Control) → is_call (Controls k c) ≡ false }
@@ -68,12 +82,26 @@ pub fn worked_definitions_of_kinds()
     ensures is_led_accesses { (k : ℕ) (op : Op) → is_led (Accesses k op) ≡ false }
     ensures is_led_controls { (k : ℕ) (c : Control) → is_led (Controls k c) ≡ false }
     ensures is_led_calls { (goal : RegisterFile) → is_led (Calls goal) ≡ false }
-    ensures taker_steps { (k : ℕ) → taker (Steps k Take) ≡ Some k }
+    ensures taker_steps_take { (k : ℕ) → taker (Steps k Take) ≡ Some k }
     ensures taker_accesses { (k : ℕ) (op : Op) → taker (Accesses k op) ≡ None }
     ensures taker_controls { (k : ℕ) (c : Control) → taker (Controls k c) ≡ None }
     ensures taker_calls { (goal : RegisterFile) → taker (Calls goal) ≡ None }
     ensures taker_goes { taker Goes ≡ None }
     ensures taker_cancels { taker Cancels ≡ None }
+    ensures taker_steps_arrive { (k : ℕ) → taker (Steps k Arrive) ≡ None }
+    ensures taker_steps_leave { (k : ℕ) → taker (Steps k Leave) ≡ None }
+    ensures taker_steps_pass { (k : ℕ) → taker (Steps k Pass) ≡ None }
+    ensures taker_steps_set_no_fill { (k : ℕ) → taker (Steps k SetNoFill) ≡ None }
+    ensures taker_steps_write_back { (k address value : ℕ) → taker (Steps k (WriteBack address value)) ≡ None }
+    ensures taker_steps_drop_lines { (k : ℕ) → taker (Steps k DropLines) ≡ None }
+    ensures taker_steps_flush_tlb { (k : ℕ) → taker (Steps k FlushTlb) ≡ None }
+    ensures taker_steps_disable { (k : ℕ) → taker (Steps k Disable) ≡ None }
+    ensures taker_steps_write { (k n : ℕ) → taker (Steps k (Write n)) ≡ None }
+    ensures taker_steps_enable { (k : ℕ) → taker (Steps k Enable) ≡ None }
+    ensures taker_steps_set_normal { (k : ℕ) → taker (Steps k SetNormal) ≡ None }
+    ensures taker_steps_restore_pge { (k : ℕ) → taker (Steps k RestorePge) ≡ None }
+    ensures taker_steps_arrive_again { (k : ℕ) → taker (Steps k ArriveAgain) ≡ None }
+    ensures taker_steps_release { (k : ℕ) → taker (Steps k Release) ≡ None }
     ensures takes_of { (es : List MachineEvent) → takes_of es ≡ filter_map taker es }
 {}
 
@@ -87,8 +115,10 @@ pub fn worked_definitions_of_stores()
     ensures is_stored_no_ram { is_stored NoRam ≡ false }
     ensures physical_of { (s : System) (k address : ℕ)
         → physical_of s k address ≡ option_map_or (λ p. option_map (λ e. physical e address) (entry_of p (address / page_bytes))) (slice_get s.processors k) None }
-    ensures stored_word_accesses { (m : Machine) (k address value : ℕ) → stored_word m (Accesses k (Store address value))
+    ensures stored_word_accesses_store { (m : Machine) (k address value : ℕ) → stored_word m (Accesses k (Store address value))
         ≡ (if is_stored (access m.system k (Store address value)).answer then physical_of m.system k address else None) }
+    ensures stored_word_accesses_load { (m : Machine) (k n : ℕ) → stored_word m (Accesses k (Load n)) ≡ None }
+    ensures stored_word_accesses_fence { (m : Machine) (k : ℕ) → stored_word m (Accesses k Fence) ≡ None }
     ensures stored_word_controls { (m : Machine) (k : ℕ) (c : Control) → stored_word m (Controls k c) ≡ None }
     ensures stored_word_calls { (m : Machine) (goal : RegisterFile) → stored_word m (Calls goal) ≡ None }
     ensures stored_word_goes { (m : Machine) → stored_word m Goes ≡ None }

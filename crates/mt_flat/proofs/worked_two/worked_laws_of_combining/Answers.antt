@@ -1,4 +1,4 @@
-use Rattle.std.proofs.Common.{◌∷◌, [], arith, inl, refl, rules}
+use Rattle.std.proofs.Common.{arith, inl, refl, rules}
 use Rattle.mt_kinds.specs.declared.mem_type.MemType.TheVariants.{WB, WC}
 use Rattle.mt_machine.specs.Machine.{AreEnabled, IsEnabled}
 use Rattle.mt_machine.specs.Start.{IsQuiet}
