@@ -1,5 +1,5 @@
 -- Commands of worked examples, and points and runs between two lines.
-use Rattle.std.specs.Prelude.{ℕ, true, List, [], ◌∷◌, ◌++◌, codes}
+use Rattle.std.specs.Prelude.{ℕ, Bool, true, List, [], ◌∷◌, ◌++◌, codes}
 use Rattle.mt_text.specs.declared.place.Place.{Place}
 use Rattle.mt_dump.specs.Line.{said_of}
 use Rattle.mt_dump.specs.Reader.{State}
@@ -43,6 +43,18 @@ of_none = silent ++ (asks.Go ∷ asks.Cancel ∷ asks.Report ∷ asks.Up ∷ ask
 abbrev pub of_those_there : List Command
 of_those_there =
     asked_of 1 ++ silent ++ (asks.Go ∷ asks.Cancel ∷ asks.Report ∷ asks.Step 1 ∷ asks.Retire ∷ asks.Word 0x100000 ∷ asks.Msr 1 0x2ff ∷ asks.End ∷ [])
+
+-- an access but a store, a control instruction or a step, whatever they are about
+abbrev pub acting : ℕ → ℕ → ℕ → ℕ → Bool → List Command
+acting k address physical index on =
+    asks.Load k address ∷ asks.Fence k ∷ asks.Map k address physical index on ∷ asks.Invlpg k address ∷ asks.Cr3 k ∷ asks.Pge k on ∷ asks.Cd k on
+    ∷ asks.Step k ∷ []
+
+-- those of the other kinds but stores, registers, the lines that move processors, and ends of sections
+abbrev pub setting : ℕ → ℕ → List Command
+setting k address =
+    asks.Cpus k ∷ asks.Dump ∷ asks.Ram address k ∷ asks.Selfsnoop k ∷ asks.Update ∷ asks.Begin ∷ asks.Go ∷ asks.Cancel ∷ asks.Report ∷ asks.Word address
+    ∷ asks.Msr k address ∷ asks.Blank ∷ asks.DumpLine ∷ []
 
 -- ---- states
 

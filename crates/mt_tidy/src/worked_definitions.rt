@@ -28,11 +28,11 @@ pub fn worked_definitions_of_ranges()
     ensures types_at { (ranges : List Range) (page : ℕ) → types_at ranges page ≡ map (λ r. r.kind) (filter (λ r. holds_page r page) ranges) }
     ensures share_page { (a b : Range) → SharePage a b ↔ ((page : ℕ) × IsTrue (holds_page a page) × IsTrue (holds_page b page)) }
     ensures may_meet { (chunk : ℕ) (a b : Range) → MayMeet chunk a b ↔ (SharePage a b → page_bytes * 2 ^ max a.log b.log ≤ chunk) }
-    ensures is_allowed_0 { (chunk : ℕ) → IsAllowed chunk [] ↔ (Unit {0}) }
-    ensures is_allowed_1 { (chunk : ℕ) (r : Range) (rs : List Range) → IsAllowed chunk (r ∷ rs) ↔ (AllByRecursion (MayMeet chunk r) rs × IsAllowed chunk rs) }
+    ensures is_allowed_none { (chunk : ℕ) → IsAllowed chunk [] ↔ (Unit {0}) }
+    ensures is_allowed_more { (chunk : ℕ) (r : Range) (rs : List Range) → IsAllowed chunk (r ∷ rs) ↔ (AllByRecursion (MayMeet chunk r) rs × IsAllowed chunk rs) }
     ensures precedes { (r s : Range) → Precedes r s ↔ ((r.first < s.first) ⊎ ((r.first ≡ s.first) × ((s.log < r.log) ⊎ ((r.log ≡ s.log) × (byte_of_type r.kind ≤ byte_of_type s.kind))))) }
-    ensures in_order_0 { InOrder [] ↔ (Unit {0}) }
-    ensures in_order_1 { (r : Range) (rs : List Range) → InOrder (r ∷ rs) ↔ (AllByRecursion (Precedes r) rs × InOrder rs) }
+    ensures in_order_none { InOrder [] ↔ (Unit {0}) }
+    ensures in_order_more { (r : Range) (rs : List Range) → InOrder (r ∷ rs) ↔ (AllByRecursion (Precedes r) rs × InOrder rs) }
 {}
 
 /// Pairs that stand for ranges, and what ranges are of a file.
@@ -60,9 +60,9 @@ pub fn worked_definitions_of_tidying()
         → IsTidy f chunk spare new used }
     ensures needs_more_by_parts { (f : RegisterFile) (chunk spare needs has : ℕ) → IsAccepted f → is_enabled f ≡ true → has ≡ pair_count f - spare
         → has < needs → IsLeast f chunk needs → NeedsMore f chunk spare needs has }
-    ensures is_why_0 { (f : RegisterFile) (chunk spare : ℕ) (fault : Fault) → IsWhy f chunk spare (Refused fault) ↔ (IsFirstFault f (Some fault)) }
-    ensures is_why_1 { (f : RegisterFile) (chunk spare : ℕ) → IsWhy f chunk spare Disabled ↔ (IsAccepted f × (is_enabled f ≡ false)) }
-    ensures is_why_2 { (f : RegisterFile) (chunk spare needs has : ℕ) → IsWhy f chunk spare (TooFew needs has) ↔ (NeedsMore f chunk spare needs has) }
+    ensures is_why_refused { (f : RegisterFile) (chunk spare : ℕ) (fault : Fault) → IsWhy f chunk spare (Refused fault) ↔ (IsFirstFault f (Some fault)) }
+    ensures is_why_disabled { (f : RegisterFile) (chunk spare : ℕ) → IsWhy f chunk spare Disabled ↔ (IsAccepted f × (is_enabled f ≡ false)) }
+    ensures is_why_too_few { (f : RegisterFile) (chunk spare needs has : ℕ) → IsWhy f chunk spare (TooFew needs has) ↔ (NeedsMore f chunk spare needs has) }
 {}
 
 /// The same where types are wanted.

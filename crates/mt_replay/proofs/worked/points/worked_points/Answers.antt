@@ -1,6 +1,5 @@
 use Rattle.std.proofs.Common.{◌≡◌, Bool, ◌∙◌, ap, sym, arith, refl, false, true≢false, length, [], Some}
 use Rattle.std.specs.Prelude.{codes}
-use Rattle.mt_output.specs.Lines.{accepted_line}
 use Rattle.mt_ports.specs.declared.status.Status.TheVariants.{BadText, Done}
 use Rattle.mt_script.specs.Stages.{is_past_dump}
 use Rattle.mt_script.specs.declared.command.Stage.TheVariants.{Commands, InBegin, InDump, Rams}
