@@ -37,13 +37,13 @@ pub data Rounds : Machine → Machine → Type 0 where
   ended : {m : Machine} → m.order ≡ None → Rounds m m
   again : {m n : Machine} → IsSome m.order → Rounds (each_steps m) n → Rounds m n
 
--- where this machine is one that a call led to from a quiet state, the other is the state after the whole update, given outright
+-- where this machine is one that a call led to from a quiet state, and the go isn't given yet, the other is the state after the whole update, given outright
 abbrev pub IsWholeUpdate : Machine → Machine → Type 0
 IsWholeUpdate m n =
     (s : Machine) (goal : RegisterFile) → IsQuiet s → IsEnabled s (Calls goal) → m ≡ next s (Calls goal)
     → n ≡ updated s.system (in_order s) goal
 
--- turns come to an end, whatever state arose, and each state on the way is reached by events
+-- once the go is given, where it is pending, turns come to an end, whatever state arose, and what they lead to is reached by events
 abbrev pub TurnsEnd : Type 0
 TurnsEnd = (m : Machine) → Arises m → (t : Machine) × Rounds (with_go_given m) t × Reached m t
 

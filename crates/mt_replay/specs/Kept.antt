@@ -45,8 +45,8 @@ pub record CameFromRest (m : Machine) : Type 0 where
   pub no_older : All IsFresh rest.system.processors
   pub reached : Reached rest m
 
--- The machine arises, so that each law on what arises holds of it; and it was at rest when the last processor came or went. While none
--- has, it is reached by events from its start, the processors with the dump's files over zero words, which is quiet: so each law on
+-- The machine arises, so that each law on what arises holds of it; and it was at rest when the last processor came or went. While no
+-- processor is moving, it is reached by events from its start, the processors with the dump's files over zero words, which is quiet: so each law on
 -- what is reached from a start holds of it too. Before the first command nothing has happened to it. Each processor has the width and
 -- the capability value of the dump's first file.
 pub record IsReplayState (s : ReplayState) : Type 0 where
