@@ -71,7 +71,7 @@ pub rounds_end : {m n : Machine} → Rounds m n → n.order ≡ None
 rounds_end (ended none) = none
 rounds_end (again some rest) = rounds_end rest
 
-taken_apart : {m n : Machine} → Rounds m n → ((m.order ≡ None) × (m ≡ n)) ⊎ (IsSome m.order × Rounds (each_steps m) n)
+pub taken_apart : {m n : Machine} → Rounds m n → ((m.order ≡ None) × (m ≡ n)) ⊎ (IsSome m.order × Rounds (each_steps m) n)
 taken_apart (ended none) = inl (none, refl)
 taken_apart (again some rest) = inr (some, rest)
 

@@ -2,15 +2,16 @@
 ghost use Rattle.mt_core.specs.Arises.{Arises, IsCore, grown, snooped};
 ghost use Rattle.mt_core.specs.Barriers.{barrier_count};
 ghost use Rattle.mt_core.specs.Headline.{HasRisenByOne, IsBelowFull, WaitsFor, WaitsIn, WaitsWhereFor};
-ghost use Rattle.mt_core.specs.Rounds.{EndsByRelease, IsUpdateByEvents, IsWholeUpdate, ascending, each_steps, given_where, in_order, with_go_given};
+ghost use Rattle.mt_core.specs.Rounds.{EndsByRelease, IsUpdateByEvents, IsWholeUpdate, Rounds, ascending, each_steps, given_where, in_order, with_go_given};
 ghost use Rattle.mt_core.specs.Since.{HaveNoBuffers, IsHeldSince, IsSettledSince, KeepsWord};
 ghost use Rattle.mt_core.specs.Steps.{count_at, pause, pause_at, step_after, step_answer, under_way};
 ghost use Rattle.mt_core.specs.Stops.{StopsWhereOutside, is_outside};
 ghost use Rattle.mt_core.specs.declared.stepped.Stepped.TheVariants.{Did, NoUpdate, Waits};
 ghost use Rattle.mt_machine.specs.Access.{is_running};
+ghost use Rattle.mt_machine.specs.ComingAndGoing.{with_newcomer, without_last};
 ghost use Rattle.mt_machine.specs.Machine.{AreEnabled, BarrierCount, Calls, Goes, IsEnabled, Machine, MachineEvent, Order, Steps, due_at, first_barrier_count, go_of, has_released, is_cancelled, next, run, second_barrier_count};
-ghost use Rattle.mt_machine.specs.Memory.{Window, word_at};
-ghost use Rattle.mt_machine.specs.Start.{IsQuiet};
+ghost use Rattle.mt_machine.specs.Memory.{IsMemory, Window, word_at};
+ghost use Rattle.mt_machine.specs.Start.{IsQuiet, IsStart};
 ghost use Rattle.mt_machine.specs.System.{Processor, System, now, with_self_snoop};
 ghost use Rattle.mt_machine.specs.Update.{IsSettled, is_cancel, is_led, stored_words, updated};
 ghost use Rattle.mt_machine.specs.declared.event.Event.TheVariants.{Release};
@@ -21,7 +22,7 @@ ghost use Rattle.mt_ram.specs.Windows.{with_window};
 ghost use Rattle.mt_regs.specs.RegisterFile.{RegisterFile};
 ghost use Rattle.std.specs.List.{All, Contains, fold, list_all, range_with_len};
 ghost use Rattle.std.specs.Option.{option_map_or};
-ghost use Rattle.std.specs.Prelude.{List, None, Some, [], false, length, not, slice_get, true, ℕ, ◌%◌, ◌&&◌, ◌++◌, ◌+◌, ◌-◌, ◌<◌, ◌^◌, ◌||◌, ◌↔◌, ◌∷◌, ◌≡◌, ◌≤◌, ◌⊎◌};
+ghost use Rattle.std.specs.Prelude.{IsSome, List, None, Some, [], false, length, not, slice_get, true, ℕ, ◌%◌, ◌&&◌, ◌++◌, ◌+◌, ◌-◌, ◌<◌, ◌^◌, ◌||◌, ◌↔◌, ◌∷◌, ◌≡◌, ◌≤◌, ◌⊎◌};
 
 /// What is said of the events since an update.
 pub fn worked_definitions_of_since()
@@ -58,6 +59,10 @@ pub fn worked_definitions_of_turns()
     ensures given_where_some_given { (m : Machine) → given_where (Some Given) m ≡ m }
     ensures given_where_some_cancelled { (m : Machine) → given_where (Some Cancelled) m ≡ m }
     ensures with_go_given { (m : Machine) → with_go_given m ≡ given_where (go_of m) m }
+    ensures rounds_ended { (m : Machine) → m.order ≡ None → Rounds m m }
+    ensures rounds_again { (m n : Machine) → IsSome m.order → Rounds (each_steps m) n → Rounds m n }
+    ensures rounds_apart { (m n : Machine) → Rounds m n → ((m.order ≡ None) × (m ≡ n)) ⊎ (IsSome m.order × Rounds (each_steps m) n) }
+    ensures rounds_end { (m n : Machine) → Rounds m n → n.order ≡ None }
     ensures is_whole_update { (m n : Machine) → IsWholeUpdate m n ↔ ((s : Machine) (goal : RegisterFile) → IsQuiet s → IsEnabled s (Calls goal)
         → m ≡ next s (Calls goal) → n ≡ updated s.system (in_order s) goal) }
     ensures ends_by_release { (es : List MachineEvent) → EndsByRelease es ↔ ((front : List MachineEvent) × (k : ℕ) × (es ≡ front ++ Steps k Release ∷ [])) }
@@ -76,5 +81,11 @@ pub fn worked_definitions_of_steps()
     ensures step_after { (m : Machine) (k : ℕ) → step_after m k ≡ option_map_or (λ e. next m (Steps k e)) (due_at m k) m }
     ensures grown { (w : Window) (m : Machine) → grown w m ≡ record m { system = record m.system { memory = with_window w m.system.memory } } }
     ensures snooped { (k : ℕ) (m : Machine) → snooped k m ≡ record m { system = with_self_snoop k m.system } }
+    ensures arises_from_start { (m : Machine) → IsStart m → Arises m }
+    ensures arises_by_event { (m : Machine) (e : MachineEvent) → Arises m → IsEnabled m e → Arises (next m e) }
+    ensures arises_by_window { (m : Machine) (w : Window) → Arises m → IsMemory (with_window w m.system.memory) → Arises (grown w m) }
+    ensures arises_by_snooping { (m : Machine) (k : ℕ) → Arises m → m.order ≡ None → Arises (snooped k m) }
+    ensures arises_by_coming_up { (m : Machine) → Arises m → m.order ≡ None → 0 < length m.system.processors → Arises (with_newcomer m) }
+    ensures arises_by_going_down { (m : Machine) → Arises m → m.order ≡ None → 1 < length m.system.processors → Arises (without_last m) }
     ensures is_core_by_parts { (m : Machine) → Arises m → length m.system.processors ≤ 16 → ((o : Order) → m.order ≡ Some o → o.from_era < 2 ^ 64 - 1) → IsCore m }
 {}

@@ -2,7 +2,7 @@
 ghost use Rattle.mt_cache.specs.Lines.{eight, is_dirty};
 ghost use Rattle.mt_cache.specs.declared.line.CacheLine.{CacheLine};
 ghost use Rattle.mt_flat.specs.Courses.{CanTurn, ComesUp, Does, GoesDown, IsCourse, Turn, Updates, course, flat_course, flat_turned, turned};
-ghost use Rattle.mt_flat.specs.Flat.{Empties, Flat, Loads, PendingLine, Stores, before_load, before_store, empty_all, empty_line, empty_whole, find_pending, first_of_four, flat_answer, flat_next, flat_start, flat_store, is_of_line, is_whole, join, joined_with, make_pending_room, set_value, set_words, with_pending, without_pending, write_pending};
+ghost use Rattle.mt_flat.specs.Flat.{FlatEvent, Empties, Flat, Loads, PendingLine, Stores, before_load, before_store, empty_all, empty_line, empty_whole, find_pending, first_of_four, flat_answer, flat_next, flat_start, flat_store, is_of_line, is_whole, join, joined_with, make_pending_room, set_value, set_words, with_pending, without_pending, write_pending};
 ghost use Rattle.mt_flat.specs.Seen.{AreFew, IsFlatAnswer, IsFlatOf, IsHeldFlat, emptied_by, flat_after, flat_run, flat_takes, given, given_access, given_control, written_of};
 ghost use Rattle.mt_kinds.specs.declared.mem_type.MemType.{MemType};
 ghost use Rattle.mt_kinds.specs.declared.mem_type.MemType.TheVariants.{UC, WB, WC, WP, WT};
@@ -25,7 +25,8 @@ ghost use Rattle.mt_regs.specs.RegisterFile.{RegisterFile};
 ghost use Rattle.mt_tlb.specs.declared.mapping.Mapping.{Mapping};
 ghost use Rattle.std.specs.List.{Contains, filter, find, fold, list_all};
 ghost use Rattle.std.specs.Option.{option_map, option_map_or};
-ghost use Rattle.std.specs.Prelude.{Bool, List, None, Some, [], if◌then◌else◌, is_some, length, map, not, slice_index, ℕ, ◌%◌, ◌++◌, ◌+◌, ◌<◌, ◌==◌, ◌↔◌, ◌∷◌, ◌≡◌, ◌≤◌};
+ghost use Rattle.std.specs.Prelude.{replicate, ◌⊎◌, Bool, List, None, Some, [], if◌then◌else◌, is_some, length, map, not, slice_index, ℕ, ◌%◌, ◌++◌, ◌+◌, ◌<◌, ◌==◌, ◌↔◌, ◌∷◌, ◌≡◌, ◌≤◌};
+ghost use Rattle.mt_machine.specs.declared.done.Done.TheVariants as done;
 
 /// Pending lines.
 pub fn worked_definitions_of_pending()
@@ -73,6 +74,8 @@ pub fn worked_definitions_of_values()
     ensures flat_next_loads { (m : Flat) (k : ℕ) (kind : MemType) (word : ℕ) → flat_next m (Loads k kind word) ≡ before_load kind k word m }
     ensures flat_next_stores { (m : Flat) (k : ℕ) (kind : MemType) (word value : ℕ) → flat_next m (Stores k kind word value) ≡ flat_store kind k word value (before_store kind k word m) }
     ensures flat_next_empties { (m : Flat) (k : ℕ) → flat_next m (Empties k) ≡ empty_all k m }
+    ensures flat_events { (e : FlatEvent) → ((k : ℕ) × (kind : MemType) × (word : ℕ) × (e ≡ Loads k kind word))
+        ⊎ ((k : ℕ) × (kind : MemType) × (word : ℕ) × (value : ℕ) × (e ≡ Stores k kind word value)) ⊎ ((k : ℕ) × (e ≡ Empties k)) }
 {}
 
 /// What a flat machine is given, and what it stands beside.
@@ -82,6 +85,12 @@ pub fn worked_definitions_of_given()
     ensures given_access_store_stored { (s : System) (k address value : ℕ) (kind : MemType)
         → given_access s k (Store address value) (Stored kind) ≡ option_map (λ word. Stores k kind word value) (physical_of s k address) }
     ensures given_access_fence_fenced { (s : System) (k : ℕ) → given_access s k Fence Fenced ≡ Some (Empties k) }
+    ensures given_access_load_others { (s : System) (k address : ℕ) (kind : MemType)
+        → map (given_access s k (Load address)) (done.Stored kind ∷ done.Fenced ∷ done.Busy ∷ done.Unmapped ∷ done.NoRam ∷ []) ≡ replicate 5 None }
+    ensures given_access_store_others { (s : System) (k address value other : ℕ) (kind : MemType)
+        → map (given_access s k (Store address value)) (done.Value other kind ∷ done.Fenced ∷ done.Busy ∷ done.Unmapped ∷ done.NoRam ∷ []) ≡ replicate 5 None }
+    ensures given_access_fence_others { (s : System) (k value : ℕ) (kind : MemType)
+        → map (given_access s k Fence) (done.Value value kind ∷ done.Stored kind ∷ done.Busy ∷ done.Unmapped ∷ done.NoRam ∷ []) ≡ replicate 5 None }
     ensures emptied_by_map { (k : ℕ) (p : Mapping) → emptied_by k (Map p) ≡ None }
     ensures emptied_by_invlpg { (k n : ℕ) → emptied_by k (Invlpg n) ≡ Some (Empties k) }
     ensures emptied_by_cr3 { (k : ℕ) → emptied_by k Cr3 ≡ Some (Empties k) }
@@ -130,6 +139,8 @@ pub fn worked_definitions_of_courses()
     ensures turned_updates { (m : Machine) (goal : RegisterFile) (takes : List ℕ) → turned m (Updates goal takes) ≡ updated m.system takes goal }
     ensures turned_comes_up { (m : Machine) → turned m ComesUp ≡ with_newcomer m }
     ensures turned_goes_down { (m : Machine) → turned m GoesDown ≡ without_last m }
+    ensures turns { (t : Turn) → ((e : MachineEvent) × (t ≡ Does e)) ⊎ ((goal : RegisterFile) × (takes : List ℕ) × (t ≡ Updates goal takes)) ⊎ (t ≡ ComesUp)
+        ⊎ (t ≡ GoesDown) }
     ensures can_turn_does { (m : Machine) (e : MachineEvent) → CanTurn m (Does e) ↔ (IsEnabled m e) }
     ensures can_turn_updates { (m : Machine) (goal : RegisterFile) (takes : List ℕ) → CanTurn m (Updates goal takes)
         ↔ (IsEnabled m (Calls goal) × IsEachOnce (length m.system.processors) takes) }

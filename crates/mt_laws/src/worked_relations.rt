@@ -1,18 +1,18 @@
 // What the relations of the laws say of any machine, by their parts.
 ghost use Rattle.std.specs.List.{All, count_by, list_all};
-ghost use Rattle.std.specs.Prelude.{Bool, List, None, Some, [], false, if◌then◌else◌, length, map, nat_lt, not, take, true, ℕ, ◌++◌, ◌+◌, ◌-◌, ◌<◌, ◌==◌, ◌^◌, ◌∷◌, ◌≡◌, ◌≤◌};
+ghost use Rattle.std.specs.Prelude.{List, Some, [], false, if◌then◌else◌, length, map, nat_lt, not, take, true, ℕ, ◌++◌, ◌+◌, ◌-◌, ◌<◌, ◌==◌, ◌^◌, ◌∷◌, ◌≡◌, ◌≤◌};
 ghost use Rattle.mt_laws.specs.Barriers.{BarriersHold, IsAt, IsFull, NoneActsInChange, NoneRunsInChange};
 ghost use Rattle.mt_laws.specs.Counts.{IsCounted, IsEachAtMostOnce, IsEachOnce, other_events};
 ghost use Rattle.mt_laws.specs.Kept.{IsUnderWay, OrderHolds, SameHoldings, holdings_of};
 ghost use Rattle.mt_laws.specs.Settled.{IsFirstRelease, IsFresh};
 ghost use Rattle.mt_laws.specs.Starts.{HasEras};
-ghost use Rattle.mt_laws.specs.Updates.{HoldsNothing, LeadsToBroadcast, UpdatesAlike, all_taken, call_and_takes, order_of_call};
+ghost use Rattle.mt_laws.specs.Updates.{HoldsNothing, LeadsToBroadcast, all_taken, call_and_takes, order_of_call};
 ghost use Rattle.mt_machine.specs.Access.{access, is_running};
 ghost use Rattle.mt_machine.specs.Control.{control};
 ghost use Rattle.mt_machine.specs.Machine.{AreEnabled, BarrierCount, FitsGoal, Machine, MachineEvent, Order, Steps, has_arrived, has_arrived_again, has_passed, has_released, is_changing, run};
 ghost use Rattle.mt_machine.specs.Start.{IsBroadcast};
 ghost use Rattle.mt_machine.specs.System.{Processor, System, is_writing};
-ghost use Rattle.mt_machine.specs.Update.{dirty_count, emptied, is_release, is_step_of, updated};
+ghost use Rattle.mt_machine.specs.Update.{dirty_count, emptied, is_release, is_step_of};
 ghost use Rattle.mt_machine.specs.declared.control.Control.{Control};
 ghost use Rattle.mt_machine.specs.declared.done.Done.TheVariants.{Busy};
 ghost use Rattle.mt_machine.specs.declared.event.Event.TheVariants.{Pass, Release, Take};

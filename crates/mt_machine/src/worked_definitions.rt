@@ -5,11 +5,12 @@ ghost use Rattle.mt_kinds.specs.Sizes.{page_bytes};
 ghost use Rattle.mt_kinds.specs.declared.mem_type.MemType.{MemType};
 ghost use Rattle.mt_machine.specs.Access.{access, entry_of, is_running, physical};
 ghost use Rattle.mt_machine.specs.Bus.{drain};
-ghost use Rattle.mt_machine.specs.Control.{control};
+ghost use Rattle.mt_machine.specs.ComingAndGoing.{gone, last_number, newcomer, newcomer_beside, reset, taken_away, with_newcomer, without_last};
+ghost use Rattle.mt_machine.specs.Control.{control, control_at, drop_page, reload_cr3, same_bool, set_page_global};
 ghost use Rattle.mt_machine.specs.Machine.{Accesses, AreEnabled, Calls, Cancels, Controls, FitsControl, FitsGoal, FitsOp, Goes, IsEnabled, IsRunningAt, IsWordAddress, Machine, MachineEvent, Order, Steps, before_own, common_era, due, due_at, first_barrier_count, first_barrier_open, go_of, has_arrived, has_arrived_again, has_passed, has_released, is_arrived, is_arrived_again, is_cancelled, is_changing, is_given, is_over, is_waiting_to_pass, next, own_step, remaining_order, run, second_barrier_count, second_barrier_open, step, stepped, with_go};
-ghost use Rattle.mt_machine.specs.Memory.{AreApart, IsMemory, Memory, Window, line_of, place, place_in, window_end, word_address, word_at, word_count, word_of};
+ghost use Rattle.mt_machine.specs.Memory.{AreApart, IsMemory, Memory, Window, line_of, place, place_in, window_end, word_address, word_at, word_count, word_of, write_back};
 ghost use Rattle.mt_machine.specs.Start.{HasEraRoom, IsBroadcast, IsQuiet, IsStart, flagged_processors, start_machine, start_with, zero_memory};
-ghost use Rattle.mt_machine.specs.System.{IsCoherent, IsProcessor, IsSound, Processor, System, change, dirty_word, dirty_word_in, is_tlb_flushed, is_writing, now, start_processor};
+ghost use Rattle.mt_machine.specs.System.{IsCoherent, IsProcessor, IsSound, Processor, System, change, dirty_word, dirty_word_in, is_tlb_flushed, is_writing, lines_of, now, start_processor};
 ghost use Rattle.mt_machine.specs.Update.{IsHeld, IsSettled, IsSettledOn, addresses, addresses_from, dirty_count, emptied, is_call, is_cancel, is_go, is_led, is_release, is_step_of, is_stored, physical_of, settled_processor, stored_word, stored_words, taker, takes_of, updated};
 ghost use Rattle.mt_machine.specs.declared.control.Control.{Control};
 ghost use Rattle.mt_machine.specs.declared.control.Control.TheVariants.{Cd, Cr3, Invlpg, Map, Pge};
@@ -20,18 +21,21 @@ ghost use Rattle.mt_machine.specs.declared.go.Go.{Go};
 ghost use Rattle.mt_machine.specs.declared.go.Go.TheVariants.{Cancelled, Given, Pending};
 ghost use Rattle.mt_machine.specs.declared.op.Op.{Op};
 ghost use Rattle.mt_machine.specs.declared.op.Op.TheVariants.{Fence, Load, Store};
-ghost use Rattle.mt_machine.specs.declared.phase.Phase.TheVariants.{Running, Taken};
+ghost use Rattle.mt_machine.specs.declared.phase.Phase.TheVariants.{Arrived, Arrived2, Enabled, Flushed, Flushed2, NoFill, Normal, Passed, Restored, Running, Taken, TlbFlushed, TlbFlushed2, Writing};
+ghost use Rattle.mt_machine.specs.declared.ruled.Ruled.TheVariants.{Busy, Full, Okay};
 ghost use Rattle.mt_regs.specs.Faults.{IsAccepted};
-ghost use Rattle.mt_regs.specs.RegisterFile.{IsRegisterFile, RegisterFile, page_count};
+ghost use Rattle.mt_regs.specs.RegisterFile.{IsRegisterFile, RegisterFile, blank_file, page_count};
 ghost use Rattle.mt_regs.specs.Registers.{writable};
-ghost use Rattle.mt_tlb.specs.Entries.{AreEntriesApart, AreMappingsApart, is_mapped};
+ghost use Rattle.mt_tlb.specs.Entries.{AreEntriesApart, AreMappingsApart, global_entries, is_full_for, is_mapped, set_mapping, without_page};
 ghost use Rattle.mt_tlb.specs.declared.mapping.Mapping.{Mapping};
 ghost use Rattle.std.specs.List.{All, AllPairs, Contains, count_by, filter_map, find, fold, list_all, list_any};
 ghost use Rattle.std.specs.Option.{option_map, option_map_or, option_or};
-ghost use Rattle.std.specs.Prelude.{Bool, IsNone, IsSome, IsTrue, List, None, Some, [], false, if◌then◌else◌, length, map, nat_lt, not, replicate, slice_get, slice_index, suc, true, zero, ℕ, ◌%◌, ◌&&◌, ◌*◌, ◌++◌, ◌+◌, ◌-◌, ◌/◌, ◌<◌, ◌==◌, ◌^◌, ◌||◌, ◌↔◌, ◌∷◌, ◌≡◌, ◌≢◌, ◌≤◌, ◌⊎◌};
+ghost use Rattle.std.specs.Prelude.{Bool, IsNone, IsSome, IsTrue, List, None, Some, [], false, if◌then◌else◌, length, map, nat_lt, not, replicate, slice_get, slice_index, suc, take, true, zero, ℕ, ◌%◌, ◌&&◌, ◌*◌, ◌++◌, ◌+◌, ◌-◌, ◌/◌, ◌<◌, ◌==◌, ◌^◌, ◌||◌, ◌↔◌, ◌∷◌, ◌≡◌, ◌≢◌, ◌≤◌, ◌⊎◌};
 
 /// Which events are which.
 pub fn worked_definitions_of_kinds()
+    ensures machine_events { (e : MachineEvent) → ((k : ℕ) × (op : Op) × (e ≡ Accesses k op)) ⊎ ((k : ℕ) × (c : Control) × (e ≡ Controls k c))
+        ⊎ ((goal : RegisterFile) × (e ≡ Calls goal)) ⊎ (e ≡ Goes) ⊎ (e ≡ Cancels) ⊎ ((k : ℕ) × (d : Event) × (e ≡ Steps k d)) }
     ensures is_release_steps_release { (k : ℕ) → is_release (Steps k Release) ≡ true }
     ensures is_release_accesses { (k : ℕ) (op : Op) → is_release (Accesses k op) ≡ false }
     ensures is_release_controls { (k : ℕ) (c : Control) → is_release (Controls k c) ≡ false }
@@ -108,8 +112,8 @@ pub fn worked_definitions_of_kinds()
 /// What an access stores, and what is held.
 pub fn worked_definitions_of_stores()
     ensures is_stored_stored { (t : MemType) → is_stored (Stored t) ≡ true }
-    ensures is_stored_value { (n1 : ℕ) (m2 : MemType) → is_stored (Value n1 m2) ≡ false }
     ensures is_stored_busy { is_stored Busy ≡ false }
+    ensures is_stored_value { (n1 : ℕ) (m2 : MemType) → is_stored (Value n1 m2) ≡ false }
     ensures is_stored_fenced { is_stored Fenced ≡ false }
     ensures is_stored_unmapped { is_stored Unmapped ≡ false }
     ensures is_stored_no_ram { is_stored NoRam ≡ false }
@@ -151,6 +155,34 @@ pub fn worked_definitions_of_updates()
 
 /// The value of a word, and what keeps it.
 pub fn worked_definitions_of_words()
+    ensures is_writing_writing { (i : ℕ) → is_writing (Writing i) ≡ Some i }
+    ensures is_writing_running { is_writing Running ≡ None }
+    ensures is_writing_taken { is_writing Taken ≡ None }
+    ensures is_writing_arrived { is_writing Arrived ≡ None }
+    ensures is_writing_passed { is_writing Passed ≡ None }
+    ensures is_writing_no_fill { is_writing NoFill ≡ None }
+    ensures is_writing_flushed { is_writing Flushed ≡ None }
+    ensures is_writing_tlb_flushed { is_writing TlbFlushed ≡ None }
+    ensures is_writing_enabled { is_writing Enabled ≡ None }
+    ensures is_writing_flushed2 { is_writing Flushed2 ≡ None }
+    ensures is_writing_tlb_flushed2 { is_writing TlbFlushed2 ≡ None }
+    ensures is_writing_normal { is_writing Normal ≡ None }
+    ensures is_writing_restored { is_writing Restored ≡ None }
+    ensures is_writing_arrived2 { is_writing Arrived2 ≡ None }
+    ensures is_tlb_flushed_tlb_flushed { is_tlb_flushed TlbFlushed ≡ true }
+    ensures is_tlb_flushed_writing { (i : ℕ) → is_tlb_flushed (Writing i) ≡ true }
+    ensures is_tlb_flushed_enabled { is_tlb_flushed Enabled ≡ true }
+    ensures is_tlb_flushed_flushed2 { is_tlb_flushed Flushed2 ≡ true }
+    ensures is_tlb_flushed_tlb_flushed2 { is_tlb_flushed TlbFlushed2 ≡ true }
+    ensures is_tlb_flushed_normal { is_tlb_flushed Normal ≡ true }
+    ensures is_tlb_flushed_running { is_tlb_flushed Running ≡ false }
+    ensures is_tlb_flushed_taken { is_tlb_flushed Taken ≡ false }
+    ensures is_tlb_flushed_arrived { is_tlb_flushed Arrived ≡ false }
+    ensures is_tlb_flushed_passed { is_tlb_flushed Passed ≡ false }
+    ensures is_tlb_flushed_no_fill { is_tlb_flushed NoFill ≡ false }
+    ensures is_tlb_flushed_flushed { is_tlb_flushed Flushed ≡ false }
+    ensures is_tlb_flushed_restored { is_tlb_flushed Restored ≡ false }
+    ensures is_tlb_flushed_arrived2 { is_tlb_flushed Arrived2 ≡ false }
     ensures dirty_word { (ls : List CacheLine) (address : ℕ)
         → dirty_word ls address ≡ option_map (λ l. slice_index l.words (word_of address)) (find (λ l. (l.number == line_of address) && is_dirty l (word_of address)) ls) }
     ensures dirty_word_in_none { (address : ℕ) → dirty_word_in [] address ≡ None }
@@ -188,10 +220,41 @@ pub fn worked_definitions_of_starts()
     ensures is_start { (m : Machine) → IsStart m ↔ (IsQuiet m ⊎ ((o : Order) × IsBroadcast m o)) }
     ensures has_era_room { (m : Machine) → HasEraRoom m ↔ (All (λ p. p.era < 2 ^ 64 - 1) m.system.processors) }
     ensures zero_memory { (ws : List Window) → zero_memory ws ≡ record { windows = ws; words = replicate (word_count ws) 0 } }
+    ensures start_processor { (f : RegisterFile)
+        → start_processor f ≡ record { file = f; cache_disabled = false; page_global = false; remembered_global = false; mappings = []; lines = []; buffers = []; entries = []; phase = Running; era = 0; self_snoop = false } }
     ensures start_machine { (files : List RegisterFile) (ws : List Window)
         → start_machine files ws ≡ record { system = record { processors = map start_processor files; memory = zero_memory ws }; order = None } }
+    ensures flagged_processors_none { (flags : List Bool) → flagged_processors [] flags ≡ [] }
+    ensures flagged_processors_more_none { (f : RegisterFile) (fs : List RegisterFile) → flagged_processors (f ∷ fs) [] ≡ start_processor f ∷ flagged_processors fs [] }
+    ensures flagged_processors_more_more { (f : RegisterFile) (fs : List RegisterFile) (b : Bool) (bs : List Bool)
+        → flagged_processors (f ∷ fs) (b ∷ bs) ≡ record (start_processor f) { self_snoop = b } ∷ flagged_processors fs bs }
     ensures start_with { (flags : List Bool) (files : List RegisterFile) (ws : List Window)
         → start_with flags files ws ≡ record { system = record { processors = flagged_processors files flags; memory = zero_memory ws }; order = None } }
+{}
+
+/// Processors that come up and go, and control instructions.
+pub fn worked_definitions_of_comers()
+    ensures newcomer { (width capabilities era : ℕ) → newcomer width capabilities era ≡ record (start_processor (blank_file width capabilities)) { cache_disabled = true; era = era } }
+    ensures newcomer_beside { (p : Processor) → newcomer_beside p ≡ newcomer p.file.width p.file.capabilities p.era }
+    ensures reset { (s : System) → reset s ≡ option_map_or (λ p. record s { processors = s.processors ++ newcomer_beside p ∷ [] }) (slice_get s.processors 0) s }
+    ensures taken_away { (k : ℕ) (s : System) → taken_away k s ≡ record { processors = take k s.processors; memory = fold write_back s.memory (lines_of s k) } }
+    ensures last_number { (s : System) → last_number s ≡ length s.processors - 1 }
+    ensures gone { (s : System) → gone s ≡ taken_away (last_number s) (drain (last_number s) s) }
+    ensures with_newcomer { (m : Machine) → with_newcomer m ≡ record m { system = reset m.system } }
+    ensures without_last { (m : Machine) → without_last m ≡ record m { system = gone m.system } }
+    ensures drop_page { (page : ℕ) (p : Processor) → drop_page page p ≡ record p { entries = without_page page p.entries } }
+    ensures reload_cr3 { (p : Processor) → reload_cr3 p ≡ record p { entries = global_entries p.entries } }
+    ensures set_page_global { (on : Bool) (p : Processor) → set_page_global on p ≡ (if same_bool on p.page_global then p else record p { page_global = on; entries = [] }) }
+    ensures control_at_map { (s : System) (k : ℕ) (p : Processor) (m : Mapping) → control_at s k p (Map m)
+        ≡ (if is_full_for m p.mappings then record { answer = Full; after = s } else record { answer = Okay; after = change (λ q. record q { mappings = set_mapping m q.mappings }) k s }) }
+    ensures control_at_invlpg { (s : System) (k : ℕ) (p : Processor) (address : ℕ)
+        → control_at s k p (Invlpg address) ≡ record { answer = Okay; after = change (drop_page (address / page_bytes)) k (drain k s) } }
+    ensures control_at_cr3 { (s : System) (k : ℕ) (p : Processor) → control_at s k p Cr3 ≡ record { answer = Okay; after = change reload_cr3 k (drain k s) } }
+    ensures control_at_pge { (s : System) (k : ℕ) (p : Processor) (on : Bool) → control_at s k p (Pge on) ≡ record { answer = Okay; after = change (set_page_global on) k (drain k s) } }
+    ensures control_at_cd { (s : System) (k : ℕ) (p : Processor) (on : Bool)
+        → control_at s k p (Cd on) ≡ record { answer = Okay; after = change (λ q. record q { cache_disabled = on }) k (drain k s) } }
+    ensures control { (s : System) (k : ℕ) (c : Control)
+        → control s k c ≡ option_map_or (λ p. if is_running p.phase then control_at s k p c else record { answer = Busy; after = s }) (slice_get s.processors k) (record { answer = Busy; after = s }) }
 {}
 
 /// Who has come how far, and when an update is over.

@@ -98,6 +98,7 @@ pub fn worked_definitions_of_steps()
     ensures called_goal { (step : Step) → called_goal step ≡ goal_by step.command step.before }
     ensures has_newcomer_by_parts { (step : Step) → wrote step ≡ joined_line (length step.before.machine.system.processors)
         → length (left step).machine.system.processors ≡ length step.before.machine.system.processors + 1 → HasNewcomer step }
+    ensures has_newcomer_number { (step : Step) → HasNewcomer step → wrote step ≡ joined_line (length step.before.machine.system.processors) }
     ensures is_called { (step : Step) → IsCalled step ↔ ((wrote step ≡ called_line) ⊎ ((k : ℕ) × ComesUp step k)) }
     ensures is_refused { (step : Step) → IsRefused step ↔ (((fault : Fault) × (wrote step ≡ refused_line fault)) ⊎ (wrote step ≡ under_way_line)) }
 {}

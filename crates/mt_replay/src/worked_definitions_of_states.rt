@@ -64,6 +64,16 @@ pub fn worked_definitions_of_states()
         → EachBy (λ t. test t ≡ true) (shows_dump now dump number lines)
         ↔ EachOfDump now dump (EachIn (λ t. test t ≡ true) number lines) (first_refusal dump.files) }
     ensures holds_through { (test : ReplayState → Bool) (text : List ℕ) → HoldsThrough (λ t. test t ≡ true) text ↔ EachBy (λ t. test t ≡ true) (head_of text) }
+    ensures each_after_kept { (s : ReplayState) (c : Command) (number : ℕ) (lines : List (List ℕ)) → EachAfter IsReplayState s (Ok c) (EachIn IsReplayState number lines)
+        ↔ EachIn IsReplayState number lines (state_after s c) }
+    ensures each_in_none_kept { (number : ℕ) (s : ReplayState) → EachIn IsReplayState number [] s ↔ IsReplayState s }
+    ensures each_in_more_kept { (number : ℕ) (line : List ℕ) (lines : List (List ℕ)) (s : ReplayState) → EachIn IsReplayState number (line ∷ lines) s
+        ↔ (IsReplayState s × EachAfter IsReplayState s (command_of s.now number line) (EachIn IsReplayState (number + 1) lines)) }
+    ensures each_of_dump_kept { (now : Situation) (dump : Dump) → EachOfDump now dump IsReplayState None ↔ IsReplayState (first_state now dump) }
+    ensures each_by_kept { (now : Situation) (dump : Dump) (number : ℕ) (lines : List (List ℕ)) → EachBy IsReplayState (shows_dump now dump number lines)
+        ↔ EachOfDump now dump (EachIn IsReplayState number lines) (first_refusal dump.files) }
+    ensures holds_through_kept { (test : ReplayState → Bool) (text : List ℕ) → HoldsThrough (λ t. IsReplayState t × (test t ≡ true)) text
+        ↔ EachBy (λ t. IsReplayState t × (test t ≡ true)) (head_of text) }
 {}
 
 /// Newcomers, and steps by which none comes or goes.
