@@ -1,4 +1,6 @@
 // What definitions say of any arguments, in full: who changes one changes it here too.
+ghost use Rattle.mt_machine.specs.declared.done.Done.TheVariants.{Busy};
+ghost use Rattle.mt_machine.specs.declared.op.Op.{Op};
 ghost use Rattle.mt_core.specs.Arises.{Arises, IsCore, grown, snooped};
 ghost use Rattle.mt_core.specs.Barriers.{barrier_count};
 ghost use Rattle.mt_core.specs.Headline.{HasRisenByOne, IsBelowFull, WaitsFor, WaitsIn, WaitsWhereFor};
@@ -7,7 +9,7 @@ ghost use Rattle.mt_core.specs.Since.{HaveNoBuffers, IsHeldSince, IsSettledSince
 ghost use Rattle.mt_core.specs.Steps.{count_at, pause, pause_at, step_after, step_answer, under_way};
 ghost use Rattle.mt_core.specs.Stops.{StopsWhereOutside, is_outside};
 ghost use Rattle.mt_core.specs.declared.stepped.Stepped.TheVariants.{Did, NoUpdate, Waits};
-ghost use Rattle.mt_machine.specs.Access.{is_running};
+ghost use Rattle.mt_machine.specs.Access.{access, access_at, is_running};
 ghost use Rattle.mt_machine.specs.ComingAndGoing.{with_newcomer, without_last};
 ghost use Rattle.mt_machine.specs.Machine.{AreEnabled, BarrierCount, Calls, Goes, IsEnabled, Machine, MachineEvent, Order, Steps, due_at, first_barrier_count, go_of, has_released, is_cancelled, next, run, second_barrier_count};
 ghost use Rattle.mt_machine.specs.Memory.{IsMemory, Window, word_at};
@@ -22,7 +24,7 @@ ghost use Rattle.mt_ram.specs.Windows.{with_window};
 ghost use Rattle.mt_regs.specs.RegisterFile.{RegisterFile};
 ghost use Rattle.std.specs.List.{All, Contains, fold, list_all, range_with_len};
 ghost use Rattle.std.specs.Option.{option_map_or};
-ghost use Rattle.std.specs.Prelude.{IsSome, List, None, Some, [], false, length, not, slice_get, true, ℕ, ◌%◌, ◌&&◌, ◌++◌, ◌+◌, ◌-◌, ◌<◌, ◌^◌, ◌||◌, ◌↔◌, ◌∷◌, ◌≡◌, ◌≤◌, ◌⊎◌};
+ghost use Rattle.std.specs.Prelude.{IsSome, List, None, Some, [], false, if◌then◌else◌, length, not, slice_get, true, ℕ, ◌%◌, ◌&&◌, ◌++◌, ◌+◌, ◌-◌, ◌<◌, ◌^◌, ◌||◌, ◌↔◌, ◌∷◌, ◌≡◌, ◌≤◌, ◌⊎◌};
 
 /// What is said of the events since an update.
 pub fn worked_definitions_of_since()
@@ -87,5 +89,16 @@ pub fn worked_definitions_of_steps()
     ensures arises_by_snooping { (m : Machine) (k : ℕ) → Arises m → m.order ≡ None → Arises (snooped k m) }
     ensures arises_by_coming_up { (m : Machine) → Arises m → m.order ≡ None → 0 < length m.system.processors → Arises (with_newcomer m) }
     ensures arises_by_going_down { (m : Machine) → Arises m → m.order ≡ None → 1 < length m.system.processors → Arises (without_last m) }
+    ensures arises_apart { (m : Machine) → Arises m → IsStart m ⊎ ((n : Machine) × (e : MachineEvent) × Arises n × IsEnabled n e × (m ≡ next n e))
+        ⊎ ((n : Machine) × (w : Window) × Arises n × IsMemory (with_window w n.system.memory) × (m ≡ grown w n))
+        ⊎ ((n : Machine) × (k : ℕ) × Arises n × (n.order ≡ None) × (m ≡ snooped k n))
+        ⊎ ((n : Machine) × Arises n × (n.order ≡ None) × (0 < length n.system.processors) × (m ≡ with_newcomer n))
+        ⊎ ((n : Machine) × Arises n × (n.order ≡ None) × (1 < length n.system.processors) × (m ≡ without_last n)) }
     ensures is_core_by_parts { (m : Machine) → Arises m → length m.system.processors ≤ 16 → ((o : Order) → m.order ≡ Some o → o.from_era < 2 ^ 64 - 1) → IsCore m }
+{}
+
+/// An access by its number, also where no processor has it.
+pub fn worked_definitions_of_accesses()
+    ensures access { (s : System) (k : ℕ) (op : Op) → access s k op
+        ≡ option_map_or (λ p. if is_running p.phase then access_at s k p op else record { answer = Busy; after = s }) (slice_get s.processors k) (record { answer = Busy; after = s }) }
 {}
