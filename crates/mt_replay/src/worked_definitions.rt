@@ -41,6 +41,8 @@ pub fn worked_definitions_of_shown_dumps()
         → ShowsAt dump now before says (λ n b. behind n b ≡ true) true ↔ (ShownBy (onto before []) dump × (has_each now.cpus dump ≡ true)) }
     ensures shows_at_line { (dump : Dump) (now : Situation) (before : List Reading) (says : Reading) (behind : Situation → List Reading → Bool)
         → ShowsAt dump now before says (λ n b. behind n b ≡ true) false ↔ ((offence_of before says ≡ None) × (behind now (says ∷ before) ≡ true)) }
+    ensures shows_at_line_in { (dump : Dump) (number : ℕ) (lines : List (List ℕ)) (now : Situation) (before : List Reading) (says : Reading)
+        → ShowsAt dump now before says (ShowsIn dump number lines) false ↔ ((offence_of before says ≡ None) × ShowsIn dump number lines now (says ∷ before)) }
     ensures shows_after_line { (dump : Dump) (now : Situation) (before : List Reading) (says : Reading) (behind : Situation → List Reading → Bool) (c : Command)
         → ShowsAfter dump now before says (λ n b. behind n b ≡ true) c true ↔ ShowsAt dump now before says (λ n b. behind n b ≡ true) (is_end_command c) }
     ensures shows_after_other { (dump : Dump) (now : Situation) (before : List Reading) (says : Reading) (behind : Situation → List Reading → Bool) (c : Command)

@@ -1,4 +1,8 @@
 // What definitions say of any arguments, in full: who changes one changes it here too.
+ghost use Rattle.mt_replay.specs.Running.{Replays, ReplaysAs};
+ghost use Rattle.mt_ports.specs.declared.status.Status.{Status};
+ghost use Rattle.mt_stream.specs.Told.{Told};
+ghost use Rattle.mt_stream.specs.Runs.{RunsAs};
 ghost use Rattle.mt_core.specs.Arises.{Arises};
 ghost use Rattle.mt_dump.specs.Line.{Reading};
 ghost use Rattle.mt_dump.specs.Dumps.{Dump, first_file};
@@ -20,7 +24,7 @@ ghost use Rattle.mt_replay.specs.Movers.{Stays, count_before};
 ghost use Rattle.mt_replay.specs.Newcomers.{early, early_text, has_newcomers, is_newcomer, newcomer_by, newcomers_by, newcomers_from, newcomers_in, newcomers_of_dump};
 ghost use Rattle.mt_replay.specs.Parts.{AsksForMemory, IsComing, IsWindow, state};
 ghost use Rattle.mt_replay.specs.ReplayState.{ReplayState, first_state, state_after};
-ghost use Rattle.mt_replay.specs.Transcript.{in_body, in_head, transcript};
+ghost use Rattle.mt_replay.specs.Transcript.{in_body, in_head, replay_told, transcript};
 ghost use Rattle.mt_replay.specs.WorkedMoves.{acting, setting};
 ghost use Rattle.mt_script.specs.Commands.{command_of};
 ghost use Rattle.mt_script.specs.Kept.{IsSituation};
@@ -31,7 +35,7 @@ ghost use Rattle.mt_script.specs.declared.fault.Offence.{Offence};
 ghost use Rattle.mt_script.specs.declared.fault.ScriptFault.{ScriptFault};
 ghost use Rattle.mt_text.specs.Text.{lines_of};
 ghost use Rattle.std.specs.List.{All};
-ghost use Rattle.std.specs.Prelude.{⊤, Bool, Err, List, None, Ok, Some, [], false, if◌then◌else◌, length, map, replicate, true, ℕ, ◌++◌, ◌+◌, ◌||◌, ◌↔◌, ◌∷◌, ◌≡◌, ◌≤◌, ◌⊎◌};
+ghost use Rattle.std.specs.Prelude.{Bool, Err, List, None, Ok, Option, Some, [], false, if◌then◌else◌, length, map, replicate, true, ℕ, ⊤, ◌++◌, ◌+◌, ◌||◌, ◌↔◌, ◌∷◌, ◌≡◌, ◌≤◌, ◌⊎◌};
 ghost use Rattle.mt_script.specs.declared.command.Command.TheVariants as command;
 
 /// What each state keeps.
@@ -100,6 +104,10 @@ pub fn worked_definitions_of_newcomers()
     ensures has_newcomers { (text : List ℕ) → has_newcomers text ≡ newcomers_from 1 (lines_of text) (in_head at_start []) }
     ensures early { (comes : Bool) (so_far text : List ℕ) → early comes so_far text ≡ (if comes then so_far ++ text else accepted_line) }
     ensures early_text { (text : List ℕ) → early_text text ≡ early (has_newcomers text) [] (transcript text).text }
+    ensures replays_as { (t : Told) (bytes : List ℕ) (left before after : Option (List ℕ)) (status : Status) → ReplaysAs t bytes left before after status
+        ↔ RunsAs t replay_told (early_text bytes) bytes left before after status }
+    ensures replays { (bytes : List ℕ) (left before after : Option (List ℕ)) (status : Status) → Replays bytes left before after status
+        ↔ ReplaysAs (transcript bytes) bytes left before after status }
     ensures count_before { (step : Step) → count_before step ≡ length step.before.machine.system.processors }
     ensures stays { (step : Step) (text : List ℕ) → Stays step text ↔ ((wrote step ≡ text) × ((left step).machine ≡ step.before.machine)) }
     ensures state { (now : Situation) (machine : Machine) (goal : RegisterFile) → state now machine goal ≡ record { now = now; machine = machine; goal = goal } }
