@@ -78,6 +78,9 @@ pub fn worked_definitions_of_states()
         ↔ EachOfDump now dump (EachIn IsReplayState number lines) (first_refusal dump.files) }
     ensures holds_through_kept { (test : ReplayState → Bool) (text : List ℕ) → HoldsThrough (λ t. IsReplayState t × (test t ≡ true)) text
         ↔ EachBy (λ t. IsReplayState t × (test t ≡ true)) (head_of text) }
+    ensures holds_through_some { (holds : ReplayState → ℕ → Bool) (text : List ℕ) → HoldsThrough (λ t. (n : ℕ) × (holds t n ≡ true)) text
+        ↔ EachBy (λ t. (n : ℕ) × (holds t n ≡ true)) (head_of text) }
+    ensures each_state_of_a_text { (text : List ℕ) → EachBy IsReplayState (head_of text) }
 {}
 
 /// Newcomers, and steps by which none comes or goes.
