@@ -16,7 +16,6 @@ mod steps;
 mod tests;
 mod worked;
 mod worked_coming;
-pub mod worked_definitions;
 mod worked_laws;
 mod worked_relations;
 mod worked_statements;

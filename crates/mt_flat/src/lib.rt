@@ -8,7 +8,6 @@ mod laws;
 mod worked;
 mod worked_coming;
 mod worked_courses;
-pub mod worked_definitions;
 mod worked_laws;
 mod worked_related;
 mod worked_relations;

@@ -13,7 +13,6 @@ mod sizes;
 mod tests;
 mod worked;
 mod worked_cuts;
-pub mod worked_definitions;
 mod worked_rounded;
 
 pub use fault::GranFault;

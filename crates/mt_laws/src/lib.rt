@@ -7,7 +7,6 @@
 mod laws;
 mod worked;
 mod worked_coming;
-pub mod worked_definitions;
 mod worked_ends;
 mod worked_others;
 mod worked_reached;

@@ -12,7 +12,6 @@ mod op;
 mod phase;
 mod ruled;
 mod worked;
-pub mod worked_definitions;
 
 pub use control::Control;
 pub use done::Done;

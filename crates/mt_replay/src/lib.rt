@@ -19,9 +19,6 @@ mod summing;
 mod tests;
 mod texts;
 pub mod worked;
-pub mod worked_definitions;
-pub mod worked_definitions_of_courses;
-pub mod worked_definitions_of_states;
 
 pub use headline::{
     processors_come_and_go_by_lines, the_headline_holds, worked_course, worked_headline,
