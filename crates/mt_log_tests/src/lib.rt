@@ -1,0 +1,2 @@
+//! Tests of logs and pictures, over public calls.
+#![tactic(auto)]

@@ -1,0 +1,2 @@
+//! Tests of scripts, requests and the top call.
+#![tactic(auto)]

@@ -1,0 +1,2 @@
+//! Tests of ports, texts, dumps, script lines and output lines, over public calls.
+#![tactic(auto)]

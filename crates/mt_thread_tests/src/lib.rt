@@ -1,0 +1,2 @@
+//! Tests of updates and jobs on threads, over public calls.
+#![tactic(auto)]
