@@ -1,7 +1,6 @@
 -- Machines of worked examples, and what is seen of them.
-use Rattle.std.specs.Prelude.{ℕ, zero, suc, ◌+◌, nat_lt, Bool, true, false, List, [], ◌∷◌, ◌++◌, length, map, if◌then◌else◌, replicate, slice_get, None, Some}
+use Rattle.std.specs.Prelude.{ℕ, zero, suc, ◌+◌, Bool, true, false, List, [], ◌∷◌, map, replicate, slice_get, None, Some}
 use Rattle.std.specs.Option.{option_map_or}
-use Rattle.std.specs.List.{count_by}
 use Rattle.mt_kinds.specs.declared.mem_type.MemType.TheVariants.{WB}
 use Rattle.mt_regs.specs.declared.registers.Register.TheVariants.{DefaultType, PhysBase, Pat}
 use Rattle.mt_regs.specs.RegisterFile.{RegisterFile, blank_file}
@@ -10,19 +9,17 @@ use Rattle.mt_regs.specs.WorkedRows.{four_gigabytes}
 use Rattle.mt_cache.specs.declared.line.CacheLine.{CacheLine}
 use Rattle.mt_tlb.specs.declared.entry.Entry.{Entry}
 use Rattle.mt_tlb.specs.declared.mapping.Mapping.{Mapping}
-use Rattle.mt_machine.specs.declared.control.Control.TheVariants.{Map, Cd}
-use Rattle.mt_machine.specs.declared.event.Event.{Event}
+use Rattle.mt_machine.specs.declared.control.Control.TheVariants.{Map}
 use Rattle.mt_machine.specs.declared.go.Go.TheVariants.{Pending}
 use Rattle.mt_machine.specs.declared.phase.Phase.TheVariants.{Taken}
 use Rattle.mt_machine.specs.declared.op.Op.{Op}
 use Rattle.mt_machine.specs.declared.op.Op.TheVariants.{Load, Store}
 use Rattle.mt_machine.specs.declared.done.Done.{Done}
-use Rattle.mt_machine.specs.Memory.{Memory, Window, put_word, word_at}
-use Rattle.mt_machine.specs.System.{Processor, start_processor, lines_of, buffers_of}
+use Rattle.mt_machine.specs.Memory.{Window, put_word, word_at}
+use Rattle.mt_machine.specs.System.{Processor, start_processor, buffers_of}
 use Rattle.mt_machine.specs.Access.{access}
 use Rattle.mt_machine.specs.Machine.{Machine, MachineEvent, Order, Accesses, Controls, Calls, Goes, Steps, due_at, next, run}
 use Rattle.mt_machine.specs.Start.{start_machine, zero_memory}
-use Rattle.mt_machine.specs.Update.{dirty_count}
 
 -- ---- events
 
@@ -35,14 +32,8 @@ store k address value = Accesses k (Store address value)
 abbrev pub mapping : ℕ → ℕ → ℕ → Mapping
 mapping page physical index = record { vpage = page; ppage = physical; index = index; global = false }
 
-abbrev pub global_mapping : ℕ → Mapping
-global_mapping page = record (mapping page 0x100 0) { global = true }
-
 abbrev pub maps : ℕ → Mapping → MachineEvent
 maps k m = Controls k (Map m)
-
-abbrev pub no_fill : ℕ → MachineEvent
-no_fill k = Controls k (Cd true)
 
 -- the next step of a processor, where one is due, and several
 abbrev pub step_at : Machine → ℕ → Machine
@@ -51,11 +42,6 @@ step_at m k = option_map_or (λ e. next m (Steps k e)) (due_at m k) m
 abbrev pub walk : ℕ → ℕ → Machine → Machine
 walk zero k m = m
 walk (suc n) k m = walk n k (step_at m k)
-
--- the events of so many steps, while one is due
-abbrev pub steps_of : ℕ → ℕ → Machine → List Event
-steps_of zero k m = []
-steps_of (suc n) k m = option_map_or (λ e. e ∷ steps_of n k (next m (Steps k e))) (due_at m k) []
 
 -- steps of two processors in turn
 abbrev pub rounds : ℕ → Machine → Machine
@@ -77,28 +63,8 @@ memory_at m address = word_at m.system.memory address
 abbrev pub seen : List CacheLine → List (ℕ × ℕ)
 seen ls = map (λ l. (l.number, l.dirty)) ls
 
-abbrev pub cached : Machine → ℕ → List (ℕ × ℕ)
-cached m k = seen (lines_of m.system k)
-
 abbrev pub pending : Machine → ℕ → List (ℕ × ℕ)
 pending m k = seen (buffers_of m.system k)
-
-abbrev pub older_count : Processor → ℕ
-older_count p =
-    count_by (λ l. nat_lt l.era p.era) p.lines + count_by (λ l. nat_lt l.era p.era) p.buffers
-    + count_by (λ e. nat_lt e.era p.era) p.entries
-
-abbrev pub flag : Bool → ℕ
-flag b = if b then 1 else 0
-
--- era, lines, dirty words, buffers, entries, older ones, CD, PGE
-abbrev pub report : Processor → List ℕ
-report p =
-    p.era ∷ length p.lines ∷ dirty_count p.lines ∷ length p.buffers ∷ length p.entries ∷ older_count p
-    ∷ flag p.cache_disabled ∷ flag p.page_global ∷ []
-
-abbrev pub reports : Machine → List (List ℕ)
-reports m = map report m.system.processors
 
 -- ---- machines
 
@@ -154,27 +120,12 @@ begun goal m = run m (Calls goal ∷ [])
 abbrev pub called : Machine → Machine
 called m = run m (Calls goal_of ∷ Goes ∷ [])
 
--- both of two processors have taken and arrived
-abbrev pub both_arrived : Machine → Machine
-both_arrived m = walk 2 1 (walk 2 0 (called m))
-
 abbrev pub alone : Processor → Machine
 alone p = machine_of (p ∷ [])
 
--- a processor with a global entry and one that is not, and a line with two dirty words
+-- an entry of this page, which may be global
 abbrev pub entry : ℕ → Bool → Entry
 entry page global = record { vpage = page; ppage = 0x100; kind = WB; global = global; era = 0 }
-
-abbrev pub holder : Bool → Processor
-holder on = record (mapped four_gigabytes) {
-  page_global = on;
-  entries = entry 1 on ∷ entry 2 false ∷ [];
-  lines = record { number = 0x4000; words = 5 ∷ 6 ∷ 7 ∷ 0 ∷ 0 ∷ 0 ∷ 0 ∷ 0 ∷ []; dirty = 6; era = 0 } ∷ [];
-}
-
--- the same of a self-snooping processor
-abbrev pub snooper : Bool → Processor
-snooper on = record (holder on) { self_snoop = true }
 
 abbrev pub bare_snooper : Machine
 bare_snooper = alone (record (start_processor (bare_file 0x800)) { self_snoop = true })
@@ -216,13 +167,6 @@ crowded = record (start_processor four_gigabytes) {
   lines = dirty_lines 0x4001 64;
   entries = entries_from 2 64;
   mappings = mapping 1 0x100 0 ∷ mappings_from 2 63;
-}
-
--- 65 lines of memory
-abbrev pub wide_alone : Processor → Machine
-wide_alone p = record {
-  system = record { processors = p ∷ []; memory = zero_memory (record { base = 0x100000; lines = 65 } ∷ []) };
-  order = None;
 }
 
 -- a line at the window's begin, whose words 1 and 2 are dirty
@@ -271,33 +215,3 @@ calling o ps = record (machine_of ps) { order = Some o }
 
 abbrev pub ready : Processor
 ready = record idle { phase = Taken }
-
--- another width, era and PGE, a dirty line, and self-snooping
-abbrev pub wide_one : Processor
-wide_one = record (start_processor (with_value (blank_file 40 0x508) DefaultType 0x800)) {
-  page_global = true;
-  remembered_global = true;
-  mappings = mapping 1 0x100 0 ∷ [];
-  lines = line_of 0x4000 3 ∷ [];
-  entries = record (entry 1 false) { era = 3 } ∷ [];
-  era = 3;
-  self_snoop = true;
-}
-
--- a line at 1 MB, and two lines behind it in the list that lie lower; their words are 10 to 33
-abbrev pub two_windows : Memory
-two_windows = record {
-  windows = record { base = 0x100000; lines = 1 } ∷ record { base = 0x80; lines = 2 } ∷ [];
-  words = 10 ∷ 11 ∷ 12 ∷ 13 ∷ 14 ∷ 15 ∷ 16 ∷ 17 ∷ 18 ∷ 19 ∷ 20 ∷ 21 ∷ 22 ∷ 23 ∷ 24 ∷ 25 ∷ 26 ∷ 27 ∷ 28 ∷ 29 ∷ 30 ∷ 31 ∷ 32 ∷ 33 ∷ [];
-}
-
--- and a third window behind them
-abbrev pub three_windows : Memory
-three_windows = record {
-  windows = record { base = 0x100000; lines = 1 } ∷ record { base = 0x80; lines = 2 } ∷ record { base = 0x200000; lines = 1 } ∷ [];
-  words = two_windows.words ++ replicate 8 0;
-}
-
--- page 1 has the type of a PAT entry: the entries from 5 on are WC, WP and WT, all others WB
-abbrev pub choosing : ℕ → Processor
-choosing index = record (start_processor (with_value four_gigabytes Pat 0x0405010606060606)) { mappings = mapping 1 0x100 index ∷ [] }
