@@ -1,15 +1,14 @@
 -- One processor with a buffer, one with a dirty line, and two: their starts and events.
-use Rattle.std.proofs.Common.{◌≡◌, [], ◌∷◌, ◌++◌, false, rules, refl, inl, inr}
+use Rattle.std.proofs.Common.{◌≡◌, [], ◌∷◌, ◌++◌, false, rules, refl, inr}
 use Rattle.std.proofs.lemmas.Bool.{not-true}
 use Rattle.std.specs.Prelude.{not}
-use Rattle.mt_machine.specs.declared.event.Event.TheVariants.{Arrive, Leave, Pass, Release, Take}
-use Rattle.mt_machine.specs.Machine.{AreEnabled, Calls, Cancels, Goes, IsEnabled, Reached, Steps, at_start, has_passed, run}
+use Rattle.mt_machine.specs.declared.event.Event.TheVariants.{Arrive, Leave, Release}
+use Rattle.mt_machine.specs.Machine.{AreEnabled, Calls, Cancels, Reached, Steps, at_start, has_passed, run}
 use Rattle.mt_machine.specs.Start.{IsBroadcast, IsQuiet, IsStart}
 use Rattle.mt_machine.specs.Update.{Led, led_on, led_start}
 use Rattle.mt_machine.specs.WorkedRuns.{bare_file, call_order}
 use Rattle.mt_laws.specs.Settled.{IsFirstRelease}
-use Rattle.mt_laws.specs.WorkedRuns.{pair, pair_arrived, pair_between}
-use Rattle.mt_laws.specs.WorkedUpdates.{at_pass, buffered, by_buffered, dirty_released, dirty_taken, by_two, given_order, ready_pair, to_flush, to_pass, to_release, two_at_pass, two_called, two_holding, two_released, two_taken, two_to_change, two_to_pass, two_to_release, two_way}
+use Rattle.mt_laws.specs.WorkedUpdates.{at_pass, buffered, by_buffered, dirty_released, dirty_taken, dirty_way, given_order, ready_pair, to_flush, to_pass, to_release, two_taken, two_to_change}
 use Rattle.mt_laws.proofs.Invariant.Runs.{led_run, reached_run}
 use Rattle.mt_laws.proofs.Words.Sound.{test_all}
 
@@ -43,19 +42,6 @@ cancelled_enabled = (refl, (refl, (refl, (refl, tt))))
 pub led_to_leave : Led ready_pair (run ready_pair (Steps 0 Arrive ∷ Cancels ∷ Steps 1 Leave ∷ []))
 led_to_leave = led_run (Steps 0 Arrive ∷ Cancels ∷ Steps 1 Leave ∷ []) ready_pair ready_pair led_start (refl, (refl, (refl, tt))) refl
 
-pub pair_start : IsStart pair
-pair_start = inl (search rules)
-
-pub pair_reached : Reached pair pair_arrived
-pair_reached =
-    reached_run (Calls (bare_file 0x806) ∷ Goes ∷ Steps 0 Take ∷ Steps 0 Arrive ∷ Steps 1 Take ∷ Steps 1 Arrive ∷ []) pair pair at_start
-    (search rules, (refl, (refl, (refl, (refl, (refl, tt))))))
-
-pub pair_passed : Reached pair (run pair_arrived (Steps 0 Pass ∷ pair_between))
-pair_passed =
-    reached_run (Steps 0 Pass ∷ pair_between) pair pair_arrived pair_reached
-    (refl, (refl, (refl, (refl, (refl, (refl, (refl, (refl, (refl, (refl, (refl, (refl, (refl, (refl, (refl, (refl, (refl, (refl, (refl, (refl, (refl, (refl, (refl, (refl, tt))))))))))))))))))))))))
-
 pub dirty_start : IsStart dirty_taken
 dirty_start = inr (call_order, broadcast)
 
@@ -68,6 +54,18 @@ pass_reached = reached_run to_pass dirty_taken dirty_taken at_start (refl, (refl
 pub release_reached : Reached dirty_taken (run dirty_taken to_release)
 release_reached = reached_run to_release dirty_taken dirty_taken at_start to_release_enabled
 
+pub dirty_first_release : IsFirstRelease at_pass dirty_released given_order
+dirty_first_release = record {
+  order = refl;
+  none_passed = test_all (λ q. not (has_passed given_order q)) (λ q. has_passed given_order q ≡ false) (λ q. not-true (has_passed given_order q)) at_pass.system.processors refl;
+  first = 0;
+  last = 0;
+  between = dirty_way;
+  no_release = refl;
+  enabled = (refl, (refl, (refl, (refl, (refl, (refl, (refl, (refl, (refl, (refl, (refl, (refl, (refl, (refl, (refl, tt)))))))))))))));
+  leads = refl;
+}
+
 pub led_released : Led dirty_taken dirty_released
 led_released = led_on (Steps 0 Release) led_to_release refl refl
 
@@ -77,32 +75,5 @@ two_broadcast = search rules
 pub two_start : IsStart two_taken
 two_start = inr (call_order, two_broadcast)
 
-pub two_pass_reached : Reached two_taken two_at_pass
-two_pass_reached = reached_run two_to_pass two_taken two_taken at_start (refl, (refl, (refl, tt)))
-
 pub two_change_enabled : AreEnabled two_taken two_to_change
 two_change_enabled = (refl, (refl, (refl, (refl, (refl, (refl, (refl, (refl, (refl, (refl, (refl, tt)))))))))))
-
-pub two_release_enabled : AreEnabled two_taken two_to_release
-two_release_enabled = (refl, (refl, (refl, (refl, (refl, (refl, (refl, (refl, (refl, (refl, (refl, (refl, (refl, (refl, (refl, (refl, (refl, (refl, (refl, (refl, (refl, (refl, (refl, (refl, (refl, (refl, (refl, (refl, (refl, tt)))))))))))))))))))))))))))))
-
-pub two_first_release : IsFirstRelease two_at_pass two_released given_order
-two_first_release = record {
-  order = refl;
-  none_passed = test_all (λ q. not (has_passed given_order q)) (λ q. has_passed given_order q ≡ false) (λ q. not-true (has_passed given_order q)) two_at_pass.system.processors refl;
-  first = 1;
-  last = 1;
-  between = two_way;
-  no_release = refl;
-  enabled = (refl, (refl, (refl, (refl, (refl, (refl, (refl, (refl, (refl, (refl, (refl, (refl, (refl, (refl, (refl, (refl, (refl, (refl, (refl, (refl, (refl, (refl, (refl, (refl, (refl, (refl, (refl, tt)))))))))))))))))))))))))));
-  leads = refl;
-}
-
-pub two_quiet : IsQuiet two_holding
-two_quiet = search rules
-
-pub two_can_be_called : IsEnabled two_holding (Calls (bare_file 0x806))
-two_can_be_called = search rules
-
-pub by_two_enabled : AreEnabled two_called by_two
-by_two_enabled = (refl, (refl, (refl, (refl, (refl, (refl, (refl, (refl, (refl, (refl, (refl, (refl, (refl, (refl, (refl, (refl, (refl, (refl, (refl, (refl, (refl, (refl, (refl, (refl, (refl, (refl, (refl, (refl, (refl, (refl, (refl, (refl, (refl, tt)))))))))))))))))))))))))))))))))

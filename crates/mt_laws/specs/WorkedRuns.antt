@@ -1,6 +1,5 @@
 -- A worked update of two processors without pairs and fixed ranges.
 use Rattle.std.specs.Prelude.{List, [], ◌∷◌, ◌++◌, map}
-use Rattle.mt_regs.specs.RegisterFile.{RegisterFile}
 use Rattle.mt_machine.specs.declared.event.Event.{Event}
 use Rattle.mt_machine.specs.declared.event.Event.TheVariants.{Arrive, Pass, SetNoFill, DropLines, FlushTlb, Disable, Write, Enable, SetNormal, RestorePge, ArriveAgain, Release}
 use Rattle.mt_machine.specs.declared.go.Go.TheVariants.{Given}
@@ -17,9 +16,6 @@ pair = start_machine (bare_file 0x800 ∷ bare_file 0x800 ∷ []) []
 
 abbrev pub unlike_pair : Machine
 unlike_pair = start_machine (bare_file 0x800 ∷ bare_file 0x801 ∷ []) []
-
-abbrev pub files_of : Machine → List RegisterFile
-files_of m = map (λ p. p.file) m.system.processors
 
 -- both have arrived, and the go is given
 abbrev pub pair_arrived : Machine

@@ -1,11 +1,11 @@
 -- Worked updates of one processor with a buffer, and with a cached line that is dirty.
 use Rattle.std.specs.Prelude.{List, [], ◌∷◌, ◌++◌, drop, map, take}
 use Rattle.mt_machine.specs.declared.event.Event.{Event}
-use Rattle.mt_machine.specs.declared.event.Event.TheVariants.{Arrive, ArriveAgain, Disable, DropLines, Enable, FlushTlb, Leave, Pass, Release, RestorePge, SetNoFill, SetNormal, Take, Write, WriteBack}
+use Rattle.mt_machine.specs.declared.event.Event.TheVariants.{Arrive, ArriveAgain, Disable, DropLines, Enable, FlushTlb, Pass, Release, RestorePge, SetNoFill, SetNormal, Take, Write, WriteBack}
 use Rattle.mt_machine.specs.declared.go.Go.TheVariants.{Given}
 use Rattle.mt_machine.specs.declared.phase.Phase.TheVariants.{Taken}
-use Rattle.mt_machine.specs.Machine.{Machine, MachineEvent, Order, Calls, Cancels, Goes, Steps, next, run}
-use Rattle.mt_machine.specs.WorkedRuns.{alone, bare_file, call_order, calling, idle, line_of, machine_of, ready, whole}
+use Rattle.mt_machine.specs.Machine.{Machine, MachineEvent, Order, Goes, Steps, next, run}
+use Rattle.mt_machine.specs.WorkedRuns.{alone, bare_file, call_order, calling, ready, whole}
 use Rattle.mt_laws.specs.WorkedRuns.{pair_between, way_on}
 
 -- its buffer has words 1 and 2 of the window
@@ -63,42 +63,8 @@ two_taken = calling call_order (ready ∷ record whole { file = bare_file 0x801;
 abbrev pub two_to_pass : List MachineEvent
 two_to_pass = Goes ∷ Steps 1 Arrive ∷ Steps 0 Arrive ∷ []
 
-abbrev pub two_at_pass : Machine
-two_at_pass = run two_taken two_to_pass
-
 abbrev pub two_to_change : List MachineEvent
 two_to_change = two_to_pass ++ (Steps 1 Pass ∷ Steps 1 SetNoFill ∷ map (Steps 0) (Pass ∷ take 5 way_on))
 
 abbrev pub two_in_change : Machine
 two_in_change = run two_taken two_to_change
-
--- each goes on from its pass to the second barrier, where the second releases first
-abbrev pub two_way : List MachineEvent
-two_way = Steps 1 SetNoFill ∷ (map (Steps 0) (Pass ∷ way_on) ++ map (Steps 1) (write_backs ++ drop 1 way_on))
-
-abbrev pub two_to_release : List MachineEvent
-two_to_release = two_to_pass ++ (Steps 1 Pass ∷ two_way)
-
-abbrev pub two_before_release : Machine
-two_before_release = run two_taken two_to_release
-
-abbrev pub two_released : Machine
-two_released = next two_before_release (Steps 1 Release)
-
--- one that holds nothing, and one that has a dirty line and a buffer of another line
-abbrev pub two_holding : Machine
-two_holding = machine_of (idle ∷ record whole { buffers = line_of 0x4001 0 ∷ [] } ∷ [])
-
-abbrev pub two_called : Machine
-two_called = next two_holding (Calls (bare_file 0x806))
-
--- what comes between the second's take, which is the first event, and its release, which is the last
-abbrev pub two_between : List MachineEvent
-two_between = Steps 0 Take ∷ Goes ∷ Steps 1 Arrive ∷ Steps 0 Arrive ∷ Steps 1 Pass ∷ (two_way ++ Steps 0 Release ∷ [])
-
-abbrev pub by_two : List MachineEvent
-by_two = Steps 1 Take ∷ (two_between ++ Steps 1 Release ∷ [])
-
--- cancelled once the second alone has taken
-abbrev pub second_cancelled : List MachineEvent
-second_cancelled = Steps 1 Take ∷ Cancels ∷ Steps 1 Leave ∷ []

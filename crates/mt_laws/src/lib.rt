@@ -6,16 +6,7 @@
 
 mod laws;
 mod worked;
-mod worked_coming;
-mod worked_ends;
-mod worked_others;
-mod worked_reached;
-mod worked_relations;
-mod worked_statements;
-mod worked_systems;
-mod worked_two;
-mod worked_unlike;
-mod worked_uses;
+mod worked_laws;
 
 pub use laws::{
     accesses_keep_sound, barriers_count, barriers_hold, broadcast_update, cancelled_broadcast,
@@ -29,31 +20,12 @@ pub use laws::{
 };
 pub use worked::{
     worked_barriers, worked_counts, worked_eras, worked_first_release, worked_fresh,
-    worked_holdings, worked_kinds, worked_nothing, worked_orders,
+    worked_holdings, worked_nothing, worked_orders,
 };
-pub use worked_coming::{worked_fresh_comers_and_goers, worked_uncached};
-pub use worked_ends::{worked_cancelled_updates, worked_kept_by_steps, worked_whole_updates};
-pub use worked_others::{worked_other_parts, worked_second_processors};
-pub use worked_reached::{
-    worked_laws_of_ends, worked_laws_of_reached_states, worked_laws_of_releases,
+pub use worked_laws::{
+    worked_cancelled_updates, worked_fresh_comers_and_goers, worked_kept_by_steps,
+    worked_laws_of_barriers, worked_laws_of_comers_and_goers, worked_laws_of_ends,
+    worked_laws_of_quiet_machines, worked_laws_of_reached_states, worked_laws_of_releases,
+    worked_laws_of_sound_systems, worked_laws_of_steps, worked_laws_of_updates,
+    worked_whole_updates,
 };
-pub use worked_relations::{
-    worked_any_counts, worked_any_eras, worked_any_first_release, worked_any_fresh,
-    worked_any_holdings, worked_any_order, worked_any_settled_processor, worked_parts_of_barriers,
-};
-pub use worked_statements::{
-    worked_laws_in_full_of_barriers, worked_laws_in_full_of_comers_and_goers,
-    worked_laws_in_full_of_counts, worked_laws_in_full_of_releases, worked_laws_in_full_of_runs,
-    worked_laws_in_full_of_sound_systems, worked_laws_in_full_of_starts,
-    worked_laws_in_full_of_steps, worked_laws_in_full_of_updates,
-};
-pub use worked_systems::{
-    worked_laws_of_barriers, worked_laws_of_comers_and_goers, worked_laws_of_flags,
-    worked_laws_of_quiet_machines, worked_laws_of_sound_systems,
-};
-pub use worked_two::{
-    worked_laws_of_two, worked_laws_of_two_releases, worked_laws_of_two_systems,
-    worked_laws_of_two_takes,
-};
-pub use worked_unlike::worked_unlike_files;
-pub use worked_uses::{worked_laws_of_steps, worked_laws_of_updates, worked_updates_alike};

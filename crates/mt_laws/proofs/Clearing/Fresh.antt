@@ -5,7 +5,6 @@ use Rattle.std.specs.Option.{option_map_or}
 use Rattle.std.specs.List.{All}
 use Rattle.std.proofs.lemmas.Bool.{le-ltb}
 use Rattle.std.proofs.lemmas.Bool.Decides.{nat_tests}
-use Rattle.std.proofs.lemmas.List.Elements.{All-map}
 use Rattle.std.proofs.lemmas.List.Sums.{AllPass-from_list_all, list_all-from_AllPass}
 use Rattle.mt_cache.specs.declared.line.CacheLine.{CacheLine}
 use Rattle.mt_cache.specs.Lines.{clean_word}
@@ -19,7 +18,6 @@ use Rattle.mt_machine.specs.Memory.{word_of}
 use Rattle.mt_machine.specs.System.{Processor, System}
 use Rattle.mt_machine.specs.Control.{reload_cr3}
 use Rattle.mt_machine.specs.Machine.{Machine, Order, MachineEvent, Accesses, Controls, Calls, Goes, Cancels, Steps, IsEnabled, Reached, after, at_start, before_own, due, flush_tlb, next, own_step, step}
-use Rattle.mt_machine.specs.Update.{settled_processor, updated}
 use Rattle.mt_machine.proofs.Rows.{due_row, is_row}
 use Rattle.mt_laws.specs.Settled.{IsFresh, NothingIsStale, StartsFresh}
 use Rattle.mt_laws.proofs.Barrier.Claims.{all_get, all_of}
@@ -164,18 +162,6 @@ from_tests p f = record {
 pub stays_fresh : (k : ℕ) (ps qs : List Processor) → FollowsIn k ps qs → All IsFresh ps → All IsFresh qs
 stays_fresh k ps qs follows fresh =
     all_of IsFresh qs (λ i q at. from_tests q (fresh_follows k ps qs follows (λ j p there. to_tests p (all_get IsFresh ps fresh j p there)) i q at))
-
--- an event from any state of the invariant
-pub next_stays_fresh : (m : Machine) (e : MachineEvent) → IsKept m → IsEnabled m e → All IsFresh m.system.processors → All IsFresh (next m e).system.processors
-next_stays_fresh m e kept enabled fresh =
-    all_of IsFresh (next m e).system.processors
-    (λ i q at. from_tests q
-    (fresh_next e m.system m.order enabled kept.1 (λ j p there. to_tests p (all_get IsFresh m.system.processors fresh j p there)) i q at))
-
--- a whole update leaves nothing
-pub updated_is_fresh : (s : System) (ks : List ℕ) (goal : RegisterFile) → All IsFresh (updated s ks goal).system.processors
-updated_is_fresh s ks goal =
-    All-map IsFresh (settled_processor goal) s.processors (λ i d within. record { lines = nothing _; buffers = nothing _; entries = nothing _ })
 
 pub nothing_is_stale : NothingIsStale
 nothing_is_stale s m start fresh reached =

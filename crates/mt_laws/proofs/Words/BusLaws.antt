@@ -101,9 +101,6 @@ leaves_word may a x s t l w = record {
   writes = λ h. l.writes (w.writes h);
 }
 
-pub leaves_clean : (a x : ℕ) (s t : System) → Leaves a s t → Clean a x s → Clean a x t
-leaves_clean a x s t l c = record { at = l.word ∙ c.at; shared = subst (IsShared x) (sym l.same) c.shared }
-
 pub leaves_same : (a : ℕ) (s : System) → Leaves a s s
 leaves_same a s = record { word = refl; same = refl; writes = λ h. h }
 

@@ -1,4 +1,4 @@
-use Rattle.std.proofs.Common.{◌≡◌, ℕ, zero, suc, Bool, true, false, refl, ap, arith, Option, None, Some, [], ◌∷◌}
+use Rattle.std.proofs.Common.{◌≡◌, ℕ, zero, suc, Bool, true, false, refl, ap, Option, None, Some, [], ◌∷◌}
 use Rattle.mt_machine.specs.System.{Processor}
 use Rattle.mt_machine.specs.declared.op.Op.TheVariants.{Fence}
 use Rattle.mt_machine.specs.declared.control.Control.TheVariants.{Cr3}
@@ -52,6 +52,3 @@ returns-clause-one_runs c = λ h. absurd (cc (h 0 1 (record idle { phase = NoFil
 
 pub returns-clause-one_acts : goal.returns-clause-one_acts
 returns-clause-one_acts c = λ h. absurd (cc (ap (λ (x : Answered). x.answer) (h 0 1 (record idle { phase = NoFill }) Fence Cr3 refl refl).0))
-
-pub returns-clause-not_full : goal.returns-clause-not_full
-returns-clause-not_full c = λ h. omega (arith, h)

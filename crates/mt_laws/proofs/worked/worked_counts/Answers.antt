@@ -51,23 +51,11 @@ needs m before p is at = ap needed (ap (λ (es : List MachineEvent). slice_get (
 pub returns-clause-one_step_more : goal.returns-clause-one_step_more
 returns-clause-one_step_more c = λ h before. omega (arith, h.count, needs bare_called h.before h.passed before h.at_pass)
 
-pub returns-clause-all_the_same : goal.returns-clause-all_the_same
-returns-clause-all_the_same c = λ h before. omega (arith, h.count, needs snooper_called h.before h.passed before h.at_pass)
-
-pub returns-clause-first_flush_left_out : goal.returns-clause-first_flush_left_out
-returns-clause-first_flush_left_out c = λ h before. omega (arith, h.count, needs bare_called h.before h.passed before h.at_pass)
-
 pub returns-clause-one_missing : goal.returns-clause-one_missing
 returns-clause-one_missing c = λ h. omega (arith, h 1)
-
-pub returns-clause-one_twice : goal.returns-clause-one_twice
-returns-clause-one_twice c = λ h. omega (arith, h 0)
 
 pub returns-clause-one_too_many : goal.returns-clause-one_too_many
 returns-clause-one_too_many c = λ h. omega (arith, h 2)
 
 pub returns-clause-twice : goal.returns-clause-twice
 returns-clause-twice c = λ h. omega (arith, h 0)
-
-pub returns-clause-no_processor : goal.returns-clause-no_processor
-returns-clause-no_processor c = λ h. omega (arith, h 2)
