@@ -3,5 +3,3 @@ pub mod Seen
 pub mod ComingAndGoing
 pub mod Courses
 pub mod WorkedRuns
-pub mod WorkedUpdates
-pub mod WorkedLaws
