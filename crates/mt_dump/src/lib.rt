@@ -38,6 +38,3 @@ pub use worked_records::{worked_dumps, worked_shown_dumps};
 pub use worked_shows::{
     worked_numbers_of_sections, worked_sections_in_order, worked_shown_sections,
 };
-
-#[cfg(test)]
-mod tests;

@@ -22,6 +22,3 @@ pub use program::{exit_code, words_behind_name};
 pub use whole::written;
 pub use worked::{worked_exits, worked_written};
 pub use writer::{WRITER_ROOM, Writer};
-
-#[cfg(test)]
-mod tests;

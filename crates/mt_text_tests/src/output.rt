@@ -1,11 +1,12 @@
-use crate::{
+use crate::memory::memory_sink;
+use arrayvec::ArrayVec;
+use mt_dump::{DumpFault, DumpReason};
+use mt_kinds::{MemType, PatType};
+use mt_output::{
     LineBuffer, WRITER_ROOM, Writer, accepted_line, append_address, append_decimal, append_number,
     append_pat_type, append_type, append_value, bad_text_line, dump_refused_line, offence_line,
     refused_line,
 };
-use arrayvec::ArrayVec;
-use mt_dump::{DumpFault, DumpReason};
-use mt_kinds::{MemType, PatType};
 use mt_ports::MemSink;
 use mt_regs::{Fault, Reason};
 use mt_script::{Offence, ScriptFault, ScriptReason};
@@ -24,11 +25,7 @@ fn ports(alloc: Global, room: usize, failing: &[u64]) -> Result<(Writer, MemSink
     let Ok(writer) = Writer::new(alloc) else {
         return Err(Fail::from("no memory"));
     };
-    let failing = failing.to_vec(alloc)?;
-    let Ok(sink) = MemSink::new(alloc, room, failing) else {
-        return Err(Fail::from("no memory"));
-    };
-    Ok((writer, sink))
+    Ok((writer, memory_sink(alloc, room, failing)?))
 }
 
 #[test]

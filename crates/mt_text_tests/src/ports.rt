@@ -1,4 +1,5 @@
-use crate::{MemSink, MemSource, Sink, Source, put};
+use crate::memory::memory_sink;
+use mt_ports::{MemSource, Sink, Source, put};
 use std::test::Fail;
 
 #[test]
@@ -13,9 +14,7 @@ fn memory_ports(rt: HostRuntime) -> Result<(), Fail> {
     assert_eq!(rt; buffer[0], b'5');
     assert!(rt; matches!(source.take(&mut buffer), Ok(1)));
     assert!(rt; matches!(source.take(&mut buffer), Ok(0)));
-    let Ok(mut sink) = MemSink::new(alloc, 5, [0].to_vec(alloc)?) else {
-        return Err(Fail::from("no memory"));
-    };
+    let mut sink = memory_sink(alloc, 5, &[0])?;
     assert!(rt; sink.give(b"lost").is_err());
     assert!(rt; put(&mut sink, b"kept whole").is_err());
     assert_eq!(rt; sink.bytes(), b"kept ".as_slice());

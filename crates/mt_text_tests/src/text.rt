@@ -1,5 +1,5 @@
-use crate::{Feed, FeedFault, NumberFault, Place, decimal, end_place, hex64, next_line};
 use mt_ports::MemSource;
+use mt_text::{Feed, FeedFault, NumberFault, Place, decimal, end_place, hex64, next_line};
 use std::process::Abort;
 use std::test::Fail;
 

@@ -1,4 +1,4 @@
-use crate::{Dump, DumpFault, DumpReader, DumpReason, read_dump, read_dump_from, write_dump};
+use mt_dump::{Dump, DumpFault, DumpReader, DumpReason, read_dump, read_dump_from, write_dump};
 use mt_ports::MemSource;
 use mt_regs::RegFile;
 use mt_text::{FeedFault, Place, next_line};
