@@ -1,7 +1,7 @@
 use Rattle.std.proofs.Common.{◌≡◌, ap, arith}
 use Rattle.mt_regs.specs.RegisterFile.{RegisterFile}
 use Rattle.mt_regs.specs.WorkedRows.{four_gigabytes, plain}
-use Rattle.mt_regs.proofs.worked_agreement.worked_equal_files.Goals as goal
+use Rattle.mt_regs.proofs.worked.worked_equal_files.Goals as goal
 
 pub returns-clause-not_equal : goal.returns-clause-not_equal
 returns-clause-not_equal c = λ h.

@@ -6,7 +6,7 @@ use Rattle.mt_regs.specs.RegisterFile.{IsRegisterFile, RegisterFile}
 use Rattle.mt_regs.specs.Registers.{value_at, with_value}
 use Rattle.mt_regs.specs.WorkedRows.{plain}
 use Rattle.mt_regs.proofs.Writes.{changes_only}
-use Rattle.mt_regs.proofs.worked_agreement.worked_first_differences.Goals as goal
+use Rattle.mt_regs.proofs.worked.worked_first_differences.Goals as goal
 
 abbrev typed : RegisterFile
 typed = with_value plain DefaultType 0x800
