@@ -10,11 +10,7 @@ mod line;
 mod reader;
 mod said;
 mod texts;
-mod worked;
-mod worked_for_processors;
 mod worked_plain;
-mod worked_records;
-mod worked_shows;
 
 pub use canon::{number_text, value_text, write_dump};
 pub use dumps::Dump;
@@ -28,16 +24,4 @@ pub use laws::{
 };
 pub use reader::{DumpReader, read_dump, read_dump_from};
 pub use texts::{TextBuffer, append_canon, append_text, canonical_text};
-pub use worked::{
-    worked_bad_lines, worked_bad_numbers, worked_file, worked_later_sections, worked_plain_lines,
-    worked_registers, worked_sections, worked_shapes, worked_versions,
-};
-pub use worked_for_processors::worked_files_for;
 pub use worked_plain::worked_plain_texts;
-pub use worked_records::{worked_dumps, worked_shown_dumps};
-pub use worked_shows::{
-    worked_numbers_of_sections, worked_sections_in_order, worked_shown_sections,
-};
-
-#[cfg(test)]
-mod tests;

@@ -7,7 +7,6 @@ mod forming;
 mod line;
 mod program;
 mod whole;
-mod worked;
 mod writer;
 
 pub use faults::{
@@ -20,8 +19,4 @@ pub use line::{
 };
 pub use program::{exit_code, words_behind_name};
 pub use whole::written;
-pub use worked::{worked_exits, worked_written};
 pub use writer::{WRITER_ROOM, Writer};
-
-#[cfg(test)]
-mod tests;

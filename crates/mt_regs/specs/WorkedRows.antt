@@ -19,10 +19,6 @@ four_gigabytes = with_value (with_pair plain 0 6 0xf00000800) DefaultType 0x800
 abbrev pub clash : RegisterFile
 clash = with_pair four_gigabytes 1 0xc0000001 0xff0000800
 
--- and UC at the same place
-abbrev pub covered_clash : RegisterFile
-covered_clash = with_pair clash 2 0xc0000000 0xff0000800
-
 -- the fixed range of video memory as WC
 abbrev pub video_memory : RegisterFile
 video_memory = with_value (with_value four_gigabytes (FixedRange 2) 0x0101010101010101) DefaultType 0xc00

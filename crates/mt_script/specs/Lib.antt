@@ -12,4 +12,3 @@ pub mod Shape
 pub mod Situation
 pub mod Stages
 pub mod Words
-pub mod Worked

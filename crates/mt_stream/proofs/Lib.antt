@@ -3,4 +3,3 @@ pub mod KnownLines
 pub mod Rounds
 pub mod Taking
 pub mod Telling
-mod Numbered

@@ -3,5 +3,3 @@ pub mod Laws
 pub mod Lines
 pub mod Runs
 pub mod Told
-pub mod WorkedRunning
-pub mod WorkedTexts
