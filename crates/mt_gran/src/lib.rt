@@ -9,8 +9,6 @@ mod laws;
 mod lists;
 mod run_list;
 mod sizes;
-#[cfg(test)]
-mod tests;
 mod worked;
 mod worked_cuts;
 mod worked_rounded;

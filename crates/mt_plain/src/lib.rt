@@ -34,6 +34,3 @@ pub use worked_due::{
 pub use worked_map::{worked_map_answers, worked_maps_in_arrays, worked_plain_runs};
 pub use worked_rounded::{worked_gran_reasons, worked_gran_refusals, worked_rounded_words};
 pub use worked_tidied::{worked_tidy_reasons, worked_tidy_refusals};
-
-#[cfg(test)]
-mod tests;

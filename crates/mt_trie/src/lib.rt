@@ -3,8 +3,6 @@
 
 mod context;
 mod laws;
-#[cfg(test)]
-mod tests;
 mod wants;
 mod wish;
 mod worked;

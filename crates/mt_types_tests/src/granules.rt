@@ -1,35 +1,12 @@
 ghost use Rattle.std.specs.Prelude.{◌≤◌};
 
-use crate::{Grained, GranFault, gran, rounded};
+use crate::files::{file_of, has_pairs};
+use mt_gran::{Grained, GranFault, gran, rounded};
 use mt_kinds::MemType;
 use mt_regs::{PageType, Reason, RegFile};
 use mt_tidy::WorkArea;
 use mt_types::Run;
 use std::test::Fail;
-
-// A file of 36 bits with these values of registers.
-fn file_of(cap: u64, registers: &[(u32, u64)]) -> Result<RegFile, Fail> {
-    let Ok(mut f) = RegFile::blank(36, cap) else {
-        return Err(Fail::from("shape"));
-    };
-    for (number, value) in registers {
-        let Ok(()) = f.set(*number, *value) else {
-            return Err(Fail::from("no such register"));
-        };
-    }
-    Ok(f)
-}
-
-// Whether the file's pairs are these and zeros.
-fn has_pairs(f: &RegFile, pairs: &[(u64, u64)]) -> bool {
-    let mut at = pairs.iter();
-    for pair in f.pairs.iter() {
-        if *pair != *at.next().unwrap_or(&(0, 0)) {
-            return false;
-        }
-    }
-    at.next().is_none()
-}
 
 // Whether the runs begin at these pages and have these numbers of pages and types.
 fn are(runs: &[Run], wanted: &[(u64, u64, MemType)]) -> bool {

@@ -1,4 +1,4 @@
-use crate::{
+use mt_plain::{
     PlainFault, PlainLoss, PlainNeed, PlainPair, PlainProcessor, PlainRegisters, PlainRun,
     PlainStep, PlainUpdate, due, effective_type, first_fault, gran, is_file, page_type, tidy,
     type_map,

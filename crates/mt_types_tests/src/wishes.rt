@@ -3,10 +3,10 @@ ghost use Rattle.std.specs.List.{All};
 ghost use Rattle.mt_types.specs.Runs.{pages_end};
 ghost use Rattle.mt_trie.specs.Wishes.{IsDefined};
 
-use crate::{Wish, want};
 use mt_kinds::MemType;
 use mt_ranges::block_of;
 use mt_regs::PageType;
+use mt_trie::{Wish, want};
 use mt_types::{Run, Runs};
 use std::alloc::Global;
 use std::test::Fail;
