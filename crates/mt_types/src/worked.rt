@@ -3,5 +3,5 @@ ghost use Rattle.mt_types.specs.WorkedMaps.{three};
 
 /// A type map of three runs.
 pub fn worked_maps()
-    ensures map { IsTypeMap three }
+    ensures { IsTypeMap three }
 {}
