@@ -10,8 +10,6 @@ mod Steady
 pub mod RoundedFit
 pub mod GranuleSizes
 mod OneList
-mod WorkedParts
 pub mod SomeRounding
 pub mod WorkedFile
 pub mod WorkedRounded
-mod WorkedSixteen

@@ -32,7 +32,7 @@ loses_none g page WT = refl
 loses_none g page WP = refl
 loses_none g page WB = refl
 
-pub none_lost : (g : ℕ) → lost_pages (pages_of uncached) g ≡ 0
+none_lost : (g : ℕ) → lost_pages (pages_of uncached) g ≡ 0
 none_lost g = count_none (loses (pages_of uncached) g WB) 0 0x1000000 0x1000000 refl (λ page low high. loses_none g page WB)
 
 pub map_of : (g : ℕ) → AreRounded (pages_of uncached) g (all_of UC)
@@ -66,10 +66,7 @@ fitted = record {
   free = λ page free. refl;
 }
 
-pub not_lost : (g lost : ℕ) → lost ≡ lost_pages (pages_of uncached) g → lost ≡ 0
-not_lost g lost is = is ∙ none_lost g
-
-pub keeps_all : (g page : ℕ) (t : MemType) → loses (pages_of uncached) g t page ≡ true → ⊥
+keeps_all : (g page : ℕ) (t : MemType) → loses (pages_of uncached) g t page ≡ true → ⊥
 keeps_all g page t lost = absurd (cc (sym (loses_none g page t) ∙ lost))
 
 no_parts : (g : ℕ) → ArePartsOf (pages_of uncached) g []

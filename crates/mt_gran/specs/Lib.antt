@@ -3,5 +3,3 @@ pub mod Sizes
 pub mod Parts
 pub mod Marks
 pub mod Grained
-pub mod WorkedGranules
-pub mod WorkedCuts

@@ -9,11 +9,7 @@ mod laws;
 mod lists;
 mod run_list;
 mod sizes;
-#[cfg(test)]
-mod tests;
 mod worked;
-mod worked_cuts;
-mod worked_rounded;
 
 pub use fault::GranFault;
 pub use grains::{Grained, gran, rounded};
@@ -24,9 +20,4 @@ pub use laws::{
 };
 pub use run_list::RunList;
 pub use sizes::granule_log;
-pub use worked::{
-    worked_grained, worked_granules, worked_losses, worked_parts, worked_rounding, worked_sizes,
-    worked_why,
-};
-pub use worked_cuts::{worked_cuts_of_runs, worked_longest_runs, worked_marks, worked_whole_runs};
-pub use worked_rounded::{worked_least_rounded, worked_rounded_maps, worked_sixteen_rounded};
+pub use worked::{worked_grained, worked_least_rounded};

@@ -3,6 +3,4 @@ pub mod Maps
 pub mod Plain
 pub mod Tidying
 pub mod Rounding
-pub mod WorkedWords
 pub mod WorkedTurns
-pub mod WorkedRounding

@@ -1,4 +1,4 @@
--- Files of which one range gives all pages a type that is not the default one.
+-- A file of which one range gives all pages WB, where the default is UC.
 use Rattle.std.proofs.Common.{rules, ◌≡◌, ℕ, ◌<◌, ◌≤◌, true, List, [], ◌∷◌, length, refl, sym, ◌∙◌, arith}
 use Rattle.std.specs.Prelude.{nat_le, nat_lt}
 use Rattle.std.specs.List.{All}
@@ -8,12 +8,12 @@ use Rattle.mt_regs.specs.declared.page_type.PageType.TheVariants.{Kind}
 use Rattle.mt_regs.specs.PageTypes.{page_type, page_type_among}
 use Rattle.mt_regs.specs.Faults.{IsAccepted}
 use Rattle.mt_tidy.specs.declared.range.Range.{Range}
-use Rattle.mt_tidy.specs.Keeps.{IsLeast, Keeps}
+use Rattle.mt_tidy.specs.Keeps.{Keeps}
 use Rattle.mt_tidy.specs.Kept.{NeedsMore}
 use Rattle.mt_tidy.specs.Ranges.{types_at}
 use Rattle.mt_tidy.specs.Tidied.{IsTooFew}
-use Rattle.mt_tidy.specs.Wanted.{Gives, IsLeastFor, IsRangeOf}
-use Rattle.mt_tidy.specs.WorkedRanges.{all_of, cached, range, uncached, written_back}
+use Rattle.mt_tidy.specs.Wanted.{Gives, IsRangeOf}
+use Rattle.mt_tidy.specs.WorkedRanges.{all_of, range, uncached, written_back}
 use Rattle.mt_tidy.proofs.Fitted.{kind_among}
 
 from : (page : ℕ) → nat_le 0 page ≡ true
@@ -21,30 +21,6 @@ from page = grind (arith, nat_tests)
 
 below : (a b : ℕ) → a < b → nat_lt a b ≡ true
 below a b h = grind (arith, nat_tests, h)
-
--- ---- all pages as UC, where the default is WB
-
-uncacheable : Gives cached (all_of UC) (range 0 24 UC ∷ [])
-uncacheable = record {
-  ranges_of = search rules;
-  wanted_kinds = λ page within free. rw (from page, below page 0x1000000 within) refl;
-}
-
-some_range : (ranges : List Range) → Gives cached (all_of UC) ranges → 1 ≤ length ranges
-some_range [] g = absurd (cc (g.wanted_kinds 0 (omega arith) refl))
-some_range (r ∷ rs) g = omega arith
-
-pub too_few : IsTooFew cached (all_of UC) 0 8 1 0
-too_few = record {
-  has_is = refl;
-  above = omega arith;
-  least = record { some = (range 0 24 UC ∷ [], uncacheable, (tt, tt), refl); none_shorter = λ ranges g a. some_range ranges g };
-}
-
-pub not_two : IsLeastFor cached (all_of UC) 0 2 → ⊥
-not_two h = omega (arith, h.none_shorter (range 0 24 UC ∷ []) uncacheable (tt, tt))
-
--- ---- a file of which all pages have WB, where the default is UC
 
 among : (page : ℕ) → page < 0x1000000 → page_type written_back page ≡ page_type_among uncached (types_at (range 0 24 WB ∷ []) page) page
 among page within = kind_among uncached (omega arith) (range 0 24 WB ∷ []) (record { block = record { aligned = refl; within = omega arith }; supported = refl }, tt) page within
@@ -91,6 +67,3 @@ needs_more = record {
   above = omega arith;
   least = record { some = (range 0 24 WB ∷ [], keeps, (tt, tt), refl); none_shorter = λ ranges k a. kept_range ranges k };
 }
-
-pub not_two_kept : IsLeast written_back 0 2 → ⊥
-not_two_kept h = omega (arith, h.none_shorter (range 0 24 WB ∷ []) keeps (tt, tt))

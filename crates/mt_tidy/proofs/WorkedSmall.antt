@@ -1,7 +1,8 @@
 -- Sixteen pages, of which the first seven have WB and the others UC.
-use Rattle.std.proofs.Common.{rules, ◌≡◌, ◌≢◌, ◌∙◌, ◌<◌, ◌≤◌, ℕ, zero, suc, Bool, true, false, Some, refl, sym, ap, subst, arith}
+use Rattle.std.proofs.Common.{rules, ◌≡◌, ◌≢◌, ◌∙◌, ◌<◌, ◌≤◌, ℕ, zero, suc, Bool, true, false, Option, Some, refl, sym, ap, subst, arith}
 use Rattle.std.specs.Prelude.{IsTrue, nat_lt, slice_index_or}
 use Rattle.std.specs.List.{All}
+use Rattle.std.specs.Option.{option_map_or}
 use Rattle.std.proofs.lemmas.Bool.Decides.{nat_tests}
 use Rattle.mt_kinds.specs.declared.mem_type.MemType.{MemType}
 use Rattle.mt_kinds.specs.declared.mem_type.MemType.TheVariants.{UC, WB}
@@ -13,15 +14,13 @@ use Rattle.mt_types.specs.declared.run.Run.{Run}
 use Rattle.mt_types.specs.Runs.{HasKind, IsRunsOf, kind_at}
 use Rattle.mt_tidy.specs.Cost.{cost, whole_cost, wish}
 use Rattle.mt_tidy.specs.Keeps.{IsLeast, Keeps}
-use Rattle.mt_tidy.specs.LeastList.{IsLeastList}
 use Rattle.mt_tidy.specs.Ranges.{InOrder, IsAllowed, types_at}
 use Rattle.mt_tidy.specs.Tidied.{with_ranges}
-use Rattle.mt_tidy.specs.Wanted.{Gives, IsLeastFor, IsRangeOf, IsWanted, is_supported_type}
+use Rattle.mt_tidy.specs.Wanted.{IsLeastFor, IsRangeOf, IsWanted, is_supported_type}
 use Rattle.mt_tidy.specs.WorkedRanges.{holed}
 use Rattle.mt_tidy.specs.WorkedSmall.{apart, seven}
 use Rattle.mt_tidy.proofs.Own.{least_is_least_for}
 use Rattle.mt_tidy.proofs.WholeCost.{cost_is_least}
-use Rattle.mt_tidy.proofs.WorkedLaying.{number}
 
 -- what holds of each number below one
 abbrev pub Below : (ℕ → Type 0) → ℕ → Type 0
@@ -79,9 +78,6 @@ new_accepted = λ page within undefined. some_type page within (new_type page wi
 ranges_of : All (IsRangeOf apart) holed
 ranges_of = search rules
 
-pub gives : Gives apart seven holed
-gives = record { ranges_of = ranges_of; wanted_kinds = λ page within free. given_type page within }
-
 pub keeps : Keeps apart holed
 keeps = record {
   ranges_of = ranges_of;
@@ -113,6 +109,9 @@ pub cost_three : whole_cost apart seven 0x7fff ≡ Some 3
 unfolding cost wish
 cost_three = refl
 
+number : (a b : ℕ) → Some a ≡ Some b → a ≡ b
+number a b is = ap (λ (o : Option ℕ). option_map_or (λ v. v) o 0) is
+
 least_by : (chunk count : ℕ) → whole_cost apart seven chunk ≡ Some count → IsLeastFor apart seven chunk count
 least_by chunk count is =
     let found = cost_is_least apart seven chunk refl wanted in
@@ -120,9 +119,6 @@ least_by chunk count is =
 
 pub least_two : IsLeastFor apart seven 0x8000 2
 least_two = least_by 0x8000 2 cost_two
-
-pub least_three : IsLeastFor apart seven 0x7fff 3
-least_three = least_by 0x7fff 3 cost_three
 
 low : (page : ℕ) → page < 7 → nat_lt page 7 ≡ true
 low page small = grind (arith, nat_tests, small)
@@ -147,16 +143,3 @@ own_runs = record {
 
 pub own_least_two : IsLeast apart 0x8000 2
 own_least_two = (least_is_least_for apart accepted refl seven own_runs 0x8000 2).1 least_two
-
-pub own_least_three : IsLeast apart 0x7fff 3
-own_least_three = (least_is_least_for apart accepted refl seven own_runs 0x7fff 3).1 least_three
-
-pub list : IsLeastList apart seven 0x8000 holed
-list = record { gives = gives; allowed = allowed; in_order = in_order; none_shorter = λ others g a. least_two.none_shorter others g a }
-
--- a list of two that may share no page would be shorter than each such list
-pub not_two : IsLeastFor apart seven 0x7fff 2 → ⊥
-not_two h = omega (arith, least_three.none_shorter h.some.0 h.some.1 h.some.2, h.some.3)
-
-pub not_two_of_its_own : IsLeast apart 0x7fff 2 → ⊥
-not_two_of_its_own h = omega (arith, own_least_three.none_shorter h.some.0 h.some.1 h.some.2, h.some.3)

@@ -1,12 +1,12 @@
 -- The wishes of blocks over two runs.
-use Rattle.std.proofs.Common.{◌≡◌, ℕ, ◌+◌, ◌^◌, ◌<◌, ◌≤◌, true, false, refl, sym, ◌∙◌, inl, inr, arith}
+use Rattle.std.proofs.Common.{◌≡◌, ℕ, ◌+◌, ◌^◌, ◌<◌, ◌≤◌, true, refl, sym, ◌∙◌, inl, inr, arith}
 use Rattle.std.specs.Prelude.{nat_le, nat_lt, None, Some}
 use Rattle.std.proofs.lemmas.Bool.{and_from, and_parts, cases_lt, le-leb, le-ltb, lt-ltb, ltb-true}
 use Rattle.mt_kinds.specs.declared.mem_type.MemType.{MemType}
-use Rattle.mt_kinds.specs.declared.mem_type.MemType.TheVariants.{UC, WB}
+use Rattle.mt_kinds.specs.declared.mem_type.MemType.TheVariants.{WB}
 use Rattle.mt_ranges.specs.declared.block.Block.{Block}
 use Rattle.mt_ranges.specs.Blocks.{block_end}
-use Rattle.mt_trie.specs.declared.wish.Wish.TheVariants.{Any, Only, Mixed}
+use Rattle.mt_trie.specs.declared.wish.Wish.TheVariants.{Only}
 use Rattle.mt_trie.specs.Wishes.{InBlock, IsWish, wanted_type}
 use Rattle.mt_trie.specs.WorkedRuns.{two_runs}
 
@@ -33,28 +33,4 @@ across b start size = (
 )
   where
     same : (u : MemType) → Some WB ≡ Some u → u ≡ WB
-    same u e = cc
-
-pub across_two : (b : Block) → b.first ≡ 0 → b.log ≡ 9 → IsWish (wanted_type false two_runs) (InBlock b) Mixed
-across_two b start size = record {
-  one = UC;
-  other = WB;
-  differ = λ e. absurd (cc e);
-  has_one = record { page = 0; within = is_in b 0 9 0 start size (omega arith) (omega arith); wants = refl };
-  has_other = record { page = 256; within = is_in b 0 9 256 start size (omega arith) (omega arith); wants = refl };
-}
-
-pub wholly_free : (b : Block) → b.first ≡ 0 → b.log ≡ 8 → IsWish (wanted_type true two_runs) (InBlock b) Any
-wholly_free b start size page q = free_below page (omega (arith, start, page_end b 8 size page q))
-
-uc_below : (page : ℕ) → page < 256 → wanted_type false two_runs page ≡ Some UC
-uc_below page below = rw (lt-ltb page 256 below) refl
-
-pub wholly_uncached : (b : Block) → b.first ≡ 0 → b.log ≡ 8 → IsWish (wanted_type false two_runs) (InBlock b) (Only UC)
-wholly_uncached b start size = (
-  λ page q u e. same u (sym (uc_below page (omega (arith, start, page_end b 8 size page q))) ∙ e),
-  record { page = 0; within = is_in b 0 8 0 start size (omega arith) (omega arith); wants = refl },
-)
-  where
-    same : (u : MemType) → Some UC ≡ Some u → u ≡ UC
     same u e = cc

@@ -3,14 +3,9 @@
 
 mod context;
 mod laws;
-#[cfg(test)]
-mod tests;
 mod wants;
 mod wish;
 mod worked;
-mod worked_contexts;
-mod worked_lent;
-mod worked_rows;
 
 pub use context::Context;
 pub use laws::{
@@ -18,7 +13,4 @@ pub use laws::{
 };
 pub use wants::want;
 pub use wish::Wish;
-pub use worked::{worked_joins, worked_wanted_types, worked_wishes, worked_wishes_of_blocks};
-pub use worked_contexts::{worked_lists, worked_two_parts, worked_types_left};
-pub use worked_lent::{worked_lent_runs, worked_runs_to_ask};
-pub use worked_rows::{worked_other_wishes, worked_rows_of_joins, worked_wishes_of_runs};
+pub use worked::worked_wishes_of_blocks;

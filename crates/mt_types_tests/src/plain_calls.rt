@@ -1,0 +1,350 @@
+use mt_plain::{
+    PlainFault, PlainLoss, PlainNeed, PlainPair, PlainProcessor, PlainRegisters, PlainRun,
+    PlainStep, PlainUpdate, due, effective_type, first_fault, gran, is_file, page_type, tidy,
+    type_map,
+};
+use mt_tidy::WorkArea;
+
+const NONE: PlainFault = PlainFault {
+    number: 0,
+    reason: 0,
+};
+
+// Eight pairs, of which the first is WB up to 4 GB, and UC by default; bits 8 and 10 of the capabilities are set.
+fn plain() -> PlainRegisters {
+    let mut pairs = [PlainPair { base: 0, mask: 0 }; 32];
+    pairs[0] = PlainPair {
+        base: 6,
+        mask: 0xf_0000_0800,
+    };
+    PlainRegisters {
+        width: 36,
+        capabilities: 0x508,
+        pairs,
+        fixed: [0; 11],
+        pat: 0x0007_0406_0007_0406,
+        default_type: 0x800,
+    }
+}
+
+#[test]
+fn a_file_without_fault(rt: HostRuntime) {
+    let r = plain();
+    let mut fault = NONE;
+    assert!(rt; is_file(&r));
+    assert_eq!(rt; first_fault(&r, &mut fault), 0);
+    assert_eq!(rt; fault.number, 0);
+}
+
+#[test]
+fn types_of_pages(rt: HostRuntime) {
+    let r = plain();
+    let mut kind = 9;
+    assert_eq!(rt; page_type(&r, 0x1_0000_0000, &mut kind), 3);
+    assert_eq!(rt; kind, 9);
+    assert_eq!(rt; page_type(&r, 0xf_ffff, &mut kind), 0);
+    assert_eq!(rt; kind, 6);
+    assert_eq!(rt; page_type(&r, 0x10_0000, &mut kind), 0);
+    assert_eq!(rt; kind, 0);
+}
+
+#[test]
+fn types_in_effect(rt: HostRuntime) {
+    let r = plain();
+    let mut kind = 9;
+    assert_eq!(rt; effective_type(&r, 0, 8, &mut kind), 5);
+    assert_eq!(rt; kind, 9);
+    assert_eq!(rt; effective_type(&r, 0, 1, &mut kind), 0);
+    assert_eq!(rt; kind, 4);
+}
+
+#[test]
+fn a_pair_at_fault(rt: HostRuntime) {
+    let mut r = plain();
+    r.pairs[0].base = 2;
+    let mut fault = NONE;
+    assert_eq!(rt; first_fault(&r, &mut fault), 1);
+    assert_eq!(rt; fault.number, 0x200);
+    assert_eq!(rt; fault.reason, 2);
+}
+
+#[test]
+fn no_file(rt: HostRuntime) {
+    let mut r = plain();
+    r.pairs[8].mask = 1;
+    let mut fault = NONE;
+    let mut kind = 9;
+    assert!(rt; !is_file(&r));
+    assert_eq!(rt; first_fault(&r, &mut fault), 2);
+    assert_eq!(rt; page_type(&r, 0, &mut kind), 2);
+    assert_eq!(rt; effective_type(&r, 0, 0, &mut kind), 2);
+}
+
+const BLANK: PlainRun = PlainRun {
+    first: 9,
+    pages: 9,
+    kind: 9,
+};
+
+fn is_run(run: PlainRun, first: u64, pages: u64, kind: u32) -> bool {
+    run.first == first && run.pages == pages && run.kind == kind
+}
+
+#[test]
+fn a_type_map(rt: HostRuntime) {
+    let r = plain();
+    let mut runs = [BLANK; 3];
+    let mut count = 9;
+    assert_eq!(rt; type_map(&r, &mut runs, &mut count), 0);
+    assert_eq!(rt; count, 2);
+    assert!(rt; is_run(runs[0], 0, 0x10_0000, 6));
+    assert!(rt; is_run(runs[1], 0x10_0000, 0xf0_0000, 0));
+    assert!(rt; is_run(runs[2], 9, 9, 9));
+}
+
+#[test]
+fn a_type_map_without_room(rt: HostRuntime) {
+    let r = plain();
+    let mut runs = [BLANK; 2];
+    let mut count = 9;
+    assert_eq!(rt; type_map(&r, &mut runs[..1], &mut count), 6);
+    assert_eq!(rt; count, 2);
+    assert!(rt; is_run(runs[0], 0, 0x10_0000, 6));
+    assert!(rt; is_run(runs[1], 9, 9, 9));
+}
+
+// WC from 3 to 3.25 GB over WB: its pages have no defined type.
+#[test]
+fn pages_of_no_type_in_a_map(rt: HostRuntime) {
+    let mut r = plain();
+    r.pairs[1] = PlainPair {
+        base: 0xc000_0001,
+        mask: 0xf_f000_0800,
+    };
+    let mut runs = [BLANK; 4];
+    let mut count = 0;
+    assert_eq!(rt; type_map(&r, &mut runs, &mut count), 0);
+    assert_eq!(rt; count, 4);
+    assert!(rt; is_run(runs[1], 0xc_0000, 0x1_0000, 255));
+    r.pairs[1].base = 2;
+    assert_eq!(rt; type_map(&r, &mut runs, &mut count), 1);
+    assert_eq!(rt; count, 4);
+}
+
+// Two processors of two registers each.
+fn update_of(word: u32, arrived: u32, arrived_again: u32) -> PlainUpdate {
+    PlainUpdate {
+        word,
+        processors: 2,
+        arrived,
+        arrived_again,
+    }
+}
+
+fn processor_at(phase: u32, place: u32) -> PlainProcessor {
+    PlainProcessor {
+        phase,
+        place,
+        registers: 2,
+        self_snoop: false,
+        finished: false,
+    }
+}
+
+const NO_STEP: PlainStep = PlainStep {
+    number: 0,
+    place: 0,
+    next_phase: 0,
+    next_place: 0,
+};
+
+#[test]
+fn the_steps_of_an_update(rt: HostRuntime) {
+    let numbers = [1u32, 2, 4, 5, 6, 7, 8, 9, 10, 6, 7, 11, 12, 13, 14];
+    let u = update_of(1, 2, 2);
+    let mut step = NO_STEP;
+    for number in numbers {
+        let p = processor_at(step.next_phase, step.next_place);
+        assert_eq!(rt; due(&u, &p, &mut step), 0);
+        assert_eq!(rt; step.number, number);
+    }
+    assert_eq!(rt; step.next_phase, 0);
+}
+
+#[test]
+fn nothing_is_due(rt: HostRuntime) {
+    let mut step = NO_STEP;
+    assert_eq!(rt; due(&update_of(1, 1, 0), &processor_at(2, 0), &mut step), 7);
+    assert_eq!(rt; due(&update_of(3, 2, 0), &processor_at(2, 0), &mut step), 8);
+    assert_eq!(rt;
+        due(&update_of(1, 2, 0), &processor_at(14, 0), &mut step),
+        8
+    );
+    assert_eq!(rt; step.number, 0);
+}
+
+// WB to 4 GB in two pairs of 2 GB each.
+#[test]
+fn two_pairs_are_one(rt: HostRuntime) {
+    let mut r = plain();
+    r.pairs[0].mask = 0xf_8000_0800;
+    r.pairs[1] = PlainPair {
+        base: 0x8000_0006,
+        mask: 0xf_8000_0800,
+    };
+    let mut tidied = plain();
+    tidied.pairs[3].base = 9;
+    let mut need = PlainNeed { needs: 9, has: 9 };
+    let mut work = WorkArea::new();
+    assert_eq!(rt; tidy(&r, 1, 0, &mut work, &mut tidied, &mut need), 0);
+    assert_eq!(rt; need.needs, 1);
+    assert_eq!(rt; need.has, 7);
+    assert_eq!(rt; tidied.pairs[0].base, 6);
+    assert_eq!(rt; tidied.pairs[0].mask, 0xf_0000_0800);
+    assert_eq!(rt; tidied.pairs[1].mask, 0);
+    assert_eq!(rt; tidied.pairs[3].base, 0);
+    assert_eq!(rt; tidy(&r, 8, 0, &mut work, &mut tidied, &mut need), 10);
+    assert_eq!(rt; need.has, 0);
+}
+
+// Write-back to 4 GB but for a megabyte of UC from 3.5 GB, in granules of 256 MB.
+#[test]
+fn granules_of_a_hole(rt: HostRuntime) {
+    let mut r = plain();
+    r.pairs[1] = PlainPair {
+        base: 0xe000_0000,
+        mask: 0xf_fff0_0800,
+    };
+    let mut rounded = plain();
+    let mut need = PlainNeed { needs: 9, has: 9 };
+    let mut loss = PlainLoss { pages: 9, parts: 9 };
+    let mut parts = [BLANK; 2];
+    let mut work = WorkArea::new();
+    let size = 0x1000_0000;
+    assert_eq!(rt;
+        gran(
+            &r,
+            size,
+            1,
+            1 << 52,
+            &mut work,
+            &mut rounded,
+            &mut need,
+            &mut loss,
+            &mut parts
+        ),
+        0
+    );
+    assert_eq!(rt; need.needs, 2);
+    assert_eq!(rt; need.has, 7);
+    assert_eq!(rt; loss.pages, 65280);
+    assert_eq!(rt; loss.parts, 1);
+    assert!(rt; is_run(parts[0], 0xe_0100, 0xff00, 6));
+    assert!(rt; is_run(parts[1], 9, 9, 9));
+    assert_eq!(rt; rounded.pairs[1].base, 0xe000_0000);
+    assert_eq!(rt; rounded.pairs[1].mask, 0xf_f000_0800);
+    parts[0] = BLANK;
+    let none = &mut parts[..0];
+    assert_eq!(rt;
+        gran(
+            &r,
+            size,
+            1,
+            1 << 52,
+            &mut work,
+            &mut rounded,
+            &mut need,
+            &mut loss,
+            none
+        ),
+        6
+    );
+    assert_eq!(rt; loss.parts, 1);
+    assert!(rt; is_run(parts[0], 9, 9, 9));
+}
+
+#[test]
+fn nothing_is_rounded(rt: HostRuntime) {
+    let mut r = plain();
+    let mut rounded = plain();
+    let mut need = PlainNeed { needs: 9, has: 9 };
+    let mut loss = PlainLoss { pages: 9, parts: 9 };
+    let mut parts = [BLANK; 1];
+    let mut work = WorkArea::new();
+    assert_eq!(rt;
+        gran(
+            &r,
+            0x3000,
+            1,
+            0,
+            &mut work,
+            &mut rounded,
+            &mut need,
+            &mut loss,
+            &mut parts
+        ),
+        11
+    );
+    assert_eq!(rt;
+        gran(
+            &r,
+            0x1000,
+            8,
+            0,
+            &mut work,
+            &mut rounded,
+            &mut need,
+            &mut loss,
+            &mut parts
+        ),
+        10
+    );
+    assert_eq!(rt; need.needs, 1);
+    assert_eq!(rt; need.has, 0);
+    r.default_type = 0;
+    assert_eq!(rt;
+        gran(
+            &r,
+            0x1000,
+            1,
+            0,
+            &mut work,
+            &mut rounded,
+            &mut need,
+            &mut loss,
+            &mut parts
+        ),
+        9
+    );
+    r.pairs[0].base = 2;
+    assert_eq!(rt;
+        gran(
+            &r,
+            0x1000,
+            1,
+            0,
+            &mut work,
+            &mut rounded,
+            &mut need,
+            &mut loss,
+            &mut parts
+        ),
+        1
+    );
+    r.pairs[8].mask = 1;
+    assert_eq!(rt;
+        gran(
+            &r,
+            0x3000,
+            1,
+            0,
+            &mut work,
+            &mut rounded,
+            &mut need,
+            &mut loss,
+            &mut parts
+        ),
+        2
+    );
+    assert_eq!(rt; loss.parts, 9);
+}
