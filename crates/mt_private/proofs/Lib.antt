@@ -14,8 +14,6 @@ mod Nearer
 pub mod Own
 mod Walk
 pub mod Residents
-mod GuestJob
 mod Returned
 mod LoneGuest
-mod OnVisitors
 mod LoneSeats

@@ -1,18 +1,15 @@
 -- A yard can be gathered from the worked start, and what its residents do there.
 use Rattle.std.proofs.Common.{◌≡◌, ◌∙◌, ap, sym, refl, subst, rules, arith, ℕ, zero, suc, ◌+◌, ◌<◌, ◌≤◌, ◌==◌, Bool, true, false, ◌||◌, List, [], ◌∷◌, length, map, cond, Some, None, Option}
-use Rattle.std.specs.Prelude.{if◌then◌else◌, is_some, slice_get, slice_index}
+use Rattle.std.specs.Prelude.{if◌then◌else◌, slice_get, slice_index}
 use Rattle.std.specs.Option.{option_map, option_map_or}
 use Rattle.std.proofs.lemmas.Bool.{eqb-true}
 use mathlib.Core.Option.{some, some-injective, some-ne-none}
 use lib.ListN.{get_elem?}
 use Rattle.atomic_table.specs.Table.{opening}
-use Rattle.mt_machine.specs.declared.phase.Phase.{Phase}
-use Rattle.mt_machine.specs.declared.phase.Phase.TheVariants.{Taken}
-use Rattle.mt_machine.specs.declared.event.Event.TheVariants.{Arrive, Take}
+use Rattle.mt_machine.specs.declared.event.Event.TheVariants.{Arrive}
 use Rattle.mt_machine.specs.declared.event.Event.{Event}
-use Rattle.mt_machine.specs.declared.go.Go.{Go}
 use Rattle.mt_machine.specs.declared.go.Go.TheVariants.{Cancelled, Given, Pending}
-use Rattle.mt_machine.specs.System.{Processor, System}
+use Rattle.mt_machine.specs.System.{Processor}
 use Rattle.mt_machine.specs.Start.{IsQuiet}
 use Rattle.mt_machine.specs.Machine.{Calls, Goes, IsEnabled, Machine, Order, Steps, due, due_at, go_of, is_over, next, remaining_order}
 use Rattle.mt_laws.proofs.Steps.StepCounts.{count_more}
@@ -25,15 +22,13 @@ use Rattle.mt_private.specs.declared.view.Resident.{Resident}
 use Rattle.mt_private.specs.OneByOne.{at_rest}
 use Rattle.mt_private.specs.Own.{own_memory}
 use Rattle.mt_private.specs.Pages.{IsPrivate, names, naming}
-use Rattle.mt_private.specs.Residents.{Follows, Opens, Resides, Yard, held_of, pages_at, system_of, with_held}
-use Rattle.mt_private.specs.WorkedYard.{at_start, both_lodged, both_with, first_lodged, first_taken, lodged, lodger, lodging}
+use Rattle.mt_private.specs.Residents.{Opens, Yard, held_of, pages_at, system_of}
+use Rattle.mt_private.specs.WorkedYard.{at_start, both_lodged, first_lodged, lodged, lodger, lodging}
 use Rattle.mt_private.specs.YardLaws.{Has, IsOneEvent, YardState}
 use Rattle.mt_private.specs.YardRule.{AreAt, MeetsYard, as_view, first_yard_view, its_machine, residents, rest_of, with_said, yard_left}
 use Rattle.mt_private.proofs.OnWorked.{is_memory}
-use Rattle.mt_private.proofs.Residents.Barriers.{unmoved}
 use Rattle.mt_private.proofs.Residents.Opened.{opened, resides}
 use Rattle.mt_private.proofs.Residents.Unique.{one_machine}
-use Rattle.mt_private.proofs.Residents.Work.{takes as takes_from}
 
 page_of_lodger : (n page : ℕ) → names page (lodger n) ≡ true → page ≡ n
 page_of_lodger n page h = one (n == page) refl h
@@ -82,30 +77,6 @@ yard_lodged = record { resides = resides lodging opens_lodging; first_count = re
 
 pub has_first : Has lodging both_lodged Pending 0 0 lodged 0 first_lodged false false
 has_first = record { yard = yard_lodged; at = refl; has_added = refl; has_added_again = refl }
-
-pub misnumbered : {s : System} → Resides lodging (both_with (held 1 (lodger 0x100) false false)) Pending s → ⊥
-misnumbered h = not_same 0 1 (omega arith) (sym (h.fits 0 (with_held first_lodged (held 1 (lodger 0x100) false false)) refl).1)
-
--- the first takes, or stays
-pub takes : Follows lodging both_lodged Pending lodged 0 first_taken (Some (Steps 0 Take)) 0 0
-takes = takes_from lodging both_lodged Pending 0 0 lodged yard_lodged 0 first_lodged refl refl refl refl (omega arith)
-
-pub stays : Follows lodging both_lodged Pending lodged 0 first_lodged None 0 0
-stays = unmoved lodging both_lodged Pending 0 0 lodged yard_lodged 0 first_lodged refl
-
-abbrev is_taken : Phase → Bool
-is_taken Taken = true
-is_taken other = false
-
-abbrev pub has_taken : List Processor → Bool
-has_taken ps = option_map_or (λ (p : Processor). is_taken p.phase) (slice_get ps 0) false
-
-abbrev pub has_order : Machine → Bool
-has_order m = is_some m.order
-
-abbrev pub is_pending : Go → Bool
-is_pending Pending = true
-is_pending other = false
 
 abbrev pub second_lodged : Resident
 second_lodged = record { held = held 1 (lodger 0x200) false false; ram = own_memory (pages_at lodging 1) lodging.ram; done = []; stored = 0 }

@@ -1,13 +1,9 @@
 -- The worked resident that is alone in its yard, and where its update leads it.
-use Rattle.std.proofs.Common.{◌≡◌, ◌∙◌, ap, sym, subst, refl, rules, arith, ℕ, ◌+◌, ◌≤◌, Bool, true, false, List, [], ◌∷◌, cond, Some, Option}
-use mathlib.Core.Option.{some}
-use lib.ListN.{get_elem?}
+use Rattle.std.proofs.Common.{◌≡◌, ◌∙◌, refl, rules, arith, ℕ, ◌+◌, ◌≤◌, Bool, true, false, List, [], ◌∷◌, cond, Some, Option}
 use Rattle.mt_machine.specs.declared.event.Event.{Event}
 use Rattle.mt_machine.specs.declared.event.Event.TheVariants.{Arrive, Disable, DropLines, Enable, FlushTlb, Pass, RestorePge, SetNoFill, SetNormal, Take, Write}
 use Rattle.mt_machine.specs.declared.go.Go.{Go}
 use Rattle.mt_machine.specs.declared.go.Go.TheVariants.{Cancelled, Given, Pending}
-use Rattle.mt_machine.specs.declared.op.Op.{Op}
-use Rattle.mt_machine.specs.declared.phase.Phase.{Phase}
 use Rattle.mt_machine.specs.declared.phase.Phase.TheVariants.{Arrived, Arrived2, Passed, Restored, Running, Taken}
 use Rattle.mt_machine.specs.System.{Processor, System}
 use Rattle.mt_machine.specs.Start.{IsQuiet}
@@ -15,13 +11,11 @@ use Rattle.mt_machine.specs.Machine.{Calls, IsEnabled, MachineEvent, Order, Step
 use Rattle.mt_cpu.specs.Steps.{is_local}
 use Rattle.mt_laws.proofs.Steps.StepCounts.{count_more}
 use Rattle.mt_private.specs.declared.view.Resident.{Resident}
-use Rattle.mt_private.specs.declared.view.YardView.{YardView}
 use Rattle.mt_private.specs.OneByOne.{at_rest}
 use Rattle.mt_private.specs.Pages.{IsPrivate, names, naming}
 use Rattle.mt_private.specs.Residents.{Follows, Opens, Yard, stepped_by, system_of, with_stored}
 use Rattle.mt_private.specs.WorkedWay.{changed, guest, released}
 use Rattle.mt_private.specs.WorkedYard.{alone, lodger}
-use Rattle.mt_private.specs.YardPlays.{PassMoves}
 use Rattle.mt_private.proofs.OnWorked.{is_memory}
 use Rattle.mt_private.proofs.Residents.Barriers.{arrives, arrives_again, passes, releases}
 use Rattle.mt_private.proofs.Residents.Decisions.{cancels, gives}
@@ -152,65 +146,3 @@ late_yard =
     let y = cancelled_yard in
     followed Cancelled y.0 (guest Taken false) (guest Taken true) _ 0x100000001 0
     ((arrives alone (guest Taken false ∷ []) Cancelled 0x100000000 0 y.0 y.1 0 (guest Taken false) refl refl refl refl).1 (omega arith))
-
-pub cancelled_at_rest : IsYard Cancelled 0x100000000 0 (guest Running false)
-cancelled_at_rest = let y = at_rest_yard in (y.0, (cancels alone (guest Running false ∷ []) 0 0 y.0 y.1).kept)
-
--- ---- steps of its pass
-
-pub moves : (go : Go) (first second : ℕ) (y w : Resident) (e : Option MachineEvent) (first_then second_then : ℕ) (at : IsYard go first second y) → y.held.number ≡ 0
-    → Follows alone (y ∷ []) go at.0 0 w e first_then second_then → PassMoves alone y w e
-moves go first second y w e first_then second_then at zeroth f = record {
-  all = y ∷ [];
-  go = go;
-  first = first;
-  second = second;
-  system = at.0;
-  yard = at.1;
-  at = ap (get_elem? (y ∷ [])) zeroth;
-  later = (first_then, second_then);
-  follows = subst (λ (k : ℕ). Follows alone (y ∷ []) go at.0 k w e first_then second_then) (sym zeroth) f;
-}
-
--- what its view has of it
-abbrev first_one : List Resident → Resident
-first_one [] = guest Running false
-first_one (y ∷ ys) = y
-
-abbrev phase_of : YardView → Phase
-phase_of v = (first_one v.held).held.cpu.phase
-
-abbrev is_arrived : Phase → Bool
-is_arrived Arrived = true
-is_arrived other = false
-
-abbrev is_taken : Phase → Bool
-is_taken Taken = true
-is_taken other = false
-
-abbrev is_passed : Phase → Bool
-is_passed Passed = true
-is_passed other = false
-
-abbrev is_running : Phase → Bool
-is_running Running = true
-is_running other = false
-
-abbrev pub has_come : YardView → Bool
-has_come v = is_arrived (phase_of v)
-
-abbrev pub has_taken : YardView → Bool
-has_taken v = is_taken (phase_of v)
-
-abbrev pub has_passed : YardView → Bool
-has_passed v = is_passed (phase_of v)
-
-abbrev pub runs : YardView → Bool
-runs v = is_running (phase_of v)
-
-abbrev pub has_come_again : YardView → Bool
-has_come_again v = (first_one v.held).held.again
-
--- a seat lends nothing, or one word
-pub none_is_one : {x : ℕ × Op} {xs : List (ℕ × Op)} → x ∷ xs ≡ [] → ⊥
-none_is_one e = absurd (cc e)

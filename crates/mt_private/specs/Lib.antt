@@ -12,9 +12,6 @@ pub mod YardCalls
 pub mod Gathered
 pub mod Left
 pub mod Alone
-pub mod WorkedLeft
-pub mod WorkedGathered
 pub mod Visitors
 pub mod WorkedWay
-pub mod WorkedVisitors
 pub mod InYard

@@ -1,16 +1,10 @@
--- Processors and jobs of worked examples.
+-- Processors and systems of worked examples, with pages of their own.
 use Rattle.std.specs.Prelude.{ℕ, ◌==◌, Bool, List, [], ◌∷◌}
 use Rattle.mt_regs.specs.WorkedRows.{four_gigabytes}
-use Rattle.mt_machine.specs.declared.op.Op.{Op}
-use Rattle.mt_machine.specs.declared.op.Op.TheVariants.{Load, Store}
 use Rattle.mt_machine.specs.Memory.{Window, put_word}
 use Rattle.mt_machine.specs.System.{Processor, System, start_processor}
 use Rattle.mt_machine.specs.Start.{zero_memory}
-use Rattle.mt_machine.specs.WorkedRuns.{line_of, mapping, uncached_goal}
-use Rattle.mt_private.specs.declared.job.Job.{Job}
-use Rattle.mt_private.specs.declared.job.Part.{Part}
-use Rattle.mt_private.specs.Jobs.{ops_in}
-use Rattle.mt_private.specs.OneByOne.{OneByOne, one_by_one}
+use Rattle.mt_machine.specs.WorkedRuns.{line_of, mapping}
 
 -- page 1 is mapped to this physical page
 abbrev pub owner : ℕ → Processor
@@ -25,27 +19,6 @@ over ps = record { processors = ps; memory = zero_memory (line_at 0x100000 ∷ l
 -- two processors with a line each
 abbrev pub pair : System
 pair = over (owner 0x100 ∷ owner 0x200 ∷ [])
-
--- both name both pages
-abbrev pub both_pages : Processor
-both_pages = record (start_processor four_gigabytes) { mappings = mapping 1 0x200 0 ∷ mapping 2 0x100 0 ∷ [] }
-
--- each stores a word, and loads it after the update
-abbrev pub stores : List (List Op)
-stores = (Store 0x1000 0x2a ∷ []) ∷ (Store 0x1000 0x2b ∷ []) ∷ []
-
-abbrev pub loads : List (List Op)
-loads = (Load 0x1000 ∷ []) ∷ (Load 0x1000 ∷ []) ∷ []
-
--- what two jobs do in this part
-abbrev pub both_ops : Part → Job → Job → List (List Op)
-both_ops part first second = ops_in part first ∷ ops_in part second ∷ []
-
--- all memory turns to UC between them
-abbrev pub pair_done : OneByOne
-pair_done = one_by_one pair uncached_goal stores loads
-
--- ---- own pages
 
 abbrev pub first_page : ℕ → Bool
 first_page page = page == 0x100

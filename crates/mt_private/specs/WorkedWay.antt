@@ -1,26 +1,34 @@
 -- The way of a worked resident, which is alone in its yard, through an update; and a worked yard of two whose first resident was given away.
-use Rattle.std.specs.Prelude.{◌≡◌, ℕ, Bool, true, false, [], ◌∷◌, None, Option, Some}
+use Rattle.std.specs.Prelude.{◌≡◌, ℕ, Bool, true, false, List, [], ◌∷◌, None, Option, Some}
 use Rattle.mt_machine.specs.declared.phase.Phase.{Phase}
 use Rattle.mt_machine.specs.declared.phase.Phase.TheVariants.{NoFill}
 use Rattle.mt_machine.specs.declared.go.Go.{Go}
 use Rattle.mt_machine.specs.declared.go.Go.TheVariants.{Given, Pending}
-use Rattle.mt_machine.specs.declared.op.Op.TheVariants.{Fence}
-use Rattle.mt_machine.specs.System.{System}
+use Rattle.mt_machine.specs.declared.op.Op.{Op}
+use Rattle.mt_machine.specs.Memory.{Memory}
+use Rattle.mt_machine.specs.System.{Processor, System}
 use Rattle.mt_machine.specs.Machine.{MachineEvent}
 use Rattle.mt_machine.specs.WorkedRuns.{bare_file}
 use Rattle.mt_rendezvous.specs.declared.view.Key.{Key}
 use Rattle.mt_rendezvous.specs.declared.view.Start.{Start}
-use Rattle.mt_rendezvous.specs.Station.{start_of}
+use Rattle.mt_rendezvous.specs.Station.{held, start_of}
 use Rattle.mt_private.specs.declared.job.Job.{Job}
 use Rattle.mt_private.specs.declared.job.Told.{Told}
 use Rattle.mt_private.specs.declared.view.Resident.{Resident}
 use Rattle.mt_private.specs.declared.view.YardView.{YardView}
-use Rattle.mt_private.specs.Residents.{Follows, Yard}
-use Rattle.mt_private.specs.WorkedGathered.{come, first_words}
-use Rattle.mt_private.specs.WorkedYard.{alone, first_taken, lodger, no_counts}
+use Rattle.mt_private.specs.Own.{own_memory}
+use Rattle.mt_private.specs.Residents.{Follows, Yard, pages_at}
+use Rattle.mt_private.specs.WorkedYard.{alone, first_taken, lodger, lodging, no_counts}
 use Rattle.mt_private.specs.YardLaws.{IsOneEvent, YardState}
 use Rattle.mt_private.specs.YardPlays.{YardSat}
 use Rattle.mt_private.specs.YardRule.{MeetsYard, first_yard_view, with_one, with_said, yard_both, yard_left, yard_right, yard_spent}
+
+abbrev pub first_words : Memory
+first_words = own_memory (pages_at lodging 0) lodging.ram
+
+-- the resident with this processor and these words, and what its pass has added and it has done
+abbrev pub come : Processor → Memory → Bool → Bool → List Op → Resident
+come p m added again done = record { held = held 0 p added again; ram = m; done = done; stored = 0 }
 
 -- before its change, in no-fill mode, and behind its change
 abbrev pub guest : Phase → Bool → Resident
@@ -39,15 +47,9 @@ released = come (record (lodger 0x100) { file = bare_file 0x800; era = 1 }) firs
 abbrev pub GoesOn : Go → ℕ → ℕ → Resident → Resident → Option MachineEvent → ℕ → ℕ → Type 0
 GoesOn go first second y w e first_then second_then = (s : System) × Yard alone (y ∷ []) go first second s × Follows alone (y ∷ []) go s 0 w e first_then second_then
 
--- the seat of its pass, which was shown this count and whether there is a cancel; and as it is at first, and where a word is lent
+-- the seat of its pass, which was shown this count and whether there is a cancel
 abbrev pub seat_shown : Option ℕ → Bool → Resident → YardSat
 seat_shown shown cancel y = (record { root = false; held = y ∷ []; go = Pending; shown = shown; cancel = cancel; start = alone }, [])
-
-abbrev pub seat : Resident → YardSat
-seat y = seat_shown None false y
-
-abbrev pub lent : YardSat → YardSat
-lent me = (me.0, (0, Fence) ∷ [])
 
 -- ---- seats of a yard of two
 

@@ -1,57 +1,93 @@
-// Worked examples: which pages processors name, and jobs done one after the other, by computation.
-ghost use Rattle.std.specs.Prelude.{◌≡◌, ◌∷◌, [], None, true, false, map};
-ghost use Rattle.mt_kinds.specs.declared.mem_type.MemType.TheVariants.{UC, WB};
-ghost use Rattle.mt_machine.specs.declared.done.Done.TheVariants.{Stored, Value};
-ghost use Rattle.mt_machine.specs.declared.phase.Phase.TheVariants.{Running};
-ghost use Rattle.mt_machine.specs.Memory.{word_at};
-ghost use Rattle.mt_machine.specs.System.{now};
-ghost use Rattle.mt_machine.specs.WorkedRuns.{entry, idle, line_of, mapping, setup, uncached_goal};
-ghost use Rattle.mt_regs.specs.WorkedRows.{four_gigabytes};
-ghost use Rattle.mt_private.specs.OneByOne.{ran_each};
-ghost use Rattle.mt_private.specs.Pages.{IsLeastShared, IsPrivate, names, naming};
-ghost use Rattle.mt_private.specs.Worked.{both_pages, loads, over, owner, pair, pair_done, stores};
+// Worked relations that laws cite: one that meets each, and for each part one that fails in that part.
+ghost use Rattle.std.specs.Prelude.{◌≡◌, ◌∷◌, [], None, Some, false, true};
+ghost use Rattle.atomic_table.specs.Table.{opening};
+ghost use Rattle.mt_machine.specs.declared.event.Event.TheVariants.{Arrive, WriteBack};
+ghost use Rattle.mt_machine.specs.declared.go.Go.TheVariants.{Given, Pending};
+ghost use Rattle.mt_machine.specs.declared.op.Op.TheVariants.{Load, Store};
+ghost use Rattle.mt_machine.specs.Machine.{Goes, Steps};
+ghost use Rattle.mt_rendezvous.specs.declared.view.Key.{Key};
+ghost use Rattle.mt_rendezvous.specs.Station.{start_of};
+ghost use Rattle.mt_private.specs.OneByOne.{at_rest};
+ghost use Rattle.mt_private.specs.Own.{AreApart, Becomes, Commute, IsOwner, RunsAlone, WritesOn, own_system, with_own};
+ghost use Rattle.mt_private.specs.Pages.{IsPrivate};
+ghost use Rattle.mt_private.specs.Residents.{with_stored};
+ghost use Rattle.mt_private.specs.Worked.{first_page, marked, pair, second_page, shared, sharing, uncached};
+ghost use Rattle.mt_private.specs.WorkedYard.{at_start, both_lodged, first_lodged, first_state, lodged, lodging};
+ghost use Rattle.mt_private.specs.YardLaws.{Has, IsOneEvent, Settles, Stores};
+ghost use Rattle.mt_private.specs.YardRule.{MeetsYard, first_yard_view, with_said, yard_left};
 
-/// A processor names the pages of its mappings, TLB entries, cached lines and buffers, and no others.
-pub fn worked_names()
-    ensures mapping { names 0x100 (record idle { mappings = mapping 1 0x100 0 ∷ [] }) ≡ true }
-    ensures second_mapping { names 0x101 (record idle { mappings = mapping 1 0x100 0 ∷ mapping 2 0x101 0 ∷ [] }) ≡ true }
-    ensures by_address { names 1 (record idle { mappings = mapping 1 0x100 0 ∷ [] }) ≡ false }
-    ensures entry { names 0x100 (record idle { entries = entry 1 false ∷ [] }) ≡ true }
-    ensures by_entry_address { names 1 (record idle { entries = entry 1 false ∷ [] }) ≡ false }
-    ensures line { names 0x100 (record idle { lines = line_of 0x4000 0 ∷ [] }) ≡ true }
-    ensures last_line { names 0x100 (record idle { lines = line_of 0x403f 0 ∷ [] }) ≡ true }
-    ensures next_line { names 0x100 (record idle { lines = line_of 0x4040 0 ∷ [] }) ≡ false }
-    ensures buffer { names 0x100 (record idle { buffers = line_of 0x403f 0 ∷ [] }) ≡ true }
-    ensures next_buffer { names 0x100 (record idle { buffers = line_of 0x4040 0 ∷ [] }) ≡ false }
-    ensures none { names 0 idle ≡ false }
-{}
-
-/// Which pages two processors name.
+/// Two processors that name no page in common.
 pub fn worked_shared()
-    ensures two { naming (setup 2 four_gigabytes).system.processors 0x100 ≡ 2 }
-    ensures mixed { naming (owner 0x100 ∷ record idle { lines = line_of 0x4001 0 ∷ [] } ∷ []) 0x100 ≡ 2 }
-    ensures twice { naming (record (owner 0x100) { lines = line_of 0x4001 0 ∷ [] } ∷ idle ∷ []) 0x100 ≡ 1 }
     ensures private { IsPrivate pair }
-    ensures not_private { IsPrivate (setup 2 four_gigabytes).system → ⊥ }
-    ensures not_private_by_buffer { IsPrivate (over (owner 0x100 ∷ record (owner 0x200) { buffers = line_of 0x4001 0 ∷ [] } ∷ [])) → ⊥ }
-    ensures least { IsLeastShared (over (both_pages ∷ both_pages ∷ [])) 0x100 }
-    ensures not_least { IsLeastShared (over (both_pages ∷ both_pages ∷ [])) 0x200 → ⊥ }
-    ensures not_shared { IsLeastShared (over (both_pages ∷ idle ∷ [])) 0x100 → ⊥ }
 {}
 
-/// Two processors store a word each to pages of their own and load it after the update: the stores find the type WB and the
-/// loads UC.
-pub fn worked_jobs()
-    ensures before { pair_done.before ≡ (Stored WB ∷ []) ∷ (Stored WB ∷ []) ∷ [] }
-    ensures after { pair_done.after ≡ (Value 0x2a UC ∷ []) ∷ (Value 0x2b UC ∷ []) ∷ [] }
-    ensures first_word { word_at pair_done.left.system.memory 0x100000 ≡ 0x2a }
-    ensures second_word { word_at pair_done.left.system.memory 0x200000 ≡ 0x2b }
-    ensures eras { map (λ p. p.era) pair_done.left.system.processors ≡ 1 ∷ 1 ∷ [] }
-    ensures files { map (λ p. p.file) pair_done.left.system.processors ≡ uncached_goal ∷ uncached_goal ∷ [] }
-    ensures phases { map (λ p. p.phase) pair_done.left.system.processors ≡ Running ∷ Running ∷ [] }
-    ensures lines { map (λ p. p.lines) pair_done.left.system.processors ≡ [] ∷ [] ∷ [] }
-    ensures order { pair_done.left.order ≡ None }
-    ensures not_in_memory { word_at (ran_each 0 stores pair).after.memory 0x100000 ≡ 0 }
-    ensures in_a_cache { now (ran_each 0 stores pair).after 0x100000 ≡ 0x2a }
-    ensures without_update { (ran_each 0 loads (ran_each 0 stores pair).after).answers ≡ (Value 0x2a WB ∷ []) ∷ (Value 0x2b WB ∷ []) ∷ [] }
+/// Who owns pages.
+pub fn worked_owners()
+    ensures owned { IsOwner first_page 0 pair }
+    ensures nobody { IsOwner first_page 2 pair → ⊥ }
+    ensures names_others { IsOwner second_page 0 pair → ⊥ }
+    ensures named_by_two { IsOwner first_page 0 sharing → ⊥ }
+    ensures apart { AreApart first_page second_page }
+    ensures not_apart { AreApart first_page first_page → ⊥ }
+{}
+
+/// What comes of a system by what one processor did.
+pub fn worked_becomes()
+    ensures becomes { Becomes first_page 0 marked marked (own_system first_page 0 marked) }
+    ensures other_own { Becomes first_page 0 marked marked (own_system first_page 0 pair) → ⊥ }
+    ensures other_word { Becomes first_page 0 pair (with_own second_page 1 marked pair) (own_system first_page 0 pair) → ⊥ }
+    ensures not_owned { Becomes first_page 0 sharing sharing (own_system first_page 0 sharing) → ⊥ }
+{}
+
+/// Accesses to own pages, and to a shared one.
+pub fn worked_alone()
+    ensures alone { RunsAlone first_page 0 (Store 0x1000 0x2a ∷ Load 0x1000 ∷ []) marked }
+    ensures other_answers { RunsAlone first_page 0 (Load 0x1000 ∷ []) shared → ⊥ }
+    ensures other_after { RunsAlone first_page 0 (Store 0x1000 0x2a ∷ []) shared → ⊥ }
+{}
+
+/// Accesses of two processors, to own pages and to a shared one that isn't cached; and events that write memory.
+pub fn worked_commute()
+    ensures commute { Commute 0 1 (Store 0x1000 1 ∷ []) (Store 0x1000 2 ∷ Load 0x1000 ∷ []) pair }
+    ensures first { Commute 0 1 (Load 0x1000 ∷ []) (Store 0x1000 2 ∷ []) uncached → ⊥ }
+    ensures second { Commute 0 1 (Store 0x1000 2 ∷ []) (Load 0x1000 ∷ []) uncached → ⊥ }
+    ensures after { Commute 0 1 (Store 0x1000 1 ∷ []) (Store 0x1000 2 ∷ []) uncached → ⊥ }
+    ensures writes { WritesOn first_page (WriteBack 0x100008 5) }
+    ensures writes_elsewhere { WritesOn first_page (WriteBack 0x101000 5) → ⊥ }
+{}
+
+/// Which steps store in the own event word.
+pub fn worked_event_words()
+    ensures count { Stores first_lodged 0 9 first_lodged }
+    ensures own { Stores first_lodged 2 9 (with_stored first_lodged 9) }
+    ensures count_stored { Stores first_lodged 0 9 (with_stored first_lodged 9) → ⊥ }
+    ensures elsewhere { Stores first_lodged 3 9 (with_stored first_lodged 9) → ⊥ }
+    ensures otherwise { Stores first_lodged 2 9 first_lodged → ⊥ }
+{}
+
+/// A yard and its first resident.
+pub fn worked_yards()
+    ensures has { Has lodging both_lodged Pending 0 0 lodged 0 first_lodged false false }
+    ensures has_no_yard { ¬ Has lodging both_lodged Pending 1 0 lodged 0 first_lodged false false }
+    ensures has_elsewhere { ¬ Has lodging both_lodged Pending 0 0 lodged 1 first_lodged false false }
+    ensures has_not_added { ¬ Has lodging both_lodged Pending 0 0 lodged 0 first_lodged true false }
+    ensures has_not_added_again { ¬ Has lodging both_lodged Pending 0 0 lodged 0 first_lodged false true }
+{}
+
+/// Words and views that don't meet the rule for one thing, and what isn't one event.
+pub fn worked_yard_rule()
+    ensures unstored { (key : Key) → start_of key ≡ lodging → MeetsYard key (at_start key (0 ∷ 0 ∷ 7 ∷ 0 ∷ [])) → ⊥ }
+    ensures short { (key : Key) → start_of key ≡ lodging → MeetsYard key (at_start key (0 ∷ 0 ∷ 0 ∷ [])) → ⊥ }
+    ensures counted { (key : Key) → start_of key ≡ lodging → MeetsYard key (at_start key (1 ∷ 0 ∷ 0 ∷ 0 ∷ [])) → ⊥ }
+    ensures missing { (key : Key) → start_of key ≡ lodging → MeetsYard key (opening (0 ∷ 0 ∷ 0 ∷ 0 ∷ []) [] (yard_left (first_yard_view key))) → ⊥ }
+    ensures uncounted { (key : Key) → start_of key ≡ lodging → MeetsYard key (opening (0 ∷ 0 ∷ 0 ∷ 0 ∷ []) [] (with_said (first_yard_view key) Given)) → ⊥ }
+    ensures untold { (key : Key) → start_of key ≡ lodging → MeetsYard key (opening (0 ∷ 0 ∷ 0 ∷ 0 ∷ []) [] (record (first_yard_view key) { cancel = true })) → ⊥ }
+    ensures not_kept { (key : Key) → start_of key ≡ lodging → (m : MeetsYard key (first_state key)) → IsOneEvent key (first_state key) (at_start key (0 ∷ 0 ∷ 0 ∷ [])) m None → ⊥ }
+    ensures not_enabled { (key : Key) → start_of key ≡ lodging → (m : MeetsYard key (first_state key)) → IsOneEvent key (first_state key) (first_state key) m (Some (Steps 7 Arrive)) → ⊥ }
+    ensures not_gone_on { (key : Key) → start_of key ≡ lodging → (m : MeetsYard key (first_state key)) → IsOneEvent key (first_state key) (first_state key) m (Some Goes) → ⊥ }
+{}
+
+/// A machine before the update, which isn't settled.
+pub fn worked_releases()
+    ensures unsettled { Settles lodging (at_rest lodged) → ⊥ }
 {}

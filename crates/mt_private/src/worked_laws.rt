@@ -1,12 +1,12 @@
-// Each law on the steps of a yard at a step of a worked resident that is alone, on its way through an update and through
-// one that is cancelled; the laws on a yard's table at its start and once a resident was given away; and its end.
+// Each law on the steps of a yard, at one step of a worked resident that is alone; the laws on a yard's table, at its start
+// and once a resident was given away; its end; and the laws on own systems.
 ghost use Rattle.std.specs.Prelude.{◌≡◌, ◌∷◌, [], None, Some, false, true};
 ghost use Rattle.atomic_table.specs.Seated.{TableId};
 ghost use Rattle.mt_kinds.specs.declared.mem_type.MemType.TheVariants.{WB};
 ghost use Rattle.mt_machine.specs.declared.done.Done.TheVariants.{Stored};
 ghost use Rattle.mt_machine.specs.declared.event.Event.TheVariants.{Arrive, ArriveAgain, Leave, Pass, Release, SetNoFill, Take};
 ghost use Rattle.mt_machine.specs.declared.go.Go.TheVariants.{Cancelled, Given, Pending};
-ghost use Rattle.mt_machine.specs.declared.op.Op.TheVariants.{Store};
+ghost use Rattle.mt_machine.specs.declared.op.Op.TheVariants.{Fence, Load, Store};
 ghost use Rattle.mt_machine.specs.declared.phase.Phase.TheVariants.{Arrived, Arrived2, Passed, Restored, Running, Taken};
 ghost use Rattle.mt_machine.specs.Access.{access};
 ghost use Rattle.mt_machine.specs.Machine.{Accesses, Cancels, Goes, Reached, Steps};
@@ -15,12 +15,13 @@ ghost use Rattle.mt_rendezvous.specs.declared.view.Key.{Key};
 ghost use Rattle.mt_rendezvous.specs.Station.{broadcast, start_of};
 ghost use Rattle.mt_private.specs.declared.job.Job.{Job as YardJob};
 ghost use Rattle.mt_private.specs.declared.job.Told.{Told as YardTold};
+ghost use Rattle.mt_private.specs.Alone.{JobsAlone, JobsRunAlone, UpdatesAlone, UpdatesRunAlone};
 ghost use Rattle.mt_private.specs.Left.{Leaves};
 ghost use Rattle.mt_private.specs.OneByOne.{jobs_one_by_one};
 ghost use Rattle.mt_private.specs.Residents.{Decides, Follows, Yard, accessed_by, own_of, system_of, with_stored};
 ghost use Rattle.mt_private.specs.Visitors.{EndsOneByOne, Returned};
 ghost use Rattle.mt_private.specs.WorkedWay.{Becomes, GoesOn, HasNoAnswers, IsEmptyJob, changed, fills_not, given, guest, joined, last_seat, released, settled, split_taken};
-ghost use Rattle.mt_private.specs.WorkedYard.{alone, first_state, lodging, split_state};
+ghost use Rattle.mt_private.specs.WorkedYard.{alone, first_state, lodged, lodging, split_state};
 ghost use Rattle.mt_private.specs.YardLaws.{AdditionArrives, AdditionArrivesAgain, AdditionDecides, LoadLeaves, LoadPasses, LoadReleases, LoadStays, LoadTakes, StoreAccesses, StoreWorks};
 ghost use Rattle.mt_private.specs.YardLaws.{IsOneMachine, IsReached, JoinIsNone, MoveIsOneEvent, SayingIsOneEvent, Settles, SplitIsNone, StartMeetsRule, YardsSettle};
 ghost use Rattle.mt_private.specs.YardRule.{MeetsYard, its_machine};
@@ -34,10 +35,9 @@ pub fn worked_laws_of_loads()
     ensures releases { LoadReleases → GoesOn Given 2 1 (changed Arrived2 true) released (Some (Steps 0 Release)) 2 1 }
 {}
 
-/// Additions to the counts: by the pass, before a cancel and behind it, and by the coordinator.
+/// Additions to the counts, by the pass and by the coordinator.
 pub fn worked_laws_of_additions()
     ensures arrives { AdditionArrives → GoesOn Pending 0 0 (guest Taken false) (guest Arrived true) (Some (Steps 0 Arrive)) 1 0 }
-    ensures late { AdditionArrives → GoesOn Cancelled 0x100000000 0 (guest Taken false) (guest Taken true) None 0x100000001 0 }
     ensures decides { AdditionDecides → (s : MachineSystem) × Yard alone (guest Arrived true ∷ []) Pending 1 0 s
         × Decides alone (guest Arrived true ∷ []) Given 2 0 s Goes × Decides alone (guest Arrived true ∷ []) Cancelled 0x100000001 0 s Cancels }
     ensures arrives_again { AdditionArrivesAgain → GoesOn Given 2 0 (changed Restored false) (changed Arrived2 true) (Some (Steps 0 ArriveAgain)) 2 1 }
@@ -68,4 +68,10 @@ pub fn worked_laws_of_ends()
     ensures { EndsOneByOne → (table : TableId) (job : YardJob) (told : YardTold) → IsEmptyJob job → HasNoAnswers told → (s : MachineSystem) × Leaves alone last_seat.0 s
         × Returned table alone (job ∷ []) table last_seat (Some (own_of released) ∷ []) (told ∷ [])
         × (s ≡ (jobs_one_by_one (system_of alone) alone.goal (job ∷ [])).left.system) }
+{}
+
+/// The laws on own systems, of a worked system.
+pub fn worked_own_jobs()
+    ensures updates { UpdatesRunAlone → UpdatesAlone lodged lodging.goal }
+    ensures jobs_with_accesses { JobsRunAlone → JobsAlone lodged lodging.goal ((Store 0x1000 9 ∷ []) ∷ (Load 0x1000 ∷ Fence ∷ []) ∷ []) ((Load 0x1000 ∷ []) ∷ (Store 0x1000 8 ∷ []) ∷ []) }
 {}

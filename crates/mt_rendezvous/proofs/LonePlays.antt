@@ -1,19 +1,17 @@
 -- The plays of the worked processor that stands alone.
-use Rattle.std.proofs.Common.{◌≡◌, ℕ, ◌∷◌, [], None, Some, arith, refl}
+use Rattle.std.proofs.Common.{◌≡◌, ℕ, ◌∷◌, [], Some, arith, refl}
 use Rattle.std.specs.Prelude.{slice_get}
 use mathlib.Core.Option.{none}
 use Rattle.atomic_table.specs.Table.{step}
-use Rattle.mt_machine.specs.declared.event.Event.TheVariants.{Arrive, ArriveAgain, Leave, Pass, Release}
-use Rattle.mt_machine.specs.declared.go.Go.TheVariants.{Cancelled, Given, Pending}
+use Rattle.mt_machine.specs.declared.event.Event.TheVariants.{Arrive, ArriveAgain, Pass, Release}
+use Rattle.mt_machine.specs.declared.go.Go.TheVariants.{Given, Pending}
 use Rattle.mt_machine.specs.declared.phase.Phase.TheVariants.{Arrived}
-use Rattle.mt_machine.specs.Machine.{Cancels, Steps, common_era, next}
+use Rattle.mt_machine.specs.Machine.{Steps, common_era}
 use Rattle.mt_machine.specs.Update.{led_start}
-use Rattle.mt_rendezvous.specs.Station.{broadcast}
 use Rattle.mt_rendezvous.specs.Plays.{Arrives, ArrivesAgain, PassSteps, Passes, Releases, Stands, Works, arrive, arrive_again, does, own_event, work}
-use Rattle.mt_rendezvous.specs.Plays.{late as stays}
-use Rattle.mt_rendezvous.specs.WorkedLone.{again, back, behind, both_written, come, fills, free, gone, lone, new, out, pass_of, sits, wrote}
+use Rattle.mt_rendezvous.specs.WorkedLone.{again, back, both_written, come, fills, free, gone, lone, new, pass_of, sits}
 use Rattle.mt_rendezvous.specs.WorkedStations.{bare, zeros}
-use Rattle.mt_rendezvous.proofs.OnLone.{begins_lone, led_by, led_cancelled, led_waits, one_held}
+use Rattle.mt_rendezvous.proofs.OnLone.{begins_lone, led_by, one_held}
 
 pub arrives : Arrives (step 0 0 1 0 none) (sits lone new) 0 (sits lone come)
 arrives = (
@@ -26,19 +24,6 @@ arrives = (
         (record { all = new ∷ []; go = Pending; words = 0 ∷ 0 ∷ 0 ∷ zeros; led = led_start; at = refl; word = refl; enabled = refl; becomes = refl }),
   )),
   (λ above. absurd (omega (arith, above))),
-)
-
-pub arrives_late : Arrives (step 0 0 1 0 none) (sits lone new) 0x100000000 (sits lone behind)
-arrives_late = (
-  refl,
-  begins_lone,
-  one_held (λ h. slice_get lone.cpus h.number ≡ Some h.cpu) new refl,
-  (λ below. absurd (omega (arith, below))),
-  (λ above. (
-    refl,
-    one_held (λ h. PassSteps lone 0 0x100000000 0x100000001 None h (stays h)) new
-        (record { all = new ∷ []; go = Cancelled; words = 0x100000000 ∷ 0 ∷ 0 ∷ zeros; led = led_cancelled; at = refl; word = refl; enabled = tt; becomes = refl }),
-  )),
 )
 
 pub passes : Passes (step 0 0 0 0 none) (sits lone come) 2 (sits lone gone)
@@ -54,31 +39,6 @@ passes = (
   (λ below other. absurd (other refl)),
 )
 
-pub leaves : Passes (step 0 0 0 0 none) (sits lone behind) 0x100000001 (sits lone out)
-leaves = (
-  refl,
-  (λ full. absurd (omega (arith, full))),
-  (λ above. (
-    refl,
-    one_held (λ h. PassSteps lone 0 0x100000001 0x100000001 (Some (Steps h.number Leave)) h (does lone Leave h)) behind
-        (record { all = behind ∷ []; go = Cancelled; words = 0x100000001 ∷ 0 ∷ 0 ∷ zeros; led = led_cancelled; at = refl; word = refl; enabled = refl; becomes = refl }),
-    one_held (λ h. Stands lone Cancelled h.number h.cpu) behind (record { machine = next (broadcast lone) Cancels; led = led_cancelled; order = refl; at = refl }),
-  )),
-  (λ below other. absurd (omega (arith, below))),
-)
-
-pub stays_there : Passes (step 0 0 0 0 none) (sits lone come) 1 (sits lone come)
-stays_there = (
-  refl,
-  (λ full. absurd (omega (arith, full))),
-  (λ above. absurd (omega (arith, above))),
-  (λ below other. (
-    refl,
-    one_held (λ h. PassSteps lone 0 1 1 None h h) come
-        (record { all = come ∷ []; go = Pending; words = 1 ∷ 0 ∷ 0 ∷ zeros; led = led_waits; at = refl; word = refl; enabled = tt; becomes = refl }),
-  )),
-)
-
 pub works : Works (step 0 2 1 0 none) (sits lone gone) 1 (sits lone fills)
 works = (
   refl,
@@ -86,15 +46,6 @@ works = (
   one_held (λ h. (was : ℕ) × PassSteps lone 2 was 1 (Some (Steps h.number (own_event lone h.cpu))) h (work lone h)) gone
       (0, record { all = gone ∷ []; go = Given; words = 2 ∷ 0 ∷ 0 ∷ zeros; led = led_by 3; at = refl; word = refl; enabled = refl; becomes = refl }),
   one_held (λ h. Stands lone Given h.number (work lone h).cpu) gone (record { machine = _; led = led_by 4; order = refl; at = refl }),
-)
-
-pub works_back : Works (step 0 4 6 0 none) (sits lone fills) 6 (sits lone wrote)
-works_back = (
-  refl,
-  refl,
-  one_held (λ h. (was : ℕ) × PassSteps lone 4 was 6 (Some (Steps h.number (own_event lone h.cpu))) h (work lone h)) fills
-      (0, record { all = fills ∷ []; go = Given; words = 2 ∷ 0 ∷ 1 ∷ zeros; led = led_by 4; at = refl; word = refl; enabled = refl; becomes = refl }),
-  one_held (λ h. Stands lone Given h.number (work lone h).cpu) fills (record { machine = _; led = led_by 5; order = refl; at = refl }),
 )
 
 pub arrives_again : ArrivesAgain (step 0 1 1 0 none) (sits lone back) 0 (sits lone again)

@@ -1,13 +1,12 @@
--- The stations of the worked processor that stands alone meet the rule, and what each of its steps tells.
-use Rattle.std.proofs.Common.{◌≡◌, ◌<◌, ◌+◌, ℕ, zero, suc, Bool, true, false, List, [], ◌∷◌, ap, sym, refl, subst, inl, inr, arith, rules, length, Option, None, Some}
+-- The stations of the worked processor that stands alone meet the rule.
+use Rattle.std.proofs.Common.{◌≡◌, ◌<◌, ◌+◌, ℕ, zero, suc, true, false, List, [], ◌∷◌, ap, sym, refl, subst, inl, inr, arith, rules, length, Option, None, Some}
 use Rattle.std.specs.Prelude.{slice_index, take}
 use Rattle.std.specs.List.{list_all}
 use mathlib.Core.Option.{some, some-injective, some-ne-none}
 use lib.ListN.{get_elem?}
 use Rattle.mt_machine.specs.declared.go.Go.{Go}
 use Rattle.mt_machine.specs.declared.go.Go.TheVariants.{Cancelled, Given, Pending}
-use Rattle.mt_machine.specs.declared.event.Event.TheVariants.{Arrive, Leave}
-use Rattle.mt_machine.specs.declared.phase.Phase.{Phase}
+use Rattle.mt_machine.specs.declared.event.Event.TheVariants.{Leave}
 use Rattle.mt_machine.specs.declared.phase.Phase.TheVariants.{Arrived, Arrived2, Passed, Restored, Running, Taken}
 use Rattle.mt_machine.specs.Machine.{AreEnabled, Cancels, Machine, MachineEvent, Steps, run}
 use Rattle.mt_machine.specs.Update.{Led, is_led, led_start}
@@ -18,8 +17,8 @@ use Rattle.mt_rendezvous.specs.declared.view.Start.{Start}
 use Rattle.mt_rendezvous.specs.declared.view.View.{View}
 use Rattle.mt_rendezvous.specs.declared.view.Key.{Key}
 use Rattle.mt_rendezvous.specs.Station.{Begins, FitsHeld, IsHeld, Meets, Sits, added_of, again_of, broadcast, first_memory_word, go_weight, held, joined, phase_word_of, start_of, total}
-use Rattle.mt_rendezvous.specs.WorkedLone.{arrived, arrived_again, both_written, cancelled, changed, ended, fills_not, late, left, lone}
-use Rattle.mt_rendezvous.specs.WorkedLone.{lone_events, lone_station, passed, pass_of, released, restored, root_of, taken, unfilled, waits}
+use Rattle.mt_rendezvous.specs.WorkedLone.{arrived, arrived_again, both_written, changed, ended, left, lone}
+use Rattle.mt_rendezvous.specs.WorkedLone.{lone_events, lone_station, passed, pass_of, released, restored, root_of, taken}
 use Rattle.mt_rendezvous.specs.WorkedStations.{first, zeros}
 
 pub begins_lone : Begins lone
@@ -106,9 +105,6 @@ led_by n = led_run (take n lone_events) (broadcast lone) (broadcast lone) led_st
 fits_taken : FitsHeld lone Pending (held 0 (first Taken) false false)
 fits_taken = record { first = λ w. refl; fits = (refl, λ e. absurd (cc e)); era = refl }
 
-fits_cancelled : (added : Bool) → FitsHeld lone Cancelled (held 0 (first Taken) added false)
-fits_cancelled added = record { first = λ w. refl; fits = (refl, λ e. refl); era = refl }
-
 fits_arrived : (go : Go) → FitsHeld lone go (held 0 (first Arrived) true false)
 fits_arrived go = record { first = λ w. refl; fits = (refl, refl); era = refl }
 
@@ -117,9 +113,6 @@ fits_left = record { first = λ w. absurd w; fits = (refl, inl (refl, refl)); er
 
 fits_passed : FitsHeld lone Given (held 0 (first Passed) true false)
 fits_passed = record { first = λ w. absurd w; fits = (refl, refl, refl); era = refl }
-
-fits_unfilled : FitsHeld lone Given (held 0 unfilled true false)
-fits_unfilled = record { first = λ w. absurd w; fits = (refl, refl, refl); era = refl }
 
 fits_restored : FitsHeld lone Given (held 0 (changed Restored) true false)
 fits_restored = record { first = λ w. absurd w; fits = (refl, refl, refl); era = refl }
@@ -130,30 +123,18 @@ fits_again = record { first = λ w. absurd w; fits = (refl, refl, refl); era = r
 fits_released : FitsHeld lone Given (held 0 released true true)
 fits_released = record { first = λ w. absurd w; fits = (refl, inr (refl, refl)); era = refl }
 
-pub led_cancelled : Led (broadcast lone) (run (broadcast lone) (Cancels ∷ []))
-led_cancelled = led_run (Cancels ∷ []) (broadcast lone) (broadcast lone) led_start (refl, tt) refl
-
 led_left : Led (broadcast lone) (run (broadcast lone) (Cancels ∷ Steps 0 Leave ∷ []))
 led_left = led_run (Cancels ∷ Steps 0 Leave ∷ []) (broadcast lone) (broadcast lone) led_start (refl, (refl, tt)) refl
-
-pub led_waits : Led (broadcast lone) (run (broadcast lone) (Steps 0 Arrive ∷ []))
-led_waits = led_run (Steps 0 Arrive ∷ []) (broadcast lone) (broadcast lone) led_start (refl, tt) refl
 
 module _ (key : Key) (is : start_of key ≡ lone) where
   pub taken_meets : Meets key (taken key)
   taken_meets = meets key is Pending None (held 0 (first Taken) false false) (0 ∷ 0 ∷ 0 ∷ zeros) led_start refl refl refl fits_taken refl refl
-
-  pub waits_meets : Meets key (waits key)
-  waits_meets = meets key is Pending None (held 0 (first Arrived) true false) (1 ∷ 0 ∷ 0 ∷ zeros) led_waits refl refl refl (fits_arrived Pending) refl refl
 
   pub arrived_meets : Meets key (arrived key)
   arrived_meets = meets key is Given None (held 0 (first Arrived) true false) (2 ∷ 0 ∷ 0 ∷ zeros) (led_by 2) refl refl refl (fits_arrived Given) refl refl
 
   pub passed_meets : Meets key (passed key)
   passed_meets = meets key is Given None (held 0 (first Passed) true false) (2 ∷ 0 ∷ 0 ∷ zeros) (led_by 3) refl refl refl fits_passed refl refl
-
-  pub unfilled_meets : Meets key (fills_not key)
-  unfilled_meets = meets key is Given None (held 0 unfilled true false) (2 ∷ 0 ∷ 1 ∷ zeros) (led_by 4) refl refl refl fits_unfilled refl refl
 
   pub restored_meets : Meets key (restored key)
   restored_meets = meets key is Given None (held 0 (changed Restored) true false) (2 ∷ 0 ∷ 8 ∷ both_written) (led_by 15) refl refl refl fits_restored refl refl
@@ -164,19 +145,10 @@ module _ (key : Key) (is : start_of key ≡ lone) where
   pub ended_meets : Meets key (ended key)
   ended_meets = meets key is Given (Some 1) (held 0 released true true) (2 ∷ 1 ∷ 8 ∷ both_written) (led_by 17) refl refl refl fits_released refl refl
 
-  pub cancelled_meets : Meets key (cancelled key)
-  cancelled_meets = meets key is Cancelled None (held 0 (first Taken) false false) (0x100000000 ∷ 0 ∷ 0 ∷ zeros) led_cancelled refl refl refl (fits_cancelled false) refl refl
-
-  pub late_meets : Meets key (late key)
-  late_meets = meets key is Cancelled None (held 0 (first Taken) true false) (0x100000001 ∷ 0 ∷ 0 ∷ zeros) led_cancelled refl refl refl (fits_cancelled true) refl refl
-
   pub left_meets : Meets key (left key)
   left_meets = meets key is Cancelled None (held 0 (first Running) true false) (0x100000001 ∷ 0 ∷ 0 ∷ zeros) led_left refl refl refl fits_left refl refl
 
 -- ---- steps
-
-abbrev no_one : Held
-no_one = held 0 (first Taken) false false
 
 abbrev first_one : Held → List Held → Held
 first_one h [] = h
@@ -185,35 +157,3 @@ first_one h (g ∷ gs) = g
 -- what is so of the one processor of a view
 pub one_held : (P : Held → Type 0) (h : Held) → P h → (g : Held) → h ∷ [] ≡ g ∷ [] → P g
 one_held P h p g same = subst P (ap (first_one h) same) p
-
--- what a view has of its first processor
-abbrev phase_of : View → Phase
-phase_of v = (first_one no_one v.held).cpu.phase
-
-abbrev is_arrived : Phase → Bool
-is_arrived Arrived = true
-is_arrived other = false
-
-abbrev is_running : Phase → Bool
-is_running Running = true
-is_running other = false
-
-abbrev is_passed : Phase → Bool
-is_passed Passed = true
-is_passed other = false
-
-abbrev pub has_come : View → Bool
-has_come v = is_arrived (phase_of v)
-
-abbrev pub has_left : View → Bool
-has_left v = is_running (phase_of v)
-
-abbrev pub fills_lines : View → Bool
-fills_lines v = is_passed (phase_of v)
-
-abbrev pub has_come_again : View → Bool
-has_come_again v = (first_one no_one v.held).again
-
--- a seat lends nothing, or one word
-pub none_is_one : {xs : List (ℕ × Unit {0})} → (0, tt) ∷ xs ≡ [] → ⊥
-none_is_one e = absurd (cc e)

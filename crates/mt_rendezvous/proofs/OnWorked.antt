@@ -1,20 +1,13 @@
--- Tests on worked machines, and why the rule doesn't hold where a word is otherwise.
-use Rattle.std.proofs.Common.{◌≡◌, ◌<◌, ◌+◌, ℕ, zero, suc, Bool, true, false, List, [], ◌∷◌, ◌∙◌, ap, sym, refl, subst, arith, Option, length}
-use Rattle.std.specs.Prelude.{nat_lt, slice_get, slice_index}
-use Rattle.std.specs.Option.{option_map_or}
+-- Why the rule doesn't hold at the worked start with another word.
+use Rattle.std.proofs.Common.{◌≡◌, ◌<◌, ◌+◌, ℕ, zero, suc, List, [], ◌∷◌, ◌∙◌, ap, sym, refl, subst, arith, length}
+use Rattle.std.specs.Prelude.{slice_index}
 use mathlib.Core.Option.{some}
 use lib.ListN.{get_elem?}
 use Rattle.atomic_table.specs.Table.{opening}
-use Rattle.mt_machine.specs.declared.phase.Phase.{Phase}
-use Rattle.mt_machine.specs.declared.phase.Phase.TheVariants.{Running, Taken}
-use Rattle.mt_machine.specs.declared.go.Go.{Go}
-use Rattle.mt_machine.specs.declared.go.Go.TheVariants.{Given}
-use Rattle.mt_machine.specs.System.{Processor}
-use Rattle.mt_machine.specs.Machine.{Machine, Order, is_cancelled}
 use Rattle.mt_rendezvous.specs.declared.view.Held.{Held}
 use Rattle.mt_rendezvous.specs.declared.view.Start.{Start}
 use Rattle.mt_rendezvous.specs.declared.view.Key.{Key}
-use Rattle.mt_rendezvous.specs.Station.{Begins, Meets, added_of, again_of, first_view, go_weight, held, start_of, total}
+use Rattle.mt_rendezvous.specs.Station.{Begins, Meets, added_of, again_of, first_view, go_weight, start_of, total}
 use Rattle.mt_rendezvous.specs.Calls.{opening_words}
 use Rattle.mt_rendezvous.specs.WorkedStations.{first, start, zeros}
 use Rattle.mt_rendezvous.proofs.RootSteps.{begins, opens_of}
@@ -22,62 +15,6 @@ use Rattle.mt_rendezvous.proofs.Unique.{same_all}
 
 pub not_both : (n : ℕ) → n ≡ 1 → n ≡ 0 → ⊥
 not_both n e f = omega arith
-
-abbrev taken_phase : Phase → Bool
-taken_phase Taken = true
-taken_phase other = false
-
-abbrev pub is_taken : Option Processor → Bool
-is_taken p = option_map_or (λ (q : Processor). taken_phase q.phase) p false
-
-abbrev pub first_taken : Machine → Bool
-first_taken m = is_taken (slice_get m.system.processors 0)
-
-abbrev pub given : Go → Bool
-given Given = true
-given other = false
-
-abbrev pub was_given : Machine → Bool
-was_given m = option_map_or (λ (o : Order). given o.go) m.order false
-
-abbrev pub order_given : Option Order → Bool
-order_given x = option_map_or (λ (o : Order). given o.go) x false
-
-abbrev pub order_cancelled : Option Order → Bool
-order_cancelled x = option_map_or (λ (o : Order). is_cancelled o.go) x false
-
-abbrev running_phase : Phase → Bool
-running_phase Running = true
-running_phase other = false
-
-abbrev pub is_running : Option Processor → Bool
-is_running p = option_map_or (λ (q : Processor). running_phase q.phase) p false
-
-abbrev pub has_lines : Option Processor → Bool
-has_lines p = option_map_or (λ (q : Processor). nat_lt 0 (length q.lines)) p false
-
-abbrev no_held : Held
-no_held = held 0 (first Taken) false false
-
-abbrev first_held : List Held → Held
-first_held [] = no_held
-first_held (h ∷ hs) = h
-
-abbrev pub first_number : List Held → ℕ
-first_number l = (first_held l).number
-
-abbrev pub first_added : List Held → Bool
-first_added l = (first_held l).added
-
-abbrev pub first_again : List Held → Bool
-first_again l = (first_held l).again
-
-abbrev pub is_first_taken : List Held → Bool
-is_first_taken l = taken_phase (first_held l).cpu.phase
-
-abbrev pub none_lent : List (ℕ × Unit {0}) → Bool
-none_lent [] = true
-none_lent (x ∷ xs) = false
 
 module _ (key : Key) (is : start_of key ≡ start) (b : Begins start) where
   -- the start of a worked station meets the rule

@@ -5,4 +5,3 @@ pub mod Laws
 pub mod WorkedStations
 pub mod Update
 pub mod WorkedLone
-pub mod WorkedUpdates

@@ -7,7 +7,7 @@ use Rattle.mt_machine.specs.declared.go.Go.TheVariants.{Cancelled, Given, Pendin
 use Rattle.mt_machine.specs.declared.event.Event.TheVariants.{Arrive, ArriveAgain, Disable, DropLines, Enable, FlushTlb, Pass, Release, RestorePge, SetNoFill, SetNormal, Write, WriteBack}
 use Rattle.mt_machine.specs.System.{Processor, start_processor}
 use Rattle.mt_machine.specs.Machine.{Goes, MachineEvent, Steps}
-use Rattle.mt_machine.specs.WorkedRuns.{bare_file, line_of}
+use Rattle.mt_machine.specs.WorkedRuns.{bare_file}
 use Rattle.mt_rendezvous.specs.declared.view.Held.{Held}
 use Rattle.mt_rendezvous.specs.declared.view.Start.{Start}
 use Rattle.mt_rendezvous.specs.declared.view.View.{View}
@@ -28,12 +28,9 @@ lone_events =
     (Arrive ∷ Pass ∷ SetNoFill ∷ WriteBack 0x100008 6 ∷ WriteBack 0x100010 7 ∷ DropLines ∷ FlushTlb
     ∷ Disable ∷ Write 0 ∷ Enable ∷ DropLines ∷ FlushTlb ∷ SetNormal ∷ RestorePge ∷ ArriveAgain ∷ Release ∷ [])
 
--- in no-fill mode, and when it has written its second word back; and behind the change of its registers
+-- in no-fill mode, and behind the change of its registers
 abbrev pub unfilled : Processor
 unfilled = record (first NoFill) { cache_disabled = true }
-
-abbrev pub half_clean : Processor
-half_clean = record unfilled { lines = record (line_of 0x4000 0) { dirty = 4 } ∷ [] }
 
 abbrev pub changed : Phase → Processor
 changed phase = record (start_processor (bare_file 0x800)) { phase = phase }
@@ -41,10 +38,7 @@ changed phase = record (start_processor (bare_file 0x800)) { phase = phase }
 abbrev pub released : Processor
 released = record (changed Running) { era = 1 }
 
--- the words of memory once one word, and both, are written back
-abbrev pub half_written : List ℕ
-half_written = 0 ∷ 6 ∷ 0 ∷ 0 ∷ 0 ∷ 0 ∷ 0 ∷ 0 ∷ []
-
+-- the words of memory once both dirty words are written back
 abbrev pub both_written : List ℕ
 both_written = 0 ∷ 6 ∷ 7 ∷ 0 ∷ 0 ∷ 0 ∷ 0 ∷ 0 ∷ []
 
@@ -57,15 +51,12 @@ pass_of t shown h = record { root = false; held = h ∷ []; go = Pending; shown 
 
 -- ---- the processor in its view, and the seat of its pass
 
--- the processor before it arrives, when it has, when it came too late, passed and left
+-- the processor before it arrives, when it has arrived, when it has passed, and when it has left
 abbrev pub new : Held
 new = held 0 (first Taken) false false
 
 abbrev pub come : Held
 come = held 0 (first Arrived) true false
-
-abbrev pub behind : Held
-behind = held 0 (first Taken) true false
 
 abbrev pub gone : Held
 gone = held 0 (first Passed) true false
@@ -80,9 +71,6 @@ sits t h = bare (pass_of t None h)
 -- the processor in its change, and at the second barrier
 abbrev pub fills : Held
 fills = held 0 unfilled true false
-
-abbrev pub wrote : Held
-wrote = held 0 half_clean true false
 
 abbrev pub back : Held
 back = held 0 (changed Restored) true false
@@ -116,9 +104,6 @@ passed key = lone_station key Given None gone (2 ∷ 0 ∷ 0 ∷ zeros)
 abbrev pub fills_not : Key → Station
 fills_not key = lone_station key Given None fills (2 ∷ 0 ∷ 1 ∷ zeros)
 
-abbrev pub writes : Key → Station
-writes key = lone_station key Given None wrote (2 ∷ 0 ∷ 1 ∷ half_written)
-
 -- before the second barrier, there, and released
 abbrev pub restored : Key → Station
 restored key = lone_station key Given None back (2 ∷ 0 ∷ 8 ∷ both_written)
@@ -129,17 +114,11 @@ arrived_again key = lone_station key Given None again (2 ∷ 1 ∷ 8 ∷ both_wr
 abbrev pub ended : Key → Station
 ended key = lone_station key Given (Some 1) free (2 ∷ 1 ∷ 8 ∷ both_written)
 
--- where the cancel came while it had taken, when its pass has added since, and when it has left
-abbrev pub cancelled : Key → Station
-cancelled key = lone_station key Cancelled None new (0x100000000 ∷ 0 ∷ 0 ∷ zeros)
-
-abbrev pub late : Key → Station
-late key = lone_station key Cancelled None behind (0x100000001 ∷ 0 ∷ 0 ∷ zeros)
-
+-- when it has left after a cancel
 abbrev pub left : Key → Station
 left key = lone_station key Cancelled None out (0x100000001 ∷ 0 ∷ 0 ∷ zeros)
 
--- and when the root has taken it back
+-- when the root has taken it back
 abbrev pub taken_back : Key → Station
 taken_back key = record {
   words = 0x100000001 ∷ 0 ∷ 0 ∷ zeros;

@@ -1,19 +1,16 @@
 -- A worked station: two processors without pairs that have taken, the first with a dirty word, over a memory of one line.
 use Rattle.atomic_table.specs.Table.{State, opening}
-use Rattle.std.specs.Prelude.{ℕ, Bool, true, false, List, [], ◌∷◌, None, Some, slice_set}
+use Rattle.std.specs.Prelude.{ℕ, Bool, false, List, [], ◌∷◌, slice_set}
 use Rattle.mt_machine.specs.declared.phase.Phase.{Phase}
-use Rattle.mt_machine.specs.declared.phase.Phase.TheVariants.{Taken, Arrived}
-use Rattle.mt_machine.specs.declared.go.Go.{Go}
-use Rattle.mt_machine.specs.declared.go.Go.TheVariants.{Pending}
+use Rattle.mt_machine.specs.declared.phase.Phase.TheVariants.{Taken}
 use Rattle.mt_machine.specs.System.{Processor, start_processor}
 use Rattle.mt_machine.specs.Memory.{Memory}
-use Rattle.mt_machine.specs.Machine.{Cancels, Machine, next}
 use Rattle.mt_machine.specs.WorkedRuns.{bare_file, line_of}
 use Rattle.mt_rendezvous.specs.declared.view.Held.{Held}
 use Rattle.mt_rendezvous.specs.declared.view.Start.{Start}
 use Rattle.mt_rendezvous.specs.declared.view.View.{View}
 use Rattle.mt_rendezvous.specs.declared.view.Key.{Key}
-use Rattle.mt_rendezvous.specs.Station.{first_view, held, numbered, pass_right, root_left, view, with_held}
+use Rattle.mt_rendezvous.specs.Station.{first_view, held, pass_right, root_left}
 use Rattle.mt_rendezvous.specs.Plays.{Sat}
 use Rattle.mt_rendezvous.specs.Calls.{gathered, opening_words}
 
@@ -33,13 +30,6 @@ zeros = 0 ∷ 0 ∷ 0 ∷ 0 ∷ 0 ∷ 0 ∷ 0 ∷ 0 ∷ []
 abbrev pub start : Start
 start = gathered (first Taken ∷ second Taken ∷ []) (one_line zeros) (bare_file 0x800)
 
--- the machine of two processors while the update is under way
-abbrev pub machine_of : Processor → Processor → Machine
-machine_of p q = record {
-  system = record { processors = p ∷ q ∷ []; memory = one_line zeros };
-  order = Some (record { goal = bare_file 0x800; from_era = 0; go = Pending });
-}
-
 -- both processors, with what their passes have added
 abbrev pub pair_of : Processor → Bool → Bool → Processor → Bool → Bool → List Held
 pair_of p first_added first_again q second_added second_again = held 0 p first_added first_again ∷ held 1 q second_added second_again ∷ []
@@ -47,25 +37,6 @@ pair_of p first_added first_again q second_added second_again = held 0 p first_a
 -- the words with these two counts, before any event between the barriers
 abbrev pub words_of : ℕ → ℕ → List ℕ
 words_of first second = slice_set (slice_set (opening_words 2 zeros) 0 first) 1 second
-
--- the root's view before it gives a processor away
-abbrev pub root_view : View
-root_view = record { root = true; held = numbered 0 start.cpus; go = Pending; shown = None; start = start }
-
--- the view of its first pass, which has added to word 0
-abbrev pub added_view : View
-added_view = with_held (pass_right root_view) (held 0 (first Taken) true false ∷ [])
-
--- the machine after the cancel
-abbrev pub cancelled : Machine
-cancelled = next (machine_of (first Taken) (second Taken)) Cancels
-
--- the first processor in a view, before and after its arrival
-abbrev pub waiting : Held
-waiting = held 0 (first Taken) false false
-
-abbrev pub come : Held
-come = held 0 (first Arrived) true false
 
 -- both, before any event
 abbrev pub both_taken : List Held
@@ -75,10 +46,6 @@ both_taken = pair_of (first Taken) false false (second Taken) false false
 abbrev pub but_word : Key → ℕ → ℕ → State (Unit {0}) View
 but_word key i n = record { words = slice_set (opening_words 2 zeros) i n; homes = []; views = first_view key ∷ [] }
 
--- a start of processors in these states
-abbrev pub start_in : Phase → ℕ → Start
-start_in phase era = gathered (record (first phase) { era = era } ∷ record (second phase) { era = era } ∷ []) (one_line zeros) (bare_file 0x800)
-
 abbrev pub at_start : Key → State (Unit {0}) View
 at_start key = opening (opening_words 2 zeros) [] (first_view key)
 
@@ -86,31 +53,6 @@ at_start key = opening (opening_words 2 zeros) [] (first_view key)
 abbrev pub split_once : Key → State (Unit {0}) View
 split_once key = record { words = opening_words 2 zeros; homes = []; views = root_left (first_view key) ∷ pass_right (first_view key) ∷ [] }
 
--- two words and one view
-abbrev pub two_words : State (Unit {0}) View
-two_words = record { words = 5 ∷ 9 ∷ []; homes = []; views = root_view ∷ [] }
-
--- ---- seats
-
--- the view of the first pass, with this processor
-abbrev pub pass_with : Held → View
-pass_with h = with_held (pass_right root_view) (h ∷ [])
-
--- a seat to which nothing is lent, and one to which a word is
+-- a seat to which nothing is lent
 abbrev pub bare : View → Sat
 bare v = (v, [])
-
-abbrev pub lent : View → Sat
-lent v = (v, (0, tt) ∷ [])
-
--- one with the goal's registers, which holds nothing
-abbrev pub clean : Processor
-clean = record (start_processor (bare_file 0x800)) { phase = Taken }
-
--- two such, with this goal
-abbrev pub clean_start : ℕ → Start
-clean_start default_type = gathered (clean ∷ clean ∷ []) (one_line zeros) (bare_file default_type)
-
--- the root's view where it has said so, or holds these
-abbrev pub root_with : Go → List Held → View
-root_with go hs = view true hs go None root_view

@@ -1,10 +1,9 @@
-// Each law on the steps of a station at a step of a worked station that meets the rule, and the laws on a station whose
-// second count is full, on processors that have ended, and on where a station begins. A load that finds the second count
-// not full wants a second processor, and is left out.
+// Each law on the steps of a station, at one step of a worked station that meets the rule; and the laws on a station whose
+// second count is full, on processors that have ended, and on where a station begins.
 ghost use Rattle.std.specs.Prelude.{◌≡◌, ◌≤◌, [], None, Some, length, slice_index};
 ghost use Rattle.std.specs.List.{All};
 ghost use Rattle.mt_machine.specs.declared.go.Go.TheVariants.{Given, Cancelled};
-ghost use Rattle.mt_machine.specs.declared.event.Event.TheVariants.{Arrive, ArriveAgain, Leave, Pass, Release, SetNoFill, WriteBack};
+ghost use Rattle.mt_machine.specs.declared.event.Event.TheVariants.{Arrive, ArriveAgain, Pass, Release, SetNoFill};
 ghost use Rattle.mt_machine.specs.Machine.{Cancels as CancelsUpdate, Goes, Steps};
 ghost use Rattle.mt_machine.specs.Memory.{word_at};
 ghost use Rattle.mt_machine.specs.Update.{Led};
@@ -14,7 +13,7 @@ ghost use Rattle.mt_rendezvous.specs.Station.{Begins, Meets, broadcast, first_vi
 ghost use Rattle.mt_rendezvous.specs.Plays.{with_go};
 ghost use Rattle.mt_rendezvous.specs.Laws.{ArriveAgainFollows, ArriveFollows, CancelFollows, GoFollows, JoinFollows, PassFollows, ReleaseFollows, SplitFollows, WorkFollows};
 ghost use Rattle.mt_rendezvous.specs.Laws.{BroadcastBegins, HoldsWhereFull, IsLedTo, LeftWhereCancelled, ReleasedWhereFull, StandsForOne, machine_of, raised};
-ghost use Rattle.mt_rendezvous.specs.WorkedLone.{Moves, arrived, arrived_again, cancelled, ended, fills_not, late, left, lone, passed, restored, taken, taken_back, waits, writes};
+ghost use Rattle.mt_rendezvous.specs.WorkedLone.{Moves, arrived, arrived_again, ended, fills_not, left, lone, passed, restored, taken, taken_back, waits};
 ghost use Rattle.mt_rendezvous.specs.WorkedStations.{at_start, split_once, start};
 
 /// The root's steps: it gives a processor away, says go, cancels, and takes a processor back.
@@ -26,19 +25,15 @@ pub fn worked_laws_of_the_root()
     ensures join { JoinFollows → (key : Key) → start_of key ≡ lone → Moves key (left key) (taken_back key) None }
 {}
 
-/// A pass's steps at the first barrier: it arrives, before a cancel and behind it, and passes, leaves or waits.
+/// A pass's steps at the first barrier: it arrives, and passes.
 pub fn worked_laws_of_the_first_barrier()
     ensures arrive { ArriveFollows → (key : Key) → start_of key ≡ lone → Moves key (taken key) (waits key) (Some (Steps 0 Arrive)) }
-    ensures late { ArriveFollows → (key : Key) → start_of key ≡ lone → Moves key (cancelled key) (late key) None }
     ensures pass { PassFollows → (key : Key) → start_of key ≡ lone → Moves key (arrived key) (passed key) (Some (Steps 0 Pass)) }
-    ensures leave { PassFollows → (key : Key) → start_of key ≡ lone → Moves key (late key) (left key) (Some (Steps 0 Leave)) }
-    ensures wait { PassFollows → (key : Key) → start_of key ≡ lone → Moves key (waits key) (waits key) None }
 {}
 
-/// Its stores between the barriers, of its own phase and of a word of memory, and its steps at the second barrier.
+/// The store of its own phase between the barriers, and its steps at the second barrier.
 pub fn worked_laws_of_the_change()
     ensures phase { WorkFollows → (key : Key) → start_of key ≡ lone → Moves key (passed key) (fills_not key) (Some (Steps 0 SetNoFill)) }
-    ensures word { WorkFollows → (key : Key) → start_of key ≡ lone → Moves key (fills_not key) (writes key) (Some (Steps 0 (WriteBack 0x100008 6))) }
     ensures arrive_again { ArriveAgainFollows → (key : Key) → start_of key ≡ lone → Moves key (restored key) (arrived_again key) (Some (Steps 0 ArriveAgain)) }
     ensures release { ReleaseFollows → (key : Key) → start_of key ≡ lone → Moves key (arrived_again key) (ended key) (Some (Steps 0 Release)) }
 {}

@@ -4,12 +4,11 @@ use Rattle.atomic_table.specs.Table.{step}
 use Rattle.mt_machine.specs.declared.phase.Phase.TheVariants.{Arrived2, Passed, Restored}
 use Rattle.mt_rendezvous.specs.declared.view.Start.{Start}
 use Rattle.mt_rendezvous.specs.Station.{start_of}
-use Rattle.mt_rendezvous.specs.Plays.{ArrivesAgain, Releases, Works, own_event, written}
-use Rattle.mt_rendezvous.specs.Laws.{GoesTo}
-use Rattle.mt_rendezvous.specs.WorkedLone.{again, arrived_again, back, changed, fills, fills_not, free, gone, pass_of, passed, restored, sits, unfilled, wrote}
+use Rattle.mt_rendezvous.specs.Plays.{ArrivesAgain, Releases, Works}
+use Rattle.mt_rendezvous.specs.WorkedLone.{again, arrived_again, back, changed, fills, free, gone, pass_of, passed, restored, sits}
 use Rattle.mt_rendezvous.specs.WorkedStations.{bare, first}
-use Rattle.mt_rendezvous.proofs.LonePlays.{arrives_again, releases, works, works_back}
-use Rattle.mt_rendezvous.proofs.OnLone.{again_meets, passed_meets, restored_meets, unfilled_meets}
+use Rattle.mt_rendezvous.proofs.LonePlays.{arrives_again, releases, works}
+use Rattle.mt_rendezvous.proofs.OnLone.{again_meets, passed_meets, restored_meets}
 use Rattle.mt_rendezvous.proofs.worked_laws.worked_laws_of_the_change.Goals as goal
 
 pub returns-clause-phase : goal.returns-clause-phase
@@ -17,14 +16,6 @@ returns-clause-phase c = λ law key is. (
   passed_meets key is,
   law key (passed key) (passed_meets key is) 1 0 (first Passed) (sits (start_of key) gone) (sits (start_of key) fills) (record { at = refl; holds = refl }) 2 1 refl (refl, refl)
       (subst (λ (t : Start). Works (step 0 2 1 0 none) (sits t gone) 1 (sits t fills)) (sym is) works),
-)
-
-pub returns-clause-word : goal.returns-clause-word
-returns-clause-word c = λ law key is. (
-  unfilled_meets key is,
-  law key (fills_not key) (unfilled_meets key is) 1 0 unfilled (sits (start_of key) fills) (sits (start_of key) wrote) (record { at = refl; holds = refl }) 4 6 refl
-      (subst (λ (t : Start). GoesTo t 0 unfilled (written (own_event t unfilled)) 4 6) (sym is) (refl, 1, refl, refl))
-      (subst (λ (t : Start). Works (step 0 4 6 0 none) (sits t fills) 6 (sits t wrote)) (sym is) works_back),
 )
 
 pub returns-clause-arrive_again : goal.returns-clause-arrive_again
