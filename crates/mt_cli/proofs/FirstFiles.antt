@@ -1,10 +1,9 @@
--- Processor 0's file of a dump, and the kind of all its files.
-use Rattle.std.proofs.Common.{◌≡◌, ◌<◌, List, [], ◌∷◌, length, None, sym, ◌∙◌, arith}
+-- Processor 0's file of a dump.
+use Rattle.std.proofs.Common.{◌≡◌, ◌<◌, List, [], ◌∷◌, length, None, arith}
 use Rattle.std.specs.List.{All}
 use Rattle.std.proofs.lemmas.List.Elements.{All-from_recursion, All-head}
 use Rattle.mt_regs.specs.RegisterFile.{IsRegisterFile, RegisterFile}
 use Rattle.mt_regs.specs.Faults.{IsAccepted}
-use Rattle.mt_regs.specs.StartFiles.{SameKind}
 use Rattle.mt_regs.specs.Agreement.{first_refusal}
 use Rattle.mt_regs.proofs.FirstOnes.{is_first_refusal}
 use Rattle.mt_dump.specs.Dumps.{Dump, IsDump, first_file, first_of}
@@ -22,16 +21,3 @@ each_accepted files none = let law = is_first_refusal files in rw none at law
 
 pub first_is_accepted : (dump : Dump) → IsDump dump → first_refusal dump.files ≡ None → IsAccepted (first_file dump)
 first_is_accepted dump is none = of_first IsAccepted dump.files is.some (each_accepted dump.files none)
-
--- each two files of a dump are of one kind
-pub files_of_one_kind : (dump : Dump) → IsDump dump → All (λ f. All (SameKind f) dump.files) dump.files
-files_of_one_kind dump is = λ i d within j e below. record {
-  width = widths i d within ∙ sym (widths j e below);
-  capabilities = capabilities i d within ∙ sym (capabilities j e below);
-}
-  where
-    widths : All (λ f. f.width ≡ (first_file dump).width) dump.files
-    widths = All-from_recursion (λ f. f.width ≡ (first_file dump).width) dump.files is.one_width
-
-    capabilities : All (λ f. f.capabilities ≡ (first_file dump).capabilities) dump.files
-    capabilities = All-from_recursion (λ f. f.capabilities ≡ (first_file dump).capabilities) dump.files is.one_capabilities

@@ -321,8 +321,3 @@ sums_read words bytes cpus n accesses result left old new says read (inl (inl (i
     rw is (record { text = _; output = measured cpus n accesses says; read = left_by words bytes left (Some (Private cpus n accesses)) says read })
 sums_read words bytes cpus n accesses result left old new says read (inl (inr (is, cut))) = rw is tt
 sums_read words bytes cpus n accesses result left old new says read (inr (is, same)) = rw is tt
-
--- wrong usage
-pub usage_reads : (words : List (List ℕ)) (bytes : List ℕ) (written : List ℕ) (result : Status) (left old new : Option (List ℕ)) → left ≡ Some bytes → Writes written Usage old new result → Reads words bytes left result
-usage_reads words bytes written result left old new same (inl (done, takes)) = rw done same
-usage_reads words bytes written result left old new same (inr (failed, cut)) = rw failed tt

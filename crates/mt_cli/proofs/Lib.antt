@@ -13,4 +13,3 @@ mod Coming
 mod Making
 mod Drawing
 mod Owning
-mod WorkedAnswers

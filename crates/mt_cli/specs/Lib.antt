@@ -6,4 +6,3 @@ pub mod Output
 pub mod Tool
 pub mod Written
 pub mod Measured
-pub mod WorkedAnswers

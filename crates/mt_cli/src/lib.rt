@@ -11,9 +11,6 @@ mod program;
 mod texts;
 mod top;
 mod words;
-mod worked;
-mod worked_answers;
-mod worked_outputs;
 
 pub use answers::{answer, answer_input, big, make, private};
 pub use command::{Command, DumpCommand, TidyOption};
@@ -30,21 +27,3 @@ pub use program::program_status;
 pub use texts::{grained_text, tidied_text, types_text};
 pub use top::tool;
 pub use words::command_of;
-pub use worked::{worked_draws, worked_generated_lines};
-pub use worked_answers::{
-    worked_dump_answers, worked_gran_answers, worked_tidy_answers, worked_type_answers,
-};
-pub use worked_outputs::{worked_checks, worked_command_lines, worked_endings, worked_statuses};
-
-#[cfg(test)]
-mod cut_tests;
-#[cfg(test)]
-mod jobs_tests;
-#[cfg(test)]
-mod limits_tests;
-#[cfg(test)]
-mod proc_tests;
-#[cfg(test)]
-mod script_tests;
-#[cfg(test)]
-mod tests;
