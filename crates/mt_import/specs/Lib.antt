@@ -16,5 +16,3 @@ pub mod Rows
 pub mod Outcome
 pub mod Reader
 pub mod Import
-pub mod WorkedReadings
-pub mod WorkedLogs

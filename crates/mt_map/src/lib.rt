@@ -16,10 +16,6 @@ mod running;
 mod size;
 mod stack;
 mod style;
-#[cfg(test)]
-mod tests;
-mod worked;
-mod worked_maps;
 
 pub use band::Band;
 pub use bar::Bar;
@@ -31,5 +27,3 @@ pub use rect::Rect;
 pub use running::{draw, map, picture_of};
 pub use size::{Size, Unit, page_size};
 pub use stack::{Stack, bands, height, top_of};
-pub use worked::{worked_bands, worked_choices, worked_heights, worked_sizes, worked_types};
-pub use worked_maps::{worked_drawn, worked_left, worked_outputs, worked_texts};

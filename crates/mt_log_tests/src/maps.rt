@@ -1,31 +1,7 @@
-use crate::map;
-use mt_ports::{MemSink, MemSource, Status};
+use crate::runs::run_map;
+use mt_ports::Status;
 use std::process::Abort;
 use std::test::Fail;
-
-const ROOM: usize = 65_536;
-
-#[derive(Drop)]
-struct Ran {
-    status: Status,
-    sink: MemSink,
-}
-
-fn run<R: AllocGlobal + Abort>(
-    rt: &R,
-    has_words: bool,
-    input: &[u8],
-    failing_reads: &[u64],
-    failing_writes: &[u64],
-) -> Result<Ran, Fail> {
-    let alloc = rt.alloc();
-    let mut source = MemSource::new(input.to_vec(alloc)?, 7, failing_reads.to_vec(alloc)?);
-    let Ok(mut sink) = MemSink::new(alloc, ROOM, failing_writes.to_vec(alloc)?) else {
-        return Err(Fail::from("no memory"));
-    };
-    let status = map(alloc, has_words, &mut source, &mut sink);
-    Ok(Ran { status, sink })
-}
 
 fn has_part(text: &[u8], part: &[u8]) -> bool {
     for start in 0..text.len() {
@@ -43,7 +19,7 @@ fn expect<R: AllocGlobal + Abort>(
     status: Status,
     parts: &[&str],
 ) -> Result<(), Fail> {
-    let ran = run(rt, false, input, &[], &[])?;
+    let ran = run_map(rt, false, input, &[], &[])?;
     assert_eq!(rt; ran.status, status);
     for part in parts {
         assert!(rt; has_part(ran.sink.bytes(), part.as_bytes()));
@@ -136,7 +112,7 @@ fn pages_without_a_type_are_drawn(rt: HostRuntime) -> Result<(), Fail> {
 
 #[test]
 fn a_register_at_fault_has_no_picture(rt: HostRuntime) -> Result<(), Fail> {
-    let ran = run(&rt, false, RESERVED, &[], &[])?;
+    let ran = run_map(&rt, false, RESERVED, &[], &[])?;
     assert_eq!(&rt; ran.status, Status::Refused);
     assert!(&rt; !has_part(ran.sink.bytes(), b"<svg"));
     Ok(())
@@ -154,7 +130,7 @@ fn a_bad_text_has_its_place(rt: HostRuntime) -> Result<(), Fail> {
 
 #[test]
 fn words_are_wrong_usage(rt: HostRuntime) -> Result<(), Fail> {
-    let ran = run(&rt, true, ONE, &[], &[])?;
+    let ran = run_map(&rt, true, ONE, &[], &[])?;
     assert_eq!(&rt; ran.status, Status::Usage);
     assert!(&rt; ran.sink.bytes() == b"usage\n".as_slice());
     Ok(())
@@ -172,10 +148,10 @@ fn two_sections_are_drawn_side_by_side(rt: HostRuntime) -> Result<(), Fail> {
 
 #[test]
 fn ports_that_fail_end_the_run(rt: HostRuntime) -> Result<(), Fail> {
-    let unread = run(&rt, false, ONE, &[1], &[])?;
+    let unread = run_map(&rt, false, ONE, &[1], &[])?;
     assert_eq!(&rt; unread.status, Status::ReadFault);
     assert!(&rt; unread.sink.bytes().is_empty());
-    let unwritten = run(&rt, false, ONE, &[], &[0])?;
+    let unwritten = run_map(&rt, false, ONE, &[], &[0])?;
     assert_eq!(&rt; unwritten.status, Status::WriteFault);
     Ok(())
 }

@@ -1,51 +1,6 @@
-use crate::import;
-use mt_ports::{MemSink, MemSource, Status};
-use std::process::Abort;
+use crate::runs::{expect_import, run_import};
+use mt_ports::Status;
 use std::test::Fail;
-
-const ROOM: usize = 65_536;
-
-#[derive(Drop)]
-struct Ran {
-    status: Status,
-    sink: MemSink,
-}
-
-fn run<R: AllocGlobal + Abort>(
-    rt: &R,
-    words: &[&str],
-    input: &[u8],
-    piece: usize,
-    failing_reads: &[u64],
-) -> Result<Ran, Fail> {
-    let alloc = rt.alloc();
-    let mut owned = Vec::new(alloc);
-    for word in words {
-        owned.push(String::from_str(alloc, word)?)?;
-    }
-    assert!(rt; piece > 0);
-    let mut source = MemSource::new(input.to_vec(alloc)?, piece, failing_reads.to_vec(alloc)?);
-    let Ok(mut sink) = MemSink::new(alloc, ROOM, Vec::new(alloc)) else {
-        return Err(Fail::from("no memory"));
-    };
-    let status = import(&owned, &mut source, &mut sink);
-    Ok(Ran { status, sink })
-}
-
-pub(crate) fn expect<R: AllocGlobal + Abort>(
-    rt: &R,
-    words: &[&str],
-    input: &[u8],
-    output: &[u8],
-    status: Status,
-) -> Result<(), Fail> {
-    for piece in [1, 7, 4096] {
-        let ran = run(rt, words, input, piece, &[])?;
-        assert_eq!(rt; ran.status, status);
-        assert!(rt; ran.sink.bytes() == output);
-    }
-    Ok(())
-}
 
 // A processor with one pair, and without FIX, between other lines.
 const ONE: &[u8] = b"$ sh -x regs.sh
@@ -72,7 +27,7 @@ const ONE_DUMP: &[u8] = b"maxphyaddr 36
 
 #[test]
 fn a_log_comes_to_its_dump(rt: HostRuntime) -> Result<(), Fail> {
-    expect(
+    expect_import(
         &rt,
         &["rdmsr", "maxphyaddr=36"],
         ONE,
@@ -86,19 +41,19 @@ fn a_return_at_a_line_s_end_is_no_part_of_it(rt: HostRuntime) -> Result<(), Fail
     let log =
         b"+ rdmsr 0xfe\r\n0\r\n+ rdmsr -X 0x277\r\n7040600070406\r\n+ rdmsr -c 767\r\n0xC00\r\n";
     let dump = b"maxphyaddr 39\n0fe 0000000000000000\n277 0007040600070406\n2ff 0000000000000c00\n";
-    expect(&rt, &["rdmsr", "maxphyaddr=39"], log, dump, Status::Done)
+    expect_import(&rt, &["rdmsr", "maxphyaddr=39"], log, dump, Status::Done)
 }
 
 #[test]
 fn what_a_cut_log_lacks_is_named(rt: HostRuntime) -> Result<(), Fail> {
-    expect(
+    expect_import(
         &rt,
         &["rdmsr"],
         b"",
         b"missing maxphyaddr\nmissing 0fe\n",
         Status::Refused,
     )?;
-    expect(
+    expect_import(
         &rt,
         &["rdmsr", "maxphyaddr=36"],
         &ONE[..49],
@@ -106,7 +61,7 @@ fn what_a_cut_log_lacks_is_named(rt: HostRuntime) -> Result<(), Fail> {
         Status::Refused,
     )?;
     let lacks = b"missing 200\nmissing 201\nmissing 277\nmissing 2ff\n";
-    expect(
+    expect_import(
         &rt,
         &["rdmsr", "maxphyaddr=36"],
         &ONE[..54],
@@ -115,7 +70,7 @@ fn what_a_cut_log_lacks_is_named(rt: HostRuntime) -> Result<(), Fail> {
     )?;
     let fixed =
         b"missing 250\nmissing 258\nmissing 259\nmissing 268\nmissing 269\nmissing 26a\nmissing 26b\nmissing 26c\nmissing 26d\nmissing 26e\nmissing 26f\nmissing 277\nmissing 2ff\n";
-    expect(
+    expect_import(
         &rt,
         &["rdmsr", "maxphyaddr=36"],
         b"+ rdmsr 0xfe\n100\n",
@@ -134,7 +89,7 @@ fn words_supply_what_a_log_lacks(rt: HostRuntime) -> Result<(), Fail> {
         "277=7040600070406",
         "2ff=c00",
     ];
-    expect(&rt, &words, &ONE[..54], ONE_DUMP, Status::Done)?;
+    expect_import(&rt, &words, &ONE[..54], ONE_DUMP, Status::Done)?;
     let words = [
         "rdmsr",
         "fe=401",
@@ -144,7 +99,7 @@ fn words_supply_what_a_log_lacks(rt: HostRuntime) -> Result<(), Fail> {
         "277=7040600070406",
         "2ff=c00",
     ];
-    expect(&rt, &words, b"", ONE_DUMP, Status::Done)
+    expect_import(&rt, &words, b"", ONE_DUMP, Status::Done)
 }
 
 #[test]
@@ -153,14 +108,14 @@ fn two_processors_may_differ(rt: HostRuntime) -> Result<(), Fail> {
         b"+ rdmsr -p 1 0xfe\n0\n+ rdmsr -p 1 0x2ff\n806\n+ rdmsr -p 0 0xfe\n0\n+ rdmsr -p 0 0x2ff\nc00\n";
     let dump =
         b"version 2\ncpu 0\nmaxphyaddr 36\n0fe 0000000000000000\n277 0000000000000006\n2ff 0000000000000c00\ncpu 1\nmaxphyaddr 36\n0fe 0000000000000000\n277 0000000000000006\n2ff 0000000000000806\n";
-    expect(
+    expect_import(
         &rt,
         &["rdmsr", "maxphyaddr=36", "277=6"],
         log,
         dump,
         Status::Done,
     )?;
-    expect(
+    expect_import(
         &rt,
         &["rdmsr", "maxphyaddr=36"],
         log,
@@ -172,7 +127,7 @@ fn two_processors_may_differ(rt: HostRuntime) -> Result<(), Fail> {
 #[test]
 fn a_processor_that_is_not_shown_lacks_all(rt: HostRuntime) -> Result<(), Fail> {
     let log = b"+ rdmsr -p 0 0xfe\n0\n+ rdmsr -p 0 0x2ff\nc00\n+ rdmsr -p 2 0x2ff\nc00\n";
-    expect(
+    expect_import(
         &rt,
         &["rdmsr", "maxphyaddr=36", "277=6"],
         log,
@@ -185,14 +140,14 @@ fn a_processor_that_is_not_shown_lacks_all(rt: HostRuntime) -> Result<(), Fail> 
 fn the_first_contradiction_is_named(rt: HostRuntime) -> Result<(), Fail> {
     let log =
         b"+ rdmsr 0x277\n6\n+ rdmsr 0x277\n6\n+ rdmsr -p 1 0x277\n7\n+ rdmsr 0x277\n  7\n+ rdmsr -p 16 0x277\n6\n";
-    expect(
+    expect_import(
         &rt,
         &["rdmsr"],
         log,
         b"contradiction 8:3 277\n",
         Status::BadText,
     )?;
-    expect(
+    expect_import(
         &rt,
         &["rdmsr", "277=7"],
         log,
@@ -200,7 +155,7 @@ fn the_first_contradiction_is_named(rt: HostRuntime) -> Result<(), Fail> {
         Status::BadText,
     )?;
     let log = b"+ rdmsr 0xfe\n500\n+ rdmsr -p 1 0xfe\n508\n";
-    expect(
+    expect_import(
         &rt,
         &["rdmsr"],
         log,
@@ -211,14 +166,14 @@ fn the_first_contradiction_is_named(rt: HostRuntime) -> Result<(), Fail> {
 
 #[test]
 fn what_no_dump_holds_is_refused(rt: HostRuntime) -> Result<(), Fail> {
-    expect(
+    expect_import(
         &rt,
         &["rdmsr"],
         b"+ rdmsr -p 16 0x277\n6\n",
         b"bad text 2:1 bad processor\n",
         Status::BadText,
     )?;
-    expect(
+    expect_import(
         &rt,
         &["rdmsr"],
         b"+ rdmsr 0xfe\n21\n",
@@ -230,7 +185,7 @@ fn what_no_dump_holds_is_refused(rt: HostRuntime) -> Result<(), Fail> {
     for _ in 0..4097 {
         long.push(b' ')?;
     }
-    expect(
+    expect_import(
         &rt,
         &["rdmsr"],
         long.as_slice(),
@@ -244,7 +199,7 @@ fn what_no_dump_holds_is_refused(rt: HostRuntime) -> Result<(), Fail> {
 fn other_lines_are_passed_over(rt: HostRuntime) -> Result<(), Fail> {
     let log =
         b"+ rdmsr 0x10\n1\n+ rdmsr 0x10\n2\n+ rdmsr -d 0xfe\n1281\n+ rdmsr 0xfe\nrdmsr: CPU 0 cannot read MSR 0x000000fe\n501\n";
-    expect(
+    expect_import(
         &rt,
         &["rdmsr", "maxphyaddr=36"],
         log,
@@ -255,17 +210,17 @@ fn other_lines_are_passed_over(rt: HostRuntime) -> Result<(), Fail> {
 
 #[test]
 fn wrong_words_are_usage(rt: HostRuntime) -> Result<(), Fail> {
-    expect(&rt, &[], ONE, b"usage\n", Status::Usage)?;
-    expect(&rt, &["dmesg"], ONE, b"usage\n", Status::Usage)?;
-    expect(&rt, &["rdmsr", "36"], ONE, b"usage\n", Status::Usage)?;
-    expect(
+    expect_import(&rt, &[], ONE, b"usage\n", Status::Usage)?;
+    expect_import(&rt, &["dmesg"], ONE, b"usage\n", Status::Usage)?;
+    expect_import(&rt, &["rdmsr", "36"], ONE, b"usage\n", Status::Usage)?;
+    expect_import(
         &rt,
         &["rdmsr", "maxphyaddr=31"],
         ONE,
         b"usage\n",
         Status::Usage,
     )?;
-    expect(
+    expect_import(
         &rt,
         &["rdmsr", "277=6", "0x277=6"],
         ONE,
@@ -278,7 +233,7 @@ fn wrong_words_are_usage(rt: HostRuntime) -> Result<(), Fail> {
 #[test]
 fn each_read_may_fail(rt: HostRuntime) -> Result<(), Fail> {
     for call in 0..8 {
-        let ran = run(&rt, &["rdmsr"], b"+ rdmsr", 1, &[call])?;
+        let ran = run_import(&rt, &["rdmsr"], b"+ rdmsr", 1, &[call])?;
         assert_eq!(rt; ran.status, Status::ReadFault);
         assert!(rt; ran.sink.bytes().is_empty());
     }

@@ -1,4 +1,4 @@
-use crate::tests::expect;
+use crate::runs::{expect_import, with_returns};
 use mt_ports::Status;
 use std::process::Abort;
 use std::test::Fail;
@@ -102,7 +102,7 @@ const XEN: &[u8] = b"(XEN) Xen version 4.17.5
 const SUPPLIED: [&str; 4] = ["maxphyaddr=39", "fe=d05", "208=0", "209=0"];
 
 fn expect_dump<R: AllocGlobal + Abort>(rt: &R, words: &[&str], log: &[u8]) -> Result<(), Fail> {
-    expect(rt, words, log, DUMP, Status::Done)
+    expect_import(rt, words, log, DUMP, Status::Done)
 }
 
 // The log with a CR at the end of each line.
@@ -111,13 +111,7 @@ fn expect_dump_of_returns<R: AllocGlobal + Abort>(
     words: &[&str],
     log: &[u8],
 ) -> Result<(), Fail> {
-    let mut returns = Vec::new(rt.alloc());
-    for byte in log {
-        if *byte == b'\n' {
-            returns.push(b'\r')?;
-        }
-        returns.push(*byte)?;
-    }
+    let returns = with_returns(rt.alloc(), log)?;
     expect_dump(rt, words, returns.as_slice())
 }
 
@@ -135,9 +129,9 @@ fn an_edk2_table_comes_to_its_dump(rt: HostRuntime) -> Result<(), Fail> {
     expect_dump(&rt, &words, EDK2)?;
     expect_dump_of_returns(&rt, &words, EDK2)?;
     let lacks = b"missing maxphyaddr\nmissing 208\nmissing 209\nmissing 277\n";
-    expect(&rt, &["edk2", capabilities], EDK2, lacks, Status::Refused)?;
+    expect_import(&rt, &["edk2", capabilities], EDK2, lacks, Status::Refused)?;
     let contradiction = b"contradiction 4:20 2ff\n";
-    expect(
+    expect_import(
         &rt,
         &["edk2", "2ff=806"],
         EDK2,
@@ -153,7 +147,7 @@ fn a_log_of_linux_comes_to_its_dump(rt: HostRuntime) -> Result<(), Fail> {
     expect_dump(&rt, &words, LINUX)?;
     expect_dump_of_returns(&rt, &words, LINUX)?;
     let contradiction = b"contradiction 3:34 2ff\n";
-    expect(
+    expect_import(
         &rt,
         &["linux", "2ff=806"],
         LINUX,
@@ -166,7 +160,7 @@ fn a_log_of_linux_comes_to_its_dump(rt: HostRuntime) -> Result<(), Fail> {
 #[test]
 fn a_cut_log_of_linux_lacks_what_it_cuts(rt: HostRuntime) -> Result<(), Fail> {
     let lacks = b"missing 200\nmissing 201\nmissing 26e\nmissing 26f\nmissing 277\nmissing 2ff\n";
-    expect(
+    expect_import(
         &rt,
         &["linux", "maxphyaddr=39", "fe=d01"],
         &LINUX[..380],
@@ -179,14 +173,14 @@ fn a_cut_log_of_linux_lacks_what_it_cuts(rt: HostRuntime) -> Result<(), Fail> {
 #[test]
 fn regions_of_linux_show_bases(rt: HostRuntime) -> Result<(), Fail> {
     let lacks = b"missing 201\nmissing 277\nmissing 2ff\n";
-    expect(
+    expect_import(
         &rt,
         &["linux", "maxphyaddr=39", "fe=401"],
         PROC,
         lacks,
         Status::Refused,
     )?;
-    expect(
+    expect_import(
         &rt,
         &["linux", "204=0"],
         PROC,
@@ -208,14 +202,14 @@ fn a_log_of_xen_comes_to_its_dump(rt: HostRuntime) -> Result<(), Fail> {
     ];
     expect_dump(&rt, &words, XEN)?;
     expect_dump_of_returns(&rt, &words, XEN)?;
-    expect(
+    expect_import(
         &rt,
         &["xen", width, capabilities],
         XEN,
         b"missing 208\nmissing 209\nmissing 277\n",
         Status::Refused,
     )?;
-    expect(
+    expect_import(
         &rt,
         &["xen"],
         LINUX,
@@ -229,7 +223,7 @@ fn expect_contradiction<R: AllocGlobal + Abort>(
     log: &[u8],
     output: &[u8],
 ) -> Result<(), Fail> {
-    expect(rt, &["linux"], log, output, Status::BadText)
+    expect_import(rt, &["linux"], log, output, Status::BadText)
 }
 
 #[test]
@@ -280,7 +274,7 @@ fn a_word_may_contradict_a_flag(rt: HostRuntime) -> Result<(), Fail> {
     let log = b"MTRR default type: uncachable\nMTRR variable ranges disabled:\n  0 disabled\n";
     let words = ["linux", "maxphyaddr=36", "fe=1", "277=0", "200=6"];
     let [format, width, capabilities, pat, base] = words;
-    expect(
+    expect_import(
         &rt,
         &[
             format,
@@ -295,7 +289,7 @@ fn a_word_may_contradict_a_flag(rt: HostRuntime) -> Result<(), Fail> {
         b"contradiction 2:22 2ff\n",
         Status::BadText,
     )?;
-    expect(
+    expect_import(
         &rt,
         &[
             format,
@@ -312,7 +306,7 @@ fn a_word_may_contradict_a_flag(rt: HostRuntime) -> Result<(), Fail> {
     )?;
     let dump =
         b"maxphyaddr 36\n0fe 0000000000000001\n200 0000000000000006\n201 0000000f00000000\n277 0000000000000000\n2ff 0000000000000000\n";
-    expect(
+    expect_import(
         &rt,
         &[
             format,
