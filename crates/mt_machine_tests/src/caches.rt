@@ -1,5 +1,4 @@
-use crate::buffers::Buffers;
-use crate::cache::Cache;
+use mt_cache::{Buffers, Cache};
 
 /// Fills a line that the cache doesn't have.
 fn fill_new(cache: &mut Cache, number: u64) {
