@@ -1,8 +1,5 @@
-use crate::entry::Entry;
-use crate::mapping::Mapping;
-use crate::maps::Maps;
-use crate::tlb::Tlb;
 use mt_kinds::MemType;
+use mt_tlb::{Entry, Mapping, Maps, Tlb};
 
 fn mapping(vpage: u64) -> Mapping {
     Mapping {
