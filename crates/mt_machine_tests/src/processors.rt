@@ -1,4 +1,4 @@
-use crate::cpu::Cpu;
+use mt_cpu::Cpu;
 use mt_kinds::{MemType, PageKinds};
 use mt_machine::{Event, Phase};
 use mt_regs::RegFile;
