@@ -1,2 +1,11 @@
 //! Tests of caches, TLBs, processors, memory, the bus and updates by events, over public calls.
 #![tactic(auto)]
+
+#[cfg(test)]
+mod caches;
+#[cfg(test)]
+mod memory;
+#[cfg(test)]
+mod processors;
+#[cfg(test)]
+mod tlbs;

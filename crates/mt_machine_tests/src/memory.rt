@@ -1,5 +1,4 @@
-use crate::fault::RamFault;
-use crate::ram::Ram;
+use mt_ram::{Ram, RamFault};
 
 /// Adds a window where its end is a physical address.
 fn add(ram: &mut Ram, base: u64, lines: u32) -> Result<(), RamFault> {
