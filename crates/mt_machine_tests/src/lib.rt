@@ -8,4 +8,6 @@ mod memory;
 #[cfg(test)]
 mod processors;
 #[cfg(test)]
+mod systems;
+#[cfg(test)]
 mod tlbs;

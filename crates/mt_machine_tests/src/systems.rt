@@ -1,7 +1,7 @@
 ghost use Rattle.std.specs.Prelude.{◌<◌, ◌≤◌, length};
 ghost use Rattle.mt_regs.specs.StartFiles.{AreStartFiles};
 
-use crate::system::System;
+use mt_bus::System;
 use mt_kinds::MemType;
 use mt_machine::{Control, Done, Op, Ruled};
 use mt_regs::RegFile;
