@@ -2,7 +2,13 @@
 #![tactic(auto)]
 
 #[cfg(test)]
+mod admissions;
+#[cfg(test)]
 mod caches;
+#[cfg(test)]
+mod common;
+#[cfg(test)]
+mod interleavings;
 #[cfg(test)]
 mod memory;
 #[cfg(test)]
@@ -11,3 +17,5 @@ mod processors;
 mod systems;
 #[cfg(test)]
 mod tlbs;
+#[cfg(test)]
+mod updates;

@@ -1,25 +1,13 @@
 ghost use Rattle.std.specs.Prelude.{◌<◌, ◌≤◌, length};
 ghost use Rattle.mt_regs.specs.StartFiles.{AreStartFiles};
 
+use crate::common::file;
 use mt_bus::System;
 use mt_kinds::MemType;
 use mt_machine::{Control, Done, Op, Ruled};
 use mt_regs::RegFile;
 use mt_tlb::Mapping;
 use std::alloc::Global;
-
-/// A file whose memory below 4 GB has a type, over UC.
-fn file(kind: u64) -> Option<RegFile> {
-    let Ok(mut file) = RegFile::blank(36, 0x508) else {
-        return None;
-    };
-    for (msr, value) in [(0x200, kind), (0x201, 0xf_0000_0800), (0x2ff, 0x800)] {
-        if file.set(msr, value).is_err() {
-            return None;
-        }
-    }
-    Some(file)
-}
 
 /// A system whose processors have these files, with a window of 64 lines from 1 MB on.
 fn system_of(alloc: Global, files: &[RegFile]) -> Option<System>
