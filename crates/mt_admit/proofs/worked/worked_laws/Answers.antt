@@ -7,7 +7,7 @@ use Rattle.mt_laws.specs.WorkedRuns.{pair_between}
 use Rattle.mt_machine.specs.declared.go.Go.TheVariants.{Given}
 use Rattle.mt_admit.specs.WorkedRuns.{before_pass, between_pass_and_release, buffered, one_line, released, to_first_pass, unlike}
 use Rattle.mt_admit.proofs.Unlike.{bare_can, buffered_can, one_line_can, unlike_can}
-use Rattle.mt_admit.proofs.worked_unlike.worked_laws.Goals as goal
+use Rattle.mt_admit.proofs.worked.worked_laws.Goals as goal
 
 pub returns-clause-arise : goal.returns-clause-arise
 returns-clause-arise c = λ law. law unlike unlike_can
