@@ -2,4 +2,3 @@ mod Agreeing
 pub mod Calling
 mod GivingUp
 mod Unlike
-mod Passing

@@ -5,7 +5,7 @@ use Rattle.mt_machine.specs.ComingAndGoing.{without_last}
 use Rattle.mt_machine.specs.WorkedRuns.{bare}
 use Rattle.mt_core.specs.Arises.{from_start}
 use Rattle.mt_admit.specs.Laws.{CanGrow}
-use Rattle.mt_admit.specs.WorkedRuns.{buffered, left, left_of_buffered, one_line, unlike}
+use Rattle.mt_admit.specs.WorkedRuns.{buffered, left_of_buffered, one_line, unlike}
 
 pub bare_can : CanGrow bare
 bare_can = let quiet : IsQuiet bare = search rules in record { arises = from_start (inl quiet); idle = refl; some = omega arith }
@@ -18,9 +18,6 @@ buffered_can = let quiet : IsQuiet buffered = search rules in record { arises = 
 
 pub one_line_can : CanGrow one_line
 one_line_can = let quiet : IsQuiet one_line = search rules in record { arises = from_start (inl quiet); idle = refl; some = omega arith }
-
-pub unlike_left : (without_last unlike).system ≡ left.system
-unlike_left = refl
 
 pub buffered_left : (without_last buffered).system ≡ left_of_buffered.system
 buffered_left = refl

@@ -3,12 +3,10 @@ use Rattle.std.specs.Prelude.{ℕ, false, true, List, [], ◌∷◌, ◌++◌, N
 use Rattle.mt_cache.specs.declared.line.CacheLine.{CacheLine}
 use Rattle.mt_machine.specs.ComingAndGoing.{newcomer}
 use Rattle.mt_machine.specs.declared.event.Event.TheVariants.{Arrive, Pass, Release, SetNoFill, Take, WriteBack}
-use Rattle.mt_machine.specs.declared.op.Op.TheVariants.{Fence}
-use Rattle.mt_machine.specs.Machine.{Accesses, Goes, Machine, MachineEvent, Steps, next, run}
+use Rattle.mt_machine.specs.Machine.{Goes, Machine, MachineEvent, Steps, run}
 use Rattle.mt_machine.specs.System.{Processor, start_processor}
-use Rattle.mt_machine.specs.WorkedRuns.{alone, bare_file, entry, idle, line_of, machine_of, mapping, small}
+use Rattle.mt_machine.specs.WorkedRuns.{alone, bare_file, entry, idle, line_of, mapping, small}
 use Rattle.mt_laws.specs.WorkedRuns.{way_on}
-use Rattle.mt_laws.specs.WorkedUpdates.{at_pass}
 use Rattle.mt_admit.specs.Admission.{brought_up}
 
 -- in era 3, with a line of two dirty words
@@ -53,23 +51,13 @@ unlike = over (combines ∷ keeps_line ∷ []) 0 0 0 0
 abbrev pub buffered : Machine
 buffered = over (without_line ∷ combines ∷ []) 6 7 0 0
 
--- once the last of each was retired
-abbrev pub left : Machine
-left = over (combines ∷ []) 6 7 0 0
-
+-- once the last was retired
 abbrev pub left_of_buffered : Machine
 left_of_buffered = over (without_line ∷ []) 8 7 6 7
 
 -- once a newcomer's update was cancelled of which the first had taken
 abbrev pub given_up : Machine
 given_up = over (record combines { buffers = [] } ∷ without_line ∷ newcomer 36 0x400 3 ∷ []) 8 7 6 7
-
--- once one was admitted
-abbrev pub admitted_one : Processor
-admitted_one = record (start_processor (bare_file 0x800)) { era = 4 }
-
-abbrev pub with_third : Machine
-with_third = over (record admitted_one { page_global = true; mappings = mapping 1 0x100 0 ∷ [] } ∷ admitted_one ∷ admitted_one ∷ []) 8 7 6 7
 
 -- a line with two dirty words over one line of memory, and the update of a newcomer beside it before its first pass, and from there to the first release
 abbrev pub one_line : Machine
@@ -86,34 +74,3 @@ between_pass_and_release = Steps 0 SetNoFill ∷ Steps 0 (WriteBack 0x100008 6) 
 
 abbrev pub released : Machine
 released = run before_pass (Steps 0 Pass ∷ between_pass_and_release ++ Steps 1 Release ∷ [])
-
--- one with the registers of the first and a line, a buffer and an entry of the next era, and three, of which this is the last
-abbrev pub agrees : Processor
-agrees = record (start_processor (bare_file 0x800)) {
-  lines = line_of 0x4000 4 ∷ [];
-  buffers = line_of 0x4001 4 ∷ [];
-  entries = record (entry 1 false) { era = 4 } ∷ [];
-  era = 4;
-}
-
-abbrev pub with_last : Processor → Machine
-with_last p = machine_of (agrees ∷ agrees ∷ p ∷ [])
-
--- behind the first release: a fence of the one that has released, and the other's release
-abbrev pub behind_release : List MachineEvent
-behind_release = Accesses 1 Fence ∷ Steps 0 Release ∷ []
-
--- one processor, with a dirty line, behind its pass
-abbrev pub in_change : Machine
-in_change = next at_pass (Steps 0 Pass)
-
--- the same of the first of two, while the second has arrived
-abbrev pub two_in_change : Machine
-two_in_change = next before_pass (Steps 0 Pass)
-
--- the newcomer's update from the go on, and what comes between the second's take, which is the first event, and its release
-abbrev pub two_called : Machine
-two_called = run (brought_up one_line) (Goes ∷ [])
-
-abbrev pub between_of_second : List MachineEvent
-between_of_second = Steps 1 Arrive ∷ Steps 0 Take ∷ Steps 0 Arrive ∷ Steps 0 Pass ∷ between_pass_and_release

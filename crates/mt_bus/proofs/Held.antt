@@ -7,10 +7,9 @@ use Rattle.std.proofs.lemmas.Bool.{eq-eqb, eqb-true, not-false}
 use Rattle.std.proofs.lemmas.Option.{slice_get_within}
 use Rattle.std.proofs.lemmas.List.Sums.{sum_by-cons}
 use Rattle.mt_cache.specs.declared.line.CacheLine.{CacheLine}
-use Rattle.mt_cache.specs.Calls.{clean_line_of, with_room, write_word}
+use Rattle.mt_cache.specs.Calls.{clean_line_of, with_room}
 use Rattle.mt_cache.specs.Counts.{has_residue}
 use Rattle.mt_cache.specs.Lines.{change_line, clean_line, find_line, oldest_of_full, without_line}
-use Rattle.mt_cache.proofs.Lists.{write_keeps}
 use Rattle.mt_tlb.specs.declared.entry.Entry.{Entry}
 use Rattle.mt_tlb.specs.Entries.{add_entry, find_entry}
 use Rattle.mt_regs.specs.RegisterFile.{RegisterFile}
@@ -107,9 +106,6 @@ all_open masks k may (l ∷ ls) = and_true _ _ (may l.number) (all_open masks k 
 
 pub held_open : (ps : List Processor) (masks : List ℕ) → ((r : ℕ) → slice_index_or masks r 0xffff ≡ 0xffff) → AreHeldBy ps masks
 held_open ps masks full = record { each = λ k p at. all_open masks k (full_may masks full k) p.lines }
-
-pub held_unknown : (ps : List Processor) → AreHeldBy ps []
-held_unknown ps = held_open ps [] (λ r. refl)
 
 -- ---- another processor in a place
 
@@ -232,12 +228,6 @@ pub held_entered : (ps qs : List Processor) (masks : List ℕ) (k : ℕ) (o : Op
 held_entered ps qs masks k None is h = subst (λ (xs : List Processor). AreHeldBy xs masks) (sym is) h
 held_entered ps qs masks k (Some e) is h = held_aside (keep_entry e) k ps qs masks (λ p. entered_lines e p) is h
 
-pub held_written : (k n : ℕ) (word v : ℕ) (dirty : Bool) (ps qs : List Processor) (masks : List ℕ)
-    → qs ≡ with_changed (with_lines (change_line n (write_word word v dirty))) k ps → AreHeldBy ps masks → AreHeldBy qs masks
-held_written k n word v dirty ps qs masks is h =
-    subst (λ (xs : List Processor). AreHeldBy xs masks) (sym is)
-    (held_changed (with_lines (change_line n (write_word word v dirty))) k ps masks (λ p g. less_changed n (write_word word v dirty) (write_keeps word v dirty) p.lines masks k g) h)
-
 -- ---- a line is filled
 
 less_room : (ls : List CacheLine) → IsLess (with_room 64 ls) ls
@@ -255,9 +245,6 @@ held_filled k n words ps qs masks others added covers is h =
     (λ p g. passes_append (λ l. may_hold masks k l.number) (with_room 64 p.lines) (clean_line_of n words p.era) (less_room p.lines masks k g) added) (held_more ps masks others covers h))
 
 -- ---- processors that come and go
-
-pub held_none : (masks : List ℕ) → AreHeldBy [] masks
-held_none masks = record { each = λ k p at. absurd (cc at) }
 
 pub held_pushed : (ps : List Processor) (q : Processor) (masks : List ℕ) → q.lines ≡ [] → AreHeldBy ps masks → AreHeldBy (ps ++ q ∷ []) masks
 held_pushed ps q masks empty h = record {

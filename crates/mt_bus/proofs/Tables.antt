@@ -60,9 +60,6 @@ pushed_at [] x y (suc k) at = absurd (cc)
 pushed_at (z ∷ zs) x y zero at = inl at
 pushed_at (z ∷ zs) x y (suc k) at = ⊎_elim (λ (old : slice_get zs k ≡ Some y). inl old) (λ (new : (k ≡ length zs) × (x ≡ y)). inr (omega (arith, new.0), new.1)) (pushed_at zs x y k at)
 
-pub tables_none : AreTablesOf [] []
-tables_none = record { count = refl; each = λ k p t at there rests. absurd (cc at) }
-
 tables_push : (ps : List Processor) (ts : List TypeTable) (p : Processor) (t : TypeTable) → IsTableOf p.file t → AreTablesOf ps ts → AreTablesOf (ps ++ p ∷ []) (ts ++ t ∷ [])
 tables_push ps ts p t table h = record {
   count =

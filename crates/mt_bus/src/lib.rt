@@ -13,8 +13,6 @@ mod loads;
 mod snoops;
 mod stores;
 mod system;
-#[cfg(test)]
-mod tests;
 mod words;
 mod worked;
 
@@ -22,7 +20,4 @@ pub use holders::Holders;
 pub use laws::{a_system_is_sound, accesses_refuse_in_order, controls_refuse_in_order};
 pub use mt_machine::{Control, Done, Op, Ruled};
 pub use system::System;
-pub use worked::{
-    worked_access_refusals, worked_control_refusals, worked_holders, worked_tables,
-    worked_translated,
-};
+pub use worked::{worked_access_refusals, worked_control_refusals};

@@ -5,7 +5,7 @@ use Rattle.std.specs.List.{remove, position}
 use Rattle.std.proofs.lemmas.Bool.{eq-eqb, eqb-true, eqb-false, not-false}
 use Rattle.std.proofs.lemmas.Option.{slice_get-get_or}
 use Rattle.std.proofs.lemmas.List.{get_or-set_same, get_or-set_other, get_or-replicate, length-set}
-use Rattle.std.proofs.lemmas.List.Sums.{sum_by_push, sum_by-remove, get_or-le-sum_by, count_by-le-length}
+use Rattle.std.proofs.lemmas.List.Sums.{sum_by_push, sum_by-remove, get_or-le-sum_by}
 use Rattle.mt_lists.proofs.Keys.{to_apart, removed, none_of, some_at, found_key, at_position, position_within}
 use Rattle.mt_cache.specs.declared.line.CacheLine.{CacheLine}
 use Rattle.mt_cache.specs.Lines.{AreDistinct, has_number, without_line}
@@ -109,12 +109,6 @@ counted_less ls counts i l distinct counted place got = record { long = length-s
             get_or-set_other counts k r (get_or counts k 0 - 1) 0 (λ e. eqb-false k r is (sym e))
             ∙ counted.each r within
             ∙ omega (arith, less, part)
-
-pub counted_below : (ls : List CacheLine) (counts : List ℕ) (n : ℕ) → AreCounted ls counts → length ls < 255 → slice_index_or counts (n % 4096) 0 < 255
-counted_below ls counts n counted few =
-    let is : slice_index_or counts (n % 4096) 0 ≡ count_by (has_residue (n % 4096)) ls = counted.each (n % 4096) (residue_within n) in
-    let part : count_by (has_residue (n % 4096)) ls ≤ length ls = count_by-le-length (has_residue (n % 4096)) ls in
-    omega (arith, is, part, few)
 
 -- ---- a line that is counted nowhere
 

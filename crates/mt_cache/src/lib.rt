@@ -8,13 +8,9 @@ mod hints;
 mod line;
 mod places;
 mod slots;
-#[cfg(test)]
-mod tests;
 mod words;
-mod worked;
 
 pub use buffers::Buffers;
 pub use cache::Cache;
 pub use counts::MODULUS;
 pub use line::CacheLine;
-pub use worked::{worked_buffers, worked_dirty_words, worked_fills, worked_writes};

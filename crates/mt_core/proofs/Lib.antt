@@ -5,7 +5,6 @@ mod OnWorked
 pub mod Progress
 pub mod Reaching
 pub mod Settling
-mod Snooped
 pub mod Stepping
 mod Stopping
 mod Tables

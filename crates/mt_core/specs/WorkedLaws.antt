@@ -1,14 +1,13 @@
--- States at which laws are shown to speak of something: two processors in era 3, of which but in `unreached` none is like the other.
+-- States at which laws are shown to speak of something: two processors in era 3, of which none is like the other.
 use Rattle.std.specs.Prelude.{false, true, List, [], ◌∷◌, ◌++◌, drop, map}
 use Rattle.mt_machine.specs.declared.control.Control.TheVariants.{Pge}
 use Rattle.mt_machine.specs.declared.event.Event.TheVariants.{Arrive, Pass, Release, SetNoFill, Take, WriteBack}
 use Rattle.mt_machine.specs.declared.op.Op.TheVariants.{Fence}
-use Rattle.mt_machine.specs.Machine.{Accesses, Calls, Cancels, Controls, Goes, Machine, MachineEvent, Steps, next, run}
+use Rattle.mt_machine.specs.Machine.{Accesses, Calls, Controls, Goes, Machine, MachineEvent, Steps, next, run}
 use Rattle.mt_machine.specs.System.{Processor, start_processor}
-use Rattle.mt_machine.specs.WorkedRuns.{bare_file, calling, entry, line_of, load, machine_of, mapping, store}
+use Rattle.mt_machine.specs.WorkedRuns.{bare_file, entry, line_of, load, machine_of, mapping, store}
 use Rattle.mt_machine.specs.WorkedSetups.{second_word}
 use Rattle.mt_laws.specs.WorkedRuns.{way_of_snooper, way_on}
-use Rattle.mt_core.specs.WorkedRuns.{cancelled_order, come_again}
 
 -- it has a line with dirty words, and combines words 1 and 2 of the line before it
 abbrev pub first_of_unlike : Processor
@@ -27,13 +26,6 @@ second_of_unlike = record (start_processor (bare_file 0x800)) {
 abbrev pub two_unlike : Machine
 two_unlike = machine_of (first_of_unlike ∷ second_of_unlike ∷ [])
 
--- their update is called, the second has taken, and it is cancelled
-abbrev pub unlike_called : Machine
-unlike_called = run two_unlike (Calls (bare_file 0x806) ∷ Steps 1 Take ∷ [])
-
-abbrev pub unlike_cancelled : Machine
-unlike_cancelled = next unlike_called Cancels
-
 -- the go of their update is given, and both have arrived
 abbrev pub unlike_given : Machine
 unlike_given = run two_unlike (Calls (bare_file 0x806) ∷ Goes ∷ [])
@@ -48,10 +40,6 @@ behind_pass = map (Steps 1) way_of_snooper ++ map (Steps 0) (Pass ∷ SetNoFill 
 abbrev pub unlike_passed : Machine
 unlike_passed = run unlike_arrived (Steps 1 Pass ∷ behind_pass)
 
--- the first has written its words back
-abbrev pub unlike_written : Machine
-unlike_written = run unlike_arrived (Steps 1 Pass ∷ map (Steps 1) way_of_snooper ++ map (Steps 0) (Pass ∷ SetNoFill ∷ WriteBack 0x100048 6 ∷ WriteBack 0x100050 7 ∷ []))
-
 -- the second releases
 abbrev pub unlike_released : Machine
 unlike_released = next unlike_passed (Steps 1 Release)
@@ -60,13 +48,6 @@ unlike_released = next unlike_passed (Steps 1 Release)
 abbrev pub behind_release : List MachineEvent
 behind_release = load 1 0x1008 ∷ Steps 0 Release ∷ Controls 0 (Pge true) ∷ []
 
-abbrev pub stored_behind_release : List MachineEvent
-stored_behind_release = store 1 0x1008 9 ∷ Accesses 1 Fence ∷ []
-
--- the next call behind an update, and a store before the take
-abbrev pub called_again : List MachineEvent
-called_again = Calls (bare_file 0x800) ∷ store 1 0x1048 9 ∷ Steps 1 Take ∷ []
-
 -- behind an update without a call
 abbrev pub uncalled : List MachineEvent
 uncalled = load 1 0x1008 ∷ Controls 0 (Pge true) ∷ store 1 0x1010 5 ∷ []
@@ -74,7 +55,3 @@ uncalled = load 1 0x1008 ∷ Controls 0 (Pge true) ∷ store 1 0x1010 5 ∷ []
 -- between the take of the second and its release, the first first does a fence
 abbrev pub unlike_between : List MachineEvent
 unlike_between = Accesses 0 Fence ∷ Steps 1 Arrive ∷ Steps 0 Take ∷ Steps 0 Arrive ∷ Steps 1 Pass ∷ behind_pass
-
--- two at the second barrier of a cancelled update, which no core comes to
-abbrev pub unreached : Machine
-unreached = calling (record cancelled_order { from_era = 3 }) (record come_again { era = 3 } ∷ record come_again { era = 3 } ∷ [])

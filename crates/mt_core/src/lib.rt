@@ -6,19 +6,12 @@ mod barriers;
 mod coming;
 mod core_type;
 mod fault;
-#[cfg(test)]
-mod interleavings;
 mod laws;
 mod order;
 mod stepped;
 mod steps;
-#[cfg(test)]
-mod tests;
 mod worked;
-mod worked_coming;
 mod worked_laws;
-mod worked_relations;
-mod worked_statements;
 
 pub use core_type::Core;
 pub use fault::CallFault;
@@ -30,10 +23,6 @@ pub use mt_machine::{Event, Go, Phase};
 pub use order::Order;
 pub use stepped::Stepped;
 pub use worked::{
-    worked_answers, worked_arises, worked_rises, worked_rounds, worked_since, worked_stops,
-    worked_turns, worked_updates_by_events, worked_waits,
+    worked_rises, worked_since, worked_stops, worked_updates_by_events, worked_waits,
 };
-pub use worked_coming::worked_coming_and_going;
 pub use worked_laws::{worked_laws_of_steps, worked_laws_of_two, worked_laws_of_whole_updates};
-pub use worked_relations::{worked_any_core, worked_any_rise, worked_any_update};
-pub use worked_statements::{worked_laws_in_full, worked_laws_in_full_of_turns};

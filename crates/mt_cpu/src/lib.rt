@@ -5,13 +5,9 @@ mod coming;
 mod cpu;
 mod laws;
 mod steps;
-#[cfg(test)]
-mod tests;
 mod translation;
-mod worked;
 
 pub use cpu::Cpu;
 pub use laws::a_processor_is_whole;
 pub use mt_machine::{Event, Phase};
 pub use steps::is_local;
-pub use worked::worked_translations;

@@ -4,12 +4,10 @@
 mod fault;
 mod laws;
 mod ram;
-#[cfg(test)]
-mod tests;
 mod window;
 mod worked;
 
 pub use fault::RamFault;
 pub use laws::windows_overlap_by_bytes;
 pub use ram::Ram;
-pub use worked::{worked_bytes, worked_memories, worked_overlaps};
+pub use worked::worked_bytes;

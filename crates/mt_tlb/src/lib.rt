@@ -5,13 +5,9 @@ mod entry;
 mod hints;
 mod mapping;
 mod maps;
-#[cfg(test)]
-mod tests;
 mod tlb;
-mod worked;
 
 pub use entry::Entry;
 pub use mapping::Mapping;
 pub use maps::{Full, Maps};
 pub use tlb::Tlb;
-pub use worked::{worked_entries, worked_mappings};

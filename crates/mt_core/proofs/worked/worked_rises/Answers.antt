@@ -18,14 +18,5 @@ returns-clause-risen c = record { same_number = refl; eras = risen }
 pub returns-clause-by_two : goal.returns-clause-by_two
 returns-clause-by_two c = λ h. omega (arith, h.eras 0 idle (record idle { era = 2 }) refl refl)
 
-pub returns-clause-second_by_two : goal.returns-clause-second_by_two
-returns-clause-second_by_two c = λ h. omega (arith, h.eras 1 idle (record idle { era = 2 }) refl refl)
-
-pub returns-clause-later_by_two : goal.returns-clause-later_by_two
-returns-clause-later_by_two c = λ h. omega (arith, h.eras 0 (record idle { era = 3 }) (record idle { era = 5 }) refl refl)
-
 pub returns-clause-one_less : goal.returns-clause-one_less
 returns-clause-one_less c = λ h. let e : 1 ≡ 2 = h.same_number in omega (arith, e)
-
-pub returns-clause-one_more : goal.returns-clause-one_more
-returns-clause-one_more c = λ h. let e : 2 ≡ 1 = h.same_number in omega (arith, e)

@@ -6,9 +6,6 @@ use Rattle.mt_core.proofs.worked.worked_stops.Goals as goal
 pub returns-clause-stops : goal.returns-clause-stops
 returns-clause-stops c = (λ is. (refl, refl), λ runs outside. refl)
 
-pub returns-clause-steps : goal.returns-clause-steps
-returns-clause-steps c = (λ is. let e : Did Take ≡ NoUpdate = is in absurd (cc e), λ runs outside. let e : false ≡ true = outside in absurd (cc e))
-
 pub returns-clause-not_running : goal.returns-clause-not_running
 returns-clause-not_running c = λ h. let e : false ≡ true = (h.0 refl).0 in absurd (cc e)
 

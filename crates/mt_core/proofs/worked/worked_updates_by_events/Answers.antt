@@ -1,12 +1,11 @@
-use Rattle.std.proofs.Common.{◌≡◌, ◌∙◌, sym, ap, arith, refl, ℕ, Bool, true, false, true≢false, List, [], ◌∷◌, ◌++◌, Some}
+use Rattle.std.proofs.Common.{◌≡◌, ◌∙◌, sym, ap, refl, ℕ, Bool, true, false, true≢false, List, [], ◌∷◌, ◌++◌, Some}
 use Rattle.std.specs.Prelude.{is_some}
 use Rattle.mt_machine.specs.declared.event.Event.TheVariants.{Arrive, Pass, Release, Take}
 use Rattle.mt_machine.specs.Machine.{Goes, Machine, MachineEvent, Steps}
 use Rattle.mt_machine.specs.Update.{is_release}
 use Rattle.mt_laws.specs.WorkedRuns.{between_of_bare}
 use Rattle.mt_core.specs.Rounds.{EndsByRelease}
-use Rattle.mt_core.specs.WorkedRuns.{to_first_release}
-use Rattle.mt_core.proofs.OnWorked.{call_is_enabled, unlike_call_is_enabled}
+use Rattle.mt_core.proofs.OnWorked.{call_is_enabled}
 use Rattle.mt_core.proofs.worked.worked_updates_by_events.Goals as goal
 
 abbrev is_last_release : List MachineEvent → Bool
@@ -25,14 +24,8 @@ not_by es other (front, k, is) = true≢false (sym (ends_so front k) ∙ ap is_l
 pub returns-clause-ends : goal.returns-clause-ends
 returns-clause-ends c = (Goes ∷ [], 1, refl)
 
-pub returns-clause-no_event : goal.returns-clause-no_event
-returns-clause-no_event c = not_by [] refl
-
 pub returns-clause-not_last : goal.returns-clause-not_last
 returns-clause-not_last c = not_by (Steps 0 Release ∷ Goes ∷ []) refl
-
-pub returns-clause-other_event : goal.returns-clause-other_event
-returns-clause-other_event c = not_by (Goes ∷ Steps 0 Arrive ∷ []) refl
 
 pub returns-clause-by_events : goal.returns-clause-by_events
 returns-clause-by_events c = record {
@@ -48,19 +41,5 @@ returns-clause-not_enabled c = λ h. let e : Some Arrive ≡ Some Pass = h.enabl
 pub returns-clause-access : goal.returns-clause-access
 returns-clause-access c = λ h. let e : false ≡ true = h.led in absurd (cc e)
 
-pub returns-clause-cancel : goal.returns-clause-cancel
-returns-clause-cancel c = λ h. let e : false ≡ true = h.led in absurd (cc e)
-
 pub returns-clause-one_alone : goal.returns-clause-one_alone
 returns-clause-one_alone c = λ h. true≢false (ap (λ (m : Machine). is_some m.order) h.leads)
-
-pub returns-clause-files_that_differ : goal.returns-clause-files_that_differ
-returns-clause-files_that_differ c = record {
-  enabled = (unlike_call_is_enabled, (refl, (refl, (refl, (refl, (refl, (refl, (refl, (refl, (refl, (refl, (refl, (refl, (refl, (refl, (refl, (refl, (refl, (refl, (refl, (refl, (refl, (refl, (refl, (refl, (refl, (refl, (refl, (refl, (refl, (refl, (refl, tt))))))))))))))))))))))))))))))));
-  led = refl;
-  leads = refl;
-  last = λ some. (to_first_release, 0, refl);
-}
-
-pub returns-clause-no_release : goal.returns-clause-no_release
-returns-clause-no_release c = λ h. not_by (Goes ∷ []) refl (h.last (omega arith))

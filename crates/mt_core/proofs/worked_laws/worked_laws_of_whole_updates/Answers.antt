@@ -1,16 +1,10 @@
 use Rattle.std.proofs.Common.{◌∷◌, [], arith, refl}
-use Rattle.mt_machine.specs.Machine.{AreEnabled, Calls, IsEnabled}
+use Rattle.mt_machine.specs.Machine.{AreEnabled}
 use Rattle.mt_machine.specs.Update.{updated}
 use Rattle.mt_machine.specs.WorkedRuns.{bare_file}
-use Rattle.mt_core.specs.WorkedLaws.{called_again, two_unlike, uncalled}
-use Rattle.mt_core.proofs.OnWorked.{can_be_called_again, two_unlike_can_be_called, two_unlike_is_quiet}
+use Rattle.mt_core.specs.WorkedLaws.{two_unlike, uncalled}
+use Rattle.mt_core.proofs.OnWorked.{two_unlike_can_be_called, two_unlike_is_quiet}
 use Rattle.mt_core.proofs.worked_laws.worked_laws_of_whole_updates.Goals as goal
-
-called : IsEnabled (updated two_unlike.system (0 ∷ 1 ∷ []) (bare_file 0x806)) (Calls (bare_file 0x800))
-called = (refl, can_be_called_again.1, can_be_called_again.2, can_be_called_again.3)
-
-again : AreEnabled (updated two_unlike.system (0 ∷ 1 ∷ []) (bare_file 0x806)) called_again
-again = (called, ((refl, ((refl, omega arith), omega arith)), (refl, tt)))
 
 on : AreEnabled (updated two_unlike.system (0 ∷ 1 ∷ []) (bare_file 0x806)) uncalled
 on = ((refl, (refl, omega arith)), ((refl, λ p is. tt), ((refl, ((refl, omega arith), omega arith)), tt)))
@@ -22,4 +16,4 @@ pub returns-clause-settled : goal.returns-clause-settled
 returns-clause-settled c = λ law. law two_unlike (bare_file 0x806) uncalled two_unlike_is_quiet two_unlike_can_be_called (omega arith) on refl
 
 pub returns-clause-held : goal.returns-clause-held
-returns-clause-held c = λ law address. law two_unlike (bare_file 0x806) called_again address two_unlike_is_quiet two_unlike_can_be_called again
+returns-clause-held c = λ law address. law two_unlike (bare_file 0x806) uncalled address two_unlike_is_quiet two_unlike_can_be_called on

@@ -1,0 +1,155 @@
+ghost use Rattle.std.specs.Prelude.{◌<◌, ◌≤◌, length};
+ghost use Rattle.mt_regs.specs.StartFiles.{AreStartFiles};
+
+use crate::common::file;
+use mt_bus::System;
+use mt_kinds::MemType;
+use mt_machine::{Control, Done, Op, Ruled};
+use mt_regs::RegFile;
+use mt_tlb::Mapping;
+use std::alloc::Global;
+
+/// A system whose processors have these files, with a window of 64 lines from 1 MB on.
+fn system_of(alloc: Global, files: &[RegFile]) -> Option<System>
+    requires some { 0 < length files.now }
+    requires few { length files.now ≤ 16 }
+    requires start { AreStartFiles files.now }
+{
+    let Ok(mut system) = System::new(alloc, files) else {
+        return None;
+    };
+    if system.add_ram(0x10_0000, 64).is_err() {
+        return None;
+    }
+    Some(system)
+}
+
+/// So many processors whose memory below 4 GB has a type.
+fn system(alloc: Global, cpus: u32, kind: u64) -> Option<System> {
+    let file = file(kind)?;
+    if cpus == 0 || cpus > 16 || file.first_fault().is_some() {
+        return None;
+    }
+    let files = file.copies(cpus);
+    system_of(alloc, files.as_slice())
+}
+
+/// Two processors of which each has a type of its own there.
+fn unlike_pair(alloc: Global, kind: u64, other: u64) -> Option<System> {
+    let first = file(kind)?;
+    let second = file(other)?;
+    if first.first_fault().is_some() || second.first_fault().is_some() {
+        return None;
+    }
+    if first.maxphy != second.maxphy || first.cap != second.cap {
+        return None;
+    }
+    first.is_register_file(); // a fact for the proof
+    second.is_register_file(); // a fact for the proof
+    let files = [first, second];
+    system_of(alloc, &files)
+}
+
+/// Maps a page, where the processor has the physical page.
+fn map(system: &mut System, k: u32, vpage: u64, ppage: u64) -> Option<Ruled> {
+    let x = Mapping {
+        vpage,
+        ppage,
+        index: 0,
+        global: false,
+    };
+    let pages = system.cpus.get(k as usize)?.regs().pages();
+    if x.vpage < 1 << 36 && x.ppage < pages {
+        Some(system.control(k, Control::Map(x)))
+    } else {
+        None
+    }
+}
+
+fn access(system: &mut System, k: u32, op: Op) -> Option<Done> {
+    if (k as usize) < system.cpus.len() {
+        Some(system.access(k, op))
+    } else {
+        None
+    }
+}
+
+#[test]
+fn a_store_takes_the_line_over(rt: HostRuntime) {
+    let Some(mut system) = system(rt.alloc(), 2, 6) else {
+        panic!(rt; "the file is accepted");
+    };
+    for k in 0..2 {
+        assert!(rt;
+            map(&mut system, k, 1, 0x100) == Some(Ruled::Okay),
+            "at {k}"
+        );
+    }
+    assert!(rt; access(&mut system, 0, Op::Store(0x1000, 0x2a)) == Some(Done::Stored(MemType::WB)));
+    assert!(rt; system.ram.read(0x10_0000) == 0);
+    assert!(rt; access(&mut system, 1, Op::Load(0x1000)) == Some(Done::Value(0x2a, MemType::WB)));
+    assert!(rt; system.ram.read(0x10_0000) == 0x2a);
+    assert!(rt; access(&mut system, 1, Op::Store(0x1000, 0x2b)) == Some(Done::Stored(MemType::WB)));
+    assert!(rt; system.ram.read(0x10_0000) == 0x2a);
+    for (k, lines) in [(0, 0), (1, 1)] {
+        assert!(rt;
+            matches!(system.cpus.get(k), Some(cpu) if cpu.cache().len() == lines),
+            "at {k}"
+        );
+    }
+}
+
+#[test]
+fn the_oldest_of_four_buffers_gives_way(rt: HostRuntime) {
+    let Some(mut system) = system(rt.alloc(), 1, 1) else {
+        panic!(rt; "the file is accepted");
+    };
+    assert!(rt; map(&mut system, 0, 1, 0x100) == Some(Ruled::Okay));
+    for (address, v) in [(0x1000, 7), (0x1040, 8), (0x1080, 9), (0x10c0, 10)] {
+        assert!(rt;
+            access(&mut system, 0, Op::Store(address, v)) == Some(Done::Stored(MemType::WC)),
+            "at {address}"
+        );
+    }
+    assert!(rt; system.ram.read(0x10_0000) == 0);
+    assert!(rt; access(&mut system, 0, Op::Store(0x1100, 11)) == Some(Done::Stored(MemType::WC)));
+    assert!(rt; system.ram.read(0x10_0000) == 7);
+    assert!(rt; system.ram.read(0x10_0040) == 0);
+    assert!(rt; access(&mut system, 0, Op::Fence) == Some(Done::Fenced));
+    assert!(rt; system.ram.read(0x10_0040) == 8);
+    assert!(rt; system.ram.read(0x10_0100) == 11);
+}
+
+#[test]
+fn refusals_and_no_fill_mode(rt: HostRuntime) {
+    let Some(mut system) = system(rt.alloc(), 1, 6) else {
+        panic!(rt; "the file is accepted");
+    };
+    assert!(rt; map(&mut system, 0, 1, 0x100) == Some(Ruled::Okay));
+    assert!(rt; access(&mut system, 0, Op::Load(0x2000)) == Some(Done::Unmapped));
+    assert!(rt; map(&mut system, 0, 2, 0x200) == Some(Ruled::Okay));
+    assert!(rt; access(&mut system, 0, Op::Load(0x2000)) == Some(Done::NoRam));
+    if 0 < system.cpus.len() {
+        assert!(rt; system.control(0, Control::Cd(true)) == Ruled::Okay);
+    }
+    assert!(rt; access(&mut system, 0, Op::Load(0x1000)) == Some(Done::Value(0, MemType::WB)));
+    assert!(rt;
+        matches!(system.cpus.first(), Some(cpu) if cpu.cache().len() == 0 && cpu.tlb().entries().len() == 2)
+    );
+}
+
+#[test]
+fn each_processor_has_the_types_of_its_own_file(rt: HostRuntime) {
+    let Some(mut system) = unlike_pair(rt.alloc(), 6, 4) else {
+        panic!(rt; "the files are accepted");
+    };
+    for k in 0..2 {
+        assert!(rt;
+            map(&mut system, k, 1, 0x100) == Some(Ruled::Okay),
+            "at {k}"
+        );
+    }
+    assert!(rt; access(&mut system, 0, Op::Store(0x1000, 0x2a)) == Some(Done::Stored(MemType::WB)));
+    assert!(rt; access(&mut system, 1, Op::Load(0x1000)) == Some(Done::Value(0x2a, MemType::WT)));
+    assert!(rt; access(&mut system, 0, Op::Load(0x1000)) == Some(Done::Value(0x2a, MemType::WB)));
+}
