@@ -93,12 +93,6 @@ shown_or_offence text = elim (decided [] (said_by text) tt (sane_from 1 (lines_o
         let last : offence_at_end (end_of text) (onto after []) ≡ Some (fault_at NoCap (end_of text)) = rw none refl in
         inr (fault_at NoCap (end_of text), ap (λ o. or_else o (offence_at_end (end_of text) (said_by text))) (no_line text after clean is) ∙ rw is at last)
 
-pub no_offence_shown : (text : List ℕ) → dump_offence text ≡ None → (dump : Dump) × Shown text dump
-no_offence_shown text none = elim (shown_or_offence text) [
-  | inl shown ↦ shown
-  | inr bad ↦ let e = sym none ∙ bad.1 in cc e
-]
-
 pub one_dump : (text : List ℕ) (dump other : Dump) → Shown text dump → Shown text other → dump ≡ other
 one_dump text dump other = shown_once (said_by text) dump other
 

@@ -19,10 +19,10 @@ use Rattle.mt_dump.specs.Dump.{given, widths, section_numbers, section_count, ti
 use Rattle.mt_dump.specs.Reader.{HasRead, State, file_in, files_in, file_with, dump_with, after_section, with_width, onto}
 use Rattle.mt_dump.proofs.Readings.{value_given-stands}
 use Rattle.mt_dump.proofs.Sections.{first_early, first_late, early_present, same_widths, section_counts}
-use Rattle.mt_dump.proofs.Present.{StandsNow, Leads, clean_stands, clean_widths, apart_test, positive}
+use Rattle.mt_dump.proofs.Present.{StandsNow, Leads, clean_stands, clean_widths, positive}
 use Rattle.mt_dump.proofs.Stands.{some_section, clean_shown, clean_is_dump, none_given, shown_given}
 use Rattle.mt_dump.proofs.Complete.{section_none}
-use Rattle.mt_dump.specs.declared.fault.DumpReason.TheVariants.{UnknownRegister, Repeated, NoCap, BadSection, Differs}
+use Rattle.mt_dump.specs.declared.fault.DumpReason.TheVariants.{UnknownRegister, Repeated, NoCap, Differs}
 use Rattle.mt_dump.specs.declared.said.Said.TheVariants.{Nothing, Version, Section, Width, Register}
 
 pub holds_new : HasRead (record { version = 1; spoken = false; sections = 0; files = []; file = None; width = 36; has_width = false; has_capabilities = false; marks = replicate 256 false }) []
@@ -140,14 +140,6 @@ holds_next_section state before number place file ended next files holds two sam
     clean : version_of before ≡ 2 → number ≡ section_count before → is_given 0xfe (first_section before) ≡ true → (late : Bool) → offence_said before (Section number place) ≡ None
     clean version equal told late = section_none (version_of before == 2) (number == section_count before) (nat_lt 0 number) (is_given 0xfe (first_section before)) _ _ (equal_test _ _ version) (equal_test _ _ equal) (inr told)
 
-pub wrong_section : (state : State) (before : List Reading) (number : ℕ) (place : Place) → HasRead state before → (state.version ≢ 2) ⊎ (number ≢ state.sections) → offence_said before (Section number place) ≡ Some (fault_at BadSection place)
-wrong_section state before number place holds (inl other) = let miss = apart_test (version_of before) 2 (λ e. other (holds.version_is ∙ e)) in rw miss refl
-wrong_section state before number place holds (inr other) = by (version_of before == 2) (number == section_count before) (apart_test number (section_count before) (λ e. other (e ∙ sym holds.sections_is)))
-  where
-    by : (version counted : Bool) → counted ≡ false → (if not version || not counted then Some (fault_at BadSection place) else if nat_lt 0 number && not (is_given 0xfe (first_section before)) then Some (fault_at NoCap place) else None) ≡ Some (fault_at BadSection place)
-    by true counted is = rw is refl
-    by false counted is = refl
-
 pub section_too_early : (state : State) (before : List Reading) (number : ℕ) (place : Place) → HasRead state before → state.version ≡ 2 → number ≡ state.sections → 0 < number → state.file ≡ None
     → offence_said before (Section number place) ≡ Some (fault_at NoCap place)
 section_too_early state before number place holds two same some is =
@@ -195,12 +187,6 @@ holds_width state before width first second holds inside same none wide narrow =
     told (inl late) passed =
         eqb-true _ _ (equal (is_later before) (width == first_width before) passed late) ∙ ap (λ says. width_of (widths says)) (sym (first_late (Ok (Width width first second)) before late))
     told (inr early) passed = ap (λ says. width_of (widths says)) (sym (first_early (Ok (Width width first second) ∷ before) early))
-
-pub outside_width : (before : List Reading) (width : ℕ) (first second : Place) → is_outside before ≡ true → offence_said before (Width width first second) ≡ Some (fault_at BadSection first)
-outside_width before width first second outside = rw outside refl
-
-pub outside_register : (before : List Reading) (number value : ℕ) (first second : Place) → is_outside before ≡ true → offence_said before (Register number value first second) ≡ Some (fault_at BadSection first)
-outside_register before number value first second outside = rw outside refl
 
 pub differing_width : (state : State) (before : List Reading) (width : ℕ) (first second : Place) → HasRead state before → is_outside before ≡ false → (nat_lt 1 state.sections && not (width == state.width)) ≡ true
     → offence_said before (Width width first second) ≡ Some (fault_at Differs second)

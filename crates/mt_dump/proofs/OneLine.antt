@@ -14,30 +14,15 @@ use Rattle.mt_regs.specs.RegisterFile.{low_byte}
 use Rattle.mt_dump.specs.Line.{said_of, said_words, said_pair, said_width, said_version, said_section, said_register, is_width_name, is_version_name, is_section_name, fault_at, place_of}
 use Rattle.mt_dump.specs.Reader.{IsSane}
 use Rattle.mt_dump.specs.declared.fault.DumpReason.TheVariants.{BadLine, BadWidth, TooManyPairs, BadVersion}
-use Rattle.mt_dump.specs.declared.said.Said.TheVariants.{Nothing, Version, Width, Register}
+use Rattle.mt_dump.specs.declared.said.Said.TheVariants.{Version, Width, Register}
 
 -- words by their number
-pub said_none : (number : ℕ) (words : List (ℕ × List ℕ)) → length words ≡ 0 → said_words number words ≡ Ok Nothing
-said_none number [] count = refl
-said_none number (a ∷ words) count = absurd (omega arith)
-
-pub said_one : (number : ℕ) (words : List (ℕ × List ℕ)) → length words ≡ 1 → said_words number words ≡ Err (fault_at BadLine (word.place_of number words 0))
-said_one number [] count = absurd (omega arith)
-said_one number (a ∷ []) count = refl
-said_one number (a ∷ b ∷ words) count = absurd (omega arith)
-
 pub said_two : (number : ℕ) (words : List (ℕ × List ℕ)) → length words ≡ 2
     → said_words number words ≡ said_pair (word.place_of number words 0) (word.place_of number words 1) (without_ending 58 (text_of words 0)) (text_of words 1)
 said_two number [] count = absurd (omega arith)
 said_two number (a ∷ []) count = absurd (omega arith)
 said_two number (a ∷ b ∷ []) count = refl
 said_two number (a ∷ b ∷ c ∷ words) count = absurd (omega arith)
-
-pub said_more : (number : ℕ) (words : List (ℕ × List ℕ)) → 3 ≤ length words → said_words number words ≡ Err (fault_at BadLine (word.place_of number words 2))
-said_more number [] count = absurd (omega arith)
-said_more number (a ∷ []) count = absurd (omega arith)
-said_more number (a ∷ b ∷ []) count = absurd (omega arith)
-said_more number (a ∷ b ∷ c ∷ words) count = refl
 
 -- the first seven words say what all of them say
 pub said_first : (number : ℕ) (words : List (ℕ × List ℕ)) → said_words number (take 7 words) ≡ said_words number words

@@ -1,8 +1,7 @@
 -- Many texts that go through a writer, one after the other.
 use Rattle.std.proofs.Common.{◌≡◌, ℕ, List, [], ◌++◌, Option, Result, Ok, Err, sym, ap, ◌∙◌, subst, append_assoc, append-nil}
-use Rattle.std.specs.Io.KnownBytes.{Appends}
 use Rattle.std.proofs.KnownBytes.{Appends-nil, Appends-trans}
-use Rattle.mt_ports.specs.Puts.{AppendsFront, Puts}
+use Rattle.mt_ports.specs.Puts.{AppendsFront}
 use Rattle.mt_output.specs.Writing.{Adds, Passes}
 
 -- nothing was written
@@ -17,14 +16,6 @@ passes_both waiting first middle second left a b c p q = record {
   cut = sym (append_assoc waiting first second) ∙ ap (λ (l : List ℕ). l ++ second) p.cut ∙ append_assoc p.front middle second
       ∙ ap (λ (l : List ℕ). p.front ++ l) q.cut ∙ sym (append_assoc p.front q.front left);
   taken = Appends-trans a b c p.front q.front p.taken q.taken;
-}
-
--- room was made, and then a text was added behind what waited
-pub passes_formed : (waiting middle text left : List ℕ) (a b : Option (List ℕ)) → Passes waiting [] middle a b → left ≡ middle ++ text → Passes waiting text left a b
-passes_formed waiting middle text left a b p is = record {
-  front = p.front;
-  cut = ap (λ (l : List ℕ). l ++ text) (sym (append-nil waiting) ∙ p.cut) ∙ append_assoc p.front middle text ∙ ap (λ (l : List ℕ). p.front ++ l) (sym is);
-  taken = p.taken;
 }
 
 -- a front of a text is one of a longer text
@@ -58,15 +49,3 @@ pub adds_after : {T E : Type 0} (waiting first middle second left : List ℕ) (a
 adds_after waiting first middle second left a b c (Ok done) p q = passes_both waiting first middle second left a b c p q
 adds_after waiting first middle second left a b c (Err error) p q =
     subst (AppendsFront a c) (append-nil (waiting ++ first ++ second) ∙ append_assoc waiting first second) (fails_after waiting first middle second [] a b c p q)
-
--- all was passed
-pub passes_all : (waiting text : List ℕ) (a b : Option (List ℕ)) → Passes waiting text [] a b → Appends a b (waiting ++ text)
-passes_all waiting text a b p = subst (Appends a b) (sym (p.cut ∙ append-nil p.front)) p.taken
-
--- a text that was written from the start on, and then what still waited
-pub puts_whole : {T E : Type 0} (text left final : List ℕ) (a b c : Option (List ℕ)) (result : Result T E)
-    → Passes [] text left a b → final ≡ [] → Adds left [] final b c result → Puts a c result text
-puts_whole text left final a b c result p none q = whole result (adds_after [] text left [] final a b c result p q) where
-  whole : {T E : Type 0} (result : Result T E) → Adds [] (text ++ []) final a c result → Puts a c result text
-  whole (Ok done) moved = subst (Appends a c) (append-nil text) (passes_all [] (text ++ []) a c (subst (λ (l : List ℕ). Passes [] (text ++ []) l a c) none moved))
-  whole (Err error) failed = subst (AppendsFront a c) (append-nil text) failed

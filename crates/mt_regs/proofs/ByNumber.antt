@@ -3,7 +3,7 @@ use Rattle.std.proofs.Common.{◌≡◌, ◌≢◌, ◌∙◌, ◌<◌, ◌≤�
 use Rattle.std.specs.Prelude.{if◌then◌else◌}
 use Rattle.std.specs.List.{slice_get, find, AllByRecursion}
 use Rattle.std.specs.Option.{option_map}
-use Rattle.std.proofs.lemmas.Bool.{cases_Bool, eqb-true, eqb-false}
+use Rattle.std.proofs.lemmas.Bool.{cases_Bool, eqb-true}
 use Rattle.std.proofs.lemmas.Bool.Decides.{nat_tests}
 use Rattle.std.proofs.lemmas.List.{ext_get_or}
 use Rattle.std.proofs.lemmas.Option.{slice_get_within}
@@ -207,12 +207,6 @@ module _ (f g : RegisterFile) (is : IsRegisterFile f) (is_too : IsRegisterFile g
 -- the registers below a place have values of 64 bits
 abbrev pub HasWordsBelow : RegisterFile → ℕ → Type 0
 HasWordsBelow f i = (k : ℕ) (r : Register) → k < i → slice_get (writable f) k ≡ Some r → value_of f r < 2 ^ 64
-
-pub next_fits : (f : RegisterFile) (i : ℕ) → HasWordsBelow f i → ((r : Register) → slice_get (writable f) i ≡ Some r → value_of f r < 2 ^ 64) → HasWordsBelow f (i + 1)
-next_fits f i each here k r below at = elim (cases_Bool (k == i)) [
-  | inl hit ↦ let e : k ≡ i = eqb-true _ _ hit in here r (rw e at at)
-  | inr miss ↦ let apart : k ≢ i = eqb-false _ _ miss in each k r (omega arith) at
-]
 
 pub all_fit : (f : RegisterFile) (count : ℕ) → IsRegisterFile f → count ≡ length (writable f) → HasWordsBelow f count → f.capabilities < 2 ^ 64 → HasWords f
 all_fit f count is all each capabilities number value found = elim (cases_Bool (number == 0xfe)) [

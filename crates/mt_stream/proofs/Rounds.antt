@@ -1,9 +1,7 @@
 -- What a round of a loop over lines keeps, whether or not the source tells its bytes.
-use Rattle.std.proofs.Common.{◌≡◌, ◌∙◌, ap, sym, refl, subst, arith, inl, inr, ℕ, ◌+◌, ◌≤◌, ◌<◌, nat_lt, Bool, true, false, List, ◌++◌, length, Option, None, Some, Ok, Err}
+use Rattle.std.proofs.Common.{◌≡◌, ◌∙◌, ap, sym, refl, subst, arith, inl, inr, ℕ, ◌+◌, ◌≤◌, ◌<◌, Bool, true, false, List, ◌++◌, length, Option, None, Some}
 use Rattle.std.specs.Prelude.{◌≢◌, ◌↔◌, ◌⊎◌}
-use Rattle.std.proofs.lemmas.Bool.Decides.{nat_tests}
 use Rattle.std.proofs.lemmas.List.{length-append, length-drop}
-use Rattle.mt_ports.specs.Causes.{Rose, StatusHasCause}
 use Rattle.mt_ports.specs.declared.status.Status.{Status}
 use Rattle.mt_ports.specs.declared.status.Status.TheVariants.{BadText, Done, ReadFault, TooLong, WriteFault}
 use Rattle.mt_text.specs.Feed.{Feeding, GaveTooMuch, IsFront, IsLong, Moves, Stops, taken, with_end}
@@ -11,7 +9,7 @@ use Rattle.mt_text.specs.declared.fault.FeedFault.{FeedFault}
 use Rattle.mt_text.specs.declared.fault.FeedFault.TheVariants as fault
 use Rattle.mt_text.proofs.Feeding.{front_within}
 use Rattle.mt_text.proofs.Fronts.{long_front}
-use Rattle.mt_stream.specs.Lines.{Closes, CutShort, IsEnding, Leading, Running, SinkHasCause, SourceHasCause, Takes, cut_status}
+use Rattle.mt_stream.specs.Lines.{Closes, CutShort, cut_status}
 use Rattle.mt_stream.specs.Told.{Told}
 use Rattle.mt_stream.specs.declared.running.Cut.{Cut}
 use Rattle.mt_stream.specs.declared.running.Cut.TheVariants as cut
@@ -43,13 +41,6 @@ module _ (old new : Feeding) (more : List ℕ) (left : Option (List ℕ)) where
 pub not_much : (feed : Feeding) → IsLong feed → feed.fault ≡ None → 16777216 < taken feed → ⊥
 not_much feed long none many = let e : None ≡ Some fault.TooLong = sym none ∙ long.1 many in cc e
 
-pub few_taken : (feed : Feeding) → IsLong feed → feed.fault ≡ None → feed.offset ≤ 16777216
-few_taken feed long none = by (nat_lt 16777216 (taken feed)) refl
-  where
-    by : (many : Bool) → nat_lt 16777216 (taken feed) ≡ many → feed.offset ≤ 16777216
-    by true test = absurd (not_much feed long none (grind (arith, nat_tests, test)))
-    by false test = grind (arith, nat_tests, test)
-
 -- ---- statuses
 
 pub close_statuses : (t : Told) (waiting : List ℕ) (a b : Option (List ℕ)) (status : Status) → (t.status ≡ Done) ⊎ (t.status ≡ BadText) → Closes t waiting a b status → (status ≢ TooLong) × (status ≢ ReadFault)
@@ -62,31 +53,7 @@ close_statuses t waiting a b status one (inr failed) = (λ is. let e : WriteFaul
 pub never_much : (status : Status) (before now : ℕ) (feed : Feeding) → status ≢ TooLong → now ≡ before + taken feed → IsLong feed → feed.fault ≡ None → (status ≡ TooLong) ↔ GaveTooMuch before now
 never_much status before now feed other given long none = (λ is. absurd (other is), λ much. absurd (not_much feed long none (omega (arith, given, much))))
 
-pub never_read : (status : Status) (before now : ℕ) → status ≢ ReadFault → now ≡ before → StatusHasCause ReadFault before now status
-never_read status before now other same = record { rose = λ is. absurd (other is); stands = λ _. same }
-
-pub cause_behind : (fault status : Status) (first before now : ℕ) → before ≡ first → StatusHasCause fault before now status → StatusHasCause fault first now status
-cause_behind fault status first before now same cause = subst (λ n. StatusHasCause fault n now status) same cause
-
--- a line ends a run with one of three statuses
-pub ending_status : (R : Running) (from : Leading) (number : ℕ) (so_far : List ℕ) (now : R.Run) (waiting left : List ℕ) (a b : Option (List ℕ)) (status : Status) → Takes R from number so_far now waiting left a b (Ok (Some status)) → IsEnding status
-ending_status R from number so_far now waiting left a b status (inl e) = elim e.last [
-  | inl refused ↦ inl refused
-  | inr bad ↦ inr (inl bad)
-]
-ending_status R from number so_far now waiting left a b status (inr w) = inr (inr w.refused)
-
 -- ---- cuts
-
-pub cut_read : (first before now : ℕ) (why : Cut) → before ≡ first → SourceHasCause {T = Bool} before now (Err why) → StatusHasCause ReadFault first now (cut_status why)
-cut_read first before now (cut.Feed fault.ReadFault) same cause = record { rose = λ _. subst (λ n. Rose n now) same cause; stands = λ other. absurd (other refl) }
-cut_read first before now (cut.Feed fault.TooLong) same cause = record { rose = λ is. absurd (cc is); stands = λ _. cause ∙ same }
-cut_read first before now cut.Write same cause = record { rose = λ is. absurd (cc is); stands = λ _. cause ∙ same }
-
-pub cut_write : (first before now : ℕ) (why : Cut) → before ≡ first → SinkHasCause {T = Bool} before now (Err why) → StatusHasCause WriteFault first now (cut_status why)
-cut_write first before now (cut.Feed fault.ReadFault) same cause = record { rose = λ is. absurd (cc is); stands = λ _. cause ∙ same }
-cut_write first before now (cut.Feed fault.TooLong) same cause = record { rose = λ is. absurd (cc is); stands = λ _. cause ∙ same }
-cut_write first before now cut.Write same cause = record { rose = λ _. subst (λ n. Rose n now) same cause; stands = λ other. absurd (other refl) }
 
 module _ (old new : Feeding) (more waiting left : List ℕ) (a b : Option (List ℕ)) (first before now : ℕ) (given : before ≡ first + taken old) (rises : now ≡ before + length more) (long : IsLong new) (none : old.fault ≡ None) where
   pub cut_long : (why : Cut) → CutShort old new (old.pending ++ more) waiting left a b why → (cut_status why ≡ TooLong) ↔ GaveTooMuch first now

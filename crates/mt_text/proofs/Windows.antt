@@ -1,6 +1,6 @@
 -- The bytes between two marks of a buffer.
 use Rattle.std.proofs.Common.{◌≡◌, ℕ, ◌+◌, ◌-◌, ◌≤◌, List, ◌++◌, length, take, drop, slice_range, refl, sym, ap, ◌∙◌, arith}
-use Rattle.std.proofs.lemmas.List.{append-nil, take_at, drop_at, take-append-le, drop-append-le, drop-take, drop-drop, length-take-le, length-drop, take-take}
+use Rattle.std.proofs.lemmas.List.{append-nil, take_at, drop_at, take-append-le, drop-append-le, drop-take, drop-drop, length-take-le, length-drop}
 use borrow.Rule.Slice.PartMut.{put_mid, post_of}
 use lib.Seq.{take-add}
 
@@ -31,9 +31,3 @@ passed xs start end count inside =
     let parts : end - start ≡ count + (end - (start + count)) = omega arith in
     sym (ap (λ j. drop count (take j (drop start xs))) parts ∙ drop-take count _ (drop start xs)
     ∙ ap (take (end - (start + count))) (drop-drop count start xs))
-
--- the front of what stands between two marks
-pub front_part : (xs : List ℕ) (start end count : ℕ) → start + count ≤ end → slice_range xs start (start + count) ≡ take count (slice_range xs start end)
-front_part xs start end count inside =
-    let same : start + count - start ≡ count = omega arith in
-    ap (λ n. take n (drop start xs)) same ∙ sym (take-take count (end - start) (drop start xs) (omega arith))
