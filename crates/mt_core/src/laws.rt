@@ -1,18 +1,6 @@
-ghost use Rattle.mt_core.specs.Arises.{IsCore};
 ghost use Rattle.mt_core.specs.Headline.{BarriersHoldThroughout, ErasRise, HeldFromFirstRelease, IsQuietWithoutOrder, NoBuffersWhereOnePasses, NoneActsThroughout, NoneRunsThroughout, OrdersHoldThroughout, SettledFromRelease, StepsCountThroughout, StepsKeepThroughout, WaitsAtBarriers};
 ghost use Rattle.mt_core.specs.Rounds.{TurnsEnd, UpdatedWordsAreHeld, UpdatesAreReached, UpdatesSettle};
 ghost use Rattle.mt_core.specs.Stops.{StopsOutside};
-
-use crate::core_type::Core;
-
-/// What a core keeps: its state arises from a start by events, by new windows, and by processors that become
-/// self-snooping, come up or go while no update is under way; it has at most 16 processors, and an update under
-/// way was called while the eras had room.
-pub fn a_core_arises(core: &Core)
-    ensures { IsCore core.now }
-{
-    let _ = &core.order; // a fact for the proof
-}
 
 /// In a state that arises a step answers `NoUpdate` exactly where the processor runs, and either no update is
 /// under way, or it is cancelled, or the processor has released already.

@@ -5,6 +5,7 @@
 mod barriers;
 mod coming;
 mod core_type;
+mod facts;
 mod fault;
 mod laws;
 mod order;
@@ -14,9 +15,10 @@ mod worked;
 mod worked_laws;
 
 pub use core_type::Core;
+pub use facts::a_core_arises;
 pub use fault::CallFault;
 pub use laws::{
-    a_core_arises, eras_rise, releases_settle, rests_quiet, states_hold, steps_stop, steps_wait,
+    eras_rise, releases_settle, rests_quiet, states_hold, steps_stop, steps_wait,
     updates_are_reached, updates_settle, words_are_held,
 };
 pub use mt_machine::{Event, Go, Phase};
