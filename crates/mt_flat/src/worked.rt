@@ -67,7 +67,7 @@ pub fn worked_laws_under_way()
 
 /// A whole update of two that combine one word.
 pub fn worked_laws_of_takes()
-    ensures outright { UpdatedIsFlat → IsFlatOf (updated both_combine.system (1 ∷ 0 ∷ []) (bare_file 0x806)).system (flat_takes (1 ∷ 0 ∷ []) (beside both_combine.system)) }
+    ensures { UpdatedIsFlat → IsFlatOf (updated both_combine.system (1 ∷ 0 ∷ []) (bare_file 0x806)).system (flat_takes (1 ∷ 0 ∷ []) (beside both_combine.system)) }
 {}
 
 /// A state in which all have taken: a cancelled update, and the first release.

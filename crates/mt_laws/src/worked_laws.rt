@@ -63,7 +63,7 @@ pub fn worked_fresh_comers_and_goers()
 
 /// Two who have arrived at the first barrier, where the go is given.
 pub fn worked_laws_of_barriers()
-    ensures open { OpenWhereFull → IsFull (first_barrier_count pair_order pair_arrived.system.processors) }
+    ensures { OpenWhereFull → IsFull (first_barrier_count pair_order pair_arrived.system.processors) }
 {}
 
 /// A take, a call, and a state that is reached by a call and the go.

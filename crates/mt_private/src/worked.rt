@@ -89,5 +89,5 @@ pub fn worked_yard_rule()
 
 /// A machine before the update, which isn't settled.
 pub fn worked_releases()
-    ensures unsettled { Settles lodging (at_rest lodged) → ⊥ }
+    ensures { Settles lodging (at_rest lodged) → ⊥ }
 {}

@@ -31,5 +31,5 @@ pub fn worked_places()
 
 /// What doesn't follow on the words and views at the start.
 pub fn worked_follows()
-    ensures not_kept { (key : Key) → start_of key ≡ start → (m : Meets key (at_start key)) → Follows key (at_start key) (but_word key 0 1) m None → ⊥ }
+    ensures { (key : Key) → start_of key ≡ start → (m : Meets key (at_start key)) → Follows key (at_start key) (but_word key 0 1) m None → ⊥ }
 {}

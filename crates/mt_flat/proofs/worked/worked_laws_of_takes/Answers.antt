@@ -19,5 +19,5 @@ each = search rules
 stands : IsFlatOf both_combine.system (beside both_combine.system)
 stands = record { values = λ a whole. refl; pending = λ k. refl }
 
-pub returns-clause-outright : goal.returns-clause-outright
-returns-clause-outright c = λ law. law both_combine (beside both_combine.system) (bare_file 0x806) (1 ∷ 0 ∷ []) quiet enabled each stands
+pub returns : goal.returns
+returns c = λ law. law both_combine (beside both_combine.system) (bare_file 0x806) (1 ∷ 0 ∷ []) quiet enabled each stands

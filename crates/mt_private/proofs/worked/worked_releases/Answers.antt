@@ -4,5 +4,5 @@ use Rattle.mt_private.specs.WorkedYard.{lodger}
 use Rattle.mt_private.proofs.Lodged.{not_same}
 use Rattle.mt_private.proofs.worked.worked_releases.Goals as goal
 
-pub returns-clause-unsettled : goal.returns-clause-unsettled
-returns-clause-unsettled c h = not_same 2048 2054 (omega arith) (sym (ap (λ (f : RegisterFile). f.default_type) (h.settled 0 (lodger 0x100) (omega arith)).file))
+pub returns : goal.returns
+returns c h = not_same 2048 2054 (omega arith) (sym (ap (λ (f : RegisterFile). f.default_type) (h.settled 0 (lodger 0x100) (omega arith)).file))

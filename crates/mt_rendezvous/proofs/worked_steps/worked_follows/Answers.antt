@@ -3,5 +3,5 @@ use Rattle.mt_rendezvous.proofs.OnWorked.{not_both, same_counts}
 use Rattle.mt_rendezvous.proofs.WorkedStart.{begins_start}
 use Rattle.mt_rendezvous.proofs.worked_steps.worked_follows.Goals as goal
 
-pub returns-clause-not_kept : goal.returns-clause-not_kept
-returns-clause-not_kept c = λ key is m f. not_both 1 refl (same_counts key is begins_start _ f.kept).0
+pub returns : goal.returns
+returns c = λ key is m f. not_both 1 refl (same_counts key is begins_start _ f.kept).0
