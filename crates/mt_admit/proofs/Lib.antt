@@ -1,4 +1,1 @@
-mod Agreeing
 pub mod Calling
-mod GivingUp
-mod Unlike

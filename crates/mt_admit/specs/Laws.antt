@@ -21,7 +21,7 @@ pub record CanGrow (m : Machine) : Type 0 where
 
 -- the machine with the newcomer, its update called, arises, so that all that holds of what arises holds of its processors, the newcomer among them
 abbrev pub UpsArise : Type 0
-UpsArise = (m : Machine) → CanGrow m → Arises (brought_up m)
+pub UpsArise = (m : Machine) → CanGrow m → Arises (brought_up m)
 
 -- one processor more than m has, each with processor 0's registers of m and with nothing older than the update
 pub record AllAgree (m : Machine) (t : System) : Type 0 where
@@ -30,7 +30,7 @@ pub record AllAgree (m : Machine) (t : System) : Type 0 where
 
 -- whoever releases in the update of a newcomer, over every list of events, all processors agree from then on, up to the next call
 abbrev pub NewcomersAgree : Type 0
-NewcomersAgree =
+pub NewcomersAgree =
     (m : Machine) (before since : List MachineEvent) (k : ℕ) → CanGrow m
     → AreEnabled (brought_up m) (before ++ Steps k Release ∷ since) → list_all (λ e. not (is_call e)) before ≡ true → list_all (λ e. not (is_call e)) since ≡ true
     → AllAgree m (run (brought_up m) (before ++ Steps k Release ∷ since)).system
@@ -38,7 +38,7 @@ NewcomersAgree =
 -- from the first release in the update of a newcomer, over every list of events, each word that no access stored since is in memory as it was before
 -- the first pass, when the buffers were empty: whoever is told of completion knows it. So it is in each later update
 abbrev pub NewcomersKeepWords : Type 0
-NewcomersKeepWords =
+pub NewcomersKeepWords =
     (m r : Machine) (o : Order) (before since : List MachineEvent) → CanGrow m
     → AreEnabled (brought_up m) before → IsFirstRelease (run (brought_up m) before) r o → AreEnabled r since
     → IsHeld (run (brought_up m) before).system r since
@@ -50,7 +50,7 @@ pub record IsGivenUp (m t : Machine) (takes : List ℕ) : Type 0 where
 
 -- where the update of a newcomer is cancelled, and since its call nothing came but its steps and the cancel
 abbrev pub CancelledNewcomersStayBlank : Type 0
-CancelledNewcomersStayBlank =
+pub CancelledNewcomersStayBlank =
     (m : Machine) (es : List MachineEvent) → CanGrow m → AreEnabled (brought_up m) es → list_all (λ e. is_led e && not (is_go e)) es ≡ true
     → (run (brought_up m) es).order ≡ None
     → IsGivenUp m (run (brought_up m) es) (takes_of es)
@@ -61,4 +61,4 @@ pub record OthersAreLeft (s t : System) : Type 0 where
   pub others : map uncached t.processors ≡ take (last_number s) (map uncached s.processors)
 
 abbrev pub RetiredLeaveTheOthers : Type 0
-RetiredLeaveTheOthers = (m : Machine) → CanGrow m → OthersAreLeft m.system (without_last m).system
+pub RetiredLeaveTheOthers = (m : Machine) → CanGrow m → OthersAreLeft m.system (without_last m).system

@@ -18,7 +18,7 @@ abbrev pub may_hold : List ℕ → ℕ → ℕ → Bool
 may_hold masks k n = if nat_lt k 16 then is_bit_set (mask_of masks n) k else true
 
 abbrev pub all_may : List ℕ → ℕ → List CacheLine → Bool
-all_may masks k ls = list_all (λ l. may_hold masks k l.number) ls
+pub all_may masks k ls = list_all (λ l. may_hold masks k l.number) ls
 
 -- each line of each cache is one that it may have
 pub record AreHeldBy (ps : List Processor) (masks : List ℕ) : Type 0 where

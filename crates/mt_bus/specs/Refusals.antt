@@ -31,7 +31,7 @@ pub record RefusesInOrder (s : System) (k : ℕ) (p : Processor) (op : Op) (r : 
   pub no_memory_keeps : (e : Entry) → entry_of p (address_of op / page_bytes) ≡ Some e → r.answer ≡ NoRam → r.after ≡ change (keep_entry e) k s
 
 abbrev pub AccessesRefuseInOrder : Type 0
-AccessesRefuseInOrder = (s : System) (k : ℕ) (p : Processor) (op : Op) → IsSound s → slice_get s.processors k ≡ Some p → RefusesInOrder s k p op (access s k op)
+pub AccessesRefuseInOrder = (s : System) (k : ℕ) (p : Processor) (op : Op) → IsSound s → slice_get s.processors k ≡ Some p → RefusesInOrder s k p op (access s k op)
 
 -- a control instruction of p, which is processor k of s: a processor in an update, or a mapping for which there is no room
 pub record RulesInOrder (s : System) (k : ℕ) (p : Processor) (c : Control) (r : RuledAfter) : Type 0 where
@@ -41,4 +41,4 @@ pub record RulesInOrder (s : System) (k : ℕ) (p : Processor) (c : Control) (r 
   pub full_keeps : r.answer ≡ ruled.Full → r.after ≡ s
 
 abbrev pub ControlsRefuseInOrder : Type 0
-ControlsRefuseInOrder = (s : System) (k : ℕ) (p : Processor) (c : Control) → slice_get s.processors k ≡ Some p → RulesInOrder s k p c (control s k c)
+pub ControlsRefuseInOrder = (s : System) (k : ℕ) (p : Processor) (c : Control) → slice_get s.processors k ≡ Some p → RulesInOrder s k p c (control s k c)

@@ -14,10 +14,8 @@ mod snoops;
 mod stores;
 mod system;
 mod words;
-mod worked;
 
 pub use holders::Holders;
 pub use laws::{a_system_is_sound, accesses_refuse_in_order, controls_refuse_in_order};
 pub use mt_machine::{Control, Done, Op, Ruled};
 pub use system::System;
-pub use worked::{worked_access_refusals, worked_control_refusals};

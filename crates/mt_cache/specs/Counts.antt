@@ -4,10 +4,10 @@ use Rattle.std.specs.List.{count_by}
 use Rattle.mt_cache.specs.declared.line.CacheLine.{CacheLine}
 
 abbrev pub modulus : ℕ
-modulus = 4096
+pub modulus = 4096
 
 abbrev pub has_residue : ℕ → CacheLine → Bool
-has_residue r l = l.number % modulus == r
+pub has_residue r l = l.number % modulus == r
 
 -- the count at each residue is that of the lines
 pub record AreCounted (ls : List CacheLine) (counts : List ℕ) : Type 0 where

@@ -9,8 +9,8 @@ use Rattle.mt_types.proofs.SomeMap.{a_type_map}
 use Rattle.mt_dump.specs.Dumps.{Dump as Shows, IsDump, first_file}
 use Rattle.mt_dump.proofs.Ends.{shown_dump, shown_or_offence}
 use Rattle.mt_cli.proofs.FirstFiles.{first_is_accepted, first_is_file}
-use Rattle.mt_tidy.proofs.SomeTidy.{tidy_or_more}
-use Rattle.mt_gran.proofs.SomeRounding.{rounded_or_more}
+use Rattle.mt_types_laws.proofs.SomeTidy.{tidy_or_more}
+use Rattle.mt_types_laws.proofs.SomeRounding.{rounded_or_more}
 use Rattle.mt_cli.specs.declared.command.Command.{Command}
 use Rattle.mt_cli.specs.declared.command.Command.TheVariants.{Dump, Replay, Make, Big, Private, Proc}
 use Rattle.mt_cli.specs.declared.command.DumpCommand.{DumpCommand}

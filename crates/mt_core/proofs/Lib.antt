@@ -1,15 +1,12 @@
 pub mod Arising
 pub mod Eras
 mod Holding
-mod OnWorked
 pub mod Progress
 pub mod Reaching
 pub mod Settling
 pub mod Stepping
-mod Stopping
+pub mod Stopping
 mod Tables
-mod Throughout
 pub mod Turns
-pub mod Updated
-mod Waiting
+pub mod Waiting
 mod Work

@@ -9,11 +9,11 @@ use Rattle.mt_machine.specs.ComingAndGoing.{with_newcomer, without_last}
 
 -- with a window of zero words more; the order stays
 abbrev pub grown : Window → Machine → Machine
-grown w m = record m { system = record m.system { memory = with_window w m.system.memory } }
+pub grown w m = record m { system = record m.system { memory = with_window w m.system.memory } }
 
 -- with processor k self-snooping; the order stays
 abbrev pub snooped : ℕ → Machine → Machine
-snooped k m = record m { system = with_self_snoop k m.system }
+pub snooped k m = record m { system = with_self_snoop k m.system }
 
 -- reached from a start by events, by new windows, and, while no update is under way, by processors that become self-snooping, come up or go
 pub data Arises : Machine → Type 0 where

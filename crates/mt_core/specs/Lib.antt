@@ -6,5 +6,3 @@ pub mod Since
 pub mod Steps
 pub mod Stops
 pub mod Tables
-pub mod WorkedRuns
-pub mod WorkedLaws

@@ -10,16 +10,16 @@ pub record Dump : Type 0 where
   pub files : List RegisterFile  -- processor 0's first
 
 abbrev pub dump_of : RegisterFile → Dump
-dump_of file = record { version = 1; files = file ∷ [] }
+pub dump_of file = record { version = 1; files = file ∷ [] }
 
 -- the first of some files
 abbrev pub first_of : List RegisterFile → RegisterFile
-first_of [] = blank_file 36 0
-first_of (file ∷ files) = file
+pub first_of [] = blank_file 36 0
+pub first_of (file ∷ files) = file
 
 -- processor 0's file
 abbrev pub first_file : Dump → RegisterFile
-first_file dump = first_of dump.files
+pub first_file dump = first_of dump.files
 
 -- what every dump keeps
 pub record IsDump (dump : Dump) : Type 0 where

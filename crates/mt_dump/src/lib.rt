@@ -10,7 +10,6 @@ mod line;
 mod reader;
 mod said;
 mod texts;
-mod worked_plain;
 
 pub use canon::{number_text, value_text, write_dump};
 pub use dumps::Dump;
@@ -24,4 +23,3 @@ pub use laws::{
 };
 pub use reader::{DumpReader, read_dump, read_dump_from};
 pub use texts::{TextBuffer, append_canon, append_text, canonical_text};
-pub use worked_plain::worked_plain_texts;

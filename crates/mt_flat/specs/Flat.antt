@@ -20,7 +20,7 @@ pub record Flat : Type 0 where
 
 -- all words are zero, and nothing is pending
 abbrev pub flat_start : Flat
-flat_start = record { values = λ a. 0; pending = λ k. [] }
+pub flat_start = record { values = λ a. 0; pending = λ k. [] }
 
 -- ---- lists of pending lines
 
@@ -63,7 +63,7 @@ set_words m p = record m { values = λ a. if p.number == line_of a then option_m
 
 -- all lines of the processor, in their order
 abbrev pub empty_all : ℕ → Flat → Flat
-empty_all k m = with_pending k (λ _. []) (fold set_words m (m.pending k))
+pub empty_all k m = with_pending k (λ _. []) (fold set_words m (m.pending k))
 
 -- the processor's line of this number
 abbrev pub empty_line : ℕ → ℕ → Flat → Flat
@@ -102,7 +102,7 @@ before_store other k word m = empty_line k (line_of word) m
 
 -- the word's value after what the load empties
 abbrev pub flat_answer : Flat → ℕ → MemType → ℕ → ℕ
-flat_answer m k kind word = (before_load kind k word m).values word
+pub flat_answer m k kind word = (before_load kind k word m).values word
 
 -- a write-combining store joins the pending words, and every other one sets its word
 abbrev pub flat_store : MemType → ℕ → ℕ → ℕ → Flat → Flat

@@ -30,7 +30,7 @@ use Rattle.mt_flat.specs.Flat.{PendingLine, Flat, FlatEvent, Loads, Stores, Empt
 
 -- an access that was answered with Value, Stored or Fenced
 abbrev pub given_access : System → ℕ → Op → Done → Option FlatEvent
-given_access s k (Load address) (Value value kind) = option_map (Loads k kind) (physical_of s k address)
+pub given_access s k (Load address) (Value value kind) = option_map (Loads k kind) (physical_of s k address)
 given_access s k (Store address value) (Stored kind) = option_map (λ word. Stores k kind word value) (physical_of s k address)
 given_access s k Fence Fenced = Some (Empties k)
 given_access s k op other = None
@@ -53,7 +53,7 @@ given m (Steps k Take) = Some (Empties k)
 given m other = None
 
 abbrev pub flat_after : Machine → MachineEvent → Flat → Flat
-flat_after m e f = option_map_or (flat_next f) (given m e) f
+pub flat_after m e f = option_map_or (flat_next f) (given m e) f
 
 abbrev pub flat_run : Machine → List MachineEvent → Flat → Flat
 flat_run m [] f = f
@@ -63,7 +63,7 @@ flat_run m (e ∷ es) f = flat_run (next m e) es (flat_after m e f)
 
 -- the written words of a buffer
 abbrev pub written_of : CacheLine → PendingLine
-written_of b = record { number = b.number; written = λ word. if is_dirty b word then Some (slice_index b.words word) else None }
+pub written_of b = record { number = b.number; written = λ word. if is_dirty b word then Some (slice_index b.words word) else None }
 
 -- each word's value is what it is now, and the pending lines are the buffers with their written words
 pub record IsFlatOf (s : System) (f : Flat) : Type 0 where
@@ -131,7 +131,7 @@ HeldIsFlat =
 
 -- of a whole update the flat machine is given the takes
 abbrev pub flat_takes : List ℕ → Flat → Flat
-flat_takes ks f = fold (λ g k. empty_all k g) f ks
+pub flat_takes ks f = fold (λ g k. empty_all k g) f ks
 
 abbrev pub UpdatedIsFlat : Type 0
 UpdatedIsFlat =

@@ -3,7 +3,7 @@ use Rattle.std.specs.Prelude.{List, [], ◌∷◌, map}
 use Rattle.mt_machine.specs.declared.event.Event.TheVariants.{Leave}
 use Rattle.mt_machine.specs.Machine.{Machine, MachineEvent, Cancels, Steps}
 use Rattle.mt_machine.specs.System.{System, buffers_of, now}
-use Rattle.mt_machine.specs.WorkedRuns.{alone, call_order, calling, idle, line_of, machine_of, palette, whole}
+use Rattle.mt_machine_laws.specs.MachineWorkedRuns.{alone, call_order, calling, idle, line_of, machine_of, palette, whole}
 use Rattle.mt_flat.specs.Flat.{Flat, flat_start}
 use Rattle.mt_flat.specs.Seen.{flat_run, written_of}
 use Rattle.mt_flat.specs.Courses.{Does, Turn}

@@ -1,15 +1,11 @@
-mod RunsOf
-mod Whole
+pub mod RunsOf
+pub mod Whole
 mod Cuts
 mod CutMarks
 mod Rest
-mod Maps
-mod Counts
+pub mod Maps
+pub mod Counts
 mod LostParts
 mod Steady
 pub mod RoundedFit
 pub mod GranuleSizes
-mod OneList
-pub mod SomeRounding
-pub mod WorkedFile
-pub mod WorkedRounded

@@ -38,6 +38,6 @@ pub record NeedsMore (f : RegisterFile) (g chunk spare needs has : ℕ) : Type 0
   pub few : IsTooFew f wanted chunk spare needs has
 
 abbrev pub IsWhy : RegisterFile → ℕ → ℕ → ℕ → GranFault → Type 0
-IsWhy f g chunk spare (Refused fault) = IsFirstFault f (Some fault)
-IsWhy f g chunk spare Disabled = IsAccepted f × (is_enabled f ≡ false)
-IsWhy f g chunk spare (TooFew needs has) = NeedsMore f g chunk spare needs has
+pub IsWhy f g chunk spare (Refused fault) = IsFirstFault f (Some fault)
+pub IsWhy f g chunk spare Disabled = IsAccepted f × (is_enabled f ≡ false)
+pub IsWhy f g chunk spare (TooFew needs has) = NeedsMore f g chunk spare needs has

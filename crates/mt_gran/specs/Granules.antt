@@ -19,7 +19,7 @@ pub record TypedPages : Type 0 where
   pub kind : ℕ → PageType
 
 abbrev pub pages_of : RegisterFile → TypedPages
-pages_of f = record { count = page_count f; free = is_free f; kind = page_type f }
+pub pages_of f = record { count = page_count f; free = is_free f; kind = page_type f }
 
 -- each number below one passes a test
 abbrev pub each_below : (ℕ → Bool) → ℕ → Bool
@@ -41,19 +41,19 @@ has_type m g granule t = each_below (λ page. not (is_of_granule m g granule pag
 
 -- all its pages that aren't free have one type
 unfoldable pub is_whole : TypedPages → ℕ → ℕ → Bool
-is_whole m g granule = list_any (has_type m g granule) types
+pub is_whole m g granule = list_any (has_type m g granule) types
 
 -- a page that is free or in a whole granule keeps its type, and any other one gets UC
 abbrev pub rounded_kind : TypedPages → ℕ → ℕ → PageType
-rounded_kind m g page = if m.free page || is_whole m g (page / 2 ^ g) then m.kind page else Kind UC
+pub rounded_kind m g page = if m.free page || is_whole m g (page / 2 ^ g) then m.kind page else Kind UC
 
 -- the page isn't free, has the type and not UC, and is rounded to UC
 abbrev pub loses : TypedPages → ℕ → MemType → ℕ → Bool
-loses m g t page = not (m.free page) && is_kind (m.kind page) t && not (is_kind (m.kind page) UC) && is_kind (rounded_kind m g page) UC
+pub loses m g t page = not (m.free page) && is_kind (m.kind page) t && not (is_kind (m.kind page) UC) && is_kind (rounded_kind m g page) UC
 
 -- how many pages lose WB
 abbrev pub lost_pages : TypedPages → ℕ → ℕ
-lost_pages m g = count_below (loses m g WB) m.count
+pub lost_pages m g = count_below (loses m g WB) m.count
 
 abbrev pub HasRoundedKind : TypedPages → ℕ → Run → Type 0
 HasRoundedKind m g r = (page : ℕ) → HasPage r page → rounded_kind m g page ≡ r.kind

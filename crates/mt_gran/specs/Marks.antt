@@ -14,7 +14,7 @@ use Rattle.mt_gran.specs.Granules.{TypedPages, is_whole, rounded_kind}
 
 -- the pages from one up to another have the mark, which is a type or none
 abbrev pub HaveMark : (ℕ → Option PageType) → ℕ → ℕ → Option PageType → Type 0
-HaveMark marks from to mark = (page : ℕ) → from ≤ page → page < to → marks page ≡ mark
+pub HaveMark marks from to mark = (page : ℕ) → from ≤ page → page < to → marks page ≡ mark
 
 -- the first of the runs, if there is one, doesn't go on with the type where the run ends
 abbrev pub EndsBefore : Run → List Run → Type 0
@@ -23,17 +23,17 @@ EndsBefore r (s ∷ ss) = run_end r ≡ s.first → r.kind ≢ s.kind
 
 -- the longest runs of marked pages from one page up to another
 abbrev pub AreRunsOf : (ℕ → Option PageType) → ℕ → ℕ → List Run → Type 0
-AreRunsOf marks from to [] = (from ≤ to) × HaveMark marks from to None
+pub AreRunsOf marks from to [] = (from ≤ to) × HaveMark marks from to None
 AreRunsOf marks from to (r ∷ rs) =
     (from ≤ r.first) × HaveMark marks from r.first None × (0 < r.count) × HaveMark marks r.first (run_end r) (Some r.kind) × EndsBefore r rs
     × AreRunsOf marks (run_end r) to rs
 
 abbrev pub rounded_mark : TypedPages → ℕ → ℕ → Option PageType
-rounded_mark m g page = Some (rounded_kind m g page)
+pub rounded_mark m g page = Some (rounded_kind m g page)
 
 -- the type that a page loses, if any
 abbrev pub lost_mark : TypedPages → ℕ → ℕ → Option PageType
-lost_mark m g page = if is_kind (m.kind page) UC || (m.free page || is_whole m g (page / 2 ^ g)) then None else Some (m.kind page)
+pub lost_mark m g page = if is_kind (m.kind page) UC || (m.free page || is_whole m g (page / 2 ^ g)) then None else Some (m.kind page)
 
 -- how many pages of a part lose WB
 abbrev pub part_loss : Run → ℕ

@@ -1,10 +1,8 @@
--- Phases, eras and the two barriers.
-pub mod Stages
-pub mod Ranks
+pub mod Acting
 pub mod Barriers
 pub mod Claims
-pub mod Still
-pub mod Acting
-pub mod Eras
-pub mod Takes
 pub mod Counts
+pub mod Ranks
+pub mod Stages
+pub mod Still
+pub mod Takes

@@ -1,6 +1,5 @@
--- What is held, and that an update clears it.
-pub mod Follows
 pub mod Cleared
-pub mod Renewed
-pub mod Late
+pub mod Follows
 pub mod Fresh
+pub mod Late
+pub mod Renewed

@@ -1,12 +1,11 @@
--- One invariant that each event keeps, and that makes a system sound.
+pub mod Coming
 pub mod Flags
-pub mod Parts
+pub mod Going
 pub mod Kept
-pub mod Standing
-pub mod SoundSteps
-pub mod Starts
+pub mod Parts
 pub mod Runs
 pub mod Snooping
+pub mod SoundSteps
+pub mod Standing
+pub mod Starts
 pub mod WriteBacks
-pub mod Coming
-pub mod Going

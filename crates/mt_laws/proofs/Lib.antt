@@ -6,5 +6,3 @@ pub mod Translations
 pub mod Invariant
 pub mod Steps
 pub mod Updates
-mod WorkedBare
-pub mod WorkedUpdates

@@ -1,6 +1,5 @@
--- Register files on the way to the goal.
-pub mod Filed
-pub mod Settled
 pub mod Accepted
-pub mod UnderWay
+pub mod Filed
 pub mod Quiet
+pub mod Settled
+pub mod UnderWay

@@ -1,4 +1,3 @@
--- Mappings and TLB entries.
-pub mod Views
 pub mod Tidy
 pub mod TidySteps
+pub mod Views

@@ -11,7 +11,7 @@ use Rattle.mt_machine.specs.declared.ruled.Ruled.TheVariants.{Busy as RuledBusy}
 use Rattle.mt_machine.specs.Control.{control}
 
 abbrev pub IsAt : Machine → ℕ → Processor → Type 0
-IsAt m i p = slice_get m.system.processors i ≡ Some p
+pub IsAt m i p = slice_get m.system.processors i ≡ Some p
 
 -- where some processor has passed the first barrier, each has arrived at it and the go is given; where some has released, each has arrived at the second
 pub record BarriersHold (m : Machine) : Type 0 where
@@ -21,22 +21,22 @@ pub record BarriersHold (m : Machine) : Type 0 where
 
 -- while some processor changes its registers, none runs
 abbrev pub NoneRunsInChange : Machine → Type 0
-NoneRunsInChange m =
+pub NoneRunsInChange m =
     (i j : ℕ) (p q : Processor) → IsAt m i p → IsAt m j q → is_changing p.phase ≡ true → is_running q.phase ≡ false
 
 -- and then no processor accesses memory, and none does a control instruction
 abbrev pub NoneActsInChange : Machine → Type 0
-NoneActsInChange m =
+pub NoneActsInChange m =
     (i k : ℕ) (p : Processor) (op : Op) (c : Control) → IsAt m i p → is_changing p.phase ≡ true
     → (access m.system k op ≡ record { answer = Busy; after = m.system }) × (control m.system k c ≡ record { answer = RuledBusy; after = m.system })
 
 -- as many have arrived as are awaited
 abbrev pub IsFull : BarrierCount → Type 0
-IsFull c = c.arrived ≡ c.awaited
+pub IsFull c = c.arrived ≡ c.awaited
 
 -- a barrier is open exactly where its count is full
 abbrev pub OpenWhereFull : Type 0
-OpenWhereFull =
+pub OpenWhereFull =
     (o : Order) (ps : List Processor)
     → (first_barrier_open o ps ≡ true → IsFull (first_barrier_count o ps)) × (IsFull (first_barrier_count o ps) → first_barrier_open o ps ≡ true)
     × (second_barrier_open o ps ≡ true → IsFull (second_barrier_count o ps)) × (IsFull (second_barrier_count o ps) → second_barrier_open o ps ≡ true)

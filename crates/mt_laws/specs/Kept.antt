@@ -26,10 +26,10 @@ pub record OrderHolds (m : Machine) (o : Order) : Type 0 where
   pub each : All (IsUnderWay o) m.system.processors
 
 abbrev pub OrdersHold : Type 0
-OrdersHold = (s m : Machine) (o : Order) → IsStart s → Reached s m → m.order ≡ Some o → OrderHolds m o
+pub OrdersHold = (s m : Machine) (o : Order) → IsStart s → Reached s m → m.order ≡ Some o → OrderHolds m o
 
 abbrev pub Holdings : Type 0
-Holdings = RegisterFile × List CacheLine × List CacheLine × List Entry
+pub Holdings = RegisterFile × List CacheLine × List CacheLine × List Entry
 
 abbrev pub holdings_of : Processor → Holdings
 holdings_of p = (p.file, p.lines, p.buffers, p.entries)
@@ -40,7 +40,7 @@ pub record SameHoldings (s t : System) : Type 0 where
 
 -- Take is a fence of its processor, which is in the phase Taken then
 abbrev pub TakeFences : Type 0
-TakeFences =
+pub TakeFences =
     (m : Machine) (k : ℕ) → IsEnabled m (Steps k Take)
     → next m (Steps k Take) ≡ record m { system = change (λ p. record p { phase = Taken }) k (access m.system k Fence).after }
 
@@ -53,34 +53,34 @@ is_still (Steps k Leave) = true
 is_still other = false
 
 abbrev pub StillEventsKeep : Type 0
-StillEventsKeep =
+pub StillEventsKeep =
     (m : Machine) (e : MachineEvent) → is_still e ≡ true → SameHoldings m.system (next m e).system
 
 -- no event changes which processors are self-snooping, and no whole update does
 abbrev pub is_self_snooping : Processor → Bool
-is_self_snooping p = p.self_snoop
+pub is_self_snooping p = p.self_snoop
 
 abbrev pub flags_of : System → List Bool
-flags_of s = map is_self_snooping s.processors
+pub flags_of s = map is_self_snooping s.processors
 
 abbrev pub FlagsStay : Type 0
-FlagsStay = (m : Machine) (e : MachineEvent) → flags_of (next m e).system ≡ flags_of m.system
+pub FlagsStay = (m : Machine) (e : MachineEvent) → flags_of (next m e).system ≡ flags_of m.system
 
 abbrev pub UpdatedKeepsFlags : Type 0
-UpdatedKeepsFlags = (s : System) (takes : List ℕ) (goal : RegisterFile) → flags_of (updated s takes goal).system ≡ flags_of s
+pub UpdatedKeepsFlags = (s : System) (takes : List ℕ) (goal : RegisterFile) → flags_of (updated s takes goal).system ≡ flags_of s
 
 -- the events of an update but Take
 abbrev pub is_take_step : MachineEvent → Bool
-is_take_step (Steps k Take) = true
+pub is_take_step (Steps k Take) = true
 is_take_step other = false
 
 abbrev pub is_of_update : MachineEvent → Bool
-is_of_update (Accesses k op) = false
+pub is_of_update (Accesses k op) = false
 is_of_update (Controls k c) = false
 is_of_update other = true
 
 -- no event of an update but Take changes a word's value
 abbrev pub StepsKeepNow : Type 0
-StepsKeepNow =
+pub StepsKeepNow =
     (s m : Machine) (e : MachineEvent) (address : ℕ) → IsStart s → Reached s m → IsEnabled m e → is_of_update e ≡ true → is_take_step e ≡ false
     → address % 8 ≡ 0 → now (next m e).system address ≡ now m.system address

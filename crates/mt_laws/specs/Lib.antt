@@ -7,5 +7,3 @@ pub mod Settled
 pub mod Counts
 pub mod Updates
 pub mod ComingAndGoing
-pub mod WorkedRuns
-pub mod WorkedUpdates

@@ -22,20 +22,20 @@ pub record IsFirstRelease (p r : Machine) (o : Order) : Type 0 where
 
 -- each word that no access stored since the first release is in memory as it was before the first pass
 abbrev pub HeldAfterRelease : Type 0
-HeldAfterRelease =
+pub HeldAfterRelease =
     (s p r : Machine) (o : Order) (since : List MachineEvent) → IsStart s → Reached s p → IsFirstRelease p r o → AreEnabled r since
     → IsHeld p.system r since
 
 -- a release before which none has released is the first of its update: some reached state before the first pass leads to it
 abbrev pub FirstReleaseFollows : Type 0
-FirstReleaseFollows =
+pub FirstReleaseFollows =
     (s m : Machine) (o : Order) (k : ℕ) → IsStart s → Reached s m → m.order ≡ Some o
     → All (λ q. has_released o q ≡ false) m.system.processors → IsEnabled m (Steps k Release)
     → (p : Machine) × Reached s p × IsFirstRelease p (next m (Steps k Release)) o
 
 -- so after the first release of each update that is reached, words are held
 abbrev pub HeldAfterEachFirst : Type 0
-HeldAfterEachFirst =
+pub HeldAfterEachFirst =
     (s m : Machine) (o : Order) (k : ℕ) (since : List MachineEvent) → IsStart s → Reached s m → m.order ≡ Some o
     → All (λ q. has_released o q ≡ false) m.system.processors → IsEnabled m (Steps k Release)
     → AreEnabled (next m (Steps k Release)) since
@@ -43,12 +43,12 @@ HeldAfterEachFirst =
 
 -- where some processor may pass the first barrier, none has a buffer
 abbrev pub NoBuffersAtPass : Type 0
-NoBuffersAtPass =
+pub NoBuffersAtPass =
     (s p : Machine) (k : ℕ) → IsStart s → Reached s p → IsEnabled p (Steps k Pass) → All (λ q. q.buffers ≡ []) p.system.processors
 
 -- each processor's file is the goal, and nothing is held that is older than the update
 abbrev pub SettledAfterEachRelease : Type 0
-SettledAfterEachRelease =
+pub SettledAfterEachRelease =
     (s m : Machine) (o : Order) (k : ℕ) (since : List MachineEvent) → IsStart s → Reached s m → m.order ≡ Some o
     → IsEnabled m (Steps k Release) → AreEnabled (next m (Steps k Release)) since → list_all (λ e. not (is_call e)) since ≡ true
     → IsSettled (run (next m (Steps k Release)) since).system (o.from_era + 1) o.goal
@@ -63,7 +63,7 @@ pub record IsFresh (p : Processor) : Type 0 where
 
 -- where that holds at a start it holds in each reached state, within an update too
 abbrev pub NothingIsStale : Type 0
-NothingIsStale = (s m : Machine) → IsStart s → All IsFresh s.system.processors → Reached s m → All IsFresh m.system.processors
+pub NothingIsStale = (s m : Machine) → IsStart s → All IsFresh s.system.processors → Reached s m → All IsFresh m.system.processors
 
 abbrev pub StartsFresh : Type 0
-StartsFresh = (flags : List Bool) (files : List RegisterFile) (ws : List Window) → All IsFresh (start_with flags files ws).system.processors
+pub StartsFresh = (flags : List Bool) (files : List RegisterFile) (ws : List Window) → All IsFresh (start_with flags files ws).system.processors

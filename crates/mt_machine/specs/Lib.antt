@@ -7,5 +7,3 @@ pub mod Machine
 pub mod Start
 pub mod Update
 pub mod ComingAndGoing
-pub mod WorkedRuns
-pub mod WorkedSetups

@@ -31,32 +31,32 @@ pub record IsBroadcast (m : Machine) (o : Order) : Type 0 where
   pub fits : All (FitsGoal o.goal) m.system.processors
 
 abbrev pub IsStart : Machine → Type 0
-IsStart m = IsQuiet m ⊎ ((o : Order) × IsBroadcast m o)
+pub IsStart m = IsQuiet m ⊎ ((o : Order) × IsBroadcast m o)
 
 -- windows of zero words
 abbrev pub zero_memory : List Window → Memory
-zero_memory ws = record { windows = ws; words = replicate (word_count ws) 0 }
+pub zero_memory ws = record { windows = ws; words = replicate (word_count ws) 0 }
 
 -- a processor for each file, over such a memory
 abbrev pub start_machine : List RegisterFile → List Window → Machine
-start_machine files ws = record {
+pub start_machine files ws = record {
   system = record { processors = map start_processor files; memory = zero_memory ws };
   order = None;
 }
 
 -- a processor for each file, which is self-snooping where a flag stands at its place and is set
 abbrev pub flagged_processors : List RegisterFile → List Bool → List Processor
-flagged_processors [] flags = []
-flagged_processors (f ∷ fs) [] = start_processor f ∷ flagged_processors fs []
-flagged_processors (f ∷ fs) (b ∷ bs) = record (start_processor f) { self_snoop = b } ∷ flagged_processors fs bs
+pub flagged_processors [] flags = []
+pub flagged_processors (f ∷ fs) [] = start_processor f ∷ flagged_processors fs []
+pub flagged_processors (f ∷ fs) (b ∷ bs) = record (start_processor f) { self_snoop = b } ∷ flagged_processors fs bs
 
 -- the start with these flags
 abbrev pub start_with : List Bool → List RegisterFile → List Window → Machine
-start_with flags files ws = record {
+pub start_with flags files ws = record {
   system = record { processors = flagged_processors files flags; memory = zero_memory ws };
   order = None;
 }
 
 -- the eras of a machine fit 64 bits, also after its next update; a caller of an update sees to that
 abbrev pub HasEraRoom : Machine → Type 0
-HasEraRoom m = All (λ p. p.era < 2 ^ 64 - 1) m.system.processors
+pub HasEraRoom m = All (λ p. p.era < 2 ^ 64 - 1) m.system.processors

@@ -35,7 +35,7 @@ pub record System : Type 0 where
 
 -- a processor at the start
 abbrev pub start_processor : RegisterFile → Processor
-start_processor f = record {
+pub start_processor f = record {
   file = f;
   cache_disabled = false;
   page_global = false;
@@ -51,34 +51,34 @@ start_processor f = record {
 
 -- processor k as f makes it
 abbrev pub change : (Processor → Processor) → ℕ → System → System
-change f k s = option_map_or (λ p. record s { processors = slice_set s.processors k (f p) }) (slice_get s.processors k) s
+pub change f k s = option_map_or (λ p. record s { processors = slice_set s.processors k (f p) }) (slice_get s.processors k) s
 
 -- processor k is a self-snooping one from here on. No event does this: a core allows it while no update is under way (own)
 abbrev pub snooping : Processor → Processor
-snooping p = record p { self_snoop = true }
+pub snooping p = record p { self_snoop = true }
 
 abbrev pub with_self_snoop : ℕ → System → System
-with_self_snoop k s = change snooping k s
+pub with_self_snoop k s = change snooping k s
 
 abbrev pub lines_of : System → ℕ → List CacheLine
-lines_of s k = option_map_or (λ p. p.lines) (slice_get s.processors k) []
+pub lines_of s k = option_map_or (λ p. p.lines) (slice_get s.processors k) []
 
 abbrev pub buffers_of : System → ℕ → List CacheLine
-buffers_of s k = option_map_or (λ p. p.buffers) (slice_get s.processors k) []
+pub buffers_of s k = option_map_or (λ p. p.buffers) (slice_get s.processors k) []
 
 -- the dirty word that a cache has of this address
 abbrev pub dirty_word : List CacheLine → ℕ → Option ℕ
-dirty_word ls address =
+pub dirty_word ls address =
     option_map (λ l. slice_index l.words (word_of address))
     (find (λ l. (l.number == line_of address) && is_dirty l (word_of address)) ls)
 
 abbrev pub dirty_word_in : List Processor → ℕ → Option ℕ
-dirty_word_in [] address = None
-dirty_word_in (p ∷ ps) address = option_or (dirty_word p.lines address) (dirty_word_in ps address)
+pub dirty_word_in [] address = None
+pub dirty_word_in (p ∷ ps) address = option_or (dirty_word p.lines address) (dirty_word_in ps address)
 
 -- the dirty cached word where there is one, else the word in memory
 abbrev pub now : System → ℕ → ℕ
-now s address = option_map_or (λ v. v) (dirty_word_in s.processors address) (word_at s.memory address)
+pub now s address = option_map_or (λ v. v) (dirty_word_in s.processors address) (word_at s.memory address)
 
 -- a clean cached word is memory's, and where a cache has a dirty word of a line no other cache has that line
 pub record IsCoherent (s : System) : Type 0 where
@@ -87,18 +87,18 @@ pub record IsCoherent (s : System) : Type 0 where
       → All (λ l. l.dirty ≢ 0 → IsNone (find_line l.number q.lines)) p.lines
 
 abbrev pub is_writing : Phase → Option ℕ
-is_writing (Writing i) = Some i
-is_writing other = None
+pub is_writing (Writing i) = Some i
+pub is_writing other = None
 
 -- the phases from the first flush of the TLB on, up to the return of PGE
 abbrev pub is_tlb_flushed : Phase → Bool
-is_tlb_flushed TlbFlushed = true
-is_tlb_flushed (Writing i) = true
-is_tlb_flushed Enabled = true
-is_tlb_flushed Flushed2 = true
-is_tlb_flushed TlbFlushed2 = true
-is_tlb_flushed Normal = true
-is_tlb_flushed other = false
+pub is_tlb_flushed TlbFlushed = true
+pub is_tlb_flushed (Writing i) = true
+pub is_tlb_flushed Enabled = true
+pub is_tlb_flushed Flushed2 = true
+pub is_tlb_flushed TlbFlushed2 = true
+pub is_tlb_flushed Normal = true
+pub is_tlb_flushed other = false
 
 -- what a processor keeps at all times
 pub record IsProcessor (p : Processor) : Type 0 where

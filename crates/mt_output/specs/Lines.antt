@@ -15,31 +15,31 @@ use Rattle.mt_script.specs.declared.fault.Offence.{Offence}
 use Rattle.mt_script.specs.declared.fault.Offence.TheVariants.{Script, Dump}
 
 abbrev pub line : List ℕ → List ℕ
-line text = text ++ 10 ∷ []
+pub line text = text ++ 10 ∷ []
 
 abbrev pub accepted_line : List ℕ
-accepted_line = line (codes "accepted")
+pub accepted_line = line (codes "accepted")
 
 abbrev pub reason_text : Reason → List ℕ
-reason_text ReservedBit = codes "reserved bit"
+pub reason_text ReservedBit = codes "reserved bit"
 reason_text UnsupportedType = codes "unsupported type"
 reason_text BrokenMask = codes "broken mask"
 reason_text UndefinedOverlap = codes "undefined overlap"
 
 -- the register at fault and the reason
 abbrev pub refused_line : Fault → List ℕ
-refused_line fault = line (codes "refused " ++ number_text fault.msr ++ codes " " ++ reason_text fault.reason)
+pub refused_line fault = line (codes "refused " ++ number_text fault.msr ++ codes " " ++ reason_text fault.reason)
 
 -- the processor, the register at fault and the reason
 abbrev pub refused_cpu_line : ℕ → Fault → List ℕ
-refused_cpu_line k fault = line (codes "refused cpu " ++ decimal k ++ codes " " ++ number_text fault.msr ++ codes " " ++ reason_text fault.reason)
+pub refused_cpu_line k fault = line (codes "refused cpu " ++ decimal k ++ codes " " ++ number_text fault.msr ++ codes " " ++ reason_text fault.reason)
 
 -- the line about file k of a dump of a version; version 1 has one file, and the line names no processor
 abbrev pub dump_refused_line : ℕ → ℕ → Fault → List ℕ
-dump_refused_line version k fault = if version == 2 then refused_cpu_line k fault else refused_line fault
+pub dump_refused_line version k fault = if version == 2 then refused_cpu_line k fault else refused_line fault
 
 abbrev pub dump_reason_text : DumpReason → List ℕ
-dump_reason_text dump.BadLine = codes "bad line"
+pub dump_reason_text dump.BadLine = codes "bad line"
 dump_reason_text dump.BadNumber = codes "bad number"
 dump_reason_text dump.UnknownRegister = codes "unknown register"
 dump_reason_text dump.Repeated = codes "repeated"
@@ -51,7 +51,7 @@ dump_reason_text dump.BadSection = codes "bad section"
 dump_reason_text dump.Differs = codes "differs"
 
 abbrev pub script_reason_text : ScriptReason → List ℕ
-script_reason_text script.BadLine = codes "bad line"
+pub script_reason_text script.BadLine = codes "bad line"
 script_reason_text script.BadNumber = codes "bad number"
 script_reason_text script.UnknownRegister = codes "unknown register"
 script_reason_text script.OutOfRange = codes "out of range"
@@ -61,19 +61,19 @@ script_reason_text script.Repeated = codes "repeated"
 
 -- line, column and reason of an offence
 abbrev pub bad_text : Place → List ℕ → List ℕ
-bad_text place reason =
+pub bad_text place reason =
     line (codes "bad text " ++ decimal place.line ++ codes ":" ++ decimal place.column ++ codes " " ++ reason)
 
 abbrev pub bad_text_line : DumpFault → List ℕ
-bad_text_line fault = bad_text fault.place (dump_reason_text fault.reason)
+pub bad_text_line fault = bad_text fault.place (dump_reason_text fault.reason)
 
 abbrev pub bad_script_line : ScriptFault → List ℕ
 bad_script_line fault = bad_text fault.place (script_reason_text fault.reason)
 
 abbrev pub offence_line : Offence → List ℕ
-offence_line (Script fault) = bad_script_line fault
-offence_line (Dump fault) = bad_text_line fault
+pub offence_line (Script fault) = bad_script_line fault
+pub offence_line (Dump fault) = bad_text_line fault
 
 -- an address in thirteen digits, which is 52 bits
 abbrev pub address_text : ℕ → List ℕ
-address_text address = drop 3 (value_text address)
+pub address_text address = drop 3 (value_text address)

@@ -13,5 +13,5 @@ pub record Passes (waiting text left : List ℕ) (before after : Option (List �
 
 -- no byte is lost or doubled at `Ok`; at `Err` the sink took a front of the bytes that waited and the text
 abbrev pub Adds : {T E : Type 0} → List ℕ → List ℕ → List ℕ → Option (List ℕ) → Option (List ℕ) → Result T E → Type 0
-Adds waiting text left before after result =
+pub Adds waiting text left before after result =
     MatchResult result (λ _. Passes waiting text left before after) (λ _. AppendsFront before after (waiting ++ text))

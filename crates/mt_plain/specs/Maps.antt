@@ -34,15 +34,15 @@ is_of_one_register other = true
 
 -- the words are a file's, of which no register is at fault by itself
 abbrev pub has_map : PlainRegisters → Bool
-has_map r = is_file r && not (is_some (register_fault (file_in r)))
+pub has_map r = is_file r && not (is_some (register_fault (file_in r)))
 
 -- why there is no type map: 2 no register file, 1 a register at fault
 abbrev pub no_map_status : PlainRegisters → ℕ
-no_map_status r = if is_file r then 1 else 2
+pub no_map_status r = if is_file r then 1 else 2
 
 -- 0 where so many runs have a place in the array, and else 6
 abbrev pub map_status : ℕ → ℕ → ℕ
-map_status places count = if nat_le count places then 0 else 6
+pub map_status places count = if nat_le count places then 0 else 6
 
 -- the file's type map was written to an array, as far as it goes
 pub record IsMapIn (f : RegisterFile) (old new : List PlainRun) (count : ℕ) : Type 0 where

@@ -23,7 +23,7 @@ pub record Places : Type 0 where
   pub parts : List PlainRun
 
 abbrev pub places : PlainRegisters → PlainNeed → PlainLoss → List PlainRun → Places
-places file need loss parts = record { file = file; need = need; loss = loss; parts = parts }
+pub places file need loss parts = record { file = file; need = need; loss = loss; parts = parts }
 
 -- the reason for which nothing is tidied that has the same words
 abbrev pub as_tidy : GranFault → TidyFault
@@ -52,4 +52,4 @@ pub record IsUnrounded (f : RegisterFile) (g chunk spare status : ℕ) (old new 
   pub kept : new ≡ record old { need = need_words (as_tidy fault) old.need }
 
 abbrev pub IsGranAnswer : RegisterFile → ℕ → ℕ → ℕ → ℕ → Places → Places → Type 0
-IsGranAnswer f g chunk spare status old new = IsRounded f g chunk spare status old new ⊎ IsUnrounded f g chunk spare status old new
+pub IsGranAnswer f g chunk spare status old new = IsRounded f g chunk spare status old new ⊎ IsUnrounded f g chunk spare status old new

@@ -37,4 +37,4 @@ pub record IsLeft (f : RegisterFile) (chunk spare status : ℕ) (old new : Plain
   pub need_is : need ≡ need_words fault need_old
 
 abbrev pub IsTidyAnswer : RegisterFile → ℕ → ℕ → ℕ → PlainRegisters → PlainRegisters → PlainNeed → PlainNeed → Type 0
-IsTidyAnswer f chunk spare status old new need_old need = IsDone f chunk spare status new need ⊎ IsLeft f chunk spare status old new need_old need
+pub IsTidyAnswer f chunk spare status old new need_old need = IsDone f chunk spare status new need ⊎ IsLeft f chunk spare status old new need_old need

@@ -4,11 +4,11 @@ use Rattle.mt_ports.specs.declared.status.Status.{Status}
 use Rattle.mt_ports.specs.declared.status.Status.TheVariants.{Done, Refused, Usage, BadText, ReadFault, WriteFault, NoMemory, TooLong, TooFew, Disabled}
 
 abbrev pub code : Status → ℕ
-code Done = 0
-code Refused = 1
-code Usage = 2
-code BadText = 3
-code ReadFault = 4
+pub code Done = 0
+pub code Refused = 1
+pub code Usage = 2
+pub code BadText = 3
+pub code ReadFault = 4
 code WriteFault = 5
 code NoMemory = 6
 code TooLong = 7

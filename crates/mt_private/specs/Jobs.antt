@@ -11,13 +11,13 @@ use Rattle.mt_private.specs.declared.job.Part.TheVariants.{Before, After}
 
 -- the accesses of one part of a job
 abbrev pub ops_in : Part → Job → List Op
-ops_in Before j = j.before.items
-ops_in After j = j.after.items
+pub ops_in Before j = j.before.items
+pub ops_in After j = j.after.items
 
 -- and their answers
 abbrev pub answers_in : Part → Told → List Done
-answers_in Before t = t.before.items
-answers_in After t = t.after.items
+pub answers_in Before t = t.before.items
+pub answers_in After t = t.after.items
 
 abbrev pub room_in : Part → Told → ℕ
 room_in Before t = vec_capacity t.before

@@ -47,7 +47,7 @@ pub record OneByOne : Type 0 where
 
 -- each processor's accesses before the update, processor by processor; the whole update, with the takes in ascending order; and each processor's accesses after it, processor by processor
 abbrev pub one_by_one : System → RegisterFile → List (List Op) → List (List Op) → OneByOne
-one_by_one s goal before after =
+pub one_by_one s goal before after =
     let first = ran_each 0 before s in
     let whole = updated first.after (in_order (at_rest first.after)) goal in
     let last = ran_each 0 after whole.system in
@@ -55,4 +55,4 @@ one_by_one s goal before after =
 
 -- the same of jobs
 abbrev pub jobs_one_by_one : System → RegisterFile → List Job → OneByOne
-jobs_one_by_one s goal jobs = one_by_one s goal (map (ops_in Before) jobs) (map (ops_in After) jobs)
+pub jobs_one_by_one s goal jobs = one_by_one s goal (map (ops_in Before) jobs) (map (ops_in After) jobs)

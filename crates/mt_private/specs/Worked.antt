@@ -1,10 +1,10 @@
 -- Processors and systems of worked examples, with pages of their own.
 use Rattle.std.specs.Prelude.{ℕ, ◌==◌, Bool, List, [], ◌∷◌}
-use Rattle.mt_regs.specs.WorkedRows.{four_gigabytes}
+use Rattle.mt_types_laws.specs.WorkedRows.{four_gigabytes}
 use Rattle.mt_machine.specs.Memory.{Window, put_word}
 use Rattle.mt_machine.specs.System.{Processor, System, start_processor}
 use Rattle.mt_machine.specs.Start.{zero_memory}
-use Rattle.mt_machine.specs.WorkedRuns.{line_of, mapping}
+use Rattle.mt_machine_laws.specs.MachineWorkedRuns.{line_of, mapping}
 
 -- page 1 is mapped to this physical page
 abbrev pub owner : ℕ → Processor

@@ -3,7 +3,7 @@ use Rattle.std.specs.Prelude.{ℕ, false, List, [], ◌∷◌}
 use Rattle.atomic_table.specs.Table.{opening}
 use Rattle.mt_machine.specs.declared.event.Event.TheVariants.{Take}
 use Rattle.mt_machine.specs.System.{Processor, System, start_processor}
-use Rattle.mt_machine.specs.WorkedRuns.{bare_file, mapping}
+use Rattle.mt_machine_laws.specs.MachineWorkedRuns.{bare_file, mapping}
 use Rattle.mt_rendezvous.specs.declared.view.Start.{Start}
 use Rattle.mt_rendezvous.specs.declared.view.Key.{Key}
 use Rattle.mt_rendezvous.specs.Station.{held}

@@ -75,11 +75,11 @@ abbrev pub from_point : ℕ → Point → Telling
 from_point cpus p = telling (proc_step cpus) proc_end p
 
 abbrev pub proc_told : ℕ → Telling
-proc_told cpus = from_point cpus (in_dump [])
+pub proc_told cpus = from_point cpus (in_dump [])
 
 -- what it tells of a whole text
 abbrev pub proc_transcript : ℕ → List ℕ → Told
-proc_transcript cpus bytes = transcript (proc_told cpus) bytes
+pub proc_transcript cpus bytes = transcript (proc_told cpus) bytes
 
 -- ---- a list of requests
 

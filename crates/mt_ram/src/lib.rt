@@ -2,12 +2,8 @@
 #![tactic(auto)]
 
 mod fault;
-mod laws;
 mod ram;
 mod window;
-mod worked;
 
 pub use fault::RamFault;
-pub use laws::windows_overlap_by_bytes;
 pub use ram::Ram;
-pub use worked::worked_bytes;

@@ -86,14 +86,14 @@ Offers t i me = me.0.held ≡ numbered i (drop i t.cpus)
 
 -- what a station is made of
 abbrev pub gathered : List Processor → Memory → RegisterFile → Start
-gathered cpus ram goal = record { cpus = cpus; ram = ram; goal = goal }
+pub gathered cpus ram goal = record { cpus = cpus; ram = ram; goal = goal }
 
 -- so many zeros, and the words of memory
 abbrev pub opening_words : ℕ → List ℕ → List ℕ
 opening_words count words = replicate (count + 2) 0 ++ words
 
 abbrev pub IsRoot : TableId → TableId → Me (Unit {0}) View → Type 0
-IsRoot table its me = (its ≡ table) × (me.0.root ≡ true) × (me.1 ≡ [])
+pub IsRoot table its me = (its ≡ table) × (me.0.root ≡ true) × (me.1 ≡ [])
 
 -- the seat holds this one processor, whatever its pass has added
 abbrev pub HoldsOne : TableId → TableId → Me (Unit {0}) View → ℕ → Processor → Type 0

@@ -18,19 +18,19 @@ use Rattle.mt_rendezvous.specs.declared.view.View.{View}
 use Rattle.mt_rendezvous.specs.Station.{Begins, order_of, broadcast, held, joined, view, with_held}
 
 abbrev pub Sat : Type 0
-Sat = Me (Unit {0}) View
+pub Sat = Me (Unit {0}) View
 
 -- ---- one event, or none
 
 -- the machine after an event, or after none
 abbrev pub after_event : Machine → Option MachineEvent → Machine
-after_event m None = m
-after_event m (Some e) = next m e
+pub after_event m None = m
+pub after_event m (Some e) = next m e
 
 -- the event is enabled, if there is one
 abbrev pub CanFollow : Machine → Option MachineEvent → Type 0
-CanFollow m None = Unit {0}
-CanFollow m (Some e) = IsEnabled m e
+pub CanFollow m None = Unit {0}
+pub CanFollow m (Some e) = IsEnabled m e
 
 -- A step of the pass that holds h, by which word i becomes new where it was found: the words and views stood for a machine that the broadcast leads to.
 -- With the new word, and with w in place of h, they stand for the machine after this event, which was enabled, or for the same machine if there is none.
@@ -80,21 +80,21 @@ Of v P = (h : Held) → v.held ≡ h ∷ [] → P h
 
 -- what each step makes of the one processor of a pass
 abbrev pub does : Start → Event → Held → Held
-does t e h = held h.number (own_step t.goal e h.cpu) h.added h.again
+pub does t e h = held h.number (own_step t.goal e h.cpu) h.added h.again
 
 abbrev pub arrive : Start → Held → Held
-arrive t h = held h.number (own_step t.goal Arrive h.cpu) true h.again
+pub arrive t h = held h.number (own_step t.goal Arrive h.cpu) true h.again
 
 -- the cancel came first
 abbrev pub late : Held → Held
-late h = held h.number h.cpu true h.again
+pub late h = held h.number h.cpu true h.again
 
 abbrev pub arrive_again : Start → Held → Held
-arrive_again t h = held h.number (own_step t.goal ArriveAgain h.cpu) h.added true
+pub arrive_again t h = held h.number (own_step t.goal ArriveAgain h.cpu) h.added true
 
 -- the event that is due for a processor between the barriers, which looks at nothing else
 abbrev pub own_event : Start → Processor → Event
-own_event t p = option_map_or (λ e. e) (due (order_of t Given) [] p p.phase) SetNoFill
+pub own_event t p = option_map_or (λ e. e) (due (order_of t Given) [] p p.phase) SetNoFill
 
 abbrev pub work : Start → Held → Held
 work t h = does t (own_event t h.cpu) h
@@ -171,7 +171,7 @@ Releases st me found new =
     × (found ≢ length me.0.start.cpus → (new.0 ≡ with_shown me.0 found) × IsNoEvent st me found found (λ h. h))
 
 abbrev pub with_go : View → Go → View
-with_go v go = view v.root v.held go v.shown v
+pub with_go v go = view v.root v.held go v.shown v
 
 -- the root's additions to word 0: Go and Cancel
 abbrev pub Gives : Step (Unit {0}) → Sat → ℕ → Sat → Type 0

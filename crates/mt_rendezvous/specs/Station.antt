@@ -21,10 +21,10 @@ use Rattle.mt_rendezvous.specs.declared.view.Key.{Key}
 -- ---- the broadcast state
 
 abbrev pub order_of : Start → Go → Order
-order_of t go = record { goal = t.goal; from_era = common_era t.cpus; go = go }
+pub order_of t go = record { goal = t.goal; from_era = common_era t.cpus; go = go }
 
 abbrev pub broadcast : Start → Machine
-broadcast t = record { system = record { processors = t.cpus; memory = t.ram }; order = Some (order_of t Pending) }
+pub broadcast t = record { system = record { processors = t.cpus; memory = t.ram }; order = Some (order_of t Pending) }
 
 -- it is one: all have taken, with one era, which may rise, and the goal's kind, and the whole is sound
 pub record Begins (t : Start) : Type 0 where
@@ -34,7 +34,7 @@ pub record Begins (t : Start) : Type 0 where
 -- ---- what the words and a list of all processors stand for
 
 abbrev pub cpu_of : Held → Processor
-cpu_of h = h.cpu
+pub cpu_of h = h.cpu
 
 -- the words of memory stand after the two counts and the phases
 abbrev pub first_memory_word : Start → ℕ
@@ -53,15 +53,15 @@ joined t all go words = stepped (order_of t go) (system_of t all words)
 -- ---- views
 
 abbrev pub held : ℕ → Processor → Bool → Bool → Held
-held k c added again = record { number = k; cpu = c; added = added; again = again }
+pub held k c added again = record { number = k; cpu = c; added = added; again = again }
 
 -- the processors by their numbers
 abbrev pub numbered : ℕ → List Processor → List Held
-numbered k [] = []
+pub numbered k [] = []
 numbered k (c ∷ cs) = held k c false false ∷ numbered (k + 1) cs
 
 abbrev pub start_of : Key → Start
-start_of key = record { cpus = key.cpus.value.items; ram = key.ram.value; goal = key.goal.value }
+pub start_of key = record { cpus = key.cpus.value.items; ram = key.ram.value; goal = key.goal.value }
 
 abbrev pub view : Bool → List Held → Go → Option ℕ → View → View
 view root hs go shown v = record { root = root; held = hs; go = go; shown = shown; start = v.start }
@@ -74,53 +74,53 @@ abbrev pub with_held : View → List Held → View
 with_held v hs = view v.root hs v.go v.shown v
 
 abbrev pub one : List Held → List Held
-one [] = []
+pub one [] = []
 one (h ∷ hs) = h ∷ []
 
 abbrev pub others : List Held → List Held
-others [] = []
+pub others [] = []
 others (h ∷ hs) = hs
 
 abbrev pub root_left : View → View
-root_left v = with_held v (others v.held)
+pub root_left v = with_held v (others v.held)
 
 abbrev pub pass_right : View → View
-pass_right v = view false (one v.held) Pending None v
+pub pass_right v = view false (one v.held) Pending None v
 
 abbrev pub both : View → View → View
-both v w = with_held v (w.held ++ v.held)
+pub both v w = with_held v (w.held ++ v.held)
 
 -- a spent view stands for nothing
 abbrev pub no_file : RegisterFile
 no_file = record { width = 0; capabilities = 0; pairs = []; fixed = []; pat = 0; default_type = 0 }
 
 abbrev pub nothing : Start
-nothing = record { cpus = []; ram = record { windows = []; words = [] }; goal = no_file }
+pub nothing = record { cpus = []; ram = record { windows = []; words = [] }; goal = no_file }
 
 abbrev pub spent : View
-spent = record { root = false; held = []; go = Pending; shown = None; start = nothing }
+pub spent = record { root = false; held = []; go = Pending; shown = None; start = nothing }
 
 -- ---- the words
 
 abbrev pub weight : Bool → ℕ
-weight true = 1
-weight false = 0
+pub weight true = 1
+pub weight false = 0
 
 abbrev pub total : (Held → ℕ) → List Held → ℕ
-total f [] = 0
-total f (h ∷ hs) = f h + total f hs
+pub total f [] = 0
+pub total f (h ∷ hs) = f h + total f hs
 
 abbrev pub added_of : Held → ℕ
-added_of h = weight h.added
+pub added_of h = weight h.added
 
 abbrev pub again_of : Held → ℕ
-again_of h = weight h.again
+pub again_of h = weight h.again
 
 -- what the coordinator has added to word 0
 abbrev pub go_weight : Go → ℕ
-go_weight Pending = 0
-go_weight Given = 1
-go_weight Cancelled = 4294967296
+pub go_weight Pending = 0
+pub go_weight Given = 1
+pub go_weight Cancelled = 4294967296
 
 -- the number of a phase that an event of a processor alone leads to
 abbrev pub code : Phase → ℕ
@@ -148,16 +148,16 @@ phase_word_of h = phase_word h.again h.cpu.phase
 
 -- how a processor's phase and what its pass has added go together
 abbrev pub Fits : Go → Bool → Bool → Phase → Type 0
-Fits go added again Taken = (again ≡ false) × (added ≡ true → go ≡ Cancelled)
-Fits go added again Arrived = (again ≡ false) × (added ≡ true)
-Fits go added again Arrived2 = (again ≡ true) × (added ≡ true) × (go ≡ Given)
-Fits go added again Running = (added ≡ true) × (((again ≡ false) × (go ≡ Cancelled)) ⊎ ((again ≡ true) × (go ≡ Given)))
+pub Fits go added again Taken = (again ≡ false) × (added ≡ true → go ≡ Cancelled)
+pub Fits go added again Arrived = (again ≡ false) × (added ≡ true)
+pub Fits go added again Arrived2 = (again ≡ true) × (added ≡ true) × (go ≡ Given)
+pub Fits go added again Running = (added ≡ true) × (((again ≡ false) × (go ≡ Cancelled)) ⊎ ((again ≡ true) × (go ≡ Given)))
 Fits go added again other = (again ≡ false) × (added ≡ true) × (go ≡ Given)
 
 -- whether its era has risen
 abbrev pub rise : Bool → Phase → ℕ
-rise again Running = weight again
-rise again other = 0
+pub rise again Running = weight again
+pub rise again other = 0
 
 -- it waits for the first barrier, or to arrive there
 abbrev pub Waits : Phase → Type 0
@@ -176,7 +176,7 @@ NotIn k hs = (i : ℕ) (h : Held) → get_elem? hs i ≡ some h → h.number ≢
 
 -- no number twice
 abbrev pub Apart : List Held → Type 0
-Apart [] = Unit {0}
+pub Apart [] = Unit {0}
 Apart (h ∷ hs) = NotIn h.number hs × Apart hs
 
 -- what one seat knows
@@ -188,7 +188,7 @@ pub record Sits (t : Start) (all : List Held) (go : Go) (owner : ℕ → ℕ) (j
 
 -- some view has the processor k
 abbrev pub IsHeld : List View → ℕ → Type 0
-IsHeld views k = (j : ℕ) × (v : View) × (i : ℕ) × (h : Held) × (get_elem? views j ≡ some v) × (get_elem? v.held i ≡ some h) × (h.number ≡ k)
+pub IsHeld views k = (j : ℕ) × (v : View) × (i : ℕ) × (h : Held) × (get_elem? views j ≡ some v) × (get_elem? v.held i ≡ some h) × (h.number ≡ k)
 
 -- the words and the views stand for one state, to which the broadcast state leads
 pub record Meets (key : Key) (s : State (Unit {0}) View) : Type 0 where

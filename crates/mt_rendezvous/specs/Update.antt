@@ -81,8 +81,8 @@ abbrev pub Tied : View → List Processor → Type 0
 Tied v done = (i : ℕ) (c : Processor) → slice_get done i ≡ Some c → (p : ℕ) × (h : Held) × (get_elem? v.held p ≡ some h) × (h.number ≡ i) × (h.cpu ≡ c)
 
 abbrev pub decided : Bool → Go
-decided true = Given
-decided false = Cancelled
+pub decided true = Given
+pub decided false = Cancelled
 
 -- where the threads end: the root has so many processors, and each runs
 pub record Returned (table its : TableId) (me : Me (Unit {0}) View) (go : Go) (count : ℕ) (done : List Processor) : Type 0 where

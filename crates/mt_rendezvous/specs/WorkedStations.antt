@@ -5,7 +5,7 @@ use Rattle.mt_machine.specs.declared.phase.Phase.{Phase}
 use Rattle.mt_machine.specs.declared.phase.Phase.TheVariants.{Taken}
 use Rattle.mt_machine.specs.System.{Processor, start_processor}
 use Rattle.mt_machine.specs.Memory.{Memory}
-use Rattle.mt_machine.specs.WorkedRuns.{bare_file, line_of}
+use Rattle.mt_machine_laws.specs.MachineWorkedRuns.{bare_file, line_of}
 use Rattle.mt_rendezvous.specs.declared.view.Held.{Held}
 use Rattle.mt_rendezvous.specs.declared.view.Start.{Start}
 use Rattle.mt_rendezvous.specs.declared.view.View.{View}

@@ -6,7 +6,7 @@ use Rattle.mt_dump.specs.Dump.{ShownBy}
 use Rattle.mt_dump.specs.Dumps.{dump_of}
 use Rattle.mt_dump.specs.Reader.{onto}
 use Rattle.mt_dump.proofs.Stands.{clean_shown}
-use Rattle.mt_machine.specs.WorkedRuns.{bare_file}
+use Rattle.mt_machine_laws.specs.MachineWorkedRuns.{bare_file}
 use Rattle.mt_script.specs.declared.command.Command.TheVariants as command
 use Rattle.mt_replay.specs.Statuses.{ShowsDump}
 use Rattle.mt_replay.specs.WorkedJoins.{join_script}

@@ -46,7 +46,7 @@ pub record ReplayState : Type 0 where
 
 -- after the dump, whose files are accepted; each processor begins with its own
 abbrev pub first_state : Situation → Dump → ReplayState
-first_state now dump = record { now = finished now dump; machine = start_machine (files_for now.cpus dump) []; goal = first_file_of dump }
+pub first_state now dump = record { now = finished now dump; machine = start_machine (files_for now.cpus dump) []; goal = first_file_of dump }
 
 -- ---- accesses and control instructions
 
@@ -242,4 +242,4 @@ goal_after s (command.Register number value) = with_register s.goal number value
 goal_after s other = s.goal
 
 abbrev pub state_after : ReplayState → Command → ReplayState
-state_after s c = record { now = accepted s.now c; machine = machine_after s c; goal = goal_after s c }
+pub state_after s c = record { now = accepted s.now c; machine = machine_after s c; goal = goal_after s c }

@@ -62,7 +62,7 @@ ShowsIn dump number (line ∷ lines) now before =
     (c : Command) × (command_of now number line ≡ Ok c) × ShowsAfter dump now before (said_of number line) (ShowsIn dump (number + 1) lines) c (is_in_dump now.stage)
 
 abbrev pub ShowsDump : List ℕ → Dump → Type 0
-ShowsDump text dump = ShowsIn dump 1 (lines_of text) at_start []
+pub ShowsDump text dump = ShowsIn dump 1 (lines_of text) at_start []
 
 -- the dump isn't read to its end, whatever it might show
 abbrev pub ShowsNoDump : List ℕ → Type 0

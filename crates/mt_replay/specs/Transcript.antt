@@ -98,7 +98,7 @@ abbrev pub from_point : Point → Telling
 from_point p end number lines = told_lines end number lines p
 
 abbrev pub replay_told : Telling
-replay_told = from_point (in_head at_start [])
+pub replay_told = from_point (in_head at_start [])
 
 abbrev pub transcript : List ℕ → Told
-transcript text = stream.transcript replay_told text
+pub transcript text = stream.transcript replay_told text

@@ -3,7 +3,7 @@ use Rattle.std.specs.Prelude.{◌+◌, true, false, List, [], ◌∷◌, ◌==�
 use Rattle.mt_machine.specs.System.{Processor}
 use Rattle.mt_machine.specs.Machine.{Machine}
 use Rattle.mt_machine.specs.Update.{updated}
-use Rattle.mt_machine.specs.WorkedRuns.{bare_file}
+use Rattle.mt_machine_laws.specs.MachineWorkedRuns.{bare_file}
 use Rattle.mt_flat.specs.Flat.{Flat}
 use Rattle.mt_dump.specs.Line.{said_of}
 use Rattle.mt_script.specs.Situation.{Situation, at_start}

@@ -3,7 +3,7 @@ use Rattle.std.specs.Prelude.{ℕ, List, [], ◌∷◌, ◌++◌, codes}
 use Rattle.mt_dump.specs.Dumps.{dump_of}
 use Rattle.mt_machine.specs.Memory.{Memory}
 use Rattle.mt_machine.specs.Machine.{Machine}
-use Rattle.mt_machine.specs.WorkedRuns.{bare_file, store}
+use Rattle.mt_machine_laws.specs.MachineWorkedRuns.{bare_file, store}
 use Rattle.mt_script.specs.Situation.{at_start}
 use Rattle.mt_script.specs.declared.command.Command.TheVariants as command
 use Rattle.mt_script.specs.declared.command.Stage.TheVariants.{InDump}

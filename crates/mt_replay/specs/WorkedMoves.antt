@@ -5,7 +5,7 @@ use Rattle.mt_dump.specs.Line.{said_of}
 use Rattle.mt_dump.specs.Reader.{State}
 use Rattle.mt_machine.specs.declared.event.Event.TheVariants.{Take}
 use Rattle.mt_machine.specs.Machine.{Calls, Cancels, Steps, run}
-use Rattle.mt_machine.specs.WorkedRuns.{bare_file, called, idle, machine_of, palette, store, walk}
+use Rattle.mt_machine_laws.specs.MachineWorkedRuns.{bare_file, called, idle, machine_of, palette, store, walk}
 use Rattle.mt_script.specs.Situation.{Situation, at_start}
 use Rattle.mt_script.specs.declared.command.Command.{Command}
 use Rattle.mt_script.specs.declared.command.Command.TheVariants as asks

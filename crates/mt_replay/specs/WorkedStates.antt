@@ -7,7 +7,7 @@ use Rattle.mt_machine.specs.System.{Processor, start_processor}
 use Rattle.mt_machine.specs.Machine.{Machine, MachineEvent, Calls, run}
 use Rattle.mt_machine.specs.Start.{start_machine}
 use Rattle.mt_machine.specs.Update.{updated}
-use Rattle.mt_machine.specs.WorkedRuns.{bare_file, idle, machine_of, mapping, palette, store}
+use Rattle.mt_machine_laws.specs.MachineWorkedRuns.{bare_file, idle, machine_of, mapping, palette, store}
 use Rattle.mt_script.specs.Situation.{Situation}
 use Rattle.mt_script.specs.declared.command.Stage.{Stage}
 use Rattle.mt_script.specs.declared.command.Stage.TheVariants.{Commands, InUpdate, Rams}

@@ -4,10 +4,10 @@ use Rattle.mt_machine.specs.System.{Processor}
 use Rattle.mt_machine.specs.Machine.{Machine}
 use Rattle.mt_machine.specs.Update.{updated}
 use Rattle.mt_machine.specs.Start.{zero_memory}
-use Rattle.mt_machine.specs.WorkedRuns.{bare_file, calling, line_of, one_window, palette, store}
+use Rattle.mt_machine_laws.specs.MachineWorkedRuns.{bare_file, calling, line_of, one_window, palette, store}
 use Rattle.mt_machine.specs.Machine.{run}
-use Rattle.mt_laws.specs.WorkedRuns.{pair_order}
-use Rattle.mt_core.specs.WorkedRuns.{come, come_again}
+use Rattle.mt_machine_laws.specs.RunWorkedRuns.{pair_order}
+use Rattle.mt_machine_laws.specs.CoreWorkedRuns.{come, come_again}
 use Rattle.mt_flat.specs.Flat.{Flat}
 use Rattle.mt_script.specs.declared.command.Command.{Command}
 use Rattle.mt_script.specs.declared.command.Command.TheVariants as command

@@ -2,12 +2,9 @@ pub mod FirstWords
 pub mod Ends
 pub mod Coming
 pub mod Fitting
-pub mod Good
 pub mod Heads
 pub mod Keeping
-pub mod Moving
 pub mod Registers
 pub mod Sections
-pub mod Standing
 pub mod Table
 pub mod Values

@@ -4,7 +4,6 @@ pub mod Head
 pub mod Kept
 pub mod Newcomers
 pub mod Numbers
-pub mod Places
 pub mod Rows
 pub mod Script
 pub mod Seen

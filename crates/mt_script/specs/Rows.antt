@@ -55,10 +55,10 @@ row_in word [] = None
 row_in word (entry ∷ entries) = if is_word entry.0 word then Some entry.1 else row_in word entries
 
 abbrev pub row_of : List ℕ → Option Row
-row_of word = row_in word table
+pub row_of word = row_in word table
 
 abbrev pub stands : Turn → Stage → Bool
-stands Cpus stage = takes_cpus stage
+pub stands Cpus stage = takes_cpus stage
 stands Dump stage = takes_dump stage
 stands Windows stage = takes_windows stage
 stands Commands stage = takes_commands stage
@@ -69,6 +69,6 @@ is_switch word = is_word (codes "on") word || is_word (codes "off") word
 
 -- a word may stand last
 abbrev pub fits : Last → List ℕ → Bool
-fits Any word = true
+pub fits Any word = true
 fits Global word = is_word (codes "global") word
 fits Switch word = is_switch word

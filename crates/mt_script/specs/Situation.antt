@@ -17,11 +17,11 @@ pub record Situation : Type 0 where
   pub moving : Bool  -- an `up`, `join` or `retire` line was accepted, so that processors may have come or gone
 
 abbrev pub at_start : Situation
-at_start = record { stage = NeedCpus; cpus = 0; dump = None; windows = []; seen = []; moving = false }
+pub at_start = record { stage = NeedCpus; cpus = 0; dump = None; windows = []; seen = []; moving = false }
 
 abbrev pub file_of : Situation → Option RegisterFile
-file_of now = option_map first_file now.dump
+pub file_of now = option_map first_file now.dump
 
 -- Those told at the start, or the most there may ever be where some may have come or gone: whether one of these is there is known to a run alone.
 abbrev pub most_processors : Situation → ℕ
-most_processors now = if now.moving then 16 else now.cpus
+pub most_processors now = if now.moving then 16 else now.cpus

@@ -89,7 +89,7 @@ front_of_both a b t p q = subst (λ x. IsFrontOf x b) (sym p) (subst (IsFrontOf 
 
 -- A line leads on to another point behind a text, or what is told ends with it.
 abbrev pub LeadsOn : {P : Type 0} → (P → Telling) → (P → Type 0) → P → ℕ → List ℕ → Type 0
-LeadsOn {P} tell sound p number line =
+pub LeadsOn {P} tell sound p number line =
     ((text : List ℕ) × (next : P) × sound next × ((end : Option Place) (lines : List (List ℕ)) → tell p end number (line ∷ lines) ≡ behind text (tell next end (number + 1) lines)))
     ⊎ ((last : Told) × ((end : Option Place) (lines : List (List ℕ)) → tell p end number (line ∷ lines) ≡ last))
 

@@ -29,7 +29,7 @@ use Rattle.mt_stream.proofs.Fronts.{ended_known, ended_lines, long_lines, unknow
 -- ---- texts
 
 pub told_both : (a b : List ℕ) (t : Told) → behind a (behind b t) ≡ behind (a ++ b) t
-told_both a b t = λ i. record { text = sym (append_assoc a b t.text) i; status = t.status }
+pub told_both a b t = λ i. record { text = sym (append_assoc a b t.text) i; status = t.status }
 
 behind_both : (a b : List ℕ) (t : Leads) → leads_behind a (leads_behind b t) ≡ leads_behind (a ++ b) t
 behind_both a b t = λ i. record { tells = told_both a b t.tells i; early = t.early }

@@ -22,14 +22,14 @@ pub record Leads : Type 0 where
 
 -- what the lines of a text lead to from some line on, as a `Telling`
 abbrev pub Path : Type 0
-Path = Option Place → ℕ → List (List ℕ) → Leads
+pub Path = Option Place → ℕ → List (List ℕ) → Leads
 
 -- where memory is refused before anything but this is written
 abbrev pub early_at : List ℕ → Telling → Path
-early_at early told end number lines = record { tells = told end number lines; early = early }
+pub early_at early told end number lines = record { tells = told end number lines; early = early }
 
 abbrev pub leads_behind : List ℕ → Leads → Leads
-leads_behind text rest = record { tells = behind text rest.tells; early = rest.early }
+pub leads_behind text rest = record { tells = behind text rest.tells; early = rest.early }
 
 -- of a whole text
 abbrev pub tells_of : Path → Telling
@@ -46,11 +46,11 @@ pub record Running : Type 1 where
 
 -- what a line and those behind it lead to
 abbrev pub Leading : Type 0
-Leading = Option Place → List (List ℕ) → Leads
+pub Leading = Option Place → List (List ℕ) → Leads
 
 -- of a line of this number
 abbrev pub from_line : ℕ → List ℕ → Path → Leading
-from_line number line was end lines = was end number (line ∷ lines)
+pub from_line number line was end lines = was end number (line ∷ lines)
 
 -- A text is written, and the lines behind, the first of which has this number, lead on from another point.
 pub record GoesOn (R : Running) (from : Leading) (number : ℕ) (so_far : List ℕ) (now : R.Run) (waiting left : List ℕ) (before after : Option (List ℕ)) : Type 0 where
@@ -83,7 +83,7 @@ pub record Fails (from : Leading) (waiting : List ℕ) (before after : Option (L
 
 -- what a run makes of a line, where this was written so far
 abbrev pub Takes : (R : Running) → Leading → ℕ → List ℕ → R.Run → List ℕ → List ℕ → Option (List ℕ) → Option (List ℕ) → Result (Option Status) Failed → Type 0
-Takes R from number so_far now waiting left before after result =
+pub Takes R from number so_far now waiting left before after result =
     MatchResult result
     (λ ended. MatchOption ended (GoesOn R from number so_far now waiting left before after)
     (λ status. Ends from waiting left before after status ⊎ Wants from so_far waiting left before after status))
@@ -122,12 +122,12 @@ cut_status (cut.Feed feed.TooLong) = TooLong
 
 -- the last text goes to the sink with all that waits, or a front of them
 abbrev pub Closes : Told → List ℕ → Option (List ℕ) → Option (List ℕ) → Status → Type 0
-Closes t waiting before after status =
+pub Closes t waiting before after status =
     ((status ≡ t.status) × Appends before after (waiting ++ t.text)) ⊎ ((status ≡ WriteFault) × AppendsFront before after (waiting ++ t.text))
 
 -- the statuses with which a line ends a run
 abbrev pub IsEnding : Status → Type 0
-IsEnding status = (status ≡ Refused) ⊎ (status ≡ BadText) ⊎ (status ≡ NoMemory)
+pub IsEnding status = (status ≡ Refused) ⊎ (status ≡ BadText) ⊎ (status ≡ NoMemory)
 
 -- All that waits is written, or a front of it. Nothing more is read behind the last line or for want of memory, and else all that is left.
 abbrev pub Leaves : Status → Bool → List ℕ → Option (List ℕ) → List ℕ → Option (List ℕ) → Option (List ℕ) → Status → Type 0

@@ -26,7 +26,7 @@ pub record TellsKnown (start : Telling) (bytes : List ℕ) (left before after : 
 
 -- What each status says. Memory is asked for before anything but the early text is written.
 abbrev pub RunsAs : Told → Telling → List ℕ → List ℕ → Option (List ℕ) → Option (List ℕ) → Option (List ℕ) → Status → Type 0
-RunsAs t start early bytes left before after Done = TellsAll t left before after Done
+pub RunsAs t start early bytes left before after Done = TellsAll t left before after Done
 RunsAs t start early bytes left before after Refused = TellsAll t left before after Refused
 RunsAs t start early bytes left before after Usage = ⊥
 RunsAs t start early bytes left before after BadText = TellsAll t left before after BadText
@@ -38,4 +38,4 @@ RunsAs t start early bytes left before after TooFew = ⊥
 RunsAs t start early bytes left before after Disabled = ⊥
 
 abbrev pub Runs : Telling → List ℕ → List ℕ → Option (List ℕ) → Option (List ℕ) → Option (List ℕ) → Status → Type 0
-Runs start early bytes left before after status = RunsAs (transcript start bytes) start early bytes left before after status
+pub Runs start early bytes left before after status = RunsAs (transcript start bytes) start early bytes left before after status

@@ -5,10 +5,10 @@ use Rattle.std.proofs.lemmas.Bool.{cases_Bool}
 use Rattle.mt_text.specs.Text.{is_blank, has_bytes, lengthened, words_from}
 
 abbrev pub filled : List (List ℕ) → List (List ℕ)
-filled parts = filter has_bytes parts
+pub filled parts = filter has_bytes parts
 
 abbrev pub texts : List (ℕ × List ℕ) → List (List ℕ)
-texts words = map (λ word. word.1) words
+pub texts words = map (λ word. word.1) words
 
 -- a word that goes on with a byte, and is one byte longer
 longer : (at x y : ℕ) (parts : List (List ℕ)) (words : List (ℕ × List ℕ)) → texts words ≡ filled (onto_first y parts) → texts (lengthened at x words) ≡ filled (onto_first x (onto_first y parts))
@@ -24,8 +24,8 @@ longer at x y (part ∷ parts) (w ∷ ws) same =
     rw (word, rest) refl
 
 pub words_between : (at : ℕ) (line : List ℕ) → texts (words_from at line) ≡ filled (slice_split is_blank line)
-words_between at [] = refl
-words_between at (x ∷ []) = elim (cases_Bool (is_blank x)) [
+pub words_between at [] = refl
+pub words_between at (x ∷ []) = elim (cases_Bool (is_blank x)) [
   | inl hit ↦ rw hit refl
   | inr miss ↦ rw miss refl
 ]

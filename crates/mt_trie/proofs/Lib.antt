@@ -3,4 +3,3 @@ pub mod ContextLaws
 pub mod Joins
 pub mod OverRuns
 pub mod WishLaws
-mod TwoRuns

@@ -1,4 +1,3 @@
 pub mod Contexts
 pub mod RunWishes
 pub mod Wishes
-pub mod WorkedRuns

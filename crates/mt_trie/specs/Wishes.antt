@@ -14,15 +14,15 @@ use Rattle.mt_trie.specs.declared.wish.Wish.TheVariants.{Any, Only, Mixed}
 
 -- ranges don't act on the page, because a fixed-range register gives its type
 abbrev pub is_free_page : Bool → ℕ → Bool
-is_free_page fixed page = fixed && nat_lt page 256
+pub is_free_page fixed page = fixed && nat_lt page 256
 
 abbrev pub type_of_kind : PageType → Option MemType
-type_of_kind (Kind t) = Some t
-type_of_kind Undefined = None
+pub type_of_kind (Kind t) = Some t
+pub type_of_kind Undefined = None
 
 -- the type that a page wants where it is to have the kind that runs give it: none where the page is free
 abbrev pub wanted_type : Bool → List Run → ℕ → Option MemType
-wanted_type fixed runs page = if is_free_page fixed page then None else type_of_kind (kind_at runs page)
+pub wanted_type fixed runs page = if is_free_page fixed page then None else type_of_kind (kind_at runs page)
 
 -- some page of a set wants the type
 pub record HasWish (wanted : ℕ → Option MemType) (Q : ℕ → Type 0) (t : MemType) : Type 0 where
@@ -43,23 +43,23 @@ pub record TwoWishes (wanted : ℕ → Option MemType) (Q : ℕ → Type 0) : Ty
 
 -- the pages of a set want nothing, one type alone, or two types
 abbrev pub IsWish : (ℕ → Option MemType) → (ℕ → Type 0) → Wish → Type 0
-IsWish wanted Q Any = (page : ℕ) → Q page → wanted page ≡ None
-IsWish wanted Q (Only t) = AllWish wanted Q t × HasWish wanted Q t
-IsWish wanted Q Mixed = TwoWishes wanted Q
+pub IsWish wanted Q Any = (page : ℕ) → Q page → wanted page ≡ None
+pub IsWish wanted Q (Only t) = AllWish wanted Q t × HasWish wanted Q t
+pub IsWish wanted Q Mixed = TwoWishes wanted Q
 
 -- what a set wants whose two parts want this
 abbrev pub both : Wish → Wish → Wish
-both Any w = w
+pub both Any w = w
 both (Only t) Any = Only t
 both (Only t) (Only u) = if is_type t u then Only t else Mixed
 both (Only t) Mixed = Mixed
 both Mixed w = Mixed
 
 abbrev pub InBlock : Block → ℕ → Type 0
-InBlock b page = IsTrue (has_page b page)
+pub InBlock b page = IsTrue (has_page b page)
 
 abbrev pub IsDefined : Run → Type 0
-IsDefined r = r.kind ≢ Undefined
+pub IsDefined r = r.kind ≢ Undefined
 
 -- the runs are those that a type map lends for the block
 pub record IsPart (runs : List Run) (b : Block) : Type 0 where

@@ -97,7 +97,7 @@ module _ (ws : List Window) (s : System) (parts : Parts ws s) where
 
 -- memory keeps its windows
 pub memory_of : (a b : Memory) → b.windows ≡ a.windows → length b.words ≡ word_count a.windows → IsMemory a → IsMemory b
-memory_of a b windows counted h = record {
+pub memory_of a b windows counted h = record {
   some_lines = subst (λ (v : List Window). All (λ w. 0 < w.lines) v) (sym windows) h.some_lines;
   aligned = subst (λ (v : List Window). All (λ w. w.base % 64 ≡ 0) v) (sym windows) h.aligned;
   bounded = subst (λ (v : List Window). All (λ w. window_end w ≤ 2 ^ 52) v) (sym windows) h.bounded;

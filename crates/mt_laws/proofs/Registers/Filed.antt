@@ -31,7 +31,7 @@ use Rattle.mt_machine.proofs.Files.{Alike, AgreeAll, alike_files, file_alike, al
 use Rattle.mt_laws.proofs.Barrier.Claims.{all_get}
 
 abbrev pub is_done : Phase → Bool
-is_done Enabled = true
+pub is_done Enabled = true
 is_done Flushed2 = true
 is_done TlbFlushed2 = true
 is_done Normal = true
@@ -46,10 +46,10 @@ pub record Filed (o : Order) (f : RegisterFile) (x : Stage) : Type 0 where
   pub released : is_ahead o x ≡ true → f ≡ o.goal
 
 abbrev pub FiledAt : Order → Processor → Type 0
-FiledAt o p = Filed o p.file (stage_of p)
+pub FiledAt o p = Filed o p.file (stage_of p)
 
 pub flush_file : (ph : Phase) (p : Processor) → (flush_tlb ph p).file ≡ p.file
-flush_file Flushed2 p = refl
+pub flush_file Flushed2 p = refl
 flush_file other p = in_case p.page_global
   where
     in_case : (b : Bool) → (if b then record p { remembered_global = true; page_global = false; entries = [] } else record (reload_cr3 p) { remembered_global = false }).file ≡ p.file
@@ -193,7 +193,7 @@ module _ (o : Order) (ps : List Processor) (p : Processor) (is_file : IsRegister
 -- ---- all processors
 
 abbrev pub AllFiled : Option Order → List Processor → Type 0
-AllFiled None ps = (i : ℕ) (p : Processor) → slice_get ps i ≡ Some p → IsRegisterFile p.file
+pub AllFiled None ps = (i : ℕ) (p : Processor) → slice_get ps i ≡ Some p → IsRegisterFile p.file
 AllFiled (Some o) ps = IsRegisterFile o.goal × ((i : ℕ) (p : Processor) → slice_get ps i ≡ Some p → FiledAt o p)
 
 filed_as : (o : Order) (p q : Processor) → q.file ≡ p.file → q.phase ≡ p.phase → q.era ≡ p.era → FiledAt o p → FiledAt o q
@@ -234,7 +234,7 @@ others_filed o k j s q (WriteBack a v) at all = all j q at
 others_filed o k j s q other at all = all j q at
 
 pub filed_steps : (o : Order) (e : Event) (k : ℕ) (s : System) (p : Processor) → slice_get s.processors k ≡ Some p → due o s.processors p p.phase ≡ Some e → Kept (Some o) (stages s) → AllFiled (Some o) s.processors → AllFiled (Some o) (step o.goal e k s).processors
-filed_steps o e k s p is_p h g all = (
+pub filed_steps o e k s p is_p h g all = (
   all.0,
   λ j q at. ⊎_elim
       (λ (m : (j ≡ k) × (x : Processor) × (slice_get (before_own e k s).processors k ≡ Some x) × (own_step o.goal e x ≡ q)).

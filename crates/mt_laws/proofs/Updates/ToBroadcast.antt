@@ -39,7 +39,7 @@ use Rattle.mt_laws.proofs.Updates.Cancelled.{cancelled_run}
 use Rattle.mt_laws.proofs.Updates.Whole.{View, view, emptied_views, now_erased}
 
 abbrev pub takes : List ℕ → List MachineEvent
-takes ks = map (λ k. Steps k Take) ks
+pub takes ks = map (λ k. Steps k Take) ks
 
 -- ---- one take
 
@@ -145,7 +145,7 @@ pub record Taking (o : Order) (s : System) (ks : List ℕ) : Type 0 where
 
 -- of an order that isn't cancelled, whether its go is given or not
 pub all_take : (o : Order) → is_cancelled o.go ≡ false → (ks : List ℕ) (s : System) → Waiting o s ks → Taking o s ks
-all_take o on [] s w = record { last = s; enabled = tt; leads = refl; waiting = w }
+pub all_take o on [] s w = record { last = s; enabled = tt; leads = refl; waiting = w }
 all_take o on (k ∷ ks) s w =
     let rest = all_take o on ks (step o.goal Take k s) (still_waiting o on s k ks w) in
     let stays = goes_on o on s k ks w in
@@ -166,7 +166,7 @@ runs_is Running h = refl
 runs_is other h = absurd (cc)
 
 pub quiet_waiting : (s : Machine) (goal : RegisterFile) (ks : List ℕ) → IsQuiet s → IsEachOnce (length s.system.processors) ks → Waiting (order_of_call s goal) s.system ks
-quiet_waiting s goal ks q once = record {
+pub quiet_waiting s goal ks q once = record {
   each = λ i x at.
       let p = processor_at s.system.processors i x at in
       let within = slice_get_within s.system.processors i p.0 p.1 in
@@ -198,7 +198,7 @@ takes_led [] = refl
 takes_led (k ∷ ks) = takes_led ks
 
 pub takes_taken : (ks : List ℕ) → takes_of (takes ks) ≡ ks
-takes_taken [] = refl
+pub takes_taken [] = refl
 takes_taken (k ∷ ks) = ap (λ js. k ∷ js) (takes_taken ks)
 
 abbrev taken_one : Processor → Processor
@@ -223,7 +223,7 @@ done o s w i p at =
     )
 
 pub takes_broadcast : TakesBroadcast
-takes_broadcast s goal ks q enabled once =
+pub takes_broadcast s goal ks q enabled once =
     let o : Order = order_of_call s goal in
     let t = all_take o refl ks s.system (quiet_waiting s goal ks q once) in
     let all : AreEnabled s (call_and_takes goal ks) = (enabled, t.enabled) in
@@ -277,7 +277,7 @@ change_memory f k s = one (slice_get s.processors k)
     one (Some p) = refl
 
 pub emptied_windows : (ks : List ℕ) (s : System) → (emptied s ks).memory.windows ≡ s.memory.windows
-emptied_windows [] s = refl
+pub emptied_windows [] s = refl
 emptied_windows (k ∷ ks) s =
     emptied_windows ks (drain k s)
     ∙ ap (λ (m : Memory). m.windows) (change_memory (with_buffers (λ _. [])) k (fold empty_buffer s (buffers_of s k)))
@@ -319,7 +319,7 @@ now_taken_too : (s : System) (a : ℕ) → now (all_taken s) a ≡ now s a
 now_taken_too s a = sym (now_erased a (all_taken s)) ∙ (λ i. now (record { processors = erased_taken s.processors i; memory = s.memory }) a) ∙ now_erased a s
 
 pub updated_from_broadcast : UpdatedFromBroadcast
-updated_from_broadcast s ks goal =
+pub updated_from_broadcast s ks goal =
     let t : System = emptied s ks in
     let windows : t.memory.windows ≡ s.memory.windows = emptied_windows ks s in
     let plain : map (settled_processor goal) t.processors ≡ map (settled_processor goal) s.processors = settled_alike goal t.processors s.processors (emptied_views ks s) in

@@ -42,17 +42,17 @@ pub record Stands (ws : List Window) (s : System) : Type 0 where
 -- ---- one word of a system
 
 abbrev pub copies : ℕ → List Processor → List Copy
-copies a ps = map (λ p. copy_in a p.lines) ps
+pub copies a ps = map (λ p. copy_in a p.lines) ps
 
 -- the buffer has not this word to write
 abbrev pub is_unwritten : ℕ → CacheLine → Bool
 is_unwritten a l = not (has_number (line_of a) l && is_dirty l (word_of a))
 
 abbrev pub unwritten : ℕ → List CacheLine → Bool
-unwritten a ls = list_all (is_unwritten a) ls
+pub unwritten a ls = list_all (is_unwritten a) ls
 
 abbrev pub all_unwritten : ℕ → List Processor → Bool
-all_unwritten a ps = list_all (λ p. unwritten a p.buffers) ps
+pub all_unwritten a ps = list_all (λ p. unwritten a p.buffers) ps
 
 -- the word's value is x; where it may not have been stored, memory has it
 abbrev pub Stays : Bool → ℕ → List Copy → ℕ → Type 0
@@ -90,13 +90,13 @@ clean_stays true v cs x e h = inl (e, subst (λ (y : ℕ). IsShared y cs) (sym e
 clean_stays false v cs x e h = (e, subst (λ (y : ℕ). IsShared y cs) (sym e) h)
 
 pub clean_word : (may : Bool) (a x : ℕ) (s : System) → Clean a x s → (may ≡ false → all_unwritten a s.processors ≡ true) → Word may a x s
-clean_word may a x s c w = record { shows = clean_stays may (word_at s.memory a) (copies a s.processors) x c.at c.shared; writes = w }
+pub clean_word may a x s c w = record { shows = clean_stays may (word_at s.memory a) (copies a s.processors) x c.at c.shared; writes = w }
 
 pub bare_clean : (a x : ℕ) (s : System) → Bare a x s → Clean a x s
-bare_clean a x s b = record { at = b.at; shared = clear_shared x (copies a s.processors) b.clear }
+pub bare_clean a x s b = record { at = b.at; shared = clear_shared x (copies a s.processors) b.clear }
 
 pub leaves_word : (may : Bool) (a x : ℕ) (s t : System) → Leaves a s t → Word may a x s → Word may a x t
-leaves_word may a x s t l w = record {
+pub leaves_word may a x s t l w = record {
   shows = subst (λ (cs : List Copy). Stays may (word_at t.memory a) cs x) (sym l.same) (subst (λ (v : ℕ). Stays may v (copies a s.processors) x) (sym l.word) w.shows);
   writes = λ h. l.writes (w.writes h);
 }
@@ -105,7 +105,7 @@ pub leaves_same : (a : ℕ) (s : System) → Leaves a s s
 leaves_same a s = record { word = refl; same = refl; writes = λ h. h }
 
 pub leaves_then : (a : ℕ) (s t u : System) → Leaves a s t → Leaves a t u → Leaves a s u
-leaves_then a s t u l k = record { word = k.word ∙ l.word; same = k.same ∙ l.same; writes = λ h. k.writes (l.writes h) }
+pub leaves_then a s t u l k = record { word = k.word ∙ l.word; same = k.same ∙ l.same; writes = λ h. k.writes (l.writes h) }
 
 pub after_word : (may : Bool) (a x : ℕ) (s : System) → Word may a x s → After may a x s
 after_word may a x s w = (x, (λ h. refl), w)
@@ -117,13 +117,13 @@ after_then may a x s t first second =
 -- ---- lines that fit
 
 pub fits_placed : (ws : List Window) (l : CacheLine) → fits ws l ≡ true → is_placed ws l.number ≡ true
-fits_placed ws l h = and_left _ _ h
+pub fits_placed ws l h = and_left _ _ h
 
 pub fits_eight : (ws : List Window) (l : CacheLine) → fits ws l ≡ true → length l.words ≡ 8
-fits_eight ws l h = eqb-true (length l.words) 8 (and_left _ _ (and_right (is_placed ws l.number) _ h))
+pub fits_eight ws l h = eqb-true (length l.words) 8 (and_left _ _ (and_right (is_placed ws l.number) _ h))
 
 pub fits_bits : (ws : List Window) (l : CacheLine) → fits ws l ≡ true → l.dirty < 256
-fits_bits ws l h = ltb-true l.dirty 256 (and_right (length l.words == 8) _ (and_right (is_placed ws l.number) _ h))
+pub fits_bits ws l h = ltb-true l.dirty 256 (and_right (length l.words == 8) _ (and_right (is_placed ws l.number) _ h))
 
 and_true : (a b : Bool) → a ≡ true → b ≡ true → (a && b) ≡ true
 and_true true b h g = g
@@ -136,8 +136,8 @@ pub fits_cleaned : (ws : List Window) (l : CacheLine) → fits ws l ≡ true →
 fits_cleaned ws l h = fits_of ws (clean_line l) (fits_placed ws l h) (fits_eight ws l h) (omega arith)
 
 pub fit_at : (ws : List Window) (ps : List Processor) (k : ℕ) (p : Processor) → AllFit ws ps → slice_get ps k ≡ Some p → Fits ws p
-fit_at ws [] k p h at = absurd (cc)
-fit_at ws (q ∷ ps) zero p h at = let e : q ≡ p = cc in subst (Fits ws) e h.0
+pub fit_at ws [] k p h at = absurd (cc)
+pub fit_at ws (q ∷ ps) zero p h at = let e : q ≡ p = cc in subst (Fits ws) e h.0
 fit_at ws (q ∷ ps) (suc k) p h at = fit_at ws ps k p h.1 at
 
 pub fit_map : (ws : List Window) (f : Processor → Processor) → ((p : Processor) → Fits ws p → Fits ws (f p)) → (ps : List Processor) → AllFit ws ps → AllFit ws (map f ps)
@@ -186,7 +186,7 @@ fits_changed ws n f number keeps p h = record {
 -- ---- a change of one processor
 
 pub change_case : (P : System → Type 0) (f : Processor → Processor) (k : ℕ) (s : System) → P s → ((p : Processor) → slice_get s.processors k ≡ Some p → P (record s { processors = set s.processors k (f p) })) → P (change f k s)
-change_case P f k s none some = one (slice_get s.processors k) refl
+pub change_case P f k s none some = one (slice_get s.processors k) refl
   where
     one : (o : Option Processor) → slice_get s.processors k ≡ o → P (option_map_or (λ p. record s { processors = set s.processors k (f p) }) o s)
     one None is = none
@@ -202,7 +202,7 @@ copies_set a (p ∷ ps) zero q = refl
 copies_set a (p ∷ ps) (suc k) q = ap (λ cs. copy_in a p.lines ∷ cs) (copies_set a ps k q)
 
 pub copies_at : (a : ℕ) (ps : List Processor) (k : ℕ) (p : Processor) → slice_get ps k ≡ Some p → slice_get (copies a ps) k ≡ Some (copy_in a p.lines)
-copies_at a [] k p at = absurd (cc)
+pub copies_at a [] k p at = absurd (cc)
 copies_at a (q ∷ ps) zero p at = let e : q ≡ p = cc in ap (λ (r : Processor). Some (copy_in a r.lines)) e
 copies_at a (q ∷ ps) (suc k) p at = copies_at a ps k p at
 

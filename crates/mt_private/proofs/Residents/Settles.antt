@@ -20,7 +20,7 @@ use Rattle.mt_laws.proofs.Barrier.Stages.{Stage, access_stages, control_stages, 
 use Rattle.mt_laws.proofs.Clearing.Follows.{all_append}
 use Rattle.mt_laws.proofs.Invariant.Runs.{enabled_join, run_join}
 use Rattle.mt_laws.proofs.Registers.Settled.{settled}
-use Rattle.mt_laws.proofs.Updates.FirstRelease.{held_after_each_first}
+use Rattle.mt_machine_laws.proofs.Updates.FirstRelease.{held_after_each_first}
 use Rattle.mt_rendezvous.specs.declared.view.Start.{Start}
 use Rattle.mt_rendezvous.specs.Station.{broadcast, order_of, start_of}
 use Rattle.mt_private.specs.OneByOne.{at_rest}

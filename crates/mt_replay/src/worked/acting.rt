@@ -2,7 +2,7 @@
 ghost use Rattle.std.specs.Prelude.{◌≡◌, ◌∷◌, ◌++◌, [], codes, false, length, map, replicate, None, Some};
 ghost use Rattle.mt_machine.specs.Memory.{word_at};
 ghost use Rattle.mt_machine.specs.Start.{start_machine};
-ghost use Rattle.mt_machine.specs.WorkedRuns.{alone, bare_file, crowded, load, seen};
+ghost use Rattle.mt_machine_laws.specs.MachineWorkedRuns.{alone, bare_file, crowded, load, seen};
 ghost use Rattle.mt_script.specs.Situation.{at_start};
 ghost use Rattle.mt_script.specs.declared.command.Command.TheVariants as asks;
 ghost use Rattle.mt_script.specs.declared.command.Stage.TheVariants as stage;

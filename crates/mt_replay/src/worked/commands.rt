@@ -3,7 +3,7 @@ ghost use Rattle.mt_machine.specs.declared.control.Control.TheVariants.{Cd, Pge}
 ghost use Rattle.mt_machine.specs.declared.go.Go.TheVariants.{Given};
 ghost use Rattle.mt_machine.specs.declared.phase.Phase.TheVariants.{Taken};
 ghost use Rattle.mt_machine.specs.Machine.{Controls, go_of};
-ghost use Rattle.mt_machine.specs.WorkedRuns.{bare_file, begun, called, flags, goal_of, idle, load, machine_of, own, palette, pending, store, walk};
+ghost use Rattle.mt_machine_laws.specs.MachineWorkedRuns.{bare_file, begun, called, flags, goal_of, idle, load, machine_of, own, palette, pending, store, walk};
 ghost use Rattle.mt_script.specs.declared.command.Command.TheVariants as asks;
 ghost use Rattle.mt_script.specs.declared.command.Stage.TheVariants as stage;
 ghost use Rattle.mt_replay.specs.ReplayState.{command_text, goal_after, machine_after};

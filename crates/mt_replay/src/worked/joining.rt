@@ -1,6 +1,6 @@
 ghost use Rattle.std.specs.Prelude.{◌≡◌, ◌∷◌, [], replicate};
 ghost use Rattle.mt_machine.specs.Start.{zero_memory};
-ghost use Rattle.mt_machine.specs.WorkedRuns.{bare_file, idle, line_of, machine_of, one_window};
+ghost use Rattle.mt_machine_laws.specs.MachineWorkedRuns.{bare_file, idle, line_of, machine_of, one_window};
 ghost use Rattle.mt_script.specs.declared.command.Command.TheVariants as asks;
 ghost use Rattle.mt_replay.specs.Headline.{HasNewcomer, called_goal};
 ghost use Rattle.mt_replay.specs.Movers.{Stays};

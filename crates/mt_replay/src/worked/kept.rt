@@ -4,7 +4,7 @@ ghost use Rattle.mt_machine.specs.declared.control.Control.TheVariants.{Pge};
 ghost use Rattle.mt_machine.specs.Machine.{Controls, run};
 ghost use Rattle.mt_machine.specs.Start.{start_machine};
 ghost use Rattle.mt_machine.specs.System.{start_processor};
-ghost use Rattle.mt_machine.specs.WorkedRuns.{bare_file, idle, machine_of, one_window};
+ghost use Rattle.mt_machine_laws.specs.MachineWorkedRuns.{bare_file, idle, machine_of, one_window};
 ghost use Rattle.mt_regs.specs.RegisterFile.{blank_file};
 ghost use Rattle.mt_dump.specs.Dumps.{dump_of};
 ghost use Rattle.mt_script.specs.declared.command.Stage.TheVariants as stage;

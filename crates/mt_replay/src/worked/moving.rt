@@ -2,7 +2,7 @@ ghost use Rattle.std.specs.Prelude.{◌≡◌, ◌∷◌, [], codes, false, leng
 ghost use Rattle.mt_machine.specs.declared.go.Go.TheVariants.{Pending};
 ghost use Rattle.mt_machine.specs.Memory.{word_at};
 ghost use Rattle.mt_machine.specs.Machine.{go_of};
-ghost use Rattle.mt_machine.specs.WorkedRuns.{bare_file, own, pending, store};
+ghost use Rattle.mt_machine_laws.specs.MachineWorkedRuns.{bare_file, own, pending, store};
 ghost use Rattle.mt_flat.specs.Flat.{flat_start};
 ghost use Rattle.mt_regs.specs.RegisterFile.{blank_file};
 ghost use Rattle.mt_script.specs.declared.command.Command.TheVariants as asks;

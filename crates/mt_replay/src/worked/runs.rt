@@ -2,7 +2,7 @@
 ghost use Rattle.std.specs.Prelude.{◌≡◌, ◌∷◌, [], codes, false, true, None, Some, Ok, Err};
 ghost use Rattle.mt_dump.specs.Dumps.{dump_of};
 ghost use Rattle.mt_dump.specs.Reader.{HasRead, State};
-ghost use Rattle.mt_machine.specs.WorkedRuns.{bare_file, idle, machine_of};
+ghost use Rattle.mt_machine_laws.specs.MachineWorkedRuns.{bare_file, idle, machine_of};
 ghost use Rattle.mt_output.specs.Lines.{accepted_line};
 ghost use Rattle.mt_ports.specs.declared.status.Failed.{Failed};
 ghost use Rattle.mt_ports.specs.declared.status.Status.TheVariants as status;

@@ -7,7 +7,7 @@ ghost use Rattle.mt_script.specs.Numbers.{fault_at};
 ghost use Rattle.mt_script.specs.declared.fault.ScriptReason.TheVariants.{BadLine};
 ghost use Rattle.mt_script.specs.declared.fault.Offence.TheVariants as offence;
 ghost use Rattle.mt_replay.specs.Heads.{has_offence, head_of, shows_dump, stays_open};
-ghost use Rattle.mt_machine.specs.WorkedRuns.{bare_file, called, idle, line_of, machine_of, one_window, palette, store, walk};
+ghost use Rattle.mt_machine_laws.specs.MachineWorkedRuns.{bare_file, called, idle, line_of, machine_of, one_window, palette, store, walk};
 ghost use Rattle.mt_ports.specs.declared.status.Status.TheVariants as status;
 ghost use Rattle.mt_script.specs.declared.command.Command.TheVariants as asks;
 ghost use Rattle.mt_script.specs.declared.command.Stage.TheVariants as stage;

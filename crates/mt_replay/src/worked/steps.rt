@@ -1,7 +1,7 @@
 ghost use Rattle.std.specs.Prelude.{◌≡◌, ◌∷◌, ◌++◌, [], codes, map, replicate};
 ghost use Rattle.mt_kinds.specs.declared.mem_type.MemType.TheVariants.{WB};
 ghost use Rattle.mt_machine.specs.declared.done.Done.TheVariants.{Busy, Value};
-ghost use Rattle.mt_machine.specs.WorkedRuns.{palette};
+ghost use Rattle.mt_machine_laws.specs.MachineWorkedRuns.{palette};
 ghost use Rattle.mt_flat.specs.Flat.{flat_start};
 ghost use Rattle.mt_ports.specs.declared.status.Status.TheVariants.{Done};
 ghost use Rattle.mt_script.specs.declared.command.Command.TheVariants as asks;

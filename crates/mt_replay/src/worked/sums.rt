@@ -1,7 +1,7 @@
 // Sums of a transcript line by line, and the last state of a run.
 ghost use Rattle.std.specs.Prelude.{◌≡◌, ◌∷◌, ◌^◌, ◌-◌, [], ℕ, List, None, Some, Ok, Err, codes};
 ghost use Rattle.mt_dump.specs.Dumps.{Dump, dump_of};
-ghost use Rattle.mt_machine.specs.WorkedRuns.{bare_file};
+ghost use Rattle.mt_machine_laws.specs.MachineWorkedRuns.{bare_file};
 ghost use Rattle.mt_ports.specs.declared.status.Status.TheVariants as status;
 ghost use Rattle.mt_regs.specs.RegisterFile.{blank_file};
 ghost use Rattle.mt_script.specs.Situation.{at_start};

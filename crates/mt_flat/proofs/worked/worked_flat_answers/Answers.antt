@@ -1,7 +1,7 @@
 use Rattle.std.proofs.Common.{◌≡◌, ℕ, ◌∷◌, [], Option, ap, arith, refl, subst, sym}
 use Rattle.std.specs.Option.{option_map_or}
 use Rattle.mt_kinds.specs.declared.mem_type.MemType.TheVariants.{WC}
-use Rattle.mt_machine.specs.WorkedRuns.{store}
+use Rattle.mt_machine_laws.specs.MachineWorkedRuns.{store}
 use Rattle.mt_flat.specs.Flat.{flat_answer}
 use Rattle.mt_flat.specs.WorkedRuns.{flat_of}
 use Rattle.mt_flat.proofs.worked.worked_flat_answers.Goals as goal

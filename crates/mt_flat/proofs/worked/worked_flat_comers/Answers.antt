@@ -3,7 +3,7 @@ use Rattle.mt_machine.specs.ComingAndGoing.{reset, with_newcomer}
 use Rattle.mt_machine.specs.Machine.{Calls, IsEnabled}
 use Rattle.mt_machine.specs.Start.{IsQuiet}
 use Rattle.mt_machine.specs.System.{IsSound, System}
-use Rattle.mt_machine.specs.WorkedRuns.{alone, bare_file, whole}
+use Rattle.mt_machine_laws.specs.MachineWorkedRuns.{alone, bare_file, whole}
 use Rattle.std.specs.Prelude.{length}
 use Rattle.mt_laws.specs.Counts.{IsEachOnce}
 use Rattle.mt_flat.specs.Seen.{IsFlatOf}

@@ -1,6 +1,6 @@
 use Rattle.std.proofs.Common.{ℕ, [], ap, arith, length, refl}
 use Rattle.std.specs.List.{Contains}
-use Rattle.mt_machine.specs.WorkedRuns.{one_window}
+use Rattle.mt_machine_laws.specs.MachineWorkedRuns.{one_window}
 use Rattle.mt_flat.proofs.Seeing.{zero_word}
 use Rattle.mt_flat.proofs.worked.worked_flat_held.Goals as goal
 

@@ -2,7 +2,7 @@ use Rattle.std.proofs.Common.{rules, ◌∷◌, [], refl}
 use Rattle.mt_kinds.specs.declared.mem_type.MemType.TheVariants.{WB}
 use Rattle.mt_machine.specs.Machine.{AreEnabled}
 use Rattle.mt_machine.specs.System.{IsSound}
-use Rattle.mt_machine.specs.WorkedRuns.{alone, palette, store, whole}
+use Rattle.mt_machine_laws.specs.MachineWorkedRuns.{alone, palette, store, whole}
 use Rattle.mt_flat.specs.Seen.{IsFlatOf}
 use Rattle.mt_flat.specs.WorkedRuns.{beside}
 use Rattle.mt_flat.proofs.worked.worked_flat_laws.Goals as goal

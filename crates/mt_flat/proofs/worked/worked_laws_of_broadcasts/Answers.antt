@@ -1,8 +1,8 @@
 use Rattle.std.proofs.Common.{[], refl}
 use Rattle.mt_kinds.specs.declared.mem_type.MemType.TheVariants.{WB}
 use Rattle.mt_machine.specs.Machine.{AreEnabled}
-use Rattle.mt_laws.specs.WorkedUpdates.{dirty_released, dirty_taken, given_order, to_pass}
-use Rattle.mt_laws.proofs.WorkedUpdates.{dirty_first_release, dirty_start}
+use Rattle.mt_machine_laws.specs.WorkedUpdates.{dirty_released, dirty_taken, given_order, to_pass}
+use Rattle.mt_machine_laws.proofs.WorkedUpdates.{dirty_first_release, dirty_start}
 use Rattle.mt_flat.specs.Courses.{IsCourse}
 use Rattle.mt_flat.specs.Seen.{IsFlatOf}
 use Rattle.mt_flat.specs.WorkedRuns.{beside, cancelled_turns}

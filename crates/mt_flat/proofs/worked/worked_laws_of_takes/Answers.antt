@@ -1,7 +1,7 @@
 use Rattle.std.proofs.Common.{rules, ◌∷◌, [], length, refl}
 use Rattle.mt_machine.specs.Machine.{Calls, IsEnabled}
 use Rattle.mt_machine.specs.Start.{IsQuiet}
-use Rattle.mt_machine.specs.WorkedRuns.{bare_file}
+use Rattle.mt_machine_laws.specs.MachineWorkedRuns.{bare_file}
 use Rattle.mt_laws.specs.Counts.{IsEachOnce}
 use Rattle.mt_flat.specs.Seen.{IsFlatOf}
 use Rattle.mt_flat.specs.WorkedRuns.{beside, both_combine}

@@ -3,7 +3,7 @@ use Rattle.mt_kinds.specs.declared.mem_type.MemType.TheVariants.{WB}
 use Rattle.mt_machine.specs.declared.event.Event.TheVariants.{Take}
 use Rattle.mt_machine.specs.Machine.{Steps}
 use Rattle.mt_machine.specs.System.{IsSound}
-use Rattle.mt_machine.specs.WorkedRuns.{alone, whole}
+use Rattle.mt_machine_laws.specs.MachineWorkedRuns.{alone, whole}
 use Rattle.mt_flat.specs.Seen.{IsFlatOf}
 use Rattle.mt_flat.specs.WorkedRuns.{beside, called_whole}
 use Rattle.mt_flat.proofs.worked.worked_laws_under_way.Goals as goal

@@ -1,6 +1,6 @@
 use Rattle.std.proofs.Common.{ap, arith}
 use Rattle.std.specs.Prelude.{length}
-use Rattle.mt_machine.specs.WorkedRuns.{idle}
+use Rattle.mt_machine_laws.specs.MachineWorkedRuns.{idle}
 use Rattle.mt_regs.specs.RegisterFile.{RegisterFile}
 use Rattle.mt_replay.proofs.worked.headline.worked_settled_of_two.Goals as goal
 

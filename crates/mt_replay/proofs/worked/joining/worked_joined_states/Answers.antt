@@ -2,7 +2,7 @@ use Rattle.std.proofs.Common.{◌∷◌, [], ⊎_elim, ap, arith, false, refl}
 use Rattle.std.specs.Prelude.{length}
 use Rattle.mt_replay.proofs.Refusals.Joins.{joins_settle}
 use Rattle.mt_replay.proofs.Whole.{scripts_keep}
-use Rattle.mt_machine.specs.WorkedRuns.{entry, idle, line_of}
+use Rattle.mt_machine_laws.specs.MachineWorkedRuns.{entry, idle, line_of}
 use Rattle.mt_regs.specs.RegisterFile.{RegisterFile}
 use Rattle.mt_script.specs.declared.command.Command.TheVariants as asks
 use Rattle.mt_replay.specs.ReplayState.{state_after}

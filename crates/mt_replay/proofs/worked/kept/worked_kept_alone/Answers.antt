@@ -10,7 +10,7 @@ use Rattle.mt_machine.specs.Machine.{FitsGoal, Machine, Reached, at_start}
 use Rattle.mt_machine.specs.Memory.{IsMemory}
 use Rattle.mt_machine.specs.Start.{IsQuiet, zero_memory}
 use Rattle.mt_machine.specs.System.{Processor}
-use Rattle.mt_machine.specs.WorkedRuns.{bare_file, idle, machine_of, one_window}
+use Rattle.mt_machine_laws.specs.MachineWorkedRuns.{bare_file, idle, machine_of, one_window}
 use Rattle.mt_core.specs.Arises.{from_start}
 use Rattle.mt_script.specs.Kept.{IsSituation}
 use Rattle.mt_script.specs.Stages.{HasCpus, is_past_dump, is_past_windows}

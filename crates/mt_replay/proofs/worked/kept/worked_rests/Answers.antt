@@ -5,7 +5,7 @@ use Rattle.mt_regs.specs.StartFiles.{AreStartFiles}
 use Rattle.mt_machine.specs.Machine.{Calls, IsEnabled, Machine, Reached, after, at_start}
 use Rattle.mt_machine.specs.Memory.{IsMemory}
 use Rattle.mt_machine.specs.Start.{IsQuiet, zero_memory}
-use Rattle.mt_machine.specs.WorkedRuns.{bare_file, idle, machine_of, one_window}
+use Rattle.mt_machine_laws.specs.MachineWorkedRuns.{bare_file, idle, machine_of, one_window}
 use Rattle.mt_core.specs.Arises.{Arises, from_start}
 use Rattle.mt_core.proofs.Eras.{eras_rise}
 use Rattle.mt_replay.specs.Kept.{CameFromRest}

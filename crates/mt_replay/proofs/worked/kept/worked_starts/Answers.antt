@@ -1,5 +1,5 @@
 use Rattle.std.proofs.Common.{◌≤◌, arith, ◌∷◌, []}
-use Rattle.mt_machine.specs.WorkedRuns.{idle, mapping}
+use Rattle.mt_machine_laws.specs.MachineWorkedRuns.{idle, mapping}
 use Rattle.mt_replay.proofs.worked.kept.worked_starts.Goals as goal
 
 pub returns-clause-later_era : goal.returns-clause-later_era

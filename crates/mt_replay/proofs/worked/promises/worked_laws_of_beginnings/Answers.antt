@@ -1,7 +1,7 @@
 use Rattle.std.proofs.Common.{◌≡◌, refl, true}
 use Rattle.std.specs.Prelude.{drop, take}
 use Rattle.mt_dump.specs.Dumps.{dump_of}
-use Rattle.mt_machine.specs.WorkedRuns.{bare_file}
+use Rattle.mt_machine_laws.specs.MachineWorkedRuns.{bare_file}
 use Rattle.mt_replay.specs.Headline.{course}
 use Rattle.mt_replay.specs.Kept.{HoldsThrough}
 use Rattle.mt_replay.specs.WorkedJoins.{join_script}

@@ -2,7 +2,7 @@ use Rattle.std.proofs.Common.{◌≡◌, ap, sym, arith, refl, rules}
 use Rattle.std.specs.Prelude.{None, Option, Some}
 use Rattle.std.specs.Option.{option_map}
 use Rattle.mt_core.specs.declared.fault.CallFault.TheVariants.{Refused}
-use Rattle.mt_machine.specs.WorkedRuns.{bare_file}
+use Rattle.mt_machine_laws.specs.MachineWorkedRuns.{bare_file}
 use Rattle.mt_regs.specs.Faults.{IsAccepted, IsFirstFault}
 use Rattle.mt_regs.specs.FirstFault.{first_fault}
 use Rattle.mt_regs.specs.declared.fault.Fault.{Fault}

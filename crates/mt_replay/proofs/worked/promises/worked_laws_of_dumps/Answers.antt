@@ -1,7 +1,7 @@
 use Rattle.std.proofs.Common.{◌≡◌, refl}
 use Rattle.std.specs.Fmt.{digits}
 use Rattle.mt_dump.specs.Dumps.{dump_of}
-use Rattle.mt_machine.specs.WorkedRuns.{bare_file}
+use Rattle.mt_machine_laws.specs.MachineWorkedRuns.{bare_file}
 use Rattle.mt_ports.specs.declared.status.Status.TheVariants.{Done, Refused}
 use Rattle.mt_replay.specs.Transcript.{transcript}
 use Rattle.mt_replay.specs.WorkedStates.{later_refused, small_dump}

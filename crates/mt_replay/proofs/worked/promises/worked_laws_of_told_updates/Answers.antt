@@ -3,10 +3,10 @@ use Rattle.std.specs.Prelude.{drop, not}
 use Rattle.std.specs.List.{All}
 use Rattle.std.proofs.lemmas.Bool.{not-true}
 use Rattle.mt_dump.specs.Dumps.{dump_of}
-use Rattle.mt_laws.specs.WorkedRuns.{pair_order}
+use Rattle.mt_machine_laws.specs.RunWorkedRuns.{pair_order}
 use Rattle.mt_laws.proofs.Words.Sound.{test_all}
 use Rattle.mt_machine.specs.Machine.{has_released}
-use Rattle.mt_machine.specs.WorkedRuns.{bare_file}
+use Rattle.mt_machine_laws.specs.MachineWorkedRuns.{bare_file}
 use Rattle.mt_script.specs.declared.command.Command.TheVariants as asks
 use Rattle.mt_replay.specs.Headline.{course, left}
 use Rattle.mt_replay.specs.Kept.{IsReplayState}

@@ -1,6 +1,6 @@
 use Rattle.std.proofs.Common.{◌≡◌, ap, refl, arith, rules, length, [], ◌∷◌}
 use Rattle.std.specs.Fmt.{digits}
-use Rattle.mt_machine.specs.WorkedRuns.{idle, mapping}
+use Rattle.mt_machine_laws.specs.MachineWorkedRuns.{idle, mapping}
 use Rattle.mt_replay.proofs.worked.runs.worked_ends_of_runs.Goals as goal
 
 pub returns-clause-section : goal.returns-clause-section

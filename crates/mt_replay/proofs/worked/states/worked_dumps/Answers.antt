@@ -1,7 +1,7 @@
 use Rattle.std.proofs.Common.{refl, ap, arith}
 use Rattle.std.specs.Prelude.{codes}
 use Rattle.mt_dump.specs.Dumps.{Dump, dump_of, first_file}
-use Rattle.mt_machine.specs.WorkedRuns.{bare_file}
+use Rattle.mt_machine_laws.specs.MachineWorkedRuns.{bare_file}
 use Rattle.mt_replay.specs.WorkedStates.{small_dump}
 use Rattle.mt_replay.proofs.Refusals.Outcomes.{one_dump_shown, shows_none}
 use Rattle.mt_replay.proofs.WorkedDumps.{shows}

@@ -4,7 +4,7 @@ use Rattle.mt_regs.specs.RegisterFile.{blank_file}
 use Rattle.mt_dump.specs.Dumps.{dump_of}
 use Rattle.mt_replay.specs.WorkedStates.{pair}
 use Rattle.mt_machine.specs.Machine.{Machine}
-use Rattle.mt_machine.specs.WorkedRuns.{bare_file, idle}
+use Rattle.mt_machine_laws.specs.MachineWorkedRuns.{bare_file, idle}
 use Rattle.mt_machine.specs.System.{Processor}
 use Rattle.mt_replay.proofs.Fresh.{nothing_stale}
 use Rattle.mt_replay.proofs.worked.states.worked_kept.Goals as goal

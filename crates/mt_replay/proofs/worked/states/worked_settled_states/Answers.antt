@@ -7,7 +7,7 @@ use Rattle.mt_regs.specs.FirstFault.{first_fault}
 use Rattle.mt_regs.specs.declared.fault.Fault.{Fault}
 use Rattle.mt_core.specs.declared.fault.CallFault.TheVariants.{Refused}
 use Rattle.mt_machine.specs.Update.{IsSettled, updated}
-use Rattle.mt_machine.specs.WorkedRuns.{bare_file, entry, idle, line_of}
+use Rattle.mt_machine_laws.specs.MachineWorkedRuns.{bare_file, entry, idle, line_of}
 use Rattle.mt_script.specs.Accept.{accepted}
 use Rattle.mt_script.specs.declared.command.Command.{Command}
 use Rattle.mt_script.specs.declared.command.Command.TheVariants as asks

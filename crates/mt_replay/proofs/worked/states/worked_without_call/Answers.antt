@@ -4,7 +4,7 @@ use Rattle.std.specs.Option.{option_map}
 use Rattle.mt_regs.specs.declared.fault.Fault.{Fault}
 use Rattle.mt_core.specs.declared.fault.CallFault.TheVariants.{Refused}
 use Rattle.mt_regs.specs.Faults.{IsAccepted}
-use Rattle.mt_machine.specs.WorkedRuns.{bare_file}
+use Rattle.mt_machine_laws.specs.MachineWorkedRuns.{bare_file}
 use Rattle.mt_replay.specs.FirstFault.{first_fault}
 use Rattle.mt_replay.specs.ReplayState.{call_fault}
 use Rattle.mt_replay.specs.WorkedStates.{resting}

@@ -1,6 +1,6 @@
 use Rattle.std.proofs.Common.{◌≡◌, refl, rules, subst, arith, inr, [], inl, ◌∷◌, ◌++◌}
 use Rattle.std.specs.List.{All}
-use Rattle.mt_machine.specs.WorkedRuns.{idle}
+use Rattle.mt_machine_laws.specs.MachineWorkedRuns.{idle}
 use Rattle.mt_replay.specs.Headline.{IsCall, NoneOf, Step}
 use Rattle.mt_replay.specs.WorkedSteps.{begins, calls, passes, releases}
 use Rattle.mt_replay.proofs.Courses.Tells.{none_calls}

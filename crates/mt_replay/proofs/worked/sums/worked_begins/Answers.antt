@@ -1,6 +1,6 @@
 use Rattle.std.proofs.Common.{◌≡◌, ◌∙◌, ◌∷◌, [], ap, arith, refl, sym, ℕ}
 use Rattle.std.specs.Prelude.{Option, None, Some}
-use Rattle.mt_machine.specs.WorkedRuns.{bare_file}
+use Rattle.mt_machine_laws.specs.MachineWorkedRuns.{bare_file}
 use Rattle.mt_regs.specs.Agreement.{first_refusal}
 use Rattle.mt_regs.specs.declared.fault.Reason.TheVariants.{UnsupportedType}
 use Rattle.mt_replay.specs.ReplayState.{ReplayState}

@@ -1,7 +1,7 @@
 use Rattle.std.proofs.Common.{◌≡◌, ◌∙◌, ap, refl, sym, [], ℕ}
 use Rattle.std.specs.Prelude.{Option, None, Some}
 use Rattle.mt_dump.specs.Dumps.{dump_of}
-use Rattle.mt_machine.specs.WorkedRuns.{bare_file}
+use Rattle.mt_machine_laws.specs.MachineWorkedRuns.{bare_file}
 use Rattle.mt_regs.specs.RegisterFile.{blank_file}
 use Rattle.mt_script.specs.declared.command.Command.TheVariants as asks
 use Rattle.mt_script.specs.declared.command.Stage.{Stage}

@@ -1,5 +1,0 @@
-use Rattle.mt_admit.proofs.GivingUp.{cancelled_newcomers_stay_blank}
-use Rattle.mt_admit.proofs.laws.cancelled_newcomers_stay_blank.Goals as goal
-
-pub returns : goal.returns
-returns c = cancelled_newcomers_stay_blank

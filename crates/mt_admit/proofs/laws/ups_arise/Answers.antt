@@ -1,5 +1,0 @@
-use Rattle.mt_admit.proofs.Calling.{ups_arise}
-use Rattle.mt_admit.proofs.laws.ups_arise.Goals as goal
-
-pub returns : goal.returns
-returns c = ups_arise

@@ -1,5 +1,0 @@
-use Rattle.mt_core.proofs.Eras.{eras_rise}
-use Rattle.mt_core.proofs.laws.eras_rise.Goals as goal
-
-pub returns : goal.returns
-returns c = eras_rise

@@ -1,5 +1,0 @@
-use Rattle.mt_core.proofs.Settling.{settled_from_release}
-use Rattle.mt_core.proofs.laws.releases_settle.Goals as goal
-
-pub returns : goal.returns
-returns c = settled_from_release

@@ -1,5 +1,0 @@
-use Rattle.mt_core.proofs.Settling.{is_quiet_without_order}
-use Rattle.mt_core.proofs.laws.rests_quiet.Goals as goal
-
-pub returns : goal.returns
-returns c = is_quiet_without_order

@@ -1,5 +1,0 @@
-use Rattle.mt_core.proofs.Stopping.{stops_outside}
-use Rattle.mt_core.proofs.laws.steps_stop.Goals as goal
-
-pub returns : goal.returns
-returns c = stops_outside

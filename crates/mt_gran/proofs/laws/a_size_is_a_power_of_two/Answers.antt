@@ -1,5 +1,0 @@
-use Rattle.mt_gran.proofs.GranuleSizes.{size_is}
-use Rattle.mt_gran.proofs.laws.a_size_is_a_power_of_two.Goals as goal
-
-pub returns : goal.returns
-returns c = size_is

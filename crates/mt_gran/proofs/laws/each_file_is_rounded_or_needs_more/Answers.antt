@@ -1,5 +1,0 @@
-use Rattle.mt_gran.proofs.SomeRounding.{rounded_or_more}
-use Rattle.mt_gran.proofs.laws.each_file_is_rounded_or_needs_more.Goals as goal
-
-pub returns : goal.returns
-returns c = rounded_or_more

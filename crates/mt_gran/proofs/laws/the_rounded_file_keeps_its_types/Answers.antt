@@ -1,5 +1,0 @@
-use Rattle.mt_gran.proofs.RoundedFit.{own_stays}
-use Rattle.mt_gran.proofs.laws.the_rounded_file_keeps_its_types.Goals as goal
-
-pub returns : goal.returns
-returns c = own_stays

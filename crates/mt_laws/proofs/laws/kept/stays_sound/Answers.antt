@@ -1,5 +1,0 @@
-use Rattle.mt_laws.proofs.Invariant.Standing.{stays_sound}
-use Rattle.mt_laws.proofs.laws.kept.stays_sound.Goals as goal
-
-pub returns : goal.returns
-returns c = stays_sound

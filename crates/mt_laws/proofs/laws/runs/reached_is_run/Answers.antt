@@ -1,5 +1,0 @@
-use Rattle.mt_laws.proofs.Invariant.Runs.{reached_is_run}
-use Rattle.mt_laws.proofs.laws.runs.reached_is_run.Goals as goal
-
-pub returns : goal.returns
-returns c = reached_is_run

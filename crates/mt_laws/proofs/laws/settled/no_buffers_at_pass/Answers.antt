@@ -1,5 +1,0 @@
-use Rattle.mt_laws.proofs.Barrier.Acting.{no_buffers_at_pass}
-use Rattle.mt_laws.proofs.laws.settled.no_buffers_at_pass.Goals as goal
-
-pub returns : goal.returns
-returns c = no_buffers_at_pass

@@ -1,8 +1,0 @@
-use Rattle.mt_laws.proofs.Invariant.Starts.{flagged_start_is_quiet, no_flag_is_the_start}
-use Rattle.mt_laws.proofs.laws.starts.flagged_start_is_quiet.Goals as goal
-
-pub returns-clause-quiet : goal.returns-clause-quiet
-returns-clause-quiet c = flagged_start_is_quiet
-
-pub returns-clause-none : goal.returns-clause-none
-returns-clause-none c = no_flag_is_the_start

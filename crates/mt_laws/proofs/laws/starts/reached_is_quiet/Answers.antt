@@ -1,5 +1,0 @@
-use Rattle.mt_laws.proofs.Registers.Quiet.{reached_is_quiet}
-use Rattle.mt_laws.proofs.laws.starts.reached_is_quiet.Goals as goal
-
-pub returns : goal.returns
-returns c = reached_is_quiet

@@ -1,5 +1,0 @@
-use Rattle.mt_laws.proofs.Invariant.Starts.{start_is_quiet}
-use Rattle.mt_laws.proofs.laws.starts.start_is_quiet.Goals as goal
-
-pub returns : goal.returns
-returns c = start_is_quiet

@@ -1,5 +1,0 @@
-use Rattle.mt_laws.proofs.Updates.Broadcast.{cancelled_broadcast}
-use Rattle.mt_laws.proofs.laws.updates.cancelled_broadcast.Goals as goal
-
-pub returns : goal.returns
-returns c = cancelled_broadcast

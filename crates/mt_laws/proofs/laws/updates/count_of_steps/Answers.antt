@@ -1,5 +1,0 @@
-use Rattle.mt_laws.proofs.Steps.StepTotals.{count_of_steps}
-use Rattle.mt_laws.proofs.laws.updates.count_of_steps.Goals as goal
-
-pub returns : goal.returns
-returns c = count_of_steps

@@ -1,5 +1,0 @@
-use Rattle.mt_laws.proofs.Updates.SecondBarrier.{led_released}
-use Rattle.mt_laws.proofs.laws.updates.led_released.Goals as goal
-
-pub returns : goal.returns
-returns c = led_released

@@ -1,5 +1,0 @@
-use Rattle.mt_laws.proofs.Updates.SecondBarrier.{led_to_second_barrier}
-use Rattle.mt_laws.proofs.laws.updates.led_to_second_barrier.Goals as goal
-
-pub returns : goal.returns
-returns c = led_to_second_barrier

@@ -1,5 +1,0 @@
-use Rattle.mt_laws.proofs.Updates.Broadcast.{led_update}
-use Rattle.mt_laws.proofs.laws.updates.led_update.Goals as goal
-
-pub returns : goal.returns
-returns c = led_update

@@ -1,5 +1,0 @@
-use Rattle.mt_laws.proofs.Updates.UpdatedWords.{updated_words}
-use Rattle.mt_laws.proofs.laws.updates.updated_words.Goals as goal
-
-pub returns : goal.returns
-returns c = updated_words

@@ -1,6 +1,0 @@
-use Rattle.std.proofs.Common.{refl}
-use Rattle.mt_laws.specs.WorkedRuns.{pair_arrived, pair_order}
-use Rattle.mt_laws.proofs.worked_laws.worked_laws_of_barriers.Goals as goal
-
-pub returns : goal.returns
-returns c = λ law. (law pair_order pair_arrived.system.processors).0 refl

@@ -1,0 +1,2 @@
+-- Phases, eras and the two barriers.
+pub mod Eras

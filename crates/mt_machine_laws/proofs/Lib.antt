@@ -1,0 +1,10 @@
+pub mod Agreeing
+pub mod Barrier
+pub mod GivingUp
+pub mod OnWorked
+pub mod Throughout
+pub mod Unlike
+pub mod Updated
+pub mod Updates
+pub mod WorkedBare
+pub mod WorkedUpdates

@@ -1,0 +1,2 @@
+-- Whole updates, cancelled ones, and what is held after the first release.
+pub mod FirstRelease

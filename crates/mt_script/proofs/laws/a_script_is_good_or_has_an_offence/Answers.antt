@@ -1,5 +1,0 @@
-use Rattle.mt_script.proofs.Good.{good_exactly}
-use Rattle.mt_script.proofs.laws.a_script_is_good_or_has_an_offence.Goals as goal
-
-pub returns : goal.returns
-returns c = good_exactly

@@ -1,5 +1,0 @@
-use Rattle.mt_script.proofs.Moving.{moves_exactly}
-use Rattle.mt_script.proofs.laws.processors_move_by_their_lines.Goals as goal
-
-pub returns : goal.returns
-returns c = moves_exactly

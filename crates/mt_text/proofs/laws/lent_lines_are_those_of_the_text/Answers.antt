@@ -1,5 +1,0 @@
-use Rattle.mt_text.proofs.Lent.{counted, lends_lines}
-use Rattle.mt_text.proofs.laws.lent_lines_are_those_of_the_text.Goals as goal
-
-pub returns : goal.returns
-returns c = record { lines = lends_lines; counted = counted }

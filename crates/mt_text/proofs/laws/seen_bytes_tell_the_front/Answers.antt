@@ -1,5 +1,0 @@
-use Rattle.mt_text.proofs.Fronts.{seen_tells}
-use Rattle.mt_text.proofs.laws.seen_bytes_tell_the_front.Goals as goal
-
-pub returns : goal.returns
-returns c = seen_tells

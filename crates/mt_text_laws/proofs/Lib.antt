@@ -1,0 +1,4 @@
+pub mod Good
+pub mod Moving
+pub mod Slices
+pub mod Standing

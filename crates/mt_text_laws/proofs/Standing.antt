@@ -1,0 +1,221 @@
+-- Each fault of a line stands at a word that the line has, or past the limit of a line.
+use Rattle.std.proofs.Common.{◌≡◌, ℕ, ◌≤◌, ◌<◌, ◌-◌, ◌%◌, ◌^◌, ◌==◌, ◌&&◌, not, nat_eq, nat_lt, nat_le, Bool, true, false, List, length, Option, Some, None, Result, Ok, Err, refl, subst, [], ◌∷◌, zero, suc, arith, inl, inr}
+use Rattle.std.specs.Prelude.{if◌then◌else◌, IfSome, ⊤}
+use Rattle.std.specs.Set.{is_member}
+use Rattle.std.specs.Result.{IfErr}
+use Rattle.std.specs.List.{slice_get}
+use Rattle.std.proofs.lemmas.Bool.{eqb-true, ltb-true}
+use Rattle.std.proofs.lemmas.Bool.Decides.{nat_tests}
+use Rattle.mt_text.specs.Number.{hex_number, decimal_number}
+use Rattle.mt_text.specs.Text.{is_too_long, without_ending, words_of}
+use Rattle.mt_text.specs.declared.fault.NumberFault.{NumberFault}
+use Rattle.mt_text.specs.declared.fault.NumberFault.TheVariants.{NotDigit, TooLarge}
+use Rattle.mt_text.specs.declared.place.Place.{Place}
+use Rattle.mt_regs.specs.RegisterFile.{RegisterFile}
+use Rattle.mt_script.specs.Situation.{Situation, file_of, most_processors}
+use Rattle.mt_script.specs.Words.{word_of, text_of, place_of}
+use Rattle.mt_script.specs.Numbers.{fault_at, tested, at_least, below, any, aligned, multiple, register, count_in, processor_in, value_in, aligned_in, physical_in, register_in, base_in, has_room, is_register, is_writable, address_limit}
+use Rattle.mt_script.specs.Rows.{row_of, stands, fits}
+use Rattle.mt_script.specs.Shape.{bad_line, shape_fault}
+use Rattle.mt_text_laws.specs.Places.{StandsIn}
+use Rattle.mt_script.specs.Commands.{Answer, with, unless, cpus_in, ram_in, load_in, store_in, map_in, invlpg_in, msr_in, switch_in, verb_answer, row_line, outside, is_end, in_section, in_dump, not_too_long, in_stage, command_of}
+use Rattle.mt_script.specs.declared.command.Stage.{Stage}
+use Rattle.mt_script.specs.declared.command.Stage.TheVariants.{NeedCpus, NeedDump, InDump, Rams, Commands, InUpdate, InBegin}
+use Rattle.mt_script.specs.declared.row.Row.{Row}
+use Rattle.mt_script.specs.declared.command.Command.{Command}
+use Rattle.mt_script.specs.declared.command.Command.TheVariants as command
+use Rattle.mt_script.proofs.Table.{row_all}
+use Rattle.mt_script.specs.declared.fault.ScriptReason.{ScriptReason}
+use Rattle.mt_script.specs.declared.fault.ScriptReason.TheVariants.{BadLine, OutOfRange, UnknownRegister, NotNow, Repeated}
+use Rattle.mt_script.specs.declared.fault.ScriptFault.{ScriptFault}
+
+fails_with : (P : ScriptFault → Type 0) (number : Result ℕ ScriptFault) (next : ℕ → Answer) → IfErr number P → ((n : ℕ) → IfErr (next n) P) → IfErr (with number next) P
+fails_with P (Err fault) next here later = here
+fails_with P (Ok n) next here later = later n
+
+fails_if : (P : ScriptFault → Type 0) (test : Bool) (yes_answer no_answer : Answer) → (test ≡ true → IfErr yes_answer P) → (test ≡ false → IfErr no_answer P) → IfErr (if test then yes_answer else no_answer) P
+fails_if P true yes_answer no_answer good bad = good refl
+fails_if P false yes_answer no_answer good bad = bad refl
+
+word_found : (words : List (ℕ × List ℕ)) (i : ℕ) → i < length words → slice_get words i ≡ Some (word_of words i)
+word_found [] i within = absurd (omega arith)
+word_found (word ∷ words) zero within = refl
+word_found (word ∷ words) (suc i) within = word_found words i (omega arith)
+
+-- each test of a number fails at the number's place
+abbrev IsAt : Place → ScriptFault → Type 0
+IsAt place fault = fault.place ≡ place
+
+tested_at : (good : Bool) (reason : ScriptReason) (place : Place) (n : ℕ) → IfErr (tested good reason place n) (IsAt place)
+tested_at true reason place n = tt
+tested_at false reason place n = refl
+
+at_least_at : (first : ℕ) (place : Place) (reading : Result ℕ NumberFault) → IfErr (at_least first place reading) (IsAt place)
+at_least_at first place (Err NotDigit) = refl
+at_least_at first place (Err TooLarge) = refl
+at_least_at first place (Ok n) = tested_at (nat_le first n) OutOfRange place n
+
+below_at : (limit : ℕ) (place : Place) (reading : Result ℕ NumberFault) → IfErr (below limit place reading) (IsAt place)
+below_at limit place (Err NotDigit) = refl
+below_at limit place (Err TooLarge) = refl
+below_at limit place (Ok n) = tested_at (nat_lt n limit) OutOfRange place n
+
+any_at : (place : Place) (reading : Result ℕ NumberFault) → IfErr (any place reading) (IsAt place)
+any_at place (Err fault) = refl
+any_at place (Ok n) = tt
+
+aligned_at : (step limit : ℕ) (place : Place) (reading : Result ℕ NumberFault) → IfErr (aligned step limit place reading) (IsAt place)
+aligned_at step limit place (Err fault) = refl
+aligned_at step limit place (Ok n) = tested_at (n % step == 0 && nat_lt n limit) OutOfRange place n
+
+multiple_at : (step : ℕ) (place : Place) (reading : Result ℕ NumberFault) → IfErr (multiple step place reading) (IsAt place)
+multiple_at step place (Err fault) = refl
+multiple_at step place (Ok n) = tested_at (n % step == 0) OutOfRange place n
+
+register_at : (file : Option RegisterFile) (place : Place) (reading : Result ℕ NumberFault) → IfErr (register file place reading) (IsAt place)
+register_at file place (Err fault) = refl
+register_at file place (Ok n) = tested_at (is_register file n) UnknownRegister place n
+
+module _ (line : ℕ) (words : List (ℕ × List ℕ)) where
+  -- the fault stands at one of the words
+  abbrev pub AtWord : ScriptFault → Type 0
+  AtWord fault = (i : ℕ) × (i < length words) × (fault.place ≡ place_of line words i)
+
+  number_at : (i : ℕ) (number : Result ℕ ScriptFault) → i < length words → IfErr number (IsAt (place_of line words i)) → IfErr number AtWord
+  number_at i (Err fault) within is = (i, within, is)
+  number_at i (Ok n) within is = tt
+
+  word_at : (i : ℕ) (reason : ScriptReason) → i < length words → AtWord (fault_at reason (place_of line words i))
+  word_at i reason within = (i, within, refl)
+
+  count_fails : (i first last : ℕ) → i < length words → IfErr (count_in line words i first last) AtWord
+  count_fails i first last within = number_at i (count_in line words i first last) within (at_least_at first (place_of line words i) (decimal_number (text_of words i) last))
+
+  processor_fails : (now : Situation) → 1 < length words → IfErr (processor_in now line words 1) AtWord
+  processor_fails now within = number_at 1 (processor_in now line words 1) within (below_at (most_processors now) (place_of line words 1) (decimal_number (text_of words 1) 0xffffffffffffffff))
+
+  value_fails : (i : ℕ) → i < length words → IfErr (value_in line words i) AtWord
+  value_fails i within = number_at i (value_in line words i) within (any_at (place_of line words i) (hex_number (text_of words i)))
+
+  aligned_fails : (i step limit : ℕ) → i < length words → IfErr (aligned_in line words i step limit) AtWord
+  aligned_fails i step limit within = number_at i (aligned_in line words i step limit) within (aligned_at step limit (place_of line words i) (hex_number (text_of words i)))
+
+  base_fails : 1 < length words → IfErr (base_in line words 1) AtWord
+  base_fails within = number_at 1 (base_in line words 1) within (multiple_at 64 (place_of line words 1) (hex_number (text_of words 1)))
+
+  register_fails : (now : Situation) → 2 < length words → IfErr (register_in now line words 2) AtWord
+  register_fails now within = number_at 2 (register_in now line words 2) within (register_at (file_of now) (place_of line words 2) (hex_number (text_of words 2)))
+
+  cpus_fails : 2 ≤ length words → IfErr (cpus_in line words) AtWord
+  cpus_fails has = fails_with AtWord (count_in line words 1 1 16) _ (count_fails 1 1 16 (omega arith)) (λ n. tt)
+
+  ram_fails : (now : Situation) → 3 ≤ length words → IfErr (ram_in now line words) AtWord
+  ram_fails now has =
+      fails_with AtWord (base_in line words 1) _ (base_fails (omega arith)) (λ base.
+      fails_with AtWord (count_in line words 2 1 4096) _ (count_fails 2 1 4096 (omega arith)) (λ lines.
+      fails_if AtWord (has_room now base lines) _ _ (λ room. tt) (λ miss. word_at 2 OutOfRange (omega arith))))
+
+  load_fails : (now : Situation) → 3 ≤ length words → IfErr (load_in now line words) AtWord
+  load_fails now has =
+      fails_with AtWord (processor_in now line words 1) _ (processor_fails now (omega arith)) (λ k.
+      fails_with AtWord (aligned_in line words 2 8 (2 ^ 48)) _ (aligned_fails 2 8 (2 ^ 48) (omega arith)) (λ address. tt))
+
+  store_fails : (now : Situation) → 4 ≤ length words → IfErr (store_in now line words) AtWord
+  store_fails now has =
+      fails_with AtWord (processor_in now line words 1) _ (processor_fails now (omega arith)) (λ k.
+      fails_with AtWord (aligned_in line words 2 8 (2 ^ 48)) _ (aligned_fails 2 8 (2 ^ 48) (omega arith)) (λ address.
+      fails_with AtWord (value_in line words 3) _ (value_fails 3 (omega arith)) (λ value. tt)))
+
+  map_fails : (now : Situation) → 5 ≤ length words → IfErr (map_in now line words) AtWord
+  map_fails now has =
+      fails_with AtWord (processor_in now line words 1) _ (processor_fails now (omega arith)) (λ k.
+      fails_with AtWord (aligned_in line words 2 4096 (2 ^ 48)) _ (aligned_fails 2 4096 (2 ^ 48) (omega arith)) (λ address.
+      fails_with AtWord (aligned_in line words 3 4096 (address_limit (file_of now))) _ (aligned_fails 3 4096 (address_limit (file_of now)) (omega arith)) (λ physical.
+      fails_with AtWord (count_in line words 4 0 7) _ (count_fails 4 0 7 (omega arith)) (λ index. tt))))
+
+  invlpg_fails : (now : Situation) → 3 ≤ length words → IfErr (invlpg_in now line words) AtWord
+  invlpg_fails now has =
+      fails_with AtWord (processor_in now line words 1) _ (processor_fails now (omega arith)) (λ k.
+      fails_with AtWord (aligned_in line words 2 1 (2 ^ 48)) _ (aligned_fails 2 1 (2 ^ 48) (omega arith)) (λ address. tt))
+
+  word_fails : (now : Situation) → 2 ≤ length words → IfErr (with (physical_in now line words 1 8) (λ address. Ok (command.Word address))) AtWord
+  word_fails now has = fails_with AtWord (aligned_in line words 1 8 (address_limit (file_of now))) _ (aligned_fails 1 8 (address_limit (file_of now)) (omega arith)) (λ address. tt)
+
+  msr_fails : (now : Situation) → 3 ≤ length words → IfErr (msr_in now line words) AtWord
+  msr_fails now has =
+      fails_with AtWord (processor_in now line words 1) _ (processor_fails now (omega arith)) (λ k.
+      fails_with AtWord (register_in now line words 2) _ (register_fails now (omega arith)) (λ msr. tt))
+
+  -- the numbers of a row's line fail at its words, where it has as many as it must
+  abbrev pub RowFails : Situation → Row → Type 0
+  RowFails now row = row.least ≤ length words → IfErr (verb_answer now line words row.verb) AtWord
+
+  rows_fail : (now : Situation) (word : List ℕ) → IfSome (row_of word) (RowFails now)
+  rows_fail now = row_all (RowFails now) (cpus_fails, (bare, (ram_fails now, (one command.Selfsnoop, (load_fails now, (store_fails now, (one command.Fence, (map_fails now, (invlpg_fails now, (one command.Cr3, (switch command.Pge, (switch command.Cd, (bare, (bare, (bare, (bare, (bare, (one command.Step, (bare, (bare, (bare, (word_fails now, (msr_fails now, tt)))))))))))))))))))))))
+    where
+      bare : 1 ≤ length words → ⊤
+      bare has = tt
+
+      one : (make : ℕ → Command) → 2 ≤ length words → IfErr (with (processor_in now line words 1) (λ k. Ok (make k))) AtWord
+      one make has = fails_with AtWord (processor_in now line words 1) _ (processor_fails now (omega arith)) (λ k. tt)
+
+      switch : (make : ℕ → Bool → Command) → 3 ≤ length words → IfErr (switch_in make now line words) AtWord
+      switch make has = fails_with AtWord (processor_in now line words 1) _ (processor_fails now (omega arith)) (λ k. tt)
+
+  -- the words of a row, and then what follows
+  shape_fails : (row : Row) (answer : Answer) → 1 ≤ length words → (row.least ≤ length words → IfErr answer AtWord) → IfErr (unless (shape_fault line words row) answer) AtWord
+  shape_fails row answer has later = by (nat_lt (length words) row.least) (nat_lt row.most (length words)) (length words == row.most) (fits row.last (text_of words (row.most - 1))) refl refl refl
+    where
+      by : (few many full fit : Bool) → nat_lt (length words) row.least ≡ few → nat_lt row.most (length words) ≡ many → (length words == row.most) ≡ full
+          → IfErr (unless (if few then bad_line line words (length words - 1) else if many then bad_line line words row.most else if full && not fit then bad_line line words (row.most - 1) else None) answer) AtWord
+      by true many full fit few_is many_is full_is = word_at (length words - 1) BadLine (omega arith)
+      by false true full fit few_is many_is full_is = word_at row.most BadLine (ltb-true row.most (length words) many_is)
+      by false false true false few_is many_is full_is = word_at (row.most - 1) BadLine (let all = eqb-true (length words) row.most full_is in omega arith)
+      by false false true true few_is many_is full_is = later (grind (arith, nat_tests, few_is))
+      by false false false fit few_is many_is full_is = later (grind (arith, nat_tests, few_is))
+
+  outside_fails : (now : Situation) → IfErr (outside now line words) AtWord
+  outside_fails now = fails_if AtWord (length words == 0) _ _ (λ blank. tt) (λ some. by (row_of (text_of words 0)) (rows_fail now (text_of words 0)) (grind (arith, nat_tests, some)))
+    where
+      by : (row : Option Row) → IfSome row (RowFails now) → 1 ≤ length words → IfErr (row_line now line words row) AtWord
+      by None fails has = word_at 0 BadLine (omega arith)
+      by (Some row) fails has = shape_fails row _ has (λ enough. fails_if AtWord (stands row.turn now.stage) _ _ (λ good. fails enough) (λ miss. word_at 0 NotNow (omega arith)))
+
+  section_fails : (now : Situation) → IfErr (in_section now line words) AtWord
+  section_fails now =
+      fails_if AtWord (length words == 0) _ _ (λ blank. tt) (λ some.
+      fails_if AtWord (is_end words) _ _ (λ end. tt) (λ not_end.
+      fails_if AtWord (length words == 1) _ _ (λ short. word_at 0 BadLine (grind (arith, nat_tests, short))) (λ longer.
+      fails_if AtWord (nat_lt 2 (length words)) _ _ (λ long. word_at 2 BadLine (ltb-true 2 (length words) long)) (λ two.
+      fails_with AtWord _ _ (number_at 0 _ (grind (arith, nat_tests, some)) (any_at (place_of line words 0) (hex_number (without_ending 58 (text_of words 0))))) (λ number.
+      fails_with AtWord _ _ (value_fails 1 (grind (arith, nat_tests, some, longer))) (λ value.
+      fails_if AtWord (is_writable (file_of now) number) _ _
+      (λ known. fails_if AtWord (is_member nat_eq now.seen number) _ _ (λ again. word_at 0 Repeated (grind (arith, nat_tests, some))) (λ new. tt))
+      (λ unknown. word_at 0 UnknownRegister (grind (arith, nat_tests, some)))))))))
+
+module _ (now : Situation) (number : ℕ) (line : List ℕ) where
+  abbrev Stands : ScriptFault → Type 0
+  Stands fault = StandsIn number line fault.place
+
+  -- a word by its number
+  word_stands : (answer : Answer) → IfErr answer (AtWord number (words_of line)) → IfErr answer Stands
+  word_stands (Ok c) at = tt
+  word_stands (Err fault) at = inl (word_of (words_of line) at.0, (at.0, word_found (words_of line) at.0 at.1), at.2)
+
+  short_stands : (answer : Answer) → IfErr answer (AtWord number (words_of line)) → IfErr (not_too_long number line answer) Stands
+  short_stands answer at = fails_if Stands (is_too_long line) _ _ (λ long. inr (ltb-true 4096 (length line) long, refl)) (λ short. word_stands answer at)
+
+  dump_stands : IfErr (in_dump line) Stands
+  dump_stands = fails_if Stands (is_too_long line) _ _ (λ long. tt) (λ short. fails_if Stands (is_end (words_of line)) _ _ (λ end. tt) (λ more. tt))
+
+  stage_stands : (stage : Stage) → IfErr (in_stage now number line stage) Stands
+  stage_stands NeedCpus = short_stands _ (outside_fails number (words_of line) now)
+  stage_stands NeedDump = short_stands _ (outside_fails number (words_of line) now)
+  stage_stands InDump = dump_stands
+  stage_stands Rams = short_stands _ (outside_fails number (words_of line) now)
+  stage_stands Commands = short_stands _ (outside_fails number (words_of line) now)
+  stage_stands InUpdate = short_stands _ (section_fails number (words_of line) now)
+  stage_stands InBegin = short_stands _ (section_fails number (words_of line) now)
+
+  pub fault_stands : (fault : ScriptFault) → command_of now number line ≡ Err fault → StandsIn number line fault.place
+  fault_stands fault is = subst (λ answer. IfErr answer Stands) is (stage_stands now.stage)

@@ -1,8 +1,0 @@
-use Rattle.mt_tidy.proofs.ReadBack.{used_by_fit, used_by_tidy}
-use Rattle.mt_tidy.proofs.laws.used_pairs_are_the_valid_ones.Goals as goal
-
-pub returns-clause-wanted : goal.returns-clause-wanted
-returns-clause-wanted c = used_by_fit
-
-pub returns-clause-own : goal.returns-clause-own
-returns-clause-own c = used_by_tidy

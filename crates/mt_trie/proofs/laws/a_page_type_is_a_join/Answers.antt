@@ -1,5 +1,0 @@
-use Rattle.mt_trie.proofs.Combined.{combined_is_joined}
-use Rattle.mt_trie.proofs.laws.a_page_type_is_a_join.Goals as goal
-
-pub returns : goal.returns
-returns c = combined_is_joined

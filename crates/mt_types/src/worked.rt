@@ -1,7 +1,0 @@
-ghost use Rattle.mt_types.specs.Runs.{IsTypeMap};
-ghost use Rattle.mt_types.specs.WorkedMaps.{three};
-
-/// A type map of three runs.
-pub fn worked_maps()
-    ensures { IsTypeMap three }
-{}

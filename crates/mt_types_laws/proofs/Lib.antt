@@ -1,0 +1,9 @@
+pub mod OneList
+pub mod ReadBack
+pub mod SomeRounding
+pub mod SomeTidy
+pub mod TwoRuns
+pub mod WorkedFew
+pub mod WorkedFile
+pub mod WorkedRounded
+pub mod WorkedSmall

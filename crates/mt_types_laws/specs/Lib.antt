@@ -1,0 +1,5 @@
+pub mod TrieWorkedRuns
+pub mod WorkedMaps
+pub mod WorkedRanges
+pub mod WorkedRows
+pub mod WorkedSmall
