@@ -2,8 +2,8 @@ mod Accessed
 mod Again
 mod Alone
 mod Carried
-mod Causes
-mod Copies
+pub mod Causes
+pub mod Copies
 mod OnWorked
 mod Lodged
 mod Ended

@@ -1,2 +1,13 @@
 //! Tests of updates and jobs on threads, over public calls.
 #![tactic(auto)]
+
+#[cfg(test)]
+mod common;
+#[cfg(test)]
+mod job_tests;
+#[cfg(test)]
+mod station_tests;
+#[cfg(test)]
+mod update_tests;
+#[cfg(test)]
+mod yard_tests;

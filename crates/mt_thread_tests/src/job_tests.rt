@@ -1,50 +1,22 @@
 //! Jobs of processors and one update, run on threads.
-ghost use Rattle.std.specs.Prelude.{◌≡◌, ◌↔◌, ◌<◌, ◌≤◌, ◌-◌, ◌^◌, IsTrue, length};
+ghost use Rattle.std.specs.Prelude.{◌↔◌, IsTrue};
 ghost use Rattle.std.specs.List.{All};
-ghost use Rattle.mt_machine.specs.Machine.{FitsGoal, FitsOp};
-ghost use Rattle.mt_machine.specs.Start.{HasEraRoom};
+ghost use Rattle.mt_machine.specs.Machine.{FitsOp};
 ghost use Rattle.mt_private.specs.Jobs.{FitsJob};
 
-use crate::fault::PrivateFault;
-use crate::job::{Job, Told};
-use crate::pages::shared_page;
-use crate::runs::run_private;
-use mt_cache::Cache;
+use crate::common::{bare_core, called, file, is_same_system, may_call, update_alone, word};
 use mt_core::Core;
-use mt_cpu::Cpu;
 use mt_gates::{AllBut, Meets, ones};
 use mt_kinds::MemType;
 use mt_machine::{Control, Done, Op, Ruled};
 use mt_ports::{Gate, OpenGate};
+use mt_private::{Job, PrivateFault, Told, run_private, shared_page};
 use mt_regs::{Fault, Reason, RegFile};
 use mt_tlb::Mapping;
 use std::alloc::Global;
 use std::sync::Wait;
 use std::sync::atomic::{AtomicU64, Ordering};
 use std::thread::Threads;
-
-/// A file whose memory below 4 GB has a type, over UC.
-pub(crate) fn file(kind: u64) -> Option<RegFile> {
-    let Ok(mut file) = RegFile::blank(36, 0x508) else {
-        return None;
-    };
-    for (msr, value) in [(0x200, kind), (0x201, 0xf_0000_0800), (0x2ff, 0x800)] {
-        if file.set(msr, value).is_err() {
-            return None;
-        }
-    }
-    Some(file)
-}
-
-/// So many processors whose memory is of this type, without windows.
-fn bare_core(alloc: Global, count: u32, kind: u64) -> Option<Core> {
-    let file = file(kind)?;
-    if count < 1 || count > 16 || file.first_fault().is_some() {
-        return None;
-    }
-    let files = file.copies(count);
-    Core::start(alloc, files.as_slice()).ok()
-}
 
 /// Maps page 1 of processor k to this physical page.
 fn map(core: &mut Core, k: u32, ppage: u64) -> Option<()> {
@@ -126,28 +98,6 @@ fn empty_jobs(alloc: Global, count: u32) -> Option<Vec<Job>> {
     Some(jobs)
 }
 
-/// Whether each processor has the goal's width and capabilities.
-fn fits(cpus: &[Cpu], goal: &RegFile) -> bool
-    ensures { IsTrue result ↔ All (FitsGoal goal.now) cpus.now }
-{
-    cpus.iter().all(|cpu| goal.maxphy == cpu.regs().maxphy && goal.cap == cpu.regs().cap)
-}
-
-/// Whether each era has room for an update.
-fn has_room(cpus: &[Cpu]) -> bool
-    ensures { IsTrue result ↔ All (λ p. p.era < 2 ^ 64 - 1) cpus.now }
-{
-    cpus.iter().all(|cpu| cpu.era() < u64::MAX)
-}
-
-/// Whether an update's conditions hold.
-pub(crate) fn may_call(core: &Core, goal: &RegFile) -> bool
-    ensures { IsTrue result → (0 < length core.now.system.processors) × All (FitsGoal goal.now) core.now.system.processors × HasEraRoom core.now }
-{
-    let cpus = core.system().cpus.as_slice();
-    !cpus.is_empty() && fits(cpus, goal) && has_room(cpus)
-}
-
 fn fits_op(op: Op) -> bool
     ensures { IsTrue result ↔ FitsOp op }
 {
@@ -197,12 +147,6 @@ fn on_threads<R: Threads + Wait + Sync, G: Gate>(
     Some(run_private(rt, alloc, core, goal, jobs, gate))
 }
 
-fn word(core: &Core, address: u64) -> Option<u64> {
-    let ram = &core.system().ram;
-    let i = ram.place(address)?;
-    Some(ram.word(i))
-}
-
 /// Whether this processor stored its word as WB before the update and loaded it as UC after it, and the word is
 /// in memory, the processor's era is 1 and it has no line.
 fn is_done(core: &Core, told: &[Told], k: u32) -> Option<bool> {
@@ -213,7 +157,7 @@ fn is_done(core: &Core, told: &[Told], k: u32) -> Option<bool> {
     Some(
         answers.before.as_slice() == [Done::Stored(MemType::WB)].as_slice()
             && answers.after.as_slice() == [Done::Value(v, MemType::UC)].as_slice()
-            && word(core, base)? == v
+            && word(&core.system().ram, base)? == v
             && cpu.era() == 1
             && cpu.cache().len() == 0,
     )
@@ -335,15 +279,6 @@ fn access_each(alloc: Global, core: &mut Core, k: u32, ops: &[Op]) -> Option<Vec
     Some(told)
 }
 
-/// The update by the core's own calls.
-fn update_alone(core: &mut Core, goal: RegFile) -> bool {
-    let called = may_call(core, &goal) && core.call(goal) == Ok(());
-    if core.order().is_some() {
-        core.round();
-    }
-    called
-}
-
 /// The answers of the accesses of one part of all jobs, one after the other, by the core's own calls.
 fn part_by_calls(
     alloc: Global,
@@ -370,74 +305,12 @@ fn part_by_calls(
     Some(all)
 }
 
-/// Whether both have the same width and the same values.
-fn same_registers(a: &RegFile, b: &RegFile) -> bool {
-    if a.maxphy != b.maxphy || a.cap != b.cap || a.count() != b.count() {
-        return false;
-    }
-    for i in 0..a.count() {
-        let (Some(x), Some(y)) = (a.register(i), b.register(i)) else {
-            return false;
-        };
-        if x != y || a.get(x) != b.get(y) {
-            return false;
-        }
-    }
-    true
-}
-
-fn same_lines(a: &Cache, b: &Cache) -> bool {
-    if a.len() != b.len() {
-        return false;
-    }
-    for i in 0..a.len() {
-        if *a.nth(i) != *b.nth(i) {
-            return false;
-        }
-    }
-    true
-}
-
-/// Whether both are the same in all that an access or an event changes.
-fn same_cpus(a: &Cpu, b: &Cpu) -> bool {
-    a.era() == b.era()
-        && a.phase() == b.phase()
-        && a.cd() == b.cd()
-        && a.pge() == b.pge()
-        && a.had_pge() == b.had_pge()
-        && same_registers(a.regs(), b.regs())
-        && same_lines(a.cache(), b.cache())
-        && a.buffers().lines() == b.buffers().lines()
-        && a.tlb().entries() == b.tlb().entries()
-        && a.maps().list() == b.maps().list()
-}
-
 /// Whether some processor's write-combining buffers aren't empty.
 fn has_buffers(core: &Core) -> bool {
     core.system()
         .cpus
         .iter()
         .any(|cpu| !cpu.buffers().lines().is_empty())
-}
-
-/// Whether both have the same words and processors.
-fn ends_alike(a: &Core, b: &Core) -> bool {
-    let (x, y) = (a.system(), b.system());
-    if x.ram.words() != y.ram.words() || x.cpus.len() != y.cpus.len() {
-        return false;
-    }
-    for i in 0..x.ram.words() {
-        if x.ram.word(i) != y.ram.word(i) {
-            return false;
-        }
-    }
-    let (cpus, others) = (x.cpus.as_slice(), y.cpus.as_slice());
-    for k in 0..cpus.len() {
-        if !same_cpus(&cpus[k], &others[k]) {
-            return false;
-        }
-    }
-    true
 }
 
 /// Whether the jobs on threads are answered, and end, as by the core's own calls. Memory is of this type before the
@@ -471,7 +344,7 @@ fn jobs_end_alike<R: Threads + Wait + Sync, G: Gate>(
             return Some(false);
         }
     }
-    Some(told.len() == count as usize && ends_alike(&a, &b))
+    Some(told.len() == count as usize && is_same_system(&a, &b))
 }
 
 #[test]
@@ -595,8 +468,7 @@ fn refusal<R: Threads + Wait + Sync>(
 /// Two processors whose update is under way.
 fn called_core(alloc: Global) -> Option<Core> {
     let mut core = core_of(alloc, 2)?;
-    let goal = file(4)?;
-    if !may_call(&core, &goal) || core.call(goal) != Ok(()) {
+    if !called(&mut core, file(4)?) {
         return None;
     }
     Some(core)

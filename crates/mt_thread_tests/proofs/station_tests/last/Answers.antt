@@ -6,7 +6,7 @@ use Rattle.atomic_table.proofs.Lists.{at_last, at_longer}
 use Rattle.mt_rendezvous.specs.declared.station.Attendee.{Attendee}
 use Rattle.mt_rendezvous.specs.Station.{start_of}
 use Rattle.mt_rendezvous.specs.Calls.{Attends}
-use Rattle.mt_rendezvous.proofs.station_tests.last.Goals as goal
+use Rattle.mt_thread_tests.proofs.station_tests.last.Goals as goal
 
 popped : (P : ℕ → Attendee → Type 0) (old new : List Attendee) (o : Option Attendee) → old ≡ new ++ option_to_list o → ((k : ℕ) (a : Attendee) → get_elem? old k ≡ some a → P k a) → IfSome o (P (length new))
 popped P old new None e all = search rules

@@ -2,7 +2,7 @@ use Rattle.std.proofs.Common.{subst, List}
 use Rattle.std.specs.List.{All}
 use Rattle.mt_private.specs.declared.job.Job.{Job}
 use Rattle.mt_private.specs.Jobs.{FitsJob}
-use Rattle.mt_private.proofs.tests.on_threads.Goals as goal
+use Rattle.mt_thread_tests.proofs.job_tests.on_threads.Goals as goal
 
 pub run_private-requires-clause-addresses : goal.run_private-requires-clause-addresses
 run_private-requires-clause-addresses g c κs within =

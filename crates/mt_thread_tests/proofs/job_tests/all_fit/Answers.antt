@@ -3,7 +3,7 @@ use Rattle.std.specs.Prelude.{slice_get}
 use Rattle.std.proofs.lemmas.Option.{get_or_from_slice_get, slice_get_read}
 use Rattle.mt_private.specs.declared.job.Job.{Job}
 use Rattle.mt_private.specs.Jobs.{FitsJob}
-use Rattle.mt_private.proofs.tests.all_fit.Goals as goal
+use Rattle.mt_thread_tests.proofs.job_tests.all_fit.Goals as goal
 
 pub loop-i-preserved : goal.loop-i-preserved
 loop-i-preserved c =

@@ -11,7 +11,7 @@ use Rattle.mt_private.specs.declared.visiting.Visited.{Visited}
 use Rattle.mt_private.specs.declared.visiting.Visited.TheVariants.{Cancelled, Complete}
 use Rattle.mt_private.specs.YardCalls.{Lodges, VisitEnds}
 use Rattle.mt_private.specs.YardPlays.{YardSat}
-use Rattle.mt_private.proofs.yard_tests.visit_whole.Goals as goal
+use Rattle.mt_thread_tests.proofs.yard_tests.visit_whole.Goals as goal
 
 -- the seat lodges its resident, however the visit ended
 lodges_still : (v : Visited) (table : TableId) (t : Start) (k : ℕ) (f : RegisterFile) (job : Job) (own : System) (its : TableId) (me : YardSat) (new : System) (told : Told) → VisitEnds v table t k f job own its me new told

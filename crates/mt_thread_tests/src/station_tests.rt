@@ -6,10 +6,8 @@ ghost use Rattle.mt_rendezvous.specs.Station.{Begins, start_of};
 ghost use Rattle.mt_rendezvous.specs.Calls.{Attends, HoldsOne, IsRoot, Leads, gathered};
 ghost use Rattle.mt_rendezvous.specs.Update.{AllNew, AreOf, IsNew};
 
-use crate::broadcast::call_and_take;
-use crate::gather::disband;
-use crate::station::{Attendee, Outcome, Root, Station, attend};
-use crate::update_tests::{core_of, file, is_same_cpu, may_call, store};
+use crate::common::{file, is_same_cpu, may_call, word};
+use crate::update_tests::{core_of, store};
 use mt_bus::System;
 use mt_core::{Core, a_core_arises};
 use mt_cpu::Cpu;
@@ -18,6 +16,7 @@ use mt_kinds::MemType;
 use mt_machine::Done;
 use mt_ram::Ram;
 use mt_regs::RegFile;
+use mt_rendezvous::{Attendee, Outcome, Root, Station, attend, call_and_take, disband};
 use std::alloc::Global;
 use std::snapshot::Snapshot;
 use std::sync::Wait;
@@ -243,11 +242,6 @@ fn ends_of<R: Threads + Wait + Sync>(
     let done = meet(rt, alloc, cpus, &mut ram, &goal, &gate, given)?;
     let told = gate.told();
     Some(Row { done, ram, told })
-}
-
-fn word(ram: &Ram, address: u64) -> Option<u64> {
-    let i = ram.place(address)?;
-    Some(ram.word(i))
 }
 
 #[test]

@@ -6,7 +6,7 @@ use Rattle.mt_rendezvous.specs.declared.view.Start.{Start}
 use Rattle.mt_rendezvous.specs.Calls.{gathered}
 use Rattle.mt_private.specs.Residents.{Opens}
 use Rattle.mt_private.proofs.Causes.{opens_of, private_where_none}
-use Rattle.mt_private.proofs.yard_tests.gather_of.Goals as goal
+use Rattle.mt_thread_tests.proofs.yard_tests.gather_of.Goals as goal
 
 pub gather-requires : goal.gather-requires
 gather-requires c =

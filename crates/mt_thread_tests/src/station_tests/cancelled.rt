@@ -6,15 +6,14 @@ ghost use Rattle.mt_rendezvous.specs.Station.{Begins, start_of};
 ghost use Rattle.mt_rendezvous.specs.Calls.{HoldsOne, IsRoot, Leads, gathered};
 ghost use Rattle.mt_rendezvous.specs.Update.{AllNew, AreOf, IsNew};
 
-use super::{Comes, Ended, Row, Told, attend_whole, dirty_row, last, take, word};
-use crate::gather::disband;
-use crate::station::{Attendee, Outcome, Root, Station};
-use crate::update_tests::file;
+use super::{Comes, Ended, Row, Told, attend_whole, dirty_row, last, take};
+use crate::common::{file, word};
 use mt_bus::System;
 use mt_cpu::Cpu;
 use mt_gates::AllBut;
 use mt_ram::Ram;
 use mt_regs::RegFile;
+use mt_rendezvous::{Attendee, Outcome, Root, Station, disband};
 use std::alloc::Global;
 use std::snapshot::Snapshot;
 use std::sync::Wait;

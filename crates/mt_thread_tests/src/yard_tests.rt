@@ -10,17 +10,14 @@ ghost use Rattle.mt_private.specs.InYard.{AreGatheredIn, IsGatheredIn, IsRootIn,
 ghost use Rattle.mt_private.specs.Jobs.{FitsJob, IsOpen};
 ghost use Rattle.mt_private.specs.YardCalls.{AreIn};
 
-use crate::host::{Host, Yard};
-use crate::job::{Job, Told};
-use crate::pages::shared_page;
-use crate::tests::{core_of, file, fits_job, jobs_of, may_call};
-use crate::visiting::{Guest, Visited};
-use crate::visits::visit;
+use crate::common::{file, may_call, word};
+use crate::job_tests::{core_of, fits_job, jobs_of};
 use mt_bus::System;
 use mt_core::{Core, a_core_arises};
 use mt_gates::AllBut;
 use mt_kinds::MemType;
 use mt_machine::{Done, Phase};
+use mt_private::{Guest, Host, Job, Told, Visited, Yard, shared_page, visit};
 use mt_regs::RegFile;
 use std::alloc::Global;
 use std::sync::Wait;
@@ -204,11 +201,6 @@ fn alone<R: Wait>(rt: &R, alloc: Global, given: bool) -> Option<(Came, u64)> {
     Some((came, told))
 }
 
-fn word(own: &System, address: u64) -> Option<u64> {
-    let i = own.ram.place(address)?;
-    Some(own.ram.word(i))
-}
-
 #[test]
 fn one_completes(rt: HostRuntime) {
     let Some((came, arrived)) = alone(&rt, rt.alloc(), true) else {
@@ -218,7 +210,7 @@ fn one_completes(rt: HostRuntime) {
     assert!(rt; came.told.before.as_slice() == [Done::Stored(MemType::WB)].as_slice());
     assert!(rt; came.told.after.as_slice() == [Done::Value(0x2a, MemType::UC)].as_slice());
     assert!(rt; arrived == 1);
-    assert!(rt; word(&came.own, 0x10_0000) == Some(0x2a));
+    assert!(rt; word(&came.own.ram, 0x10_0000) == Some(0x2a));
     assert!(rt; came.own.cpus.len() == 1);
     for cpu in came.own.cpus.iter() {
         assert!(rt; cpu.era() == 1);
@@ -235,7 +227,7 @@ fn one_leaves(rt: HostRuntime) {
     assert!(rt; came.told.before.as_slice() == [Done::Stored(MemType::WB)].as_slice());
     assert!(rt; came.told.after.is_empty());
     assert!(rt; arrived == 0);
-    assert!(rt; word(&came.own, 0x10_0000) == Some(0));
+    assert!(rt; word(&came.own.ram, 0x10_0000) == Some(0));
     assert!(rt; came.own.cpus.len() == 1);
     for cpu in came.own.cpus.iter() {
         assert!(rt; cpu.era() == 0);

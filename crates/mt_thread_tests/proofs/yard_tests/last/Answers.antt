@@ -4,7 +4,7 @@ use Rattle.mt_rendezvous.specs.Station.{start_of}
 use Rattle.mt_private.specs.declared.visiting.Guest.{Guest}
 use Rattle.mt_private.specs.Gathered.{IsGathered}
 use Rattle.mt_private.proofs.Copies.{at_back, at_front}
-use Rattle.mt_private.proofs.yard_tests.last.Goals as goal
+use Rattle.mt_thread_tests.proofs.yard_tests.last.Goals as goal
 
 popped : (P : ℕ → Guest → Type 0) (old new : List Guest) (o : Option Guest) → old ≡ new ++ option_to_list o → ((k : ℕ) (g : Guest) → slice_get old k ≡ Some g → P k g) → IfSome o (P (length new))
 popped P old new None e all = search rules
