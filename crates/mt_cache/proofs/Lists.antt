@@ -130,7 +130,7 @@ add_kept size ls l kept none whole = push_kept (with_room size ls) l (room_kept 
 
 pub write_keeps : (word value : ℕ) (dirty : Bool) → KeepsNumber (write_word word value dirty)
 pub write_keeps word value true l = refl
-write_keeps word value false l = refl
+pub write_keeps word value false l = refl
 
 -- ---- a line's place
 

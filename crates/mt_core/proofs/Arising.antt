@@ -150,4 +150,4 @@ went_away s more h = record {
 
 pub era_room : (ps : List Processor) → All (λ p. p.era < 2 ^ 64 - 1) ps → common_era ps < 2 ^ 64 - 1
 pub era_room [] h = omega arith
-era_room (p ∷ ps) h = h 0 p (omega arith)
+pub era_room (p ∷ ps) h = h 0 p (omega arith)

@@ -277,4 +277,4 @@ pub range_more k end low = let more : end - k ≡ suc (end - (k + 1)) = omega ar
 
 pub none_where_not : (x : Option Order) (b : Bool) → (IsTrue b ↔ IsSome x) → b ≡ false → x ≡ None
 pub none_where_not None b h off = refl
-none_where_not (Some o) b h off = absurd (let on : b ≡ true = h.1 refl in cc)
+pub none_where_not (Some o) b h off = absurd (let on : b ≡ true = h.1 refl in cc)

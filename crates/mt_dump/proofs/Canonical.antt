@@ -104,7 +104,7 @@ module _ (number : ℕ) (small : number < 0x1000) where
 
 pub all_append : (p : ℕ → Bool) (xs ys : List ℕ) → list_all p xs ≡ true → list_all p ys ≡ true → list_all p (xs ++ ys) ≡ true
 pub all_append p [] ys all later = later
-all_append p (x ∷ xs) ys all later = let parts = and_parts (p x) (list_all p xs) all in rw parts.0 (all_append p xs ys parts.1 later)
+pub all_append p (x ∷ xs) ys all later = let parts = and_parts (p x) (list_all p xs) all in rw parts.0 (all_append p xs ys parts.1 later)
 
 pub register_plain : (number value : ℕ) → number < 0x1000 → list_all is_plain (register_line number value) ≡ true
 register_plain number value small =

@@ -58,7 +58,7 @@ module _ {left_first left : Option (List ℕ)} {given_first given : ℕ} {feed :
 -- a source that told its bytes tells that nothing is left
 pub nothing_left : {E : Type 0} {T : Type 0} (left_first left : Option (List ℕ)) (bytes gone : List ℕ) (result : Result T E) → left_first ≡ Some bytes → Consumes left_first left gone → IfOk result (λ _. IsAtEnd left) → IfOk result (λ _. left ≡ Some [])
 pub nothing_left None left bytes gone result is consumes end = cc is
-nothing_left (Some xs) None bytes gone result is consumes end = absurd consumes
+pub nothing_left (Some xs) None bytes gone result is consumes end = absurd consumes
 nothing_left (Some xs) (Some ys) bytes gone (Ok value) is consumes end = ap Some end
 nothing_left (Some xs) (Some ys) bytes gone (Err fault) is consumes end = tt
 

@@ -14,7 +14,7 @@ use Rattle.mt_dump.specs.ForProcessors.{has_each, files_for}
 
 pub first_holds : (P : RegisterFile → Type 0) (files : List RegisterFile) → 0 < length files → All P files → P (first_of files)
 pub first_holds P [] some all = absurd (omega arith)
-first_holds P (file ∷ files) some all = All-head P file files all
+pub first_holds P (file ∷ files) some all = All-head P file files all
 
 pub first_file_is : (dump : Dump) → IsDump dump → IsRegisterFile (first_file dump)
 pub first_file_is dump is = first_holds IsRegisterFile dump.files is.some (All-from_recursion IsRegisterFile dump.files is.are_files)

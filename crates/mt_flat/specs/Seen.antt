@@ -31,7 +31,7 @@ use Rattle.mt_flat.specs.Flat.{PendingLine, Flat, FlatEvent, Loads, Stores, Empt
 -- an access that was answered with Value, Stored or Fenced
 abbrev pub given_access : System → ℕ → Op → Done → Option FlatEvent
 pub given_access s k (Load address) (Value value kind) = option_map (Loads k kind) (physical_of s k address)
-given_access s k (Store address value) (Stored kind) = option_map (λ word. Stores k kind word value) (physical_of s k address)
+pub given_access s k (Store address value) (Stored kind) = option_map (λ word. Stores k kind word value) (physical_of s k address)
 given_access s k Fence Fenced = Some (Empties k)
 given_access s k op other = None
 

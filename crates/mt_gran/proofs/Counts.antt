@@ -82,7 +82,7 @@ count_few test (suc n) =
 
 pub count_none : (test : ℕ → Bool) (from n to : ℕ) → to ≡ from + n → ((page : ℕ) → from ≤ page → page < to → test page ≡ false) → count_below test to ≡ count_below test from
 pub count_none test from zero to is none = ap (count_below test) (omega arith)
-count_none test from (suc n) to is none =
+pub count_none test from (suc n) to is none =
     let last : suc (from + n) ≡ to = omega (arith, is) in
     let h : count_below test (from + n) ≡ count_below test from = count_none test from n (from + n) refl (λ page low high. none page low (omega (arith, high, last))) in
     let off : test (from + n) ≡ false = none (from + n) (omega arith) (omega (arith, last)) in

@@ -24,7 +24,7 @@ EndsBefore r (s ∷ ss) = run_end r ≡ s.first → r.kind ≢ s.kind
 -- the longest runs of marked pages from one page up to another
 abbrev pub AreRunsOf : (ℕ → Option PageType) → ℕ → ℕ → List Run → Type 0
 pub AreRunsOf marks from to [] = (from ≤ to) × HaveMark marks from to None
-AreRunsOf marks from to (r ∷ rs) =
+pub AreRunsOf marks from to (r ∷ rs) =
     (from ≤ r.first) × HaveMark marks from r.first None × (0 < r.count) × HaveMark marks r.first (run_end r) (Some r.kind) × EndsBefore r rs
     × AreRunsOf marks (run_end r) to rs
 

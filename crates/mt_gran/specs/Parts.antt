@@ -20,12 +20,12 @@ pub record IsPart (m : TypedPages) (g : ℕ) (r : Run) : Type 0 where
 -- each run begins at or behind the end of the one before, the first one at or behind a page
 abbrev pub Ascend : ℕ → List Run → Type 0
 pub Ascend from [] = Unit {0}
-Ascend from (r ∷ rs) = (from ≤ r.first) × Ascend (run_end r) rs
+pub Ascend from (r ∷ rs) = (from ≤ r.first) × Ascend (run_end r) rs
 
 -- some run has the page
 abbrev pub IsInSome : ℕ → List Run → Type 0
 pub IsInSome page [] = ⊥
-IsInSome page (r ∷ rs) = HasPage r page ⊎ IsInSome page rs
+pub IsInSome page (r ∷ rs) = HasPage r page ⊎ IsInSome page rs
 
 -- all longest runs of pages that lose one type, in ascending order
 pub record ArePartsOf (m : TypedPages) (g : ℕ) (parts : List Run) : Type 0 where

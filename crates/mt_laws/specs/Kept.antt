@@ -72,11 +72,11 @@ pub UpdatedKeepsFlags = (s : System) (takes : List ℕ) (goal : RegisterFile) �
 -- the events of an update but Take
 abbrev pub is_take_step : MachineEvent → Bool
 pub is_take_step (Steps k Take) = true
-is_take_step other = false
+pub is_take_step other = false
 
 abbrev pub is_of_update : MachineEvent → Bool
 pub is_of_update (Accesses k op) = false
-is_of_update (Controls k c) = false
+pub is_of_update (Controls k c) = false
 is_of_update other = true
 
 -- no event of an update but Take changes a word's value

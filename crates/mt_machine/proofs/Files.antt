@@ -46,7 +46,7 @@ pub file_alike goal f g a = record {
 
 pub alike_writes : (goal f : RegisterFile) (r : Register) → Alike goal f → Alike goal (with_goal goal r f)
 pub alike_writes goal f (PhysBase n) a = record { width = a.width; capabilities = a.capabilities; pairs = length-set f.pairs n _ ∙ a.pairs; fixed = a.fixed; no_fixed = a.no_fixed }
-alike_writes goal f (PhysMask n) a = record { width = a.width; capabilities = a.capabilities; pairs = length-set f.pairs n _ ∙ a.pairs; fixed = a.fixed; no_fixed = a.no_fixed }
+pub alike_writes goal f (PhysMask n) a = record { width = a.width; capabilities = a.capabilities; pairs = length-set f.pairs n _ ∙ a.pairs; fixed = a.fixed; no_fixed = a.no_fixed }
 alike_writes goal f (FixedRange i) a = record {
   width = a.width;
   capabilities = a.capabilities;

@@ -70,11 +70,11 @@ pub is_row Leave ph = is_waiting_to_pass ph
 pub is_row Pass ph = is_arrived ph
 pub is_row (WriteBack a v) ph = is_drained ph
 pub is_row DropLines ph = is_drained ph
-is_row FlushTlb ph = is_flushed ph
-is_row (Write i) ph = is_written ph
-is_row Enable ph = is_written ph
-is_row Release ph = is_arrived_again ph
-is_row other ph = is_one_of other ph
+pub is_row FlushTlb ph = is_flushed ph
+pub is_row (Write i) ph = is_written ph
+pub is_row Enable ph = is_written ph
+pub is_row Release ph = is_arrived_again ph
+pub is_row other ph = is_one_of other ph
 
 -- an event that is due stands in the phase's row
 pub due_row : (o : Order) (ps : List Processor) (p : Processor) (ph : Phase) (e : Event) → due o ps p ph ≡ Some e → is_row e ph ≡ true

@@ -22,7 +22,7 @@ pub accepted_line = line (codes "accepted")
 
 abbrev pub reason_text : Reason → List ℕ
 pub reason_text ReservedBit = codes "reserved bit"
-reason_text UnsupportedType = codes "unsupported type"
+pub reason_text UnsupportedType = codes "unsupported type"
 reason_text BrokenMask = codes "broken mask"
 reason_text UndefinedOverlap = codes "undefined overlap"
 
@@ -40,7 +40,7 @@ pub dump_refused_line version k fault = if version == 2 then refused_cpu_line k 
 
 abbrev pub dump_reason_text : DumpReason → List ℕ
 pub dump_reason_text dump.BadLine = codes "bad line"
-dump_reason_text dump.BadNumber = codes "bad number"
+pub dump_reason_text dump.BadNumber = codes "bad number"
 dump_reason_text dump.UnknownRegister = codes "unknown register"
 dump_reason_text dump.Repeated = codes "repeated"
 dump_reason_text dump.NoCap = codes "no cap"
@@ -52,7 +52,7 @@ dump_reason_text dump.Differs = codes "differs"
 
 abbrev pub script_reason_text : ScriptReason → List ℕ
 pub script_reason_text script.BadLine = codes "bad line"
-script_reason_text script.BadNumber = codes "bad number"
+pub script_reason_text script.BadNumber = codes "bad number"
 script_reason_text script.UnknownRegister = codes "unknown register"
 script_reason_text script.OutOfRange = codes "out of range"
 script_reason_text script.NoEnd = codes "no end"

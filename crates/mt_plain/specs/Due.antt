@@ -72,7 +72,7 @@ event_place other = 0
 -- all write-backs and the invalidation that ends them count as one step
 abbrev pub whole_flush : Event → Event
 pub whole_flush (WriteBack address value) = DropLines
-whole_flush other = other
+pub whole_flush other = other
 
 -- the event that is due by what the words tell
 abbrev pub due_event : PlainUpdate → PlainProcessor → Go → Phase → Option Event
@@ -115,7 +115,7 @@ event_status (Some e) = 0
 
 abbrev pub event_words : Option Event → Phase → PlainStep → PlainStep
 pub event_words None phase old = old
-event_words (Some e) phase old = record {
+pub event_words (Some e) phase old = record {
   number = event_number e;
   place = event_place e;
   next_phase = phase_number (phase_after e phase);

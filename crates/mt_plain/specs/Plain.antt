@@ -55,11 +55,11 @@ reason_number UndefinedOverlap = 4
 
 abbrev pub fault_status : Option Fault → ℕ
 pub fault_status None = 0
-fault_status (Some fault) = 1
+pub fault_status (Some fault) = 1
 
 abbrev pub fault_words : Option Fault → PlainFault → PlainFault
 pub fault_words None old = old
-fault_words (Some fault) old = record { number = fault.msr; reason = reason_number fault.reason }
+pub fault_words (Some fault) old = record { number = fault.msr; reason = reason_number fault.reason }
 
 abbrev pub type_status : PageType → ℕ
 type_status (Kind t) = 0

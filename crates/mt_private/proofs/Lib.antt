@@ -4,9 +4,7 @@ mod Alone
 mod Carried
 pub mod Causes
 pub mod Copies
-mod OnWorked
-mod Lodged
-mod Ended
+pub mod Ended
 mod Left
 mod Lists
 mod Meeting
@@ -15,5 +13,3 @@ pub mod Own
 mod Walk
 pub mod Residents
 mod Returned
-mod LoneGuest
-mod LoneSeats

@@ -1,4 +1,3 @@
--- What one processor does on pages of its own.
 pub mod Accesses
 pub mod Buses
 pub mod Jobs

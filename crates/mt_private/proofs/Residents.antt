@@ -1,4 +1,3 @@
--- What each event of one processor makes of a yard.
 pub mod Barriers
 pub mod Decisions
 pub mod Events
@@ -8,6 +7,4 @@ pub mod Paths
 pub mod Plays
 pub mod Roots
 pub mod Seats
-pub mod Settles
-pub mod Unique
 pub mod Work

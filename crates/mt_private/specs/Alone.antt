@@ -42,23 +42,23 @@ pub record JobsAlone (s : System) (goal : RegisterFile) (before after : List (Li
 
 -- of a processor that owns these pages
 abbrev pub AccessesRunAlone : Type 0
-AccessesRunAlone = (pages : ℕ → Bool) (k : ℕ) (ops : List Op) (s : System) → IsMemory s.memory → IsOwner pages k s → RunsAlone pages k ops s
+pub AccessesRunAlone = (pages : ℕ → Bool) (k : ℕ) (ops : List Op) (s : System) → IsMemory s.memory → IsOwner pages k s → RunsAlone pages k ops s
 
 abbrev pub StepsRunAlone : Type 0
-StepsRunAlone =
+pub StepsRunAlone =
     (pages : ℕ → Bool) (k : ℕ) (goal : RegisterFile) (e : Event) (s : System) → IsMemory s.memory → IsOwner pages k s → WritesOn pages e
     → Becomes pages k s (step goal e k s) (step goal e 0 (own_system pages k s))
 
 -- of two
 abbrev pub AccessesCommute : Type 0
-AccessesCommute =
+pub AccessesCommute =
     (pages others : ℕ → Bool) (k j : ℕ) (s : System) → IsMemory s.memory → IsOwner pages k s → IsOwner others j s → k ≢ j → AreApart pages others
     → (ops bs : List Op) → Commute k j ops bs s
 
 abbrev pub UpdatesRunAlone : Type 0
-UpdatesRunAlone = (s : System) (goal : RegisterFile) → IsMemory s.memory → IsPrivate s → UpdatesAlone s goal
+pub UpdatesRunAlone = (s : System) (goal : RegisterFile) → IsMemory s.memory → IsPrivate s → UpdatesAlone s goal
 
 abbrev pub JobsRunAlone : Type 0
-JobsRunAlone =
+pub JobsRunAlone =
     (s : System) (goal : RegisterFile) (before after : List (List Op)) → IsMemory s.memory → IsPrivate s → length before ≡ length s.processors → length after ≡ length s.processors
     → JobsAlone s goal before after

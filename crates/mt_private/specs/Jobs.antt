@@ -30,7 +30,7 @@ pub record FitsJob (j : Job) : Type 0 where
 
 -- it has no answer yet, and room for those of one part
 abbrev pub IsOpen : Part → Job → Told → Type 0
-IsOpen part j t = (answers_in part t ≡ []) × (length (ops_in part j) ≤ room_in part t)
+pub IsOpen part j t = (answers_in part t ≡ []) × (length (ops_in part j) ≤ room_in part t)
 
 -- for each job so
 abbrev pub AreOpen : Part → List Job → List Told → Type 0

@@ -74,4 +74,4 @@ AreAsGathered t owns = (k : ℕ) (o : System) → slice_get owns k ≡ Some (Som
 
 -- they are those of this system, by their numbers
 abbrev pub AreOwnsOf : Start → List (Option System) → System → Type 0
-AreOwnsOf t owns s = (k : ℕ) (o : System) → slice_get owns k ≡ Some (Some o) → own_system (pages_at t k) k s ≡ o
+pub AreOwnsOf t owns s = (k : ℕ) (o : System) → slice_get owns k ≡ Some (Some o) → own_system (pages_at t k) k s ≡ o

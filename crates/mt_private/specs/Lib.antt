@@ -5,13 +5,10 @@ pub mod Own
 pub mod Residents
 pub mod YardRule
 pub mod YardLaws
-pub mod Worked
-pub mod WorkedYard
 pub mod YardPlays
 pub mod YardCalls
 pub mod Gathered
 pub mod Left
 pub mod Alone
 pub mod Visitors
-pub mod WorkedWay
 pub mod InYard

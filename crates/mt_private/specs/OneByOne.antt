@@ -23,7 +23,7 @@ pub record RanEach : Type 0 where
 
 -- the accesses of processor k, in order
 abbrev pub ran : ℕ → List Op → System → Ran
-ran k [] s = record { answers = []; after = s }
+pub ran k [] s = record { answers = []; after = s }
 ran k (op ∷ ops) s =
     let first = access s k op in
     let rest = ran k ops first.after in
@@ -38,7 +38,7 @@ ran_each k (ops ∷ others) s =
     record { answers = first.answers ∷ rest.answers; after = rest.after }
 
 abbrev pub at_rest : System → Machine
-at_rest s = record { system = s; order = None }
+pub at_rest s = record { system = s; order = None }
 
 pub record OneByOne : Type 0 where
   pub before : List (List Done)

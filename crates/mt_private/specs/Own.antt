@@ -15,7 +15,7 @@ use Rattle.mt_private.specs.Pages.{names}
 
 -- the words in these pages, and 0 in place of the others
 abbrev pub words_on : (ℕ → Bool) → List ℕ → List ℕ → List ℕ
-words_on pages [] ws = []
+pub words_on pages [] ws = []
 words_on pages (a ∷ xs) [] = []
 words_on pages (a ∷ xs) (w ∷ ws) = (if pages (a / page_bytes) then w else 0) ∷ words_on pages xs ws
 
@@ -27,11 +27,11 @@ words_from pages (a ∷ xs) (v ∷ vs) [] = []
 words_from pages (a ∷ xs) (v ∷ vs) (w ∷ ws) = (if pages (a / page_bytes) then v else w) ∷ words_from pages xs vs ws
 
 abbrev pub own_memory : (ℕ → Bool) → Memory → Memory
-own_memory pages m = record m { words = words_on pages (addresses m.windows) m.words }
+pub own_memory pages m = record m { words = words_on pages (addresses m.windows) m.words }
 
 -- processor k alone, with the words in these pages
 abbrev pub own_system : (ℕ → Bool) → ℕ → System → System
-own_system pages k s = record {
+pub own_system pages k s = record {
   processors = option_map_or (λ p. p ∷ []) (slice_get s.processors k) [];
   memory = own_memory pages s.memory;
 }
@@ -42,7 +42,7 @@ put_first k (q ∷ qs) ps = slice_set ps k q
 
 -- the system with processor k, and the words in these pages, as they are in its own one
 abbrev pub with_own : (ℕ → Bool) → ℕ → System → System → System
-with_own pages k own s = record {
+pub with_own pages k own s = record {
   processors = put_first k own.processors s.processors;
   memory = record s.memory { words = words_from pages (addresses s.memory.windows) own.memory.words s.memory.words };
 }
@@ -62,7 +62,7 @@ pub record Becomes (pages : ℕ → Bool) (k : ℕ) (s t alone : System) : Type 
 
 -- the pages that a processor names
 abbrev pub pages_of : Processor → ℕ → Bool
-pages_of p page = names page p
+pub pages_of p page = names page p
 
 -- accesses of a processor that owns these pages are those of its own system
 pub record RunsAlone (pages : ℕ → Bool) (k : ℕ) (ops : List Op) (s : System) : Type 0 where
@@ -71,7 +71,7 @@ pub record RunsAlone (pages : ℕ → Bool) (k : ℕ) (ops : List Op) (s : Syste
 
 -- no page is of both
 abbrev pub AreApart : (ℕ → Bool) → (ℕ → Bool) → Type 0
-AreApart pages others = (page : ℕ) → pages page ≡ true → others page ≡ false
+pub AreApart pages others = (page : ℕ) → pages page ≡ true → others page ≡ false
 
 -- accesses of processors k and j: each is answered as if the other's weren't made, and either order leads to one state
 pub record Commute (k j : ℕ) (ops others : List Op) (s : System) : Type 0 where
@@ -81,5 +81,5 @@ pub record Commute (k j : ℕ) (ops others : List Op) (s : System) : Type 0 wher
 
 -- an event writes memory in these pages alone
 abbrev pub WritesOn : (ℕ → Bool) → Event → Type 0
-WritesOn pages (WriteBack address value) = pages (address / page_bytes) ≡ true
+pub WritesOn pages (WriteBack address value) = pages (address / page_bytes) ≡ true
 WritesOn pages other = Unit {0}

@@ -10,17 +10,17 @@ page_of_line l = l.number / 64
 
 -- one of its mappings, TLB entries, cached lines or buffers lies in the page
 abbrev pub names : ℕ → Processor → Bool
-names page p =
+pub names page p =
     list_any (λ m. m.ppage == page) p.mappings || list_any (λ e. e.ppage == page) p.entries
     || list_any (λ l. page_of_line l == page) p.lines || list_any (λ l. page_of_line l == page) p.buffers
 
 -- how many processors name it
 abbrev pub naming : List Processor → ℕ → ℕ
-naming ps page = count_by (names page) ps
+pub naming ps page = count_by (names page) ps
 
 -- no page is named by two processors
 abbrev pub IsPrivate : System → Type 0
-IsPrivate s = (page : ℕ) → naming s.processors page ≤ 1
+pub IsPrivate s = (page : ℕ) → naming s.processors page ≤ 1
 
 -- the least page that two processors name
 pub record IsLeastShared (s : System) (page : ℕ) : Type 0 where

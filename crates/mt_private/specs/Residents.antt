@@ -28,7 +28,7 @@ use Rattle.mt_private.specs.Pages.{IsPrivate, names}
 -- ---- from what a yard is gathered
 
 abbrev pub system_of : Start → System
-system_of t = record { processors = t.cpus; memory = t.ram }
+pub system_of t = record { processors = t.cpus; memory = t.ram }
 
 -- no update is under way, the goal may be called, no page is named by two, and the eras may rise
 pub record Opens (t : Start) : Type 0 where
@@ -41,19 +41,19 @@ pub record Opens (t : Start) : Type 0 where
 
 -- the pages that processor k named then, and those that none did
 abbrev pub pages_at : Start → ℕ → ℕ → Bool
-pages_at t k page = option_map_or (names page) (slice_get t.cpus k) false
+pub pages_at t k page = option_map_or (names page) (slice_get t.cpus k) false
 
 abbrev pub pages_left : Start → ℕ → Bool
-pages_left t page = not (list_any (names page) t.cpus)
+pub pages_left t page = not (list_any (names page) t.cpus)
 
 -- ---- residents
 
 abbrev pub held_of : Resident → Held
-held_of y = y.held
+pub held_of y = y.held
 
 -- its processor alone, with the words of its pages
 abbrev pub own_of : Resident → System
-own_of y = record { processors = y.held.cpu ∷ []; memory = y.ram }
+pub own_of y = record { processors = y.held.cpu ∷ []; memory = y.ram }
 
 -- the system has these processors, each owns its pages and has the words in them, and all other words are as they were gathered
 pub record StandsFor (t : Start) (all : List Resident) (s : System) : Type 0 where
@@ -75,7 +75,7 @@ pub record FitsResident (t : Start) (go : Go) (h : Held) : Type 0 where
 
 -- the order is there while its update isn't over
 abbrev pub yard_machine : Start → Go → System → Machine
-yard_machine t go s = stepped (order_of t go) s
+pub yard_machine t go s = stepped (order_of t go) s
 
 -- reached by events of which none is a call
 pub data Uncalled : Machine → Machine → Type 0 where
@@ -112,15 +112,15 @@ in_system y o = with_first y o.processors o.memory
 
 -- its pass has stored this in its event word
 abbrev pub with_stored : Resident → ℕ → Resident
-with_stored y n = record y { stored = n }
+pub with_stored y n = record y { stored = n }
 
 -- a step of the update on its own system
 abbrev pub stepped_by : Start → Event → Resident → Resident
-stepped_by t e y = in_system y (step t.goal e 0 (own_of y))
+pub stepped_by t e y = in_system y (step t.goal e 0 (own_of y))
 
 -- an access, which is done then
 abbrev pub accessed_by : Op → Resident → Resident
-accessed_by op y = record (in_system y (access (own_of y) 0 op).after) { done = y.done ++ op ∷ [] }
+pub accessed_by op y = record (in_system y (access (own_of y) 0 op).after) { done = y.done ++ op ∷ [] }
 
 -- ---- the two counts
 

@@ -30,7 +30,7 @@ use Rattle.mt_private.specs.YardPlays.{YardSat, as_sat}
 
 -- the own system of processor k, as it was gathered
 abbrev pub own_at : Start → ℕ → System
-own_at t k = own_system (pages_at t k) k (system_of t)
+pub own_at t k = own_system (pages_at t k) k (system_of t)
 
 -- ---- one visitor
 
@@ -92,7 +92,7 @@ pub record Returned (table : TableId) (t : Start) (jobs : List Job) (its : Table
 
 -- where the first ones came back as many as there are processors, and the go was given, the system left and all answers are those of the jobs and the update one by one
 abbrev pub EndsOneByOne : Type 0
-EndsOneByOne =
+pub EndsOneByOne =
     (table : TableId) (t : Start) (jobs : List Job) (its : TableId) (me : YardSat) (owns : List (Option System)) (told : List Told) (s : System)
     → Returned table t jobs its me owns told → length jobs ≡ length t.cpus → length told ≡ length jobs → Leaves t me.0 s → AreOwnsOf t owns s → me.0.go ≡ Given
     → (s ≡ (jobs_one_by_one (system_of t) t.goal jobs).left.system)

@@ -18,7 +18,7 @@ use Rattle.mt_private.specs.Residents.{Decides, Follows, Opens, Yard, accessed_b
 use Rattle.mt_private.specs.YardRule.{as_view, with_one, with_said}
 
 abbrev pub YardSat : Type 0
-YardSat = Me Op YardView
+pub YardSat = Me Op YardView
 
 -- the coordinator says so, and the first count becomes this: there are residents for whom it is this event
 pub record Said (t : Start) (count : ℕ) (e : MachineEvent) (go : Go) : Type 0 where

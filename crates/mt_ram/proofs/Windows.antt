@@ -101,7 +101,7 @@ fits ws w h = one (w.base % 64 == 0) (is_overlap ws w) (nat_lt (8 * 4096) (machi
 
 pub words_pushed : (ws : List machine.Window) (w : machine.Window) → machine.word_count (ws ++ w ∷ []) ≡ machine.word_count ws + 8 * w.lines
 pub words_pushed [] w = omega arith
-words_pushed (v ∷ vs) w = let e = words_pushed vs w in omega arith
+pub words_pushed (v ∷ vs) w = let e = words_pushed vs w in omega arith
 
 pub added : (m : machine.Memory) (w : machine.Window) → IsRam m → 0 < w.lines → machine.window_end w ≤ 2 ^ 52 → Fits m.windows w → IsRam (with_window w m)
 added m w h some bound f =

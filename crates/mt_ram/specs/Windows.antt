@@ -19,7 +19,7 @@ pub shares_byte v w = nat_lt v.base (machine.window_end w) && nat_lt w.base (mac
 -- whether one of these has a byte of the window
 abbrev pub is_overlap : List machine.Window → machine.Window → Bool
 pub is_overlap [] w = false
-is_overlap (v ∷ vs) w = shares_byte v w || is_overlap vs w
+pub is_overlap (v ∷ vs) w = shares_byte v w || is_overlap vs w
 
 -- at most 4,096 lines in 16 windows
 abbrev pub is_too_much : List machine.Window → machine.Window → Bool
@@ -36,8 +36,8 @@ pub refusal ws w =
 abbrev pub refusal_in : Result Unit RamFault → Option RamFault
 pub refusal_in (Ok done) = None
 pub refusal_in (Err Misaligned) = Some Misaligned
-refusal_in (Err Overlaps) = Some Overlaps
-refusal_in (Err TooMuch) = Some TooMuch
+pub refusal_in (Err Overlaps) = Some Overlaps
+pub refusal_in (Err TooMuch) = Some TooMuch
 refusal_in (Err NoMemory) = None
 
 -- the memory with one more window, of zeros

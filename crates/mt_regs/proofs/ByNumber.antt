@@ -19,7 +19,7 @@ use Rattle.mt_regs.proofs.Writes.{IsKnown, each_found, known}
 -- each register's number is above those before it, from low on and below high
 abbrev pub Ascend : ℕ → ℕ → List Register → Type 0
 pub Ascend low high [] = Unit {0}
-Ascend low high (r ∷ rs) = (low ≤ number_of r) × (number_of r < high) × Ascend (number_of r + 1) high rs
+pub Ascend low high (r ∷ rs) = (low ≤ number_of r) × (number_of r < high) × Ascend (number_of r + 1) high rs
 
 from_below : (low mid high : ℕ) (rs : List Register) → low ≤ mid → Ascend mid high rs → Ascend low high rs
 from_below low mid high [] below up = tt
@@ -94,12 +94,12 @@ pub place_in_writable f (PhysBase n) is within =
 pub place_in_writable f (PhysMask n) is within =
     let half : (2 * n + 1) / 2 ≡ n = omega arith in
     (2 * n + 1, writable_mask f (2 * n + 1) (omega (arith, is.all_pairs, pairs_length 0 (pair_count f))) (λ e. omega arith) ∙ ap (λ k. Some (PhysMask k)) half)
-place_in_writable f (FixedRange place) is within =
+pub place_in_writable f (FixedRange place) is within =
     let first : ℕ = length (pair_registers 0 (pair_count f)) in
     let size : length (fixed_part_of f) ≡ 11 = rw within.1 refl in
     let past : first + place - first ≡ place = omega arith in
     (first + place, writable_fixed f (first + place) (omega arith) (omega (arith, size, within.0)) ∙ ap (λ k. Some (FixedRange k)) past)
-place_in_writable f Pat is within =
+pub place_in_writable f Pat is within =
     (length (pair_registers 0 (pair_count f)) + length (fixed_part_of f) + 0, writable_last f (length (pair_registers 0 (pair_count f)) + length (fixed_part_of f) + 0) 0 refl)
 place_in_writable f DefaultType is within =
     (length (pair_registers 0 (pair_count f)) + length (fixed_part_of f) + 1, writable_last f (length (pair_registers 0 (pair_count f)) + length (fixed_part_of f) + 1) 1 refl)

@@ -12,7 +12,7 @@ use Rattle.mt_regs.specs.FirstFault.{first_fault}
 -- the first file with an answer, by its number, and the answer, where the files are numbered from k on
 abbrev pub first_from : {A : Type 0} → (RegisterFile → Option A) → ℕ → List RegisterFile → Option (ℕ × A)
 pub first_from answer k [] = None
-first_from answer k (f ∷ fs) = option_or (option_map (λ a. (k, a)) (answer f)) (first_from answer (k + 1) fs)
+pub first_from answer k (f ∷ fs) = option_or (option_map (λ a. (k, a)) (answer f)) (first_from answer (k + 1) fs)
 
 -- the least number of a file that isn't accepted, and its first fault
 abbrev pub first_refusal : List RegisterFile → Option (ℕ × Fault)

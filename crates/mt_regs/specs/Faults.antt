@@ -21,7 +21,7 @@ use Rattle.mt_regs.specs.PageTypes.{page_type}
 -- one of the lowest count bytes of a value passes the test
 abbrev pub any_byte : (ℕ → Bool) → ℕ → ℕ → Bool
 pub any_byte test value zero = false
-any_byte test value (suc i) = any_byte test value i || test (byte_at value i)
+pub any_byte test value (suc i) = any_byte test value i || test (byte_at value i)
 
 -- a byte that is a memory type, and WC only where the processor has write combining
 abbrev pub is_supported : Bool → ℕ → Bool

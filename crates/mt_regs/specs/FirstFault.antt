@@ -15,7 +15,7 @@ use Rattle.mt_regs.specs.Faults.{register_fault}
 
 abbrev pub is_undefined : PageType → Bool
 pub is_undefined Undefined = true
-is_undefined (Kind t) = false
+pub is_undefined (Kind t) = false
 
 -- the pages of the physical address space, each a number
 abbrev pub pages : RegisterFile → List ℕ

@@ -30,7 +30,7 @@ use Rattle.mt_rendezvous.specs.Laws.{Follows}
 
 pub total_set : (f : Held → ℕ) (l : List Held) (k : ℕ) (h w : Held) → get_elem? l k ≡ some h → total f (set l k w) + f h ≡ total f l + f w
 pub total_set f [] k h w e = absurd (some-ne-none h (sym e))
-total_set f (x ∷ xs) zero h w e = let is : f x ≡ f h = ap f (some-injective x h e) in omega arith
+pub total_set f (x ∷ xs) zero h w e = let is : f x ≡ f h = ap f (some-injective x h e) in omega arith
 total_set f (x ∷ xs) (suc k) h w e = let r = total_set f xs k h w e in omega arith
 
 pub weight_small : (b : Bool) → weight b ≤ 1
@@ -44,12 +44,12 @@ pub total_small f small (x ∷ xs) = let r = total_small f small xs in let s = s
 -- where the total is the length, each counts
 pub total_full : (f : Held → ℕ) → ((h : Held) → f h ≤ 1) → (l : List Held) → total f l ≡ length l → (k : ℕ) (h : Held) → get_elem? l k ≡ some h → f h ≡ 1
 pub total_full f small [] full k h e = absurd (some-ne-none h (sym e))
-total_full f small (x ∷ xs) full zero h e = let s = small x in let r = total_small f small xs in let is : f x ≡ f h = ap f (some-injective x h e) in omega arith
+pub total_full f small (x ∷ xs) full zero h e = let s = small x in let r = total_small f small xs in let is : f x ≡ f h = ap f (some-injective x h e) in omega arith
 total_full f small (x ∷ xs) full (suc k) h e = let s = small x in let r = total_small f small xs in total_full f small xs (omega arith) k h e
 
 pub set_cpus : (l : List Held) (k : ℕ) (h w : Held) → get_elem? l k ≡ some h → set (map cpu_of l) k w.cpu ≡ map cpu_of (set l k w)
 pub set_cpus [] k h w e = absurd (some-ne-none h (sym e))
-set_cpus (x ∷ xs) zero h w e = refl
+pub set_cpus (x ∷ xs) zero h w e = refl
 set_cpus (x ∷ xs) (suc k) h w e = λ i. x.cpu ∷ set_cpus xs k h w e i
 
 pub same_cpus : (l : List Held) (k : ℕ) (h w : Held) → get_elem? l k ≡ some h → w.cpu ≡ h.cpu → map cpu_of l ≡ map cpu_of (set l k w)
@@ -59,8 +59,8 @@ same_cpus (x ∷ xs) (suc k) h w e is = λ i. x.cpu ∷ same_cpus xs k h w e is 
 
 pub at_cpu : (l : List Held) (k : ℕ) (h : Held) → get_elem? l k ≡ some h → slice_get (map cpu_of l) k ≡ Some h.cpu
 pub at_cpu [] k h e = absurd (some-ne-none h (sym e))
-at_cpu (x ∷ xs) zero h e = ap (λ (y : Held). Some y.cpu) (some-injective x h e)
-at_cpu (x ∷ xs) (suc k) h e = at_cpu xs k h e
+pub at_cpu (x ∷ xs) zero h e = ap (λ (y : Held). Some y.cpu) (some-injective x h e)
+pub at_cpu (x ∷ xs) (suc k) h e = at_cpu xs k h e
 
 pub at_less : (l : List Held) (k : ℕ) (h : Held) → get_elem? l k ≡ some h → k < length l
 at_less [] k h e = absurd (some-ne-none h (sym e))
@@ -82,8 +82,8 @@ drop_set (x ∷ xs) (suc n) i v = let e : suc n + i ≡ suc (n + i) = omega arit
 
 pub all_false : (f : Processor → Bool) (l : List Held) (k : ℕ) (h : Held) → get_elem? l k ≡ some h → f h.cpu ≡ false → list_all f (map cpu_of l) ≡ false
 pub all_false f [] k h e off = absurd (some-ne-none h (sym e))
-all_false f (x ∷ xs) zero h e off = ap (λ b. b && list_all f (map cpu_of xs)) (ap (λ (y : Held). f y.cpu) (some-injective x h e) ∙ off)
-all_false f (x ∷ xs) (suc k) h e off = ap (λ b. f x.cpu && b) (all_false f xs k h e off) ∙ and_false (f x.cpu)
+pub all_false f (x ∷ xs) zero h e off = ap (λ b. b && list_all f (map cpu_of xs)) (ap (λ (y : Held). f y.cpu) (some-injective x h e) ∙ off)
+pub all_false f (x ∷ xs) (suc k) h e off = ap (λ b. f x.cpu && b) (all_false f xs k h e off) ∙ and_false (f x.cpu)
   where
     and_false : (b : Bool) → (b && false) ≡ false
     and_false true = refl
@@ -100,7 +100,7 @@ any_true f (x ∷ xs) (suc k) h e is = ap (λ b. f x.cpu || b) (any_true f xs k 
 
 pub all_true : (f : Processor → Bool) (l : List Held) → ((k : ℕ) (h : Held) → get_elem? l k ≡ some h → f h.cpu ≡ true) → list_all f (map cpu_of l) ≡ true
 pub all_true f [] each = refl
-all_true f (x ∷ xs) each = ap (λ b. b && list_all f (map cpu_of xs)) (each 0 x refl) ∙ all_true f xs (λ k h e. each (suc k) h e)
+pub all_true f (x ∷ xs) each = ap (λ b. b && list_all f (map cpu_of xs)) (each 0 x refl) ∙ all_true f xs (λ k h e. each (suc k) h e)
 
 -- it is on its way: not running
 abbrev pub IsUnderWay : Phase → Type 0
@@ -260,7 +260,7 @@ pub AllSit t all go owner views = (j : ℕ) (v : View) → get_elem? views j ≡
 
 pub told_of : (t : Start) (v : View) (h : Held) (hs : List Held) → v.held ≡ h ∷ hs → ((v.held ≡ []) × (v.root ≡ false)) ⊎ (v.start ≡ t) → v.start ≡ t
 pub told_of t v h hs is (inl nothing) = absurd (let e = nothing.0 in cc)
-told_of t v h hs is (inr x) = x
+pub told_of t v h hs is (inr x) = x
 
 module _ (t : Start) (all : List Held) (go : Go) (owner : ℕ → ℕ) (views : List View) (seats : AllSit t all go owner views) (id : ℕ) (v : View) (h w : Held) (at : get_elem? views id ≡ some v) (is : v.held ≡ h ∷ []) (same : w.number ≡ h.number) where
   mine : (get_elem? all h.number ≡ some h) × (owner h.number ≡ id)

@@ -38,22 +38,22 @@ pub of_one : (v : View) (h : Held) (P : Held → Type 0) → v.held ≡ h ∷ []
 of_one v h P is p g same = subst P (only h g (sym is ∙ same)) p
 
 pub moved : (v : View) (f : Held → Held) (h : Held) → v.held ≡ h ∷ [] → view v.root (f h ∷ []) v.go v.shown v ≡ with_held v (map f v.held)
-moved v f h is = ap (λ (hs : List Held). view v.root (map f hs) v.go v.shown v) (sym is)
+pub moved v f h is = ap (λ (hs : List Held). view v.root (map f hs) v.go v.shown v) (sym is)
 
 pub moved_shown : (v : View) (f : Held → Held) (h : Held) (n : ℕ) → v.held ≡ h ∷ [] → view v.root (f h ∷ []) v.go (Some n) v ≡ with_shown (with_held v (map f v.held)) n
-moved_shown v f h n is = ap (λ (hs : List Held). view v.root (map f hs) v.go (Some n) v) (sym is)
+pub moved_shown v f h n is = ap (λ (hs : List Held). view v.root (map f hs) v.go (Some n) v) (sym is)
 
 pub unmoved : (v : View) (h : Held) → v.held ≡ h ∷ [] → view v.root (h ∷ []) v.go v.shown v ≡ v
-unmoved v h is = ap (λ (hs : List Held). view v.root hs v.go v.shown v) (sym is)
+pub unmoved v h is = ap (λ (hs : List Held). view v.root hs v.go v.shown v) (sym is)
 
 pub shown_only : (v : View) (h : Held) (n : ℕ) → v.held ≡ h ∷ [] → view v.root (h ∷ []) v.go (Some n) v ≡ with_shown v n
-shown_only v h n is = ap (λ (hs : List Held). view v.root hs v.go (Some n) v) (sym is)
+pub shown_only v h n is = ap (λ (hs : List Held). view v.root hs v.go (Some n) v) (sym is)
 
 -- ---- the coordinator's word in word 0
 
 pub go_small : (go : Go) → go_weight go ≤ 4294967296
 pub go_small Pending = omega arith
-go_small Given = omega arith
+pub go_small Given = omega arith
 go_small Cancelled = omega arith
 
 -- whether the word shows the cancel
@@ -65,12 +65,12 @@ pub shows Cancelled n x e few = inl (refl, omega arith)
 -- the count is full: the go is given, and each pass has added
 pub ready : (go : Go) (n x all : ℕ) → x ≡ n + go_weight go → n ≤ all → all < 65536 → x ≡ all + 1 → (go ≡ Given) × (n ≡ all)
 pub ready Pending n x all e le few is = absurd (omega arith)
-ready Given n x all e le few is = (refl, omega arith)
+pub ready Given n x all e le few is = (refl, omega arith)
 ready Cancelled n x all e le few is = absurd (omega arith)
 
 pub is_true : (x : Bool) → weight x ≡ 1 → x ≡ true
 pub is_true true e = refl
-is_true false e = absurd (omega arith)
+pub is_true false e = absurd (omega arith)
 
 -- ---- which event is due
 

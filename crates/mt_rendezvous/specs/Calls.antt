@@ -90,14 +90,14 @@ pub gathered cpus ram goal = record { cpus = cpus; ram = ram; goal = goal }
 
 -- so many zeros, and the words of memory
 abbrev pub opening_words : ℕ → List ℕ → List ℕ
-opening_words count words = replicate (count + 2) 0 ++ words
+pub opening_words count words = replicate (count + 2) 0 ++ words
 
 abbrev pub IsRoot : TableId → TableId → Me (Unit {0}) View → Type 0
 pub IsRoot table its me = (its ≡ table) × (me.0.root ≡ true) × (me.1 ≡ [])
 
 -- the seat holds this one processor, whatever its pass has added
 abbrev pub HoldsOne : TableId → TableId → Me (Unit {0}) View → ℕ → Processor → Type 0
-HoldsOne table its me number c = (h : Held) × (its ≡ table) × (me.1 ≡ []) × (me.0.held ≡ h ∷ []) × (h.cpu ≡ c) × (h.number ≡ number)
+pub HoldsOne table its me number c = (h : Held) × (its ≡ table) × (me.1 ≡ []) × (me.0.held ≡ h ∷ []) × (h.cpu ≡ c) × (h.number ≡ number)
 
 -- where the machine ends: a state that the broadcast leads to, with this memory, in which each processor that the root has is as the root has it
 pub record Ends (t : Start) (v : View) (ram : Memory) : Type 0 where

@@ -97,7 +97,7 @@ abbrev pub own_event : Start → Processor → Event
 pub own_event t p = option_map_or (λ e. e) (due (order_of t Given) [] p p.phase) SetNoFill
 
 abbrev pub work : Start → Held → Held
-work t h = does t (own_event t h.cpu) h
+pub work t h = does t (own_event t h.cpu) h
 
 -- the word after an addition, and the word that a load leaves
 abbrev pub sum_word : Step (Unit {0}) → ℕ → ℕ
@@ -117,7 +117,7 @@ IsNoEvent st me found word f = Of me.0 (λ h. PassSteps me.0.start st.word found
 
 -- an addition of a pass to word 0: Arrive, or no event where the word held the cancel before. It tells besides that the processor is as it was gathered
 abbrev pub Arrives : Step (Unit {0}) → Sat → ℕ → Sat → Type 0
-Arrives st me found new =
+pub Arrives st me found new =
     (new.1 ≡ me.1)
     × Begins me.0.start
     × Of me.0 (λ h. slice_get me.0.start.cpus h.number ≡ Some h.cpu)
@@ -130,7 +130,7 @@ MayPass t h = (h.cpu.phase ≡ Arrived) × Stands t Given h.number (does t Pass 
 
 -- a load of word 0: Pass where all have arrived and go is given, Leave where it shows the cancel, else no event
 abbrev pub Passes : Step (Unit {0}) → Sat → ℕ → Sat → Type 0
-Passes st me found new =
+pub Passes st me found new =
     (new.1 ≡ me.1)
     × (found ≡ length me.0.start.cpus + 1 → Turned me new (does me.0.start Pass) × IsEvent st me found found Pass (does me.0.start Pass) × Of me.0 (MayPass me.0.start))
     × (4294967296 ≤ found → Turned me new (does me.0.start Leave) × IsEvent st me found found Leave (does me.0.start Leave) × Of me.0 (λ h. Stands me.0.start Cancelled h.number h.cpu))
@@ -138,7 +138,7 @@ Passes st me found new =
 
 -- a store of the own phase word, or of a word of memory: the event that is due
 abbrev pub Works : Step (Unit {0}) → Sat → ℕ → Sat → Type 0
-Works st me found new =
+pub Works st me found new =
     (new.1 ≡ me.1)
     × Turned me new (work me.0.start)
     × Of me.0 (λ h. (was : ℕ) × PassSteps me.0.start st.word was st.first (Some (Steps h.number (own_event me.0.start h.cpu))) h (work me.0.start h))
@@ -146,7 +146,7 @@ Works st me found new =
 
 -- an addition to word 1: ArriveAgain
 abbrev pub ArrivesAgain : Step (Unit {0}) → Sat → ℕ → Sat → Type 0
-ArrivesAgain st me found new =
+pub ArrivesAgain st me found new =
     (new.1 ≡ me.1)
     × Turned me new (arrive_again me.0.start)
     × IsEvent st me found (sum_word st found) ArriveAgain (arrive_again me.0.start)
@@ -164,7 +164,7 @@ HasFirstEra t h = h.cpu.era ≡ common_era t.cpus
 
 -- a load of word 1, which the view keeps: Release where all have arrived again, else no event
 abbrev pub Releases : Step (Unit {0}) → Sat → ℕ → Sat → Type 0
-Releases st me found new =
+pub Releases st me found new =
     (new.1 ≡ me.1)
     × (found < 65536)
     × (found ≡ length me.0.start.cpus → TurnedShown me new (does me.0.start Release) found × IsEvent st me found found Release (does me.0.start Release) × Of me.0 (HasFirstEra me.0.start))
@@ -182,5 +182,5 @@ Cancels st me found new = (new.1 ≡ me.1) × (new.0 ≡ with_go me.0 Cancelled)
 
 -- the word of memory that an event writes
 abbrev pub written : Event → Option (ℕ × ℕ)
-written (WriteBack address value) = Some (address, value)
+pub written (WriteBack address value) = Some (address, value)
 written other = None

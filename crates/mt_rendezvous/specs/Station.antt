@@ -38,7 +38,7 @@ pub cpu_of h = h.cpu
 
 -- the words of memory stand after the two counts and the phases
 abbrev pub first_memory_word : Start → ℕ
-first_memory_word t = length t.cpus + 2
+pub first_memory_word t = length t.cpus + 2
 
 abbrev pub memory_of : Start → List ℕ → Memory
 memory_of t words = record { windows = t.ram.windows; words = drop (first_memory_word t) words }
@@ -48,7 +48,7 @@ system_of t all words = record { processors = map cpu_of all; memory = memory_of
 
 -- the order is there while its update isn't over
 abbrev pub joined : Start → List Held → Go → List ℕ → Machine
-joined t all go words = stepped (order_of t go) (system_of t all words)
+pub joined t all go words = stepped (order_of t go) (system_of t all words)
 
 -- ---- views
 
@@ -58,7 +58,7 @@ pub held k c added again = record { number = k; cpu = c; added = added; again = 
 -- the processors by their numbers
 abbrev pub numbered : ℕ → List Processor → List Held
 pub numbered k [] = []
-numbered k (c ∷ cs) = held k c false false ∷ numbered (k + 1) cs
+pub numbered k (c ∷ cs) = held k c false false ∷ numbered (k + 1) cs
 
 abbrev pub start_of : Key → Start
 pub start_of key = record { cpus = key.cpus.value.items; ram = key.ram.value; goal = key.goal.value }
@@ -67,7 +67,7 @@ abbrev pub view : Bool → List Held → Go → Option ℕ → View → View
 view root hs go shown v = record { root = root; held = hs; go = go; shown = shown; start = v.start }
 
 abbrev pub first_view : Key → View
-first_view key = record { root = true; held = numbered 0 key.cpus.value.items; go = Pending; shown = None; start = start_of key }
+pub first_view key = record { root = true; held = numbered 0 key.cpus.value.items; go = Pending; shown = None; start = start_of key }
 
 -- the same view with other processors
 abbrev pub with_held : View → List Held → View
@@ -75,11 +75,11 @@ with_held v hs = view v.root hs v.go v.shown v
 
 abbrev pub one : List Held → List Held
 pub one [] = []
-one (h ∷ hs) = h ∷ []
+pub one (h ∷ hs) = h ∷ []
 
 abbrev pub others : List Held → List Held
 pub others [] = []
-others (h ∷ hs) = hs
+pub others (h ∷ hs) = hs
 
 abbrev pub root_left : View → View
 pub root_left v = with_held v (others v.held)
@@ -142,7 +142,7 @@ phase_word true Running = 8
 phase_word again other = code other
 
 abbrev pub phase_word_of : Held → ℕ
-phase_word_of h = phase_word h.again h.cpu.phase
+pub phase_word_of h = phase_word h.again h.cpu.phase
 
 -- ---- the rule
 
@@ -152,7 +152,7 @@ pub Fits go added again Taken = (again ≡ false) × (added ≡ true → go ≡ 
 pub Fits go added again Arrived = (again ≡ false) × (added ≡ true)
 pub Fits go added again Arrived2 = (again ≡ true) × (added ≡ true) × (go ≡ Given)
 pub Fits go added again Running = (added ≡ true) × (((again ≡ false) × (go ≡ Cancelled)) ⊎ ((again ≡ true) × (go ≡ Given)))
-Fits go added again other = (again ≡ false) × (added ≡ true) × (go ≡ Given)
+pub Fits go added again other = (again ≡ false) × (added ≡ true) × (go ≡ Given)
 
 -- whether its era has risen
 abbrev pub rise : Bool → Phase → ℕ
@@ -177,7 +177,7 @@ NotIn k hs = (i : ℕ) (h : Held) → get_elem? hs i ≡ some h → h.number ≢
 -- no number twice
 abbrev pub Apart : List Held → Type 0
 pub Apart [] = Unit {0}
-Apart (h ∷ hs) = NotIn h.number hs × Apart hs
+pub Apart (h ∷ hs) = NotIn h.number hs × Apart hs
 
 -- what one seat knows
 pub record Sits (t : Start) (all : List Held) (go : Go) (owner : ℕ → ℕ) (j : ℕ) (v : View) : Type 0 where

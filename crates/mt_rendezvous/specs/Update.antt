@@ -41,15 +41,15 @@ pub record HasTaken (s : Machine) (goal : RegisterFile) (m : Machine) : Type 0 w
 
 -- the attendee carries the processor with this number as it was gathered, and its pass has added nothing
 abbrev pub IsNew : TableId → Start → ℕ → Attendee → Type 0
-IsNew table t k a = Attends table t k a.cpu a.pass.seat.table_id a.pass.seat.me a.pass.number
+pub IsNew table t k a = Attends table t k a.cpu a.pass.seat.table_id a.pass.seat.me a.pass.number
 
 -- so do these, by their places
 abbrev pub AllNew : TableId → Start → List Attendee → Type 0
-AllNew table t items = (k : ℕ) (a : Attendee) → get_elem? items k ≡ some a → IsNew table t k a
+pub AllNew table t items = (k : ℕ) (a : Attendee) → get_elem? items k ≡ some a → IsNew table t k a
 
 -- the goal and the windows are those of the station
 abbrev pub AreOf : Start → RegisterFile → List Window → Type 0
-AreOf t goal windows = (goal ≡ t.goal) × (windows ≡ t.ram.windows)
+pub AreOf t goal windows = (goal ≡ t.goal) × (windows ≡ t.ram.windows)
 
 -- an attendee that has not begun
 pub record IsReady (table : TableId) (t : Start) (c : Processor) (its : TableId) (me : Me (Unit {0}) View) (number : ℕ) : Type 0 where

@@ -18,7 +18,7 @@ use Rattle.mt_replay.specs.Transcript.{in_body, in_head}
 
 abbrev pub newcomers_after : Situation → ℕ → List (List ℕ) → HeadStep → Bool
 pub newcomers_after now number lines (goes_on next after) = newcomers_from number lines (in_head next after)
-newcomers_after now number lines (shows dump) = newcomers_of_dump now dump (newcomers_in number lines) (first_refusal dump.files)
+pub newcomers_after now number lines (shows dump) = newcomers_of_dump now dump (newcomers_in number lines) (first_refusal dump.files)
 newcomers_after now number lines (offends o) = false
 
 of_step : (now : Situation) (number : ℕ) (lines : List (List ℕ)) (step : HeadStep) → newcomers_by (end_after number lines now (head_end number lines) step) ≡ newcomers_after now number lines step

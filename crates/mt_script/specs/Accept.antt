@@ -83,15 +83,15 @@ pub accepted now command.Go = in_commands now
 pub accepted now command.Cancel = in_commands now
 pub accepted now command.Report = in_commands now
 pub accepted now (command.Step k) = in_commands now
-accepted now command.Up = in_motion now
-accepted now command.Join = in_motion now
-accepted now command.Retire = in_motion now
-accepted now (command.Word address) = in_commands now
-accepted now (command.Msr k msr) = in_commands now
-accepted now command.Blank = now
-accepted now command.DumpLine = now
-accepted now (command.Register msr value) = record now { seen = now.seen ++ msr ∷ [] }
-accepted now command.End = in_section_of Commands now
+pub accepted now command.Up = in_motion now
+pub accepted now command.Join = in_motion now
+pub accepted now command.Retire = in_motion now
+pub accepted now (command.Word address) = in_commands now
+pub accepted now (command.Msr k msr) = in_commands now
+pub accepted now command.Blank = now
+pub accepted now command.DumpLine = now
+pub accepted now (command.Register msr value) = record now { seen = now.seen ++ msr ∷ [] }
+pub accepted now command.End = in_section_of Commands now
 
 abbrev pub finished : Situation → Dump → Situation
 pub finished now dump = record now { stage = Rams; dump = Some dump; seen = [] }

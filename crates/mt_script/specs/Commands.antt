@@ -29,12 +29,12 @@ pub Answer = Result Command ScriptFault
 -- what a good number leads to
 abbrev pub with : Result ℕ ScriptFault → (ℕ → Answer) → Answer
 pub with (Err fault) next = Err fault
-with (Ok number) next = next number
+pub with (Ok number) next = next number
 
 -- a fault, or else another answer
 abbrev pub unless : Option ScriptFault → Answer → Answer
 pub unless (Some fault) answer = Err fault
-unless None answer = answer
+pub unless None answer = answer
 
 -- The numbers of a line of each verb, from left to right, and the command that it asks for.
 abbrev pub cpus_in : ℕ → List (ℕ × List ℕ) → Answer
@@ -84,7 +84,7 @@ pub msr_in now line words =
 
 abbrev pub verb_answer : Situation → ℕ → List (ℕ × List ℕ) → Verb → Answer
 pub verb_answer now line words verb.Cpus = cpus_in line words
-verb_answer now line words verb.Dump = Ok command.Dump
+pub verb_answer now line words verb.Dump = Ok command.Dump
 verb_answer now line words verb.Ram = ram_in now line words
 verb_answer now line words verb.Selfsnoop = with (processor_in now line words 1) (λ k. Ok (command.Selfsnoop k))
 verb_answer now line words verb.Load = load_in now line words
@@ -110,7 +110,7 @@ verb_answer now line words verb.Msr = msr_in now line words
 -- a line of a row: its words, its stage, its numbers
 abbrev pub row_line : Situation → ℕ → List (ℕ × List ℕ) → Option Row → Answer
 pub row_line now line words None = Err (fault_at BadLine (place_of line words 0))
-row_line now line words (Some row) =
+pub row_line now line words (Some row) =
     unless (shape_fault line words row)
     (if stands row.turn now.stage then verb_answer now line words row.verb else Err (fault_at NotNow (place_of line words 0)))
 
@@ -158,8 +158,8 @@ pub not_too_long line bytes answer = if is_too_long bytes then Err (fault_at Bad
 abbrev pub in_stage : Situation → ℕ → List ℕ → Stage → Answer
 pub in_stage now line bytes InDump = in_dump bytes
 pub in_stage now line bytes InUpdate = not_too_long line bytes (in_section now line (words_of bytes))
-in_stage now line bytes InBegin = not_too_long line bytes (in_section now line (words_of bytes))
-in_stage now line bytes NeedCpus = not_too_long line bytes (outside now line (words_of bytes))
+pub in_stage now line bytes InBegin = not_too_long line bytes (in_section now line (words_of bytes))
+pub in_stage now line bytes NeedCpus = not_too_long line bytes (outside now line (words_of bytes))
 in_stage now line bytes NeedDump = not_too_long line bytes (outside now line (words_of bytes))
 in_stage now line bytes Rams = not_too_long line bytes (outside now line (words_of bytes))
 in_stage now line bytes Commands = not_too_long line bytes (outside now line (words_of bytes))

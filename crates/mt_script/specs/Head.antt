@@ -35,11 +35,11 @@ pub data HeadStep : Type 0 where
 -- the number of sections of a dump of version 2 isn't that of the processors
 abbrev pub sections_offence : ℕ → Place → Option Dump → Option Offence
 pub sections_offence cpus place None = None
-sections_offence cpus place (Some dump) = if has_each cpus dump then None else Some (offence.Script (fault_at OutOfRange place))
+pub sections_offence cpus place (Some dump) = if has_each cpus dump then None else Some (offence.Script (fault_at OutOfRange place))
 
 abbrev pub or_sections : Option DumpFault → Option Offence → Option Offence
 pub or_sections (Some fault) other = Some (offence.Dump fault)
-or_sections None other = other
+pub or_sections None other = other
 
 -- 0FEH must have been given; then the sections are counted
 abbrev pub end_offence : Situation → Place → List Reading → Option Offence
@@ -76,9 +76,9 @@ abbrev pub is_end_command : Command → Bool
 pub is_end_command (command.Cpus n) = false
 pub is_end_command command.Dump = false
 pub is_end_command (command.Ram base lines) = false
-is_end_command (command.Selfsnoop k) = false
-is_end_command (command.Load k address) = false
-is_end_command (command.Store k address value) = false
+pub is_end_command (command.Selfsnoop k) = false
+pub is_end_command (command.Load k address) = false
+pub is_end_command (command.Store k address value) = false
 is_end_command (command.Fence k) = false
 is_end_command (command.Map k address physical index global) = false
 is_end_command (command.Invlpg k address) = false

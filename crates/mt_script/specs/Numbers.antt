@@ -24,29 +24,29 @@ pub tested good reason place number = if good then Ok number else Err (fault_at 
 -- a decimal number that is at least this
 abbrev pub at_least : ℕ → Place → Result ℕ NumberFault → Result ℕ ScriptFault
 pub at_least first place (Err NotDigit) = Err (fault_at BadNumber place)
-at_least first place (Err TooLarge) = Err (fault_at OutOfRange place)
+pub at_least first place (Err TooLarge) = Err (fault_at OutOfRange place)
 at_least first place (Ok number) = tested (nat_le first number) OutOfRange place number
 
 -- a decimal number that is below this
 abbrev pub below : ℕ → Place → Result ℕ NumberFault → Result ℕ ScriptFault
 pub below limit place (Err NotDigit) = Err (fault_at BadNumber place)
-below limit place (Err TooLarge) = Err (fault_at OutOfRange place)
+pub below limit place (Err TooLarge) = Err (fault_at OutOfRange place)
 below limit place (Ok number) = tested (nat_lt number limit) OutOfRange place number
 
 -- a hexadecimal number
 abbrev pub any : Place → Result ℕ NumberFault → Result ℕ ScriptFault
 pub any place (Err fault) = Err (fault_at BadNumber place)
-any place (Ok number) = Ok number
+pub any place (Ok number) = Ok number
 
 -- a hexadecimal number that is a multiple of a step and below a limit
 abbrev pub aligned : ℕ → ℕ → Place → Result ℕ NumberFault → Result ℕ ScriptFault
 pub aligned step limit place (Err fault) = Err (fault_at BadNumber place)
-aligned step limit place (Ok number) = tested (number % step == 0 && nat_lt number limit) OutOfRange place number
+pub aligned step limit place (Ok number) = tested (number % step == 0 && nat_lt number limit) OutOfRange place number
 
 -- a hexadecimal number that is a multiple of a step
 abbrev pub multiple : ℕ → Place → Result ℕ NumberFault → Result ℕ ScriptFault
 pub multiple step place (Err fault) = Err (fault_at BadNumber place)
-multiple step place (Ok number) = tested (number % step == 0) OutOfRange place number
+pub multiple step place (Ok number) = tested (number % step == 0) OutOfRange place number
 
 -- how many bytes of addresses there are, once the dump has told it
 abbrev pub address_limit : Option RegisterFile → ℕ
@@ -65,7 +65,7 @@ pub is_writable file number = not (number == 0xfe) && is_register file number
 -- a hexadecimal number of a register
 abbrev pub register : Option RegisterFile → Place → Result ℕ NumberFault → Result ℕ ScriptFault
 pub register file place (Err fault) = Err (fault_at BadNumber place)
-register file place (Ok number) = tested (is_register file number) UnknownRegister place number
+pub register file place (Ok number) = tested (is_register file number) UnknownRegister place number
 
 -- The numbers of a line of this number with these words, each by the number of its word.
 

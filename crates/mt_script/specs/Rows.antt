@@ -59,7 +59,7 @@ pub row_of word = row_in word table
 
 abbrev pub stands : Turn → Stage → Bool
 pub stands Cpus stage = takes_cpus stage
-stands Dump stage = takes_dump stage
+pub stands Dump stage = takes_dump stage
 stands Windows stage = takes_windows stage
 stands Commands stage = takes_commands stage
 
@@ -70,5 +70,5 @@ is_switch word = is_word (codes "on") word || is_word (codes "off") word
 -- a word may stand last
 abbrev pub fits : Last → List ℕ → Bool
 pub fits Any word = true
-fits Global word = is_word (codes "global") word
+pub fits Global word = is_word (codes "global") word
 fits Switch word = is_switch word

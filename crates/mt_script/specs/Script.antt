@@ -50,16 +50,16 @@ pub script_offence text = offence_in (end_of text) 1 (lines_of text) at_start []
 -- processor, or in version 1 one for all.
 abbrev pub GoesOn : Situation → List Reading → Reading → (Situation → List Reading → Type 0) → Bool → Type 0
 pub GoesOn now before says rest true = (dump : Dump) × ShownBy (onto before []) dump × (has_each now.cpus dump ≡ true) × rest (finished now dump) []
-GoesOn now before says rest false = (offence_of before says ≡ None) × rest now (says ∷ before)
+pub GoesOn now before says rest false = (offence_of before says ≡ None) × rest now (says ∷ before)
 
 abbrev pub Follows : Situation → List Reading → Reading → (Situation → List Reading → Type 0) → Command → Bool → Type 0
 pub Follows now before says rest c true = GoesOn now before says rest (is_end_command c)
-Follows now before says rest c false = rest (accepted now c) before
+pub Follows now before says rest c false = rest (accepted now c) before
 
 -- each of these lines is accepted in its turn, and the text may end after them
 abbrev pub AreGood : ℕ → List (List ℕ) → Situation → List Reading → Type 0
 pub AreGood number [] now before = takes_commands now.stage ≡ true
-AreGood number (line ∷ lines) now before =
+pub AreGood number (line ∷ lines) now before =
     (c : Command) × (command_of now number line ≡ Ok c) × Follows now before (said_of number line) (AreGood (number + 1) lines) c (is_in_dump now.stage)
 
 abbrev pub IsGoodScript : List ℕ → Type 0

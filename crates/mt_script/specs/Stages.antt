@@ -8,9 +8,9 @@ abbrev pub takes_cpus : Stage → Bool
 pub takes_cpus NeedCpus = true
 pub takes_cpus NeedDump = false
 pub takes_cpus InDump = false
-takes_cpus Rams = false
-takes_cpus Commands = false
-takes_cpus InUpdate = false
+pub takes_cpus Rams = false
+pub takes_cpus Commands = false
+pub takes_cpus InUpdate = false
 takes_cpus InBegin = false
 
 -- the dump may begin
@@ -18,9 +18,9 @@ abbrev pub takes_dump : Stage → Bool
 pub takes_dump NeedCpus = false
 pub takes_dump NeedDump = true
 pub takes_dump InDump = false
-takes_dump Rams = false
-takes_dump Commands = false
-takes_dump InUpdate = false
+pub takes_dump Rams = false
+pub takes_dump Commands = false
+pub takes_dump InUpdate = false
 takes_dump InBegin = false
 
 -- windows may be added
@@ -38,9 +38,9 @@ abbrev pub takes_commands : Stage → Bool
 pub takes_commands NeedCpus = false
 pub takes_commands NeedDump = false
 pub takes_commands InDump = false
-takes_commands Rams = true
-takes_commands Commands = true
-takes_commands InUpdate = false
+pub takes_commands Rams = true
+pub takes_commands Commands = true
+pub takes_commands InUpdate = false
 takes_commands InBegin = false
 
 -- lines of the dump are read
@@ -57,8 +57,8 @@ pub is_in_dump InBegin = false
 abbrev pub takes_registers : Stage → Bool
 pub takes_registers NeedCpus = false
 pub takes_registers NeedDump = false
-takes_registers InDump = false
-takes_registers Rams = false
+pub takes_registers InDump = false
+pub takes_registers Rams = false
 takes_registers Commands = false
 takes_registers InUpdate = true
 takes_registers InBegin = true
@@ -67,8 +67,8 @@ takes_registers InBegin = true
 abbrev pub takes_end : Stage → Bool
 pub takes_end NeedCpus = false
 pub takes_end NeedDump = false
-takes_end InDump = true
-takes_end Rams = false
+pub takes_end InDump = true
+pub takes_end Rams = false
 takes_end Commands = false
 takes_end InUpdate = true
 takes_end InBegin = true
@@ -86,7 +86,7 @@ pub is_past_dump InBegin = true
 -- no window may be added any more
 abbrev pub is_past_windows : Stage → Bool
 pub is_past_windows NeedCpus = false
-is_past_windows NeedDump = false
+pub is_past_windows NeedDump = false
 is_past_windows InDump = false
 is_past_windows Rams = false
 is_past_windows Commands = true
@@ -97,8 +97,8 @@ is_past_windows InBegin = true
 abbrev pub HasCpus : Stage → ℕ → Type 0
 pub HasCpus NeedCpus cpus = cpus ≡ 0
 pub HasCpus NeedDump cpus = (1 ≤ cpus) × (cpus ≤ 16)
-HasCpus InDump cpus = (1 ≤ cpus) × (cpus ≤ 16)
-HasCpus Rams cpus = (1 ≤ cpus) × (cpus ≤ 16)
+pub HasCpus InDump cpus = (1 ≤ cpus) × (cpus ≤ 16)
+pub HasCpus Rams cpus = (1 ≤ cpus) × (cpus ≤ 16)
 HasCpus Commands cpus = (1 ≤ cpus) × (cpus ≤ 16)
 HasCpus InUpdate cpus = (1 ≤ cpus) × (cpus ≤ 16)
 HasCpus InBegin cpus = (1 ≤ cpus) × (cpus ≤ 16)

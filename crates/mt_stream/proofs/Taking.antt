@@ -32,7 +32,7 @@ pub takes_same : (R : Running) (from other : Leading) (number : ℕ) (so_far : L
     → ((end : Option Place) (lines : List (List ℕ)) → other end lines ≡ from end lines) → Takes R from number so_far now waiting left a b result → Takes R other number so_far now waiting left a b result
 pub takes_same R from other number so_far now waiting left a b (Ok None) same g =
     record { next = g.next; at = g.at; text = g.text; goes = λ end lines. same end lines ∙ g.goes end lines; passed = g.passed }
-takes_same R from other number so_far now waiting left a b (Ok (Some status)) same (inl e) =
+pub takes_same R from other number so_far now waiting left a b (Ok (Some status)) same (inl e) =
     inl (record { telling = e.telling; stops = λ end lines. ap (λ (x : Leads). x.tells) (same end lines) ∙ e.stops end lines; status_is = e.status_is; last = e.last; passed = e.passed })
 takes_same R from other number so_far now waiting left a b (Ok (Some status)) same (inr w) =
     inr (record { refused = w.refused; early = λ end lines. let (rest, is) = w.early end lines in (rest, ap (λ (x : Leads). x.early) (same end lines) ∙ is); waits = w.waits; kept = w.kept })
@@ -50,7 +50,7 @@ pub closes_after waiting first middle second last status a b c p (inl all) =
     let joined : p.front ++ (middle ++ second) ≡ waiting ++ (first ++ second) =
     sym (append_assoc p.front middle second) ∙ ap (λ (l : List ℕ). l ++ second) (sym p.cut) ∙ append_assoc waiting first second in
     inl (all.0, subst (Appends a c) joined (Appends-trans a b c p.front (middle ++ second) p.taken all.1))
-closes_after waiting first middle second last status a b c p (inr failed) = inr (failed.0, adds_after {T = Unit {0}} {E = Unit {0}} waiting first middle second [] a b c (Err tt) p failed.1)
+pub closes_after waiting first middle second last status a b c p (inr failed) = inr (failed.0, adds_after {T = Unit {0}} {E = Unit {0}} waiting first middle second [] a b c (Err tt) p failed.1)
 
 -- ---- a line too long
 

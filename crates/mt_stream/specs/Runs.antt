@@ -27,7 +27,7 @@ pub record TellsKnown (start : Telling) (bytes : List ℕ) (left before after : 
 -- What each status says. Memory is asked for before anything but the early text is written.
 abbrev pub RunsAs : Told → Telling → List ℕ → List ℕ → Option (List ℕ) → Option (List ℕ) → Option (List ℕ) → Status → Type 0
 pub RunsAs t start early bytes left before after Done = TellsAll t left before after Done
-RunsAs t start early bytes left before after Refused = TellsAll t left before after Refused
+pub RunsAs t start early bytes left before after Refused = TellsAll t left before after Refused
 RunsAs t start early bytes left before after Usage = ⊥
 RunsAs t start early bytes left before after BadText = TellsAll t left before after BadText
 RunsAs t start early bytes left before after ReadFault = TellsKnown start bytes left before after

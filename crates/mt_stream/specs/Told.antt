@@ -37,8 +37,8 @@ pub told_step rest (Err last) = last
 
 abbrev pub told_from : {P : Type 0} → Step P → (P → Told) → ℕ → List (List ℕ) → P → Told
 pub told_from step finish number [] p = finish p
-told_from step finish number (line ∷ lines) p = told_step (told_from step finish (number + 1) lines) (step number line p)
+pub told_from step finish number (line ∷ lines) p = told_step (told_from step finish (number + 1) lines) (step number line p)
 
 abbrev pub telling : {P : Type 0} → Step P → (Place → P → Told) → P → Telling
 pub telling step ends p (Some end) number lines = told_from step (ends end) number lines p
-telling step ends p None number lines = told_from step (λ last. told [] Done) number lines p
+pub telling step ends p None number lines = told_from step (λ last. told [] Done) number lines p

@@ -29,7 +29,7 @@ pub words_between at (x ∷ []) = elim (cases_Bool (is_blank x)) [
   | inl hit ↦ rw hit refl
   | inr miss ↦ rw miss refl
 ]
-words_between at (x ∷ y ∷ ys) = by (is_blank x) refl (is_blank y) refl (words_between (at + 1) (y ∷ ys))
+pub words_between at (x ∷ y ∷ ys) = by (is_blank x) refl (is_blank y) refl (words_between (at + 1) (y ∷ ys))
   where
     by : (first : Bool) → is_blank x ≡ first → (second : Bool) → is_blank y ≡ second → texts (words_from (at + 1) (y ∷ ys)) ≡ filled (slice_split is_blank (y ∷ ys)) → texts (words_from at (x ∷ y ∷ ys)) ≡ filled (slice_split is_blank (x ∷ y ∷ ys))
     by true hit second is later = rw hit later

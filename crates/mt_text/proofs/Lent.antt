@@ -126,7 +126,7 @@ pub moves_on old new before left given_before given_after line lines =
 -- a front that is lent lies in the bytes that were seen
 pub front_inside : (seen : List ℕ) (left : Option (List ℕ)) (front : ℕ × Bool) → IsFront seen left front → with_end front ≤ length seen
 pub front_inside seen left front (inl known) = front_within seen front known
-front_inside seen left front (inr end) = rw end.3 (omega arith)
+pub front_inside seen left front (inr end) = rw end.3 (omega arith)
 
 counts_moved : (old new : Feeding) (seen : List ℕ) (left : Option (List ℕ)) (front : ℕ × Bool) → IsFront seen left front → new ≡ moved old seen front → taken new ≡ old.offset + length seen
 counts_moved old new seen left front is moved_is = rw moved_is (omega (arith, front_inside seen left front is, length-drop (with_end front) seen))

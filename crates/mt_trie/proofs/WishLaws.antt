@@ -18,7 +18,7 @@ more_two wanted P Q step h = record { one = h.one; other = h.other; differ = h.d
 -- equal sets have equal wishes
 pub same_pages : (wanted : ℕ → Option MemType) (P Q : ℕ → Type 0) → ((page : ℕ) → P page → Q page) → ((page : ℕ) → Q page → P page) → (w : Wish) → IsWish wanted P w → IsWish wanted Q w
 pub same_pages wanted P Q to from Any m = λ page q. m page (from page q)
-same_pages wanted P Q to from (Only t) m = (λ page q u e. m.0 page (from page q) u e, more_has wanted P Q to t m.1)
+pub same_pages wanted P Q to from (Only t) m = (λ page q u e. m.0 page (from page q) u e, more_has wanted P Q to t m.1)
 same_pages wanted P Q to from Mixed m = more_two wanted P Q to m
 
 -- a set that two others make up

@@ -50,7 +50,7 @@ pub IsWish wanted Q Mixed = TwoWishes wanted Q
 -- what a set wants whose two parts want this
 abbrev pub both : Wish → Wish → Wish
 pub both Any w = w
-both (Only t) Any = Only t
+pub both (Only t) Any = Only t
 both (Only t) (Only u) = if is_type t u then Only t else Mixed
 both (Only t) Mixed = Mixed
 both Mixed w = Mixed

@@ -41,7 +41,7 @@ later_chain b from (r ∷ rs) chain above high = elim (cases_lt r.first (block_e
 pub covers_block : (b : Block) (from : ℕ) (runs : List Run) → IsChain from runs → from ≤ b.first → block_end b ≤ pages_end from runs
     → CoversBlock b (filter (shares_page b) runs)
 pub covers_block b from [] chain low high = absurd (omega (arith, pow_pos b.log))
-covers_block b from (r ∷ rs) chain low high = elim (cases_lt b.first (run_end r)) [
+pub covers_block b from (r ∷ rs) chain low high = elim (cases_lt b.first (run_end r)) [
   | inl inner ↦
       let test = shares b r inner (omega (arith, chain.0, pow_pos b.log)) in
       let later = later_chain b (run_end r) rs chain.2 inner high in

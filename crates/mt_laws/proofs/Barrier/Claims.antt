@@ -21,7 +21,7 @@ use Rattle.mt_laws.proofs.Barrier.Barriers.{Rest, Kept, Invariant, reached_keeps
 
 pub passed_rank : (ph : Phase) (ahead : Bool) → (is_running ph ≡ false → ahead ≡ false) → (is_changing ph || is_arrived_again ph || ahead) ≡ true → 3 ≤ rank_of ph ahead
 pub passed_rank Running true in_step h = lit≤ tt
-passed_rank Running false in_step h = absurd (cc)
+pub passed_rank Running false in_step h = absurd (cc)
 passed_rank Taken true in_step h = absurd (let e : true ≡ false = in_step refl in cc)
 passed_rank Taken false in_step h = absurd (cc)
 passed_rank Arrived true in_step h = absurd (let e : true ≡ false = in_step refl in cc)
@@ -163,7 +163,7 @@ pub exclusive_in s None r i j p q at_p at_q h =
     let runs : is_running p.phase ≡ true = r.running i (stage_of p) (stage_at s.processors i p at_p) in
     let quiet : is_changing p.phase ≡ false = not_changing p.phase runs in
     absurd (cc)
-exclusive_in s (Some o) g i j p q at_p at_q h =
+pub exclusive_in s (Some o) g i j p q at_p at_q h =
     not_true (is_running q.phase) (λ runs. absurd (clash runs))
   where
     clash : is_running q.phase ≡ true → ⊥

@@ -15,8 +15,8 @@ use Rattle.mt_laws.proofs.Barrier.Stages.{Stage, stage_of, stages_of}
 abbrev pub rank_of : Phase → Bool → ℕ
 pub rank_of Running true = 5
 pub rank_of Running false = 0
-rank_of Taken released = 1
-rank_of Arrived released = 2
+pub rank_of Taken released = 1
+pub rank_of Arrived released = 2
 rank_of Arrived2 released = 4
 rank_of other released = 3
 
@@ -51,7 +51,7 @@ pub at_set [] k i y w at = inr at
 pub at_set (v ∷ vs) zero zero y w at = inl (refl, cc)
 pub at_set (v ∷ vs) zero (suc i) y w at = inr at
 pub at_set (v ∷ vs) (suc k) zero y w at = inr at
-at_set (v ∷ vs) (suc k) (suc i) y w at =
+pub at_set (v ∷ vs) (suc k) (suc i) y w at =
     ⊎_elim (λ (e : (i ≡ k) × (y ≡ w)). inl (ap suc e.0, e.1)) (λ (e : At vs i w). inr e) (at_set vs k i y w at)
 
 -- the processor that has a stage
@@ -76,7 +76,7 @@ pub and_right false b h = absurd (cc)
 pub all_at : (test : Processor → Bool) (ps : List Processor) (i : ℕ) (p : Processor) → list_all test ps ≡ true → slice_get ps i ≡ Some p → test p ≡ true
 pub all_at test [] i p all at = absurd (cc)
 pub all_at test (q ∷ ps) zero p all at = let e : q ≡ p = cc in ap test (sym e) ∙ and_left (test q) (list_all test ps) all
-all_at test (q ∷ ps) (suc i) p all at = all_at test ps i p (and_right (test q) (list_all test ps) all) at
+pub all_at test (q ∷ ps) (suc i) p all at = all_at test ps i p (and_right (test q) (list_all test ps) all) at
 
 -- ---- what the words of the barriers say of ranks
 

@@ -39,11 +39,11 @@ pub all_append test (x ∷ xs) ys h g = and_true (test x) _ (and_left _ _ h) (al
 
 pub all_drop : {X : Type 0} → (test : X → Bool) (xs : List X) → list_all test xs ≡ true → list_all test (drop 1 xs) ≡ true
 pub all_drop test [] h = h
-all_drop test (x ∷ xs) h = and_right (test x) _ h
+pub all_drop test (x ∷ xs) h = and_right (test x) _ h
 
 pub all_filter : {X : Type 0} → (test keep : X → Bool) (xs : List X) → list_all test xs ≡ true → list_all test (filter keep xs) ≡ true
 pub all_filter test keep [] h = h
-all_filter test keep (x ∷ xs) h = one (keep x) (filter keep xs) (all_filter test keep xs (and_right (test x) _ h))
+pub all_filter test keep (x ∷ xs) h = one (keep x) (filter keep xs) (all_filter test keep xs (and_right (test x) _ h))
   where
     one : (b : Bool) (rest : List _) → list_all test rest ≡ true → list_all test (if b then x ∷ rest else rest) ≡ true
     one true rest g = and_true (test x) _ (and_left _ _ h) g

@@ -86,7 +86,7 @@ renewed o ps g clear some j p at =
 
 pub set_at : (vs : List Stage) (i k : ℕ) (x y z : Stage) → At vs i x → At vs k z → At (set vs k y) i x ⊎ ((i ≡ k) × At (set vs k y) i y)
 pub set_at [] i k x y z at_i at_k = absurd (cc)
-set_at (v ∷ vs) zero zero x y z at_i at_k = inr (refl, refl)
+pub set_at (v ∷ vs) zero zero x y z at_i at_k = inr (refl, refl)
 set_at (v ∷ vs) zero (suc k) x y z at_i at_k = inl at_i
 set_at (v ∷ vs) (suc i) zero x y z at_i at_k = inl at_i
 set_at (v ∷ vs) (suc i) (suc k) x y z at_i at_k =
@@ -94,7 +94,7 @@ set_at (v ∷ vs) (suc i) (suc k) x y z at_i at_k =
 
 pub set_same : (vs : List Stage) (k : ℕ) (y z : Stage) → At vs k z → At (set vs k y) k y
 pub set_same [] k y z h = absurd (cc)
-set_same (v ∷ vs) zero y z h = refl
+pub set_same (v ∷ vs) zero y z h = refl
 set_same (v ∷ vs) (suc k) y z h = set_same vs k y z h
 
 pub at_same : (vs : List Stage) (i : ℕ) (x y : Stage) → At vs i x → At vs i y → x ≡ y
@@ -120,7 +120,7 @@ still_ahead o e k s p at h g some =
 
 abbrev pub OrderLate : ℕ → Option Order → System → Type 0
 pub OrderLate era None s = Unit {0}
-OrderLate era (Some o) s = (o.from_era + 1 ≡ era) × SomeAhead o (stages s)
+pub OrderLate era (Some o) s = (o.from_era + 1 ≡ era) × SomeAhead o (stages s)
 
 pub record Late (era : ℕ) (m : Machine) : Type 0 where
   pub all : Renewed era m.system.processors
@@ -149,7 +149,7 @@ pub late_next era (Accesses k op) s o enabled quiet inv clear l = record { all =
     late_order : (o : Option Order) → stages s ≡ stages (next (record { system = s; order = o }) (Accesses k op)).system → OrderLate era o s → OrderLate era o (next (record { system = s; order = o }) (Accesses k op)).system
     late_order None same h = tt
     late_order (Some o) same h = (h.0, subst (SomeAhead o) same h.1)
-late_next era (Controls k c) s o enabled quiet inv clear l = record { all = renewed_follows era k s.processors _ enabled.0 (follows_control s k c) l.all; order = late_order o (sym (control_stages s k c)) l.order }
+pub late_next era (Controls k c) s o enabled quiet inv clear l = record { all = renewed_follows era k s.processors _ enabled.0 (follows_control s k c) l.all; order = late_order o (sym (control_stages s k c)) l.order }
   where
     late_order : (o : Option Order) → stages s ≡ stages (next (record { system = s; order = o }) (Controls k c)).system → OrderLate era o s → OrderLate era o (next (record { system = s; order = o }) (Controls k c)).system
     late_order None same h = tt
@@ -269,7 +269,7 @@ pub nothing_older_in : (m : Machine) (o : Order) (k : ℕ) (since : List Machine
     → AreEnabled (next (record { system = m.system; order = x }) (Steps k Release)) since → list_all (λ e. not (is_call e)) since ≡ true
     → (i : ℕ) (p : Processor) → IsAt (run (next (record { system = m.system; order = x }) (Steps k Release)) since) i p → HoldsOnly (o.from_era + 1) p
 pub nothing_older_in m o k since None is same kept enabled more quiet i p at = absurd (cc)
-nothing_older_in m o k since (Some o') is same kept enabled more quiet i p at =
+pub nothing_older_in m o k since (Some o') is same kept enabled more quiet i p at =
     let orders : o' ≡ o = cc in
     let era : o'.from_era + 1 ≡ o.from_era + 1 = ap (λ (v : Order). v.from_era + 1) orders in
     let new = late_run (o'.from_era + 1) (next (record { system = m.system; order = Some o' }) (Steps k Release)) since (kept_next (record { system = m.system; order = Some o' }) (Steps k Release) enabled kept) (release_late m.system o' k kept enabled) more quiet i p at in

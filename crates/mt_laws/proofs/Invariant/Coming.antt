@@ -44,8 +44,8 @@ newcomer_is_processor p h = record {
 pub of_more : (ps : List Processor) (q : Processor) (i : ℕ) (p : Processor) → slice_get (ps ++ q ∷ []) i ≡ Some p → (slice_get ps i ≡ Some p) ⊎ (q ≡ p)
 pub of_more [] q zero p at = inr (cc)
 pub of_more [] q (suc i) p at = absurd (cc)
-of_more (x ∷ ps) q zero p at = inl at
-of_more (x ∷ ps) q (suc i) p at = of_more ps q i p at
+pub of_more (x ∷ ps) q zero p at = inl at
+pub of_more (x ∷ ps) q (suc i) p at = of_more ps q i p at
 
 each_more : (P : Processor → Type 0) (ps : List Processor) (q : Processor) → All P ps → P q → All P (ps ++ q ∷ [])
 each_more P ps q all own =

@@ -108,8 +108,8 @@ step_flags goal e k s = change_flags (own_step goal e) (own_keeps_flag goal e) k
 pub flags_stay : FlagsStay
 pub flags_stay m (Accesses k op) = access_flags m.system k op
 pub flags_stay m (Controls k c) = control_flags m.system k c
-flags_stay m (Calls goal) = refl
-flags_stay m Goes = one m.order
+pub flags_stay m (Calls goal) = refl
+pub flags_stay m Goes = one m.order
   where
     one : (o : Option Order) → flags_of (next (record m { order = o }) Goes).system ≡ flags_of m.system
     one None = refl

@@ -41,7 +41,7 @@ clear_front (Some c ∷ cs) (suc k) h = absurd h
 
 pub shared_front : (v : ℕ) (cs : List Copy) (k : ℕ) → IsShared v cs → IsShared v (take k cs)
 pub shared_front v [] zero h = tt
-shared_front v [] (suc k) h = tt
+pub shared_front v [] (suc k) h = tt
 shared_front v (c ∷ cs) zero h = tt
 shared_front v (None ∷ cs) (suc k) h = shared_front v cs k h
 shared_front v (Some (x, true) ∷ cs) (suc k) h = absurd h
@@ -100,7 +100,7 @@ back_word a whole (l ∷ ls) m aligned counted apart fit =
 
 pub of_front : (ps : List Processor) (k i : ℕ) (p : Processor) → slice_get (take k ps) i ≡ Some p → slice_get ps i ≡ Some p
 pub of_front [] zero i p at = absurd (cc)
-of_front [] (suc k) i p at = absurd (cc)
+pub of_front [] (suc k) i p at = absurd (cc)
 of_front (q ∷ ps) zero i p at = absurd (cc)
 of_front (q ∷ ps) (suc k) zero p at = at
 of_front (q ∷ ps) (suc k) (suc i) p at = of_front ps k i p at
@@ -113,7 +113,7 @@ fit_front ws (p ∷ ps) (suc k) h = (h.0, fit_front ws ps k h.1)
 
 pub last_is : (ps : List Processor) (k : ℕ) → k < length ps → (p : Processor) × (slice_get ps k ≡ Some p)
 pub last_is [] k within = absurd (omega arith)
-last_is (p ∷ ps) zero within = (p, refl)
+pub last_is (p ∷ ps) zero within = (p, refl)
 last_is (p ∷ ps) (suc k) within = last_is ps k (omega arith)
 
 module _ (t : System) (k : ℕ) (p : Processor) (h : IsSound t) (at : slice_get t.processors k ≡ Some p) (long : length t.processors ≡ suc k) where

@@ -66,7 +66,7 @@ pub start_standing m s = record {
 
 pub reached_standing : (ws : List Window) → AllAligned ws → {s t : Machine} → Reached s t → Standing ws s → Standing ws t
 pub reached_standing ws aligned at_start g = g
-reached_standing ws aligned (after e r enabled) g = standing_next ws aligned _ e enabled (reached_standing ws aligned r g)
+pub reached_standing ws aligned (after e r enabled) g = standing_next ws aligned _ e enabled (reached_standing ws aligned r g)
 
 -- ---- where it holds, the system is sound
 

@@ -50,7 +50,7 @@ flagged f b = record (start_processor f) { self_snoop = b }
 -- what holds of the processor of each file holds of all
 pub each_start : (P : Processor → Type 0) (files : List RegisterFile) (flags : List Bool) → All (λ f. (b : Bool) → P (flagged f b)) files → All P (flagged_processors files flags)
 pub each_start P [] flags h = nothing P
-each_start P (f ∷ fs) [] h =
+pub each_start P (f ∷ fs) [] h =
     All-cons P (start_processor f) (flagged_processors fs []) (All-head (λ g. (b : Bool) → P (flagged g b)) f fs h false)
     (each_start P fs [] (All-tail (λ g. (b : Bool) → P (flagged g b)) f fs h))
 each_start P (f ∷ fs) (b ∷ bs) h =

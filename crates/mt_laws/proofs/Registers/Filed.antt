@@ -32,7 +32,7 @@ use Rattle.mt_laws.proofs.Barrier.Claims.{all_get}
 
 abbrev pub is_done : Phase → Bool
 pub is_done Enabled = true
-is_done Flushed2 = true
+pub is_done Flushed2 = true
 is_done TlbFlushed2 = true
 is_done Normal = true
 is_done Restored = true
@@ -50,7 +50,7 @@ pub FiledAt o p = Filed o p.file (stage_of p)
 
 pub flush_file : (ph : Phase) (p : Processor) → (flush_tlb ph p).file ≡ p.file
 pub flush_file Flushed2 p = refl
-flush_file other p = in_case p.page_global
+pub flush_file other p = in_case p.page_global
   where
     in_case : (b : Bool) → (if b then record p { remembered_global = true; page_global = false; entries = [] } else record (reload_cr3 p) { remembered_global = false }).file ≡ p.file
     in_case true = refl
@@ -194,7 +194,7 @@ module _ (o : Order) (ps : List Processor) (p : Processor) (is_file : IsRegister
 
 abbrev pub AllFiled : Option Order → List Processor → Type 0
 pub AllFiled None ps = (i : ℕ) (p : Processor) → slice_get ps i ≡ Some p → IsRegisterFile p.file
-AllFiled (Some o) ps = IsRegisterFile o.goal × ((i : ℕ) (p : Processor) → slice_get ps i ≡ Some p → FiledAt o p)
+pub AllFiled (Some o) ps = IsRegisterFile o.goal × ((i : ℕ) (p : Processor) → slice_get ps i ≡ Some p → FiledAt o p)
 
 filed_as : (o : Order) (p q : Processor) → q.file ≡ p.file → q.phase ≡ p.phase → q.era ≡ p.era → FiledAt o p → FiledAt o q
 filed_as o p q file phase era h =

@@ -62,9 +62,9 @@ pub next_shapes : (v : Shape) (e : MachineEvent) (s : System) (o : Option Order)
 pub next_shapes v (Accesses k op) s o all = λ j q at. let from = follows_access s k op j q at in ap shape from.2.file ∙ all j from.0 from.1
 pub next_shapes v (Controls k c) s o all = λ j q at. let from = follows_control s k c j q at in ap shape from.2.file ∙ all j from.0 from.1
 pub next_shapes v (Calls goal) s o all = all
-next_shapes v Goes s None all = all
-next_shapes v Goes s (Some o) all = all
-next_shapes v Cancels s None all = all
+pub next_shapes v Goes s None all = all
+pub next_shapes v Goes s (Some o) all = all
+pub next_shapes v Cancels s None all = all
 next_shapes v Cancels s (Some o) all = all
 next_shapes v (Steps k e) s None all = all
 next_shapes v (Steps k e) s (Some o) all = step_shapes v o.goal e k s all

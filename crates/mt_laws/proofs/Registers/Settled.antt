@@ -47,7 +47,7 @@ goal_reached o ps g all some j p at =
 
 abbrev pub OrderHas : RegisterFile → Option Order → Type 0
 pub OrderHas goal None = Unit {0}
-OrderHas goal (Some o) = o.goal ≡ goal
+pub OrderHas goal (Some o) = o.goal ≡ goal
 
 pub record Settling (goal : RegisterFile) (m : Machine) : Type 0 where
   pub files : AllAre goal m.system.processors
@@ -66,7 +66,7 @@ are_follows goal k ps qs f all j q at = let from = f j q at in from.2.file ∙ a
 
 pub settling_next : (era : ℕ) (goal : RegisterFile) (e : MachineEvent) (s : System) (o : Option Order) → IsEnabled (record { system = s; order = o }) e → not (is_call e) ≡ true → Kept o (stages s) → AllFiled o s.processors → Late era (record { system = s; order = o }) → Settling goal (record { system = s; order = o }) → Settling goal (next (record { system = s; order = o }) e)
 pub settling_next era goal (Accesses k op) s o enabled quiet inv all l t = record { files = are_follows goal k s.processors _ (follows_access s k op) t.files; order = t.order }
-settling_next era goal (Controls k c) s o enabled quiet inv all l t = record { files = are_follows goal k s.processors _ (follows_control s k c) t.files; order = t.order }
+pub settling_next era goal (Controls k c) s o enabled quiet inv all l t = record { files = are_follows goal k s.processors _ (follows_control s k c) t.files; order = t.order }
 settling_next era goal (Calls new) s o enabled quiet inv all l t = absurd (cc)
 settling_next era goal Goes s None enabled quiet inv all l t = absurd (cc)
 settling_next era goal Goes s (Some o) enabled quiet inv all l t = absurd (pending_late o s enabled inv l.order.1)
@@ -129,7 +129,7 @@ pub files_in : (m : Machine) (o : Order) (k : ℕ) (since : List MachineEvent) (
     → AreEnabled (next (record { system = m.system; order = x }) (Steps k Release)) since → list_all (λ e. not (is_call e)) since ≡ true
     → AllAre o.goal (run (next (record { system = m.system; order = x }) (Steps k Release)) since).system.processors
 pub files_in m o k since None same kept all enabled more quiet = absurd (cc)
-files_in m o k since (Some o') same kept all enabled more quiet =
+pub files_in m o k since (Some o') same kept all enabled more quiet =
     let orders : o' ≡ o = cc in
     let at : Machine = record { system = m.system; order = Some o' } in
     subst (λ (v : Order). AllAre v.goal (run (next at (Steps k Release)) since).system.processors) orders

@@ -30,7 +30,7 @@ pub first_drop p = if p.self_snoop then 0 else 1
 -- from Passed on, with so many registers, dirty words and drops of the first flush. No step but a write-back changes how many words are dirty
 abbrev pub left : Phase → ℕ → ℕ → ℕ → ℕ
 pub left Passed registers words drops = registers + words + drops + 9
-left NoFill registers words drops = registers + words + drops + 8
+pub left NoFill registers words drops = registers + words + drops + 8
 left Flushed registers words drops = registers + words + 8
 left TlbFlushed registers words drops = registers + words + 7
 left (Writing i) registers words drops = (registers - i) + words + 6

@@ -36,11 +36,11 @@ use Rattle.mt_laws.proofs.Invariant.Kept.{agrees, start_aligned}
 
 pub contains_more : (o : Option ℕ) (rest : List ℕ) (a : ℕ) → Contains rest a → Contains (option_map_or (λ b. b ∷ rest) o rest) a
 pub contains_more None rest a h = h
-contains_more (Some b) rest a h = let low : h.0 < length rest = h.1 in (suc h.0, omega arith, h.2)
+pub contains_more (Some b) rest a h = let low : h.0 < length rest = h.1 in (suc h.0, omega arith, h.2)
 
 pub contains_first : (o : Option ℕ) (rest : List ℕ) (a : ℕ) → o ≡ Some a → Contains (option_map_or (λ b. b ∷ rest) o rest) a
 pub contains_first None rest a h = absurd (cc)
-contains_first (Some b) rest a h = let e : b ≡ a = cc in (0, omega arith, e)
+pub contains_first (Some b) rest a h = let e : b ≡ a = cc in (0, omega arith, e)
 
 module _ (ws : List Window) (aligned : AllAligned ws) where
   pub stays_in_memory : (es : List MachineEvent) (m : Machine) (a x : ℕ) → a % 8 ≡ 0 → Stands ws m.system → AreEnabled m es → (Contains (stored_words m es) a → ⊥) → Word false a x m.system → Word false a x (run m es).system
@@ -70,7 +70,7 @@ pub record IsBetween (o : Order) (s : System) : Type 0 where
 
 pub own_era : (o : Order) (p : Processor) (e : Event) → is_release (Steps 0 e) ≡ false → (own_step o.goal e p).era ≡ p.era
 pub own_era o p Release h = absurd (cc)
-own_era o p FlushTlb h = flush_era p.phase p
+pub own_era o p FlushTlb h = flush_era p.phase p
 own_era o p other h = refl
 
 running_low : (ph : Phase) → is_running ph ≡ true → rank_of ph false ≡ 0

@@ -146,7 +146,7 @@ pub record Taking (o : Order) (s : System) (ks : List ℕ) : Type 0 where
 -- of an order that isn't cancelled, whether its go is given or not
 pub all_take : (o : Order) → is_cancelled o.go ≡ false → (ks : List ℕ) (s : System) → Waiting o s ks → Taking o s ks
 pub all_take o on [] s w = record { last = s; enabled = tt; leads = refl; waiting = w }
-all_take o on (k ∷ ks) s w =
+pub all_take o on (k ∷ ks) s w =
     let rest = all_take o on ks (step o.goal Take k s) (still_waiting o on s k ks w) in
     let stays = goes_on o on s k ks w in
     record {
@@ -199,7 +199,7 @@ takes_led (k ∷ ks) = takes_led ks
 
 pub takes_taken : (ks : List ℕ) → takes_of (takes ks) ≡ ks
 pub takes_taken [] = refl
-takes_taken (k ∷ ks) = ap (λ js. k ∷ js) (takes_taken ks)
+pub takes_taken (k ∷ ks) = ap (λ js. k ∷ js) (takes_taken ks)
 
 abbrev taken_one : Processor → Processor
 taken_one p = record p { phase = Taken }
@@ -278,7 +278,7 @@ change_memory f k s = one (slice_get s.processors k)
 
 pub emptied_windows : (ks : List ℕ) (s : System) → (emptied s ks).memory.windows ≡ s.memory.windows
 pub emptied_windows [] s = refl
-emptied_windows (k ∷ ks) s =
+pub emptied_windows (k ∷ ks) s =
     emptied_windows ks (drain k s)
     ∙ ap (λ (m : Memory). m.windows) (change_memory (with_buffers (λ _. [])) k (fold empty_buffer s (buffers_of s k)))
     ∙ empty_windows (buffers_of s k) s

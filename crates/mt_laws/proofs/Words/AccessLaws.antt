@@ -131,7 +131,7 @@ pub word_buffers true a x f k s lines writes w = record { shows = shown (slice_g
     shown : (o : Option Processor) → slice_get s.processors k ≡ o → Shows (word_at (option_map_or (λ p. record s { processors = set s.processors k (f p) }) o s).memory a) (copies a (option_map_or (λ p. record s { processors = set s.processors k (f p) }) o s).processors) x
     shown None is = w.shows
     shown (Some p) is = subst (λ (cs : List Copy). Shows (word_at s.memory a) cs x) (sym (copies_set a s.processors k (f p) ∙ ap (λ ls. set (copies a s.processors) k (copy_in a ls)) (lines p) ∙ copy_set (copies a s.processors) k (copy_in a p.lines) (copies_at a s.processors k p is))) w.shows
-word_buffers false a x f k s lines writes w =
+pub word_buffers false a x f k s lines writes w =
     leaves_word false a x s (change f k s) (leaves_change a f k s (λ p at. ap (copy_in a) (lines p)) (λ p at h. writes refl p h)) w
 
 -- ---- room for a line

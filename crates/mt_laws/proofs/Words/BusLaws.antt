@@ -138,7 +138,7 @@ fits_cleaned ws l h = fits_of ws (clean_line l) (fits_placed ws l h) (fits_eight
 pub fit_at : (ws : List Window) (ps : List Processor) (k : ℕ) (p : Processor) → AllFit ws ps → slice_get ps k ≡ Some p → Fits ws p
 pub fit_at ws [] k p h at = absurd (cc)
 pub fit_at ws (q ∷ ps) zero p h at = let e : q ≡ p = cc in subst (Fits ws) e h.0
-fit_at ws (q ∷ ps) (suc k) p h at = fit_at ws ps k p h.1 at
+pub fit_at ws (q ∷ ps) (suc k) p h at = fit_at ws ps k p h.1 at
 
 pub fit_map : (ws : List Window) (f : Processor → Processor) → ((p : Processor) → Fits ws p → Fits ws (f p)) → (ps : List Processor) → AllFit ws ps → AllFit ws (map f ps)
 fit_map ws f keeps [] h = h
@@ -203,7 +203,7 @@ copies_set a (p ∷ ps) (suc k) q = ap (λ cs. copy_in a p.lines ∷ cs) (copies
 
 pub copies_at : (a : ℕ) (ps : List Processor) (k : ℕ) (p : Processor) → slice_get ps k ≡ Some p → slice_get (copies a ps) k ≡ Some (copy_in a p.lines)
 pub copies_at a [] k p at = absurd (cc)
-copies_at a (q ∷ ps) zero p at = let e : q ≡ p = cc in ap (λ (r : Processor). Some (copy_in a r.lines)) e
+pub copies_at a (q ∷ ps) zero p at = let e : q ≡ p = cc in ap (λ (r : Processor). Some (copy_in a r.lines)) e
 copies_at a (q ∷ ps) (suc k) p at = copies_at a ps k p at
 
 set_kept : (cs : List Copy) (k : ℕ) (c : Copy) → slice_get cs k ≡ Some c → set cs k c ≡ cs

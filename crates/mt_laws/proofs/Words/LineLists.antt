@@ -18,7 +18,7 @@ pub copy_in a ls = option_map (look a) (find_line (line_of a) ls)
 -- no two lines have one number
 abbrev pub Apart : List CacheLine → Type 0
 pub Apart [] = Unit {0}
-Apart (l ∷ ls) = (find_line l.number ls ≡ None) × Apart ls
+pub Apart (l ∷ ls) = (find_line l.number ls ≡ None) × Apart ls
 
 abbrev pub KeepsNumber : (CacheLine → CacheLine) → Type 0
 pub KeepsNumber f = (l : CacheLine) → (f l).number ≡ l.number
@@ -78,7 +78,7 @@ find_append m (x ∷ ls) l = one (x.number == m) (find_append m ls l)
 
 pub found_number : (n : ℕ) (ls : List CacheLine) (l : CacheLine) → find_line n ls ≡ Some l → l.number ≡ n
 pub found_number n [] l h = absurd (cc)
-found_number n (x ∷ ls) l h = one (x.number == n) refl (λ g. found_number n ls l g) h
+pub found_number n (x ∷ ls) l h = one (x.number == n) refl (λ g. found_number n ls l g) h
   where
     one : (b : Bool) → (x.number == n) ≡ b → (find_line n ls ≡ Some l → l.number ≡ n) → (if b then Some x else find_line n ls) ≡ Some l → l.number ≡ n
     one true is rest g = let e : x ≡ l = cc in ap (λ (y : CacheLine). y.number) (sym e) ∙ eqb-true x.number n is
@@ -184,7 +184,7 @@ copy_change_same a n f g keeps none acts ls same =
 
 pub filter_none : (n : ℕ) (ls : List CacheLine) → find_line n ls ≡ None → filter (has_number n) ls ≡ []
 pub filter_none n [] h = refl
-filter_none n (l ∷ ls) h = one (l.number == n) h (λ g. filter_none n ls g)
+pub filter_none n (l ∷ ls) h = one (l.number == n) h (λ g. filter_none n ls g)
   where
     one : (b : Bool) → (if b then Some l else find_line n ls) ≡ None → (find_line n ls ≡ None → filter (has_number n) ls ≡ []) → (if b then l ∷ filter (has_number n) ls else filter (has_number n) ls) ≡ []
     one true g rest = absurd (cc)

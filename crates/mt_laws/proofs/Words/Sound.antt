@@ -44,7 +44,7 @@ none_of_number n (l ∷ ls) h = one (l.number == n) refl (none_of_number n ls (�
 
 pub apart_of_pairs : (ls : List CacheLine) → AllPairs Distinct ls → Apart ls
 pub apart_of_pairs [] h = tt
-apart_of_pairs (l ∷ ls) h = (none_of_number l.number ls (λ j d within. h 0 (suc j) d (omega arith) (omega arith)), apart_of_pairs ls (λ i j d low within. h (suc i) (suc j) d (omega arith) (omega arith)))
+pub apart_of_pairs (l ∷ ls) h = (none_of_number l.number ls (λ j d within. h 0 (suc j) d (omega arith) (omega arith)), apart_of_pairs ls (λ i j d low within. h (suc i) (suc j) d (omega arith) (omega arith)))
 
 number_apart : (n : ℕ) (ls : List CacheLine) → find_line n ls ≡ None → (j : ℕ) (d : CacheLine) → j < length ls → n ≢ (get_or ls j d).number
 number_apart n [] h j d within = absurd (omega arith)
@@ -142,7 +142,7 @@ shows_by_place v (Some (y, false) ∷ cs) clean sole =
 
 pub shared_clean : (v : ℕ) (cs : List Copy) (i y : ℕ) (d : Bool) → IsShared v cs → slice_get cs i ≡ Some (Some (y, d)) → (y ≡ v) × (d ≡ false)
 pub shared_clean v [] i y d h at = absurd (cc)
-shared_clean v (None ∷ cs) zero y d h at = absurd (cc)
+pub shared_clean v (None ∷ cs) zero y d h at = absurd (cc)
 shared_clean v (None ∷ cs) (suc i) y d h at = shared_clean v cs i y d h at
 shared_clean v (Some (z, true) ∷ cs) i y d h at = absurd h
 shared_clean v (Some (z, false) ∷ cs) zero y d h at =
@@ -153,7 +153,7 @@ shared_clean v (Some (z, false) ∷ cs) (suc i) y d h at = shared_clean v cs i y
 
 pub clear_place : (cs : List Copy) (i : ℕ) (c : Copy) → IsClear cs → slice_get cs i ≡ Some c → c ≡ None
 pub clear_place [] i c h at = absurd (cc)
-clear_place (None ∷ cs) zero c h at = cc
+pub clear_place (None ∷ cs) zero c h at = cc
 clear_place (None ∷ cs) (suc i) c h at = clear_place cs i c h at
 clear_place (Some x ∷ cs) i c h at = absurd h
 

@@ -40,7 +40,7 @@ find_passes test (y ∷ xs) x h = one (test y) refl (λ g. find_passes test xs x
 
 pub find_within : {X : Type 0} → (test within : X → Bool) (xs : List X) (x : X) → list_all within xs ≡ true → find test xs ≡ Some x → within x ≡ true
 pub find_within test within [] x all h = absurd (cc)
-find_within test within (y ∷ xs) x all h = one (test y) (λ g. find_within test within xs x (and_right (within y) _ all) g) h
+pub find_within test within (y ∷ xs) x all h = one (test y) (λ g. find_within test within xs x (and_right (within y) _ all) g) h
   where
     one : (b : Bool) → (find test xs ≡ Some x → within x ≡ true) → (if b then Some y else find test xs) ≡ Some x → within x ≡ true
     one true rest g = let e : y ≡ x = cc in ap within (sym e) ∙ and_left _ _ all
@@ -56,7 +56,7 @@ find_none test (y ∷ xs) h = one (test y) h (λ g. find_none test xs g)
 
 pub eight_pass : (test : ℕ → Bool) → list_all test eight ≡ true → (w : ℕ) → w < 8 → test w ≡ true
 pub eight_pass test h zero low = and_left _ _ h
-eight_pass test h (suc zero) low = and_left _ _ (and_right (test 0) _ h)
+pub eight_pass test h (suc zero) low = and_left _ _ (and_right (test 0) _ h)
 eight_pass test h (suc (suc zero)) low = and_left _ _ (and_right (test 1) _ (and_right (test 0) _ h))
 eight_pass test h (suc (suc (suc zero))) low = and_left _ _ (and_right (test 2) _ (and_right (test 1) _ (and_right (test 0) _ h)))
 eight_pass test h (suc (suc (suc (suc zero)))) low = and_left _ _ (and_right (test 3) _ (and_right (test 2) _ (and_right (test 1) _ (and_right (test 0) _ h))))
@@ -93,7 +93,7 @@ found_itself test (x ∷ ls) l apart h = one (test x) h (λ g. found_itself test
 unfoldable pub is_drain : Event → Bool
 pub is_drain (WriteBack a v) = true
 pub is_drain DropLines = true
-is_drain other = false
+pub is_drain other = false
 
 pub due_drains : (o : Order) (ps : List Processor) (p : Processor) (ph : Phase) (e : Event) → due o ps p ph ≡ Some e → is_drain e ≡ true → write_back_or_drop p ≡ e
 unfolding is_drain

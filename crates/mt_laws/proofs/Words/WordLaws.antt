@@ -34,7 +34,7 @@ use Rattle.mt_laws.proofs.Clearing.Renewed.{at_change}
 
 abbrev pub is_combined : MemType → Bool
 pub is_combined WC = true
-is_combined other = false
+pub is_combined other = false
 
 -- ---- the buffers of a WC store
 

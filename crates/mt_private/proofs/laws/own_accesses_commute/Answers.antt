@@ -1,5 +1,0 @@
-use Rattle.mt_private.proofs.Own.Owners.{commute}
-use Rattle.mt_private.proofs.laws.own_accesses_commute.Goals as goal
-
-pub returns : goal.returns
-returns c = commute

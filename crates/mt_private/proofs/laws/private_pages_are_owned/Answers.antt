@@ -1,5 +1,0 @@
-use Rattle.mt_private.proofs.Own.Owners.{private_owner}
-use Rattle.mt_private.proofs.laws.private_pages_are_owned.Goals as goal
-
-pub returns : goal.returns
-returns c = private_owner

@@ -1,8 +1,0 @@
-use Rattle.std.proofs.Common.{ap, sym, arith}
-use Rattle.mt_regs.specs.RegisterFile.{RegisterFile}
-use Rattle.mt_private.specs.WorkedYard.{lodger}
-use Rattle.mt_private.proofs.Lodged.{not_same}
-use Rattle.mt_private.proofs.worked.worked_releases.Goals as goal
-
-pub returns : goal.returns
-returns c h = not_same 2048 2054 (omega arith) (sym (ap (λ (f : RegisterFile). f.default_type) (h.settled 0 (lodger 0x100) (omega arith)).file))

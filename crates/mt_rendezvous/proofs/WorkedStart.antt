@@ -1,7 +1,0 @@
--- A station can be gathered from the worked start.
-use Rattle.std.proofs.Common.{rules}
-use Rattle.mt_rendezvous.specs.Station.{Begins}
-use Rattle.mt_rendezvous.specs.WorkedStations.{start}
-
-pub begins_start : Begins start
-begins_start = search rules

@@ -1,5 +1,0 @@
-use Rattle.mt_rendezvous.proofs.Begun.{broadcast_begins}
-use Rattle.mt_rendezvous.proofs.laws.broadcast_begins.Goals as goal
-
-pub returns : goal.returns
-returns c = broadcast_begins

@@ -1,8 +1,0 @@
-use Rattle.mt_rendezvous.proofs.Seats.{left_where_cancelled, released_where_full}
-use Rattle.mt_rendezvous.proofs.laws.ended_seats_tell_of_the_station.Goals as goal
-
-pub returns-clause-left : goal.returns-clause-left
-returns-clause-left c = left_where_cancelled
-
-pub returns-clause-released : goal.returns-clause-released
-returns-clause-released c = released_where_full

@@ -1,5 +1,0 @@
-use Rattle.mt_rendezvous.proofs.Unique.{holds_where_full}
-use Rattle.mt_rendezvous.proofs.laws.full_station_holds.Goals as goal
-
-pub returns : goal.returns
-returns c = holds_where_full

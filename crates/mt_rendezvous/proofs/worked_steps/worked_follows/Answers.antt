@@ -1,7 +1,0 @@
-use Rattle.std.proofs.Common.{refl}
-use Rattle.mt_rendezvous.proofs.OnWorked.{not_both, same_counts}
-use Rattle.mt_rendezvous.proofs.WorkedStart.{begins_start}
-use Rattle.mt_rendezvous.proofs.worked_steps.worked_follows.Goals as goal
-
-pub returns : goal.returns
-returns c = λ key is m f. not_both 1 refl (same_counts key is begins_start _ f.kept).0

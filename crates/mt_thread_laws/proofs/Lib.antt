@@ -1,0 +1,11 @@
+pub mod EachStep
+pub mod JobOnWorked
+pub mod Lodged
+pub mod LoneGuest
+pub mod LonePlays
+pub mod LoneSeats
+pub mod OnLone
+pub mod Residents
+pub mod Seats
+pub mod StationOnWorked
+pub mod WorkedStart

@@ -1,0 +1,5 @@
+pub mod Worked
+pub mod WorkedLone
+pub mod WorkedStations
+pub mod WorkedWay
+pub mod WorkedYard

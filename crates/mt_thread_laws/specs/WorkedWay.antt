@@ -1,0 +1,91 @@
+-- The way of a worked resident, which is alone in its yard, through an update; and a worked yard of two whose first resident was given away.
+use Rattle.std.specs.Prelude.{◌≡◌, ℕ, Bool, true, false, List, [], ◌∷◌, None, Option, Some}
+use Rattle.mt_machine.specs.declared.phase.Phase.{Phase}
+use Rattle.mt_machine.specs.declared.phase.Phase.TheVariants.{NoFill}
+use Rattle.mt_machine.specs.declared.go.Go.{Go}
+use Rattle.mt_machine.specs.declared.go.Go.TheVariants.{Given, Pending}
+use Rattle.mt_machine.specs.declared.op.Op.{Op}
+use Rattle.mt_machine.specs.Memory.{Memory}
+use Rattle.mt_machine.specs.System.{Processor, System}
+use Rattle.mt_machine.specs.Machine.{MachineEvent}
+use Rattle.mt_machine_laws.specs.MachineWorkedRuns.{bare_file}
+use Rattle.mt_rendezvous.specs.declared.view.Key.{Key}
+use Rattle.mt_rendezvous.specs.declared.view.Start.{Start}
+use Rattle.mt_rendezvous.specs.Station.{held, start_of}
+use Rattle.mt_private.specs.declared.job.Job.{Job}
+use Rattle.mt_private.specs.declared.job.Told.{Told}
+use Rattle.mt_private.specs.declared.view.Resident.{Resident}
+use Rattle.mt_private.specs.declared.view.YardView.{YardView}
+use Rattle.mt_private.specs.Own.{own_memory}
+use Rattle.mt_private.specs.Residents.{Follows, Yard, pages_at}
+use Rattle.mt_thread_laws.specs.WorkedYard.{alone, first_taken, lodger, lodging, no_counts}
+use Rattle.mt_private.specs.YardLaws.{IsOneEvent, YardState}
+use Rattle.mt_private.specs.YardPlays.{YardSat}
+use Rattle.mt_private.specs.YardRule.{MeetsYard, first_yard_view, with_one, with_said, yard_both, yard_left, yard_right, yard_spent}
+
+abbrev pub first_words : Memory
+first_words = own_memory (pages_at lodging 0) lodging.ram
+
+-- the resident with this processor and these words, and what its pass has added and it has done
+abbrev pub come : Processor → Memory → Bool → Bool → List Op → Resident
+come p m added again done = record { held = held 0 p added again; ram = m; done = done; stored = 0 }
+
+-- before its change, in no-fill mode, and behind its change
+abbrev pub guest : Phase → Bool → Resident
+guest phase added = come (record (lodger 0x100) { phase = phase }) first_words added false []
+
+abbrev pub fills_not : Resident
+fills_not = come (record (lodger 0x100) { phase = NoFill; cache_disabled = true }) first_words true false []
+
+abbrev pub changed : Phase → Bool → Resident
+changed phase again = come (record (lodger 0x100) { file = bare_file 0x800; phase = phase }) first_words true again []
+
+abbrev pub released : Resident
+released = come (record (lodger 0x100) { file = bare_file 0x800; era = 1 }) first_words true true []
+
+-- some system makes a yard of it with these counts, and on that the next follows by this event, with the next counts
+abbrev pub GoesOn : Go → ℕ → ℕ → Resident → Resident → Option MachineEvent → ℕ → ℕ → Type 0
+GoesOn go first second y w e first_then second_then = (s : System) × Yard alone (y ∷ []) go first second s × Follows alone (y ∷ []) go s 0 w e first_then second_then
+
+-- the seat of its pass, which was shown this count and whether there is a cancel
+abbrev pub seat_shown : Option ℕ → Bool → Resident → YardSat
+seat_shown shown cancel y = (record { root = false; held = y ∷ []; go = Pending; shown = shown; cancel = cancel; start = alone }, [])
+
+-- ---- seats of a yard of two
+
+-- the root has said go; or the first resident, which was given away, takes, or is taken back
+abbrev pub given : Key → YardState
+given key = record { words = 1 ∷ 0 ∷ 0 ∷ 0 ∷ []; homes = []; views = with_said (first_yard_view key) Given ∷ [] }
+
+abbrev pub split_taken : Key → YardState
+split_taken key = record { words = no_counts; homes = []; views = yard_left (first_yard_view key) ∷ with_one (yard_right (first_yard_view key)) first_taken None false ∷ [] }
+
+abbrev pub joined : Key → YardState
+joined key = record { words = no_counts; homes = []; views = yard_both (yard_left (first_yard_view key)) (yard_right (first_yard_view key)) ∷ yard_spent ∷ [] }
+
+-- and one whose only resident is released
+abbrev pub last_root : Start → YardView
+last_root t = record { root = true; held = []; go = Given; shown = None; cancel = false; start = t }
+
+abbrev pub last_pass : Start → YardView
+last_pass t = record { root = false; held = released ∷ []; go = Pending; shown = Some 1; cancel = false; start = t }
+
+abbrev pub settled : Key → YardState
+settled key = record { words = 2 ∷ 1 ∷ 0 ∷ []; homes = []; views = last_root (start_of key) ∷ last_pass (start_of key) ∷ [] }
+
+-- one state meets the rule, and the next follows on it by this event
+abbrev pub Becomes : Key → YardState → YardState → Option MachineEvent → Type 0
+Becomes key s later e = (m : MeetsYard key s) × IsOneEvent key s later m e
+
+-- ---- the end of a yard
+
+-- the seat of its host, which has it back
+abbrev pub last_seat : YardSat
+last_seat = (record { root = true; held = released ∷ []; go = Given; shown = None; cancel = false; start = alone }, [])
+
+-- a job without accesses, and its answers
+abbrev pub IsEmptyJob : Job → Type 0
+IsEmptyJob job = (job.before.items ≡ []) × (job.after.items ≡ [])
+
+abbrev pub HasNoAnswers : Told → Type 0
+HasNoAnswers told = (told.before.items ≡ []) × (told.after.items ≡ [])

@@ -1,0 +1,77 @@
+// Each law on the steps of a yard, at one step of a worked resident that is alone; the laws on a yard's table, at its start
+// and once a resident was given away; its end; and the laws on own systems.
+ghost use Rattle.std.specs.Prelude.{◌≡◌, ◌∷◌, [], None, Some, false, true};
+ghost use Rattle.atomic_table.specs.Seated.{TableId};
+ghost use Rattle.mt_kinds.specs.declared.mem_type.MemType.TheVariants.{WB};
+ghost use Rattle.mt_machine.specs.declared.done.Done.TheVariants.{Stored};
+ghost use Rattle.mt_machine.specs.declared.event.Event.TheVariants.{Arrive, ArriveAgain, Leave, Pass, Release, SetNoFill, Take};
+ghost use Rattle.mt_machine.specs.declared.go.Go.TheVariants.{Cancelled, Given, Pending};
+ghost use Rattle.mt_machine.specs.declared.op.Op.TheVariants.{Fence, Load, Store};
+ghost use Rattle.mt_machine.specs.declared.phase.Phase.TheVariants.{Arrived, Arrived2, Passed, Restored, Running, Taken};
+ghost use Rattle.mt_machine.specs.Access.{access};
+ghost use Rattle.mt_machine.specs.Machine.{Accesses, Cancels, Goes, Reached, Steps};
+ghost use Rattle.mt_machine.specs.System.{System as MachineSystem};
+ghost use Rattle.mt_rendezvous.specs.declared.view.Key.{Key};
+ghost use Rattle.mt_rendezvous.specs.Station.{broadcast, start_of};
+ghost use Rattle.mt_private.specs.declared.job.Job.{Job as YardJob};
+ghost use Rattle.mt_private.specs.declared.job.Told.{Told as YardTold};
+ghost use Rattle.mt_private.specs.Alone.{JobsAlone, JobsRunAlone, UpdatesAlone, UpdatesRunAlone};
+ghost use Rattle.mt_private.specs.Left.{Leaves};
+ghost use Rattle.mt_private.specs.OneByOne.{jobs_one_by_one};
+ghost use Rattle.mt_private.specs.Residents.{Decides, Follows, Yard, accessed_by, own_of, system_of, with_stored};
+ghost use Rattle.mt_private.specs.Visitors.{EndsOneByOne, Returned};
+ghost use Rattle.mt_thread_laws.specs.WorkedWay.{Becomes, GoesOn, HasNoAnswers, IsEmptyJob, changed, fills_not, given, guest, joined, last_seat, released, settled, split_taken};
+ghost use Rattle.mt_thread_laws.specs.WorkedYard.{alone, first_state, lodged, lodging, split_state};
+ghost use Rattle.mt_private.specs.YardLaws.{AdditionArrives, AdditionArrivesAgain, AdditionDecides, LoadLeaves, LoadPasses, LoadReleases, LoadStays, LoadTakes, StoreAccesses, StoreWorks};
+ghost use Rattle.mt_private.specs.YardLaws.{IsOneMachine, IsReached, JoinIsNone, MoveIsOneEvent, SayingIsOneEvent, Settles, SplitIsNone, StartMeetsRule, YardsSettle};
+ghost use Rattle.mt_private.specs.YardRule.{MeetsYard, its_machine};
+
+/// Loads of the counts.
+pub fn worked_laws_of_loads()
+    ensures takes { LoadTakes → GoesOn Pending 0 0 (guest Running false) (guest Taken false) (Some (Steps 0 Take)) 0 0 }
+    ensures stays { LoadStays → GoesOn Pending 1 0 (guest Arrived true) (guest Arrived true) None 1 0 }
+    ensures passes { LoadPasses → GoesOn Given 2 0 (guest Arrived true) (guest Passed true) (Some (Steps 0 Pass)) 2 0 }
+    ensures leaves { LoadLeaves → GoesOn Cancelled 0x100000001 0 (guest Taken true) (guest Running true) (Some (Steps 0 Leave)) 0x100000001 0 }
+    ensures releases { LoadReleases → GoesOn Given 2 1 (changed Arrived2 true) released (Some (Steps 0 Release)) 2 1 }
+{}
+
+/// Additions to the counts, by the pass and by the coordinator.
+pub fn worked_laws_of_additions()
+    ensures arrives { AdditionArrives → GoesOn Pending 0 0 (guest Taken false) (guest Arrived true) (Some (Steps 0 Arrive)) 1 0 }
+    ensures decides { AdditionDecides → (s : MachineSystem) × Yard alone (guest Arrived true ∷ []) Pending 1 0 s
+        × Decides alone (guest Arrived true ∷ []) Given 2 0 s Goes × Decides alone (guest Arrived true ∷ []) Cancelled 0x100000001 0 s Cancels }
+    ensures arrives_again { AdditionArrivesAgain → GoesOn Given 2 0 (changed Restored false) (changed Arrived2 true) (Some (Steps 0 ArriveAgain)) 2 1 }
+{}
+
+/// Stores of the own event word: an access before the update, and the event that is due behind the first barrier.
+pub fn worked_laws_of_own_words()
+    ensures accesses { StoreAccesses → (s : MachineSystem) × Yard alone (guest Running false ∷ []) Pending 0 0 s
+        × Follows alone (guest Running false ∷ []) Pending s 0 (with_stored (accessed_by (Store 0x1000 7) (guest Running false)) 1) (Some (Accesses 0 (Store 0x1000 7))) 0 0
+        × ((access s 0 (Store 0x1000 7)).answer ≡ Stored WB) }
+    ensures works { StoreWorks → GoesOn Given 2 0 (guest Passed true) (with_stored fills_not 1) (Some (Steps 0 SetNoFill)) 2 0 }
+{}
+
+/// A yard of two at its start, and steps of its seats; and a yard of one whose resident is released.
+pub fn worked_laws_of_tables()
+    ensures start { StartMeetsRule → (key : Key) → start_of key ≡ lodging → MeetsYard key (first_state key) }
+    ensures reached { IsReached → (key : Key) → start_of key ≡ lodging → (m : MeetsYard key (first_state key)) × Reached (broadcast (start_of key)) (its_machine key (first_state key) m) }
+    ensures one { IsOneMachine → (key : Key) (m n : MeetsYard key (first_state key)) → its_machine key (first_state key) m ≡ its_machine key (first_state key) n }
+    ensures says { SayingIsOneEvent → (key : Key) → start_of key ≡ lodging → Becomes key (first_state key) (given key) (Some Goes) }
+    ensures split { SplitIsNone → (key : Key) → start_of key ≡ lodging → Becomes key (first_state key) (split_state key) None }
+    ensures moves { MoveIsOneEvent → (key : Key) → start_of key ≡ lodging → Becomes key (split_state key) (split_taken key) (Some (Steps 0 Take)) }
+    ensures settles { YardsSettle → (key : Key) → start_of key ≡ alone → (m : MeetsYard key (settled key)) × Settles (start_of key) (its_machine key (settled key) m) }
+    ensures join { JoinIsNone → (key : Key) → start_of key ≡ lodging → Becomes key (split_state key) (joined key) None }
+{}
+
+/// A yard whose one guest came back, with a job without accesses: it leaves what the update leaves.
+pub fn worked_laws_of_ends()
+    ensures { EndsOneByOne → (table : TableId) (job : YardJob) (told : YardTold) → IsEmptyJob job → HasNoAnswers told → (s : MachineSystem) × Leaves alone last_seat.0 s
+        × Returned table alone (job ∷ []) table last_seat (Some (own_of released) ∷ []) (told ∷ [])
+        × (s ≡ (jobs_one_by_one (system_of alone) alone.goal (job ∷ [])).left.system) }
+{}
+
+/// The laws on own systems, of a worked system.
+pub fn worked_own_jobs()
+    ensures updates { UpdatesRunAlone → UpdatesAlone lodged lodging.goal }
+    ensures jobs_with_accesses { JobsRunAlone → JobsAlone lodged lodging.goal ((Store 0x1000 9 ∷ []) ∷ (Load 0x1000 ∷ Fence ∷ []) ∷ []) ((Load 0x1000 ∷ []) ∷ (Store 0x1000 8 ∷ []) ∷ []) }
+{}

@@ -1,0 +1,35 @@
+// Words and views that meet the rule of the table, and that fail it in one part; where a store goes to; and what doesn't
+// follow on the words and views at the start.
+ghost use Rattle.std.specs.Prelude.{◌≡◌, [], None, Some};
+ghost use Rattle.atomic_table.specs.Table.{opening};
+ghost use Rattle.mt_machine.specs.declared.phase.Phase.TheVariants.{Passed};
+ghost use Rattle.mt_rendezvous.specs.declared.view.Key.{Key};
+ghost use Rattle.mt_rendezvous.specs.Station.{Meets, first_view, root_left, start_of};
+ghost use Rattle.mt_rendezvous.specs.Laws.{Follows, GoesTo};
+ghost use Rattle.mt_rendezvous.specs.Calls.{opening_words};
+ghost use Rattle.mt_thread_laws.specs.WorkedStations.{at_start, but_word, first, start, zeros};
+
+/// Words and views that meet the rule, and that don't for one thing.
+pub fn worked_rule()
+    ensures opened { (key : Key) → start_of key ≡ start → Meets key (opening (opening_words 2 zeros) [] (first_view key)) }
+    ensures counted { (key : Key) → start_of key ≡ start → Meets key (but_word key 0 1) → ⊥ }
+    ensures counted_again { (key : Key) → start_of key ≡ start → Meets key (but_word key 1 1) → ⊥ }
+    ensures coded { (key : Key) → start_of key ≡ start → Meets key (but_word key 3 1) → ⊥ }
+    ensures short { (key : Key) → start_of key ≡ start → Meets key (opening (opening_words 2 []) [] (first_view key)) → ⊥ }
+    ensures missing { (key : Key) → start_of key ≡ start → Meets key (opening (opening_words 2 zeros) [] (root_left (first_view key))) → ⊥ }
+{}
+
+/// Where a store goes to, and where it doesn't.
+pub fn worked_places()
+    ensures own_phase { GoesTo start 0 (first Passed) None 2 1 }
+    ensures other_word { GoesTo start 0 (first Passed) None 3 1 → ⊥ }
+    ensures other_code { GoesTo start 0 (first Passed) None 2 2 → ⊥ }
+    ensures word_back { GoesTo start 0 (first Passed) (Some (0x100008, 6)) 5 6 }
+    ensures other_value { GoesTo start 0 (first Passed) (Some (0x100008, 6)) 5 7 → ⊥ }
+    ensures other_place { GoesTo start 0 (first Passed) (Some (0x100008, 6)) 6 6 → ⊥ }
+{}
+
+/// What doesn't follow on the words and views at the start.
+pub fn worked_follows()
+    ensures { (key : Key) → start_of key ≡ start → (m : Meets key (at_start key)) → Follows key (at_start key) (but_word key 0 1) m None → ⊥ }
+{}
