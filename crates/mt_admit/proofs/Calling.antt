@@ -91,10 +91,10 @@ module _ (m : Machine) (quiet : IsQuiet m) (some : 0 < length m.system.processor
       (of_more ps q i r at)))
 
 pub quiet_of : (m : Machine) → CanGrow m → IsQuiet m
-pub quiet_of m h = is_quiet_without_order m h.arises h.idle
+quiet_of m h = is_quiet_without_order m h.arises h.idle
 
 pub ups_arise : UpsArise
-pub ups_arise m h = by_event (Calls (first_file m.system)) (by_coming_up h.arises h.idle h.some) (call_enabled m (quiet_of m h) h.some)
+ups_arise m h = by_event (Calls (first_file m.system)) (by_coming_up h.arises h.idle h.some) (call_enabled m (quiet_of m h) h.some)
 
 none_of : (o : Option Order) → (IsSome o → ⊥) → o ≡ None
 none_of None h = refl

@@ -10,12 +10,12 @@ use Rattle.mt_core.specs.Rounds.{in_order}
 
 -- processor 0's registers. A system without processors has none, and a blank file stands for them
 abbrev pub first_file : System → RegisterFile
-pub first_file s = option_map_or (λ p. p.file) (slice_get s.processors 0) (blank_file 36 0)
+first_file s = option_map_or (λ p. p.file) (slice_get s.processors 0) (blank_file 36 0)
 
 -- one processor more, and an update called to processor 0's registers
 abbrev pub brought_up : Machine → Machine
-pub brought_up m = next (with_newcomer m) (Calls (first_file m.system))
+brought_up m = next (with_newcomer m) (Calls (first_file m.system))
 
 -- one processor more, and the whole update to processor 0's registers
 abbrev pub admitted : Machine → Machine
-pub admitted m = updated (with_newcomer m).system (in_order (with_newcomer m)) (first_file m.system)
+admitted m = updated (with_newcomer m).system (in_order (with_newcomer m)) (first_file m.system)

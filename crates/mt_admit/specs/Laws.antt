@@ -14,23 +14,23 @@ use Rattle.mt_core.specs.Arises.{Arises}
 use Rattle.mt_admit.specs.Admission.{brought_up, first_file}
 
 -- the machine arises, no update is under way, and it has a processor
-pub record CanGrow (m : Machine) : Type 0 where
+record CanGrow (m : Machine) : Type 0 where
   pub arises : Arises m
   pub idle : m.order ≡ None
   pub some : 0 < length m.system.processors
 
 -- the machine with the newcomer, its update called, arises, so that all that holds of what arises holds of its processors, the newcomer among them
 abbrev pub UpsArise : Type 0
-pub UpsArise = (m : Machine) → CanGrow m → Arises (brought_up m)
+UpsArise = (m : Machine) → CanGrow m → Arises (brought_up m)
 
 -- one processor more than m has, each with processor 0's registers of m and with nothing older than the update
-pub record AllAgree (m : Machine) (t : System) : Type 0 where
+record AllAgree (m : Machine) (t : System) : Type 0 where
   pub number : length t.processors ≡ length m.system.processors + 1
   pub settled : IsSettled t (common_era m.system.processors + 1) (first_file m.system)
 
 -- whoever releases in the update of a newcomer, over every list of events, all processors agree from then on, up to the next call
 abbrev pub NewcomersAgree : Type 0
-pub NewcomersAgree =
+NewcomersAgree =
     (m : Machine) (before since : List MachineEvent) (k : ℕ) → CanGrow m
     → AreEnabled (brought_up m) (before ++ Steps k Release ∷ since) → list_all (λ e. not (is_call e)) before ≡ true → list_all (λ e. not (is_call e)) since ≡ true
     → AllAgree m (run (brought_up m) (before ++ Steps k Release ∷ since)).system
@@ -38,27 +38,27 @@ pub NewcomersAgree =
 -- from the first release in the update of a newcomer, over every list of events, each word that no access stored since is in memory as it was before
 -- the first pass, when the buffers were empty: whoever is told of completion knows it. So it is in each later update
 abbrev pub NewcomersKeepWords : Type 0
-pub NewcomersKeepWords =
+NewcomersKeepWords =
     (m r : Machine) (o : Order) (before since : List MachineEvent) → CanGrow m
     → AreEnabled (brought_up m) before → IsFirstRelease (run (brought_up m) before) r o → AreEnabled r since
     → IsHeld (run (brought_up m) before).system r since
 
 -- what fences leave, in the order of the takes, of the machine with the newcomer; this one has the blank file still
-pub record IsGivenUp (m t : Machine) (takes : List ℕ) : Type 0 where
+record IsGivenUp (m t : Machine) (takes : List ℕ) : Type 0 where
   pub fences : t ≡ record { system = emptied (with_newcomer m).system takes; order = None }
   pub blank : (p : Processor) → slice_get t.system.processors (length m.system.processors) ≡ Some p → p.file ≡ blank_file (first_file m.system).width (first_file m.system).capabilities
 
 -- where the update of a newcomer is cancelled, and since its call nothing came but its steps and the cancel
 abbrev pub CancelledNewcomersStayBlank : Type 0
-pub CancelledNewcomersStayBlank =
+CancelledNewcomersStayBlank =
     (m : Machine) (es : List MachineEvent) → CanGrow m → AreEnabled (brought_up m) es → list_all (λ e. is_led e && not (is_go e)) es ≡ true
     → (run (brought_up m) es).order ≡ None
     → IsGivenUp m (run (brought_up m) es) (takes_of es)
 
 -- the words have the values that they had once the buffers of the last were emptied, and the others all but lines and buffers
-pub record OthersAreLeft (s t : System) : Type 0 where
+record OthersAreLeft (s t : System) : Type 0 where
   pub words : (address : ℕ) → address % 8 ≡ 0 → now t address ≡ now (drain (last_number s) s) address
   pub others : map uncached t.processors ≡ take (last_number s) (map uncached s.processors)
 
 abbrev pub RetiredLeaveTheOthers : Type 0
-pub RetiredLeaveTheOthers = (m : Machine) → CanGrow m → OthersAreLeft m.system (without_last m).system
+RetiredLeaveTheOthers = (m : Machine) → CanGrow m → OthersAreLeft m.system (without_last m).system

@@ -64,7 +64,7 @@ still_placed m w a = one (a % 8 == 0)
     one false h = absurd (cc)
 
 pub sound_grown : (s : System) (w : Window) → IsSound s → IsMemory (with_window w s.memory) → IsSound (record s { memory = with_window w s.memory })
-pub sound_grown s w h good =
+sound_grown s w h good =
     let more : Memory = with_window w s.memory in
     record {
       memory = good;

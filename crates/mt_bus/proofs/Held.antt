@@ -41,7 +41,7 @@ pub less_without : (n : ℕ) (ls : List CacheLine) → IsLess (without_line n ls
 less_without n ls = λ masks k h. passes_without (λ l. may_hold masks k l.number) n ls h
 
 pub less_changed : (n : ℕ) (f : CacheLine → CacheLine) → KeepsNumber f → (ls : List CacheLine) → IsLess (change_line n f ls) ls
-pub less_changed n f keeps ls = λ masks k h. passes_changed (λ l. may_hold masks k l.number) n f (λ l g. ap (may_hold masks k) (keeps l) ∙ g) ls h
+less_changed n f keeps ls = λ masks k h. passes_changed (λ l. may_hold masks k l.number) n f (λ l g. ap (may_hold masks k) (keeps l) ∙ g) ls h
 
 and_true : (a b : Bool) → a ≡ true → b ≡ true → (a && b) ≡ true
 and_true true b h g = g
@@ -129,7 +129,7 @@ held_put ps masks i p q at keeps h = record {
 
 pub held_changed : (f : Processor → Processor) (k : ℕ) (ps : List Processor) (masks : List ℕ) → ((p : Processor) → all_may masks k p.lines ≡ true
     → all_may masks k (f p).lines ≡ true) → AreHeldBy ps masks → AreHeldBy (with_changed f k ps) masks
-pub held_changed f k ps masks keeps h = one (slice_get ps k) refl
+held_changed f k ps masks keeps h = one (slice_get ps k) refl
   where
     one : (o : Option Processor) → slice_get ps k ≡ o → AreHeldBy (option_map_or (λ p. record (without_memory ps) { processors = slice_set ps k (f p) }) o (without_memory ps)).processors masks
     one None is = h
@@ -144,7 +144,7 @@ held_aside f k ps qs masks same is h =
 -- a processor that drops its lines needs no bit
 pub held_emptied : (f : Processor → Processor) (k : ℕ) (ps : List Processor) (masks others : List ℕ) → ((p : Processor) → (f p).lines ≡ [])
     → CoversOthers k masks others → AreHeldBy ps others → AreHeldBy (with_changed f k ps) masks
-pub held_emptied f k ps masks others empty covers h = record {
+held_emptied f k ps masks others empty covers h = record {
   each = λ j q at.
       ⊎_elim
       (λ (here : (j ≡ k) × (x : Processor) × (slice_get ps k ≡ Some x) × (f x ≡ q)). ap (all_may masks j) (ap (λ (p : Processor). p.lines) (sym here.3) ∙ empty here.1))

@@ -20,7 +20,7 @@ use Rattle.mt_laws.proofs.Clearing.Follows.{Follows, follows_access, follows_con
 use Rattle.mt_bus.specs.Tables.{AreTablesOf, IsTranslatedBy}
 
 pub same_length : (s t : System) → stages t ≡ stages s → length t.processors ≡ length s.processors
-pub same_length s t same = sym (length-map t.processors stage_of) ∙ ap length same ∙ length-map s.processors stage_of
+same_length s t same = sym (length-map t.processors stage_of) ∙ ap length same ∙ length-map s.processors stage_of
 
 -- no file and no phase changes
 pub tables_follow : (k : ℕ) (s t : System) (ts : List TypeTable) → stages t ≡ stages s → Follows k s t → AreTablesOf s.processors ts → AreTablesOf t.processors ts

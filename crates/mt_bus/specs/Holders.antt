@@ -18,27 +18,27 @@ abbrev pub may_hold : List ℕ → ℕ → ℕ → Bool
 may_hold masks k n = if nat_lt k 16 then is_bit_set (mask_of masks n) k else true
 
 abbrev pub all_may : List ℕ → ℕ → List CacheLine → Bool
-pub all_may masks k ls = list_all (λ l. may_hold masks k l.number) ls
+all_may masks k ls = list_all (λ l. may_hold masks k l.number) ls
 
 -- each line of each cache is one that it may have
-pub record AreHeldBy (ps : List Processor) (masks : List ℕ) : Type 0 where
+record AreHeldBy (ps : List Processor) (masks : List ℕ) : Type 0 where
   pub each : (k : ℕ) (p : Processor) → slice_get ps k ≡ Some p → all_may masks k p.lines ≡ true
 
 -- what other masks say holds by these too
-pub record Covers (masks others : List ℕ) : Type 0 where
+record Covers (masks others : List ℕ) : Type 0 where
   pub each : (k n : ℕ) → may_hold others k n ≡ true → may_hold masks k n ≡ true
 
 -- but for processor k and the lines that have the residue of line n
-pub record CoversBut (k n : ℕ) (masks others : List ℕ) : Type 0 where
+record CoversBut (k n : ℕ) (masks others : List ℕ) : Type 0 where
   pub each : (j i : ℕ) → (j ≡ k → i % modulus ≡ n % modulus → ⊥) → may_hold others j i ≡ true → may_hold masks j i ≡ true
 
 -- but for processor k
-pub record CoversOthers (k : ℕ) (masks others : List ℕ) : Type 0 where
+record CoversOthers (k : ℕ) (masks others : List ℕ) : Type 0 where
   pub each : (j i : ℕ) → (j ≡ k → ⊥) → may_hold others j i ≡ true → may_hold masks j i ≡ true
 
 -- no cache has the line, and none but that of processor k
-pub record IsNowhere (n : ℕ) (ps : List Processor) : Type 0 where
+record IsNowhere (n : ℕ) (ps : List Processor) : Type 0 where
   pub each : (j : ℕ) → find_line n (lines_in j ps) ≡ None
 
-pub record IsNowhereElse (k n : ℕ) (ps : List Processor) : Type 0 where
+record IsNowhereElse (k n : ℕ) (ps : List Processor) : Type 0 where
   pub each : (j : ℕ) → (j ≡ k → ⊥) → find_line n (lines_in j ps) ≡ None

@@ -15,13 +15,13 @@ use Rattle.mt_machine.specs.Access.{Answered, cache_disabled_of, entry_of, hit_o
 use Rattle.mt_machine.specs.Control.{RuledAfter}
 
 abbrev pub system : List Processor → Memory → System
-pub system ps m = record { processors = ps; memory = m }
+system ps m = record { processors = ps; memory = m }
 
 abbrev pub without_memory : List Processor → System
 without_memory ps = system ps (record { windows = []; words = [] })
 
 abbrev pub with_changed : (Processor → Processor) → ℕ → List Processor → List Processor
-pub with_changed f k ps = (change f k (without_memory ps)).processors
+with_changed f k ps = (change f k (without_memory ps)).processors
 
 -- memory once these caches' dirty words of the line are written back
 abbrev pub written_back : ℕ → Memory → List Processor → Memory
@@ -47,10 +47,10 @@ abbrev pub is_running_in : ℕ → List Processor → Bool
 is_running_in k ps = option_map_or (λ p. is_running p.phase) (slice_get ps k) false
 
 abbrev pub answered : Done → System → Answered
-pub answered d s = record { answer = d; after = s }
+answered d s = record { answer = d; after = s }
 
 abbrev pub mappings_in : ℕ → List Processor → List Mapping
 mappings_in k ps = option_map_or (λ p. p.mappings) (slice_get ps k) []
 
 abbrev pub ruled : Ruled → System → RuledAfter
-pub ruled r s = record { answer = r; after = s }
+ruled r s = record { answer = r; after = s }

@@ -22,7 +22,7 @@ has_address Fence = false
 
 -- an access of p, which is processor k of s: a processor in an update first, then a page without a mapping, then an address
 -- without memory, where nothing but a translation is kept
-pub record RefusesInOrder (s : System) (k : ℕ) (p : Processor) (op : Op) (r : Answered) : Type 0 where
+record RefusesInOrder (s : System) (k : ℕ) (p : Processor) (op : Op) (r : Answered) : Type 0 where
   pub busy : (r.answer ≡ Busy) ↔ (is_running p.phase ≡ false)
   pub unmapped : (r.answer ≡ Unmapped) ↔ ((is_running p.phase ≡ true) × (has_address op ≡ true) × (find_mapping (address_of op / page_bytes) p.mappings ≡ None))
   pub no_memory : (r.answer ≡ NoRam) ↔ ((is_running p.phase ≡ true) × (has_address op ≡ true) × ((e : Entry) × (entry_of p (address_of op / page_bytes) ≡ Some e) × (place s.memory (physical e (address_of op)) ≡ None)))
@@ -31,14 +31,14 @@ pub record RefusesInOrder (s : System) (k : ℕ) (p : Processor) (op : Op) (r : 
   pub no_memory_keeps : (e : Entry) → entry_of p (address_of op / page_bytes) ≡ Some e → r.answer ≡ NoRam → r.after ≡ change (keep_entry e) k s
 
 abbrev pub AccessesRefuseInOrder : Type 0
-pub AccessesRefuseInOrder = (s : System) (k : ℕ) (p : Processor) (op : Op) → IsSound s → slice_get s.processors k ≡ Some p → RefusesInOrder s k p op (access s k op)
+AccessesRefuseInOrder = (s : System) (k : ℕ) (p : Processor) (op : Op) → IsSound s → slice_get s.processors k ≡ Some p → RefusesInOrder s k p op (access s k op)
 
 -- a control instruction of p, which is processor k of s: a processor in an update, or a mapping for which there is no room
-pub record RulesInOrder (s : System) (k : ℕ) (p : Processor) (c : Control) (r : RuledAfter) : Type 0 where
+record RulesInOrder (s : System) (k : ℕ) (p : Processor) (c : Control) (r : RuledAfter) : Type 0 where
   pub busy : (r.answer ≡ ruled.Busy) ↔ (is_running p.phase ≡ false)
   pub full : (r.answer ≡ ruled.Full) ↔ ((is_running p.phase ≡ true) × ((m : Mapping) × (c ≡ Map m) × (is_full_for m p.mappings ≡ true)))
   pub busy_keeps : r.answer ≡ ruled.Busy → r.after ≡ s
   pub full_keeps : r.answer ≡ ruled.Full → r.after ≡ s
 
 abbrev pub ControlsRefuseInOrder : Type 0
-pub ControlsRefuseInOrder = (s : System) (k : ℕ) (p : Processor) (c : Control) → slice_get s.processors k ≡ Some p → RulesInOrder s k p c (control s k c)
+ControlsRefuseInOrder = (s : System) (k : ℕ) (p : Processor) (c : Control) → slice_get s.processors k ≡ Some p → RulesInOrder s k p c (control s k c)

@@ -129,8 +129,8 @@ pub add_kept : (size : ℕ) (ls : List CacheLine) (l : CacheLine) → AreLines l
 add_kept size ls l kept none whole = push_kept (with_room size ls) l (room_kept size ls kept) (absent_in_room l.number size ls none) whole
 
 pub write_keeps : (word value : ℕ) (dirty : Bool) → KeepsNumber (write_word word value dirty)
-pub write_keeps word value true l = refl
-pub write_keeps word value false l = refl
+write_keeps word value true l = refl
+write_keeps word value false l = refl
 
 -- ---- a line's place
 

@@ -4,13 +4,13 @@ use Rattle.std.specs.List.{count_by}
 use Rattle.mt_cache.specs.declared.line.CacheLine.{CacheLine}
 
 abbrev pub modulus : ℕ
-pub modulus = 4096
+modulus = 4096
 
 abbrev pub has_residue : ℕ → CacheLine → Bool
-pub has_residue r l = l.number % modulus == r
+has_residue r l = l.number % modulus == r
 
 -- the count at each residue is that of the lines
-pub record AreCounted (ls : List CacheLine) (counts : List ℕ) : Type 0 where
+record AreCounted (ls : List CacheLine) (counts : List ℕ) : Type 0 where
   pub long : length counts ≡ modulus
   pub each : (r : ℕ) → r < modulus → slice_index_or counts r 0 ≡ count_by (has_residue r) ls
 

@@ -26,7 +26,7 @@ use Rattle.mt_laws.proofs.Barrier.Stages.{drain_stages}
 use Rattle.mt_core.specs.Arises.{IsCore, by_event, by_window, from_start, by_snooping, by_coming_up, by_going_down}
 
 abbrev pub machine : System → Option Order → Machine
-pub machine s o = record { system = s; order = o }
+machine s o = record { system = s; order = o }
 
 pub step_length : (goal : RegisterFile) (e : Event) (k : ℕ) (s : System) (p : Processor) → slice_get s.processors k ≡ Some p → length (step goal e k s).processors ≡ length s.processors
 step_length goal e k s p at =
@@ -36,7 +36,7 @@ step_length goal e k s p at =
 pub runs_or_rests : (s : System) (k : ℕ) (X : Type 0)
     → (option_map_or (λ p. is_running p.phase) (slice_get s.processors k) false ≡ true → X)
     → (((q : Processor) → slice_get s.processors k ≡ Some q → is_running q.phase ≡ false) → X) → X
-pub runs_or_rests s k X runs rests = one (slice_get s.processors k) refl
+runs_or_rests s k X runs rests = one (slice_get s.processors k) refl
   where
     two : (q : Processor) → slice_get s.processors k ≡ Some q → (b : Bool) → is_running q.phase ≡ b → X
     two q at true is = runs (ap (λ (o : Option Processor). option_map_or (λ p. is_running p.phase) o false) at ∙ is)
@@ -149,5 +149,5 @@ went_away s more h = record {
 }
 
 pub era_room : (ps : List Processor) → All (λ p. p.era < 2 ^ 64 - 1) ps → common_era ps < 2 ^ 64 - 1
-pub era_room [] h = omega arith
-pub era_room (p ∷ ps) h = h 0 p (omega arith)
+era_room [] h = omega arith
+era_room (p ∷ ps) h = h 0 p (omega arith)

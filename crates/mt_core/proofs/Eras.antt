@@ -63,4 +63,4 @@ rise (Steps k e) s (Some o) enabled = one (slice_get s.processors k) refl enable
     one (Some p) at g = steps o.goal e k s p at
 
 pub eras_rise : ErasRise
-pub eras_rise m e enabled = rise e m.system m.order enabled
+eras_rise m e enabled = rise e m.system m.order enabled

@@ -270,11 +270,11 @@ each_decided m = steps_decided (in_order m) m
 -- ---- what the code of a turn needs
 
 pub same_number_after : (m : Machine) (k : ℕ) → length (step_after m k).system.processors ≡ length m.system.processors
-pub same_number_after m k = after_case (λ n. length n.system.processors ≡ length m.system.processors) m (due_at m k) k refl (λ none. refl) (λ e due. (eras_rise m (Steps k e) due).same_number)
+same_number_after m k = after_case (λ n. length n.system.processors ≡ length m.system.processors) m (due_at m k) k refl (λ none. refl) (λ e due. (eras_rise m (Steps k e) due).same_number)
 
 pub range_more : (k end : ℕ) → k < end → range_with_len k (end - k) ≡ k ∷ range_with_len (k + 1) (end - (k + 1))
-pub range_more k end low = let more : end - k ≡ suc (end - (k + 1)) = omega arith in ap (range_with_len k) more
+range_more k end low = let more : end - k ≡ suc (end - (k + 1)) = omega arith in ap (range_with_len k) more
 
 pub none_where_not : (x : Option Order) (b : Bool) → (IsTrue b ↔ IsSome x) → b ≡ false → x ≡ None
-pub none_where_not None b h off = refl
-pub none_where_not (Some o) b h off = absurd (let on : b ≡ true = h.1 refl in cc)
+none_where_not None b h off = refl
+none_where_not (Some o) b h off = absurd (let on : b ≡ true = h.1 refl in cc)

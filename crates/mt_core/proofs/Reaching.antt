@@ -31,8 +31,8 @@ use Rattle.mt_core.proofs.Work.{release_is, work_of}
 -- ---- one after the other
 
 pub reached_on : {p m n : Machine} → Reached p m → Reached m n → Reached p n
-pub reached_on first at_start = first
-pub reached_on first (after e later enabled) = after e (reached_on first later) enabled
+reached_on first at_start = first
+reached_on first (after e later enabled) = after e (reached_on first later) enabled
 
 -- ---- turns end
 
@@ -65,7 +65,7 @@ ends_from m n a decided reached =
     (t.last, t.rounds, subst (Reached m) c.leads (reached_run c.es m n reached c.enabled))
 
 pub turns_end : TurnsEnd
-pub turns_end m a = one (go_of m) refl
+turns_end m a = one (go_of m) refl
   where
     one : (g : Option Go) → go_of m ≡ g → (t : Machine) × Rounds (given_where g m) t × Reached m t
     one (Some Pending) is = ends_from m (next m Goes) (by_event Goes a is) (two m.order) (after Goes at_start is)
@@ -189,6 +189,6 @@ module _ (s : Machine) (goal : RegisterFile) (quiet : IsQuiet s) (enabled : IsEn
       )
 
 pub updates_are_reached : UpdatesAreReached
-pub updates_are_reached s goal quiet enabled =
+updates_are_reached s goal quiet enabled =
     let found = by_events s goal quiet enabled in
     (subst (Reached s) found.1.leads (reached_run (Calls goal ∷ found.0) s s at_start found.1.enabled), found)

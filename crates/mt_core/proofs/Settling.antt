@@ -21,7 +21,7 @@ use Rattle.mt_core.specs.declared.stepped.Stepped.TheVariants.{Did}
 use Rattle.mt_core.proofs.Stepping.{is_sound, stands, shapes}
 
 pub settled_from_release : SettledFromRelease
-pub settled_from_release m o k since a is enabled more quiet =
+settled_from_release m o k since a is enabled more quiet =
     λ i d within.
     let last : Machine = run (next m (Steps k Release)) since in
     let p = get_or last.system.processors i d in
@@ -52,17 +52,17 @@ settled_by m s t o k e a was due stepped x is at =
     (subst (λ (u : System). IsSettled u (o.from_era + 1) o.goal) (sym stepped) (did_settle s o k e a due is))
 
 pub held_from_first_release : HeldFromFirstRelease
-pub held_from_first_release p r o since a first enabled =
+held_from_first_release p r o since a first enabled =
     let ws : List Window = p.system.memory.windows in
     let st = stands a in
     held_of ws (aligned_all ws st.0.aligned) p r o since st.1.agrees st.1.kept first enabled
 
 pub no_buffers_where_one_passes : NoBuffersWhereOnePasses
-pub no_buffers_where_one_passes p k a enabled = no_buffers p k (stands a).1.kept enabled
+no_buffers_where_one_passes p k a enabled = no_buffers p k (stands a).1.kept enabled
 
 -- ---- quiet
 
 pub is_quiet_without_order : IsQuietWithoutOrder
-pub is_quiet_without_order m a none =
+is_quiet_without_order m a none =
     let shape = shapes a in
     quiet_of shape.0 m (is_sound m a) (stands a).1.kept.0 shape.1 none

@@ -108,15 +108,15 @@ stands_start : (m : Machine) → IsStart m → Stands m
 stands_start m s = ((start_sound m s).memory, start_standing m s)
 
 pub stands : {m : Machine} → Arises m → Stands m
-pub stands {m} (from_start s) = stands_start m s
-pub stands (by_event e a enabled) = stands_next _ e enabled (stands a)
-pub stands (by_window w a memory) = stands_grown _ w memory (stands a)
-pub stands (by_snooping {m = m} k a none) = let shape = shapes a in stands_start (snooped k m) (inl (snooping_stays_quiet m k (quiet_here m shape.0 shape.1 none (stands a))))
-pub stands (by_coming_up {m = m} a none some) = let shape = shapes a in stands_start (with_newcomer m) (inl (reset_stays_quiet m (quiet_here m shape.0 shape.1 none (stands a))))
-pub stands (by_going_down {m = m} a none more) = let shape = shapes a in stands_start (without_last m) (inl (gone_stays_quiet m (omega arith) (quiet_here m shape.0 shape.1 none (stands a))))
+stands {m} (from_start s) = stands_start m s
+stands (by_event e a enabled) = stands_next _ e enabled (stands a)
+stands (by_window w a memory) = stands_grown _ w memory (stands a)
+stands (by_snooping {m = m} k a none) = let shape = shapes a in stands_start (snooped k m) (inl (snooping_stays_quiet m k (quiet_here m shape.0 shape.1 none (stands a))))
+stands (by_coming_up {m = m} a none some) = let shape = shapes a in stands_start (with_newcomer m) (inl (reset_stays_quiet m (quiet_here m shape.0 shape.1 none (stands a))))
+stands (by_going_down {m = m} a none more) = let shape = shapes a in stands_start (without_last m) (inl (gone_stays_quiet m (omega arith) (quiet_here m shape.0 shape.1 none (stands a))))
 
 pub is_sound : (m : Machine) → Arises m → IsSound m.system
-pub is_sound m a = let st = stands a in standing_sound m.system.memory.windows m st.1 st.0
+is_sound m a = let st = stands a in standing_sound m.system.memory.windows m st.1 st.0
 
 agree_all : (goal f : RegisterFile) (rs : List Register) → AgreeAll goal f rs → All (λ r. value_of f r ≡ value_of goal r) rs
 agree_all goal f [] h k d within = absurd (omega arith)
@@ -193,10 +193,10 @@ taken_at o s k is q at =
     subst (λ (ph : Phase). is_shift Take ph ≡ true) (sym from.2.phase) (take_runs o s.processors from.0 from.0.phase here)
 
 pub drained_length : (k : ℕ) (s : System) → length (drain k s).processors ≡ length s.processors
-pub drained_length k s = same_length s (drain k s) (drain_stages k s)
+drained_length k s = same_length s (drain k s) (drain_stages k s)
 
 -- what a barrier event asks of the processor
-pub record IsReady (e : Event) (q : Processor) : Type 0 where
+record IsReady (e : Event) (q : Processor) : Type 0 where
   pub enabled : IsTrue (is_shift e q.phase)
   pub room : e ≡ Release → q.era < 2 ^ 64 - 1
   pub empty : e ≡ Take → q.buffers ≡ []

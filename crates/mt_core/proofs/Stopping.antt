@@ -66,7 +66,7 @@ module _ (o : Order) (ps : List Processor) (p : Processor) (eras : (p.era ≡ o.
   back other r h = absurd (cc)
 
 pub stops_outside : StopsOutside
-pub stops_outside m k p a at = one m.system m.order a at
+stops_outside m k p a at = one m.system m.order a at
   where
     one : (s : System) (x : Option Order) → Arises (record { system = s; order = x }) → slice_get s.processors k ≡ Some p
         → (step_answer (record { system = s; order = x }) k ≡ NoUpdate → (is_running p.phase ≡ true) × (option_map_or (λ o. is_cancelled o.go || has_released o p) x true ≡ true))

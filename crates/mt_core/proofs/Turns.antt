@@ -27,10 +27,10 @@ use Rattle.mt_core.proofs.Arising.{machine}
 use Rattle.mt_core.proofs.Progress.{after_case}
 
 abbrev pub goes_on : MachineEvent → Bool
-pub goes_on e = is_led e && not (is_cancel e)
+goes_on e = is_led e && not (is_cancel e)
 
 -- some events lead from the first machine to the second, without access, control, call and cancel
-pub record Course (m n : Machine) : Type 0 where
+record Course (m n : Machine) : Type 0 where
   pub es : List MachineEvent
   pub enabled : AreEnabled m es
   pub leads : run m es ≡ n
@@ -106,7 +106,7 @@ inside (suc len) start k low high = one (inside len (start + 1) k) (start == k) 
         omega arith
 
 pub each_once : (count : ℕ) → IsEachOnce count (ascending count)
-pub each_once count k = one (nat_lt k count) refl
+each_once count k = one (nat_lt k count) refl
   where
     one : (b : Bool) → nat_lt k count ≡ b → mine k (range_with_len 0 count) ≡ (if b then 1 else 0)
     one true is = let low = ltb-true k count is in inside count 0 k (omega arith) (omega arith)
@@ -222,5 +222,5 @@ module _ (s : Machine) (goal : RegisterFile) (quiet : IsQuiet s) (enabled : IsEn
       (taken_apart rounds)
 
 pub rounds_whole : (m n : Machine) → Rounds (with_go_given m) n → IsWholeUpdate m n
-pub rounds_whole m n rounds s goal quiet enabled is =
+rounds_whole m n rounds s goal quiet enabled is =
     whole s goal quiet enabled n (subst (λ (x : Machine). Rounds (with_go_given x) n) is rounds)

@@ -112,7 +112,7 @@ module _ (o : Order) (ps : List Processor) where
         ∙ ap (λ (d : BarrierCount). Waits d.arrived d.awaited) (sym h.1))
 
 pub waits_at_barriers : WaitsAtBarriers
-pub waits_at_barriers m k p c at = one m.system m.order at
+waits_at_barriers m k p c at = one m.system m.order at
   where
     one : (s : System) (x : Option Order) → slice_get s.processors k ≡ Some p
         → (step_answer (machine s x) k ≡ Waits c.arrived c.awaited → (o : Order) × (x ≡ Some o) × WaitsFor o s.processors p c)

@@ -18,54 +18,54 @@ use Rattle.mt_core.specs.Steps.{step_answer}
 
 -- from each release on, up to the next call, each processor's file is the goal, and nothing is held that is older than the update
 abbrev pub SettledFromRelease : Type 0
-pub SettledFromRelease =
+SettledFromRelease =
     (m : Machine) (o : Order) (k : ℕ) (since : List MachineEvent) → Arises m → m.order ≡ Some o
     → IsEnabled m (Steps k Release) → AreEnabled (next m (Steps k Release)) since → list_all (λ e. not (is_call e)) since ≡ true
     → IsSettledSince (next m (Steps k Release)) o.from_era o.goal since
 
 -- each word that no access stored since the first release is in memory as it was before the first pass
 abbrev pub HeldFromFirstRelease : Type 0
-pub HeldFromFirstRelease =
+HeldFromFirstRelease =
     (p r : Machine) (o : Order) (since : List MachineEvent) → Arises p → IsFirstRelease p r o → AreEnabled r since → IsHeld p.system r since
 
 -- where some processor may pass the first barrier, none has a buffer
 abbrev pub NoBuffersWhereOnePasses : Type 0
-pub NoBuffersWhereOnePasses = (p : Machine) (k : ℕ) → Arises p → IsEnabled p (Steps k Pass) → HaveNoBuffers p.system.processors
+NoBuffersWhereOnePasses = (p : Machine) (k : ℕ) → Arises p → IsEnabled p (Steps k Pass) → HaveNoBuffers p.system.processors
 
 abbrev pub IsQuietWithoutOrder : Type 0
-pub IsQuietWithoutOrder = (m : Machine) → Arises m → m.order ≡ None → IsQuiet m
+IsQuietWithoutOrder = (m : Machine) → Arises m → m.order ≡ None → IsQuiet m
 
 -- as many processors, and no era is more than one above what it was
-pub record HasRisenByOne (s t : System) : Type 0 where
+record HasRisenByOne (s t : System) : Type 0 where
   pub same_number : length t.processors ≡ length s.processors
   pub eras : (k : ℕ) (p q : Processor) → slice_get s.processors k ≡ Some p → slice_get t.processors k ≡ Some q → q.era ≤ p.era + 1
 
 abbrev pub ErasRise : Type 0
-pub ErasRise = (m : Machine) (e : MachineEvent) → IsEnabled m e → HasRisenByOne m.system (next m e).system
+ErasRise = (m : Machine) (e : MachineEvent) → IsEnabled m e → HasRisenByOne m.system (next m e).system
 
 -- ---- what holds of each reached state holds of each that arises
 
 abbrev pub BarriersHoldThroughout : Type 0
-pub BarriersHoldThroughout = (m : Machine) → Arises m → BarriersHold m
+BarriersHoldThroughout = (m : Machine) → Arises m → BarriersHold m
 
 abbrev pub NoneRunsThroughout : Type 0
-pub NoneRunsThroughout = (m : Machine) → Arises m → NoneRunsInChange m
+NoneRunsThroughout = (m : Machine) → Arises m → NoneRunsInChange m
 
 abbrev pub NoneActsThroughout : Type 0
-pub NoneActsThroughout = (m : Machine) → Arises m → NoneActsInChange m
+NoneActsThroughout = (m : Machine) → Arises m → NoneActsInChange m
 
 abbrev pub OrdersHoldThroughout : Type 0
-pub OrdersHoldThroughout = (m : Machine) (o : Order) → Arises m → m.order ≡ Some o → OrderHolds m o
+OrdersHoldThroughout = (m : Machine) (o : Order) → Arises m → m.order ≡ Some o → OrderHolds m o
 
 -- no event of an update but Take changes a word's value
 abbrev pub StepsKeepThroughout : Type 0
-pub StepsKeepThroughout =
+StepsKeepThroughout =
     (m : Machine) (e : MachineEvent) (address : ℕ) → Arises m → IsEnabled m e → is_of_update e ≡ true → is_take_step e ≡ false
     → KeepsWord m.system (next m e).system address
 
 -- from a take to the release that follows it, with no other take of the processor between
 abbrev pub StepsCountThroughout : Type 0
-pub StepsCountThroughout =
+StepsCountThroughout =
     (m : Machine) (k : ℕ) (between : List MachineEvent) → Arises m
     → AreEnabled m (Steps k Take ∷ (between ++ Steps k Release ∷ []))
     → list_all (λ e. not (is_step_of k e && (is_take_step e || is_release e))) between ≡ true
@@ -88,10 +88,10 @@ WaitsIn m p c = (o : Order) × (m.order ≡ Some o) × WaitsFor o m.system.proce
 
 -- a step of processor k answers Waits with this count exactly where p waits for it
 abbrev pub WaitsWhereFor : Machine → ℕ → Processor → BarrierCount → Type 0
-pub WaitsWhereFor m k p c =
+WaitsWhereFor m k p c =
     (step_answer m k ≡ Waits c.arrived c.awaited → WaitsIn m p c)
     × ((o : Order) → m.order ≡ Some o → WaitsFor o m.system.processors p c → step_answer m k ≡ Waits c.arrived c.awaited)
 
 abbrev pub WaitsAtBarriers : Type 0
-pub WaitsAtBarriers =
+WaitsAtBarriers =
     (m : Machine) (k : ℕ) (p : Processor) (c : BarrierCount) → slice_get m.system.processors k ≡ Some p → WaitsWhereFor m k p c

@@ -9,17 +9,17 @@ use Rattle.mt_machine.specs.Update.{IsSettled, stored_words}
 
 -- after an update from this era on, and these events, each file is the goal and nothing is held of another era than the next
 abbrev pub IsSettledSince : Machine → ℕ → RegisterFile → List MachineEvent → Type 0
-pub IsSettledSince m from_era goal since = IsSettled (run m since).system (from_era + 1) goal
+IsSettledSince m from_era goal since = IsSettled (run m since).system (from_era + 1) goal
 
 -- a word that none of these events stored is in memory as it was before them
 abbrev pub IsHeldSince : Machine → List MachineEvent → ℕ → Type 0
-pub IsHeldSince m since address =
+IsHeldSince m since address =
     address % 8 ≡ 0 → (Contains (stored_words m since) address → ⊥)
     → word_at (run m since).system.memory address ≡ word_at m.system.memory address
 
 -- a word has the same value now
 abbrev pub KeepsWord : System → System → ℕ → Type 0
-pub KeepsWord s t address = address % 8 ≡ 0 → now t address ≡ now s address
+KeepsWord s t address = address % 8 ≡ 0 → now t address ≡ now s address
 
 abbrev pub HaveNoBuffers : List Processor → Type 0
-pub HaveNoBuffers ps = All (λ q. q.buffers ≡ []) ps
+HaveNoBuffers ps = All (λ q. q.buffers ≡ []) ps

@@ -12,7 +12,7 @@ use Rattle.mt_core.specs.declared.stepped.Stepped.{Stepped}
 use Rattle.mt_core.specs.declared.stepped.Stepped.TheVariants.{Did, NoUpdate, Waits}
 
 abbrev pub under_way : Order → System → Machine
-pub under_way o s = record { system = s; order = Some o }
+under_way o s = record { system = s; order = Some o }
 
 -- the count that a processor in this phase waits for, where it is at a barrier
 abbrev pub count_at : Order → List Processor → Phase → Option BarrierCount
@@ -22,10 +22,10 @@ count_at o ps other = None
 
 -- the answer in this phase where no event is due
 abbrev pub pause : Order → List Processor → Phase → Stepped
-pub pause o ps ph = option_map_or (λ c. Waits c.arrived c.awaited) (count_at o ps ph) NoUpdate
+pause o ps ph = option_map_or (λ c. Waits c.arrived c.awaited) (count_at o ps ph) NoUpdate
 
 abbrev pub pause_at : Machine → ℕ → Stepped
-pub pause_at m k =
+pause_at m k =
     option_map_or
     (λ o. option_map_or (λ p. pause o m.system.processors p.phase) (slice_get m.system.processors k) NoUpdate)
     m.order
@@ -33,11 +33,11 @@ pub pause_at m k =
 
 -- the event that is due, or else why there is none
 abbrev pub step_answer : Machine → ℕ → Stepped
-pub step_answer m k = option_map_or Did (due_at m k) (pause_at m k)
+step_answer m k = option_map_or Did (due_at m k) (pause_at m k)
 
 -- nothing changes where no event is due
 abbrev pub step_after : Machine → ℕ → Machine
-pub step_after m k = option_map_or (λ e. next m (Steps k e)) (due_at m k) m
+step_after m k = option_map_or (λ e. next m (Steps k e)) (due_at m k) m
 
 -- the memory with the word that an event writes back
 abbrev pub with_word_of : Event → Memory → Memory

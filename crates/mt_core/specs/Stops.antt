@@ -14,10 +14,10 @@ is_outside m p = option_map_or (λ o. is_cancelled o.go || has_released o p) m.o
 
 -- a step of processor k answers NoUpdate exactly where p runs outside an update
 abbrev pub StopsWhereOutside : Machine → ℕ → Processor → Type 0
-pub StopsWhereOutside m k p =
+StopsWhereOutside m k p =
     (step_answer m k ≡ NoUpdate → (is_running p.phase ≡ true) × (is_outside m p ≡ true))
     × (is_running p.phase ≡ true → is_outside m p ≡ true → step_answer m k ≡ NoUpdate)
 
 abbrev pub StopsOutside : Type 0
-pub StopsOutside =
+StopsOutside =
     (m : Machine) (k : ℕ) (p : Processor) → Arises m → slice_get m.system.processors k ≡ Some p → StopsWhereOutside m k p

@@ -143,7 +143,7 @@ made_same kinds p m agrees within =
 
 -- the entry is the machine's
 pub entry_same : (kinds : ℕ → MemType) (p : Processor) (page : ℕ) → AgreesWith kinds p.file → All (λ m. m.ppage < page_count p.file) p.mappings → entry_by kinds p page ≡ entry_of p page
-pub entry_same kinds p page agrees pages = ap (λ (o : Option Entry). option_map_or Some (find_entry page p.entries) o) (one (find_mapping page p.mappings) refl)
+entry_same kinds p page agrees pages = ap (λ (o : Option Entry). option_map_or Some (find_entry page p.entries) o) (one (find_mapping page p.mappings) refl)
   where
     one : (o : Option Mapping) → find_mapping page p.mappings ≡ o → option_map (new_entry_by kinds p) o ≡ option_map (new_entry p) o
     one None at = refl

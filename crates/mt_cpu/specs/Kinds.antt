@@ -24,8 +24,8 @@ new_entry_by kinds p m = record {
 
 -- the entry of a page: the one that stands, or else the one that its mapping makes
 abbrev pub entry_by : (ℕ → MemType) → Processor → ℕ → Option Entry
-pub entry_by kinds p page = option_map_or Some (find_entry page p.entries) (option_map (new_entry_by kinds p) (find_mapping page p.mappings))
+entry_by kinds p page = option_map_or Some (find_entry page p.entries) (option_map (new_entry_by kinds p) (find_mapping page p.mappings))
 
 -- the table has the file's type of each page
 abbrev pub AgreesWith : (ℕ → MemType) → RegisterFile → Type 0
-pub AgreesWith kinds f = (page : ℕ) → page < page_count f → kinds page ≡ defined_type (page_type f page)
+AgreesWith kinds f = (page : ℕ) → page < page_count f → kinds page ≡ defined_type (page_type f page)

@@ -12,16 +12,16 @@ use Rattle.mt_machine.specs.System.{Processor, is_writing}
 
 -- the phases from Passed to Normal
 abbrev pub is_local : Phase → Bool
-pub is_local Passed = true
-pub is_local NoFill = true
-pub is_local Flushed = true
-pub is_local TlbFlushed = true
-pub is_local (Writing i) = true
-pub is_local Enabled = true
-pub is_local Flushed2 = true
-pub is_local TlbFlushed2 = true
-pub is_local Normal = true
-pub is_local other = false
+is_local Passed = true
+is_local NoFill = true
+is_local Flushed = true
+is_local TlbFlushed = true
+is_local (Writing i) = true
+is_local Enabled = true
+is_local Flushed2 = true
+is_local TlbFlushed2 = true
+is_local Normal = true
+is_local other = false
 
 -- the phases in which dirty words are written back
 abbrev pub is_writing_back : Phase → Bool
@@ -41,15 +41,15 @@ HasFirst count goal f = All (λ r. value_of f r ≡ value_of goal r) (take count
 
 -- while the registers are written, those before the next one have the goal's values
 abbrev pub HasWritten : RegisterFile → Processor → Type 0
-pub HasWritten goal p = (i : ℕ) → is_writing p.phase ≡ Some i → HasFirst i goal p.file
+HasWritten goal p = (i : ℕ) → is_writing p.phase ≡ Some i → HasFirst i goal p.file
 
 -- the events that are shifts, each in the phases in which it can be enabled
 abbrev pub is_shift : Event → Phase → Bool
-pub is_shift Take Running = true
-pub is_shift Arrive Taken = true
-pub is_shift Leave Taken = true
-pub is_shift Leave Arrived = true
-pub is_shift Pass Arrived = true
-pub is_shift ArriveAgain Restored = true
-pub is_shift Release Arrived2 = true
-pub is_shift e phase = false
+is_shift Take Running = true
+is_shift Arrive Taken = true
+is_shift Leave Taken = true
+is_shift Leave Arrived = true
+is_shift Pass Arrived = true
+is_shift ArriveAgain Restored = true
+is_shift Release Arrived2 = true
+is_shift e phase = false

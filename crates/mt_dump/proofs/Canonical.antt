@@ -52,13 +52,13 @@ value_fits value (suc (suc (suc (suc (suc (suc (suc zero))))))) = omega arith
 value_fits value (suc (suc (suc (suc (suc (suc (suc (suc i)))))))) = omega arith
 
 pub value_digits : (value : ℕ) → list_all is_hex_digit (value_text value) ≡ true
-pub value_digits value = encoded_digits (to_be_bytes w64 value) (value_fits value)
+value_digits value = encoded_digits (to_be_bytes w64 value) (value_fits value)
 
 pub value_length : (value : ℕ) → length (value_text value) ≡ 16
-pub value_length value = length-encode_with lower_digits (to_be_bytes w64 value)
+value_length value = length-encode_with lower_digits (to_be_bytes w64 value)
 
 pub value_read : (value : ℕ) → value < 2 ^ 64 → hex_number (value_text value) ≡ Ok value
-pub value_read value small =
+value_read value small =
     let size = value_length value in
     hex_number-digits (value_text value) (omega arith) (omega arith) (value_digits value)
     ∙ ap Ok (encoded_value (to_be_bytes w64 value) (value_fits value) ∙ sym (from_be_bytes-fold (to_be_bytes w64 value) refl) ∙ from_be_bytes-to_be_bytes_8 value small)
@@ -103,8 +103,8 @@ module _ (number : ℕ) (small : number < 0x1000) where
       by false second is = refl
 
 pub all_append : (p : ℕ → Bool) (xs ys : List ℕ) → list_all p xs ≡ true → list_all p ys ≡ true → list_all p (xs ++ ys) ≡ true
-pub all_append p [] ys all later = later
-pub all_append p (x ∷ xs) ys all later = let parts = and_parts (p x) (list_all p xs) all in rw parts.0 (all_append p xs ys parts.1 later)
+all_append p [] ys all later = later
+all_append p (x ∷ xs) ys all later = let parts = and_parts (p x) (list_all p xs) all in rw parts.0 (all_append p xs ys parts.1 later)
 
 pub register_plain : (number value : ℕ) → number < 0x1000 → list_all is_plain (register_line number value) ≡ true
 register_plain number value small =

@@ -312,7 +312,7 @@ comment_said number comment few =
 
 pub shown_behind_comment : (comment text : List ℕ) (dump : Dump) → list_all (λ b. not (is_line_end b)) comment ≡ true → length comment < 4096
     → Shown text dump → Shown (35 ∷ (comment ++ 10 ∷ text)) dump
-pub shown_behind_comment comment text dump none few shown =
+shown_behind_comment comment text dump none few shown =
     let lines : lines_of (35 ∷ (comment ++ 10 ∷ text)) ≡ (35 ∷ comment) ∷ lines_of text = comment_line (35 ∷ comment) text none in
     let says : said_by (35 ∷ (comment ++ 10 ∷ text)) ≡ Ok Nothing ∷ said_from 2 (lines_of text) =
     ap (said_from 1) lines ∙ ap (λ r. r ∷ said_from 2 (lines_of text)) (comment_said 1 comment few) in

@@ -12,18 +12,18 @@ use Rattle.mt_text.specs.declared.fault.FeedFault.{FeedFault}
 use Rattle.mt_text.proofs.Lent.{counted, moves_on, within_limit}
 
 -- What was consumed since the start, and that as much was counted.
-pub record Counts (left_first left : Option (List ℕ)) (given_first given count : ℕ) : Type 0 where
+record Counts (left_first left : Option (List ℕ)) (given_first given count : ℕ) : Type 0 where
   pub consumed : (gone : List ℕ) × Consumes left_first left gone × (count ≡ length gone)
   pub counted : given ≡ given_first + count
 
 -- between two lines
-pub record IsFed (left_first left : Option (List ℕ)) (given_first given : ℕ) (feed : Feeding) : Type 0 where
+record IsFed (left_first left : Option (List ℕ)) (given_first given : ℕ) (feed : Feeding) : Type 0 where
   pub still : feed.fault ≡ None
   pub long : IsLong feed
   pub counts : Counts left_first left given_first given (taken feed)
 
 pub fed_at_first : (left : Option (List ℕ)) (given : ℕ) (feed : Feeding) → feed ≡ at_start → IsFed left left given given feed
-pub fed_at_first left given feed start = rw start (record {
+fed_at_first left given feed start = rw start (record {
   still = refl;
   long = (λ is. cc is, λ more. absurd (omega (arith, more)));
   counts = record { consumed = ([], Consumes-nil left, refl); counted = omega arith };
@@ -32,7 +32,7 @@ pub fed_at_first left given feed start = rw start (record {
 -- a call has taken more
 pub counts_more : {left_first left after : Option (List ℕ)} {given_first given given_after count total : ℕ} → Counts left_first left given_first given count
     → (more : List ℕ) × Consumes left after more × (given_after ≡ given + length more) × (total ≡ count + length more) → Counts left_first after given_first given_after total
-pub counts_more {left_first} {left} {after} counts (more, consumes, gives, sum) =
+counts_more {left_first} {left} {after} counts (more, consumes, gives, sum) =
     let (gone, before, is) = counts.consumed in
     record {
       consumed = (gone ++ more, Consumes-trans left_first left after gone more before consumes, omega (arith, sum, is, length-append gone more));
@@ -57,14 +57,14 @@ module _ {left_first left : Option (List ℕ)} {given_first given : ℕ} {feed :
 
 -- a source that told its bytes tells that nothing is left
 pub nothing_left : {E : Type 0} {T : Type 0} (left_first left : Option (List ℕ)) (bytes gone : List ℕ) (result : Result T E) → left_first ≡ Some bytes → Consumes left_first left gone → IfOk result (λ _. IsAtEnd left) → IfOk result (λ _. left ≡ Some [])
-pub nothing_left None left bytes gone result is consumes end = cc is
-pub nothing_left (Some xs) None bytes gone result is consumes end = absurd consumes
+nothing_left None left bytes gone result is consumes end = cc is
+nothing_left (Some xs) None bytes gone result is consumes end = absurd consumes
 nothing_left (Some xs) (Some ys) bytes gone (Ok value) is consumes end = ap Some end
 nothing_left (Some xs) (Some ys) bytes gone (Err fault) is consumes end = tt
 
 -- a line that is lent in few bytes is short
 pub few_first : (first : List ℕ) → length (take 4097 first) ≤ 4096 → length first ≤ 4096
-pub few_first first few = elim (cases_lt 4096 (length first)) [
+few_first first few = elim (cases_lt 4096 (length first)) [
   | inl many ↦ absurd (omega (arith, few, length-take-le 4097 first (omega (arith, many))))
   | inr few ↦ few
 ]
@@ -85,4 +85,4 @@ module _ {T U : Type 0} {first before after : ℕ} {call : Result T FeedFault} {
 
 -- a call without a fault leaves the count of faults
 pub stands_after : {T : Type 0} {first before after : ℕ} {call : Result T FeedFault} {value : T} → call ≡ Ok value → before ≡ first → ((IsErrOf call FeedFault.ReadFault → ⊥) → after ≡ before) → after ≡ first
-pub stands_after was stood stands = stands (λ is. let e = rw was at is in absurd (cc e)) ∙ stood
+stands_after was stood stands = stands (λ is. let e = rw was at is in absurd (cc e)) ∙ stood

@@ -41,14 +41,14 @@ sane_from number (line ∷ lines) = (is_sane number line, sane_from (number + 1)
 
 -- A text that shows a dump has no offence, and one without an offence shows a dump.
 pub shown_no_offence : (text : List ℕ) (dump : Dump) → Shown text dump → dump_offence text ≡ None
-pub shown_no_offence text dump shown =
+shown_no_offence text dump shown =
     let some = shown_given (said_by text) dump shown in
     let last : offence_at_end (end_of text) (said_by text) ≡ None = rw some refl in
     ap (λ o. or_else o (offence_at_end (end_of text) (said_by text))) (complete [] (said_by text) dump tt (sane_from 1 (lines_of text)) shown) ∙ last
 
 -- what a text shows is a dump
 pub shown_dump : (text : List ℕ) (dump : Dump) → Shown text dump → IsDump dump
-pub shown_dump text dump shown = shown_is_dump (said_by text) dump (sane_from 1 (lines_of text)) shown
+shown_dump text dump shown = shown_is_dump (said_by text) dump (sane_from 1 (lines_of text)) shown
 
 -- the version is 1 where the first line with words tells none
 usual : (says : List Reading) → tells_version says ≡ false → versions (behind_first says) ≡ [] → versions says ≡ []
@@ -80,7 +80,7 @@ decided before (line ∷ rest) clean sane = by (offence_of before line) refl (λ
 
 -- each text shows a dump or has an offence
 pub shown_or_offence : (text : List ℕ) → ((dump : Dump) × Shown text dump) ⊎ ((fault : DumpFault) × (dump_offence text ≡ Some fault))
-pub shown_or_offence text = elim (decided [] (said_by text) tt (sane_from 1 (lines_of text))) [
+shown_or_offence text = elim (decided [] (said_by text) tt (sane_from 1 (lines_of text))) [
   | inr bad ↦ inr (bad.0, ap (λ o. or_else o (offence_at_end (end_of text) (said_by text))) bad.1)
   | inl good ↦ by good.0 (sym good.1) good.2 (dump_in good.0) refl
 ]
@@ -94,7 +94,7 @@ pub shown_or_offence text = elim (decided [] (said_by text) tt (sane_from 1 (lin
         inr (fault_at NoCap (end_of text), ap (λ o. or_else o (offence_at_end (end_of text) (said_by text))) (no_line text after clean is) ∙ rw is at last)
 
 pub one_dump : (text : List ℕ) (dump other : Dump) → Shown text dump → Shown text other → dump ≡ other
-pub one_dump text dump other = shown_once (said_by text) dump other
+one_dump text dump other = shown_once (said_by text) dump other
 
 -- the answer is the dump exactly where it is shown, and the fault exactly where it is the first offence
 pub exactly_shown : (text : List ℕ) (answer : Result Dump DumpFault) → MatchResult answer (λ dump. Shown text dump) (λ fault. dump_offence text ≡ Some fault) → (dump : Dump) → (answer ≡ Ok dump) ↔ Shown text dump

@@ -33,7 +33,7 @@ said_first number (a ∷ b ∷ c ∷ words) = refl
 
 -- a decimal number is at most its limit
 pub decimal_within : (word : List ℕ) (max number : ℕ) → decimal_number word max ≡ Ok number → number ≤ max
-pub decimal_within word max number is = by (are_digits is_decimal_digit word) (nat_lt 20 (length word)) (nat_lt max (decimal_value word)) refl is
+decimal_within word max number is = by (are_digits is_decimal_digit word) (nat_lt 20 (length word)) (nat_lt max (decimal_value word)) refl is
   where
     by : (digits long large : Bool) → nat_lt max (decimal_value word) ≡ large → (if not digits then Err NotDigit else if long || large then Err TooLarge else Ok (decimal_value word)) ≡ Ok number → number ≤ max
     by false long large test is = cc is
@@ -101,7 +101,7 @@ sane_words number (first ∷ second ∷ []) = sane_pair (place_of number first) 
 sane_words number (first ∷ second ∷ third ∷ more) = tt
 
 pub is_sane : (number : ℕ) (line : List ℕ) → IsSane (said_of number line)
-pub is_sane number line = by (nat_lt 4096 (length line))
+is_sane number line = by (nat_lt 4096 (length line))
   where
     by : (long : Bool) → IsSane (if long then Err (fault_at BadLine (record { line = number; column = 4097 })) else said_words number (words_of line))
     by true = tt

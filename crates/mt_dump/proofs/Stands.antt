@@ -72,7 +72,7 @@ snoc_later first (s ∷ sections) [] section file all later = absurd all
 snoc_later first (s ∷ sections) (f ∷ files) section file all later = (all.0, snoc_later first sections files section file all.1 later)
 
 -- Sections show files, the first of which has this width and capability value.
-pub record Shows (sections : List (List Reading)) (files : List RegisterFile) (width capabilities : ℕ) : Type 0 where
+record Shows (sections : List (List Reading)) (files : List RegisterFile) (width capabilities : ℕ) : Type 0 where
   pub all : ShowAll sections files
   pub width_is : (first_of files).width ≡ width
   pub capabilities_is : (first_of files).capabilities ≡ capabilities
@@ -88,7 +88,7 @@ snoc_all (s ∷ sections) (f ∷ files) section file width capabilities shows la
 }
 
 -- The sections behind the present one show their files.
-pub record Closed (before : List Reading) : Type 0 where
+record Closed (before : List Reading) : Type 0 where
   pub early : is_later before ≡ false → (done_in before ≡ []) × (files_in before ≡ [])
   pub late : is_later before ≡ true → Shows (done_in before) (files_in before) (first_width before) (value_given 0xfe (given (first_section before)))
   pub size : section_numbers before ≢ [] → suc (length (files_in before)) ≡ section_count before
@@ -211,7 +211,7 @@ shown_file before file clean now =
         rw two (numbers_up (section_numbers before) (files_in before ++ with_width file (first_width before) ∷ []) (clean_numbers before clean) all)
 
 pub clean_shown : (before : List Reading) (dump : Dump) → IsClean before → dump_in before ≡ Some dump → ShownBy (onto before []) dump
-pub clean_shown before dump clean is = by (file_in before) (clean_stands before clean) is
+clean_shown before dump clean is = by (file_in before) (clean_stands before clean) is
   where
     by : (found : Option RegisterFile) → Leads before found → dump_with (version_of before) (files_in before) (first_width before) found ≡ Some dump → ShownBy (onto before []) dump
     by None leads none = cc none
@@ -228,7 +228,7 @@ nothing_led before clean is = by (file_in before) (clean_stands before clean) is
     by (Some file) now some = cc some
 
 pub none_given : (before : List Reading) → IsClean before → dump_in before ≡ None → is_given 0xfe (onto before []) ≡ false
-pub none_given before clean led =
+none_given before clean led =
     let count : times 0xfe (given (onto before [])) ≡ 0 = ap (times 0xfe) (given-onto before [] ∙ ap (λ gs. onto gs []) (nothing_led before clean led)) in
     rw count refl
 
@@ -265,7 +265,7 @@ first_gives section file shown =
     omega (arith, one)
 
 pub shown_given : (says : List Reading) (dump : Dump) → ShownBy says dump → is_given 0xfe says ≡ true
-pub shown_given says dump shown = by (behind_sections says) refl dump.files shown.sections
+shown_given says dump shown = by (behind_sections says) refl dump.files shown.sections
   where
     by : (behind : List (List Reading)) → behind_sections says ≡ behind → (files : List RegisterFile) → ShowAll (sections_in says behind) files → is_given 0xfe says ≡ true
     by [] is [] all = absurd all
@@ -317,7 +317,7 @@ one_list (s ∷ sections) (f ∷ files) (g ∷ others) shown again =
     ap (λ x. x ∷ files) same ∙ ap (λ xs. g ∷ xs) (one_later g sections files others later again.1)
 
 pub shown_once : (says : List Reading) (dump other : Dump) → ShownBy says dump → ShownBy says other → dump ≡ other
-pub shown_once says dump other shown again =
+shown_once says dump other shown again =
     let version = shown.version ∙ sym again.version in
     let files = one_list (sections_of says) dump.files other.files shown.sections again.sections in
     ap (λ v. let d : Dump = record { version = v; files = dump.files } in d) version ∙ ap (λ fs. let d : Dump = record { version = other.version; files = fs } in d) files
@@ -417,7 +417,7 @@ clean_sane [] clean = tt
 clean_sane (line ∷ before) clean = (clean.0, clean_sane before clean.2)
 
 pub clean_is_dump : (before : List Reading) (dump : Dump) → IsClean before → dump_in before ≡ Some dump → IsDump dump
-pub clean_is_dump before dump clean is = shown_is_dump (onto before []) dump (all_onto IsSane before [] (clean_sane before clean) tt) (clean_shown before dump clean is)
+clean_is_dump before dump clean is = shown_is_dump (onto before []) dump (all_onto IsSane before [] (clean_sane before clean) tt) (clean_shown before dump clean is)
 
 -- ---- version 1
 

@@ -15,11 +15,11 @@ width_line width = codes "maxphyaddr " ++ (48 + width / 10) ∷ (48 + width % 10
 
 -- a register's number in three lower-case digits
 abbrev pub number_text : ℕ → List ℕ
-pub number_text number = slice_index lower_digits (number / 256) ∷ slice_index lower_digits (number / 16 % 16) ∷ slice_index lower_digits (number % 16) ∷ []
+number_text number = slice_index lower_digits (number / 256) ∷ slice_index lower_digits (number / 16 % 16) ∷ slice_index lower_digits (number % 16) ∷ []
 
 -- a value in sixteen lower-case digits
 abbrev pub value_text : ℕ → List ℕ
-pub value_text value = encode_lower (to_be_bytes w64 value)
+value_text value = encode_lower (to_be_bytes w64 value)
 
 abbrev pub register_line : ℕ → ℕ → List ℕ
 register_line number value = number_text number ++ 32 ∷ value_text value
@@ -50,4 +50,4 @@ ended [] = []
 ended (line ∷ lines) = line ++ 10 ∷ ended lines
 
 abbrev pub canon : Dump → List ℕ
-pub canon dump = ended (canon_lines dump)
+canon dump = ended (canon_lines dump)

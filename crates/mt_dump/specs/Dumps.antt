@@ -5,24 +5,24 @@ use Rattle.std.specs.Prelude.{ℕ, ◌≡◌, ◌≤◌, ◌<◌, ◌⊎◌, Lis
 use Rattle.std.specs.List.{AllByRecursion}
 use Rattle.mt_regs.specs.RegisterFile.{RegisterFile, IsRegisterFile, blank_file}
 
-pub record Dump : Type 0 where
+record Dump : Type 0 where
   pub version : ℕ
   pub files : List RegisterFile  -- processor 0's first
 
 abbrev pub dump_of : RegisterFile → Dump
-pub dump_of file = record { version = 1; files = file ∷ [] }
+dump_of file = record { version = 1; files = file ∷ [] }
 
 -- the first of some files
 abbrev pub first_of : List RegisterFile → RegisterFile
-pub first_of [] = blank_file 36 0
-pub first_of (file ∷ files) = file
+first_of [] = blank_file 36 0
+first_of (file ∷ files) = file
 
 -- processor 0's file
 abbrev pub first_file : Dump → RegisterFile
-pub first_file dump = first_of dump.files
+first_file dump = first_of dump.files
 
 -- what every dump keeps
-pub record IsDump (dump : Dump) : Type 0 where
+record IsDump (dump : Dump) : Type 0 where
   pub known : (dump.version ≡ 1) ⊎ (dump.version ≡ 2)
   pub one : dump.version ≡ 1 → length dump.files ≡ 1
   pub some : 0 < length dump.files

@@ -6,7 +6,7 @@ use Rattle.mt_regs.specs.RegisterFile.{RegisterFile}
 use Rattle.mt_dump.specs.Dumps.{Dump, first_file}
 
 abbrev pub has_each : ℕ → Dump → Bool
-pub has_each cpus dump = not (dump.version == 2) || length dump.files == cpus
+has_each cpus dump = not (dump.version == 2) || length dump.files == cpus
 
 abbrev pub files_for : ℕ → Dump → List RegisterFile
-pub files_for cpus dump = if dump.version == 2 then dump.files else replicate cpus (first_file dump)
+files_for cpus dump = if dump.version == 2 then dump.files else replicate cpus (first_file dump)

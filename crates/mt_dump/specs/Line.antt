@@ -15,10 +15,10 @@ use Rattle.mt_dump.specs.declared.said.Said.{Said}
 use Rattle.mt_dump.specs.declared.said.Said.TheVariants.{Nothing, Version, Section, Width, Register}
 
 abbrev pub Reading : Type 0
-pub Reading = Result Said DumpFault
+Reading = Result Said DumpFault
 
 abbrev pub fault_at : DumpReason → Place → DumpFault
-pub fault_at reason place = record { reason = reason; place = place }
+fault_at reason place = record { reason = reason; place = place }
 
 -- the place of a word of the line of this number
 abbrev pub place_of : ℕ → ℕ × List ℕ → Place
@@ -74,6 +74,6 @@ said_words number (first ∷ second ∷ []) = said_pair (place_of number first) 
 said_words number (first ∷ second ∷ third ∷ more) = Err (fault_at BadLine (place_of number third))
 
 abbrev pub said_of : ℕ → List ℕ → Reading
-pub said_of number line =
+said_of number line =
     if is_too_long line then Err (fault_at BadLine (past_limit number))
     else said_words number (words_of line)

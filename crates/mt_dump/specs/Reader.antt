@@ -21,8 +21,8 @@ IsSane (Ok (Register number value first second)) = number ≡ 0xfe → low_byte 
 
 -- no line has an offence after those before it
 abbrev pub IsClean : List Reading → Type 0
-pub IsClean [] = ⊤
-pub IsClean (line ∷ before) = IsSane line × (offence_of before line ≡ None) × IsClean before
+IsClean [] = ⊤
+IsClean (line ∷ before) = IsSane line × (offence_of before line ≡ None) × IsClean before
 
 abbrev pub with_width : RegisterFile → ℕ → RegisterFile
 with_width file width = record file { width = width }
@@ -68,10 +68,10 @@ dump_with version files width (Some file) = Some (record { version = version; fi
 
 -- the dump that the lines lead to
 abbrev pub dump_in : List Reading → Option Dump
-pub dump_in before = dump_with (version_of before) (files_in before) (first_width before) (file_in before)
+dump_in before = dump_with (version_of before) (files_in before) (first_width before) (file_in before)
 
 -- A reader between two lines.
-pub record State : Type 0 where
+record State : Type 0 where
   pub version : ℕ  -- the version that is told, or else 1
   pub spoken : Bool  -- whether a line had words
   pub sections : ℕ  -- the number of `cpu` lines
@@ -83,7 +83,7 @@ pub record State : Type 0 where
   pub marks : List Bool  -- whether it gave each register from 200H on
 
 -- A reader has read these lines.
-pub record HasRead (state : State) (before : List Reading) : Type 0 where
+record HasRead (state : State) (before : List Reading) : Type 0 where
   pub clean : IsClean before
   pub version_is : state.version ≡ version_of before
   pub spoken_is : state.spoken ≡ is_spoken before
@@ -98,5 +98,5 @@ pub record HasRead (state : State) (before : List Reading) : Type 0 where
 
 -- the lines in their order, before others
 abbrev pub onto : {X : Type 0} → List X → List X → List X
-pub onto [] rest = rest
-pub onto (line ∷ before) rest = onto before (line ∷ rest)
+onto [] rest = rest
+onto (line ∷ before) rest = onto before (line ∷ rest)

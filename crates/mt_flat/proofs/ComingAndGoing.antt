@@ -33,7 +33,7 @@ more_shown (q ∷ ps) p zero = refl
 more_shown (q ∷ ps) p (suc k) = more_shown ps p k
 
 pub newcomers_keep_flat : NewcomersKeepFlat
-pub newcomers_keep_flat s f r = one (slice_get s.processors 0)
+newcomers_keep_flat s f r = one (slice_get s.processors 0)
   where
     one : (o : Option Processor) → IsFlatOf (option_map_or (λ p. record s { processors = s.processors ++ newcomer_beside p ∷ [] }) o s) f
     one None = r
@@ -43,7 +43,7 @@ pub newcomers_keep_flat s f r = one (slice_get s.processors 0)
     }
 
 pub admitted_is_flat : AdmittedIsFlat
-pub admitted_is_flat m f goal ks quiet enabled once r =
+admitted_is_flat m f goal ks quiet enabled once r =
     updated_is_flat (with_newcomer m) f goal ks (reset_stays_quiet m quiet) enabled once (newcomers_keep_flat m.system f r)
 
 -- ---- the last goes once its buffers are emptied
@@ -58,7 +58,7 @@ front_shown (p ∷ ps) (suc k) zero long none = refl
 front_shown (p ∷ ps) (suc k) (suc j) long none = front_shown ps k j (omega (arith, long)) none
 
 pub gone_keeps_flat : GoneKeepsFlat
-pub gone_keeps_flat s f some h r =
+gone_keeps_flat s f some h r =
     let ws : List Window = s.memory.windows in
     let k : ℕ = last_number s in
     let d : Same ws (drain k s) (empty_all k f) = same_drain ws (aligned_in s h) k s f (last_is s.processors k (omega (arith, some))) (same_of s f h r) in

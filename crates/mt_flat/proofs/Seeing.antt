@@ -36,7 +36,7 @@ aligned_in s h = aligned_all s.memory.windows h.memory.aligned
 -- ---- events
 
 pub events_keep_flat : EventsKeepFlat
-pub events_keep_flat m e f h r enabled =
+events_keep_flat m e f h r enabled =
     flat_of m.system.memory.windows (next m e).system (flat_after m e f) (next_same m.system.memory.windows (aligned_in m.system h) m e f enabled (same_of m.system f h r))
 
 pub run_same : (ws : List Window) → AllAligned ws → (es : List MachineEvent) (m : Machine) (f : Flat) → AreEnabled m es → Same ws m.system f → Same ws (run m es).system (flat_run m es f)
@@ -50,7 +50,7 @@ runs_keep_flat m es f h r enabled =
 -- ---- answers
 
 pub answers_are_flat : AnswersAreFlat
-pub answers_are_flat m f k address value kind h r answer =
+answers_are_flat m f k address value kind h r answer =
     let w = answer_same m.system.memory.windows (aligned_in m.system h) m.system k address value kind f answer (same_of m.system f h r) in
     record { word = w.0; physical = w.1; answer = w.2 }
 
@@ -88,7 +88,7 @@ zero_word ws a = one (place (zero_memory ws) a)
     one (Some i) = zero_at (word_count ws) i
 
 pub start_is_flat : StartIsFlat
-pub start_is_flat flags files ws = record {
+start_is_flat flags files ws = record {
   values = λ a whole. ap (λ o. option_map_or (λ v. v) o (word_at (zero_memory ws) a)) (start_dirty files flags a) ∙ zero_word ws a;
   pending = λ k. ap (map written_of) (sym (no_buffers_at (flagged_processors files flags) k (each_start (λ p. p.buffers ≡ []) files flags (λ i d within b. refl))));
 }

@@ -69,7 +69,7 @@ settled_buffers goal (p ∷ ps) zero = refl
 settled_buffers goal (p ∷ ps) (suc k) = settled_buffers goal ps k
 
 pub updated_is_flat : UpdatedIsFlat
-pub updated_is_flat s f goal ks quiet enabled once beside =
+updated_is_flat s f goal ks quiet enabled once beside =
     record {
       values = λ a whole.
           ap (λ (o : Option ℕ). option_map_or (λ v. v) o (word_at u.memory a)) (settled_dirty goal s.system.processors a)

@@ -10,17 +10,17 @@ use Rattle.mt_cache.specs.Lines.{eight}
 use Rattle.mt_machine.specs.Memory.{line_of, word_of}
 
 -- a line with words that were written and not set yet, each by its place in the line
-pub record PendingLine : Type 0 where
+record PendingLine : Type 0 where
   pub number : ℕ
   pub written : ℕ → Option ℕ
 
-pub record Flat : Type 0 where
+record Flat : Type 0 where
   pub values : ℕ → ℕ  -- of each word, by its address
   pub pending : ℕ → List PendingLine  -- of each processor, in the order of their first words
 
 -- all words are zero, and nothing is pending
 abbrev pub flat_start : Flat
-pub flat_start = record { values = λ a. 0; pending = λ k. [] }
+flat_start = record { values = λ a. 0; pending = λ k. [] }
 
 -- ---- lists of pending lines
 
@@ -63,7 +63,7 @@ set_words m p = record m { values = λ a. if p.number == line_of a then option_m
 
 -- all lines of the processor, in their order
 abbrev pub empty_all : ℕ → Flat → Flat
-pub empty_all k m = with_pending k (λ _. []) (fold set_words m (m.pending k))
+empty_all k m = with_pending k (λ _. []) (fold set_words m (m.pending k))
 
 -- the processor's line of this number
 abbrev pub empty_line : ℕ → ℕ → Flat → Flat
@@ -85,7 +85,7 @@ join k n word value m = empty_whole k n (with_pending k (joined_with n word valu
 -- ---- accesses
 
 -- what the flat machine is given: a processor, the type of its access, the physical word and the value; and fences, with all else that empties a processor's lines
-pub data FlatEvent : Type 0 where
+data FlatEvent : Type 0 where
   Loads : (k : ℕ) → (kind : MemType) → (word : ℕ) → FlatEvent
   Stores : (k : ℕ) → (kind : MemType) → (word : ℕ) → (value : ℕ) → FlatEvent
   Empties : (k : ℕ) → FlatEvent
@@ -102,7 +102,7 @@ before_store other k word m = empty_line k (line_of word) m
 
 -- the word's value after what the load empties
 abbrev pub flat_answer : Flat → ℕ → MemType → ℕ → ℕ
-pub flat_answer m k kind word = (before_load kind k word m).values word
+flat_answer m k kind word = (before_load kind k word m).values word
 
 -- a write-combining store joins the pending words, and every other one sets its word
 abbrev pub flat_store : MemType → ℕ → ℕ → ℕ → Flat → Flat

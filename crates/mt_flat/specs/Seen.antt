@@ -30,8 +30,8 @@ use Rattle.mt_flat.specs.Flat.{PendingLine, Flat, FlatEvent, Loads, Stores, Empt
 
 -- an access that was answered with Value, Stored or Fenced
 abbrev pub given_access : System → ℕ → Op → Done → Option FlatEvent
-pub given_access s k (Load address) (Value value kind) = option_map (Loads k kind) (physical_of s k address)
-pub given_access s k (Store address value) (Stored kind) = option_map (λ word. Stores k kind word value) (physical_of s k address)
+given_access s k (Load address) (Value value kind) = option_map (Loads k kind) (physical_of s k address)
+given_access s k (Store address value) (Stored kind) = option_map (λ word. Stores k kind word value) (physical_of s k address)
 given_access s k Fence Fenced = Some (Empties k)
 given_access s k op other = None
 
@@ -53,7 +53,7 @@ given m (Steps k Take) = Some (Empties k)
 given m other = None
 
 abbrev pub flat_after : Machine → MachineEvent → Flat → Flat
-pub flat_after m e f = option_map_or (flat_next f) (given m e) f
+flat_after m e f = option_map_or (flat_next f) (given m e) f
 
 abbrev pub flat_run : Machine → List MachineEvent → Flat → Flat
 flat_run m [] f = f
@@ -63,10 +63,10 @@ flat_run m (e ∷ es) f = flat_run (next m e) es (flat_after m e f)
 
 -- the written words of a buffer
 abbrev pub written_of : CacheLine → PendingLine
-pub written_of b = record { number = b.number; written = λ word. if is_dirty b word then Some (slice_index b.words word) else None }
+written_of b = record { number = b.number; written = λ word. if is_dirty b word then Some (slice_index b.words word) else None }
 
 -- each word's value is what it is now, and the pending lines are the buffers with their written words
-pub record IsFlatOf (s : System) (f : Flat) : Type 0 where
+record IsFlatOf (s : System) (f : Flat) : Type 0 where
   pub values : (address : ℕ) → address % 8 ≡ 0 → now s address ≡ f.values address
   pub pending : (k : ℕ) → f.pending k ≡ map written_of (buffers_of s k)
 
@@ -91,7 +91,7 @@ RunsKeepFlat =
     (m : Machine) (es : List MachineEvent) (f : Flat) → IsSound m.system → IsFlatOf m.system f → AreEnabled m es → IsFlatOf (run m es).system (flat_run m es f)
 
 -- what a load of processor k is answered is what the flat machine answers it
-pub record IsFlatAnswer (m : Machine) (f : Flat) (k address value : ℕ) (kind : MemType) : Type 0 where
+record IsFlatAnswer (m : Machine) (f : Flat) (k address value : ℕ) (kind : MemType) : Type 0 where
   pub word : ℕ
   pub physical : physical_of m.system k address ≡ Some word
   pub answer : value ≡ flat_answer f k kind word
@@ -119,7 +119,7 @@ PendingStaysFew =
 -- ---- updates
 
 -- what was given until an update's first pass: then nothing is pending, and after its first release memory has each word that was not stored since
-pub record IsHeldFlat (f : Flat) (r : Machine) (since : List MachineEvent) : Type 0 where
+record IsHeldFlat (f : Flat) (r : Machine) (since : List MachineEvent) : Type 0 where
   pub nothing : (k : ℕ) → f.pending k ≡ []
   pub held : (address : ℕ) → address % 8 ≡ 0 → (Contains (stored_words r since) address → ⊥) → word_at (run r since).system.memory address ≡ f.values address
 
@@ -131,7 +131,7 @@ HeldIsFlat =
 
 -- of a whole update the flat machine is given the takes
 abbrev pub flat_takes : List ℕ → Flat → Flat
-pub flat_takes ks f = fold (λ g k. empty_all k g) f ks
+flat_takes ks f = fold (λ g k. empty_all k g) f ks
 
 abbrev pub UpdatedIsFlat : Type 0
 UpdatedIsFlat =

@@ -17,7 +17,7 @@ use Rattle.mt_gran.proofs.CutMarks.{broken_gets, broken_marks, free_marks, uncac
 
 -- a page's mark is the type that it loses
 pub mark_of : (m : TypedPages) (g : ℕ) (t : MemType) (page : ℕ) → loses m g t page ≡ true → lost_mark m g page ≡ Some (Kind t)
-pub mark_of m g t page h =
+mark_of m g t page h =
     let outer = and_parts _ _ h in
     let inner = and_parts _ _ outer.0 in
     let first = and_parts _ _ inner.0 in
@@ -36,14 +36,14 @@ pub same_mark : (j k : PageType) → Some j ≡ Some k → j ≡ k
 same_mark j k h = cc
 
 -- what a mark says of its page
-pub record IsLost (m : TypedPages) (g page : ℕ) (k : PageType) : Type 0 where
+record IsLost (m : TypedPages) (g page : ℕ) (k : PageType) : Type 0 where
   pub kind : m.kind page ≡ k
   pub other : is_kind (m.kind page) UC ≡ false
   pub nonfree : m.free page ≡ false
   pub broken : is_whole m g (page / 2 ^ g) ≡ false
 
 pub lost_by : (m : TypedPages) (g page : ℕ) (k : PageType) → lost_mark m g page ≡ Some k → IsLost m g page k
-pub lost_by m g page k is = elim (cases_Bool (is_kind (m.kind page) UC)) [
+lost_by m g page k is = elim (cases_Bool (is_kind (m.kind page) UC)) [
   | inl uc ↦ absurd (no_mark k (lost_mark m g page) (uncacheable_marks m g page uc) is)
   | inr other ↦ elim (cases_Bool (m.free page)) [
     | inl free ↦ absurd (no_mark k (lost_mark m g page) (free_marks m g page other free) is)
@@ -81,8 +81,8 @@ count_few test (suc n) =
     ]
 
 pub count_none : (test : ℕ → Bool) (from n to : ℕ) → to ≡ from + n → ((page : ℕ) → from ≤ page → page < to → test page ≡ false) → count_below test to ≡ count_below test from
-pub count_none test from zero to is none = ap (count_below test) (omega arith)
-pub count_none test from (suc n) to is none =
+count_none test from zero to is none = ap (count_below test) (omega arith)
+count_none test from (suc n) to is none =
     let last : suc (from + n) ≡ to = omega (arith, is) in
     let h : count_below test (from + n) ≡ count_below test from = count_none test from n (from + n) refl (λ page low high. none page low (omega (arith, high, last))) in
     let off : test (from + n) ≡ false = none (from + n) (omega arith) (omega (arith, last)) in
@@ -106,7 +106,7 @@ abbrev pub default_run : Run
 default_run = record { first = 0; count = 0; kind = Kind UC }
 
 -- the number of pages that lose WB below the runs that are left
-pub record Counted (m : TypedPages) (g : ℕ) (rest : List Run) (lost : ℕ) : Type 0 where
+record Counted (m : TypedPages) (g : ℕ) (rest : List Run) (lost : ℕ) : Type 0 where
   pub from : ℕ
   pub runs : AreRunsOf (lost_mark m g) from m.count rest
   pub lost_is : lost ≡ count_below (loses m g WB) from

@@ -60,13 +60,13 @@ finds_log size log (suc more) g low high is = by_test (cases_Bool (size == 2 ^ (
         other same = let here = eq-eqb size (2 ^ (12 + log)) (is ∙ ap (λ (n : ℕ). 2 ^ (12 + n)) (sym same)) in cc
 
 pub size_is : (size log : ℕ) → (log_among size 0 29 ≡ Some log) ↔ IsGranuleSize size log
-pub size_is size log = (
+size_is size log = (
   λ is. let found = found_log size 0 29 log is in (omega (arith, found.1), found.0),
   λ both. finds_log size 0 29 log (omega arith) (omega (arith, both.0)) both.1,
 )
 
 pub one_log : (size a b : ℕ) → IsGranuleSize size a → IsGranuleSize size b → a ≡ b
-pub one_log size a b first second = same_log a b (sym first.1 ∙ second.1)
+one_log size a b first second = same_log a b (sym first.1 ∙ second.1)
 
 pub some_size : (size : ℕ) (found : Option ℕ) → found ≡ log_among size 0 29 → IfSome found (λ log. IsGranuleSize size log)
 some_size size (Some log) is = (size_is size log).0 (sym is)

@@ -65,7 +65,7 @@ module _ (m : TypedPages) (g : ℕ) where
   ]
 
 pub rounded_map : (m : TypedPages) (g : ℕ) (rs : List Run) → 0 < m.count → m.count ≤ 2 ^ 40 → AreRunsOf (rounded_mark m g) 0 m.count rs → AreRounded m g rs
-pub rounded_map = whole_map
+rounded_map = whole_map
 
 pub kind_rounded : (m : TypedPages) (g : ℕ) (rs : List Run) (page : ℕ) → AreRounded m g rs → page < m.count → kind_at rs page ≡ rounded_kind m g page
 kind_rounded m g rs page are below = kind_from m g 0 rs page are.map.chain (omega arith) (omega (arith, are.whole, below)) are.kinds

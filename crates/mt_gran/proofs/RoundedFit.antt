@@ -42,7 +42,7 @@ own_types f accepted page below = defined (page_type f page) (no_undefined f acc
 -- the rounded types of a file whose ranges are on can be wanted
 pub rounded_wanted : (f : RegisterFile) → IsRegisterFile f → IsAccepted f → is_enabled f ≡ true → (g : ℕ) (own wanted : List Run) → IsRunsOf f own → AreRounded (pages_of f) g wanted
     → IsWanted f wanted
-pub rounded_wanted f good accepted enabled g own wanted are rounded = record {
+rounded_wanted f good accepted enabled g own wanted are rounded = record {
   chain = rounded.map.chain;
   whole = rounded.whole;
   supported = λ k d within.
@@ -66,7 +66,7 @@ pub rounded_wanted f good accepted enabled g own wanted are rounded = record {
 pub grained : (f : RegisterFile) → IsAccepted f → is_enabled f ≡ true → (g chunk spare : ℕ) (wanted : List Run) → AreRounded (pages_of f) g wanted → (new : RegisterFile) (used : ℕ)
     → IsTidied f wanted chunk spare new used → (lost : ℕ) → lost ≡ lost_pages (pages_of f) g → (parts : List Run) → AreRunsOf (lost_mark (pages_of f) g) 0 (page_count f) parts
     → IsGrained f g chunk spare new used lost parts
-pub grained f accepted enabled g chunk spare wanted rounded new used tidied lost lost_is parts are = record {
+grained f accepted enabled g chunk spare wanted rounded new used tidied lost lost_is parts are = record {
   old_accepted = accepted;
   enabled = enabled;
   wanted = wanted;
@@ -86,18 +86,18 @@ pub grained f accepted enabled g chunk spare wanted rounded new used tidied lost
 
 pub own_stays : (f new : RegisterFile) (g chunk spare used lost : ℕ) (parts : List Run) → IsGrained f g chunk spare new used lost parts
     → (page : ℕ) → page < page_count new → rounded_kind (pages_of new) g page ≡ page_type new page
-pub own_stays f new g chunk spare used lost parts is page below =
+own_stays f new g chunk spare used lost parts is page below =
     let count : page_count new ≡ page_count f = ap page_count is.tidied.file in
     is.stays page (omega (arith, count, below))
 
 pub no_second_parts : (f new newer : RegisterFile) (g chunk spare used lost : ℕ) (parts : List Run) → IsGrained f g chunk spare new used lost parts
     → (others few number gone : ℕ) (lasts : List Run) → IsGrained new g others few newer number gone lasts → lasts ≡ []
-pub no_second_parts f new newer g chunk spare used lost parts is others few number gone lasts again =
+no_second_parts f new newer g chunk spare used lost parts is others few number gone lasts again =
     no_parts (pages_of new) g lasts (own_stays f new g chunk spare used lost parts is) again.parts_are
 
 pub no_second_loss : (f new newer : RegisterFile) (g chunk spare used lost : ℕ) (parts : List Run) → IsGrained f g chunk spare new used lost parts
     → (others few number gone : ℕ) (lasts : List Run) → IsGrained new g others few newer number gone lasts → gone ≡ 0
-pub no_second_loss f new newer g chunk spare used lost parts is others few number gone lasts again =
+no_second_loss f new newer g chunk spare used lost parts is others few number gone lasts again =
     again.lost_is ∙ none_lost (pages_of new) g (own_stays f new g chunk spare used lost parts is)
 
 -- what gives one map of the rounded types gives each
@@ -109,7 +109,7 @@ gives_other f g a b left right ranges gives = record {
 }
 
 pub one_least : (f : RegisterFile) (g chunk a b : ℕ) → IsLeastRounded f g chunk a → IsLeastRounded f g chunk b → a ≡ b
-pub one_least f g chunk a b left right =
+one_least f g chunk a b left right =
     let (first, first_gives, first_allowed, first_is) = left.least.some in
     let (second, second_gives, second_allowed, second_is) = right.least.some in
     let below = left.least.none_shorter second (gives_other f g right.wanted left.wanted right.rounded left.rounded second second_gives) second_allowed in
@@ -117,7 +117,7 @@ pub one_least f g chunk a b left right =
     omega (arith, first_is, second_is, below, above)
 
 pub used_is_least : (f new : RegisterFile) (g chunk spare used lost : ℕ) (parts : List Run) → IsGrained f g chunk spare new used lost parts → IsLeastRounded f g chunk used
-pub used_is_least f new g chunk spare used lost parts is =
+used_is_least f new g chunk spare used lost parts is =
     let tidied = is.tidied in
     record {
       wanted = is.wanted;
@@ -129,4 +129,4 @@ pub used_is_least f new g chunk spare used lost parts is =
     }
 
 pub needs_is_least : (f : RegisterFile) (g chunk spare needs has : ℕ) → NeedsMore f g chunk spare needs has → IsLeastRounded f g chunk needs
-pub needs_is_least f g chunk spare needs has is = record { wanted = is.wanted; rounded = is.rounded; least = is.few.least }
+needs_is_least f g chunk spare needs has is = record { wanted = is.wanted; rounded = is.rounded; least = is.few.least }

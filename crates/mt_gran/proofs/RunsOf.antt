@@ -14,12 +14,12 @@ both_have marks from to end mark first second page low high = elim (cases_lt pag
 
 -- pages without a mark
 pub pass : (marks : ℕ → Option PageType) (from to end : ℕ) (runs : List Run) → to ≤ end → AreRunsOf marks from to runs → HaveMark marks to end None → AreRunsOf marks from end runs
-pub pass marks from to end [] order are none = (omega (arith, are.0), both_have marks from to end None are.1 none)
-pub pass marks from to end (r ∷ rs) order are none = (are.0, are.1, are.2, are.3, are.4, pass marks (run_end r) to end rs order are.5 none)
+pass marks from to end [] order are none = (omega (arith, are.0), both_have marks from to end None are.1 none)
+pass marks from to end (r ∷ rs) order are none = (are.0, are.1, are.2, are.3, are.4, pass marks (run_end r) to end rs order are.5 none)
 
 pub first_run : (marks : ℕ → Option PageType) (from to end : ℕ) (kind : PageType) → AreRunsOf marks from to [] → to < end → HaveMark marks to end (Some kind)
     → AreRunsOf marks from end (record { first = to; count = end - to; kind = kind } ∷ [])
-pub first_run marks from to end kind are order have = (
+first_run marks from to end kind are order have = (
   are.0,
   are.1,
   omega arith,
@@ -32,9 +32,9 @@ pub first_run marks from to end kind are order have = (
 pub next_run : (marks : ℕ → Option PageType) (from to end : ℕ) (kind : PageType) (front : List Run) (last : Run) → AreRunsOf marks from to (front ++ last ∷ []) → to < end
     → HaveMark marks to end (Some kind) → (run_end last ≡ to → last.kind ≢ kind)
     → AreRunsOf marks from end ((front ++ last ∷ []) ++ record { first = to; count = end - to; kind = kind } ∷ [])
-pub next_run marks from to end kind [] last are order have apart =
+next_run marks from to end kind [] last are order have apart =
     (are.0, are.1, are.2, are.3, apart, first_run marks (run_end last) to end kind are.5 order have)
-pub next_run marks from to end kind (x ∷ []) last are order have apart =
+next_run marks from to end kind (x ∷ []) last are order have apart =
     (are.0, are.1, are.2, are.3, are.4, next_run marks (run_end x) to end kind [] last are.5 order have apart)
 next_run marks from to end kind (x ∷ y ∷ ys) last are order have apart =
     (are.0, are.1, are.2, are.3, are.4, next_run marks (run_end x) to end kind (y ∷ ys) last are.5 order have apart)
@@ -43,7 +43,7 @@ next_run marks from to end kind (x ∷ y ∷ ys) last are order have apart =
 pub longer_run : (marks : ℕ → Option PageType) (from to end : ℕ) (kind : PageType) (front : List Run) (last : Run) → AreRunsOf marks from to (front ++ last ∷ []) → to ≤ end
     → HaveMark marks to end (Some kind) → run_end last ≡ to → last.kind ≡ kind
     → AreRunsOf marks from end (front ++ record { first = last.first; count = last.count + (end - to); kind = kind } ∷ [])
-pub longer_run marks from to end kind [] last are order have ends same = (
+longer_run marks from to end kind [] last are order have ends same = (
   are.0,
   are.1,
   omega (arith, are.2),
@@ -54,14 +54,14 @@ pub longer_run marks from to end kind [] last are order have ends same = (
   tt,
   (omega (arith, ends, order), λ page low high. absurd (omega (arith, low, high, ends, order))),
 )
-pub longer_run marks from to end kind (x ∷ []) last are order have ends same =
+longer_run marks from to end kind (x ∷ []) last are order have ends same =
     (are.0, are.1, are.2, are.3, λ meets e. are.4 meets (e ∙ sym same), longer_run marks (run_end x) to end kind [] last are.5 order have ends same)
 longer_run marks from to end kind (x ∷ y ∷ ys) last are order have ends same =
     (are.0, are.1, are.2, are.3, are.4, longer_run marks (run_end x) to end kind (y ∷ ys) last are.5 order have ends same)
 
 pub last_ends : (marks : ℕ → Option PageType) (from to : ℕ) (front : List Run) (last : Run) → AreRunsOf marks from to (front ++ last ∷ []) → run_end last ≤ to
-pub last_ends marks from to [] last are = are.5.0
-pub last_ends marks from to (x ∷ xs) last are = last_ends marks (run_end x) to xs last are.5
+last_ends marks from to [] last are = are.5.0
+last_ends marks from to (x ∷ xs) last are = last_ends marks (run_end x) to xs last are.5
 
 pub no_pages : (marks : ℕ → Option PageType) (from to end : ℕ) (runs : List Run) → to ≡ end → AreRunsOf marks from to runs → AreRunsOf marks from end runs
 no_pages marks from to end runs same are = pass marks from to end runs (omega arith) are (λ page low high. absurd (omega arith))

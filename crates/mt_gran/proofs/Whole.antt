@@ -103,7 +103,7 @@ AllHave m g granule t = (page : ℕ) → page < m.count → page / 2 ^ g ≡ gra
 
 pub whole_from : (m : TypedPages) (g granule : ℕ) (t : MemType) → AllHave m g granule t → is_whole m g granule ≡ true
 unfolding is_whole has_type
-pub whole_from m g granule t all =
+whole_from m g granule t all =
     any_type (has_type m g granule) t (each_from (λ page. not (is_of_granule m g granule page) || is_kind (m.kind page) t) m.count
     (λ page below. implied (is_of_granule m g granule page) (is_kind (m.kind page) t) (λ is.
     let parts = and_parts (page / 2 ^ g == granule) (not (m.free page)) is in
@@ -111,7 +111,7 @@ pub whole_from m g granule t all =
 
 pub whole_has : (m : TypedPages) (g granule : ℕ) → is_whole m g granule ≡ true → (t : MemType) × AllHave m g granule t
 unfolding is_whole has_type
-pub whole_has m g granule h =
+whole_has m g granule h =
     let (t, is) = some_type (has_type m g granule) types h in (
       t,
       λ page below at nonfree. kind_of (m.kind page) t (implies (is_of_granule m g granule page) (is_kind (m.kind page) t)

@@ -13,13 +13,13 @@ use Rattle.mt_trie.specs.Contexts.{is_kind, types}
 use Rattle.mt_tidy.specs.Wanted.{is_free}
 
 -- some pages, from 0 on, which of them are free, and their types
-pub record TypedPages : Type 0 where
+record TypedPages : Type 0 where
   pub count : ℕ
   pub free : ℕ → Bool
   pub kind : ℕ → PageType
 
 abbrev pub pages_of : RegisterFile → TypedPages
-pub pages_of f = record { count = page_count f; free = is_free f; kind = page_type f }
+pages_of f = record { count = page_count f; free = is_free f; kind = page_type f }
 
 -- each number below one passes a test
 abbrev pub each_below : (ℕ → Bool) → ℕ → Bool
@@ -41,25 +41,25 @@ has_type m g granule t = each_below (λ page. not (is_of_granule m g granule pag
 
 -- all its pages that aren't free have one type
 unfoldable pub is_whole : TypedPages → ℕ → ℕ → Bool
-pub is_whole m g granule = list_any (has_type m g granule) types
+is_whole m g granule = list_any (has_type m g granule) types
 
 -- a page that is free or in a whole granule keeps its type, and any other one gets UC
 abbrev pub rounded_kind : TypedPages → ℕ → ℕ → PageType
-pub rounded_kind m g page = if m.free page || is_whole m g (page / 2 ^ g) then m.kind page else Kind UC
+rounded_kind m g page = if m.free page || is_whole m g (page / 2 ^ g) then m.kind page else Kind UC
 
 -- the page isn't free, has the type and not UC, and is rounded to UC
 abbrev pub loses : TypedPages → ℕ → MemType → ℕ → Bool
-pub loses m g t page = not (m.free page) && is_kind (m.kind page) t && not (is_kind (m.kind page) UC) && is_kind (rounded_kind m g page) UC
+loses m g t page = not (m.free page) && is_kind (m.kind page) t && not (is_kind (m.kind page) UC) && is_kind (rounded_kind m g page) UC
 
 -- how many pages lose WB
 abbrev pub lost_pages : TypedPages → ℕ → ℕ
-pub lost_pages m g = count_below (loses m g WB) m.count
+lost_pages m g = count_below (loses m g WB) m.count
 
 abbrev pub HasRoundedKind : TypedPages → ℕ → Run → Type 0
 HasRoundedKind m g r = (page : ℕ) → HasPage r page → rounded_kind m g page ≡ r.kind
 
 -- the type map of the rounded types
-pub record AreRounded (m : TypedPages) (g : ℕ) (runs : List Run) : Type 0 where
+record AreRounded (m : TypedPages) (g : ℕ) (runs : List Run) : Type 0 where
   pub map : IsTypeMap runs
   pub whole : pages_end 0 runs ≡ m.count
   pub kinds : All (HasRoundedKind m g) runs

@@ -14,7 +14,7 @@ use Rattle.mt_gran.specs.Granules.{TypedPages, is_whole, rounded_kind}
 
 -- the pages from one up to another have the mark, which is a type or none
 abbrev pub HaveMark : (ℕ → Option PageType) → ℕ → ℕ → Option PageType → Type 0
-pub HaveMark marks from to mark = (page : ℕ) → from ≤ page → page < to → marks page ≡ mark
+HaveMark marks from to mark = (page : ℕ) → from ≤ page → page < to → marks page ≡ mark
 
 -- the first of the runs, if there is one, doesn't go on with the type where the run ends
 abbrev pub EndsBefore : Run → List Run → Type 0
@@ -23,24 +23,24 @@ EndsBefore r (s ∷ ss) = run_end r ≡ s.first → r.kind ≢ s.kind
 
 -- the longest runs of marked pages from one page up to another
 abbrev pub AreRunsOf : (ℕ → Option PageType) → ℕ → ℕ → List Run → Type 0
-pub AreRunsOf marks from to [] = (from ≤ to) × HaveMark marks from to None
-pub AreRunsOf marks from to (r ∷ rs) =
+AreRunsOf marks from to [] = (from ≤ to) × HaveMark marks from to None
+AreRunsOf marks from to (r ∷ rs) =
     (from ≤ r.first) × HaveMark marks from r.first None × (0 < r.count) × HaveMark marks r.first (run_end r) (Some r.kind) × EndsBefore r rs
     × AreRunsOf marks (run_end r) to rs
 
 abbrev pub rounded_mark : TypedPages → ℕ → ℕ → Option PageType
-pub rounded_mark m g page = Some (rounded_kind m g page)
+rounded_mark m g page = Some (rounded_kind m g page)
 
 -- the type that a page loses, if any
 abbrev pub lost_mark : TypedPages → ℕ → ℕ → Option PageType
-pub lost_mark m g page = if is_kind (m.kind page) UC || (m.free page || is_whole m g (page / 2 ^ g)) then None else Some (m.kind page)
+lost_mark m g page = if is_kind (m.kind page) UC || (m.free page || is_whole m g (page / 2 ^ g)) then None else Some (m.kind page)
 
 -- how many pages of a part lose WB
 abbrev pub part_loss : Run → ℕ
 part_loss part = if is_kind part.kind WB then part.count else 0
 
 -- a run of the type map of a file whose types are defined
-pub record IsWholeRun (f : RegisterFile) (r : Run) : Type 0 where
+record IsWholeRun (f : RegisterFile) (r : Run) : Type 0 where
   pub type : MemType
   pub kind : r.kind ≡ Kind type
   pub some : 0 < r.count
@@ -50,7 +50,7 @@ pub record IsWholeRun (f : RegisterFile) (r : Run) : Type 0 where
   pub behind : run_end r < page_count f → page_type f (run_end r) ≢ r.kind
 
 -- the pages of a run are free up to one place, and from another up to a third one they are in whole granules
-pub record IsCut (m : TypedPages) (g : ℕ) (r : Run) (c : Cut) : Type 0 where
+record IsCut (m : TypedPages) (g : ℕ) (r : Run) (c : Cut) : Type 0 where
   pub begins : r.first ≤ c.free_end
   pub head_ends : c.free_end ≤ c.whole_from
   pub tail_begins : c.whole_from ≤ c.whole_to

@@ -2,8 +2,8 @@
 use Rattle.std.specs.Prelude.{ℕ}
 
 abbrev pub page_bytes : ℕ
-pub page_bytes = 4096
+page_bytes = 4096
 
 -- the lines that all windows of memory have together at most
 abbrev pub most_lines : ℕ
-pub most_lines = 4096
+most_lines = 4096

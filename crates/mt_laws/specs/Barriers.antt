@@ -11,32 +11,32 @@ use Rattle.mt_machine.specs.declared.ruled.Ruled.TheVariants.{Busy as RuledBusy}
 use Rattle.mt_machine.specs.Control.{control}
 
 abbrev pub IsAt : Machine → ℕ → Processor → Type 0
-pub IsAt m i p = slice_get m.system.processors i ≡ Some p
+IsAt m i p = slice_get m.system.processors i ≡ Some p
 
 -- where some processor has passed the first barrier, each has arrived at it and the go is given; where some has released, each has arrived at the second
-pub record BarriersHold (m : Machine) : Type 0 where
+record BarriersHold (m : Machine) : Type 0 where
   pub first : (o : Order) (i j : ℕ) (p q : Processor) → m.order ≡ Some o → IsAt m i p → IsAt m j q → has_passed o p ≡ true → has_arrived o q ≡ true
   pub given : (o : Order) (i : ℕ) (p : Processor) → m.order ≡ Some o → IsAt m i p → has_passed o p ≡ true → o.go ≡ Given
   pub second : (o : Order) (i j : ℕ) (p q : Processor) → m.order ≡ Some o → IsAt m i p → IsAt m j q → has_released o p ≡ true → has_arrived_again o q ≡ true
 
 -- while some processor changes its registers, none runs
 abbrev pub NoneRunsInChange : Machine → Type 0
-pub NoneRunsInChange m =
+NoneRunsInChange m =
     (i j : ℕ) (p q : Processor) → IsAt m i p → IsAt m j q → is_changing p.phase ≡ true → is_running q.phase ≡ false
 
 -- and then no processor accesses memory, and none does a control instruction
 abbrev pub NoneActsInChange : Machine → Type 0
-pub NoneActsInChange m =
+NoneActsInChange m =
     (i k : ℕ) (p : Processor) (op : Op) (c : Control) → IsAt m i p → is_changing p.phase ≡ true
     → (access m.system k op ≡ record { answer = Busy; after = m.system }) × (control m.system k c ≡ record { answer = RuledBusy; after = m.system })
 
 -- as many have arrived as are awaited
 abbrev pub IsFull : BarrierCount → Type 0
-pub IsFull c = c.arrived ≡ c.awaited
+IsFull c = c.arrived ≡ c.awaited
 
 -- a barrier is open exactly where its count is full
 abbrev pub OpenWhereFull : Type 0
-pub OpenWhereFull =
+OpenWhereFull =
     (o : Order) (ps : List Processor)
     → (first_barrier_open o ps ≡ true → IsFull (first_barrier_count o ps)) × (IsFull (first_barrier_count o ps) → first_barrier_open o ps ≡ true)
     × (second_barrier_open o ps ≡ true → IsFull (second_barrier_count o ps)) × (IsFull (second_barrier_count o ps) → second_barrier_open o ps ≡ true)

@@ -14,10 +14,10 @@ use Rattle.mt_laws.specs.Kept.{is_take_step}
 
 -- the events of a processor besides these: a self-snooping one leaves out the drop of the first flush
 abbrev pub other_events : Processor → ℕ
-pub other_events p = if p.self_snoop then 12 else 13
+other_events p = if p.self_snoop then 12 else 13
 
 -- between its take and its release processor k passes the first barrier once; it does as many events as it has writable registers and dirty words then, and 13 or 12 more
-pub record IsCounted (m : Machine) (k : ℕ) (between : List MachineEvent) : Type 0 where
+record IsCounted (m : Machine) (k : ℕ) (between : List MachineEvent) : Type 0 where
   pub before : List MachineEvent
   pub rest : List MachineEvent
   pub passes : between ≡ before ++ Steps k Pass ∷ rest
@@ -28,7 +28,7 @@ pub record IsCounted (m : Machine) (k : ℕ) (between : List MachineEvent) : Typ
 
 -- from a take to the release that follows it, with no other take of the processor between
 abbrev pub CountOfSteps : Type 0
-pub CountOfSteps =
+CountOfSteps =
     (s m : Machine) (k : ℕ) (between : List MachineEvent) → IsStart s → Reached s m
     → AreEnabled m (Steps k Take ∷ (between ++ Steps k Release ∷ []))
     → list_all (λ e. not (is_step_of k e && (is_take_step e || is_release e))) between ≡ true
@@ -36,21 +36,21 @@ pub CountOfSteps =
 
 -- each number below a count stands once in the list, and no other stands in it
 abbrev pub IsEachOnce : ℕ → List ℕ → Type 0
-pub IsEachOnce count ks = (k : ℕ) → count_by (λ j. j == k) ks ≡ (if nat_lt k count then 1 else 0)
+IsEachOnce count ks = (k : ℕ) → count_by (λ j. j == k) ks ≡ (if nat_lt k count then 1 else 0)
 
 -- each stands at most once
 abbrev pub IsEachAtMostOnce : ℕ → List ℕ → Type 0
-pub IsEachAtMostOnce count ks = (k : ℕ) → count_by (λ j. j == k) ks ≤ (if nat_lt k count then 1 else 0)
+IsEachAtMostOnce count ks = (k : ℕ) → count_by (λ j. j == k) ks ≤ (if nat_lt k count then 1 else 0)
 
 -- in an update each processor takes at most once; where it ends without a cancel each takes once
 abbrev pub TakesAtMostOnce : Type 0
-pub TakesAtMostOnce =
+TakesAtMostOnce =
     (s : Machine) (goal : RegisterFile) (es : List MachineEvent) → IsQuiet s → AreEnabled s (Calls goal ∷ es)
     → list_all is_led es ≡ true
     → IsEachAtMostOnce (length s.system.processors) (takes_of es)
 
 abbrev pub TakesOnce : Type 0
-pub TakesOnce =
+TakesOnce =
     (s : Machine) (goal : RegisterFile) (es : List MachineEvent) → IsQuiet s → AreEnabled s (Calls goal ∷ es)
     → list_all (λ e. is_led e && not (is_cancel e)) es ≡ true
     → (run s (Calls goal ∷ es)).order ≡ None

@@ -10,7 +10,7 @@ use Rattle.mt_machine.specs.System.{Processor}
 use Rattle.mt_machine.specs.Start.{IsStart, start_with}
 
 -- p stands before the first pass of its update, and the first release leads to r
-pub record IsFirstRelease (p r : Machine) (o : Order) : Type 0 where
+record IsFirstRelease (p r : Machine) (o : Order) : Type 0 where
   pub order : p.order ≡ Some o
   pub none_passed : All (λ q. has_passed o q ≡ false) p.system.processors
   pub first : ℕ
@@ -22,20 +22,20 @@ pub record IsFirstRelease (p r : Machine) (o : Order) : Type 0 where
 
 -- each word that no access stored since the first release is in memory as it was before the first pass
 abbrev pub HeldAfterRelease : Type 0
-pub HeldAfterRelease =
+HeldAfterRelease =
     (s p r : Machine) (o : Order) (since : List MachineEvent) → IsStart s → Reached s p → IsFirstRelease p r o → AreEnabled r since
     → IsHeld p.system r since
 
 -- a release before which none has released is the first of its update: some reached state before the first pass leads to it
 abbrev pub FirstReleaseFollows : Type 0
-pub FirstReleaseFollows =
+FirstReleaseFollows =
     (s m : Machine) (o : Order) (k : ℕ) → IsStart s → Reached s m → m.order ≡ Some o
     → All (λ q. has_released o q ≡ false) m.system.processors → IsEnabled m (Steps k Release)
     → (p : Machine) × Reached s p × IsFirstRelease p (next m (Steps k Release)) o
 
 -- so after the first release of each update that is reached, words are held
 abbrev pub HeldAfterEachFirst : Type 0
-pub HeldAfterEachFirst =
+HeldAfterEachFirst =
     (s m : Machine) (o : Order) (k : ℕ) (since : List MachineEvent) → IsStart s → Reached s m → m.order ≡ Some o
     → All (λ q. has_released o q ≡ false) m.system.processors → IsEnabled m (Steps k Release)
     → AreEnabled (next m (Steps k Release)) since
@@ -43,12 +43,12 @@ pub HeldAfterEachFirst =
 
 -- where some processor may pass the first barrier, none has a buffer
 abbrev pub NoBuffersAtPass : Type 0
-pub NoBuffersAtPass =
+NoBuffersAtPass =
     (s p : Machine) (k : ℕ) → IsStart s → Reached s p → IsEnabled p (Steps k Pass) → All (λ q. q.buffers ≡ []) p.system.processors
 
 -- each processor's file is the goal, and nothing is held that is older than the update
 abbrev pub SettledAfterEachRelease : Type 0
-pub SettledAfterEachRelease =
+SettledAfterEachRelease =
     (s m : Machine) (o : Order) (k : ℕ) (since : List MachineEvent) → IsStart s → Reached s m → m.order ≡ Some o
     → IsEnabled m (Steps k Release) → AreEnabled (next m (Steps k Release)) since → list_all (λ e. not (is_call e)) since ≡ true
     → IsSettled (run (next m (Steps k Release)) since).system (o.from_era + 1) o.goal
@@ -56,14 +56,14 @@ pub SettledAfterEachRelease =
 -- ---- at all times
 
 -- nothing that the processor holds is of an earlier era than its own
-pub record IsFresh (p : Processor) : Type 0 where
+record IsFresh (p : Processor) : Type 0 where
   pub lines : All (λ l. p.era ≤ l.era) p.lines
   pub buffers : All (λ l. p.era ≤ l.era) p.buffers
   pub entries : All (λ e. p.era ≤ e.era) p.entries
 
 -- where that holds at a start it holds in each reached state, within an update too
 abbrev pub NothingIsStale : Type 0
-pub NothingIsStale = (s m : Machine) → IsStart s → All IsFresh s.system.processors → Reached s m → All IsFresh m.system.processors
+NothingIsStale = (s m : Machine) → IsStart s → All IsFresh s.system.processors → Reached s m → All IsFresh m.system.processors
 
 abbrev pub StartsFresh : Type 0
-pub StartsFresh = (flags : List Bool) (files : List RegisterFile) (ws : List Window) → All IsFresh (start_with flags files ws).system.processors
+StartsFresh = (flags : List Bool) (files : List RegisterFile) (ws : List Window) → All IsFresh (start_with flags files ws).system.processors

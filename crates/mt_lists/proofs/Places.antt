@@ -15,10 +15,10 @@ first_is key n (y ∷ ys) (suc i) d apart within is =
     ap (λ b. if not b then 1 + position_or_len (λ z. key z == n) ys else 0) other ∙ (let e : 1 + position_or_len (λ z. key z == n) ys ≡ suc i = omega arith in e)
 
 pub place_is : {X : Type 0} (key : X → ℕ) (n : ℕ) (xs : List X) (i : ℕ) (d : X) → AreApart key xs → i < length xs → key (get_or xs i d) ≡ n → position (λ y. key y == n) xs ≡ Some i
-pub place_is key n xs i d apart within is =
+place_is key n xs i d apart within is =
     ap (λ k. if nat_lt k (length xs) then Some k else None) (first_is key n xs i d apart within is)
     ∙ ap (λ b. if b then Some i else None) (lt-ltb i (length xs) within)
 
 -- the same of an element that stands at its place
 pub place_at : {X : Type 0} (key : X → ℕ) (n : ℕ) (xs : List X) (i : ℕ) (x : X) → AreApart key xs → i < length xs → slice_get xs i ≡ Some x → key x ≡ n → position (λ y. key y == n) xs ≡ Some i
-pub place_at key n xs i x apart within at is = place_is key n xs i x apart within (ap key (get_or_from_slice_get xs i x x at) ∙ is)
+place_at key n xs i x apart within at is = place_is key n xs i x apart within (ap key (get_or_from_slice_get xs i x x at) ∙ is)

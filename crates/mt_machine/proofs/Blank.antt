@@ -54,13 +54,13 @@ none_first f none [] = refl
 none_first f none (r ∷ rs) = ap (λ why. option_or (fault_at r why) (first_of f rs)) (none r) ∙ none_first f none rs
 
 pub blank_is_accepted : (width capabilities : ℕ) → IsAccepted (blank_file width capabilities)
-pub blank_is_accepted width capabilities =
+blank_is_accepted width capabilities =
     let f : RegisterFile = blank_file width capabilities in
     let none : register_fault f ≡ None = none_first f (no_reason width capabilities) (writable f) in
     subst (λ (o : Option Fault). MatchOption o (IsOverlap f None) (λ fault. None ≡ Some fault)) (sym none) (λ page within undefined. absurd (cc))
 
 pub blank_is_file : (f : RegisterFile) → IsRegisterFile f → IsRegisterFile (blank_file f.width f.capabilities)
-pub blank_is_file f h = record {
+blank_is_file f h = record {
   wide = h.wide;
   narrow = h.narrow;
   few_pairs = h.few_pairs;

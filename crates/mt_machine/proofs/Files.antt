@@ -11,7 +11,7 @@ use Rattle.mt_regs.specs.Registers.{pair_registers, fixed_registers, writable, v
 use Rattle.mt_machine.specs.Machine.{with_goal, without_enable}
 
 -- f has the goal's shape
-pub record Alike (goal f : RegisterFile) : Type 0 where
+record Alike (goal f : RegisterFile) : Type 0 where
   pub width : f.width ≡ goal.width
   pub capabilities : f.capabilities ≡ goal.capabilities
   pub pairs : length f.pairs ≡ length goal.pairs
@@ -22,11 +22,11 @@ abbrev pub Agree : RegisterFile → RegisterFile → Register → Type 0
 Agree goal f r = value_of f r ≡ value_of goal r
 
 abbrev pub AgreeAll : RegisterFile → RegisterFile → List Register → Type 0
-pub AgreeAll goal f [] = Unit {0}
-pub AgreeAll goal f (r ∷ rs) = Agree goal f r × AgreeAll goal f rs
+AgreeAll goal f [] = Unit {0}
+AgreeAll goal f (r ∷ rs) = Agree goal f r × AgreeAll goal f rs
 
 pub alike_files : (goal f : RegisterFile) → IsRegisterFile goal → IsRegisterFile f → f.width ≡ goal.width → f.capabilities ≡ goal.capabilities → Alike goal f
-pub alike_files goal f g h width capabilities = record {
+alike_files goal f g h width capabilities = record {
   width = width;
   capabilities = capabilities;
   pairs = h.all_pairs ∙ ap (λ c. low_byte c) capabilities ∙ sym g.all_pairs;
@@ -35,7 +35,7 @@ pub alike_files goal f g h width capabilities = record {
 }
 
 pub file_alike : (goal f : RegisterFile) → IsRegisterFile goal → Alike goal f → IsRegisterFile f
-pub file_alike goal f g a = record {
+file_alike goal f g a = record {
   wide = subst (λ w. 32 ≤ w) (sym a.width) g.wide;
   narrow = subst (λ w. w ≤ 52) (sym a.width) g.narrow;
   few_pairs = subst (λ c. low_byte c ≤ 32) (sym a.capabilities) g.few_pairs;
@@ -45,8 +45,8 @@ pub file_alike goal f g a = record {
 }
 
 pub alike_writes : (goal f : RegisterFile) (r : Register) → Alike goal f → Alike goal (with_goal goal r f)
-pub alike_writes goal f (PhysBase n) a = record { width = a.width; capabilities = a.capabilities; pairs = length-set f.pairs n _ ∙ a.pairs; fixed = a.fixed; no_fixed = a.no_fixed }
-pub alike_writes goal f (PhysMask n) a = record { width = a.width; capabilities = a.capabilities; pairs = length-set f.pairs n _ ∙ a.pairs; fixed = a.fixed; no_fixed = a.no_fixed }
+alike_writes goal f (PhysBase n) a = record { width = a.width; capabilities = a.capabilities; pairs = length-set f.pairs n _ ∙ a.pairs; fixed = a.fixed; no_fixed = a.no_fixed }
+alike_writes goal f (PhysMask n) a = record { width = a.width; capabilities = a.capabilities; pairs = length-set f.pairs n _ ∙ a.pairs; fixed = a.fixed; no_fixed = a.no_fixed }
 alike_writes goal f (FixedRange i) a = record {
   width = a.width;
   capabilities = a.capabilities;
@@ -58,7 +58,7 @@ alike_writes goal f Pat a = record { width = a.width; capabilities = a.capabilit
 alike_writes goal f DefaultType a = record { width = a.width; capabilities = a.capabilities; pairs = a.pairs; fixed = a.fixed; no_fixed = a.no_fixed }
 
 pub alike_disabled : (goal f : RegisterFile) → Alike goal f → Alike goal (without_enable f)
-pub alike_disabled goal f a = record { width = a.width; capabilities = a.capabilities; pairs = a.pairs; fixed = a.fixed; no_fixed = a.no_fixed }
+alike_disabled goal f a = record { width = a.width; capabilities = a.capabilities; pairs = a.pairs; fixed = a.fixed; no_fixed = a.no_fixed }
 
 -- ---- a write of the goal's value spoils no agreement, and makes one
 
@@ -136,7 +136,7 @@ agree_back goal f (r ∷ rs) qs h = agree_back goal f rs qs h.1
 
 -- the first i writable registers agree, and the i-th is written
 pub agree_more : (goal f : RegisterFile) (i : ℕ) → i < length (writable goal) → Alike goal f → AgreeAll goal f (take i (writable goal)) → AgreeAll goal (with_goal goal (slice_index_or (writable goal) i DefaultType) f) (take (i + 1) (writable goal))
-pub agree_more goal f i within a h =
+agree_more goal f i within a h =
     let r : Register = slice_index_or (writable goal) i DefaultType in
     subst (λ (rs : List Register). AgreeAll goal (with_goal goal r f) rs) (sym (take_more (writable goal) i DefaultType within))
     (agree_join goal (with_goal goal r f) (take i (writable goal)) (r ∷ []) (agree_all_kept goal f r (take i (writable goal)) h) (agree_written goal f r a, tt))
@@ -205,7 +205,7 @@ all_written goal f g a h = λ i. record { width = a.width i; capabilities = a.ca
 
 -- the last writable register is the default type
 pub last_written : (goal f : RegisterFile) (i : ℕ) → i < length (writable goal) → length (writable goal) ≤ i + 1 → IsRegisterFile goal → Alike goal f → AgreeAll goal f (take i (writable goal)) → with_goal goal DefaultType f ≡ goal
-pub last_written goal f i within last g a h =
+last_written goal f i within last g a h =
     all_written goal (with_goal goal DefaultType f) g (alike_writes goal f DefaultType a)
     (subst (λ (rs : List Register). AgreeAll goal (with_goal goal DefaultType f) rs) (take_all (i + 1) (writable goal) last)
     (subst (λ (r : Register). AgreeAll goal (with_goal goal r f) (take (i + 1) (writable goal))) at_end (agree_more goal f i within a h)))

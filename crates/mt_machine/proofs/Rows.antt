@@ -21,13 +21,13 @@ option_case None f d P none some = none
 option_case (Some y) f d P none some = some y
 
 pub back_case : (P : Event → Type 0) (p : Processor) → ((address value : ℕ) → P (WriteBack address value)) → P DropLines → P (write_back_or_drop p)
-pub back_case P p back dropped =
+back_case P p back dropped =
     option_case (first_dirty_line p.lines) write_back_event DropLines P dropped
     (λ l. option_case (first_dirty_word l) _ DropLines P dropped (λ word. back (word_address l.number word) (slice_index l.words word)))
 
 -- the first flush, by whether the processor is self-snooping
 pub first_flush_case : {Q : Type 0} → (p : Processor) (e : Event) → Some (first_flush p) ≡ Some e → (p.self_snoop ≡ true → FlushTlb ≡ e → Q) → (p.self_snoop ≡ false → Some (write_back_or_drop p) ≡ Some e → Q) → Q
-pub first_flush_case {Q = Q} p e h snoops flushes = one p.self_snoop refl h
+first_flush_case {Q = Q} p e h snoops flushes = one p.self_snoop refl h
   where
     one : (b : Bool) → p.self_snoop ≡ b → Some (if b then FlushTlb else write_back_or_drop p) ≡ Some e → Q
     one true is g = snoops is (cc)
@@ -64,21 +64,21 @@ is_taken other = false
 
 -- the phases in which an event stands
 abbrev pub is_row : Event → Phase → Bool
-pub is_row Take ph = is_running ph
-pub is_row Arrive ph = is_taken ph
-pub is_row Leave ph = is_waiting_to_pass ph
-pub is_row Pass ph = is_arrived ph
-pub is_row (WriteBack a v) ph = is_drained ph
-pub is_row DropLines ph = is_drained ph
-pub is_row FlushTlb ph = is_flushed ph
-pub is_row (Write i) ph = is_written ph
-pub is_row Enable ph = is_written ph
-pub is_row Release ph = is_arrived_again ph
-pub is_row other ph = is_one_of other ph
+is_row Take ph = is_running ph
+is_row Arrive ph = is_taken ph
+is_row Leave ph = is_waiting_to_pass ph
+is_row Pass ph = is_arrived ph
+is_row (WriteBack a v) ph = is_drained ph
+is_row DropLines ph = is_drained ph
+is_row FlushTlb ph = is_flushed ph
+is_row (Write i) ph = is_written ph
+is_row Enable ph = is_written ph
+is_row Release ph = is_arrived_again ph
+is_row other ph = is_one_of other ph
 
 -- an event that is due stands in the phase's row
 pub due_row : (o : Order) (ps : List Processor) (p : Processor) (ph : Phase) (e : Event) → due o ps p ph ≡ Some e → is_row e ph ≡ true
-pub due_row o ps p ph e h = rows ph h
+due_row o ps p ph e h = rows ph h
   where
     at : (ph : Phase) (v : Event) → v ≡ e → is_row v ph ≡ true → is_row e ph ≡ true
     at ph v is row = ap (λ (x : Event). is_row x ph) (sym is) ∙ row

@@ -27,13 +27,13 @@ use Rattle.mt_machine.specs.System.{Processor, System, change, lines_of}
 use Rattle.mt_machine.specs.Bus.{bus_read, combine, drain, drain_line, fill_line, invalidate, invalidate_others, store_in_memory, with_lines, write_back_others}
 
 abbrev pub is_running : Phase → Bool
-pub is_running Running = true
-pub is_running other = false
+is_running Running = true
+is_running other = false
 
 -- ---- translation
 
 abbrev pub new_entry : Processor → Mapping → Entry
-pub new_entry p m = record {
+new_entry p m = record {
   vpage = m.vpage;
   ppage = m.ppage;
   kind = effective_type (defined_type (page_type p.file m.ppage)) (pat_entry p.file.pat m.index);
@@ -43,42 +43,42 @@ pub new_entry p m = record {
 
 -- the entry of a page: the one that stands, or else the one that its mapping makes
 abbrev pub entry_of : Processor → ℕ → Option Entry
-pub entry_of p page = option_map_or Some (find_entry page p.entries) (option_map (new_entry p) (find_mapping page p.mappings))
+entry_of p page = option_map_or Some (find_entry page p.entries) (option_map (new_entry p) (find_mapping page p.mappings))
 
 -- the entry is filled where its page has none
 abbrev pub keep_entry : Entry → Processor → Processor
-pub keep_entry e p = if is_some (find_entry e.vpage p.entries) then p else record p { entries = add_entry e p.entries }
+keep_entry e p = if is_some (find_entry e.vpage p.entries) then p else record p { entries = add_entry e p.entries }
 
 abbrev pub physical : Entry → ℕ → ℕ
-pub physical e address = page_bytes * e.ppage + address % page_bytes
+physical e address = page_bytes * e.ppage + address % page_bytes
 
 -- ---- loads and stores of a physical word
 
 -- what a load and a store do before anything else
 abbrev pub first_of_load : MemType → ℕ → ℕ → System → System
-pub first_of_load UC k n s = drain k s
-pub first_of_load other k n s = drain_line k n s
+first_of_load UC k n s = drain k s
+first_of_load other k n s = drain_line k n s
 
 abbrev pub first_of_store : MemType → ℕ → ℕ → System → System
-pub first_of_store UC k n s = drain k s
-pub first_of_store WC k n s = s
-pub first_of_store other k n s = drain_line k n s
+first_of_store UC k n s = drain k s
+first_of_store WC k n s = s
+first_of_store other k n s = drain_line k n s
 
 abbrev pub is_cached : MemType → Bool
-pub is_cached UC = false
-pub is_cached WC = false
-pub is_cached other = true
+is_cached UC = false
+is_cached WC = false
+is_cached other = true
 
 abbrev pub cache_disabled_of : System → ℕ → Bool
-pub cache_disabled_of s k = option_map_or (λ p. p.cache_disabled) (slice_get s.processors k) true
+cache_disabled_of s k = option_map_or (λ p. p.cache_disabled) (slice_get s.processors k) true
 
 -- the line that a load of this type hits
 abbrev pub hit_of : MemType → ℕ → ℕ → System → Option CacheLine
-pub hit_of t k n s = if is_cached t then find_line n (lines_of s k) else None
+hit_of t k n s = if is_cached t then find_line n (lines_of s k) else None
 
 -- the value, and the system after the load
 abbrev pub load_after : MemType → ℕ → ℕ → System → ℕ × System
-pub load_after t k address s =
+load_after t k address s =
     let n = line_of address in
     let read = bus_read n s in
     option_map_or
@@ -87,71 +87,71 @@ pub load_after t k address s =
     (word_at read.memory address, (if is_cached t && not (cache_disabled_of s k) then fill_line k n read else read))
 
 abbrev pub load : MemType → ℕ → ℕ → System → ℕ × System
-pub load t k address s = load_after t k address (first_of_load t k (line_of address) s)
+load t k address s = load_after t k address (first_of_load t k (line_of address) s)
 
 -- a store to write-back memory that hits a line, one that misses, and one that misses and fills no line
 abbrev pub store_hit : ℕ → ℕ → ℕ → System → System
-pub store_hit k address value s =
+store_hit k address value s =
     let n = line_of address in
     change (with_lines (change_line n (write_dirty (word_of address) value))) k (invalidate_others k n (write_back_others k n s))
 
 abbrev pub store_filling : ℕ → ℕ → ℕ → System → System
-pub store_filling k address value s =
+store_filling k address value s =
     let n = line_of address in
     change (with_lines (change_line n (write_dirty (word_of address) value))) k (fill_line k n (invalidate_others k n (bus_read n s)))
 
 abbrev pub store_past : ℕ → ℕ → ℕ → System → System
-pub store_past k address value s =
+store_past k address value s =
     let n = line_of address in store_in_memory address value (invalidate_others k n (bus_read n s))
 
 -- no cache keeps the line
 abbrev pub store_uncached : ℕ → ℕ → System → System
-pub store_uncached address value s =
+store_uncached address value s =
     let n = line_of address in store_in_memory address value (invalidate n (bus_read n s))
 
 abbrev pub store_after : MemType → ℕ → ℕ → ℕ → System → System
-pub store_after UC k address value s = store_uncached address value s
-pub store_after WC k address value s = combine k (line_of address) (word_of address) value s
-pub store_after WT k address value s =
+store_after UC k address value s = store_uncached address value s
+store_after WC k address value s = combine k (line_of address) (word_of address) value s
+store_after WT k address value s =
     let n = line_of address in
     change (with_lines (change_line n (write_clean (word_of address) value))) k (store_past k address value s)
-pub store_after WP k address value s = store_uncached address value s
-pub store_after WB k address value s =
+store_after WP k address value s = store_uncached address value s
+store_after WB k address value s =
     if is_some (find_line (line_of address) (lines_of s k)) then store_hit k address value s
     else (if cache_disabled_of s k then store_past k address value s else store_filling k address value s)
 
 abbrev pub store : MemType → ℕ → ℕ → ℕ → System → System
-pub store t k address value s = store_after t k address value (first_of_store t k (line_of address) s)
+store t k address value s = store_after t k address value (first_of_store t k (line_of address) s)
 
 -- ---- accesses
 
-pub record Answered : Type 0 where
+record Answered : Type 0 where
   pub answer : Done
   pub after : System
 
 abbrev pub value_answer : MemType → ℕ × System → Answered
-pub value_answer t r = record { answer = Value r.0 t; after = r.1 }
+value_answer t r = record { answer = Value r.0 t; after = r.1 }
 
 -- what is done at a physical address whose entry stands; s has the entry
 abbrev pub translated : System → ℕ → Entry → Op → Answered
-pub translated s k e (Load address) =
+translated s k e (Load address) =
     if is_some (place s.memory (physical e address)) then value_answer e.kind (load e.kind k (physical e address) s)
     else record { answer = NoRam; after = s }
-pub translated s k e (Store address value) =
+translated s k e (Store address value) =
     if is_some (place s.memory (physical e address))
     then record { answer = Stored e.kind; after = store e.kind k (physical e address) value s }
     else record { answer = NoRam; after = s }
-pub translated s k e Fence = record { answer = Fenced; after = s }
+translated s k e Fence = record { answer = Fenced; after = s }
 
 abbrev pub address_of : Op → ℕ
-pub address_of (Load address) = address
-pub address_of (Store address value) = address
-pub address_of Fence = 0
+address_of (Load address) = address
+address_of (Store address value) = address
+address_of Fence = 0
 
 -- of a processor that runs
 abbrev pub access_at : System → ℕ → Processor → Op → Answered
-pub access_at s k p Fence = record { answer = Fenced; after = drain k s }
-pub access_at s k p op =
+access_at s k p Fence = record { answer = Fenced; after = drain k s }
+access_at s k p op =
     option_map_or
     (λ e. translated (change (keep_entry e) k s) k e op)
     (entry_of p (address_of op / page_bytes))
@@ -159,7 +159,7 @@ pub access_at s k p op =
 
 -- busy where the processor is in an update, and where k is no processor's number (own)
 abbrev pub access : System → ℕ → Op → Answered
-pub access s k op =
+access s k op =
     option_map_or
     (λ p. if is_running p.phase then access_at s k p op else record { answer = Busy; after = s })
     (slice_get s.processors k)

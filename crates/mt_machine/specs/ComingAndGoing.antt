@@ -11,30 +11,30 @@ use Rattle.mt_machine.specs.Machine.{Machine}
 
 -- a processor as it comes up: its file is blank, its cache is in no-fill mode, and it runs and holds nothing
 abbrev pub newcomer : ℕ → ℕ → ℕ → Processor
-pub newcomer width capabilities era = record (start_processor (blank_file width capabilities)) { cache_disabled = true; era = era }
+newcomer width capabilities era = record (start_processor (blank_file width capabilities)) { cache_disabled = true; era = era }
 
 -- with another's width, capabilities and era
 abbrev pub newcomer_beside : Processor → Processor
-pub newcomer_beside p = newcomer p.file.width p.file.capabilities p.era
+newcomer_beside p = newcomer p.file.width p.file.capabilities p.era
 
 -- one processor more, behind the others; these have one width, one value of the capabilities and one era. Beside none, none comes
 abbrev pub reset : System → System
-pub reset s = option_map_or (λ p. record s { processors = s.processors ++ newcomer_beside p ∷ [] }) (slice_get s.processors 0) s
+reset s = option_map_or (λ p. record s { processors = s.processors ++ newcomer_beside p ∷ [] }) (slice_get s.processors 0) s
 
 -- processor k, the last, is taken away, once the dirty words of its lines are in memory
 abbrev pub taken_away : ℕ → System → System
-pub taken_away k s = record { processors = take k s.processors; memory = fold write_back s.memory (lines_of s k) }
+taken_away k s = record { processors = take k s.processors; memory = fold write_back s.memory (lines_of s k) }
 
 abbrev pub last_number : System → ℕ
-pub last_number s = length s.processors - 1
+last_number s = length s.processors - 1
 
 -- the last processor goes: its buffers are emptied, oldest first, its dirty words are written to memory, and it is taken away
 abbrev pub gone : System → System
-pub gone s = taken_away (last_number s) (drain (last_number s) s)
+gone s = taken_away (last_number s) (drain (last_number s) s)
 
 -- the same of a machine. No event does this: a core allows it while no update is under way (own)
 abbrev pub with_newcomer : Machine → Machine
-pub with_newcomer m = record m { system = reset m.system }
+with_newcomer m = record m { system = reset m.system }
 
 abbrev pub without_last : Machine → Machine
-pub without_last m = record m { system = gone m.system }
+without_last m = record m { system = gone m.system }

@@ -15,37 +15,37 @@ use Rattle.mt_machine.specs.Bus.{drain}
 use Rattle.mt_machine.specs.Access.{is_running}
 
 abbrev pub drop_page : ℕ → Processor → Processor
-pub drop_page page p = record p { entries = without_page page p.entries }
+drop_page page p = record p { entries = without_page page p.entries }
 
 -- the entries that are not global go
 abbrev pub reload_cr3 : Processor → Processor
-pub reload_cr3 p = record p { entries = global_entries p.entries }
+reload_cr3 p = record p { entries = global_entries p.entries }
 
 abbrev pub same_bool : Bool → Bool → Bool
-pub same_bool true b = b
-pub same_bool false b = not b
+same_bool true b = b
+same_bool false b = not b
 
 -- a change drops all entries
 abbrev pub set_page_global : Bool → Processor → Processor
-pub set_page_global on p = if same_bool on p.page_global then p else record p { page_global = on; entries = [] }
+set_page_global on p = if same_bool on p.page_global then p else record p { page_global = on; entries = [] }
 
-pub record RuledAfter : Type 0 where
+record RuledAfter : Type 0 where
   pub answer : Ruled
   pub after : System
 
 -- of a processor that runs; Invlpg has a virtual address, whose page's entry goes
 abbrev pub control_at : System → ℕ → Processor → Control → RuledAfter
-pub control_at s k p (Map m) =
+control_at s k p (Map m) =
     if is_full_for m p.mappings then record { answer = Full; after = s }
     else record { answer = Okay; after = change (λ q. record q { mappings = set_mapping m q.mappings }) k s }
-pub control_at s k p (Invlpg address) = record { answer = Okay; after = change (drop_page (address / page_bytes)) k (drain k s) }
-pub control_at s k p Cr3 = record { answer = Okay; after = change reload_cr3 k (drain k s) }
-pub control_at s k p (Pge on) = record { answer = Okay; after = change (set_page_global on) k (drain k s) }
-pub control_at s k p (Cd on) = record { answer = Okay; after = change (λ q. record q { cache_disabled = on }) k (drain k s) }
+control_at s k p (Invlpg address) = record { answer = Okay; after = change (drop_page (address / page_bytes)) k (drain k s) }
+control_at s k p Cr3 = record { answer = Okay; after = change reload_cr3 k (drain k s) }
+control_at s k p (Pge on) = record { answer = Okay; after = change (set_page_global on) k (drain k s) }
+control_at s k p (Cd on) = record { answer = Okay; after = change (λ q. record q { cache_disabled = on }) k (drain k s) }
 
 -- busy where the processor is in an update, and where k is no processor's number (own)
 abbrev pub control : System → ℕ → Control → RuledAfter
-pub control s k c =
+control s k c =
     option_map_or
     (λ p. if is_running p.phase then control_at s k p c else record { answer = Busy; after = s })
     (slice_get s.processors k)

@@ -6,27 +6,27 @@ use Rattle.mt_cache.specs.declared.line.CacheLine.{CacheLine}
 use Rattle.mt_cache.specs.Lines.{eight, has_number, is_dirty}
 
 -- lines of 64 bytes from a base address on
-pub record Window : Type 0 where
+record Window : Type 0 where
   pub base : ℕ
   pub lines : ℕ
 
-pub record Memory : Type 0 where
+record Memory : Type 0 where
   pub windows : List Window
   pub words : List ℕ
 
 abbrev pub word_count : List Window → ℕ
-pub word_count [] = 0
-pub word_count (w ∷ ws) = 8 * w.lines + word_count ws
+word_count [] = 0
+word_count (w ∷ ws) = 8 * w.lines + word_count ws
 
 -- the address after the last
 abbrev pub window_end : Window → ℕ
-pub window_end w = w.base + 64 * w.lines
+window_end w = w.base + 64 * w.lines
 
 abbrev pub AreApart : Window → Window → Type 0
-pub AreApart v w = (window_end v ≤ w.base) ⊎ (window_end w ≤ v.base)
+AreApart v w = (window_end v ≤ w.base) ⊎ (window_end w ≤ v.base)
 
 -- windows have a line, begin at one, lie within the physical addresses and share none, and each of their words is there
-pub record IsMemory (m : Memory) : Type 0 where
+record IsMemory (m : Memory) : Type 0 where
   pub some_lines : All (λ w. 0 < w.lines) m.windows
   pub aligned : All (λ w. w.base % 64 ≡ 0) m.windows
   pub bounded : All (λ w. window_end w ≤ 2 ^ 52) m.windows
@@ -35,48 +35,48 @@ pub record IsMemory (m : Memory) : Type 0 where
 
 -- the place of the word at an address, where so many words stand ahead of these windows
 abbrev pub place_in : List Window → ℕ → ℕ → Option ℕ
-pub place_in [] before address = None
-pub place_in (w ∷ ws) before address =
+place_in [] before address = None
+place_in (w ∷ ws) before address =
     if nat_le w.base address && nat_lt address (window_end w) then Some (before + (address - w.base) / 8)
     else place_in ws (before + 8 * w.lines) address
 
 -- none where the address is no word's, or in no window
 abbrev pub place : Memory → ℕ → Option ℕ
-pub place m address = if address % 8 == 0 then place_in m.windows 0 address else None
+place m address = if address % 8 == 0 then place_in m.windows 0 address else None
 
 -- the word at an address; 0 where no window has it
 abbrev pub word_at : Memory → ℕ → ℕ
-pub word_at m address = option_map_or (λ i. slice_index m.words i) (place m address) 0
+word_at m address = option_map_or (λ i. slice_index m.words i) (place m address) 0
 
 abbrev pub put_word : Memory → ℕ → ℕ → Memory
-pub put_word m address value = option_map_or (λ i. record m { words = slice_set m.words i value }) (place m address) m
+put_word m address value = option_map_or (λ i. record m { words = slice_set m.words i value }) (place m address) m
 
 -- ---- lines in memory
 
 -- the number of the line that has an address, and the word's place in it
 abbrev pub line_of : ℕ → ℕ
-pub line_of address = address / 64
+line_of address = address / 64
 
 abbrev pub word_of : ℕ → ℕ
-pub word_of address = address % 64 / 8
+word_of address = address % 64 / 8
 
 abbrev pub word_address : ℕ → ℕ → ℕ
-pub word_address line word = 64 * line + 8 * word
+word_address line word = 64 * line + 8 * word
 
 abbrev pub line_words : Memory → ℕ → List ℕ
-pub line_words m line = map (λ word. word_at m (word_address line word)) eight
+line_words m line = map (λ word. word_at m (word_address line word)) eight
 
 -- the line as it is read from memory
 abbrev pub fresh_line : Memory → ℕ → ℕ → CacheLine
-pub fresh_line m n era = record { number = n; words = line_words m n; dirty = 0; era = era }
+fresh_line m n era = record { number = n; words = line_words m n; dirty = 0; era = era }
 
 -- memory after one word of the line, if it is dirty, and after all of them in ascending order
 abbrev pub write_back_word : CacheLine → Memory → ℕ → Memory
-pub write_back_word l m word = if is_dirty l word then put_word m (word_address l.number word) (slice_index l.words word) else m
+write_back_word l m word = if is_dirty l word then put_word m (word_address l.number word) (slice_index l.words word) else m
 
 abbrev pub write_back : Memory → CacheLine → Memory
-pub write_back m l = fold (write_back_word l) m eight
+write_back m l = fold (write_back_word l) m eight
 
 -- memory after the dirty words of the line of this number, wherever it stands in the list
 abbrev pub write_back_of : ℕ → Memory → List CacheLine → Memory
-pub write_back_of n m ls = fold write_back m (filter (has_number n) ls)
+write_back_of n m ls = fold write_back m (filter (has_number n) ls)

@@ -11,7 +11,7 @@ use Rattle.mt_machine.specs.Access.{is_running}
 use Rattle.mt_machine.specs.Machine.{FitsGoal, Machine, Order, common_era}
 
 -- all processors run, with one era, one width and one value of the capabilities, and no update is under way
-pub record IsQuiet (m : Machine) : Type 0 where
+record IsQuiet (m : Machine) : Type 0 where
   pub sound : IsSound m.system
   pub running : All (λ p. is_running p.phase ≡ true) m.system.processors
   pub one_era : All (λ p. p.era ≡ common_era m.system.processors) m.system.processors
@@ -19,7 +19,7 @@ pub record IsQuiet (m : Machine) : Type 0 where
   pub no_order : m.order ≡ None
 
 -- all processors have taken and have no buffer, with one era and the goal's width and capabilities, and the coordinator has neither given go nor cancelled
-pub record IsBroadcast (m : Machine) (o : Order) : Type 0 where
+record IsBroadcast (m : Machine) (o : Order) : Type 0 where
   pub sound : IsSound m.system
   pub order : m.order ≡ Some o
   pub pending : o.go ≡ Pending
@@ -31,32 +31,32 @@ pub record IsBroadcast (m : Machine) (o : Order) : Type 0 where
   pub fits : All (FitsGoal o.goal) m.system.processors
 
 abbrev pub IsStart : Machine → Type 0
-pub IsStart m = IsQuiet m ⊎ ((o : Order) × IsBroadcast m o)
+IsStart m = IsQuiet m ⊎ ((o : Order) × IsBroadcast m o)
 
 -- windows of zero words
 abbrev pub zero_memory : List Window → Memory
-pub zero_memory ws = record { windows = ws; words = replicate (word_count ws) 0 }
+zero_memory ws = record { windows = ws; words = replicate (word_count ws) 0 }
 
 -- a processor for each file, over such a memory
 abbrev pub start_machine : List RegisterFile → List Window → Machine
-pub start_machine files ws = record {
+start_machine files ws = record {
   system = record { processors = map start_processor files; memory = zero_memory ws };
   order = None;
 }
 
 -- a processor for each file, which is self-snooping where a flag stands at its place and is set
 abbrev pub flagged_processors : List RegisterFile → List Bool → List Processor
-pub flagged_processors [] flags = []
-pub flagged_processors (f ∷ fs) [] = start_processor f ∷ flagged_processors fs []
-pub flagged_processors (f ∷ fs) (b ∷ bs) = record (start_processor f) { self_snoop = b } ∷ flagged_processors fs bs
+flagged_processors [] flags = []
+flagged_processors (f ∷ fs) [] = start_processor f ∷ flagged_processors fs []
+flagged_processors (f ∷ fs) (b ∷ bs) = record (start_processor f) { self_snoop = b } ∷ flagged_processors fs bs
 
 -- the start with these flags
 abbrev pub start_with : List Bool → List RegisterFile → List Window → Machine
-pub start_with flags files ws = record {
+start_with flags files ws = record {
   system = record { processors = flagged_processors files flags; memory = zero_memory ws };
   order = None;
 }
 
 -- the eras of a machine fit 64 bits, also after its next update; a caller of an update sees to that
 abbrev pub HasEraRoom : Machine → Type 0
-pub HasEraRoom m = All (λ p. p.era < 2 ^ 64 - 1) m.system.processors
+HasEraRoom m = All (λ p. p.era < 2 ^ 64 - 1) m.system.processors

@@ -21,99 +21,99 @@ use Rattle.mt_machine.specs.Machine.{Machine, MachineEvent, IsEnabled, Accesses,
 -- ---- settled and held
 
 -- the file is the goal, and nothing that is held is of another era
-pub record IsSettledOn (era : ℕ) (goal : RegisterFile) (p : Processor) : Type 0 where
+record IsSettledOn (era : ℕ) (goal : RegisterFile) (p : Processor) : Type 0 where
   pub file : p.file ≡ goal
   pub lines : All (λ l. l.era ≡ era) p.lines
   pub buffers : All (λ l. l.era ≡ era) p.buffers
   pub entries : All (λ e. e.era ≡ era) p.entries
 
 abbrev pub IsSettled : System → ℕ → RegisterFile → Type 0
-pub IsSettled s era goal = All (IsSettledOn era goal) s.processors
+IsSettled s era goal = All (IsSettledOn era goal) s.processors
 
 abbrev pub is_stored : Done → Bool
-pub is_stored (Stored t) = true
-pub is_stored other = false
+is_stored (Stored t) = true
+is_stored other = false
 
 -- the physical address of an access, where its page has an entry or a mapping
 abbrev pub physical_of : System → ℕ → ℕ → Option ℕ
-pub physical_of s k address =
+physical_of s k address =
     option_map_or (λ p. option_map (λ e. physical e address) (entry_of p (address / page_bytes))) (slice_get s.processors k) None
 
 -- the word that an event stores
 abbrev pub stored_word : Machine → MachineEvent → Option ℕ
-pub stored_word m (Accesses k (Store address value)) =
+stored_word m (Accesses k (Store address value)) =
     if is_stored (access m.system k (Store address value)).answer then physical_of m.system k address else None
-pub stored_word m other = None
+stored_word m other = None
 
 abbrev pub stored_words : Machine → List MachineEvent → List ℕ
-pub stored_words m [] = []
-pub stored_words m (e ∷ es) = option_map_or (λ a. a ∷ stored_words (next m e) es) (stored_word m e) (stored_words (next m e) es)
+stored_words m [] = []
+stored_words m (e ∷ es) = option_map_or (λ a. a ∷ stored_words (next m e) es) (stored_word m e) (stored_words (next m e) es)
 
 -- after these events from r on, each word that none of them stored is in memory as it was in p
 abbrev pub IsHeld : System → Machine → List MachineEvent → Type 0
-pub IsHeld p r es =
+IsHeld p r es =
     (address : ℕ) → address % 8 ≡ 0 → (Contains (stored_words r es) address → ⊥)
     → word_at (run r es).system.memory address ≡ now p address
 
 -- ---- kinds of events
 
 abbrev pub is_release : MachineEvent → Bool
-pub is_release (Steps k Release) = true
-pub is_release other = false
+is_release (Steps k Release) = true
+is_release other = false
 
 abbrev pub is_call : MachineEvent → Bool
-pub is_call (Calls goal) = true
-pub is_call other = false
+is_call (Calls goal) = true
+is_call other = false
 
 abbrev pub is_go : MachineEvent → Bool
-pub is_go Goes = true
-pub is_go other = false
+is_go Goes = true
+is_go other = false
 
 abbrev pub is_cancel : MachineEvent → Bool
-pub is_cancel Cancels = true
-pub is_cancel other = false
+is_cancel Cancels = true
+is_cancel other = false
 
 abbrev pub is_step_of : ℕ → MachineEvent → Bool
-pub is_step_of k (Steps j e) = j == k
-pub is_step_of k other = false
+is_step_of k (Steps j e) = j == k
+is_step_of k other = false
 
 -- all but accesses, controls and calls
 abbrev pub is_led : MachineEvent → Bool
-pub is_led (Steps k e) = true
-pub is_led Goes = true
-pub is_led Cancels = true
-pub is_led other = false
+is_led (Steps k e) = true
+is_led Goes = true
+is_led Cancels = true
+is_led other = false
 
 -- reached by go, cancel and steps alone
-pub data Led : Machine → Machine → Type 0 where
+data Led : Machine → Machine → Type 0 where
   led_start : {s : Machine} → Led s s
   led_on : {s t : Machine} → (e : MachineEvent) → Led s t → IsEnabled t e → is_led e ≡ true → Led s (next t e)
 
 abbrev pub taker : MachineEvent → Option ℕ
-pub taker (Steps k Take) = Some k
-pub taker other = None
+taker (Steps k Take) = Some k
+taker other = None
 
 -- the processors that take, in the order of their takes
 abbrev pub takes_of : List MachineEvent → List ℕ
-pub takes_of es = filter_map taker es
+takes_of es = filter_map taker es
 
 -- ---- a whole update
 
 abbrev pub addresses_from : ℕ → ℕ → List ℕ
-pub addresses_from base zero = []
-pub addresses_from base (suc count) = base ∷ addresses_from (base + 8) count
+addresses_from base zero = []
+addresses_from base (suc count) = base ∷ addresses_from (base + 8) count
 
 -- of all words, by their places
 abbrev pub addresses : List Window → List ℕ
-pub addresses [] = []
-pub addresses (w ∷ ws) = addresses_from w.base (8 * w.lines) ++ addresses ws
+addresses [] = []
+addresses (w ∷ ws) = addresses_from w.base (8 * w.lines) ++ addresses ws
 
 -- the buffers of these processors are emptied, in this order
 abbrev pub emptied : System → List ℕ → System
-pub emptied s takes = fold (λ t k. drain k t) s takes
+emptied s takes = fold (λ t k. drain k t) s takes
 
 abbrev pub settled_processor : RegisterFile → Processor → Processor
-pub settled_processor goal p = record {
+settled_processor goal p = record {
   file = goal;
   cache_disabled = false;
   page_global = p.page_global;
@@ -128,7 +128,7 @@ pub settled_processor goal p = record {
 }
 
 abbrev pub updated : System → List ℕ → RegisterFile → Machine
-pub updated s takes goal = record {
+updated s takes goal = record {
   system = record {
     processors = map (settled_processor goal) s.processors;
     memory = record { windows = s.memory.windows; words = map (now (emptied s takes)) (addresses s.memory.windows) };
@@ -137,5 +137,5 @@ pub updated s takes goal = record {
 }
 
 abbrev pub dirty_count : List CacheLine → ℕ
-pub dirty_count [] = 0
-pub dirty_count (l ∷ ls) = count_by (is_dirty l) eight + dirty_count ls
+dirty_count [] = 0
+dirty_count (l ∷ ls) = count_by (is_dirty l) eight + dirty_count ls

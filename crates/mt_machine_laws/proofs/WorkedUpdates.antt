@@ -43,7 +43,7 @@ pub led_to_leave : Led ready_pair (run ready_pair (Steps 0 Arrive ∷ Cancels �
 led_to_leave = led_run (Steps 0 Arrive ∷ Cancels ∷ Steps 1 Leave ∷ []) ready_pair ready_pair led_start (refl, (refl, (refl, tt))) refl
 
 pub dirty_start : IsStart dirty_taken
-pub dirty_start = inr (call_order, broadcast)
+dirty_start = inr (call_order, broadcast)
 
 pub ready_start : IsStart ready_pair
 ready_start = inr (call_order, broadcast_pair)
@@ -55,7 +55,7 @@ pub release_reached : Reached dirty_taken (run dirty_taken to_release)
 release_reached = reached_run to_release dirty_taken dirty_taken at_start to_release_enabled
 
 pub dirty_first_release : IsFirstRelease at_pass dirty_released given_order
-pub dirty_first_release = record {
+dirty_first_release = record {
   order = refl;
   none_passed = test_all (λ q. not (has_passed given_order q)) (λ q. has_passed given_order q ≡ false) (λ q. not-true (has_passed given_order q)) at_pass.system.processors refl;
   first = 0;

@@ -12,10 +12,10 @@ count arrived awaited = record { arrived = arrived; awaited = awaited }
 
 -- at the first barrier, and at the second
 abbrev pub come : Processor
-pub come = record idle { phase = Arrived }
+come = record idle { phase = Arrived }
 
 abbrev pub come_again : Processor
-pub come_again = record idle { phase = Arrived2 }
+come_again = record idle { phase = Arrived2 }
 
 -- a whole update of one processor by events, without the step to the barrier, and of two up to the first release
 abbrev pub events_of_bare : List MachineEvent

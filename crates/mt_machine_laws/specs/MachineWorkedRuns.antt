@@ -24,13 +24,13 @@ use Rattle.mt_machine.specs.Start.{start_machine, zero_memory}
 -- ---- events
 
 abbrev pub load : ℕ → ℕ → MachineEvent
-pub load k address = Accesses k (Load address)
+load k address = Accesses k (Load address)
 
 abbrev pub store : ℕ → ℕ → ℕ → MachineEvent
-pub store k address value = Accesses k (Store address value)
+store k address value = Accesses k (Store address value)
 
 abbrev pub mapping : ℕ → ℕ → ℕ → Mapping
-pub mapping page physical index = record { vpage = page; ppage = physical; index = index; global = false }
+mapping page physical index = record { vpage = page; ppage = physical; index = index; global = false }
 
 abbrev pub maps : ℕ → Mapping → MachineEvent
 maps k m = Controls k (Map m)
@@ -40,8 +40,8 @@ abbrev pub step_at : Machine → ℕ → Machine
 step_at m k = option_map_or (λ e. next m (Steps k e)) (due_at m k) m
 
 abbrev pub walk : ℕ → ℕ → Machine → Machine
-pub walk zero k m = m
-pub walk (suc n) k m = walk n k (step_at m k)
+walk zero k m = m
+walk (suc n) k m = walk n k (step_at m k)
 
 -- steps of two processors in turn
 abbrev pub rounds : ℕ → Machine → Machine
@@ -51,7 +51,7 @@ rounds (suc n) m = rounds n (step_at (step_at m 0) 1)
 -- ---- what is seen
 
 abbrev pub own : Machine → ℕ → Processor
-pub own m k = option_map_or (λ p. p) (slice_get m.system.processors k) (start_processor four_gigabytes)
+own m k = option_map_or (λ p. p) (slice_get m.system.processors k) (start_processor four_gigabytes)
 
 abbrev pub answer_of : Machine → ℕ → Op → Done
 answer_of m k op = (access m.system k op).answer
@@ -61,19 +61,19 @@ memory_at m address = word_at m.system.memory address
 
 -- the numbers and dirty bits of lines or buffers
 abbrev pub seen : List CacheLine → List (ℕ × ℕ)
-pub seen ls = map (λ l. (l.number, l.dirty)) ls
+seen ls = map (λ l. (l.number, l.dirty)) ls
 
 abbrev pub pending : Machine → ℕ → List (ℕ × ℕ)
-pub pending m k = seen (buffers_of m.system k)
+pending m k = seen (buffers_of m.system k)
 
 -- ---- machines
 
 -- 64 lines at 1 MB
 abbrev pub one_window : List Window
-pub one_window = record { base = 0x100000; lines = 64 } ∷ []
+one_window = record { base = 0x100000; lines = 64 } ∷ []
 
 abbrev pub machine_of : List Processor → Machine
-pub machine_of ps = record { system = record { processors = ps; memory = zero_memory one_window }; order = None }
+machine_of ps = record { system = record { processors = ps; memory = zero_memory one_window }; order = None }
 
 abbrev pub mapped : RegisterFile → Processor
 mapped f = record (start_processor f) { mappings = mapping 1 0x100 0 ∷ [] }
@@ -95,11 +95,11 @@ combining = with_value four_gigabytes (PhysBase 0) 1
 
 -- WB from 0 to 4 GB and the same above
 abbrev pub goal_of : RegisterFile
-pub goal_of = with_value four_gigabytes DefaultType 0x806
+goal_of = with_value four_gigabytes DefaultType 0x806
 
 -- no pair and no fixed range
 abbrev pub bare_file : ℕ → RegisterFile
-pub bare_file default_type = with_value (blank_file 36 0x400) DefaultType default_type
+bare_file default_type = with_value (blank_file 36 0x400) DefaultType default_type
 
 abbrev pub bare : Machine
 bare = start_machine (bare_file 0x800 ∷ []) []
@@ -111,21 +111,21 @@ painter = record (start_processor (with_value four_gigabytes Pat 0x0606060500010
 }
 
 abbrev pub palette : Machine
-pub palette = machine_of (painter ∷ painter ∷ [])
+palette = machine_of (painter ∷ painter ∷ [])
 
 -- an update that was called, and one whose go was given
 abbrev pub begun : RegisterFile → Machine → Machine
-pub begun goal m = run m (Calls goal ∷ [])
+begun goal m = run m (Calls goal ∷ [])
 
 abbrev pub called : Machine → Machine
-pub called m = run m (Calls goal_of ∷ Goes ∷ [])
+called m = run m (Calls goal_of ∷ Goes ∷ [])
 
 abbrev pub alone : Processor → Machine
-pub alone p = machine_of (p ∷ [])
+alone p = machine_of (p ∷ [])
 
 -- an entry of this page, which may be global
 abbrev pub entry : ℕ → Bool → Entry
-pub entry page global = record { vpage = page; ppage = 0x100; kind = WB; global = global; era = 0 }
+entry page global = record { vpage = page; ppage = 0x100; kind = WB; global = global; era = 0 }
 
 abbrev pub bare_snooper : Machine
 bare_snooper = alone (record (start_processor (bare_file 0x800)) { self_snoop = true })
@@ -145,7 +145,7 @@ abbrev pub mixed_dirty : Machine
 mixed_dirty = run mixed (store 0 0x1000 0x2a ∷ store 1 0x1040 0x2b ∷ [])
 
 abbrev pub flags : Machine → List Bool
-pub flags m = map (λ p. p.self_snoop) m.system.processors
+flags m = map (λ p. p.self_snoop) m.system.processors
 
 -- so many lines from a number on, each with word 0 dirty
 abbrev pub dirty_lines : ℕ → ℕ → List CacheLine
@@ -163,7 +163,7 @@ mappings_from page (suc count) = mapping page 0x100 0 ∷ mappings_from (page + 
 
 -- 64 lines, 64 entries and 64 mappings
 abbrev pub crowded : Processor
-pub crowded = record (start_processor four_gigabytes) {
+crowded = record (start_processor four_gigabytes) {
   lines = dirty_lines 0x4001 64;
   entries = entries_from 2 64;
   mappings = mapping 1 0x100 0 ∷ mappings_from 2 63;
@@ -171,7 +171,7 @@ pub crowded = record (start_processor four_gigabytes) {
 
 -- a line at the window's begin, whose words 1 and 2 are dirty
 abbrev pub line_of : ℕ → ℕ → CacheLine
-pub line_of number era = record { number = number; words = 0 ∷ 6 ∷ 7 ∷ 0 ∷ 0 ∷ 0 ∷ 0 ∷ 0 ∷ []; dirty = 6; era = era }
+line_of number era = record { number = number; words = 0 ∷ 6 ∷ 7 ∷ 0 ∷ 0 ∷ 0 ∷ 0 ∷ 0 ∷ []; dirty = 6; era = era }
 
 -- it has the registers of goal_of, and a line, a buffer and an entry of era 1
 abbrev pub keeper : Processor
@@ -184,7 +184,7 @@ keeper = record (start_processor goal_of) {
 
 -- it keeps all that a processor keeps, and has a line, a buffer and an entry
 abbrev pub whole : Processor
-pub whole = record (start_processor (bare_file 0x800)) {
+whole = record (start_processor (bare_file 0x800)) {
   mappings = mapping 1 0x100 7 ∷ [];
   lines = line_of 0x4000 0 ∷ [];
   buffers = line_of 0x4000 0 ∷ [];
@@ -196,7 +196,7 @@ abbrev pub copier : Processor
 copier = record whole { lines = record (line_of 0x4000 0) { words = replicate 8 0; dirty = 0 } ∷ [] }
 
 abbrev pub idle : Processor
-pub idle = start_processor (bare_file 0x800)
+idle = start_processor (bare_file 0x800)
 
 -- over 64 lines of which the word at an address is this number, and 0 everywhere else
 abbrev pub with_word : ℕ → ℕ → Machine → Machine
@@ -208,10 +208,10 @@ with_first_word value m = with_word 0x100000 value m
 
 -- a call for other registers, of processors that have taken
 abbrev pub call_order : Order
-pub call_order = record { goal = bare_file 0x806; from_era = 0; go = Pending }
+call_order = record { goal = bare_file 0x806; from_era = 0; go = Pending }
 
 abbrev pub calling : Order → List Processor → Machine
-pub calling o ps = record (machine_of ps) { order = Some o }
+calling o ps = record (machine_of ps) { order = Some o }
 
 abbrev pub ready : Processor
 ready = record idle { phase = Taken }

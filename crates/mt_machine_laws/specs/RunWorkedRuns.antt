@@ -8,7 +8,7 @@ use Rattle.mt_machine.specs.Start.{start_machine}
 use Rattle.mt_machine_laws.specs.MachineWorkedRuns.{bare, bare_file, bare_snooper, walk}
 
 abbrev pub pair_order : Order
-pub pair_order = record { goal = bare_file 0x806; from_era = 0; go = Given }
+pair_order = record { goal = bare_file 0x806; from_era = 0; go = Given }
 
 -- two processors at their start, and two whose files differ
 abbrev pub pair : Machine

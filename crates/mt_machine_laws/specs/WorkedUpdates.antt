@@ -18,7 +18,7 @@ by_buffered = Steps 0 Take ∷ Goes ∷ map (Steps 0) (Arrive ∷ Pass ∷ way_o
 
 -- it has taken, and its cache has these words
 abbrev pub dirty_taken : Machine
-pub dirty_taken = calling call_order (record whole { phase = Taken; buffers = [] } ∷ [])
+dirty_taken = calling call_order (record whole { phase = Taken; buffers = [] } ∷ [])
 
 -- up to the first flush, which writes both words back
 abbrev pub to_flush : List MachineEvent
@@ -44,16 +44,16 @@ pair_to_release = Goes ∷ Steps 0 Arrive ∷ Steps 1 Arrive ∷ Steps 0 Pass �
 
 -- the one with the dirty line at its pass, and released
 abbrev pub given_order : Order
-pub given_order = record call_order { go = Given }
+given_order = record call_order { go = Given }
 
 abbrev pub to_pass : List MachineEvent
-pub to_pass = Goes ∷ Steps 0 Arrive ∷ []
+to_pass = Goes ∷ Steps 0 Arrive ∷ []
 
 abbrev pub at_pass : Machine
 at_pass = run dirty_taken to_pass
 
 abbrev pub dirty_released : Machine
-pub dirty_released = next (run dirty_taken to_release) (Steps 0 Release)
+dirty_released = next (run dirty_taken to_release) (Steps 0 Release)
 
 -- two that have taken, of which the second has other registers, an entry and the dirty line
 abbrev pub two_taken : Machine

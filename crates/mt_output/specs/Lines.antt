@@ -15,32 +15,32 @@ use Rattle.mt_script.specs.declared.fault.Offence.{Offence}
 use Rattle.mt_script.specs.declared.fault.Offence.TheVariants.{Script, Dump}
 
 abbrev pub line : List ℕ → List ℕ
-pub line text = text ++ 10 ∷ []
+line text = text ++ 10 ∷ []
 
 abbrev pub accepted_line : List ℕ
-pub accepted_line = line (codes "accepted")
+accepted_line = line (codes "accepted")
 
 abbrev pub reason_text : Reason → List ℕ
-pub reason_text ReservedBit = codes "reserved bit"
-pub reason_text UnsupportedType = codes "unsupported type"
+reason_text ReservedBit = codes "reserved bit"
+reason_text UnsupportedType = codes "unsupported type"
 reason_text BrokenMask = codes "broken mask"
 reason_text UndefinedOverlap = codes "undefined overlap"
 
 -- the register at fault and the reason
 abbrev pub refused_line : Fault → List ℕ
-pub refused_line fault = line (codes "refused " ++ number_text fault.msr ++ codes " " ++ reason_text fault.reason)
+refused_line fault = line (codes "refused " ++ number_text fault.msr ++ codes " " ++ reason_text fault.reason)
 
 -- the processor, the register at fault and the reason
 abbrev pub refused_cpu_line : ℕ → Fault → List ℕ
-pub refused_cpu_line k fault = line (codes "refused cpu " ++ decimal k ++ codes " " ++ number_text fault.msr ++ codes " " ++ reason_text fault.reason)
+refused_cpu_line k fault = line (codes "refused cpu " ++ decimal k ++ codes " " ++ number_text fault.msr ++ codes " " ++ reason_text fault.reason)
 
 -- the line about file k of a dump of a version; version 1 has one file, and the line names no processor
 abbrev pub dump_refused_line : ℕ → ℕ → Fault → List ℕ
-pub dump_refused_line version k fault = if version == 2 then refused_cpu_line k fault else refused_line fault
+dump_refused_line version k fault = if version == 2 then refused_cpu_line k fault else refused_line fault
 
 abbrev pub dump_reason_text : DumpReason → List ℕ
-pub dump_reason_text dump.BadLine = codes "bad line"
-pub dump_reason_text dump.BadNumber = codes "bad number"
+dump_reason_text dump.BadLine = codes "bad line"
+dump_reason_text dump.BadNumber = codes "bad number"
 dump_reason_text dump.UnknownRegister = codes "unknown register"
 dump_reason_text dump.Repeated = codes "repeated"
 dump_reason_text dump.NoCap = codes "no cap"
@@ -51,8 +51,8 @@ dump_reason_text dump.BadSection = codes "bad section"
 dump_reason_text dump.Differs = codes "differs"
 
 abbrev pub script_reason_text : ScriptReason → List ℕ
-pub script_reason_text script.BadLine = codes "bad line"
-pub script_reason_text script.BadNumber = codes "bad number"
+script_reason_text script.BadLine = codes "bad line"
+script_reason_text script.BadNumber = codes "bad number"
 script_reason_text script.UnknownRegister = codes "unknown register"
 script_reason_text script.OutOfRange = codes "out of range"
 script_reason_text script.NoEnd = codes "no end"
@@ -61,19 +61,19 @@ script_reason_text script.Repeated = codes "repeated"
 
 -- line, column and reason of an offence
 abbrev pub bad_text : Place → List ℕ → List ℕ
-pub bad_text place reason =
+bad_text place reason =
     line (codes "bad text " ++ decimal place.line ++ codes ":" ++ decimal place.column ++ codes " " ++ reason)
 
 abbrev pub bad_text_line : DumpFault → List ℕ
-pub bad_text_line fault = bad_text fault.place (dump_reason_text fault.reason)
+bad_text_line fault = bad_text fault.place (dump_reason_text fault.reason)
 
 abbrev pub bad_script_line : ScriptFault → List ℕ
 bad_script_line fault = bad_text fault.place (script_reason_text fault.reason)
 
 abbrev pub offence_line : Offence → List ℕ
-pub offence_line (Script fault) = bad_script_line fault
-pub offence_line (Dump fault) = bad_text_line fault
+offence_line (Script fault) = bad_script_line fault
+offence_line (Dump fault) = bad_text_line fault
 
 -- an address in thirteen digits, which is 52 bits
 abbrev pub address_text : ℕ → List ℕ
-pub address_text address = drop 3 (value_text address)
+address_text address = drop 3 (value_text address)

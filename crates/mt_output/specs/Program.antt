@@ -11,8 +11,8 @@ use Rattle.mt_ports.specs.declared.status.Status.{Status}
 
 -- all arguments but the first, which is the program's name, where each is a text; else none, which is no command line
 abbrev pub words_of : {A B E : Type 0} → Result (IntoIter (String A) B) E → List (List ℕ)
-pub words_of (Ok args) = map string_bytes (drop 1 (into_iter_items args))
-pub words_of (Err error) = []
+words_of (Ok args) = map string_bytes (drop 1 (into_iter_items args))
+words_of (Err error) = []
 
 abbrev pub Exits : ExitCode → (Status → Type 0) → Type 0
-pub Exits exit P = (status : Status) × (exit_status exit ≡ code status) × P status
+Exits exit P = (status : Status) × (exit_status exit ≡ code status) × P status

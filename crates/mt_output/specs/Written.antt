@@ -7,5 +7,5 @@ use Rattle.mt_ports.specs.declared.status.Status.TheVariants.{WriteFault}
 
 -- The sink took the text and the status is answered, or it took a front of it and failed.
 abbrev pub Writes : List ℕ → Status → Option (List ℕ) → Option (List ℕ) → Status → Type 0
-pub Writes text status old new result =
+Writes text status old new result =
     ((result ≡ status) × Appends old new text) ⊎ ((result ≡ WriteFault) × AppendsFront old new text)

@@ -71,8 +71,8 @@ event_place other = 0
 
 -- all write-backs and the invalidation that ends them count as one step
 abbrev pub whole_flush : Event → Event
-pub whole_flush (WriteBack address value) = DropLines
-pub whole_flush other = other
+whole_flush (WriteBack address value) = DropLines
+whole_flush other = other
 
 -- the event that is due by what the words tell
 abbrev pub due_event : PlainUpdate → PlainProcessor → Go → Phase → Option Event
@@ -114,8 +114,8 @@ event_status None = 7
 event_status (Some e) = 0
 
 abbrev pub event_words : Option Event → Phase → PlainStep → PlainStep
-pub event_words None phase old = old
-pub event_words (Some e) phase old = record {
+event_words None phase old = old
+event_words (Some e) phase old = record {
   number = event_number e;
   place = event_place e;
   next_phase = phase_number (phase_after e phase);
@@ -129,7 +129,7 @@ status_by u p (Some go) None = 8
 status_by u p (Some go) (Some phase) = event_status (due_event u p go phase)
 
 abbrev pub due_status : PlainUpdate → PlainProcessor → ℕ
-pub due_status u p = status_by u p (go_of u.word) (phase_of p)
+due_status u p = status_by u p (go_of u.word) (phase_of p)
 
 -- the words of the step, where others stood before
 abbrev pub step_by : PlainUpdate → PlainProcessor → Option Go → Option Phase → PlainStep → PlainStep
@@ -138,10 +138,10 @@ step_by u p (Some go) None old = old
 step_by u p (Some go) (Some phase) old = event_words (due_event u p go phase) phase old
 
 abbrev pub due_step : PlainUpdate → PlainProcessor → PlainStep → PlainStep
-pub due_step u p old = step_by u p (go_of u.word) (phase_of p) old
+due_step u p old = step_by u p (go_of u.word) (phase_of p) old
 
 -- the words tell of an update, of which the processor is one
-pub record IsTold (u : PlainUpdate) (d : PlainProcessor) (o : Order) (ps : List Processor) (p : Processor) : Type 0 where
+record IsTold (u : PlainUpdate) (d : PlainProcessor) (o : Order) (ps : List Processor) (p : Processor) : Type 0 where
   pub phase : phase_of d ≡ Some p.phase
   pub finished : not d.finished ≡ (p.era == o.from_era)
   pub word : go_of u.word ≡ Some o.go

@@ -34,18 +34,18 @@ is_of_one_register other = true
 
 -- the words are a file's, of which no register is at fault by itself
 abbrev pub has_map : PlainRegisters → Bool
-pub has_map r = is_file r && not (is_some (register_fault (file_in r)))
+has_map r = is_file r && not (is_some (register_fault (file_in r)))
 
 -- why there is no type map: 2 no register file, 1 a register at fault
 abbrev pub no_map_status : PlainRegisters → ℕ
-pub no_map_status r = if is_file r then 1 else 2
+no_map_status r = if is_file r then 1 else 2
 
 -- 0 where so many runs have a place in the array, and else 6
 abbrev pub map_status : ℕ → ℕ → ℕ
-pub map_status places count = if nat_le count places then 0 else 6
+map_status places count = if nat_le count places then 0 else 6
 
 -- the file's type map was written to an array, as far as it goes
-pub record IsMapIn (f : RegisterFile) (old new : List PlainRun) (count : ℕ) : Type 0 where
+record IsMapIn (f : RegisterFile) (old new : List PlainRun) (count : ℕ) : Type 0 where
   pub runs : List Run
   pub are_of : IsRunsOf f runs
   pub array : new ≡ overwritten (map plain_run runs) old

@@ -24,7 +24,7 @@ is_zero_pair p = (p.base == 0) && (p.mask == 0)
 
 -- the file that the words tell: of the pairs those that VCNT counts
 abbrev pub file_in : PlainRegisters → RegisterFile
-pub file_in r = record {
+file_in r = record {
   width = r.width;
   capabilities = r.capabilities;
   pairs = map as_pair (take (low_byte r.capabilities) r.pairs);
@@ -35,7 +35,7 @@ pub file_in r = record {
 
 -- the pairs beyond VCNT are zeros
 abbrev pub has_no_other_pair : PlainRegisters → Bool
-pub has_no_other_pair r = list_all is_zero_pair (drop (low_byte r.capabilities) r.pairs)
+has_no_other_pair r = list_all is_zero_pair (drop (low_byte r.capabilities) r.pairs)
 
 -- the fixed-range registers are zeros where the processor hasn't them
 abbrev pub has_no_other_fixed : PlainRegisters → Bool
@@ -43,7 +43,7 @@ has_no_other_fixed r = is_bit_set r.capabilities 8 || list_all (λ v. v == 0) r.
 
 -- the words are a register file's
 abbrev pub is_file : PlainRegisters → Bool
-pub is_file r =
+is_file r =
     nat_le 32 r.width && nat_le r.width 52 && nat_le (low_byte r.capabilities) 32 && has_no_other_pair r && has_no_other_fixed r
 
 -- the numbers of the answers: 0 done, 1 a fault, 2 no register file, 3 no such page, 4 no defined type, 5 no such entry of the PAT
@@ -54,12 +54,12 @@ reason_number BrokenMask = 3
 reason_number UndefinedOverlap = 4
 
 abbrev pub fault_status : Option Fault → ℕ
-pub fault_status None = 0
-pub fault_status (Some fault) = 1
+fault_status None = 0
+fault_status (Some fault) = 1
 
 abbrev pub fault_words : Option Fault → PlainFault → PlainFault
-pub fault_words None old = old
-pub fault_words (Some fault) old = record { number = fault.msr; reason = reason_number fault.reason }
+fault_words None old = old
+fault_words (Some fault) old = record { number = fault.msr; reason = reason_number fault.reason }
 
 abbrev pub type_status : PageType → ℕ
 type_status (Kind t) = 0
@@ -71,14 +71,14 @@ type_number Undefined old = old
 
 -- the answer to a question for a page's type
 abbrev pub page_status : PlainRegisters → ℕ → ℕ
-pub page_status r page =
+page_status r page =
     if not (is_file r) then 2
     else if not (nat_lt page (page_count (file_in r))) then 3
     else type_status (page_type (file_in r) page)
 
 -- the number that is left, where another stood before
 abbrev pub page_number : PlainRegisters → ℕ → ℕ → ℕ
-pub page_number r page old =
+page_number r page old =
     if not (is_file r) then old
     else if not (nat_lt page (page_count (file_in r))) then old
     else type_number (page_type (file_in r) page) old
@@ -89,14 +89,14 @@ effective_kind pat index Undefined = Undefined
 effective_kind pat index (Kind t) = Kind (effective_type t (pat_entry pat index))
 
 abbrev pub effective_status : PlainRegisters → ℕ → ℕ → ℕ
-pub effective_status r page index =
+effective_status r page index =
     if not (is_file r) then 2
     else if not (nat_lt page (page_count (file_in r))) then 3
     else if not (nat_lt index 8) then 5
     else type_status (effective_kind r.pat index (page_type (file_in r) page))
 
 abbrev pub effective_number : PlainRegisters → ℕ → ℕ → ℕ → ℕ
-pub effective_number r page index old =
+effective_number r page index old =
     if not (is_file r) then old
     else if not (nat_lt page (page_count (file_in r))) then old
     else if not (nat_lt index 8) then old

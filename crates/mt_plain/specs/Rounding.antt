@@ -16,14 +16,14 @@ use Rattle.mt_tidy.specs.declared.faults.TidyFault.TheVariants.{Refused, Disable
 use Rattle.mt_types.specs.declared.run.Run.{Run}
 
 -- all that the call may write
-pub record Places : Type 0 where
+record Places : Type 0 where
   pub file : PlainRegisters
   pub need : PlainNeed
   pub loss : PlainLoss
   pub parts : List PlainRun
 
 abbrev pub places : PlainRegisters → PlainNeed → PlainLoss → List PlainRun → Places
-pub places file need loss parts = record { file = file; need = need; loss = loss; parts = parts }
+places file need loss parts = record { file = file; need = need; loss = loss; parts = parts }
 
 -- the reason for which nothing is tidied that has the same words
 abbrev pub as_tidy : GranFault → TidyFault
@@ -32,7 +32,7 @@ as_tidy of_gran.Disabled = Disabled
 as_tidy (of_gran.TooFew needs has) = TooFew needs has
 
 -- the words are those of a rounded file and of what is lost; the parts stand in the array, as far as it goes
-pub record IsRounded (f : RegisterFile) (g chunk spare status : ℕ) (old new : Places) : Type 0 where
+record IsRounded (f : RegisterFile) (g chunk spare status : ℕ) (old new : Places) : Type 0 where
   pub used : ℕ
   pub parts : List Run
   pub words : is_file new.file ≡ true
@@ -45,11 +45,11 @@ pub record IsRounded (f : RegisterFile) (g chunk spare status : ℕ) (old new : 
   pub status_is : status ≡ map_status (length old.parts) new.loss.parts
 
 -- there is a reason for which nothing is rounded: both numbers of TooFew are written, and nothing else is
-pub record IsUnrounded (f : RegisterFile) (g chunk spare status : ℕ) (old new : Places) : Type 0 where
+record IsUnrounded (f : RegisterFile) (g chunk spare status : ℕ) (old new : Places) : Type 0 where
   pub fault : GranFault
   pub why : IsWhy f g chunk spare fault
   pub status_is : status ≡ why_status (as_tidy fault)
   pub kept : new ≡ record old { need = need_words (as_tidy fault) old.need }
 
 abbrev pub IsGranAnswer : RegisterFile → ℕ → ℕ → ℕ → ℕ → Places → Places → Type 0
-pub IsGranAnswer f g chunk spare status old new = IsRounded f g chunk spare status old new ⊎ IsUnrounded f g chunk spare status old new
+IsGranAnswer f g chunk spare status old new = IsRounded f g chunk spare status old new ⊎ IsUnrounded f g chunk spare status old new

@@ -20,7 +20,7 @@ need_words Disabled old = old
 need_words (TooFew needs has) old = record { needs = needs; has = has }
 
 -- the words are those of a tidied file, with the number of its valid pairs
-pub record IsDone (f : RegisterFile) (chunk spare status : ℕ) (new : PlainRegisters) (need : PlainNeed) : Type 0 where
+record IsDone (f : RegisterFile) (chunk spare status : ℕ) (new : PlainRegisters) (need : PlainNeed) : Type 0 where
   pub used : ℕ
   pub status_is : status ≡ 0
   pub words : is_file new ≡ true
@@ -29,7 +29,7 @@ pub record IsDone (f : RegisterFile) (chunk spare status : ℕ) (new : PlainRegi
   pub has_is : need.has ≡ pair_count f - spare
 
 -- there is a reason for which nothing is tidied
-pub record IsLeft (f : RegisterFile) (chunk spare status : ℕ) (old new : PlainRegisters) (need_old need : PlainNeed) : Type 0 where
+record IsLeft (f : RegisterFile) (chunk spare status : ℕ) (old new : PlainRegisters) (need_old need : PlainNeed) : Type 0 where
   pub fault : TidyFault
   pub why : IsWhy f chunk spare fault
   pub status_is : status ≡ why_status fault
@@ -37,4 +37,4 @@ pub record IsLeft (f : RegisterFile) (chunk spare status : ℕ) (old new : Plain
   pub need_is : need ≡ need_words fault need_old
 
 abbrev pub IsTidyAnswer : RegisterFile → ℕ → ℕ → ℕ → PlainRegisters → PlainRegisters → PlainNeed → PlainNeed → Type 0
-pub IsTidyAnswer f chunk spare status old new need_old need = IsDone f chunk spare status new need ⊎ IsLeft f chunk spare status old new need_old need
+IsTidyAnswer f chunk spare status old new need_old need = IsDone f chunk spare status new need ⊎ IsLeft f chunk spare status old new need_old need

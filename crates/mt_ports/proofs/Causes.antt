@@ -4,4 +4,4 @@ use Rattle.mt_ports.specs.Causes.{HasCause}
 
 -- a call behind others that left the count as it was
 pub cause_after : {T E : Type 0} (first before now : ℕ) (result : Result T E) → before ≡ first → HasCause before now result → HasCause first now result
-pub cause_after first before now result same cause = subst (λ (count : ℕ). HasCause count now result) same cause
+cause_after first before now result same cause = subst (λ (count : ℕ). HasCause count now result) same cause

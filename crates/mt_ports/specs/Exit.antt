@@ -4,13 +4,13 @@ use Rattle.mt_ports.specs.declared.status.Status.{Status}
 use Rattle.mt_ports.specs.declared.status.Status.TheVariants.{Done, Refused, Usage, BadText, ReadFault, WriteFault, NoMemory, TooLong, TooFew, Disabled}
 
 abbrev pub code : Status → ℕ
-pub code Done = 0
-pub code Refused = 1
-pub code Usage = 2
-pub code BadText = 3
-pub code ReadFault = 4
-pub code WriteFault = 5
-pub code NoMemory = 6
-pub code TooLong = 7
-pub code TooFew = 8
-pub code Disabled = 9
+code Done = 0
+code Refused = 1
+code Usage = 2
+code BadText = 3
+code ReadFault = 4
+code WriteFault = 5
+code NoMemory = 6
+code TooLong = 7
+code TooFew = 8
+code Disabled = 9

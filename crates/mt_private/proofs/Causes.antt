@@ -43,7 +43,7 @@ module _ {T : Type 0} (order : Option Order) (goal : RegisterFile) where
   unshared r s found other not least n = (λ is. absurd (other n is), λ h. absurd (not n ((least n).1 h.2)))
 
 pub private_where_none : (s : System) (found : Option ℕ) → ((n : ℕ) → found ≡ Some n → ⊥) → ((found ≡ None) ↔ IsPrivate s) → IsPrivate s
-pub private_where_none s None not none = none.0 (λ i. None)
+private_where_none s None not none = none.0 (λ i. None)
 private_where_none s (Some n) not none = absurd (not n (λ i. Some n))
 
 -- ---- what a yard is gathered from
@@ -54,7 +54,7 @@ with_order s o = record { system = s; order = o }
 -- a core that rests may be gathered, for a goal that it may be called with
 pub opens_of : (m : Machine) (goal : RegisterFile) → IsCore m → m.order ≡ None → IsRegisterFile goal → IsAccepted goal → IsPrivate m.system → 0 < length m.system.processors → All (FitsGoal goal) m.system.processors → HasEraRoom m
     → Opens (gathered m.system.processors m.system.memory goal)
-pub opens_of m goal core none file good own some fits room = record {
+opens_of m goal core none file good own some fits room = record {
   quiet = subst IsQuiet (ap (with_order m.system) none) (is_quiet_without_order m core.arises none);
   enabled = (refl, file, good, fits);
   unshared = own;

@@ -32,21 +32,21 @@ abbrev pub start_at : Yard → Start
 start_at yard = start_of yard.table.shared.key
 
 abbrev pub goal_at : Yard → RegisterFile
-pub goal_at yard = yard.table.shared.key.goal.value
+goal_at yard = yard.table.shared.key.goal.value
 
 -- ---- the host's seat
 
 abbrev pub LeadsIn : Yard → Seat Op YardView → Go → Type 0
-pub LeadsIn yard seat go = Leads yard.table.shared.table_id (start_at yard) seat.table_id (as_sat seat.me) go
+LeadsIn yard seat go = Leads yard.table.shared.table_id (start_at yard) seat.table_id (as_sat seat.me) go
 
 abbrev pub IsRootIn : Yard → Seat Op YardView → Type 0
-pub IsRootIn yard seat = IsRoot yard.table.shared.table_id seat.table_id (as_sat seat.me)
+IsRootIn yard seat = IsRoot yard.table.shared.table_id seat.table_id (as_sat seat.me)
 
 -- ---- passes and guests
 
 -- the pass's seat lodges its resident, which has this own system
 abbrev pub LodgesIn : Yard → YardPass → System → Bool → Bool → Type 0
-pub LodgesIn yard pass own added again = Lodges yard.table.shared.table_id (start_at yard) pass.seat.table_id pass.seat.me pass.number own added again
+LodgesIn yard pass own added again = Lodges yard.table.shared.table_id (start_at yard) pass.seat.table_id pass.seat.me pass.number own added again
 
 -- where the pass lodged one with that own system, it lodges one with this, whatever it has added
 abbrev pub KeepsLodging : Yard → YardPass → System → YardPass → System → Type 0
@@ -72,10 +72,10 @@ VisitEndsIn visited yard goal job pass own later new told =
     VisitEnds visited yard.table.shared.table_id (start_at yard) pass.number goal job own later.seat.table_id later.seat.me new told
 
 abbrev pub IsGatheredIn : Yard → ℕ → Guest → Type 0
-pub IsGatheredIn yard k guest = IsGathered yard.table.shared.table_id (start_at yard) k guest.pass.seat.table_id guest.pass.seat.me guest.pass.number guest.own
+IsGatheredIn yard k guest = IsGathered yard.table.shared.table_id (start_at yard) k guest.pass.seat.table_id guest.pass.seat.me guest.pass.number guest.own
 
 abbrev pub AreGatheredIn : Yard → List Guest → Type 0
-pub AreGatheredIn yard guests = AreGathered yard.table.shared.table_id (start_at yard) guests
+AreGatheredIn yard guests = AreGathered yard.table.shared.table_id (start_at yard) guests
 
 -- ---- visitors
 

@@ -11,26 +11,26 @@ use Rattle.mt_private.specs.declared.job.Part.TheVariants.{Before, After}
 
 -- the accesses of one part of a job
 abbrev pub ops_in : Part → Job → List Op
-pub ops_in Before j = j.before.items
-pub ops_in After j = j.after.items
+ops_in Before j = j.before.items
+ops_in After j = j.after.items
 
 -- and their answers
 abbrev pub answers_in : Part → Told → List Done
-pub answers_in Before t = t.before.items
-pub answers_in After t = t.after.items
+answers_in Before t = t.before.items
+answers_in After t = t.after.items
 
 abbrev pub room_in : Part → Told → ℕ
 room_in Before t = vec_capacity t.before
 room_in After t = vec_capacity t.after
 
 -- each address fits an access
-pub record FitsJob (j : Job) : Type 0 where
+record FitsJob (j : Job) : Type 0 where
   pub before : All FitsOp j.before.items
   pub after : All FitsOp j.after.items
 
 -- it has no answer yet, and room for those of one part
 abbrev pub IsOpen : Part → Job → Told → Type 0
-pub IsOpen part j t = (answers_in part t ≡ []) × (length (ops_in part j) ≤ room_in part t)
+IsOpen part j t = (answers_in part t ≡ []) × (length (ops_in part j) ≤ room_in part t)
 
 -- for each job so
 abbrev pub AreOpen : Part → List Job → List Told → Type 0

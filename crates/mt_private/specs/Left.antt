@@ -54,13 +54,13 @@ AreParts m xs = (k : ℕ) (x : Option System) → slice_get xs k ≡ Some x → 
 -- ---- the end of a yard
 
 -- each guest came back, and what is kept by its number is of the resident that the host has
-pub record AreBack (count : ℕ) (v : YardView) (owns : List (Option System)) : Type 0 where
+record AreBack (count : ℕ) (v : YardView) (owns : List (Option System)) : Type 0 where
   pub size : length owns ≡ count
   pub each : (k : ℕ) → k < count → (o : System) × (slice_get owns k ≡ Some (Some o))
   pub keeps : Keeps v owns
 
 -- where a yard ends: residents and what the host said stand for this system, those that the host has are among them, and a pass that it took back was shown the cancel only where it gave it
-pub record Leaves (t : Start) (v : YardView) (s : System) : Type 0 where
+record Leaves (t : Start) (v : YardView) (s : System) : Type 0 where
   pub all : List Resident
   pub first : ℕ
   pub second : ℕ
@@ -74,4 +74,4 @@ AreAsGathered t owns = (k : ℕ) (o : System) → slice_get owns k ≡ Some (Som
 
 -- they are those of this system, by their numbers
 abbrev pub AreOwnsOf : Start → List (Option System) → System → Type 0
-pub AreOwnsOf t owns s = (k : ℕ) (o : System) → slice_get owns k ≡ Some (Some o) → own_system (pages_at t k) k s ≡ o
+AreOwnsOf t owns s = (k : ℕ) (o : System) → slice_get owns k ≡ Some (Some o) → own_system (pages_at t k) k s ≡ o

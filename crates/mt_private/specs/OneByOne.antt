@@ -13,17 +13,17 @@ use Rattle.mt_private.specs.declared.job.Part.TheVariants.{Before, After}
 use Rattle.mt_private.specs.Jobs.{ops_in}
 
 -- answers, and the system after them
-pub record Ran : Type 0 where
+record Ran : Type 0 where
   pub answers : List Done
   pub after : System
 
-pub record RanEach : Type 0 where
+record RanEach : Type 0 where
   pub answers : List (List Done)
   pub after : System
 
 -- the accesses of processor k, in order
 abbrev pub ran : ℕ → List Op → System → Ran
-pub ran k [] s = record { answers = []; after = s }
+ran k [] s = record { answers = []; after = s }
 ran k (op ∷ ops) s =
     let first = access s k op in
     let rest = ran k ops first.after in
@@ -38,16 +38,16 @@ ran_each k (ops ∷ others) s =
     record { answers = first.answers ∷ rest.answers; after = rest.after }
 
 abbrev pub at_rest : System → Machine
-pub at_rest s = record { system = s; order = None }
+at_rest s = record { system = s; order = None }
 
-pub record OneByOne : Type 0 where
+record OneByOne : Type 0 where
   pub before : List (List Done)
   pub after : List (List Done)
   pub left : Machine
 
 -- each processor's accesses before the update, processor by processor; the whole update, with the takes in ascending order; and each processor's accesses after it, processor by processor
 abbrev pub one_by_one : System → RegisterFile → List (List Op) → List (List Op) → OneByOne
-pub one_by_one s goal before after =
+one_by_one s goal before after =
     let first = ran_each 0 before s in
     let whole = updated first.after (in_order (at_rest first.after)) goal in
     let last = ran_each 0 after whole.system in
@@ -55,4 +55,4 @@ pub one_by_one s goal before after =
 
 -- the same of jobs
 abbrev pub jobs_one_by_one : System → RegisterFile → List Job → OneByOne
-pub jobs_one_by_one s goal jobs = one_by_one s goal (map (ops_in Before) jobs) (map (ops_in After) jobs)
+jobs_one_by_one s goal jobs = one_by_one s goal (map (ops_in Before) jobs) (map (ops_in After) jobs)

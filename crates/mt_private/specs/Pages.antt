@@ -10,20 +10,20 @@ page_of_line l = l.number / 64
 
 -- one of its mappings, TLB entries, cached lines or buffers lies in the page
 abbrev pub names : ℕ → Processor → Bool
-pub names page p =
+names page p =
     list_any (λ m. m.ppage == page) p.mappings || list_any (λ e. e.ppage == page) p.entries
     || list_any (λ l. page_of_line l == page) p.lines || list_any (λ l. page_of_line l == page) p.buffers
 
 -- how many processors name it
 abbrev pub naming : List Processor → ℕ → ℕ
-pub naming ps page = count_by (names page) ps
+naming ps page = count_by (names page) ps
 
 -- no page is named by two processors
 abbrev pub IsPrivate : System → Type 0
-pub IsPrivate s = (page : ℕ) → naming s.processors page ≤ 1
+IsPrivate s = (page : ℕ) → naming s.processors page ≤ 1
 
 -- the least page that two processors name
-pub record IsLeastShared (s : System) (page : ℕ) : Type 0 where
+record IsLeastShared (s : System) (page : ℕ) : Type 0 where
   pub shared : 2 ≤ naming s.processors page
   pub least : (other : ℕ) → other < page → naming s.processors other ≤ 1
 

@@ -28,10 +28,10 @@ use Rattle.mt_private.specs.Pages.{IsPrivate, names}
 -- ---- from what a yard is gathered
 
 abbrev pub system_of : Start → System
-pub system_of t = record { processors = t.cpus; memory = t.ram }
+system_of t = record { processors = t.cpus; memory = t.ram }
 
 -- no update is under way, the goal may be called, no page is named by two, and the eras may rise
-pub record Opens (t : Start) : Type 0 where
+record Opens (t : Start) : Type 0 where
   pub quiet : IsQuiet (at_rest (system_of t))
   pub enabled : IsEnabled (at_rest (system_of t)) (Calls t.goal)
   pub unshared : IsPrivate (system_of t)
@@ -41,22 +41,22 @@ pub record Opens (t : Start) : Type 0 where
 
 -- the pages that processor k named then, and those that none did
 abbrev pub pages_at : Start → ℕ → ℕ → Bool
-pub pages_at t k page = option_map_or (names page) (slice_get t.cpus k) false
+pages_at t k page = option_map_or (names page) (slice_get t.cpus k) false
 
 abbrev pub pages_left : Start → ℕ → Bool
-pub pages_left t page = not (list_any (names page) t.cpus)
+pages_left t page = not (list_any (names page) t.cpus)
 
 -- ---- residents
 
 abbrev pub held_of : Resident → Held
-pub held_of y = y.held
+held_of y = y.held
 
 -- its processor alone, with the words of its pages
 abbrev pub own_of : Resident → System
-pub own_of y = record { processors = y.held.cpu ∷ []; memory = y.ram }
+own_of y = record { processors = y.held.cpu ∷ []; memory = y.ram }
 
 -- the system has these processors, each owns its pages and has the words in them, and all other words are as they were gathered
-pub record StandsFor (t : Start) (all : List Resident) (s : System) : Type 0 where
+record StandsFor (t : Start) (all : List Resident) (s : System) : Type 0 where
   pub processors : s.processors ≡ map cpu_of (map held_of all)
   pub memory : IsMemory s.memory
   pub windows : s.memory.windows ≡ t.ram.windows
@@ -69,21 +69,21 @@ abbrev pub FitsYard : Go → Bool → Bool → Phase → Type 0
 FitsYard go added again Running = ((added ≡ false) × (again ≡ false)) ⊎ Fits go added again Running
 FitsYard go added again other = Fits go added again other
 
-pub record FitsResident (t : Start) (go : Go) (h : Held) : Type 0 where
+record FitsResident (t : Start) (go : Go) (h : Held) : Type 0 where
   pub fits : FitsYard go h.added h.again h.cpu.phase
   pub era : h.cpu.era ≡ common_era t.cpus + rise h.again h.cpu.phase
 
 -- the order is there while its update isn't over
 abbrev pub yard_machine : Start → Go → System → Machine
-pub yard_machine t go s = stepped (order_of t go) s
+yard_machine t go s = stepped (order_of t go) s
 
 -- reached by events of which none is a call
-pub data Uncalled : Machine → Machine → Type 0 where
+data Uncalled : Machine → Machine → Type 0 where
   uncalled_start : {s : Machine} → Uncalled s s
   uncalled_on : {s t : Machine} → (e : MachineEvent) → Uncalled s t → IsEnabled t e → is_call e ≡ false → Uncalled s (next t e)
 
 -- residents and what the coordinator said stand for a machine that the state after the call reaches without another call
-pub record Resides (t : Start) (all : List Resident) (go : Go) (s : System) : Type 0 where
+record Resides (t : Start) (all : List Resident) (go : Go) (s : System) : Type 0 where
   pub opens : Opens t
   pub reached : Uncalled (broadcast t) (yard_machine t go s)
   pub stands : StandsFor t all s
@@ -91,7 +91,7 @@ pub record Resides (t : Start) (all : List Resident) (go : Go) (s : System) : Ty
   pub fits : (k : ℕ) (y : Resident) → get_elem? all k ≡ some y → FitsResident t go y.held × (y.held.number ≡ k)
 
 -- one resident moves, and w stands for it then: the machine takes this event, which was enabled, or stays as it is
-pub record Moves (t : Start) (all : List Resident) (go : Go) (s : System) (k : ℕ) (w : Resident) (e : Option MachineEvent) : Type 0 where
+record Moves (t : Start) (all : List Resident) (go : Go) (s : System) (k : ℕ) (w : Resident) (e : Option MachineEvent) : Type 0 where
   pub system : System
   pub enabled : CanFollow (yard_machine t go s) e
   pub becomes : yard_machine t go system ≡ after_event (yard_machine t go s) e
@@ -112,32 +112,32 @@ in_system y o = with_first y o.processors o.memory
 
 -- its pass has stored this in its event word
 abbrev pub with_stored : Resident → ℕ → Resident
-pub with_stored y n = record y { stored = n }
+with_stored y n = record y { stored = n }
 
 -- a step of the update on its own system
 abbrev pub stepped_by : Start → Event → Resident → Resident
-pub stepped_by t e y = in_system y (step t.goal e 0 (own_of y))
+stepped_by t e y = in_system y (step t.goal e 0 (own_of y))
 
 -- an access, which is done then
 abbrev pub accessed_by : Op → Resident → Resident
-pub accessed_by op y = record (in_system y (access (own_of y) 0 op).after) { done = y.done ++ op ∷ [] }
+accessed_by op y = record (in_system y (access (own_of y) 0 op).after) { done = y.done ++ op ∷ [] }
 
 -- ---- the two counts
 
 -- the residents and the two counts stand for a machine
-pub record Yard (t : Start) (all : List Resident) (go : Go) (first second : ℕ) (s : System) : Type 0 where
+record Yard (t : Start) (all : List Resident) (go : Go) (first second : ℕ) (s : System) : Type 0 where
   pub resides : Resides t all go s
   pub first_count : first ≡ total added_of (map held_of all) + go_weight go
   pub second_count : second ≡ total again_of (map held_of all)
 
 -- one resident moves, as above, and the counts are these then
-pub record Follows (t : Start) (all : List Resident) (go : Go) (s : System) (k : ℕ) (w : Resident) (e : Option MachineEvent) (first second : ℕ) : Type 0 where
+record Follows (t : Start) (all : List Resident) (go : Go) (s : System) (k : ℕ) (w : Resident) (e : Option MachineEvent) (first second : ℕ) : Type 0 where
   pub moves : Moves t all go s k w e
   pub first_count : first ≡ total added_of (map held_of (slice_set all k w)) + go_weight go
   pub second_count : second ≡ total again_of (map held_of (slice_set all k w))
 
 -- the coordinator says so: this event, and the first count is this then
-pub record Decides (t : Start) (all : List Resident) (go : Go) (first second : ℕ) (s : System) (e : MachineEvent) : Type 0 where
+record Decides (t : Start) (all : List Resident) (go : Go) (first second : ℕ) (s : System) (e : MachineEvent) : Type 0 where
   pub enabled : IsEnabled (yard_machine t Pending s) e
   pub becomes : yard_machine t go s ≡ next (yard_machine t Pending s) e
   pub kept : Yard t all go first second s

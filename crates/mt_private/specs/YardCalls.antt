@@ -44,7 +44,7 @@ abbrev pub stored_in : YardSat → ℕ
 stored_in me = stored_by me.0.held
 
 -- a seat of the table lodges one resident: it has this number, and the processor and the words of this system, which has no other
-pub record Lodges (table : TableId) (t : Start) (its : TableId) (me : YardSat) (number : ℕ) (own : System) (added again : Bool) : Type 0 where
+record Lodges (table : TableId) (t : Start) (its : TableId) (me : YardSat) (number : ℕ) (own : System) (added again : Bool) : Type 0 where
   pub cpu : Processor
   pub same : its ≡ table
   pub alone : own.processors ≡ cpu ∷ []
@@ -55,18 +55,18 @@ pub record Lodges (table : TableId) (t : Start) (its : TableId) (me : YardSat) (
 
 -- what a host keeps by its number is of a resident that came back
 abbrev pub Keeps : YardView → List (Option System) → Type 0
-pub Keeps v owns = (k : ℕ) (o : System) → slice_get owns k ≡ Some (Some o) → (i : ℕ) × (y : Resident) × (get_elem? v.held i ≡ some y) × (y.held.number ≡ k) × (own_of y ≡ o)
+Keeps v owns = (k : ℕ) (o : System) → slice_get owns k ≡ Some (Some o) → (i : ℕ) × (y : Resident) × (get_elem? v.held i ≡ some y) × (y.held.number ≡ k) × (own_of y ≡ o)
 
 -- each of its processors is in this phase
 abbrev pub AreIn : Phase → System → Type 0
-pub AreIn ph s = map (λ (p : Processor). p.phase) s.processors ≡ ph ∷ []
+AreIn ph s = map (λ (p : Processor). p.phase) s.processors ≡ ph ∷ []
 
 -- the system with its processors in this phase
 abbrev pub in_phase : Phase → System → System
 in_phase ph s = record s { processors = map (λ (p : Processor). record p { phase = ph }) s.processors }
 
 -- the resident's own machine takes part in the yard's update; and where its rounds end once the go is given, there end those from a call on the first system
-pub record Visits (table : TableId) (t : Start) (its : TableId) (me : YardSat) (number : ℕ) (core : Machine) (added again : Bool) (go : Go) (first : System) : Type 0 where
+record Visits (table : TableId) (t : Start) (its : TableId) (me : YardSat) (number : ℕ) (core : Machine) (added again : Bool) (go : Go) (first : System) : Type 0 where
   pub lodges : Lodges table t its me number core.system added again
   pub order : core.order ≡ Some (order_of t go)
   pub era : common_era core.system.processors ≡ common_era t.cpus
@@ -79,7 +79,7 @@ HasTaken first own = (ph : Phase) × (own ≡ in_phase ph (drain 0 first))
 
 -- a resident's own system after the whole update
 abbrev pub updated_own : RegisterFile → System → System
-pub updated_own goal s = (updated s (0 ∷ []) goal).system
+updated_own goal s = (updated s (0 ∷ []) goal).system
 
 -- what a cancelled update leaves: it is as it was, or its buffers are emptied besides
 abbrev pub IsLeft : System → System → Type 0
@@ -88,14 +88,14 @@ IsLeft first own = (own ≡ first) ⊎ (own ≡ in_phase Running (drain 0 first)
 -- what comes of a guest. Complete: the accesses before, the whole update and the accesses after, and a load showed that all had arrived again.
 -- Cancelled: the accesses before, and a load showed the cancel
 abbrev pub VisitEnds : Visited → TableId → Start → ℕ → RegisterFile → Job → System → TableId → YardSat → System → Told → Type 0
-pub VisitEnds Complete table t number goal job own its me new told =
+VisitEnds Complete table t number goal job own its me new told =
     Lodges table t its me number new true true
     × (me.0.shown ≡ Some (length t.cpus))
     × (new ≡ (ran 0 job.after.items (updated_own goal (ran 0 job.before.items own).after)).after)
     × (told.before.items ≡ (ran 0 job.before.items own).answers)
     × (told.after.items ≡ (ran 0 job.after.items (updated_own goal (ran 0 job.before.items own).after)).answers)
     × (done_in me ≡ job.before.items ++ job.after.items)
-pub VisitEnds Cancelled table t number goal job own its me new told =
+VisitEnds Cancelled table t number goal job own its me new told =
     ((added : Bool) × Lodges table t its me number new added false)
     × (me.0.cancel ≡ true)
     × IsLeft (ran 0 job.before.items own).after new

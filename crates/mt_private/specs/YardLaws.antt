@@ -26,7 +26,7 @@ use Rattle.mt_private.specs.Residents.{Decides, Follows, Opens, Yard, accessed_b
 use Rattle.mt_private.specs.YardRule.{MeetsYard, first_yard_view, its_machine, with_one, with_said, yard_both, yard_left, yard_right, yard_spent}
 
 -- a yard, and its resident k, whose pass has added so
-pub record Has (t : Start) (all : List Resident) (go : Go) (first second : ℕ) (s : System) (k : ℕ) (y : Resident) (added again : Bool) : Type 0 where
+record Has (t : Start) (all : List Resident) (go : Go) (first second : ℕ) (s : System) (k : ℕ) (y : Resident) (added again : Bool) : Type 0 where
   pub yard : Yard t all go first second s
   pub at : get_elem? all k ≡ some y
   pub has_added : y.held.added ≡ added
@@ -36,49 +36,49 @@ pub record Has (t : Start) (all : List Resident) (go : Go) (first second : ℕ) 
 
 -- one that runs, and hasn't taken, takes where the count shows no cancel
 abbrev pub LoadTakes : Type 0
-pub LoadTakes =
+LoadTakes =
     (t : Start) (all : List Resident) (go : Go) (first second : ℕ) (s : System) (k : ℕ) (y : Resident) → Has t all go first second s k y false false → y.held.cpu.phase ≡ Running
     → first < 4294967296 → Follows t all go s k (stepped_by t Take y) (Some (Steps k Take)) first second
 
 -- any load by which nobody moves is no event
 abbrev pub LoadStays : Type 0
-pub LoadStays =
+LoadStays =
     (t : Start) (all : List Resident) (go : Go) (first second : ℕ) (s : System) (k : ℕ) (y : Resident) → Yard t all go first second s → get_elem? all k ≡ some y
     → Follows t all go s k y None first second
 
 abbrev pub LoadPasses : Type 0
-pub LoadPasses =
+LoadPasses =
     (t : Start) (all : List Resident) (go : Go) (first second : ℕ) (s : System) (k : ℕ) (y : Resident) → Has t all go first second s k y true false → y.held.cpu.phase ≡ Arrived
     → first ≡ length t.cpus + 1 → Follows t all go s k (with_held y (does t Pass y.held)) (Some (Steps k Pass)) first second
 
 abbrev pub LoadLeaves : Type 0
-pub LoadLeaves =
+LoadLeaves =
     (t : Start) (all : List Resident) (go : Go) (first second : ℕ) (s : System) (k : ℕ) (y : Resident) → Has t all go first second s k y true false
     → (y.held.cpu.phase ≡ Taken) ⊎ (y.held.cpu.phase ≡ Arrived) → 4294967296 ≤ first → Follows t all go s k (with_held y (does t Leave y.held)) (Some (Steps k Leave)) first second
 
 -- ---- an addition to the first count
 
 abbrev pub AdditionArrives : Type 0
-pub AdditionArrives =
+AdditionArrives =
     (t : Start) (all : List Resident) (go : Go) (first second : ℕ) (s : System) (k : ℕ) (y : Resident) → Has t all go first second s k y false false → y.held.cpu.phase ≡ Taken
     → (first < 4294967296 → Follows t all go s k (with_held y (arrive t y.held)) (Some (Steps k Arrive)) (first + 1) second)
     × (4294967296 ≤ first → Follows t all go s k (with_held y (late y.held)) None (first + 1) second)
 
 -- the coordinator's
 abbrev pub AdditionDecides : Type 0
-pub AdditionDecides =
+AdditionDecides =
     (t : Start) (all : List Resident) (first second : ℕ) (s : System) → Yard t all Pending first second s
     → Decides t all Given (first + 1) second s Goes × Decides t all Cancelled (first + 4294967296) second s Cancels
 
 -- ---- the second count
 
 abbrev pub AdditionArrivesAgain : Type 0
-pub AdditionArrivesAgain =
+AdditionArrivesAgain =
     (t : Start) (all : List Resident) (go : Go) (first second : ℕ) (s : System) (k : ℕ) (y : Resident) → Has t all go first second s k y true false → y.held.cpu.phase ≡ Restored
     → Follows t all go s k (with_held y (arrive_again t y.held)) (Some (Steps k ArriveAgain)) first (second + 1)
 
 abbrev pub LoadReleases : Type 0
-pub LoadReleases =
+LoadReleases =
     (t : Start) (all : List Resident) (go : Go) (first second : ℕ) (s : System) (k : ℕ) (y : Resident) → Has t all go first second s k y true true → y.held.cpu.phase ≡ Arrived2
     → second ≡ length t.cpus → Follows t all go s k (with_held y (does t Release y.held)) (Some (Steps k Release)) first second
 
@@ -86,13 +86,13 @@ pub LoadReleases =
 
 -- an access, before the processor takes or after it is released or has left; the answer is that of its own system
 abbrev pub StoreAccesses : Type 0
-pub StoreAccesses =
+StoreAccesses =
     (t : Start) (all : List Resident) (go : Go) (first second : ℕ) (s : System) (k : ℕ) (y : Resident) (op : Op) (n : ℕ) → Yard t all go first second s → get_elem? all k ≡ some y
     → y.held.cpu.phase ≡ Running → FitsOp op → Follows t all go s k (with_stored (accessed_by op y) n) (Some (Accesses k op)) first second × ((access s k op).answer ≡ (access (own_of y) 0 op).answer)
 
 -- the event that is due between the barriers
 abbrev pub StoreWorks : Type 0
-pub StoreWorks =
+StoreWorks =
     (t : Start) (all : List Resident) (go : Go) (first second : ℕ) (s : System) (k : ℕ) (y : Resident) (e : Event) (n : ℕ) → Has t all go first second s k y true false
     → is_local y.held.cpu.phase ≡ true → ((o : Order) (ps : List Processor) → due o ps y.held.cpu y.held.cpu.phase ≡ Some e)
     → Follows t all go s k (with_stored (stepped_by t e y) n) (Some (Steps k e)) first second
@@ -100,24 +100,24 @@ pub StoreWorks =
 -- ---- the table
 
 abbrev pub YardState : Type 0
-pub YardState = State Op YardView
+YardState = State Op YardView
 
 -- the second state meets the rule too, and its machine is the one after this event, which was enabled, or the same machine if there is none
-pub record IsOneEvent (key : Key) (s later : YardState) (m : MeetsYard key s) (e : Option MachineEvent) : Type 0 where
+record IsOneEvent (key : Key) (s later : YardState) (m : MeetsYard key s) (e : Option MachineEvent) : Type 0 where
   pub kept : MeetsYard key later
   pub enabled : CanFollow (its_machine key s m) e
   pub becomes : its_machine key later kept ≡ after_event (its_machine key s m) e
 
 -- between any two steps the state after the call reaches the machine
 abbrev pub IsReached : Type 0
-pub IsReached = (key : Key) (s : YardState) (m : MeetsYard key s) → Reached (broadcast (start_of key)) (its_machine key s m)
+IsReached = (key : Key) (s : YardState) (m : MeetsYard key s) → Reached (broadcast (start_of key)) (its_machine key s m)
 
 -- and it is one
 abbrev pub IsOneMachine : Type 0
-pub IsOneMachine = (key : Key) (s : YardState) (a b : MeetsYard key s) → its_machine key s a ≡ its_machine key s b
+IsOneMachine = (key : Key) (s : YardState) (a b : MeetsYard key s) → its_machine key s a ≡ its_machine key s b
 
 -- each processor has the goal's registers and holds nothing of another era, and each word that no access stored since the first release is in memory as it was before the first pass
-pub record Settles (t : Start) (m : Machine) : Type 0 where
+record Settles (t : Start) (m : Machine) : Type 0 where
   pub settled : IsSettled m.system (common_era t.cpus + 1) t.goal
   pub before : Machine
   pub released : Machine
@@ -131,23 +131,23 @@ pub record Settles (t : Start) (m : Machine) : Type 0 where
 
 -- so where a resident's era has risen
 abbrev pub YardsSettle : Type 0
-pub YardsSettle =
+YardsSettle =
     (key : Key) (s : YardState) (m : MeetsYard key s) (k : ℕ) (y : Resident) → get_elem? m.all k ≡ some y → y.held.cpu.era ≡ common_era (start_of key).cpus + 1
     → Settles (start_of key) (its_machine key s m)
 
 -- at the start, with words of 0
 abbrev pub StartMeetsRule : Type 0
-pub StartMeetsRule =
+StartMeetsRule =
     (key : Key) (words : List ℕ) → Opens (start_of key) → length words ≡ length key.cpus.value.items + 2 → ((i : ℕ) → slice_index words i ≡ 0)
     → MeetsYard key (opening words [] (first_yard_view key))
 
 -- a step on word i, which becomes n, stores so: a count, or the own event word, which holds n then
 abbrev pub Stores : Resident → ℕ → ℕ → Resident → Type 0
-pub Stores y i n w = ((i < 2) × (w.stored ≡ y.stored)) ⊎ ((i ≡ y.held.number + 2) × (n ≡ w.stored))
+Stores y i n w = ((i < 2) × (w.stored ≡ y.stored)) ⊎ ((i ≡ y.held.number + 2) × (n ≡ w.stored))
 
 -- a step of a pass by which its resident moves so
 abbrev pub MoveIsOneEvent : Type 0
-pub MoveIsOneEvent =
+MoveIsOneEvent =
     (key : Key) (s : YardState) (m : MeetsYard key s) (id : ℕ) (v : YardView) (y : Resident) → get_elem? s.views id ≡ some v → v.held ≡ y ∷ []
     → (i n : ℕ) (w : Resident) (shown : Option ℕ) (cancel : Bool) (e : Option MachineEvent) → w.held.number ≡ y.held.number → Stores y i n w → (cancel ≡ true → m.go ≡ Cancelled)
     → Follows (start_of key) m.all m.go m.system y.held.number w e (slice_index (slice_set s.words i n) 0) (slice_index (slice_set s.words i n) 1)
@@ -155,19 +155,19 @@ pub MoveIsOneEvent =
 
 -- a step of the root by which it says so
 abbrev pub SayingIsOneEvent : Type 0
-pub SayingIsOneEvent =
+SayingIsOneEvent =
     (key : Key) (s : YardState) (m : MeetsYard key s) (id n : ℕ) (v : YardView) (go : Go) (e : MachineEvent) → get_elem? s.views id ≡ some v → v.root ≡ true
     → 0 < length s.words → slice_index (slice_set s.words 0 n) 1 ≡ slice_index s.words 1 → m.go ≡ Pending → Decides (start_of key) m.all go n (slice_index s.words 1) m.system e
     → IsOneEvent key s (record { words = slice_set s.words 0 n; homes = s.homes; views = slice_set s.views id (with_said v go) }) m (Some e)
 
 -- the root's first resident is given away, and a pass is taken back: no event
 abbrev pub SplitIsNone : Type 0
-pub SplitIsNone =
+SplitIsNone =
     (key : Key) (s : YardState) (m : MeetsYard key s) (id : ℕ) (v : YardView) (y : Resident) (ys : List Resident) → get_elem? s.views id ≡ some v → v.held ≡ y ∷ ys
     → IsOneEvent key s (record { words = s.words; homes = s.homes; views = slice_set s.views id (yard_left v) ++ yard_right v ∷ [] }) m None
 
 abbrev pub JoinIsNone : Type 0
-pub JoinIsNone =
+JoinIsNone =
     (key : Key) (s : YardState) (m : MeetsYard key s) (id other : ℕ) (v w : YardView) (y : Resident) → get_elem? s.views id ≡ some v → v.root ≡ true → ¬ (other ≡ id)
     → get_elem? s.views other ≡ some w → w.held ≡ y ∷ []
     → IsOneEvent key s (record { words = s.words; homes = s.homes; views = slice_set (slice_set s.views id (yard_both v w)) other yard_spent }) m None

@@ -21,58 +21,58 @@ use Rattle.mt_private.specs.Residents.{Yard, held_of, pages_at, yard_machine}
 
 -- what the view has of a rendezvous
 abbrev pub as_view : YardView → View
-pub as_view v = record { root = v.root; held = map held_of v.held; go = v.go; shown = v.shown; start = v.start }
+as_view v = record { root = v.root; held = map held_of v.held; go = v.go; shown = v.shown; start = v.start }
 
 -- the view of the pass with this resident
 abbrev pub with_one : YardView → Resident → Option ℕ → Bool → YardView
-pub with_one v w shown cancel = record v { held = w ∷ []; shown = shown; cancel = cancel }
+with_one v w shown cancel = record v { held = w ∷ []; shown = shown; cancel = cancel }
 
 -- the root's, where it has said so
 abbrev pub with_said : YardView → Go → YardView
-pub with_said v go = record v { go = go }
+with_said v go = record v { go = go }
 
 -- processors from number k on, each with its own words, as they are gathered
 abbrev pub residents : Start → ℕ → List Processor → List Resident
-pub residents t k [] = []
-pub residents t k (c ∷ cs) = record { held = held k c false false; ram = own_memory (pages_at t k) t.ram; done = []; stored = 0 } ∷ residents t (k + 1) cs
+residents t k [] = []
+residents t k (c ∷ cs) = record { held = held k c false false; ram = own_memory (pages_at t k) t.ram; done = []; stored = 0 } ∷ residents t (k + 1) cs
 
 abbrev pub first_yard_view : Key → YardView
-pub first_yard_view key = record { root = true; held = residents (start_of key) 0 key.cpus.value.items; go = Pending; shown = None; cancel = false; start = start_of key }
+first_yard_view key = record { root = true; held = residents (start_of key) 0 key.cpus.value.items; go = Pending; shown = None; cancel = false; start = start_of key }
 
 abbrev pub one_of : List Resident → List Resident
-pub one_of [] = []
+one_of [] = []
 one_of (y ∷ ys) = y ∷ []
 
 abbrev pub rest_of : List Resident → List Resident
-pub rest_of [] = []
+rest_of [] = []
 rest_of (y ∷ ys) = ys
 
 -- the root gives its first resident away, and the new pass has it
 abbrev pub yard_left : YardView → YardView
-pub yard_left v = record v { held = rest_of v.held }
+yard_left v = record v { held = rest_of v.held }
 
 abbrev pub yard_right : YardView → YardView
-pub yard_right v = record { root = false; held = one_of v.held; go = Pending; shown = None; cancel = false; start = v.start }
+yard_right v = record { root = false; held = one_of v.held; go = Pending; shown = None; cancel = false; start = v.start }
 
 -- it takes one back, and knows then whether the pass was shown the cancel; the pass is spent
 abbrev pub yard_both : YardView → YardView → YardView
-pub yard_both v w = record v { held = w.held ++ v.held; cancel = v.cancel || w.cancel }
+yard_both v w = record v { held = w.held ++ v.held; cancel = v.cancel || w.cancel }
 
 abbrev pub yard_spent : YardView
-pub yard_spent = record { root = false; held = []; go = Pending; shown = None; cancel = false; start = nothing }
+yard_spent = record { root = false; held = []; go = Pending; shown = None; cancel = false; start = nothing }
 
 -- ---- the rule
 
 -- these residents are as they stand
 abbrev pub AreAt : List Resident → List Resident → Type 0
-pub AreAt all ys = (i : ℕ) (y : Resident) → get_elem? ys i ≡ some y → get_elem? all y.held.number ≡ some y
+AreAt all ys = (i : ℕ) (y : Resident) → get_elem? ys i ≡ some y → get_elem? all y.held.number ≡ some y
 
 -- each event word is as the resident's pass last stored it
 abbrev pub HoldsStored : List ℕ → List Resident → Type 0
-pub HoldsStored words all = (k : ℕ) (y : Resident) → get_elem? all k ≡ some y → slice_index words (k + 2) ≡ y.stored
+HoldsStored words all = (k : ℕ) (y : Resident) → get_elem? all k ≡ some y → slice_index words (k + 2) ≡ y.stored
 
 -- the words and the views stand for one machine, which the state after the call reaches; seats are as at a rendezvous
-pub record MeetsYard (key : Key) (s : State Op YardView) : Type 0 where
+record MeetsYard (key : Key) (s : State Op YardView) : Type 0 where
   pub all : List Resident
   pub go : Go
   pub owner : ℕ → ℕ
@@ -87,4 +87,4 @@ pub record MeetsYard (key : Key) (s : State Op YardView) : Type 0 where
 
 -- the machine that they stand for
 abbrev pub its_machine : (key : Key) (s : State Op YardView) → MeetsYard key s → Machine
-pub its_machine key s m = yard_machine (start_of key) m.go m.system
+its_machine key s m = yard_machine (start_of key) m.go m.system

@@ -50,7 +50,7 @@ from_ends cpus finish last number (line ∷ lines) p =
     answer_ends (proc_step cpus number line p) (told_from (proc_step cpus) finish (number + 1) lines) (step_ends cpus number line p) (from_ends cpus finish last (number + 1) lines)
 
 pub one_of_three : (cpus : ℕ) (bytes : List ℕ) → ((proc_transcript cpus bytes).status ≡ Done) ⊎ ((proc_transcript cpus bytes).status ≡ Refused) ⊎ ((proc_transcript cpus bytes).status ≡ BadText)
-pub one_of_three cpus bytes = from_ends cpus (proc_end (end_of bytes)) last 1 (lines_of bytes) (in_dump [])
+one_of_three cpus bytes = from_ends cpus (proc_end (end_of bytes)) last 1 (lines_of bytes) (in_dump [])
   where
     last : (p : Point) → IsEnd (proc_end (end_of bytes) p).status
     last (in_dump before) = inr (inr refl)

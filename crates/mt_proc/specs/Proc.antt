@@ -26,7 +26,7 @@ use Rattle.mt_proc.specs.Listing.{requests_from}
 use Rattle.mt_proc.specs.Requests.{request_of}
 
 -- within the dump, after these lines of it, of which the last stands first, or behind its end
-pub data Point : Type 0 where
+data Point : Type 0 where
   in_dump : List Reading → Point
   in_requests : Served → Point
 
@@ -75,11 +75,11 @@ abbrev pub from_point : ℕ → Point → Telling
 from_point cpus p = telling (proc_step cpus) proc_end p
 
 abbrev pub proc_told : ℕ → Telling
-pub proc_told cpus = from_point cpus (in_dump [])
+proc_told cpus = from_point cpus (in_dump [])
 
 -- what it tells of a whole text
 abbrev pub proc_transcript : ℕ → List ℕ → Told
-pub proc_transcript cpus bytes = transcript (proc_told cpus) bytes
+proc_transcript cpus bytes = transcript (proc_told cpus) bytes
 
 -- ---- a list of requests
 

@@ -45,8 +45,8 @@ overlap_later ws i d w l h =
 -- ---- where words lie
 
 pub place_within : (ws : List machine.Window) (before address : ℕ) → IfSome (machine.place_in ws before address) (λ i. i < before + machine.word_count ws)
-pub place_within [] before address = tt
-pub place_within (w ∷ ws) before address =
+place_within [] before address = tt
+place_within (w ∷ ws) before address =
     one (nat_le w.base address) (nat_lt address (machine.window_end w)) refl refl
     (subst (λ (n : ℕ). IfSome (machine.place_in ws (before + 8 * w.lines) address) (λ i. i < n)) (omega arith) (place_within ws (before + 8 * w.lines) address))
   where
@@ -82,7 +82,7 @@ apart_from_all (v ∷ vs) w e = one (shares_byte v w) refl e (apart_from_all vs 
         at (suc k) d l = rest h k d (omega arith)
 
 -- what an accepted window is
-pub record Fits (ws : List machine.Window) (w : machine.Window) : Type 0 where
+record Fits (ws : List machine.Window) (w : machine.Window) : Type 0 where
   pub aligned : w.base % 64 ≡ 0
   pub apart : is_overlap ws w ≡ false
   pub few : machine.word_count ws + 8 * w.lines ≤ 8 * 4096
@@ -100,8 +100,8 @@ fits ws w h = one (w.base % 64 == 0) (is_overlap ws w) (nat_lt (8 * 4096) (machi
     one false b c d ea eb ec ed e = absurd (cc)
 
 pub words_pushed : (ws : List machine.Window) (w : machine.Window) → machine.word_count (ws ++ w ∷ []) ≡ machine.word_count ws + 8 * w.lines
-pub words_pushed [] w = omega arith
-pub words_pushed (v ∷ vs) w = let e = words_pushed vs w in omega arith
+words_pushed [] w = omega arith
+words_pushed (v ∷ vs) w = let e = words_pushed vs w in omega arith
 
 pub added : (m : machine.Memory) (w : machine.Window) → IsRam m → 0 < w.lines → machine.window_end w ≤ 2 ^ 52 → Fits m.windows w → IsRam (with_window w m)
 added m w h some bound f =

@@ -18,8 +18,8 @@ use Rattle.mt_regs.proofs.Writes.{IsKnown, each_found, known}
 
 -- each register's number is above those before it, from low on and below high
 abbrev pub Ascend : ℕ → ℕ → List Register → Type 0
-pub Ascend low high [] = Unit {0}
-pub Ascend low high (r ∷ rs) = (low ≤ number_of r) × (number_of r < high) × Ascend (number_of r + 1) high rs
+Ascend low high [] = Unit {0}
+Ascend low high (r ∷ rs) = (low ≤ number_of r) × (number_of r < high) × Ascend (number_of r + 1) high rs
 
 from_below : (low mid high : ℕ) (rs : List Register) → low ≤ mid → Ascend mid high rs → Ascend low high rs
 from_below low mid high [] below up = tt
@@ -39,7 +39,7 @@ ascend_fixed true = (lit≤ tt, lit< tt, (lit≤ tt, lit< tt, (lit≤ tt, lit< t
 ascend_fixed false = tt
 
 pub writable_ascend : (f : RegisterFile) → pair_count f ≤ 32 → Ascend 0x200 0x300 (writable f)
-pub writable_ascend f few =
+writable_ascend f few =
     ascend_append 0x200 0x277 0x300 (pair_registers 0 (pair_count f) ++ fixed_part_of f) (Pat ∷ DefaultType ∷ []) (lit≤ tt) (lit≤ tt)
     (ascend_append 0x200 0x250 0x277 (pair_registers 0 (pair_count f)) (fixed_part_of f) (lit≤ tt) (lit≤ tt) (ascend_pairs 0x200 0x250 0 (pair_count f) (omega arith) (omega arith)) (ascend_fixed (has_fixed f)))
     (lit≤ tt, lit< tt, (lit≤ tt, lit< tt, tt))
@@ -84,22 +84,22 @@ all_at P (y ∷ ys) (suc i) x all is = all_at P ys i x all.1 is
 
 -- each writable register is the one of its number
 pub writable_found : (f : RegisterFile) → pair_count f ≤ 32 → AllByRecursion (λ r. register_of f (number_of r) ≡ Some r) (writable f)
-pub writable_found f few = found_each 0x200 0x300 (writable f) (writable_ascend f few)
+writable_found f few = found_each 0x200 0x300 (writable f) (writable_ascend f few)
 
 -- where a register stands among the writable ones
 pub place_in_writable : (f : RegisterFile) (r : Register) → IsRegisterFile f → IsWithin f r → (i : ℕ) × (slice_get (writable f) i ≡ Some r)
-pub place_in_writable f (PhysBase n) is within =
+place_in_writable f (PhysBase n) is within =
     let half : 2 * n / 2 ≡ n = omega arith in
     (2 * n, writable_base f (2 * n) (omega (arith, is.all_pairs, pairs_length 0 (pair_count f))) (omega arith) ∙ ap (λ k. Some (PhysBase k)) half)
-pub place_in_writable f (PhysMask n) is within =
+place_in_writable f (PhysMask n) is within =
     let half : (2 * n + 1) / 2 ≡ n = omega arith in
     (2 * n + 1, writable_mask f (2 * n + 1) (omega (arith, is.all_pairs, pairs_length 0 (pair_count f))) (λ e. omega arith) ∙ ap (λ k. Some (PhysMask k)) half)
-pub place_in_writable f (FixedRange place) is within =
+place_in_writable f (FixedRange place) is within =
     let first : ℕ = length (pair_registers 0 (pair_count f)) in
     let size : length (fixed_part_of f) ≡ 11 = rw within.1 refl in
     let past : first + place - first ≡ place = omega arith in
     (first + place, writable_fixed f (first + place) (omega arith) (omega (arith, size, within.0)) ∙ ap (λ k. Some (FixedRange k)) past)
-pub place_in_writable f Pat is within =
+place_in_writable f Pat is within =
     (length (pair_registers 0 (pair_count f)) + length (fixed_part_of f) + 0, writable_last f (length (pair_registers 0 (pair_count f)) + length (fixed_part_of f) + 0) 0 refl)
 place_in_writable f DefaultType is within =
     (length (pair_registers 0 (pair_count f)) + length (fixed_part_of f) + 1, writable_last f (length (pair_registers 0 (pair_count f)) + length (fixed_part_of f) + 1) 1 refl)
@@ -149,7 +149,7 @@ is_file-with_value f Pat v is within = record { wide = is.wide; narrow = is.narr
 is_file-with_value f DefaultType v is within = record { wide = is.wide; narrow = is.narrow; few_pairs = is.few_pairs; all_pairs = is.all_pairs; all_fixed = is.all_fixed; no_fixed = is.no_fixed }
 
 pub is_file-written : (old new : RegisterFile) (number v : ℕ) → IsRegisterFile old → written old number v ≡ Some new → IsRegisterFile new
-pub is_file-written old new number v is write =
+is_file-written old new number v is write =
     let w = written_register old new number v write in
     subst IsRegisterFile w.2 (is_file-with_value old w.0 v is (register_of-within old number w.0 is w.1))
 

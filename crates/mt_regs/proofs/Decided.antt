@@ -67,7 +67,7 @@ an_overlap_or_none f =
     ]
 
 pub a_first_fault_or_none_lem : (f : RegisterFile) → (answer : Option Fault) × IsFirstFault f answer
-pub a_first_fault_or_none_lem f = by_register (register_fault f) refl
+a_first_fault_or_none_lem f = by_register (register_fault f) refl
   where
     by_overlap : (o : Option ℕ) → IsOverlap f o → register_fault f ≡ None → (answer : Option Fault) × IsFirstFault f answer
     by_overlap None is good = (None, rw good is)

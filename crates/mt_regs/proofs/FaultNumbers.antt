@@ -33,7 +33,7 @@ overlap_number f number is (n, at, (page, below, undefined, matches), least) = e
 
 -- the register at fault has a number of three hexadecimal digits
 pub fault_number : (f : RegisterFile) (fault : Fault) → IsRegisterFile f → IsFirstFault f (Some fault) → fault.msr < 0x1000
-pub fault_number f fault is = by_register (register_fault f) refl
+fault_number f fault is = by_register (register_fault f) refl
   where
     by_register : (o : Option Fault) → register_fault f ≡ o → IsFirstFault f (Some fault) → fault.msr < 0x1000
     by_register None good first = let overlap : IsOverlapFault f (Some fault) = rw good at first in omega (arith, overlap_number f fault.msr is overlap.1)

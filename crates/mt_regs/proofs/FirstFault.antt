@@ -91,13 +91,13 @@ found f (Some fault) (reason, (n, number, matches, least)) =
 
 -- each answer that is the first fault is the function's
 pub is_first_fault : (f : RegisterFile) (answer : Option Fault) → IsFirstFault f answer → answer ≡ first_fault f
-pub is_first_fault f answer = by_register (register_fault f) refl
+is_first_fault f answer = by_register (register_fault f) refl
   where
     by_register : (o : Option Fault) → register_fault f ≡ o → IsFirstFault f answer → answer ≡ first_fault f
     by_register None good = λ h. rw good (sym (found f answer (rw good at h)))
     by_register (Some fault) bad = λ h. rw bad (rw bad at h)
 
 pub first_fault_is_first : (f : RegisterFile) → IsFirstFault f (first_fault f)
-pub first_fault_is_first f =
+first_fault_is_first f =
     let (answer, is) = a_first_fault_or_none_lem f in
     subst (IsFirstFault f) (is_first_fault f answer is) is

@@ -52,7 +52,7 @@ none_is_accepted : (f : RegisterFile) → first_fault f ≡ None → IsAccepted 
 none_is_accepted f none = subst (IsFirstFault f) none (first_fault_is_first f)
 
 pub is_first_refusal : (files : List RegisterFile) → MatchOption (first_refusal files) (All IsAccepted files) (λ found. IsFirstRefusal files found.0 found.1)
-pub is_first_refusal files = by (first_refusal files) (first_is first_fault 0 files)
+is_first_refusal files = by (first_refusal files) (first_is first_fault 0 files)
   where
     by : (o : Option (ℕ × Fault)) → MatchOption o (All (λ f. first_fault f ≡ None) files) (λ found. (j : ℕ) × (found.0 ≡ 0 + j) × IsFirst first_fault files j found.1)
         → MatchOption o (All IsAccepted files) (λ found. IsFirstRefusal files found.0 found.1)

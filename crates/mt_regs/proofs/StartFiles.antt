@@ -8,7 +8,7 @@ use Rattle.mt_regs.specs.StartFiles.{AreStartFiles, SameKind}
 
 -- so many equal files, where one is accepted
 pub copies_start : (count : ℕ) (f : RegisterFile) → IsRegisterFile f → IsAccepted f → AreStartFiles (replicate count f)
-pub copies_start count f is accepted = record {
+copies_start count f is accepted = record {
   each = All-replicate IsRegisterFile count f is;
   accepted = All-replicate IsAccepted count f accepted;
   one_kind =

@@ -58,7 +58,7 @@ pairs_pass f checked =
     front_none f (pair_registers 0 (pair_count f)) fixed (front_none f (pair_registers 0 (pair_count f) ++ fixed) (Pat ∷ DefaultType ∷ []) checked)
 
 pub whole_masks : (f : RegisterFile) → length f.pairs ≡ pair_count f → register_fault f ≡ None → (n : ℕ) → n < length f.pairs → IsWhole f.width (pair_at f.pairs n)
-pub whole_masks f all checked n within valid =
+whole_masks f all checked n within valid =
     let pairs : first_of f (pair_registers 0 (pair_count f)) ≡ None = pairs_pass f checked in
     let e : 0 + n ≡ n = omega arith in
     let passes : reason_of f (PhysMask n) ≡ None = rw e at (mask_passes f 0 (pair_count f) n pairs (omega arith)) in

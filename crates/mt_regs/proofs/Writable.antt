@@ -24,8 +24,8 @@ get_back (x ∷ xs) ys (suc i) past =
     get_back xs ys i (omega arith) ∙ ap (slice_get ys) e
 
 pub pairs_length : (first count : ℕ) → length (pair_registers first count) ≡ 2 * count
-pub pairs_length first zero = refl
-pub pairs_length first (suc count) = let h = pairs_length (first + 1) count in omega arith
+pairs_length first zero = refl
+pairs_length first (suc count) = let h = pairs_length (first + 1) count in omega arith
 
 base_at : (first count n : ℕ) → n < count → slice_get (pair_registers first count) (2 * n) ≡ Some (PhysBase (first + n))
 base_at first zero n within = absurd (omega arith)
@@ -67,7 +67,7 @@ in_pairs f i within =
     ∙ get_front (pair_registers 0 (pair_count f)) (fixed_part_of f) i within
 
 pub writable_base : (f : RegisterFile) (i : ℕ) → i < length (pair_registers 0 (pair_count f)) → i % 2 ≡ 0 → slice_get (writable f) i ≡ Some (PhysBase (i / 2))
-pub writable_base f i within even =
+writable_base f i within even =
     let e : 2 * (i / 2) ≡ i = omega arith in
     let z : 0 + i / 2 ≡ i / 2 = omega arith in
     in_pairs f i within ∙ ap (slice_get (pair_registers 0 (pair_count f))) (sym e)
@@ -82,20 +82,20 @@ writable_mask f i within odd =
 
 pub writable_fixed : (f : RegisterFile) (i : ℕ) → length (pair_registers 0 (pair_count f)) ≤ i → i - length (pair_registers 0 (pair_count f)) < length (fixed_part_of f)
     → slice_get (writable f) i ≡ Some (FixedRange (i - length (pair_registers 0 (pair_count f))))
-pub writable_fixed f i past within =
+writable_fixed f i past within =
     get_front (pair_registers 0 (pair_count f) ++ fixed_part_of f) (Pat ∷ DefaultType ∷ []) i (omega (arith, length-append (pair_registers 0 (pair_count f)) (fixed_part_of f)))
     ∙ get_back (pair_registers 0 (pair_count f)) (fixed_part_of f) i past
     ∙ fixed_at (has_fixed f) (i - length (pair_registers 0 (pair_count f))) within
 
 pub writable_last : (f : RegisterFile) (i k : ℕ) → i ≡ length (pair_registers 0 (pair_count f)) + length (fixed_part_of f) + k
     → slice_get (writable f) i ≡ slice_get (Pat ∷ DefaultType ∷ []) k
-pub writable_last f i k is =
+writable_last f i k is =
     let size = length-append (pair_registers 0 (pair_count f)) (fixed_part_of f) in
     let e : i - length (pair_registers 0 (pair_count f) ++ fixed_part_of f) ≡ k = omega arith in
     get_back (pair_registers 0 (pair_count f) ++ fixed_part_of f) (Pat ∷ DefaultType ∷ []) i (omega arith) ∙ ap (slice_get (Pat ∷ DefaultType ∷ [])) e
 
 pub writable_length : (f : RegisterFile) → length (writable f) ≡ length (pair_registers 0 (pair_count f)) + length (fixed_part_of f) + 2
-pub writable_length f =
+writable_length f =
     let a = length-append (pair_registers 0 (pair_count f) ++ fixed_part_of f) (Pat ∷ DefaultType ∷ []) in
     let b = length-append (pair_registers 0 (pair_count f)) (fixed_part_of f) in
     omega arith

@@ -148,7 +148,7 @@ of_register f r number v is found =
         ap Some (kept_value f r s v within (λ same. away (sym other_is ∙ ap number_of (sym same) ∙ number_is)))
 
 pub changes_only : (old new : RegisterFile) (number v : ℕ) → IsRegisterFile old → written old number v ≡ Some new → ChangesOnly old new number v
-pub changes_only old new number v is = by_register (register_of old number) refl
+changes_only old new number v is = by_register (register_of old number) refl
   where
     by_register : (o : Option Register) → register_of old number ≡ o → option_map (λ r. with_value old r v) o ≡ Some new → ChangesOnly old new number v
     by_register None found done = absurd (cc done)

@@ -20,56 +20,56 @@ use Rattle.mt_regs.specs.PageTypes.{page_type}
 
 -- one of the lowest count bytes of a value passes the test
 abbrev pub any_byte : (ℕ → Bool) → ℕ → ℕ → Bool
-pub any_byte test value zero = false
-pub any_byte test value (suc i) = any_byte test value i || test (byte_at value i)
+any_byte test value zero = false
+any_byte test value (suc i) = any_byte test value i || test (byte_at value i)
 
 -- a byte that is a memory type, and WC only where the processor has write combining
 abbrev pub is_supported : Bool → ℕ → Bool
-pub is_supported has_combining byte = is_some (type_of_byte byte) && (not (byte == 1) || has_combining)
+is_supported has_combining byte = is_some (type_of_byte byte) && (not (byte == 1) || has_combining)
 
 abbrev pub is_pat_byte : ℕ → Bool
 is_pat_byte byte = is_some (pat_type_of_byte byte)
 
 abbrev pub has_reserved_bit : RegisterFile → Register → ℕ → Bool
-pub has_reserved_bit f (PhysBase n) v = not (bits v 8 4 == 0) || not (v / 2 ^ f.width == 0)
-pub has_reserved_bit f (PhysMask n) v = not (v % 2 ^ 11 == 0) || not (v / 2 ^ f.width == 0)
-pub has_reserved_bit f (FixedRange place) v = false
-pub has_reserved_bit f Pat v = any_byte (λ byte. not (byte / 8 == 0)) v 8
-pub has_reserved_bit f DefaultType v = not (bits v 8 2 == 0) || not (v / 2 ^ 12 == 0) || (is_bit_set v 10 && not (has_fixed f))
+has_reserved_bit f (PhysBase n) v = not (bits v 8 4 == 0) || not (v / 2 ^ f.width == 0)
+has_reserved_bit f (PhysMask n) v = not (v % 2 ^ 11 == 0) || not (v / 2 ^ f.width == 0)
+has_reserved_bit f (FixedRange place) v = false
+has_reserved_bit f Pat v = any_byte (λ byte. not (byte / 8 == 0)) v 8
+has_reserved_bit f DefaultType v = not (bits v 8 2 == 0) || not (v / 2 ^ 12 == 0) || (is_bit_set v 10 && not (has_fixed f))
 
 abbrev pub has_unsupported_type : RegisterFile → Register → ℕ → Bool
-pub has_unsupported_type f (PhysBase n) v = not (is_supported (has_write_combining f) (low_byte v))
-pub has_unsupported_type f (PhysMask n) v = false
-pub has_unsupported_type f (FixedRange place) v = any_byte (λ byte. not (is_supported (has_write_combining f) byte)) v 8
-pub has_unsupported_type f Pat v = any_byte (λ byte. not (is_pat_byte byte)) v 8
-pub has_unsupported_type f DefaultType v = not (is_supported (has_write_combining f) (low_byte v))
+has_unsupported_type f (PhysBase n) v = not (is_supported (has_write_combining f) (low_byte v))
+has_unsupported_type f (PhysMask n) v = false
+has_unsupported_type f (FixedRange place) v = any_byte (λ byte. not (is_supported (has_write_combining f) byte)) v 8
+has_unsupported_type f Pat v = any_byte (λ byte. not (is_pat_byte byte)) v 8
+has_unsupported_type f DefaultType v = not (is_supported (has_write_combining f) (low_byte v))
 
 -- a valid mask with a gap
 abbrev pub has_broken_mask : RegisterFile → Register → ℕ → Bool
-pub has_broken_mask f (PhysBase n) v = false
-pub has_broken_mask f (PhysMask n) v = is_bit_set v 11 && not (is_run (f.width - 12) (page_field f.width v))
-pub has_broken_mask f (FixedRange place) v = false
-pub has_broken_mask f Pat v = false
-pub has_broken_mask f DefaultType v = false
+has_broken_mask f (PhysBase n) v = false
+has_broken_mask f (PhysMask n) v = is_bit_set v 11 && not (is_run (f.width - 12) (page_field f.width v))
+has_broken_mask f (FixedRange place) v = false
+has_broken_mask f Pat v = false
+has_broken_mask f DefaultType v = false
 
 abbrev pub reason_of : RegisterFile → Register → Option Reason
-pub reason_of f r =
+reason_of f r =
     if has_reserved_bit f r (value_of f r) then Some ReservedBit
     else if has_unsupported_type f r (value_of f r) then Some UnsupportedType
     else if has_broken_mask f r (value_of f r) then Some BrokenMask
     else None
 
 abbrev pub fault_at : Register → Option Reason → Option Fault
-pub fault_at r None = None
-pub fault_at r (Some why) = Some (record { msr = number_of r; reason = why })
+fault_at r None = None
+fault_at r (Some why) = Some (record { msr = number_of r; reason = why })
 
 abbrev pub first_of : RegisterFile → List Register → Option Fault
-pub first_of f [] = None
-pub first_of f (r ∷ rs) = option_or (fault_at r (reason_of f r)) (first_of f rs)
+first_of f [] = None
+first_of f (r ∷ rs) = option_or (fault_at r (reason_of f r)) (first_of f rs)
 
 -- the first writable register with a reserved bit, an unsupported type or a broken mask
 abbrev pub register_fault : RegisterFile → Option Fault
-pub register_fault f = first_of f (writable f)
+register_fault f = first_of f (writable f)
 
 -- pair n matches a page of no defined type
 abbrev pub MatchesUndefined : RegisterFile → ℕ → Type 0
@@ -78,18 +78,18 @@ MatchesUndefined f n =
 
 -- the register of an undefined overlap is the base of the least pair that matches an undefined page
 abbrev pub IsOverlap : RegisterFile → Option ℕ → Type 0
-pub IsOverlap f None = (page : ℕ) → page < page_count f → page_type f page ≢ Undefined
-pub IsOverlap f (Some number) =
+IsOverlap f None = (page : ℕ) → page < page_count f → page_type f page ≢ Undefined
+IsOverlap f (Some number) =
     (n : ℕ) × (number ≡ number_of (PhysBase n)) × MatchesUndefined f n × ((k : ℕ) → k < n → MatchesUndefined f k → ⊥)
 
 -- what is answered where no register has a fault
 abbrev pub IsOverlapFault : RegisterFile → Option Fault → Type 0
-pub IsOverlapFault f None = IsOverlap f None
-pub IsOverlapFault f (Some fault) = (fault.reason ≡ UndefinedOverlap) × IsOverlap f (Some fault.msr)
+IsOverlapFault f None = IsOverlap f None
+IsOverlapFault f (Some fault) = (fault.reason ≡ UndefinedOverlap) × IsOverlap f (Some fault.msr)
 
 -- the first fault of the file, or none where the file is accepted
 abbrev pub IsFirstFault : RegisterFile → Option Fault → Type 0
-pub IsFirstFault f answer = MatchOption (register_fault f) (IsOverlapFault f answer) (λ fault. answer ≡ Some fault)
+IsFirstFault f answer = MatchOption (register_fault f) (IsOverlapFault f answer) (λ fault. answer ≡ Some fault)
 
 abbrev pub IsAccepted : RegisterFile → Type 0
-pub IsAccepted f = IsFirstFault f None
+IsAccepted f = IsFirstFault f None

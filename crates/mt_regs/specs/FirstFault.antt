@@ -14,8 +14,8 @@ use Rattle.mt_regs.specs.PageTypes.{page_type}
 use Rattle.mt_regs.specs.Faults.{register_fault}
 
 abbrev pub is_undefined : PageType → Bool
-pub is_undefined Undefined = true
-pub is_undefined (Kind t) = false
+is_undefined Undefined = true
+is_undefined (Kind t) = false
 
 -- the pages of the physical address space, each a number
 abbrev pub pages : RegisterFile → List ℕ
@@ -34,4 +34,4 @@ overlap_fault n = record { msr = number_of (PhysBase n); reason = UndefinedOverl
 
 -- the first register with a fault of its own, or else the base of the least pair of an undefined overlap
 abbrev pub first_fault : RegisterFile → Option Fault
-pub first_fault f = option_or (register_fault f) (option_map overlap_fault (overlap f))
+first_fault f = option_or (register_fault f) (option_map overlap_fault (overlap f))

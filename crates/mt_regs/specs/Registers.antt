@@ -10,36 +10,36 @@ use Rattle.mt_regs.specs.RegisterFile.{RegisterFile, pair_count, pair_at, has_fi
 
 -- the registers of count pairs from the first on, base before mask
 abbrev pub pair_registers : ℕ → ℕ → List Register
-pub pair_registers first zero = []
-pub pair_registers first (suc count) = PhysBase first ∷ PhysMask first ∷ pair_registers (first + 1) count
+pair_registers first zero = []
+pair_registers first (suc count) = PhysBase first ∷ PhysMask first ∷ pair_registers (first + 1) count
 
 abbrev pub fixed_registers : List Register
-pub fixed_registers = map FixedRange (0 ∷ 1 ∷ 2 ∷ 3 ∷ 4 ∷ 5 ∷ 6 ∷ 7 ∷ 8 ∷ 9 ∷ 10 ∷ [])
+fixed_registers = map FixedRange (0 ∷ 1 ∷ 2 ∷ 3 ∷ 4 ∷ 5 ∷ 6 ∷ 7 ∷ 8 ∷ 9 ∷ 10 ∷ [])
 
 -- the fixed-range registers that the file has
 abbrev pub fixed_part_of : RegisterFile → List Register
-pub fixed_part_of f = if has_fixed f then fixed_registers else []
+fixed_part_of f = if has_fixed f then fixed_registers else []
 
 -- the writable registers in ascending order of their numbers
 abbrev pub writable : RegisterFile → List Register
-pub writable f = pair_registers 0 (pair_count f) ++ fixed_part_of f ++ Pat ∷ DefaultType ∷ []
+writable f = pair_registers 0 (pair_count f) ++ fixed_part_of f ++ Pat ∷ DefaultType ∷ []
 
 abbrev pub fixed_numbers : List ℕ
-pub fixed_numbers = 0x250 ∷ 0x258 ∷ 0x259 ∷ 0x268 ∷ 0x269 ∷ 0x26a ∷ 0x26b ∷ 0x26c ∷ 0x26d ∷ 0x26e ∷ 0x26f ∷ []
+fixed_numbers = 0x250 ∷ 0x258 ∷ 0x259 ∷ 0x268 ∷ 0x269 ∷ 0x26a ∷ 0x26b ∷ 0x26c ∷ 0x26d ∷ 0x26e ∷ 0x26f ∷ []
 
 abbrev pub number_of : Register → ℕ
-pub number_of (PhysBase n) = 0x200 + 2 * n
-pub number_of (PhysMask n) = 0x201 + 2 * n
-pub number_of (FixedRange place) = slice_index fixed_numbers place
-pub number_of Pat = 0x277
-pub number_of DefaultType = 0x2ff
+number_of (PhysBase n) = 0x200 + 2 * n
+number_of (PhysMask n) = 0x201 + 2 * n
+number_of (FixedRange place) = slice_index fixed_numbers place
+number_of Pat = 0x277
+number_of DefaultType = 0x2ff
 
 abbrev pub value_of : RegisterFile → Register → ℕ
-pub value_of f (PhysBase n) = (pair_at f.pairs n).0
-pub value_of f (PhysMask n) = (pair_at f.pairs n).1
-pub value_of f (FixedRange place) = slice_index f.fixed place
-pub value_of f Pat = f.pat
-pub value_of f DefaultType = f.default_type
+value_of f (PhysBase n) = (pair_at f.pairs n).0
+value_of f (PhysMask n) = (pair_at f.pairs n).1
+value_of f (FixedRange place) = slice_index f.fixed place
+value_of f Pat = f.pat
+value_of f DefaultType = f.default_type
 
 -- the file has the register
 abbrev pub IsWithin : RegisterFile → Register → Type 0
@@ -59,33 +59,33 @@ HasNumber DefaultType = Unit {0}
 
 -- Each register's number is below this: three hexadecimal digits write it.
 abbrev pub number_limit : ℕ
-pub number_limit = 0x1000
+number_limit = 0x1000
 
 abbrev pub HasThreeDigits : ℕ → Type 0
-pub HasThreeDigits number = number < number_limit
+HasThreeDigits number = number < number_limit
 
 -- the writable register that has a number
 abbrev pub register_of : RegisterFile → ℕ → Option Register
-pub register_of f number = find (λ r. number_of r == number) (writable f)
+register_of f number = find (λ r. number_of r == number) (writable f)
 
 -- the value that is read at a number
 abbrev pub value_at : RegisterFile → ℕ → Option ℕ
-pub value_at f number = if number == 0xfe then Some f.capabilities else option_map (value_of f) (register_of f number)
+value_at f number = if number == 0xfe then Some f.capabilities else option_map (value_of f) (register_of f number)
 
 -- the file with one register changed
 abbrev pub with_value : RegisterFile → Register → ℕ → RegisterFile
-pub with_value f (PhysBase n) v = record f { pairs = slice_set f.pairs n (v, (pair_at f.pairs n).1) }
-pub with_value f (PhysMask n) v = record f { pairs = slice_set f.pairs n ((pair_at f.pairs n).0, v) }
-pub with_value f (FixedRange place) v = record f { fixed = slice_set f.fixed place v }
-pub with_value f Pat v = record f { pat = v }
-pub with_value f DefaultType v = record f { default_type = v }
+with_value f (PhysBase n) v = record f { pairs = slice_set f.pairs n (v, (pair_at f.pairs n).1) }
+with_value f (PhysMask n) v = record f { pairs = slice_set f.pairs n ((pair_at f.pairs n).0, v) }
+with_value f (FixedRange place) v = record f { fixed = slice_set f.fixed place v }
+with_value f Pat v = record f { pat = v }
+with_value f DefaultType v = record f { default_type = v }
 
 -- the file after a write at a number, where a writable register has it
 abbrev pub written : RegisterFile → ℕ → ℕ → Option RegisterFile
-pub written f number v = option_map (λ r. with_value f r v) (register_of f number)
+written f number v = option_map (λ r. with_value f r v) (register_of f number)
 
 -- the new file differs from the old in the value at one number
-pub record ChangesOnly (old new : RegisterFile) (number v : ℕ) : Type 0 where
+record ChangesOnly (old new : RegisterFile) (number v : ℕ) : Type 0 where
   pub changed : value_at new number ≡ Some v
   pub others : (other : ℕ) → other ≢ number → value_at new other ≡ value_at old other
   pub width : new.width ≡ old.width

@@ -14,7 +14,7 @@ room [] n top all low = omega arith
 room (p ∷ ps) n top all low = let e = all 0 p (omega arith) in omega arith
 
 pub broadcast_begins : BroadcastBegins
-pub broadcast_begins m o b low = record {
+broadcast_begins m o b low = record {
   broadcasts = record {
     sound = b.sound;
     order = refl;

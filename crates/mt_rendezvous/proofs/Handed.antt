@@ -42,7 +42,7 @@ taken_on (x ∷ xs) (y ∷ ys) (suc i) v b e at = let r = consed x y (take i xs)
 
 -- one word more is as the others
 pub taken_more : (l m : List ℕ) (i v : ℕ) → i < length l → take i l ≡ take i m → get_elem? m i ≡ some v → take (i + 1) (set l i v) ≡ take (i + 1) m
-pub taken_more l m i v b e at = let n : i + 1 ≡ suc i = omega arith in ap (λ (k : ℕ). take k (set l i v)) n ∙ taken_on l m i v b e at ∙ ap (λ (k : ℕ). take k m) (sym n)
+taken_more l m i v b e at = let n : i + 1 ≡ suc i = omega arith in ap (λ (k : ℕ). take k (set l i v)) n ∙ taken_on l m i v b e at ∙ ap (λ (k : ℕ). take k m) (sym n)
 
 pub drop_elem : (w : List ℕ) (n i : ℕ) → get_elem? (drop n w) i ≡ get_elem? w (n + i)
 drop_elem w zero i = let e : i ≡ 0 + i = omega arith in ap (get_elem? w) e
@@ -50,7 +50,7 @@ drop_elem [] (suc n) i = refl
 drop_elem (x ∷ xs) (suc n) i = let e : suc (n + i) ≡ suc n + i = omega arith in drop_elem xs n i ∙ ap (get_elem? (x ∷ xs)) e
 
 pub same_words : (l m : List ℕ) (n : ℕ) → length l ≤ n → length m ≤ n → take n l ≡ take n m → l ≡ m
-pub same_words l m n a b e = sym (take_all n l a) ∙ e ∙ take_all n m b
+same_words l m n a b e = sym (take_all n l a) ∙ e ∙ take_all n m b
 
 mapped_length : (l : List Held) → length (map cpu_of l) ≡ length l
 mapped_length [] = refl

@@ -29,27 +29,27 @@ use Rattle.mt_rendezvous.specs.Laws.{Follows}
 -- ---- lists
 
 pub total_set : (f : Held → ℕ) (l : List Held) (k : ℕ) (h w : Held) → get_elem? l k ≡ some h → total f (set l k w) + f h ≡ total f l + f w
-pub total_set f [] k h w e = absurd (some-ne-none h (sym e))
-pub total_set f (x ∷ xs) zero h w e = let is : f x ≡ f h = ap f (some-injective x h e) in omega arith
+total_set f [] k h w e = absurd (some-ne-none h (sym e))
+total_set f (x ∷ xs) zero h w e = let is : f x ≡ f h = ap f (some-injective x h e) in omega arith
 total_set f (x ∷ xs) (suc k) h w e = let r = total_set f xs k h w e in omega arith
 
 pub weight_small : (b : Bool) → weight b ≤ 1
-pub weight_small true = omega arith
-pub weight_small false = omega arith
+weight_small true = omega arith
+weight_small false = omega arith
 
 pub total_small : (f : Held → ℕ) → ((h : Held) → f h ≤ 1) → (l : List Held) → total f l ≤ length l
-pub total_small f small [] = omega arith
-pub total_small f small (x ∷ xs) = let r = total_small f small xs in let s = small x in omega arith
+total_small f small [] = omega arith
+total_small f small (x ∷ xs) = let r = total_small f small xs in let s = small x in omega arith
 
 -- where the total is the length, each counts
 pub total_full : (f : Held → ℕ) → ((h : Held) → f h ≤ 1) → (l : List Held) → total f l ≡ length l → (k : ℕ) (h : Held) → get_elem? l k ≡ some h → f h ≡ 1
-pub total_full f small [] full k h e = absurd (some-ne-none h (sym e))
-pub total_full f small (x ∷ xs) full zero h e = let s = small x in let r = total_small f small xs in let is : f x ≡ f h = ap f (some-injective x h e) in omega arith
+total_full f small [] full k h e = absurd (some-ne-none h (sym e))
+total_full f small (x ∷ xs) full zero h e = let s = small x in let r = total_small f small xs in let is : f x ≡ f h = ap f (some-injective x h e) in omega arith
 total_full f small (x ∷ xs) full (suc k) h e = let s = small x in let r = total_small f small xs in total_full f small xs (omega arith) k h e
 
 pub set_cpus : (l : List Held) (k : ℕ) (h w : Held) → get_elem? l k ≡ some h → set (map cpu_of l) k w.cpu ≡ map cpu_of (set l k w)
-pub set_cpus [] k h w e = absurd (some-ne-none h (sym e))
-pub set_cpus (x ∷ xs) zero h w e = refl
+set_cpus [] k h w e = absurd (some-ne-none h (sym e))
+set_cpus (x ∷ xs) zero h w e = refl
 set_cpus (x ∷ xs) (suc k) h w e = λ i. x.cpu ∷ set_cpus xs k h w e i
 
 pub same_cpus : (l : List Held) (k : ℕ) (h w : Held) → get_elem? l k ≡ some h → w.cpu ≡ h.cpu → map cpu_of l ≡ map cpu_of (set l k w)
@@ -58,9 +58,9 @@ same_cpus (x ∷ xs) zero h w e is = let c : x.cpu ≡ w.cpu = ap cpu_of (some-i
 same_cpus (x ∷ xs) (suc k) h w e is = λ i. x.cpu ∷ same_cpus xs k h w e is i
 
 pub at_cpu : (l : List Held) (k : ℕ) (h : Held) → get_elem? l k ≡ some h → slice_get (map cpu_of l) k ≡ Some h.cpu
-pub at_cpu [] k h e = absurd (some-ne-none h (sym e))
-pub at_cpu (x ∷ xs) zero h e = ap (λ (y : Held). Some y.cpu) (some-injective x h e)
-pub at_cpu (x ∷ xs) (suc k) h e = at_cpu xs k h e
+at_cpu [] k h e = absurd (some-ne-none h (sym e))
+at_cpu (x ∷ xs) zero h e = ap (λ (y : Held). Some y.cpu) (some-injective x h e)
+at_cpu (x ∷ xs) (suc k) h e = at_cpu xs k h e
 
 pub at_less : (l : List Held) (k : ℕ) (h : Held) → get_elem? l k ≡ some h → k < length l
 at_less [] k h e = absurd (some-ne-none h (sym e))
@@ -81,9 +81,9 @@ drop_set (x ∷ xs) (suc n) i v = let e : suc n + i ≡ suc (n + i) = omega arit
 -- ---- the order stands while a processor is on its way
 
 pub all_false : (f : Processor → Bool) (l : List Held) (k : ℕ) (h : Held) → get_elem? l k ≡ some h → f h.cpu ≡ false → list_all f (map cpu_of l) ≡ false
-pub all_false f [] k h e off = absurd (some-ne-none h (sym e))
-pub all_false f (x ∷ xs) zero h e off = ap (λ b. b && list_all f (map cpu_of xs)) (ap (λ (y : Held). f y.cpu) (some-injective x h e) ∙ off)
-pub all_false f (x ∷ xs) (suc k) h e off = ap (λ b. f x.cpu && b) (all_false f xs k h e off) ∙ and_false (f x.cpu)
+all_false f [] k h e off = absurd (some-ne-none h (sym e))
+all_false f (x ∷ xs) zero h e off = ap (λ b. b && list_all f (map cpu_of xs)) (ap (λ (y : Held). f y.cpu) (some-injective x h e) ∙ off)
+all_false f (x ∷ xs) (suc k) h e off = ap (λ b. f x.cpu && b) (all_false f xs k h e off) ∙ and_false (f x.cpu)
   where
     and_false : (b : Bool) → (b && false) ≡ false
     and_false true = refl
@@ -99,13 +99,13 @@ any_true f (x ∷ xs) (suc k) h e is = ap (λ b. f x.cpu || b) (any_true f xs k 
     or_true false = refl
 
 pub all_true : (f : Processor → Bool) (l : List Held) → ((k : ℕ) (h : Held) → get_elem? l k ≡ some h → f h.cpu ≡ true) → list_all f (map cpu_of l) ≡ true
-pub all_true f [] each = refl
-pub all_true f (x ∷ xs) each = ap (λ b. b && list_all f (map cpu_of xs)) (each 0 x refl) ∙ all_true f xs (λ k h e. each (suc k) h e)
+all_true f [] each = refl
+all_true f (x ∷ xs) each = ap (λ b. b && list_all f (map cpu_of xs)) (each 0 x refl) ∙ all_true f xs (λ k h e. each (suc k) h e)
 
 -- it is on its way: not running
 abbrev pub IsUnderWay : Phase → Type 0
-pub IsUnderWay Running = ⊥
-pub IsUnderWay other = Unit {0}
+IsUnderWay Running = ⊥
+IsUnderWay other = Unit {0}
 
 no_rise : (again : Bool) (p : Phase) → IsUnderWay p → rise again p ≡ 0
 no_rise again Running u = absurd u
@@ -126,7 +126,7 @@ cancel_over added again Cancelled l k h at u f = ap not (any_true (λ p. is_wait
 
 pub order_stands : (t : Start) (all : List Held) (go : Go) (words : List ℕ) (k : ℕ) (h : Held) → get_elem? all k ≡ some h → IsUnderWay h.cpu.phase → Fits go h.added h.again h.cpu.phase → h.cpu.era ≡ common_era t.cpus + rise h.again h.cpu.phase
     → (joined t all go words).order ≡ Some (order_of t go)
-pub order_stands t all go words k h at u fits era = ap (λ (b : Bool). if b then None else Some (order_of t go)) over
+order_stands t all go words k h at u fits era = ap (λ (b : Bool). if b then None else Some (order_of t go)) over
   where
     released : has_released (order_of t go) h.cpu ≡ false
     released = let z = no_rise h.again h.cpu.phase u in le-ltb (common_era t.cpus) h.cpu.era (omega arith)
@@ -141,7 +141,7 @@ stands_order t all go words k h at u f = order_stands t all go words k h at u f.
 
 -- ---- one event of the processor that h has
 
-pub record Acts (t : Start) (all : List Held) (go : Go) (words after : List ℕ) (k : ℕ) (e : Event) (h w : Held) : Type 0 where
+record Acts (t : Start) (all : List Held) (go : Go) (words after : List ℕ) (k : ℕ) (e : Event) (h w : Held) : Type 0 where
   pub order : (joined t all go words).order ≡ Some (order_of t go)
   pub enabled : IsEnabled (joined t all go words) (Steps k e)
   pub moves : next (joined t all go words) (Steps k e) ≡ joined t (set all k w) go after
@@ -216,14 +216,14 @@ low_word t all words i n low = ap (λ (ws : List ℕ). record { processors = map
 -- a view changes, and holds the processors that it held at the places that `to` says
 pub kept_present : (views : List View) (id : ℕ) (v new : View) → get_elem? views id ≡ some v
     → ((i : ℕ) (h : Held) → get_elem? v.held i ≡ some h → (i' : ℕ) × (h' : Held) × (get_elem? new.held i' ≡ some h') × (h'.number ≡ h.number)) → (k : ℕ) → IsHeld views k → IsHeld (set views id new) k
-pub kept_present views id v new at to k t = dite (ℕ_discrete t.0 id)
+kept_present views id v new at to k t = dite (ℕ_discrete t.0 id)
     (λ (e : t.0 ≡ id). let same : t.1 ≡ v = some-injective t.1 v (sym t.4 ∙ ap (get_elem? views) e ∙ at) in
     let r = to t.2 t.3 (subst (λ (u : View). get_elem? u.held t.2 ≡ some t.3) same t.5) in
     (id, new, r.0, r.1, set_here views id new (view_less views id v at), r.2, r.3 ∙ t.6))
     (λ (n : t.0 ≢ id). (t.0, t.1, t.2, t.3, set_else views id t.0 new n ∙ t.4, t.5, t.6))
 
 pub moves_present : (views : List View) (id : ℕ) (v new : View) (h w : Held) → get_elem? views id ≡ some v → v.held ≡ h ∷ [] → new.held ≡ w ∷ [] → w.number ≡ h.number → (k : ℕ) → IsHeld views k → IsHeld (set views id new) k
-pub moves_present views id v new h w at is now same k t = kept_present views id v new at (λ i g e. only i g (subst (λ (l : List Held). get_elem? l i ≡ some g) is e)) k t
+moves_present views id v new h w at is now same k t = kept_present views id v new at (λ i g e. only i g (subst (λ (l : List Held). get_elem? l i ≡ some g) is e)) k t
   where
     only : (i : ℕ) (g : Held) → get_elem? (h ∷ []) i ≡ some g → (i' : ℕ) × (h' : Held) × (get_elem? new.held i' ≡ some h') × (h'.number ≡ g.number)
     only zero g e = (0, w, subst (λ (l : List Held). get_elem? l 0 ≡ some w) (sym now) refl, same ∙ ap (λ (x : Held). x.number) (some-injective h g e))
@@ -256,11 +256,11 @@ codes_stored all words k n w codes is wide j g e = ⊎_elim
 -- ---- seats, once the processor of one is another
 
 abbrev pub AllSit : Start → List Held → Go → (ℕ → ℕ) → List View → Type 0
-pub AllSit t all go owner views = (j : ℕ) (v : View) → get_elem? views j ≡ some v → Sits t all go owner j v
+AllSit t all go owner views = (j : ℕ) (v : View) → get_elem? views j ≡ some v → Sits t all go owner j v
 
 pub told_of : (t : Start) (v : View) (h : Held) (hs : List Held) → v.held ≡ h ∷ hs → ((v.held ≡ []) × (v.root ≡ false)) ⊎ (v.start ≡ t) → v.start ≡ t
-pub told_of t v h hs is (inl nothing) = absurd (let e = nothing.0 in cc)
-pub told_of t v h hs is (inr x) = x
+told_of t v h hs is (inl nothing) = absurd (let e = nothing.0 in cc)
+told_of t v h hs is (inr x) = x
 
 module _ (t : Start) (all : List Held) (go : Go) (owner : ℕ → ℕ) (views : List View) (seats : AllSit t all go owner views) (id : ℕ) (v : View) (h w : Held) (at : get_elem? views id ≡ some v) (is : v.held ≡ h ∷ []) (same : w.number ≡ h.number) where
   mine : (get_elem? all h.number ≡ some h) × (owner h.number ≡ id)

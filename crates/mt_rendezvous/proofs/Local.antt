@@ -26,14 +26,14 @@ use Rattle.mt_rendezvous.proofs.Keeps.{IsUnderWay}
 -- ---- phases and the rule
 
 pub changing_under_way : (p : Phase) → is_changing p ≡ true → IsUnderWay p
-pub changing_under_way Running h = absurd (cc)
-pub changing_under_way other h = tt
+changing_under_way Running h = absurd (cc)
+changing_under_way other h = tt
 
 pub local_changing : (p : Phase) → is_local p ≡ true → is_changing p ≡ true
-pub local_changing Running h = absurd (cc)
-pub local_changing Taken h = absurd (cc)
-pub local_changing Arrived h = absurd (cc)
-pub local_changing Arrived2 h = absurd (cc)
+local_changing Running h = absurd (cc)
+local_changing Taken h = absurd (cc)
+local_changing Arrived h = absurd (cc)
+local_changing Arrived2 h = absurd (cc)
 local_changing other h = refl
 
 pub changing_waits_not : (p : Phase) → is_changing p ≡ true → Waits p → ⊥
@@ -43,15 +43,15 @@ changing_waits_not Arrived h w = absurd (cc)
 changing_waits_not other h w = w
 
 pub fits_changing : (go : Go) (added again : Bool) (p : Phase) → is_changing p ≡ true → again ≡ false → added ≡ true → go ≡ Given → Fits go added again p
-pub fits_changing go added again Running h a b c = absurd (cc)
-pub fits_changing go added again Taken h a b c = absurd (cc)
+fits_changing go added again Running h a b c = absurd (cc)
+fits_changing go added again Taken h a b c = absurd (cc)
 fits_changing go added again Arrived h a b c = absurd (cc)
 fits_changing go added again Arrived2 h a b c = absurd (cc)
 fits_changing go added again other h a b c = (a, b, c)
 
 pub changing_fits : (go : Go) (added again : Bool) (p : Phase) → is_changing p ≡ true → Fits go added again p → (again ≡ false) × (added ≡ true) × (go ≡ Given)
-pub changing_fits go added again Running h f = absurd (cc)
-pub changing_fits go added again Taken h f = absurd (cc)
+changing_fits go added again Running h f = absurd (cc)
+changing_fits go added again Taken h f = absurd (cc)
 changing_fits go added again Arrived h f = absurd (cc)
 changing_fits go added again Arrived2 h f = absurd (cc)
 changing_fits go added again other h f = f
@@ -75,8 +75,8 @@ fits_on t go h era u f first = record { first = first; fits = f; era = let z = n
 -- ---- the barriers' counts
 
 pub arrived_in : (t : Start) (p : Processor) (added again : Bool) (ph : Phase) → Fits Given added again ph → added ≡ true → p.era ≡ common_era t.cpus + rise again ph → has_arrived (order_of t Given) (record p { phase = ph }) ≡ true
-pub arrived_in t p added again Taken f a era = let c = f.1 a in absurd (cc)
-pub arrived_in t p added again Running f a era = ⊎_elim
+arrived_in t p added again Taken f a era = let c = f.1 a in absurd (cc)
+arrived_in t p added again Running f a era = ⊎_elim
     (λ (x : (again ≡ false) × (Given ≡ Cancelled)). let e = x.1 in absurd (cc))
     (λ (x : (again ≡ true) × (Given ≡ Given)). let up : rise again Running ≡ 1 = ap (λ b. rise b Running) x.0 in lt-ltb (common_era t.cpus) p.era (omega arith))
     f.1
@@ -88,8 +88,8 @@ arrived_of t go h is f a =
     (arrived_in t h.cpu h.added h.again h.cpu.phase (subst (λ (g : Go). Fits g h.added h.again h.cpu.phase) is f.fits) a f.era)
 
 pub again_in : (t : Start) (go : Go) (p : Processor) (added again : Bool) (ph : Phase) → Fits go added again ph → again ≡ true → p.era ≡ common_era t.cpus + rise again ph → has_arrived_again (order_of t go) (record p { phase = ph }) ≡ true
-pub again_in t go p added again Arrived2 f a era = refl
-pub again_in t go p added again Running f a era = let up : rise again Running ≡ 1 = ap (λ b. rise b Running) a in lt-ltb (common_era t.cpus) p.era (omega arith)
+again_in t go p added again Arrived2 f a era = refl
+again_in t go p added again Running f a era = let up : rise again Running ≡ 1 = ap (λ b. rise b Running) a in lt-ltb (common_era t.cpus) p.era (omega arith)
 again_in t go p added again other f a era = absurd (let c = f.0 in cc)
 
 pub again_of_held : (t : Start) (go : Go) (h : Held) → FitsHeld t go h → h.again ≡ true → has_arrived_again (order_of t go) h.cpu ≡ true
@@ -131,12 +131,12 @@ injected a b e = cc
 
 -- an event between the barriers leads to a phase between them, leaves the era, and is no release
 pub works_in : (goal : RegisterFile) (p : Processor) (e : Event) (ph : Phase) → ph ≡ p.phase → is_local ph ≡ true → ((o : Order) (ps : List Processor) → due o ps p ph ≡ Some e) → Order → IsWork goal e p
-pub works_in goal p e Running same here is o = absurd (cc)
-pub works_in goal p e Taken same here is o = absurd (cc)
-pub works_in goal p e Arrived same here is o = absurd (cc)
-pub works_in goal p e Arrived2 same here is o = absurd (cc)
-pub works_in goal p e Restored same here is o = absurd (cc)
-pub works_in goal p e Passed same here is o = subst (λ (x : Event). IsWork goal x p) (injected _ _ (is o [])) (refl, refl, refl)
+works_in goal p e Running same here is o = absurd (cc)
+works_in goal p e Taken same here is o = absurd (cc)
+works_in goal p e Arrived same here is o = absurd (cc)
+works_in goal p e Arrived2 same here is o = absurd (cc)
+works_in goal p e Restored same here is o = absurd (cc)
+works_in goal p e Passed same here is o = subst (λ (x : Event). IsWork goal x p) (injected _ _ (is o [])) (refl, refl, refl)
 works_in goal p e NoFill same here is o =
     first_flush_case p e (is o []) (λ on v. subst (λ (x : Event). IsWork goal x p) v (flush_changes p.phase, flush_era p.phase p, refl))
     (λ off g. subst (λ (x : Event). IsWork goal x p) (injected _ _ g) (back_works goal p (sym (ap is_changing same))))
@@ -150,16 +150,16 @@ works_in goal p e Normal same here is o = subst (λ (x : Event). IsWork goal x p
 
 -- such an event looks at nothing but the processor
 pub due_alone : (o u : Order) (ps qs : List Processor) (p : Processor) (e : Event) (ph : Phase) → is_local ph ≡ true → due o ps p ph ≡ Some (option_map_or (λ x. x) (due u qs p ph) e)
-pub due_alone o u ps qs p e Running h = absurd (cc)
-pub due_alone o u ps qs p e Taken h = absurd (cc)
-pub due_alone o u ps qs p e Arrived h = absurd (cc)
-pub due_alone o u ps qs p e Arrived2 h = absurd (cc)
-pub due_alone o u ps qs p e Restored h = absurd (cc)
-pub due_alone o u ps qs p e other h = refl
+due_alone o u ps qs p e Running h = absurd (cc)
+due_alone o u ps qs p e Taken h = absurd (cc)
+due_alone o u ps qs p e Arrived h = absurd (cc)
+due_alone o u ps qs p e Arrived2 h = absurd (cc)
+due_alone o u ps qs p e Restored h = absurd (cc)
+due_alone o u ps qs p e other h = refl
 
 -- such an event is not Take
 pub takes_not : (p : Processor) (e : Event) (ph : Phase) → is_local ph ≡ true → ((o : Order) (ps : List Processor) → due o ps p ph ≡ Some e) → Order → e ≢ Take
-pub takes_not p e ph here is o take = absurd (runs ph here (ap (λ (x : Event). is_row x ph) (sym take) ∙ due_row o [] p ph e (is o [])))
+takes_not p e ph here is o take = absurd (runs ph here (ap (λ (x : Event). is_row x ph) (sym take) ∙ due_row o [] p ph e (is o [])))
   where
     runs : (ph : Phase) → is_local ph ≡ true → is_row Take ph ≡ true → ⊥
     runs Running h on = absurd (cc)

@@ -28,8 +28,8 @@ use Rattle.mt_rendezvous.proofs.Keeps.{AllSit, told_of, total_small, weight_smal
 
 -- the coordinator's word changes once
 pub turned : (go new : Go) (added again : Bool) (p : Phase) → go ≡ Pending → Fits go added again p → Fits new added again p
-pub turned go new added again Taken is f = (f.0, λ a. let c = f.1 a in absurd (cc))
-pub turned go new added again Arrived is f = f
+turned go new added again Taken is f = (f.0, λ a. let c = f.1 a in absurd (cc))
+turned go new added again Arrived is f = f
 turned go new added again Running is f = absurd (⊎_elim (λ (t : (again ≡ false) × (go ≡ Cancelled)). let e = t.1 in cc) (λ (t : (again ≡ true) × (go ≡ Given)). let e = t.1 in cc) f.1)
 turned go new added again Arrived2 is f = absurd (let e = f.2 in cc)
 turned go new added again other is f = absurd (let e = f.2 in cc)
@@ -49,7 +49,7 @@ pick false a b = b
 
 -- the owner of one number changes
 abbrev pub owned : (ℕ → ℕ) → ℕ → ℕ → ℕ → ℕ
-pub owned owner k j n = pick (eqb n k) j (owner n)
+owned owner k j n = pick (eqb n k) j (owner n)
 
 owned_here : (owner : ℕ → ℕ) (k j : ℕ) → owned owner k j k ≡ j
 unfolding pick
@@ -77,7 +77,7 @@ at_below (x ∷ xs) (suc j) h e = let r = at_below xs j h e in omega arith
 
 pub split_present : (views : List View) (id : ℕ) (v : View) (h : Held) (hs : List Held) → get_elem? views id ≡ some v → v.held ≡ h ∷ hs → (root_left v).held ≡ hs → (pass_right v).held ≡ h ∷ []
     → (k : ℕ) → IsHeld views k → IsHeld (set views id (root_left v) ++ pass_right v ∷ []) k
-pub split_present views id v h hs at is left_held right_held k t = dite (ℕ_discrete t.0 id)
+split_present views id v h hs at is left_held right_held k t = dite (ℕ_discrete t.0 id)
     (λ (e : t.0 ≡ id). let same : t.1 ≡ v = some-injective t.1 v (sym t.4 ∙ ap (get_elem? views) e ∙ at) in
     part t.2 t.3 (subst (λ (l : List Held). get_elem? l t.2 ≡ some t.3) (ap (λ (u : View). u.held) same ∙ is) t.5) t.6)
     (λ (n : t.0 ≢ id). (t.0, t.1, t.2, t.3, at_longer (set views id (root_left v)) (pass_right v ∷ []) t.0 t.1 (set_else views id t.0 (root_left v) n ∙ t.4), t.5, t.6))
@@ -104,7 +104,7 @@ pub split_present views id v h hs at is left_held right_held k t = dite (ℕ_dis
 
 pub join_present : (views : List View) (id other : ℕ) (v w : View) (h : Held) → get_elem? views id ≡ some v → ¬ (other ≡ id) → get_elem? views other ≡ some w → w.held ≡ h ∷ [] → (both v w).held ≡ h ∷ v.held
     → (k : ℕ) → IsHeld views k → IsHeld (set (set views id (both v w)) other spent) k
-pub join_present views id other v w h at apart there is joined k t = dite (ℕ_discrete t.0 other)
+join_present views id other v w h at apart there is joined k t = dite (ℕ_discrete t.0 other)
     (λ (e : t.0 ≡ other). let same : t.1 ≡ w = some-injective t.1 w (sym t.4 ∙ ap (get_elem? views) e ∙ there) in
     first_of_it t.2 t.3 (subst (λ (l : List Held). get_elem? l t.2 ≡ some t.3) (ap (λ (u : View). u.held) same ∙ is) t.5) t.6)
     (λ (n : t.0 ≢ other). dite (ℕ_discrete t.0 id)
@@ -386,40 +386,40 @@ module _ (key : Key) where
       was = ⊎_elim (λ (t : (other ≡ id) × (both v w ≡ w)). absurd (apart t.0)) (λ (t : (other ≢ id) × (get_elem? s.views other ≡ some w)). t.1) (at_set s.views id other (both v w) w there)
 
 pub numbered_cpus : (k : ℕ) (cs : List Processor) → map cpu_of (numbered k cs) ≡ cs
-pub numbered_cpus k [] = refl
-pub numbered_cpus k (c ∷ cs) = λ i. c ∷ numbered_cpus (k + 1) cs i
+numbered_cpus k [] = refl
+numbered_cpus k (c ∷ cs) = λ i. c ∷ numbered_cpus (k + 1) cs i
 
 pub numbered_length : (k : ℕ) (cs : List Processor) → length (numbered k cs) ≡ length cs
-pub numbered_length k [] = refl
-pub numbered_length k (c ∷ cs) = ap suc (numbered_length (k + 1) cs)
+numbered_length k [] = refl
+numbered_length k (c ∷ cs) = ap suc (numbered_length (k + 1) cs)
 
 pub numbered_none : (f : Held → ℕ) → ((k : ℕ) (c : Processor) → f (held k c false false) ≡ 0) → (k : ℕ) (cs : List Processor) → total f (numbered k cs) ≡ 0
-pub numbered_none f z k [] = refl
-pub numbered_none f z k (c ∷ cs) = let a = z k c in let r = numbered_none f z (k + 1) cs in omega arith
+numbered_none f z k [] = refl
+numbered_none f z k (c ∷ cs) = let a = z k c in let r = numbered_none f z (k + 1) cs in omega arith
 
 pub numbered_at : (k : ℕ) (cs : List Processor) (j : ℕ) (h : Held) → get_elem? (numbered k cs) j ≡ some h → (c : Processor) × (get_elem? cs j ≡ some c) × (h ≡ held (k + j) c false false)
-pub numbered_at k [] j h e = absurd (some-ne-none h (sym e))
-pub numbered_at k (c ∷ cs) zero h e = let n : k ≡ k + zero = omega arith in (c, refl, sym (some-injective (held k c false false) h e) ∙ ap (λ (i : ℕ). held i c false false) n)
+numbered_at k [] j h e = absurd (some-ne-none h (sym e))
+numbered_at k (c ∷ cs) zero h e = let n : k ≡ k + zero = omega arith in (c, refl, sym (some-injective (held k c false false) h e) ∙ ap (λ (i : ℕ). held i c false false) n)
 numbered_at k (c ∷ cs) (suc j) h e = let r = numbered_at (k + 1) cs j h e in let n : k + 1 + j ≡ k + suc j = omega arith in (r.0, r.1, r.2 ∙ ap (λ (i : ℕ). held i r.0 false false) n)
 
 pub numbered_apart : (k : ℕ) (cs : List Processor) → Apart (numbered k cs)
-pub numbered_apart k [] = tt
-pub numbered_apart k (c ∷ cs) = ((λ i h e same. let r = numbered_at (k + 1) cs i h e in let n : h.number ≡ k + 1 + i = ap (λ (g : Held). g.number) r.2 in omega arith), numbered_apart (k + 1) cs)
+numbered_apart k [] = tt
+numbered_apart k (c ∷ cs) = ((λ i h e same. let r = numbered_at (k + 1) cs i h e in let n : h.number ≡ k + 1 + i = ap (λ (g : Held). g.number) r.2 in omega arith), numbered_apart (k + 1) cs)
 
 pub numbered_some : (k : ℕ) (cs : List Processor) (j : ℕ) → j < length (numbered k cs) → (h : Held) × (get_elem? (numbered k cs) j ≡ some h) × (h.number ≡ k + j)
-pub numbered_some k [] j b = absurd (omega arith)
-pub numbered_some k (c ∷ cs) zero b = (held k c false false, refl, omega arith)
+numbered_some k [] j b = absurd (omega arith)
+numbered_some k (c ∷ cs) zero b = (held k c false false, refl, omega arith)
 numbered_some k (c ∷ cs) (suc j) b = let r = numbered_some (k + 1) cs j (omega arith) in let n = r.2 in (r.0, r.1, omega arith)
 
 -- the words at the start: the counts and the phases are 0, and memory follows
-pub record Opens (key : Key) (words : List ℕ) : Type 0 where
+record Opens (key : Key) (words : List ℕ) : Type 0 where
   pub wide : length words ≡ first_memory_word (start_of key) + length key.ram.value.words
   pub zeros : (i : ℕ) → i < first_memory_word (start_of key) → slice_index words i ≡ 0
   pub memory : drop (first_memory_word (start_of key)) words ≡ key.ram.value.words
 
 -- the rule holds at the start
 pub begins : (key : Key) (words : List ℕ) → Begins (start_of key) → 0 < length key.cpus.value.items → length key.cpus.value.items < 65536 → Opens key words → Meets key (opening words [] (first_view key))
-pub begins key words broad present few opens =
+begins key words broad present few opens =
     let cs = key.cpus.value.items in
     let size = numbered_length 0 cs in
     let none_added : total added_of (numbered 0 cs) ≡ 0 = numbered_none added_of (λ k c. refl) 0 cs in
@@ -523,7 +523,7 @@ zeros_length zero m = omega arith
 zeros_length (suc n) m = let r = zeros_length n m in omega arith
 
 pub opens_of : (key : Key) (count : ℕ) (ws : List ℕ) → count ≡ length key.cpus.value.items → ws ≡ opening_words count key.ram.value.words → Opens key ws
-pub opens_of key count ws same is = record {
+opens_of key count ws same is = record {
   wide = ap (λ (l : List ℕ). length l) is ∙ zeros_length (count + 2) key.ram.value.words ∙ ap (λ (n : ℕ). n + 2 + length key.ram.value.words) same;
   zeros = λ i b. ap (λ (l : List ℕ). get_or l i 0) is ∙ zero_at (count + 2) i key.ram.value.words (omega arith);
   memory = ap (λ (n : ℕ). drop (n + 2) ws) (sym same) ∙ ap (drop (count + 2)) is ∙ after_zeros (count + 2) key.ram.value.words;

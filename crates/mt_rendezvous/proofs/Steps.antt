@@ -38,44 +38,44 @@ pub of_one : (v : View) (h : Held) (P : Held → Type 0) → v.held ≡ h ∷ []
 of_one v h P is p g same = subst P (only h g (sym is ∙ same)) p
 
 pub moved : (v : View) (f : Held → Held) (h : Held) → v.held ≡ h ∷ [] → view v.root (f h ∷ []) v.go v.shown v ≡ with_held v (map f v.held)
-pub moved v f h is = ap (λ (hs : List Held). view v.root (map f hs) v.go v.shown v) (sym is)
+moved v f h is = ap (λ (hs : List Held). view v.root (map f hs) v.go v.shown v) (sym is)
 
 pub moved_shown : (v : View) (f : Held → Held) (h : Held) (n : ℕ) → v.held ≡ h ∷ [] → view v.root (f h ∷ []) v.go (Some n) v ≡ with_shown (with_held v (map f v.held)) n
-pub moved_shown v f h n is = ap (λ (hs : List Held). view v.root (map f hs) v.go (Some n) v) (sym is)
+moved_shown v f h n is = ap (λ (hs : List Held). view v.root (map f hs) v.go (Some n) v) (sym is)
 
 pub unmoved : (v : View) (h : Held) → v.held ≡ h ∷ [] → view v.root (h ∷ []) v.go v.shown v ≡ v
-pub unmoved v h is = ap (λ (hs : List Held). view v.root hs v.go v.shown v) (sym is)
+unmoved v h is = ap (λ (hs : List Held). view v.root hs v.go v.shown v) (sym is)
 
 pub shown_only : (v : View) (h : Held) (n : ℕ) → v.held ≡ h ∷ [] → view v.root (h ∷ []) v.go (Some n) v ≡ with_shown v n
-pub shown_only v h n is = ap (λ (hs : List Held). view v.root hs v.go (Some n) v) (sym is)
+shown_only v h n is = ap (λ (hs : List Held). view v.root hs v.go (Some n) v) (sym is)
 
 -- ---- the coordinator's word in word 0
 
 pub go_small : (go : Go) → go_weight go ≤ 4294967296
-pub go_small Pending = omega arith
-pub go_small Given = omega arith
+go_small Pending = omega arith
+go_small Given = omega arith
 go_small Cancelled = omega arith
 
 -- whether the word shows the cancel
 pub shows : (go : Go) (n x : ℕ) → x ≡ n + go_weight go → n < 65536 → ((go ≡ Cancelled) × (4294967296 ≤ x)) ⊎ ((go ≢ Cancelled) × (x < 4294967296))
-pub shows Pending n x e few = inr ((λ (e : Pending ≡ Cancelled). cc), omega arith)
-pub shows Given n x e few = inr ((λ (e : Given ≡ Cancelled). cc), omega arith)
-pub shows Cancelled n x e few = inl (refl, omega arith)
+shows Pending n x e few = inr ((λ (e : Pending ≡ Cancelled). cc), omega arith)
+shows Given n x e few = inr ((λ (e : Given ≡ Cancelled). cc), omega arith)
+shows Cancelled n x e few = inl (refl, omega arith)
 
 -- the count is full: the go is given, and each pass has added
 pub ready : (go : Go) (n x all : ℕ) → x ≡ n + go_weight go → n ≤ all → all < 65536 → x ≡ all + 1 → (go ≡ Given) × (n ≡ all)
-pub ready Pending n x all e le few is = absurd (omega arith)
-pub ready Given n x all e le few is = (refl, omega arith)
+ready Pending n x all e le few is = absurd (omega arith)
+ready Given n x all e le few is = (refl, omega arith)
 ready Cancelled n x all e le few is = absurd (omega arith)
 
 pub is_true : (x : Bool) → weight x ≡ 1 → x ≡ true
-pub is_true true e = refl
-pub is_true false e = absurd (omega arith)
+is_true true e = refl
+is_true false e = absurd (omega arith)
 
 -- ---- which event is due
 
 pub due_arrive : (t : Start) (go : Go) (ps : List Processor) (p : Processor) → p.phase ≡ Taken → go ≢ Cancelled → due (order_of t go) ps p p.phase ≡ Some Arrive
-pub due_arrive t go ps p is apart = ap (due (order_of t go) ps p) is ∙ one go apart
+due_arrive t go ps p is apart = ap (due (order_of t go) ps p) is ∙ one go apart
   where
     one : (g : Go) → g ≢ Cancelled → due (order_of t g) ps p Taken ≡ Some Arrive
     one Pending n = refl
@@ -83,17 +83,17 @@ pub due_arrive t go ps p is apart = ap (due (order_of t go) ps p) is ∙ one go 
     one Cancelled n = absurd (n refl)
 
 pub due_leave : (t : Start) (go : Go) (ps : List Processor) (p : Processor) → (p.phase ≡ Taken) ⊎ (p.phase ≡ Arrived) → go ≡ Cancelled → due (order_of t go) ps p p.phase ≡ Some Leave
-pub due_leave t go ps p (inl is) c = ap (due (order_of t go) ps p) is ∙ ap (λ (g : Go). due (order_of t g) ps p Taken) c
-pub due_leave t go ps p (inr is) c = ap (due (order_of t go) ps p) is ∙ ap (λ (g : Go). due (order_of t g) ps p Arrived) c
+due_leave t go ps p (inl is) c = ap (due (order_of t go) ps p) is ∙ ap (λ (g : Go). due (order_of t g) ps p Taken) c
+due_leave t go ps p (inr is) c = ap (due (order_of t go) ps p) is ∙ ap (λ (g : Go). due (order_of t g) ps p Arrived) c
 
 pub due_pass : (t : Start) (go : Go) (ps : List Processor) (p : Processor) → p.phase ≡ Arrived → go ≡ Given → list_all (has_arrived (order_of t go)) ps ≡ true → due (order_of t go) ps p p.phase ≡ Some Pass
-pub due_pass t go ps p is g all =
+due_pass t go ps p is g all =
     ap (due (order_of t go) ps p) is
     ∙ ap (λ (b : Bool). if is_cancelled go then Some Leave else (if b && is_given go then Some Pass else None)) all
     ∙ ap (λ (x : Go). if is_cancelled x then Some Leave else (if is_given x then Some Pass else None)) g
 
 pub due_release : (t : Start) (go : Go) (ps : List Processor) (p : Processor) → p.phase ≡ Arrived2 → list_all (has_arrived_again (order_of t go)) ps ≡ true → due (order_of t go) ps p p.phase ≡ Some Release
-pub due_release t go ps p is all = ap (due (order_of t go) ps p) is ∙ ap (λ (b : Bool). if b then Some Release else None) all
+due_release t go ps p is all = ap (due (order_of t go) ps p) is ∙ ap (λ (b : Bool). if b then Some Release else None) all
 
 under_way : (p q : Phase) → p ≡ q → IsUnderWay q → IsUnderWay p
 under_way p q e u = subst IsUnderWay (sym e) u

@@ -49,7 +49,7 @@ same_go Cancelled Cancelled n x e f = refl
 
 -- the views tell the processors, whatever the words are
 pub same_all : (key : Key) (s u : State (Unit {0}) View) (a : Meets key s) (b : Meets key u) → s.views ≡ u.views → a.all ≡ b.all
-pub same_all key s u a b same = same_lists a.all b.all (a.size ∙ sym b.size) each
+same_all key s u a b same = same_lists a.all b.all (a.size ∙ sym b.size) each
   where
     at : (z : State (Unit {0}) View) (m : Meets key z) (j : ℕ) (v : View) (i : ℕ) (h : Held) → get_elem? z.views j ≡ some v → get_elem? v.held i ≡ some h → get_elem? m.all h.number ≡ some h
     at z m j v i h e f = ((m.seats j v e).holds i h f).0
@@ -60,7 +60,7 @@ pub same_all key s u a b same = same_lists a.all b.all (a.size ∙ sym b.size) e
         subst (λ (n : ℕ). get_elem? a.all n ≡ get_elem? b.all n) x.6 (at s a x.0 x.1 x.2 x.3 x.4 x.5 ∙ sym (at u b x.0 x.1 x.2 x.3 (ap (λ (l : List View). get_elem? l x.0) (sym same) ∙ x.4) x.5))
 
 pub stands_for_one : StandsForOne
-pub stands_for_one key s a b = λ i. joined (start_of key) (alls i) (goes i) s.words
+stands_for_one key s a b = λ i. joined (start_of key) (alls i) (goes i) s.words
   where
     alls : a.all ≡ b.all
     alls = same_all key s s a b refl
@@ -85,7 +85,7 @@ all_settled goal (p ∷ ps) zero d within = record { file = refl; lines = refl; 
 all_settled goal (p ∷ ps) (suc k) d within = all_settled goal ps k d (omega arith)
 
 pub holds_where_full : HoldsWhereFull
-pub holds_where_full key s m full = one (is_over (order_of t m.go) (map cpu_of m.all)) refl
+holds_where_full key s m full = one (is_over (order_of t m.go) (map cpu_of m.all)) refl
   where
     t : Start
     t = start_of key

@@ -24,37 +24,37 @@ use Rattle.mt_machine.specs.Start.{IsBroadcast}
 
 -- the machine that the words and the views stand for
 abbrev pub machine_of : (key : Key) (s : State (Unit {0}) View) → Meets key s → Machine
-pub machine_of key s m = joined (start_of key) m.all m.go s.words
+machine_of key s m = joined (start_of key) m.all m.go s.words
 
 -- it is led to from the broadcast state, and it is one
 abbrev pub IsLedTo : Type 0
-pub IsLedTo = (key : Key) (s : State (Unit {0}) View) (m : Meets key s) → Led (broadcast (start_of key)) (machine_of key s m)
+IsLedTo = (key : Key) (s : State (Unit {0}) View) (m : Meets key s) → Led (broadcast (start_of key)) (machine_of key s m)
 
 abbrev pub StandsForOne : Type 0
-pub StandsForOne = (key : Key) (s : State (Unit {0}) View) (a b : Meets key s) → machine_of key s a ≡ machine_of key s b
+StandsForOne = (key : Key) (s : State (Unit {0}) View) (a b : Meets key s) → machine_of key s a ≡ machine_of key s b
 
 -- where the second count is full each processor has the goal's registers and holds nothing, and each word is in memory
 abbrev pub HoldsWhereFull : Type 0
-pub HoldsWhereFull =
+HoldsWhereFull =
     (key : Key) (s : State (Unit {0}) View) (m : Meets key s) → slice_index s.words 1 ≡ length key.cpus.value.items
     → All (HoldsNothing key.goal.value) (machine_of key s m).system.processors
     × ((address : ℕ) → address % 8 ≡ 0 → word_at (machine_of key s m).system.memory address ≡ now (broadcast (start_of key)).system address)
 
 -- a seat's one processor ended with one addition: this station's update is cancelled, and word 0 shows it
 abbrev pub LeftWhereCancelled : Type 0
-pub LeftWhereCancelled =
+LeftWhereCancelled =
     (key : Key) (s : State (Unit {0}) View) (m : Meets key s) (j k : ℕ) (v : View) (c : Processor) → get_elem? s.views j ≡ some v → v.held ≡ held k c true false ∷ [] → c.phase ≡ Running
     → (m.go ≡ Cancelled) × (4294967296 ≤ slice_index s.words 0)
 
 -- it ended with both: this station's go is given, and word 1 shows all
 abbrev pub ReleasedWhereFull : Type 0
-pub ReleasedWhereFull =
+ReleasedWhereFull =
     (key : Key) (s : State (Unit {0}) View) (m : Meets key s) (j k : ℕ) (v : View) (c : Processor) → get_elem? s.views j ≡ some v → v.held ≡ held k c true true ∷ [] → c.phase ≡ Running
     → (m.go ≡ Given) × (slice_index s.words 1 ≡ length key.cpus.value.items)
 
 -- a broadcast state whose era may rise is one from which a station can be gathered
 abbrev pub BroadcastBegins : Type 0
-pub BroadcastBegins =
+BroadcastBegins =
     (m : Machine) (o : Order) → IsBroadcast m o → o.from_era < 2 ^ 64 - 1
     → Begins (gathered m.system.processors m.system.memory o.goal)
 
@@ -62,32 +62,32 @@ pub BroadcastBegins =
 
 -- a station's words and views
 abbrev pub Station : Type 0
-pub Station = State (Unit {0}) View
+Station = State (Unit {0}) View
 
 -- the second state meets the rule too, and its machine is the one after this event, which was enabled, or the same machine if there is none
-pub record Follows (key : Key) (s after : Station) (m : Meets key s) (e : Option MachineEvent) : Type 0 where
+record Follows (key : Key) (s after : Station) (m : Meets key s) (e : Option MachineEvent) : Type 0 where
   pub kept : Meets key after
   pub enabled : CanFollow (machine_of key s m) e
   pub becomes : machine_of key after kept ≡ after_event (machine_of key s m) e
 
 -- a step of the seat id leaves it as `new` says, and the word i as it was found, or with k more, or with n
 abbrev pub loaded : Station → ℕ → Sat → ℕ → Station
-pub loaded s id new i = stepped s i (slice_index s.words i) id new.1 new.0 keeps
+loaded s id new i = stepped s i (slice_index s.words i) id new.1 new.0 keeps
 
 abbrev pub raised : Station → ℕ → Sat → ℕ → ℕ → Station
-pub raised s id new i k = stepped s i ((slice_index s.words i + k) % 2 ^ 64) id new.1 new.0 keeps
+raised s id new i k = stepped s i ((slice_index s.words i + k) % 2 ^ 64) id new.1 new.0 keeps
 
 abbrev pub stored : Station → ℕ → Sat → ℕ → ℕ → Station
 stored s id new i n = stepped s i n id new.1 new.0 keeps
 
 -- the seat id is so, and it is the root's, which has said nothing yet
-pub record IsAsked (s : Station) (id : ℕ) (me : Sat) : Type 0 where
+record IsAsked (s : Station) (id : ℕ) (me : Sat) : Type 0 where
   pub at : get_elem? s.views id ≡ some me.0
   pub root : me.0.root ≡ true
   pub unsaid : me.0.go ≡ Pending
 
 -- the seat id is so, and it is that of a pass with this one processor
-pub record HasPass (s : Station) (id : ℕ) (me : Sat) (h : Held) : Type 0 where
+record HasPass (s : Station) (id : ℕ) (me : Sat) (h : Held) : Type 0 where
   pub at : get_elem? s.views id ≡ some me.0
   pub holds : me.0.held ≡ h ∷ []
 
@@ -99,31 +99,31 @@ OfPass added again P =
 
 -- the root's first processor is given away: no event
 abbrev pub SplitFollows : Type 0
-pub SplitFollows =
+SplitFollows =
     (key : Key) (s : Station) (m : Meets key s) (id : ℕ) (v : View) (h : Held) (hs : List Held) → get_elem? s.views id ≡ some v → v.held ≡ h ∷ hs
     → Follows key s (record { words = s.words; homes = s.homes; views = slice_set s.views id (root_left v) ++ pass_right v ∷ [] }) m None
 
 -- a pass is taken back: no event
 abbrev pub JoinFollows : Type 0
-pub JoinFollows =
+JoinFollows =
     (key : Key) (s : Station) (m : Meets key s) (id other : ℕ) (v w : View) (h : Held) → get_elem? s.views id ≡ some v → v.root ≡ true → ¬ (other ≡ id)
     → get_elem? s.views other ≡ some w → w.held ≡ h ∷ []
     → Follows key s (record { words = s.words; homes = s.homes; views = slice_set (slice_set s.views id (both v w)) other spent }) m None
 
 -- the root's additions to word 0
 abbrev pub GoFollows : Type 0
-pub GoFollows =
+GoFollows =
     (key : Key) (s : Station) (m : Meets key s) (id : ℕ) (me new : Sat) → IsAsked s id me → Gives (step 0 0 1 0 none) me (slice_index s.words 0) new
     → Follows key s (raised s id new 0 1) m (Some Goes)
 
 abbrev pub CancelFollows : Type 0
-pub CancelFollows =
+CancelFollows =
     (key : Key) (s : Station) (m : Meets key s) (id : ℕ) (me new : Sat) → IsAsked s id me → Cancels (step 0 0 4294967296 0 none) me (slice_index s.words 0) new
     → Follows key s (raised s id new 0 4294967296) m (Some CancelsUpdate)
 
 -- an addition of a pass to word 0
 abbrev pub ArriveFollows : Type 0
-pub ArriveFollows =
+ArriveFollows =
     OfPass false false
     (λ key s m id k c me new. c.phase ≡ Taken → Arrives (step 0 0 1 0 none) me (slice_index s.words 0) new
     → (slice_index s.words 0 < 4294967296 → Follows key s (raised s id new 0 1) m (Some (Steps k Arrive)))
@@ -131,7 +131,7 @@ pub ArriveFollows =
 
 -- a load of word 0
 abbrev pub PassFollows : Type 0
-pub PassFollows =
+PassFollows =
     OfPass true false
     (λ key s m id k c me new. IsWaiting c.phase → Passes (step 0 0 0 0 none) me (slice_index s.words 0) new
     → (slice_index s.words 0 ≡ length me.0.start.cpus + 1 → Follows key s (loaded s id new 0) m (Some (Steps k Pass)))
@@ -140,12 +140,12 @@ pub PassFollows =
 
 -- the word that a store goes to, and its value: of the word of memory that the event writes back, or else of the own phase
 abbrev pub GoesTo : Start → ℕ → Processor → Option (ℕ × ℕ) → ℕ → ℕ → Type 0
-pub GoesTo t k c None i n = (i ≡ k + 2) × (n ≡ code (work t (held k c true false)).cpu.phase)
-pub GoesTo t k c (Some back) i n = (n ≡ back.1) × (j : ℕ) × (place t.ram back.0 ≡ Some j) × (i ≡ first_memory_word t + j)
+GoesTo t k c None i n = (i ≡ k + 2) × (n ≡ code (work t (held k c true false)).cpu.phase)
+GoesTo t k c (Some back) i n = (n ≡ back.1) × (j : ℕ) × (place t.ram back.0 ≡ Some j) × (i ≡ first_memory_word t + j)
 
 -- a store
 abbrev pub WorkFollows : Type 0
-pub WorkFollows =
+WorkFollows =
     OfPass true false
     (λ key s m id k c me new. (i n : ℕ) → IsTrue (is_local c.phase)
     → GoesTo me.0.start k c (written (own_event me.0.start c)) i n → Works (step 0 i n 0 none) me n new
@@ -153,14 +153,14 @@ pub WorkFollows =
 
 -- an addition to word 1
 abbrev pub ArriveAgainFollows : Type 0
-pub ArriveAgainFollows =
+ArriveAgainFollows =
     OfPass true false
     (λ key s m id k c me new. c.phase ≡ Restored → ArrivesAgain (step 0 1 1 0 none) me (slice_index s.words 1) new
     → Follows key s (raised s id new 1 1) m (Some (Steps k ArriveAgain)))
 
 -- a load of word 1
 abbrev pub ReleaseFollows : Type 0
-pub ReleaseFollows =
+ReleaseFollows =
     OfPass true true
     (λ key s m id k c me new. c.phase ≡ Arrived2 → Releases (step 0 1 0 0 none) me (slice_index s.words 1) new
     → (slice_index s.words 1 ≡ length me.0.start.cpus → Follows key s (loaded s id new 1) m (Some (Steps k Release)))

@@ -18,23 +18,23 @@ use Rattle.mt_rendezvous.specs.declared.view.View.{View}
 use Rattle.mt_rendezvous.specs.Station.{Begins, order_of, broadcast, held, joined, view, with_held}
 
 abbrev pub Sat : Type 0
-pub Sat = Me (Unit {0}) View
+Sat = Me (Unit {0}) View
 
 -- ---- one event, or none
 
 -- the machine after an event, or after none
 abbrev pub after_event : Machine → Option MachineEvent → Machine
-pub after_event m None = m
-pub after_event m (Some e) = next m e
+after_event m None = m
+after_event m (Some e) = next m e
 
 -- the event is enabled, if there is one
 abbrev pub CanFollow : Machine → Option MachineEvent → Type 0
-pub CanFollow m None = Unit {0}
-pub CanFollow m (Some e) = IsEnabled m e
+CanFollow m None = Unit {0}
+CanFollow m (Some e) = IsEnabled m e
 
 -- A step of the pass that holds h, by which word i becomes new where it was found: the words and views stood for a machine that the broadcast leads to.
 -- With the new word, and with w in place of h, they stand for the machine after this event, which was enabled, or for the same machine if there is none.
-pub record PassSteps (t : Start) (i found new : ℕ) (e : Option MachineEvent) (h w : Held) : Type 0 where
+record PassSteps (t : Start) (i found new : ℕ) (e : Option MachineEvent) (h w : Held) : Type 0 where
   pub all : List Held
   pub go : Go
   pub words : List ℕ
@@ -45,7 +45,7 @@ pub record PassSteps (t : Start) (i found new : ℕ) (e : Option MachineEvent) (
   pub becomes : joined t (slice_set all h.number w) go (slice_set words i new) ≡ after_event (joined t all go words) e
 
 -- the same of a step of the root, which leaves the processors and says `go`
-pub record Decided (t : Start) (i found new : ℕ) (e : MachineEvent) (go : Go) : Type 0 where
+record Decided (t : Start) (i found new : ℕ) (e : MachineEvent) (go : Go) : Type 0 where
   pub all : List Held
   pub words : List ℕ
   pub led : Led (broadcast t) (joined t all Pending words)
@@ -56,7 +56,7 @@ pub record Decided (t : Start) (i found new : ℕ) (e : MachineEvent) (go : Go) 
 -- ---- what a call's contract says of one processor
 
 -- the event took place: a machine that the broadcast leads to has the processor as it was, the event is enabled there, and the next machine has it as it is
-pub record Took (t : Start) (k : ℕ) (e : Event) (p q : Processor) : Type 0 where
+record Took (t : Start) (k : ℕ) (e : Event) (p q : Processor) : Type 0 where
   pub machine : Machine
   pub go : Go
   pub led : Led (broadcast t) machine
@@ -66,7 +66,7 @@ pub record Took (t : Start) (k : ℕ) (e : Event) (p q : Processor) : Type 0 whe
   pub after : slice_get (next machine (Steps k e)).system.processors k ≡ Some q
 
 -- a machine that the broadcast leads to has the processor so, and its update isn't over
-pub record Stands (t : Start) (go : Go) (k : ℕ) (p : Processor) : Type 0 where
+record Stands (t : Start) (go : Go) (k : ℕ) (p : Processor) : Type 0 where
   pub machine : Machine
   pub led : Led (broadcast t) machine
   pub order : machine.order ≡ Some (order_of t go)
@@ -80,24 +80,24 @@ Of v P = (h : Held) → v.held ≡ h ∷ [] → P h
 
 -- what each step makes of the one processor of a pass
 abbrev pub does : Start → Event → Held → Held
-pub does t e h = held h.number (own_step t.goal e h.cpu) h.added h.again
+does t e h = held h.number (own_step t.goal e h.cpu) h.added h.again
 
 abbrev pub arrive : Start → Held → Held
-pub arrive t h = held h.number (own_step t.goal Arrive h.cpu) true h.again
+arrive t h = held h.number (own_step t.goal Arrive h.cpu) true h.again
 
 -- the cancel came first
 abbrev pub late : Held → Held
-pub late h = held h.number h.cpu true h.again
+late h = held h.number h.cpu true h.again
 
 abbrev pub arrive_again : Start → Held → Held
-pub arrive_again t h = held h.number (own_step t.goal ArriveAgain h.cpu) h.added true
+arrive_again t h = held h.number (own_step t.goal ArriveAgain h.cpu) h.added true
 
 -- the event that is due for a processor between the barriers, which looks at nothing else
 abbrev pub own_event : Start → Processor → Event
-pub own_event t p = option_map_or (λ e. e) (due (order_of t Given) [] p p.phase) SetNoFill
+own_event t p = option_map_or (λ e. e) (due (order_of t Given) [] p p.phase) SetNoFill
 
 abbrev pub work : Start → Held → Held
-pub work t h = does t (own_event t h.cpu) h
+work t h = does t (own_event t h.cpu) h
 
 -- the word after an addition, and the word that a load leaves
 abbrev pub sum_word : Step (Unit {0}) → ℕ → ℕ
@@ -117,7 +117,7 @@ IsNoEvent st me found word f = Of me.0 (λ h. PassSteps me.0.start st.word found
 
 -- an addition of a pass to word 0: Arrive, or no event where the word held the cancel before. It tells besides that the processor is as it was gathered
 abbrev pub Arrives : Step (Unit {0}) → Sat → ℕ → Sat → Type 0
-pub Arrives st me found new =
+Arrives st me found new =
     (new.1 ≡ me.1)
     × Begins me.0.start
     × Of me.0 (λ h. slice_get me.0.start.cpus h.number ≡ Some h.cpu)
@@ -130,7 +130,7 @@ MayPass t h = (h.cpu.phase ≡ Arrived) × Stands t Given h.number (does t Pass 
 
 -- a load of word 0: Pass where all have arrived and go is given, Leave where it shows the cancel, else no event
 abbrev pub Passes : Step (Unit {0}) → Sat → ℕ → Sat → Type 0
-pub Passes st me found new =
+Passes st me found new =
     (new.1 ≡ me.1)
     × (found ≡ length me.0.start.cpus + 1 → Turned me new (does me.0.start Pass) × IsEvent st me found found Pass (does me.0.start Pass) × Of me.0 (MayPass me.0.start))
     × (4294967296 ≤ found → Turned me new (does me.0.start Leave) × IsEvent st me found found Leave (does me.0.start Leave) × Of me.0 (λ h. Stands me.0.start Cancelled h.number h.cpu))
@@ -138,7 +138,7 @@ pub Passes st me found new =
 
 -- a store of the own phase word, or of a word of memory: the event that is due
 abbrev pub Works : Step (Unit {0}) → Sat → ℕ → Sat → Type 0
-pub Works st me found new =
+Works st me found new =
     (new.1 ≡ me.1)
     × Turned me new (work me.0.start)
     × Of me.0 (λ h. (was : ℕ) × PassSteps me.0.start st.word was st.first (Some (Steps h.number (own_event me.0.start h.cpu))) h (work me.0.start h))
@@ -146,7 +146,7 @@ pub Works st me found new =
 
 -- an addition to word 1: ArriveAgain
 abbrev pub ArrivesAgain : Step (Unit {0}) → Sat → ℕ → Sat → Type 0
-pub ArrivesAgain st me found new =
+ArrivesAgain st me found new =
     (new.1 ≡ me.1)
     × Turned me new (arrive_again me.0.start)
     × IsEvent st me found (sum_word st found) ArriveAgain (arrive_again me.0.start)
@@ -164,14 +164,14 @@ HasFirstEra t h = h.cpu.era ≡ common_era t.cpus
 
 -- a load of word 1, which the view keeps: Release where all have arrived again, else no event
 abbrev pub Releases : Step (Unit {0}) → Sat → ℕ → Sat → Type 0
-pub Releases st me found new =
+Releases st me found new =
     (new.1 ≡ me.1)
     × (found < 65536)
     × (found ≡ length me.0.start.cpus → TurnedShown me new (does me.0.start Release) found × IsEvent st me found found Release (does me.0.start Release) × Of me.0 (HasFirstEra me.0.start))
     × (found ≢ length me.0.start.cpus → (new.0 ≡ with_shown me.0 found) × IsNoEvent st me found found (λ h. h))
 
 abbrev pub with_go : View → Go → View
-pub with_go v go = view v.root v.held go v.shown v
+with_go v go = view v.root v.held go v.shown v
 
 -- the root's additions to word 0: Go and Cancel
 abbrev pub Gives : Step (Unit {0}) → Sat → ℕ → Sat → Type 0
@@ -182,5 +182,5 @@ Cancels st me found new = (new.1 ≡ me.1) × (new.0 ≡ with_go me.0 Cancelled)
 
 -- the word of memory that an event writes
 abbrev pub written : Event → Option (ℕ × ℕ)
-pub written (WriteBack address value) = Some (address, value)
+written (WriteBack address value) = Some (address, value)
 written other = None

@@ -21,24 +21,24 @@ use Rattle.mt_rendezvous.specs.declared.view.Key.{Key}
 -- ---- the broadcast state
 
 abbrev pub order_of : Start → Go → Order
-pub order_of t go = record { goal = t.goal; from_era = common_era t.cpus; go = go }
+order_of t go = record { goal = t.goal; from_era = common_era t.cpus; go = go }
 
 abbrev pub broadcast : Start → Machine
-pub broadcast t = record { system = record { processors = t.cpus; memory = t.ram }; order = Some (order_of t Pending) }
+broadcast t = record { system = record { processors = t.cpus; memory = t.ram }; order = Some (order_of t Pending) }
 
 -- it is one: all have taken, with one era, which may rise, and the goal's kind, and the whole is sound
-pub record Begins (t : Start) : Type 0 where
+record Begins (t : Start) : Type 0 where
   pub broadcasts : IsBroadcast (broadcast t) (order_of t Pending)
   pub room : common_era t.cpus < 2 ^ 64 - 1
 
 -- ---- what the words and a list of all processors stand for
 
 abbrev pub cpu_of : Held → Processor
-pub cpu_of h = h.cpu
+cpu_of h = h.cpu
 
 -- the words of memory stand after the two counts and the phases
 abbrev pub first_memory_word : Start → ℕ
-pub first_memory_word t = length t.cpus + 2
+first_memory_word t = length t.cpus + 2
 
 abbrev pub memory_of : Start → List ℕ → Memory
 memory_of t words = record { windows = t.ram.windows; words = drop (first_memory_word t) words }
@@ -48,79 +48,79 @@ system_of t all words = record { processors = map cpu_of all; memory = memory_of
 
 -- the order is there while its update isn't over
 abbrev pub joined : Start → List Held → Go → List ℕ → Machine
-pub joined t all go words = stepped (order_of t go) (system_of t all words)
+joined t all go words = stepped (order_of t go) (system_of t all words)
 
 -- ---- views
 
 abbrev pub held : ℕ → Processor → Bool → Bool → Held
-pub held k c added again = record { number = k; cpu = c; added = added; again = again }
+held k c added again = record { number = k; cpu = c; added = added; again = again }
 
 -- the processors by their numbers
 abbrev pub numbered : ℕ → List Processor → List Held
-pub numbered k [] = []
-pub numbered k (c ∷ cs) = held k c false false ∷ numbered (k + 1) cs
+numbered k [] = []
+numbered k (c ∷ cs) = held k c false false ∷ numbered (k + 1) cs
 
 abbrev pub start_of : Key → Start
-pub start_of key = record { cpus = key.cpus.value.items; ram = key.ram.value; goal = key.goal.value }
+start_of key = record { cpus = key.cpus.value.items; ram = key.ram.value; goal = key.goal.value }
 
 abbrev pub view : Bool → List Held → Go → Option ℕ → View → View
 view root hs go shown v = record { root = root; held = hs; go = go; shown = shown; start = v.start }
 
 abbrev pub first_view : Key → View
-pub first_view key = record { root = true; held = numbered 0 key.cpus.value.items; go = Pending; shown = None; start = start_of key }
+first_view key = record { root = true; held = numbered 0 key.cpus.value.items; go = Pending; shown = None; start = start_of key }
 
 -- the same view with other processors
 abbrev pub with_held : View → List Held → View
 with_held v hs = view v.root hs v.go v.shown v
 
 abbrev pub one : List Held → List Held
-pub one [] = []
-pub one (h ∷ hs) = h ∷ []
+one [] = []
+one (h ∷ hs) = h ∷ []
 
 abbrev pub others : List Held → List Held
-pub others [] = []
-pub others (h ∷ hs) = hs
+others [] = []
+others (h ∷ hs) = hs
 
 abbrev pub root_left : View → View
-pub root_left v = with_held v (others v.held)
+root_left v = with_held v (others v.held)
 
 abbrev pub pass_right : View → View
-pub pass_right v = view false (one v.held) Pending None v
+pass_right v = view false (one v.held) Pending None v
 
 abbrev pub both : View → View → View
-pub both v w = with_held v (w.held ++ v.held)
+both v w = with_held v (w.held ++ v.held)
 
 -- a spent view stands for nothing
 abbrev pub no_file : RegisterFile
 no_file = record { width = 0; capabilities = 0; pairs = []; fixed = []; pat = 0; default_type = 0 }
 
 abbrev pub nothing : Start
-pub nothing = record { cpus = []; ram = record { windows = []; words = [] }; goal = no_file }
+nothing = record { cpus = []; ram = record { windows = []; words = [] }; goal = no_file }
 
 abbrev pub spent : View
-pub spent = record { root = false; held = []; go = Pending; shown = None; start = nothing }
+spent = record { root = false; held = []; go = Pending; shown = None; start = nothing }
 
 -- ---- the words
 
 abbrev pub weight : Bool → ℕ
-pub weight true = 1
-pub weight false = 0
+weight true = 1
+weight false = 0
 
 abbrev pub total : (Held → ℕ) → List Held → ℕ
-pub total f [] = 0
-pub total f (h ∷ hs) = f h + total f hs
+total f [] = 0
+total f (h ∷ hs) = f h + total f hs
 
 abbrev pub added_of : Held → ℕ
-pub added_of h = weight h.added
+added_of h = weight h.added
 
 abbrev pub again_of : Held → ℕ
-pub again_of h = weight h.again
+again_of h = weight h.again
 
 -- what the coordinator has added to word 0
 abbrev pub go_weight : Go → ℕ
-pub go_weight Pending = 0
-pub go_weight Given = 1
-pub go_weight Cancelled = 4294967296
+go_weight Pending = 0
+go_weight Given = 1
+go_weight Cancelled = 4294967296
 
 -- the number of a phase that an event of a processor alone leads to
 abbrev pub code : Phase → ℕ
@@ -142,22 +142,22 @@ phase_word true Running = 8
 phase_word again other = code other
 
 abbrev pub phase_word_of : Held → ℕ
-pub phase_word_of h = phase_word h.again h.cpu.phase
+phase_word_of h = phase_word h.again h.cpu.phase
 
 -- ---- the rule
 
 -- how a processor's phase and what its pass has added go together
 abbrev pub Fits : Go → Bool → Bool → Phase → Type 0
-pub Fits go added again Taken = (again ≡ false) × (added ≡ true → go ≡ Cancelled)
-pub Fits go added again Arrived = (again ≡ false) × (added ≡ true)
-pub Fits go added again Arrived2 = (again ≡ true) × (added ≡ true) × (go ≡ Given)
-pub Fits go added again Running = (added ≡ true) × (((again ≡ false) × (go ≡ Cancelled)) ⊎ ((again ≡ true) × (go ≡ Given)))
-pub Fits go added again other = (again ≡ false) × (added ≡ true) × (go ≡ Given)
+Fits go added again Taken = (again ≡ false) × (added ≡ true → go ≡ Cancelled)
+Fits go added again Arrived = (again ≡ false) × (added ≡ true)
+Fits go added again Arrived2 = (again ≡ true) × (added ≡ true) × (go ≡ Given)
+Fits go added again Running = (added ≡ true) × (((again ≡ false) × (go ≡ Cancelled)) ⊎ ((again ≡ true) × (go ≡ Given)))
+Fits go added again other = (again ≡ false) × (added ≡ true) × (go ≡ Given)
 
 -- whether its era has risen
 abbrev pub rise : Bool → Phase → ℕ
-pub rise again Running = weight again
-pub rise again other = 0
+rise again Running = weight again
+rise again other = 0
 
 -- it waits for the first barrier, or to arrive there
 abbrev pub Waits : Phase → Type 0
@@ -166,7 +166,7 @@ Waits Arrived = Unit {0}
 Waits other = ⊥
 
 -- as long as it waits it is as it was gathered, but for its phase
-pub record FitsHeld (t : Start) (go : Go) (h : Held) : Type 0 where
+record FitsHeld (t : Start) (go : Go) (h : Held) : Type 0 where
   pub first : Waits h.cpu.phase → slice_get t.cpus h.number ≡ Some (record h.cpu { phase = Taken })
   pub fits : Fits go h.added h.again h.cpu.phase
   pub era : h.cpu.era ≡ common_era t.cpus + rise h.again h.cpu.phase
@@ -176,11 +176,11 @@ NotIn k hs = (i : ℕ) (h : Held) → get_elem? hs i ≡ some h → h.number ≢
 
 -- no number twice
 abbrev pub Apart : List Held → Type 0
-pub Apart [] = Unit {0}
-pub Apart (h ∷ hs) = NotIn h.number hs × Apart hs
+Apart [] = Unit {0}
+Apart (h ∷ hs) = NotIn h.number hs × Apart hs
 
 -- what one seat knows
-pub record Sits (t : Start) (all : List Held) (go : Go) (owner : ℕ → ℕ) (j : ℕ) (v : View) : Type 0 where
+record Sits (t : Start) (all : List Held) (go : Go) (owner : ℕ → ℕ) (j : ℕ) (v : View) : Type 0 where
   pub root : v.root ≡ true → (j ≡ 0) × (v.go ≡ go)
   pub told : ((v.held ≡ []) × (v.root ≡ false)) ⊎ (v.start ≡ t)
   pub holds : (i : ℕ) (h : Held) → get_elem? v.held i ≡ some h → (get_elem? all h.number ≡ some h) × (owner h.number ≡ j)
@@ -188,10 +188,10 @@ pub record Sits (t : Start) (all : List Held) (go : Go) (owner : ℕ → ℕ) (j
 
 -- some view has the processor k
 abbrev pub IsHeld : List View → ℕ → Type 0
-pub IsHeld views k = (j : ℕ) × (v : View) × (i : ℕ) × (h : Held) × (get_elem? views j ≡ some v) × (get_elem? v.held i ≡ some h) × (h.number ≡ k)
+IsHeld views k = (j : ℕ) × (v : View) × (i : ℕ) × (h : Held) × (get_elem? views j ≡ some v) × (get_elem? v.held i ≡ some h) × (h.number ≡ k)
 
 -- the words and the views stand for one state, to which the broadcast state leads
-pub record Meets (key : Key) (s : State (Unit {0}) View) : Type 0 where
+record Meets (key : Key) (s : State (Unit {0}) View) : Type 0 where
   pub all : List Held
   pub go : Go
   pub owner : ℕ → ℕ

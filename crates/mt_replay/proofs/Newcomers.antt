@@ -17,8 +17,8 @@ use Rattle.mt_replay.specs.Transcript.{in_body, in_head}
 -- ---- in the head
 
 abbrev pub newcomers_after : Situation → ℕ → List (List ℕ) → HeadStep → Bool
-pub newcomers_after now number lines (goes_on next after) = newcomers_from number lines (in_head next after)
-pub newcomers_after now number lines (shows dump) = newcomers_of_dump now dump (newcomers_in number lines) (first_refusal dump.files)
+newcomers_after now number lines (goes_on next after) = newcomers_from number lines (in_head next after)
+newcomers_after now number lines (shows dump) = newcomers_of_dump now dump (newcomers_in number lines) (first_refusal dump.files)
 newcomers_after now number lines (offends o) = false
 
 of_step : (now : Situation) (number : ℕ) (lines : List (List ℕ)) (step : HeadStep) → newcomers_by (end_after number lines now (head_end number lines) step) ≡ newcomers_after now number lines step
@@ -28,7 +28,7 @@ of_step now number lines (offends o) = refl
 
 pub head_brings : (now : Situation) (before : List Reading) (number : ℕ) (line : List ℕ) (lines : List (List ℕ)) (step : HeadStep) → head_step now before number line ≡ step
     → newcomers_from number (line ∷ lines) (in_head now before) ≡ newcomers_after now (number + 1) lines step
-pub head_brings now before number line lines step is = of_step now (number + 1) lines (head_step now before number line) ∙ ap (newcomers_after now (number + 1) lines) is
+head_brings now before number line lines step is = of_step now (number + 1) lines (head_step now before number line) ∙ ap (newcomers_after now (number + 1) lines) is
 
 -- ---- behind the dump
 

@@ -17,25 +17,25 @@ use Rattle.mt_replay.specs.ReplayState.{ReplayState, first_state, state_after}
 use Rattle.mt_replay.specs.Transcript.{Point, in_body, in_head, transcript}
 
 abbrev pub is_newcomer : Command → Bool
-pub is_newcomer command.Up = true
-pub is_newcomer command.Join = true
+is_newcomer command.Up = true
+is_newcomer command.Join = true
 is_newcomer other = false
 
 -- ---- behind the dump
 
 abbrev pub newcomer_by : ReplayState → (ReplayState → Bool) → Result Command ScriptFault → Bool
-pub newcomer_by s rest (Err fault) = false
-pub newcomer_by s rest (Ok c) = is_newcomer c || rest (state_after s c)
+newcomer_by s rest (Err fault) = false
+newcomer_by s rest (Ok c) = is_newcomer c || rest (state_after s c)
 
 abbrev pub newcomers_in : ℕ → List (List ℕ) → ReplayState → Bool
-pub newcomers_in number [] s = false
-pub newcomers_in number (line ∷ lines) s = newcomer_by s (newcomers_in (number + 1) lines) (command_of s.now number line)
+newcomers_in number [] s = false
+newcomers_in number (line ∷ lines) s = newcomer_by s (newcomers_in (number + 1) lines) (command_of s.now number line)
 
 -- ---- up to the dump's end, and all that follow
 
 abbrev pub newcomers_of_dump : Situation → Dump → (ReplayState → Bool) → Option (ℕ × Fault) → Bool
-pub newcomers_of_dump now dump rest (Some refusal) = false
-pub newcomers_of_dump now dump rest None = rest (first_state now dump)
+newcomers_of_dump now dump rest (Some refusal) = false
+newcomers_of_dump now dump rest None = rest (first_state now dump)
 
 abbrev pub newcomers_by : HeadEnd → Bool
 newcomers_by (stays_open now before) = false
@@ -43,8 +43,8 @@ newcomers_by (has_offence o) = false
 newcomers_by (shows_dump now dump number lines) = newcomers_of_dump now dump (newcomers_in number lines) (first_refusal dump.files)
 
 abbrev pub newcomers_from : ℕ → List (List ℕ) → Point → Bool
-pub newcomers_from number lines (in_head now before) = newcomers_by (head_end number lines now before)
-pub newcomers_from number lines (in_body s) = newcomers_in number lines s
+newcomers_from number lines (in_head now before) = newcomers_by (head_end number lines now before)
+newcomers_from number lines (in_body s) = newcomers_in number lines s
 
 abbrev pub has_newcomers : List ℕ → Bool
 has_newcomers text = newcomers_from 1 (lines_of text) (in_head at_start [])
@@ -57,4 +57,4 @@ early comes so_far text = if comes then so_far ++ text else accepted_line
 
 -- the line `accepted`, or the whole transcript where a line `up` or `join` is read
 abbrev pub early_text : List ℕ → List ℕ
-pub early_text text = early (has_newcomers text) [] (transcript text).text
+early_text text = early (has_newcomers text) [] (transcript text).text

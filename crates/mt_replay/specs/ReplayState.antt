@@ -39,14 +39,14 @@ use Rattle.mt_script.specs.declared.command.Command.TheVariants as command
 use Rattle.mt_replay.specs.FirstFault.{first_fault}
 use Rattle.mt_replay.specs.Texts.{absent_line, call_fault_line, called_line, cancel_line, complete_line, done_line, full_line, go_line, joined_line, memory_line, no_line, register_line, report_text, retired_line, ruled_line, stepped_line, under_way_line, up_line}
 
-pub record ReplayState : Type 0 where
+record ReplayState : Type 0 where
   pub now : Situation
   pub machine : Machine
   pub goal : RegisterFile  -- of the section that is read, so far
 
 -- after the dump, whose files are accepted; each processor begins with its own
 abbrev pub first_state : Situation → Dump → ReplayState
-pub first_state now dump = record { now = finished now dump; machine = start_machine (files_for now.cpus dump) []; goal = first_file_of dump }
+first_state now dump = record { now = finished now dump; machine = start_machine (files_for now.cpus dump) []; goal = first_file_of dump }
 
 -- ---- accesses and control instructions
 
@@ -242,4 +242,4 @@ goal_after s (command.Register number value) = with_register s.goal number value
 goal_after s other = s.goal
 
 abbrev pub state_after : ReplayState → Command → ReplayState
-pub state_after s c = record { now = accepted s.now c; machine = machine_after s c; goal = goal_after s c }
+state_after s c = record { now = accepted s.now c; machine = machine_after s c; goal = goal_after s c }

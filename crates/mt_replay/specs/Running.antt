@@ -34,7 +34,7 @@ ReplaysAs t bytes left before after status = RunsAs t replay_told (early_text by
 
 -- what is told is the transcript
 abbrev pub Replays : List ℕ → Option (List ℕ) → Option (List ℕ) → Option (List ℕ) → Status → Type 0
-pub Replays bytes left before after status = ReplaysAs (transcript bytes) bytes left before after status
+Replays bytes left before after status = ReplaysAs (transcript bytes) bytes left before after status
 
 -- ---- between two lines
 

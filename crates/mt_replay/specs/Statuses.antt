@@ -62,7 +62,7 @@ ShowsIn dump number (line ∷ lines) now before =
     (c : Command) × (command_of now number line ≡ Ok c) × ShowsAfter dump now before (said_of number line) (ShowsIn dump (number + 1) lines) c (is_in_dump now.stage)
 
 abbrev pub ShowsDump : List ℕ → Dump → Type 0
-pub ShowsDump text dump = ShowsIn dump 1 (lines_of text) at_start []
+ShowsDump text dump = ShowsIn dump 1 (lines_of text) at_start []
 
 -- the dump isn't read to its end, whatever it might show
 abbrev pub ShowsNoDump : List ℕ → Type 0
@@ -159,7 +159,7 @@ abbrev pub emptied_now : Machine → ℕ → ℕ
 emptied_now m = now (emptied m.system (each_processor m.system))
 
 -- The machine after a whole update to the goal, and after commands since.
-pub record IsSettledAfter (s : ReplayState) (m : Machine) : Type 0 where
+record IsSettledAfter (s : ReplayState) (m : Machine) : Type 0 where
   pub era : ℕ
   pub line_is : command_text s command.End ≡ complete_line era
   pub risen : era ≡ common_era s.machine.system.processors + 1
@@ -176,7 +176,7 @@ CompleteUpdatesSettle = (s : ReplayState) → IsReplayState s → is_update s.no
 
 -- The machine after a processor was brought up and admitted, and after commands since: all processors, the newcomer among them, have
 -- the first one's registers.
-pub record IsAdmittedAfter (s : ReplayState) (m : Machine) : Type 0 where
+record IsAdmittedAfter (s : ReplayState) (m : Machine) : Type 0 where
   pub line_is : command_text s command.Join ≡ joined_line (length s.machine.system.processors)
   pub one_more : length m.system.processors ≡ length s.machine.system.processors + 1
   pub eras : All (λ p. p.era ≡ common_era s.machine.system.processors + 1) m.system.processors

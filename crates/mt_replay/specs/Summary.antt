@@ -68,4 +68,4 @@ totals text last = record {
 }
 
 abbrev pub summary : List ℕ → Totals
-pub summary source = totals (transcript source).text (last_state source)
+summary source = totals (transcript source).text (last_state source)

@@ -77,7 +77,7 @@ known_from number lines now before = told_by (λ last. told [] Done) known_in (h
 -- ---- from any line on
 
 -- in the head of a script, with the dump's lines so far, of which the last stands first, or behind the dump's end
-pub data Point : Type 0 where
+data Point : Type 0 where
   in_head : Situation → List Reading → Point
   in_body : ReplayState → Point
 
@@ -98,7 +98,7 @@ abbrev pub from_point : Point → Telling
 from_point p end number lines = told_lines end number lines p
 
 abbrev pub replay_told : Telling
-pub replay_told = from_point (in_head at_start [])
+replay_told = from_point (in_head at_start [])
 
 abbrev pub transcript : List ℕ → Told
-pub transcript text = stream.transcript replay_told text
+transcript text = stream.transcript replay_told text

@@ -17,15 +17,15 @@ use Rattle.mt_script.specs.declared.fault.Offence.TheVariants as offence
 
 -- where the lines show a dump they gave 0FEH
 pub shown_end : (place : Place) (says : List Reading) (dump : Dump) → ShownBy says dump → offence_at_end place says ≡ None
-pub shown_end place says dump shown = rw (shown_given says dump shown) refl
+shown_end place says dump shown = rw (shown_given says dump shown) refl
 
 -- where clean lines lead to no dump they gave no 0FEH
 pub none_ends : (place : Place) (before : List Reading) → IsClean before → dump_in before ≡ None → offence_at_end place (onto before []) ≡ None → ⊥
-pub none_ends place before clean led end = cc (rw (none_given before clean led) at end)
+none_ends place before clean led end = cc (rw (none_given before clean led) at end)
 
 -- clean lines that show a dump lead to it
 pub leads_to : (before : List Reading) (dump : Dump) → IsClean before → ShownBy (onto before []) dump → dump_in before ≡ Some dump
-pub leads_to before dump clean shown = by (dump_in before) refl
+leads_to before dump clean shown = by (dump_in before) refl
   where
     by : (found : Option Dump) → dump_in before ≡ found → found ≡ Some dump
     by None led = let place : Place = record { line = 1; column = 1 } in absurd (none_ends place before clean led (shown_end place (onto before []) dump shown))

@@ -23,7 +23,7 @@ use Rattle.mt_script.proofs.Sections.{one_more_distinct, one_more_known, room_fo
 -- nothing is set up at the start
 pub start_is : IsSituation at_start
 unfolding IsDistinct
-pub start_is = record { cpus = refl; has_dump = refl; dump = tt; each = tt; few = lit≤ tt; together = lit≤ tt; early = λ before. refl; distinct = tt; known = λ q member. cc member; idle = λ test. refl; settled = λ before. refl }
+start_is = record { cpus = refl; has_dump = refl; dump = tt; each = tt; few = lit≤ tt; together = lit≤ tt; early = λ before. refl; distinct = tt; known = λ q member. cc member; idle = λ test. refl; settled = λ before. refl }
 
 no_registers : (P : ℕ → Type 0) (q : ℕ) → is_member nat_eq [] q ≡ true → P q
 no_registers P q member = cc member
@@ -81,7 +81,7 @@ not_past_of_cpus : (stage : Stage) → takes_cpus stage ≡ true → is_past_dum
 not_past_of_cpus = denies takes_cpus is_past_dump refl
 
 pub not_past_in_dump : (stage : Stage) → is_in_dump stage ≡ true → is_past_dump stage ≡ false
-pub not_past_in_dump = denies is_in_dump is_past_dump refl
+not_past_in_dump = denies is_in_dump is_past_dump refl
 
 idle_commands : (stage : Stage) → takes_commands stage ≡ true → takes_registers stage ≡ false
 idle_commands = denies takes_commands takes_registers refl

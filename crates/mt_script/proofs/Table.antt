@@ -14,7 +14,7 @@ row_in_all P (entry ∷ entries) word all = by (is_word entry.0 word) (row_in_al
     by false later = later
 
 pub row_all : (P : Row → Type 0) → AllByRecursion (λ entry. P entry.1) table → (word : List ℕ) → IfSome (row_of word) P
-pub row_all P all word = row_in_all P table word all
+row_all P all word = row_in_all P table word all
 
 -- the same, where what a row has may rest on its word
 row_in_by_word : (P : Row → Type 0) (entries : List (List ℕ × Row)) (word : List ℕ) → AllByRecursion (λ entry. is_word entry.0 word ≡ true → P entry.1) entries → IfSome (row_in word entries) P

@@ -23,75 +23,75 @@ abbrev pub IsAligned : ℕ → ℕ → ℕ → Type 0
 IsAligned step limit address = (address % step ≡ 0) × (address < limit)
 
 abbrev pub Fits : Situation → Command → Type 0
-pub Fits now (command.Cpus n) = (takes_cpus now.stage ≡ true) × (1 ≤ n) × (n ≤ 16)
-pub Fits now command.Dump = takes_dump now.stage ≡ true
-pub Fits now (command.Ram base lines) = (takes_windows now.stage ≡ true) × (base % 64 ≡ 0) × (1 ≤ lines) × (lines ≤ most_lines) × (has_room now base lines ≡ true)
-pub Fits now (command.Selfsnoop k) = (takes_windows now.stage ≡ true) × (k < most_processors now)
-pub Fits now (command.Load k address) = IsFor now k × IsAligned 8 (2 ^ 48) address
-pub Fits now (command.Store k address value) = IsFor now k × IsAligned 8 (2 ^ 48) address × (value < 2 ^ 64)
-pub Fits now (command.Fence k) = IsFor now k
-pub Fits now (command.Map k address physical index global) =
+Fits now (command.Cpus n) = (takes_cpus now.stage ≡ true) × (1 ≤ n) × (n ≤ 16)
+Fits now command.Dump = takes_dump now.stage ≡ true
+Fits now (command.Ram base lines) = (takes_windows now.stage ≡ true) × (base % 64 ≡ 0) × (1 ≤ lines) × (lines ≤ most_lines) × (has_room now base lines ≡ true)
+Fits now (command.Selfsnoop k) = (takes_windows now.stage ≡ true) × (k < most_processors now)
+Fits now (command.Load k address) = IsFor now k × IsAligned 8 (2 ^ 48) address
+Fits now (command.Store k address value) = IsFor now k × IsAligned 8 (2 ^ 48) address × (value < 2 ^ 64)
+Fits now (command.Fence k) = IsFor now k
+Fits now (command.Map k address physical index global) =
     IsFor now k × IsAligned page_bytes (2 ^ 48) address × IsAligned page_bytes (address_limit (file_of now)) physical × (index ≤ 7)
-pub Fits now (command.Invlpg k address) = IsFor now k × IsAligned 1 (2 ^ 48) address
-pub Fits now (command.Cr3 k) = IsFor now k
-pub Fits now (command.Pge k on) = IsFor now k
-pub Fits now (command.Cd k on) = IsFor now k
-pub Fits now command.Update = takes_commands now.stage ≡ true
-pub Fits now command.Begin = takes_commands now.stage ≡ true
-pub Fits now command.Go = takes_commands now.stage ≡ true
-pub Fits now command.Cancel = takes_commands now.stage ≡ true
-pub Fits now command.Report = takes_commands now.stage ≡ true
-pub Fits now (command.Step k) = IsFor now k
-pub Fits now command.Up = takes_commands now.stage ≡ true
-pub Fits now command.Join = takes_commands now.stage ≡ true
-pub Fits now command.Retire = takes_commands now.stage ≡ true
-pub Fits now (command.Word address) = (takes_commands now.stage ≡ true) × IsAligned 8 (address_limit (file_of now)) address
-pub Fits now (command.Msr k msr) = IsFor now k × (is_register (file_of now) msr ≡ true)
-pub Fits now command.Blank = is_in_dump now.stage ≡ false
-pub Fits now command.DumpLine = is_in_dump now.stage ≡ true
-pub Fits now (command.Register msr value) =
+Fits now (command.Invlpg k address) = IsFor now k × IsAligned 1 (2 ^ 48) address
+Fits now (command.Cr3 k) = IsFor now k
+Fits now (command.Pge k on) = IsFor now k
+Fits now (command.Cd k on) = IsFor now k
+Fits now command.Update = takes_commands now.stage ≡ true
+Fits now command.Begin = takes_commands now.stage ≡ true
+Fits now command.Go = takes_commands now.stage ≡ true
+Fits now command.Cancel = takes_commands now.stage ≡ true
+Fits now command.Report = takes_commands now.stage ≡ true
+Fits now (command.Step k) = IsFor now k
+Fits now command.Up = takes_commands now.stage ≡ true
+Fits now command.Join = takes_commands now.stage ≡ true
+Fits now command.Retire = takes_commands now.stage ≡ true
+Fits now (command.Word address) = (takes_commands now.stage ≡ true) × IsAligned 8 (address_limit (file_of now)) address
+Fits now (command.Msr k msr) = IsFor now k × (is_register (file_of now) msr ≡ true)
+Fits now command.Blank = is_in_dump now.stage ≡ false
+Fits now command.DumpLine = is_in_dump now.stage ≡ true
+Fits now (command.Register msr value) =
     (takes_registers now.stage ≡ true) × (is_writable (file_of now) msr ≡ true) × (is_member nat_eq now.seen msr ≡ false)
-pub Fits now command.End = takes_end now.stage ≡ true
+Fits now command.End = takes_end now.stage ≡ true
 
 abbrev pub in_commands : Situation → Situation
-pub in_commands now = record now { stage = Commands }
+in_commands now = record now { stage = Commands }
 
 -- a processor may come or go
 abbrev pub in_motion : Situation → Situation
-pub in_motion now = record (in_commands now) { moving = true }
+in_motion now = record (in_commands now) { moving = true }
 
 -- a section begins, in which no register is given yet
 abbrev pub in_section_of : Stage → Situation → Situation
-pub in_section_of stage now = record now { stage = stage; seen = [] }
+in_section_of stage now = record now { stage = stage; seen = [] }
 
 abbrev pub accepted : Situation → Command → Situation
-pub accepted now (command.Cpus n) = record now { stage = NeedDump; cpus = n }
-pub accepted now command.Dump = record now { stage = InDump }
-pub accepted now (command.Ram base lines) = record now { windows = now.windows ++ (base, lines) ∷ [] }
-pub accepted now (command.Selfsnoop k) = now
-pub accepted now (command.Load k address) = in_commands now
-pub accepted now (command.Store k address value) = in_commands now
-pub accepted now (command.Fence k) = in_commands now
-pub accepted now (command.Map k address physical index global) = in_commands now
-pub accepted now (command.Invlpg k address) = in_commands now
-pub accepted now (command.Cr3 k) = in_commands now
-pub accepted now (command.Pge k on) = in_commands now
-pub accepted now (command.Cd k on) = in_commands now
-pub accepted now command.Update = in_section_of InUpdate now
-pub accepted now command.Begin = in_section_of InBegin now
-pub accepted now command.Go = in_commands now
-pub accepted now command.Cancel = in_commands now
-pub accepted now command.Report = in_commands now
-pub accepted now (command.Step k) = in_commands now
-pub accepted now command.Up = in_motion now
-pub accepted now command.Join = in_motion now
-pub accepted now command.Retire = in_motion now
-pub accepted now (command.Word address) = in_commands now
-pub accepted now (command.Msr k msr) = in_commands now
-pub accepted now command.Blank = now
-pub accepted now command.DumpLine = now
-pub accepted now (command.Register msr value) = record now { seen = now.seen ++ msr ∷ [] }
-pub accepted now command.End = in_section_of Commands now
+accepted now (command.Cpus n) = record now { stage = NeedDump; cpus = n }
+accepted now command.Dump = record now { stage = InDump }
+accepted now (command.Ram base lines) = record now { windows = now.windows ++ (base, lines) ∷ [] }
+accepted now (command.Selfsnoop k) = now
+accepted now (command.Load k address) = in_commands now
+accepted now (command.Store k address value) = in_commands now
+accepted now (command.Fence k) = in_commands now
+accepted now (command.Map k address physical index global) = in_commands now
+accepted now (command.Invlpg k address) = in_commands now
+accepted now (command.Cr3 k) = in_commands now
+accepted now (command.Pge k on) = in_commands now
+accepted now (command.Cd k on) = in_commands now
+accepted now command.Update = in_section_of InUpdate now
+accepted now command.Begin = in_section_of InBegin now
+accepted now command.Go = in_commands now
+accepted now command.Cancel = in_commands now
+accepted now command.Report = in_commands now
+accepted now (command.Step k) = in_commands now
+accepted now command.Up = in_motion now
+accepted now command.Join = in_motion now
+accepted now command.Retire = in_motion now
+accepted now (command.Word address) = in_commands now
+accepted now (command.Msr k msr) = in_commands now
+accepted now command.Blank = now
+accepted now command.DumpLine = now
+accepted now (command.Register msr value) = record now { seen = now.seen ++ msr ∷ [] }
+accepted now command.End = in_section_of Commands now
 
 abbrev pub finished : Situation → Dump → Situation
-pub finished now dump = record now { stage = Rams; dump = Some dump; seen = [] }
+finished now dump = record now { stage = Rams; dump = Some dump; seen = [] }

@@ -24,43 +24,43 @@ use Rattle.mt_script.specs.declared.fault.ScriptReason.TheVariants.{BadLine, Unk
 use Rattle.mt_script.specs.declared.fault.ScriptFault.{ScriptFault}
 
 abbrev pub Answer : Type 0
-pub Answer = Result Command ScriptFault
+Answer = Result Command ScriptFault
 
 -- what a good number leads to
 abbrev pub with : Result ℕ ScriptFault → (ℕ → Answer) → Answer
-pub with (Err fault) next = Err fault
-pub with (Ok number) next = next number
+with (Err fault) next = Err fault
+with (Ok number) next = next number
 
 -- a fault, or else another answer
 abbrev pub unless : Option ScriptFault → Answer → Answer
-pub unless (Some fault) answer = Err fault
-pub unless None answer = answer
+unless (Some fault) answer = Err fault
+unless None answer = answer
 
 -- The numbers of a line of each verb, from left to right, and the command that it asks for.
 abbrev pub cpus_in : ℕ → List (ℕ × List ℕ) → Answer
-pub cpus_in line words = with (count_in line words 1 1 16) (λ n. Ok (command.Cpus n))
+cpus_in line words = with (count_in line words 1 1 16) (λ n. Ok (command.Cpus n))
 
 abbrev pub ram_in : Situation → ℕ → List (ℕ × List ℕ) → Answer
-pub ram_in now line words =
+ram_in now line words =
     with (base_in line words 1) (λ base.
     with (count_in line words 2 1 most_lines) (λ lines.
     if has_room now base lines then Ok (command.Ram base lines) else Err (fault_at OutOfRange (place_of line words 2))))
 
 abbrev pub load_in : Situation → ℕ → List (ℕ × List ℕ) → Answer
-pub load_in now line words =
+load_in now line words =
     with (processor_in now line words 1) (λ k.
     with (virtual_in line words 2 8) (λ address.
     Ok (command.Load k address)))
 
 abbrev pub store_in : Situation → ℕ → List (ℕ × List ℕ) → Answer
-pub store_in now line words =
+store_in now line words =
     with (processor_in now line words 1) (λ k.
     with (virtual_in line words 2 8) (λ address.
     with (value_in line words 3) (λ value.
     Ok (command.Store k address value))))
 
 abbrev pub map_in : Situation → ℕ → List (ℕ × List ℕ) → Answer
-pub map_in now line words =
+map_in now line words =
     with (processor_in now line words 1) (λ k.
     with (virtual_in line words 2 page_bytes) (λ address.
     with (physical_in now line words 3 page_bytes) (λ physical.
@@ -68,23 +68,23 @@ pub map_in now line words =
     Ok (command.Map k address physical index (is_word (codes "global") (text_of words 5)))))))
 
 abbrev pub invlpg_in : Situation → ℕ → List (ℕ × List ℕ) → Answer
-pub invlpg_in now line words =
+invlpg_in now line words =
     with (processor_in now line words 1) (λ k.
     with (virtual_in line words 2 1) (λ address.
     Ok (command.Invlpg k address)))
 
 abbrev pub switch_in : (ℕ → Bool → Command) → Situation → ℕ → List (ℕ × List ℕ) → Answer
-pub switch_in make now line words = with (processor_in now line words 1) (λ k. Ok (make k (is_word (codes "on") (text_of words 2))))
+switch_in make now line words = with (processor_in now line words 1) (λ k. Ok (make k (is_word (codes "on") (text_of words 2))))
 
 abbrev pub msr_in : Situation → ℕ → List (ℕ × List ℕ) → Answer
-pub msr_in now line words =
+msr_in now line words =
     with (processor_in now line words 1) (λ k.
     with (register_in now line words 2) (λ register.
     Ok (command.Msr k register)))
 
 abbrev pub verb_answer : Situation → ℕ → List (ℕ × List ℕ) → Verb → Answer
-pub verb_answer now line words verb.Cpus = cpus_in line words
-pub verb_answer now line words verb.Dump = Ok command.Dump
+verb_answer now line words verb.Cpus = cpus_in line words
+verb_answer now line words verb.Dump = Ok command.Dump
 verb_answer now line words verb.Ram = ram_in now line words
 verb_answer now line words verb.Selfsnoop = with (processor_in now line words 1) (λ k. Ok (command.Selfsnoop k))
 verb_answer now line words verb.Load = load_in now line words
@@ -109,14 +109,14 @@ verb_answer now line words verb.Msr = msr_in now line words
 
 -- a line of a row: its words, its stage, its numbers
 abbrev pub row_line : Situation → ℕ → List (ℕ × List ℕ) → Option Row → Answer
-pub row_line now line words None = Err (fault_at BadLine (place_of line words 0))
-pub row_line now line words (Some row) =
+row_line now line words None = Err (fault_at BadLine (place_of line words 0))
+row_line now line words (Some row) =
     unless (shape_fault line words row)
     (if stands row.turn now.stage then verb_answer now line words row.verb else Err (fault_at NotNow (place_of line words 0)))
 
 -- a line outside the sections
 abbrev pub outside : Situation → ℕ → List (ℕ × List ℕ) → Answer
-pub outside now line words =
+outside now line words =
     if length words == 0 then Ok command.Blank
     else row_line now line words (row_of (text_of words 0))
 
@@ -136,11 +136,11 @@ register_line now line words =
 
 -- the only word is `end`
 abbrev pub is_end : List (ℕ × List ℕ) → Bool
-pub is_end words = if length words == 1 then is_word (codes "end") (text_of words 0) else false
+is_end words = if length words == 1 then is_word (codes "end") (text_of words 0) else false
 
 -- a line of a section of `update` or `begin`
 abbrev pub in_section : Situation → ℕ → List (ℕ × List ℕ) → Answer
-pub in_section now line words =
+in_section now line words =
     if length words == 0 then Ok command.Blank
     else if is_end words then Ok command.End
     else if length words == 1 then Err (fault_at BadLine (place_of line words 0))
@@ -149,23 +149,23 @@ pub in_section now line words =
 
 -- a line of the dump, which has no fault here
 abbrev pub in_dump : List ℕ → Answer
-pub in_dump bytes = if is_too_long bytes then Ok command.DumpLine else if is_end (words_of bytes) then Ok command.End else Ok command.DumpLine
+in_dump bytes = if is_too_long bytes then Ok command.DumpLine else if is_end (words_of bytes) then Ok command.End else Ok command.DumpLine
 
 -- a line that isn't one of the dump
 abbrev pub not_too_long : ℕ → List ℕ → Answer → Answer
-pub not_too_long line bytes answer = if is_too_long bytes then Err (fault_at BadLine (past_limit line)) else answer
+not_too_long line bytes answer = if is_too_long bytes then Err (fault_at BadLine (past_limit line)) else answer
 
 abbrev pub in_stage : Situation → ℕ → List ℕ → Stage → Answer
-pub in_stage now line bytes InDump = in_dump bytes
-pub in_stage now line bytes InUpdate = not_too_long line bytes (in_section now line (words_of bytes))
-pub in_stage now line bytes InBegin = not_too_long line bytes (in_section now line (words_of bytes))
-pub in_stage now line bytes NeedCpus = not_too_long line bytes (outside now line (words_of bytes))
+in_stage now line bytes InDump = in_dump bytes
+in_stage now line bytes InUpdate = not_too_long line bytes (in_section now line (words_of bytes))
+in_stage now line bytes InBegin = not_too_long line bytes (in_section now line (words_of bytes))
+in_stage now line bytes NeedCpus = not_too_long line bytes (outside now line (words_of bytes))
 in_stage now line bytes NeedDump = not_too_long line bytes (outside now line (words_of bytes))
 in_stage now line bytes Rams = not_too_long line bytes (outside now line (words_of bytes))
 in_stage now line bytes Commands = not_too_long line bytes (outside now line (words_of bytes))
 
 abbrev pub command_of : Situation → ℕ → List ℕ → Answer
-pub command_of now line bytes = in_stage now line bytes now.stage
+command_of now line bytes = in_stage now line bytes now.stage
 
 abbrev pub end_fault : Stage → Place → Option ScriptFault
-pub end_fault stage place = if takes_commands stage then None else Some (fault_at NoEnd place)
+end_fault stage place = if takes_commands stage then None else Some (fault_at NoEnd place)

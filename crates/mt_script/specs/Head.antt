@@ -25,7 +25,7 @@ use Rattle.mt_script.specs.declared.fault.Offence.{Offence}
 use Rattle.mt_script.specs.declared.fault.Offence.TheVariants as offence
 
 -- The text goes on from a situation and lines of the dump, or the dump ends and is shown, or the line has an offence.
-pub data HeadStep : Type 0 where
+data HeadStep : Type 0 where
   goes_on : Situation → List Reading → HeadStep
   shows : Dump → HeadStep
   offends : Offence → HeadStep
@@ -34,38 +34,38 @@ pub data HeadStep : Type 0 where
 
 -- the number of sections of a dump of version 2 isn't that of the processors
 abbrev pub sections_offence : ℕ → Place → Option Dump → Option Offence
-pub sections_offence cpus place None = None
-pub sections_offence cpus place (Some dump) = if has_each cpus dump then None else Some (offence.Script (fault_at OutOfRange place))
+sections_offence cpus place None = None
+sections_offence cpus place (Some dump) = if has_each cpus dump then None else Some (offence.Script (fault_at OutOfRange place))
 
 abbrev pub or_sections : Option DumpFault → Option Offence → Option Offence
-pub or_sections (Some fault) other = Some (offence.Dump fault)
-pub or_sections None other = other
+or_sections (Some fault) other = Some (offence.Dump fault)
+or_sections None other = other
 
 -- 0FEH must have been given; then the sections are counted
 abbrev pub end_offence : Situation → Place → List Reading → Option Offence
-pub end_offence now place before = or_sections (offence_at_end place (onto before [])) (sections_offence now.cpus place (dump_in before))
+end_offence now place before = or_sections (offence_at_end place (onto before [])) (sections_offence now.cpus place (dump_in before))
 
 -- ---- a line
 
 abbrev pub step_unless : Option Offence → HeadStep → HeadStep
-pub step_unless (Some o) step = offends o
-pub step_unless None step = step
+step_unless (Some o) step = offends o
+step_unless None step = step
 
 -- The dump's end has no offence: its lines then show a dump.
 abbrev pub step_shown : Situation → List Reading → Option Dump → HeadStep
-pub step_shown now before None = goes_on now before
-pub step_shown now before (Some dump) = shows dump
+step_shown now before None = goes_on now before
+step_shown now before (Some dump) = shows dump
 
 -- a line of the dump, which ends it where the last argument is true
 abbrev pub step_in_dump : Situation → List Reading → ℕ → List ℕ → Bool → HeadStep
-pub step_in_dump now before number line true =
+step_in_dump now before number line true =
     step_unless (end_offence now (place_of number (words_of line) 0) before) (step_shown now before (dump_in before))
-pub step_in_dump now before number line false =
+step_in_dump now before number line false =
     step_unless (option_map offence.Dump (offence_of before (said_of number line))) (goes_on now (said_of number line ∷ before))
 
 -- the line's only word is `end`, and it isn't too long
 abbrev pub ends_dump : List ℕ → Bool
-pub ends_dump line = if is_too_long line then false else is_end (words_of line)
+ends_dump line = if is_too_long line then false else is_end (words_of line)
 
 -- a line of the dump
 abbrev pub dump_step : Situation → List Reading → ℕ → List ℕ → HeadStep
@@ -73,12 +73,12 @@ dump_step now before number line = step_in_dump now before number line (ends_dum
 
 -- the command ends a section
 abbrev pub is_end_command : Command → Bool
-pub is_end_command (command.Cpus n) = false
-pub is_end_command command.Dump = false
-pub is_end_command (command.Ram base lines) = false
-pub is_end_command (command.Selfsnoop k) = false
-pub is_end_command (command.Load k address) = false
-pub is_end_command (command.Store k address value) = false
+is_end_command (command.Cpus n) = false
+is_end_command command.Dump = false
+is_end_command (command.Ram base lines) = false
+is_end_command (command.Selfsnoop k) = false
+is_end_command (command.Load k address) = false
+is_end_command (command.Store k address value) = false
 is_end_command (command.Fence k) = false
 is_end_command (command.Map k address physical index global) = false
 is_end_command (command.Invlpg k address) = false
@@ -102,15 +102,15 @@ is_end_command (command.Register msr value) = false
 is_end_command command.End = true
 
 abbrev pub step_of_command : Situation → List Reading → ℕ → List ℕ → Command → Bool → HeadStep
-pub step_of_command now before number line c true = step_in_dump now before number line (is_end_command c)
-pub step_of_command now before number line c false = goes_on (accepted now c) before
+step_of_command now before number line c true = step_in_dump now before number line (is_end_command c)
+step_of_command now before number line c false = goes_on (accepted now c) before
 
 abbrev pub step_of_answer : Situation → List Reading → ℕ → List ℕ → Result Command ScriptFault → HeadStep
-pub step_of_answer now before number line (Err fault) = offends (offence.Script fault)
-pub step_of_answer now before number line (Ok c) = step_of_command now before number line c (is_in_dump now.stage)
+step_of_answer now before number line (Err fault) = offends (offence.Script fault)
+step_of_answer now before number line (Ok c) = step_of_command now before number line c (is_in_dump now.stage)
 
 abbrev pub head_step : Situation → List Reading → ℕ → List ℕ → HeadStep
-pub head_step now before number line = step_of_answer now before number line (command_of now number line)
+head_step now before number line = step_of_answer now before number line (command_of now number line)
 
 -- ---- a reader
 

@@ -11,7 +11,7 @@ abbrev pub begins_newcomer : List ℕ → Bool
 begins_newcomer word = is_word (codes "up") word || is_word (codes "join") word
 
 abbrev pub brings_up : List ℕ → Bool
-pub brings_up line = begins_newcomer (text_of (words_of line) 0)
+brings_up line = begins_newcomer (text_of (words_of line) 0)
 
 abbrev pub IsWithoutNewcomers : List ℕ → Type 0
-pub IsWithoutNewcomers text = All (λ line. brings_up line ≡ false) (lines_of text)
+IsWithoutNewcomers text = All (λ line. brings_up line ≡ false) (lines_of text)

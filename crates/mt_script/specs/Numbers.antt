@@ -15,74 +15,74 @@ use Rattle.mt_script.specs.declared.fault.ScriptReason.TheVariants.{BadNumber, U
 use Rattle.mt_script.specs.declared.fault.ScriptFault.{ScriptFault}
 
 abbrev pub fault_at : ScriptReason → Place → ScriptFault
-pub fault_at reason place = record { reason = reason; place = place }
+fault_at reason place = record { reason = reason; place = place }
 
 -- a number that is tested, at the place of its word
 abbrev pub tested : Bool → ScriptReason → Place → ℕ → Result ℕ ScriptFault
-pub tested good reason place number = if good then Ok number else Err (fault_at reason place)
+tested good reason place number = if good then Ok number else Err (fault_at reason place)
 
 -- a decimal number that is at least this
 abbrev pub at_least : ℕ → Place → Result ℕ NumberFault → Result ℕ ScriptFault
-pub at_least first place (Err NotDigit) = Err (fault_at BadNumber place)
-pub at_least first place (Err TooLarge) = Err (fault_at OutOfRange place)
+at_least first place (Err NotDigit) = Err (fault_at BadNumber place)
+at_least first place (Err TooLarge) = Err (fault_at OutOfRange place)
 at_least first place (Ok number) = tested (nat_le first number) OutOfRange place number
 
 -- a decimal number that is below this
 abbrev pub below : ℕ → Place → Result ℕ NumberFault → Result ℕ ScriptFault
-pub below limit place (Err NotDigit) = Err (fault_at BadNumber place)
-pub below limit place (Err TooLarge) = Err (fault_at OutOfRange place)
+below limit place (Err NotDigit) = Err (fault_at BadNumber place)
+below limit place (Err TooLarge) = Err (fault_at OutOfRange place)
 below limit place (Ok number) = tested (nat_lt number limit) OutOfRange place number
 
 -- a hexadecimal number
 abbrev pub any : Place → Result ℕ NumberFault → Result ℕ ScriptFault
-pub any place (Err fault) = Err (fault_at BadNumber place)
-pub any place (Ok number) = Ok number
+any place (Err fault) = Err (fault_at BadNumber place)
+any place (Ok number) = Ok number
 
 -- a hexadecimal number that is a multiple of a step and below a limit
 abbrev pub aligned : ℕ → ℕ → Place → Result ℕ NumberFault → Result ℕ ScriptFault
-pub aligned step limit place (Err fault) = Err (fault_at BadNumber place)
-pub aligned step limit place (Ok number) = tested (number % step == 0 && nat_lt number limit) OutOfRange place number
+aligned step limit place (Err fault) = Err (fault_at BadNumber place)
+aligned step limit place (Ok number) = tested (number % step == 0 && nat_lt number limit) OutOfRange place number
 
 -- a hexadecimal number that is a multiple of a step
 abbrev pub multiple : ℕ → Place → Result ℕ NumberFault → Result ℕ ScriptFault
-pub multiple step place (Err fault) = Err (fault_at BadNumber place)
-pub multiple step place (Ok number) = tested (number % step == 0) OutOfRange place number
+multiple step place (Err fault) = Err (fault_at BadNumber place)
+multiple step place (Ok number) = tested (number % step == 0) OutOfRange place number
 
 -- how many bytes of addresses there are, once the dump has told it
 abbrev pub address_limit : Option RegisterFile → ℕ
-pub address_limit None = 0
-pub address_limit (Some file) = 2 ^ file.width
+address_limit None = 0
+address_limit (Some file) = 2 ^ file.width
 
 -- 0FEH or a writable register
 abbrev pub is_register : Option RegisterFile → ℕ → Bool
-pub is_register None number = false
-pub is_register (Some file) number = is_some (value_at file number)
+is_register None number = false
+is_register (Some file) number = is_some (value_at file number)
 
 -- a register of the file other than 0FEH
 abbrev pub is_writable : Option RegisterFile → ℕ → Bool
-pub is_writable file number = not (number == 0xfe) && is_register file number
+is_writable file number = not (number == 0xfe) && is_register file number
 
 -- a hexadecimal number of a register
 abbrev pub register : Option RegisterFile → Place → Result ℕ NumberFault → Result ℕ ScriptFault
-pub register file place (Err fault) = Err (fault_at BadNumber place)
-pub register file place (Ok number) = tested (is_register file number) UnknownRegister place number
+register file place (Err fault) = Err (fault_at BadNumber place)
+register file place (Ok number) = tested (is_register file number) UnknownRegister place number
 
 -- The numbers of a line of this number with these words, each by the number of its word.
 
 -- a decimal number from first to last
 abbrev pub count_in : ℕ → List (ℕ × List ℕ) → ℕ → ℕ → ℕ → Result ℕ ScriptFault
-pub count_in line words i first last = at_least first (place_of line words i) (decimal_number (text_of words i) last)
+count_in line words i first last = at_least first (place_of line words i) (decimal_number (text_of words i) last)
 
 -- the number of a processor
 abbrev pub processor_in : Situation → ℕ → List (ℕ × List ℕ) → ℕ → Result ℕ ScriptFault
-pub processor_in now line words i = below (most_processors now) (place_of line words i) (decimal_number (text_of words i) 0xffffffffffffffff)
+processor_in now line words i = below (most_processors now) (place_of line words i) (decimal_number (text_of words i) 0xffffffffffffffff)
 
 abbrev pub value_in : ℕ → List (ℕ × List ℕ) → ℕ → Result ℕ ScriptFault
-pub value_in line words i = any (place_of line words i) (hex_number (text_of words i))
+value_in line words i = any (place_of line words i) (hex_number (text_of words i))
 
 -- a multiple of a step below a limit
 abbrev pub aligned_in : ℕ → List (ℕ × List ℕ) → ℕ → ℕ → ℕ → Result ℕ ScriptFault
-pub aligned_in line words i step limit = aligned step limit (place_of line words i) (hex_number (text_of words i))
+aligned_in line words i step limit = aligned step limit (place_of line words i) (hex_number (text_of words i))
 
 -- a virtual address
 abbrev pub virtual_in : ℕ → List (ℕ × List ℕ) → ℕ → ℕ → Result ℕ ScriptFault
@@ -90,27 +90,27 @@ virtual_in line words i step = aligned_in line words i step (2 ^ 48)
 
 -- a physical address
 abbrev pub physical_in : Situation → ℕ → List (ℕ × List ℕ) → ℕ → ℕ → Result ℕ ScriptFault
-pub physical_in now line words i step = aligned_in line words i step (address_limit (file_of now))
+physical_in now line words i step = aligned_in line words i step (address_limit (file_of now))
 
 abbrev pub register_in : Situation → ℕ → List (ℕ × List ℕ) → ℕ → Result ℕ ScriptFault
-pub register_in now line words i = register (file_of now) (place_of line words i) (hex_number (text_of words i))
+register_in now line words i = register (file_of now) (place_of line words i) (hex_number (text_of words i))
 
 -- the base of a window
 abbrev pub base_in : ℕ → List (ℕ × List ℕ) → ℕ → Result ℕ ScriptFault
-pub base_in line words i = multiple 64 (place_of line words i) (hex_number (text_of words i))
+base_in line words i = multiple 64 (place_of line words i) (hex_number (text_of words i))
 
 -- two windows share no byte
 abbrev pub are_apart : ℕ → ℕ → ℕ × ℕ → Bool
-pub are_apart base lines window = nat_le (base + 64 * lines) window.0 || nat_le (window.0 + 64 * window.1) base
+are_apart base lines window = nat_le (base + 64 * lines) window.0 || nat_le (window.0 + 64 * window.1) base
 
 -- the lines of windows together
 abbrev pub lines_together : List (ℕ × ℕ) → ℕ
-pub lines_together [] = 0
-pub lines_together (window ∷ windows) = window.1 + lines_together windows
+lines_together [] = 0
+lines_together (window ∷ windows) = window.1 + lines_together windows
 
 -- a window may be added
 abbrev pub has_room : Situation → ℕ → ℕ → Bool
-pub has_room now base lines =
+has_room now base lines =
     nat_le (base + 64 * lines) (address_limit (file_of now))
     && list_all (are_apart base lines) now.windows
     && nat_lt (length now.windows) 16

@@ -55,11 +55,11 @@ row_in word [] = None
 row_in word (entry ∷ entries) = if is_word entry.0 word then Some entry.1 else row_in word entries
 
 abbrev pub row_of : List ℕ → Option Row
-pub row_of word = row_in word table
+row_of word = row_in word table
 
 abbrev pub stands : Turn → Stage → Bool
-pub stands Cpus stage = takes_cpus stage
-pub stands Dump stage = takes_dump stage
+stands Cpus stage = takes_cpus stage
+stands Dump stage = takes_dump stage
 stands Windows stage = takes_windows stage
 stands Commands stage = takes_commands stage
 
@@ -69,6 +69,6 @@ is_switch word = is_word (codes "on") word || is_word (codes "off") word
 
 -- a word may stand last
 abbrev pub fits : Last → List ℕ → Bool
-pub fits Any word = true
-pub fits Global word = is_word (codes "global") word
+fits Any word = true
+fits Global word = is_word (codes "global") word
 fits Switch word = is_switch word

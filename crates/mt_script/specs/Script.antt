@@ -21,46 +21,46 @@ use Rattle.mt_script.specs.declared.fault.Offence.TheVariants.{Script}
 
 -- What the rest of a text leads to, by the situation and the dump's lines so far, of which the last stands first.
 abbrev pub Rest : Type 0
-pub Rest = Situation → List Reading → Option Offence
+Rest = Situation → List Reading → Option Offence
 
 -- from a step on
 abbrev pub offence_after : Situation → Rest → HeadStep → Option Offence
-pub offence_after now rest (goes_on next after) = rest next after
-pub offence_after now rest (shows dump) = rest (finished now dump) []
-pub offence_after now rest (offends o) = Some o
+offence_after now rest (goes_on next after) = rest next after
+offence_after now rest (shows dump) = rest (finished now dump) []
+offence_after now rest (offends o) = Some o
 
 -- a line's offence, or else the first of the lines behind it, which the rest answers
 abbrev pub offence_from : Situation → List Reading → ℕ → List ℕ → Rest → Option Offence
 offence_from now before number line rest = offence_after now rest (head_step now before number line)
 
 abbrev pub at_end : Option ScriptFault → Option Offence
-pub at_end None = None
-pub at_end (Some fault) = Some (Script fault)
+at_end None = None
+at_end (Some fault) = Some (Script fault)
 
 -- the first offence of lines, the first of which has this number, where the text ends at this place
 abbrev pub offence_in : Place → ℕ → List (List ℕ) → Rest
-pub offence_in end number [] now before = at_end (end_fault now.stage end)
-pub offence_in end number (line ∷ lines) now before =
+offence_in end number [] now before = at_end (end_fault now.stage end)
+offence_in end number (line ∷ lines) now before =
     offence_from now before number line (offence_in end (number + 1) lines)
 
 abbrev pub script_offence : List ℕ → Option Offence
-pub script_offence text = offence_in (end_of text) 1 (lines_of text) at_start []
+script_offence text = offence_in (end_of text) 1 (lines_of text) at_start []
 
 -- A line of the dump has no offence after those before it. The end of the dump comes where its lines show a dump with a file for each
 -- processor, or in version 1 one for all.
 abbrev pub GoesOn : Situation → List Reading → Reading → (Situation → List Reading → Type 0) → Bool → Type 0
-pub GoesOn now before says rest true = (dump : Dump) × ShownBy (onto before []) dump × (has_each now.cpus dump ≡ true) × rest (finished now dump) []
-pub GoesOn now before says rest false = (offence_of before says ≡ None) × rest now (says ∷ before)
+GoesOn now before says rest true = (dump : Dump) × ShownBy (onto before []) dump × (has_each now.cpus dump ≡ true) × rest (finished now dump) []
+GoesOn now before says rest false = (offence_of before says ≡ None) × rest now (says ∷ before)
 
 abbrev pub Follows : Situation → List Reading → Reading → (Situation → List Reading → Type 0) → Command → Bool → Type 0
-pub Follows now before says rest c true = GoesOn now before says rest (is_end_command c)
-pub Follows now before says rest c false = rest (accepted now c) before
+Follows now before says rest c true = GoesOn now before says rest (is_end_command c)
+Follows now before says rest c false = rest (accepted now c) before
 
 -- each of these lines is accepted in its turn, and the text may end after them
 abbrev pub AreGood : ℕ → List (List ℕ) → Situation → List Reading → Type 0
-pub AreGood number [] now before = takes_commands now.stage ≡ true
-pub AreGood number (line ∷ lines) now before =
+AreGood number [] now before = takes_commands now.stage ≡ true
+AreGood number (line ∷ lines) now before =
     (c : Command) × (command_of now number line ≡ Ok c) × Follows now before (said_of number line) (AreGood (number + 1) lines) c (is_in_dump now.stage)
 
 abbrev pub IsGoodScript : List ℕ → Type 0
-pub IsGoodScript text = AreGood 1 (lines_of text) at_start []
+IsGoodScript text = AreGood 1 (lines_of text) at_start []

@@ -9,10 +9,10 @@ use Rattle.mt_script.specs.declared.fault.ScriptFault.{ScriptFault}
 use Rattle.mt_script.specs.declared.row.Row.{Row}
 
 abbrev pub bad_line : ℕ → List (ℕ × List ℕ) → ℕ → Option ScriptFault
-pub bad_line line words i = Some (fault_at BadLine (place_of line words i))
+bad_line line words i = Some (fault_at BadLine (place_of line words i))
 
 abbrev pub shape_fault : ℕ → List (ℕ × List ℕ) → Row → Option ScriptFault
-pub shape_fault line words row =
+shape_fault line words row =
     if nat_lt (length words) row.least then bad_line line words (length words - 1)
     else if nat_lt row.most (length words) then bad_line line words row.most
     else if length words == row.most && not (fits row.last (text_of words (row.most - 1))) then bad_line line words (row.most - 1)

@@ -8,7 +8,7 @@ use Rattle.mt_dump.specs.Dumps.{Dump, first_file}
 use Rattle.mt_script.specs.declared.command.Stage.{Stage}
 use Rattle.mt_script.specs.declared.command.Stage.TheVariants.{NeedCpus}
 
-pub record Situation : Type 0 where
+record Situation : Type 0 where
   pub stage : Stage  -- which lines may stand next
   pub cpus : ℕ  -- how many processors there are at the start, 0 before they are told
   pub dump : Option Dump  -- the dump, once it is finished
@@ -17,11 +17,11 @@ pub record Situation : Type 0 where
   pub moving : Bool  -- an `up`, `join` or `retire` line was accepted, so that processors may have come or gone
 
 abbrev pub at_start : Situation
-pub at_start = record { stage = NeedCpus; cpus = 0; dump = None; windows = []; seen = []; moving = false }
+at_start = record { stage = NeedCpus; cpus = 0; dump = None; windows = []; seen = []; moving = false }
 
 abbrev pub file_of : Situation → Option RegisterFile
-pub file_of now = option_map first_file now.dump
+file_of now = option_map first_file now.dump
 
 -- Those told at the start, or the most there may ever be where some may have come or gone: whether one of these is there is known to a run alone.
 abbrev pub most_processors : Situation → ℕ
-pub most_processors now = if now.moving then 16 else now.cpus
+most_processors now = if now.moving then 16 else now.cpus

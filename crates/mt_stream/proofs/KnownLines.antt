@@ -89,12 +89,12 @@ front_of_both a b t p q = subst (λ x. IsFrontOf x b) (sym p) (subst (IsFrontOf 
 
 -- A line leads on to another point behind a text, or what is told ends with it.
 abbrev pub LeadsOn : {P : Type 0} → (P → Telling) → (P → Type 0) → P → ℕ → List ℕ → Type 0
-pub LeadsOn {P} tell sound p number line =
+LeadsOn {P} tell sound p number line =
     ((text : List ℕ) × (next : P) × sound next × ((end : Option Place) (lines : List (List ℕ)) → tell p end number (line ∷ lines) ≡ behind text (tell next end (number + 1) lines)))
     ⊎ ((last : Told) × ((end : Option Place) (lines : List (List ℕ)) → tell p end number (line ∷ lines) ≡ last))
 
 -- what lines tell from each point on goes line by line
-pub record Walks {P : Type 0} (tell : P → Telling) (sound : P → Type 0) : Type 0 where
+record Walks {P : Type 0} (tell : P → Telling) (sound : P → Type 0) : Type 0 where
   pub unknown : (p : P) (number : ℕ) → tell p None number [] ≡ told [] Done
   pub leads : (p : P) (number : ℕ) (line : List ℕ) → sound p → LeadsOn tell sound p number line
   pub long : (p : P) (number : ℕ) → sound p → IsLongTold (tell p) number
@@ -121,7 +121,7 @@ module _ (P : Type 0) (tell : P → Telling) (sound : P → Type 0) (walks : Wal
 -- ---- by steps
 
 -- each step tells a line too long as one offence, whatever its bytes are
-pub record TellsLong {P : Type 0} (step : Step P) (offence : ℕ → P → Told) : Type 0 where
+record TellsLong {P : Type 0} (step : Step P) (offence : ℕ → P → Told) : Type 0 where
   pub long : (number : ℕ) (line : List ℕ) (p : P) → 4096 < length line → step number line p ≡ Err (offence number p)
   pub bad : (number : ℕ) (p : P) → (offence number p).status ≡ BadText
 

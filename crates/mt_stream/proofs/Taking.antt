@@ -17,11 +17,11 @@ use Rattle.mt_stream.specs.Told.{Telling, Told, told}
 pub takes_last : (R : Running) (from : Leading) (number : ℕ) (so_far : List ℕ) (now : R.Run) (text waiting left : List ℕ) (status : Status) (a b : Option (List ℕ)) (result : Result (Option Status) Failed)
     → ((end : Option Place) (lines : List (List ℕ)) → (from end lines).tells ≡ told text status) → (status ≡ Refused) ⊎ (status ≡ BadText) → Adds waiting text left a b result → IfOk result (λ ended. ended ≡ Some status)
     → Takes R from number so_far now waiting left a b result
-pub takes_last R from number so_far now text waiting left status a b (Ok None) stops one adds is = absurd (cc is)
-pub takes_last R from number so_far now text waiting left status a b (Ok (Some answer)) stops one adds is =
+takes_last R from number so_far now text waiting left status a b (Ok None) stops one adds is = absurd (cc is)
+takes_last R from number so_far now text waiting left status a b (Ok (Some answer)) stops one adds is =
     let same : answer ≡ status = cc is in
     inl (record { telling = told text status; stops = stops; status_is = same; last = subst (λ (s : Status). (s ≡ Refused) ⊎ (s ≡ BadText)) (sym same) one; passed = adds })
-pub takes_last R from number so_far now text waiting left status a b (Err failed) stops one adds is = record {
+takes_last R from number so_far now text waiting left status a b (Err failed) stops one adds is = record {
   text = text;
   front = λ end lines. ([], ap (λ (t : Told). t.text) (stops end lines) ∙ sym (append-nil text));
   failed = adds;
@@ -30,9 +30,9 @@ pub takes_last R from number so_far now text waiting left status a b (Err failed
 -- the same, where the line and those behind it lead to as much
 pub takes_same : (R : Running) (from other : Leading) (number : ℕ) (so_far : List ℕ) (now : R.Run) (waiting left : List ℕ) (a b : Option (List ℕ)) (result : Result (Option Status) Failed)
     → ((end : Option Place) (lines : List (List ℕ)) → other end lines ≡ from end lines) → Takes R from number so_far now waiting left a b result → Takes R other number so_far now waiting left a b result
-pub takes_same R from other number so_far now waiting left a b (Ok None) same g =
+takes_same R from other number so_far now waiting left a b (Ok None) same g =
     record { next = g.next; at = g.at; text = g.text; goes = λ end lines. same end lines ∙ g.goes end lines; passed = g.passed }
-pub takes_same R from other number so_far now waiting left a b (Ok (Some status)) same (inl e) =
+takes_same R from other number so_far now waiting left a b (Ok (Some status)) same (inl e) =
     inl (record { telling = e.telling; stops = λ end lines. ap (λ (x : Leads). x.tells) (same end lines) ∙ e.stops end lines; status_is = e.status_is; last = e.last; passed = e.passed })
 takes_same R from other number so_far now waiting left a b (Ok (Some status)) same (inr w) =
     inr (record { refused = w.refused; early = λ end lines. let (rest, is) = w.early end lines in (rest, ap (λ (x : Leads). x.early) (same end lines) ∙ is); waits = w.waits; kept = w.kept })
@@ -46,14 +46,14 @@ takes_same R from other number so_far now waiting left a b (Err failed) same f =
 
 -- a text was passed, and then a last one was written, or a front of it
 pub closes_after : (waiting first middle second : List ℕ) (last status : Status) (a b c : Option (List ℕ)) → Passes waiting first middle a b → Closes (told second last) middle b c status → Closes (told (first ++ second) last) waiting a c status
-pub closes_after waiting first middle second last status a b c p (inl all) =
+closes_after waiting first middle second last status a b c p (inl all) =
     let joined : p.front ++ (middle ++ second) ≡ waiting ++ (first ++ second) =
     sym (append_assoc p.front middle second) ∙ ap (λ (l : List ℕ). l ++ second) (sym p.cut) ∙ append_assoc waiting first second in
     inl (all.0, subst (Appends a c) joined (Appends-trans a b c p.front (middle ++ second) p.taken all.1))
-pub closes_after waiting first middle second last status a b c p (inr failed) = inr (failed.0, adds_after {T = Unit {0}} {E = Unit {0}} waiting first middle second [] a b c (Err tt) p failed.1)
+closes_after waiting first middle second last status a b c p (inr failed) = inr (failed.0, adds_after {T = Unit {0}} {E = Unit {0}} waiting first middle second [] a b c (Err tt) p failed.1)
 
 -- ---- a line too long
 
 pub long_led : (early : List ℕ) (told : Telling) (number : ℕ) → IsLongTold told number → IsLongLed (early_at early told) number
-pub long_led early told number t =
+long_led early told number t =
     record { leads = record { tells = t.telling; early = early }; bad = t.bad; is = λ line end lines long. ap (λ (x : Told). record { tells = x; early = early }) (t.is line end lines long) }

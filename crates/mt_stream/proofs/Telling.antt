@@ -29,7 +29,7 @@ use Rattle.mt_stream.proofs.Fronts.{ended_known, ended_lines, long_lines, unknow
 -- ---- texts
 
 pub told_both : (a b : List ℕ) (t : Told) → behind a (behind b t) ≡ behind (a ++ b) t
-pub told_both a b t = λ i. record { text = sym (append_assoc a b t.text) i; status = t.status }
+told_both a b t = λ i. record { text = sym (append_assoc a b t.text) i; status = t.status }
 
 behind_both : (a b : List ℕ) (t : Leads) → leads_behind a (leads_behind b t) ≡ leads_behind (a ++ b) t
 behind_both a b t = λ i. record { tells = told_both a b t.tells i; early = t.early }
@@ -76,7 +76,7 @@ RunsOn start bytes left before after status = Runs (tells_of start) (early_of st
 
 -- ---- between two lines
 
-pub record UnderWay (R : Running) (start : Path) (bytes : List ℕ) (source : Option (List ℕ)) (feed : Feeding) (now : R.Run) (waiting : List ℕ) (before after : Option (List ℕ)) : Type 0 where
+record UnderWay (R : Running) (start : Path) (bytes : List ℕ) (source : Option (List ℕ)) (feed : Feeding) (now : R.Run) (waiting : List ℕ) (before after : Option (List ℕ)) : Type 0 where
   pub lent : List ℕ  -- the lines that were taken, each with its LF
   pub text : List ℕ  -- what they write
   pub rest : List ℕ
@@ -91,7 +91,7 @@ pub record UnderWay (R : Running) (start : Path) (bytes : List ℕ) (source : Op
   pub cut : bytes ≡ lent ++ (feed.pending ++ rest)
 
 -- a feed has moved on to a line that the run hasn't taken
-pub record HasLine (R : Running) (start : Path) (bytes : List ℕ) (source : Option (List ℕ)) (feed : Feeding) (now : R.Run) (waiting : List ℕ) (before after : Option (List ℕ)) : Type 0 where
+record HasLine (R : Running) (start : Path) (bytes : List ℕ) (source : Option (List ℕ)) (feed : Feeding) (now : R.Run) (waiting : List ℕ) (before after : Option (List ℕ)) : Type 0 where
   pub lent : List ℕ
   pub text : List ℕ
   pub rest : List ℕ
@@ -113,7 +113,7 @@ pub record HasLine (R : Running) (start : Path) (bytes : List ℕ) (source : Opt
   pub cut : bytes ≡ lent ++ (seen ++ rest)
 
 -- No line is left, and a run has told of all.
-pub record AtEnd (R : Running) (start : Path) (bytes : List ℕ) (source : Option (List ℕ)) (place : Place) (now : R.Run) (waiting : List ℕ) (before after : Option (List ℕ)) : Type 0 where
+record AtEnd (R : Running) (start : Path) (bytes : List ℕ) (source : Option (List ℕ)) (place : Place) (now : R.Run) (waiting : List ℕ) (before after : Option (List ℕ)) : Type 0 where
   pub text : List ℕ
   pub tells : transcript (tells_of start) bytes ≡ behind text (R.ends now place)
   pub passed : Passes [] text waiting before after

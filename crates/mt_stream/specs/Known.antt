@@ -13,4 +13,4 @@ known_part (byte ∷ bytes) =
     else if is_too_long (byte ∷ bytes) then byte ∷ bytes else []
 
 abbrev pub known_text : Telling → List ℕ → List ℕ
-pub known_text start taken = (start None 1 (lines_of (known_part taken))).text
+known_text start taken = (start None 1 (lines_of (known_part taken))).text

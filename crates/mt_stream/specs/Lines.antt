@@ -16,20 +16,20 @@ use Rattle.mt_stream.specs.declared.running.Cut.{Cut}
 use Rattle.mt_stream.specs.declared.running.Cut.TheVariants as cut
 
 -- What is told of a text, and what may have been written of it where memory is refused.
-pub record Leads : Type 0 where
+record Leads : Type 0 where
   pub tells : Told
   pub early : List ℕ
 
 -- what the lines of a text lead to from some line on, as a `Telling`
 abbrev pub Path : Type 0
-pub Path = Option Place → ℕ → List (List ℕ) → Leads
+Path = Option Place → ℕ → List (List ℕ) → Leads
 
 -- where memory is refused before anything but this is written
 abbrev pub early_at : List ℕ → Telling → Path
-pub early_at early told end number lines = record { tells = told end number lines; early = early }
+early_at early told end number lines = record { tells = told end number lines; early = early }
 
 abbrev pub leads_behind : List ℕ → Leads → Leads
-pub leads_behind text rest = record { tells = behind text rest.tells; early = rest.early }
+leads_behind text rest = record { tells = behind text rest.tells; early = rest.early }
 
 -- of a whole text
 abbrev pub tells_of : Path → Telling
@@ -39,21 +39,21 @@ abbrev pub early_of : Path → List ℕ → List ℕ
 early_of start text = (start (Some (end_of text)) 1 (lines_of text)).early
 
 -- A run between two lines, as its code keeps it.
-pub record Running : Type 1 where
+record Running : Type 1 where
   pub Run : Type 0
   pub At : Run → List ℕ → Path → Type 0  -- it stands where this was written and the lines that come lead to this
   pub ends : Run → Place → Told  -- what is told where the text ends at a place
 
 -- what a line and those behind it lead to
 abbrev pub Leading : Type 0
-pub Leading = Option Place → List (List ℕ) → Leads
+Leading = Option Place → List (List ℕ) → Leads
 
 -- of a line of this number
 abbrev pub from_line : ℕ → List ℕ → Path → Leading
-pub from_line number line was end lines = was end number (line ∷ lines)
+from_line number line was end lines = was end number (line ∷ lines)
 
 -- A text is written, and the lines behind, the first of which has this number, lead on from another point.
-pub record GoesOn (R : Running) (from : Leading) (number : ℕ) (so_far : List ℕ) (now : R.Run) (waiting left : List ℕ) (before after : Option (List ℕ)) : Type 0 where
+record GoesOn (R : Running) (from : Leading) (number : ℕ) (so_far : List ℕ) (now : R.Run) (waiting left : List ℕ) (before after : Option (List ℕ)) : Type 0 where
   pub next : Path
   pub text : List ℕ
   pub at : R.At now (so_far ++ text) next
@@ -61,7 +61,7 @@ pub record GoesOn (R : Running) (from : Leading) (number : ℕ) (so_far : List �
   pub passed : Passes waiting text left before after
 
 -- The transcript ends, whatever stands behind.
-pub record Ends (from : Leading) (waiting left : List ℕ) (before after : Option (List ℕ)) (status : Status) : Type 0 where
+record Ends (from : Leading) (waiting left : List ℕ) (before after : Option (List ℕ)) (status : Status) : Type 0 where
   pub telling : Told
   pub stops : (end : Option Place) (lines : List (List ℕ)) → (from end lines).tells ≡ telling
   pub status_is : status ≡ telling.status
@@ -69,21 +69,21 @@ pub record Ends (from : Leading) (waiting left : List ℕ) (before after : Optio
   pub passed : Passes waiting telling.text left before after
 
 -- Memory was refused, where it may be, and nothing was written.
-pub record Wants (from : Leading) (so_far waiting left : List ℕ) (before after : Option (List ℕ)) (status : Status) : Type 0 where
+record Wants (from : Leading) (so_far waiting left : List ℕ) (before after : Option (List ℕ)) (status : Status) : Type 0 where
   pub refused : status ≡ NoMemory
   pub early : (end : Option Place) (lines : List (List ℕ)) → (rest : List ℕ) × ((from end lines).early ≡ so_far ++ rest)
   pub waits : left ≡ waiting
   pub kept : after ≡ before
 
 -- The sink failed, and took a front.
-pub record Fails (from : Leading) (waiting : List ℕ) (before after : Option (List ℕ)) : Type 0 where
+record Fails (from : Leading) (waiting : List ℕ) (before after : Option (List ℕ)) : Type 0 where
   pub text : List ℕ
   pub front : (end : Option Place) (lines : List (List ℕ)) → (rest : List ℕ) × ((from end lines).tells.text ≡ text ++ rest)
   pub failed : AppendsFront before after (waiting ++ text)
 
 -- what a run makes of a line, where this was written so far
 abbrev pub Takes : (R : Running) → Leading → ℕ → List ℕ → R.Run → List ℕ → List ℕ → Option (List ℕ) → Option (List ℕ) → Result (Option Status) Failed → Type 0
-pub Takes R from number so_far now waiting left before after result =
+Takes R from number so_far now waiting left before after result =
     MatchResult result
     (λ ended. MatchOption ended (GoesOn R from number so_far now waiting left before after)
     (λ status. Ends from waiting left before after status ⊎ Wants from so_far waiting left before after status))
@@ -122,12 +122,12 @@ cut_status (cut.Feed feed.TooLong) = TooLong
 
 -- the last text goes to the sink with all that waits, or a front of them
 abbrev pub Closes : Told → List ℕ → Option (List ℕ) → Option (List ℕ) → Status → Type 0
-pub Closes t waiting before after status =
+Closes t waiting before after status =
     ((status ≡ t.status) × Appends before after (waiting ++ t.text)) ⊎ ((status ≡ WriteFault) × AppendsFront before after (waiting ++ t.text))
 
 -- the statuses with which a line ends a run
 abbrev pub IsEnding : Status → Type 0
-pub IsEnding status = (status ≡ Refused) ⊎ (status ≡ BadText) ⊎ (status ≡ NoMemory)
+IsEnding status = (status ≡ Refused) ⊎ (status ≡ BadText) ⊎ (status ≡ NoMemory)
 
 -- All that waits is written, or a front of it. Nothing more is read behind the last line or for want of memory, and else all that is left.
 abbrev pub Leaves : Status → Bool → List ℕ → Option (List ℕ) → List ℕ → Option (List ℕ) → Option (List ℕ) → Status → Type 0

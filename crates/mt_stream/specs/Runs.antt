@@ -11,13 +11,13 @@ use Rattle.mt_stream.specs.Known.{known_text}
 use Rattle.mt_stream.specs.Told.{Telling, Told, transcript}
 
 -- The sink took all that is told, with its status, and nothing of the source is left.
-pub record TellsAll (t : Told) (left before after : Option (List ℕ)) (status : Status) : Type 0 where
+record TellsAll (t : Told) (left before after : Option (List ℕ)) (status : Status) : Type 0 where
   pub status_is : status ≡ t.status
   pub taken : Appends before after t.text
   pub read : left ≡ Some []
 
 -- The sink took exactly what the known lines of the bytes that were taken tell.
-pub record TellsKnown (start : Telling) (bytes : List ℕ) (left before after : Option (List ℕ)) : Type 0 where
+record TellsKnown (start : Telling) (bytes : List ℕ) (left before after : Option (List ℕ)) : Type 0 where
   pub front : List ℕ
   pub rest : List ℕ
   pub cut : bytes ≡ front ++ rest
@@ -26,8 +26,8 @@ pub record TellsKnown (start : Telling) (bytes : List ℕ) (left before after : 
 
 -- What each status says. Memory is asked for before anything but the early text is written.
 abbrev pub RunsAs : Told → Telling → List ℕ → List ℕ → Option (List ℕ) → Option (List ℕ) → Option (List ℕ) → Status → Type 0
-pub RunsAs t start early bytes left before after Done = TellsAll t left before after Done
-pub RunsAs t start early bytes left before after Refused = TellsAll t left before after Refused
+RunsAs t start early bytes left before after Done = TellsAll t left before after Done
+RunsAs t start early bytes left before after Refused = TellsAll t left before after Refused
 RunsAs t start early bytes left before after Usage = ⊥
 RunsAs t start early bytes left before after BadText = TellsAll t left before after BadText
 RunsAs t start early bytes left before after ReadFault = TellsKnown start bytes left before after
@@ -38,4 +38,4 @@ RunsAs t start early bytes left before after TooFew = ⊥
 RunsAs t start early bytes left before after Disabled = ⊥
 
 abbrev pub Runs : Telling → List ℕ → List ℕ → Option (List ℕ) → Option (List ℕ) → Option (List ℕ) → Status → Type 0
-pub Runs start early bytes left before after status = RunsAs (transcript start bytes) start early bytes left before after status
+Runs start early bytes left before after status = RunsAs (transcript start bytes) start early bytes left before after status

@@ -5,10 +5,10 @@ use Rattle.std.proofs.lemmas.Bool.{cases_Bool}
 use Rattle.mt_text.specs.Text.{is_blank, has_bytes, lengthened, words_from}
 
 abbrev pub filled : List (List ℕ) → List (List ℕ)
-pub filled parts = filter has_bytes parts
+filled parts = filter has_bytes parts
 
 abbrev pub texts : List (ℕ × List ℕ) → List (List ℕ)
-pub texts words = map (λ word. word.1) words
+texts words = map (λ word. word.1) words
 
 -- a word that goes on with a byte, and is one byte longer
 longer : (at x y : ℕ) (parts : List (List ℕ)) (words : List (ℕ × List ℕ)) → texts words ≡ filled (onto_first y parts) → texts (lengthened at x words) ≡ filled (onto_first x (onto_first y parts))
@@ -24,12 +24,12 @@ longer at x y (part ∷ parts) (w ∷ ws) same =
     rw (word, rest) refl
 
 pub words_between : (at : ℕ) (line : List ℕ) → texts (words_from at line) ≡ filled (slice_split is_blank line)
-pub words_between at [] = refl
-pub words_between at (x ∷ []) = elim (cases_Bool (is_blank x)) [
+words_between at [] = refl
+words_between at (x ∷ []) = elim (cases_Bool (is_blank x)) [
   | inl hit ↦ rw hit refl
   | inr miss ↦ rw miss refl
 ]
-pub words_between at (x ∷ y ∷ ys) = by (is_blank x) refl (is_blank y) refl (words_between (at + 1) (y ∷ ys))
+words_between at (x ∷ y ∷ ys) = by (is_blank x) refl (is_blank y) refl (words_between (at + 1) (y ∷ ys))
   where
     by : (first : Bool) → is_blank x ≡ first → (second : Bool) → is_blank y ≡ second → texts (words_from (at + 1) (y ∷ ys)) ≡ filled (slice_split is_blank (y ∷ ys)) → texts (words_from at (x ∷ y ∷ ys)) ≡ filled (slice_split is_blank (x ∷ y ∷ ys))
     by true hit second is later = rw hit later

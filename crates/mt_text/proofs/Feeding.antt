@@ -20,7 +20,7 @@ position_below bytes at is = by (nat_lt (position_or_len is_line_end bytes) (len
 
 -- a front is within the bytes that tell it
 pub front_within : (bytes : List ℕ) (front : ℕ × Bool) → known_front bytes ≡ Some front → with_end front ≤ length bytes
-pub front_within bytes front is = by (position is_line_end bytes) refl is
+front_within bytes front is = by (position is_line_end bytes) refl is
   where
     cut : (at : ℕ) → at < length bytes → (far : Bool) → nat_lt 4096 at ≡ far → (if far then Some (4097, false) else Some (at, true)) ≡ Some front → with_end front ≤ length bytes
     cut at within true test is = let e : (4097, false) ≡ front = cc is in rw (← e) (grind (arith, nat_tests, test, within))
@@ -36,7 +36,7 @@ pub front_within bytes front is = by (position is_line_end bytes) refl is
 
 -- bytes that tell no front are few
 pub unknown_few : (bytes : List ℕ) → known_front bytes ≡ None → length bytes ≤ 4096
-pub unknown_few bytes is = by (position is_line_end bytes) is
+unknown_few bytes is = by (position is_line_end bytes) is
   where
     far_front : Option (ℕ × Bool)
     far_front = Some (4097, false)
@@ -64,7 +64,7 @@ moved_same old now seen front pending offset place fault = rw (pending, offset, 
 -- a call that lends the front of the bytes that it has seen
 pub lends_known : (old now new : Feeding) (more : List ℕ) (left : Option (List ℕ)) (front : ℕ × Bool) → now.pending ≡ old.pending ++ more → now.offset ≡ old.offset → now.place ≡ old.place → old.fault ≡ None → now.fault ≡ None
     → known_front now.pending ≡ Some front → new ≡ moved_on now front → Moves old new (old.pending ++ more) left true
-pub lends_known old now new more left front pending offset place none still known is =
+lends_known old now new more left front pending offset place none still known is =
     (front, inl (ap known_front (sym pending) ∙ known), is ∙ moved_same old now (old.pending ++ more) front pending offset place (still ∙ sym none))
 
 -- a call after a fault

@@ -14,10 +14,10 @@ use Rattle.mt_text.proofs.Places.{position_within}
 
 -- how many bytes stand before the first LF
 abbrev pub reach : List ℕ → ℕ
-pub reach bytes = position_or_len is_line_end bytes
+reach bytes = position_or_len is_line_end bytes
 
 pub reach-more : (x : ℕ) (xs : List ℕ) → is_line_end x ≡ false → reach (x ∷ xs) ≡ suc (reach xs)
-pub reach-more x xs miss = rw (miss, add_comm 1 (position_or_len is_line_end xs), add-one) refl
+reach-more x xs miss = rw (miss, add_comm 1 (position_or_len is_line_end xs), add-one) refl
 
 reach-append : (xs ys : List ℕ) → reach xs < length xs → reach (xs ++ ys) ≡ reach xs
 reach-append [] ys some = absurd (omega arith)
@@ -55,7 +55,7 @@ abbrev pub Told : List ℕ → ℕ × Bool → Type 0
 Told bytes front = ((front ≡ (reach bytes, true)) × (reach bytes < length bytes) × (reach bytes ≤ 4096)) ⊎ ((front ≡ (4097, false)) × (4096 < reach bytes))
 
 pub told : (bytes : List ℕ) (front : ℕ × Bool) → known_front bytes ≡ Some front → Told bytes front
-pub told bytes front is = by (nat_lt (reach bytes) (length bytes)) refl (nat_lt 4096 (reach bytes)) refl (nat_lt 4096 (length bytes)) refl
+told bytes front is = by (nat_lt (reach bytes) (length bytes)) refl (nat_lt 4096 (reach bytes)) refl (nat_lt 4096 (length bytes)) refl
   where
     one : (a b : ℕ × Bool) → Some a ≡ Some b → b ≡ a
     one a b e = let f : Some b ≡ Some a = sym e in cc f
@@ -67,7 +67,7 @@ pub told bytes front is = by (nat_lt (reach bytes) (length bytes)) refl (nat_lt 
     by false found many_is many false whole = cc (rw whole at (rw found at is))
 
 pub untold : (bytes : List ℕ) → known_front bytes ≡ None → reach bytes ≡ length bytes
-pub untold bytes is = by (nat_lt (reach bytes) (length bytes)) refl (nat_lt 4096 (reach bytes)) refl
+untold bytes is = by (nat_lt (reach bytes) (length bytes)) refl (nat_lt 4096 (reach bytes)) refl
   where
     by : (found : Bool) → nat_lt (reach bytes) (length bytes) ≡ found → (many : Bool) → nat_lt 4096 (reach bytes) ≡ many → reach bytes ≡ length bytes
     by true found true many = cc (rw many at (rw found at is))
@@ -76,7 +76,7 @@ pub untold bytes is = by (nat_lt (reach bytes) (length bytes)) refl (nat_lt 4096
 
 -- what was seen tells the front of all that is left
 pub seen_tells : (seen later : List ℕ) (front : ℕ × Bool) → known_front seen ≡ Some front → known_front (seen ++ later) ≡ Some front
-pub seen_tells seen later front is = elim (told seen front is) [
+seen_tells seen later front is = elim (told seen front is) [
   | inl near_by ↦
       let same = reach-append seen later near_by.1 in
       let front_is : (reach (seen ++ later), true) ≡ front = ap (λ n. let f : ℕ × Bool = (n, true) in f) same ∙ sym near_by.0 in
@@ -92,7 +92,7 @@ pub seen_tells seen later front is = elim (told seen front is) [
         omega (arith, more, many, all)
 
 pub ended_front : (rest : List ℕ) (count : ℕ) → known_front rest ≡ Some (count, true) → lines_of rest ≡ take count rest ∷ lines_of (drop (count + 1) rest)
-pub ended_front rest count is = elim (told rest (count, true) is) [
+ended_front rest count is = elim (told rest (count, true) is) [
   | inl near_by ↦
       let count_is : count ≡ reach rest = ap (λ (f : ℕ × Bool). f.0) near_by.0 in
       let found : nat_lt (reach rest) (length rest) ≡ true = grind (arith, nat_tests, near_by.1) in
@@ -109,14 +109,14 @@ front_few bytes count is = elim (told bytes (count, true) is) [
 ]
 
 pub last_front : (rest : List ℕ) → known_front rest ≡ None → 1 ≤ length rest → lines_of rest ≡ rest ∷ []
-pub last_front rest is some =
+last_front rest is some =
     let all = untold rest is in
     let missing : nat_lt (reach rest) (length rest) ≡ false = grind (arith, nat_tests, all) in
     let has : (length rest == 0) ≡ false = grind (arith, nat_tests, some) in
     last_line rest (rw missing refl) has
 
 pub long_front : (rest : List ℕ) (count : ℕ) → known_front rest ≡ Some (count, false) → (count ≡ 4097) × (4096 < length (before_first is_line_end rest))
-pub long_front rest count is = elim (told rest (count, false) is) [
+long_front rest count is = elim (told rest (count, false) is) [
   | inl near_by ↦ let e : false ≡ true = ap (λ (f : ℕ × Bool). f.1) near_by.0 in cc e
   | inr away ↦ (ap (λ (f : ℕ × Bool). f.0) away.0, omega (arith, away.1, length-take-le (reach rest) rest (position_within is_line_end rest)))
 ]
@@ -162,7 +162,7 @@ after_front seen left front place (inr last) =
     rw (last.3, count) (after_bytes (length seen) seen place (omega (arith, untold seen last.0)))
 
 pub place_of_front : (before seen : List ℕ) (left : Option (List ℕ)) (front : ℕ × Bool) → IsFront seen left front → place_after (end_of before) front ≡ end_of (before ++ take (with_end front) seen)
-pub place_of_front before seen left front is =
+place_of_front before seen left front is =
     let start : Place = record { line = 1; column = 1 } in
     sym (after_front seen left front (end_of before) is) ∙ ap (λ p. end_from p (take (with_end front) seen)) (sym (end_of-counts before))
     ∙ sym (end_from-append before (take (with_end front) seen) start) ∙ end_of-counts (before ++ take (with_end front) seen)

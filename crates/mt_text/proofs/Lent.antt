@@ -16,7 +16,7 @@ use Rattle.mt_text.proofs.Places.{position_within}
 
 -- the feed that has seen these bytes and lends their front
 abbrev pub moved : Feeding → List ℕ → ℕ × Bool → Feeding
-pub moved old seen front = moved_on (record old { pending = seen }) front
+moved old seen front = moved_on (record old { pending = seen }) front
 
 -- the first line of bytes, where it has many
 long_line : (rest : List ℕ) → 4096 < length (before_first is_line_end rest)
@@ -97,14 +97,14 @@ lends old new before seen after (Err fault) same are = ap (λ l. l ++ after) are
 
 pub lends_lines : (old new : Feeding) (before : List ℕ) (left : Option (List ℕ)) (given_before given_after : ℕ) (result : Result (Option Line) FeedFault) → Lines old new (Some before) left given_before given_after result
     → (after : List ℕ) × (left ≡ Some after) × LendsLines old new before after result
-pub lends_lines old new before None given_before given_after result lines = absurd lines.1
-pub lends_lines old new before (Some after) given_before given_after result lines =
+lends_lines old new before None given_before given_after result lines = absurd lines.1
+lends_lines old new before (Some after) given_before given_after result lines =
     let same : old.pending ++ before ≡ (old.pending ++ lines.0) ++ after = ap (λ l. old.pending ++ l) lines.1 ∙ sym (append_assoc old.pending lines.0 after) in
     (after, refl, lends old new before (old.pending ++ lines.0) after result same lines.3.0)
 
 -- a feed without a fault has taken no more than the limit
 pub within_limit : (feed : Feeding) → IsLong feed → feed.fault ≡ None → taken feed ≤ 16777216
-pub within_limit feed long none = elim (cases_lt 16777216 (taken feed)) [
+within_limit feed long none = elim (cases_lt 16777216 (taken feed)) [
   | inl more ↦ let e = sym none ∙ long.1 more in cc e
   | inr few ↦ few
 ]
@@ -119,14 +119,14 @@ some_front seen left front (inr end) = rw end.3 (omega (arith, end.2))
 
 -- each line that is lent moves a feed on
 pub moves_on : (old new : Feeding) (before left : Option (List ℕ)) (given_before given_after : ℕ) (line : Line) → Lines old new before left given_before given_after (Ok (Some line)) → old.offset < new.offset
-pub moves_on old new before left given_before given_after line lines =
+moves_on old new before left given_before given_after line lines =
     let is : new.offset ≡ old.offset + with_end lines.3.0.0.0 = ap (λ f. f.offset) lines.3.0.0.2 in
     omega (arith, is, some_front (old.pending ++ lines.0) left lines.3.0.0.0 lines.3.0.0.1)
 
 -- a front that is lent lies in the bytes that were seen
 pub front_inside : (seen : List ℕ) (left : Option (List ℕ)) (front : ℕ × Bool) → IsFront seen left front → with_end front ≤ length seen
-pub front_inside seen left front (inl known) = front_within seen front known
-pub front_inside seen left front (inr end) = rw end.3 (omega arith)
+front_inside seen left front (inl known) = front_within seen front known
+front_inside seen left front (inr end) = rw end.3 (omega arith)
 
 counts_moved : (old new : Feeding) (seen : List ℕ) (left : Option (List ℕ)) (front : ℕ × Bool) → IsFront seen left front → new ≡ moved old seen front → taken new ≡ old.offset + length seen
 counts_moved old new seen left front is moved_is = rw moved_is (omega (arith, front_inside seen left front is, length-drop (with_end front) seen))
@@ -139,7 +139,7 @@ counts old new seen left (Err fault) are = omega (arith, ap length are.0, are.1)
 -- what a feed has taken goes up with what the source has given
 pub counted : (old new : Feeding) (before left : Option (List ℕ)) (given_before given_after : ℕ) (result : Result (Option Line) FeedFault) → Lines old new before left given_before given_after result
     → given_before + taken new ≡ given_after + taken old
-pub counted old new before left given_before given_after result lines =
+counted old new before left given_before given_after result lines =
     omega (arith, lines.2, counts old new (old.pending ++ lines.0) left result lines.3.0, length-append old.pending lines.0)
 
 -- The bytes that a call has passed over, and the place behind them.
@@ -163,7 +163,7 @@ passes_seen old new before seen after (Err fault) same are = ([], passes_none ol
 
 pub passes : (old new : Feeding) (before after : List ℕ) (given_before given_after : ℕ) (result : Result (Option Line) FeedFault) → Lines old new (Some before) (Some after) given_before given_after result
     → (gone : List ℕ) × Passes old new before after gone
-pub passes old new before after given_before given_after result lines =
+passes old new before after given_before given_after result lines =
     passes_seen old new before (old.pending ++ lines.0) after result (ap (λ l. old.pending ++ l) lines.1 ∙ sym (append_assoc old.pending lines.0 after)) lines.3.0
 
 -- What is told of numbered lines, nothing of none whatever the number, is the same behind a line that isn't too long.

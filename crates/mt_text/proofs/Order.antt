@@ -41,11 +41,11 @@ in_line line front from (word ∷ words) is fits stand =
     (stand.0, stand.1, stand.2 ∙ part_of_front line front word.0 (length word.1) is fits within, in_line line front (word.0 + length word.1) words is fits stand.3)
 
 pub words_stand_in_order : (line : List ℕ) → StandInOrder line 0 (words_of line)
-pub words_stand_in_order line = in_line line (content line) 0 (words_of line) (content-front line) (content-length line) (stand_from (content line) 0 (content line) refl)
+words_stand_in_order line = in_line line (content line) 0 (words_of line) (content-front line) (content-length line) (stand_from (content line) 0 (content line) refl)
 
 -- the words of a line stand in order in the source of which it is a part
 pub stand_in_source : (source line : List ℕ) (from : ℕ) → from ≤ length source → line ≡ take (length line) (drop from source) → StandInOrder source from (words_at from line)
-pub stand_in_source source line from within is =
+stand_in_source source line from within is =
     let size : length line ≤ length (drop from source) = omega (arith, ap length is, length-take (length line) (drop from source)) in
     let count : ℕ = length (content line) in
     let short : count ≤ length line = content-length line in

@@ -18,15 +18,15 @@ known_at count (Some at) = if nat_lt longest_line at then Some (longest_line + 1
 known_at count None = if nat_lt longest_line count then Some (longest_line + 1, false) else None
 
 abbrev pub known_front : List ℕ → Option (ℕ × Bool)
-pub known_front bytes = known_at (length bytes) (position is_line_end bytes)
+known_front bytes = known_at (length bytes) (position is_line_end bytes)
 
 -- the line that was lent last
-pub record LentLine : Type 0 where
+record LentLine : Type 0 where
   pub bytes : List ℕ
   pub offset : ℕ  -- counted from the start of the feed
   pub number : ℕ
 
-pub record Feeding : Type 0 where
+record Feeding : Type 0 where
   pub line : LentLine
   pub pending : List ℕ  -- bytes that were taken and not lent yet
   pub offset : ℕ  -- where they begin
@@ -34,18 +34,18 @@ pub record Feeding : Type 0 where
   pub fault : Option FeedFault  -- the fault that was answered
 
 abbrev pub taken : Feeding → ℕ
-pub taken feed = feed.offset + length feed.pending
+taken feed = feed.offset + length feed.pending
 
 -- the fault that a feed has answered is TooLong exactly where it has taken more bytes than the limit
 abbrev pub IsLong : Feeding → Type 0
-pub IsLong feed = (feed.fault ≡ Some TooLong) ↔ (longest_input < taken feed)
+IsLong feed = (feed.fault ≡ Some TooLong) ↔ (longest_input < taken feed)
 
 -- more bytes than a feed takes were given since
 abbrev pub GaveTooMuch : ℕ → ℕ → Type 0
-pub GaveTooMuch before now = before + longest_input < now
+GaveTooMuch before now = before + longest_input < now
 
 abbrev pub at_start : Feeding
-pub at_start = record {
+at_start = record {
   line = record { bytes = []; offset = 0; number = 1 };
   pending = [];
   offset = 0;
@@ -55,18 +55,18 @@ pub at_start = record {
 
 -- a feed, for worked runs, with these bytes pending at the front of a line
 abbrev pub behind_a_line : ℕ → List ℕ → Feeding
-pub behind_a_line number bytes = record at_start { pending = bytes; place = record { line = number; column = 1 } }
+behind_a_line number bytes = record at_start { pending = bytes; place = record { line = number; column = 1 } }
 
 -- a feed, for worked runs, that has lent this many bytes and has these pending
 abbrev pub at_offset : ℕ → List ℕ → Feeding
-pub at_offset offset bytes = record at_start { pending = bytes; offset = offset }
+at_offset offset bytes = record at_start { pending = bytes; offset = offset }
 
 -- the bytes of a front, and the LF that ends it
 abbrev pub with_end : ℕ × Bool → ℕ
-pub with_end front = front.0 + (if front.1 then 1 else 0)
+with_end front = front.0 + (if front.1 then 1 else 0)
 
 abbrev pub place_after : Place → ℕ × Bool → Place
-pub place_after place front =
+place_after place front =
     if front.1 then record { line = place.line + 1; column = 1 }
     else record { line = place.line; column = place.column + front.0 }
 
@@ -81,13 +81,13 @@ moved_on feed front = record {
 
 -- The front of these bytes, which are all that is left where they don't tell it.
 abbrev pub IsFront : List ℕ → Option (List ℕ) → ℕ × Bool → Type 0
-pub IsFront seen left front =
+IsFront seen left front =
     (known_front seen ≡ Some front) ⊎ ((known_front seen ≡ None) × IsAtEnd left × (1 ≤ length seen) × (front ≡ (length seen, false)))
 
 -- a call has lent a line of the bytes that it has seen, or there is none
 abbrev pub Moves : Feeding → Feeding → List ℕ → Option (List ℕ) → Bool → Type 0
-pub Moves old new seen left true = (front : ℕ × Bool) × IsFront seen left front × (new ≡ moved_on (record old { pending = seen }) front)
-pub Moves old new seen left false = (seen ≡ []) × IsAtEnd left × (new.pending ≡ []) × (new.offset ≡ old.offset) × (new.place ≡ old.place) × (new.fault ≡ old.fault)
+Moves old new seen left true = (front : ℕ × Bool) × IsFront seen left front × (new ≡ moved_on (record old { pending = seen }) front)
+Moves old new seen left false = (seen ≡ []) × IsAtEnd left × (new.pending ≡ []) × (new.offset ≡ old.offset) × (new.place ≡ old.place) × (new.fault ≡ old.fault)
 
 -- a call has moved on by a line whose end is pending, or there is none
 abbrev pub MovesPending : Feeding → Feeding → Bool → Type 0
@@ -96,11 +96,11 @@ MovesPending old new false = (new ≡ old) × (old.fault ≡ None → known_fron
 
 -- the line that was lent last has no LF behind it, and isn't too long
 abbrev pub is_last : Feeding → Bool
-pub is_last feed = not (is_too_long feed.line.bytes) && (feed.offset == feed.line.offset + length feed.line.bytes)
+is_last feed = not (is_too_long feed.line.bytes) && (feed.offset == feed.line.offset + length feed.line.bytes)
 
 -- The bytes that it has seen are pending, and nothing is lent. After a failed read they tell no line, so each known line was lent.
 abbrev pub Stops : Feeding → Feeding → List ℕ → FeedFault → Type 0
-pub Stops old new seen fault =
+Stops old new seen fault =
     (new.pending ≡ seen) × (new.offset ≡ old.offset) × (new.place ≡ old.place) × (new.fault ≡ Some fault)
     × (fault ≡ ReadFault → old.fault ≡ None → known_front seen ≡ None)
 
@@ -110,25 +110,25 @@ Advances old new more left result = MatchResult result (Moves old new (old.pendi
 
 -- the line that a call lends is the one that the feed has moved on to
 abbrev pub IsLent : Feeding → Line → Type 0
-pub IsLent feed line = (line.bytes.now ≡ feed.line.bytes) × (line.offset ≡ feed.line.offset) × (line.number ≡ feed.line.number) × (line.next ≡ feed.offset)
+IsLent feed line = (line.bytes.now ≡ feed.line.bytes) × (line.offset ≡ feed.line.offset) × (line.number ≡ feed.line.number) × (line.next ≡ feed.offset)
 
 abbrev pub LinesAre : Feeding → Feeding → List ℕ → Option (List ℕ) → Result (Option Line) FeedFault → Type 0
-pub LinesAre old new seen left result = MatchResult result
+LinesAre old new seen left result = MatchResult result
     (λ answer. MatchOption answer (Moves old new seen left false) (λ line. Moves old new seen left true × IsLent new line))
     (Stops old new seen)
 
 -- A call takes bytes off what the source has left, which has given as many more, and this holds of them.
 abbrev pub TakesMore : Option (List ℕ) → Option (List ℕ) → ℕ → ℕ → (List ℕ → Type 0) → Type 0
-pub TakesMore left after given_before given_after Holds = (more : List ℕ) × Consumes left after more × (given_after ≡ given_before + length more) × Holds more
+TakesMore left after given_before given_after Holds = (more : List ℕ) × Consumes left after more × (given_after ≡ given_before + length more) × Holds more
 
 -- A call that asks for the next line: what it has taken from the source, and what the feed is then.
 abbrev pub Lines : Feeding → Feeding → Option (List ℕ) → Option (List ℕ) → ℕ → ℕ → Result (Option Line) FeedFault → Type 0
-pub Lines old new left after given_before given_after result =
+Lines old new left after given_before given_after result =
     TakesMore left after given_before given_after (λ more. LinesAre old new (old.pending ++ more) after result × IsLong new)
 
 -- A line that is lent is the first of all bytes that are left, which are those that are pending and those that the source has left behind them. A line too long is lent in its first
 -- 4,097 bytes, and a reader stops there. Behind any other the next lines are those of the bytes that are left then, and the next number is one more.
-pub record LendsFirst (old new : Feeding) (before after : List ℕ) (line : Line) : Type 0 where
+record LendsFirst (old new : Feeding) (before after : List ℕ) (line : Line) : Type 0 where
   pub first : List ℕ
   pub others : List (List ℕ)
   pub lines : lines_of (old.pending ++ before) ≡ first ∷ others
@@ -139,17 +139,17 @@ pub record LendsFirst (old new : Feeding) (before after : List ℕ) (line : Line
 
 -- what a call lends of all bytes that are left; at a fault they stay as they were
 abbrev pub LendsLines : Feeding → Feeding → List ℕ → List ℕ → Result (Option Line) FeedFault → Type 0
-pub LendsLines old new before after result = MatchResult result
+LendsLines old new before after result = MatchResult result
     (λ answer. MatchOption answer ((old.pending ++ before ≡ []) × (new.pending ++ after ≡ [])) (LendsFirst old new before after))
     (λ _. new.pending ++ after ≡ old.pending ++ before)
 
 -- These are all bytes that a feed has taken: those that it has lent, each line with the LF behind it, and those that are pending.
-pub record HasTaken (feed : Feeding) (gone bytes : List ℕ) : Type 0 where
+record HasTaken (feed : Feeding) (gone bytes : List ℕ) : Type 0 where
   pub offset : feed.offset ≡ length gone
   pub bytes_are : bytes ≡ gone ++ feed.pending
 
 -- A line that is lent begins behind all that was lent before, and is the slice there of all bytes that the feed has taken by then.
-pub record LendsSlice (new : Feeding) (gone bytes : List ℕ) (line : Line) : Type 0 where
+record LendsSlice (new : Feeding) (gone bytes : List ℕ) (line : Line) : Type 0 where
   pub offset : line.offset ≡ length gone
   pub slice : line.bytes.now ≡ take (length line.bytes.now) (drop line.offset bytes)
   pub passed : List ℕ  -- the line and the LF behind it, where there is one
@@ -158,7 +158,7 @@ pub record LendsSlice (new : Feeding) (gone bytes : List ℕ) (line : Line) : Ty
 
 -- what a call lends of all bytes that the feed has taken by then; without a line what was lent stays as it was
 abbrev pub LendsSlices : Feeding → List ℕ → List ℕ → Result (Option Line) FeedFault → Type 0
-pub LendsSlices new gone bytes result = MatchResult result (λ answer. MatchOption answer (HasTaken new gone bytes) (LendsSlice new gone bytes)) (λ _. HasTaken new gone bytes)
+LendsSlices new gone bytes result = MatchResult result (λ answer. MatchOption answer (HasTaken new gone bytes) (LendsSlice new gone bytes)) (λ _. HasTaken new gone bytes)
 
 -- a read has put more bytes behind the pending ones, none only at the end, or nothing where it failed
 abbrev pub Reads : {E : Type 0} → List ℕ → List ℕ → Option (List ℕ) → Option (List ℕ) → Result ℕ E → Type 0
@@ -173,7 +173,7 @@ Fills old new more left result =
     × MatchResult result (λ some. (new.fault ≡ None) × (some ≡ nat_lt 0 (length more)) × (some ≡ false → IsAtEnd left) × (taken new ≤ longest_input)) (λ fault. new.fault ≡ Some fault)
 
 -- what holds of each feed
-pub record IsFeeding (feed : Feeding) : Type 0 where
+record IsFeeding (feed : Feeding) : Type 0 where
   pub room : length feed.pending ≤ 8192
   pub behind : feed.line.offset + length feed.line.bytes ≤ feed.offset
   pub lines : feed.place.line ≤ feed.offset + 1

@@ -11,40 +11,40 @@ use Rattle.std.specs.List.{onto_first, before_first, slice_get, slice_split, fil
 use Rattle.mt_text.specs.declared.place.Place.{Place}
 
 abbrev pub is_line_end : ℕ → Bool
-pub is_line_end byte = byte == 10
+is_line_end byte = byte == 10
 
 abbrev pub is_blank : ℕ → Bool
-pub is_blank byte = byte == 32 || byte == 9
+is_blank byte = byte == 32 || byte == 9
 
 abbrev pub is_word_byte : ℕ → Bool
-pub is_word_byte byte = not (is_blank byte)
+is_word_byte byte = not (is_blank byte)
 
 abbrev pub is_comment_start : ℕ → Bool
-pub is_comment_start byte = byte == 35
+is_comment_start byte = byte == 35
 
 -- a byte before which a word ends
 abbrev pub ends_word : ℕ → Bool
 ends_word byte = is_blank byte || is_comment_start byte
 
 abbrev pub lines_of : List ℕ → List (List ℕ)
-pub lines_of [] = []
-pub lines_of (byte ∷ bytes) = if is_line_end byte then [] ∷ lines_of bytes else onto_first byte (lines_of bytes)
+lines_of [] = []
+lines_of (byte ∷ bytes) = if is_line_end byte then [] ∷ lines_of bytes else onto_first byte (lines_of bytes)
 
 -- a text without one such byte at its end
 abbrev pub without_ending : ℕ → List ℕ → List ℕ
-pub without_ending ending [] = []
-pub without_ending ending (byte ∷ []) = if byte == ending then [] else byte ∷ []
-pub without_ending ending (byte ∷ next ∷ bytes) = byte ∷ without_ending ending (next ∷ bytes)
+without_ending ending [] = []
+without_ending ending (byte ∷ []) = if byte == ending then [] else byte ∷ []
+without_ending ending (byte ∷ next ∷ bytes) = byte ∷ without_ending ending (next ∷ bytes)
 
 -- a line without a CR at its end
 abbrev pub without_return : List ℕ → List ℕ
-pub without_return line = without_ending 13 line
+without_return line = without_ending 13 line
 
 abbrev pub before_comment : List ℕ → List ℕ
 before_comment line = before_first is_comment_start line
 
 abbrev pub content : List ℕ → List ℕ
-pub content line = before_comment (without_return line)
+content line = before_comment (without_return line)
 
 -- whether a word goes on with these bytes
 abbrev pub goes_on : List ℕ → Bool
@@ -52,36 +52,36 @@ goes_on [] = false
 goes_on (byte ∷ bytes) = is_word_byte byte
 
 abbrev pub longest_input : ℕ
-pub longest_input = 16777216
+longest_input = 16777216
 
 abbrev pub longest_line : ℕ
-pub longest_line = 4096
+longest_line = 4096
 
 abbrev pub is_too_long : List ℕ → Bool
-pub is_too_long line = nat_lt longest_line (length line)
+is_too_long line = nat_lt longest_line (length line)
 
 -- where the offence of such a line of this number stands: just past the longest
 abbrev pub past_limit : ℕ → Place
-pub past_limit number = record { line = number; column = longest_line + 1 }
+past_limit number = record { line = number; column = longest_line + 1 }
 
 -- the words, the first of which begins one byte earlier, with this byte
 abbrev pub lengthened : ℕ → ℕ → List (ℕ × List ℕ) → List (ℕ × List ℕ)
-pub lengthened start byte [] = []
-pub lengthened start byte (word ∷ words) = (start, byte ∷ word.1) ∷ words
+lengthened start byte [] = []
+lengthened start byte (word ∷ words) = (start, byte ∷ word.1) ∷ words
 
 -- the words of bytes that stand at an offset
 abbrev pub words_from : ℕ → List ℕ → List (ℕ × List ℕ)
-pub words_from offset [] = []
-pub words_from offset (byte ∷ bytes) =
+words_from offset [] = []
+words_from offset (byte ∷ bytes) =
     if is_blank byte then words_from (offset + 1) bytes
     else if goes_on bytes then lengthened offset byte (words_from (offset + 1) bytes)
     else (offset, byte ∷ []) ∷ words_from (offset + 1) bytes
 
 abbrev pub words_at : ℕ → List ℕ → List (ℕ × List ℕ)
-pub words_at offset line = words_from offset (content line)
+words_at offset line = words_from offset (content line)
 
 abbrev pub words_of : List ℕ → List (ℕ × List ℕ)
-pub words_of line = words_at 0 line
+words_of line = words_at 0 line
 
 abbrev pub has_bytes : List ℕ → Bool
 has_bytes [] = false
@@ -89,11 +89,11 @@ has_bytes (byte ∷ bytes) = true
 
 -- what stands between spaces and tabs
 abbrev pub between_blanks : List ℕ → List (List ℕ)
-pub between_blanks line = filter has_bytes (slice_split is_blank line)
+between_blanks line = filter has_bytes (slice_split is_blank line)
 
 -- a word that a line has, by its offset in the line
 abbrev pub HasWord : List ℕ → ℕ × List ℕ → Type 0
-pub HasWord line word = (i : ℕ) × (slice_get (words_of line) i ≡ Some word)
+HasWord line word = (i : ℕ) × (slice_get (words_of line) i ≡ Some word)
 
 -- what follows the last LF, or the whole text where there is none
 abbrev pub after_line_ends : List ℕ → List ℕ
@@ -102,10 +102,10 @@ after_line_ends (byte ∷ bytes) = if list_any is_line_end (byte ∷ bytes) then
 
 -- the place after the last byte
 abbrev pub end_of : List ℕ → Place
-pub end_of text = record { line = count_by is_line_end text + 1; column = length (after_line_ends text) + 1 }
+end_of text = record { line = count_by is_line_end text + 1; column = length (after_line_ends text) + 1 }
 
 -- Each word is what stands at its offset in the line, has a byte, and begins at or after the end of the one before it.
 abbrev pub StandInOrder : List ℕ → ℕ → List (ℕ × List ℕ) → Type 0
-pub StandInOrder line from [] = ⊤
-pub StandInOrder line from (word ∷ words) =
+StandInOrder line from [] = ⊤
+StandInOrder line from (word ∷ words) =
     (from ≤ word.0) × (1 ≤ length word.1) × (word.1 ≡ take (length word.1) (drop word.0 line)) × StandInOrder line (word.0 + length word.1) words

@@ -10,21 +10,21 @@ use Rattle.mt_text.specs.declared.first.Words.TheInside.{Inside}
 
 -- a word of a line and its offset; an empty one where the line has no such word
 abbrev pub word_of : List (ℕ × List ℕ) → ℕ → ℕ × List ℕ
-pub word_of words i = unwrap_or (slice_get words i) (0, [])
+word_of words i = unwrap_or (slice_get words i) (0, [])
 
 abbrev pub text_of : List (ℕ × List ℕ) → ℕ → List ℕ
-pub text_of words i = (word_of words i).1
+text_of words i = (word_of words i).1
 
 abbrev pub place_of : ℕ → List (ℕ × List ℕ) → ℕ → Place
-pub place_of number words i = record { line = number; column = (word_of words i).0 + 1 }
+place_of number words i = record { line = number; column = (word_of words i).0 + 1 }
 
 -- The words at the front of a line.
-pub record FirstWords : Type 0 where
+record FirstWords : Type 0 where
   pub number : ℕ  -- the line's number
   pub words : List (ℕ × List ℕ)  -- each word with its offset in the line
 
 abbrev pub first_words : ℕ → List ℕ → FirstWords
-pub first_words number line = record { number = number; words = take 7 (words_of line) }
+first_words number line = record { number = number; words = take 7 (words_of line) }
 
 -- what stands between two offsets of a text, with the first of them
 abbrev pub word_between : List ℕ → ℕ × ℕ → ℕ × List ℕ

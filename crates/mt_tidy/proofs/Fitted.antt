@@ -64,18 +64,18 @@ listed WP = refl
 listed WB = refl
 
 pub valid_bit : (x : ℕ) → is_bit_set (4096 * x + 2 ^ 11) 11 ≡ true
-pub valid_bit x = eq-eqb ((4096 * x + 2 ^ 11) / 2 ^ 11 % 2 ^ 1) 1 (omega arith)
+valid_bit x = eq-eqb ((4096 * x + 2 ^ 11) / 2 ^ 11 % 2 ^ 1) 1 (omega arith)
 
 low_is : (x byte : ℕ) → byte < 256 → low_byte (4096 * x + byte) ≡ byte
 low_is x byte small = omega arith
 
 pub type_is : (width : ℕ) (r : Range) → pair_type (pair_for width r) ≡ r.kind
-pub type_is width r = ap listed_type (low_is r.first (byte_of_type r.kind) (small_byte r.kind)) ∙ listed r.kind
+type_is width r = ap listed_type (low_is r.first (byte_of_type r.kind) (small_byte r.kind)) ∙ listed r.kind
 
 -- the pair of a range matches its pages
 pub matches_is : (width : ℕ) → width ≤ 52 → (r : Range) → IsBlock width r → (page : ℕ) → page < 2 ^ (width - 12) → matches_pair width (pair_for width r) page ≡ holds_page r page
 unfolding block_of_range
-pub matches_is width narrow r is page below =
+matches_is width narrow r is page below =
     both (is_bit_set (pair_for width r).1 11) (covers width (pair_for width r) page) (valid_bit (2 ^ (width - 12) - 2 ^ r.log))
     ∙ sym (made_covers (block_of_range width narrow r is) width (byte_of_type r.kind) page (small_byte r.kind) is.within below)
   where
@@ -118,7 +118,7 @@ types_are f narrow ranges of page below =
 
 pub kind_among : (f : RegisterFile) → f.width ≤ 52 → (ranges : List Range) → AllByRecursion (IsRangeOf f) ranges → (page : ℕ) → page < page_count f
     → page_type (with_ranges f ranges) page ≡ page_type_among f (types_at ranges page) page
-pub kind_among f narrow ranges of page below = ap (λ ts. page_type_among f ts page) (types_are f narrow ranges of page below)
+kind_among f narrow ranges of page below = ap (λ ts. page_type_among f ts page) (types_are f narrow ranges of page below)
 
 -- what the values of a pair pass where no register has a fault
 record Passes (f : RegisterFile) (pair : ℕ × ℕ) : Type 0 where
@@ -270,7 +270,7 @@ pub tidied_file : (f : RegisterFile) → 32 ≤ f.width → f.width ≤ 52 → I
     → (chunk spare : ℕ) (ranges : List Range) → IsLeastList f wanted chunk ranges → (new : RegisterFile) (used : ℕ) → new ≡ with_ranges f ranges → used ≡ length ranges
     → used ≤ pair_count f - spare → IsTidied f wanted chunk spare new used
 unfolding of
-pub tidied_file f wide narrow accepted enabled wanted good chunk spare ranges least new used file count enough = record {
+tidied_file f wide narrow accepted enabled wanted good chunk spare ranges least new used file count enough = record {
   ranges = ranges;
   file = file;
   count = count;

@@ -224,7 +224,7 @@ module _ (f : RegisterFile) (good : IsRegisterFile f) (accepted : IsAccepted f) 
 -- the file's own runs can be wanted
 pub own_runs : (f : RegisterFile) → IsRegisterFile f → IsAccepted f → is_enabled f ≡ true → (runs : List Run) → IsRunsOf f runs → IsWanted f runs
 unfolding Supported
-pub own_runs f good accepted enabled runs are = record {
+own_runs f good accepted enabled runs are = record {
   chain = are.map.chain;
   whole = are.whole;
   supported = λ k d within.
@@ -303,28 +303,28 @@ module _ (f : RegisterFile) (accepted : IsAccepted f) (enabled : is_enabled f �
 -- a file that gives the file's own runs keeps each page's type
 pub tidy_file : (f : RegisterFile) → IsAccepted f → is_enabled f ≡ true → (runs : List Run) → IsRunsOf f runs
     → (chunk spare : ℕ) (new : RegisterFile) (used : ℕ) → IsTidied f runs chunk spare new used → IsTidy f chunk spare new used
-pub tidy_file = tidy_of
+tidy_file = tidy_of
 
 pub keeps_is_gives : (f : RegisterFile) → IsAccepted f → is_enabled f ≡ true → (runs : List Run) → IsRunsOf f runs
     → (ranges : List Range) → Keeps f ranges ↔ Gives f runs ranges
-pub keeps_is_gives f accepted enabled runs are ranges = (gives_of f accepted enabled runs are ranges, keeps_of f accepted enabled runs are ranges)
+keeps_is_gives f accepted enabled runs are ranges = (gives_of f accepted enabled runs are ranges, keeps_of f accepted enabled runs are ranges)
 
 pub least_is_least_for : (f : RegisterFile) → IsAccepted f → is_enabled f ≡ true → (runs : List Run) → IsRunsOf f runs
     → (chunk count : ℕ) → IsLeast f chunk count ↔ IsLeastFor f runs chunk count
-pub least_is_least_for f accepted enabled runs are chunk count = (least_for_of f accepted enabled runs are chunk count, least_of f accepted enabled runs are chunk count)
+least_is_least_for f accepted enabled runs are chunk count = (least_for_of f accepted enabled runs are chunk count, least_of f accepted enabled runs are chunk count)
 
 pub needs_more : (f : RegisterFile) → IsAccepted f → is_enabled f ≡ true → (runs : List Run) → IsRunsOf f runs
     → (chunk spare needs has : ℕ) → IsTooFew f runs chunk spare needs has → NeedsMore f chunk spare needs has
-pub needs_more = more_of
+needs_more = more_of
 
 pub least_number : (f : RegisterFile) (chunk : ℕ) → IsRegisterFile f → IsAccepted f → is_enabled f ≡ true → (count : ℕ) × IsLeast f chunk count
-pub least_number f chunk good accepted enabled =
+least_number f chunk good accepted enabled =
     let runs = a_type_map f good in
     let cost = cost_is_least f runs.0 chunk enabled (own_runs f good accepted enabled runs.0 runs.1) in
     (cost.0, least_of f accepted enabled runs.0 runs.1 chunk cost.0 cost.2)
 
 pub one_least : (f : RegisterFile) (chunk a b : ℕ) → IsLeast f chunk a → IsLeast f chunk b → a ≡ b
-pub one_least f chunk a b first second =
+one_least f chunk a b first second =
     let below = second.none_shorter first.some.0 first.some.1 first.some.2 in
     let above = first.none_shorter second.some.0 second.some.1 second.some.2 in
     omega (arith, below, above, first.some.3, second.some.3)

@@ -30,7 +30,7 @@ part_in_time runs b part =
 
 -- a part of defined runs is defined
 pub part_defined : (runs part : List Run) (b : Block) → All IsDefined runs → part ≡ filter (shares_page b) runs → All IsDefined part
-pub part_defined runs part b all is = subst (λ rs. All IsDefined rs) (sym is) (All-filter (shares_page b) IsDefined runs all)
+part_defined runs part b all is = subst (λ rs. All IsDefined rs) (sym is) (All-filter (shares_page b) IsDefined runs all)
 
 part_covers : (runs : List Run) (b : Block) → IsPart runs b → CoversBlock b runs
 part_covers runs b part =

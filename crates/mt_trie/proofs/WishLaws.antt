@@ -17,12 +17,12 @@ more_two wanted P Q step h = record { one = h.one; other = h.other; differ = h.d
 
 -- equal sets have equal wishes
 pub same_pages : (wanted : ℕ → Option MemType) (P Q : ℕ → Type 0) → ((page : ℕ) → P page → Q page) → ((page : ℕ) → Q page → P page) → (w : Wish) → IsWish wanted P w → IsWish wanted Q w
-pub same_pages wanted P Q to from Any m = λ page q. m page (from page q)
-pub same_pages wanted P Q to from (Only t) m = (λ page q u e. m.0 page (from page q) u e, more_has wanted P Q to t m.1)
+same_pages wanted P Q to from Any m = λ page q. m page (from page q)
+same_pages wanted P Q to from (Only t) m = (λ page q u e. m.0 page (from page q) u e, more_has wanted P Q to t m.1)
 same_pages wanted P Q to from Mixed m = more_two wanted P Q to m
 
 -- a set that two others make up
-pub record MakeUp (P Q R : ℕ → Type 0) : Type 0 where
+record MakeUp (P Q R : ℕ → Type 0) : Type 0 where
   pub first : (page : ℕ) → P page → R page
   pub second : (page : ℕ) → Q page → R page
   pub each : (page : ℕ) → R page → P page ⊎ Q page

@@ -10,7 +10,7 @@ use Rattle.mt_trie.specs.declared.context.Context.{Context}
 use Rattle.mt_trie.specs.declared.context.Context.TheVariants.{Untouched, Has, Clash}
 
 abbrev pub types : List MemType
-pub types = UC ∷ WC ∷ WT ∷ WP ∷ WB ∷ []
+types = UC ∷ WC ∷ WT ∷ WP ∷ WB ∷ []
 
 abbrev pub rank_of : Context → ℕ
 rank_of Untouched = 0
@@ -34,24 +34,24 @@ join_two x y =
 
 -- what two contexts leave together
 abbrev pub join : Context → Context → Context
-pub join Untouched y = y
-pub join x Untouched = x
-pub join x y = join_two x y
+join Untouched y = y
+join x Untouched = x
+join x y = join_two x y
 
 abbrev pub contexts : List Context
 contexts = Untouched ∷ Has UC ∷ Has WC ∷ Has WT ∷ Has WP ∷ Has WB ∷ Clash ∷ []
 
 -- what some types leave together
 abbrev pub joined : List MemType → Context
-pub joined [] = Untouched
-pub joined (t ∷ ts) = join (Has t) (joined ts)
+joined [] = Untouched
+joined (t ∷ ts) = join (Has t) (joined ts)
 
 -- the type of a page with this context, where the default type is given
 abbrev pub type_left : MemType → Context → PageType
-pub type_left default Untouched = Kind default
-pub type_left default (Has t) = Kind t
-pub type_left default Clash = Undefined
+type_left default Untouched = Kind default
+type_left default (Has t) = Kind t
+type_left default Clash = Undefined
 
 abbrev pub is_kind : PageType → MemType → Bool
-pub is_kind (Kind t) u = is_type t u
-pub is_kind Undefined u = false
+is_kind (Kind t) u = is_type t u
+is_kind Undefined u = false

@@ -60,5 +60,5 @@ each_kind f [] all = tt
 each_kind f (r ∷ rs) all = (all 0 r (omega arith), each_kind f rs (λ k d within. all (suc k) d (omega arith)))
 
 pub one_type_map : (f : RegisterFile) (rs ss : List Run) → IsRunsOf f rs → IsRunsOf f ss → rs ≡ ss
-pub one_type_map f rs ss is too =
+one_type_map f rs ss is too =
     one_map f 0 _ rs ss is.map.chain too.map.chain is.whole too.whole (each_kind f rs is.kinds) (each_kind f ss too.kinds) is.map.differ too.map.differ

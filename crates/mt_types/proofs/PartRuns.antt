@@ -12,7 +12,7 @@ use Rattle.mt_types.specs.Runs.{IsChain, kind_at, pages_end, run_end, shares_pag
 use Rattle.mt_types.proofs.Parts.{shares, ends_before, begins_past}
 
 -- a chain of runs from some page at or below the block's first up to its end or past it
-pub record CoversBlock (b : Block) (part : List Run) : Type 0 where
+record CoversBlock (b : Block) (part : List Run) : Type 0 where
   pub from : ℕ
   pub low : from ≤ b.first
   pub chain : IsChain from part
@@ -40,8 +40,8 @@ later_chain b from (r ∷ rs) chain above high = elim (cases_lt r.first (block_e
 
 pub covers_block : (b : Block) (from : ℕ) (runs : List Run) → IsChain from runs → from ≤ b.first → block_end b ≤ pages_end from runs
     → CoversBlock b (filter (shares_page b) runs)
-pub covers_block b from [] chain low high = absurd (omega (arith, pow_pos b.log))
-pub covers_block b from (r ∷ rs) chain low high = elim (cases_lt b.first (run_end r)) [
+covers_block b from [] chain low high = absurd (omega (arith, pow_pos b.log))
+covers_block b from (r ∷ rs) chain low high = elim (cases_lt b.first (run_end r)) [
   | inl inner ↦
       let test = shares b r inner (omega (arith, chain.0, pow_pos b.log)) in
       let later = later_chain b (run_end r) rs chain.2 inner high in
@@ -82,7 +82,7 @@ kind_in_part b from (r ∷ rs) page chain low first end = elim (cases_lt page (r
 -- the runs that a map lends for a block give its pages the types of the map
 pub part_kinds : (b : Block) (runs part : List Run) → IsChain 0 runs → part ≡ filter (shares_page b) runs → (page : ℕ) → IsTrue (has_page b page)
     → kind_at part page ≡ kind_at runs page
-pub part_kinds b runs part chain is page has =
+part_kinds b runs part chain is page has =
     let bounds = and_parts (nat_le b.first page) (nat_lt page (block_end b)) has in
     ap (λ rs. kind_at rs page) is
     ∙ kind_in_part b 0 runs page chain (omega arith) (leb-true _ _ bounds.0) (ltb-true _ _ bounds.1)

@@ -40,7 +40,7 @@ back (Kind WB) = refl
 back Undefined = refl
 
 pub same_or_not : (a b : PageType) → (a ≡ b) ⊎ (a ≢ b)
-pub same_or_not a b = elim (cases_Bool (rank a == rank b)) [
+same_or_not a b = elim (cases_Bool (rank a == rank b)) [
   | inl same ↦ inl (sym (back a) ∙ ap from_rank (eqb-true (rank a) (rank b) same) ∙ back b)
   | inr differ ↦ inr (λ e. let test = eq-eqb (rank a) (rank b) (ap rank e) in cc (sym differ ∙ test))
 ]
@@ -119,7 +119,7 @@ each_has f (r ∷ rs) kinds zero d within = kinds.0
 each_has f (r ∷ rs) kinds (suc k) d within = each_has f rs kinds.1 k d (omega arith)
 
 pub a_type_map : (f : RegisterFile) → IsRegisterFile f → (runs : List Run) × IsRunsOf f runs
-pub a_type_map f is =
+a_type_map f is =
     let some : 0 < page_count f = pow_pos (f.width - 12) in
     let (runs, map) = map_from f (page_count f - 1) 0 (page_count f) (omega arith) in (
       runs,

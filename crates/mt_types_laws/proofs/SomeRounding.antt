@@ -57,7 +57,7 @@ module _ (marks : ℕ → Option PageType) where
 
 pub rounded_or_more : (f : RegisterFile) → IsRegisterFile f → IsAccepted f → is_enabled f ≡ true → (g chunk spare : ℕ)
     → ((new : RegisterFile) × (used : ℕ) × (lost : ℕ) × (parts : List Run) × IsGrained f g chunk spare new used lost parts) ⊎ ((needs : ℕ) × (has : ℕ) × NeedsMore f g chunk spare needs has)
-pub rounded_or_more f good accepted enabled g chunk spare =
+rounded_or_more f good accepted enabled g chunk spare =
     let own = a_type_map f good in
     let wanted = all_runs (rounded_mark (pages_of f) g) (page_count f) in
     let parts = all_runs (lost_mark (pages_of f) g) (page_count f) in

@@ -35,7 +35,7 @@ fit_or_more f good accepted enabled runs wanted chunk spare =
 
 pub tidy_or_more : (f : RegisterFile) → IsRegisterFile f → IsAccepted f → is_enabled f ≡ true → (chunk spare : ℕ)
     → ((new : RegisterFile) × (used : ℕ) × IsTidy f chunk spare new used) ⊎ ((needs : ℕ) × (has : ℕ) × NeedsMore f chunk spare needs has)
-pub tidy_or_more f good accepted enabled chunk spare =
+tidy_or_more f good accepted enabled chunk spare =
     let (runs, are) = a_type_map f good in
     elim (fit_or_more f good accepted enabled runs (own_runs f good accepted enabled runs are) chunk spare) [
       | inl some ↦ inl (some.0, some.1, tidy_file f accepted enabled runs are chunk spare some.0 some.1 some.2)

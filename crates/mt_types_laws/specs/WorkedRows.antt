@@ -13,7 +13,7 @@ with_pair f n base mask = with_value (with_value f (PhysBase n) base) (PhysMask 
 
 -- WB from 0 to 4 GB, and UC above
 abbrev pub four_gigabytes : RegisterFile
-pub four_gigabytes = with_value (with_pair plain 0 6 0xf00000800) DefaultType 0x800
+four_gigabytes = with_value (with_pair plain 0 6 0xf00000800) DefaultType 0x800
 
 -- WC from 3 to 3.25 GB over it
 abbrev pub clash : RegisterFile

@@ -47,12 +47,12 @@ module _ (s : System) (k : ℕ) (rests : (q : Processor) → slice_get s.process
       one (Some q) at = ap (λ (b : Bool). ruled b (control_at s k q c) (record { answer = RuledBusy; after = s })) (rests q at)
 
 pub none_acts_in : (m : Machine) → NoneRunsInChange m → NoneActsInChange m
-pub none_acts_in m none i k p op c at changing =
+none_acts_in m none i k p op c at changing =
     let rests : (q : Processor) → slice_get m.system.processors k ≡ Some q → is_running q.phase ≡ false = λ q at_q. none i k p q at at_q changing in
     (access_busy m.system k rests op, control_busy m.system k rests c)
 
 pub none_acts_of : (s t : Machine) → IsStart s → Reached s t → NoneActsInChange t
-pub none_acts_of s t start r = none_acts_in t (none_runs_of s t start r)
+none_acts_of s t start r = none_acts_in t (none_runs_of s t start r)
 
 -- ---- at the pass
 
@@ -97,11 +97,11 @@ module _ (s : System) (o : Order) (k : ℕ) (g : Guarded o (stages s)) (clear : 
       one (Some p) at h = λ i q at_q. (clear i q at_q).no_buffers (ap not (none_runs p at h i q at_q))
 
 pub no_buffers : (m : Machine) (k : ℕ) → IsKept m → IsEnabled m (Steps k Pass) → All (λ (q : Processor). q.buffers ≡ []) m.system.processors
-pub no_buffers m k kept enabled i d within = one m.order kept enabled i (get_or m.system.processors i d) (slice_get-get_or m.system.processors i d within)
+no_buffers m k kept enabled i d within = one m.order kept enabled i (get_or m.system.processors i d) (slice_get-get_or m.system.processors i d within)
   where
     one : (v : Option Order) → IsKept (record { system = m.system; order = v }) → IsEnabled (record { system = m.system; order = v }) (Steps k Pass) → (i : ℕ) (q : Processor) → slice_get m.system.processors i ≡ Some q → q.buffers ≡ []
     one None kept enabled = absurd (cc)
     one (Some o) kept enabled = none_left m.system o k kept.0 kept.1 enabled
 
 pub no_buffers_at_pass : NoBuffersAtPass
-pub no_buffers_at_pass s p k start r enabled = no_buffers p k (reached_kept r (start_kept s start)) enabled
+no_buffers_at_pass s p k start r enabled = no_buffers p k (reached_kept r (start_kept s start)) enabled

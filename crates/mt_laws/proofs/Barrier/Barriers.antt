@@ -29,8 +29,8 @@ option_case (Some x) f d P none some = some x
 -- ---- the moves
 
 pub flush_era : (ph : Phase) (p : Processor) → (flush_tlb ph p).era ≡ p.era
-pub flush_era Flushed2 p = refl
-pub flush_era other p = in_case p.page_global
+flush_era Flushed2 p = refl
+flush_era other p = in_case p.page_global
   where
     in_case : (b : Bool) → (if b then record p { remembered_global = true; page_global = false; entries = [] } else record (reload_cr3 p) { remembered_global = false }).era ≡ p.era
     in_case true = refl
@@ -167,19 +167,19 @@ taken_stages goal k s p at =
     change_sets (own_step goal Take) k drained q found.1 ∙ (λ i. set (same i) k (Taken, era i))
 
 pub step_stages : (goal : RegisterFile) (e : Event) (k : ℕ) (s : System) (p : Processor) → slice_get s.processors k ≡ Some p → stages (step goal e k s) ≡ set (stages s) k (stage_of (own_step goal e p))
-pub step_stages goal Take k s p at = taken_stages goal k s p at
-pub step_stages goal (WriteBack a v) k s p at = change_sets (own_step goal (WriteBack a v)) k (before_own (WriteBack a v) k s) p at
-pub step_stages goal other k s p at = change_sets (own_step goal other) k s p at
+step_stages goal Take k s p at = taken_stages goal k s p at
+step_stages goal (WriteBack a v) k s p at = change_sets (own_step goal (WriteBack a v)) k (before_own (WriteBack a v) k s) p at
+step_stages goal other k s p at = change_sets (own_step goal other) k s p at
 
 -- ---- the invariant of all reached states
 
-pub record Rest (vs : List Stage) : Type 0 where
+record Rest (vs : List Stage) : Type 0 where
   pub running : (i : ℕ) (x : Stage) → At vs i x → is_running x.0 ≡ true
   pub one_era : (i j : ℕ) (x y : Stage) → At vs i x → At vs j y → x.1 ≡ y.1
 
 abbrev pub Kept : Option Order → List Stage → Type 0
-pub Kept None vs = Rest vs
-pub Kept (Some o) vs = Guarded o vs
+Kept None vs = Rest vs
+Kept (Some o) vs = Guarded o vs
 
 abbrev pub Invariant : Machine → Type 0
 Invariant m = Kept m.order (stages m.system)
@@ -294,7 +294,7 @@ guarded_cancelled o vs pending g = record {
 }
 
 pub step_guarded : (o : Order) (e : Event) (k : ℕ) (s : System) (p : Processor) → slice_get s.processors k ≡ Some p → due o s.processors p p.phase ≡ Some e → Guarded o (stages s) → Guarded o (stages (step o.goal e k s))
-pub step_guarded o e k s p at h g =
+step_guarded o e k s p at h g =
     let here : At (stages s) k (stage_of p) = stage_at s.processors k p at in
     let move = step_moves o s.processors p (g.eras k (stage_of p) here) p.phase e refl h (g.in_step k (stage_of p) here) in
     subst (Guarded o) (sym (step_stages o.goal e k s p at)) (moved o s.processors k (stage_of p) (stage_of (own_step o.goal e p)) g here move)
@@ -316,8 +316,8 @@ keeps_order (Steps k e) s (Some o) enabled inv = at_processor (slice_get s.proce
     at_processor (Some p) at h = still_kept o (step o.goal e k s).processors (step_guarded o e k s p at h inv)
 
 pub keeps : (m : Machine) (e : MachineEvent) → IsEnabled m e → Invariant m → Invariant (next m e)
-pub keeps m e enabled inv = keeps_order e m.system m.order enabled inv
+keeps m e enabled inv = keeps_order e m.system m.order enabled inv
 
 pub reached_keeps : {s t : Machine} → Reached s t → Invariant s → Invariant t
-pub reached_keeps at_start inv = inv
-pub reached_keeps (after e r enabled) inv = keeps _ e enabled (reached_keeps r inv)
+reached_keeps at_start inv = inv
+reached_keeps (after e r enabled) inv = keeps _ e enabled (reached_keeps r inv)

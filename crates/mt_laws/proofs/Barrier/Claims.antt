@@ -20,8 +20,8 @@ use Rattle.mt_laws.proofs.Barrier.Barriers.{Rest, Kept, Invariant, reached_keeps
 -- ---- ranks and the barriers' words
 
 pub passed_rank : (ph : Phase) (ahead : Bool) → (is_running ph ≡ false → ahead ≡ false) → (is_changing ph || is_arrived_again ph || ahead) ≡ true → 3 ≤ rank_of ph ahead
-pub passed_rank Running true in_step h = lit≤ tt
-pub passed_rank Running false in_step h = absurd (cc)
+passed_rank Running true in_step h = lit≤ tt
+passed_rank Running false in_step h = absurd (cc)
 passed_rank Taken true in_step h = absurd (let e : true ≡ false = in_step refl in cc)
 passed_rank Taken false in_step h = absurd (cc)
 passed_rank Arrived true in_step h = absurd (let e : true ≡ false = in_step refl in cc)
@@ -70,10 +70,10 @@ not_changing other runs = absurd (cc)
 -- ---- the start
 
 pub all_get : (P : Processor → Type 0) (ps : List Processor) → All P ps → (i : ℕ) (p : Processor) → slice_get ps i ≡ Some p → P p
-pub all_get P ps all i p at = subst P (get_or_from_slice_get ps i p p at) (all i p (slice_get_within ps i p at))
+all_get P ps all i p at = subst P (get_or_from_slice_get ps i p p at) (all i p (slice_get_within ps i p at))
 
 pub all_of : (P : Processor → Type 0) (ps : List Processor) → ((i : ℕ) (p : Processor) → slice_get ps i ≡ Some p → P p) → All P ps
-pub all_of P ps h k d within = h k (get_or ps k d) (slice_get-get_or ps k d within)
+all_of P ps h k d within = h k (get_or ps k d) (slice_get-get_or ps k d within)
 
 pub quiet_rest : (m : Machine) → IsQuiet m → Rest (stages m.system)
 quiet_rest m q = record {
@@ -115,7 +115,7 @@ module _ (m : Machine) (o : Order) (b : IsBroadcast m o) where
   broadcast_invariant = subst (λ (x : Option Order). Kept x (stages m.system)) (sym b.order) broadcast_guarded
 
 pub start_invariant : (m : Machine) → IsStart m → Invariant m
-pub start_invariant m s = ⊎_elim (λ (q : IsQuiet m). quiet_invariant m q) (λ (b : (o : Order) × IsBroadcast m o). broadcast_invariant m b.0 b.1) s
+start_invariant m s = ⊎_elim (λ (q : IsQuiet m). quiet_invariant m q) (λ (b : (o : Order) × IsBroadcast m o). broadcast_invariant m b.0 b.1) s
 
 -- ---- the claims
 
@@ -125,7 +125,7 @@ go_given Given h = refl
 go_given Cancelled h = absurd (cc)
 
 pub barriers_of : (m : Machine) → Invariant m → BarriersHold m
-pub barriers_of m inv = record { first = firsts; given = gives; second = seconds }
+barriers_of m inv = record { first = firsts; given = gives; second = seconds }
   where
     guard : (o : Order) → m.order ≡ Some o → Guarded o (stages m.system)
     guard o is = subst (λ (x : Option Order). Kept x (stages m.system)) is inv
@@ -159,11 +159,11 @@ not_true true h = absurd (h refl)
 not_true false h = refl
 
 pub exclusive_in : (s : System) (o : Option Order) → Kept o (stages s) → NoneRunsInChange (record { system = s; order = o })
-pub exclusive_in s None r i j p q at_p at_q h =
+exclusive_in s None r i j p q at_p at_q h =
     let runs : is_running p.phase ≡ true = r.running i (stage_of p) (stage_at s.processors i p at_p) in
     let quiet : is_changing p.phase ≡ false = not_changing p.phase runs in
     absurd (cc)
-pub exclusive_in s (Some o) g i j p q at_p at_q h =
+exclusive_in s (Some o) g i j p q at_p at_q h =
     not_true (is_running q.phase) (λ runs. absurd (clash runs))
   where
     clash : is_running q.phase ≡ true → ⊥
@@ -177,7 +177,7 @@ pub exclusive_in s (Some o) g i j p q at_p at_q h =
         omega arith
 
 pub barriers_hold_of : (s t : Machine) → IsStart s → Reached s t → BarriersHold t
-pub barriers_hold_of s t q r = barriers_of t (reached_keeps r (start_invariant s q))
+barriers_hold_of s t q r = barriers_of t (reached_keeps r (start_invariant s q))
 
 pub none_runs_of : (s t : Machine) → IsStart s → Reached s t → NoneRunsInChange t
-pub none_runs_of s t q r = exclusive_in t.system t.order (reached_keeps r (start_invariant s q))
+none_runs_of s t q r = exclusive_in t.system t.order (reached_keeps r (start_invariant s q))

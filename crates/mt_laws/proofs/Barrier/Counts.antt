@@ -47,4 +47,4 @@ full_first o ps h = one (list_all (has_arrived o) ps) (is_given o.go) (count_all
     one a false all h = absurd (let f = few in omega arith)
 
 pub open_where_full : OpenWhereFull
-pub open_where_full o ps = (first_full o ps, full_first o ps, all_count (has_arrived_again o) ps, count_all (has_arrived_again o) ps)
+open_where_full o ps = (first_full o ps, full_first o ps, all_count (has_arrived_again o) ps, count_all (has_arrived_again o) ps)

@@ -13,23 +13,23 @@ use Rattle.mt_laws.proofs.Barrier.Stages.{Stage, stage_of, stages_of}
 
 -- 0 runs, 1 taken, 2 arrived, 3 past the first barrier, 4 arrived again, 5 released
 abbrev pub rank_of : Phase → Bool → ℕ
-pub rank_of Running true = 5
-pub rank_of Running false = 0
-pub rank_of Taken released = 1
-pub rank_of Arrived released = 2
+rank_of Running true = 5
+rank_of Running false = 0
+rank_of Taken released = 1
+rank_of Arrived released = 2
 rank_of Arrived2 released = 4
 rank_of other released = 3
 
 abbrev pub is_ahead : Order → Stage → Bool
-pub is_ahead o x = nat_lt o.from_era x.1
+is_ahead o x = nat_lt o.from_era x.1
 
 abbrev pub rank : Order → Stage → ℕ
-pub rank o x = rank_of x.0 (is_ahead o x)
+rank o x = rank_of x.0 (is_ahead o x)
 
 abbrev pub At : List Stage → ℕ → Stage → Type 0
-pub At vs i x = slice_get vs i ≡ Some x
+At vs i x = slice_get vs i ≡ Some x
 
-pub record Guarded (o : Order) (vs : List Stage) : Type 0 where
+record Guarded (o : Order) (vs : List Stage) : Type 0 where
   pub first : (i j : ℕ) (x y : Stage) → At vs i x → At vs j y → 3 ≤ rank o x → 2 ≤ rank o y
   pub second : (i j : ℕ) (x y : Stage) → At vs i x → At vs j y → 5 ≤ rank o x → 4 ≤ rank o y
   pub given : (i : ℕ) (x : Stage) → At vs i x → 3 ≤ rank o x → is_given o.go ≡ true
@@ -37,7 +37,7 @@ pub record Guarded (o : Order) (vs : List Stage) : Type 0 where
   pub eras : (i : ℕ) (x : Stage) → At vs i x → (x.1 ≡ o.from_era) ⊎ (x.1 ≡ o.from_era + 1)
 
 -- what one step of a processor does to its stage, where the barriers are as these processors stand
-pub record Moves (o : Order) (ps : List Processor) (x y : Stage) : Type 0 where
+record Moves (o : Order) (ps : List Processor) (x y : Stage) : Type 0 where
   pub to_third : 3 ≤ rank o y → (3 ≤ rank o x) ⊎ (first_barrier_open o ps ≡ true)
   pub to_fifth : 5 ≤ rank o y → (5 ≤ rank o x) ⊎ (second_barrier_open o ps ≡ true)
   pub up : (rank o x ≤ rank o y) ⊎ (is_cancelled o.go ≡ true)
@@ -47,36 +47,36 @@ pub record Moves (o : Order) (ps : List Processor) (x y : Stage) : Type 0 where
 -- ---- lists
 
 pub at_set : (vs : List Stage) (k i : ℕ) (y w : Stage) → At (set vs k y) i w → ((i ≡ k) × (y ≡ w)) ⊎ At vs i w
-pub at_set [] k i y w at = inr at
-pub at_set (v ∷ vs) zero zero y w at = inl (refl, cc)
-pub at_set (v ∷ vs) zero (suc i) y w at = inr at
-pub at_set (v ∷ vs) (suc k) zero y w at = inr at
-pub at_set (v ∷ vs) (suc k) (suc i) y w at =
+at_set [] k i y w at = inr at
+at_set (v ∷ vs) zero zero y w at = inl (refl, cc)
+at_set (v ∷ vs) zero (suc i) y w at = inr at
+at_set (v ∷ vs) (suc k) zero y w at = inr at
+at_set (v ∷ vs) (suc k) (suc i) y w at =
     ⊎_elim (λ (e : (i ≡ k) × (y ≡ w)). inl (ap suc e.0, e.1)) (λ (e : At vs i w). inr e) (at_set vs k i y w at)
 
 -- the processor that has a stage
 pub processor_at : (ps : List Processor) (i : ℕ) (x : Stage) → At (stages_of ps) i x → (p : Processor) × (slice_get ps i ≡ Some p) × (stage_of p ≡ x)
-pub processor_at [] i x at = absurd (cc)
-pub processor_at (p ∷ ps) zero x at = (p, refl, cc)
-pub processor_at (p ∷ ps) (suc i) x at = processor_at ps i x at
+processor_at [] i x at = absurd (cc)
+processor_at (p ∷ ps) zero x at = (p, refl, cc)
+processor_at (p ∷ ps) (suc i) x at = processor_at ps i x at
 
 pub stage_at : (ps : List Processor) (i : ℕ) (p : Processor) → slice_get ps i ≡ Some p → At (stages_of ps) i (stage_of p)
-pub stage_at [] i p at = absurd (cc)
-pub stage_at (q ∷ ps) zero p at = let e : q ≡ p = cc in ap (λ r. Some (stage_of r)) e
-pub stage_at (q ∷ ps) (suc i) p at = stage_at ps i p at
+stage_at [] i p at = absurd (cc)
+stage_at (q ∷ ps) zero p at = let e : q ≡ p = cc in ap (λ r. Some (stage_of r)) e
+stage_at (q ∷ ps) (suc i) p at = stage_at ps i p at
 
 pub and_left : (a b : Bool) → (a && b) ≡ true → a ≡ true
-pub and_left true b h = refl
-pub and_left false b h = h
+and_left true b h = refl
+and_left false b h = h
 
 pub and_right : (a b : Bool) → (a && b) ≡ true → b ≡ true
-pub and_right true b h = h
-pub and_right false b h = absurd (cc)
+and_right true b h = h
+and_right false b h = absurd (cc)
 
 pub all_at : (test : Processor → Bool) (ps : List Processor) (i : ℕ) (p : Processor) → list_all test ps ≡ true → slice_get ps i ≡ Some p → test p ≡ true
-pub all_at test [] i p all at = absurd (cc)
-pub all_at test (q ∷ ps) zero p all at = let e : q ≡ p = cc in ap test (sym e) ∙ and_left (test q) (list_all test ps) all
-pub all_at test (q ∷ ps) (suc i) p all at = all_at test ps i p (and_right (test q) (list_all test ps) all) at
+all_at test [] i p all at = absurd (cc)
+all_at test (q ∷ ps) zero p all at = let e : q ≡ p = cc in ap test (sym e) ∙ and_left (test q) (list_all test ps) all
+all_at test (q ∷ ps) (suc i) p all at = all_at test ps i p (and_right (test q) (list_all test ps) all) at
 
 -- ---- what the words of the barriers say of ranks
 
@@ -112,7 +112,7 @@ all_second o ps g opened j y at =
     subst (λ (z : Stage). 2 ≤ rank o z) found.2 (arrived_rank_of p.phase (is_ahead o (stage_of p)) (g.in_step j (stage_of p) here) arrived)
 
 pub all_fourth : (o : Order) (ps : List Processor) → Guarded o (stages_of ps) → second_barrier_open o ps ≡ true → (j : ℕ) (y : Stage) → At (stages_of ps) j y → 4 ≤ rank o y
-pub all_fourth o ps g opened j y at =
+all_fourth o ps g opened j y at =
     let found = processor_at ps j y at in
     let p = found.0 in
     let here : At (stages_of ps) j (stage_of p) = stage_at ps j p found.1 in

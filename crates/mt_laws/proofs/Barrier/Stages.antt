@@ -21,16 +21,16 @@ use Rattle.mt_machine.specs.Control.{control, control_at, set_page_global, same_
 use Rattle.mt_tlb.specs.Entries.{is_full_for}
 
 abbrev pub Stage : Type 0
-pub Stage = Phase × ℕ
+Stage = Phase × ℕ
 
 abbrev pub stage_of : Processor → Stage
-pub stage_of p = (p.phase, p.era)
+stage_of p = (p.phase, p.era)
 
 abbrev pub stages_of : List Processor → List Stage
-pub stages_of ps = map stage_of ps
+stages_of ps = map stage_of ps
 
 abbrev pub stages : System → List Stage
-pub stages s = stages_of s.processors
+stages s = stages_of s.processors
 
 -- f leaves the phase and the era
 abbrev pub IsQuietStep : (Processor → Processor) → Type 0
@@ -46,7 +46,7 @@ change_stages_at f quiet k s None at = refl
 change_stages_at f quiet k s (Some p) at = set_stage s.processors k p (f p) at (quiet p)
 
 pub change_stages : (f : Processor → Processor) → IsQuietStep f → (k : ℕ) (s : System) → stages (change f k s) ≡ stages s
-pub change_stages f quiet k s = change_stages_at f quiet k s (slice_get s.processors k) refl
+change_stages f quiet k s = change_stages_at f quiet k s (slice_get s.processors k) refl
 
 map_stages : (f : Processor → Processor) → IsQuietStep f → (ps : List Processor) → stages_of (map f ps) ≡ stages_of ps
 map_stages f quiet [] = refl
@@ -77,7 +77,7 @@ empty_all_stages [] s = refl
 empty_all_stages (b ∷ bs) s = empty_all_stages bs (empty_buffer s b) ∙ empty_stages s b
 
 pub drain_stages : (k : ℕ) (s : System) → stages (drain k s) ≡ stages s
-pub drain_stages k s = change_stages _ (λ p. refl) k (fold empty_buffer s (buffers_of s k)) ∙ empty_all_stages (buffers_of s k) s
+drain_stages k s = change_stages _ (λ p. refl) k (fold empty_buffer s (buffers_of s k)) ∙ empty_all_stages (buffers_of s k) s
 
 option_stages : {X : Type 0} → (o : Option X) (f : X → System) (s t : System) → stages t ≡ stages s → ((x : X) → stages (f x) ≡ stages s) → stages (option_map_or f o t) ≡ stages s
 option_stages None f s t none some = none
@@ -202,7 +202,7 @@ access_at_stages s k p (Store address value) =
     (λ e. translated_stages (change (keep_entry e) k s) k e (Store address value) ∙ change_stages (keep_entry e) (keep_quiet e) k s)
 
 pub access_stages : (s : System) (k : ℕ) (op : Op) → stages (access s k op).after ≡ stages s
-pub access_stages s k op =
+access_stages s k op =
     option_answers (slice_get s.processors k) _ _ s refl
     (λ p. if_answers (is_running p.phase) _ _ s (access_at_stages s k p op) refl)
 
@@ -229,6 +229,6 @@ control_at_stages s k p (Pge on) =
 control_at_stages s k p (Cd on) = change_stages _ (λ q. refl) k (drain k s) ∙ drain_stages k s
 
 pub control_stages : (s : System) (k : ℕ) (c : Control) → stages (control s k c).after ≡ stages s
-pub control_stages s k c =
+control_stages s k c =
     option_ruled (slice_get s.processors k) _ _ s refl
     (λ p. if_ruled (is_running p.phase) _ _ s (control_at_stages s k p c) refl)

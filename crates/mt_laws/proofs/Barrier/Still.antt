@@ -26,7 +26,7 @@ change_memory_at f k s None = refl
 change_memory_at f k s (Some p) = refl
 
 pub change_memory : (f : Processor → Processor) (k : ℕ) (s : System) → (change f k s).memory ≡ s.memory
-pub change_memory f k s = change_memory_at f k s (slice_get s.processors k)
+change_memory f k s = change_memory_at f k s (slice_get s.processors k)
 
 same : (s : System) → SameHoldings s s
 same s = record { processors = refl; memory = refl }
@@ -44,4 +44,4 @@ still_in s (Some o) (Steps k Leave) is = record { processors = change_view holdi
 still_in s o other is = absurd (cc)
 
 pub still_keeps : (m : Machine) (e : MachineEvent) → is_still e ≡ true → SameHoldings m.system (next m e).system
-pub still_keeps m e is = still_in m.system m.order e is
+still_keeps m e is = still_in m.system m.order e is

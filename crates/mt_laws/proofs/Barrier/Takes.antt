@@ -36,7 +36,7 @@ left o None = 0
 left o (Some x) = cond (rank o x == 0) 1 0
 
 abbrev pub mine : ℕ → List ℕ → ℕ
-pub mine k ks = count_by (λ j. j == k) ks
+mine k ks = count_by (λ j. j == k) ks
 
 abbrev takes_now : ℕ → MachineEvent → ℕ
 takes_now k e = mine k (takes_of (e ∷ []))
@@ -294,14 +294,14 @@ quiet_left s goal k quiet = one (slice_get s.system.processors k) refl
         ∙ ap (λ b. if b then 1 else 0) (sym (lt-ltb k (length s.system.processors) within))
 
 pub takes_at_most_once : TakesAtMostOnce
-pub takes_at_most_once s goal es quiet enabled led k =
+takes_at_most_once s goal es quiet enabled led k =
     let first : Machine = next s (Calls goal) in
     let b = bound k es first.system first.order (keeps s (Calls goal) enabled.0 (quiet_invariant s quiet)) enabled.1 led in
     let a = quiet_left s goal k quiet in
     omega arith
 
 pub takes_once : TakesOnce
-pub takes_once s goal es quiet enabled led over k =
+takes_once s goal es quiet enabled led over k =
     exact k es s.system (record { goal = goal; from_era = common_era s.system.processors; go = Pending }) refl (keeps s (Calls goal) enabled.0 (quiet_invariant s quiet)) enabled.1 led over
     ∙ quiet_left s goal k quiet
 
@@ -365,4 +365,4 @@ take_at s (Some o) k enabled = at_processor (slice_get s.processors k) refl enab
         λ i. record { system = change (λ p. record p { phase = Taken }) k (sym fence i); order = stays i }
 
 pub take_fences : TakeFences
-pub take_fences m k enabled = take_at m.system m.order k enabled
+take_fences m k enabled = take_at m.system m.order k enabled

@@ -34,16 +34,16 @@ and_true true b h g = g
 and_true false b h g = absurd (cc)
 
 pub all_append : {X : Type 0} → (test : X → Bool) (xs ys : List X) → list_all test xs ≡ true → list_all test ys ≡ true → list_all test (xs ++ ys) ≡ true
-pub all_append test [] ys h g = g
-pub all_append test (x ∷ xs) ys h g = and_true (test x) _ (and_left _ _ h) (all_append test xs ys (and_right (test x) _ h) g)
+all_append test [] ys h g = g
+all_append test (x ∷ xs) ys h g = and_true (test x) _ (and_left _ _ h) (all_append test xs ys (and_right (test x) _ h) g)
 
 pub all_drop : {X : Type 0} → (test : X → Bool) (xs : List X) → list_all test xs ≡ true → list_all test (drop 1 xs) ≡ true
-pub all_drop test [] h = h
-pub all_drop test (x ∷ xs) h = and_right (test x) _ h
+all_drop test [] h = h
+all_drop test (x ∷ xs) h = and_right (test x) _ h
 
 pub all_filter : {X : Type 0} → (test keep : X → Bool) (xs : List X) → list_all test xs ≡ true → list_all test (filter keep xs) ≡ true
-pub all_filter test keep [] h = h
-pub all_filter test keep (x ∷ xs) h = one (keep x) (filter keep xs) (all_filter test keep xs (and_right (test x) _ h))
+all_filter test keep [] h = h
+all_filter test keep (x ∷ xs) h = one (keep x) (filter keep xs) (all_filter test keep xs (and_right (test x) _ h))
   where
     one : (b : Bool) (rest : List _) → list_all test rest ≡ true → list_all test (if b then x ∷ rest else rest) ≡ true
     one true rest g = and_true (test x) _ (and_left _ _ h) g
@@ -66,7 +66,7 @@ abbrev pub IsLocal : Processor → Type 0
 IsLocal p = p.page_global ≡ false → list_all (λ (e : Entry). not e.global) p.entries ≡ true
 
 -- q comes of p; only where mine holds may it hold something new, with p's era
-pub record Grows (mine : Type 0) (p q : Processor) : Type 0 where
+record Grows (mine : Type 0) (p q : Processor) : Type 0 where
   pub file : q.file ≡ p.file
   pub phase : q.phase ≡ p.phase
   pub era : q.era ≡ p.era
@@ -115,7 +115,7 @@ abbrev pub FollowsIn : ℕ → List Processor → List Processor → Type 0
 FollowsIn k ps qs = (j : ℕ) (q : Processor) → slice_get qs j ≡ Some q → (p : Processor) × (slice_get ps j ≡ Some p) × Grows (j ≡ k) p q
 
 abbrev pub Follows : ℕ → System → System → Type 0
-pub Follows k s t = FollowsIn k s.processors t.processors
+Follows k s t = FollowsIn k s.processors t.processors
 
 follows_same : (k : ℕ) (s : System) → Follows k s s
 follows_same k s j q at = (q, at, grows_same (j ≡ k) q)
@@ -193,7 +193,7 @@ follows_empty_all k (b ∷ bs) s =
     follows_then k s (empty_buffer s b) _ (follows_empty k s b) (follows_empty_all k bs (empty_buffer s b))
 
 pub follows_drain : (k : ℕ) (s : System) → Follows k s (drain k s)
-pub follows_drain k s =
+follows_drain k s =
     let emptied : System = fold empty_buffer s (buffers_of s k) in
     follows_then k s emptied _ (follows_empty_all k (buffers_of s k) s)
     (follows_change k emptied (with_buffers (λ _. [])) (λ mine own p. less_buffers mine (λ _. []) none_less p))
@@ -432,7 +432,7 @@ follows_access_at s k p (Store address value) is =
     (λ e found. follows_then k s (change (keep_entry e) k s) _ (at_entry s k p (address / 4096) e is found) (follows_translated (change (keep_entry e) k s) k e (Store address value)))
 
 pub follows_access : (s : System) (k : ℕ) (op : Op) → Follows k s (access s k op).after
-pub follows_access s k op =
+follows_access s k op =
     answers_option k s (slice_get s.processors k) _ _ (follows_same k s)
     (λ p is. answers_if k s (is_running p.phase) _ _ (follows_access_at s k p op is) (follows_same k s))
 
@@ -481,6 +481,6 @@ follows_control_at s k p (Cd on) =
     follows_drained s k _ (λ mine own q. grows_entries mine q _ refl refl refl refl refl (λ t h. h) (λ h. h))
 
 pub follows_control : (s : System) (k : ℕ) (c : Control) → Follows k s (control s k c).after
-pub follows_control s k c =
+follows_control s k c =
     rules_option k s (slice_get s.processors k) _ _ (follows_same k s)
     (λ p. rules_if k s (is_running p.phase) _ _ (follows_control_at s k p c) (follows_same k s))

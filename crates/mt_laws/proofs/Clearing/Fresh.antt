@@ -164,10 +164,10 @@ stays_fresh k ps qs follows fresh =
     all_of IsFresh qs (λ i q at. from_tests q (fresh_follows k ps qs follows (λ j p there. to_tests p (all_get IsFresh ps fresh j p there)) i q at))
 
 pub nothing_is_stale : NothingIsStale
-pub nothing_is_stale s m start fresh reached =
+nothing_is_stale s m start fresh reached =
     all_of IsFresh m.system.processors
     (λ i p at. from_tests p
     (reached_fresh reached (start_kept s start) (λ j q there. to_tests q (all_get IsFresh s.system.processors fresh j q there)) i p at))
 
 pub starts_fresh : StartsFresh
-pub starts_fresh flags files ws = each_start IsFresh files flags (λ k d within b. record { lines = nothing _; buffers = nothing _; entries = nothing _ })
+starts_fresh flags files ws = each_start IsFresh files flags (λ k d within b. record { lines = nothing _; buffers = nothing _; entries = nothing _ })

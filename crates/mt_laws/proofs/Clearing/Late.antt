@@ -26,7 +26,7 @@ use Rattle.mt_laws.proofs.Clearing.Follows.{passes, passes_entries, IsLocal, Fol
 use Rattle.mt_laws.proofs.Clearing.Cleared.{Clear, lines_gone, buffers_gone, entries_gone, none_passes}
 use Rattle.mt_laws.proofs.Clearing.Renewed.{AllClear, clear_next, steps_clear, runs_at}
 
-pub record OnlyNew (era : ℕ) (p : Processor) : Type 0 where
+record OnlyNew (era : ℕ) (p : Processor) : Type 0 where
   pub lines : passes (λ x. x == era) p.lines ≡ true
   pub buffers : passes (λ x. x == era) p.buffers ≡ true
   pub entries : passes_entries (λ x. x == era) p.entries ≡ true
@@ -85,20 +85,20 @@ renewed o ps g clear some j p at =
 -- ---- a release stands
 
 pub set_at : (vs : List Stage) (i k : ℕ) (x y z : Stage) → At vs i x → At vs k z → At (set vs k y) i x ⊎ ((i ≡ k) × At (set vs k y) i y)
-pub set_at [] i k x y z at_i at_k = absurd (cc)
-pub set_at (v ∷ vs) zero zero x y z at_i at_k = inr (refl, refl)
+set_at [] i k x y z at_i at_k = absurd (cc)
+set_at (v ∷ vs) zero zero x y z at_i at_k = inr (refl, refl)
 set_at (v ∷ vs) zero (suc k) x y z at_i at_k = inl at_i
 set_at (v ∷ vs) (suc i) zero x y z at_i at_k = inl at_i
 set_at (v ∷ vs) (suc i) (suc k) x y z at_i at_k =
     ⊎_elim (λ (h : At (set vs k y) i x). inl h) (λ (h : (i ≡ k) × At (set vs k y) i y). inr (ap suc h.0, h.1)) (set_at vs i k x y z at_i at_k)
 
 pub set_same : (vs : List Stage) (k : ℕ) (y z : Stage) → At vs k z → At (set vs k y) k y
-pub set_same [] k y z h = absurd (cc)
-pub set_same (v ∷ vs) zero y z h = refl
+set_same [] k y z h = absurd (cc)
+set_same (v ∷ vs) zero y z h = refl
 set_same (v ∷ vs) (suc k) y z h = set_same vs k y z h
 
 pub at_same : (vs : List Stage) (i : ℕ) (x y : Stage) → At vs i x → At vs i y → x ≡ y
-pub at_same vs i x y a b = let e : Some x ≡ Some y = sym a ∙ b in cc
+at_same vs i x y a b = let e : Some x ≡ Some y = sym a ∙ b in cc
 
 pub still_ahead : (o : Order) (e : Event) (k : ℕ) (s : System) (p : Processor) → slice_get s.processors k ≡ Some p → due o s.processors p p.phase ≡ Some e → Guarded o (stages s) → SomeAhead o (stages s) → SomeAhead o (stages (step o.goal e k s))
 still_ahead o e k s p at h g some =
@@ -119,10 +119,10 @@ still_ahead o e k s p at h g some =
 -- ---- all that comes after
 
 abbrev pub OrderLate : ℕ → Option Order → System → Type 0
-pub OrderLate era None s = Unit {0}
-pub OrderLate era (Some o) s = (o.from_era + 1 ≡ era) × SomeAhead o (stages s)
+OrderLate era None s = Unit {0}
+OrderLate era (Some o) s = (o.from_era + 1 ≡ era) × SomeAhead o (stages s)
 
-pub record Late (era : ℕ) (m : Machine) : Type 0 where
+record Late (era : ℕ) (m : Machine) : Type 0 where
   pub all : Renewed era m.system.processors
   pub order : OrderLate era m.order m.system
 
@@ -144,12 +144,12 @@ pending_late o s pending g some =
     cc
 
 pub late_next : (era : ℕ) (e : MachineEvent) (s : System) (o : Option Order) → IsEnabled (record { system = s; order = o }) e → not (is_call e) ≡ true → Kept o (stages s) → AllClear o s.processors → Late era (record { system = s; order = o }) → Late era (next (record { system = s; order = o }) e)
-pub late_next era (Accesses k op) s o enabled quiet inv clear l = record { all = renewed_follows era k s.processors _ enabled.0 (follows_access s k op) l.all; order = late_order o (sym (access_stages s k op)) l.order }
+late_next era (Accesses k op) s o enabled quiet inv clear l = record { all = renewed_follows era k s.processors _ enabled.0 (follows_access s k op) l.all; order = late_order o (sym (access_stages s k op)) l.order }
   where
     late_order : (o : Option Order) → stages s ≡ stages (next (record { system = s; order = o }) (Accesses k op)).system → OrderLate era o s → OrderLate era o (next (record { system = s; order = o }) (Accesses k op)).system
     late_order None same h = tt
     late_order (Some o) same h = (h.0, subst (SomeAhead o) same h.1)
-pub late_next era (Controls k c) s o enabled quiet inv clear l = record { all = renewed_follows era k s.processors _ enabled.0 (follows_control s k c) l.all; order = late_order o (sym (control_stages s k c)) l.order }
+late_next era (Controls k c) s o enabled quiet inv clear l = record { all = renewed_follows era k s.processors _ enabled.0 (follows_control s k c) l.all; order = late_order o (sym (control_stages s k c)) l.order }
   where
     late_order : (o : Option Order) → stages s ≡ stages (next (record { system = s; order = o }) (Controls k c)).system → OrderLate era o s → OrderLate era o (next (record { system = s; order = o }) (Controls k c)).system
     late_order None same h = tt
@@ -170,7 +170,7 @@ late_next era (Steps k e) s (Some o) enabled quiet inv clear l = at_processor (s
 -- ---- runs
 
 abbrev pub IsKept : Machine → Type 0
-pub IsKept m = Invariant m × AllClear m.order m.system.processors
+IsKept m = Invariant m × AllClear m.order m.system.processors
 
 pub kept_next : (m : Machine) (e : MachineEvent) → IsEnabled m e → IsKept m → IsKept (next m e)
 kept_next m e enabled h = (keeps m e enabled h.0, clear_next e m.system m.order enabled h.0 h.1)
@@ -241,7 +241,7 @@ is_released o k s p at h g =
     put_same (v ∷ vs) (suc j) x y h = put_same vs j x y h
 
 pub release_late : (s : System) (o : Order) (k : ℕ) → IsKept (record { system = s; order = Some o }) → IsEnabled (record { system = s; order = Some o }) (Steps k Release) → Late (o.from_era + 1) (next (record { system = s; order = Some o }) (Steps k Release))
-pub release_late s o k kept enabled = at_processor (slice_get s.processors k) refl enabled
+release_late s o k kept enabled = at_processor (slice_get s.processors k) refl enabled
   where
     at_processor : (q : Option Processor) → slice_get s.processors k ≡ q → option_map_or (λ p. due o s.processors p p.phase) q None ≡ Some Release → Late (o.from_era + 1) (record { system = step o.goal Release k s; order = remaining_order o (step o.goal Release k s).processors })
     at_processor None at h = absurd (cc)
@@ -249,12 +249,12 @@ pub release_late s o k kept enabled = at_processor (slice_get s.processors k) re
         late_still (o.from_era + 1) o (step o.goal Release k s) refl (step_guarded o Release k s p at h kept.0) (steps_clear o s k p at kept.0 kept.1 p.phase Release refl h) (is_released o k s p at h kept.0)
 
 pub all_lines : (era : ℕ) (ls : List CacheLine) → passes (λ x. x == era) ls ≡ true → All (λ (l : CacheLine). l.era ≡ era) ls
-pub all_lines era ls h k d within = eqb-true _ era (AllPass-from_list_all (λ (l : CacheLine). l.era == era) ls h k d within)
+all_lines era ls h k d within = eqb-true _ era (AllPass-from_list_all (λ (l : CacheLine). l.era == era) ls h k d within)
 
 pub all_entries : (era : ℕ) (es : List Entry) → passes_entries (λ x. x == era) es ≡ true → All (λ (e : Entry). e.era ≡ era) es
-pub all_entries era es h k d within = eqb-true _ era (AllPass-from_list_all (λ (e : Entry). e.era == era) es h k d within)
+all_entries era es h k d within = eqb-true _ era (AllPass-from_list_all (λ (e : Entry). e.era == era) es h k d within)
 
-pub record HoldsOnly (era : ℕ) (p : Processor) : Type 0 where
+record HoldsOnly (era : ℕ) (p : Processor) : Type 0 where
   pub lines : All (λ l. l.era ≡ era) p.lines
   pub buffers : All (λ l. l.era ≡ era) p.buffers
   pub entries : All (λ e. e.era ≡ era) p.entries
@@ -268,8 +268,8 @@ NothingOlderAfterRelease =
 pub nothing_older_in : (m : Machine) (o : Order) (k : ℕ) (since : List MachineEvent) (x : Option Order) → m.order ≡ x → x ≡ Some o → IsKept (record { system = m.system; order = x }) → IsEnabled (record { system = m.system; order = x }) (Steps k Release)
     → AreEnabled (next (record { system = m.system; order = x }) (Steps k Release)) since → list_all (λ e. not (is_call e)) since ≡ true
     → (i : ℕ) (p : Processor) → IsAt (run (next (record { system = m.system; order = x }) (Steps k Release)) since) i p → HoldsOnly (o.from_era + 1) p
-pub nothing_older_in m o k since None is same kept enabled more quiet i p at = absurd (cc)
-pub nothing_older_in m o k since (Some o') is same kept enabled more quiet i p at =
+nothing_older_in m o k since None is same kept enabled more quiet i p at = absurd (cc)
+nothing_older_in m o k since (Some o') is same kept enabled more quiet i p at =
     let orders : o' ≡ o = cc in
     let era : o'.from_era + 1 ≡ o.from_era + 1 = ap (λ (v : Order). v.from_era + 1) orders in
     let new = late_run (o'.from_era + 1) (next (record { system = m.system; order = Some o' }) (Steps k Release)) since (kept_next (record { system = m.system; order = Some o' }) (Steps k Release) enabled kept) (release_late m.system o' k kept enabled) more quiet i p at in

@@ -70,7 +70,7 @@ clear_still o ps qs clear = one (is_over o ps)
 
 -- the processor that a change made, or one that it left
 pub at_change : (f : Processor → Processor) (k : ℕ) (s : System) (j : ℕ) (q : Processor) → slice_get (change f k s).processors j ≡ Some q → ((j ≡ k) × (x : Processor) × (slice_get s.processors k ≡ Some x) × (f x ≡ q)) ⊎ ((j ≢ k) × (slice_get s.processors j ≡ Some q))
-pub at_change f k s j q at = one s.processors k j (slice_get s.processors k) refl at
+at_change f k s j q at = one s.processors k j (slice_get s.processors k) refl at
   where
     put : (ps : List Processor) (k j : ℕ) (x y q : Processor) → slice_get ps k ≡ Some x → slice_get (slice_set ps k y) j ≡ Some q → ((j ≡ k) × (y ≡ q)) ⊎ ((j ≢ k) × (slice_get ps j ≡ Some q))
     put [] k j x y q is h = absurd (cc)
@@ -95,13 +95,13 @@ drained_buffers k s x at =
 -- ---- a step
 
 unfoldable pub is_take : Event → Bool
-pub is_take Take = true
-pub is_take other = false
+is_take Take = true
+is_take other = false
 
 pub left_alone : (e : Event) (k : ℕ) (s : System) → is_take e ≡ false → (before_own e k s).processors ≡ s.processors
 unfolding is_take
-pub left_alone Take k s h = absurd (cc)
-pub left_alone other k s h = refl
+left_alone Take k s h = absurd (cc)
+left_alone other k s h = refl
 
 pub option_case : {X Y : Type 0} → (x : Option X) (f : X → Y) (d : Y) (P : Y → Type 0) → P d → ((y : X) → P (f y)) → P (option_map_or f x d)
 option_case None f d P none some = none
@@ -110,7 +110,7 @@ option_case (Some y) f d P none some = some y
 -- only a running processor takes
 pub no_take : (o : Order) (ps : List Processor) (p : Processor) (ph : Phase) (e : Event) → is_running ph ≡ false → due o ps p ph ≡ Some e → is_take e ≡ false
 unfolding is_take
-pub no_take o ps p ph e quiet h = one e (due_row o ps p ph e h)
+no_take o ps p ph e quiet h = one e (due_row o ps p ph e h)
   where
     one : (e : Event) → is_row e ph ≡ true → is_take e ≡ false
     one Take on = absurd (cc)

@@ -42,10 +42,10 @@ newcomer_is_processor p h = record {
 
 -- a processor of the longer list is one of before, or the one behind them
 pub of_more : (ps : List Processor) (q : Processor) (i : ℕ) (p : Processor) → slice_get (ps ++ q ∷ []) i ≡ Some p → (slice_get ps i ≡ Some p) ⊎ (q ≡ p)
-pub of_more [] q zero p at = inr (cc)
-pub of_more [] q (suc i) p at = absurd (cc)
-pub of_more (x ∷ ps) q zero p at = inl at
-pub of_more (x ∷ ps) q (suc i) p at = of_more ps q i p at
+of_more [] q zero p at = inr (cc)
+of_more [] q (suc i) p at = absurd (cc)
+of_more (x ∷ ps) q zero p at = inl at
+of_more (x ∷ ps) q (suc i) p at = of_more ps q i p at
 
 each_more : (P : Processor → Type 0) (ps : List Processor) (q : Processor) → All P ps → P q → All P (ps ++ q ∷ [])
 each_more P ps q all own =
@@ -83,7 +83,7 @@ module _ (s : System) (p : Processor) (h : IsSound s) (own : IsProcessor p) wher
   }
 
 pub reset_stays_sound : ResetStaysSound
-pub reset_stays_sound s h = one (slice_get s.processors 0) refl
+reset_stays_sound s h = one (slice_get s.processors 0) refl
   where
     one : (o : Option Processor) → slice_get s.processors 0 ≡ o → IsSound (option_map_or (λ p. record s { processors = s.processors ++ newcomer_beside p ∷ [] }) o s)
     one None at = h
@@ -98,7 +98,7 @@ kind_of_both : (p q : Processor) → FitsGoal p.file q → FitsGoal p.file (newc
 kind_of_both p q h = record { width = h.width; capabilities = h.capabilities }
 
 pub reset_stays_quiet : ResetStaysQuiet
-pub reset_stays_quiet m h = one (slice_get m.system.processors 0) refl (reset_stays_sound m.system h.sound)
+reset_stays_quiet m h = one (slice_get m.system.processors 0) refl (reset_stays_sound m.system h.sound)
   where
     one : (o : Option Processor) → slice_get m.system.processors 0 ≡ o → IsSound (option_map_or (λ p. record m.system { processors = m.system.processors ++ newcomer_beside p ∷ [] }) o m.system)
         → IsQuiet (record m { system = option_map_or (λ p. record m.system { processors = m.system.processors ++ newcomer_beside p ∷ [] }) o m.system })
@@ -127,18 +127,18 @@ pub reset_stays_quiet m h = one (slice_get m.system.processors 0) refl (reset_st
 
 -- what a newcomer has of the one beside it holds of all
 pub reset_each : (P : Processor → Type 0) (s : System) → All P s.processors → ((p : Processor) → P p → P (newcomer_beside p)) → All P (reset s).processors
-pub reset_each P s all own = one (slice_get s.processors 0) refl
+reset_each P s all own = one (slice_get s.processors 0) refl
   where
     one : (o : Option Processor) → slice_get s.processors 0 ≡ o → All P (option_map_or (λ p. record s { processors = s.processors ++ newcomer_beside p ∷ [] }) o s).processors
     one None at = all
     one (Some p) at = each_more P s.processors (newcomer_beside p) all (own p (all_get P s.processors all 0 p at))
 
 pub reset_memory : (s : System) → (reset s).memory ≡ s.memory
-pub reset_memory s = one (slice_get s.processors 0)
+reset_memory s = one (slice_get s.processors 0)
   where
     one : (o : Option Processor) → (option_map_or (λ p. record s { processors = s.processors ++ newcomer_beside p ∷ [] }) o s).memory ≡ s.memory
     one None = refl
     one (Some p) = refl
 
 pub reset_stays_fresh : ResetStaysFresh
-pub reset_stays_fresh s fresh = reset_each IsFresh s fresh (λ p f. record { lines = nothing _; buffers = nothing _; entries = nothing _ })
+reset_stays_fresh s fresh = reset_each IsFresh s fresh (λ p f. record { lines = nothing _; buffers = nothing _; entries = nothing _ })

@@ -106,10 +106,10 @@ step_flags goal e k s = change_flags (own_step goal e) (own_keeps_flag goal e) k
     before other = refl
 
 pub flags_stay : FlagsStay
-pub flags_stay m (Accesses k op) = access_flags m.system k op
-pub flags_stay m (Controls k c) = control_flags m.system k c
-pub flags_stay m (Calls goal) = refl
-pub flags_stay m Goes = one m.order
+flags_stay m (Accesses k op) = access_flags m.system k op
+flags_stay m (Controls k c) = control_flags m.system k c
+flags_stay m (Calls goal) = refl
+flags_stay m Goes = one m.order
   where
     one : (o : Option Order) → flags_of (next (record m { order = o }) Goes).system ≡ flags_of m.system
     one None = refl
@@ -126,7 +126,7 @@ flags_stay m (Steps k e) = one m.order
     one (Some o) = step_flags o.goal e k m.system
 
 pub updated_keeps_flags : UpdatedKeepsFlags
-pub updated_keeps_flags s takes goal = all s.processors
+updated_keeps_flags s takes goal = all s.processors
   where
     all : (ps : List Processor) → map is_self_snooping (map (settled_processor goal) ps) ≡ map is_self_snooping ps
     all [] = refl

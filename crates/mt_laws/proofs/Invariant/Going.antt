@@ -40,8 +40,8 @@ clear_front (None ∷ cs) (suc k) h = clear_front cs k h
 clear_front (Some c ∷ cs) (suc k) h = absurd h
 
 pub shared_front : (v : ℕ) (cs : List Copy) (k : ℕ) → IsShared v cs → IsShared v (take k cs)
-pub shared_front v [] zero h = tt
-pub shared_front v [] (suc k) h = tt
+shared_front v [] zero h = tt
+shared_front v [] (suc k) h = tt
 shared_front v (c ∷ cs) zero h = tt
 shared_front v (None ∷ cs) (suc k) h = shared_front v cs k h
 shared_front v (Some (x, true) ∷ cs) (suc k) h = absurd h
@@ -99,8 +99,8 @@ back_word a whole (l ∷ ls) m aligned counted apart fit =
 -- ---- the processors but the last
 
 pub of_front : (ps : List Processor) (k i : ℕ) (p : Processor) → slice_get (take k ps) i ≡ Some p → slice_get ps i ≡ Some p
-pub of_front [] zero i p at = absurd (cc)
-pub of_front [] (suc k) i p at = absurd (cc)
+of_front [] zero i p at = absurd (cc)
+of_front [] (suc k) i p at = absurd (cc)
 of_front (q ∷ ps) zero i p at = absurd (cc)
 of_front (q ∷ ps) (suc k) zero p at = at
 of_front (q ∷ ps) (suc k) (suc i) p at = of_front ps k i p at
@@ -112,8 +112,8 @@ fit_front ws (p ∷ ps) zero h = tt
 fit_front ws (p ∷ ps) (suc k) h = (h.0, fit_front ws ps k h.1)
 
 pub last_is : (ps : List Processor) (k : ℕ) → k < length ps → (p : Processor) × (slice_get ps k ≡ Some p)
-pub last_is [] k within = absurd (omega arith)
-pub last_is (p ∷ ps) zero within = (p, refl)
+last_is [] k within = absurd (omega arith)
+last_is (p ∷ ps) zero within = (p, refl)
 last_is (p ∷ ps) (suc k) within = last_is ps k (omega arith)
 
 module _ (t : System) (k : ℕ) (p : Processor) (h : IsSound t) (at : slice_get t.processors k ≡ Some p) (long : length t.processors ≡ suc k) where
@@ -175,7 +175,7 @@ module _ (t : System) (k : ℕ) (p : Processor) (h : IsSound t) (at : slice_get 
 -- ---- after its buffers are emptied
 
 pub drained_number : (k : ℕ) (s : System) → length (drain k s).processors ≡ length s.processors
-pub drained_number k s = sym (length-map (drain k s).processors stage_of) ∙ ap length (drain_stages k s) ∙ length-map s.processors stage_of
+drained_number k s = sym (length-map (drain k s).processors stage_of) ∙ ap length (drain_stages k s) ∙ length-map s.processors stage_of
 
 module _ (s : System) (some : 0 < length s.processors) (h : IsSound s) where
   abbrev k : ℕ
@@ -197,31 +197,31 @@ module _ (s : System) (some : 0 < length s.processors) (h : IsSound s) where
   gone_now = left_now (drain k s) k last.0 sound last.1 long
 
 pub gone_stays_sound : GoneStaysSound
-pub gone_stays_sound s some h = gone_sound s some h
+gone_stays_sound s some h = gone_sound s some h
 
 pub gone_keeps_words : GoneKeepsWords
-pub gone_keeps_words s address some h whole = gone_now s some h address whole
+gone_keeps_words s address some h whole = gone_now s some h address whole
 
 pub others_stand : OthersStand
-pub others_stand s =
+others_stand s =
     sym (take-map uncached (last_number s) (drain (last_number s) s).processors)
     ∙ ap (take (last_number s)) (drain_views Processor uncached (λ f p. refl) (λ f p. refl) (last_number s) s)
 
 -- each that stays is one of before, and holds nothing new
 pub gone_from : (s : System) → FollowsIn (last_number s) s.processors (gone s).processors
-pub gone_from s i q at = follows_drain (last_number s) s i q (of_front (drain (last_number s) s).processors (last_number s) i q at)
+gone_from s i q at = follows_drain (last_number s) s i q (of_front (drain (last_number s) s).processors (last_number s) i q at)
 
 pub gone_stays_fresh : GoneStaysFresh
-pub gone_stays_fresh s fresh = stays_fresh (last_number s) s.processors (gone s).processors (gone_from s) fresh
+gone_stays_fresh s fresh = stays_fresh (last_number s) s.processors (gone s).processors (gone_from s) fresh
 
 pub gone_windows : (s : System) → IsSound s → (gone s).memory.windows ≡ s.memory.windows
-pub gone_windows s h =
+gone_windows s h =
     let k : ℕ = last_number s in
     back_windows (lines_of (drain k s) k) (drain k s).memory
     ∙ (stands_drain s.memory.windows (aligned_all s.memory.windows h.memory.aligned) k s (sound_stands s h)).memory.windows
 
 pub gone_count : (s : System) → length (gone s).processors ≡ length s.processors - 1
-pub gone_count s = count (drain (last_number s) s).processors (last_number s) (let n = drained_number (last_number s) s in omega (arith, n))
+gone_count s = count (drain (last_number s) s).processors (last_number s) (let n = drained_number (last_number s) s in omega (arith, n))
   where
     count : (ps : List Processor) (k : ℕ) → k ≤ length ps → length (take k ps) ≡ k
     count [] zero h = refl
@@ -241,7 +241,7 @@ same_eras [] n all i d within = absurd (omega arith)
 same_eras (p ∷ ps) n all i d within = all i d within ∙ sym (all 0 d (omega arith))
 
 pub gone_stays_quiet : GoneStaysQuiet
-pub gone_stays_quiet m some h =
+gone_stays_quiet m some h =
     let s : System = m.system in
     let ps : List Processor = m.system.processors in
     let qs : List Processor = (gone m.system).processors in

@@ -14,10 +14,10 @@ use Rattle.mt_laws.proofs.Words.Agreement.{Agrees, agrees_next, stands_next, ste
 use Rattle.mt_laws.proofs.Words.Sound.{aligned_all, sound_agrees, agrees_coherent, now_is}
 
 pub start_sound : (m : Machine) → IsStart m → IsSound m.system
-pub start_sound m s = ⊎_elim (λ (q : IsQuiet m). q.sound) (λ (b : (o : Order) × IsBroadcast m o). b.1.sound) s
+start_sound m s = ⊎_elim (λ (q : IsQuiet m). q.sound) (λ (b : (o : Order) × IsBroadcast m o). b.1.sound) s
 
 pub start_aligned : (m : Machine) → IsStart m → AllAligned m.system.memory.windows
-pub start_aligned m s = aligned_all m.system.memory.windows (start_sound m s).memory.aligned
+start_aligned m s = aligned_all m.system.memory.windows (start_sound m s).memory.aligned
 
 pub reached_agrees : (ws : List Window) → AllAligned ws → {s t : Machine} → Reached s t → Agrees ws s → Agrees ws t
 reached_agrees ws aligned at_start g = g
@@ -27,7 +27,7 @@ pub agrees : (s m : Machine) → IsStart s → Reached s m → Agrees s.system.m
 agrees s m start r = reached_agrees s.system.memory.windows (start_aligned s start) r (sound_agrees s (start_sound s start))
 
 pub stays_coherent : StaysCoherent
-pub stays_coherent s m start r = agrees_coherent s.system.memory.windows m (agrees s m start r)
+stays_coherent s m start r = agrees_coherent s.system.memory.windows m (agrees s m start r)
 
 unchanged : (s : System) (o : Option Order) (e : MachineEvent) (a : ℕ) → is_of_update e ≡ true → ((k : ℕ) (w : Event) → e ≡ Steps k w → now (next (record { system = s; order = o }) e).system a ≡ now s a) → now (next (record { system = s; order = o }) e).system a ≡ now s a
 unchanged s o (Accesses k op) a is step = absurd (cc)
@@ -52,7 +52,7 @@ one_step_keeps ws aligned m k e a g enabled apart whole =
 
 pub keeps_now : (ws : List Window) → AllAligned ws → (m : Machine) (e : MachineEvent) (a : ℕ) → Agrees ws m → IsEnabled m e → is_of_update e ≡ true → is_take_step e ≡ false → a % 8 ≡ 0
     → now (next m e).system a ≡ now m.system a
-pub keeps_now ws aligned m e a g enabled is quiet whole =
+keeps_now ws aligned m e a g enabled is quiet whole =
     unchanged m.system m.order e a is
     (λ k w same.
     let there : IsEnabled m (Steps k w) = subst (IsEnabled m) same enabled in
@@ -60,4 +60,4 @@ pub keeps_now ws aligned m e a g enabled is quiet whole =
     ∙ one_step_keeps ws aligned m k w a g there (λ take. absurd (let on : is_take_step (Steps k w) ≡ true = ap (λ (v : Event). is_take_step (Steps k v)) take in let off : is_take_step (Steps k w) ≡ false = ap is_take_step (sym same) ∙ quiet in cc)) whole)
 
 pub steps_keep_now : StepsKeepNow
-pub steps_keep_now s m e a start r = keeps_now s.system.memory.windows (start_aligned s start) m e a (agrees s m start r)
+steps_keep_now s m e a start r = keeps_now s.system.memory.windows (start_aligned s start) m e a (agrees s m start r)

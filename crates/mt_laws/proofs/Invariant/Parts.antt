@@ -33,7 +33,7 @@ pub flushed_runs : (ph : Phase) → is_running ph ≡ true → is_tlb_flushed ph
 flushed_runs Running h = refl
 flushed_runs other h = absurd (cc)
 
-pub record Parts (ws : List Window) (s : System) : Type 0 where
+record Parts (ws : List Window) (s : System) : Type 0 where
   pub agrees : Agrees ws (record { system = s; order = None })
   pub tidy : AllTidy s.processors
   pub files : (i : ℕ) (p : Processor) → slice_get s.processors i ≡ Some p → IsRegisterFile p.file
@@ -97,7 +97,7 @@ module _ (ws : List Window) (s : System) (parts : Parts ws s) where
 
 -- memory keeps its windows
 pub memory_of : (a b : Memory) → b.windows ≡ a.windows → length b.words ≡ word_count a.windows → IsMemory a → IsMemory b
-pub memory_of a b windows counted h = record {
+memory_of a b windows counted h = record {
   some_lines = subst (λ (v : List Window). All (λ w. 0 < w.lines) v) (sym windows) h.some_lines;
   aligned = subst (λ (v : List Window). All (λ w. w.base % 64 ≡ 0) v) (sym windows) h.aligned;
   bounded = subst (λ (v : List Window). All (λ w. window_end w ≤ 2 ^ 52) v) (sym windows) h.bounded;

@@ -40,7 +40,7 @@ is_processor p h = record {
 
 -- a processor after it is one of before, but for the flag
 pub from : (k : ℕ) (s : System) (i : ℕ) (q : Processor) → slice_get (with_self_snoop k s).processors i ≡ Some q → (p : Processor) × (slice_get s.processors i ≡ Some p) × ((p ≡ q) ⊎ (snooping p ≡ q))
-pub from k s i q at =
+from k s i q at =
     ⊎_elim
     (λ (own : (i ≡ k) × (p : Processor) × (slice_get s.processors k ≡ Some p) × (snooping p ≡ q)). (own.1, ap (slice_get s.processors) own.0 ∙ own.2, inr own.3))
     (λ (other : (i ≢ k) × (slice_get s.processors i ≡ Some q)). (q, other.1, inl refl))
@@ -48,7 +48,7 @@ pub from k s i q at =
 
 -- what holds of each whatever its flag is
 pub each_snooping : (P : Processor → Type 0) → ((p : Processor) → P p → P (snooping p)) → (k : ℕ) (s : System) → All P s.processors → All P (with_self_snoop k s).processors
-pub each_snooping P stays k s all i d within =
+each_snooping P stays k s all i d within =
     let f = from k s i _ (slice_get-get_or (with_self_snoop k s).processors i d within) in
     let was = all_get P s.processors all i f.0 f.1 in
     ⊎_elim (λ (same : f.0 ≡ _). subst P same was) (λ (set : snooping f.0 ≡ _). subst P set (stays f.0 was)) f.2
@@ -65,7 +65,7 @@ abbrev Placed : (Processor → List CacheLine) → Memory → Processor → Type
 Placed held m p = All (λ (l : CacheLine). IsSome (place m (word_address l.number 0))) (held p)
 
 pub snooping_stays_sound : SnoopingStaysSound
-pub snooping_stays_sound s k h = subst (λ (m : Memory). IsSound (record { processors = (with_self_snoop k s).processors; memory = m })) (sym (change_memory snooping k s)) over
+snooping_stays_sound s k h = subst (λ (m : Memory). IsSound (record { processors = (with_self_snoop k s).processors; memory = m })) (sym (change_memory snooping k s)) over
   where
     over : IsSound (record { processors = (with_self_snoop k s).processors; memory = s.memory })
     over = record {
@@ -95,7 +95,7 @@ same_era k s = one (slice_get s.processors k) refl
     one (Some p) at = first s.processors k p at
 
 pub snooping_stays_quiet : SnoopingStaysQuiet
-pub snooping_stays_quiet m k h = record {
+snooping_stays_quiet m k h = record {
   sound = snooping_stays_sound m.system k h.sound;
   running = each_snooping (λ p. is_running p.phase ≡ true) (λ p c. c) k m.system h.running;
   one_era = each_snooping (λ p. p.era ≡ common_era (with_self_snoop k m.system).processors) (λ p c. c) k m.system (subst (λ (n : ℕ). All (λ p. p.era ≡ n) m.system.processors) (sym (same_era k m.system)) h.one_era);

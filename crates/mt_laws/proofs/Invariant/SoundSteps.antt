@@ -102,7 +102,7 @@ aligned_of : (s : System) → IsSound s → AllAligned s.memory.windows
 aligned_of s h = aligned_all s.memory.windows h.memory.aligned
 
 pub access_keeps_sound : AccessKeepsSound
-pub access_keeps_sound s k op h =
+access_keeps_sound s k op h =
     let ws : List Window = s.memory.windows in
     let al = aligned_of s h in
     let parts = sound_parts s h in
@@ -115,7 +115,7 @@ pub access_keeps_sound s k op h =
     (flushed_step k s (access s k op).after (follows_access s k op) (λ rests. ap (λ (a : Answered). a.after) (access_busy s k rests op)) parts.flushed)
 
 pub control_keeps_sound : ControlKeepsSound
-pub control_keeps_sound s k c h fits =
+control_keeps_sound s k c h fits =
     let ws : List Window = s.memory.windows in
     let al = aligned_of s h in
     let parts = sound_parts s h in
@@ -128,7 +128,7 @@ pub control_keeps_sound s k c h fits =
     (flushed_step k s (control s k c).after (follows_control s k c) (λ rests. ap (λ (a : RuledAfter). a.after) (control_busy s k rests c)) parts.flushed)
 
 pub drain_keeps_sound : DrainKeepsSound
-pub drain_keeps_sound s k h =
+drain_keeps_sound s k h =
     let ws : List Window = s.memory.windows in
     let al = aligned_of s h in
     let parts = sound_parts s h in

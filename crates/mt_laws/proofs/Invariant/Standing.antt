@@ -31,7 +31,7 @@ use Rattle.mt_laws.proofs.Translations.TidySteps.{tidy_next}
 use Rattle.mt_laws.proofs.Registers.Accepted.{GoalAccepted, Accepted, accepted_next}
 use Rattle.mt_laws.proofs.Invariant.Parts.{Parts, IsFlushed, flushed_runs, part_processor, parts_sound, sound_tidy, memory_of}
 
-pub record Standing (ws : List Window) (m : Machine) : Type 0 where
+record Standing (ws : List Window) (m : Machine) : Type 0 where
   pub kept : IsKept m
   pub filed : AllFiled m.order m.system.processors
   pub accepted : Accepted m
@@ -39,7 +39,7 @@ pub record Standing (ws : List Window) (m : Machine) : Type 0 where
   pub agrees : Agrees ws m
 
 pub standing_next : (ws : List Window) → AllAligned ws → (m : Machine) (e : MachineEvent) → IsEnabled m e → Standing ws m → Standing ws (next m e)
-pub standing_next ws aligned m e enabled s = record {
+standing_next ws aligned m e enabled s = record {
   kept = kept_next m e enabled s.kept;
   filed = filed_next e m.system m.order enabled s.kept.0 s.filed;
   accepted = accepted_next m e enabled s.kept.0 s.filed s.accepted;
@@ -56,7 +56,7 @@ start_accepted m s = record {
 }
 
 pub start_standing : (m : Machine) → IsStart m → Standing m.system.memory.windows m
-pub start_standing m s = record {
+start_standing m s = record {
   kept = start_kept m s;
   filed = start_filed m s;
   accepted = start_accepted m s;
@@ -65,8 +65,8 @@ pub start_standing m s = record {
 }
 
 pub reached_standing : (ws : List Window) → AllAligned ws → {s t : Machine} → Reached s t → Standing ws s → Standing ws t
-pub reached_standing ws aligned at_start g = g
-pub reached_standing ws aligned (after e r enabled) g = standing_next ws aligned _ e enabled (reached_standing ws aligned r g)
+reached_standing ws aligned at_start g = g
+reached_standing ws aligned (after e r enabled) g = standing_next ws aligned _ e enabled (reached_standing ws aligned r g)
 
 -- ---- where it holds, the system is sound
 
@@ -124,7 +124,7 @@ module _ (ws : List Window) (m : Machine) (st : Standing ws m) where
   standing_sound memory = parts_sound ws m.system parts_of memory
 
 pub stays_sound : StaysSound
-pub stays_sound s m start r =
+stays_sound s m start r =
     let ws = s.system.memory.windows in
     let first = (start_sound s start).memory in
     let st = reached_standing ws (start_aligned s start) r (start_standing s start) in

@@ -49,8 +49,8 @@ flagged f b = record (start_processor f) { self_snoop = b }
 
 -- what holds of the processor of each file holds of all
 pub each_start : (P : Processor → Type 0) (files : List RegisterFile) (flags : List Bool) → All (λ f. (b : Bool) → P (flagged f b)) files → All P (flagged_processors files flags)
-pub each_start P [] flags h = nothing P
-pub each_start P (f ∷ fs) [] h =
+each_start P [] flags h = nothing P
+each_start P (f ∷ fs) [] h =
     All-cons P (start_processor f) (flagged_processors fs []) (All-head (λ g. (b : Bool) → P (flagged g b)) f fs h false)
     (each_start P fs [] (All-tail (λ g. (b : Bool) → P (flagged g b)) f fs h))
 each_start P (f ∷ fs) (b ∷ bs) h =
@@ -96,7 +96,7 @@ common (f ∷ fs) [] = refl
 common (f ∷ fs) (b ∷ bs) = refl
 
 pub no_windows : IsMemory (zero_memory [])
-pub no_windows = record {
+no_windows = record {
   some_lines = nothing _;
   aligned = nothing _;
   bounded = nothing _;
@@ -105,7 +105,7 @@ pub no_windows = record {
 }
 
 pub flagged_start_is_quiet : FlaggedStartIsQuiet
-pub flagged_start_is_quiet flags files ws starts memory = record {
+flagged_start_is_quiet flags files ws starts memory = record {
   sound = start_sound flags files ws memory starts;
   running = each flags files ws (λ p. is_running p.phase ≡ true) (λ f b. refl);
   one_era = each flags files ws (λ p. p.era ≡ common_era (flagged_processors files flags)) (λ f b. sym (common files flags));
@@ -114,11 +114,11 @@ pub flagged_start_is_quiet flags files ws starts memory = record {
 }
 
 pub no_flag_is_the_start : NoFlagIsTheStart
-pub no_flag_is_the_start files ws = ap (λ (ps : List Processor). record { system = record { processors = ps; memory = zero_memory ws }; order = None }) (plain files)
+no_flag_is_the_start files ws = ap (λ (ps : List Processor). record { system = record { processors = ps; memory = zero_memory ws }; order = None }) (plain files)
   where
     plain : (fs : List RegisterFile) → flagged_processors fs (map is_self_snooping (map start_processor fs)) ≡ map start_processor fs
     plain [] = refl
     plain (f ∷ fs) = ap (λ ps. start_processor f ∷ ps) (plain fs)
 
 pub start_is_quiet : StartIsQuiet
-pub start_is_quiet files ws starts memory = subst IsQuiet (no_flag_is_the_start files ws) (flagged_start_is_quiet (flags_of (start_machine files ws).system) files ws starts memory)
+start_is_quiet files ws starts memory = subst IsQuiet (no_flag_is_the_start files ws) (flagged_start_is_quiet (flags_of (start_machine files ws).system) files ws starts memory)

@@ -9,7 +9,7 @@ use Rattle.mt_laws.proofs.Words.Sound.{aligned_all, sound_stands}
 use Rattle.mt_laws.proofs.Words.StepLaws.{back_drains}
 
 pub write_backs_have_places : WriteBacksHavePlaces
-pub write_backs_have_places s k p address value sound at is =
+write_backs_have_places s k p address value sound at is =
     let ws = s.memory.windows in
     let fit = fit_at ws s.processors k p (sound_stands s sound).fit at in
     let first = back_drains p address value fit.lines_apart is in

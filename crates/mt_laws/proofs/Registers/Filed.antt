@@ -31,26 +31,26 @@ use Rattle.mt_machine.proofs.Files.{Alike, AgreeAll, alike_files, file_alike, al
 use Rattle.mt_laws.proofs.Barrier.Claims.{all_get}
 
 abbrev pub is_done : Phase → Bool
-pub is_done Enabled = true
-pub is_done Flushed2 = true
+is_done Enabled = true
+is_done Flushed2 = true
 is_done TlbFlushed2 = true
 is_done Normal = true
 is_done Restored = true
 is_done Arrived2 = true
 is_done other = false
 
-pub record Filed (o : Order) (f : RegisterFile) (x : Stage) : Type 0 where
+record Filed (o : Order) (f : RegisterFile) (x : Stage) : Type 0 where
   pub alike : Alike o.goal f
   pub writing : (i : ℕ) → is_writing x.0 ≡ Some i → (i < length (writable o.goal)) × AgreeAll o.goal f (take i (writable o.goal))
   pub done : is_done x.0 ≡ true → f ≡ o.goal
   pub released : is_ahead o x ≡ true → f ≡ o.goal
 
 abbrev pub FiledAt : Order → Processor → Type 0
-pub FiledAt o p = Filed o p.file (stage_of p)
+FiledAt o p = Filed o p.file (stage_of p)
 
 pub flush_file : (ph : Phase) (p : Processor) → (flush_tlb ph p).file ≡ p.file
-pub flush_file Flushed2 p = refl
-pub flush_file other p = in_case p.page_global
+flush_file Flushed2 p = refl
+flush_file other p = in_case p.page_global
   where
     in_case : (b : Bool) → (if b then record p { remembered_global = true; page_global = false; entries = [] } else record (reload_cr3 p) { remembered_global = false }).file ≡ p.file
     in_case true = refl
@@ -193,8 +193,8 @@ module _ (o : Order) (ps : List Processor) (p : Processor) (is_file : IsRegister
 -- ---- all processors
 
 abbrev pub AllFiled : Option Order → List Processor → Type 0
-pub AllFiled None ps = (i : ℕ) (p : Processor) → slice_get ps i ≡ Some p → IsRegisterFile p.file
-pub AllFiled (Some o) ps = IsRegisterFile o.goal × ((i : ℕ) (p : Processor) → slice_get ps i ≡ Some p → FiledAt o p)
+AllFiled None ps = (i : ℕ) (p : Processor) → slice_get ps i ≡ Some p → IsRegisterFile p.file
+AllFiled (Some o) ps = IsRegisterFile o.goal × ((i : ℕ) (p : Processor) → slice_get ps i ≡ Some p → FiledAt o p)
 
 filed_as : (o : Order) (p q : Processor) → q.file ≡ p.file → q.phase ≡ p.phase → q.era ≡ p.era → FiledAt o p → FiledAt o q
 filed_as o p q file phase era h =
@@ -234,7 +234,7 @@ others_filed o k j s q (WriteBack a v) at all = all j q at
 others_filed o k j s q other at all = all j q at
 
 pub filed_steps : (o : Order) (e : Event) (k : ℕ) (s : System) (p : Processor) → slice_get s.processors k ≡ Some p → due o s.processors p p.phase ≡ Some e → Kept (Some o) (stages s) → AllFiled (Some o) s.processors → AllFiled (Some o) (step o.goal e k s).processors
-pub filed_steps o e k s p is_p h g all = (
+filed_steps o e k s p is_p h g all = (
   all.0,
   λ j q at. ⊎_elim
       (λ (m : (j ≡ k) × (x : Processor) × (slice_get (before_own e k s).processors k ≡ Some x) × (own_step o.goal e x ≡ q)).

@@ -24,13 +24,13 @@ use Rattle.mt_laws.proofs.Invariant.Standing.{stays_sound}
 
 -- a file's width and capabilities
 abbrev pub Shape : Type 0
-pub Shape = ℕ × ℕ
+Shape = ℕ × ℕ
 
 abbrev pub shape : RegisterFile → Shape
-pub shape f = (f.width, f.capabilities)
+shape f = (f.width, f.capabilities)
 
 abbrev pub AllOf : Shape → List Processor → Type 0
-pub AllOf v ps = (i : ℕ) (p : Processor) → slice_get ps i ≡ Some p → shape p.file ≡ v
+AllOf v ps = (i : ℕ) (p : Processor) → slice_get ps i ≡ Some p → shape p.file ≡ v
 
 shape_written : (goal f : RegisterFile) (r : Register) → shape (with_goal goal r f) ≡ shape f
 shape_written goal f (PhysBase n) = refl
@@ -59,12 +59,12 @@ step_shapes v goal e k s all j q at =
     (at_change (own_step goal e) k (before_own e k s) j q at)
 
 pub next_shapes : (v : Shape) (e : MachineEvent) (s : System) (o : Option Order) → AllOf v s.processors → AllOf v (next (record { system = s; order = o }) e).system.processors
-pub next_shapes v (Accesses k op) s o all = λ j q at. let from = follows_access s k op j q at in ap shape from.2.file ∙ all j from.0 from.1
-pub next_shapes v (Controls k c) s o all = λ j q at. let from = follows_control s k c j q at in ap shape from.2.file ∙ all j from.0 from.1
-pub next_shapes v (Calls goal) s o all = all
-pub next_shapes v Goes s None all = all
-pub next_shapes v Goes s (Some o) all = all
-pub next_shapes v Cancels s None all = all
+next_shapes v (Accesses k op) s o all = λ j q at. let from = follows_access s k op j q at in ap shape from.2.file ∙ all j from.0 from.1
+next_shapes v (Controls k c) s o all = λ j q at. let from = follows_control s k c j q at in ap shape from.2.file ∙ all j from.0 from.1
+next_shapes v (Calls goal) s o all = all
+next_shapes v Goes s None all = all
+next_shapes v Goes s (Some o) all = all
+next_shapes v Cancels s None all = all
 next_shapes v Cancels s (Some o) all = all
 next_shapes v (Steps k e) s None all = all
 next_shapes v (Steps k e) s (Some o) all = step_shapes v o.goal e k s all
@@ -89,7 +89,7 @@ quiet_shapes (x ∷ ps) h i p at =
     fits_shape x.file p (all_get (FitsGoal x.file) (x ∷ ps) (all_get (λ (y : Processor). All (FitsGoal y.file) (x ∷ ps)) (x ∷ ps) h 0 x refl) i p at)
 
 pub start_shape : (m : Machine) → IsStart m → (v : Shape) × AllOf v m.system.processors
-pub start_shape m start =
+start_shape m start =
     ⊎_elim
     (λ (q : IsQuiet m). let r : (v : Shape) × AllOf v m.system.processors = (first_shape m.system.processors, quiet_shapes m.system.processors q.one_kind) in r)
     (λ (b : (o : Order) × IsBroadcast m o).
@@ -105,7 +105,7 @@ alike_fit v p q is_p is_q =
     record { width = ap (λ (x : Shape). x.0) same; capabilities = ap (λ (x : Shape). x.1) same }
 
 pub quiet_of : (v : Shape) (m : Machine) → IsSound m.system → Invariant m → AllOf v m.system.processors → m.order ≡ None → IsQuiet m
-pub quiet_of v m sound kept alike none =
+quiet_of v m sound kept alike none =
     let ps : List Processor = m.system.processors in
     let rest : Rest (stages m.system) = subst (λ (o : Option Order). Kept o (stages m.system)) none kept in
     record {
@@ -117,6 +117,6 @@ pub quiet_of v m sound kept alike none =
     }
 
 pub reached_is_quiet : ReachedIsQuiet
-pub reached_is_quiet s m start r none =
+reached_is_quiet s m start r none =
     let first = start_shape s start in
     quiet_of first.0 m (stays_sound s m start r) (reached_keeps r (start_invariant s start)) (reached_shapes first.0 r first.1) none

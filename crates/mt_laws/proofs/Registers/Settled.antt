@@ -46,10 +46,10 @@ goal_reached o ps g all some j p at =
     (done_or_ahead p.phase (is_ahead o (stage_of p)) fourth)
 
 abbrev pub OrderHas : RegisterFile → Option Order → Type 0
-pub OrderHas goal None = Unit {0}
-pub OrderHas goal (Some o) = o.goal ≡ goal
+OrderHas goal None = Unit {0}
+OrderHas goal (Some o) = o.goal ≡ goal
 
-pub record Settling (goal : RegisterFile) (m : Machine) : Type 0 where
+record Settling (goal : RegisterFile) (m : Machine) : Type 0 where
   pub files : AllAre goal m.system.processors
   pub order : OrderHas goal m.order
 
@@ -65,8 +65,8 @@ are_follows : (goal : RegisterFile) (k : ℕ) (ps qs : List Processor) → Follo
 are_follows goal k ps qs f all j q at = let from = f j q at in from.2.file ∙ all j from.0 from.1
 
 pub settling_next : (era : ℕ) (goal : RegisterFile) (e : MachineEvent) (s : System) (o : Option Order) → IsEnabled (record { system = s; order = o }) e → not (is_call e) ≡ true → Kept o (stages s) → AllFiled o s.processors → Late era (record { system = s; order = o }) → Settling goal (record { system = s; order = o }) → Settling goal (next (record { system = s; order = o }) e)
-pub settling_next era goal (Accesses k op) s o enabled quiet inv all l t = record { files = are_follows goal k s.processors _ (follows_access s k op) t.files; order = t.order }
-pub settling_next era goal (Controls k c) s o enabled quiet inv all l t = record { files = are_follows goal k s.processors _ (follows_control s k c) t.files; order = t.order }
+settling_next era goal (Accesses k op) s o enabled quiet inv all l t = record { files = are_follows goal k s.processors _ (follows_access s k op) t.files; order = t.order }
+settling_next era goal (Controls k c) s o enabled quiet inv all l t = record { files = are_follows goal k s.processors _ (follows_control s k c) t.files; order = t.order }
 settling_next era goal (Calls new) s o enabled quiet inv all l t = absurd (cc)
 settling_next era goal Goes s None enabled quiet inv all l t = absurd (cc)
 settling_next era goal Goes s (Some o) enabled quiet inv all l t = absurd (pending_late o s enabled inv l.order.1)
@@ -118,7 +118,7 @@ reached_filed at_start kept all = all
 reached_filed (after e r enabled) kept all = filed_next e _ _ enabled (reached_kept r kept).0 (reached_filed r kept all)
 
 pub release_settling : (s : System) (o : Order) (k : ℕ) → IsKept (record { system = s; order = Some o }) → AllFiled (Some o) s.processors → IsEnabled (record { system = s; order = Some o }) (Steps k Release) → Settling o.goal (next (record { system = s; order = Some o }) (Steps k Release))
-pub release_settling s o k kept all enabled = at_processor (slice_get s.processors k) refl enabled
+release_settling s o k kept all enabled = at_processor (slice_get s.processors k) refl enabled
   where
     at_processor : (q : Option Processor) → slice_get s.processors k ≡ q → option_map_or (λ p. due o s.processors p p.phase) q None ≡ Some Release → Settling o.goal (record { system = step o.goal Release k s; order = remaining_order o (step o.goal Release k s).processors })
     at_processor None at h = absurd (cc)
@@ -128,8 +128,8 @@ pub release_settling s o k kept all enabled = at_processor (slice_get s.processo
 pub files_in : (m : Machine) (o : Order) (k : ℕ) (since : List MachineEvent) (x : Option Order) → x ≡ Some o → IsKept (record { system = m.system; order = x }) → AllFiled x m.system.processors → IsEnabled (record { system = m.system; order = x }) (Steps k Release)
     → AreEnabled (next (record { system = m.system; order = x }) (Steps k Release)) since → list_all (λ e. not (is_call e)) since ≡ true
     → AllAre o.goal (run (next (record { system = m.system; order = x }) (Steps k Release)) since).system.processors
-pub files_in m o k since None same kept all enabled more quiet = absurd (cc)
-pub files_in m o k since (Some o') same kept all enabled more quiet =
+files_in m o k since None same kept all enabled more quiet = absurd (cc)
+files_in m o k since (Some o') same kept all enabled more quiet =
     let orders : o' ≡ o = cc in
     let at : Machine = record { system = m.system; order = Some o' } in
     subst (λ (v : Order). AllAre v.goal (run (next at (Steps k Release)) since).system.processors) orders
@@ -141,7 +141,7 @@ pub files_in m o k since (Some o') same kept all enabled more quiet =
     more quiet)
 
 pub settled : SettledAfterEachRelease
-pub settled s m o k since q r is enabled more quiet =
+settled s m o k since q r is enabled more quiet =
     λ i d within.
     let ps = (run (next m (Steps k Release)) since).system.processors in
     let p = get_or (run (next m (Steps k Release)) since).system.processors i d in

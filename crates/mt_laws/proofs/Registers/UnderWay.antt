@@ -27,7 +27,7 @@ agree_all goal f (r ∷ rs) h zero d within = h.0
 agree_all goal f (r ∷ rs) h (suc k) d within = agree_all goal f rs h.1 k d (omega arith)
 
 pub holds : (m : Machine) (o : Order) → m.order ≡ Some o → (ws : List Window) → Standing ws m → OrderHolds m o
-pub holds m o is ws st =
+holds m o is ws st =
     let filed : AllFiled (Some o) m.system.processors = subst (λ (v : Option Order). AllFiled v m.system.processors) is st.filed in
     record {
       goal_file = filed.0;
@@ -41,7 +41,7 @@ pub holds m o is ws st =
     }
 
 pub orders_hold : OrdersHold
-pub orders_hold s m o start r is = holds m o is s.system.memory.windows (reached_standing s.system.memory.windows (start_aligned s start) r (start_standing s start))
+orders_hold s m o start r is = holds m o is s.system.memory.windows (reached_standing s.system.memory.windows (start_aligned s start) r (start_standing s start))
 
 -- ---- lines
 
@@ -67,7 +67,7 @@ low_lines : (s : System) → IsSound s → (ls : List CacheLine) → All (λ l. 
 low_lines s h ls placed k d within = low_line s.memory (get_or ls k d).number h.memory.bounded (placed k d within)
 
 pub lines_are_low : LinesAreLow
-pub lines_are_low s h =
+lines_are_low s h =
     all_of (λ p. All (λ l. l.number < 2 ^ 46) p.lines × All (λ l. l.number < 2 ^ 46) p.buffers) s.processors (λ i p at. (
       low_lines s h p.lines (all_get (λ (q : Processor). All (λ (l : CacheLine). is_some (place s.memory (word_address l.number 0)) ≡ true) q.lines) s.processors h.lines_in_memory i p at),
       low_lines s h p.buffers (all_get (λ (q : Processor). All (λ (l : CacheLine). is_some (place s.memory (word_address l.number 0)) ≡ true) q.buffers) s.processors h.buffers_in_memory i p at),

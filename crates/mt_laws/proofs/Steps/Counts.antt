@@ -25,12 +25,12 @@ use Rattle.mt_laws.proofs.Steps.DirtyCounts.{none_dirty_count, one_dirty_less}
 
 -- the drop of the first flush, which a self-snooping processor leaves out
 abbrev pub first_drop : Processor → ℕ
-pub first_drop p = if p.self_snoop then 0 else 1
+first_drop p = if p.self_snoop then 0 else 1
 
 -- from Passed on, with so many registers, dirty words and drops of the first flush. No step but a write-back changes how many words are dirty
 abbrev pub left : Phase → ℕ → ℕ → ℕ → ℕ
-pub left Passed registers words drops = registers + words + drops + 9
-pub left NoFill registers words drops = registers + words + drops + 8
+left Passed registers words drops = registers + words + drops + 9
+left NoFill registers words drops = registers + words + drops + 8
 left Flushed registers words drops = registers + words + 8
 left TlbFlushed registers words drops = registers + words + 7
 left (Writing i) registers words drops = (registers - i) + words + 6
@@ -43,10 +43,10 @@ left Arrived2 registers words drops = 1
 left other registers words drops = 0
 
 abbrev pub left_of : Processor → ℕ
-pub left_of p = left p.phase (length (writable p.file)) (dirty_count p.lines) (first_drop p)
+left_of p = left p.phase (length (writable p.file)) (dirty_count p.lines) (first_drop p)
 
 abbrev pub is_past : Phase → Bool
-pub is_past ph = is_changing ph || is_arrived_again ph
+is_past ph = is_changing ph || is_arrived_again ph
 
 with_capabilities : (goal : RegisterFile) (r : Register) (f : RegisterFile) → (with_goal goal r f).capabilities ≡ f.capabilities
 with_capabilities goal (PhysBase n) f = refl
@@ -58,7 +58,7 @@ with_capabilities goal DefaultType f = refl
 registers_of : (f g : RegisterFile) → f.capabilities ≡ g.capabilities → length (writable f) ≡ length (writable g)
 registers_of f g same = ap (λ (c : ℕ). length (writable (record f { capabilities = c }))) same
 
-pub record Ready (p : Processor) : Type 0 where
+record Ready (p : Processor) : Type 0 where
   pub apart : Apart p.lines
   pub in_range : (i : ℕ) → is_writing p.phase ≡ Some i → i < length (writable p.file)
 

@@ -33,11 +33,11 @@ fold_from f a (x ∷ xs) =
     omega arith
 
 pub count_more : {X : Type 0} → (p : X → Bool) (x : X) (xs : List X) → count_by p (x ∷ xs) ≡ cond (p x) 1 0 + count_by p xs
-pub count_more p x xs = let b = fold_from (λ y. cond (p y) 1 0) (0 + cond (p x) 1 0) xs in omega arith
+count_more p x xs = let b = fold_from (λ y. cond (p y) 1 0) (0 + cond (p x) 1 0) xs in omega arith
 
 pub count_append : {X : Type 0} → (p : X → Bool) (xs ys : List X) → count_by p (xs ++ ys) ≡ count_by p xs + count_by p ys
-pub count_append p [] ys = omega arith
-pub count_append p (x ∷ xs) ys =
+count_append p [] ys = omega arith
+count_append p (x ∷ xs) ys =
     let a = count_more p x (xs ++ ys) in
     let b = count_more p x xs in
     let c = count_append p xs ys in

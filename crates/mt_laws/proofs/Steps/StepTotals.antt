@@ -324,7 +324,7 @@ module _ (ws : List Window) (aligned : AllAligned ws) (k : ℕ) where
           one false = refl
 
 pub count_of_steps : CountOfSteps
-pub count_of_steps s m k between start reached enabled calm =
+count_of_steps s m k between start reached enabled calm =
     let ws : List Window = s.system.memory.windows in
     let aligned = start_aligned s start in
     total ws aligned k between m.system m.order (reached_standing ws aligned reached (start_standing s start)) enabled calm

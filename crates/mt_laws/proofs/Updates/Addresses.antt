@@ -22,8 +22,8 @@ get_from base (suc n) zero d within = omega arith
 get_from base (suc n) (suc i) d within = let r = get_from (base + 8) n i d (omega arith) in omega arith
 
 pub length_addresses : (ws : List Window) → length (addresses ws) ≡ word_count ws
-pub length_addresses [] = refl
-pub length_addresses (w ∷ ws) =
+length_addresses [] = refl
+length_addresses (w ∷ ws) =
     let a = length-append (addresses_from w.base (8 * w.lines)) (addresses ws) in
     let b = length_from w.base (8 * w.lines) in
     let c = length_addresses ws in
@@ -126,7 +126,7 @@ address_aligned (w ∷ ws) i h within = one (nat_lt i (8 * w.lines)) refl (λ g.
 
 -- memory's words are f at each address, where f is the word at each
 pub words_are : (m : Memory) (f : ℕ → ℕ) → IsMemory m → ((a : ℕ) → a % 8 ≡ 0 → word_at m a ≡ f a) → m.words ≡ map f (addresses m.windows)
-pub words_are m f h same =
+words_are m f h same =
     ext_get_or 0 m.words (map f (addresses m.windows)) (h.counted ∙ sym (length-map (addresses m.windows) f ∙ length_addresses m.windows))
     (λ i within.
     let low : i < word_count m.windows = let c = h.counted in omega arith in
@@ -141,7 +141,7 @@ pub words_are m f h same =
 
 -- where memory's words are f at each address, the word at each is f
 pub word_of_words : (m : Memory) (f : ℕ → ℕ) → IsMemory m → (a i : ℕ) → a % 8 ≡ 0 → place m a ≡ Some i → word_at (record { windows = m.windows; words = map f (addresses m.windows) }) a ≡ f a
-pub word_of_words m f h a i whole at =
+word_of_words m f h a i whole at =
     let aligned = aligned_all m.windows h.aligned in
     let line = line_placed m.windows m a aligned (record { windows = refl; counted = h.counted }) (ap is_some at) in
     let found = word_placed m (line_of a) a aligned line.0 whole refl in

@@ -132,14 +132,14 @@ module _ (s : Machine) (o : Order) (b : IsBroadcast s o) where
       (subst (λ (m : Machine). AreEnabled m es) is_known enabled) led
 
 pub broadcast_update : BroadcastUpdate
-pub broadcast_update s o es b enabled led over =
+broadcast_update s o es b enabled led over =
     let start : IsStart s = inr (o, b) in
     outright s o es s start (is_known s o b) at_start (start_standing s start) (ap is_cancelled b.pending)
     (λ i x at h. let r = broadcast_rank s o b i x at in let no_rank : ⊥ = omega arith in no_rank) enabled led over
     ∙ ap (λ (ks : List ℕ). updated s.system ks o.goal) (broadcast_takes s o b es enabled (led_alone (λ e. not (is_cancel e)) es led))
 
 pub cancelled_broadcast : CancelledBroadcast
-pub cancelled_broadcast s o es b enabled led over =
+cancelled_broadcast s o es b enabled led over =
     let start : IsStart s = inr (o, b) in
     let is = is_known s o b in
     let first : Machine = record { system = s.system; order = Some o } in
@@ -206,7 +206,7 @@ led_whole s m o last e b l is off enabled led no_cancel over =
     (ap (λ (x : Machine). x.order) whole ∙ over)
 
 pub led_update : LedUpdate
-pub led_update s m o last e b l is go enabled led over = led_whole s m o last e b l is (ap is_cancelled go) enabled led (not_cancel e m last is go enabled) over
+led_update s m o last e b l is go enabled led over = led_whole s m o last e b l is (ap is_cancelled go) enabled led (not_cancel e m last is go enabled) over
 
 -- ---- while the go isn't given
 
@@ -246,7 +246,7 @@ not_given_list {s} (led_on {t = t} e l enabled led) last is off =
     )
 
 pub led_not_given : LedNotGiven
-pub led_not_given s m o last b l is off =
+led_not_given s m o last b l is off =
     let rest = not_given_list l last is off in
     let es : List MachineEvent = rest.0 in
     let known = is_known s o b in
@@ -257,7 +257,7 @@ pub led_not_given s m o last b l is off =
     ∙ ap (λ (ks : List ℕ). erase (emptied s.system ks)) (broadcast_takes s o b es rest.1 (led_alone (λ e. not (is_go e)) es rest.3))
 
 pub led_cancelled : LedCancelled
-pub led_cancelled s m o last e b l is off enabled led quiet over =
+led_cancelled s m o last e b l is off enabled led quiet over =
     let rest = not_given_list l last is off in
     let es : List MachineEvent = rest.0 ++ e ∷ [] in
     let whole : run s es ≡ next m e = run_join s rest.0 (e ∷ []) ∙ ap (λ (x : Machine). next x e) rest.2 in
@@ -305,4 +305,4 @@ led_ended s o b led_start over = absurd (let is = b.order in cc)
 led_ended s o b (led_on {t = t} e l enabled led) over = ended_by s t o e b l enabled led over t.order refl
 
 pub led_ends : LedEnds
-pub led_ends s m o b l over = led_ended s o b l over
+led_ends s m o b l over = led_ended s o b l over

@@ -149,7 +149,7 @@ kept_run [] m enabled kept = kept
 kept_run (e ∷ es) m enabled kept = kept_run es (next m e) enabled.1 (keeps m e enabled.0 kept)
 
 pub cancelled_update : CancelledUpdate
-pub cancelled_update s goal es quiet enabled led over =
+cancelled_update s goal es quiet enabled led over =
     let first : Machine = next s (Calls goal) in
     let kept : Kept first.order (stages first.system) = keeps s (Calls goal) enabled.0 (quiet_invariant s quiet) in
     let same = cancelled_run es first.system first.order s.system refl kept refl enabled.1 led in

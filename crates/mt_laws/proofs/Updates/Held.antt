@@ -35,12 +35,12 @@ use Rattle.mt_laws.proofs.Invariant.Kept.{agrees, start_aligned}
 -- ---- a word that isn't stored stays in memory
 
 pub contains_more : (o : Option ℕ) (rest : List ℕ) (a : ℕ) → Contains rest a → Contains (option_map_or (λ b. b ∷ rest) o rest) a
-pub contains_more None rest a h = h
-pub contains_more (Some b) rest a h = let low : h.0 < length rest = h.1 in (suc h.0, omega arith, h.2)
+contains_more None rest a h = h
+contains_more (Some b) rest a h = let low : h.0 < length rest = h.1 in (suc h.0, omega arith, h.2)
 
 pub contains_first : (o : Option ℕ) (rest : List ℕ) (a : ℕ) → o ≡ Some a → Contains (option_map_or (λ b. b ∷ rest) o rest) a
-pub contains_first None rest a h = absurd (cc)
-pub contains_first (Some b) rest a h = let e : b ≡ a = cc in (0, omega arith, e)
+contains_first None rest a h = absurd (cc)
+contains_first (Some b) rest a h = let e : b ≡ a = cc in (0, omega arith, e)
 
 module _ (ws : List Window) (aligned : AllAligned ws) where
   pub stays_in_memory : (es : List MachineEvent) (m : Machine) (a x : ℕ) → a % 8 ≡ 0 → Stands ws m.system → AreEnabled m es → (Contains (stored_words m es) a → ⊥) → Word false a x m.system → Word false a x (run m es).system
@@ -61,7 +61,7 @@ pass_takes_nothing = refl
 -- ---- between the first pass and the first release
 
 -- some processor has passed, and none has released
-pub record IsBetween (o : Order) (s : System) : Type 0 where
+record IsBetween (o : Order) (s : System) : Type 0 where
   pub one : ℕ
   pub stage : Stage
   pub there : At (stages s) one stage
@@ -69,8 +69,8 @@ pub record IsBetween (o : Order) (s : System) : Type 0 where
   pub behind : (i : ℕ) (x : Stage) → At (stages s) i x → is_ahead o x ≡ false
 
 pub own_era : (o : Order) (p : Processor) (e : Event) → is_release (Steps 0 e) ≡ false → (own_step o.goal e p).era ≡ p.era
-pub own_era o p Release h = absurd (cc)
-pub own_era o p FlushTlb h = flush_era p.phase p
+own_era o p Release h = absurd (cc)
+own_era o p FlushTlb h = flush_era p.phase p
 own_era o p other h = refl
 
 running_low : (ph : Phase) → is_running ph ≡ true → rank_of ph false ≡ 0
@@ -144,7 +144,7 @@ module _ (o : Order) (s : System) (g : Guarded o (stages s)) (b : IsBetween o s)
         record { one = moved.0; stage = moved.1; there = moved.2; past = moved.3; behind = behind_after }
 
 -- an event there is a step that takes nothing
-pub record IsInside (o : Order) (m : Machine) (e : MachineEvent) : Type 0 where
+record IsInside (o : Order) (m : Machine) (e : MachineEvent) : Type 0 where
   pub order : (next m e).order ≡ Some o
   pub between : IsBetween o (next m e).system
   pub who : ℕ
@@ -247,7 +247,7 @@ rank_behind other = lit≤ tt
 
 -- a processor that hasn't released may release only where the second barrier is open
 pub release_opens : (o : Order) (s : System) (k : ℕ) (p : Processor) → slice_get s.processors k ≡ Some p → Guarded o (stages s) → is_ahead o (stage_of p) ≡ false → due o s.processors p p.phase ≡ Some Release → second_barrier_open o s.processors ≡ true
-pub release_opens o s k p at g behind h =
+release_opens o s k p at g behind h =
     let here : At (stages s) k (stage_of p) = stage_at s.processors k p at in
     let move = step_moves o s.processors p (g.eras k (stage_of p) here) p.phase Release refl h (g.in_step k (stage_of p) here) in
     let above : nat_lt o.from_era (p.era + 1) ≡ true = ⊎_elim (λ (e : p.era ≡ o.from_era). lt-ltb o.from_era (p.era + 1) (omega arith)) (λ (e : p.era ≡ o.from_era + 1). lt-ltb o.from_era (p.era + 1) (omega arith)) (g.eras k (stage_of p) here) in
@@ -286,7 +286,7 @@ not_owned x (None ∷ cs) h g = not_owned x cs h g
 not_owned x (Some c ∷ cs) h g = h
 
 pub settled_word : (a x : ℕ) (s : System) → ((j : ℕ) (q : Processor) → slice_get s.processors j ≡ Some q → (q.lines ≡ []) × (q.buffers ≡ [])) → Word true a x s → Word false a x s
-pub settled_word a x s none w =
+settled_word a x s none w =
     let r = none_copied a s.processors none in
     record {
       shows = ⊎_elim (λ (h : (word_at s.memory a ≡ x) × IsShared (word_at s.memory a) (copies a s.processors)). h) (λ (h : IsOwned x (copies a s.processors)). absurd (not_owned x (copies a s.processors) r.0 h)) w.shows;
@@ -325,7 +325,7 @@ first_pass o p k (Some o') is kept none enabled =
 
 -- from its first release on it has the value in memory that it had before the first pass
 pub released_word : (ws : List Window) → AllAligned ws → (p r : Machine) (o : Order) → Agrees ws p → IsKept p → IsFirstRelease p r o → (a : ℕ) → a % 8 ≡ 0 → Word false a (now p.system a) r.system
-pub released_word ws aligned p r o g kept f a whole =
+released_word ws aligned p r o g kept f a whole =
     let w = g.words a whole in
     let pass : Machine = next p (Steps f.first Pass) in
     let at = first_pass o p f.first p.order f.order kept.0 f.none_passed f.enabled.0 in
@@ -336,12 +336,12 @@ pub released_word ws aligned p r o g kept f a whole =
     subst (λ (x : ℕ). Word false a x r.system) (sym (now_is ws p.system a w.0 g.stands w.1)) there
 
 pub held_of : (ws : List Window) → AllAligned ws → (p r : Machine) (o : Order) (since : List MachineEvent) → Agrees ws p → IsKept p → IsFirstRelease p r o → AreEnabled r since → IsHeld p.system r since
-pub held_of ws aligned p r o since g kept f enabled a aligned_a other =
+held_of ws aligned p r o since g kept f enabled a aligned_a other =
     let whole : a % 8 ≡ 0 = omega arith in
     let there = released_word ws aligned p r o g kept f a whole in
     let stands_r : Stands ws r.system = subst (λ (m : Machine). Stands ws m.system) (sym f.leads) (agrees_run ws aligned p (Steps f.first Pass ∷ f.between ++ Steps f.last Release ∷ []) f.enabled g).stands in
     (stays_in_memory ws aligned since r a (now p.system a) whole stands_r enabled other there).shows.0
 
 pub held_after_release : HeldAfterRelease
-pub held_after_release s p r o since start reached f enabled =
+held_after_release s p r o since start reached f enabled =
     held_of s.system.memory.windows (start_aligned s start) p r o since (agrees s p start reached) (reached_kept reached (start_kept s start)) f enabled

@@ -93,7 +93,7 @@ one_kind_after goal ps =
     (λ i p at. settled_all (FitsGoal goal) goal ps (λ j q at_q. record { width = refl; capabilities = refl }))
 
 pub updated_is_quiet : UpdatedIsQuiet
-pub updated_is_quiet s goal ks quiet enabled =
+updated_is_quiet s goal ks quiet enabled =
     record {
       sound = sound_after goal s.system.processors (updated s.system ks goal).system.memory (memory_after s.system.memory (now (emptied s.system ks)) quiet.sound.memory)
           (settled_all IsProcessor goal s.system.processors (λ i p at. settled_is_processor goal p enabled.1 enabled.2 (all_get (FitsGoal goal) s.system.processors enabled.3 i p at) (all_get IsProcessor s.system.processors quiet.sound.each i p at)));

@@ -227,8 +227,8 @@ module _ (s m : Machine) (o last : Order) (b : IsBroadcast s o) (l : Led s m) (i
           second s m o last b l is (go_was_given 0 q at (passed_if_again q again)) opened
 
 pub led_to_second_barrier : LedToSecondBarrier
-pub led_to_second_barrier s m o last b l is opened = at_second s m o last b l is opened
+led_to_second_barrier s m o last b l is opened = at_second s m o last b l is opened
 
 pub led_released : LedReleased
-pub led_released s m o last k p q b l is at_p at_q ahead =
+led_released s m o last k p q b l is at_p at_q ahead =
     released s m o last b l is (go_was_given s m o last b l is k q at_q (passed_if_released s m o last b l is q ahead)) k p q at_p at_q ahead

@@ -39,7 +39,7 @@ use Rattle.mt_laws.proofs.Updates.Cancelled.{cancelled_run}
 use Rattle.mt_laws.proofs.Updates.Whole.{View, view, emptied_views, now_erased}
 
 abbrev pub takes : List ℕ → List MachineEvent
-pub takes ks = map (λ k. Steps k Take) ks
+takes ks = map (λ k. Steps k Take) ks
 
 -- ---- one take
 
@@ -47,7 +47,7 @@ pub takes ks = map (λ k. Steps k Take) ks
 abbrev pub Todo : Order → ℕ → List ℕ → Stage → Type 0
 Todo o i ks x = (x.1 ≡ o.from_era) × (((x.0 ≡ Taken) × (mine i ks ≡ 0)) ⊎ ((x.0 ≡ Running) × (mine i ks ≡ 1)))
 
-pub record Waiting (o : Order) (s : System) (ks : List ℕ) : Type 0 where
+record Waiting (o : Order) (s : System) (ks : List ℕ) : Type 0 where
   pub each : (i : ℕ) (x : Stage) → At (stages s) i x → Todo o i ks x
   pub inside : (i : ℕ) → slice_get (stages s) i ≡ None → mine i ks ≡ 0
 
@@ -137,7 +137,7 @@ module _ (o : Order) (on : is_cancelled o.go ≡ false) (s : System) (k : ℕ) (
 
 -- ---- all takes
 
-pub record Taking (o : Order) (s : System) (ks : List ℕ) : Type 0 where
+record Taking (o : Order) (s : System) (ks : List ℕ) : Type 0 where
   pub last : System
   pub enabled : AreEnabled (record { system = s; order = Some o }) (takes ks)
   pub leads : run (record { system = s; order = Some o }) (takes ks) ≡ record { system = last; order = Some o }
@@ -145,8 +145,8 @@ pub record Taking (o : Order) (s : System) (ks : List ℕ) : Type 0 where
 
 -- of an order that isn't cancelled, whether its go is given or not
 pub all_take : (o : Order) → is_cancelled o.go ≡ false → (ks : List ℕ) (s : System) → Waiting o s ks → Taking o s ks
-pub all_take o on [] s w = record { last = s; enabled = tt; leads = refl; waiting = w }
-pub all_take o on (k ∷ ks) s w =
+all_take o on [] s w = record { last = s; enabled = tt; leads = refl; waiting = w }
+all_take o on (k ∷ ks) s w =
     let rest = all_take o on ks (step o.goal Take k s) (still_waiting o on s k ks w) in
     let stays = goes_on o on s k ks w in
     record {
@@ -166,7 +166,7 @@ runs_is Running h = refl
 runs_is other h = absurd (cc)
 
 pub quiet_waiting : (s : Machine) (goal : RegisterFile) (ks : List ℕ) → IsQuiet s → IsEachOnce (length s.system.processors) ks → Waiting (order_of_call s goal) s.system ks
-pub quiet_waiting s goal ks q once = record {
+quiet_waiting s goal ks q once = record {
   each = λ i x at.
       let p = processor_at s.system.processors i x at in
       let within = slice_get_within s.system.processors i p.0 p.1 in
@@ -198,8 +198,8 @@ takes_led [] = refl
 takes_led (k ∷ ks) = takes_led ks
 
 pub takes_taken : (ks : List ℕ) → takes_of (takes ks) ≡ ks
-pub takes_taken [] = refl
-pub takes_taken (k ∷ ks) = ap (λ js. k ∷ js) (takes_taken ks)
+takes_taken [] = refl
+takes_taken (k ∷ ks) = ap (λ js. k ∷ js) (takes_taken ks)
 
 abbrev taken_one : Processor → Processor
 taken_one p = record p { phase = Taken }
@@ -223,7 +223,7 @@ done o s w i p at =
     )
 
 pub takes_broadcast : TakesBroadcast
-pub takes_broadcast s goal ks q enabled once =
+takes_broadcast s goal ks q enabled once =
     let o : Order = order_of_call s goal in
     let t = all_take o refl ks s.system (quiet_waiting s goal ks q once) in
     let all : AreEnabled s (call_and_takes goal ks) = (enabled, t.enabled) in
@@ -277,8 +277,8 @@ change_memory f k s = one (slice_get s.processors k)
     one (Some p) = refl
 
 pub emptied_windows : (ks : List ℕ) (s : System) → (emptied s ks).memory.windows ≡ s.memory.windows
-pub emptied_windows [] s = refl
-pub emptied_windows (k ∷ ks) s =
+emptied_windows [] s = refl
+emptied_windows (k ∷ ks) s =
     emptied_windows ks (drain k s)
     ∙ ap (λ (m : Memory). m.windows) (change_memory (with_buffers (λ _. [])) k (fold empty_buffer s (buffers_of s k)))
     ∙ empty_windows (buffers_of s k) s
@@ -319,7 +319,7 @@ now_taken_too : (s : System) (a : ℕ) → now (all_taken s) a ≡ now s a
 now_taken_too s a = sym (now_erased a (all_taken s)) ∙ (λ i. now (record { processors = erased_taken s.processors i; memory = s.memory }) a) ∙ now_erased a s
 
 pub updated_from_broadcast : UpdatedFromBroadcast
-pub updated_from_broadcast s ks goal =
+updated_from_broadcast s ks goal =
     let t : System = emptied s ks in
     let windows : t.memory.windows ≡ s.memory.windows = emptied_windows ks s in
     let plain : map (settled_processor goal) t.processors ≡ map (settled_processor goal) s.processors = settled_alike goal t.processors s.processors (emptied_views ks s) in

@@ -18,7 +18,7 @@ emptied_sound [] s sound = sound
 emptied_sound (k ∷ ks) s sound = emptied_sound ks (drain k s) (drain_keeps_sound s k sound)
 
 pub updated_words : UpdatedWords
-pub updated_words s goal ks a sound whole = one (place s.memory a) refl
+updated_words s goal ks a sound whole = one (place s.memory a) refl
   where
     t : System
     t = emptied s ks

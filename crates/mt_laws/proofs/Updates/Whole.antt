@@ -124,7 +124,7 @@ abbrev pub Early : Order → System → System → Type 0
 Early o s t = ((i : ℕ) (x : Stage) → At (stages s) i x → 3 ≤ rank o x → ⊥) × (erase s ≡ erase t)
 
 -- none takes any more: what was is known of each processor, and the words are those of the drained start
-pub record Past (o : Order) (ps : List Processor) (s t : System) : Type 0 where
+record Past (o : Order) (ps : List Processor) (s t : System) : Type 0 where
   pub on : (i : ℕ) (x : Stage) → At (stages s) i x → 2 ≤ rank o x
   pub fates : Fates o ps s.processors
   pub words : (a : ℕ) → a % 8 ≡ 0 → Word true a (now t a) s
@@ -288,7 +288,7 @@ finish ws o ps s t g agrees course all =
     processors = fates_settled o ps s.processors all past.fates
 
 pub over_released : (o : Order) (ps : List Processor) → is_cancelled o.go ≡ false → is_over o ps ≡ true → list_all (has_released o) ps ≡ true
-pub over_released o ps off h = one (list_all (has_released o) ps) (is_cancelled o.go) (not (list_any (λ p. is_waiting_to_pass p.phase) ps)) off h
+over_released o ps off h = one (list_all (has_released o) ps) (is_cancelled o.go) (not (list_any (λ p. is_waiting_to_pass p.phase) ps)) off h
   where
     one : (a b c : Bool) → b ≡ false → (a || (b && c)) ≡ true → a ≡ true
     one true b c not_on g = refl
@@ -383,7 +383,7 @@ outright s o es first start is reached st off low enabled led over =
     λ i. record { system = record { processors = ends.0 i; memory = record { windows = windows i; words = words i } }; order = over i }
 
 pub whole_update : WholeUpdate
-pub whole_update s goal es quiet enabled led over =
+whole_update s goal es quiet enabled led over =
     let start : IsStart s = inl quiet in
     let o : Order = record { goal = goal; from_era = common_era s.system.processors; go = Pending } in
     let low : (i : ℕ) (x : Stage) → At (stages s.system) i x → 3 ≤ rank o x → ⊥ = λ i x at h.

@@ -59,7 +59,7 @@ look_clean_other a w v l small within other =
 -- ---- words and their lines
 
 pub word_small : (a : ℕ) → word_of a < 8
-pub word_small a = omega arith
+word_small a = omega arith
 
 -- two words of one line and one place in it are one
 pub same_word : (a b : ℕ) → a % 8 ≡ 0 → b % 8 ≡ 0 → line_of a ≡ line_of b → word_of a ≡ word_of b → a ≡ b
@@ -87,7 +87,7 @@ line_placed_in (v ∷ ws) before n w i aligned small h =
 
 -- the line of a word that has a place is in memory
 pub line_placed : (ws : List Window) (m : Memory) (a : ℕ) → AllAligned ws → HasWindows ws m → is_some (place m a) ≡ true → (is_placed ws (line_of a) ≡ true) × (a % 8 ≡ 0)
-pub line_placed ws m a aligned has h = one (a % 8 == 0) refl h
+line_placed ws m a aligned has h = one (a % 8 == 0) refl h
   where
     one : (b : Bool) → (a % 8 == 0) ≡ b → is_some (if b then place_in m.windows 0 a else None) ≡ true → (is_placed ws (line_of a) ≡ true) × (a % 8 ≡ 0)
     one false is g = absurd (cc)
@@ -105,7 +105,7 @@ pub line_placed ws m a aligned has h = one (a % 8 == 0) refl h
 -- ---- a change of one processor that stands
 
 pub change_at : (f : Processor → Processor) (k : ℕ) (s : System) (p : Processor) → slice_get s.processors k ≡ Some p → change f k s ≡ record s { processors = set s.processors k (f p) }
-pub change_at f k s p at = ap (λ (o : Option Processor). option_map_or (λ q. record s { processors = set s.processors k (f q) }) o s) at
+change_at f k s p at = ap (λ (o : Option Processor). option_map_or (λ q. record s { processors = set s.processors k (f q) }) o s) at
 
 get_set : (ps : List Processor) (k : ℕ) (p q : Processor) → slice_get ps k ≡ Some p → slice_get (set ps k q) k ≡ Some q
 get_set [] k p q at = absurd (cc)
@@ -113,7 +113,7 @@ get_set (x ∷ ps) zero p q at = refl
 get_set (x ∷ ps) (suc k) p q at = get_set ps k p q at
 
 pub changed_at : (f : Processor → Processor) (k : ℕ) (s : System) (p : Processor) → slice_get s.processors k ≡ Some p → slice_get (change f k s).processors k ≡ Some (f p)
-pub changed_at f k s p at = ap (λ (t : System). slice_get t.processors k) (change_at f k s p at) ∙ get_set s.processors k p (f p) at
+changed_at f k s p at = ap (λ (t : System). slice_get t.processors k) (change_at f k s p at) ∙ get_set s.processors k p (f p) at
 
 pub others_get : (f : Processor → Processor) (i k j : ℕ) (ps : List Processor) → i + j ≡ k → slice_get (others_from i k f ps) j ≡ slice_get ps j
 others_get f i k j [] e = refl
@@ -126,12 +126,12 @@ others_get f i k (suc j) (p ∷ ps) e = others_get f (i + 1) k j ps (omega arith
 
 -- the processor's buffers alone change, and its word is written in one only where it may be
 pub word_buffers : (may : Bool) (a x : ℕ) (f : Processor → Processor) (k : ℕ) (s : System) → ((p : Processor) → (f p).lines ≡ p.lines) → (may ≡ false → (p : Processor) → unwritten a p.buffers ≡ true → unwritten a (f p).buffers ≡ true) → Word may a x s → Word may a x (change f k s)
-pub word_buffers true a x f k s lines writes w = record { shows = shown (slice_get s.processors k) refl; writes = λ h. absurd (cc) }
+word_buffers true a x f k s lines writes w = record { shows = shown (slice_get s.processors k) refl; writes = λ h. absurd (cc) }
   where
     shown : (o : Option Processor) → slice_get s.processors k ≡ o → Shows (word_at (option_map_or (λ p. record s { processors = set s.processors k (f p) }) o s).memory a) (copies a (option_map_or (λ p. record s { processors = set s.processors k (f p) }) o s).processors) x
     shown None is = w.shows
     shown (Some p) is = subst (λ (cs : List Copy). Shows (word_at s.memory a) cs x) (sym (copies_set a s.processors k (f p) ∙ ap (λ ls. set (copies a s.processors) k (copy_in a ls)) (lines p) ∙ copy_set (copies a s.processors) k (copy_in a p.lines) (copies_at a s.processors k p is))) w.shows
-pub word_buffers false a x f k s lines writes w =
+word_buffers false a x f k s lines writes w =
     leaves_word false a x s (change f k s) (leaves_change a f k s (λ p at. ap (copy_in a) (lines p)) (λ p at h. writes refl p h)) w
 
 -- ---- room for a line
@@ -145,7 +145,7 @@ oldest_is size (x ∷ ls) l h = (ls, one (length ls + 1 == size) h)
     one false g = absurd (cc)
 
 pub oldest_found : (size : ℕ) (ls : List CacheLine) (l : CacheLine) → oldest_of_full size ls ≡ Some l → find_line l.number ls ≡ Some l
-pub oldest_found size ls l h =
+oldest_found size ls l h =
     let r = oldest_is size ls l h in
     ap (find_line l.number) r.1 ∙ find_hit l.number l r.0 (eq-eqb l.number l.number refl)
 
@@ -160,7 +160,7 @@ abbrev pub Misses : ℕ → ℕ → System → Type 0
 Misses n k s = (p : Processor) → slice_get s.processors k ≡ Some p → find_line n p.lines ≡ None
 
 pub lines_at : (k : ℕ) (s : System) (p : Processor) → slice_get s.processors k ≡ Some p → lines_of s k ≡ p.lines
-pub lines_at k s p at = ap (λ (o : Option Processor). option_map_or (λ q. q.lines) o []) at
+lines_at k s p at = ap (λ (o : Option Processor). option_map_or (λ q. q.lines) o []) at
 
 pub misses_of : (n k : ℕ) (s : System) → find_line n (lines_of s k) ≡ None → Misses n k s
 misses_of n k s h p at = ap (find_line n) (sym (lines_at k s p at)) ∙ h

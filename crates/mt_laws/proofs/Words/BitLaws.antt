@@ -8,16 +8,16 @@ use Rattle.mt_kinds.specs.Bits.{is_bit_set}
 use Rattle.mt_cache.specs.Lines.{set_bit, clear_bit}
 
 pub no_bit : (i : ℕ) → is_bit_set 0 i ≡ false
-pub no_bit i = ap (λ b. b == 1) (bit_at-zero i)
+no_bit i = ap (λ b. b == 1) (bit_at-zero i)
 
 max_one : (b : ℕ) → b < 2 → max b 1 ≡ 1
 max_one b h = omega arith
 
 pub set_same : (x i : ℕ) → is_bit_set (set_bit x i) i ≡ true
-pub set_same x i = ap (λ b. b == 1) (bit_at_or x (2 ^ i) i ∙ ap (max (bit_at x i)) (bit_at-pow_same i) ∙ max_one (bit_at x i) (bit_at-lt x i))
+set_same x i = ap (λ b. b == 1) (bit_at_or x (2 ^ i) i ∙ ap (max (bit_at x i)) (bit_at-pow_same i) ∙ max_one (bit_at x i) (bit_at-lt x i))
 
 pub set_other : (x i j : ℕ) → j ≢ i → is_bit_set (set_bit x i) j ≡ is_bit_set x j
-pub set_other x i j other =
+set_other x i j other =
     let low : max (bit_at x j) 0 ≡ bit_at x j = omega arith in
     ap (λ b. b == 1) (bit_at_or x (2 ^ i) j ∙ ap (max (bit_at x j)) (bit_at-pow_other i j other) ∙ low)
 

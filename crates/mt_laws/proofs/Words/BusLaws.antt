@@ -19,7 +19,7 @@ use Rattle.mt_laws.proofs.Words.LineLists.{copy_in, Apart, apart_without, apart_
 
 -- ---- what a system keeps of its lines
 
-pub record Fits (ws : List Window) (p : Processor) : Type 0 where
+record Fits (ws : List Window) (p : Processor) : Type 0 where
   pub lines_apart : Apart p.lines
   pub lines_fit : list_all (fits ws) p.lines ≡ true
   pub buffers_apart : Apart p.buffers
@@ -31,44 +31,44 @@ abbrev pub AllFit : List Window → List Processor → Type 0
 AllFit ws [] = Unit {0}
 AllFit ws (p ∷ ps) = Fits ws p × AllFit ws ps
 
-pub record HasWindows (ws : List Window) (m : Memory) : Type 0 where
+record HasWindows (ws : List Window) (m : Memory) : Type 0 where
   pub windows : m.windows ≡ ws
   pub counted : length m.words ≡ word_count ws
 
-pub record Stands (ws : List Window) (s : System) : Type 0 where
+record Stands (ws : List Window) (s : System) : Type 0 where
   pub memory : HasWindows ws s.memory
   pub fit : AllFit ws s.processors
 
 -- ---- one word of a system
 
 abbrev pub copies : ℕ → List Processor → List Copy
-pub copies a ps = map (λ p. copy_in a p.lines) ps
+copies a ps = map (λ p. copy_in a p.lines) ps
 
 -- the buffer has not this word to write
 abbrev pub is_unwritten : ℕ → CacheLine → Bool
 is_unwritten a l = not (has_number (line_of a) l && is_dirty l (word_of a))
 
 abbrev pub unwritten : ℕ → List CacheLine → Bool
-pub unwritten a ls = list_all (is_unwritten a) ls
+unwritten a ls = list_all (is_unwritten a) ls
 
 abbrev pub all_unwritten : ℕ → List Processor → Bool
-pub all_unwritten a ps = list_all (λ p. unwritten a p.buffers) ps
+all_unwritten a ps = list_all (λ p. unwritten a p.buffers) ps
 
 -- the word's value is x; where it may not have been stored, memory has it
 abbrev pub Stays : Bool → ℕ → List Copy → ℕ → Type 0
 Stays true v cs x = Shows v cs x
 Stays false v cs x = (v ≡ x) × IsShared v cs
 
-pub record Word (may : Bool) (a x : ℕ) (s : System) : Type 0 where
+record Word (may : Bool) (a x : ℕ) (s : System) : Type 0 where
   pub shows : Stays may (word_at s.memory a) (copies a s.processors) x
   pub writes : may ≡ false → all_unwritten a s.processors ≡ true
 
 -- memory has the word, and no cache has it dirty, or none has it at all
-pub record Clean (a x : ℕ) (s : System) : Type 0 where
+record Clean (a x : ℕ) (s : System) : Type 0 where
   pub at : word_at s.memory a ≡ x
   pub shared : IsShared x (copies a s.processors)
 
-pub record Bare (a x : ℕ) (s : System) : Type 0 where
+record Bare (a x : ℕ) (s : System) : Type 0 where
   pub at : word_at s.memory a ≡ x
   pub clear : IsClear (copies a s.processors)
 
@@ -76,7 +76,7 @@ pub record Bare (a x : ℕ) (s : System) : Type 0 where
 abbrev pub After : Bool → ℕ → ℕ → System → Type 0
 After may a x s = (y : ℕ) × (may ≡ false → y ≡ x) × Word may a y s
 
-pub record Leaves (a : ℕ) (s t : System) : Type 0 where
+record Leaves (a : ℕ) (s t : System) : Type 0 where
   pub word : word_at t.memory a ≡ word_at s.memory a
   pub same : copies a t.processors ≡ copies a s.processors
   pub writes : all_unwritten a s.processors ≡ true → all_unwritten a t.processors ≡ true
@@ -90,13 +90,13 @@ clean_stays true v cs x e h = inl (e, subst (λ (y : ℕ). IsShared y cs) (sym e
 clean_stays false v cs x e h = (e, subst (λ (y : ℕ). IsShared y cs) (sym e) h)
 
 pub clean_word : (may : Bool) (a x : ℕ) (s : System) → Clean a x s → (may ≡ false → all_unwritten a s.processors ≡ true) → Word may a x s
-pub clean_word may a x s c w = record { shows = clean_stays may (word_at s.memory a) (copies a s.processors) x c.at c.shared; writes = w }
+clean_word may a x s c w = record { shows = clean_stays may (word_at s.memory a) (copies a s.processors) x c.at c.shared; writes = w }
 
 pub bare_clean : (a x : ℕ) (s : System) → Bare a x s → Clean a x s
-pub bare_clean a x s b = record { at = b.at; shared = clear_shared x (copies a s.processors) b.clear }
+bare_clean a x s b = record { at = b.at; shared = clear_shared x (copies a s.processors) b.clear }
 
 pub leaves_word : (may : Bool) (a x : ℕ) (s t : System) → Leaves a s t → Word may a x s → Word may a x t
-pub leaves_word may a x s t l w = record {
+leaves_word may a x s t l w = record {
   shows = subst (λ (cs : List Copy). Stays may (word_at t.memory a) cs x) (sym l.same) (subst (λ (v : ℕ). Stays may v (copies a s.processors) x) (sym l.word) w.shows);
   writes = λ h. l.writes (w.writes h);
 }
@@ -105,7 +105,7 @@ pub leaves_same : (a : ℕ) (s : System) → Leaves a s s
 leaves_same a s = record { word = refl; same = refl; writes = λ h. h }
 
 pub leaves_then : (a : ℕ) (s t u : System) → Leaves a s t → Leaves a t u → Leaves a s u
-pub leaves_then a s t u l k = record { word = k.word ∙ l.word; same = k.same ∙ l.same; writes = λ h. k.writes (l.writes h) }
+leaves_then a s t u l k = record { word = k.word ∙ l.word; same = k.same ∙ l.same; writes = λ h. k.writes (l.writes h) }
 
 pub after_word : (may : Bool) (a x : ℕ) (s : System) → Word may a x s → After may a x s
 after_word may a x s w = (x, (λ h. refl), w)
@@ -117,13 +117,13 @@ after_then may a x s t first second =
 -- ---- lines that fit
 
 pub fits_placed : (ws : List Window) (l : CacheLine) → fits ws l ≡ true → is_placed ws l.number ≡ true
-pub fits_placed ws l h = and_left _ _ h
+fits_placed ws l h = and_left _ _ h
 
 pub fits_eight : (ws : List Window) (l : CacheLine) → fits ws l ≡ true → length l.words ≡ 8
-pub fits_eight ws l h = eqb-true (length l.words) 8 (and_left _ _ (and_right (is_placed ws l.number) _ h))
+fits_eight ws l h = eqb-true (length l.words) 8 (and_left _ _ (and_right (is_placed ws l.number) _ h))
 
 pub fits_bits : (ws : List Window) (l : CacheLine) → fits ws l ≡ true → l.dirty < 256
-pub fits_bits ws l h = ltb-true l.dirty 256 (and_right (length l.words == 8) _ (and_right (is_placed ws l.number) _ h))
+fits_bits ws l h = ltb-true l.dirty 256 (and_right (length l.words == 8) _ (and_right (is_placed ws l.number) _ h))
 
 and_true : (a b : Bool) → a ≡ true → b ≡ true → (a && b) ≡ true
 and_true true b h g = g
@@ -136,9 +136,9 @@ pub fits_cleaned : (ws : List Window) (l : CacheLine) → fits ws l ≡ true →
 fits_cleaned ws l h = fits_of ws (clean_line l) (fits_placed ws l h) (fits_eight ws l h) (omega arith)
 
 pub fit_at : (ws : List Window) (ps : List Processor) (k : ℕ) (p : Processor) → AllFit ws ps → slice_get ps k ≡ Some p → Fits ws p
-pub fit_at ws [] k p h at = absurd (cc)
-pub fit_at ws (q ∷ ps) zero p h at = let e : q ≡ p = cc in subst (Fits ws) e h.0
-pub fit_at ws (q ∷ ps) (suc k) p h at = fit_at ws ps k p h.1 at
+fit_at ws [] k p h at = absurd (cc)
+fit_at ws (q ∷ ps) zero p h at = let e : q ≡ p = cc in subst (Fits ws) e h.0
+fit_at ws (q ∷ ps) (suc k) p h at = fit_at ws ps k p h.1 at
 
 pub fit_map : (ws : List Window) (f : Processor → Processor) → ((p : Processor) → Fits ws p → Fits ws (f p)) → (ps : List Processor) → AllFit ws ps → AllFit ws (map f ps)
 fit_map ws f keeps [] h = h
@@ -186,7 +186,7 @@ fits_changed ws n f number keeps p h = record {
 -- ---- a change of one processor
 
 pub change_case : (P : System → Type 0) (f : Processor → Processor) (k : ℕ) (s : System) → P s → ((p : Processor) → slice_get s.processors k ≡ Some p → P (record s { processors = set s.processors k (f p) })) → P (change f k s)
-pub change_case P f k s none some = one (slice_get s.processors k) refl
+change_case P f k s none some = one (slice_get s.processors k) refl
   where
     one : (o : Option Processor) → slice_get s.processors k ≡ o → P (option_map_or (λ p. record s { processors = set s.processors k (f p) }) o s)
     one None is = none
@@ -202,8 +202,8 @@ copies_set a (p ∷ ps) zero q = refl
 copies_set a (p ∷ ps) (suc k) q = ap (λ cs. copy_in a p.lines ∷ cs) (copies_set a ps k q)
 
 pub copies_at : (a : ℕ) (ps : List Processor) (k : ℕ) (p : Processor) → slice_get ps k ≡ Some p → slice_get (copies a ps) k ≡ Some (copy_in a p.lines)
-pub copies_at a [] k p at = absurd (cc)
-pub copies_at a (q ∷ ps) zero p at = let e : q ≡ p = cc in ap (λ (r : Processor). Some (copy_in a r.lines)) e
+copies_at a [] k p at = absurd (cc)
+copies_at a (q ∷ ps) zero p at = let e : q ≡ p = cc in ap (λ (r : Processor). Some (copy_in a r.lines)) e
 copies_at a (q ∷ ps) (suc k) p at = copies_at a ps k p at
 
 set_kept : (cs : List Copy) (k : ℕ) (c : Copy) → slice_get cs k ≡ Some c → set cs k c ≡ cs

@@ -19,7 +19,7 @@ abbrev ruled : Bool → RuledAfter → RuledAfter → RuledAfter
 ruled b x y = if b then x else y
 
 pub paged : (on : Bool) (p : Processor) → ((set_page_global on p).lines ≡ p.lines) × ((set_page_global on p).buffers ≡ p.buffers)
-pub paged on p = one (same_bool on p.page_global)
+paged on p = one (same_bool on p.page_global)
   where
     one : (b : Bool) → ((if b then p else record p { page_global = on; entries = [] }).lines ≡ p.lines) × ((if b then p else record p { page_global = on; entries = [] }).buffers ≡ p.buffers)
     one true = (refl, refl)

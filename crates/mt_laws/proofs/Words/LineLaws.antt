@@ -22,7 +22,7 @@ put_windows m a v = one (place m a)
     one (Some i) = refl
 
 pub put_length : (m : Memory) (a v : ℕ) → length (put_word m a v).words ≡ length m.words
-pub put_length m a v = one (place m a)
+put_length m a v = one (place m a)
   where
     one : (x : Option ℕ) → length (option_map_or (λ i. record m { words = set m.words i v }) x m).words ≡ length m.words
     one None = refl
@@ -71,10 +71,10 @@ words_placed (v ∷ ws) before n w i aligned small h =
 -- ---- lines that fit: in memory, with eight words and a bit for each
 
 abbrev pub is_placed : List Window → ℕ → Bool
-pub is_placed ws n = is_some (place_in ws 0 (word_address n 0))
+is_placed ws n = is_some (place_in ws 0 (word_address n 0))
 
 abbrev pub fits : List Window → CacheLine → Bool
-pub fits ws l = is_placed ws l.number && ((length l.words == 8) && nat_lt l.dirty 256)
+fits ws l = is_placed ws l.number && ((length l.words == 8) && nat_lt l.dirty 256)
 
 abbrev pub is_word : ℕ → Bool
 is_word a = a % 8 == 0
@@ -97,7 +97,7 @@ word_placed m n a aligned placed whole same =
 -- ---- write-backs
 
 pub back_windows : (l : CacheLine) (w : ℕ) (m : Memory) → (write_back_word l m w).windows ≡ m.windows
-pub back_windows l w m = one (is_dirty l w)
+back_windows l w m = one (is_dirty l w)
   where
     one : (b : Bool) → (if b then put_word m (word_address l.number w) (slice_index l.words w) else m).windows ≡ m.windows
     one true = put_windows m (word_address l.number w) (slice_index l.words w)
@@ -119,10 +119,10 @@ fold_length l [] m = refl
 fold_length l (w ∷ ws) m = fold_length l ws (write_back_word l m w) ∙ back_length l w m
 
 pub write_back_windows : (m : Memory) (l : CacheLine) → (write_back m l).windows ≡ m.windows
-pub write_back_windows m l = fold_windows l eight m
+write_back_windows m l = fold_windows l eight m
 
 pub write_back_length : (m : Memory) (l : CacheLine) → length (write_back m l).words ≡ length m.words
-pub write_back_length m l = fold_length l eight m
+write_back_length m l = fold_length l eight m
 
 -- the word at another address stays
 back_other : (l : CacheLine) (w a : ℕ) (m : Memory) → AllAligned m.windows → word_address l.number w ≢ a → word_at (write_back_word l m w) a ≡ word_at m a
@@ -140,11 +140,11 @@ fold_other l a other (w ∷ ws) m aligned all =
     ∙ back_other l w a m aligned (λ e. other (omega arith))
 
 pub write_back_other : (l : CacheLine) (a : ℕ) (m : Memory) → AllAligned m.windows → line_of a ≢ l.number → word_at (write_back m l) a ≡ word_at m a
-pub write_back_other l a m aligned other = fold_other l a other eight m aligned refl
+write_back_other l a m aligned other = fold_other l a other eight m aligned refl
 
 -- what a line has of a word
 abbrev pub look : ℕ → CacheLine → ℕ × Bool
-pub look a l = (slice_index l.words (word_of a), is_dirty l (word_of a))
+look a l = (slice_index l.words (word_of a), is_dirty l (word_of a))
 
 abbrev written : ℕ → CacheLine → Bool → ℕ → ℕ
 written a l now v = if now then settle v (Some (look a l)) else v

@@ -13,21 +13,21 @@ use Rattle.mt_laws.proofs.Words.Copies.{Copy, settle}
 use Rattle.mt_laws.proofs.Words.LineLaws.{fits, look, write_back_same, write_back_other, write_back_windows, write_back_length}
 
 abbrev pub copy_in : ℕ → List CacheLine → Copy
-pub copy_in a ls = option_map (look a) (find_line (line_of a) ls)
+copy_in a ls = option_map (look a) (find_line (line_of a) ls)
 
 -- no two lines have one number
 abbrev pub Apart : List CacheLine → Type 0
-pub Apart [] = Unit {0}
-pub Apart (l ∷ ls) = (find_line l.number ls ≡ None) × Apart ls
+Apart [] = Unit {0}
+Apart (l ∷ ls) = (find_line l.number ls ≡ None) × Apart ls
 
 abbrev pub KeepsNumber : (CacheLine → CacheLine) → Type 0
-pub KeepsNumber f = (l : CacheLine) → (f l).number ≡ l.number
+KeepsNumber f = (l : CacheLine) → (f l).number ≡ l.number
 
 pub find_hit : (n : ℕ) (l : CacheLine) (ls : List CacheLine) → (l.number == n) ≡ true → find_line n (l ∷ ls) ≡ Some l
 find_hit n l ls is = ap (λ b. if b then Some l else find_line n ls) is
 
 pub find_miss : (n : ℕ) (l : CacheLine) (ls : List CacheLine) → (l.number == n) ≡ false → find_line n (l ∷ ls) ≡ find_line n ls
-pub find_miss n l ls is = ap (λ b. if b then Some l else find_line n ls) is
+find_miss n l ls is = ap (λ b. if b then Some l else find_line n ls) is
 
 -- ---- the line of a number
 
@@ -77,16 +77,16 @@ find_append m (x ∷ ls) l = one (x.number == m) (find_append m ls l)
     one false rest = rest
 
 pub found_number : (n : ℕ) (ls : List CacheLine) (l : CacheLine) → find_line n ls ≡ Some l → l.number ≡ n
-pub found_number n [] l h = absurd (cc)
-pub found_number n (x ∷ ls) l h = one (x.number == n) refl (λ g. found_number n ls l g) h
+found_number n [] l h = absurd (cc)
+found_number n (x ∷ ls) l h = one (x.number == n) refl (λ g. found_number n ls l g) h
   where
     one : (b : Bool) → (x.number == n) ≡ b → (find_line n ls ≡ Some l → l.number ≡ n) → (if b then Some x else find_line n ls) ≡ Some l → l.number ≡ n
     one true is rest g = let e : x ≡ l = cc in ap (λ (y : CacheLine). y.number) (sym e) ∙ eqb-true x.number n is
     one false is rest g = rest g
 
 pub found_passes : (test : CacheLine → Bool) (n : ℕ) (ls : List CacheLine) (l : CacheLine) → list_all test ls ≡ true → find_line n ls ≡ Some l → test l ≡ true
-pub found_passes test n [] l all h = absurd (cc)
-pub found_passes test n (x ∷ ls) l all h = one (x.number == n) (λ g. found_passes test n ls l (and_right (test x) _ all) g) h
+found_passes test n [] l all h = absurd (cc)
+found_passes test n (x ∷ ls) l all h = one (x.number == n) (λ g. found_passes test n ls l (and_right (test x) _ all) g) h
   where
     one : (b : Bool) → (find_line n ls ≡ Some l → test l ≡ true) → (if b then Some x else find_line n ls) ≡ Some l → test l ≡ true
     one true rest g = let e : x ≡ l = cc in ap test (sym e) ∙ and_left _ _ all
@@ -137,8 +137,8 @@ and_true true b h g = g
 and_true false b h g = absurd (cc)
 
 pub passes_changed : (test : CacheLine → Bool) (n : ℕ) (f : CacheLine → CacheLine) → ((l : CacheLine) → test l ≡ true → test (f l) ≡ true) → (ls : List CacheLine) → list_all test ls ≡ true → list_all test (change_line n f ls) ≡ true
-pub passes_changed test n f keeps [] h = h
-pub passes_changed test n f keeps (l ∷ ls) h =
+passes_changed test n f keeps [] h = h
+passes_changed test n f keeps (l ∷ ls) h =
     and_true _ _ (one (has_number n l)) (passes_changed test n f keeps ls (and_right (test l) _ h))
   where
     one : (b : Bool) → test (if b then f l else l) ≡ true
@@ -146,12 +146,12 @@ pub passes_changed test n f keeps (l ∷ ls) h =
     one false = and_left _ _ h
 
 pub passes_append : (test : CacheLine → Bool) (ls : List CacheLine) (l : CacheLine) → list_all test ls ≡ true → test l ≡ true → list_all test (ls ++ l ∷ []) ≡ true
-pub passes_append test [] l h g = and_true _ _ g refl
-pub passes_append test (x ∷ ls) l h g = and_true _ _ (and_left _ _ h) (passes_append test ls l (and_right (test x) _ h) g)
+passes_append test [] l h g = and_true _ _ g refl
+passes_append test (x ∷ ls) l h g = and_true _ _ (and_left _ _ h) (passes_append test ls l (and_right (test x) _ h) g)
 
 pub passes_without : (test : CacheLine → Bool) (n : ℕ) (ls : List CacheLine) → list_all test ls ≡ true → list_all test (without_line n ls) ≡ true
-pub passes_without test n [] h = h
-pub passes_without test n (l ∷ ls) h = one (has_number n l) (passes_without test n ls (and_right (test l) _ h))
+passes_without test n [] h = h
+passes_without test n (l ∷ ls) h = one (has_number n l) (passes_without test n ls (and_right (test l) _ h))
   where
     one : (b : Bool) → list_all test (without_line n ls) ≡ true → list_all test (if not b then l ∷ without_line n ls else without_line n ls) ≡ true
     one true rest = rest
@@ -183,8 +183,8 @@ copy_change_same a n f g keeps none acts ls same =
 -- ---- the write-back of one number's line
 
 pub filter_none : (n : ℕ) (ls : List CacheLine) → find_line n ls ≡ None → filter (has_number n) ls ≡ []
-pub filter_none n [] h = refl
-pub filter_none n (l ∷ ls) h = one (l.number == n) h (λ g. filter_none n ls g)
+filter_none n [] h = refl
+filter_none n (l ∷ ls) h = one (l.number == n) h (λ g. filter_none n ls g)
   where
     one : (b : Bool) → (if b then Some l else find_line n ls) ≡ None → (find_line n ls ≡ None → filter (has_number n) ls ≡ []) → (if b then l ∷ filter (has_number n) ls else filter (has_number n) ls) ≡ []
     one true g rest = absurd (cc)
@@ -213,7 +213,7 @@ pub of_windows : (n : ℕ) (m : Memory) (ls : List CacheLine) → (write_back_of
 of_windows n m ls = backs_windows (filter (has_number n) ls) m
 
 pub of_length : (n : ℕ) (m : Memory) (ls : List CacheLine) → length (write_back_of n m ls).words ≡ length m.words
-pub of_length n m ls = backs_length (filter (has_number n) ls) m
+of_length n m ls = backs_length (filter (has_number n) ls) m
 
 module _ (m : Memory) (ls : List CacheLine) (aligned : AllAligned m.windows) (counted : length m.words ≡ word_count m.windows) (apart : Apart ls) (fit : list_all (fits m.windows) ls ≡ true) where
   pub of_word : (n a : ℕ) → a % 8 ≡ 0 → line_of a ≡ n → word_at (write_back_of n m ls) a ≡ settle (word_at m a) (copy_in a ls)

@@ -8,8 +8,8 @@ use Rattle.mt_machine.specs.Memory.{Memory, Window, place_in, place, word_at, pu
 use Rattle.mt_laws.proofs.Barrier.Ranks.{and_left, and_right}
 
 abbrev pub AllAligned : List Window → Type 0
-pub AllAligned [] = Unit {0}
-pub AllAligned (w ∷ ws) = (w.base % 64 ≡ 0) × AllAligned ws
+AllAligned [] = Unit {0}
+AllAligned (w ∷ ws) = (w.base % 64 ≡ 0) × AllAligned ws
 
 holds : Window → ℕ → Bool
 holds w a = nat_le w.base a && nat_lt a (w.base + 64 * w.lines)

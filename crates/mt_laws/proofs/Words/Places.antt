@@ -4,4 +4,4 @@ use Rattle.std.specs.Prelude.{◌==◌, if◌then◌else◌}
 use Rattle.mt_machine.specs.Memory.{Memory, Window, place, place_in}
 
 pub place_same : (m n : Memory) (a : ℕ) → m.windows ≡ n.windows → place m a ≡ place n a
-pub place_same m n a same = ap (λ (ws : List Window). if a % 8 == 0 then place_in ws 0 a else None) same
+place_same m n a same = ap (λ (ws : List Window). if a % 8 == 0 then place_in ws 0 a else None) same

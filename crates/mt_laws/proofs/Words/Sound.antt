@@ -28,8 +28,8 @@ use Rattle.mt_laws.proofs.Words.Agreement.{Agrees}
 -- ---- lists
 
 pub aligned_all : (ws : List Window) → All (λ (w : Window). w.base % 64 ≡ 0) ws → AllAligned ws
-pub aligned_all [] h = tt
-pub aligned_all (w ∷ ws) h = (All-head (λ (v : Window). v.base % 64 ≡ 0) w ws h, aligned_all ws (All-tail (λ (v : Window). v.base % 64 ≡ 0) w ws h))
+aligned_all [] h = tt
+aligned_all (w ∷ ws) h = (All-head (λ (v : Window). v.base % 64 ≡ 0) w ws h, aligned_all ws (All-tail (λ (v : Window). v.base % 64 ≡ 0) w ws h))
 
 abbrev Distinct : CacheLine → CacheLine → Type 0
 Distinct a b = a.number ≢ b.number
@@ -43,8 +43,8 @@ none_of_number n (l ∷ ls) h = one (l.number == n) refl (none_of_number n ls (�
     one false is rest = rest
 
 pub apart_of_pairs : (ls : List CacheLine) → AllPairs Distinct ls → Apart ls
-pub apart_of_pairs [] h = tt
-pub apart_of_pairs (l ∷ ls) h = (none_of_number l.number ls (λ j d within. h 0 (suc j) d (omega arith) (omega arith)), apart_of_pairs ls (λ i j d low within. h (suc i) (suc j) d (omega arith) (omega arith)))
+apart_of_pairs [] h = tt
+apart_of_pairs (l ∷ ls) h = (none_of_number l.number ls (λ j d within. h 0 (suc j) d (omega arith) (omega arith)), apart_of_pairs ls (λ i j d low within. h (suc i) (suc j) d (omega arith) (omega arith)))
 
 number_apart : (n : ℕ) (ls : List CacheLine) → find_line n ls ≡ None → (j : ℕ) (d : CacheLine) → j < length ls → n ≢ (get_or ls j d).number
 number_apart n [] h j d within = absurd (omega arith)
@@ -75,13 +75,13 @@ all_test test P gives (x ∷ xs) h = both _ _ (gives x (All-head P x xs h)) (all
     both false b h g = absurd (cc)
 
 pub test_all : {X : Type 0} → (test : X → Bool) (P : X → Type 0) → ((x : X) → test x ≡ true → P x) → (xs : List X) → list_all test xs ≡ true → All P xs
-pub test_all test P gives [] h k d within = absurd (omega arith)
-pub test_all test P gives (x ∷ xs) h zero d within = gives x (left _ _ h)
+test_all test P gives [] h k d within = absurd (omega arith)
+test_all test P gives (x ∷ xs) h zero d within = gives x (left _ _ h)
   where
     left : (a b : Bool) → (a && b) ≡ true → a ≡ true
     left true b g = refl
     left false b g = g
-pub test_all test P gives (x ∷ xs) h (suc k) d within = test_all test P gives xs (right _ _ h) k d (omega arith)
+test_all test P gives (x ∷ xs) h (suc k) d within = test_all test P gives xs (right _ _ h) k d (omega arith)
   where
     right : (a b : Bool) → (a && b) ≡ true → b ≡ true
     right true b g = g
@@ -113,7 +113,7 @@ sound_fit s h (p ∷ ps) from =
     )
 
 pub sound_stands : (s : System) → IsSound s → Stands s.memory.windows s
-pub sound_stands s h = record { memory = record { windows = refl; counted = h.memory.counted }; fit = sound_fit s h s.processors (λ i p at. (i, at)) }
+sound_stands s h = record { memory = record { windows = refl; counted = h.memory.counted }; fit = sound_fit s h s.processors (λ i p at. (i, at)) }
 
 -- ---- copies by their places
 
@@ -141,8 +141,8 @@ shows_by_place v (Some (y, false) ∷ cs) clean sole =
     r.1
 
 pub shared_clean : (v : ℕ) (cs : List Copy) (i y : ℕ) (d : Bool) → IsShared v cs → slice_get cs i ≡ Some (Some (y, d)) → (y ≡ v) × (d ≡ false)
-pub shared_clean v [] i y d h at = absurd (cc)
-pub shared_clean v (None ∷ cs) zero y d h at = absurd (cc)
+shared_clean v [] i y d h at = absurd (cc)
+shared_clean v (None ∷ cs) zero y d h at = absurd (cc)
 shared_clean v (None ∷ cs) (suc i) y d h at = shared_clean v cs i y d h at
 shared_clean v (Some (z, true) ∷ cs) i y d h at = absurd h
 shared_clean v (Some (z, false) ∷ cs) zero y d h at =
@@ -152,8 +152,8 @@ shared_clean v (Some (z, false) ∷ cs) zero y d h at =
 shared_clean v (Some (z, false) ∷ cs) (suc i) y d h at = shared_clean v cs i y d h.1 at
 
 pub clear_place : (cs : List Copy) (i : ℕ) (c : Copy) → IsClear cs → slice_get cs i ≡ Some c → c ≡ None
-pub clear_place [] i c h at = absurd (cc)
-pub clear_place (None ∷ cs) zero c h at = cc
+clear_place [] i c h at = absurd (cc)
+clear_place (None ∷ cs) zero c h at = cc
 clear_place (None ∷ cs) (suc i) c h at = clear_place cs i c h at
 clear_place (Some x ∷ cs) i c h at = absurd h
 
@@ -220,7 +220,7 @@ dirty_set : (l : CacheLine) (w : ℕ) → is_dirty l w ≡ true → l.dirty ≢ 
 dirty_set l w on e = absurd (let off : is_dirty l w ≡ false = ap (λ x. is_bit_set x w) e ∙ no_bit w in cc)
 
 pub sound_word : (s : System) → IsSound s → (a : ℕ) → a % 8 ≡ 0 → (x : ℕ) × Word true a x s
-pub sound_word s h a whole =
+sound_word s h a whole =
     let r = shows_by_place (word_at s.memory a) (copies a s.processors) clean sole in
     (r.0, record { shows = r.1; writes = λ e. absurd (cc) })
   where
@@ -244,7 +244,7 @@ pub sound_word s h a whole =
         sym other.2 ∙ ap (λ n. option_map (look a) (find_line n other.0.lines)) (sym number) ∙ ap (option_map (look a)) (none_of_test (find_line l.0.number other.0.lines) none)
 
 pub sound_agrees : (m : Machine) → IsSound m.system → Agrees m.system.memory.windows m
-pub sound_agrees m h = record { stands = sound_stands m.system h; words = λ a whole. sound_word m.system h a whole }
+sound_agrees m h = record { stands = sound_stands m.system h; words = λ a whole. sound_word m.system h a whole }
 
 -- ---- where they agree, the system is coherent
 
@@ -369,7 +369,7 @@ owned_now ws a x (p ∷ ps) fit h = ap (λ o. option_or o (dirty_word_in ps a)) 
 
 -- the value of a word whose copies agree
 pub now_is : (ws : List Window) (s : System) (a x : ℕ) → Stands ws s → Word true a x s → now s a ≡ x
-pub now_is ws s a x st w =
+now_is ws s a x st w =
     ⊎_elim
     (λ (h : (word_at s.memory a ≡ x) × IsShared (word_at s.memory a) (copies a s.processors)). ap (λ o. option_map_or (λ v. v) o (word_at s.memory a)) (shared_now ws a (word_at s.memory a) s.processors st.fit h.1) ∙ h.0)
     (λ (h : IsOwned x (copies a s.processors)). ap (λ o. option_map_or (λ v. v) o (word_at s.memory a)) (owned_now ws a x s.processors st.fit h))
@@ -377,7 +377,7 @@ pub now_is ws s a x st w =
 
 -- a word that has no place is 0
 pub no_word : (ws : List Window) → AllAligned ws → (s : System) (a x : ℕ) → Stands ws s → a % 8 ≡ 0 → place s.memory a ≡ None → Word true a x s → x ≡ 0
-pub no_word ws aligned s a x st whole none w =
+no_word ws aligned s a x st whole none w =
     ⊎_elim
     (λ (h : (word_at s.memory a ≡ x) × IsShared (word_at s.memory a) (copies a s.processors)). sym h.0 ∙ ap (λ (o : Option ℕ). option_map_or (λ i. slice_index s.memory.words i) o 0) none)
     (λ (h : IsOwned x (copies a s.processors)).

@@ -39,8 +39,8 @@ find_passes test (y ∷ xs) x h = one (test y) refl (λ g. find_passes test xs x
     one false is rest g = rest g
 
 pub find_within : {X : Type 0} → (test within : X → Bool) (xs : List X) (x : X) → list_all within xs ≡ true → find test xs ≡ Some x → within x ≡ true
-pub find_within test within [] x all h = absurd (cc)
-pub find_within test within (y ∷ xs) x all h = one (test y) (λ g. find_within test within xs x (and_right (within y) _ all) g) h
+find_within test within [] x all h = absurd (cc)
+find_within test within (y ∷ xs) x all h = one (test y) (λ g. find_within test within xs x (and_right (within y) _ all) g) h
   where
     one : (b : Bool) → (find test xs ≡ Some x → within x ≡ true) → (if b then Some y else find test xs) ≡ Some x → within x ≡ true
     one true rest g = let e : y ≡ x = cc in ap within (sym e) ∙ and_left _ _ all
@@ -55,8 +55,8 @@ find_none test (y ∷ xs) h = one (test y) h (λ g. find_none test xs g)
     one false g rest = rest g
 
 pub eight_pass : (test : ℕ → Bool) → list_all test eight ≡ true → (w : ℕ) → w < 8 → test w ≡ true
-pub eight_pass test h zero low = and_left _ _ h
-pub eight_pass test h (suc zero) low = and_left _ _ (and_right (test 0) _ h)
+eight_pass test h zero low = and_left _ _ h
+eight_pass test h (suc zero) low = and_left _ _ (and_right (test 0) _ h)
 eight_pass test h (suc (suc zero)) low = and_left _ _ (and_right (test 1) _ (and_right (test 0) _ h))
 eight_pass test h (suc (suc (suc zero))) low = and_left _ _ (and_right (test 2) _ (and_right (test 1) _ (and_right (test 0) _ h)))
 eight_pass test h (suc (suc (suc (suc zero)))) low = and_left _ _ (and_right (test 3) _ (and_right (test 2) _ (and_right (test 1) _ (and_right (test 0) _ h))))
@@ -91,13 +91,13 @@ found_itself test (x ∷ ls) l apart h = one (test x) h (λ g. found_itself test
 -- ---- which events empty the cache
 
 unfoldable pub is_drain : Event → Bool
-pub is_drain (WriteBack a v) = true
-pub is_drain DropLines = true
-pub is_drain other = false
+is_drain (WriteBack a v) = true
+is_drain DropLines = true
+is_drain other = false
 
 pub due_drains : (o : Order) (ps : List Processor) (p : Processor) (ph : Phase) (e : Event) → due o ps p ph ≡ Some e → is_drain e ≡ true → write_back_or_drop p ≡ e
 unfolding is_drain
-pub due_drains o ps p ph e h is = one ph h (row e is (due_row o ps p ph e h))
+due_drains o ps p ph e h is = one ph h (row e is (due_row o ps p ph e h))
   where
     row : (e : Event) → is_drain e ≡ true → is_row e ph ≡ true → is_row DropLines ph ≡ true
     row (WriteBack a v) is on = on
@@ -114,7 +114,7 @@ abbrev pub NoDirty : List CacheLine → Type 0
 NoDirty ls = list_all (λ l. not (is_some (first_dirty_word l))) ls ≡ true
 
 -- the first dirty word of a processor's lines
-pub record FirstDirty (p : Processor) (address value : ℕ) : Type 0 where
+record FirstDirty (p : Processor) (address value : ℕ) : Type 0 where
   pub line : CacheLine
   pub word : ℕ
   pub found : find_line line.number p.lines ≡ Some line
@@ -154,7 +154,7 @@ drains_as p apart = one (first_dirty_line p.lines) refl
 
 pub back_drains : (p : Processor) (address value : ℕ) → Apart p.lines → write_back_or_drop p ≡ WriteBack address value → FirstDirty p address value
 unfolding event_drains
-pub back_drains p address value apart is = subst (λ (e : Event). event_drains e p) is (drains_as p apart)
+back_drains p address value apart is = subst (λ (e : Event). event_drains e p) is (drains_as p apart)
 
 pub drop_drains : (p : Processor) → Apart p.lines → write_back_or_drop p ≡ DropLines → NoDirty p.lines
 unfolding event_drains

@@ -24,7 +24,7 @@ use Rattle.mt_laws.proofs.Words.Lengths.{add_length}
 
 -- the machine has this processor
 abbrev pub Has : ℕ → System → Type 0
-pub Has k s = (p : Processor) × (slice_get s.processors k ≡ Some p)
+Has k s = (p : Processor) × (slice_get s.processors k ≡ Some p)
 
 pub has_after : (k : ℕ) (s t : System) → stages t ≡ stages s → Has k s → Has k t
 has_after k s t same h =
@@ -68,8 +68,8 @@ none_changed n f keeps ls h = find_change_same n f keeps ls ∙ ap (option_map f
 
 -- a word with value x, after a store of v to it or to another word
 abbrev pub Put : Bool → ℕ → ℕ → ℕ → System → Bool → Type 0
-pub Put may a x v s true = Word true a v s
-pub Put may a x v s false = Word may a x s
+Put may a x v s true = Word true a v s
+Put may a x v s false = Word may a x s
 
 pub put_after : (may : Bool) (a x v : ℕ) (s : System) (b : Bool) → (may ≡ false → b ≡ true → ⊥) → Put may a x v s b → After may a x s
 put_after true a x v s true h w = (v, (λ e. absurd (cc)), w)

@@ -33,8 +33,8 @@ use Rattle.mt_laws.proofs.Words.Lengths.{add_length, change_length, oldest_none,
 use Rattle.mt_laws.proofs.Clearing.Renewed.{at_change}
 
 abbrev pub is_combined : MemType → Bool
-pub is_combined WC = true
-pub is_combined other = false
+is_combined WC = true
+is_combined other = false
 
 -- ---- the buffers of a WC store
 
@@ -52,11 +52,11 @@ passes_changed_at test n f keeps (l ∷ ls) h =
     one false is = and_left _ _ h
 
 pub buffers_at : (k : ℕ) (s : System) (p : Processor) → slice_get s.processors k ≡ Some p → buffers_of s k ≡ p.buffers
-pub buffers_at k s p at = ap (λ (o : Option Processor). option_map_or (λ q. q.buffers) o []) at
+buffers_at k s p at = ap (λ (o : Option Processor). option_map_or (λ q. q.buffers) o []) at
 
 -- a buffer that is emptied leaves the lists of buffers
 pub emptied_buffers : (s : System) (b : CacheLine) (k : ℕ) → buffers_of (empty_buffer s b) k ≡ buffers_of s k
-pub emptied_buffers s b k =
+emptied_buffers s b k =
     ap (λ (o : Option Processor). option_map_or (λ q. q.buffers) o [])
     (slice_get-map (with_lines (without_line b.number)) (bus_read b.number s).processors k
     ∙ ap (option_map (with_lines (without_line b.number))) (slice_get-map (with_lines (change_line b.number clean_line)) s.processors k))

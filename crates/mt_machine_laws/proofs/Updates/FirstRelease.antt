@@ -304,6 +304,6 @@ first_release_follows s m o k start r is none enabled =
     )
 
 pub held_after_each_first : HeldAfterEachFirst
-pub held_after_each_first s m o k since start r is none enabled more =
+held_after_each_first s m o k since start r is none enabled more =
     let f = first_release_follows s m o k start r is none enabled in
     (f.0, f.1, f.2, held_after_release s f.0 (next m (Steps k Release)) o since start f.1 f.2 more)

@@ -352,7 +352,7 @@ module _ (pages others : ℕ → Bool) (k j : ℕ) (s : System) (memory : IsMemo
   behind_same ops bs = ap (ran 0 ops) (same_system others j s (ran j bs s).after _ (after_j bs) pages k owner differ back)
 
 pub commute : (pages others : ℕ → Bool) (k j : ℕ) (s : System) → IsMemory s.memory → IsOwner pages k s → IsOwner others j s → k ≢ j → AreApart pages others → (ops bs : List Op) → Commute k j ops bs s
-pub commute pages others k j s memory owner other differ apart ops bs =
+commute pages others k j s memory owner other differ apart ops bs =
     let back = apart_back pages others apart in
     let far : j ≢ k = λ e. differ (sym e) in
     let first = behind pages others k j s memory owner other differ apart ops bs in
@@ -408,7 +408,7 @@ two_named page (r ∷ ps) (suc j) (suc k) p q apart at_p at_q x y =
     omega arith
 
 pub private_owner : (s : System) (k : ℕ) (p : Processor) → IsPrivate s → slice_get s.processors k ≡ Some p → IsOwner (pages_of p) k s
-pub private_owner s k p private at = record {
+private_owner s k p private at = record {
   processor = p;
   at = at;
   own = λ page named. named;

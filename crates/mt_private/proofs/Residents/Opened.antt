@@ -137,7 +137,7 @@ module _ (t : Start) (opens : Opens t) where
   at_first i y e = subst (λ (n : ℕ). get_elem? all n ≡ some y) (sym (fits i y e).1) e
 
 pub opened : (key : Key) (words : List ℕ) → Opens (start_of key) → length words ≡ length key.cpus.value.items + 2 → ((i : ℕ) → slice_index words i ≡ 0) → MeetsYard key (opening words [] (first_yard_view key))
-pub opened key words opens long zeros = record {
+opened key words opens long zeros = record {
   all = all (start_of key) opens;
   go = Pending;
   owner = λ _. 0;

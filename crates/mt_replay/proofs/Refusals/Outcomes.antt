@@ -243,7 +243,7 @@ bad_text_ends text o first not_refused = by (said_of_outcome text)
     ]
 
 pub done_where_no_offence : DoneWhereNoOffence
-pub done_where_no_offence text = by (said_of_outcome text)
+done_where_no_offence text = by (said_of_outcome text)
   where
     by : ToldRefused text ⊎ IsSaid text (script_offence text) → ((transcript text).status ≡ Done) ↔ ((script_offence text ≡ None) × ((transcript text).status ≢ Refused))
     by (inl h) = (λ done. absurd (let refused = is_refused text h in cc (refused, done)), λ has. absurd (has.1 (is_refused text h)))
@@ -253,7 +253,7 @@ pub done_where_no_offence text = by (said_of_outcome text)
     ]
 
 pub one_of_three : OneOfThreeStatuses
-pub one_of_three text = by (said_of_outcome text)
+one_of_three text = by (said_of_outcome text)
   where
     by : ToldRefused text ⊎ IsSaid text (script_offence text) → ((transcript text).status ≡ Done) ⊎ ((transcript text).status ≡ Refused) ⊎ ((transcript text).status ≡ BadText)
     by (inl h) = inr (inl (is_refused text h))
@@ -265,7 +265,7 @@ pub one_of_three text = by (said_of_outcome text)
 -- ---- the first line
 
 pub accepted_unless_refused : AcceptedUnlessRefused
-pub accepted_unless_refused text dump shows = by (first_refusal dump.files) refl
+accepted_unless_refused text dump shows = by (first_refusal dump.files) refl
   where
     by : (refusal : Option (ℕ × Fault)) → first_refusal dump.files ≡ refusal → ((transcript text).status ≢ Refused) ↔ All IsAccepted dump.files
     by None has = (
