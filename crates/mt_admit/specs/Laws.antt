@@ -14,7 +14,7 @@ use Rattle.mt_core.specs.Arises.{Arises}
 use Rattle.mt_admit.specs.Admission.{brought_up, first_file}
 
 -- the machine arises, no update is under way, and it has a processor
-record CanGrow (m : Machine) : Type 0 where
+pub record CanGrow (m : Machine) : Type 0 where
   pub arises : Arises m
   pub idle : m.order ≡ None
   pub some : 0 < length m.system.processors
@@ -24,7 +24,7 @@ abbrev pub UpsArise : Type 0
 UpsArise = (m : Machine) → CanGrow m → Arises (brought_up m)
 
 -- one processor more than m has, each with processor 0's registers of m and with nothing older than the update
-record AllAgree (m : Machine) (t : System) : Type 0 where
+pub record AllAgree (m : Machine) (t : System) : Type 0 where
   pub number : length t.processors ≡ length m.system.processors + 1
   pub settled : IsSettled t (common_era m.system.processors + 1) (first_file m.system)
 
@@ -44,7 +44,7 @@ NewcomersKeepWords =
     → IsHeld (run (brought_up m) before).system r since
 
 -- what fences leave, in the order of the takes, of the machine with the newcomer; this one has the blank file still
-record IsGivenUp (m t : Machine) (takes : List ℕ) : Type 0 where
+pub record IsGivenUp (m t : Machine) (takes : List ℕ) : Type 0 where
   pub fences : t ≡ record { system = emptied (with_newcomer m).system takes; order = None }
   pub blank : (p : Processor) → slice_get t.system.processors (length m.system.processors) ≡ Some p → p.file ≡ blank_file (first_file m.system).width (first_file m.system).capabilities
 
@@ -56,7 +56,7 @@ CancelledNewcomersStayBlank =
     → IsGivenUp m (run (brought_up m) es) (takes_of es)
 
 -- the words have the values that they had once the buffers of the last were emptied, and the others all but lines and buffers
-record OthersAreLeft (s t : System) : Type 0 where
+pub record OthersAreLeft (s t : System) : Type 0 where
   pub words : (address : ℕ) → address % 8 ≡ 0 → now t address ≡ now (drain (last_number s) s) address
   pub others : map uncached t.processors ≡ take (last_number s) (map uncached s.processors)
 

@@ -21,24 +21,24 @@ abbrev pub all_may : List ℕ → ℕ → List CacheLine → Bool
 all_may masks k ls = list_all (λ l. may_hold masks k l.number) ls
 
 -- each line of each cache is one that it may have
-record AreHeldBy (ps : List Processor) (masks : List ℕ) : Type 0 where
+pub record AreHeldBy (ps : List Processor) (masks : List ℕ) : Type 0 where
   pub each : (k : ℕ) (p : Processor) → slice_get ps k ≡ Some p → all_may masks k p.lines ≡ true
 
 -- what other masks say holds by these too
-record Covers (masks others : List ℕ) : Type 0 where
+pub record Covers (masks others : List ℕ) : Type 0 where
   pub each : (k n : ℕ) → may_hold others k n ≡ true → may_hold masks k n ≡ true
 
 -- but for processor k and the lines that have the residue of line n
-record CoversBut (k n : ℕ) (masks others : List ℕ) : Type 0 where
+pub record CoversBut (k n : ℕ) (masks others : List ℕ) : Type 0 where
   pub each : (j i : ℕ) → (j ≡ k → i % modulus ≡ n % modulus → ⊥) → may_hold others j i ≡ true → may_hold masks j i ≡ true
 
 -- but for processor k
-record CoversOthers (k : ℕ) (masks others : List ℕ) : Type 0 where
+pub record CoversOthers (k : ℕ) (masks others : List ℕ) : Type 0 where
   pub each : (j i : ℕ) → (j ≡ k → ⊥) → may_hold others j i ≡ true → may_hold masks j i ≡ true
 
 -- no cache has the line, and none but that of processor k
-record IsNowhere (n : ℕ) (ps : List Processor) : Type 0 where
+pub record IsNowhere (n : ℕ) (ps : List Processor) : Type 0 where
   pub each : (j : ℕ) → find_line n (lines_in j ps) ≡ None
 
-record IsNowhereElse (k n : ℕ) (ps : List Processor) : Type 0 where
+pub record IsNowhereElse (k n : ℕ) (ps : List Processor) : Type 0 where
   pub each : (j : ℕ) → (j ≡ k → ⊥) → find_line n (lines_in j ps) ≡ None

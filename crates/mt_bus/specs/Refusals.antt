@@ -22,7 +22,7 @@ has_address Fence = false
 
 -- an access of p, which is processor k of s: a processor in an update first, then a page without a mapping, then an address
 -- without memory, where nothing but a translation is kept
-record RefusesInOrder (s : System) (k : ℕ) (p : Processor) (op : Op) (r : Answered) : Type 0 where
+pub record RefusesInOrder (s : System) (k : ℕ) (p : Processor) (op : Op) (r : Answered) : Type 0 where
   pub busy : (r.answer ≡ Busy) ↔ (is_running p.phase ≡ false)
   pub unmapped : (r.answer ≡ Unmapped) ↔ ((is_running p.phase ≡ true) × (has_address op ≡ true) × (find_mapping (address_of op / page_bytes) p.mappings ≡ None))
   pub no_memory : (r.answer ≡ NoRam) ↔ ((is_running p.phase ≡ true) × (has_address op ≡ true) × ((e : Entry) × (entry_of p (address_of op / page_bytes) ≡ Some e) × (place s.memory (physical e (address_of op)) ≡ None)))
@@ -34,7 +34,7 @@ abbrev pub AccessesRefuseInOrder : Type 0
 AccessesRefuseInOrder = (s : System) (k : ℕ) (p : Processor) (op : Op) → IsSound s → slice_get s.processors k ≡ Some p → RefusesInOrder s k p op (access s k op)
 
 -- a control instruction of p, which is processor k of s: a processor in an update, or a mapping for which there is no room
-record RulesInOrder (s : System) (k : ℕ) (p : Processor) (c : Control) (r : RuledAfter) : Type 0 where
+pub record RulesInOrder (s : System) (k : ℕ) (p : Processor) (c : Control) (r : RuledAfter) : Type 0 where
   pub busy : (r.answer ≡ ruled.Busy) ↔ (is_running p.phase ≡ false)
   pub full : (r.answer ≡ ruled.Full) ↔ ((is_running p.phase ≡ true) × ((m : Mapping) × (c ≡ Map m) × (is_full_for m p.mappings ≡ true)))
   pub busy_keeps : r.answer ≡ ruled.Busy → r.after ≡ s

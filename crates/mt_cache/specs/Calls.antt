@@ -6,7 +6,7 @@ use Rattle.mt_cache.specs.declared.line.CacheLine.{CacheLine}
 use Rattle.mt_cache.specs.Lines.{AreDistinct, IsLine, find_line, without_line, change_line, write_dirty, write_clean, first_dirty_word, oldest_of_full, combined_with}
 
 -- what a cache and the buffers keep of their lines
-record AreLines (ls : List CacheLine) : Type 0 where
+pub record AreLines (ls : List CacheLine) : Type 0 where
   pub distinct : AreDistinct ls
   pub whole : All IsLine ls
 

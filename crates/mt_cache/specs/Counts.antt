@@ -10,7 +10,7 @@ abbrev pub has_residue : ℕ → CacheLine → Bool
 has_residue r l = l.number % modulus == r
 
 -- the count at each residue is that of the lines
-record AreCounted (ls : List CacheLine) (counts : List ℕ) : Type 0 where
+pub record AreCounted (ls : List CacheLine) (counts : List ℕ) : Type 0 where
   pub long : length counts ≡ modulus
   pub each : (r : ℕ) → r < modulus → slice_index_or counts r 0 ≡ count_by (has_residue r) ls
 

@@ -9,7 +9,7 @@ abbrev pub eight : List ℕ
 eight = 0 ∷ 1 ∷ 2 ∷ 3 ∷ 4 ∷ 5 ∷ 6 ∷ 7 ∷ []
 
 -- a line has eight words and a bit for each
-record IsLine (l : CacheLine) : Type 0 where
+pub record IsLine (l : CacheLine) : Type 0 where
   pub eight_words : length l.words ≡ 8
   pub eight_bits : l.dirty < 2 ^ 8
 

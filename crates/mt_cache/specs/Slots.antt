@@ -15,7 +15,7 @@ abbrev pub in_order : ℕ → List ℕ → List CacheLine → List CacheLine
 in_order count order slots = map (in_slot slots) (take count order)
 
 -- each of 64 slots once
-record IsOrder (order : List ℕ) : Type 0 where
+pub record IsOrder (order : List ℕ) : Type 0 where
   pub long : length order ≡ 64
   pub within : All (λ s. s < 64) order
   pub distinct : AllPairs (λ a b. a ≢ b) order

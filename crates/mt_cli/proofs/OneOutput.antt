@@ -31,7 +31,7 @@ use Rattle.mt_cli.specs.Answer.{Answer, FileAnswer, MayChoose, refused, accepted
 use Rattle.mt_cli.specs.Output.{Output, big_text, usage, bad_text, answered, replayed, made, summed, measured, requested}
 
 -- the answer names the first file that isn't accepted
-record Refusal (dump : Shows) (command : DumpCommand) (text : List ℕ) (status : Status) : Type 0 where
+pub record Refusal (dump : Shows) (command : DumpCommand) (text : List ℕ) (status : Status) : Type 0 where
   pub k : ℕ
   pub fault : Fault
   pub tests : command ≢ Show
@@ -39,21 +39,21 @@ record Refusal (dump : Shows) (command : DumpCommand) (text : List ℕ) (status 
   pub is_text : text ≡ dump_refused_line dump.version k fault
   pub is_status : status ≡ Refused
 
-record Tidied (file : RegisterFile) (spare chunk : ℕ) (text : List ℕ) (status : Status) : Type 0 where
+pub record Tidied (file : RegisterFile) (spare chunk : ℕ) (text : List ℕ) (status : Status) : Type 0 where
   pub used : ℕ
   pub new : RegisterFile
   pub tidy : IsTidy file chunk spare new used
   pub is_text : text ≡ used_line used ++ canon (dump_of new)
   pub is_status : status ≡ Done
 
-record Lacking (file : RegisterFile) (spare chunk : ℕ) (text : List ℕ) (status : Status) : Type 0 where
+pub record Lacking (file : RegisterFile) (spare chunk : ℕ) (text : List ℕ) (status : Status) : Type 0 where
   pub needs : ℕ
   pub has : ℕ
   pub more : NeedsMore file chunk spare needs has
   pub is_text : text ≡ too_few_line needs has
   pub is_status : status ≡ TooFew
 
-record Grained (file : RegisterFile) (log spare chunk : ℕ) (text : List ℕ) (status : Status) : Type 0 where
+pub record Grained (file : RegisterFile) (log spare chunk : ℕ) (text : List ℕ) (status : Status) : Type 0 where
   pub used : ℕ
   pub lost : ℕ
   pub parts : List Run
@@ -61,25 +61,25 @@ record Grained (file : RegisterFile) (log spare chunk : ℕ) (text : List ℕ) (
   pub is : IsGrained file log chunk spare new used lost parts
   pub is_status : status ≡ Done
 
-record GranLacking (file : RegisterFile) (log spare chunk : ℕ) (text : List ℕ) (status : Status) : Type 0 where
+pub record GranLacking (file : RegisterFile) (log spare chunk : ℕ) (text : List ℕ) (status : Status) : Type 0 where
   pub needs : ℕ
   pub has : ℕ
   pub more : GranNeedsMore file log chunk spare needs has
   pub is_text : text ≡ too_few_line needs has
   pub is_status : status ≡ TooFew
 
-record Off (file : RegisterFile) (text : List ℕ) (status : Status) : Type 0 where
+pub record Off (file : RegisterFile) (text : List ℕ) (status : Status) : Type 0 where
   pub off : is_enabled file ≡ false
   pub is_text : text ≡ disabled_line file.default_type
   pub is_status : status ≡ Disabled
 
-record Mapped (file : RegisterFile) (text : List ℕ) (status : Status) : Type 0 where
+pub record Mapped (file : RegisterFile) (text : List ℕ) (status : Status) : Type 0 where
   pub runs : List Run
   pub are : IsRunsOf file runs
   pub is_text : text ≡ types_text runs
   pub is_status : status ≡ Done
 
-record Plain (line text : List ℕ) (status : Status) : Type 0 where
+pub record Plain (line text : List ℕ) (status : Status) : Type 0 where
   pub is_text : text ≡ line
   pub is_status : status ≡ Done
 
@@ -103,7 +103,7 @@ file_apart file command text status (gran_too_few log spare chunk needs has is) 
 file_apart file command text status (gran_disabled log spare chunk off) = inr (inr (record { off = off; is_text = refl; is_status = refl }))
 
 -- an answer where each file is accepted
-record Good (dump : Shows) (own : Type 0) : Type 0 where
+pub record Good (dump : Shows) (own : Type 0) : Type 0 where
   pub good : first_refusal dump.files ≡ None
   pub holds : own
 

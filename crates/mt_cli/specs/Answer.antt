@@ -29,7 +29,7 @@ MayChoose (Gran log spare chunk) = ⊤
 
 -- What a command answers about processor 0's file. Where several lists of ranges have the least length, `tidy` and `gran` may answer with any of them;
 -- every other answer is one text. They print a dump of version 1.
-data FileAnswer (file : RegisterFile) : DumpCommand → List ℕ → Status → Type 0 where
+pub data FileAnswer (file : RegisterFile) : DumpCommand → List ℕ → Status → Type 0 where
   typed : (runs : List Run) → IsRunsOf file runs → FileAnswer file Types (types_text runs) Done
   paged : (address index : ℕ) → FileAnswer file (Page address index) (page_text file address index) Done
   tidied : (spare chunk used : ℕ) (new : RegisterFile) → IsTidy file chunk spare new used → FileAnswer file (Tidy spare chunk) (used_line used ++ canon (dump_of new)) Done
@@ -41,7 +41,7 @@ data FileAnswer (file : RegisterFile) : DumpCommand → List ℕ → Status → 
   gran_disabled : (log spare chunk : ℕ) → is_enabled file ≡ false → FileAnswer file (Gran log spare chunk) (disabled_line file.default_type) Disabled
 
 -- What a command answers about the dump that a text shows: each but `show` refuses a dump with a file that isn't accepted, and names the first such file.
-data Answer (dump : Dump) : DumpCommand → List ℕ → Status → Type 0 where
+pub data Answer (dump : Dump) : DumpCommand → List ℕ → Status → Type 0 where
   refused : (command : DumpCommand) (k : ℕ) (fault : Fault) → command ≢ Show → first_refusal dump.files ≡ Some (k, fault) → Answer dump command (dump_refused_line dump.version k fault) Refused
   accepted : first_refusal dump.files ≡ None → Answer dump Check (check_text dump) Done
   shown : Answer dump Show (canon dump) Done

@@ -78,13 +78,13 @@ measured count n accesses =
     one_by_one (measured_machine count).system (file_of 4) (map (ops_before n accesses) (ascending count)) (map (ops_after n accesses) (ascending count))
 
 -- so many processors, with the goal's width and capabilities, that have finished no update
-record IsSetUp (count : ℕ) (m : Machine) : Type 0 where
+pub record IsSetUp (count : ℕ) (m : Machine) : Type 0 where
   pub size : length m.system.processors ≡ count
   pub fits : All (FitsGoal (file_of 4)) m.system.processors
   pub eras : All (λ p. p.era ≡ 0) m.system.processors
 
 -- what the jobs leave, and their answers
-record AreRan (s : System) (goal : RegisterFile) (jobs : List Job) (told : List Told) (after : Machine) : Type 0 where
+pub record AreRan (s : System) (goal : RegisterFile) (jobs : List Job) (told : List Told) (after : Machine) : Type 0 where
   pub left : after ≡ (jobs_one_by_one s goal jobs).left
   pub before : map (answers_in Before) told ≡ (jobs_one_by_one s goal jobs).before
   pub after_update : map (answers_in After) told ≡ (jobs_one_by_one s goal jobs).after

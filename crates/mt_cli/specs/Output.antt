@@ -23,7 +23,7 @@ unfoldable pub big_text : ℕ → List ℕ
 big_text n = summary_text (summary (make_text n))
 
 -- The text and the status for a command line and an input.
-data Output (words : List (List ℕ)) (bytes : List ℕ) : List ℕ → Status → Type 0 where
+pub data Output (words : List (List ℕ)) (bytes : List ℕ) : List ℕ → Status → Type 0 where
   usage : command_of words ≡ None → Output words bytes usage_line Usage
   bad_text : (command : DumpCommand) (fault : DumpFault) → command_of words ≡ Some (Dump command) → dump_offence bytes ≡ Some fault → Output words bytes (bad_text_line fault) BadText
   answered : (command : DumpCommand) (dump : Shows) (text : List ℕ) (status : Status) → command_of words ≡ Some (Dump command) → Shown bytes dump

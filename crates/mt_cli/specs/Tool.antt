@@ -17,14 +17,14 @@ use Rattle.mt_replay.specs.Transcript.{replay_told}
 use Rattle.mt_cli.specs.Output.{Output}
 
 -- The sink took the whole output, and nothing of the input is left, or all of it where the command reads nothing.
-record Finished (words : List (List ℕ)) (bytes : List ℕ) (left : Option (List ℕ)) (before : List ℕ) (after : Option (List ℕ)) (status : Status) : Type 0 where
+pub record Finished (words : List (List ℕ)) (bytes : List ℕ) (left : Option (List ℕ)) (before : List ℕ) (after : Option (List ℕ)) (status : Status) : Type 0 where
   pub text : List ℕ
   pub output : Output words bytes text status
   pub taken : after ≡ Some (before ++ text)
   pub read : left ≡ Some (left_of (command_of words) bytes)
 
 -- The sink took a front of an output for all bytes that the source held.
-record CutShort (words : List (List ℕ)) (bytes : List ℕ) (before : List ℕ) (after : Option (List ℕ)) : Type 0 where
+pub record CutShort (words : List (List ℕ)) (bytes : List ℕ) (before : List ℕ) (after : Option (List ℕ)) : Type 0 where
   pub text : List ℕ
   pub status : Status
   pub output : Output words bytes text status
@@ -78,7 +78,7 @@ Leaves words bytes left before after TooFew = Finished words bytes left before a
 Leaves words bytes left before after Disabled = Finished words bytes left before after Disabled
 
 -- The status is that of the output for all bytes that the source held. Nothing of them is left, or all where the command reads nothing.
-record Answered (words : List (List ℕ)) (bytes : List ℕ) (left : Option (List ℕ)) (status : Status) : Type 0 where
+pub record Answered (words : List (List ℕ)) (bytes : List ℕ) (left : Option (List ℕ)) (status : Status) : Type 0 where
   pub text : List ℕ
   pub output : Output words bytes text status
   pub read : left ≡ Some (left_of (command_of words) bytes)

@@ -21,12 +21,12 @@ abbrev pub Sums : ℕ → ℕ → ℕ → Option (List ℕ) → Option (List ℕ
 Sums cpus n accesses old new result = Writes (measured_text cpus n accesses) Done old new result ⊎ ((result ≡ NoMemory) × (new ≡ old))
 
 -- The sink took an answer, or a front of one, or nothing for want of memory. Which texts and statuses are an answer is given.
-data Answers (answer : List ℕ → Status → Type 0) (old new : Option (List ℕ)) (result : Status) : Type 0 where
+pub data Answers (answer : List ℕ → Status → Type 0) (old new : Option (List ℕ)) (result : Status) : Type 0 where
   writes : (text : List ℕ) (status : Status) → answer text status → Writes text status old new result → Answers answer old new result
   no_memory : result ≡ NoMemory → new ≡ old → Answers answer old new result
 
 -- A command on a dump wrote the line of the first offence, an answer about the dump, or nothing where the input wasn't read to its end.
-data AnswersInput (bytes : List ℕ) (command : DumpCommand) (left old new : Option (List ℕ)) (result : Status) : Type 0 where
+pub data AnswersInput (bytes : List ℕ) (command : DumpCommand) (left old new : Option (List ℕ)) (result : Status) : Type 0 where
   bad_input : (fault : DumpFault) → dump_offence bytes ≡ Some fault → left ≡ Some [] → Writes (bad_text_line fault) BadText old new result → AnswersInput bytes command left old new result
   good_input : (dump : Dump) → Shown bytes dump → left ≡ Some [] → Answers (Answer dump command) old new result → AnswersInput bytes command left old new result
   no_input : new ≡ old → (result ≡ ReadFault) ⊎ ((result ≡ TooLong) × (longest_input < length bytes)) → AnswersInput bytes command left old new result

@@ -196,7 +196,7 @@ pub drained_length : (k : ℕ) (s : System) → length (drain k s).processors �
 drained_length k s = same_length s (drain k s) (drain_stages k s)
 
 -- what a barrier event asks of the processor
-record IsReady (e : Event) (q : Processor) : Type 0 where
+pub record IsReady (e : Event) (q : Processor) : Type 0 where
   pub enabled : IsTrue (is_shift e q.phase)
   pub room : e ≡ Release → q.era < 2 ^ 64 - 1
   pub empty : e ≡ Take → q.buffers ≡ []

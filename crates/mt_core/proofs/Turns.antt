@@ -30,7 +30,7 @@ abbrev pub goes_on : MachineEvent → Bool
 goes_on e = is_led e && not (is_cancel e)
 
 -- some events lead from the first machine to the second, without access, control, call and cancel
-record Course (m n : Machine) : Type 0 where
+pub record Course (m n : Machine) : Type 0 where
   pub es : List MachineEvent
   pub enabled : AreEnabled m es
   pub leads : run m es ≡ n

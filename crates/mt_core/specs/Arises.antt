@@ -16,7 +16,7 @@ abbrev pub snooped : ℕ → Machine → Machine
 snooped k m = record m { system = with_self_snoop k m.system }
 
 -- reached from a start by events, by new windows, and, while no update is under way, by processors that become self-snooping, come up or go
-data Arises : Machine → Type 0 where
+pub data Arises : Machine → Type 0 where
   from_start : {m : Machine} → IsStart m → Arises m
   by_event : {m : Machine} → (e : MachineEvent) → Arises m → IsEnabled m e → Arises (next m e)
   by_window : {m : Machine} → (w : Window) → Arises m → IsMemory (with_window w m.system.memory) → Arises (grown w m)
@@ -25,7 +25,7 @@ data Arises : Machine → Type 0 where
   by_going_down : {m : Machine} → Arises m → m.order ≡ None → 1 < length m.system.processors → Arises (without_last m)
 
 -- with at most 16 processors, and the update under way, if there is one, was called while the eras had room
-record IsCore (m : Machine) : Type 0 where
+pub record IsCore (m : Machine) : Type 0 where
   pub arises : Arises m
   pub few : length m.system.processors ≤ 16
   pub room : (o : Order) → m.order ≡ Some o → o.from_era < 2 ^ 64 - 1

@@ -36,7 +36,7 @@ abbrev pub IsQuietWithoutOrder : Type 0
 IsQuietWithoutOrder = (m : Machine) → Arises m → m.order ≡ None → IsQuiet m
 
 -- as many processors, and no era is more than one above what it was
-record HasRisenByOne (s t : System) : Type 0 where
+pub record HasRisenByOne (s t : System) : Type 0 where
   pub same_number : length t.processors ≡ length s.processors
   pub eras : (k : ℕ) (p q : Processor) → slice_get s.processors k ≡ Some p → slice_get t.processors k ≡ Some q → q.era ≤ p.era + 1
 

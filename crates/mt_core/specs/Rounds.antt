@@ -33,7 +33,7 @@ abbrev pub with_go_given : Machine → Machine
 with_go_given m = given_where (go_of m) m
 
 -- so many turns as lead from the first machine to the second, which is the first without an order
-data Rounds : Machine → Machine → Type 0 where
+pub data Rounds : Machine → Machine → Type 0 where
   ended : {m : Machine} → m.order ≡ None → Rounds m m
   again : {m n : Machine} → IsSome m.order → Rounds (each_steps m) n → Rounds m n
 
@@ -52,7 +52,7 @@ abbrev pub EndsByRelease : List MachineEvent → Type 0
 EndsByRelease es = (front : List MachineEvent) × (k : ℕ) × (es ≡ front ++ Steps k Release ∷ [])
 
 -- A whole update as events: after the call the go and steps alone, of which a release is the last.
-record IsUpdateByEvents (s : Machine) (goal : RegisterFile) (es : List MachineEvent) : Type 0 where
+pub record IsUpdateByEvents (s : Machine) (goal : RegisterFile) (es : List MachineEvent) : Type 0 where
   pub enabled : AreEnabled s (Calls goal ∷ es)
   pub led : list_all (λ e. is_led e && not (is_cancel e)) es ≡ true
   pub leads : run s (Calls goal ∷ es) ≡ updated s.system (in_order s) goal

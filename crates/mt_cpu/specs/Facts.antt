@@ -7,7 +7,7 @@ use Rattle.mt_regs.specs.Faults.{IsAccepted}
 use Rattle.mt_tlb.specs.Entries.{is_mapped}
 use Rattle.mt_machine.specs.System.{Processor, is_tlb_flushed, is_writing}
 
-record KeepsFacts (p : Processor) : Type 0 where
+pub record KeepsFacts (p : Processor) : Type 0 where
   pub local_entries : p.page_global ≡ false → All (λ e. e.global ≡ false) p.entries
   pub mapped : All (λ e. IsTrue (is_mapped e.vpage p.mappings)) p.entries
   pub accepted : is_writing p.phase ≡ None → IsAccepted p.file

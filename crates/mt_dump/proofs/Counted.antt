@@ -12,12 +12,12 @@ use Rattle.mt_text.specs.declared.fault.FeedFault.{FeedFault}
 use Rattle.mt_text.proofs.Lent.{counted, moves_on, within_limit}
 
 -- What was consumed since the start, and that as much was counted.
-record Counts (left_first left : Option (List ℕ)) (given_first given count : ℕ) : Type 0 where
+pub record Counts (left_first left : Option (List ℕ)) (given_first given count : ℕ) : Type 0 where
   pub consumed : (gone : List ℕ) × Consumes left_first left gone × (count ≡ length gone)
   pub counted : given ≡ given_first + count
 
 -- between two lines
-record IsFed (left_first left : Option (List ℕ)) (given_first given : ℕ) (feed : Feeding) : Type 0 where
+pub record IsFed (left_first left : Option (List ℕ)) (given_first given : ℕ) (feed : Feeding) : Type 0 where
   pub still : feed.fault ≡ None
   pub long : IsLong feed
   pub counts : Counts left_first left given_first given (taken feed)

@@ -17,7 +17,7 @@ use Rattle.mt_dump.proofs.Counted.{IsFed, fed_at_first, fed_on, few_first}
 use Rattle.mt_dump.proofs.Ends.{ends_at_end, ends_at_line}
 
 -- The lines that were read and those of the bytes that are left are the lines of all bytes, and the feed stands at its place among these.
-record Told (bytes : List ℕ) (left : Option (List ℕ)) (feed : Feeding) (before : List Reading) : Type 0 where
+pub record Told (bytes : List ℕ) (left : Option (List ℕ)) (feed : Feeding) (before : List Reading) : Type 0 where
   pub after : List ℕ
   pub left_is : left ≡ Some after
   pub says : onto before (said_from feed.place.line (lines_of (feed.pending ++ after))) ≡ said_by bytes
@@ -26,7 +26,7 @@ record Told (bytes : List ℕ) (left : Option (List ℕ)) (feed : Feeding) (befo
   pub place : feed.place ≡ end_of past
 
 -- between two lines
-record IsReading (left_first left : Option (List ℕ)) (given_first given : ℕ) (feed : Feeding) (reader : State) : Type 0 where
+pub record IsReading (left_first left : Option (List ℕ)) (given_first given : ℕ) (feed : Feeding) (reader : State) : Type 0 where
   pub fed : IsFed left_first left given_first given feed
   pub before : List Reading
   pub read : HasRead reader before

@@ -22,7 +22,7 @@ pub positive : (n : ℕ) → 0 < n → nat_lt 0 n ≡ true
 positive n some = grind (arith, nat_tests)
 
 -- The file is what these registers of one section give, of which the last stands first.
-record Stands (registers : List (ℕ × ℕ)) (file : RegisterFile) : Type 0 where
+pub record Stands (registers : List (ℕ × ℕ)) (file : RegisterFile) : Type 0 where
   pub once : (number : ℕ) → times number registers ≤ 1
   pub values : AllByRecursion (λ register. value_at file register.0 ≡ Some register.1) registers
   pub defaults : (number : ℕ) → times number registers ≡ 0 → value_at file number ≡ value_at (blank_file file.width file.capabilities) number
@@ -34,7 +34,7 @@ abbrev pub IsFirst : List (ℕ × ℕ) → ℕ → Type 0
 IsFirst registers capabilities = (rest : List (ℕ × ℕ)) → (others : List (ℕ × ℕ)) × (onto registers rest ≡ (0xfe, capabilities) ∷ others)
 
 -- The file is the present section's.
-record StandsNow (before : List Reading) (file : RegisterFile) : Type 0 where
+pub record StandsNow (before : List Reading) (file : RegisterFile) : Type 0 where
   pub stands : Stands (given (present before)) file
   pub told : is_given 0xfe (first_section before) ≡ true
   pub known : value_given 0xfe (given (first_section before)) ≡ file.capabilities
@@ -287,7 +287,7 @@ clean_stands (Err fault ∷ before) clean = cc clean.1
 -- ---- the widths
 
 -- the widths of the present section
-record Widths (before : List Reading) : Type 0 where
+pub record Widths (before : List Reading) : Type 0 where
   pub few : length (widths (present before)) ≤ 1
   pub late : is_later before ≡ true → AllByRecursion (λ width. width ≡ first_width before) (widths (present before))
   pub wide : 32 ≤ first_width before

@@ -91,7 +91,7 @@ version_passed before version place none = by (is_spoken before) _ none
 -- ---- the version
 
 -- lines without words say nothing
-record SaysNothing (says : List Reading) : Type 0 where
+pub record SaysNothing (says : List Reading) : Type 0 where
   pub gives : given says ≡ []
   pub has_widths : widths says ≡ []
   pub has_versions : versions says ≡ []

@@ -72,7 +72,7 @@ snoc_later first (s ∷ sections) [] section file all later = absurd all
 snoc_later first (s ∷ sections) (f ∷ files) section file all later = (all.0, snoc_later first sections files section file all.1 later)
 
 -- Sections show files, the first of which has this width and capability value.
-record Shows (sections : List (List Reading)) (files : List RegisterFile) (width capabilities : ℕ) : Type 0 where
+pub record Shows (sections : List (List Reading)) (files : List RegisterFile) (width capabilities : ℕ) : Type 0 where
   pub all : ShowAll sections files
   pub width_is : (first_of files).width ≡ width
   pub capabilities_is : (first_of files).capabilities ≡ capabilities
@@ -88,7 +88,7 @@ snoc_all (s ∷ sections) (f ∷ files) section file width capabilities shows la
 }
 
 -- The sections behind the present one show their files.
-record Closed (before : List Reading) : Type 0 where
+pub record Closed (before : List Reading) : Type 0 where
   pub early : is_later before ≡ false → (done_in before ≡ []) × (files_in before ≡ [])
   pub late : is_later before ≡ true → Shows (done_in before) (files_in before) (first_width before) (value_given 0xfe (given (first_section before)))
   pub size : section_numbers before ≢ [] → suc (length (files_in before)) ≡ section_count before

@@ -5,7 +5,7 @@ use Rattle.std.specs.Prelude.{ℕ, ◌≡◌, ◌≤◌, ◌<◌, ◌⊎◌, Lis
 use Rattle.std.specs.List.{AllByRecursion}
 use Rattle.mt_regs.specs.RegisterFile.{RegisterFile, IsRegisterFile, blank_file}
 
-record Dump : Type 0 where
+pub record Dump : Type 0 where
   pub version : ℕ
   pub files : List RegisterFile  -- processor 0's first
 
@@ -22,7 +22,7 @@ abbrev pub first_file : Dump → RegisterFile
 first_file dump = first_of dump.files
 
 -- what every dump keeps
-record IsDump (dump : Dump) : Type 0 where
+pub record IsDump (dump : Dump) : Type 0 where
   pub known : (dump.version ≡ 1) ⊎ (dump.version ≡ 2)
   pub one : dump.version ≡ 1 → length dump.files ≡ 1
   pub some : 0 < length dump.files

@@ -16,7 +16,7 @@ use Rattle.mt_dump.specs.Line.{is_width_name}
 use Rattle.mt_dump.specs.Dump.{times, width_of}
 
 -- what a line says: nothing, a register's number and value, or the width
-data PlainLine : Type 0 where
+pub data PlainLine : Type 0 where
   Empty : PlainLine
   OfRegister : ℕ → ℕ → PlainLine
   OfWidth : ℕ → PlainLine
@@ -57,7 +57,7 @@ plain_widths (Empty ∷ lines) = plain_widths lines
 plain_widths (OfRegister number value ∷ lines) = plain_widths lines
 plain_widths (OfWidth width ∷ lines) = width ∷ plain_widths lines
 
-record PlainlyShown (text : List ℕ) (file : RegisterFile) : Type 0 where
+pub record PlainlyShown (text : List ℕ) (file : RegisterFile) : Type 0 where
   pub lines : List PlainLine
   pub plain : map (λ line. plain_line (between_blanks line)) (lines_of text) ≡ map Some lines  -- each line says something plain
   pub capabilities : (others : List (ℕ × ℕ)) × (plain_registers lines ≡ (0xfe, file.capabilities) ∷ others)  -- 0FEH is given before every other register

@@ -71,7 +71,7 @@ abbrev pub dump_in : List Reading → Option Dump
 dump_in before = dump_with (version_of before) (files_in before) (first_width before) (file_in before)
 
 -- A reader between two lines.
-record State : Type 0 where
+pub record State : Type 0 where
   pub version : ℕ  -- the version that is told, or else 1
   pub spoken : Bool  -- whether a line had words
   pub sections : ℕ  -- the number of `cpu` lines
@@ -83,7 +83,7 @@ record State : Type 0 where
   pub marks : List Bool  -- whether it gave each register from 200H on
 
 -- A reader has read these lines.
-record HasRead (state : State) (before : List Reading) : Type 0 where
+pub record HasRead (state : State) (before : List Reading) : Type 0 where
   pub clean : IsClean before
   pub version_is : state.version ≡ version_of before
   pub spoken_is : state.spoken ≡ is_spoken before

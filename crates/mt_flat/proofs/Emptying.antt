@@ -24,7 +24,7 @@ use Rattle.mt_flat.specs.Seen.{written_of}
 use Rattle.mt_flat.proofs.PendingLists.{find_written, without_written, first_written, some_written, joined_written, whole_written}
 
 -- each word's value, and the buffers with their written words
-record Same (ws : List Window) (s : System) (f : Flat) : Type 0 where
+pub record Same (ws : List Window) (s : System) (f : Flat) : Type 0 where
   pub stands : Stands ws s
   pub values : (a : ℕ) → a % 8 ≡ 0 → Word true a (f.values a) s
   pub pending : (j : ℕ) → f.pending j ≡ map written_of (buffers_of s j)

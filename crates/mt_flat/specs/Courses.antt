@@ -14,7 +14,7 @@ use Rattle.mt_flat.specs.Flat.{Flat, empty_all}
 use Rattle.mt_flat.specs.Seen.{IsFlatAnswer, IsFlatOf, flat_after, flat_takes}
 
 -- an event, a whole update to this goal in which these processors take in this order, a processor more, or the last one's going
-data Turn : Type 0 where
+pub data Turn : Type 0 where
   Does : (e : MachineEvent) → Turn
   Updates : (goal : RegisterFile) → (takes : List ℕ) → Turn
   ComesUp : Turn

@@ -10,11 +10,11 @@ use Rattle.mt_cache.specs.Lines.{eight}
 use Rattle.mt_machine.specs.Memory.{line_of, word_of}
 
 -- a line with words that were written and not set yet, each by its place in the line
-record PendingLine : Type 0 where
+pub record PendingLine : Type 0 where
   pub number : ℕ
   pub written : ℕ → Option ℕ
 
-record Flat : Type 0 where
+pub record Flat : Type 0 where
   pub values : ℕ → ℕ  -- of each word, by its address
   pub pending : ℕ → List PendingLine  -- of each processor, in the order of their first words
 
@@ -85,7 +85,7 @@ join k n word value m = empty_whole k n (with_pending k (joined_with n word valu
 -- ---- accesses
 
 -- what the flat machine is given: a processor, the type of its access, the physical word and the value; and fences, with all else that empties a processor's lines
-data FlatEvent : Type 0 where
+pub data FlatEvent : Type 0 where
   Loads : (k : ℕ) → (kind : MemType) → (word : ℕ) → FlatEvent
   Stores : (k : ℕ) → (kind : MemType) → (word : ℕ) → (value : ℕ) → FlatEvent
   Empties : (k : ℕ) → FlatEvent

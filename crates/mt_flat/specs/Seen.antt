@@ -66,7 +66,7 @@ abbrev pub written_of : CacheLine → PendingLine
 written_of b = record { number = b.number; written = λ word. if is_dirty b word then Some (slice_index b.words word) else None }
 
 -- each word's value is what it is now, and the pending lines are the buffers with their written words
-record IsFlatOf (s : System) (f : Flat) : Type 0 where
+pub record IsFlatOf (s : System) (f : Flat) : Type 0 where
   pub values : (address : ℕ) → address % 8 ≡ 0 → now s address ≡ f.values address
   pub pending : (k : ℕ) → f.pending k ≡ map written_of (buffers_of s k)
 
@@ -91,7 +91,7 @@ RunsKeepFlat =
     (m : Machine) (es : List MachineEvent) (f : Flat) → IsSound m.system → IsFlatOf m.system f → AreEnabled m es → IsFlatOf (run m es).system (flat_run m es f)
 
 -- what a load of processor k is answered is what the flat machine answers it
-record IsFlatAnswer (m : Machine) (f : Flat) (k address value : ℕ) (kind : MemType) : Type 0 where
+pub record IsFlatAnswer (m : Machine) (f : Flat) (k address value : ℕ) (kind : MemType) : Type 0 where
   pub word : ℕ
   pub physical : physical_of m.system k address ≡ Some word
   pub answer : value ≡ flat_answer f k kind word
@@ -119,7 +119,7 @@ PendingStaysFew =
 -- ---- updates
 
 -- what was given until an update's first pass: then nothing is pending, and after its first release memory has each word that was not stored since
-record IsHeldFlat (f : Flat) (r : Machine) (since : List MachineEvent) : Type 0 where
+pub record IsHeldFlat (f : Flat) (r : Machine) (since : List MachineEvent) : Type 0 where
   pub nothing : (k : ℕ) → f.pending k ≡ []
   pub held : (address : ℕ) → address % 8 ≡ 0 → (Contains (stored_words r since) address → ⊥) → word_at (run r since).system.memory address ≡ f.values address
 

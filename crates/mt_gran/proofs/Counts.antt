@@ -36,7 +36,7 @@ pub same_mark : (j k : PageType) → Some j ≡ Some k → j ≡ k
 same_mark j k h = cc
 
 -- what a mark says of its page
-record IsLost (m : TypedPages) (g page : ℕ) (k : PageType) : Type 0 where
+pub record IsLost (m : TypedPages) (g page : ℕ) (k : PageType) : Type 0 where
   pub kind : m.kind page ≡ k
   pub other : is_kind (m.kind page) UC ≡ false
   pub nonfree : m.free page ≡ false
@@ -106,7 +106,7 @@ abbrev pub default_run : Run
 default_run = record { first = 0; count = 0; kind = Kind UC }
 
 -- the number of pages that lose WB below the runs that are left
-record Counted (m : TypedPages) (g : ℕ) (rest : List Run) (lost : ℕ) : Type 0 where
+pub record Counted (m : TypedPages) (g : ℕ) (rest : List Run) (lost : ℕ) : Type 0 where
   pub from : ℕ
   pub runs : AreRunsOf (lost_mark m g) from m.count rest
   pub lost_is : lost ≡ count_below (loses m g WB) from

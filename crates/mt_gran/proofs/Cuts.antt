@@ -55,13 +55,13 @@ stays_below u p q size some same high =
     (div-lt_iff_lt-mul {k = size} {x = q} {y = u} some).0 at_q
 
 -- where the whole granules begin, if there is one
-record IsFrom (start g first free_end from : ℕ) : Type 0 where
+pub record IsFrom (start g first free_end from : ℕ) : Type 0 where
   pub low : first ≤ start → from ≡ free_end
   pub aligned : start < first → first % 2 ^ g ≡ 0 → from ≡ first
   pub within : start < first → 0 < first % 2 ^ g → from ≡ first - first % 2 ^ g + 2 ^ g
 
 -- and where they end
-record IsTo (pages g end to : ℕ) : Type 0 where
+pub record IsTo (pages g end to : ℕ) : Type 0 where
   pub last : end ≡ pages → to ≡ end
   pub inner : end < pages → to ≡ end - end % 2 ^ g
 

@@ -78,7 +78,7 @@ rest_of f accepted runs are = rest_from f accepted 0 runs are.map.chain are.map.
     after (r ∷ rs) = λ page one. absurd (omega (arith, one))
 
 -- what runs of marks up to some page lead to, with the runs that are left
-record Goes (f : RegisterFile) (marks : ℕ → Option PageType) (rest list : List Run) : Type 0 where
+pub record Goes (f : RegisterFile) (marks : ℕ → Option PageType) (rest list : List Run) : Type 0 where
   pub from : ℕ
   pub is_rest : IsRest f from rest
   pub runs : AreRunsOf marks 0 from list

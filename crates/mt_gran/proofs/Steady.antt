@@ -12,7 +12,7 @@ use Rattle.mt_gran.proofs.CutMarks.{broken_gets, free_keeps, whole_keeps}
 use Rattle.mt_gran.proofs.Counts.{count_none}
 
 -- as many pages, the same ones free, and the rounded types
-record HasRounded (m n : TypedPages) (g : ℕ) : Type 0 where
+pub record HasRounded (m n : TypedPages) (g : ℕ) : Type 0 where
   pub count : n.count ≡ m.count
   pub free : (page : ℕ) → n.free page ≡ m.free page
   pub kinds : (page : ℕ) → page < m.count → n.kind page ≡ rounded_kind m g page

@@ -12,7 +12,7 @@ use Rattle.mt_gran.specs.Granules.{AreRounded, lost_pages, pages_of, rounded_kin
 use Rattle.mt_gran.specs.Parts.{ArePartsOf}
 
 -- The file differs in its pairs alone, which give the rounded types, and no list of ranges that gives them is shorter.
-record IsGrained (f : RegisterFile) (g chunk spare : ℕ) (new : RegisterFile) (used lost : ℕ) (parts : List Run) : Type 0 where
+pub record IsGrained (f : RegisterFile) (g chunk spare : ℕ) (new : RegisterFile) (used lost : ℕ) (parts : List Run) : Type 0 where
   pub old_accepted : IsAccepted f
   pub enabled : is_enabled f ≡ true
   pub wanted : List Run
@@ -24,13 +24,13 @@ record IsGrained (f : RegisterFile) (g chunk spare : ℕ) (new : RegisterFile) (
   pub parts_are : ArePartsOf (pages_of f) g parts
 
 -- the least length of an allowed list of ranges that gives the rounded types
-record IsLeastRounded (f : RegisterFile) (g chunk count : ℕ) : Type 0 where
+pub record IsLeastRounded (f : RegisterFile) (g chunk count : ℕ) : Type 0 where
   pub wanted : List Run
   pub rounded : AreRounded (pages_of f) g wanted
   pub least : IsLeastFor f wanted chunk count
 
 -- the least number of ranges that give the rounded types is above the number of pairs less those to spare
-record NeedsMore (f : RegisterFile) (g chunk spare needs has : ℕ) : Type 0 where
+pub record NeedsMore (f : RegisterFile) (g chunk spare needs has : ℕ) : Type 0 where
   pub accepted : IsAccepted f
   pub enabled : is_enabled f ≡ true
   pub wanted : List Run

@@ -13,7 +13,7 @@ use Rattle.mt_trie.specs.Contexts.{is_kind, types}
 use Rattle.mt_tidy.specs.Wanted.{is_free}
 
 -- some pages, from 0 on, which of them are free, and their types
-record TypedPages : Type 0 where
+pub record TypedPages : Type 0 where
   pub count : ℕ
   pub free : ℕ → Bool
   pub kind : ℕ → PageType
@@ -59,7 +59,7 @@ abbrev pub HasRoundedKind : TypedPages → ℕ → Run → Type 0
 HasRoundedKind m g r = (page : ℕ) → HasPage r page → rounded_kind m g page ≡ r.kind
 
 -- the type map of the rounded types
-record AreRounded (m : TypedPages) (g : ℕ) (runs : List Run) : Type 0 where
+pub record AreRounded (m : TypedPages) (g : ℕ) (runs : List Run) : Type 0 where
   pub map : IsTypeMap runs
   pub whole : pages_end 0 runs ≡ m.count
   pub kinds : All (HasRoundedKind m g) runs

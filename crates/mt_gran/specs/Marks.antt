@@ -40,7 +40,7 @@ abbrev pub part_loss : Run → ℕ
 part_loss part = if is_kind part.kind WB then part.count else 0
 
 -- a run of the type map of a file whose types are defined
-record IsWholeRun (f : RegisterFile) (r : Run) : Type 0 where
+pub record IsWholeRun (f : RegisterFile) (r : Run) : Type 0 where
   pub type : MemType
   pub kind : r.kind ≡ Kind type
   pub some : 0 < r.count
@@ -50,7 +50,7 @@ record IsWholeRun (f : RegisterFile) (r : Run) : Type 0 where
   pub behind : run_end r < page_count f → page_type f (run_end r) ≢ r.kind
 
 -- the pages of a run are free up to one place, and from another up to a third one they are in whole granules
-record IsCut (m : TypedPages) (g : ℕ) (r : Run) (c : Cut) : Type 0 where
+pub record IsCut (m : TypedPages) (g : ℕ) (r : Run) (c : Cut) : Type 0 where
   pub begins : r.first ≤ c.free_end
   pub head_ends : c.free_end ≤ c.whole_from
   pub tail_begins : c.whole_from ≤ c.whole_to

@@ -39,7 +39,7 @@ shows_more processor i xs x at = rw add-one (by i xs at)
     by (suc i) (y ∷ ys) at = ap (λ facts. shown_facts processor y ++ facts) (by i ys at) ∙ sym (append_assoc (shown_facts processor y) (shows_facts processor (take i ys)) (shown_facts processor x))
 
 -- A reader has taken the first of what a line shows, behind what it had taken, and found no fault.
-record HasTakenFirst (state : State) (supplied : Supplied) (seen : Seen) (processor i : ℕ) (shows : List (Option Shown)) : Type 0 where
+pub record HasTakenFirst (state : State) (supplied : Supplied) (seen : Seen) (processor i : ℕ) (shows : List (Option Shown)) : Type 0 where
   pub held : HasTaken state (seen_after seen (shows_facts processor (take i shows)))
   pub none : facts_fault supplied seen (shows_facts processor (take i shows)) ≡ None
 

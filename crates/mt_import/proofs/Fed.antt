@@ -24,13 +24,13 @@ use Rattle.mt_import.proofs.Facts.{fault_append, seen_append}
 use Rattle.mt_import.proofs.Same.{same_end}
 
 -- What the bytes that are left come to behind the facts that were taken is what all bytes come to.
-record LeadsOn (format : Format) (supplied : Supplied) (bytes : List ℕ) (left : Option (List ℕ)) (feed : Feeding) (context : Context) (seen : Seen) : Type 0 where
+pub record LeadsOn (format : Format) (supplied : Supplied) (bytes : List ℕ) (left : Option (List ℕ)) (feed : Feeding) (context : Context) (seen : Seen) : Type 0 where
   pub after : List ℕ
   pub left_is : left ≡ Some after
   pub says : outcome supplied seen (facts_from context (says_from format feed.place.line (lines_of (feed.pending ++ after)))) ≡ log_told format supplied bytes
 
 -- between two lines
-record IsReading (format : Format) (supplied : Supplied) (left_first left : Option (List ℕ)) (given_first given : ℕ) (feed : Feeding) (reader : State) : Type 0 where
+pub record IsReading (format : Format) (supplied : Supplied) (left_first left : Option (List ℕ)) (given_first given : ℕ) (feed : Feeding) (reader : State) : Type 0 where
   pub fed : IsFed left_first left given_first given feed
   pub seen : Seen
   pub held : HasTaken reader seen

@@ -38,7 +38,7 @@ IsWritten TooFew = ⊥
 IsWritten Disabled = ⊥
 
 -- the output for the words and all bytes of the source was written, or nothing where the source failed or gave too much
-data Imports (words : List (List ℕ)) (bytes : List ℕ) (left old new : Option (List ℕ)) (result : Status) : Type 0 where
+pub data Imports (words : List (List ℕ)) (bytes : List ℕ) (left old new : Option (List ℕ)) (result : Status) : Type 0 where
   told : left ≡ Some (left_of (command_of words) bytes) → Writes (output_of (command_of words) bytes).0 (output_of (command_of words) bytes).1 old new result → Imports words bytes left old new result
   unread : new ≡ old → (result ≡ ReadFault) ⊎ ((result ≡ TooLong) × (longest_input < length bytes)) → Imports words bytes left old new result
 

@@ -20,7 +20,7 @@ use Rattle.mt_import.specs.Supplied.{Supplied, differs, supplied_value}
 -- ---- what facts show
 
 -- the width that facts show, and their readings, of which the last stands first
-record Seen : Type 0 where
+pub record Seen : Type 0 where
   pub width : Option ℕ
   pub readings : List Reading
 

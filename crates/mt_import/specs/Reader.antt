@@ -9,7 +9,7 @@ use Rattle.mt_import.specs.declared.reading.Context.{Context}
 use Rattle.mt_import.specs.Supplied.{Supplied, supplied_value}
 use Rattle.mt_import.specs.Outcome.{Seen, capabilities_shown, or_supplied, processors, value_shown}
 
-record State : Type 0 where
+pub record State : Type 0 where
   pub context : Context
   pub values : List (Option ℕ)  -- 257 for each processor
   pub capabilities : Option ℕ
@@ -29,7 +29,7 @@ abbrev pub IsFit : ℕ → Type 0
 IsFit width = (32 ≤ width) × (width ≤ 52)
 
 -- A reader has taken these facts.
-record HasTaken (state : State) (seen : Seen) : Type 0 where
+pub record HasTaken (state : State) (seen : Seen) : Type 0 where
   pub size : length state.values ≡ 4112
   pub values_are : (processor number : ℕ) → held_at state.values processor (slot_of number) ≡ value_shown processor number seen.readings
   pub capabilities_is : state.capabilities ≡ capabilities_shown seen.readings

@@ -24,7 +24,7 @@ abbrev pub is_register : ℕ → Bool
 is_register number = nat_lt number number_limit && is_some (value_at all_registers number)
 
 -- A register's value, the address width and its place, a line of a kernel's table behind lines that show this, or why a log shows no dump.
-data Fact : Type 0 where
+pub data Fact : Type 0 where
   is_register_value : Reading → Fact
   is_width : ℕ → Place → Fact
   is_row : Table → TableLine → Fact

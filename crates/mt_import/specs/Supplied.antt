@@ -14,7 +14,7 @@ use Rattle.mt_import.specs.Pieces.{behind, is_text}
 use Rattle.mt_import.specs.Readings.{is_register}
 
 -- the width and the registers that words give
-record Supplied : Type 0 where
+pub record Supplied : Type 0 where
   pub width : Option ℕ
   pub registers : List (ℕ × ℕ)
 
@@ -33,7 +33,7 @@ differs None value = false
 differs (Some other) value = not (other == value)
 
 -- a width and a count of pairs that a file may have
-record IsSupplied (supplied : Supplied) : Type 0 where
+pub record IsSupplied (supplied : Supplied) : Type 0 where
   pub width : IfSome supplied.width (λ width. (32 ≤ width) × (width ≤ 52))
   pub pairs : (value : ℕ) → supplied_value supplied 0xfe ≡ Some value → low_byte value ≤ 32
 

@@ -14,7 +14,7 @@ abbrev pub IsAt : Machine → ℕ → Processor → Type 0
 IsAt m i p = slice_get m.system.processors i ≡ Some p
 
 -- where some processor has passed the first barrier, each has arrived at it and the go is given; where some has released, each has arrived at the second
-record BarriersHold (m : Machine) : Type 0 where
+pub record BarriersHold (m : Machine) : Type 0 where
   pub first : (o : Order) (i j : ℕ) (p q : Processor) → m.order ≡ Some o → IsAt m i p → IsAt m j q → has_passed o p ≡ true → has_arrived o q ≡ true
   pub given : (o : Order) (i : ℕ) (p : Processor) → m.order ≡ Some o → IsAt m i p → has_passed o p ≡ true → o.go ≡ Given
   pub second : (o : Order) (i j : ℕ) (p q : Processor) → m.order ≡ Some o → IsAt m i p → IsAt m j q → has_released o p ≡ true → has_arrived_again o q ≡ true

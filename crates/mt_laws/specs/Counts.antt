@@ -17,7 +17,7 @@ abbrev pub other_events : Processor → ℕ
 other_events p = if p.self_snoop then 12 else 13
 
 -- between its take and its release processor k passes the first barrier once; it does as many events as it has writable registers and dirty words then, and 13 or 12 more
-record IsCounted (m : Machine) (k : ℕ) (between : List MachineEvent) : Type 0 where
+pub record IsCounted (m : Machine) (k : ℕ) (between : List MachineEvent) : Type 0 where
   pub before : List MachineEvent
   pub rest : List MachineEvent
   pub passes : between ≡ before ++ Steps k Pass ∷ rest

@@ -16,11 +16,11 @@ use Rattle.mt_machine.specs.declared.op.Op.TheVariants.{Fence}
 use Rattle.mt_regs.specs.Faults.{IsAccepted}
 
 -- what the order of an update says of each processor: its registers are of the goal's kind, and those before the place where it is writing have the goal's values
-record IsUnderWay (o : Order) (p : Processor) : Type 0 where
+pub record IsUnderWay (o : Order) (p : Processor) : Type 0 where
   pub fits : FitsGoal o.goal p
   pub written : (i : ℕ) → is_writing p.phase ≡ Some i → All (λ r. value_of p.file r ≡ value_of o.goal r) (take i (writable o.goal))
 
-record OrderHolds (m : Machine) (o : Order) : Type 0 where
+pub record OrderHolds (m : Machine) (o : Order) : Type 0 where
   pub goal_file : IsRegisterFile o.goal
   pub goal_accepted : IsAccepted o.goal
   pub each : All (IsUnderWay o) m.system.processors
@@ -34,7 +34,7 @@ Holdings = RegisterFile × List CacheLine × List CacheLine × List Entry
 abbrev pub holdings_of : Processor → Holdings
 holdings_of p = (p.file, p.lines, p.buffers, p.entries)
 
-record SameHoldings (s t : System) : Type 0 where
+pub record SameHoldings (s t : System) : Type 0 where
   pub processors : map holdings_of t.processors ≡ map holdings_of s.processors
   pub memory : t.memory ≡ s.memory
 

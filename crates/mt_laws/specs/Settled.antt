@@ -10,7 +10,7 @@ use Rattle.mt_machine.specs.System.{Processor}
 use Rattle.mt_machine.specs.Start.{IsStart, start_with}
 
 -- p stands before the first pass of its update, and the first release leads to r
-record IsFirstRelease (p r : Machine) (o : Order) : Type 0 where
+pub record IsFirstRelease (p r : Machine) (o : Order) : Type 0 where
   pub order : p.order ≡ Some o
   pub none_passed : All (λ q. has_passed o q ≡ false) p.system.processors
   pub first : ℕ
@@ -56,7 +56,7 @@ SettledAfterEachRelease =
 -- ---- at all times
 
 -- nothing that the processor holds is of an earlier era than its own
-record IsFresh (p : Processor) : Type 0 where
+pub record IsFresh (p : Processor) : Type 0 where
   pub lines : All (λ l. p.era ≤ l.era) p.lines
   pub buffers : All (λ l. p.era ≤ l.era) p.buffers
   pub entries : All (λ e. p.era ≤ e.era) p.entries

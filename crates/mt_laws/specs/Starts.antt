@@ -32,7 +32,7 @@ abbrev pub SnoopingStaysQuiet : Type 0
 SnoopingStaysQuiet = (m : Machine) (k : ℕ) → IsQuiet m → IsQuiet (record m { system = with_self_snoop k m.system })
 
 -- the eras fit 64 bits, also once the update under way has ended
-record HasEras (m : Machine) : Type 0 where
+pub record HasEras (m : Machine) : Type 0 where
   pub each : All (λ p. p.era < 2 ^ 64) m.system.processors
   pub order : (o : Order) → m.order ≡ Some o → o.from_era < 2 ^ 64 - 1
 

@@ -36,7 +36,7 @@ UpdatedWords =
     → word_at (updated s ks goal).system.memory address ≡ now (emptied s ks) address
 
 -- by go, cancel and steps alone: where all have arrived again, or gone on from there, each processor has the goal's registers and holds nothing, and each word is in memory
-record HoldsNothing (goal : RegisterFile) (p : Processor) : Type 0 where
+pub record HoldsNothing (goal : RegisterFile) (p : Processor) : Type 0 where
   pub file : p.file ≡ goal
   pub lines : p.lines ≡ []
   pub buffers : p.buffers ≡ []
@@ -116,7 +116,7 @@ abbrev pub call_and_takes : RegisterFile → List ℕ → List MachineEvent
 call_and_takes goal ks = Calls goal ∷ map (λ k. Steps k Take) ks
 
 -- they are enabled, and lead to a broadcast state: the buffers are emptied in the order of the takes, and all have taken
-record LeadsToBroadcast (s : Machine) (goal : RegisterFile) (ks : List ℕ) : Type 0 where
+pub record LeadsToBroadcast (s : Machine) (goal : RegisterFile) (ks : List ℕ) : Type 0 where
   pub enabled : AreEnabled s (call_and_takes goal ks)
   pub broadcast : IsBroadcast (run s (call_and_takes goal ks)) (order_of_call s goal)
   pub system : (run s (call_and_takes goal ks)).system ≡ all_taken (emptied s.system ks)
@@ -128,7 +128,7 @@ TakesBroadcast =
     → LeadsToBroadcast s goal ks
 
 -- from the broadcast state the update leads to what it leads to from the quiet one
-record UpdatesAlike (s : System) (ks : List ℕ) (goal : RegisterFile) : Type 0 where
+pub record UpdatesAlike (s : System) (ks : List ℕ) (goal : RegisterFile) : Type 0 where
   pub from_emptied : updated (emptied s ks) [] goal ≡ updated s ks goal
   pub from_taken : updated (all_taken (emptied s ks)) [] goal ≡ updated s ks goal
 

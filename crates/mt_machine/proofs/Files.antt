@@ -11,7 +11,7 @@ use Rattle.mt_regs.specs.Registers.{pair_registers, fixed_registers, writable, v
 use Rattle.mt_machine.specs.Machine.{with_goal, without_enable}
 
 -- f has the goal's shape
-record Alike (goal f : RegisterFile) : Type 0 where
+pub record Alike (goal f : RegisterFile) : Type 0 where
   pub width : f.width ≡ goal.width
   pub capabilities : f.capabilities ≡ goal.capabilities
   pub pairs : length f.pairs ≡ length goal.pairs

@@ -125,7 +125,7 @@ store t k address value s = store_after t k address value (first_of_store t k (l
 
 -- ---- accesses
 
-record Answered : Type 0 where
+pub record Answered : Type 0 where
   pub answer : Done
   pub after : System
 

@@ -29,7 +29,7 @@ same_bool false b = not b
 abbrev pub set_page_global : Bool → Processor → Processor
 set_page_global on p = if same_bool on p.page_global then p else record p { page_global = on; entries = [] }
 
-record RuledAfter : Type 0 where
+pub record RuledAfter : Type 0 where
   pub answer : Ruled
   pub after : System
 

@@ -30,13 +30,13 @@ use Rattle.mt_machine.specs.Access.{access, is_running}
 use Rattle.mt_machine.specs.Control.{control, reload_cr3}
 
 -- an update that was called for
-record Order : Type 0 where
+pub record Order : Type 0 where
   pub goal : RegisterFile
   pub from_era : ℕ  -- the era that all processors had
   pub go : Go
 
 -- the order is there exactly while an update is under way
-record Machine : Type 0 where
+pub record Machine : Type 0 where
   pub system : System
   pub order : Option Order
 
@@ -92,7 +92,7 @@ abbrev pub second_barrier_open : Order → List Processor → Bool
 second_barrier_open o ps = list_all (has_arrived_again o) ps
 
 -- how many are at a barrier or past it, and how many are awaited
-record BarrierCount : Type 0 where
+pub record BarrierCount : Type 0 where
   pub arrived : ℕ
   pub awaited : ℕ
 
@@ -209,7 +209,7 @@ remaining_order o ps = if is_over o ps then None else Some o
 -- ---- events
 
 -- the coordinator's three are Calls, Goes and Cancels
-data MachineEvent : Type 0 where
+pub data MachineEvent : Type 0 where
   Accesses : (k : ℕ) → (op : Op) → MachineEvent
   Controls : (k : ℕ) → (c : Control) → MachineEvent
   Calls : (goal : RegisterFile) → MachineEvent
@@ -234,7 +234,7 @@ FitsControl p (Map m) = (m.index < 8) × (m.ppage < page_count p.file) × (m.vpa
 FitsControl p other = Unit {0}
 
 -- the goal has this processor's width and capabilities
-record FitsGoal (goal : RegisterFile) (p : Processor) : Type 0 where
+pub record FitsGoal (goal : RegisterFile) (p : Processor) : Type 0 where
   pub width : goal.width ≡ p.file.width
   pub capabilities : goal.capabilities ≡ p.file.capabilities
 
@@ -273,7 +273,7 @@ next m (Steps k e) = option_map_or (λ o. stepped o (step o.goal e k m.system)) 
 -- ---- runs
 
 -- the state after a list of events, each enabled in its turn
-data Reached : Machine → Machine → Type 0 where
+pub data Reached : Machine → Machine → Type 0 where
   at_start : {s : Machine} → Reached s s
   after : {s t : Machine} → (e : MachineEvent) → Reached s t → IsEnabled t e → Reached s (next t e)
 

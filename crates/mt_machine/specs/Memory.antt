@@ -6,11 +6,11 @@ use Rattle.mt_cache.specs.declared.line.CacheLine.{CacheLine}
 use Rattle.mt_cache.specs.Lines.{eight, has_number, is_dirty}
 
 -- lines of 64 bytes from a base address on
-record Window : Type 0 where
+pub record Window : Type 0 where
   pub base : ℕ
   pub lines : ℕ
 
-record Memory : Type 0 where
+pub record Memory : Type 0 where
   pub windows : List Window
   pub words : List ℕ
 
@@ -26,7 +26,7 @@ abbrev pub AreApart : Window → Window → Type 0
 AreApart v w = (window_end v ≤ w.base) ⊎ (window_end w ≤ v.base)
 
 -- windows have a line, begin at one, lie within the physical addresses and share none, and each of their words is there
-record IsMemory (m : Memory) : Type 0 where
+pub record IsMemory (m : Memory) : Type 0 where
   pub some_lines : All (λ w. 0 < w.lines) m.windows
   pub aligned : All (λ w. w.base % 64 ≡ 0) m.windows
   pub bounded : All (λ w. window_end w ≤ 2 ^ 52) m.windows

@@ -11,7 +11,7 @@ use Rattle.mt_machine.specs.Access.{is_running}
 use Rattle.mt_machine.specs.Machine.{FitsGoal, Machine, Order, common_era}
 
 -- all processors run, with one era, one width and one value of the capabilities, and no update is under way
-record IsQuiet (m : Machine) : Type 0 where
+pub record IsQuiet (m : Machine) : Type 0 where
   pub sound : IsSound m.system
   pub running : All (λ p. is_running p.phase ≡ true) m.system.processors
   pub one_era : All (λ p. p.era ≡ common_era m.system.processors) m.system.processors
@@ -19,7 +19,7 @@ record IsQuiet (m : Machine) : Type 0 where
   pub no_order : m.order ≡ None
 
 -- all processors have taken and have no buffer, with one era and the goal's width and capabilities, and the coordinator has neither given go nor cancelled
-record IsBroadcast (m : Machine) (o : Order) : Type 0 where
+pub record IsBroadcast (m : Machine) (o : Order) : Type 0 where
   pub sound : IsSound m.system
   pub order : m.order ≡ Some o
   pub pending : o.go ≡ Pending

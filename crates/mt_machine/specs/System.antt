@@ -16,7 +16,7 @@ use Rattle.mt_machine.specs.declared.phase.Phase.{Phase}
 use Rattle.mt_machine.specs.declared.phase.Phase.TheVariants.{Running, TlbFlushed, Writing, Enabled, Flushed2, TlbFlushed2, Normal}
 use Rattle.mt_machine.specs.Memory.{Memory, IsMemory, word_at, place, line_of, word_of, word_address}
 
-record Processor : Type 0 where
+pub record Processor : Type 0 where
   pub file : RegisterFile
   pub cache_disabled : Bool  -- CR0.CD
   pub page_global : Bool  -- CR4.PGE
@@ -29,7 +29,7 @@ record Processor : Type 0 where
   pub era : ℕ  -- the number of updates that it has finished
   pub self_snoop : Bool  -- CPUID.1:EDX bit 27, which no event changes
 
-record System : Type 0 where
+pub record System : Type 0 where
   pub processors : List Processor
   pub memory : Memory
 
@@ -81,7 +81,7 @@ abbrev pub now : System → ℕ → ℕ
 now s address = option_map_or (λ v. v) (dirty_word_in s.processors address) (word_at s.memory address)
 
 -- a clean cached word is memory's, and where a cache has a dirty word of a line no other cache has that line
-record IsCoherent (s : System) : Type 0 where
+pub record IsCoherent (s : System) : Type 0 where
   pub clean : All (λ p. All (λ l. (word : ℕ) → word < 8 → is_dirty l word ≡ false → slice_index l.words word ≡ word_at s.memory (word_address l.number word)) p.lines) s.processors
   pub sole : (i j : ℕ) (p q : Processor) → i ≢ j → slice_get s.processors i ≡ Some p → slice_get s.processors j ≡ Some q
       → All (λ l. l.dirty ≢ 0 → IsNone (find_line l.number q.lines)) p.lines
@@ -101,7 +101,7 @@ is_tlb_flushed Normal = true
 is_tlb_flushed other = false
 
 -- what a processor keeps at all times
-record IsProcessor (p : Processor) : Type 0 where
+pub record IsProcessor (p : Processor) : Type 0 where
   pub register_file : IsRegisterFile p.file
   pub accepted : is_writing p.phase ≡ None → IsAccepted p.file
   pub in_range : (i : ℕ) → is_writing p.phase ≡ Some i → i < length (writable p.file)
@@ -122,7 +122,7 @@ record IsProcessor (p : Processor) : Type 0 where
   pub distinct_buffers : AreDistinct p.buffers
   pub whole_buffers : All IsLine p.buffers
 
-record IsSound (s : System) : Type 0 where
+pub record IsSound (s : System) : Type 0 where
   pub memory : IsMemory s.memory
   pub coherent : IsCoherent s
   pub lines_in_memory : All (λ p. All (λ l. IsSome (place s.memory (word_address l.number 0))) p.lines) s.processors

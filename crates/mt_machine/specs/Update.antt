@@ -21,7 +21,7 @@ use Rattle.mt_machine.specs.Machine.{Machine, MachineEvent, IsEnabled, Accesses,
 -- ---- settled and held
 
 -- the file is the goal, and nothing that is held is of another era
-record IsSettledOn (era : ℕ) (goal : RegisterFile) (p : Processor) : Type 0 where
+pub record IsSettledOn (era : ℕ) (goal : RegisterFile) (p : Processor) : Type 0 where
   pub file : p.file ≡ goal
   pub lines : All (λ l. l.era ≡ era) p.lines
   pub buffers : All (λ l. l.era ≡ era) p.buffers
@@ -85,7 +85,7 @@ is_led Cancels = true
 is_led other = false
 
 -- reached by go, cancel and steps alone
-data Led : Machine → Machine → Type 0 where
+pub data Led : Machine → Machine → Type 0 where
   led_start : {s : Machine} → Led s s
   led_on : {s t : Machine} → (e : MachineEvent) → Led s t → IsEnabled t e → is_led e ≡ true → Led s (next t e)
 

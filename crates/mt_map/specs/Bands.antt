@@ -75,7 +75,7 @@ abbrev pub is_different : Band → Bool
 is_different b = differs b.kind b.other
 
 -- a band has pages, and lies within the pages and the pixels that a picture may have
-record IsPlaced (b : Band) : Type 0 where
+pub record IsPlaced (b : Band) : Type 0 where
   pub some : 0 < b.count
   pub pages : b.first + b.count ≤ 2 ^ 40
   pub top : b.top ≤ 2 ^ 50

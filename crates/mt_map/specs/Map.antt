@@ -49,11 +49,11 @@ status_of None = Done
 status_of (Some found) = Refused
 
 -- Where a file isn't accepted the status is that of `check`; where it can't be drawn there is the line of `check` alone. Which text a picture has is not told.
-data MapOf (dump : Dump) : List ℕ → Status → Type 0 where
+pub data MapOf (dump : Dump) : List ℕ → Status → Type 0 where
   drawn : (text : List ℕ) → CanBeDrawn dump → MapOf dump text (status_of (first_refusal dump.files))
   not_drawn : (k : ℕ) (fault : Fault) → (CanBeDrawn dump → ⊥) → first_refusal dump.files ≡ Some (k, fault) → MapOf dump (dump_refused_line dump.version k fault) Refused
 
-data Output (has_words : Bool) (bytes : List ℕ) : List ℕ → Status → Type 0 where
+pub data Output (has_words : Bool) (bytes : List ℕ) : List ℕ → Status → Type 0 where
   usage : has_words ≡ true → Output has_words bytes (line (codes "usage")) Usage
   bad_text : (fault : DumpFault) → has_words ≡ false → dump_offence bytes ≡ Some fault → Output has_words bytes (bad_text_line fault) BadText
   mapped : (dump : Dump) (text : List ℕ) (status : Status) → has_words ≡ false → Shown bytes dump → MapOf dump text status → Output has_words bytes text status
@@ -61,7 +61,7 @@ data Output (has_words : Bool) (bytes : List ℕ) : List ℕ → Status → Type
 -- ---- a run
 
 -- The sink took an output or a front of it, or nothing for want of memory. Which texts and statuses are an output is given.
-data Tells (output : List ℕ → Status → Type 0) (old new : Option (List ℕ)) (result : Status) : Type 0 where
+pub data Tells (output : List ℕ → Status → Type 0) (old new : Option (List ℕ)) (result : Status) : Type 0 where
   writes : (text : List ℕ) (status : Status) → output text status → Writes text status old new result → Tells output old new result
   no_memory : result ≡ NoMemory → new ≡ old → Tells output old new result
 
@@ -70,7 +70,7 @@ abbrev pub left_of : Bool → List ℕ → List ℕ
 left_of has_words bytes = if has_words then bytes else []
 
 -- The output for all bytes of the source was written, or nothing where the source failed or gave too much.
-data Maps (has_words : Bool) (bytes : List ℕ) (left old new : Option (List ℕ)) (result : Status) : Type 0 where
+pub data Maps (has_words : Bool) (bytes : List ℕ) (left old new : Option (List ℕ)) (result : Status) : Type 0 where
   told : left ≡ Some (left_of has_words bytes) → Tells (Output has_words bytes) old new result → Maps has_words bytes left old new result
   unread : new ≡ old → (result ≡ ReadFault) ⊎ ((result ≡ TooLong) × (longest_input < length bytes)) → Maps has_words bytes left old new result
 

@@ -14,10 +14,10 @@ kilobytes Gigabyte = 0x100000
 kilobytes Terabyte = 0x40000000
 
 -- twice the difference is at most a unit
-record IsNear (pages : ℕ) (s : Size) : Type 0 where
+pub record IsNear (pages : ℕ) (s : Size) : Type 0 where
   pub above : 2 * (s.count * kilobytes s.unit) ≤ 8 * pages + kilobytes s.unit
   pub below : 8 * pages ≤ 2 * (s.count * kilobytes s.unit) + kilobytes s.unit
 
-record IsShort (s : Size) : Type 0 where
+pub record IsShort (s : Size) : Type 0 where
   pub digits : s.count < 10000000
   pub rounded : s.is_rounded ≡ true → s.count < 100000

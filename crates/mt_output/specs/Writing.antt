@@ -6,7 +6,7 @@ use Rattle.std.specs.Io.KnownBytes.{Appends}
 use Rattle.mt_ports.specs.Puts.{AppendsFront}
 
 -- The sink took a front of the bytes that waited and the text, and what is behind it waits now.
-record Passes (waiting text left : List ℕ) (before after : Option (List ℕ)) : Type 0 where
+pub record Passes (waiting text left : List ℕ) (before after : Option (List ℕ)) : Type 0 where
   pub front : List ℕ
   pub cut : waiting ++ text ≡ front ++ left
   pub taken : Appends before after front

@@ -31,7 +31,7 @@ written_more runs i d old now new r within before step is =
     ∙ ap (λ rs. overwritten rs old) (sym (map_push plain_run (take i runs) (get_or runs i d)) ∙ ap (map plain_run) (sym (take_more runs i d within)))
 
 -- the runs up to a page are written, and the pages from there to another have one type
-record IsUnderWay (f : RegisterFile) (old now : List PlainRun) (count first end : ℕ) (kind : PageType) : Type 0 where
+pub record IsUnderWay (f : RegisterFile) (old now : List PlainRun) (count first end : ℕ) (kind : PageType) : Type 0 where
   pub runs : List Run
   pub built : IsBuilt f runs first
   pub array : now ≡ overwritten (map plain_run runs) old

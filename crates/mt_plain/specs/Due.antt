@@ -141,7 +141,7 @@ abbrev pub due_step : PlainUpdate → PlainProcessor → PlainStep → PlainStep
 due_step u p old = step_by u p (go_of u.word) (phase_of p) old
 
 -- the words tell of an update, of which the processor is one
-record IsTold (u : PlainUpdate) (d : PlainProcessor) (o : Order) (ps : List Processor) (p : Processor) : Type 0 where
+pub record IsTold (u : PlainUpdate) (d : PlainProcessor) (o : Order) (ps : List Processor) (p : Processor) : Type 0 where
   pub phase : phase_of d ≡ Some p.phase
   pub finished : not d.finished ≡ (p.era == o.from_era)
   pub word : go_of u.word ≡ Some o.go

@@ -45,7 +45,7 @@ abbrev pub map_status : ℕ → ℕ → ℕ
 map_status places count = if nat_le count places then 0 else 6
 
 -- the file's type map was written to an array, as far as it goes
-record IsMapIn (f : RegisterFile) (old new : List PlainRun) (count : ℕ) : Type 0 where
+pub record IsMapIn (f : RegisterFile) (old new : List PlainRun) (count : ℕ) : Type 0 where
   pub runs : List Run
   pub are_of : IsRunsOf f runs
   pub array : new ≡ overwritten (map plain_run runs) old

@@ -16,7 +16,7 @@ use Rattle.mt_tidy.specs.declared.faults.TidyFault.TheVariants.{Refused, Disable
 use Rattle.mt_types.specs.declared.run.Run.{Run}
 
 -- all that the call may write
-record Places : Type 0 where
+pub record Places : Type 0 where
   pub file : PlainRegisters
   pub need : PlainNeed
   pub loss : PlainLoss
@@ -32,7 +32,7 @@ as_tidy of_gran.Disabled = Disabled
 as_tidy (of_gran.TooFew needs has) = TooFew needs has
 
 -- the words are those of a rounded file and of what is lost; the parts stand in the array, as far as it goes
-record IsRounded (f : RegisterFile) (g chunk spare status : ℕ) (old new : Places) : Type 0 where
+pub record IsRounded (f : RegisterFile) (g chunk spare status : ℕ) (old new : Places) : Type 0 where
   pub used : ℕ
   pub parts : List Run
   pub words : is_file new.file ≡ true
@@ -45,7 +45,7 @@ record IsRounded (f : RegisterFile) (g chunk spare status : ℕ) (old new : Plac
   pub status_is : status ≡ map_status (length old.parts) new.loss.parts
 
 -- there is a reason for which nothing is rounded: both numbers of TooFew are written, and nothing else is
-record IsUnrounded (f : RegisterFile) (g chunk spare status : ℕ) (old new : Places) : Type 0 where
+pub record IsUnrounded (f : RegisterFile) (g chunk spare status : ℕ) (old new : Places) : Type 0 where
   pub fault : GranFault
   pub why : IsWhy f g chunk spare fault
   pub status_is : status ≡ why_status (as_tidy fault)

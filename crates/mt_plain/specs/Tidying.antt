@@ -20,7 +20,7 @@ need_words Disabled old = old
 need_words (TooFew needs has) old = record { needs = needs; has = has }
 
 -- the words are those of a tidied file, with the number of its valid pairs
-record IsDone (f : RegisterFile) (chunk spare status : ℕ) (new : PlainRegisters) (need : PlainNeed) : Type 0 where
+pub record IsDone (f : RegisterFile) (chunk spare status : ℕ) (new : PlainRegisters) (need : PlainNeed) : Type 0 where
   pub used : ℕ
   pub status_is : status ≡ 0
   pub words : is_file new ≡ true
@@ -29,7 +29,7 @@ record IsDone (f : RegisterFile) (chunk spare status : ℕ) (new : PlainRegister
   pub has_is : need.has ≡ pair_count f - spare
 
 -- there is a reason for which nothing is tidied
-record IsLeft (f : RegisterFile) (chunk spare status : ℕ) (old new : PlainRegisters) (need_old need : PlainNeed) : Type 0 where
+pub record IsLeft (f : RegisterFile) (chunk spare status : ℕ) (old new : PlainRegisters) (need_old need : PlainNeed) : Type 0 where
   pub fault : TidyFault
   pub why : IsWhy f chunk spare fault
   pub status_is : status ≡ why_status fault

@@ -66,7 +66,7 @@ open_more jobs told k j x at_j size new all part i job y at_job at_y =
 -- ---- what no access changes
 
 -- as many processors, each with the same registers and era
-record IsLike (s t : System) : Type 0 where
+pub record IsLike (s t : System) : Type 0 where
   pub size : length t.processors ≡ length s.processors
   pub each : (i : ℕ) (q : Processor) → slice_get t.processors i ≡ Some q → (p : Processor) × (slice_get s.processors i ≡ Some p) × (q.file ≡ p.file) × (q.era ≡ p.era)
 

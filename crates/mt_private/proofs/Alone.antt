@@ -29,7 +29,7 @@ use Rattle.mt_private.specs.YardCalls.{AreIn, HasTaken, IsLeft, in_phase}
 -- ---- one processor
 
 -- a list with one stage has one processor
-record IsOne (ps : List Processor) (x : Stage) : Type 0 where
+pub record IsOne (ps : List Processor) (x : Stage) : Type 0 where
   pub cpu : Processor
   pub alone : ps ≡ cpu ∷ []
   pub stage : stage_of cpu ≡ x
@@ -195,7 +195,7 @@ taken_on ph first own p alone has = in_phase_one ph own p alone ∙ ap (in_phase
 
 -- ---- a system whose one processor runs
 
-record IsRunner (s : System) : Type 0 where
+pub record IsRunner (s : System) : Type 0 where
   pub cpu : Processor
   pub alone : s.processors ≡ cpu ∷ []
   pub runs : cpu.phase ≡ Running

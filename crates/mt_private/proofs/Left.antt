@@ -139,7 +139,7 @@ less_of cs m k c own ram h at own_is ram_is =
 -- ---- own systems in a row
 
 -- each is that of the processor with its number, on the pages that another one names
-record AreOwn (cs ps : List Processor) (m : Memory) (os : List (Option System)) : Type 0 where
+pub record AreOwn (cs ps : List Processor) (m : Memory) (os : List (Option System)) : Type 0 where
   pub size : length os ≡ length ps
   pub pages : length cs ≡ length ps
   pub each : (k : ℕ) (c p : Processor) → slice_get cs k ≡ Some c → slice_get ps k ≡ Some p → slice_get os k ≡ Some (Some (record { processors = p ∷ []; memory = own_memory (pages_of c) m }))

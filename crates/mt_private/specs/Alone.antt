@@ -19,7 +19,7 @@ abbrev pub named_by_none : List Processor → ℕ → Bool
 named_by_none ps page = not (list_any (names page) ps)
 
 -- for each processor it is the whole update of its own system, and the words of pages that none names stay
-record UpdatesAlone (s : System) (goal : RegisterFile) : Type 0 where
+pub record UpdatesAlone (s : System) (goal : RegisterFile) : Type 0 where
   pub own : (k : ℕ) (p : Processor) → slice_get s.processors k ≡ Some p
       → own_system (pages_of p) k (updated s (ascending (length s.processors)) goal).system ≡ updated_own goal (own_system (pages_of p) k s)
   pub rest : own_memory (named_by_none s.processors) (updated s (ascending (length s.processors)) goal).system.memory ≡ own_memory (named_by_none s.processors) s.memory
@@ -29,7 +29,7 @@ abbrev pub own_job : RegisterFile → List Op → List Op → System → Ran
 own_job goal before after own = ran 0 after (updated_own goal (ran 0 before own).after)
 
 -- each job is answered and leaves what it does in the own system, and the words of pages that none names stay
-record JobsAlone (s : System) (goal : RegisterFile) (before after : List (List Op)) : Type 0 where
+pub record JobsAlone (s : System) (goal : RegisterFile) (before after : List (List Op)) : Type 0 where
   pub first : (k : ℕ) (p : Processor) (ops : List Op) → slice_get s.processors k ≡ Some p → slice_get before k ≡ Some ops
       → slice_get (one_by_one s goal before after).before k ≡ Some (ran 0 ops (own_system (pages_of p) k s)).answers
   pub last : (k : ℕ) (p : Processor) (ops bs : List Op) → slice_get s.processors k ≡ Some p → slice_get before k ≡ Some ops → slice_get after k ≡ Some bs

@@ -21,7 +21,7 @@ abbrev pub IsOwnOf : Start → ℕ → System → Type 0
 IsOwnOf t k own = (p : Processor) × (slice_get t.cpus k ≡ Some p) × (own ≡ record { processors = p ∷ []; memory = own_memory (pages_of p) t.ram })
 
 -- guest k as it was gathered: it has processor k, with the words of the pages that it names, and its pass has added nothing and was shown nothing
-record IsGathered (table : TableId) (t : Start) (k : ℕ) (its : TableId) (me : YardSat) (number : ℕ) (own : System) : Type 0 where
+pub record IsGathered (table : TableId) (t : Start) (k : ℕ) (its : TableId) (me : YardSat) (number : ℕ) (own : System) : Type 0 where
   pub numbered : number ≡ k
   pub own_is : own ≡ own_system (pages_at t k) k (system_of t)
   pub lodges : Lodges table t its me number own false false
@@ -37,12 +37,12 @@ abbrev pub IsRoom : Processor → Memory → Room → Type 0
 IsRoom p m r = (r.ram ≡ own_memory (pages_of p) m) × (r.cpus.items ≡ []) × (1 ≤ vec_capacity r.cpus) × (r.tables.items ≡ []) × (1 ≤ vec_capacity r.tables)
 
 -- one for each
-record AreRooms (ps : List Processor) (m : Memory) (rooms : List Room) : Type 0 where
+pub record AreRooms (ps : List Processor) (m : Memory) (rooms : List Room) : Type 0 where
   pub count : length rooms ≡ length ps
   pub each : (k : ℕ) (p : Processor) (r : Room) → slice_get ps k ≡ Some p → slice_get rooms k ≡ Some r → IsRoom p m r
 
 -- what the host keeps besides: the emptied lists of the gathered system with their room, and the words of the pages that no processor named
-record IsRest (t : Start) (rest : Room) : Type 0 where
+pub record IsRest (t : Start) (rest : Room) : Type 0 where
   pub no_processors : rest.cpus.items ≡ []
   pub no_tables : rest.tables.items ≡ []
   pub processors_fit : length t.cpus ≤ vec_capacity rest.cpus

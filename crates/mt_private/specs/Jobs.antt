@@ -24,7 +24,7 @@ room_in Before t = vec_capacity t.before
 room_in After t = vec_capacity t.after
 
 -- each address fits an access
-record FitsJob (j : Job) : Type 0 where
+pub record FitsJob (j : Job) : Type 0 where
   pub before : All FitsOp j.before.items
   pub after : All FitsOp j.after.items
 

@@ -54,13 +54,13 @@ AreParts m xs = (k : ℕ) (x : Option System) → slice_get xs k ≡ Some x → 
 -- ---- the end of a yard
 
 -- each guest came back, and what is kept by its number is of the resident that the host has
-record AreBack (count : ℕ) (v : YardView) (owns : List (Option System)) : Type 0 where
+pub record AreBack (count : ℕ) (v : YardView) (owns : List (Option System)) : Type 0 where
   pub size : length owns ≡ count
   pub each : (k : ℕ) → k < count → (o : System) × (slice_get owns k ≡ Some (Some o))
   pub keeps : Keeps v owns
 
 -- where a yard ends: residents and what the host said stand for this system, those that the host has are among them, and a pass that it took back was shown the cancel only where it gave it
-record Leaves (t : Start) (v : YardView) (s : System) : Type 0 where
+pub record Leaves (t : Start) (v : YardView) (s : System) : Type 0 where
   pub all : List Resident
   pub first : ℕ
   pub second : ℕ

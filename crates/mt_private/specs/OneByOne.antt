@@ -13,11 +13,11 @@ use Rattle.mt_private.specs.declared.job.Part.TheVariants.{Before, After}
 use Rattle.mt_private.specs.Jobs.{ops_in}
 
 -- answers, and the system after them
-record Ran : Type 0 where
+pub record Ran : Type 0 where
   pub answers : List Done
   pub after : System
 
-record RanEach : Type 0 where
+pub record RanEach : Type 0 where
   pub answers : List (List Done)
   pub after : System
 
@@ -40,7 +40,7 @@ ran_each k (ops ∷ others) s =
 abbrev pub at_rest : System → Machine
 at_rest s = record { system = s; order = None }
 
-record OneByOne : Type 0 where
+pub record OneByOne : Type 0 where
   pub before : List (List Done)
   pub after : List (List Done)
   pub left : Machine

@@ -48,14 +48,14 @@ with_own pages k own s = record {
 }
 
 -- processor k is there, names these pages alone, and no other processor names any of them
-record IsOwner (pages : ℕ → Bool) (k : ℕ) (s : System) : Type 0 where
+pub record IsOwner (pages : ℕ → Bool) (k : ℕ) (s : System) : Type 0 where
   pub processor : Processor
   pub at : slice_get s.processors k ≡ Some processor
   pub own : (page : ℕ) → names page processor ≡ true → pages page ≡ true
   pub others : (j : ℕ) (q : Processor) → j ≢ k → slice_get s.processors j ≡ Some q → (page : ℕ) → pages page ≡ true → names page q ≡ false
 
 -- what came of a system by what processor k did: its own system is this one now, all else is as it was, and it owns the pages still
-record Becomes (pages : ℕ → Bool) (k : ℕ) (s t alone : System) : Type 0 where
+pub record Becomes (pages : ℕ → Bool) (k : ℕ) (s t alone : System) : Type 0 where
   pub own : own_system pages k t ≡ alone
   pub whole : t ≡ with_own pages k alone s
   pub owner : IsOwner pages k t
@@ -65,7 +65,7 @@ abbrev pub pages_of : Processor → ℕ → Bool
 pages_of p page = names page p
 
 -- accesses of a processor that owns these pages are those of its own system
-record RunsAlone (pages : ℕ → Bool) (k : ℕ) (ops : List Op) (s : System) : Type 0 where
+pub record RunsAlone (pages : ℕ → Bool) (k : ℕ) (ops : List Op) (s : System) : Type 0 where
   pub answers : (ran k ops s).answers ≡ (ran 0 ops (own_system pages k s)).answers
   pub after : Becomes pages k s (ran k ops s).after (ran 0 ops (own_system pages k s)).after
 
@@ -74,7 +74,7 @@ abbrev pub AreApart : (ℕ → Bool) → (ℕ → Bool) → Type 0
 AreApart pages others = (page : ℕ) → pages page ≡ true → others page ≡ false
 
 -- accesses of processors k and j: each is answered as if the other's weren't made, and either order leads to one state
-record Commute (k j : ℕ) (ops others : List Op) (s : System) : Type 0 where
+pub record Commute (k j : ℕ) (ops others : List Op) (s : System) : Type 0 where
   pub first : (ran k ops (ran j others s).after).answers ≡ (ran k ops s).answers
   pub second : (ran j others (ran k ops s).after).answers ≡ (ran j others s).answers
   pub after : (ran j others (ran k ops s).after).after ≡ (ran k ops (ran j others s).after).after

@@ -23,7 +23,7 @@ abbrev pub IsPrivate : System → Type 0
 IsPrivate s = (page : ℕ) → naming s.processors page ≤ 1
 
 -- the least page that two processors name
-record IsLeastShared (s : System) (page : ℕ) : Type 0 where
+pub record IsLeastShared (s : System) (page : ℕ) : Type 0 where
   pub shared : 2 ≤ naming s.processors page
   pub least : (other : ℕ) → other < page → naming s.processors other ≤ 1
 

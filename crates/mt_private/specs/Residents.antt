@@ -31,7 +31,7 @@ abbrev pub system_of : Start → System
 system_of t = record { processors = t.cpus; memory = t.ram }
 
 -- no update is under way, the goal may be called, no page is named by two, and the eras may rise
-record Opens (t : Start) : Type 0 where
+pub record Opens (t : Start) : Type 0 where
   pub quiet : IsQuiet (at_rest (system_of t))
   pub enabled : IsEnabled (at_rest (system_of t)) (Calls t.goal)
   pub unshared : IsPrivate (system_of t)
@@ -56,7 +56,7 @@ abbrev pub own_of : Resident → System
 own_of y = record { processors = y.held.cpu ∷ []; memory = y.ram }
 
 -- the system has these processors, each owns its pages and has the words in them, and all other words are as they were gathered
-record StandsFor (t : Start) (all : List Resident) (s : System) : Type 0 where
+pub record StandsFor (t : Start) (all : List Resident) (s : System) : Type 0 where
   pub processors : s.processors ≡ map cpu_of (map held_of all)
   pub memory : IsMemory s.memory
   pub windows : s.memory.windows ≡ t.ram.windows
@@ -69,7 +69,7 @@ abbrev pub FitsYard : Go → Bool → Bool → Phase → Type 0
 FitsYard go added again Running = ((added ≡ false) × (again ≡ false)) ⊎ Fits go added again Running
 FitsYard go added again other = Fits go added again other
 
-record FitsResident (t : Start) (go : Go) (h : Held) : Type 0 where
+pub record FitsResident (t : Start) (go : Go) (h : Held) : Type 0 where
   pub fits : FitsYard go h.added h.again h.cpu.phase
   pub era : h.cpu.era ≡ common_era t.cpus + rise h.again h.cpu.phase
 
@@ -78,12 +78,12 @@ abbrev pub yard_machine : Start → Go → System → Machine
 yard_machine t go s = stepped (order_of t go) s
 
 -- reached by events of which none is a call
-data Uncalled : Machine → Machine → Type 0 where
+pub data Uncalled : Machine → Machine → Type 0 where
   uncalled_start : {s : Machine} → Uncalled s s
   uncalled_on : {s t : Machine} → (e : MachineEvent) → Uncalled s t → IsEnabled t e → is_call e ≡ false → Uncalled s (next t e)
 
 -- residents and what the coordinator said stand for a machine that the state after the call reaches without another call
-record Resides (t : Start) (all : List Resident) (go : Go) (s : System) : Type 0 where
+pub record Resides (t : Start) (all : List Resident) (go : Go) (s : System) : Type 0 where
   pub opens : Opens t
   pub reached : Uncalled (broadcast t) (yard_machine t go s)
   pub stands : StandsFor t all s
@@ -91,7 +91,7 @@ record Resides (t : Start) (all : List Resident) (go : Go) (s : System) : Type 0
   pub fits : (k : ℕ) (y : Resident) → get_elem? all k ≡ some y → FitsResident t go y.held × (y.held.number ≡ k)
 
 -- one resident moves, and w stands for it then: the machine takes this event, which was enabled, or stays as it is
-record Moves (t : Start) (all : List Resident) (go : Go) (s : System) (k : ℕ) (w : Resident) (e : Option MachineEvent) : Type 0 where
+pub record Moves (t : Start) (all : List Resident) (go : Go) (s : System) (k : ℕ) (w : Resident) (e : Option MachineEvent) : Type 0 where
   pub system : System
   pub enabled : CanFollow (yard_machine t go s) e
   pub becomes : yard_machine t go system ≡ after_event (yard_machine t go s) e
@@ -125,19 +125,19 @@ accessed_by op y = record (in_system y (access (own_of y) 0 op).after) { done = 
 -- ---- the two counts
 
 -- the residents and the two counts stand for a machine
-record Yard (t : Start) (all : List Resident) (go : Go) (first second : ℕ) (s : System) : Type 0 where
+pub record Yard (t : Start) (all : List Resident) (go : Go) (first second : ℕ) (s : System) : Type 0 where
   pub resides : Resides t all go s
   pub first_count : first ≡ total added_of (map held_of all) + go_weight go
   pub second_count : second ≡ total again_of (map held_of all)
 
 -- one resident moves, as above, and the counts are these then
-record Follows (t : Start) (all : List Resident) (go : Go) (s : System) (k : ℕ) (w : Resident) (e : Option MachineEvent) (first second : ℕ) : Type 0 where
+pub record Follows (t : Start) (all : List Resident) (go : Go) (s : System) (k : ℕ) (w : Resident) (e : Option MachineEvent) (first second : ℕ) : Type 0 where
   pub moves : Moves t all go s k w e
   pub first_count : first ≡ total added_of (map held_of (slice_set all k w)) + go_weight go
   pub second_count : second ≡ total again_of (map held_of (slice_set all k w))
 
 -- the coordinator says so: this event, and the first count is this then
-record Decides (t : Start) (all : List Resident) (go : Go) (first second : ℕ) (s : System) (e : MachineEvent) : Type 0 where
+pub record Decides (t : Start) (all : List Resident) (go : Go) (first second : ℕ) (s : System) (e : MachineEvent) : Type 0 where
   pub enabled : IsEnabled (yard_machine t Pending s) e
   pub becomes : yard_machine t go s ≡ next (yard_machine t Pending s) e
   pub kept : Yard t all go first second s

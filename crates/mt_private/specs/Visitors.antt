@@ -35,7 +35,7 @@ own_at t k = own_system (pages_at t k) k (system_of t)
 -- ---- one visitor
 
 -- it has not begun: it is the guest with this number as it was gathered, its processor runs, and there is room for the answers to its job
-record IsNew (table : TableId) (t : Start) (job : Job) (k : ℕ) (v : Visitor) : Type 0 where
+pub record IsNew (table : TableId) (t : Start) (job : Job) (k : ℕ) (v : Visitor) : Type 0 where
   pub gathered : IsGathered table t k v.pass.seat.table_id v.pass.seat.me v.pass.number v.core.system
   pub idle : v.core.order ≡ None
   pub runs : AreIn Running v.core.system
@@ -43,7 +43,7 @@ record IsNew (table : TableId) (t : Start) (job : Job) (k : ℕ) (v : Visitor) :
   pub has_room : (part : Part) → IsOpen part job v.told
 
 -- its visit has ended, it has this number and runs, and where it left there is room still for the answers after the update
-record HasCome (table : TableId) (t : Start) (job : Job) (k : ℕ) (v : Visitor) : Type 0 where
+pub record HasCome (table : TableId) (t : Start) (job : Job) (k : ℕ) (v : Visitor) : Type 0 where
   pub ends : VisitEnds v.visited table t k t.goal job (own_at t k) v.pass.seat.table_id v.pass.seat.me v.core.system v.told
   pub numbered : v.pass.number ≡ k
   pub runs : AreIn Running v.core.system
@@ -52,7 +52,7 @@ record HasCome (table : TableId) (t : Start) (job : Job) (k : ℕ) (v : Visitor)
 -- ---- all of them
 
 -- guests as they were gathered, each with room for the answers to its job
-record AreWaiting (table : TableId) (t : Start) (jobs : List Job) (waiting : List Guest) (told : List Told) : Type 0 where
+pub record AreWaiting (table : TableId) (t : Start) (jobs : List Job) (waiting : List Guest) (told : List Told) : Type 0 where
   pub gathered : AreGathered table t waiting
   pub running : (k : ℕ) (g : Guest) → slice_get waiting k ≡ Some g → AreIn Running g.own
   pub few : length waiting ≤ length jobs
@@ -69,7 +69,7 @@ abbrev pub IsFresh : Start → YardView → List (Option System) → Type 0
 IsFresh t v owns = (v.held ≡ []) × (owns ≡ replicate (length t.cpus) None)
 
 -- visitor k came back with these answers: its visit ended so, the host keeps its own system and holds its resident, and knows whether it was shown the cancel
-record CameBack (table : TableId) (t : Start) (job : Job) (k : ℕ) (v : YardView) (owns : List (Option System)) (told : Told) : Type 0 where
+pub record CameBack (table : TableId) (t : Start) (job : Job) (k : ℕ) (v : YardView) (owns : List (Option System)) (told : Told) : Type 0 where
   pub visited : Visited
   pub own : System
   pub its : TableId
@@ -82,7 +82,7 @@ record CameBack (table : TableId) (t : Start) (job : Job) (k : ℕ) (v : YardVie
   pub shown : me.0.cancel ≡ true → v.cancel ≡ true
 
 -- the first ones came back, as many as there are answers
-record Returned (table : TableId) (t : Start) (jobs : List Job) (its : TableId) (me : YardSat) (owns : List (Option System)) (told : List Told) : Type 0 where
+pub record Returned (table : TableId) (t : Start) (jobs : List Job) (its : TableId) (me : YardSat) (owns : List (Option System)) (told : List Told) : Type 0 where
   pub root : IsRoot table its (as_sat me)
   pub size : length owns ≡ length t.cpus
   pub keeps : Keeps me.0 owns

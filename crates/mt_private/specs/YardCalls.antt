@@ -44,7 +44,7 @@ abbrev pub stored_in : YardSat → ℕ
 stored_in me = stored_by me.0.held
 
 -- a seat of the table lodges one resident: it has this number, and the processor and the words of this system, which has no other
-record Lodges (table : TableId) (t : Start) (its : TableId) (me : YardSat) (number : ℕ) (own : System) (added again : Bool) : Type 0 where
+pub record Lodges (table : TableId) (t : Start) (its : TableId) (me : YardSat) (number : ℕ) (own : System) (added again : Bool) : Type 0 where
   pub cpu : Processor
   pub same : its ≡ table
   pub alone : own.processors ≡ cpu ∷ []
@@ -66,7 +66,7 @@ abbrev pub in_phase : Phase → System → System
 in_phase ph s = record s { processors = map (λ (p : Processor). record p { phase = ph }) s.processors }
 
 -- the resident's own machine takes part in the yard's update; and where its rounds end once the go is given, there end those from a call on the first system
-record Visits (table : TableId) (t : Start) (its : TableId) (me : YardSat) (number : ℕ) (core : Machine) (added again : Bool) (go : Go) (first : System) : Type 0 where
+pub record Visits (table : TableId) (t : Start) (its : TableId) (me : YardSat) (number : ℕ) (core : Machine) (added again : Bool) (go : Go) (first : System) : Type 0 where
   pub lodges : Lodges table t its me number core.system added again
   pub order : core.order ≡ Some (order_of t go)
   pub era : common_era core.system.processors ≡ common_era t.cpus

@@ -26,7 +26,7 @@ use Rattle.mt_private.specs.Residents.{Decides, Follows, Opens, Yard, accessed_b
 use Rattle.mt_private.specs.YardRule.{MeetsYard, first_yard_view, its_machine, with_one, with_said, yard_both, yard_left, yard_right, yard_spent}
 
 -- a yard, and its resident k, whose pass has added so
-record Has (t : Start) (all : List Resident) (go : Go) (first second : ℕ) (s : System) (k : ℕ) (y : Resident) (added again : Bool) : Type 0 where
+pub record Has (t : Start) (all : List Resident) (go : Go) (first second : ℕ) (s : System) (k : ℕ) (y : Resident) (added again : Bool) : Type 0 where
   pub yard : Yard t all go first second s
   pub at : get_elem? all k ≡ some y
   pub has_added : y.held.added ≡ added
@@ -103,7 +103,7 @@ abbrev pub YardState : Type 0
 YardState = State Op YardView
 
 -- the second state meets the rule too, and its machine is the one after this event, which was enabled, or the same machine if there is none
-record IsOneEvent (key : Key) (s later : YardState) (m : MeetsYard key s) (e : Option MachineEvent) : Type 0 where
+pub record IsOneEvent (key : Key) (s later : YardState) (m : MeetsYard key s) (e : Option MachineEvent) : Type 0 where
   pub kept : MeetsYard key later
   pub enabled : CanFollow (its_machine key s m) e
   pub becomes : its_machine key later kept ≡ after_event (its_machine key s m) e
@@ -117,7 +117,7 @@ abbrev pub IsOneMachine : Type 0
 IsOneMachine = (key : Key) (s : YardState) (a b : MeetsYard key s) → its_machine key s a ≡ its_machine key s b
 
 -- each processor has the goal's registers and holds nothing of another era, and each word that no access stored since the first release is in memory as it was before the first pass
-record Settles (t : Start) (m : Machine) : Type 0 where
+pub record Settles (t : Start) (m : Machine) : Type 0 where
   pub settled : IsSettled m.system (common_era t.cpus + 1) t.goal
   pub before : Machine
   pub released : Machine

@@ -21,7 +21,7 @@ abbrev pub YardSat : Type 0
 YardSat = Me Op YardView
 
 -- the coordinator says so, and the first count becomes this: there are residents for whom it is this event
-record Said (t : Start) (count : ℕ) (e : MachineEvent) (go : Go) : Type 0 where
+pub record Said (t : Start) (count : ℕ) (e : MachineEvent) (go : Go) : Type 0 where
   pub all : List Resident
   pub second : ℕ
   pub system : System
@@ -49,7 +49,7 @@ abbrev pub OfOne : YardView → (Resident → Type 0) → Type 0
 OfOne v P = (y : Resident) → v.held ≡ y ∷ [] → P y
 
 -- A step of the pass with resident y, after which w stands in its place: there are residents, y among them, for whom it is this event, which was enabled, or none.
-record PassMoves (t : Start) (y w : Resident) (e : Option MachineEvent) : Type 0 where
+pub record PassMoves (t : Start) (y w : Resident) (e : Option MachineEvent) : Type 0 where
   pub all : List Resident
   pub go : Go
   pub first : ℕ

@@ -72,7 +72,7 @@ abbrev pub HoldsStored : List ℕ → List Resident → Type 0
 HoldsStored words all = (k : ℕ) (y : Resident) → get_elem? all k ≡ some y → slice_index words (k + 2) ≡ y.stored
 
 -- the words and the views stand for one machine, which the state after the call reaches; seats are as at a rendezvous
-record MeetsYard (key : Key) (s : State Op YardView) : Type 0 where
+pub record MeetsYard (key : Key) (s : State Op YardView) : Type 0 where
   pub all : List Resident
   pub go : Go
   pub owner : ℕ → ℕ

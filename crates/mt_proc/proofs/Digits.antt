@@ -12,7 +12,7 @@ stays_short (digit ∷ []) few = refl
 stays_short (digit ∷ next ∷ digits) few = absurd (omega arith)
 
 -- they are digits of the same value
-record AreSignificant (digits : List ℕ) : Type 0 where
+pub record AreSignificant (digits : List ℕ) : Type 0 where
   pub some : 1 ≤ length (significant digits)
   pub few : length (significant digits) ≤ length digits
   pub all : list_all is_hex_digit (significant digits) ≡ true

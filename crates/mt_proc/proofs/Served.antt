@@ -120,7 +120,7 @@ goal_standing m goal serves =
     ∙ ap (λ (n : ℕ). standing n (record { file = goal; count = (served m).count + 1 })) (length-map m.system.processors (λ p. p.file))
 
 -- a request leaves the processors, or all of them with one file
-record Becomes (m new : Machine) (now : Served) : Type 0 where
+pub record Becomes (m new : Machine) (now : Served) : Type 0 where
   pub unchanged : now.count ≡ (served m).count → new ≡ m
   pub stands : (served m).count < now.count → new ≡ standing (length m.system.processors) now
   pub same : served new ≡ now
@@ -161,7 +161,7 @@ serves_goal m goal serves is_file accepted =
     (serves_standing (length m.system.processors) (record { file = goal; count = (served m).count + 1 }) serves.some serves.few is_file accepted)
 
 -- where no update is under way a call is refused for the goal's first fault alone
-record IsRefused (m : Machine) (goal : RegisterFile) (fault : CallFault) : Type 0 where
+pub record IsRefused (m : Machine) (goal : RegisterFile) (fault : CallFault) : Type 0 where
   pub own : Fault
   pub is : fault ≡ Refused own
   pub first : IsFirstFault goal (Some own)

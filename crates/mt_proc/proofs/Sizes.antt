@@ -69,7 +69,7 @@ in_pages k above =
 -- ---- good ranges
 
 -- a range of so many bytes begins with a page, at a multiple of its size in pages
-record HasPages (base pages : ℕ) : Type 0 where
+pub record HasPages (base pages : ℕ) : Type 0 where
   pub first : base ≡ 4096 * (base / 4096)
   pub aligned : base / 4096 % pages ≡ 0
 
@@ -128,7 +128,7 @@ good_range m base size narrow good =
     is_good m base size (power_is_size size k above below power) good.aligned good.within
 
 -- the pages of a range of a good size that ends within addresses of so many bits
-record HasBlock (base size log m : ℕ) : Type 0 where
+pub record HasBlock (base size log m : ℕ) : Type 0 where
   pub good : is_good_range m base size ≡ true
   pub first : base ≡ 4096 * (base / 4096)
   pub aligned : base / 4096 % 2 ^ log ≡ 0

@@ -7,7 +7,7 @@ use Rattle.mt_regs.specs.RegisterFile.{RegisterFile, pair_at}
 use Rattle.mt_proc.specs.Listing.{lines_from, listing, range_line}
 
 -- the lines so far, and those of the pairs from n on
-record HasLines (f : RegisterFile) (n : ℕ) (waiting left : List ℕ) (before after : Option (List ℕ)) : Type 0 where
+pub record HasLines (f : RegisterFile) (n : ℕ) (waiting left : List ℕ) (before after : Option (List ℕ)) : Type 0 where
   pub text : List ℕ
   pub cut : listing f ≡ text ++ lines_from f.width n (drop n f.pairs)
   pub passed : Passes waiting text left before after

@@ -16,7 +16,7 @@ use Rattle.mt_proc.specs.Applied.{applied}
 use Rattle.mt_proc.specs.Listing.{listing}
 
 -- processor 0's file, which all processors have once a request was carried out, and how many were
-record Served : Type 0 where
+pub record Served : Type 0 where
   pub file : RegisterFile
   pub count : ℕ
 

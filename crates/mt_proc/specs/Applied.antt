@@ -20,7 +20,7 @@ abbrev pub is_good_range : ℕ → ℕ → ℕ → Bool
 is_good_range m base size = is_size size && base % size == 0 && nat_le (base + size) (2 ^ m)
 
 -- the same in words of its own, for laws
-record IsGoodRange (m base size : ℕ) : Type 0 where
+pub record IsGoodRange (m base size : ℕ) : Type 0 where
   pub power : (k : ℕ) × (12 ≤ k) × (size ≡ 2 ^ k)
   pub aligned : base % size ≡ 0
   pub within : base + size ≤ 2 ^ m
@@ -30,7 +30,7 @@ abbrev pub first_free : List (ℕ × ℕ) → Option ℕ
 first_free pairs = position (λ pair. not (is_valid pair)) pairs
 
 -- the same in words of its own, for laws
-record IsLeastFree (pairs : List (ℕ × ℕ)) (n : ℕ) : Type 0 where
+pub record IsLeastFree (pairs : List (ℕ × ℕ)) (n : ℕ) : Type 0 where
   pub there : n < length pairs
   pub free : is_valid (pair_at pairs n) ≡ false
   pub least : (k : ℕ) → k < n → is_valid (pair_at pairs k) ≡ true

@@ -26,7 +26,7 @@ use Rattle.mt_proc.specs.Listing.{requests_from}
 use Rattle.mt_proc.specs.Requests.{request_of}
 
 -- within the dump, after these lines of it, of which the last stands first, or behind its end
-data Point : Type 0 where
+pub data Point : Type 0 where
   in_dump : List Reading → Point
   in_requests : Served → Point
 

@@ -38,7 +38,7 @@ abbrev pub files_of : Machine → List RegisterFile
 files_of m = map (λ p. p.file) m.system.processors
 
 -- The processors of a machine stand so, with no update under way. Until the first request that is carried out their files may differ; from then on they have one.
-record Serves (m : Machine) : Type 0 where
+pub record Serves (m : Machine) : Type 0 where
   pub stands : m ≡ idling (files_of m) (served m).count
   pub some : 0 < length m.system.processors
   pub few : length m.system.processors ≤ 16

@@ -82,7 +82,7 @@ apart_from_all (v ∷ vs) w e = one (shares_byte v w) refl e (apart_from_all vs 
         at (suc k) d l = rest h k d (omega arith)
 
 -- what an accepted window is
-record Fits (ws : List machine.Window) (w : machine.Window) : Type 0 where
+pub record Fits (ws : List machine.Window) (w : machine.Window) : Type 0 where
   pub aligned : w.base % 64 ≡ 0
   pub apart : is_overlap ws w ≡ false
   pub few : machine.word_count ws + 8 * w.lines ≤ 8 * 4096

@@ -49,7 +49,7 @@ abbrev pub with_line : ℕ → machine.Memory → List ℕ → machine.Memory
 with_line i m ws = record m { words = take (length m.words) (take i m.words ++ ws ++ drop (i + length ws) m.words) }
 
 -- what a memory of windows keeps
-record IsRam (m : machine.Memory) : Type 0 where
+pub record IsRam (m : machine.Memory) : Type 0 where
   pub memory : machine.IsMemory m
   pub few : length m.words ≤ 8 * most_lines
 

@@ -31,14 +31,14 @@ first_difference [] = None
 first_difference (f ∷ fs) = first_from (differing_register f) 0 (f ∷ fs)
 
 -- file k isn't accepted, by this fault, and each before it is
-record IsFirstRefusal (files : List RegisterFile) (k : ℕ) (fault : Fault) : Type 0 where
+pub record IsFirstRefusal (files : List RegisterFile) (k : ℕ) (fault : Fault) : Type 0 where
   pub file : RegisterFile
   pub at : slice_get files k ≡ Some file
   pub refused : IsFirstFault file (Some fault)
   pub before : All IsAccepted (take k files)
 
 -- File k differs from the first one at this number and at no lower one, and each before it is equal to the first.
-record IsFirstDifference (files : List RegisterFile) (k number : ℕ) : Type 0 where
+pub record IsFirstDifference (files : List RegisterFile) (k number : ℕ) : Type 0 where
   pub first : RegisterFile
   pub first_at : slice_get files 0 ≡ Some first
   pub file : RegisterFile

@@ -85,7 +85,7 @@ abbrev pub written : RegisterFile → ℕ → ℕ → Option RegisterFile
 written f number v = option_map (λ r. with_value f r v) (register_of f number)
 
 -- the new file differs from the old in the value at one number
-record ChangesOnly (old new : RegisterFile) (number v : ℕ) : Type 0 where
+pub record ChangesOnly (old new : RegisterFile) (number v : ℕ) : Type 0 where
   pub changed : value_at new number ≡ Some v
   pub others : (other : ℕ) → other ≢ number → value_at new other ≡ value_at old other
   pub width : new.width ≡ old.width

@@ -141,7 +141,7 @@ stands_order t all go words k h at u f = order_stands t all go words k h at u f.
 
 -- ---- one event of the processor that h has
 
-record Acts (t : Start) (all : List Held) (go : Go) (words after : List ℕ) (k : ℕ) (e : Event) (h w : Held) : Type 0 where
+pub record Acts (t : Start) (all : List Held) (go : Go) (words after : List ℕ) (k : ℕ) (e : Event) (h w : Held) : Type 0 where
   pub order : (joined t all go words).order ≡ Some (order_of t go)
   pub enabled : IsEnabled (joined t all go words) (Steps k e)
   pub moves : next (joined t all go words) (Steps k e) ≡ joined t (set all k w) go after

@@ -412,7 +412,7 @@ numbered_some k (c ∷ cs) zero b = (held k c false false, refl, omega arith)
 numbered_some k (c ∷ cs) (suc j) b = let r = numbered_some (k + 1) cs j (omega arith) in let n = r.2 in (r.0, r.1, omega arith)
 
 -- the words at the start: the counts and the phases are 0, and memory follows
-record Opens (key : Key) (words : List ℕ) : Type 0 where
+pub record Opens (key : Key) (words : List ℕ) : Type 0 where
   pub wide : length words ≡ first_memory_word (start_of key) + length key.ram.value.words
   pub zeros : (i : ℕ) → i < first_memory_word (start_of key) → slice_index words i ≡ 0
   pub memory : drop (first_memory_word (start_of key)) words ≡ key.ram.value.words

@@ -26,7 +26,7 @@ use Rattle.mt_rendezvous.specs.Station.{broadcast, held, numbered, order_of}
 use Rattle.mt_rendezvous.specs.Plays.{Took, Stands}
 
 -- a seat of the table carries this one processor
-record Carries (table : TableId) (t : Start) (its : TableId) (me : Me (Unit {0}) View) (number : ℕ) (c : Processor) (added again : Bool) : Type 0 where
+pub record Carries (table : TableId) (t : Start) (its : TableId) (me : Me (Unit {0}) View) (number : ℕ) (c : Processor) (added again : Bool) : Type 0 where
   pub same : its ≡ table
   pub holds : me.0.held ≡ held number c added again ∷ []
   pub told : me.0.start ≡ t
@@ -34,7 +34,7 @@ record Carries (table : TableId) (t : Start) (its : TableId) (me : Me (Unit {0})
   pub bare : me.1 ≡ []
 
 -- the root's seat
-record Leads (table : TableId) (t : Start) (its : TableId) (me : Me (Unit {0}) View) (go : Go) : Type 0 where
+pub record Leads (table : TableId) (t : Start) (its : TableId) (me : Me (Unit {0}) View) (go : Go) : Type 0 where
   pub same : its ≡ table
   pub root : me.0.root ≡ true
   pub said : me.0.go ≡ go
@@ -45,7 +45,7 @@ abbrev pub IsWaiting : Phase → Type 0
 IsWaiting p = (p ≡ Taken) ⊎ (p ≡ Arrived)
 
 -- a machine that the broadcast leads to has the processor as it was before its release, and there each has the goal's registers and holds nothing, and each word is in memory
-record Released (t : Start) (k : ℕ) (q : Processor) : Type 0 where
+pub record Released (t : Start) (k : ℕ) (q : Processor) : Type 0 where
   pub machine : Machine
   pub before : Processor
   pub led : Led (broadcast t) machine
@@ -60,7 +60,7 @@ Waited true t k p q = (q ≡ own_step t.goal Pass p) × Stands t Given k q
 Waited false t k p q = (q ≡ own_step t.goal Leave p) × Took t k Leave p q × Stands t Stopped k p
 
 -- a load showed the cancel: a machine that the broadcast leads to, and that is cancelled, has the processor as it was but for its phase; it left then
-record HasLeft (t : Start) (k : ℕ) (p q : Processor) : Type 0 where
+pub record HasLeft (t : Start) (k : ℕ) (p q : Processor) : Type 0 where
   pub before : Processor
   pub same : before ≡ record p { phase = before.phase }
   pub waits : IsWaiting before.phase
@@ -74,7 +74,7 @@ Attended Complete table t number p its me q =
 Attended Cancelled table t number p its me q = Carries table t its me number q true false × (q ≡ record p { phase = Running }) × HasLeft t number p q
 
 -- the k-th attendee carries the k-th processor as it was, and its pass has added nothing and has been shown nothing
-record Attends (table : TableId) (t : Start) (k : ℕ) (c : Processor) (its : TableId) (me : Me (Unit {0}) View) (number : ℕ) : Type 0 where
+pub record Attends (table : TableId) (t : Start) (k : ℕ) (c : Processor) (its : TableId) (me : Me (Unit {0}) View) (number : ℕ) : Type 0 where
   pub numbered : number ≡ k
   pub first : slice_get t.cpus k ≡ Some c
   pub carries : Carries table t its me number c false false
@@ -100,7 +100,7 @@ abbrev pub HoldsOne : TableId → TableId → Me (Unit {0}) View → ℕ → Pro
 HoldsOne table its me number c = (h : Held) × (its ≡ table) × (me.1 ≡ []) × (me.0.held ≡ h ∷ []) × (h.cpu ≡ c) × (h.number ≡ number)
 
 -- where the machine ends: a state that the broadcast leads to, with this memory, in which each processor that the root has is as the root has it
-record Ends (t : Start) (v : View) (ram : Memory) : Type 0 where
+pub record Ends (t : Start) (v : View) (ram : Memory) : Type 0 where
   pub machine : Machine
   pub led : Led (broadcast t) machine
   pub memory : machine.system.memory ≡ ram

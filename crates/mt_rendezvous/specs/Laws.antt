@@ -65,7 +65,7 @@ abbrev pub Station : Type 0
 Station = State (Unit {0}) View
 
 -- the second state meets the rule too, and its machine is the one after this event, which was enabled, or the same machine if there is none
-record Follows (key : Key) (s after : Station) (m : Meets key s) (e : Option MachineEvent) : Type 0 where
+pub record Follows (key : Key) (s after : Station) (m : Meets key s) (e : Option MachineEvent) : Type 0 where
   pub kept : Meets key after
   pub enabled : CanFollow (machine_of key s m) e
   pub becomes : machine_of key after kept ≡ after_event (machine_of key s m) e
@@ -81,13 +81,13 @@ abbrev pub stored : Station → ℕ → Sat → ℕ → ℕ → Station
 stored s id new i n = stepped s i n id new.1 new.0 keeps
 
 -- the seat id is so, and it is the root's, which has said nothing yet
-record IsAsked (s : Station) (id : ℕ) (me : Sat) : Type 0 where
+pub record IsAsked (s : Station) (id : ℕ) (me : Sat) : Type 0 where
   pub at : get_elem? s.views id ≡ some me.0
   pub root : me.0.root ≡ true
   pub unsaid : me.0.go ≡ Pending
 
 -- the seat id is so, and it is that of a pass with this one processor
-record HasPass (s : Station) (id : ℕ) (me : Sat) (h : Held) : Type 0 where
+pub record HasPass (s : Station) (id : ℕ) (me : Sat) (h : Held) : Type 0 where
   pub at : get_elem? s.views id ≡ some me.0
   pub holds : me.0.held ≡ h ∷ []
 

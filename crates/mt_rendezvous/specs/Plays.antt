@@ -34,7 +34,7 @@ CanFollow m (Some e) = IsEnabled m e
 
 -- A step of the pass that holds h, by which word i becomes new where it was found: the words and views stood for a machine that the broadcast leads to.
 -- With the new word, and with w in place of h, they stand for the machine after this event, which was enabled, or for the same machine if there is none.
-record PassSteps (t : Start) (i found new : ℕ) (e : Option MachineEvent) (h w : Held) : Type 0 where
+pub record PassSteps (t : Start) (i found new : ℕ) (e : Option MachineEvent) (h w : Held) : Type 0 where
   pub all : List Held
   pub go : Go
   pub words : List ℕ
@@ -45,7 +45,7 @@ record PassSteps (t : Start) (i found new : ℕ) (e : Option MachineEvent) (h w 
   pub becomes : joined t (slice_set all h.number w) go (slice_set words i new) ≡ after_event (joined t all go words) e
 
 -- the same of a step of the root, which leaves the processors and says `go`
-record Decided (t : Start) (i found new : ℕ) (e : MachineEvent) (go : Go) : Type 0 where
+pub record Decided (t : Start) (i found new : ℕ) (e : MachineEvent) (go : Go) : Type 0 where
   pub all : List Held
   pub words : List ℕ
   pub led : Led (broadcast t) (joined t all Pending words)
@@ -56,7 +56,7 @@ record Decided (t : Start) (i found new : ℕ) (e : MachineEvent) (go : Go) : Ty
 -- ---- what a call's contract says of one processor
 
 -- the event took place: a machine that the broadcast leads to has the processor as it was, the event is enabled there, and the next machine has it as it is
-record Took (t : Start) (k : ℕ) (e : Event) (p q : Processor) : Type 0 where
+pub record Took (t : Start) (k : ℕ) (e : Event) (p q : Processor) : Type 0 where
   pub machine : Machine
   pub go : Go
   pub led : Led (broadcast t) machine
@@ -66,7 +66,7 @@ record Took (t : Start) (k : ℕ) (e : Event) (p q : Processor) : Type 0 where
   pub after : slice_get (next machine (Steps k e)).system.processors k ≡ Some q
 
 -- a machine that the broadcast leads to has the processor so, and its update isn't over
-record Stands (t : Start) (go : Go) (k : ℕ) (p : Processor) : Type 0 where
+pub record Stands (t : Start) (go : Go) (k : ℕ) (p : Processor) : Type 0 where
   pub machine : Machine
   pub led : Led (broadcast t) machine
   pub order : machine.order ≡ Some (order_of t go)

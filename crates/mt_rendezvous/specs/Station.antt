@@ -27,7 +27,7 @@ abbrev pub broadcast : Start → Machine
 broadcast t = record { system = record { processors = t.cpus; memory = t.ram }; order = Some (order_of t Pending) }
 
 -- it is one: all have taken, with one era, which may rise, and the goal's kind, and the whole is sound
-record Begins (t : Start) : Type 0 where
+pub record Begins (t : Start) : Type 0 where
   pub broadcasts : IsBroadcast (broadcast t) (order_of t Pending)
   pub room : common_era t.cpus < 2 ^ 64 - 1
 
@@ -166,7 +166,7 @@ Waits Arrived = Unit {0}
 Waits other = ⊥
 
 -- as long as it waits it is as it was gathered, but for its phase
-record FitsHeld (t : Start) (go : Go) (h : Held) : Type 0 where
+pub record FitsHeld (t : Start) (go : Go) (h : Held) : Type 0 where
   pub first : Waits h.cpu.phase → slice_get t.cpus h.number ≡ Some (record h.cpu { phase = Taken })
   pub fits : Fits go h.added h.again h.cpu.phase
   pub era : h.cpu.era ≡ common_era t.cpus + rise h.again h.cpu.phase
@@ -180,7 +180,7 @@ Apart [] = Unit {0}
 Apart (h ∷ hs) = NotIn h.number hs × Apart hs
 
 -- what one seat knows
-record Sits (t : Start) (all : List Held) (go : Go) (owner : ℕ → ℕ) (j : ℕ) (v : View) : Type 0 where
+pub record Sits (t : Start) (all : List Held) (go : Go) (owner : ℕ → ℕ) (j : ℕ) (v : View) : Type 0 where
   pub root : v.root ≡ true → (j ≡ 0) × (v.go ≡ go)
   pub told : ((v.held ≡ []) × (v.root ≡ false)) ⊎ (v.start ≡ t)
   pub holds : (i : ℕ) (h : Held) → get_elem? v.held i ≡ some h → (get_elem? all h.number ≡ some h) × (owner h.number ≡ j)
@@ -191,7 +191,7 @@ abbrev pub IsHeld : List View → ℕ → Type 0
 IsHeld views k = (j : ℕ) × (v : View) × (i : ℕ) × (h : Held) × (get_elem? views j ≡ some v) × (get_elem? v.held i ≡ some h) × (h.number ≡ k)
 
 -- the words and the views stand for one state, to which the broadcast state leads
-record Meets (key : Key) (s : State (Unit {0}) View) : Type 0 where
+pub record Meets (key : Key) (s : State (Unit {0}) View) : Type 0 where
   pub all : List Held
   pub go : Go
   pub owner : ℕ → ℕ

@@ -28,7 +28,7 @@ use Rattle.mt_rendezvous.specs.Calls.{Attends, Carries, HoldsOne, IsRoot, gather
 
 -- the first state is quiet, the goal may be called there, and the other is the one after the call and all takes in ascending order:
 -- the buffers are emptied in that order, all have taken, the order stands, and a station can be gathered
-record HasTaken (s : Machine) (goal : RegisterFile) (m : Machine) : Type 0 where
+pub record HasTaken (s : Machine) (goal : RegisterFile) (m : Machine) : Type 0 where
   pub quiet : IsQuiet s
   pub enabled : IsEnabled s (Calls goal)
   pub run : m ≡ run s (call_and_takes goal (in_order s))
@@ -52,7 +52,7 @@ abbrev pub AreOf : Start → RegisterFile → List Window → Type 0
 AreOf t goal windows = (goal ≡ t.goal) × (windows ≡ t.ram.windows)
 
 -- an attendee that has not begun
-record IsReady (table : TableId) (t : Start) (c : Processor) (its : TableId) (me : Me (Unit {0}) View) (number : ℕ) : Type 0 where
+pub record IsReady (table : TableId) (t : Start) (c : Processor) (its : TableId) (me : Me (Unit {0}) View) (number : ℕ) : Type 0 where
   pub carries : Carries table t its me number c false false
   pub taken : c.phase ≡ Taken
 
@@ -69,7 +69,7 @@ abbrev pub IsReadyAt : TableId → Start → ℕ → Attendee → Type 0
 IsReadyAt table t k a = IsReady table t a.cpu a.pass.seat.table_id a.pass.seat.me a.pass.number × (a.pass.number ≡ k)
 
 -- attendees that have not begun, by their numbers
-record IsQueue (table : TableId) (t : Start) (items : List Attendee) : Type 0 where
+pub record IsQueue (table : TableId) (t : Start) (items : List Attendee) : Type 0 where
   pub ready : (k : ℕ) (a : Attendee) → get_elem? items k ≡ some a → IsReadyAt table t k a
 
 -- one fewer are left of them
@@ -85,7 +85,7 @@ decided true = Given
 decided false = Cancelled
 
 -- where the threads end: the root has so many processors, and each runs
-record Returned (table its : TableId) (me : Me (Unit {0}) View) (go : Go) (count : ℕ) (done : List Processor) : Type 0 where
+pub record Returned (table its : TableId) (me : Me (Unit {0}) View) (go : Go) (count : ℕ) (done : List Processor) : Type 0 where
   pub root : IsRoot table its me
   pub said : me.0.go ≡ go
   pub tied : Tied me.0 done
@@ -108,7 +108,7 @@ tables_left false kinds ts = ts
 -- ---- without threads
 
 -- no update is under way, the goal may be called, and no processor has a buffer
-record CanUpdate (s : System) (goal : RegisterFile) : Type 0 where
+pub record CanUpdate (s : System) (goal : RegisterFile) : Type 0 where
   pub quiet : IsQuiet (record { system = s; order = None })
   pub enabled : IsEnabled (record { system = s; order = None }) (Calls goal)
   pub no_buffers : All (λ p. p.buffers ≡ []) s.processors

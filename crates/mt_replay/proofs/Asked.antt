@@ -64,7 +64,7 @@ refuses_none : (ws : List Window) (w : Window) → w.base % 64 ≡ 0 → is_over
 refuses_none ws w aligned apart few = rw (eq-eqb (w.base % 64) 0 aligned, apart, few) refl
 
 -- what has room ends within the physical addresses, and is refused by no memory of these windows
-record HasPlace (now : Situation) (base lines : ℕ) : Type 0 where
+pub record HasPlace (now : Situation) (base lines : ℕ) : Type 0 where
   pub end : base + 64 * lines ≤ address_limit (file_of now)
   pub accepted : refusal (windows_of now) (window base lines) ≡ None
 

@@ -109,7 +109,7 @@ module _ (number : ℕ) (line : List ℕ) (Later : Dump → Situation → List R
 -- ---- whole heads
 
 -- These lines show this dump alone, which ends there, and the first offence is behind its end.
-record IsDumped (end : Place) (number : ℕ) (lines : List (List ℕ)) (first : Option Offence) (Showing : Dump → Type 0) (now : Situation) (dump : Dump) (next : ℕ) (rest : List (List ℕ)) : Type 0 where
+pub record IsDumped (end : Place) (number : ℕ) (lines : List (List ℕ)) (first : Option Offence) (Showing : Dump → Type 0) (now : Situation) (dump : Dump) (next : ℕ) (rest : List (List ℕ)) : Type 0 where
   pub shows : Showing dump
   pub alone : (other : Dump) → Showing other → other ≡ dump
   pub good : IsDump dump

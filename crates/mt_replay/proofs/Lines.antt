@@ -25,7 +25,7 @@ drop_at : {A : Type 0} (xs : List A) (k : ℕ) (x : A) → slice_get xs k ≡ So
 drop_at xs k x at = let e : suc k ≡ k + 1 = omega arith in drop_here xs k x at ∙ ap (λ (n : ℕ). x ∷ drop n xs) e
 
 -- the lines so far, and those of the processors from k on
-record HasLines (ps : List Processor) (k : ℕ) (waiting left : List ℕ) (before after : Option (List ℕ)) : Type 0 where
+pub record HasLines (ps : List Processor) (k : ℕ) (waiting left : List ℕ) (before after : Option (List ℕ)) : Type 0 where
   pub text : List ℕ
   pub cut : processor_lines 0 ps ≡ text ++ processor_lines k (drop k ps)
   pub passed : Passes waiting text left before after

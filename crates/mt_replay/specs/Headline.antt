@@ -45,7 +45,7 @@ use Rattle.mt_stream.specs.Told.{Told, behind, told}
 -- ---- steps
 
 -- A line behind the dump, with what it asks for, and the state that it finds.
-record Step : Type 0 where
+pub record Step : Type 0 where
   pub number : ℕ
   pub command : Command
   pub before : ReplayState
@@ -68,7 +68,7 @@ steps_in number (line ∷ lines) s = steps_of s number (steps_in (number + 1) li
 -- ---- where the steps of a text begin
 
 -- The number of the line behind the dump's end, the lines from there on, and the first state.
-record Beginning : Type 0 where
+pub record Beginning : Type 0 where
   pub number : ℕ
   pub lines : List (List ℕ)
   pub state : ReplayState
@@ -211,7 +211,7 @@ goal_of goal (step ∷ steps) = goal_of (given goal step.command) steps
 
 -- The section that a call ends: the step that begins it, and its lines. The goal is processor 0's registers where it begins,
 -- with those that its lines give.
-record SectionOf (front : List Step) (call : Step) : Type 0 where
+pub record SectionOf (front : List Step) (call : Step) : Type 0 where
   pub before : List Step
   pub opens : Step
   pub lines : List Step
@@ -239,7 +239,7 @@ called_goal step = goal_by step.command step.before
 -- ---- and memory holds every store cached before it, save words stored again since"
 
 -- each processor's file is the goal, and each line, buffer and TLB entry is of this era; each word in memory has this value, save those stored again
-record Keeps (goal : RegisterFile) (era : ℕ) (value : ℕ → ℕ) (stored : List ℕ) (m : Machine) : Type 0 where
+pub record Keeps (goal : RegisterFile) (era : ℕ) (value : ℕ → ℕ) (stored : List ℕ) (m : Machine) : Type 0 where
   pub settled : IsSettled m.system era goal
   pub held : (address : ℕ) → IsSome (place m.system.memory address) → (Contains stored address → ⊥) → word_at m.system.memory address ≡ value address
 
@@ -266,7 +266,7 @@ CompleteUpdatesAreKept =
 -- ---- the same, by `joined K`
 
 -- the newcomer's number is the next, and it stands behind the others
-record HasNewcomer (step : Step) : Type 0 where
+pub record HasNewcomer (step : Step) : Type 0 where
   pub number : wrote step ≡ joined_line (length step.before.machine.system.processors)
   pub one_more : length (left step).machine.system.processors ≡ length step.before.machine.system.processors + 1
 
@@ -292,7 +292,7 @@ IsCalled step = (wrote step ≡ called_line) ⊎ ((k : ℕ) × ComesUp step k)
 
 -- The update of which a release tells. In this order stand in the course: its call, its first pass, its first release, and this
 -- release, which may be the first itself.
-record UpdateOf (front : List Step) (release : Step) : Type 0 where
+pub record UpdateOf (front : List Step) (release : Step) : Type 0 where
   pub before : List Step
   pub call : Step
   pub waiting : List Step

@@ -11,7 +11,7 @@ use Rattle.mt_script.specs.declared.fault.Offence.{Offence}
 
 -- The lines end before the dump does, or one of them has an offence, or the dump ends and shows this, and lines stand behind it
 -- from this number on.
-data HeadEnd : Type 0 where
+pub data HeadEnd : Type 0 where
   stays_open : Situation → List Reading → HeadEnd
   has_offence : Offence → HeadEnd
   shows_dump : Situation → Dump → ℕ → List (List ℕ) → HeadEnd

@@ -38,7 +38,7 @@ start_like s dump = start_with (flags_of s.machine.system) (files_for s.now.cpus
 
 -- The machine is reached by events from one at rest, that arose: no update was under way, and nothing that was held was older than its
 -- processor.
-record CameFromRest (m : Machine) : Type 0 where
+pub record CameFromRest (m : Machine) : Type 0 where
   pub rest : Machine
   pub quiet : IsQuiet rest
   pub arises : Arises rest
@@ -49,7 +49,7 @@ record CameFromRest (m : Machine) : Type 0 where
 -- processor is moving, it is reached by events from its start, the processors with the dump's files over zero words, which is quiet: so each law on
 -- what is reached from a start holds of it too. Before the first command nothing has happened to it. Each processor has the width and
 -- the capability value of the dump's first file.
-record IsReplayState (s : ReplayState) : Type 0 where
+pub record IsReplayState (s : ReplayState) : Type 0 where
   pub situation : IsSituation s.now
   pub past : is_past_dump s.now.stage ≡ true
   pub arises : Arises s.machine

@@ -39,7 +39,7 @@ use Rattle.mt_script.specs.declared.command.Command.TheVariants as command
 use Rattle.mt_replay.specs.FirstFault.{first_fault}
 use Rattle.mt_replay.specs.Texts.{absent_line, call_fault_line, called_line, cancel_line, complete_line, done_line, full_line, go_line, joined_line, memory_line, no_line, register_line, report_text, retired_line, ruled_line, stepped_line, under_way_line, up_line}
 
-record ReplayState : Type 0 where
+pub record ReplayState : Type 0 where
   pub now : Situation
   pub machine : Machine
   pub goal : RegisterFile  -- of the section that is read, so far

@@ -159,7 +159,7 @@ abbrev pub emptied_now : Machine → ℕ → ℕ
 emptied_now m = now (emptied m.system (each_processor m.system))
 
 -- The machine after a whole update to the goal, and after commands since.
-record IsSettledAfter (s : ReplayState) (m : Machine) : Type 0 where
+pub record IsSettledAfter (s : ReplayState) (m : Machine) : Type 0 where
   pub era : ℕ
   pub line_is : command_text s command.End ≡ complete_line era
   pub risen : era ≡ common_era s.machine.system.processors + 1
@@ -176,7 +176,7 @@ CompleteUpdatesSettle = (s : ReplayState) → IsReplayState s → is_update s.no
 
 -- The machine after a processor was brought up and admitted, and after commands since: all processors, the newcomer among them, have
 -- the first one's registers.
-record IsAdmittedAfter (s : ReplayState) (m : Machine) : Type 0 where
+pub record IsAdmittedAfter (s : ReplayState) (m : Machine) : Type 0 where
   pub line_is : command_text s command.Join ≡ joined_line (length s.machine.system.processors)
   pub one_more : length m.system.processors ≡ length s.machine.system.processors + 1
   pub eras : All (λ p. p.era ≡ common_era s.machine.system.processors + 1) m.system.processors

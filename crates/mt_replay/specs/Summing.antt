@@ -56,7 +56,7 @@ state_in (run.Head h) = None
 state_in (run.Body r) = Some r
 
 -- The run goes on from another point, whatever lines stand behind.
-record LastsOn (number : ℕ) (line : List ℕ) (was : Point) (now : Run) : Type 0 where
+pub record LastsOn (number : ℕ) (line : List ℕ) (was : Point) (now : Run) : Type 0 where
   pub next : Point
   pub at : IsAt now next
   pub same : (lines : List (List ℕ)) → last_lines number (line ∷ lines) was ≡ last_lines (number + 1) lines next

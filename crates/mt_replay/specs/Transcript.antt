@@ -77,7 +77,7 @@ known_from number lines now before = told_by (λ last. told [] Done) known_in (h
 -- ---- from any line on
 
 -- in the head of a script, with the dump's lines so far, of which the last stands first, or behind the dump's end
-data Point : Type 0 where
+pub data Point : Type 0 where
   in_head : Situation → List Reading → Point
   in_body : ReplayState → Point
 

@@ -25,7 +25,7 @@ abbrev pub end_of_release : Machine
 end_of_release = (last_of (left (step_at 37)) after_release).machine
 
 -- the worked script's first release tells of an update, whose registers and words are kept behind it
-record IsReleaseOfUpdate : Type 0 where
+pub record IsReleaseOfUpdate : Type 0 where
   pub update : UpdateOf (front_of 37) (step_at 37)
   pub kept : Keeps (called_goal update.call) (next_era update.call) (now update.pass.before.machine.system) (stored_in (update.again ++ after_release)) end_of_release
 

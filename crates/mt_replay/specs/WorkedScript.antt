@@ -62,7 +62,7 @@ abbrev pub steps_at : ℕ → ℕ → List Step
 steps_at k count = take count (drop k (course worked_script))
 
 -- it is this step of its script, behind which so many steps call for no update and store these words
-record HasNoCallSince (k count : ℕ) (words : List ℕ) : Type 0 where
+pub record HasNoCallSince (k count : ℕ) (words : List ℕ) : Type 0 where
   pub stands : course worked_script ≡ take k (course worked_script) ++ step_at k ∷ (steps_at (k + 1) count ++ drop count (drop (k + 1) (course worked_script)))
   pub quiet : NoneOf IsCall (steps_at (k + 1) count)
   pub stored : stored_in (steps_at (k + 1) count) ≡ words

@@ -59,13 +59,13 @@ module _ (now : Situation) (before : List Reading) (number : ℕ) (line : List �
       of_stage InBegin is = cc is
 
 -- The text goes on from a situation with as much of a dump, and from clean lines of it.
-record IsNext (now next : Situation) (after : List Reading) : Type 0 where
+pub record IsNext (now next : Situation) (after : List Reading) : Type 0 where
   pub clean : IsClean after
   pub same_dump : next.dump ≡ now.dump
   pub is : IsSituation now → IsSituation next
 
 -- The dump ends in its stage, with a file for each processor.
-record IsShown (now : Situation) (before : List Reading) (dump : Dump) : Type 0 where
+pub record IsShown (now : Situation) (before : List Reading) (dump : Dump) : Type 0 where
   pub stage : is_in_dump now.stage ≡ true
   pub shown : ShownBy (onto before []) dump
   pub each : has_each now.cpus dump ≡ true

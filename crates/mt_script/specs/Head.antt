@@ -25,7 +25,7 @@ use Rattle.mt_script.specs.declared.fault.Offence.{Offence}
 use Rattle.mt_script.specs.declared.fault.Offence.TheVariants as offence
 
 -- The text goes on from a situation and lines of the dump, or the dump ends and is shown, or the line has an offence.
-data HeadStep : Type 0 where
+pub data HeadStep : Type 0 where
   goes_on : Situation → List Reading → HeadStep
   shows : Dump → HeadStep
   offends : Offence → HeadStep

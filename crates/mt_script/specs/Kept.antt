@@ -9,7 +9,7 @@ use Rattle.mt_script.specs.Situation.{Situation, file_of}
 use Rattle.mt_script.specs.Stages.{HasCpus, is_past_dump, is_past_windows, takes_registers}
 use Rattle.mt_script.specs.Numbers.{is_writable, lines_together}
 
-record IsSituation (now : Situation) : Type 0 where
+pub record IsSituation (now : Situation) : Type 0 where
   pub cpus : HasCpus now.stage now.cpus  -- 1 to 16 processors once they are told
   pub has_dump : is_some now.dump ≡ is_past_dump now.stage  -- a dump exactly after its end
   pub dump : IfSome now.dump IsDump

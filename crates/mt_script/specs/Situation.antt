@@ -8,7 +8,7 @@ use Rattle.mt_dump.specs.Dumps.{Dump, first_file}
 use Rattle.mt_script.specs.declared.command.Stage.{Stage}
 use Rattle.mt_script.specs.declared.command.Stage.TheVariants.{NeedCpus}
 
-record Situation : Type 0 where
+pub record Situation : Type 0 where
   pub stage : Stage  -- which lines may stand next
   pub cpus : ℕ  -- how many processors there are at the start, 0 before they are told
   pub dump : Option Dump  -- the dump, once it is finished

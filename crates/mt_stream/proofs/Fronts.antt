@@ -112,7 +112,7 @@ long_known (x ∷ xs) long = by (nat_lt (reach (x ∷ xs)) (length (x ∷ xs))) 
         rw whole long
 
 -- the first line is longer than a line may have
-record HasLong (bytes : List ℕ) : Type 0 where
+pub record HasLong (bytes : List ℕ) : Type 0 where
   pub line : List ℕ
   pub others : List (List ℕ)
   pub lines : lines_of bytes ≡ line ∷ others

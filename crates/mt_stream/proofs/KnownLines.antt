@@ -94,7 +94,7 @@ LeadsOn {P} tell sound p number line =
     ⊎ ((last : Told) × ((end : Option Place) (lines : List (List ℕ)) → tell p end number (line ∷ lines) ≡ last))
 
 -- what lines tell from each point on goes line by line
-record Walks {P : Type 0} (tell : P → Telling) (sound : P → Type 0) : Type 0 where
+pub record Walks {P : Type 0} (tell : P → Telling) (sound : P → Type 0) : Type 0 where
   pub unknown : (p : P) (number : ℕ) → tell p None number [] ≡ told [] Done
   pub leads : (p : P) (number : ℕ) (line : List ℕ) → sound p → LeadsOn tell sound p number line
   pub long : (p : P) (number : ℕ) → sound p → IsLongTold (tell p) number
@@ -121,7 +121,7 @@ module _ (P : Type 0) (tell : P → Telling) (sound : P → Type 0) (walks : Wal
 -- ---- by steps
 
 -- each step tells a line too long as one offence, whatever its bytes are
-record TellsLong {P : Type 0} (step : Step P) (offence : ℕ → P → Told) : Type 0 where
+pub record TellsLong {P : Type 0} (step : Step P) (offence : ℕ → P → Told) : Type 0 where
   pub long : (number : ℕ) (line : List ℕ) (p : P) → 4096 < length line → step number line p ≡ Err (offence number p)
   pub bad : (number : ℕ) (p : P) → (offence number p).status ≡ BadText
 

@@ -76,7 +76,7 @@ RunsOn start bytes left before after status = Runs (tells_of start) (early_of st
 
 -- ---- between two lines
 
-record UnderWay (R : Running) (start : Path) (bytes : List ℕ) (source : Option (List ℕ)) (feed : Feeding) (now : R.Run) (waiting : List ℕ) (before after : Option (List ℕ)) : Type 0 where
+pub record UnderWay (R : Running) (start : Path) (bytes : List ℕ) (source : Option (List ℕ)) (feed : Feeding) (now : R.Run) (waiting : List ℕ) (before after : Option (List ℕ)) : Type 0 where
   pub lent : List ℕ  -- the lines that were taken, each with its LF
   pub text : List ℕ  -- what they write
   pub rest : List ℕ
@@ -91,7 +91,7 @@ record UnderWay (R : Running) (start : Path) (bytes : List ℕ) (source : Option
   pub cut : bytes ≡ lent ++ (feed.pending ++ rest)
 
 -- a feed has moved on to a line that the run hasn't taken
-record HasLine (R : Running) (start : Path) (bytes : List ℕ) (source : Option (List ℕ)) (feed : Feeding) (now : R.Run) (waiting : List ℕ) (before after : Option (List ℕ)) : Type 0 where
+pub record HasLine (R : Running) (start : Path) (bytes : List ℕ) (source : Option (List ℕ)) (feed : Feeding) (now : R.Run) (waiting : List ℕ) (before after : Option (List ℕ)) : Type 0 where
   pub lent : List ℕ
   pub text : List ℕ
   pub rest : List ℕ
@@ -113,7 +113,7 @@ record HasLine (R : Running) (start : Path) (bytes : List ℕ) (source : Option 
   pub cut : bytes ≡ lent ++ (seen ++ rest)
 
 -- No line is left, and a run has told of all.
-record AtEnd (R : Running) (start : Path) (bytes : List ℕ) (source : Option (List ℕ)) (place : Place) (now : R.Run) (waiting : List ℕ) (before after : Option (List ℕ)) : Type 0 where
+pub record AtEnd (R : Running) (start : Path) (bytes : List ℕ) (source : Option (List ℕ)) (place : Place) (now : R.Run) (waiting : List ℕ) (before after : Option (List ℕ)) : Type 0 where
   pub text : List ℕ
   pub tells : transcript (tells_of start) bytes ≡ behind text (R.ends now place)
   pub passed : Passes [] text waiting before after

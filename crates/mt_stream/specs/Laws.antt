@@ -7,18 +7,18 @@ use Rattle.mt_stream.specs.Lines.{Leads, Path, Running}
 use Rattle.mt_stream.specs.Told.{Telling, Told, told}
 
 -- lines too long are told as one offence, whatever their bytes and the lines behind are
-record IsLongTold (was : Telling) (number : ℕ) : Type 0 where
+pub record IsLongTold (was : Telling) (number : ℕ) : Type 0 where
   pub telling : Told
   pub bad : telling.status ≡ BadText
   pub is : (line : List ℕ) (end : Option Place) (lines : List (List ℕ)) → longest_line < length line → was end number (line ∷ lines) ≡ telling
 
 -- and lead to one thing
-record IsLongLed (was : Path) (number : ℕ) : Type 0 where
+pub record IsLongLed (was : Path) (number : ℕ) : Type 0 where
   pub leads : Leads
   pub bad : leads.tells.status ≡ BadText
   pub is : (line : List ℕ) (end : Option Place) (lines : List (List ℕ)) → longest_line < length line → was end number (line ∷ lines) ≡ leads
 
-record AreLaws (R : Running) : Type 0 where
+pub record AreLaws (R : Running) : Type 0 where
   pub long : (now : R.Run) (so_far : List ℕ) (was : Path) (number : ℕ) → R.At now so_far was → IsLongLed was number
   pub unknown : (now : R.Run) (so_far : List ℕ) (was : Path) (number : ℕ) → R.At now so_far was → (was None number []).tells ≡ told [] Done
   pub ended : (now : R.Run) (so_far : List ℕ) (was : Path) (place : Place) (number : ℕ) → R.At now so_far was → (was (Some place) number []).tells ≡ R.ends now place

@@ -16,7 +16,7 @@ use Rattle.mt_stream.specs.declared.running.Cut.{Cut}
 use Rattle.mt_stream.specs.declared.running.Cut.TheVariants as cut
 
 -- What is told of a text, and what may have been written of it where memory is refused.
-record Leads : Type 0 where
+pub record Leads : Type 0 where
   pub tells : Told
   pub early : List ℕ
 
@@ -39,7 +39,7 @@ abbrev pub early_of : Path → List ℕ → List ℕ
 early_of start text = (start (Some (end_of text)) 1 (lines_of text)).early
 
 -- A run between two lines, as its code keeps it.
-record Running : Type 1 where
+pub record Running : Type 1 where
   pub Run : Type 0
   pub At : Run → List ℕ → Path → Type 0  -- it stands where this was written and the lines that come lead to this
   pub ends : Run → Place → Told  -- what is told where the text ends at a place
@@ -53,7 +53,7 @@ abbrev pub from_line : ℕ → List ℕ → Path → Leading
 from_line number line was end lines = was end number (line ∷ lines)
 
 -- A text is written, and the lines behind, the first of which has this number, lead on from another point.
-record GoesOn (R : Running) (from : Leading) (number : ℕ) (so_far : List ℕ) (now : R.Run) (waiting left : List ℕ) (before after : Option (List ℕ)) : Type 0 where
+pub record GoesOn (R : Running) (from : Leading) (number : ℕ) (so_far : List ℕ) (now : R.Run) (waiting left : List ℕ) (before after : Option (List ℕ)) : Type 0 where
   pub next : Path
   pub text : List ℕ
   pub at : R.At now (so_far ++ text) next
@@ -61,7 +61,7 @@ record GoesOn (R : Running) (from : Leading) (number : ℕ) (so_far : List ℕ) 
   pub passed : Passes waiting text left before after
 
 -- The transcript ends, whatever stands behind.
-record Ends (from : Leading) (waiting left : List ℕ) (before after : Option (List ℕ)) (status : Status) : Type 0 where
+pub record Ends (from : Leading) (waiting left : List ℕ) (before after : Option (List ℕ)) (status : Status) : Type 0 where
   pub telling : Told
   pub stops : (end : Option Place) (lines : List (List ℕ)) → (from end lines).tells ≡ telling
   pub status_is : status ≡ telling.status
@@ -69,14 +69,14 @@ record Ends (from : Leading) (waiting left : List ℕ) (before after : Option (L
   pub passed : Passes waiting telling.text left before after
 
 -- Memory was refused, where it may be, and nothing was written.
-record Wants (from : Leading) (so_far waiting left : List ℕ) (before after : Option (List ℕ)) (status : Status) : Type 0 where
+pub record Wants (from : Leading) (so_far waiting left : List ℕ) (before after : Option (List ℕ)) (status : Status) : Type 0 where
   pub refused : status ≡ NoMemory
   pub early : (end : Option Place) (lines : List (List ℕ)) → (rest : List ℕ) × ((from end lines).early ≡ so_far ++ rest)
   pub waits : left ≡ waiting
   pub kept : after ≡ before
 
 -- The sink failed, and took a front.
-record Fails (from : Leading) (waiting : List ℕ) (before after : Option (List ℕ)) : Type 0 where
+pub record Fails (from : Leading) (waiting : List ℕ) (before after : Option (List ℕ)) : Type 0 where
   pub text : List ℕ
   pub front : (end : Option Place) (lines : List (List ℕ)) → (rest : List ℕ) × ((from end lines).tells.text ≡ text ++ rest)
   pub failed : AppendsFront before after (waiting ++ text)

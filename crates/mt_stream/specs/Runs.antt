@@ -11,13 +11,13 @@ use Rattle.mt_stream.specs.Known.{known_text}
 use Rattle.mt_stream.specs.Told.{Telling, Told, transcript}
 
 -- The sink took all that is told, with its status, and nothing of the source is left.
-record TellsAll (t : Told) (left before after : Option (List ℕ)) (status : Status) : Type 0 where
+pub record TellsAll (t : Told) (left before after : Option (List ℕ)) (status : Status) : Type 0 where
   pub status_is : status ≡ t.status
   pub taken : Appends before after t.text
   pub read : left ≡ Some []
 
 -- The sink took exactly what the known lines of the bytes that were taken tell.
-record TellsKnown (start : Telling) (bytes : List ℕ) (left before after : Option (List ℕ)) : Type 0 where
+pub record TellsKnown (start : Telling) (bytes : List ℕ) (left before after : Option (List ℕ)) : Type 0 where
   pub front : List ℕ
   pub rest : List ℕ
   pub cut : bytes ≡ front ++ rest

@@ -8,7 +8,7 @@ use Rattle.mt_text.specs.declared.place.Place.{Place}
 use Rattle.mt_ports.specs.declared.status.Status.{Status}
 use Rattle.mt_ports.specs.declared.status.Status.TheVariants.{Done}
 
-record Told : Type 0 where
+pub record Told : Type 0 where
   pub text : List ℕ
   pub status : Status
 

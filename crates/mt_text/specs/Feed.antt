@@ -21,12 +21,12 @@ abbrev pub known_front : List ℕ → Option (ℕ × Bool)
 known_front bytes = known_at (length bytes) (position is_line_end bytes)
 
 -- the line that was lent last
-record LentLine : Type 0 where
+pub record LentLine : Type 0 where
   pub bytes : List ℕ
   pub offset : ℕ  -- counted from the start of the feed
   pub number : ℕ
 
-record Feeding : Type 0 where
+pub record Feeding : Type 0 where
   pub line : LentLine
   pub pending : List ℕ  -- bytes that were taken and not lent yet
   pub offset : ℕ  -- where they begin
@@ -128,7 +128,7 @@ Lines old new left after given_before given_after result =
 
 -- A line that is lent is the first of all bytes that are left, which are those that are pending and those that the source has left behind them. A line too long is lent in its first
 -- 4,097 bytes, and a reader stops there. Behind any other the next lines are those of the bytes that are left then, and the next number is one more.
-record LendsFirst (old new : Feeding) (before after : List ℕ) (line : Line) : Type 0 where
+pub record LendsFirst (old new : Feeding) (before after : List ℕ) (line : Line) : Type 0 where
   pub first : List ℕ
   pub others : List (List ℕ)
   pub lines : lines_of (old.pending ++ before) ≡ first ∷ others
@@ -144,12 +144,12 @@ LendsLines old new before after result = MatchResult result
     (λ _. new.pending ++ after ≡ old.pending ++ before)
 
 -- These are all bytes that a feed has taken: those that it has lent, each line with the LF behind it, and those that are pending.
-record HasTaken (feed : Feeding) (gone bytes : List ℕ) : Type 0 where
+pub record HasTaken (feed : Feeding) (gone bytes : List ℕ) : Type 0 where
   pub offset : feed.offset ≡ length gone
   pub bytes_are : bytes ≡ gone ++ feed.pending
 
 -- A line that is lent begins behind all that was lent before, and is the slice there of all bytes that the feed has taken by then.
-record LendsSlice (new : Feeding) (gone bytes : List ℕ) (line : Line) : Type 0 where
+pub record LendsSlice (new : Feeding) (gone bytes : List ℕ) (line : Line) : Type 0 where
   pub offset : line.offset ≡ length gone
   pub slice : line.bytes.now ≡ take (length line.bytes.now) (drop line.offset bytes)
   pub passed : List ℕ  -- the line and the LF behind it, where there is one
@@ -173,7 +173,7 @@ Fills old new more left result =
     × MatchResult result (λ some. (new.fault ≡ None) × (some ≡ nat_lt 0 (length more)) × (some ≡ false → IsAtEnd left) × (taken new ≤ longest_input)) (λ fault. new.fault ≡ Some fault)
 
 -- what holds of each feed
-record IsFeeding (feed : Feeding) : Type 0 where
+pub record IsFeeding (feed : Feeding) : Type 0 where
   pub room : length feed.pending ≤ 8192
   pub behind : feed.line.offset + length feed.line.bytes ≤ feed.offset
   pub lines : feed.place.line ≤ feed.offset + 1

@@ -19,7 +19,7 @@ abbrev pub place_of : ℕ → List (ℕ × List ℕ) → ℕ → Place
 place_of number words i = record { line = number; column = (word_of words i).0 + 1 }
 
 -- The words at the front of a line.
-record FirstWords : Type 0 where
+pub record FirstWords : Type 0 where
   pub number : ℕ  -- the line's number
   pub words : List (ℕ × List ℕ)  -- each word with its offset in the line
 

@@ -8,7 +8,7 @@ use Rattle.mt_types.specs.Tables.{part_of}
 use Rattle.mt_trie.specs.Wishes.{IsDefined}
 
 -- the parts are those of runs that cover so many pages, each of a type
-record ArePartsOf (runs : List Run) (parts : List (ℕ × MemType)) (covered : ℕ) : Type 0 where
+pub record ArePartsOf (runs : List Run) (parts : List (ℕ × MemType)) (covered : ℕ) : Type 0 where
   pub chain : IsChain 0 runs
   pub end : pages_end 0 runs ≡ covered
   pub defined : All IsDefined runs

@@ -42,5 +42,5 @@ costs_in slot = record {
 }
 
 -- the slot has the costs of the block whose key it has, if it has one's
-record Remembers (k : Task) (slot : Slot) : Type 0 where
+pub record Remembers (k : Task) (slot : Slot) : Type 0 where
   pub right : (log first : ℕ) → log < 64 → slot.key ≡ key_of log first → AreCosts k log first (costs_in slot)

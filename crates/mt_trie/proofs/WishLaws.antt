@@ -22,7 +22,7 @@ same_pages wanted P Q to from (Only t) m = (λ page q u e. m.0 page (from page q
 same_pages wanted P Q to from Mixed m = more_two wanted P Q to m
 
 -- a set that two others make up
-record MakeUp (P Q R : ℕ → Type 0) : Type 0 where
+pub record MakeUp (P Q R : ℕ → Type 0) : Type 0 where
   pub first : (page : ℕ) → P page → R page
   pub second : (page : ℕ) → Q page → R page
   pub each : (page : ℕ) → R page → P page ⊎ Q page

@@ -25,7 +25,7 @@ abbrev pub wanted_type : Bool → List Run → ℕ → Option MemType
 wanted_type fixed runs page = if is_free_page fixed page then None else type_of_kind (kind_at runs page)
 
 -- some page of a set wants the type
-record HasWish (wanted : ℕ → Option MemType) (Q : ℕ → Type 0) (t : MemType) : Type 0 where
+pub record HasWish (wanted : ℕ → Option MemType) (Q : ℕ → Type 0) (t : MemType) : Type 0 where
   pub page : ℕ
   pub within : Q page
   pub wants : wanted page ≡ Some t
@@ -34,7 +34,7 @@ record HasWish (wanted : ℕ → Option MemType) (Q : ℕ → Type 0) (t : MemTy
 abbrev pub AllWish : (ℕ → Option MemType) → (ℕ → Type 0) → MemType → Type 0
 AllWish wanted Q t = (page : ℕ) → Q page → (u : MemType) → wanted page ≡ Some u → u ≡ t
 
-record TwoWishes (wanted : ℕ → Option MemType) (Q : ℕ → Type 0) : Type 0 where
+pub record TwoWishes (wanted : ℕ → Option MemType) (Q : ℕ → Type 0) : Type 0 where
   pub one : MemType
   pub other : MemType
   pub differ : one ≢ other
@@ -62,7 +62,7 @@ abbrev pub IsDefined : Run → Type 0
 IsDefined r = r.kind ≢ Undefined
 
 -- the runs are those that a type map lends for the block
-record IsPart (runs : List Run) (b : Block) : Type 0 where
+pub record IsPart (runs : List Run) (b : Block) : Type 0 where
   pub map : List Run
   pub is_map : IsTypeMap map
   pub covered : block_end b ≤ pages_end 0 map

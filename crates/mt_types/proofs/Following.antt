@@ -59,7 +59,7 @@ all_of_map rs map = all_of 0 None rs map.chain map.bound map.differ (free rs)
     free (r ∷ rs) = tt
 
 -- a map as what all its runs lead to, and what is left of it
-record LeadsTo (list : List Run) (next : ℕ) (before : Option PageType) (rest : List Run) : Type 0 where
+pub record LeadsTo (list : List Run) (next : ℕ) (before : Option PageType) (rest : List Run) : Type 0 where
   pub bound : next ≤ 2 ^ 40
   pub down : IsTypeMap list → AllFollow next before rest
   pub up : AllFollow next before rest → IsTypeMap list

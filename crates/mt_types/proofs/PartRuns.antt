@@ -12,7 +12,7 @@ use Rattle.mt_types.specs.Runs.{IsChain, kind_at, pages_end, run_end, shares_pag
 use Rattle.mt_types.proofs.Parts.{shares, ends_before, begins_past}
 
 -- a chain of runs from some page at or below the block's first up to its end or past it
-record CoversBlock (b : Block) (part : List Run) : Type 0 where
+pub record CoversBlock (b : Block) (part : List Run) : Type 0 where
   pub from : ℕ
   pub low : from ≤ b.first
   pub chain : IsChain from part

@@ -15,7 +15,7 @@ use Rattle.mt_cli.specs.Generator.{hexadecimal}
 -- ---- words
 
 -- some plain bytes of a word, of which there are at most twenty
-record IsWord (word : List ℕ) : Type 0 where
+pub record IsWord (word : List ℕ) : Type 0 where
   pub some : 1 ≤ length word
   pub few : length word ≤ 20
   pub all : list_all is_word_byte word ≡ true
@@ -129,7 +129,7 @@ hexadecimal_read n low =
 -- ---- processors
 
 -- the number of a processor as it is written
-record IsProcessor (cpu : ℕ) : Type 0 where
+pub record IsProcessor (cpu : ℕ) : Type 0 where
   pub read : decimal_number (decimal cpu) 0xffffffffffffffff ≡ Ok cpu
   pub below : nat_lt cpu 16 ≡ true
   pub word : IsWord (decimal cpu)

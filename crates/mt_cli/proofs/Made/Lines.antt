@@ -21,7 +21,7 @@ all_plain [] b none later = later
 all_plain (byte ∷ bytes) b all later = let parts = and_parts (is_plain byte) (list_all is_plain bytes) all in rw parts.0 (all_plain bytes b parts.1 later)
 
 -- A line that is this command, whatever its number is.
-record IsCommand (body : List ℕ) (c : Command) : Type 0 where
+pub record IsCommand (body : List ℕ) (c : Command) : Type 0 where
   pub plain : list_all is_plain body ≡ true
   pub reads : (number : ℕ) → command_of ready number body ≡ Ok c
 

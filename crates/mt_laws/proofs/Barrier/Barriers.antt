@@ -173,7 +173,7 @@ step_stages goal other k s p at = change_sets (own_step goal other) k s p at
 
 -- ---- the invariant of all reached states
 
-record Rest (vs : List Stage) : Type 0 where
+pub record Rest (vs : List Stage) : Type 0 where
   pub running : (i : ℕ) (x : Stage) → At vs i x → is_running x.0 ≡ true
   pub one_era : (i j : ℕ) (x y : Stage) → At vs i x → At vs j y → x.1 ≡ y.1
 

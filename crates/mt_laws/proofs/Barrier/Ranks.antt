@@ -29,7 +29,7 @@ rank o x = rank_of x.0 (is_ahead o x)
 abbrev pub At : List Stage → ℕ → Stage → Type 0
 At vs i x = slice_get vs i ≡ Some x
 
-record Guarded (o : Order) (vs : List Stage) : Type 0 where
+pub record Guarded (o : Order) (vs : List Stage) : Type 0 where
   pub first : (i j : ℕ) (x y : Stage) → At vs i x → At vs j y → 3 ≤ rank o x → 2 ≤ rank o y
   pub second : (i j : ℕ) (x y : Stage) → At vs i x → At vs j y → 5 ≤ rank o x → 4 ≤ rank o y
   pub given : (i : ℕ) (x : Stage) → At vs i x → 3 ≤ rank o x → is_given o.go ≡ true
@@ -37,7 +37,7 @@ record Guarded (o : Order) (vs : List Stage) : Type 0 where
   pub eras : (i : ℕ) (x : Stage) → At vs i x → (x.1 ≡ o.from_era) ⊎ (x.1 ≡ o.from_era + 1)
 
 -- what one step of a processor does to its stage, where the barriers are as these processors stand
-record Moves (o : Order) (ps : List Processor) (x y : Stage) : Type 0 where
+pub record Moves (o : Order) (ps : List Processor) (x y : Stage) : Type 0 where
   pub to_third : 3 ≤ rank o y → (3 ≤ rank o x) ⊎ (first_barrier_open o ps ≡ true)
   pub to_fifth : 5 ≤ rank o y → (5 ≤ rank o x) ⊎ (second_barrier_open o ps ≡ true)
   pub up : (rank o x ≤ rank o y) ⊎ (is_cancelled o.go ≡ true)

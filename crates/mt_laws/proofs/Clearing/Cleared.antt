@@ -42,7 +42,7 @@ entries_gone other = true
 abbrev pub is_new : Order → ℕ → Bool
 is_new o era = era == o.from_era + 1
 
-record Clear (o : Order) (p : Processor) : Type 0 where
+pub record Clear (o : Order) (p : Processor) : Type 0 where
   pub no_lines : lines_gone p.phase ≡ true → p.lines ≡ []
   pub no_buffers : buffers_gone p.phase ≡ true → p.buffers ≡ []
   pub no_entries : entries_gone p.phase ≡ true → p.entries ≡ []

@@ -66,7 +66,7 @@ abbrev pub IsLocal : Processor → Type 0
 IsLocal p = p.page_global ≡ false → list_all (λ (e : Entry). not e.global) p.entries ≡ true
 
 -- q comes of p; only where mine holds may it hold something new, with p's era
-record Grows (mine : Type 0) (p q : Processor) : Type 0 where
+pub record Grows (mine : Type 0) (p q : Processor) : Type 0 where
   pub file : q.file ≡ p.file
   pub phase : q.phase ≡ p.phase
   pub era : q.era ≡ p.era

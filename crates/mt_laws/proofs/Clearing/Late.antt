@@ -26,7 +26,7 @@ use Rattle.mt_laws.proofs.Clearing.Follows.{passes, passes_entries, IsLocal, Fol
 use Rattle.mt_laws.proofs.Clearing.Cleared.{Clear, lines_gone, buffers_gone, entries_gone, none_passes}
 use Rattle.mt_laws.proofs.Clearing.Renewed.{AllClear, clear_next, steps_clear, runs_at}
 
-record OnlyNew (era : ℕ) (p : Processor) : Type 0 where
+pub record OnlyNew (era : ℕ) (p : Processor) : Type 0 where
   pub lines : passes (λ x. x == era) p.lines ≡ true
   pub buffers : passes (λ x. x == era) p.buffers ≡ true
   pub entries : passes_entries (λ x. x == era) p.entries ≡ true
@@ -122,7 +122,7 @@ abbrev pub OrderLate : ℕ → Option Order → System → Type 0
 OrderLate era None s = Unit {0}
 OrderLate era (Some o) s = (o.from_era + 1 ≡ era) × SomeAhead o (stages s)
 
-record Late (era : ℕ) (m : Machine) : Type 0 where
+pub record Late (era : ℕ) (m : Machine) : Type 0 where
   pub all : Renewed era m.system.processors
   pub order : OrderLate era m.order m.system
 
@@ -254,7 +254,7 @@ all_lines era ls h k d within = eqb-true _ era (AllPass-from_list_all (λ (l : C
 pub all_entries : (era : ℕ) (es : List Entry) → passes_entries (λ x. x == era) es ≡ true → All (λ (e : Entry). e.era ≡ era) es
 all_entries era es h k d within = eqb-true _ era (AllPass-from_list_all (λ (e : Entry). e.era == era) es h k d within)
 
-record HoldsOnly (era : ℕ) (p : Processor) : Type 0 where
+pub record HoldsOnly (era : ℕ) (p : Processor) : Type 0 where
   pub lines : All (λ l. l.era ≡ era) p.lines
   pub buffers : All (λ l. l.era ≡ era) p.buffers
   pub entries : All (λ e. e.era ≡ era) p.entries

@@ -33,7 +33,7 @@ pub flushed_runs : (ph : Phase) → is_running ph ≡ true → is_tlb_flushed ph
 flushed_runs Running h = refl
 flushed_runs other h = absurd (cc)
 
-record Parts (ws : List Window) (s : System) : Type 0 where
+pub record Parts (ws : List Window) (s : System) : Type 0 where
   pub agrees : Agrees ws (record { system = s; order = None })
   pub tidy : AllTidy s.processors
   pub files : (i : ℕ) (p : Processor) → slice_get s.processors i ≡ Some p → IsRegisterFile p.file

@@ -31,7 +31,7 @@ use Rattle.mt_laws.proofs.Translations.TidySteps.{tidy_next}
 use Rattle.mt_laws.proofs.Registers.Accepted.{GoalAccepted, Accepted, accepted_next}
 use Rattle.mt_laws.proofs.Invariant.Parts.{Parts, IsFlushed, flushed_runs, part_processor, parts_sound, sound_tidy, memory_of}
 
-record Standing (ws : List Window) (m : Machine) : Type 0 where
+pub record Standing (ws : List Window) (m : Machine) : Type 0 where
   pub kept : IsKept m
   pub filed : AllFiled m.order m.system.processors
   pub accepted : Accepted m

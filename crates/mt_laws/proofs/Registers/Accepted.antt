@@ -90,7 +90,7 @@ accepted_still o ps goal = one (is_over o ps)
     one true = tt
     one false = goal
 
-record Accepted (m : Machine) : Type 0 where
+pub record Accepted (m : Machine) : Type 0 where
   pub goal : GoalAccepted m.order
   pub each : EachAccepted m.system.processors
 

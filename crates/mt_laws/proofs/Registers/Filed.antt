@@ -39,7 +39,7 @@ is_done Restored = true
 is_done Arrived2 = true
 is_done other = false
 
-record Filed (o : Order) (f : RegisterFile) (x : Stage) : Type 0 where
+pub record Filed (o : Order) (f : RegisterFile) (x : Stage) : Type 0 where
   pub alike : Alike o.goal f
   pub writing : (i : ℕ) → is_writing x.0 ≡ Some i → (i < length (writable o.goal)) × AgreeAll o.goal f (take i (writable o.goal))
   pub done : is_done x.0 ≡ true → f ≡ o.goal

@@ -49,7 +49,7 @@ abbrev pub OrderHas : RegisterFile → Option Order → Type 0
 OrderHas goal None = Unit {0}
 OrderHas goal (Some o) = o.goal ≡ goal
 
-record Settling (goal : RegisterFile) (m : Machine) : Type 0 where
+pub record Settling (goal : RegisterFile) (m : Machine) : Type 0 where
   pub files : AllAre goal m.system.processors
   pub order : OrderHas goal m.order
 

@@ -58,7 +58,7 @@ with_capabilities goal DefaultType f = refl
 registers_of : (f g : RegisterFile) → f.capabilities ≡ g.capabilities → length (writable f) ≡ length (writable g)
 registers_of f g same = ap (λ (c : ℕ). length (writable (record f { capabilities = c }))) same
 
-record Ready (p : Processor) : Type 0 where
+pub record Ready (p : Processor) : Type 0 where
   pub apart : Apart p.lines
   pub in_range : (i : ℕ) → is_writing p.phase ≡ Some i → i < length (writable p.file)
 

@@ -26,7 +26,7 @@ Outer = ℕ × List Mapping × List Entry
 abbrev pub outer : Processor → Outer
 outer p = (p.file.width, p.mappings, p.entries)
 
-record Tidy (x : Outer) : Type 0 where
+pub record Tidy (x : Outer) : Type 0 where
   pub mapped : list_all (λ e. list_any (λ m. m.vpage == e.vpage) x.1) x.2 ≡ true
   pub indexes : list_all (λ m. nat_lt m.index 8) x.1 ≡ true
   pub mapped_pages : list_all (λ m. nat_lt m.ppage (2 ^ (x.0 - 12))) x.1 ≡ true

@@ -31,7 +31,7 @@ is_restored Arrived2 = true
 is_restored other = false
 
 -- q is what became of p
-record Fate (o : Order) (p q : Processor) : Type 0 where
+pub record Fate (o : Order) (p q : Processor) : Type 0 where
   pub mappings : q.mappings ≡ p.mappings
   pub plain : is_tlb_flushed q.phase ≡ false → q.page_global ≡ p.page_global
   pub stripped : is_tlb_flushed q.phase ≡ true → q.remembered_global ≡ p.page_global

@@ -61,7 +61,7 @@ pass_takes_nothing = refl
 -- ---- between the first pass and the first release
 
 -- some processor has passed, and none has released
-record IsBetween (o : Order) (s : System) : Type 0 where
+pub record IsBetween (o : Order) (s : System) : Type 0 where
   pub one : ℕ
   pub stage : Stage
   pub there : At (stages s) one stage
@@ -144,7 +144,7 @@ module _ (o : Order) (s : System) (g : Guarded o (stages s)) (b : IsBetween o s)
         record { one = moved.0; stage = moved.1; there = moved.2; past = moved.3; behind = behind_after }
 
 -- an event there is a step that takes nothing
-record IsInside (o : Order) (m : Machine) (e : MachineEvent) : Type 0 where
+pub record IsInside (o : Order) (m : Machine) (e : MachineEvent) : Type 0 where
   pub order : (next m e).order ≡ Some o
   pub between : IsBetween o (next m e).system
   pub who : ℕ

@@ -47,7 +47,7 @@ takes ks = map (λ k. Steps k Take) ks
 abbrev pub Todo : Order → ℕ → List ℕ → Stage → Type 0
 Todo o i ks x = (x.1 ≡ o.from_era) × (((x.0 ≡ Taken) × (mine i ks ≡ 0)) ⊎ ((x.0 ≡ Running) × (mine i ks ≡ 1)))
 
-record Waiting (o : Order) (s : System) (ks : List ℕ) : Type 0 where
+pub record Waiting (o : Order) (s : System) (ks : List ℕ) : Type 0 where
   pub each : (i : ℕ) (x : Stage) → At (stages s) i x → Todo o i ks x
   pub inside : (i : ℕ) → slice_get (stages s) i ≡ None → mine i ks ≡ 0
 
@@ -137,7 +137,7 @@ module _ (o : Order) (on : is_cancelled o.go ≡ false) (s : System) (k : ℕ) (
 
 -- ---- all takes
 
-record Taking (o : Order) (s : System) (ks : List ℕ) : Type 0 where
+pub record Taking (o : Order) (s : System) (ks : List ℕ) : Type 0 where
   pub last : System
   pub enabled : AreEnabled (record { system = s; order = Some o }) (takes ks)
   pub leads : run (record { system = s; order = Some o }) (takes ks) ≡ record { system = last; order = Some o }

@@ -124,7 +124,7 @@ abbrev pub Early : Order → System → System → Type 0
 Early o s t = ((i : ℕ) (x : Stage) → At (stages s) i x → 3 ≤ rank o x → ⊥) × (erase s ≡ erase t)
 
 -- none takes any more: what was is known of each processor, and the words are those of the drained start
-record Past (o : Order) (ps : List Processor) (s t : System) : Type 0 where
+pub record Past (o : Order) (ps : List Processor) (s t : System) : Type 0 where
   pub on : (i : ℕ) (x : Stage) → At (stages s) i x → 2 ≤ rank o x
   pub fates : Fates o ps s.processors
   pub words : (a : ℕ) → a % 8 ≡ 0 → Word true a (now t a) s

@@ -14,7 +14,7 @@ use Rattle.mt_laws.proofs.Words.WordLaws.{access_stands, access_word}
 use Rattle.mt_laws.proofs.Words.ControlLaws.{control_stands, control_word}
 use Rattle.mt_laws.proofs.Words.StepLaws.{due_drains, step_stands, step_keeps, step_word}
 
-record Agrees (ws : List Window) (m : Machine) : Type 0 where
+pub record Agrees (ws : List Window) (m : Machine) : Type 0 where
   pub stands : Stands ws m.system
   pub words : (a : ℕ) → a % 8 ≡ 0 → (x : ℕ) × Word true a x m.system
 

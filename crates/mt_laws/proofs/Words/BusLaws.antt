@@ -19,7 +19,7 @@ use Rattle.mt_laws.proofs.Words.LineLists.{copy_in, Apart, apart_without, apart_
 
 -- ---- what a system keeps of its lines
 
-record Fits (ws : List Window) (p : Processor) : Type 0 where
+pub record Fits (ws : List Window) (p : Processor) : Type 0 where
   pub lines_apart : Apart p.lines
   pub lines_fit : list_all (fits ws) p.lines ≡ true
   pub buffers_apart : Apart p.buffers
@@ -31,11 +31,11 @@ abbrev pub AllFit : List Window → List Processor → Type 0
 AllFit ws [] = Unit {0}
 AllFit ws (p ∷ ps) = Fits ws p × AllFit ws ps
 
-record HasWindows (ws : List Window) (m : Memory) : Type 0 where
+pub record HasWindows (ws : List Window) (m : Memory) : Type 0 where
   pub windows : m.windows ≡ ws
   pub counted : length m.words ≡ word_count ws
 
-record Stands (ws : List Window) (s : System) : Type 0 where
+pub record Stands (ws : List Window) (s : System) : Type 0 where
   pub memory : HasWindows ws s.memory
   pub fit : AllFit ws s.processors
 
@@ -59,16 +59,16 @@ abbrev pub Stays : Bool → ℕ → List Copy → ℕ → Type 0
 Stays true v cs x = Shows v cs x
 Stays false v cs x = (v ≡ x) × IsShared v cs
 
-record Word (may : Bool) (a x : ℕ) (s : System) : Type 0 where
+pub record Word (may : Bool) (a x : ℕ) (s : System) : Type 0 where
   pub shows : Stays may (word_at s.memory a) (copies a s.processors) x
   pub writes : may ≡ false → all_unwritten a s.processors ≡ true
 
 -- memory has the word, and no cache has it dirty, or none has it at all
-record Clean (a x : ℕ) (s : System) : Type 0 where
+pub record Clean (a x : ℕ) (s : System) : Type 0 where
   pub at : word_at s.memory a ≡ x
   pub shared : IsShared x (copies a s.processors)
 
-record Bare (a x : ℕ) (s : System) : Type 0 where
+pub record Bare (a x : ℕ) (s : System) : Type 0 where
   pub at : word_at s.memory a ≡ x
   pub clear : IsClear (copies a s.processors)
 
@@ -76,7 +76,7 @@ record Bare (a x : ℕ) (s : System) : Type 0 where
 abbrev pub After : Bool → ℕ → ℕ → System → Type 0
 After may a x s = (y : ℕ) × (may ≡ false → y ≡ x) × Word may a y s
 
-record Leaves (a : ℕ) (s t : System) : Type 0 where
+pub record Leaves (a : ℕ) (s t : System) : Type 0 where
   pub word : word_at t.memory a ≡ word_at s.memory a
   pub same : copies a t.processors ≡ copies a s.processors
   pub writes : all_unwritten a s.processors ≡ true → all_unwritten a t.processors ≡ true

@@ -114,7 +114,7 @@ abbrev pub NoDirty : List CacheLine → Type 0
 NoDirty ls = list_all (λ l. not (is_some (first_dirty_word l))) ls ≡ true
 
 -- the first dirty word of a processor's lines
-record FirstDirty (p : Processor) (address value : ℕ) : Type 0 where
+pub record FirstDirty (p : Processor) (address value : ℕ) : Type 0 where
   pub line : CacheLine
   pub word : ℕ
   pub found : find_line line.number p.lines ≡ Some line

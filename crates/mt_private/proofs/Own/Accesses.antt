@@ -24,12 +24,12 @@ use Rattle.mt_private.proofs.Own.Words.{HasAddresses, word_on}
 use Rattle.mt_private.proofs.Own.Buses.{AreOutside, IsWithin, Own, lines_alone, lines_whole, own_change, own_store, own_read, own_invalidate, own_others, own_back_others, own_drain, own_drain_line, own_combine, own_fill, own_line}
 
 -- the same answer, and the two systems afterwards
-record Alike (pages : ℕ → Bool) (k : ℕ) (ps : List Processor) (base : Memory) (a b : Answered) : Type 0 where
+pub record Alike (pages : ℕ → Bool) (k : ℕ) (ps : List Processor) (base : Memory) (a b : Answered) : Type 0 where
   pub answer : a.answer ≡ b.answer
   pub after : Own pages k ps base a.after b.after
 
 -- the same value
-record LoadsAlike (pages : ℕ → Bool) (k : ℕ) (ps : List Processor) (base : Memory) (a b : ℕ × System) : Type 0 where
+pub record LoadsAlike (pages : ℕ → Bool) (k : ℕ) (ps : List Processor) (base : Memory) (a b : ℕ × System) : Type 0 where
   pub value : a.0 ≡ b.0
   pub after : Own pages k ps base a.1 b.1
 

@@ -29,7 +29,7 @@ abbrev pub in_pages : (ℕ → Bool) → CacheLine → Bool
 in_pages pages l = pages (page_of_line l)
 
 -- all that the processor has lies in these pages
-record IsWithin (pages : ℕ → Bool) (p : Processor) : Type 0 where
+pub record IsWithin (pages : ℕ → Bool) (p : Processor) : Type 0 where
   pub mapped : list_all (λ m. pages m.ppage) p.mappings ≡ true
   pub entered : list_all (λ e. pages e.ppage) p.entries ≡ true
   pub cached : list_all (in_pages pages) p.lines ≡ true
@@ -40,12 +40,12 @@ abbrev pub AreOutside : (ℕ → Bool) → ℕ → List Processor → Type 0
 AreOutside pages k ps = ElseAll (λ r. list_all (in_pages (other_pages pages)) r.lines ≡ true) k ps
 
 -- the words in all other pages are as they were
-record IsBeside (pages : ℕ → Bool) (base m : Memory) : Type 0 where
+pub record IsBeside (pages : ℕ → Bool) (base m : Memory) : Type 0 where
   pub count : length m.words ≡ length base.words
   pub words : own_memory (other_pages pages) m ≡ own_memory (other_pages pages) base
 
 -- the two systems are those of one processor and one memory: among the others and with all words, and alone with the words in these pages
-record Own (pages : ℕ → Bool) (k : ℕ) (ps : List Processor) (base : Memory) (s o : System) : Type 0 where
+pub record Own (pages : ℕ → Bool) (k : ℕ) (ps : List Processor) (base : Memory) (s o : System) : Type 0 where
   pub p : Processor
   pub m : Memory
   pub whole : s ≡ record { processors = set ps k p; memory = m }

@@ -14,7 +14,7 @@ use Rattle.mt_private.specs.Own.{AreApart, Becomes, IsOwner, own_memory, own_sys
 use Rattle.mt_private.proofs.Own.Owners.{memory_after, runs_alone, same_system, stays_owner, words_left}
 
 -- each of these owns its pages, of which no two have one
-record AreOwners (P : ℕ → ℕ → Bool) (n : ℕ) (s : System) : Type 0 where
+pub record AreOwners (P : ℕ → ℕ → Bool) (n : ℕ) (s : System) : Type 0 where
   pub memory : IsMemory s.memory
   pub owner : (k : ℕ) → k < n → IsOwner (P k) k s
   pub apart : (k j : ℕ) → j ≢ k → AreApart (P k) (P j)

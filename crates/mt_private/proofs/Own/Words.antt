@@ -15,7 +15,7 @@ use Rattle.mt_private.specs.Own.{own_memory, words_on}
 
 -- ---- the address of each place
 
-record IsAddress (xs : List ℕ) (a i : ℕ) : Type 0 where
+pub record IsAddress (xs : List ℕ) (a i : ℕ) : Type 0 where
   pub is : get_or xs i 0 ≡ a
   pub within : i < length xs
 

@@ -141,7 +141,7 @@ no_release e text tells other = refl
 -- ---- steps one after the other
 
 -- a step of these stands in a state that is kept, past the windows
-record Stands (s : ReplayState) : Type 0 where
+pub record Stands (s : ReplayState) : Type 0 where
   pub is : IsReplayState s
   pub past : takes_windows s.now.stage ≡ false
 
@@ -189,7 +189,7 @@ none_left (step ∷ steps) s h on calls none =
     (none_acts step.before.machine (left step).machine (wrote step) (step_acts_in step here.is on.1 calls.0 here.past) (ap (λ (x : ReplayState). x.machine.order) on.0 ∙ none))
 
 -- events without a release lead from the one to the other
-record Goes_between (m n : Machine) : Type 0 where
+pub record Goes_between (m n : Machine) : Type 0 where
   pub events : List MachineEvent
   pub enabled : AreEnabled m events
   pub no_release : list_all (λ e. not (is_release e)) events ≡ true
@@ -226,7 +226,7 @@ abbrev pub WaitsIn : RegisterFile → ℕ → ReplayState → Type 0
 WaitsIn goal era s = Waits goal era s.machine.system s.machine.order
 
 -- The first of these steps that passes, and up to it all wait.
-record FirstPass (goal : RegisterFile) (era : ℕ) (steps : List Step) : Type 0 where
+pub record FirstPass (goal : RegisterFile) (era : ℕ) (steps : List Step) : Type 0 where
   pub waiting : List Step
   pub pass : Step
   pub between : List Step

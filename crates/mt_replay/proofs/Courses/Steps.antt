@@ -104,7 +104,7 @@ told_steps end number (line ∷ lines) = one (told_steps end (number + 1) lines)
 -- ---- where they begin
 
 -- The steps begin here: the lines before it tell `accepted` alone, and the first offence is behind it.
-record Begins (end : Place) (first : Option Offence) (telling : Told) (b : Beginning) : Type 0 where
+pub record Begins (end : Place) (first : Option Offence) (telling : Told) (b : Beginning) : Type 0 where
   pub is : IsReplayState b.state
   pub no_order : b.state.machine.order ≡ None
   pub windows : takes_windows b.state.now.stage ≡ true
@@ -168,7 +168,7 @@ pub transcript_is_one_line : TranscriptIsOneLine
 transcript_is_one_line text none = subst (Leads (end_of text) (script_offence text) (transcript text)) none (whole text)
 
 -- The steps of a text go on from a first state, without an update under way.
-record IsCourse (steps : List Step) : Type 0 where
+pub record IsCourse (steps : List Step) : Type 0 where
   pub first : ReplayState
   pub is : IsReplayState first
   pub no_order : first.machine.order ≡ None
@@ -187,7 +187,7 @@ course_is text front rest step same = one (beginning text) (whole text) same
     one (Some b) h e = record { first = b.state; is = h.is; no_order = h.no_order; windows = h.windows; goes_on = subst (GoesOn b.state) e (steps_go_on b.number b.lines b.state) }
 
 -- a step stands in its state, which is kept, and the steps behind go on from there
-record StandsIn (step : Step) (rest : List Step) : Type 0 where
+pub record StandsIn (step : Step) (rest : List Step) : Type 0 where
   pub is : IsReplayState step.before
   pub fits : Fits step.before.now step.command
   pub goes_on : GoesOn (left step) rest

@@ -122,7 +122,7 @@ IsMover command.Retire = Unit {0}
 IsMover other = ⊥
 
 -- a mark that none of their lines has
-record NoneIs (mark : List ℕ → Bool) : Type 0 where
+pub record NoneIs (mark : List ℕ → Bool) : Type 0 where
   pub up : (k : ℕ) → mark (up_line k) ≡ false
   pub joined : (k : ℕ) → mark (joined_line k) ≡ false
   pub retired : (k : ℕ) → mark (retired_line k) ≡ false

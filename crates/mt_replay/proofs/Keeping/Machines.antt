@@ -37,7 +37,7 @@ use Rattle.mt_replay.specs.ReplayState.{after_word, each_processor, is_undecided
 use Rattle.mt_replay.proofs.Keeping.Kinds.{fits_next, risen_same}
 
 -- n comes of m, over the same windows
-record Follows (m n : Machine) : Type 0 where
+pub record Follows (m n : Machine) : Type 0 where
   pub arises : Arises n
   pub reached : (p : Machine) → Reached p m → Reached p n
   pub risen : HasRisenByOne m.system n.system

@@ -55,7 +55,7 @@ rests_now m quiet arises fresh = record { rest = m; quiet = quiet; arises = aris
 -- ---- what comes of a machine that came from rest
 
 -- n comes of m, over the same windows, maybe with one processor more or less
-record Moves (m n : Machine) : Type 0 where
+pub record Moves (m n : Machine) : Type 0 where
   pub arises : Arises n
   pub came : CameFromRest n
   pub some : 1 ≤ length n.system.processors

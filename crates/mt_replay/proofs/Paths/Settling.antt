@@ -28,7 +28,7 @@ use Rattle.mt_core.proofs.Stepping.{stands}
 use Rattle.mt_replay.proofs.Paths.Going.{gone_late, gone_settling, gone_word}
 
 -- The last argument has the words that its accesses stored, in their order.
-data Path : Machine → Machine → List ℕ → Type 0 where
+pub data Path : Machine → Machine → List ℕ → Type 0 where
   ends : {m : Machine} → Path m m []
   goes_on : {m n : Machine} {words : List ℕ} → (e : MachineEvent) → IsEnabled m e → not (is_call e) ≡ true → Path (next m e) n words
       → Path m n (option_map_or (λ a. a ∷ words) (stored_word m e) words)
@@ -37,7 +37,7 @@ data Path : Machine → Machine → List ℕ → Type 0 where
 -- ---- settled
 
 -- Some processor has released in the update of this era to this goal, and none was called since.
-record After (era : ℕ) (goal : RegisterFile) (m : Machine) : Type 0 where
+pub record After (era : ℕ) (goal : RegisterFile) (m : Machine) : Type 0 where
   pub late : Late era m
   pub settling : Settling goal m
 

@@ -26,7 +26,7 @@ use Rattle.mt_replay.proofs.Sums.Numbers.{IsWhole, both_whole, none_whole, texts
 use Rattle.mt_replay.proofs.Sums.Texts.{Writes, alone, line_writes, offence_writes}
 
 -- The lines before a place of a script were taken, and what they write was counted.
-record Summed (source : List ℕ) (at number : ℕ) (now : Run) (t : Totals) : Type 0 where
+pub record Summed (source : List ℕ) (at number : ℕ) (now : Run) (t : Totals) : Type 0 where
   pub text : List ℕ
   pub point : Point
   pub stands : IsAt now point

@@ -158,7 +158,7 @@ type_inside WB = said _ refl
 -- ---- what a line of a script writes
 
 -- whole lines, of which at most so many say `complete`
-record Writes (most : ℕ) (text : List ℕ) : Type 0 where
+pub record Writes (most : ℕ) (text : List ℕ) : Type 0 where
   pub whole : IsWhole text
   pub few : updates_in text ≤ most
 
