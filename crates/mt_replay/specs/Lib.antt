@@ -13,11 +13,6 @@ pub mod Summary
 pub mod Summing
 pub mod Texts
 pub mod Transcript
-pub mod WorkedHeadline
-pub mod WorkedJoins
-pub mod WorkedLaws
-pub mod WorkedMoves
 pub mod WorkedScript
 pub mod WorkedStates
 pub mod WorkedSteps
-pub mod WorkedSummary

@@ -197,8 +197,5 @@ stands_in front rest step h =
     let on = behind_front front (step ∷ rest) h.first h.goes_on in
     record { is = subst IsReplayState (sym on.0) (kept_behind front h.first h.is (in_front front (step ∷ rest) h.first h.goes_on)); fits = on.1; goes_on = on.2 }
 
-pub left_is : (step : Step) (rest : List Step) → StandsIn step rest → IsReplayState (left step)
-left_is step rest h = state_kept step.before step.command h.is h.fits
-
 pub steps_follow : StepsFollow
 steps_follow text front rest first second same = (stands_in front (second ∷ rest) first (course_is text front (second ∷ rest) first same)).goes_on.0
