@@ -1,5 +1,5 @@
 -- Texts that are written one after the other.
-use Rattle.std.proofs.Common.{◌≡◌, ◌∙◌, ap, sym, refl, subst, arith, ℕ, zero, suc, ◌+◌, List, [], ◌∷◌, ◌++◌, drop, length, Option, Some, slice_get, append_assoc}
+use Rattle.std.proofs.Common.{◌≡◌, ◌∙◌, ap, sym, subst, arith, ℕ, zero, suc, ◌+◌, List, [], ◌∷◌, ◌++◌, drop, Option, Some, slice_get, append_assoc}
 use Rattle.mt_ports.specs.Puts.{AppendsFront}
 use Rattle.mt_output.specs.Writing.{Passes}
 use Rattle.mt_output.proofs.Writing.{fails_after, passes_both}

@@ -8,10 +8,13 @@ pub mod Newcomers
 pub mod Parts
 pub mod Running
 pub mod ReplayState
+pub mod Settling
 pub mod Statuses
+pub mod Steps
 pub mod Summary
 pub mod Summing
 pub mod Texts
+pub mod Through
 pub mod Transcript
 pub mod WorkedScript
 pub mod WorkedStates

@@ -6,7 +6,8 @@ use Rattle.mt_machine.specs.Machine.{Machine}
 use Rattle.mt_machine.specs.System.{now}
 use Rattle.mt_script.specs.Situation.{at_start}
 use Rattle.mt_script.specs.declared.command.Command.TheVariants as command
-use Rattle.mt_replay.specs.Headline.{Keeps, Step, UpdateOf, called_goal, course, last_of, left, next_era, stored_in}
+use Rattle.mt_replay.specs.Headline.{Keeps, UpdateOf, called_goal, next_era, stored_in}
+use Rattle.mt_replay.specs.Steps.{Step, course, last_of, left}
 use Rattle.mt_replay.specs.ReplayState.{ReplayState, first_state}
 
 abbrev pub no_step : Step

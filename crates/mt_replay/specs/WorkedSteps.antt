@@ -10,7 +10,8 @@ use Rattle.mt_script.specs.declared.command.Command.{Command}
 use Rattle.mt_script.specs.declared.command.Command.TheVariants as command
 use Rattle.mt_script.specs.declared.command.Stage.TheVariants.{Commands, InBegin}
 use Rattle.mt_replay.specs.ReplayState.{ReplayState}
-use Rattle.mt_replay.specs.Headline.{Keeps, Step}
+use Rattle.mt_replay.specs.Headline.{Keeps}
+use Rattle.mt_replay.specs.Steps.{Step}
 use Rattle.mt_replay.specs.WorkedStates.{busy, painted, resting, state_of}
 
 abbrev pub step_of : Command → ReplayState → Step

@@ -23,7 +23,8 @@ use Rattle.mt_script.specs.declared.fault.Offence.{Offence}
 use Rattle.mt_script.specs.declared.fault.Offence.TheVariants.{Script}
 use Rattle.mt_script.proofs.Keeping.{not_past_in_dump}
 use Rattle.mt_output.specs.Lines.{accepted_line, dump_refused_line}
-use Rattle.mt_replay.specs.Headline.{Beginning, ReplaysAreOfTheCourse, Step, StepsFollow, TranscriptIsOfTheCourse, TranscriptIsOneLine, beginning, begins_by, begins_with, course, ending, joined, last_of, left, steps_in, steps_of}
+use Rattle.mt_replay.specs.Headline.{ReplaysAreOfTheCourse, StepsFollow, TranscriptIsOfTheCourse, TranscriptIsOneLine, ending, joined}
+use Rattle.mt_replay.specs.Steps.{Beginning, Step, beginning, begins_by, begins_with, course, last_of, left, steps_in, steps_of}
 use Rattle.mt_replay.specs.Heads.{HeadEnd, head_of, has_offence, shows_dump, stays_open}
 use Rattle.mt_replay.specs.Kept.{IsReplayState, start_like, start_of}
 use Rattle.mt_replay.specs.ReplayState.{ReplayState, command_text, state_after}

@@ -1,13 +1,9 @@
 -- A command on a processor that isn't there, and one on a processor that is.
-use Rattle.std.proofs.Common.{◌≡◌, ◌∙◌, ap, refl, ℕ, Bool, true, false, if◌then◌else◌, length, Option, nat_lt}
-use Rattle.std.specs.Prelude.{not}
-use Rattle.std.specs.Option.{option_map_or}
-use Rattle.std.proofs.lemmas.Bool.{le-ltb}
+use Rattle.std.proofs.Common.{◌≡◌, ap, refl, Bool, true, false, if◌then◌else◌}
 use Rattle.mt_script.specs.Accept.{accepted, in_commands}
 use Rattle.mt_script.specs.declared.command.Command.{Command}
 use Rattle.mt_script.specs.declared.command.Command.TheVariants as command
 use Rattle.mt_replay.specs.ReplayState.{ReplayState, command_text, goal_after, is_absent, machine_after, present_after, present_text, state_after}
-use Rattle.mt_replay.specs.Statuses.{AbsentProcessorsDoNothing}
 use Rattle.mt_replay.specs.Texts.{absent_line}
 
 -- what a command leaves where its processor is there
@@ -52,11 +48,3 @@ state_absent s c is = λ i. record { now = (only_named s c is).0 i; machine = ab
 
 pub state_there : (s : ReplayState) (c : Command) → is_absent s.machine c ≡ false → state_after s c ≡ present_state s c
 state_there s c is = λ i. record { now = accepted s.now c; machine = there_machine s c is i; goal = goal_after s c }
-
--- ---- which processors are there
-
-pub absent_do_nothing : AbsentProcessorsDoNothing
-absent_do_nothing s c k names high =
-    let is : is_absent s.machine c ≡ true =
-    ap (λ (o : Option ℕ). option_map_or (λ j. not (nat_lt j (length s.machine.system.processors))) o false) names ∙ ap not (le-ltb k (length s.machine.system.processors) high) in
-    (absent_text s c is, absent_machine s c is)

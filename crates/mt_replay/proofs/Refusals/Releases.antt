@@ -23,7 +23,7 @@ use Rattle.mt_script.specs.declared.command.Command.{Command}
 use Rattle.mt_script.specs.declared.command.Command.TheVariants as command
 use Rattle.mt_replay.specs.Kept.{IsReplayState, start_like}
 use Rattle.mt_replay.specs.ReplayState.{ReplayState, is_absent, machine_after, state_after}
-use Rattle.mt_replay.specs.Statuses.{AreHeld, AreWithoutCall, ReleasedStatesSettle, ReleasedWordsAreHeld, state_after_all, stored_by_all}
+use Rattle.mt_replay.specs.Settling.{AreHeld, AreWithoutCall, ReleasedStatesSettle, ReleasedWordsAreHeld, state_after_all, stored_by_all}
 use Rattle.mt_replay.proofs.Keeping.States.{state_kept}
 use Rattle.mt_replay.proofs.Keeping.Absent.{there_machine}
 use Rattle.mt_replay.proofs.Paths.Settling.{Path, after_path, after_release, settled_of, word_after_release, word_path}

@@ -1,7 +1,8 @@
 use Rattle.std.proofs.Common.{◌≡◌, ◌∷◌, [], List, ap, arith, inl, inr, refl, ⊎_elim, ℕ}
 use Rattle.std.specs.Fmt.{digits}
 use Rattle.mt_script.specs.declared.command.Command.TheVariants as asks
-use Rattle.mt_replay.specs.Headline.{ComesUp, wrote}
+use Rattle.mt_replay.specs.Headline.{ComesUp}
+use Rattle.mt_replay.specs.Steps.{wrote}
 use Rattle.mt_replay.specs.Texts.{called_line}
 use Rattle.mt_replay.specs.WorkedStates.{crowd}
 use Rattle.mt_replay.specs.WorkedSteps.{step_of}

@@ -4,7 +4,7 @@ use Rattle.mt_machine.specs.WorkedRuns.{entry, idle}
 use Rattle.mt_regs.specs.RegisterFile.{RegisterFile}
 use Rattle.mt_script.specs.declared.command.Command.TheVariants as asks
 use Rattle.mt_replay.specs.ReplayState.{state_after}
-use Rattle.mt_replay.specs.Statuses.{AreWithoutCall}
+use Rattle.mt_replay.specs.Settling.{AreWithoutCall}
 use Rattle.mt_replay.specs.WorkedStates.{unlike_eras}
 use Rattle.mt_replay.proofs.worked.worked_joined_states.Goals as goal
 

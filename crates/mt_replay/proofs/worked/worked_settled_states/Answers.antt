@@ -12,7 +12,7 @@ use Rattle.mt_script.specs.Accept.{accepted}
 use Rattle.mt_script.specs.declared.command.Command.{Command}
 use Rattle.mt_script.specs.declared.command.Command.TheVariants as asks
 use Rattle.mt_replay.specs.ReplayState.{ReplayState}
-use Rattle.mt_replay.specs.Statuses.{AreWithoutCall, state_after_all}
+use Rattle.mt_replay.specs.Settling.{AreWithoutCall, state_after_all}
 use Rattle.mt_replay.specs.WorkedStates.{late_at_end}
 use Rattle.mt_replay.proofs.FirstFault.{is_first_fault}
 use Rattle.mt_replay.proofs.worked.worked_settled_states.Goals as goal

@@ -1,7 +1,8 @@
 use Rattle.std.proofs.Common.{◌≡◌, refl, rules, subst, arith, inr, [], inl, ◌∷◌, ◌++◌}
 use Rattle.std.specs.List.{All}
 use Rattle.mt_machine.specs.WorkedRuns.{idle}
-use Rattle.mt_replay.specs.Headline.{IsCall, NoneOf, Step}
+use Rattle.mt_replay.specs.Headline.{IsCall, NoneOf}
+use Rattle.mt_replay.specs.Steps.{Step}
 use Rattle.mt_replay.specs.WorkedSteps.{begins, calls, passes, releases}
 use Rattle.mt_replay.proofs.Courses.Tells.{none_calls}
 use Rattle.mt_replay.proofs.worked.worked_short_updates.Goals as goal

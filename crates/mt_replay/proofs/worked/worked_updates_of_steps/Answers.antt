@@ -2,7 +2,8 @@ use Rattle.std.proofs.Common.{◌≡◌, ap, refl, subst, arith, ◌⊎◌, ℕ,
 use Rattle.mt_machine.specs.WorkedRuns.{bare_file}
 use Rattle.mt_regs.specs.RegisterFile.{RegisterFile}
 use Rattle.mt_script.specs.declared.command.Command.TheVariants as command
-use Rattle.mt_replay.specs.Headline.{ComesUp, IsCalled, NoneOf, NoneWrote, Step, goal_of, pass_line, release_line, wrote}
+use Rattle.mt_replay.specs.Headline.{ComesUp, IsCalled, NoneOf, NoneWrote, goal_of, pass_line, release_line}
+use Rattle.mt_replay.specs.Steps.{Step, wrote}
 use Rattle.mt_replay.specs.ReplayState.{first_file}
 use Rattle.mt_replay.specs.Texts.{called_line}
 use Rattle.mt_replay.specs.WorkedSteps.{begins}

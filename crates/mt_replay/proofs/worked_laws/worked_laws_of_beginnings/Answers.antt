@@ -2,8 +2,8 @@ use Rattle.std.proofs.Common.{◌≡◌, refl, true}
 use Rattle.std.specs.Prelude.{drop, take}
 use Rattle.mt_dump.specs.Dumps.{dump_of}
 use Rattle.mt_machine.specs.WorkedRuns.{bare_file}
-use Rattle.mt_replay.specs.Headline.{course}
-use Rattle.mt_replay.specs.Kept.{HoldsThrough}
+use Rattle.mt_replay.specs.Steps.{course}
+use Rattle.mt_replay.specs.Through.{HoldsThrough}
 use Rattle.mt_replay.specs.WorkedScript.{is_idle, join_at, join_script}
 use Rattle.mt_replay.proofs.Courses.Worked.{stands}
 use Rattle.mt_replay.proofs.WorkedDumps.{join_shows}

@@ -2,7 +2,7 @@ use Rattle.std.proofs.Common.{refl, rules, inr, drop, take, arith}
 use Rattle.std.specs.Fmt.{digits}
 use Rattle.hex.specs.Hex.{encode_with}
 use Rattle.mt_script.specs.declared.command.Command.TheVariants as asks
-use Rattle.mt_replay.specs.Headline.{course}
+use Rattle.mt_replay.specs.Steps.{course}
 use Rattle.mt_replay.specs.WorkedScript.{join_at, join_script, joins_at}
 use Rattle.mt_replay.specs.WorkedStates.{crowd, crowd_in_update}
 use Rattle.mt_replay.specs.WorkedSteps.{step_of}

@@ -1,5 +1,5 @@
 use Rattle.std.proofs.Common.{refl, inl, drop, take}
-use Rattle.mt_replay.specs.Headline.{course}
+use Rattle.mt_replay.specs.Steps.{course}
 use Rattle.mt_replay.specs.WorkedScript.{section_at, section_script}
 use Rattle.mt_replay.proofs.Courses.Worked.{stands}
 use Rattle.mt_replay.proofs.worked_laws.worked_laws_of_sections.Goals as goal

@@ -8,9 +8,9 @@ use Rattle.mt_laws.proofs.Words.Sound.{test_all}
 use Rattle.mt_machine.specs.Machine.{has_released}
 use Rattle.mt_machine.specs.WorkedRuns.{bare_file}
 use Rattle.mt_script.specs.declared.command.Command.TheVariants as asks
-use Rattle.mt_replay.specs.Headline.{course, left}
+use Rattle.mt_replay.specs.Steps.{course, left}
 use Rattle.mt_replay.specs.Kept.{IsReplayState}
-use Rattle.mt_replay.specs.Statuses.{AreWithoutCall}
+use Rattle.mt_replay.specs.Settling.{AreWithoutCall}
 use Rattle.mt_replay.specs.WorkedScript.{front_of, step_at, worked_script}
 use Rattle.mt_replay.specs.WorkedStates.{just_dumped, small_dump}
 use Rattle.mt_replay.proofs.Courses.States.{around_step}

@@ -2,7 +2,7 @@ use Rattle.std.proofs.Common.{refl, inl, drop}
 use Rattle.std.specs.Fmt.{digits}
 use Rattle.hex.specs.Hex.{encode_with}
 use Rattle.mt_regs.specs.declared.fault.Reason.TheVariants.{UnsupportedType}
-use Rattle.mt_replay.specs.Headline.{course}
+use Rattle.mt_replay.specs.Steps.{course}
 use Rattle.mt_replay.specs.WorkedScript.{front_of, step_at, steps_at, worked_script}
 use Rattle.mt_replay.proofs.Courses.Tells.{none_calls}
 use Rattle.mt_replay.proofs.Courses.Worked.{stands}
