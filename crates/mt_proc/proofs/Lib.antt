@@ -1,5 +1,4 @@
 pub mod Blocks
-pub mod Carried
 pub mod Digits
 pub mod Endings
 pub mod FirstWords
@@ -14,4 +13,3 @@ pub mod Taking
 pub mod Told
 pub mod Written
 mod Beginning
-mod Points

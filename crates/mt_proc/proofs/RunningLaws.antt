@@ -18,7 +18,7 @@ use Rattle.mt_proc.specs.declared.running.Run.TheVariants as run
 use Rattle.mt_proc.specs.declared.request.ProcReason.TheVariants.{BadLine}
 use Rattle.mt_proc.specs.Proc.{Point, from_point, in_dump, in_requests, proc_end, proc_step, request_fault_line}
 use Rattle.mt_proc.specs.Requests.{fault_at}
-use Rattle.mt_proc.specs.Running.{HasCount, HasRoom, IsAt, end_of_run, proc_running}
+use Rattle.mt_proc.specs.Running.{HasCount, IsAt, end_of_run, proc_running}
 
 -- the offence of a line too long
 abbrev pub long_offence : ℕ → Point → Told
@@ -64,7 +64,3 @@ proc_laws cpus = record {
 pub count_more : (m n : ℕ) (now : Run) → m ≤ n → HasCount m now → HasCount n now
 count_more m n (run.Dump reader) le few = tt
 count_more m n (run.Requests r) le few = omega arith
-
-pub count_room : (m : ℕ) (now : Run) → m ≤ 16777216 → HasCount m now → HasRoom now
-count_room m (run.Dump reader) le few = tt
-count_room m (run.Requests r) le few = omega arith

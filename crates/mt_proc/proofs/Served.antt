@@ -103,9 +103,6 @@ module _ (m : Machine) (serves : Serves m) where
   pub era_room : (served m).count < 2 ^ 64 - 1 → HasEraRoom m
   era_room room = each (λ p. p.era < 2 ^ 64 - 1) (λ i d within. room)
 
-  pub serves_accepted : IsAccepted (served m).file
-  serves_accepted = first_file IsAccepted serves.start.accepted
-
 pub settled_standing : (n : ℕ) (now : Served) → IsSettled (standing n now).system now.count now.file
 settled_standing n now =
     All-map (IsSettledOn now.count now.file) (idle now.count) (replicate n now.file)

@@ -89,26 +89,6 @@ is_good m base size sized aligned within =
     let reach : nat_le (base + size) (2 ^ m) ≡ true = grind (arith, nat_tests, within) in
     rw (sized, eq-eqb (base % size) 0 aligned, reach) refl
 
-pub not_size : (m base size : ℕ) → is_size size ≡ false → is_good_range m base size ≡ false
-not_size m base size not = rw not refl
-
-pub not_aligned : (m base size : ℕ) → (base % size == 0) ≡ false → is_good_range m base size ≡ false
-not_aligned m base size not = by (is_size size)
-  where
-    by : (sized : Bool) → (sized && base % size == 0 && nat_le (base + size) (2 ^ m)) ≡ false
-    by false = refl
-    by true = rw not refl
-
-pub not_within : (m base size : ℕ) → 2 ^ m < base + size → is_good_range m base size ≡ false
-not_within m base size past =
-    let reach : nat_le (base + size) (2 ^ m) ≡ false = grind (arith, nat_tests, past) in
-    by (is_size size) (base % size == 0) (nat_le (base + size) (2 ^ m)) reach
-  where
-    by : (sized aligned reach : Bool) → reach ≡ false → (sized && aligned && reach) ≡ false
-    by true true reach is = is
-    by true false reach is = refl
-    by false aligned reach is = refl
-
 -- the test is what it stands for
 pub good_parts : (m base size : ℕ) → is_good_range m base size ≡ true → IsGoodRange m base size
 good_parts m base size good =

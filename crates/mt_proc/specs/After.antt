@@ -1,5 +1,4 @@
 -- What requests make of a file that processors have, and what is written of them (own).
---     after file requests      the file after requests, one after the other
 --     asked now request      what stands after one request; answer_text now request, what is written of it
 --     end_text now      what is written at the end
 use Rattle.std.specs.Prelude.{ℕ, ◌+◌, List, [], ◌∷◌, ◌++◌, codes, decimal, Option, None, Some}
@@ -40,9 +39,6 @@ after_all now (request ∷ requests) = after_all (asked now request) requests
 
 abbrev pub at_first : RegisterFile → Served
 at_first file = record { file = file; count = 0 }
-
-abbrev pub after : RegisterFile → List Request → RegisterFile
-after file requests = (after_all (at_first file) requests).file
 
 -- ---- texts
 

@@ -5,5 +5,3 @@ pub mod Proc
 pub mod Requests
 pub mod Running
 pub mod Serving
-pub mod WorkedFiles
-pub mod WorkedRunning

@@ -9,7 +9,7 @@ use Rattle.mt_tlb.specs.declared.entry.Entry.{Entry}
 use Rattle.mt_machine.specs.System.{Processor}
 use Rattle.mt_laws.specs.Settled.{IsFresh}
 use Rattle.mt_replay.specs.Texts.{stale_count}
-use Rattle.mt_replay.specs.Kept.{NothingIsStale}
+use Rattle.mt_replay.specs.Through.{NothingIsStale}
 use Rattle.mt_replay.proofs.Keeping.Moving.{no_older_now}
 
 none_counted : {X : Type 0} → (test : X → Bool) (xs : List X) → list_all (λ x. not (test x)) xs ≡ true → count_by test xs ≡ 0

@@ -1,5 +1,5 @@
 -- Texts that are written one after the other.
-use Rattle.std.proofs.Common.{◌≡◌, ◌∙◌, ap, sym, refl, subst, arith, ℕ, zero, suc, ◌+◌, List, [], ◌∷◌, ◌++◌, drop, length, Option, Some, slice_get, append_assoc, append-nil}
+use Rattle.std.proofs.Common.{◌≡◌, ◌∙◌, ap, sym, subst, arith, ℕ, zero, suc, ◌+◌, List, [], ◌∷◌, ◌++◌, drop, Option, Some, slice_get, append_assoc}
 use Rattle.mt_ports.specs.Puts.{AppendsFront}
 use Rattle.mt_output.specs.Writing.{Passes}
 use Rattle.mt_output.proofs.Writing.{fails_after, passes_both}
@@ -47,13 +47,3 @@ pub line_fails : (ps : List Processor) (k : ℕ) (p : Processor) (waiting middle
 line_fails ps k p waiting middle line a b c at is has failed =
     fails_within waiting has.text middle (processor_line k p) (processor_lines (k + 1) (drop (k + 1) ps)) (processor_lines 0 ps) a b c (line_cut ps k p at has.text has.cut) has.passed
     (subst (λ (l : List ℕ). AppendsFront b c (middle ++ l)) is failed)
-
-pub drop_past : {A : Type 0} (xs : List A) → drop (length xs) xs ≡ []
-drop_past [] = refl
-drop_past (x ∷ xs) = drop_past xs
-
-pub all_lines : (ps : List Processor) (k : ℕ) (waiting left : List ℕ) (a b : Option (List ℕ)) → k ≡ length ps → HasLines ps k waiting left a b → Passes waiting (processor_lines 0 ps) left a b
-all_lines ps k waiting left a b past has =
-    let none : drop k ps ≡ [] = ap (λ (n : ℕ). drop n ps) past ∙ drop_past ps in
-    let whole : has.text ≡ processor_lines 0 ps = sym (has.cut ∙ ap (λ (qs : List Processor). has.text ++ processor_lines k qs) none ∙ append-nil has.text) in
-    subst (λ (l : List ℕ). Passes waiting l left a b) whole has.passed

@@ -1,6 +1,6 @@
 pub mod Calls
-pub mod Joins
 pub mod Outcomes
 pub mod Releases
 pub mod Since
 pub mod Updates
+pub mod Joins

@@ -1,5 +1,5 @@
 -- What a replay keeps to between two lines.
-use Rattle.std.proofs.Common.{◌≡◌, ◌∙◌, ap, sym, refl, subst, arith, inl, inr, ℕ, ◌+◌, ◌||◌, ◌^◌, ◌≤◌, ◌<◌, Bool, false, List, [], Option, None, Some}
+use Rattle.std.proofs.Common.{◌≡◌, ◌∙◌, ap, sym, refl, subst, arith, inl, inr, ℕ, ◌||◌, ◌≤◌, Bool, false, List, [], Option, None, Some}
 use Rattle.std.specs.Prelude.{◌⊎◌}
 use Rattle.mt_text.specs.declared.place.Place.{Place}
 use Rattle.mt_ports.specs.declared.status.Status.TheVariants.{BadText, Done}
@@ -10,7 +10,7 @@ use Rattle.mt_script.specs.declared.fault.ScriptFault.{ScriptFault}
 use Rattle.mt_stream.specs.Laws.{AreLaws, IsLongLed}
 use Rattle.mt_stream.specs.Lines as stream
 use Rattle.mt_stream.specs.Lines.{Leading, Path}
-use Rattle.mt_replay.specs.Running.{HasEraRoomAt, HasErasAt, IsAt, IsQuiet, end_of_run, leading, path_from, replay_running, setup_of}
+use Rattle.mt_replay.specs.Running.{HasErasAt, IsAt, IsQuiet, end_of_run, leading, path_from, replay_running, setup_of}
 use Rattle.mt_replay.specs.Transcript.{Point, in_body, in_head, told_at_end, told_lines, told_offence}
 use Rattle.mt_replay.specs.declared.line.Run.{Run}
 use Rattle.mt_replay.specs.declared.line.Run.TheVariants as run
@@ -76,7 +76,3 @@ is_quiet (run.Body r) = λ takes. refl
 pub eras_more : (m n : ℕ) (now : Run) → m ≤ n → HasErasAt m now → HasErasAt n now
 eras_more m n (run.Head h) le eras = tt
 eras_more m n (run.Body r) le eras = λ k d within. omega (arith, le, eras k d within)
-
-pub eras_room : (m : ℕ) (now : Run) → m + 1 < 2 ^ 64 → HasErasAt m now → HasEraRoomAt now
-eras_room m (run.Head h) le eras = tt
-eras_room m (run.Body r) le eras = λ k d within. omega (arith, le, eras k d within)

@@ -10,9 +10,10 @@ use Rattle.mt_script.specs.Script.{script_offence}
 use Rattle.mt_script.specs.declared.command.Command.{Command}
 use Rattle.mt_script.specs.declared.fault.ScriptFault.{ScriptFault}
 use Rattle.mt_replay.specs.Heads.{HeadEnd, head_of, has_offence, shows_dump, stays_open}
-use Rattle.mt_replay.specs.Kept.{EachAfter, EachBy, EachIn, EachOfDump}
+use Rattle.mt_replay.specs.Through.{EachAfter, EachBy, EachIn, EachOfDump}
 use Rattle.mt_replay.specs.ReplayState.{ReplayState, state_after}
-use Rattle.mt_replay.specs.Statuses.{ShowsDump, StatesHaveTheShownDump}
+use Rattle.mt_replay.specs.Statuses.{ShowsDump}
+use Rattle.mt_replay.specs.Through.{StatesHaveTheShownDump}
 use Rattle.mt_replay.proofs.Heads.{Comes, comes, dump_after}
 
 module _ (dump : Dump) where

@@ -10,7 +10,8 @@ use Rattle.mt_script.specs.Script.{script_offence}
 use Rattle.mt_script.specs.declared.command.Command.{Command}
 use Rattle.mt_script.specs.declared.fault.ScriptFault.{ScriptFault}
 use Rattle.mt_replay.specs.Heads.{HeadEnd, head_of, has_offence, shows_dump, stays_open}
-use Rattle.mt_replay.specs.Kept.{EachAfter, EachBy, EachIn, EachOfDump, IsReplayState, ScriptsKeep}
+use Rattle.mt_replay.specs.Kept.{IsReplayState}
+use Rattle.mt_replay.specs.Through.{EachAfter, EachBy, EachIn, EachOfDump, ScriptsKeep}
 use Rattle.mt_replay.specs.ReplayState.{ReplayState, state_after}
 use Rattle.mt_replay.specs.Statuses.{ShowsDump}
 use Rattle.mt_replay.proofs.FirstRefusal.{all_accepted}

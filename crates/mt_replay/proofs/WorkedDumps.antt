@@ -9,7 +9,7 @@ use Rattle.mt_dump.proofs.Stands.{clean_shown}
 use Rattle.mt_machine_laws.specs.MachineWorkedRuns.{bare_file}
 use Rattle.mt_script.specs.declared.command.Command.TheVariants as command
 use Rattle.mt_replay.specs.Statuses.{ShowsDump}
-use Rattle.mt_replay.specs.WorkedJoins.{join_script}
+use Rattle.mt_replay.specs.WorkedScript.{join_script}
 use Rattle.mt_replay.specs.WorkedStates.{small_dump}
 
 -- the lines of the dump, the last first

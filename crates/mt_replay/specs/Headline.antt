@@ -2,100 +2,41 @@
 -- interleaving of processor steps, once any processor is told that an accepted update is complete, and until the next is called,
 -- every processor holds those register values, no cache, buffer or TLB entry is older than the update, and memory holds every store
 -- cached before it, save words stored again since. A refused update changes no processor."
---     course text      the steps of a text: what each line behind the dump does, in its order, up to the first offence
---     wrote step, left step      the text that a step writes, and the state that it leaves
 --     IsCall step      the step says `called` or `complete E`, or that a processor came up or joined
 --     Keeps goal era value stored m      every processor has the goal, nothing is older than the update, memory has each word
 --     CompleteUpdatesAreKept, JoinsAreKept, ReleasedUpdatesAreKept      the machine does so from the line `complete E`, `joined K` or `release` on
-use Rattle.std.specs.Prelude.{ℕ, ◌≡◌, ◌<◌, ◌⊎◌, ◌↔◌, ◌+◌, Bool, true, List, [], ◌∷◌, ◌++◌, codes, length, IsSome, ⊤, Option, Some, None, Result, Ok, Err}
+use Rattle.std.specs.Prelude.{ℕ, ◌≡◌, ◌<◌, ◌⊎◌, ◌↔◌, ◌+◌, Bool, true, List, [], ◌∷◌, ◌++◌, codes, length, IsSome, ⊤, Option, Some, None, Ok}
 use Rattle.std.specs.List.{All, Contains}
 use Rattle.std.specs.Option.{option_map_or}
 use Rattle.mt_text.specs.Text.{lines_of}
 use Rattle.mt_ports.specs.declared.status.Status.{Status}
 use Rattle.mt_ports.specs.declared.status.Status.TheVariants.{Done, Refused}
 use Rattle.mt_regs.specs.declared.fault.Fault.{Fault}
-use Rattle.mt_regs.specs.Agreement.{first_refusal}
 use Rattle.mt_regs.specs.RegisterFile.{RegisterFile}
 use Rattle.mt_regs.specs.Faults.{IsAccepted}
-use Rattle.mt_dump.specs.Line.{Reading}
 use Rattle.mt_dump.specs.Dumps.{Dump}
 use Rattle.mt_machine.specs.Memory.{place, word_at}
 use Rattle.mt_machine.specs.System.{now}
 use Rattle.mt_machine.specs.Machine.{Machine, common_era}
 use Rattle.mt_machine.specs.ComingAndGoing.{with_newcomer}
 use Rattle.mt_machine.specs.Update.{IsSettled}
-use Rattle.mt_script.specs.Situation.{Situation}
 use Rattle.mt_script.specs.Commands.{command_of}
 use Rattle.mt_script.specs.Script.{script_offence}
 use Rattle.mt_script.specs.declared.command.Command.{Command}
 use Rattle.mt_script.specs.declared.command.Command.TheVariants as command
-use Rattle.mt_script.specs.declared.fault.ScriptFault.{ScriptFault}
 use Rattle.mt_script.specs.declared.fault.Offence.{Offence}
 use Rattle.mt_output.specs.Lines.{accepted_line, dump_refused_line, line, refused_line}
-use Rattle.mt_replay.specs.Heads.{HeadEnd, head_end, head_of, has_offence, shows_dump, stays_open}
-use Rattle.mt_replay.specs.Kept.{HoldsThrough, start_of}
+use Rattle.mt_replay.specs.Kept.{start_of}
+use Rattle.mt_replay.specs.Through.{HoldsThrough}
 use Rattle.mt_replay.specs.Parts.{IsComing}
-use Rattle.mt_replay.specs.ReplayState.{ReplayState, command_text, first_file, first_state, state_after, with_register}
+use Rattle.mt_replay.specs.ReplayState.{ReplayState, first_file, with_register}
 use Rattle.mt_replay.specs.Running.{Replays, ReplaysAs}
-use Rattle.mt_replay.specs.Statuses.{ShowsDump, emptied_now, stored_by}
+use Rattle.mt_replay.specs.Settling.{emptied_now, stored_by}
+use Rattle.mt_replay.specs.Statuses.{ShowsDump}
 use Rattle.mt_replay.specs.Texts.{called_line, complete_line, joined_line, under_way_line, up_line}
 use Rattle.mt_replay.specs.Transcript.{told_offence, transcript}
 use Rattle.mt_stream.specs.Told.{Told, behind, told}
-
--- ---- steps
-
--- A line behind the dump, with what it asks for, and the state that it finds.
-pub record Step : Type 0 where
-  pub number : ℕ
-  pub command : Command
-  pub before : ReplayState
-
-abbrev pub wrote : Step → List ℕ
-wrote step = command_text step.before step.command
-
-abbrev pub left : Step → ReplayState
-left step = state_after step.before step.command
-
--- of these lines, the first of which has this number, up to the first that is refused
-abbrev pub steps_of : ReplayState → ℕ → (ReplayState → List Step) → Result Command ScriptFault → List Step
-steps_of s number rest (Err fault) = []
-steps_of s number rest (Ok c) = record { number = number; command = c; before = s } ∷ rest (state_after s c)
-
-abbrev pub steps_in : ℕ → List (List ℕ) → ReplayState → List Step
-steps_in number [] s = []
-steps_in number (line ∷ lines) s = steps_of s number (steps_in (number + 1) lines) (command_of s.now number line)
-
--- ---- where the steps of a text begin
-
--- The number of the line behind the dump's end, the lines from there on, and the first state.
-pub record Beginning : Type 0 where
-  pub number : ℕ
-  pub lines : List (List ℕ)
-  pub state : ReplayState
-
--- one of the dump's files may have a fault
-abbrev pub begins_with : Situation → Dump → ℕ → List (List ℕ) → Option (ℕ × Fault) → Option Beginning
-begins_with now dump number lines (Some refusal) = None
-begins_with now dump number lines None = Some (record { number = number; lines = lines; state = first_state now dump })
-
-abbrev pub begins_by : HeadEnd → Option Beginning
-begins_by (stays_open now before) = None
-begins_by (has_offence o) = None
-begins_by (shows_dump now dump number lines) = begins_with now dump number lines (first_refusal dump.files)
-
--- by the situation and the dump's lines so far, of which the last stands first
-abbrev pub Beginnings : Type 0
-Beginnings = Situation → List Reading → Option Beginning
-
-abbrev pub begins_from : ℕ → List (List ℕ) → Beginnings
-begins_from number lines now before = begins_by (head_end number lines now before)
-
--- none where the dump isn't read to its end, or is refused
-abbrev pub beginning : List ℕ → Option Beginning
-beginning text = begins_by (head_of text)
-
-abbrev pub course : List ℕ → List Step
-course text = option_map_or (λ b. steps_in b.number b.lines b.state) (beginning text) []
+use Rattle.mt_replay.specs.Steps.{Step, wrote, left, Beginning, beginning, course, last_of}
 
 -- ---- "the tool writes exactly the transcript of the manual's machine"
 
@@ -247,11 +188,6 @@ pub record Keeps (goal : RegisterFile) (era : ℕ) (value : ℕ → ℕ) (stored
 abbrev pub stored_in : List Step → List ℕ
 stored_in [] = []
 stored_in (step ∷ steps) = option_map_or (λ a. a ∷ stored_in steps) (stored_by step.before step.command) (stored_in steps)
-
--- the state that the last of these steps leaves, or this one
-abbrev pub last_of : ReplayState → List Step → ReplayState
-last_of s [] = s
-last_of s (step ∷ steps) = last_of (left step) steps
 
 -- ---- "once any processor is told that an accepted update is complete": all at once by `complete E`
 

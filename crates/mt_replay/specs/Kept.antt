@@ -1,10 +1,8 @@
 -- What holds of each state that a script comes to (own).
-use Rattle.std.specs.Prelude.{ℕ, ◌≡◌, ◌+◌, ◌≤◌, true, false, List, [], ◌∷◌, length, map, Option, None, Some, Result, Ok, Err, ⊤}
+use Rattle.std.specs.Prelude.{ℕ, ◌≡◌, ◌+◌, ◌≤◌, true, false, List, length, map, Some}
 use Rattle.mt_laws.specs.Kept.{flags_of}
 use Rattle.mt_laws.specs.Settled.{IsFresh}
 use Rattle.std.specs.List.{All}
-use Rattle.mt_regs.specs.declared.fault.Fault.{Fault}
-use Rattle.mt_regs.specs.Agreement.{first_refusal}
 use Rattle.mt_regs.specs.RegisterFile.{IsRegisterFile}
 use Rattle.mt_regs.specs.StartFiles.{AreStartFiles}
 use Rattle.mt_ram.specs.Windows.{window}
@@ -18,12 +16,8 @@ use Rattle.mt_script.specs.Situation.{Situation}
 use Rattle.mt_script.specs.Kept.{IsSituation}
 use Rattle.mt_script.specs.Stages.{is_past_dump, takes_windows}
 use Rattle.mt_script.specs.Accept.{Fits}
-use Rattle.mt_script.specs.Commands.{command_of}
 use Rattle.mt_script.specs.declared.command.Command.{Command}
-use Rattle.mt_script.specs.declared.fault.ScriptFault.{ScriptFault}
-use Rattle.mt_replay.specs.Heads.{HeadEnd, head_of, has_offence, shows_dump, stays_open}
-use Rattle.mt_replay.specs.ReplayState.{ReplayState, first_state, state_after}
-use Rattle.mt_replay.specs.Texts.{stale_count}
+use Rattle.mt_replay.specs.ReplayState.{ReplayState, state_after}
 
 abbrev pub windows_of : Situation → List Window
 windows_of now = map (λ w. window w.0 w.1) now.windows
@@ -69,42 +63,9 @@ pub record IsReplayState (s : ReplayState) : Type 0 where
 abbrev pub HasEras : ℕ → ReplayState → Type 0
 HasEras most s = All (λ p. p.era ≤ most) s.machine.system.processors
 
--- a report tells of nothing stale
-abbrev pub NothingIsStale : Type 0
-NothingIsStale = (s : ReplayState) → IsReplayState s → All (λ p. stale_count p ≡ 0) s.machine.system.processors
-
 -- each command that fits keeps it, and finishes at most one update
 abbrev pub CommandsKeep : Type 0
 CommandsKeep = (s : ReplayState) (c : Command) → IsReplayState s → Fits s.now c → IsReplayState (state_after s c)
 
 abbrev pub CommandsFinishOne : Type 0
 CommandsFinishOne = (s : ReplayState) (c : Command) (most : ℕ) → IsReplayState s → Fits s.now c → HasEras most s → HasEras (most + 1) (state_after s c)
-
--- ---- whole scripts
-
-abbrev pub EachAfter : (ReplayState → Type 0) → ReplayState → Result Command ScriptFault → (ReplayState → Type 0) → Type 0
-EachAfter P s (Err fault) rest = ⊤
-EachAfter P s (Ok c) rest = rest (state_after s c)
-
--- it holds of this state, and of each that these lines lead to, the first of which has this number
-abbrev pub EachIn : (ReplayState → Type 0) → ℕ → List (List ℕ) → ReplayState → Type 0
-EachIn P number [] s = P s
-EachIn P number (line ∷ lines) s = P s × EachAfter P s (command_of s.now number line) (EachIn P (number + 1) lines)
-
--- it is nothing where a fault of a file ends the transcript before the commands
-abbrev pub EachOfDump : Situation → Dump → (ReplayState → Type 0) → Option (ℕ × Fault) → Type 0
-EachOfDump now dump rest (Some refusal) = ⊤
-EachOfDump now dump rest None = rest (first_state now dump)
-
--- nor where the dump isn't read to its end
-abbrev pub EachBy : (ReplayState → Type 0) → HeadEnd → Type 0
-EachBy P (stays_open now before) = ⊤
-EachBy P (has_offence o) = ⊤
-EachBy P (shows_dump now dump number lines) = EachOfDump now dump (EachIn P number lines) (first_refusal dump.files)
-
--- it holds of each state that a text comes to
-abbrev pub HoldsThrough : (ReplayState → Type 0) → List ℕ → Type 0
-HoldsThrough P text = EachBy P (head_of text)
-
-abbrev pub ScriptsKeep : Type 0
-ScriptsKeep = (text : List ℕ) → HoldsThrough IsReplayState text

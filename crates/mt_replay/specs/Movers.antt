@@ -5,7 +5,7 @@
 use Rattle.std.specs.Prelude.{ℕ, ◌≡◌, ◌<◌, ◌≤◌, ◌⊎◌, ◌↔◌, List, length, IsSome, None}
 use Rattle.mt_machine.specs.ComingAndGoing.{last_number, without_last}
 use Rattle.mt_script.specs.declared.command.Command.TheVariants as command
-use Rattle.mt_replay.specs.Headline.{Step, left, wrote}
+use Rattle.mt_replay.specs.Steps.{Step, left, wrote}
 use Rattle.mt_replay.specs.Parts.{IsComing}
 use Rattle.mt_replay.specs.Texts.{full_line, no_line, retired_line, under_way_line}
 

@@ -9,7 +9,7 @@ use Rattle.std.specs.Option.{option_map}
 use Rattle.mt_text.specs.Text.{lines_of}
 use Rattle.mt_text.specs.Number.{hex_number}
 use Rattle.mt_text.specs.declared.fault.NumberFault.{NumberFault}
-use Rattle.mt_replay.specs.Headline.{Beginning, beginning, last_of, steps_in}
+use Rattle.mt_replay.specs.Steps.{Beginning, beginning, last_of, steps_in}
 use Rattle.mt_replay.specs.ReplayState.{ReplayState}
 use Rattle.mt_replay.specs.Transcript.{transcript}
 use Rattle.mt_replay.specs.declared.summing.Totals.{Totals}

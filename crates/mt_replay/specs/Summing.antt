@@ -11,7 +11,7 @@ use Rattle.mt_regs.specs.declared.fault.Fault.{Fault}
 use Rattle.mt_regs.specs.Agreement.{first_refusal}
 use Rattle.mt_dump.specs.Dumps.{Dump}
 use Rattle.mt_script.specs.Situation.{Situation}
-use Rattle.mt_replay.specs.Headline.{begins_from, last_of, steps_in}
+use Rattle.mt_replay.specs.Steps.{begins_from, last_of, steps_in}
 use Rattle.mt_replay.specs.ReplayState.{ReplayState, first_state}
 use Rattle.mt_replay.specs.Running.{IsAt}
 use Rattle.mt_replay.specs.Transcript.{Point, in_body, in_head}

@@ -1,14 +1,23 @@
--- A worked script of two processors: an update by steps, one all at once, a refused one, and a store behind each of the first two.
-use Rattle.std.specs.Prelude.{ℕ, ◌≡◌, ◌+◌, List, [], ◌∷◌, ◌++◌, codes, drop, if◌then◌else◌, ◌==◌, replicate, slice_index_or, take, None}
+-- Scripts at whose steps the laws are shown to speak of something.
+use Rattle.std.specs.Prelude.{ℕ, Bool, not, List, ◌++◌, codes, drop, is_some, slice_index_or, take}
 use Rattle.mt_regs.specs.RegisterFile.{RegisterFile, blank_file}
 use Rattle.mt_dump.specs.Dumps.{dump_of}
-use Rattle.mt_machine.specs.System.{Processor, start_processor}
 use Rattle.mt_machine.specs.Machine.{Machine}
-use Rattle.mt_output.specs.Lines.{line}
+use Rattle.mt_machine.specs.System.{now}
 use Rattle.mt_script.specs.Situation.{at_start}
 use Rattle.mt_script.specs.declared.command.Command.TheVariants as command
-use Rattle.mt_replay.specs.Headline.{IsCall, Keeps, NoneOf, Step, course, stored_in}
-use Rattle.mt_replay.specs.ReplayState.{first_state}
+use Rattle.mt_replay.specs.Headline.{Keeps, UpdateOf, called_goal, next_era, stored_in}
+use Rattle.mt_replay.specs.Steps.{Step, course, last_of, left}
+use Rattle.mt_replay.specs.ReplayState.{ReplayState, first_state}
+
+abbrev pub no_step : Step
+no_step = record { number = 0; command = command.Blank; before = first_state at_start (dump_of (blank_file 36 0)) }
+
+-- these values and registers are kept from a step on, through steps behind it
+abbrev pub KeptFrom : RegisterFile → ℕ → (ℕ → ℕ) → Step → List Step → Type 0
+KeptFrom goal era value step since = Keeps goal era value (stored_in since) (last_of (left step) since).machine
+
+-- ---- two processors: an update by steps, one all at once, a refused one, and a store behind each of the first two
 
 -- all memory is WB, and a store stays in processor 0's cache
 abbrev pub worked_setup : List ℕ
@@ -32,28 +41,7 @@ worked_update = codes "update\n2ff 806\nend\nstore 0 1000 5\nword 100000\nword 1
 abbrev pub worked_script : List ℕ
 worked_script = worked_setup ++ worked_steps ++ worked_releases ++ worked_update
 
-abbrev pub worked_lines : List (List ℕ)
-worked_lines =
-    [] ∷ line (codes "ok") ∷ line (codes "ok") ∷ line (codes "stored WB")
-    ∷ [] ∷ [] ∷ line (codes "called") ∷ line (codes "go")
-    ∷ line (codes "take") ∷ line (codes "take") ∷ line (codes "arrive") ∷ line (codes "arrive") ∷ line (codes "pass") ∷ line (codes "pass")
-    ∷ line (codes "no-fill") ∷ line (codes "no-fill") ∷ line (codes "write-back 0000000100000")
-    ∷ line (codes "drop") ∷ line (codes "flush-tlb") ∷ line (codes "disable") ∷ line (codes "write 277") ∷ line (codes "enable")
-    ∷ line (codes "drop") ∷ line (codes "flush-tlb") ∷ line (codes "normal") ∷ line (codes "restore") ∷ line (codes "arrive-again")
-    ∷ line (codes "drop") ∷ line (codes "flush-tlb") ∷ line (codes "disable") ∷ line (codes "write 277") ∷ line (codes "enable")
-    ∷ line (codes "drop") ∷ line (codes "flush-tlb") ∷ line (codes "normal") ∷ line (codes "restore") ∷ line (codes "arrive-again")
-    ∷ line (codes "release") ∷ line (codes "stored UC") ∷ line (codes "release")
-    ∷ line (codes "memory 000000000000002a") ∷ line (codes "memory 0000000000000007")
-    ∷ [] ∷ [] ∷ line (codes "complete 2") ∷ line (codes "stored WB")
-    ∷ line (codes "memory 000000000000002a") ∷ line (codes "memory 0000000000000007")
-    ∷ [] ∷ [] ∷ line (codes "refused 2ff unsupported type") ∷ []
-
--- ---- where the premises of the headline hold
-
-abbrev pub no_step : Step
-no_step = record { number = 0; command = command.Blank; before = first_state at_start (dump_of (blank_file 36 0)) }
-
--- a step of the worked script, the first being 0
+-- a step of it, the first being 0
 abbrev pub step_at : ℕ → Step
 step_at k = slice_index_or (course worked_script) k no_step
 
@@ -61,33 +49,50 @@ step_at k = slice_index_or (course worked_script) k no_step
 abbrev pub steps_at : ℕ → ℕ → List Step
 steps_at k count = take count (drop k (course worked_script))
 
--- it is this step of its script, behind which so many steps call for no update and store these words
-pub record HasNoCallSince (k count : ℕ) (words : List ℕ) : Type 0 where
-  pub stands : course worked_script ≡ take k (course worked_script) ++ step_at k ∷ (steps_at (k + 1) count ++ drop count (drop (k + 1) (course worked_script)))
-  pub quiet : NoneOf IsCall (steps_at (k + 1) count)
-  pub stored : stored_in (steps_at (k + 1) count) ≡ words
+-- the steps in front of one
+abbrev pub front_of : ℕ → List Step
+front_of k = take k (course worked_script)
 
--- the end of the first section, with another goal
-abbrev pub with_other_goal : Step
-with_other_goal = record (step_at 6) { before = record (step_at 6).before { goal = (step_at 4).before.goal } }
+-- the steps behind the first release, and the machine behind them
+abbrev pub after_release : List Step
+after_release = steps_at 38 6
 
--- ---- what the relations refuse
+abbrev pub end_of_release : Machine
+end_of_release = (last_of (left (step_at 37)) after_release).machine
 
-abbrev pub worked_file : RegisterFile
-worked_file = blank_file 36 0x400
+-- the first release tells of an update, whose registers and words are kept behind it
+pub record IsReleaseOfUpdate : Type 0 where
+  pub update : UpdateOf (front_of 37) (step_at 37)
+  pub kept : Keeps (called_goal update.call) (next_era update.call) (now update.pass.before.machine.system) (stored_in (update.again ++ after_release)) end_of_release
 
--- a machine of one processor, whose memory has one line of zeros
-abbrev pub machine_of : Processor → Machine
-machine_of p = record { system = record { processors = p ∷ []; memory = record { windows = record { base = 0x100000; lines = 1 } ∷ []; words = replicate 8 0 } }; order = None }
+-- ---- one section, and a line behind it
 
--- a processor behind its first update
-abbrev pub updated_processor : Processor
-updated_processor = record (start_processor worked_file) { era = 1 }
+abbrev pub section_script : List ℕ
+section_script = codes "cpus 1\ndump\n0fe 400\n2ff 806\nend\nbegin\n2ff 800\nend\ngo\n"
 
--- the machine keeps what the headline promises of an update to this file, the first, behind which these words were stored
-abbrev pub IsKept : (ℕ → ℕ) → List ℕ → Processor → Type 0
-IsKept value stored p = Keeps worked_file 1 value stored (machine_of p)
+abbrev pub section_at : ℕ → Step
+section_at k = slice_index_or (course section_script) k no_step
 
--- the first word was stored, the others are zeros
-abbrev pub seven_stored : ℕ → ℕ
-seven_stored address = if address == 0x100000 then 7 else 0
+-- ---- a processor joins, and stores to memory itself
+
+abbrev pub join_script : List ℕ
+join_script =
+    codes "cpus 1\ndump\n0fe 400\n2ff 800\nend\nram 100000 1\njoin\n"
+    ++ codes "map 1 1000 100000 0\nstore 1 1000 7\nload 1 1000\n"
+
+abbrev pub join_at : ℕ → Step
+join_at k = slice_index_or (course join_script) k no_step
+
+abbrev pub joins_at : ℕ → ℕ → List Step
+joins_at k count = take count (drop k (course join_script))
+
+-- no update is under way
+abbrev pub is_idle : ReplayState → Bool
+is_idle s = not (is_some s.machine.order)
+
+-- ---- a store to memory itself, and then a line of no command; the lines behind it aren't read
+
+abbrev pub bad_script : List ℕ
+bad_script =
+    codes "cpus 1\ndump\n0fe 400\n2ff 800\nend\nram 100000 1\nmap 0 1000 100000 0\n"
+    ++ codes "store 0 1000 7\nnothing\nstore 0 1000 8\n"

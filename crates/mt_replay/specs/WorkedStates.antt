@@ -1,28 +1,17 @@
--- States of worked examples.
-use Rattle.std.specs.Prelude.{ℕ, true, false, replicate, List, [], ◌∷◌, codes, slice_set, Some}
-use Rattle.mt_kinds.specs.declared.mem_type.MemType.TheVariants.{WB}
-use Rattle.mt_regs.specs.RegisterFile.{blank_file}
-use Rattle.mt_dump.specs.Dumps.{Dump, dump_of}
-use Rattle.mt_machine.specs.System.{Processor, start_processor}
+-- States and machines of worked instances.
+use Rattle.std.specs.Prelude.{ℕ, true, false, List, [], ◌∷◌, codes, replicate, slice_set, Some}
+use Rattle.mt_dump.specs.Dumps.{dump_of}
+use Rattle.mt_flat.specs.Flat.{Flat}
+use Rattle.mt_machine.specs.Memory.{Memory}
+use Rattle.mt_machine.specs.System.{Processor}
 use Rattle.mt_machine.specs.Machine.{Machine, MachineEvent, Calls, run}
-use Rattle.mt_machine.specs.Start.{start_machine}
 use Rattle.mt_machine.specs.Update.{updated}
 use Rattle.mt_machine_laws.specs.MachineWorkedRuns.{bare_file, idle, machine_of, mapping, palette, store}
-use Rattle.mt_script.specs.Situation.{Situation}
+use Rattle.mt_script.specs.Situation.{Situation, at_start}
+use Rattle.mt_script.specs.declared.command.Command.TheVariants.{Join}
 use Rattle.mt_script.specs.declared.command.Stage.{Stage}
-use Rattle.mt_script.specs.declared.command.Stage.TheVariants.{Commands, InUpdate, Rams}
-use Rattle.mt_replay.specs.ReplayState.{ReplayState}
-
--- a processor as it starts
-abbrev pub starter : Processor
-starter = start_processor (blank_file 36 0x508)
-
--- with a dirty word and an entry
-abbrev pub holder_of_one : Processor
-holder_of_one = record starter {
-  lines = record { number = 0x4000; words = replicate 8 0x2b; dirty = 1; era = 0 } ∷ [];
-  entries = record { vpage = 1; ppage = 0x100; kind = WB; global = false; era = 0 } ∷ [];
-}
+use Rattle.mt_script.specs.declared.command.Stage.TheVariants.{Commands, InDump, InUpdate}
+use Rattle.mt_replay.specs.ReplayState.{ReplayState, first_state, machine_after}
 
 abbrev pub two_processors : Stage → Situation
 two_processors stage = record { stage = stage; cpus = 2; dump = Some (dump_of (bare_file 0x800)); windows = (0x100000, 64) ∷ []; seen = []; moving = false }
@@ -55,6 +44,20 @@ resting stage = state_of stage (machine_of (idle ∷ idle ∷ []))
 abbrev pub busy : Stage → ReplayState
 busy stage = state_of stage (run (machine_of (idle ∷ idle ∷ [])) (Calls (bare_file 0x800) ∷ []))
 
+-- each word is nine, and nothing is pending
+abbrev pub nines : Flat
+nines = record { values = λ address. 9; pending = λ k. [] }
+
+-- with another memory
+abbrev pub over : Memory → Machine → Machine
+over memory m = record m { system = record m.system { memory = memory } }
+
+-- with another first processor
+abbrev pub with_first : Processor → Machine → Machine
+with_first p m = record m { system = record m.system { processors = slice_set m.system.processors 0 p } }
+
+-- ---- after whole updates
+
 -- the word at 100000H is dirty in a cache, at the end of a section
 abbrev pub at_end : ReplayState
 at_end = state_of InUpdate (run palette (store 0 0x1000 7 ∷ []))
@@ -74,24 +77,27 @@ late_at_end = state_of InUpdate (machine_of (idle ∷ record idle { mappings = m
 abbrev pub late_after_end : Machine
 late_after_end = machine_of (risen ∷ risen ∷ [])
 
--- with another first processor
-abbrev pub with_first : Processor → Machine → Machine
-with_first p m = record m { system = record m.system { processors = slice_set m.system.processors 0 p } }
+-- ---- after joins
 
--- a script that is no more than its dump
+abbrev pub after_join : ReplayState → Machine
+after_join s = machine_after s Join
+
+-- a word is dirty in a cache
+abbrev pub stored : ReplayState
+stored = painted_by (store 0 0x1000 7 ∷ [])
+
+-- the second of two has finished more updates
+abbrev pub unlike_eras : ReplayState
+unlike_eras = record (crowd 2) { machine = late_at_end.machine }
+
+-- ---- dumps
+
+-- a script that is no more than its dump, and its first state
 abbrev pub small_dump : List ℕ
 small_dump = codes "cpus 1\ndump\n0fe 400\n2ff 806\nend\n"
 
--- two sections, with a register that differs
-abbrev pub pair : Dump
-pair = record { version = 2; files = bare_file 0x806 ∷ bare_file 0x800 ∷ [] }
-
--- both have a file that isn't the dump's
-abbrev pub with_other_files : ReplayState
-with_other_files = record (state_of Rams (start_machine (bare_file 0x806 ∷ bare_file 0x806 ∷ []) [])) { now = record (two_processors Rams) { dump = Some pair; windows = [] } }
-
-abbrev pub paired_dump : List ℕ
-paired_dump = codes "cpus 2\ndump\nversion 2\ncpu 0\n0fe 400\n2ff 806\ncpu 1\n2ff 800\nend\n"
+abbrev pub just_dumped : ReplayState
+just_dumped = first_state (record at_start { stage = InDump; cpus = 1 }) (dump_of (bare_file 0x806))
 
 -- the second section has a type that there is not
 abbrev pub later_refused : List ℕ

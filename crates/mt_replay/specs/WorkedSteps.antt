@@ -1,19 +1,17 @@
--- Steps of a worked course: a section of `begin` without lines, its end, a pass and a release.
-use Rattle.std.specs.Prelude.{ℕ, List, [], ◌∷◌, ◌==◌, if◌then◌else◌}
-use Rattle.mt_machine.specs.System.{Processor}
+-- Steps of worked instances: a section of `begin` without lines, its end, a pass and a release; and what an update keeps.
+use Rattle.std.specs.Prelude.{ℕ, List, [], ◌∷◌, ◌==◌, if◌then◌else◌, replicate, None}
+use Rattle.mt_regs.specs.RegisterFile.{RegisterFile, blank_file}
+use Rattle.mt_machine.specs.System.{Processor, start_processor}
 use Rattle.mt_machine.specs.Machine.{Machine}
-use Rattle.mt_machine.specs.Update.{updated}
-use Rattle.mt_machine.specs.Start.{zero_memory}
-use Rattle.mt_machine_laws.specs.MachineWorkedRuns.{bare_file, calling, line_of, one_window, palette, store}
-use Rattle.mt_machine.specs.Machine.{run}
+use Rattle.mt_machine_laws.specs.MachineWorkedRuns.{calling, line_of}
 use Rattle.mt_machine_laws.specs.RunWorkedRuns.{pair_order}
 use Rattle.mt_machine_laws.specs.CoreWorkedRuns.{come, come_again}
-use Rattle.mt_flat.specs.Flat.{Flat}
 use Rattle.mt_script.specs.declared.command.Command.{Command}
 use Rattle.mt_script.specs.declared.command.Command.TheVariants as command
-use Rattle.mt_script.specs.declared.command.Stage.TheVariants.{Commands, InBegin, InUpdate}
+use Rattle.mt_script.specs.declared.command.Stage.TheVariants.{Commands, InBegin}
 use Rattle.mt_replay.specs.ReplayState.{ReplayState}
-use Rattle.mt_replay.specs.Headline.{Step, left}
+use Rattle.mt_replay.specs.Headline.{Keeps}
+use Rattle.mt_replay.specs.Steps.{Step}
 use Rattle.mt_replay.specs.WorkedStates.{busy, painted, resting, state_of}
 
 abbrev pub step_of : Command → ReplayState → Step
@@ -42,24 +40,26 @@ passes_over_a_buffer = passes_by (come ∷ record come { buffers = line_of 0x400
 abbrev pub releases : Step
 releases = passes_by (come_again ∷ come_again ∷ [])
 
--- two stores, the second behind the first
 abbrev pub first_store : Step
 first_store = step_of (command.Store 0 0x1000 7) painted
 
-abbrev pub second_store : Step
-second_store = step_of (command.Store 1 0x2008 8) (left first_store)
+-- ---- what an update keeps
 
--- the second word was stored, the others are zeros
-abbrev pub second_is_seven : ℕ → ℕ
-second_is_seven address = if address == 0x100008 then 7 else 0
+abbrev pub worked_file : RegisterFile
+worked_file = blank_file 36 0x400
 
--- the second word is dirty in a cache, at the end of a section; and the machine after its update, with zeros in memory
-abbrev pub second_at_end : ReplayState
-second_at_end = state_of InUpdate (run palette (store 0 0x1008 7 ∷ []))
+-- a machine of one processor, whose memory has one line of zeros
+abbrev pub machine_of : Processor → Machine
+machine_of p = record { system = record { processors = p ∷ []; memory = record { windows = record { base = 0x100000; lines = 1 } ∷ []; words = replicate 8 0 } }; order = None }
 
-abbrev pub second_lost : Machine
-second_lost = let m = updated second_at_end.machine.system (0 ∷ 1 ∷ []) (bare_file 0x800) in record m { system = record m.system { memory = zero_memory one_window } }
+-- a processor behind its first update
+abbrev pub updated_processor : Processor
+updated_processor = record (start_processor worked_file) { era = 1 }
 
--- each word is nine, and nothing is pending
-abbrev pub nines : Flat
-nines = record { values = λ address. 9; pending = λ k. [] }
+-- the machine keeps what the headline promises of an update to this file, the first, behind which these words were stored
+abbrev pub IsKept : (ℕ → ℕ) → List ℕ → Processor → Type 0
+IsKept value stored p = Keeps worked_file 1 value stored (machine_of p)
+
+-- the first word was stored, the others are zeros
+abbrev pub seven_stored : ℕ → ℕ
+seven_stored address = if address == 0x100000 then 7 else 0

@@ -1,4 +1,5 @@
-ghost use Rattle.mt_replay.specs.Kept.{CommandsFinishOne, CommandsKeep, NothingIsStale, ScriptsKeep};
+ghost use Rattle.mt_replay.specs.Kept.{CommandsFinishOne, CommandsKeep};
+ghost use Rattle.mt_replay.specs.Through.{NothingIsStale, ScriptsKeep};
 
 /// Each command that fits keeps what holds of each state of a script.
 pub fn commands_keep_a_state()

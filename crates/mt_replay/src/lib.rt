@@ -12,24 +12,18 @@ mod replayer;
 mod report;
 mod running;
 mod statuses;
-#[cfg(test)]
-mod summary_tests;
 mod summing;
-#[cfg(test)]
-mod tests;
 mod texts;
-pub mod worked;
+mod worked;
+mod worked_laws;
 
-pub use headline::{
-    processors_come_and_go_by_lines, the_headline_holds, worked_course, worked_headline,
-    worked_refusals, worked_since, worked_updates_of_steps,
-};
+pub use headline::{processors_come_and_go_by_lines, the_headline_holds};
 pub use hidden::caches_are_never_seen_in_scripts;
 pub use kept::{
     commands_finish_one_update, commands_keep_a_state, nothing_is_stale_in_scripts,
     scripts_keep_each_state,
 };
-pub use known::{known_lines_write_a_front, worked_known_lines, worked_replays};
+pub use known::known_lines_write_a_front;
 pub use laws::{same_files_are_equal, the_first_fault_is_first};
 pub use replayer::Replayer;
 pub use running::replay;
@@ -40,3 +34,14 @@ pub use statuses::{
     statuses_tell_of_offences, stored_words_are_held,
 };
 pub use summing::{Totals, summary};
+pub use worked::{
+    worked_calling_steps, worked_dumps, worked_each_state, worked_early_texts, worked_flat_values,
+    worked_joined_states, worked_line_ends, worked_moving_steps, worked_refusals,
+    worked_settled_states, worked_short_updates, worked_updates_of_steps, worked_without_call,
+    worked_words,
+};
+pub use worked_laws::{
+    worked_laws_of_beginnings, worked_laws_of_calls, worked_laws_of_dumps, worked_laws_of_movers,
+    worked_laws_of_sections, worked_laws_of_states, worked_laws_of_statuses,
+    worked_laws_of_told_updates, worked_laws_of_transcripts, worked_laws_of_updates,
+};

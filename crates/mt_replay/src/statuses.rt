@@ -1,4 +1,6 @@
-ghost use Rattle.mt_replay.specs.Statuses.{AbsentProcessorsDoNothing, AbsentWhereNoProcessor, AcceptedCallsAreUnderWay, AcceptedFirst, AcceptedUnlessRefused, AcceptedWhereIdle, BadTextEndsWithOffence, BadTextWhereOffence, CallsUnderWayChangeNothing, CompleteUpdatesSettle, DoneWhereNoOffence, JoinsSettle, OffenceAlone, OneDumpShown, OneOfThreeStatuses, RefusedAlone, RefusedCallsChangeNothing, RefusedWhereFileIsRefused, ReleasedStatesSettle, ReleasedWordsAreHeld, StatesHaveTheShownDump, UpdatedWordsAreHeld};
+ghost use Rattle.mt_replay.specs.Settling.{AbsentProcessorsDoNothing, AbsentWhereNoProcessor, AcceptedCallsAreUnderWay, AcceptedWhereIdle, CallsUnderWayChangeNothing, CompleteUpdatesSettle, JoinsSettle, RefusedCallsChangeNothing, ReleasedStatesSettle, ReleasedWordsAreHeld, UpdatedWordsAreHeld};
+ghost use Rattle.mt_replay.specs.Statuses.{AcceptedFirst, AcceptedUnlessRefused, BadTextEndsWithOffence, BadTextWhereOffence, DoneWhereNoOffence, OffenceAlone, OneDumpShown, OneOfThreeStatuses, RefusedAlone, RefusedWhereFileIsRefused};
+ghost use Rattle.mt_replay.specs.Through.{StatesHaveTheShownDump};
 
 /// A text shows no two dumps.
 pub fn a_text_shows_one_dump()

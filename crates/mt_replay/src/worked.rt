@@ -1,195 +1,164 @@
-//! Worked runs: what lines, states, steps and texts of scripts come to, and instances of the laws.
-mod acting;
-mod any_state;
-mod any_text;
-mod asking;
-mod commands;
-mod headline;
-mod joining;
-mod kept;
-mod laws;
-mod moving;
-mod parts;
-mod points;
-mod promises;
-mod relations;
-mod runs;
-mod statements;
-mod states;
-mod steps;
-mod summaries;
-mod sums;
-mod tellings;
+// Instances of the relations that laws cite: what meets each, and for each part what fails in that alone.
+ghost use Rattle.std.specs.Prelude.{◌≡◌, ◌∷◌, [], codes, replicate, false};
+ghost use Rattle.mt_kinds.specs.declared.mem_type.MemType.TheVariants.{WB};
+ghost use Rattle.mt_dump.specs.Dumps.{dump_of};
+ghost use Rattle.mt_machine.specs.declared.done.Done.TheVariants.{Value};
+ghost use Rattle.mt_machine.specs.Machine.{Calls, run};
+ghost use Rattle.mt_machine.specs.Start.{zero_memory};
+ghost use Rattle.mt_machine_laws.specs.MachineWorkedRuns.{bare_file, idle, machine_of, one_window, palette, store};
+ghost use Rattle.mt_ports.specs.declared.status.Status.TheVariants.{Done};
+ghost use Rattle.mt_script.specs.declared.command.Command.TheVariants as asks;
+ghost use Rattle.mt_script.specs.declared.command.Stage.TheVariants as stage;
+ghost use Rattle.mt_stream.specs.Told.{told};
+ghost use Rattle.mt_replay.specs.Flat.{flat_done, flat_told_in};
+ghost use Rattle.mt_replay.specs.Headline.{ComesUp, HasNewcomer, IsCall, IsCalled, IsRefused, Joins, NoneOf, SectionOf, UpdateOf};
+ghost use Rattle.mt_replay.specs.Through.{EachIn, HoldsThrough};
+ghost use Rattle.mt_replay.specs.Movers.{Stays};
+ghost use Rattle.mt_replay.specs.Newcomers.{early_text};
+ghost use Rattle.mt_replay.specs.Settling.{AreHeld, AreWithoutCall, EndsIdle, IsAdmittedAfter, IsSettledAfter, stored_by_all};
+ghost use Rattle.mt_replay.specs.Statuses.{BeginsWith, EndsWith, ShowsDump, ShowsNoDump};
+ghost use Rattle.mt_replay.specs.Texts.{full_line, no_line, up_line};
+ghost use Rattle.mt_replay.specs.WorkedStates.{after_end, after_join, at_end, busy, crowd, crowd_in_update, late_after_end, late_at_end, nines, over, painted, painted_by, resting, risen, small_dump, stored, two_processors, unlike_eras, with_first};
+ghost use Rattle.mt_replay.specs.WorkedSteps.{IsKept, begins, calls, first_store, is_late, passes, passes_over_a_buffer, releases, seven_stored, step_of, updated_processor, worked_file};
 
-ghost use Rattle.std.specs.Prelude.{◌≡◌, ◌∷◌, ◌++◌, [], codes, replicate, true, false, None, Some};
-ghost use Rattle.mt_kinds.specs.declared.mem_type.MemType.TheVariants.{UC, WC, WB};
-ghost use Rattle.mt_regs.specs.declared.fault.Reason.TheVariants.{ReservedBit, UnsupportedType, BrokenMask, UndefinedOverlap};
-ghost use Rattle.mt_regs.specs.RegisterFile.{blank_file};
-ghost use Rattle.mt_machine.specs.declared.done.Done.TheVariants as done;
-ghost use Rattle.mt_machine.specs.declared.ruled.Ruled.TheVariants as ruled;
-ghost use Rattle.mt_machine.specs.declared.event.Event.TheVariants as event;
-ghost use Rattle.mt_machine.specs.declared.phase.Phase.TheVariants as phase;
-ghost use Rattle.mt_machine.specs.System.{start_processor};
-ghost use Rattle.mt_core.specs.declared.fault.CallFault.TheVariants.{Refused, UnderWay};
-ghost use Rattle.mt_core.specs.declared.stepped.Stepped.TheVariants.{Did, Waits, NoUpdate};
-ghost use Rattle.mt_replay.specs.WorkedStates.{holder_of_one, starter};
-ghost use Rattle.mt_replay.specs.Texts.{call_fault_line, called_line, cancel_line, complete_line, done_line, event_text, go_line, have_one_file, memory_line, phase_text, processor_line, processor_lines, register_line, registers_line, report_text, ruled_line, stepped_line};
+/// What an update keeps, and steps of which none calls.
+pub fn worked_refusals()
+    ensures kept { IsKept (λ a. 0) [] updated_processor }
+    ensures other_register { IsKept (λ a. 0) [] (record updated_processor { file = record worked_file { default_type = 0x800 } }) → ⊥ }
+    ensures stored_again { IsKept seven_stored (0x100000 ∷ []) updated_processor }
+    ensures other_word_stored { IsKept seven_stored (0x100008 ∷ []) updated_processor → ⊥ }
+    ensures quiet { NoneOf IsCall (passes ∷ releases ∷ []) }
+    ensures first_calls { NoneOf IsCall (calls ∷ begins ∷ []) → ⊥ }
+    ensures later_call { NoneOf IsCall (begins ∷ calls ∷ []) → ⊥ }
+{}
 
-pub use acting::{worked_effects_of_the_second, worked_kinds_of_commands, worked_rare_texts};
-pub use any_state::{worked_laws_of_any_state, worked_laws_of_any_step};
-pub use any_text::{
-    worked_calls_of_any_text, worked_courses_of_any_text, worked_statuses_of_any_text,
-    worked_updates_in_any_state, worked_updates_of_any_text,
-};
-pub use asking::{worked_asking, worked_newcomers_from};
-pub use commands::{worked_commands, worked_effects};
-pub use headline::{
-    worked_calling_steps, worked_empty_course, worked_flat_of_two, worked_kept_by_two,
-    worked_refused_steps, worked_settled_of_two, worked_still_commands,
-};
-pub use joining::{
-    worked_called_goals, worked_join_summary, worked_joined_states, worked_moving_steps,
-};
-pub use kept::{worked_kept_alone, worked_rests, worked_starts};
-pub use laws::{
-    worked_laws_of_movers, worked_laws_of_sections, worked_laws_of_transcripts,
-    worked_laws_of_updates,
-};
-pub use moving::{
-    worked_absent, worked_admitted_states, worked_early_texts, worked_flat_moves, worked_moved,
-    worked_moves, worked_newcomer_lines, worked_newcomers, worked_without_newcomer,
-};
-pub use parts::{
-    worked_any_complete_update, worked_any_join, worked_any_kept, worked_any_newcomer,
-    worked_any_rest, worked_any_state,
-};
-pub use points::worked_points;
-pub use promises::{
-    worked_laws_of_beginnings, worked_laws_of_calls, worked_laws_of_dumps, worked_laws_of_states,
-    worked_laws_of_statuses, worked_laws_of_told_updates,
-};
-pub use relations::{
-    worked_parts_of_calls, worked_parts_of_sections, worked_parts_of_states,
-    worked_parts_of_the_flat_transcript, worked_parts_of_updates,
-};
-pub use runs::{
-    worked_carried_out, worked_ends_of_runs, worked_paths, worked_points_of_heads, worked_writes,
-};
-pub use statements::{
-    worked_laws_in_full, worked_laws_in_full_of_states, worked_laws_in_full_of_statuses,
-};
-pub use states::{
-    worked_dumps, worked_each_state, worked_heads, worked_kept, worked_sections,
-    worked_settled_states, worked_without_call, worked_words,
-};
-pub use steps::{worked_flat_values, worked_last_states, worked_line_ends, worked_short_updates};
-pub use summaries::{worked_summaries, worked_told_lines, worked_told_texts};
-pub use sums::{worked_begins, worked_lasts, worked_sums};
-pub use tellings::worked_tellings;
+/// Steps that call for an update, by each of the four lines, and steps that don't.
+pub fn worked_calling_steps()
+    ensures section { IsCall calls }
+    ensures complete { IsCall (step_of asks.End (resting stage.InUpdate)) }
+    ensures up { IsCall (step_of asks.Up (crowd 2)) }
+    ensures join { IsCall (step_of asks.Join (crowd 2)) }
+    ensures retire { IsCall (step_of asks.Retire (crowd 2)) → ⊥ }
+    ensures other_number { ComesUp (step_of asks.Up (crowd 2)) 3 → ⊥ }
+    ensures other_joined { Joins (step_of asks.Join (crowd 2)) 3 → ⊥ }
+    ensures called { IsCalled (step_of asks.Up (crowd 2)) }
+    ensures joined_not_called { IsCalled (step_of asks.Join (crowd 2)) → ⊥ }
+{}
 
-/// What accesses and control instructions are answered.
+/// A section and an update of a few steps, and what isn't theirs in one part; and refused steps.
+pub fn worked_short_updates()
+    ensures section { SectionOf (begins ∷ []) calls }
+    ensures section_elsewhere { (u : SectionOf (begins ∷ []) calls) → u.before ≡ begins ∷ [] → ⊥ }
+    ensures update { UpdateOf (calls ∷ passes ∷ []) releases }
+    ensures update_elsewhere { (u : UpdateOf (calls ∷ passes ∷ []) releases) → u.before ≡ calls ∷ passes ∷ releases ∷ [] → ⊥ }
+    ensures call_behind_the_first_release { (u : UpdateOf (calls ∷ passes ∷ releases ∷ calls ∷ passes ∷ []) releases)
+        → u.waiting ≡ [] → u.pass ≡ passes → u.between ≡ [] → u.first ≡ releases → u.again ≡ calls ∷ passes ∷ releases ∷ [] → ⊥ }
+    ensures store_waits { (u : UpdateOf (calls ∷ passes_over_a_buffer ∷ []) releases) → u.pass ≡ passes_over_a_buffer → ⊥ }
+    ensures under_way { IsRefused is_late }
+    ensures not_refused { IsRefused calls → ⊥ }
+{}
+
+/// The other parts of sections and updates, each with what fails in it.
+pub fn worked_updates_of_steps()
+    ensures other_goal { (u : SectionOf (begins ∷ []) (step_of asks.End (record (resting stage.InBegin) { goal = bare_file 0x806 }))) → u.opens ≡ begins → u.lines ≡ [] → ⊥ }
+    ensures two_sections { (u : SectionOf (begins ∷ calls ∷ []) calls) → u.lines ≡ calls ∷ [] → ⊥ }
+    ensures begun_by_a_store { (u : SectionOf (first_store ∷ []) calls) → u.opens ≡ first_store → ⊥ }
+    ensures ended_by_a_register { SectionOf (begins ∷ []) (step_of (asks.Register 0x2ff 0x806) (resting stage.InBegin)) → ⊥ }
+    ensures no_call { (u : UpdateOf (begins ∷ passes ∷ []) releases) → u.call ≡ begins → ⊥ }
+    ensures no_pass { (u : UpdateOf (calls ∷ begins ∷ []) releases) → u.pass ≡ begins → ⊥ }
+    ensures no_release { (u : UpdateOf (calls ∷ passes ∷ []) begins) → u.first ≡ begins → ⊥ }
+    ensures second_pass { (u : UpdateOf (calls ∷ passes ∷ passes ∷ []) releases) → u.waiting ≡ passes ∷ [] → ⊥ }
+    ensures second_release { (u : UpdateOf (calls ∷ passes ∷ releases ∷ []) releases) → u.waiting ≡ [] → u.pass ≡ passes → u.between ≡ releases ∷ [] → ⊥ }
+{}
+
+/// Steps with a newcomer, and steps that leave the machine as it was.
+pub fn worked_moving_steps()
+    ensures newcomer { HasNewcomer (step_of asks.Join (crowd 2)) }
+    ensures only_called { HasNewcomer (step_of asks.Up (crowd 2)) → ⊥ }
+    ensures full { Stays (step_of asks.Up (crowd 16)) full_line }
+    ensures other_line { Stays (step_of asks.Up (crowd 16)) no_line → ⊥ }
+    ensures came { Stays (step_of asks.Up (crowd 2)) (up_line 2) → ⊥ }
+{}
+
+/// Commands of which none calls for an update, and lists in which one does or doesn't fit.
+pub fn worked_without_call()
+    ensures under_way { AreWithoutCall (busy stage.Commands) (asks.Begin ∷ asks.End ∷ asks.Report ∷ []) }
+    ensures full { AreWithoutCall (crowd 16) (asks.Up ∷ asks.Join ∷ []) }
+    ensures no_such_processor { AreWithoutCall painted (asks.Blank ∷ asks.Fence 2 ∷ []) → ⊥ }
+    ensures called { AreWithoutCall (resting stage.InBegin) (asks.End ∷ []) → ⊥ }
+    ensures up { AreWithoutCall (crowd 2) (asks.Up ∷ []) → ⊥ }
+    ensures room_again { AreWithoutCall (crowd 16) (asks.Retire ∷ asks.Join ∷ []) → ⊥ }
+{}
+
+/// What holds of each state that lines lead to, and what doesn't of the first or the last.
+pub fn worked_each_state()
+    ensures each { EachIn (λ s. s.now.stage ≡ stage.Commands) 1 (codes "fence 0" ∷ codes "go" ∷ []) painted }
+    ensures not_of_the_first { EachIn (λ s. s.now.stage ≡ stage.InBegin) 1 (codes "begin" ∷ []) painted → ⊥ }
+    ensures not_of_the_last { EachIn (λ s. s.now.stage ≡ stage.Commands) 1 (codes "fence 0" ∷ codes "begin" ∷ []) painted → ⊥ }
+{}
+
+/// The words that commands store, and words that aren't held.
+pub fn worked_words()
+    ensures in_turn { stored_by_all painted (asks.Store 0 0x6000 1 ∷ asks.Map 0 0x6000 0x100000 0 false ∷ asks.Store 0 0x6010 1 ∷ asks.Load 0 0x1008 ∷ asks.Store 1 0x1000 2 ∷ []) ≡
+        0x100010 ∷ 0x100000 ∷ [] }
+    ensures emptied_since { AreHeld (λ address. 0) (painted_by (store 0 0x3000 7 ∷ [])) (asks.Fence 0 ∷ []) → ⊥ }
+    ensures other_word_stored { AreHeld (λ address. 0) (painted_by (store 0 0x3000 7 ∷ [])) (asks.Store 0 0x1008 1 ∷ asks.Fence 0 ∷ []) → ⊥ }
+{}
+
+/// What isn't settled after a whole update, in one part.
+pub fn worked_settled_states()
+    ensures only_called { IsSettledAfter (record at_end { now = two_processors stage.InBegin }) after_end → ⊥ }
+    ensures other_register { IsSettledAfter at_end (with_first (record idle { file = bare_file 0x806; era = 1 }) after_end) → ⊥ }
+    ensures older_processor { IsSettledAfter at_end (with_first idle after_end) → ⊥ }
+    ensures newer_entry_since { IsSettledAfter late_at_end late_after_end → ⊥ }
+    ensures order_stays { IsSettledAfter at_end (record after_end { order = (run palette (Calls (bare_file 0x800) ∷ [])).order }) → ⊥ }
+    ensures windows_lost { IsSettledAfter at_end (over (zero_memory []) after_end) → ⊥ }
+    ensures word_lost { IsSettledAfter at_end (over (zero_memory one_window) after_end) → ⊥ }
+{}
+
+/// What isn't so after a processor joined, in one part.
+pub fn worked_joined_states()
+    ensures none_more { IsAdmittedAfter (crowd 1) (machine_of (risen ∷ [])) → ⊥ }
+    ensures older_processors { IsAdmittedAfter (crowd 2) (machine_of (replicate 3 idle)) → ⊥ }
+    ensures other_register { IsAdmittedAfter (crowd 2) (machine_of (risen ∷ risen ∷ record risen { file = bare_file 0x806 } ∷ [])) → ⊥ }
+    ensures newer_entry_since { IsAdmittedAfter unlike_eras (machine_of (replicate 3 risen)) → ⊥ }
+    ensures order_stays { IsAdmittedAfter (crowd 1) (record (after_join (crowd 1)) { order = (crowd_in_update 1).machine.order }) → ⊥ }
+    ensures windows_lost { IsAdmittedAfter (crowd 1) (over (zero_memory []) (after_join (crowd 1))) → ⊥ }
+    ensures word_lost { IsAdmittedAfter stored (over (zero_memory one_window) (after_join stored)) → ⊥ }
+{}
+
+/// What a script's dump shows and doesn't, and what holds from its end on.
+pub fn worked_dumps()
+    ensures shows { ShowsDump small_dump (dump_of (bare_file 0x806)) }
+    ensures shows_no_other { ShowsDump small_dump (dump_of (bare_file 0x800)) → ⊥ }
+    ensures no_end { ShowsNoDump (codes "cpus 1\ndump\n0fe 400\n") }
+    ensures offence_before_the_end { ShowsNoDump (codes "cpus 1\ndump\n0fe 400\n0fe 400\nend\n") }
+    ensures too_few_processors { ShowsNoDump (codes "cpus 1\ndump\nversion 2\ncpu 0\n0fe 400\ncpu 1\nend\n") }
+    ensures first_state { HoldsThrough (λ s. s.now.stage ≡ stage.Rams) small_dump }
+    ensures not_of_the_first_state { HoldsThrough (λ s. s.now.stage ≡ stage.Commands) small_dump → ⊥ }
+{}
+
+/// Texts at the ends of others, and an end of a section that changes nothing.
+pub fn worked_line_ends()
+    ensures ends { EndsWith (codes "abc") (codes "bc") }
+    ensures ends_not { EndsWith (codes "ab") (codes "a") → ⊥ }
+    ensures begins { BeginsWith (codes "abc") (codes "ab") }
+    ensures begins_not { BeginsWith (codes "abc") (codes "b") → ⊥ }
+    ensures idle { EndsIdle (busy stage.InBegin) (codes "under way\n") }
+    ensures not_idle { EndsIdle (resting stage.InBegin) (codes "called\n") → ⊥ }
+    ensures other_text { EndsIdle (busy stage.InBegin) (codes "called\n") → ⊥ }
+{}
+
+/// The flat machine's values in place of the machine's.
 #[tactic(auto, unfolding(hex::specs::Hex::encode_with))]
-pub fn worked_answers()
-    ensures value { done_line (done.Value 0x2a UC) ≡ codes "value 000000000000002a UC\n" }
-    ensures stored { done_line (done.Stored WC) ≡ codes "stored WC\n" }
-    ensures fenced { done_line done.Fenced ≡ codes "fenced\n" }
-    ensures unmapped { done_line done.Unmapped ≡ codes "unmapped\n" }
-    ensures no_ram { done_line done.NoRam ≡ codes "no ram\n" }
-    ensures in_an_update { done_line done.Busy ≡ codes "busy\n" }
-    ensures okay { ruled_line ruled.Okay ≡ codes "ok\n" }
-    ensures full { ruled_line ruled.Full ≡ codes "full\n" }
-    ensures ruled_busy { ruled_line ruled.Busy ≡ codes "busy\n" }
+pub fn worked_flat_values()
+    ensures value { flat_done palette nines 0 0x1000 (Value 0 WB) ≡ Value 9 WB }
+    ensures lines { flat_told_in (record { line = 4; column = 1 }) 1 (codes "store 0 1000 7" ∷ codes "load 0 1000" ∷ codes "load 0 1008" ∷ []) painted nines
+        ≡ told (codes "stored WB\nvalue 0000000000000007 WB\nvalue 0000000000000009 WB\n") Done }
 {}
 
-/// Lines about updates.
-pub fn worked_updates()
-    ensures complete { complete_line 12 ≡ codes "complete 12\n" }
-    ensures called { called_line ≡ codes "called\n" }
-    ensures reserved { call_fault_line (Refused (record { msr = 0x2ff; reason = ReservedBit })) ≡ codes "refused 2ff reserved bit\n" }
-    ensures unsupported { call_fault_line (Refused (record { msr = 0x277; reason = UnsupportedType })) ≡ codes "refused 277 unsupported type\n" }
-    ensures broken { call_fault_line (Refused (record { msr = 0x201; reason = BrokenMask })) ≡ codes "refused 201 broken mask\n" }
-    ensures overlap { call_fault_line (Refused (record { msr = 0x200; reason = UndefinedOverlap })) ≡ codes "refused 200 undefined overlap\n" }
-    ensures under_way { call_fault_line UnderWay ≡ codes "under way\n" }
-    ensures go { go_line true ≡ codes "go\n" }
-    ensures no_go { go_line false ≡ codes "no\n" }
-    ensures cancelled { cancel_line true ≡ codes "cancelled\n" }
-    ensures not_cancelled { cancel_line false ≡ codes "no\n" }
-    ensures did { stepped_line (blank_file 36 0x508) (Did event.Take) ≡ codes "take\n" }
-    ensures waits { stepped_line (blank_file 36 0x508) (Waits 2 3) ≡ codes "waits 2 of 3\n" }
-    ensures no_update { stepped_line (blank_file 36 0x508) NoUpdate ≡ codes "no update\n" }
-{}
-
-/// The texts of events.
-#[tactic(auto, unfolding(hex::specs::Hex::encode_with))]
-pub fn worked_events()
-    ensures take { event_text (blank_file 36 0x400) event.Take ≡ codes "take" }
-    ensures arrive { event_text (blank_file 36 0x400) event.Arrive ≡ codes "arrive" }
-    ensures leave { event_text (blank_file 36 0x400) event.Leave ≡ codes "leave" }
-    ensures pass { event_text (blank_file 36 0x400) event.Pass ≡ codes "pass" }
-    ensures no_fill { event_text (blank_file 36 0x400) event.SetNoFill ≡ codes "no-fill" }
-    ensures write_back { event_text (blank_file 36 0x400) (event.WriteBack 0x100008 7) ≡ codes "write-back 0000000100008" }
-    ensures dropped { event_text (blank_file 36 0x400) event.DropLines ≡ codes "drop" }
-    ensures flush { event_text (blank_file 36 0x400) event.FlushTlb ≡ codes "flush-tlb" }
-    ensures disable { event_text (blank_file 36 0x400) event.Disable ≡ codes "disable" }
-    ensures write { event_text (blank_file 36 0x400) (event.Write 0) ≡ codes "write 277" }
-    ensures write_mask { event_text (blank_file 36 0x508) (event.Write 1) ≡ codes "write 201" }
-    ensures write_fixed { event_text (blank_file 36 0x508) (event.Write 26) ≡ codes "write 26f" }
-    ensures enable { event_text (blank_file 36 0x400) event.Enable ≡ codes "enable" }
-    ensures normal { event_text (blank_file 36 0x400) event.SetNormal ≡ codes "normal" }
-    ensures restore { event_text (blank_file 36 0x400) event.RestorePge ≡ codes "restore" }
-    ensures arrive_again { event_text (blank_file 36 0x400) event.ArriveAgain ≡ codes "arrive-again" }
-    ensures release { event_text (blank_file 36 0x400) event.Release ≡ codes "release" }
-{}
-
-/// The texts of phases.
-pub fn worked_phases()
-    ensures running { phase_text phase.Running ≡ codes "running" }
-    ensures taken { phase_text phase.Taken ≡ codes "taken" }
-    ensures arrived { phase_text phase.Arrived ≡ codes "arrived" }
-    ensures passed { phase_text phase.Passed ≡ codes "passed" }
-    ensures no_fill { phase_text phase.NoFill ≡ codes "no-fill" }
-    ensures flushed { phase_text phase.Flushed ≡ codes "flushed" }
-    ensures tlb_flushed { phase_text phase.TlbFlushed ≡ codes "tlb-flushed" }
-    ensures writing { phase_text (phase.Writing 3) ≡ codes "writing" }
-    ensures enabled { phase_text phase.Enabled ≡ codes "enabled" }
-    ensures flushed_again { phase_text phase.Flushed2 ≡ codes "flushed-again" }
-    ensures tlb_flushed_again { phase_text phase.TlbFlushed2 ≡ codes "tlb-flushed-again" }
-    ensures normal { phase_text phase.Normal ≡ codes "normal" }
-    ensures restored { phase_text phase.Restored ≡ codes "restored" }
-    ensures arrived_again { phase_text phase.Arrived2 ≡ codes "arrived-again" }
-{}
-
-/// Lines about memory and registers.
-#[tactic(auto, unfolding(hex::specs::Hex::encode_with))]
-pub fn worked_values()
-    ensures memory { memory_line (Some 0x2a) ≡ codes "memory 000000000000002a\n" }
-    ensures no_memory { memory_line None ≡ codes "no ram\n" }
-    ensures register { register_line 0x200 6 ≡ codes "200 0000000000000006\n" }
-    ensures capabilities { register_line 0xfe 0x508 ≡ codes "0fe 0000000000000508\n" }
-    ensures same { registers_line true ≡ codes "registers same\n" }
-    ensures differ { registers_line false ≡ codes "registers differ\n" }
-{}
-
-/// Lines of reports.
-pub fn worked_reports()
-    ensures start { processor_line 0 starter ≡ codes "cpu 0 running era 0 lines 0 dirty 0 buffers 0 entries 0 stale 0 cd 0 pge 0\n" }
-    ensures stored { processor_line 1 holder_of_one ≡ codes "cpu 1 running era 0 lines 1 dirty 1 buffers 0 entries 1 stale 0 cd 0 pge 0\n" }
-    ensures stale { processor_line 15 (record starter {
-      cache_disabled = true;
-      page_global = true;
-      lines =
-          record { number = 1; words = replicate 8 0; dirty = 0x81; era = 1 } ∷ record { number = 2; words = replicate 8 0; dirty = 0xff; era = 2 }
-          ∷ record { number = 3; words = replicate 8 0; dirty = 0; era = 0 } ∷ [];
-      buffers = record { number = 4; words = replicate 8 0; dirty = 6; era = 1 } ∷ [];
-      entries = record { vpage = 1; ppage = 1; kind = WB; global = true; era = 1 } ∷ record { vpage = 2; ppage = 2; kind = UC; global = false; era = 2 } ∷ [];
-      phase = phase.Writing 3;
-      era = 2;
-    }) ≡ codes "cpu 15 writing era 2 lines 3 dirty 10 buffers 1 entries 2 stale 4 cd 1 pge 1\n" }
-    ensures none { have_one_file [] ≡ true }
-    ensures last_differs { have_one_file (starter ∷ starter ∷ start_processor (record (blank_file 36 0x508) { default_type = 0x800 }) ∷ []) ≡ false }
-    ensures report { report_text (starter ∷ []) ≡ codes "cpu 0 running era 0 lines 0 dirty 0 buffers 0 entries 0 stale 0 cd 0 pge 0\nregisters same\n" }
-    ensures cd_alone { processor_line 1 (record starter { cache_disabled = true }) ≡ codes "cpu 1 running era 0 lines 0 dirty 0 buffers 0 entries 0 stale 0 cd 1 pge 0\n" }
-    ensures all_same { have_one_file (starter ∷ starter ∷ starter ∷ []) ≡ true }
-    ensures second_differs { have_one_file (starter ∷ start_processor (record (blank_file 36 0x508) { default_type = 0x800 }) ∷ starter ∷ []) ≡ false }
-    ensures each_its_number { processor_lines 14 (starter ∷ starter ∷ []) ≡ processor_line 14 starter ++ (processor_line 15 starter ++ []) }
+/// The output that may be written when an allocation fails.
+pub fn worked_early_texts()
+    ensures early { early_text (codes "cpus 1\ndump\n0fe 400\nend\nretire\n") ≡ codes "accepted\n" }
+    ensures late { early_text (codes "cpus 1\ndump\n0fe 400\nend\nretire\nup\n") ≡ codes "accepted\nno\nup 1\n" }
 {}

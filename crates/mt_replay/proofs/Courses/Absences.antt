@@ -2,7 +2,7 @@
 use Rattle.std.proofs.Common.{◌≡◌, ◌∙◌, ap, sym, refl, ℕ, ◌≤◌, nat_lt, length, Bool, true, false, List, [], ◌∷◌, Option, None, Some, if◌then◌else◌}
 use Rattle.std.specs.Prelude.{◌==◌, ◌&&◌, not}
 use Rattle.std.specs.Option.{option_map_or}
-use Rattle.std.proofs.lemmas.Bool.{ltb-false}
+use Rattle.std.proofs.lemmas.Bool.{le-ltb, ltb-false}
 use Rattle.mt_regs.specs.RegisterFile.{RegisterFile}
 use Rattle.mt_machine.specs.declared.done.Done.{Done}
 use Rattle.mt_machine.specs.declared.done.Done.TheVariants.{Value, Stored, Fenced, Unmapped, NoRam, Busy}
@@ -25,9 +25,9 @@ use Rattle.mt_output.specs.Lines.{line}
 use Rattle.mt_script.specs.declared.command.Command.{Command}
 use Rattle.mt_script.specs.declared.command.Command.TheVariants as command
 use Rattle.mt_replay.specs.ReplayState.{ReplayState, after_update, call_fault, command_text, file_at, is_absent, is_undecided, is_update, mapping, memory_word, named, present_text}
-use Rattle.mt_replay.specs.Statuses.{AbsentWhereNoProcessor}
+use Rattle.mt_replay.specs.Settling.{AbsentProcessorsDoNothing, AbsentWhereNoProcessor}
 use Rattle.mt_replay.specs.Texts.{absent_line, call_fault_line, called_line, cancel_line, complete_line, done_line, event_text, go_line, have_one_file, memory_line, registers_line, report_text, ruled_line, stepped_line}
-use Rattle.mt_replay.proofs.Keeping.Absent.{absent_do_nothing, absent_machine, there_text}
+use Rattle.mt_replay.proofs.Keeping.Absent.{absent_machine, absent_text, there_text}
 use Rattle.mt_replay.proofs.Courses.Tells.{NoneIs, clash, no_mover}
 
 -- by the second and the third letter
@@ -148,6 +148,12 @@ names_none n (Some k) is = (k, refl, one (nat_lt k n) refl is)
     one : (b : Bool) → nat_lt k n ≡ b → not b ≡ true → n ≤ k
     one true low off = absurd (cc off)
     one false high on = ltb-false k n high
+
+pub absent_do_nothing : AbsentProcessorsDoNothing
+absent_do_nothing s c k names high =
+    let is : is_absent s.machine c ≡ true =
+    ap (λ (o : Option ℕ). option_map_or (λ j. not (nat_lt j (length s.machine.system.processors))) o false) names ∙ ap not (le-ltb k (length s.machine.system.processors) high) in
+    (absent_text s c is, absent_machine s c is)
 
 pub absent_where_no_processor : AbsentWhereNoProcessor
 absent_where_no_processor s c = (

@@ -29,9 +29,10 @@ use Rattle.mt_script.specs.declared.command.Command.TheVariants as command
 use Rattle.mt_output.specs.Lines.{line}
 use Rattle.mt_machine.specs.ComingAndGoing.{without_last}
 use Rattle.mt_admit.specs.Admission.{admitted, brought_up}
-use Rattle.mt_replay.specs.Statuses.{IsWithoutCall}
+use Rattle.mt_replay.specs.Settling.{IsWithoutCall}
 use Rattle.mt_replay.proofs.Keeping.Absent.{absent_machine, there_machine, there_text}
-use Rattle.mt_replay.specs.Headline.{IsCall, NoneOf, NoneWrote, Step, last_of, left, pass_line, release_line, wrote}
+use Rattle.mt_replay.specs.Headline.{IsCall, NoneOf, NoneWrote, pass_line, release_line}
+use Rattle.mt_replay.specs.Steps.{Step, last_of, left, wrote}
 use Rattle.mt_replay.specs.Kept.{IsReplayState}
 use Rattle.mt_replay.specs.ReplayState.{ReplayState, after_word, call_fault, command_text, file_at, is_undecided, machine_after, mapping, after_retire, is_absent, present_after, present_text}
 use Rattle.mt_replay.specs.Texts.{event_text, stepped_line}

@@ -13,11 +13,12 @@ use Rattle.mt_script.specs.declared.command.Stage.{Stage}
 use Rattle.mt_script.specs.declared.command.Stage.TheVariants.{InBegin, InDump, InUpdate, Rams}
 use Rattle.mt_script.specs.declared.command.Command.{Command}
 use Rattle.mt_script.specs.declared.command.Command.TheVariants as command
-use Rattle.mt_replay.specs.Statuses.{IsWithoutCall}
+use Rattle.mt_replay.specs.Settling.{IsWithoutCall}
 use Rattle.mt_replay.specs.Parts.{IsComing}
 use Rattle.mt_admit.specs.Admission.{admitted}
 use Rattle.mt_replay.proofs.Courses.Newcomers.{call_of_end, comes_as_newcomer, coming_or_not, newcomer_comes, newcomer_is_coming}
-use Rattle.mt_replay.specs.Headline.{AcceptedWhereIdleAndWhole, GoalsAreOfTheirSections, IsCall, NoneOf, SectionOf, Step, course, given, goal_of, last_of, left, release_line, wrote, IsCalled, IsNewcomer, IsSectionCall, Joins}
+use Rattle.mt_replay.specs.Headline.{AcceptedWhereIdleAndWhole, GoalsAreOfTheirSections, IsCall, NoneOf, SectionOf, given, goal_of, release_line, IsCalled, IsNewcomer, IsSectionCall, Joins}
+use Rattle.mt_replay.specs.Steps.{Step, course, last_of, left, wrote}
 use Rattle.mt_replay.specs.Kept.{IsReplayState}
 use Rattle.mt_replay.specs.ReplayState.{ReplayState, call_fault, command_text, first_file, goal_after, machine_after, may_come}
 use Rattle.mt_replay.specs.Texts.{called_line, complete_line}

@@ -7,7 +7,7 @@ use Rattle.mt_machine.specs.ComingAndGoing.{last_number, without_last}
 use Rattle.mt_admit.specs.Admission.{admitted, brought_up}
 use Rattle.mt_script.specs.declared.command.Command.{Command}
 use Rattle.mt_script.specs.declared.command.Command.TheVariants as command
-use Rattle.mt_replay.specs.Headline.{Step, wrote}
+use Rattle.mt_replay.specs.Steps.{Step, wrote}
 use Rattle.mt_replay.specs.Movers.{RetiresWhereIdle, Stays, StaysAlone, StaysFull, StaysUnderWay}
 use Rattle.mt_replay.specs.ReplayState.{ReplayState, command_text, machine_after, may_come, may_go, stays_line}
 use Rattle.mt_replay.specs.Texts.{full_line, joined_line, no_line, retired_line, under_way_line, up_line}

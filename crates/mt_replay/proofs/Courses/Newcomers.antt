@@ -5,7 +5,8 @@ use Rattle.std.proofs.lemmas.Bool.{lt-ltb}
 use Rattle.mt_machine.specs.Machine.{Machine, Order}
 use Rattle.mt_script.specs.declared.command.Command.{Command}
 use Rattle.mt_script.specs.declared.command.Command.TheVariants as command
-use Rattle.mt_replay.specs.Headline.{IsCall, IsNewcomer, IsSectionCall, NewcomersWhereIdle, Step}
+use Rattle.mt_replay.specs.Headline.{IsCall, IsNewcomer, IsSectionCall, NewcomersWhereIdle}
+use Rattle.mt_replay.specs.Steps.{Step}
 use Rattle.mt_replay.specs.Parts.{IsComing}
 use Rattle.mt_replay.specs.ReplayState.{ReplayState, command_text, may_come, stays_line}
 use Rattle.mt_replay.specs.Texts.{full_line, joined_line, under_way_line, up_line}

@@ -11,7 +11,8 @@ use Rattle.mt_script.specs.Commands.{command_of}
 use Rattle.mt_script.specs.Script.{script_offence}
 use Rattle.mt_script.specs.declared.command.Command.{Command}
 use Rattle.mt_script.specs.declared.fault.ScriptFault.{ScriptFault}
-use Rattle.mt_replay.specs.Headline.{Beginning, Step, StepsAreOfTheirLines, beginning, begins_by, begins_with, steps_in, steps_of}
+use Rattle.mt_replay.specs.Headline.{StepsAreOfTheirLines}
+use Rattle.mt_replay.specs.Steps.{Beginning, Step, beginning, begins_by, begins_with, steps_in, steps_of}
 use Rattle.mt_replay.specs.Heads.{HeadEnd, head_of, has_offence, shows_dump, stays_open}
 use Rattle.mt_replay.specs.ReplayState.{ReplayState, first_state, state_after}
 use Rattle.mt_replay.specs.Statuses.{ShowsDump}

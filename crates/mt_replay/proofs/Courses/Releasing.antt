@@ -26,10 +26,11 @@ use Rattle.mt_replay.proofs.Keeping.Absent.{there_machine}
 use Rattle.mt_replay.proofs.Keeping.Moving.{idle_to_come}
 use Rattle.mt_replay.proofs.Refusals.Joins.{first_same}
 use Rattle.mt_replay.proofs.Courses.Newcomers.{newcomer_comes}
-use Rattle.mt_replay.specs.Headline.{IsCall, Keeps, NoneOf, NoneWrote, ReleasedUpdatesAreKept, Step, UpdateOf, course, last_of, left, next_era, pass_line, release_line, stored_in, wrote, IsCalled, IsNewcomer, called_goal, goal_by}
+use Rattle.mt_replay.specs.Headline.{IsCall, Keeps, NoneOf, NoneWrote, ReleasedUpdatesAreKept, UpdateOf, next_era, pass_line, release_line, stored_in, IsCalled, IsNewcomer, called_goal, goal_by}
+use Rattle.mt_replay.specs.Steps.{Step, course, last_of, left, wrote}
 use Rattle.mt_replay.specs.Kept.{IsReplayState}
 use Rattle.mt_replay.specs.ReplayState.{ReplayState, machine_after, state_after, first_file}
-use Rattle.mt_replay.specs.Statuses.{AreWithoutCall, state_after_all, stored_by_all}
+use Rattle.mt_replay.specs.Settling.{AreWithoutCall, state_after_all, stored_by_all}
 use Rattle.mt_replay.specs.Texts.{called_line, complete_line}
 use Rattle.mt_replay.proofs.Courses.Acting.{FirstPass, Goes_between, Stands, WaitsIn, first_pass, none_release, order_stays, stands_after, stands_behind}
 use Rattle.mt_replay.proofs.Courses.Calling.{releases_follow_calls}

@@ -14,7 +14,8 @@ use Rattle.mt_script.specs.Stages.{takes_windows}
 use Rattle.mt_script.specs.Accept.{Fits, accepted}
 use Rattle.mt_script.specs.declared.command.Command.{Command}
 use Rattle.mt_script.specs.declared.command.Command.TheVariants as command
-use Rattle.mt_replay.specs.Headline.{CompleteUpdatesAreKept, IsCall, Keeps, NoneOf, RefusedUpdatesChangeNothing, Step, last_of, left, next_era, stored_in, wrote, HasNewcomer, JoinsAreKept}
+use Rattle.mt_replay.specs.Headline.{CompleteUpdatesAreKept, IsCall, Keeps, NoneOf, RefusedUpdatesChangeNothing, next_era, stored_in, HasNewcomer, JoinsAreKept}
+use Rattle.mt_replay.specs.Steps.{Step, last_of, left, wrote}
 use Rattle.mt_replay.specs.Kept.{IsReplayState, windows_of}
 use Rattle.mt_replay.specs.ReplayState.{ReplayState, call_fault, command_text, each_processor, is_update, machine_after, state_after, first_file, may_come}
 use Rattle.mt_replay.specs.Parts.{IsComing}
@@ -22,7 +23,7 @@ use Rattle.mt_machine.specs.ComingAndGoing.{with_newcomer}
 use Rattle.mt_admit.specs.Admission.{admitted}
 use Rattle.mt_replay.proofs.Courses.Newcomers.{comes_as_newcomer, newcomer_comes}
 use Rattle.mt_replay.proofs.Refusals.Joins.{after_join, held as join_held, join_line, no_windows, one_more as join_one_more, stays as join_stays, words as join_words}
-use Rattle.mt_replay.specs.Statuses.{AreHeld, AreWithoutCall, IsSettledAfter, state_after_all, stored_by, stored_by_all, IsWithoutCall}
+use Rattle.mt_replay.specs.Settling.{AreHeld, AreWithoutCall, IsSettledAfter, state_after_all, stored_by, stored_by_all, IsWithoutCall}
 use Rattle.mt_replay.specs.Texts.{called_line, complete_line}
 use Rattle.mt_replay.proofs.Courses.Steps.{GoesOn, course_is, in_front, kept_behind, stands_in}
 use Rattle.mt_replay.proofs.Courses.Tells.{writes_complete, writes_refused, writes_under_way}

@@ -14,9 +14,11 @@ use Rattle.mt_script.specs.declared.fault.Offence.TheVariants as offence
 use Rattle.mt_output.specs.Lines.{accepted_line, dump_refused_line, offence_line, refused_cpu_line, refused_line}
 use Rattle.mt_script.specs.declared.command.Command.{Command}
 use Rattle.mt_script.specs.declared.fault.ScriptFault.{ScriptFault}
-use Rattle.mt_replay.specs.Headline.{Beginning, StartsAsTheDumpShows, StatesAreOfTheCourse, Step, beginning, begins_by, begins_with, course, left, steps_in, steps_of}
+use Rattle.mt_replay.specs.Headline.{StartsAsTheDumpShows, StatesAreOfTheCourse}
+use Rattle.mt_replay.specs.Steps.{Beginning, Step, beginning, begins_by, begins_with, course, left, steps_in, steps_of}
 use Rattle.mt_replay.specs.Heads.{HeadEnd, head_of, has_offence, shows_dump, stays_open}
-use Rattle.mt_replay.specs.Kept.{EachAfter, EachBy, EachIn, EachOfDump, HoldsThrough, start_of}
+use Rattle.mt_replay.specs.Kept.{start_of}
+use Rattle.mt_replay.specs.Through.{EachAfter, EachBy, EachIn, EachOfDump, HoldsThrough}
 use Rattle.mt_replay.specs.ReplayState.{ReplayState, state_after}
 use Rattle.mt_replay.specs.Statuses.{BeginsWith}
 use Rattle.mt_replay.specs.Transcript.{transcript}

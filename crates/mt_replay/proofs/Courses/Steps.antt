@@ -23,7 +23,8 @@ use Rattle.mt_script.specs.declared.fault.Offence.{Offence}
 use Rattle.mt_script.specs.declared.fault.Offence.TheVariants.{Script}
 use Rattle.mt_script.proofs.Keeping.{not_past_in_dump}
 use Rattle.mt_output.specs.Lines.{accepted_line, dump_refused_line}
-use Rattle.mt_replay.specs.Headline.{Beginning, ReplaysAreOfTheCourse, Step, StepsFollow, TranscriptIsOfTheCourse, TranscriptIsOneLine, beginning, begins_by, begins_with, course, ending, joined, last_of, left, steps_in, steps_of}
+use Rattle.mt_replay.specs.Headline.{ReplaysAreOfTheCourse, StepsFollow, TranscriptIsOfTheCourse, TranscriptIsOneLine, ending, joined}
+use Rattle.mt_replay.specs.Steps.{Beginning, Step, beginning, begins_by, begins_with, course, last_of, left, steps_in, steps_of}
 use Rattle.mt_replay.specs.Heads.{HeadEnd, head_of, has_offence, shows_dump, stays_open}
 use Rattle.mt_replay.specs.Kept.{IsReplayState, start_like, start_of}
 use Rattle.mt_replay.specs.ReplayState.{ReplayState, command_text, state_after}
@@ -196,9 +197,6 @@ pub stands_in : (front rest : List Step) (step : Step) → IsCourse (front ++ st
 stands_in front rest step h =
     let on = behind_front front (step ∷ rest) h.first h.goes_on in
     record { is = subst IsReplayState (sym on.0) (kept_behind front h.first h.is (in_front front (step ∷ rest) h.first h.goes_on)); fits = on.1; goes_on = on.2 }
-
-pub left_is : (step : Step) (rest : List Step) → StandsIn step rest → IsReplayState (left step)
-left_is step rest h = state_kept step.before step.command h.is h.fits
 
 pub steps_follow : StepsFollow
 steps_follow text front rest first second same = (stands_in front (second ∷ rest) first (course_is text front (second ∷ rest) first same)).goes_on.0

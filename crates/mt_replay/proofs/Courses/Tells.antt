@@ -28,7 +28,8 @@ use Rattle.mt_core.specs.declared.stepped.Stepped.TheVariants.{Did, NoUpdate, Wa
 use Rattle.mt_script.specs.declared.command.Command.{Command}
 use Rattle.mt_script.specs.declared.command.Command.TheVariants as command
 use Rattle.mt_output.specs.Lines.{line, refused_line}
-use Rattle.mt_replay.specs.Headline.{IsCall, NoneOf, Step, pass_line, release_line, wrote}
+use Rattle.mt_replay.specs.Headline.{IsCall, NoneOf, pass_line, release_line}
+use Rattle.mt_replay.specs.Steps.{Step, wrote}
 use Rattle.mt_replay.specs.Parts.{IsComing}
 use Rattle.mt_replay.specs.ReplayState.{ReplayState, after_update, call_fault, command_text, file_at, is_absent, is_undecided, is_update, machine_after, mapping, may_come, may_go, memory_word, present_text, stays_line}
 use Rattle.mt_replay.specs.Texts.{absent_line, call_fault_line, called_line, cancel_line, complete_line, done_line, event_text, full_line, go_line, have_one_file, joined_line, memory_line, no_line, registers_line, report_text, retired_line, ruled_line, stepped_line, under_way_line, up_line}

@@ -6,7 +6,7 @@ use Rattle.std.specs.List.{All}
 use Rattle.std.proofs.lemmas.Bool.{lt-ltb, ltb-true}
 use Rattle.std.proofs.lemmas.List.{take-append-drop}
 use Rattle.mt_machine.specs.Memory.{Window, place, word_at}
-use Rattle.mt_replay.specs.Headline.{Step}
+use Rattle.mt_replay.specs.Steps.{Step}
 use Rattle.mt_replay.specs.WorkedScript.{no_step}
 
 at_step : (steps : List Step) (k : ℕ) → nat_lt k (length steps) ≡ true → steps ≡ take k steps ++ slice_index_or steps k no_step ∷ drop (suc k) steps

@@ -1,14 +1,9 @@
 -- A command on a processor that isn't there, and one on a processor that is.
-use Rattle.std.proofs.Common.{◌≡◌, ◌∙◌, ap, refl, ℕ, ◌<◌, Bool, true, false, if◌then◌else◌, length, Some, Option, nat_lt}
-use Rattle.std.specs.Prelude.{not}
-use Rattle.std.specs.Option.{option_map_or}
-use Rattle.std.proofs.lemmas.Bool.{ltb-true, le-ltb}
-use Rattle.mt_machine.specs.Machine.{Machine}
+use Rattle.std.proofs.Common.{◌≡◌, ap, refl, Bool, true, false, if◌then◌else◌}
 use Rattle.mt_script.specs.Accept.{accepted, in_commands}
 use Rattle.mt_script.specs.declared.command.Command.{Command}
 use Rattle.mt_script.specs.declared.command.Command.TheVariants as command
-use Rattle.mt_replay.specs.ReplayState.{ReplayState, command_text, goal_after, is_absent, machine_after, named, present_after, present_text, state_after}
-use Rattle.mt_replay.specs.Statuses.{AbsentProcessorsDoNothing}
+use Rattle.mt_replay.specs.ReplayState.{ReplayState, command_text, goal_after, is_absent, machine_after, present_after, present_text, state_after}
 use Rattle.mt_replay.specs.Texts.{absent_line}
 
 -- what a command leaves where its processor is there
@@ -36,9 +31,6 @@ only_named s other is = absurd (cc is)
 pub absent_now : (s : ReplayState) (c : Command) → is_absent s.machine c ≡ true → accepted s.now c ≡ in_commands s.now
 absent_now s c is = (only_named s c is).0
 
-pub absent_goal : (s : ReplayState) (c : Command) → is_absent s.machine c ≡ true → goal_after s c ≡ s.goal
-absent_goal s c is = (only_named s c is).1
-
 pub absent_machine : (s : ReplayState) (c : Command) → is_absent s.machine c ≡ true → machine_after s c ≡ s.machine
 absent_machine s c is = ap (λ (b : Bool). if b then s.machine else present_after s c) is
 
@@ -56,18 +48,3 @@ state_absent s c is = λ i. record { now = (only_named s c is).0 i; machine = ab
 
 pub state_there : (s : ReplayState) (c : Command) → is_absent s.machine c ≡ false → state_after s c ≡ present_state s c
 state_there s c is = λ i. record { now = accepted s.now c; machine = there_machine s c is i; goal = goal_after s c }
-
--- ---- which processors are there
-
-pub is_there : (m : Machine) (c : Command) (k : ℕ) → named c ≡ Some k → is_absent m c ≡ false → k < length m.system.processors
-is_there m c k names is = one (nat_lt k (length m.system.processors)) refl (ap (λ (o : Option ℕ). option_map_or (λ j. not (nat_lt j (length m.system.processors))) o false) names)
-  where
-    one : (b : Bool) → nat_lt k (length m.system.processors) ≡ b → is_absent m c ≡ not b → k < length m.system.processors
-    one true low same = ltb-true k (length m.system.processors) low
-    one false low same = absurd (let e : true ≡ false = cc (is, same) in cc e)
-
-pub absent_do_nothing : AbsentProcessorsDoNothing
-absent_do_nothing s c k names high =
-    let is : is_absent s.machine c ≡ true =
-    ap (λ (o : Option ℕ). option_map_or (λ j. not (nat_lt j (length s.machine.system.processors))) o false) names ∙ ap not (le-ltb k (length s.machine.system.processors) high) in
-    (absent_text s c is, absent_machine s c is)

@@ -8,7 +8,7 @@ use Rattle.mt_machine.specs.Update.{updated}
 use Rattle.mt_core.specs.declared.fault.CallFault.{CallFault}
 use Rattle.mt_core.specs.declared.fault.CallFault.TheVariants.{Refused, UnderWay}
 use Rattle.mt_replay.specs.ReplayState.{ReplayState, after_call, after_update, call_fault, call_line, each_processor, is_update, update_line}
-use Rattle.mt_replay.specs.Statuses.{AcceptedCallsAreUnderWay, AcceptedWhereIdle, CallsUnderWayChangeNothing, EndsIdle, RefusedCallsChangeNothing}
+use Rattle.mt_replay.specs.Settling.{AcceptedCallsAreUnderWay, AcceptedWhereIdle, CallsUnderWayChangeNothing, EndsIdle, RefusedCallsChangeNothing}
 use Rattle.mt_replay.specs.Texts.{call_fault_line, called_line, complete_line}
 use Rattle.mt_replay.proofs.Calls.{call_accepted, call_fails}
 use Rattle.mt_replay.proofs.Keeping.States.{accepted_of, call_allowed}

@@ -23,7 +23,7 @@ use Rattle.mt_script.specs.declared.command.Command.{Command}
 use Rattle.mt_script.specs.declared.command.Command.TheVariants as command
 use Rattle.mt_replay.specs.Kept.{IsReplayState}
 use Rattle.mt_replay.specs.ReplayState.{ReplayState, command_text, each_processor, file_at, first_file, machine_after, may_come, state_after, stays_line}
-use Rattle.mt_replay.specs.Statuses.{AreHeld, AreWithoutCall, IsAdmittedAfter, JoinsSettle, state_after_all, stored_by_all}
+use Rattle.mt_replay.specs.Settling.{AreHeld, AreWithoutCall, IsAdmittedAfter, JoinsSettle, state_after_all, stored_by_all}
 use Rattle.mt_replay.specs.Texts.{full_line, joined_line}
 use Rattle.mt_replay.proofs.Keeping.Moving.{idle_to_come}
 use Rattle.mt_replay.proofs.Keeping.States.{state_kept}

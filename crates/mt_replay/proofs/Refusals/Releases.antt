@@ -13,7 +13,7 @@ use Rattle.mt_machine.specs.Machine.{IsEnabled, Machine, Order, Reached, Steps, 
 use Rattle.mt_machine.specs.Start.{IsQuiet}
 use Rattle.mt_machine.specs.Update.{IsSettled}
 use Rattle.mt_laws.specs.Settled.{IsFirstRelease}
-use Rattle.mt_machine_laws.proofs.Updates.FirstRelease.{held_after_each_first}
+use Rattle.mt_laws.proofs.Updates.FirstRelease.{held_after_each_first}
 use Rattle.mt_core.specs.Arises.{Arises, by_event, from_start}
 use Rattle.mt_core.specs.Steps.{pause, pause_at, step_answer}
 use Rattle.mt_core.specs.declared.stepped.Stepped.TheVariants.{Did, NoUpdate, Waits}
@@ -23,7 +23,7 @@ use Rattle.mt_script.specs.declared.command.Command.{Command}
 use Rattle.mt_script.specs.declared.command.Command.TheVariants as command
 use Rattle.mt_replay.specs.Kept.{IsReplayState, start_like}
 use Rattle.mt_replay.specs.ReplayState.{ReplayState, is_absent, machine_after, state_after}
-use Rattle.mt_replay.specs.Statuses.{AreHeld, AreWithoutCall, ReleasedStatesSettle, ReleasedWordsAreHeld, state_after_all, stored_by_all}
+use Rattle.mt_replay.specs.Settling.{AreHeld, AreWithoutCall, ReleasedStatesSettle, ReleasedWordsAreHeld, state_after_all, stored_by_all}
 use Rattle.mt_replay.proofs.Keeping.States.{state_kept}
 use Rattle.mt_replay.proofs.Keeping.Absent.{there_machine}
 use Rattle.mt_replay.proofs.Paths.Settling.{Path, after_path, after_release, settled_of, word_after_release, word_path}

@@ -29,7 +29,7 @@ use Rattle.mt_script.specs.declared.command.Command.{Command}
 use Rattle.mt_script.specs.declared.command.Command.TheVariants as command
 use Rattle.mt_replay.specs.Kept.{IsReplayState}
 use Rattle.mt_replay.specs.ReplayState.{ReplayState, after_retire, after_word, call_fault, is_absent, is_undecided, machine_after, mapping, may_go, present_after, state_after}
-use Rattle.mt_replay.specs.Statuses.{AreWithoutCall, IsWithoutCall, state_after_all, stored_by, stored_by_all}
+use Rattle.mt_replay.specs.Settling.{AreWithoutCall, IsWithoutCall, state_after_all, stored_by, stored_by_all}
 use Rattle.mt_replay.proofs.Keeping.Absent.{absent_machine, there_machine}
 use Rattle.mt_replay.proofs.Keeping.Machines.{is_pending}
 use Rattle.mt_replay.proofs.Keeping.Moving.{idle_to_go, more_to_go}

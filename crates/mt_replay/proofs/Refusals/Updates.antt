@@ -25,7 +25,7 @@ use Rattle.mt_script.specs.declared.command.Command.{Command}
 use Rattle.mt_script.specs.Accept.{Fits}
 use Rattle.mt_replay.specs.Kept.{IsReplayState}
 use Rattle.mt_replay.specs.ReplayState.{ReplayState, after_call, after_update, call_fault, call_line, command_text, each_processor, is_update, machine_after, state_after, update_line}
-use Rattle.mt_replay.specs.Statuses.{AreHeld, AreWithoutCall, CompleteUpdatesSettle, IsSettledAfter, UpdatedWordsAreHeld, state_after_all, stored_by_all}
+use Rattle.mt_replay.specs.Settling.{AreHeld, AreWithoutCall, CompleteUpdatesSettle, IsSettledAfter, UpdatedWordsAreHeld, state_after_all, stored_by_all}
 use Rattle.mt_replay.specs.Texts.{call_fault_line, complete_line}
 use Rattle.mt_replay.proofs.Keeping.States.{call_enabled, state_kept}
 use Rattle.mt_replay.proofs.Paths.Settling.{Path, after_path, after_update as after_whole, settled_of, word_after_update, word_path}

@@ -15,7 +15,7 @@ use Rattle.mt_script.specs.Head.{HeadStep, goes_on, head_step, offends, shows}
 use Rattle.mt_script.specs.declared.command.Command.{Command}
 use Rattle.mt_script.specs.declared.fault.ScriptFault.{ScriptFault}
 use Rattle.mt_script.specs.declared.fault.Offence.{Offence}
-use Rattle.mt_replay.specs.Headline.{Beginning, Beginnings, begins_by, begins_from, begins_with, last_of, steps_in, steps_of}
+use Rattle.mt_replay.specs.Steps.{Beginning, Beginnings, begins_by, begins_from, begins_with, last_of, steps_in, steps_of}
 use Rattle.mt_replay.specs.Heads.{end_after, head_end}
 use Rattle.mt_replay.specs.Kept.{IsReplayState}
 use Rattle.mt_replay.specs.ReplayState.{ReplayState, first_state, state_after}

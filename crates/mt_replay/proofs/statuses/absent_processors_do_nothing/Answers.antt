@@ -1,5 +1,4 @@
-use Rattle.mt_replay.proofs.Courses.Absences.{absent_where_no_processor}
-use Rattle.mt_replay.proofs.Keeping.Absent.{absent_do_nothing}
+use Rattle.mt_replay.proofs.Courses.Absences.{absent_do_nothing, absent_where_no_processor}
 use Rattle.mt_replay.proofs.statuses.absent_processors_do_nothing.Goals as goal
 
 pub returns-clause-nothing : goal.returns-clause-nothing
