@@ -1,15 +1,11 @@
 mod Answering
-mod FirstFiles
+pub mod FirstFiles
 mod Leaving
 mod Statuses
-mod Made
 mod LongLines
-mod OneOutput
-mod SomeOutput
 mod SoundCommands
 mod Parting
-mod CommentLines
-mod Coming
+pub mod Coming
 mod Making
 mod Drawing
 mod Owning

@@ -4,7 +4,6 @@
 mod answers;
 mod command;
 mod generator;
-mod laws;
 mod lines;
 mod measured;
 mod program;
@@ -15,10 +14,6 @@ mod words;
 pub use answers::{answer, answer_input, big, make, private};
 pub use command::{Command, DumpCommand, TidyOption};
 pub use generator::make_text;
-pub use laws::{
-    a_made_text_is_a_script, a_tidied_text_is_a_dump, memory_is_wanted_early_without_newcomers,
-    words_and_bytes_have_an_output, words_and_bytes_have_one_output,
-};
 pub use lines::{
     disabled_line, lost_line, page_text, run_line, summary_text, too_few_line, used_line,
 };

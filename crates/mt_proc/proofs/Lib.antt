@@ -2,14 +2,11 @@ pub mod Blocks
 pub mod Digits
 pub mod Endings
 pub mod FirstWords
-pub mod Folds
 pub mod Free
 pub mod Lengths
-pub mod Listed
 pub mod RunningLaws
 pub mod Served
 pub mod Sizes
 pub mod Taking
-pub mod Told
 pub mod Written
 mod Beginning

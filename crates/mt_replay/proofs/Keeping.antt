@@ -1,9 +1,8 @@
--- What commands keep of a replay's state.
+pub mod Absent
+pub mod First
 pub mod Kinds
 pub mod Machines
-pub mod Windows
-pub mod Snooping
-pub mod Absent
 pub mod Moving
+pub mod Snooping
 pub mod States
-pub mod First
+pub mod Windows

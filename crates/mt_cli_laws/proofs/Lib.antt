@@ -1,0 +1,4 @@
+pub mod CommentLines
+pub mod Made
+pub mod OneOutput
+pub mod SomeOutput

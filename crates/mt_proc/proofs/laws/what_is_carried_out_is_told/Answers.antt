@@ -1,5 +1,0 @@
-use Rattle.mt_proc.proofs.Told.{else_stands, told_exactly}
-use Rattle.mt_proc.proofs.laws.what_is_carried_out_is_told.Goals as goal
-
-pub returns : goal.returns
-returns c = record { told = told_exactly; stands = else_stands }

@@ -1,5 +1,0 @@
-use Rattle.mt_replay.proofs.Fresh.{nothing_stale}
-use Rattle.mt_replay.proofs.kept.nothing_is_stale_in_scripts.Goals as goal
-
-pub returns : goal.returns
-returns c = nothing_stale

@@ -1,5 +1,0 @@
-use Rattle.mt_replay.proofs.KnownLines.{known_write_front}
-use Rattle.mt_replay.proofs.known.known_lines_write_a_front.Goals as goal
-
-pub returns : goal.returns
-returns c = known_write_front

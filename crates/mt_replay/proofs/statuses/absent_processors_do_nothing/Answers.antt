@@ -1,8 +1,0 @@
-use Rattle.mt_replay.proofs.Courses.Absences.{absent_do_nothing, absent_where_no_processor}
-use Rattle.mt_replay.proofs.statuses.absent_processors_do_nothing.Goals as goal
-
-pub returns-clause-nothing : goal.returns-clause-nothing
-returns-clause-nothing c = absent_do_nothing
-
-pub returns-clause-exactly : goal.returns-clause-exactly
-returns-clause-exactly c = absent_where_no_processor

@@ -1,5 +1,0 @@
-use Rattle.mt_replay.proofs.Refusals.Joins.{joins_settle}
-use Rattle.mt_replay.proofs.statuses.processors_join_settled.Goals as goal
-
-pub returns : goal.returns
-returns c = joins_settle

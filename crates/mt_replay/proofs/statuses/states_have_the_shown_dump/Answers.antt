@@ -1,5 +1,0 @@
-use Rattle.mt_replay.proofs.ShownDump.{states_have_the_shown_dump}
-use Rattle.mt_replay.proofs.statuses.states_have_the_shown_dump.Goals as goal
-
-pub returns : goal.returns
-returns c = states_have_the_shown_dump

@@ -1,0 +1,13 @@
+pub mod Absences
+pub mod Acting
+pub mod Calling
+pub mod Movers
+pub mod Newcomers
+pub mod Numbers
+pub mod Releasing
+pub mod Since
+pub mod States
+pub mod Steps
+pub mod Tells
+pub mod Waiting
+pub mod Worked

@@ -1,0 +1,13 @@
+pub mod Courses
+pub mod Folds
+pub mod Fresh
+pub mod Hiding
+pub mod KnownLines
+pub mod Listed
+pub mod Paths
+pub mod Refusals
+pub mod SameFiles
+pub mod ShownDump
+pub mod Told
+pub mod Whole
+pub mod WorkedDumps

@@ -1,0 +1,65 @@
+-- Steps of worked instances: a section of `begin` without lines, its end, a pass and a release; and what an update keeps.
+use Rattle.std.specs.Prelude.{ℕ, List, [], ◌∷◌, ◌==◌, if◌then◌else◌, replicate, None}
+use Rattle.mt_regs.specs.RegisterFile.{RegisterFile, blank_file}
+use Rattle.mt_machine.specs.System.{Processor, start_processor}
+use Rattle.mt_machine.specs.Machine.{Machine}
+use Rattle.mt_machine_laws.specs.MachineWorkedRuns.{calling, line_of}
+use Rattle.mt_machine_laws.specs.RunWorkedRuns.{pair_order}
+use Rattle.mt_machine_laws.specs.CoreWorkedRuns.{come, come_again}
+use Rattle.mt_script.specs.declared.command.Command.{Command}
+use Rattle.mt_script.specs.declared.command.Command.TheVariants as command
+use Rattle.mt_script.specs.declared.command.Stage.TheVariants.{Commands, InBegin}
+use Rattle.mt_replay.specs.ReplayState.{ReplayState}
+use Rattle.mt_replay_laws.specs.Headline.{Keeps}
+use Rattle.mt_replay.specs.Steps.{Step}
+use Rattle.mt_replay_laws.specs.WorkedStates.{busy, painted, resting, state_of}
+
+abbrev pub step_of : Command → ReplayState → Step
+step_of c s = record { number = 1; command = c; before = s }
+
+abbrev pub begins : Step
+begins = step_of command.Begin (resting Commands)
+
+abbrev pub calls : Step
+calls = step_of command.End (resting InBegin)
+
+-- the end of a section while an update is under way
+abbrev pub is_late : Step
+is_late = step_of command.End (busy InBegin)
+
+abbrev pub passes_by : List Processor → Step
+passes_by ps = step_of (command.Step 0) (state_of Commands (calling pair_order ps))
+
+abbrev pub passes : Step
+passes = passes_by (come ∷ come ∷ [])
+
+-- the other processor has a store in a buffer
+abbrev pub passes_over_a_buffer : Step
+passes_over_a_buffer = passes_by (come ∷ record come { buffers = line_of 0x4000 0 ∷ [] } ∷ [])
+
+abbrev pub releases : Step
+releases = passes_by (come_again ∷ come_again ∷ [])
+
+abbrev pub first_store : Step
+first_store = step_of (command.Store 0 0x1000 7) painted
+
+-- ---- what an update keeps
+
+abbrev pub worked_file : RegisterFile
+worked_file = blank_file 36 0x400
+
+-- a machine of one processor, whose memory has one line of zeros
+abbrev pub machine_of : Processor → Machine
+machine_of p = record { system = record { processors = p ∷ []; memory = record { windows = record { base = 0x100000; lines = 1 } ∷ []; words = replicate 8 0 } }; order = None }
+
+-- a processor behind its first update
+abbrev pub updated_processor : Processor
+updated_processor = record (start_processor worked_file) { era = 1 }
+
+-- the machine keeps what the headline promises of an update to this file, the first, behind which these words were stored
+abbrev pub IsKept : (ℕ → ℕ) → List ℕ → Processor → Type 0
+IsKept value stored p = Keeps worked_file 1 value stored (machine_of p)
+
+-- the first word was stored, the others are zeros
+abbrev pub seven_stored : ℕ → ℕ
+seven_stored address = if address == 0x100000 then 7 else 0
