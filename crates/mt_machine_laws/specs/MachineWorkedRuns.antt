@@ -12,12 +12,9 @@ use Rattle.mt_tlb.specs.declared.mapping.Mapping.{Mapping}
 use Rattle.mt_machine.specs.declared.control.Control.TheVariants.{Map}
 use Rattle.mt_machine.specs.declared.go.Go.TheVariants.{Pending}
 use Rattle.mt_machine.specs.declared.phase.Phase.TheVariants.{Taken}
-use Rattle.mt_machine.specs.declared.op.Op.{Op}
 use Rattle.mt_machine.specs.declared.op.Op.TheVariants.{Load, Store}
-use Rattle.mt_machine.specs.declared.done.Done.{Done}
-use Rattle.mt_machine.specs.Memory.{Window, put_word, word_at}
+use Rattle.mt_machine.specs.Memory.{Window, put_word}
 use Rattle.mt_machine.specs.System.{Processor, start_processor, buffers_of}
-use Rattle.mt_machine.specs.Access.{access}
 use Rattle.mt_machine.specs.Machine.{Machine, MachineEvent, Order, Accesses, Controls, Calls, Goes, Steps, due_at, next, run}
 use Rattle.mt_machine.specs.Start.{start_machine, zero_memory}
 
@@ -53,12 +50,6 @@ rounds (suc n) m = rounds n (step_at (step_at m 0) 1)
 abbrev pub own : Machine → ℕ → Processor
 own m k = option_map_or (λ p. p) (slice_get m.system.processors k) (start_processor four_gigabytes)
 
-abbrev pub answer_of : Machine → ℕ → Op → Done
-answer_of m k op = (access m.system k op).answer
-
-abbrev pub memory_at : Machine → ℕ → ℕ
-memory_at m address = word_at m.system.memory address
-
 -- the numbers and dirty bits of lines or buffers
 abbrev pub seen : List CacheLine → List (ℕ × ℕ)
 seen ls = map (λ l. (l.number, l.dirty)) ls
@@ -85,10 +76,6 @@ small m = record { system = record { processors = m.system.processors; memory = 
 -- so many processors with one file, each with page 1 mapped to the window
 abbrev pub setup : ℕ → RegisterFile → Machine
 setup count f = machine_of (replicate count (mapped f))
-
--- the first 4 GB as UC, and as WC
-abbrev pub uncached_goal : RegisterFile
-uncached_goal = with_value four_gigabytes (PhysBase 0) 0
 
 abbrev pub combining : RegisterFile
 combining = with_value four_gigabytes (PhysBase 0) 1
@@ -140,10 +127,6 @@ mixed = record {
   order = None;
 }
 
--- each has a dirty word
-abbrev pub mixed_dirty : Machine
-mixed_dirty = run mixed (store 0 0x1000 0x2a ∷ store 1 0x1040 0x2b ∷ [])
-
 abbrev pub flags : Machine → List Bool
 flags m = map (λ p. p.self_snoop) m.system.processors
 
@@ -160,14 +143,6 @@ entries_from page (suc count) = entry page false ∷ entries_from (page + 1) cou
 abbrev pub mappings_from : ℕ → ℕ → List Mapping
 mappings_from page zero = []
 mappings_from page (suc count) = mapping page 0x100 0 ∷ mappings_from (page + 1) count
-
--- 64 lines, 64 entries and 64 mappings
-abbrev pub crowded : Processor
-crowded = record (start_processor four_gigabytes) {
-  lines = dirty_lines 0x4001 64;
-  entries = entries_from 2 64;
-  mappings = mapping 1 0x100 0 ∷ mappings_from 2 63;
-}
 
 -- a line at the window's begin, whose words 1 and 2 are dirty
 abbrev pub line_of : ℕ → ℕ → CacheLine
