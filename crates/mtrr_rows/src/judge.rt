@@ -1,0 +1,70 @@
+ghost use Rattle.std.specs.Prelude.{◌<◌};
+
+use crate::row::Row;
+use mt_cli::tool;
+use mt_ports::{MemSink, MemSource, NoMemory, OpenGate};
+use std::io;
+use std::sync::Wait;
+use std::thread::Threads;
+
+// More bytes than any row's output has.
+const ROOM: usize = 65_536;
+
+// Whether a run with the input in pieces of so many bytes is the one that the row says.
+fn meets<R: AllocGlobal + Threads + Wait + Sync>(
+    rt: &R,
+    row: &Row,
+    piece: usize,
+) -> Result<bool, NoMemory>
+    requires { 0 < piece }
+{
+    let alloc = rt.alloc();
+    let input = row.input.as_slice().to_vec(alloc)?;
+    let mut source = MemSource::new(input, piece, Vec::new(alloc));
+    let mut sink = MemSink::new(alloc, ROOM, Vec::new(alloc))?;
+    let status = tool(rt, row.words.as_slice(), &mut source, &mut sink, &OpenGate);
+    Ok(row.is_met_by(status, sink.bytes()))
+}
+
+fn is_met<R: AllocGlobal + Threads + Wait + Sync + Print>(
+    rt: &R,
+    row: &Row,
+    piece: usize,
+) -> io::Result<bool>
+    requires { 0 < piece }
+{
+    let Ok(met) = meets(rt, row, piece) else {
+        return Err(io::Error::from(io::ErrorKind::OutOfMemory));
+    };
+    if !met {
+        println!(rt; "{}: failed in pieces of {piece}", row.name)?;
+    }
+    Ok(met)
+}
+
+// The same for longer pieces. An input that came whole in the shorter ones comes so again.
+fn is_met_longer<R: AllocGlobal + Threads + Wait + Sync + Print>(
+    rt: &R,
+    row: &Row,
+    shorter: usize,
+    piece: usize,
+) -> io::Result<bool>
+    requires { 0 < piece }
+{
+    if row.input.len() <= shorter {
+        return Ok(true);
+    }
+    is_met(rt, row, piece)
+}
+
+/// Whether the row is met in pieces of 1, 2, 7 and 4,096 bytes. Prints a line for each in which it isn't.
+pub fn judge<R: AllocGlobal + Threads + Wait + Sync + Print>(
+    rt: &R,
+    row: &Row,
+) -> io::Result<bool> {
+    let ones = is_met(rt, row, 1)?;
+    let twos = is_met_longer(rt, row, 1, 2)?;
+    let sevens = is_met_longer(rt, row, 2, 7)?;
+    let whole = is_met_longer(rt, row, 7, 4096)?;
+    Ok(ones && twos && sevens && whole)
+}
