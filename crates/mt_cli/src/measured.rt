@@ -71,8 +71,8 @@ fn job_of(alloc: Global, first: u64, count: u32) -> Result<Job, NoMemory>
     })
 }
 
-/// A job for each of so many processors.
-pub(crate) fn jobs_of(alloc: Global, cpus: u32, n: u64, count: u32) -> Result<Vec<Job>, NoMemory>
+// A job for each of so many processors.
+fn jobs_of(alloc: Global, cpus: u32, n: u64, count: u32) -> Result<Vec<Job>, NoMemory>
     ensures before { IfOk result (λ jobs. map (ops_in Before) jobs.items ≡ map (ops_before n count) (ascending cpus)) }
     ensures after { IfOk result (λ jobs. map (ops_in After) jobs.items ≡ map (ops_after n count) (ascending cpus)) }
     ensures fits { IfOk result (λ jobs. All FitsJob jobs.items) }
@@ -124,8 +124,8 @@ fn values_of_part(sum: u64, part: Part, told: &Told) -> u64
     }
 }
 
-/// The sum of all words of memory.
-pub(crate) fn words_sum(ram: &Ram) -> u64
+// The sum of all words of memory.
+fn words_sum(ram: &Ram) -> u64
     ensures { result ≡ words_sum ram.now.words }
 {
     let mut sum: u64 = 0;
@@ -135,8 +135,8 @@ pub(crate) fn words_sum(ram: &Ram) -> u64
     sum
 }
 
-/// Registers that give memory below 4 GB a type, over UC.
-pub(crate) fn file_of(kind: u64) -> Option<RegFile>
+// Registers that give memory below 4 GB a type, over UC.
+fn file_of(kind: u64) -> Option<RegFile>
     ensures { IfSome result (λ f. f ≡ file_of kind) }
 {
     let Ok(mut file) = RegFile::blank(36, 0x508) else {
@@ -189,8 +189,8 @@ fn bare_core(alloc: Global, cpus: u32) -> Result<Core, NoMemory>
     Core::start(alloc, files.as_slice())
 }
 
-/// So many processors, each with a page of its own.
-pub(crate) fn measured_core(alloc: Global, cpus: u32) -> Result<Core, NoMemory>
+// So many processors, each with a page of its own.
+fn measured_core(alloc: Global, cpus: u32) -> Result<Core, NoMemory>
     requires some { 0 < cpus }
     requires few { cpus ≤ 16 }
     ensures machine { IfOk result (λ core. core ≡ measured_machine cpus) }
@@ -207,8 +207,8 @@ pub(crate) fn measured_core(alloc: Global, cpus: u32) -> Result<Core, NoMemory>
     Ok(core)
 }
 
-/// The text of both sums.
-pub(crate) fn sums_text(values: u64, memory: u64) -> LineBuffer
+// The text of both sums.
+fn sums_text(values: u64, memory: u64) -> LineBuffer
     ensures { result.items ≡ sums_text values memory }
 {
     let mut text = ArrayVec::new();
