@@ -66,6 +66,10 @@ at_end = state_of InUpdate (run palette (store 0 0x1000 7 ∷ []))
 abbrev pub after_end : Machine
 after_end = updated at_end.machine.system (0 ∷ 1 ∷ []) (bare_file 0x800)
 
+-- a whole update of two processors, of which nothing is dirty
+abbrev pub after_rest : Machine
+after_rest = updated (resting InUpdate).machine.system (0 ∷ 1 ∷ []) (bare_file 0x800)
+
 -- a processor behind an update
 abbrev pub risen : Processor
 risen = record idle { era = 1 }

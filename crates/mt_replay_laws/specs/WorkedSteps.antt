@@ -63,3 +63,7 @@ IsKept value stored p = Keeps worked_file 1 value stored (machine_of p)
 -- the first word was stored, the others are zeros
 abbrev pub seven_stored : ℕ → ℕ
 seven_stored address = if address == 0x100000 then 7 else 0
+
+-- the second word was stored, the others are zeros
+abbrev pub second_is_seven : ℕ → ℕ
+second_is_seven address = if address == 0x100008 then 7 else 0

@@ -1,4 +1,5 @@
 // Instances of the relations that laws cite: what meets each, and for each part what fails in that alone.
+// Except: no instance fails in `HasNewcomer.one_more`, `IsAdmittedAfter.line_is` or `IsSettledAfter.risen` alone.
 ghost use Rattle.std.specs.Prelude.{◌≡◌, ◌∷◌, [], codes, replicate, false};
 ghost use Rattle.mt_kinds.specs.declared.mem_type.MemType.TheVariants.{WB};
 ghost use Rattle.mt_dump.specs.Dumps.{dump_of};
@@ -11,15 +12,15 @@ ghost use Rattle.mt_script.specs.declared.command.Command.TheVariants as asks;
 ghost use Rattle.mt_script.specs.declared.command.Stage.TheVariants as stage;
 ghost use Rattle.mt_stream.specs.Told.{told};
 ghost use Rattle.mt_replay_laws.specs.Flat.{flat_done, flat_told_in};
-ghost use Rattle.mt_replay_laws.specs.Headline.{ComesUp, HasNewcomer, IsCall, IsCalled, IsRefused, Joins, NoneOf, SectionOf, UpdateOf};
+ghost use Rattle.mt_replay_laws.specs.Headline.{ComesUp, HasNewcomer, IsCall, IsCalled, IsRefused, Joins, NoneOf, SectionOf, UpdateOf, stored_in};
 ghost use Rattle.mt_replay_laws.specs.Through.{EachIn, HoldsThrough};
 ghost use Rattle.mt_replay_laws.specs.Movers.{Stays};
 ghost use Rattle.mt_replay.specs.Newcomers.{early_text};
 ghost use Rattle.mt_replay_laws.specs.Settling.{AreHeld, AreWithoutCall, EndsIdle, IsAdmittedAfter, IsSettledAfter, stored_by_all};
 ghost use Rattle.mt_replay.specs.Statuses.{BeginsWith, EndsWith, ShowsDump, ShowsNoDump};
 ghost use Rattle.mt_replay.specs.Texts.{full_line, no_line, up_line};
-ghost use Rattle.mt_replay_laws.specs.WorkedStates.{after_end, after_join, at_end, busy, crowd, crowd_in_update, late_after_end, late_at_end, nines, over, painted, painted_by, resting, risen, small_dump, stored, two_processors, unlike_eras, with_first};
-ghost use Rattle.mt_replay_laws.specs.WorkedSteps.{IsKept, begins, calls, first_store, is_late, passes, passes_over_a_buffer, releases, seven_stored, step_of, updated_processor, worked_file};
+ghost use Rattle.mt_replay_laws.specs.WorkedStates.{after_end, after_join, after_rest, at_end, busy, crowd, crowd_in_update, late_after_end, late_at_end, nines, over, painted, painted_by, resting, risen, small_dump, stored, two_processors, unlike_eras, with_first};
+ghost use Rattle.mt_replay_laws.specs.WorkedSteps.{IsKept, begins, calls, first_store, is_late, passes, passes_over_a_buffer, releases, second_is_seven, seven_stored, step_of, updated_processor, worked_file};
 
 /// What an update keeps, and steps of which none calls.
 pub fn worked_refusals()
@@ -27,6 +28,7 @@ pub fn worked_refusals()
     ensures other_register { IsKept (λ a. 0) [] (record updated_processor { file = record worked_file { default_type = 0x800 } }) → ⊥ }
     ensures stored_again { IsKept seven_stored (0x100000 ∷ []) updated_processor }
     ensures other_word_stored { IsKept seven_stored (0x100008 ∷ []) updated_processor → ⊥ }
+    ensures second_word_lost { IsKept second_is_seven (0x100000 ∷ []) updated_processor → ⊥ }
     ensures quiet { NoneOf IsCall (passes ∷ releases ∷ []) }
     ensures first_calls { NoneOf IsCall (calls ∷ begins ∷ []) → ⊥ }
     ensures later_call { NoneOf IsCall (begins ∷ calls ∷ []) → ⊥ }
@@ -62,7 +64,7 @@ pub fn worked_short_updates()
 pub fn worked_updates_of_steps()
     ensures other_goal { (u : SectionOf (begins ∷ []) (step_of asks.End (record (resting stage.InBegin) { goal = bare_file 0x806 }))) → u.opens ≡ begins → u.lines ≡ [] → ⊥ }
     ensures two_sections { (u : SectionOf (begins ∷ calls ∷ []) calls) → u.lines ≡ calls ∷ [] → ⊥ }
-    ensures begun_by_a_store { (u : SectionOf (first_store ∷ []) calls) → u.opens ≡ first_store → ⊥ }
+    ensures begun_by_a_fence { (u : SectionOf (step_of (asks.Fence 0) (resting stage.Commands) ∷ []) calls) → u.opens ≡ step_of (asks.Fence 0) (resting stage.Commands) → ⊥ }
     ensures ended_by_a_register { SectionOf (begins ∷ []) (step_of (asks.Register 0x2ff 0x806) (resting stage.InBegin)) → ⊥ }
     ensures no_call { (u : UpdateOf (begins ∷ passes ∷ []) releases) → u.call ≡ begins → ⊥ }
     ensures no_pass { (u : UpdateOf (calls ∷ begins ∷ []) releases) → u.pass ≡ begins → ⊥ }
@@ -101,18 +103,19 @@ pub fn worked_each_state()
 pub fn worked_words()
     ensures in_turn { stored_by_all painted (asks.Store 0 0x6000 1 ∷ asks.Map 0 0x6000 0x100000 0 false ∷ asks.Store 0 0x6010 1 ∷ asks.Load 0 0x1008 ∷ asks.Store 1 0x1000 2 ∷ []) ≡
         0x100010 ∷ 0x100000 ∷ [] }
-    ensures emptied_since { AreHeld (λ address. 0) (painted_by (store 0 0x3000 7 ∷ [])) (asks.Fence 0 ∷ []) → ⊥ }
+    ensures stored { stored_in (first_store ∷ step_of (asks.Load 0 0x1008) painted ∷ step_of (asks.Store 0 0x6000 1) painted ∷ []) ≡ 0x100000 ∷ [] }
+    ensures emptied_since { AreHeld (λ address. 0) (painted_by (store 0 0x3008 7 ∷ [])) (asks.Fence 0 ∷ []) → ⊥ }
     ensures other_word_stored { AreHeld (λ address. 0) (painted_by (store 0 0x3000 7 ∷ [])) (asks.Store 0 0x1008 1 ∷ asks.Fence 0 ∷ []) → ⊥ }
 {}
 
-/// What isn't settled after a whole update, in one part.
+/// What isn't settled after a whole update: `only_called` in two parts, the others in one.
 pub fn worked_settled_states()
     ensures only_called { IsSettledAfter (record at_end { now = two_processors stage.InBegin }) after_end → ⊥ }
     ensures other_register { IsSettledAfter at_end (with_first (record idle { file = bare_file 0x806; era = 1 }) after_end) → ⊥ }
     ensures older_processor { IsSettledAfter at_end (with_first idle after_end) → ⊥ }
     ensures newer_entry_since { IsSettledAfter late_at_end late_after_end → ⊥ }
     ensures order_stays { IsSettledAfter at_end (record after_end { order = (run palette (Calls (bare_file 0x800) ∷ [])).order }) → ⊥ }
-    ensures windows_lost { IsSettledAfter at_end (over (zero_memory []) after_end) → ⊥ }
+    ensures windows_lost { IsSettledAfter (resting stage.InUpdate) (over (zero_memory []) after_rest) → ⊥ }
     ensures word_lost { IsSettledAfter at_end (over (zero_memory one_window) after_end) → ⊥ }
 {}
 

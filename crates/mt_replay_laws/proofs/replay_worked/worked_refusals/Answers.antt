@@ -36,6 +36,16 @@ returns-clause-other_word_stored c h =
     let e : 0 ≡ 7 = h.held 0x100000 refl not_stored in
     cc e
 
+-- nor the second, where the first is
+second_not_stored : Contains {X = ℕ} (0x100000 ∷ []) 0x100008 → ⊥
+second_not_stored (zero, within, is) = let e : 0x100000 ≡ 0x100008 = is in omega (arith, e)
+second_not_stored (suc k, within, is) = omega (arith, within)
+
+pub returns-clause-second_word_lost : goal.returns-clause-second_word_lost
+returns-clause-second_word_lost c h =
+    let e : 0 ≡ 7 = h.held 0x100008 refl second_not_stored in
+    cc e
+
 pub returns-clause-quiet : goal.returns-clause-quiet
 returns-clause-quiet c = none_calls (passes ∷ releases ∷ []) refl
 

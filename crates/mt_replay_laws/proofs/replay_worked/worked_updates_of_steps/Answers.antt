@@ -23,8 +23,8 @@ returns-clause-other_goal c = λ u opens lines.
 pub returns-clause-two_sections : goal.returns-clause-two_sections
 returns-clause-two_sections c = λ u lines. (subst (NoneOf (λ step. step.command ≡ command.End)) lines u.no_other_end).0 refl
 
-pub returns-clause-begun_by_a_store : goal.returns-clause-begun_by_a_store
-returns-clause-begun_by_a_store c = λ u opens.
+pub returns-clause-begun_by_a_fence : goal.returns-clause-begun_by_a_fence
+returns-clause-begun_by_a_fence c = λ u opens.
     ⊎_elim (λ is. absurd (cc is)) (λ is. absurd (cc is))
     (subst (λ (s : Step). (s.command ≡ command.Update) ⊎ (s.command ≡ command.Begin)) opens u.begins)
 
