@@ -1,16 +1,24 @@
 -- Worked states, and flat machines beside them.
-use Rattle.std.specs.Prelude.{List, [], ◌∷◌, map}
+use Rattle.std.specs.Prelude.{ℕ, List, [], ◌∷◌, map, None}
 use Rattle.mt_machine.specs.declared.event.Event.TheVariants.{Leave}
 use Rattle.mt_machine.specs.Machine.{Machine, MachineEvent, Cancels, Steps}
 use Rattle.mt_machine.specs.System.{System, buffers_of, now}
-use Rattle.mt_machine_laws.specs.MachineWorkedRuns.{alone, call_order, calling, idle, line_of, machine_of, palette, whole}
-use Rattle.mt_flat.specs.Flat.{Flat, flat_start}
+use Rattle.mt_machine_laws.specs.MachineWorkedRuns.{alone, call_order, calling, idle, line_of, machine_of, palette, store, whole}
+use Rattle.mt_flat.specs.Flat.{Flat, PendingLine, flat_start}
 use Rattle.mt_flat.specs.Seen.{flat_run, written_of}
 use Rattle.mt_flat.specs.Courses.{Does, Turn}
 
 -- beside two processors that have one page with five types, from zeros on
 abbrev pub flat_of : List MachineEvent → Flat
 flat_of es = flat_run palette es flat_start
+
+-- one with no word written
+abbrev pub pending_line : ℕ → PendingLine
+pending_line number = record { number = number; written = λ word. None }
+
+-- stores to four lines of write-combining memory
+abbrev pub four_lines : List MachineEvent
+four_lines = store 0 0x3000 1 ∷ store 0 0x3040 2 ∷ store 0 0x3080 3 ∷ store 0 0x30c0 4 ∷ []
 
 -- the one that stands beside a system
 abbrev pub beside : System → Flat

@@ -14,5 +14,5 @@ pub use laws::{
 pub use worked::{
     worked_coming_turns, worked_flat_answers, worked_flat_comers, worked_flat_held,
     worked_flat_laws, worked_flat_of, worked_laws_of_broadcasts, worked_laws_of_takes,
-    worked_laws_under_way, worked_turns,
+    worked_laws_under_way, worked_pending, worked_turns,
 };

@@ -12,7 +12,7 @@ ghost use Rattle.mt_flat.specs.Courses.{CanTurn, ComesUp, course, CoursesHideCac
 ghost use Rattle.mt_flat.specs.Flat.{empty_all, flat_start, set_value, with_pending};
 ghost use Rattle.mt_flat.specs.Seen.{AnswersAreFlat, AreFew, CachesAreNeverSeen, EventsKeepFlat, flat_after, flat_run, flat_takes, HeldIsFlat, IsFlatAnswer, IsFlatOf, IsHeldFlat, NoBuffersIsFlat, PendingStaysFew, RunsKeepFlat, UpdatedIsFlat};
 ghost use Rattle.mt_flat.specs.ComingAndGoing.{AdmittedIsFlat, GoneKeepsFlat, NewcomersKeepFlat};
-ghost use Rattle.mt_flat.specs.WorkedRuns.{beside, both_combine, called_whole, cancelled_turns, combiner, flat_of, two_values};
+ghost use Rattle.mt_flat.specs.WorkedRuns.{beside, both_combine, called_whole, cancelled_turns, combiner, flat_of, four_lines, pending_line, two_values};
 
 /// A system with a dirty line and a buffer, and the flat machine beside it. What fails in one part.
 pub fn worked_flat_of()
@@ -31,8 +31,13 @@ pub fn worked_flat_answers()
 /// Words that are held after the first release of an update, and what fails in one part.
 pub fn worked_flat_held()
     ensures held { IsHeldFlat flat_start palette [] }
-    ensures loaded { IsHeldFlat (set_value 0x100000 5 flat_start) palette (load 0 0x4000 ∷ []) → ⊥ }
+    ensures loaded { IsHeldFlat (set_value 0x100008 5 flat_start) palette (load 0 0x4000 ∷ []) → ⊥ }
     ensures still_pending { IsHeldFlat (flat_of (store 0 0x3000 7 ∷ [])) palette [] → ⊥ }
+{}
+
+/// Five pending lines are too many.
+pub fn worked_pending()
+    ensures { AreFew (pending_line 4 ∷ (flat_of four_lines).pending 0) → ⊥ }
 {}
 
 /// Events and whole updates in one course, and what is none for one thing.

@@ -1,9 +1,9 @@
 // Relations of the laws: one state that meets each, and states that fail in one part.
-ghost use Rattle.std.specs.Prelude.{◌≡◌, ◌∷◌, ◌++◌, [], false};
+ghost use Rattle.std.specs.Prelude.{◌≡◌, ◌∷◌, ◌++◌, [], false, map};
 ghost use Rattle.mt_regs.specs.RegisterFile.{blank_file};
 ghost use Rattle.mt_regs.specs.Registers.{with_value};
 ghost use Rattle.mt_regs.specs.declared.registers.Register.TheVariants.{DefaultType, Pat};
-ghost use Rattle.mt_machine.specs.declared.event.Event.TheVariants.{Arrive, Pass, Release};
+ghost use Rattle.mt_machine.specs.declared.event.Event.TheVariants.{Arrive, Pass, Release, SetNoFill};
 ghost use Rattle.mt_machine.specs.declared.phase.Phase.TheVariants.{Arrived, NoFill, Passed, Restored, Taken, Writing};
 ghost use Rattle.mt_machine.specs.Machine.{Steps, run};
 ghost use Rattle.mt_machine_laws.specs.MachineWorkedRuns.{alone, bare, bare_file, call_order, called, calling, entry, goal_of, idle, line_of, machine_of, palette, walk, whole, with_first_word};
@@ -13,7 +13,7 @@ ghost use Rattle.mt_laws.specs.Kept.{OrderHolds, SameHoldings};
 ghost use Rattle.mt_laws.specs.Settled.{IsFirstRelease, IsFresh};
 ghost use Rattle.mt_laws.specs.Starts.{HasEras};
 ghost use Rattle.mt_laws.specs.Updates.{HoldsNothing, LeadsToBroadcast};
-ghost use Rattle.mt_machine_laws.specs.RunWorkedRuns.{bare_called, between_of_bare, between_of_snooper, pair_arrived, pair_between, pair_order, pair_released, snooper_called};
+ghost use Rattle.mt_machine_laws.specs.RunWorkedRuns.{bare_called, between_of_bare, between_of_snooper, pair_arrived, pair_between, pair_order, pair_released, snooper_called, way_on};
 
 /// Two processors at the first barrier, and the first release, which comes after each has made its way to the
 /// second. What fails in one part.
@@ -48,7 +48,7 @@ pub fn worked_fresh()
 pub fn worked_counts()
     ensures counted { IsCounted bare_called 0 between_of_bare }
     ensures self_snooping { IsCounted snooper_called 0 between_of_snooper }
-    ensures no_pass { IsCounted bare_called 0 [] → ⊥ }
+    ensures no_pass { (h : IsCounted bare_called 0 (map (Steps 0) (Arrive ∷ SetNoFill ∷ way_on))) → h.before ≡ Steps 0 Arrive ∷ [] → ⊥ }
     ensures one_step_more { (h : IsCounted bare_called 0 (between_of_bare ++ Steps 0 Arrive ∷ [])) → h.before ≡ Steps 0 Arrive ∷ [] → ⊥ }
     ensures one_missing { IsEachOnce 2 (0 ∷ []) → ⊥ }
     ensures one_too_many { IsEachOnce 2 (0 ∷ 1 ∷ 2 ∷ []) → ⊥ }
@@ -83,6 +83,7 @@ pub fn worked_nothing()
     ensures entry { HoldsNothing (bare_file 0x800) (record idle { entries = entry 1 false ∷ [] }) → ⊥ }
     ensures broadcast { LeadsToBroadcast bare (bare_file 0x806) (0 ∷ []) }
     ensures one_too_few { LeadsToBroadcast (machine_of (idle ∷ idle ∷ [])) (bare_file 0x806) (0 ∷ []) → ⊥ }
+    ensures taken_twice { LeadsToBroadcast bare (bare_file 0x806) (0 ∷ 0 ∷ []) → ⊥ }
 {}
 
 /// Eras that fit, and that don't, for one thing.

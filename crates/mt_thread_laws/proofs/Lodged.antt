@@ -83,14 +83,14 @@ second_lodged = record { held = held 1 (lodger 0x200) false false; ram = own_mem
 
 -- ---- no event
 
-absent : (m : Machine) (k : ℕ) (e : Event) → slice_get m.system.processors k ≡ None → due_at m k ≡ Some e → ⊥
+pub absent : (m : Machine) (k : ℕ) (e : Event) → slice_get m.system.processors k ≡ None → due_at m k ≡ Some e → ⊥
 absent m k e none h = one m.order (ap (λ (x : Option Processor). option_map_or (λ (o : Order). option_map_or (λ (p : Processor). due o m.system.processors p p.phase) x None) m.order None) (sym none) ∙ h)
   where
     one : (y : Option Order) → option_map_or (λ (o : Order). option_map_or (λ (p : Processor). due o m.system.processors p p.phase) None None) y None ≡ Some e → ⊥
     one None f = absurd (cc f)
     one (Some o) f = absurd (cc f)
 
-goes_on : (m : Machine) → go_of m ≡ Some Pending → m ≡ next m Goes → ⊥
+pub goes_on : (m : Machine) → go_of m ≡ Some Pending → m ≡ next m Goes → ⊥
 goes_on m pending same = one m.order pending (sym pending ∙ ap go_of same)
   where
     two : (b : Bool) (o : Order) → Some Pending ≡ option_map (λ (q : Order). q.go) (if b then None else Some (record o { go = Given })) → ⊥

@@ -2,7 +2,9 @@
 // follow on the words and views at the start.
 ghost use Rattle.std.specs.Prelude.{◌≡◌, [], None, Some};
 ghost use Rattle.atomic_table.specs.Table.{opening};
+ghost use Rattle.mt_machine.specs.declared.event.Event.TheVariants.{Arrive};
 ghost use Rattle.mt_machine.specs.declared.phase.Phase.TheVariants.{Passed};
+ghost use Rattle.mt_machine.specs.Machine.{Goes, Steps};
 ghost use Rattle.mt_rendezvous.specs.declared.view.Key.{Key};
 ghost use Rattle.mt_rendezvous.specs.Station.{Meets, first_view, root_left, start_of};
 ghost use Rattle.mt_rendezvous.specs.Laws.{Follows, GoesTo};
@@ -31,5 +33,7 @@ pub fn worked_places()
 
 /// What doesn't follow on the words and views at the start.
 pub fn worked_follows()
-    ensures { (key : Key) → start_of key ≡ start → (m : Meets key (at_start key)) → Follows key (at_start key) (but_word key 0 1) m None → ⊥ }
+    ensures not_kept { (key : Key) → start_of key ≡ start → (m : Meets key (at_start key)) → Follows key (at_start key) (but_word key 0 1) m None → ⊥ }
+    ensures not_enabled { (key : Key) → start_of key ≡ start → (m : Meets key (at_start key)) → Follows key (at_start key) (at_start key) m (Some (Steps 7 Arrive)) → ⊥ }
+    ensures not_gone_on { (key : Key) → start_of key ≡ start → (m : Meets key (at_start key)) → Follows key (at_start key) (at_start key) m (Some Goes) → ⊥ }
 {}

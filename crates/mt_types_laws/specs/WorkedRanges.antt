@@ -3,7 +3,7 @@ use Rattle.std.specs.Prelude.{ℕ, List, [], ◌∷◌}
 use Rattle.mt_kinds.specs.declared.mem_type.MemType.{MemType}
 use Rattle.mt_kinds.specs.declared.mem_type.MemType.TheVariants.{UC, WB}
 use Rattle.mt_regs.specs.declared.page_type.PageType.TheVariants.{Kind}
-use Rattle.mt_regs.specs.declared.registers.Register.TheVariants.{DefaultType}
+use Rattle.mt_regs.specs.declared.registers.Register.TheVariants.{DefaultType, PhysBase}
 use Rattle.mt_regs.specs.RegisterFile.{RegisterFile, blank_file}
 use Rattle.mt_regs.specs.Registers.{with_value}
 use Rattle.mt_types.specs.declared.run.Run.{Run}
@@ -21,6 +21,10 @@ holed = range 0 3 WB ∷ range 7 0 UC ∷ []
 -- ranges are on, and there is none
 abbrev pub uncached : RegisterFile
 uncached = with_value (blank_file 36 8) DefaultType 0x800
+
+-- the base of the first pair, which isn't valid, has a reserved bit
+abbrev pub with_reserved_bit : RegisterFile
+with_reserved_bit = with_value uncached (PhysBase 0) 0x100
 
 -- all 2 ^ 24 pages of one type
 abbrev pub all_of : MemType → List Run

@@ -16,3 +16,7 @@ apart = with_ranges (with_value (blank_file 16 0x403) DefaultType 0x800) (range 
 -- the types of its pages
 abbrev pub seven : List Run
 seven = record { first = 0; count = 7; kind = Kind WB } ∷ record { first = 7; count = 9; kind = Kind UC } ∷ []
+
+-- all else is WT: four pages of WB and four of UC side by side
+abbrev pub beside : RegisterFile
+beside = with_ranges (with_value (blank_file 16 0x403) DefaultType 0x804) (range 0 2 WB ∷ range 4 2 UC ∷ [])

@@ -11,7 +11,7 @@ pub returns-clause-held : goal.returns-clause-held
 returns-clause-held c = record { nothing = λ k. refl; held = λ a whole other. zero_word one_window a }
 
 pub returns-clause-loaded : goal.returns-clause-loaded
-returns-clause-loaded c = λ h. omega (arith, h.held 0x100000 refl (none 0x100000))
+returns-clause-loaded c = λ h. omega (arith, h.held 0x100008 refl (none 0x100008))
 
 pub returns-clause-still_pending : goal.returns-clause-still_pending
 returns-clause-still_pending c = λ h. omega (arith, ap length (h.nothing 0))

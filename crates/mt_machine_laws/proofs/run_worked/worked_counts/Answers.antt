@@ -32,13 +32,6 @@ returns-clause-self_snooping c = record {
   count = refl;
 }
 
-unlike : (before rest : List MachineEvent) → [] ≡ before ++ Steps 0 Pass ∷ rest → ⊥
-unlike [] rest is = omega (arith, ap length is)
-unlike (e ∷ before) rest is = omega (arith, ap length is)
-
-pub returns-clause-no_pass : goal.returns-clause-no_pass
-returns-clause-no_pass c = λ h. unlike h.before h.rest h.passes
-
 abbrev needed : Option Processor → ℕ
 needed None = 0
 needed (Some p) = length (writable p.file) + dirty_count p.lines + other_events p

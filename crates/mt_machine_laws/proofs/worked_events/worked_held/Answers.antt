@@ -12,6 +12,9 @@ one a b differ (suc k, within, is) = omega (arith, within)
 pub returns-clause-changed : goal.returns-clause-changed
 returns-clause-changed c = λ h. omega (arith, h 0x100000 refl (none 0x100000))
 
+pub returns-clause-second_word : goal.returns-clause-second_word
+returns-clause-second_word c = λ h. omega (arith, h 0x100008 refl (none 0x100008))
+
 pub returns-clause-left_in_a_cache : goal.returns-clause-left_in_a_cache
 returns-clause-left_in_a_cache c = λ h. omega (arith, h 0x100000 refl (none 0x100000))
 
