@@ -13,7 +13,7 @@ use Rattle.mt_machine.specs.Machine.{IsEnabled, Machine, Order, Reached, Steps, 
 use Rattle.mt_machine.specs.Start.{IsQuiet}
 use Rattle.mt_machine.specs.Update.{IsSettled}
 use Rattle.mt_laws.specs.Settled.{IsFirstRelease}
-use Rattle.mt_laws.proofs.Updates.FirstRelease.{held_after_each_first}
+use Rattle.mt_machine_laws.proofs.Updates.FirstRelease.{held_after_each_first}
 use Rattle.mt_core.specs.Arises.{Arises, by_event, from_start}
 use Rattle.mt_core.specs.Steps.{pause, pause_at, step_answer}
 use Rattle.mt_core.specs.declared.stepped.Stepped.TheVariants.{Did, NoUpdate, Waits}
