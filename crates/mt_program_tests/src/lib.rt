@@ -1,4 +1,4 @@
-//! Tests of scripts, requests and the top call.
+//! Tests of the top call.
 #![tactic(auto)]
 
 #[cfg(test)]
@@ -8,15 +8,9 @@ mod jobs_tests;
 #[cfg(test)]
 mod limits_tests;
 #[cfg(test)]
-mod proc_tests;
-#[cfg(test)]
-mod replay_tests;
-#[cfg(test)]
 mod request_tests;
 #[cfg(test)]
 mod script_tests;
-#[cfg(test)]
-mod summary_tests;
 #[cfg(test)]
 mod tool_runs;
 #[cfg(test)]
