@@ -1,6 +1,7 @@
-ghost use Rattle.std.specs.Prelude.{◌≡◌, ◌<◌, ◌≤◌, ◌+◌, ◌*◌, ◌^◌, [], length, map, slice_get, IfOk, OnOk, OnErr, Some};
+ghost use Rattle.std.specs.Prelude.{◌≡◌, ◌<◌, ◌≤◌, ◌+◌, ◌*◌, ◌^◌, [], length, map, replicate, slice_get, IfOk, OnOk, OnErr, Some};
 ghost use Rattle.std.specs.List.{All};
 ghost use Rattle.mt_kinds.specs.Sizes.{most_lines};
+ghost use Rattle.mt_cache.specs.Counts.{modulus};
 ghost use Rattle.mt_regs.specs.Faults.{IsAccepted};
 ghost use Rattle.mt_regs.specs.StartFiles.{AreStartFiles};
 ghost use Rattle.mt_ram.specs.Windows.{refusal, refusal_in, window, with_window};
@@ -78,7 +79,10 @@ fn start_tables(alloc: Global, files: &[RegFile]) -> Result<Vec<KindTable>, NoMe
 }
 
 // One cache needs no masks.
-fn start_holders(alloc: Global, count: usize) -> Result<Holders, NoMemory> {
+fn start_holders(alloc: Global, count: usize) -> Result<Holders, NoMemory>
+    ensures one { count ≡ 1 → IfOk result (λ holders. holders ≡ []) }
+    ensures more { (count ≡ 1 → ⊥) → IfOk result (λ holders. holders ≡ replicate modulus 0) }
+{
     if count == 1 {
         Ok(Holders::unknown(alloc))
     } else {
