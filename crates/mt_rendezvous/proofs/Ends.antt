@@ -3,20 +3,19 @@ use Rattle.std.proofs.Common.{◌≡◌, ◌+◌, ℕ, zero, suc, Bool, true, fa
 use Rattle.std.specs.Prelude.{if◌then◌else◌, slice_get}
 use Rattle.std.specs.Option.{option_map_or}
 use Rattle.std.proofs.lemmas.Bool.{lt-ltb}
-use Rattle.mt_machine.specs.declared.phase.Phase.TheVariants.{Running, Arrived2}
+use Rattle.mt_machine.specs.declared.phase.Phase.TheVariants.{Running}
 use Rattle.mt_machine.specs.declared.event.Event.TheVariants.{Release}
 use Rattle.mt_machine.specs.declared.go.Go.TheVariants.{Pending}
 use Rattle.mt_machine.specs.System.{Processor, System}
-use Rattle.mt_machine.specs.Machine.{Machine, Order, Steps, common_era, due, is_over, next, own_step, second_barrier_open, step, stepped}
+use Rattle.mt_machine.specs.Machine.{Machine, Order, Steps, common_era, is_over, next, step, stepped}
 use Rattle.mt_machine.specs.Update.{Led, led_on, settled_processor, updated}
 use Rattle.mt_laws.specs.Updates.{all_running}
 use Rattle.mt_laws.proofs.Barrier.Claims.{all_get}
-use Rattle.mt_laws.proofs.Updates.SecondBarrier.{led_released, led_to_second_barrier}
+use Rattle.mt_laws.proofs.Updates.SecondBarrier.{led_released}
 use Rattle.mt_laws.proofs.Updates.Broadcast.{led_ends}
 use Rattle.mt_rendezvous.specs.declared.view.Start.{Start}
 use Rattle.mt_rendezvous.specs.Station.{order_of, broadcast, Begins}
 use Rattle.mt_rendezvous.specs.Plays.{Took}
-use Rattle.mt_rendezvous.specs.Calls.{Released}
 
 some_injected : (a b : Processor) → Some a ≡ Some b → a ≡ b
 some_injected a b e = cc
@@ -32,31 +31,6 @@ module _ (t : Start) (begins : Begins t) (k : ℕ) (p q : Processor) (took : Too
 
   led_after : Led (broadcast t) after
   led_after = led_on (Steps k Release) took.led took.enabled refl
-
-  -- the second barrier is open
-  opened : p.phase ≡ Arrived2 → second_barrier_open (order_of t took.go) took.machine.system.processors ≡ true
-  opened waits = one (second_barrier_open (order_of t took.go) took.machine.system.processors) (
-      sym (ap (due (order_of t took.go) took.machine.system.processors p) waits)
-      ∙ sym (ap (λ (x : Option Processor). option_map_or (λ r. due (order_of t took.go) took.machine.system.processors r r.phase) x None) took.before)
-      ∙ sym (ap (λ (x : Option Order). option_map_or (λ o. option_map_or (λ r. due o took.machine.system.processors r r.phase) (slice_get took.machine.system.processors k) None) x None) took.order)
-      ∙ took.enabled)
-    where
-      one : (b : Bool) → (if b then Some Release else None) ≡ Some Release → b ≡ true
-      one true e = refl
-      one false e = absurd (cc)
-
-  pub released : p.phase ≡ Arrived2 → q ≡ own_step t.goal Release p → Released t k q
-  released waits is =
-      let all = led_to_second_barrier (broadcast t) took.machine (order_of t Pending) (order_of t took.go) begins.broadcasts took.led took.order (opened waits) in
-      record {
-        machine = took.machine;
-        before = p;
-        led = took.led;
-        at = took.before;
-        becomes = is;
-        each = all.0;
-        words = all.1;
-      }
 
   -- it is the one that the update leaves
   pub settled : (first : Processor) → slice_get t.cpus k ≡ Some first → q.era ≡ common_era t.cpus + 1 → q ≡ settled_processor t.goal first

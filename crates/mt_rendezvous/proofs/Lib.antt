@@ -5,8 +5,10 @@ pub mod Keeps
 pub mod Local
 pub mod Steps
 pub mod RootSteps
+pub mod Told
 mod Facts
 mod Carried
+mod Stored
 mod Ends
 pub mod Unique
 pub mod Handed

@@ -1,5 +1,5 @@
 -- The events of a processor between the barriers, and how phases go with the rule.
-use Rattle.std.proofs.Common.{◌≡◌, ◌≢◌, ◌⊎◌, ◌+◌, ℕ, Bool, true, false, List, [], length, sym, refl, ap, ◌∙◌, subst, ⊎_elim, arith, Some, None}
+use Rattle.std.proofs.Common.{◌≡◌, ◌≢◌, ◌+◌, ℕ, Bool, true, false, List, [], length, sym, refl, ap, ◌∙◌, subst, ⊎_elim, arith, Some, None}
 use Rattle.mt_machine.proofs.Rows.{back_case, due_row, first_flush_case, is_row}
 use Rattle.std.specs.Prelude.{nat_lt, if◌then◌else◌, slice_get}
 use Rattle.std.specs.Option.{option_map_or}

@@ -1,21 +1,20 @@
 -- What the calls of a station say.
-use Rattle.std.specs.Prelude.{◌≡◌, ◌⊎◌, ℕ, ◌<◌, ◌+◌, ◌%◌, slice_get, Bool, true, false, List, [], ◌∷◌, ◌++◌, drop, length, replicate, None, Some}
+use Rattle.std.specs.Prelude.{◌≡◌, ℕ, ◌<◌, ◌+◌, slice_get, Bool, true, false, List, [], ◌∷◌, ◌++◌, drop, length, replicate, None, Some}
 use mathlib.Core.Option.{some}
 use lib.ListN.{get_elem?}
 use Rattle.atomic_table.specs.Table.{Me}
 use Rattle.atomic_table.specs.Seated.{TableId}
-use Rattle.mt_machine.specs.declared.phase.Phase.{Phase}
-use Rattle.mt_machine.specs.declared.phase.Phase.TheVariants.{Taken, Arrived, Running}
+use Rattle.mt_machine.specs.declared.phase.Phase.TheVariants.{Running}
 use Rattle.mt_machine.specs.declared.go.Go.{Go}
 use Rattle.mt_machine.specs.declared.go.Go.TheVariants.{Given}
 use Rattle.mt_machine.specs.declared.go.Go.TheVariants.{Cancelled as Stopped}
-use Rattle.mt_machine.specs.declared.event.Event.TheVariants.{Leave, Pass, Release}
+use Rattle.mt_machine.specs.declared.event.Event.TheVariants.{Leave, Pass}
 use Rattle.mt_regs.specs.RegisterFile.{RegisterFile}
-use Rattle.mt_machine.specs.System.{Processor, now}
+use Rattle.mt_machine.specs.System.{Processor}
 use Rattle.mt_machine.specs.Machine.{Machine, own_step, remaining_order}
-use Rattle.mt_machine.specs.Memory.{Memory, word_at}
+use Rattle.mt_machine.specs.Memory.{Memory}
 use Rattle.mt_machine.specs.Update.{Led, settled_processor, updated}
-use Rattle.mt_laws.specs.Updates.{HoldsNothing, all_running}
+use Rattle.mt_laws.specs.Updates.{all_running}
 use Rattle.std.specs.List.{All}
 use Rattle.mt_rendezvous.specs.declared.station.Outcome.{Outcome}
 use Rattle.mt_rendezvous.specs.declared.station.Outcome.TheVariants.{Complete, Cancelled}
@@ -23,7 +22,7 @@ use Rattle.mt_rendezvous.specs.declared.view.Held.{Held}
 use Rattle.mt_rendezvous.specs.declared.view.Start.{Start}
 use Rattle.mt_rendezvous.specs.declared.view.View.{View}
 use Rattle.mt_rendezvous.specs.Station.{broadcast, held, numbered, order_of}
-use Rattle.mt_rendezvous.specs.Plays.{Took, Stands}
+use Rattle.mt_rendezvous.specs.Plays.{Stands}
 
 -- a seat of the table carries this one processor
 pub record Carries (table : TableId) (t : Start) (its : TableId) (me : Me (Unit {0}) View) (number : ℕ) (c : Processor) (added again : Bool) : Type 0 where
@@ -41,37 +40,15 @@ pub record Leads (table : TableId) (t : Start) (its : TableId) (me : Me (Unit {0
   pub told : me.0.start ≡ t
   pub bare : me.1 ≡ []
 
-abbrev pub IsWaiting : Phase → Type 0
-IsWaiting p = (p ≡ Taken) ⊎ (p ≡ Arrived)
-
--- a machine that the broadcast leads to has the processor as it was before its release, and there each has the goal's registers and holds nothing, and each word is in memory
-pub record Released (t : Start) (k : ℕ) (q : Processor) : Type 0 where
-  pub machine : Machine
-  pub before : Processor
-  pub led : Led (broadcast t) machine
-  pub at : slice_get machine.system.processors k ≡ Some before
-  pub becomes : q ≡ own_step t.goal Release before
-  pub each : All (HoldsNothing t.goal) machine.system.processors
-  pub words : (address : ℕ) → address % 8 ≡ 0 → word_at machine.system.memory address ≡ now (broadcast t).system address
-
 -- what the first wait leads to
 abbrev pub Waited : Bool → Start → ℕ → Processor → Processor → Type 0
 Waited true t k p q = (q ≡ own_step t.goal Pass p) × Stands t Given k q
-Waited false t k p q = (q ≡ own_step t.goal Leave p) × Took t k Leave p q × Stands t Stopped k p
-
--- a load showed the cancel: a machine that the broadcast leads to, and that is cancelled, has the processor as it was but for its phase; it left then
-pub record HasLeft (t : Start) (k : ℕ) (p q : Processor) : Type 0 where
-  pub before : Processor
-  pub same : before ≡ record p { phase = before.phase }
-  pub waits : IsWaiting before.phase
-  pub stands : Stands t Stopped k before
-  pub took : Took t k Leave before q
+Waited false t k p q = q ≡ own_step t.goal Leave p
 
 -- what comes of an attendee: its processor is the one that the update leaves, after a load showed that all had arrived again; or it is as it was, and runs
 abbrev pub Attended : Outcome → TableId → Start → ℕ → Processor → TableId → Me (Unit {0}) View → Processor → Type 0
-Attended Complete table t number p its me q =
-    Carries table t its me number q true true × (me.0.shown ≡ Some (length t.cpus)) × (q ≡ settled_processor t.goal p) × Released t number q
-Attended Cancelled table t number p its me q = Carries table t its me number q true false × (q ≡ record p { phase = Running }) × HasLeft t number p q
+Attended Complete table t number p its me q = Carries table t its me number q true true × (me.0.shown ≡ Some (length t.cpus)) × (q ≡ settled_processor t.goal p)
+Attended Cancelled table t number p its me q = Carries table t its me number q true false × (q ≡ record p { phase = Running })
 
 -- the k-th attendee carries the k-th processor as it was, and its pass has added nothing and has been shown nothing
 pub record Attends (table : TableId) (t : Start) (k : ℕ) (c : Processor) (its : TableId) (me : Me (Unit {0}) View) (number : ℕ) : Type 0 where

@@ -1,25 +1,25 @@
 -- What holds of a station between any two steps.
-use Rattle.std.specs.Prelude.{◌≡◌, ◌≢◌, ◌<◌, ◌≤◌, ◌+◌, ◌-◌, ◌^◌, ℕ, ◌%◌, Bool, true, false, List, [], ◌∷◌, ◌++◌, length, slice_index, slice_set, Option, Some, None, IsTrue}
+use Rattle.std.specs.Prelude.{◌≡◌, ◌≢◌, ◌⊎◌, ◌<◌, ◌≤◌, ◌+◌, ◌-◌, ◌^◌, ℕ, zero, suc, ◌%◌, Bool, true, false, List, [], ◌∷◌, ◌++◌, length, slice_index, slice_set, Option, Some, None, IsTrue}
 use Rattle.std.specs.List.{All}
 use mathlib.Core.Option.{none, some}
 use lib.ListN.{get_elem?}
 use Rattle.atomic_table.specs.Table.{State, keeps, step, stepped}
 use Rattle.mt_machine.specs.declared.phase.Phase.TheVariants.{Running, Taken, Restored, Arrived2}
 use Rattle.mt_machine.specs.declared.go.Go.TheVariants.{Pending, Given, Cancelled}
+use Rattle.mt_machine.specs.declared.event.Event.{Event}
 use Rattle.mt_machine.specs.declared.event.Event.TheVariants.{Arrive, Leave, Pass, ArriveAgain, Release}
-use Rattle.mt_machine.specs.Memory.{place, word_at}
+use Rattle.mt_machine.specs.Memory.{word_at}
 use Rattle.mt_machine.specs.System.{Processor, now}
 use Rattle.mt_machine.specs.Machine.{Cancels as CancelsUpdate, Goes, Machine, MachineEvent, Order, Steps}
 use Rattle.mt_cpu.specs.Steps.{is_local}
 use Rattle.mt_machine.specs.Update.{Led}
 use Rattle.mt_laws.specs.Updates.{HoldsNothing}
 use Rattle.mt_rendezvous.specs.declared.view.Held.{Held}
-use Rattle.mt_rendezvous.specs.declared.view.Start.{Start}
 use Rattle.mt_rendezvous.specs.declared.view.View.{View}
 use Rattle.mt_rendezvous.specs.declared.view.Key.{Key}
-use Rattle.mt_rendezvous.specs.Station.{Begins, Meets, both, broadcast, code, first_memory_word, held, joined, pass_right, root_left, spent, start_of}
-use Rattle.mt_rendezvous.specs.Plays.{Arrives, ArrivesAgain, Cancels, CanFollow, Gives, Passes, Releases, Sat, Works, after_event, own_event, work, written}
-use Rattle.mt_rendezvous.specs.Calls.{IsWaiting, gathered}
+use Rattle.mt_rendezvous.specs.Station.{Begins, Meets, both, broadcast, held, joined, pass_right, root_left, spent, start_of}
+use Rattle.mt_rendezvous.specs.Plays.{Arrives, ArrivesAgain, Cancels, CanFollow, Gives, GoesTo, IsWaiting, Passes, Releases, Sat, Tells, Works, after_event, own_event, written}
+use Rattle.mt_rendezvous.specs.Calls.{gathered}
 use Rattle.mt_machine.specs.Start.{IsBroadcast}
 
 -- the machine that the words and the views stand for
@@ -138,11 +138,6 @@ PassFollows =
     × (4294967296 ≤ slice_index s.words 0 → Follows key s (loaded s id new 0) m (Some (Steps k Leave)))
     × (slice_index s.words 0 < 4294967296 → slice_index s.words 0 ≢ length me.0.start.cpus + 1 → Follows key s (loaded s id new 0) m None))
 
--- the word that a store goes to, and its value: of the word of memory that the event writes back, or else of the own phase
-abbrev pub GoesTo : Start → ℕ → Processor → Option (ℕ × ℕ) → ℕ → ℕ → Type 0
-GoesTo t k c None i n = (i ≡ k + 2) × (n ≡ code (work t (held k c true false)).cpu.phase)
-GoesTo t k c (Some back) i n = (n ≡ back.1) × (j : ℕ) × (place t.ram back.0 ≡ Some j) × (i ≡ first_memory_word t + j)
-
 -- a store
 abbrev pub WorkFollows : Type 0
 WorkFollows =
@@ -165,3 +160,55 @@ ReleaseFollows =
     (λ key s m id k c me new. c.phase ≡ Arrived2 → Releases (step 0 1 0 0 none) me (slice_index s.words 1) new
     → (slice_index s.words 1 ≡ length me.0.start.cpus → Follows key s (loaded s id new 1) m (Some (Steps k Release)))
     × (slice_index s.words 1 ≢ length me.0.start.cpus → Follows key s (loaded s id new 1) m None))
+
+-- ---- every step at once
+
+-- What a step of word i with this operand tells to have found, and what it leaves there. The two counts are added to, nothing by a load; each other word is stored.
+-- Another operation there, such as a store to a count, would break the rule
+abbrev pub told_at : ℕ → ℕ → List ℕ → ℕ
+told_at zero a words = slice_index words 0
+told_at (suc zero) a words = slice_index words 1
+told_at (suc (suc i)) a words = a
+
+abbrev pub left_at : ℕ → ℕ → List ℕ → ℕ
+left_at zero a words = (slice_index words 0 + a) % 2 ^ 64
+left_at (suc zero) a words = (slice_index words 1 + a) % 2 ^ 64
+left_at (suc (suc i)) a words = a
+
+-- the station after such a step of the seat id
+abbrev pub after_step : Station → ℕ → ℕ → ℕ → Sat → Station
+after_step s id i a new = stepped s i (left_at i a s.words) id new.1 new.0 keeps
+
+-- the steps that an event comes of: a barrier is reached by an addition, and passed or left by a load of the same word; what lies between them is stored
+abbrev pub OfStep : ℕ → ℕ → Event → Type 0
+OfStep i a Arrive = (i ≡ 0) × (a ≡ 1)
+OfStep i a Pass = (i ≡ 0) × (a ≡ 0)
+OfStep i a Leave = (i ≡ 0) × (a ≡ 0)
+OfStep i a ArriveAgain = (i ≡ 1) × (a ≡ 1)
+OfStep i a Release = (i ≡ 1) × (a ≡ 0)
+OfStep i a other = 2 ≤ i
+
+abbrev pub ComesOf : ℕ → ℕ → Option MachineEvent → Type 0
+ComesOf i a None = Unit {0}
+ComesOf i a (Some Goes) = (i ≡ 0) × (a ≡ 1)
+ComesOf i a (Some CancelsUpdate) = (i ≡ 0) × (a ≡ 4294967296)
+ComesOf i a (Some (Steps k e)) = OfStep i a e
+ComesOf i a (Some other) = ⊥
+
+-- such a step keeps the rule, and is one event of the station's machine that comes of it, or none
+pub record IsOneStep (key : Key) (s : Station) (m : Meets key s) (id i a : ℕ) (new : Sat) : Type 0 where
+  pub event : Option MachineEvent
+  pub follows : Follows key s (after_step s id i a new) m event
+  pub comes : ComesOf i a event
+
+-- so it is with each step that the play lets a seat make on a station that meets the rule, whatever the word, the operand and the seat
+abbrev pub EachStepFollows : Type 0
+EachStepFollows =
+    (key : Key) (s : Station) (m : Meets key s) (id i a : ℕ) (me new : Sat) → get_elem? s.views id ≡ some me.0 → Tells (step 0 i a 0 none) me (told_at i a s.words) new
+    → IsOneStep key s m id i a new
+
+-- a load of word 1 shows its seat what it found, and no other step shows it anything
+abbrev pub ShownIsFound : Type 0
+ShownIsFound =
+    (i a found : ℕ) (me new : Sat) → Tells (step 0 i a 0 none) me found new
+    → (i ≡ 1 → a ≡ 0 → new.0.shown ≡ Some found) × ((i ≢ 1) ⊎ (a ≢ 0) → new.0.shown ≡ me.0.shown)

@@ -1,21 +1,24 @@
 -- What each step of a seat tells: its view before and after, and the event that it is, or that it is none.
-use Rattle.std.specs.Prelude.{◌≡◌, ◌≢◌, ℕ, ◌+◌, ◌%◌, ◌^◌, ◌<◌, ◌≤◌, true, List, [], ◌∷◌, map, length, slice_get, slice_index, slice_set, Option, Some, None}
+use Rattle.std.specs.Prelude.{◌≡◌, ◌≢◌, ◌⊎◌, ℕ, zero, suc, ◌+◌, ◌%◌, ◌^◌, ◌<◌, ◌≤◌, Bool, true, false, List, [], ◌∷◌, map, length, slice_get, slice_index, slice_set, Option, Some, None, IsTrue}
 use Rattle.std.specs.Option.{option_map_or}
-use mathlib.Core.Option.{some}
+use mathlib.Core.Option.{none, some}
 use lib.ListN.{get_elem?}
-use Rattle.atomic_table.specs.Table.{Me, Step}
-use Rattle.mt_machine.specs.declared.phase.Phase.TheVariants.{Arrived}
+use Rattle.atomic_table.specs.Table.{Me, Step, step}
+use Rattle.mt_machine.specs.declared.phase.Phase.{Phase}
+use Rattle.mt_machine.specs.declared.phase.Phase.TheVariants.{Taken, Arrived, Restored, Arrived2}
 use Rattle.mt_machine.specs.declared.go.Go.{Go}
 use Rattle.mt_machine.specs.declared.go.Go.TheVariants.{Pending, Given, Cancelled}
 use Rattle.mt_machine.specs.declared.event.Event.{Event}
 use Rattle.mt_machine.specs.declared.event.Event.TheVariants.{Arrive, Leave, Pass, ArriveAgain, Release, SetNoFill, WriteBack}
+use Rattle.mt_machine.specs.Memory.{place}
 use Rattle.mt_machine.specs.System.{Processor}
 use Rattle.mt_machine.specs.Machine.{Machine, MachineEvent, Steps, Goes, Cancels as CancelsUpdate, IsEnabled, common_era, due, next, own_step}
 use Rattle.mt_machine.specs.Update.{Led}
+use Rattle.mt_cpu.specs.Steps.{is_local}
 use Rattle.mt_rendezvous.specs.declared.view.Held.{Held}
 use Rattle.mt_rendezvous.specs.declared.view.Start.{Start}
 use Rattle.mt_rendezvous.specs.declared.view.View.{View}
-use Rattle.mt_rendezvous.specs.Station.{Begins, order_of, broadcast, held, joined, view, with_held}
+use Rattle.mt_rendezvous.specs.Station.{Begins, order_of, broadcast, code, first_memory_word, held, joined, view, with_held}
 
 abbrev pub Sat : Type 0
 Sat = Me (Unit {0}) View
@@ -184,3 +187,45 @@ Cancels st me found new = (new.1 ≡ me.1) × (new.0 ≡ with_go me.0 Cancelled)
 abbrev pub written : Event → Option (ℕ × ℕ)
 written (WriteBack address value) = Some (address, value)
 written other = None
+
+-- the word that a store goes to, and its value: of the word of memory that the event writes back, or else of the own phase
+abbrev pub GoesTo : Start → ℕ → Processor → Option (ℕ × ℕ) → ℕ → ℕ → Type 0
+GoesTo t k c None i n = (i ≡ k + 2) × (n ≡ code (work t (held k c true false)).cpu.phase)
+GoesTo t k c (Some back) i n = (n ≡ back.1) × (j : ℕ) × (place t.ram back.0 ≡ Some j) × (i ≡ first_memory_word t + j)
+
+-- ---- every step
+
+abbrev pub IsWaiting : Phase → Type 0
+IsWaiting p = (p ≡ Taken) ⊎ (p ≡ Arrived)
+
+-- the root's seat, before its go and its cancel
+abbrev pub IsUndecided : Sat → Type 0
+IsUndecided me = (me.0.root ≡ true) × (me.0.go ≡ Pending)
+
+-- the seat of a pass, which has added so to the two counts, and whose processor is in such a phase
+pub record IsPass (me : Sat) (added again : Bool) (P : Phase → Type 0) : Type 0 where
+  pub number : ℕ
+  pub cpu : Processor
+  pub holds : me.0.held ≡ held number cpu added again ∷ []
+  pub phase : P cpu.phase
+
+-- The one play of all steps, by word and operand: a load of a count has 0 there, an addition what it adds, and a store of another word what it stores.
+-- The seat has to be one whose turn it is. What stands in no line is no step of this crate.
+abbrev pub TellsAt : ℕ → ℕ → Step (Unit {0}) → Sat → ℕ → Sat → Type 0
+TellsAt zero zero st me found new = IsPass me true false IsWaiting × Passes st me found new
+TellsAt zero (suc zero) st me found new =
+    (me.0.root ≡ true → IsUndecided me × Gives st me found new)
+    × (me.0.root ≡ false → IsPass me false false (λ p. p ≡ Taken) × Arrives st me found new)
+TellsAt zero (suc (suc more)) st me found new = (st.first ≡ 4294967296) × IsUndecided me × Cancels st me found new
+TellsAt (suc zero) zero st me found new = IsPass me true true (λ p. p ≡ Arrived2) × Releases st me found new
+TellsAt (suc zero) (suc zero) st me found new = IsPass me true false (λ p. p ≡ Restored) × ArrivesAgain st me found new
+TellsAt (suc zero) (suc (suc more)) st me found new = ⊥
+TellsAt (suc (suc i)) n st me found new =
+    (p : IsPass me true false (λ p. IsTrue (is_local p))) × GoesTo me.0.start p.number p.cpu (written (own_event me.0.start p.cpu)) st.word st.first × Works st me found new
+
+abbrev pub Tells : Step (Unit {0}) → Sat → ℕ → Sat → Type 0
+Tells st = TellsAt st.word st.first st
+
+-- the seat becomes the other by a step of word i with this operand
+abbrev pub Made : ℕ → ℕ → Sat → Sat → Type 0
+Made i a me new = (found : ℕ) × Tells (step 0 i a 0 none) me found new

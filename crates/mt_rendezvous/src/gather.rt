@@ -1,9 +1,9 @@
 // A station is made, and closed.
 ghost use Rattle.std.specs.Prelude.{◌≡◌, ℕ, ◌+◌, ◌<◌, ◌≤◌, [], length, slice_get, None, Some, IfOk, IfErr, IfSome, vec_len, vec_capacity};
 ghost use Rattle.mt_machine.specs.declared.go.Go.TheVariants.{Pending};
-ghost use Rattle.mt_rendezvous.specs.Station.{Begins, both, start_of};
-ghost use Rattle.mt_rendezvous.specs.Calls.{Ends, HoldsOne, IsRoot, Leads, Offers, gathered, opening_words};
-ghost use Rattle.mt_rendezvous.specs.Update.{AllNew, IsNew};
+ghost use Rattle.mt_rendezvous.specs.Station.{Begins, both};
+ghost use Rattle.mt_rendezvous.specs.Calls.{Ends, gathered, opening_words};
+ghost use Rattle.mt_rendezvous.specs.InStation.{AllNewIn, HoldsOneIn, IsNewIn, IsRootIn, LeadsIn, OffersIn, start_at, windows_at};
 
 use crate::station::{Attendee, Pass, Root, Station};
 use crate::view::{HandsOver, Key};
@@ -38,8 +38,8 @@ fn open(alloc: Global, cpus: &Vec<Cpu>, ram: &Ram, goal: &RegFile) -> Option<(St
     requires some { 0 < vec_len cpus.now }
     requires few { vec_len cpus.now ≤ 16 }
     requires begins { Begins (gathered cpus.now.items ram.now goal.now) }
-    ensures root { IfSome result (λ t. Leads t.0.table.shared.table_id (start_of t.0.table.shared.key) t.1.seat.table_id t.1.seat.me Pending × Offers (start_of t.0.table.shared.key) 0 t.1.seat.me) }
-    ensures key { IfSome result (λ t. start_of t.0.table.shared.key ≡ gathered cpus.now.items ram.now goal.now) }
+    ensures root { IfSome result (λ t. LeadsIn t.0 t.1 Pending × OffersIn t.0 0 t.1) }
+    ensures key { IfSome result (λ t. start_at t.0 ≡ gathered cpus.now.items ram.now goal.now) }
 {
     let count = cpus.len();
     let words = opening_words(alloc, count, ram)?;
@@ -61,13 +61,13 @@ fn open(alloc: Global, cpus: &Vec<Cpu>, ram: &Ram, goal: &RegFile) -> Option<(St
 
 // The root's next processor goes to a new pass.
 fn give_away(station: &Station, root: &mut Root, cpu: Cpu, i: usize) -> Attendee
-    requires leads { Leads station.now.table.shared.table_id (start_of station.now.table.shared.key) root.old.seat.table_id root.old.seat.me Pending }
-    requires offers { Offers (start_of station.now.table.shared.key) i root.old.seat.me }
-    requires first { slice_get station.now.table.shared.key.cpus.value.items i ≡ Some cpu }
-    ensures leads { Leads station.now.table.shared.table_id (start_of station.now.table.shared.key) root.new.seat.table_id root.new.seat.me Pending }
-    ensures offers { Offers (start_of station.now.table.shared.key) (i + 1) root.new.seat.me }
+    requires leads { LeadsIn station.now root.old Pending }
+    requires offers { OffersIn station.now i root.old }
+    requires first { slice_get (start_at station.now).cpus i ≡ Some cpu }
+    ensures leads { LeadsIn station.now root.new Pending }
+    ensures offers { OffersIn station.now (i + 1) root.new }
     ensures shown { result.pass.shown ≡ None }
-    ensures attends { IsNew station.now.table.shared.table_id (start_of station.now.table.shared.key) i result }
+    ensures attends { IsNewIn station.now i result }
 {
     let seat = station.table.shared.split_seat::<HandsOver>(&mut root.seat);
     Attendee {
@@ -82,16 +82,16 @@ fn give_away(station: &Station, root: &mut Root, cpu: Cpu, i: usize) -> Attendee
 
 // The root gives these away, which are the first ones, in their order.
 fn give_all(station: &Station, root: &mut Root, cpus: &mut Vec<Cpu>, attendees: &mut Vec<Attendee>)
-    requires leads { Leads station.now.table.shared.table_id (start_of station.now.table.shared.key) root.old.seat.table_id root.old.seat.me Pending }
-    requires offers { Offers (start_of station.now.table.shared.key) 0 root.old.seat.me }
-    requires first { (k : ℕ) (c : _) → slice_get cpus.old.items k ≡ Some c → slice_get station.now.table.shared.key.cpus.value.items k ≡ Some c }
+    requires leads { LeadsIn station.now root.old Pending }
+    requires offers { OffersIn station.now 0 root.old }
+    requires first { (k : ℕ) (c : _) → slice_get cpus.old.items k ≡ Some c → slice_get (start_at station.now).cpus k ≡ Some c }
     requires room { length cpus.old.items ≤ vec_capacity attendees.old }
     requires empty { attendees.old.items ≡ [] }
-    ensures leads { Leads station.now.table.shared.table_id (start_of station.now.table.shared.key) root.new.seat.table_id root.new.seat.me Pending }
-    ensures offers { Offers (start_of station.now.table.shared.key) (length cpus.old.items) root.new.seat.me }
+    ensures leads { LeadsIn station.now root.new Pending }
+    ensures offers { OffersIn station.now (length cpus.old.items) root.new }
     ensures count { length attendees.new.items ≡ length cpus.old.items }
     ensures room { vec_capacity attendees.new ≡ vec_capacity attendees.old }
-    ensures each { AllNew station.now.table.shared.table_id (start_of station.now.table.shared.key) attendees.new.items }
+    ensures each { AllNewIn station.now attendees.new.items }
 {
     let Some(cpu) = cpus.pop() else {
         return;
@@ -114,11 +114,11 @@ impl Station {
         requires some { 0 < vec_len cpus }
         requires few { vec_len cpus ≤ 16 }
         requires begins { Begins (gathered cpus.items ram.now goal.now) }
-        ensures root { IfOk result (λ t. Leads t.0.table.shared.table_id (start_of t.0.table.shared.key) t.1.seat.table_id t.1.seat.me Pending) }
+        ensures root { IfOk result (λ t. LeadsIn t.0 t.1 Pending) }
         ensures empty { IfOk result (λ t. t.1.seat.me.0.held ≡ []) }
-        ensures key { IfOk result (λ t. start_of t.0.table.shared.key ≡ gathered cpus.items ram.now goal.now) }
+        ensures key { IfOk result (λ t. start_at t.0 ≡ gathered cpus.items ram.now goal.now) }
         ensures count { IfOk result (λ t. length t.2.items ≡ length cpus.items) }
-        ensures attendees { IfOk result (λ t. AllNew t.0.table.shared.table_id (start_of t.0.table.shared.key) t.2.items) }
+        ensures attendees { IfOk result (λ t. AllNewIn t.0 t.2.items) }
         ensures refused { IfErr result (λ v. v.items ≡ cpus.items) }
     {
         let Ok(mut attendees) = Vec::with_capacity(alloc, cpus.len()) else {
@@ -136,9 +136,9 @@ impl Station {
 impl Root {
     /// Takes the pass back, and answers its processor.
     pub fn take_back(&mut self, station: &Station, a: Attendee) -> Cpu
-        requires root { IsRoot station.now.table.shared.table_id self.old.seat.table_id self.old.seat.me }
-        requires pass { HoldsOne station.now.table.shared.table_id a.pass.seat.table_id a.pass.seat.me a.pass.number a.cpu }
-        ensures root { IsRoot station.now.table.shared.table_id self.new.seat.table_id self.new.seat.me }
+        requires root { IsRootIn station.now self.old }
+        requires pass { HoldsOneIn station.now a }
+        ensures root { IsRootIn station.now self.new }
         ensures held { self.new.seat.me.0 ≡ both self.old.seat.me.0 a.pass.seat.me.0 }
         ensures cpu { result ≡ a.cpu }
     {
@@ -158,9 +158,9 @@ impl Root {
 
 /// Ends the station, puts the words into memory, and tells where the machine is in the end.
 pub fn disband(station: Station, root: Root, ram: &mut Ram)
-    requires root { IsRoot station.table.shared.table_id root.seat.table_id root.seat.me }
-    requires windows { ram.old.windows ≡ station.table.shared.key.ram.value.windows }
-    ensures { Ends (start_of station.table.shared.key) root.seat.me.0 ram.new }
+    requires root { IsRootIn station root }
+    requires windows { ram.old.windows ≡ windows_at station }
+    ensures { Ends (start_at station) root.seat.me.0 ram.new }
 {
     let Station { table, count } = station;
     let Root { seat } = root;

@@ -1,17 +1,16 @@
 // The station, its root and its passes.
-ghost use Rattle.std.specs.Prelude.{◌≡◌, ℕ, ◌+◌, ◌<◌, ◌⊎◌, Bool, true, false, List, [], ◌∷◌, length, slice_get, Some, None, IsTrue};
-ghost use Rattle.mt_machine.specs.declared.phase.Phase.TheVariants.{Taken, Restored, Arrived2, Running};
+ghost use Rattle.std.specs.Prelude.{◌≡◌, ◌+◌, ◌<◌, true, false, length, slice_get, Some, IsTrue};
+ghost use Rattle.mt_machine.specs.declared.phase.Phase.TheVariants.{Taken, Restored, Arrived2};
 ghost use Rattle.mt_machine.specs.declared.go.Go.TheVariants.{Pending, Given, Cancelled};
-ghost use Rattle.mt_machine.specs.declared.event.Event.TheVariants.{Arrive, ArriveAgain, Release};
-ghost use Rattle.mt_machine.specs.Machine.{Cancels as CancelsUpdate, Goes, own_step, is_changing, common_era};
+ghost use Rattle.mt_machine.specs.declared.event.Event.TheVariants.{Release};
+ghost use Rattle.mt_machine.specs.Machine.{own_step, is_changing, common_era};
 ghost use Rattle.mt_cpu.specs.Steps.{is_local};
-ghost use Rattle.mt_rendezvous.specs.Station.{Begins, code, start_of};
-ghost use Rattle.mt_rendezvous.specs.Plays.{Decided, Stands, Took, own_event, written};
-ghost use Rattle.mt_rendezvous.specs.Calls.{Attended, Carries, IsWaiting, Leads, Waited};
+ghost use Rattle.mt_rendezvous.specs.Station.{Begins, code};
+ghost use Rattle.mt_rendezvous.specs.Plays.{IsWaiting, Made, Stands, Took, own_event, written};
+ghost use Rattle.mt_rendezvous.specs.Calls.{Waited};
 
-use crate::view::{
-    Arrives, ArrivesAgain, Cancels, Gives, Key, Meeting, Passes, Releases, View, Works,
-};
+use crate::arrival::Arrival;
+use crate::view::{Key, Meeting, Turn, View};
 use atomic_table::{Seat, Table};
 use mt_cpu::{Cpu, is_local};
 use mt_machine::{Event, Phase};
@@ -22,7 +21,9 @@ use std::alloc::Global;
 use std::sync::Wait;
 use std::thread;
 
-// What the root adds to the first word to cancel.
+// What the root adds to the first word, to give the go or to cancel.
+const GO: u64 = 1;
+
 const CANCEL: u64 = 0x1_0000_0000;
 
 /// The words of one update: the two counts, a phase word for each processor, and the words of memory.
@@ -45,6 +46,7 @@ pub struct Pass {
     pub shown: Option<u32>,
     pub ghost few: { number < 65536 },
     pub ghost told: { shown ≡ seat.me.0.shown },
+    pub ghost no_root: { seat.me.0.root ≡ false },
 }
 
 /// The coordinator's seat. It has the processors that aren't given away, and says whether go was given.
@@ -53,17 +55,11 @@ pub struct Root {
     pub seat: Seat<(), View>,
 }
 
-// That the gate is to be told of an arrival. It can't be let go, so a body that forgets to tell is refused.
-pub(crate) struct Arrival {
-    number: u32,
-}
-
-impl Arrival {
-    // Tells the gate.
-    pub(crate) fn tell<G: Gate>(self, gate: &G) {
-        let Arrival { number } = self;
-        gate.arrived(number);
-    }
+/// A processor with its pass.
+#[derive(Drop)]
+pub struct Attendee {
+    pub cpu: Cpu,
+    pub pass: Pass,
 }
 
 /// How an update ended for one processor.
@@ -102,34 +98,38 @@ fn written(e: Event) -> Option<(u64, u64)>
 }
 
 impl Root {
+    ghost use Rattle.mt_rendezvous.specs.InStation.{LeadsIn};
+
     /// Gives the go, once. Its addition to word 0 is the event Go.
     pub fn go(&mut self, station: &Station)
-        requires { Leads station.now.table.shared.table_id (start_of station.now.table.shared.key) self.old.seat.table_id self.old.seat.me Pending }
-        ensures leads { Leads station.now.table.shared.table_id (start_of station.now.table.shared.key) self.new.seat.table_id self.new.seat.me Given }
+        requires { LeadsIn station.now self.old Pending }
+        ensures leads { LeadsIn station.now self.new Given }
         ensures held { self.new.seat.me.0.held ≡ self.old.seat.me.0.held }
-        ensures event { (found : ℕ) × Decided (start_of station.now.table.shared.key) 0 found (found + 1) Goes Given }
+        ensures event { Made 0 1 self.old.seat.me self.new.seat.me }
     {
         station
             .table
             .shared
-            .fetch_add::<Gives>(&mut self.seat, 0, 1);
+            .fetch_add::<Turn>(&mut self.seat, 0, GO);
     }
 
     /// Cancels, once, in place of the go. Its addition to word 0 is the event Cancel.
     pub fn cancel(&mut self, station: &Station)
-        requires { Leads station.now.table.shared.table_id (start_of station.now.table.shared.key) self.old.seat.table_id self.old.seat.me Pending }
-        ensures leads { Leads station.now.table.shared.table_id (start_of station.now.table.shared.key) self.new.seat.table_id self.new.seat.me Cancelled }
+        requires { LeadsIn station.now self.old Pending }
+        ensures leads { LeadsIn station.now self.new Cancelled }
         ensures held { self.new.seat.me.0.held ≡ self.old.seat.me.0.held }
-        ensures event { (found : ℕ) × Decided (start_of station.now.table.shared.key) 0 found (found + 4294967296) CancelsUpdate Cancelled }
+        ensures event { Made 0 4294967296 self.old.seat.me self.new.seat.me }
     {
         station
             .table
             .shared
-            .fetch_add::<Cancels>(&mut self.seat, 0, CANCEL);
+            .fetch_add::<Turn>(&mut self.seat, 0, CANCEL);
     }
 }
 
 impl Pass {
+    ghost use Rattle.mt_rendezvous.specs.InStation.{AttendedIn, CarriesIn, goal_at, start_at, windows_at};
+
     /// The number of its processor.
     pub fn processor(&self) -> u32
         ensures { result ≡ self.now.number }
@@ -144,42 +144,44 @@ impl Pass {
         self.shown
     }
 
+    // Asks the gate whether the thread of its processor may be started.
+    pub(crate) fn may_start<G: Gate>(&self, gate: &G) -> bool {
+        gate.may_start(self.processor())
+    }
+
     // Adds to word 0: the event Arrive, or none where the word held the cancel before.
     pub(crate) fn arrive(&mut self, station: &Station, cpu: &mut Cpu) -> Arrival
-        requires carries { Carries station.now.table.shared.table_id (start_of station.now.table.shared.key) self.old.seat.table_id self.old.seat.me self.old.number cpu.old false false }
+        requires carries { CarriesIn station.now self.old cpu.old false false }
         requires taken { cpu.old.phase ≡ Taken }
-        ensures carries { Carries station.now.table.shared.table_id (start_of station.now.table.shared.key) self.new.seat.table_id self.new.seat.me self.new.number cpu.new true false }
+        ensures carries { CarriesIn station.now self.new cpu.new true false }
         ensures waits { IsWaiting cpu.new.phase }
         ensures same { cpu.new ≡ record cpu.old { phase = cpu.new.phase } }
-        ensures first { slice_get station.now.table.shared.key.cpus.value.items self.old.number ≡ Some cpu.old }
+        ensures first { slice_get (start_at station.now).cpus self.old.number ≡ Some cpu.old }
         ensures shown { self.new.shown ≡ self.old.shown }
-        ensures begins { Begins (start_of station.now.table.shared.key) }
+        ensures begins { Begins (start_at station.now) }
         ensures number { self.new.number ≡ self.old.number }
+        ensures token { result.number ≡ self.old.number }
     {
-        let found = station
-            .table
-            .shared
-            .fetch_add::<Arrives>(&mut self.seat, 0, 1);
-        let number = self.number as u32;
+        let found = station.table.shared.fetch_add::<Turn>(&mut self.seat, 0, 1);
         if found < CANCEL {
             cpu.shift(Event::Arrive);
-            return Arrival { number };
+            return Arrival::of(self);
         }
-        Arrival { number }
+        Arrival::of(self)
     }
 
     // Waits for the others. The load of word 0 that ends it is the event Pass, and the answer is true, or Leave.
     // Each load before it is none.
     pub(crate) fn wait_first<R: Wait>(&mut self, rt: &R, station: &Station, cpu: &mut Cpu) -> bool
-        requires carries { Carries station.now.table.shared.table_id (start_of station.now.table.shared.key) self.old.seat.table_id self.old.seat.me self.old.number cpu.old true false }
+        requires carries { CarriesIn station.now self.old cpu.old true false }
         requires waits { IsWaiting cpu.old.phase }
         ensures number { self.new.number ≡ self.old.number }
-        ensures carries { Carries station.now.table.shared.table_id (start_of station.now.table.shared.key) self.new.seat.table_id self.new.seat.me self.new.number cpu.new true false }
+        ensures carries { CarriesIn station.now self.new cpu.new true false }
         ensures shown { self.new.shown ≡ self.old.shown }
-        ensures waited { Waited result (start_of station.now.table.shared.key) self.new.number cpu.old cpu.new }
+        ensures waited { Waited result (start_at station.now) self.new.number cpu.old cpu.new }
     {
         for _ in rt.forever() {
-            let found = station.table.shared.load::<Passes>(&mut self.seat, 0);
+            let found = station.table.shared.load::<Turn>(&mut self.seat, 0);
             if found >= CANCEL {
                 cpu.shift(Event::Leave);
                 return false;
@@ -196,18 +198,17 @@ impl Pass {
     // Does the processor's next event between the barriers. Its one store, of the word of memory that is written
     // back or else of the own phase word, is that event.
     pub(crate) fn work(&mut self, station: &Station, ram: &Ram, goal: &RegFile, cpu: &mut Cpu)
-        requires carries { Carries station.now.table.shared.table_id (start_of station.now.table.shared.key) self.old.seat.table_id self.old.seat.me self.old.number cpu.old true false }
-        requires stands { Stands (start_of station.now.table.shared.key) Given self.old.number cpu.old }
+        requires carries { CarriesIn station.now self.old cpu.old true false }
+        requires stands { Stands (start_at station.now) Given self.old.number cpu.old }
         requires between { IsTrue (is_local cpu.old.phase) }
-        requires begins { Begins (start_of station.now.table.shared.key) }
-        requires goal { goal.now ≡ station.now.table.shared.key.goal.value }
-        requires windows { ram.now.windows ≡ station.now.table.shared.key.ram.value.windows }
+        requires begins { Begins (start_at station.now) }
+        requires goal { goal.now ≡ goal_at station.now }
+        requires windows { ram.now.windows ≡ windows_at station.now }
         ensures number { self.new.number ≡ self.old.number }
-        ensures carries { Carries station.now.table.shared.table_id (start_of station.now.table.shared.key) self.new.seat.table_id self.new.seat.me self.new.number cpu.new true false }
-        ensures stands { Stands (start_of station.now.table.shared.key) Given self.new.number cpu.new }
+        ensures carries { CarriesIn station.now self.new cpu.new true false }
+        ensures stands { Stands (start_at station.now) Given self.new.number cpu.new }
         ensures between { is_changing cpu.new.phase ≡ true }
-        ensures event { Took (start_of station.now.table.shared.key) self.old.number (own_event (start_of station.now.table.shared.key) cpu.old) cpu.old cpu.new }
-        ensures becomes { cpu.new ≡ own_step station.now.table.shared.key.goal.value (own_event (start_of station.now.table.shared.key) cpu.old) cpu.old }
+        ensures becomes { cpu.new ≡ own_step (goal_at station.now) (own_event (start_at station.now) cpu.old) cpu.old }
     {
         let e = cpu.local(goal);
         match written(e) {
@@ -219,28 +220,28 @@ impl Pass {
                 station
                     .table
                     .shared
-                    .store::<Works>(&mut self.seat, word, value);
+                    .store::<Turn>(&mut self.seat, word, value);
             }
             None => {
                 let word = self.number as usize + 2;
                 station
                     .table
                     .shared
-                    .store::<Works>(&mut self.seat, word, code(cpu.phase()));
+                    .store::<Turn>(&mut self.seat, word, code(cpu.phase()));
             }
         }
     }
 
     // Does all events between the barriers, which are so many as are left to do.
     pub(crate) fn work_all(&mut self, station: &Station, ram: &Ram, goal: &RegFile, cpu: &mut Cpu)
-        requires carries { Carries station.now.table.shared.table_id (start_of station.now.table.shared.key) self.old.seat.table_id self.old.seat.me self.old.number cpu.old true false }
-        requires stands { Stands (start_of station.now.table.shared.key) Given self.old.number cpu.old }
+        requires carries { CarriesIn station.now self.old cpu.old true false }
+        requires stands { Stands (start_at station.now) Given self.old.number cpu.old }
         requires between { is_changing cpu.old.phase ≡ true }
-        requires begins { Begins (start_of station.now.table.shared.key) }
-        requires goal { goal.now ≡ station.now.table.shared.key.goal.value }
-        requires windows { ram.now.windows ≡ station.now.table.shared.key.ram.value.windows }
+        requires begins { Begins (start_at station.now) }
+        requires goal { goal.now ≡ goal_at station.now }
+        requires windows { ram.now.windows ≡ windows_at station.now }
         ensures number { self.new.number ≡ self.old.number }
-        ensures carries { Carries station.now.table.shared.table_id (start_of station.now.table.shared.key) self.new.seat.table_id self.new.seat.me self.new.number cpu.new true false }
+        ensures carries { CarriesIn station.now self.new cpu.new true false }
         ensures restored { cpu.new.phase ≡ Restored }
     {
         while is_local(cpu.phase()) {
@@ -250,33 +251,45 @@ impl Pass {
 
     // Adds to word 1: the event ArriveAgain.
     pub(crate) fn arrive_again(&mut self, station: &Station, cpu: &mut Cpu)
-        requires carries { Carries station.now.table.shared.table_id (start_of station.now.table.shared.key) self.old.seat.table_id self.old.seat.me self.old.number cpu.old true false }
+        requires carries { CarriesIn station.now self.old cpu.old true false }
         requires restored { cpu.old.phase ≡ Restored }
         ensures number { self.new.number ≡ self.old.number }
-        ensures carries { Carries station.now.table.shared.table_id (start_of station.now.table.shared.key) self.new.seat.table_id self.new.seat.me self.new.number cpu.new true true }
+        ensures carries { CarriesIn station.now self.new cpu.new true true }
         ensures waits { cpu.new.phase ≡ Arrived2 }
     {
-        station
-            .table
-            .shared
-            .fetch_add::<ArrivesAgain>(&mut self.seat, 1, 1);
+        station.table.shared.fetch_add::<Turn>(&mut self.seat, 1, 1);
         cpu.shift(Event::ArriveAgain);
+    }
+
+    // Does all that lies between the barriers. It waits for nobody, so it is proved to end.
+    fn change(&mut self, station: &Station, ram: &Ram, goal: &RegFile, cpu: &mut Cpu)
+        requires carries { CarriesIn station.now self.old cpu.old true false }
+        requires stands { Stands (start_at station.now) Given self.old.number cpu.old }
+        requires between { is_changing cpu.old.phase ≡ true }
+        requires begins { Begins (start_at station.now) }
+        requires goal { goal.now ≡ goal_at station.now }
+        requires windows { ram.now.windows ≡ windows_at station.now }
+        ensures number { self.new.number ≡ self.old.number }
+        ensures carries { CarriesIn station.now self.new cpu.new true true }
+        ensures waits { cpu.new.phase ≡ Arrived2 }
+    {
+        self.work_all(station, ram, goal, cpu);
+        self.arrive_again(station, cpu);
     }
 
     // Waits for the others again. The load of word 1 that ends it is the event Release. Each load before it is none.
     pub(crate) fn wait_second<R: Wait>(&mut self, rt: &R, station: &Station, cpu: &mut Cpu)
-        requires carries { Carries station.now.table.shared.table_id (start_of station.now.table.shared.key) self.old.seat.table_id self.old.seat.me self.old.number cpu.old true true }
+        requires carries { CarriesIn station.now self.old cpu.old true true }
         requires waits { cpu.old.phase ≡ Arrived2 }
-        requires begins { Begins (start_of station.now.table.shared.key) }
+        requires begins { Begins (start_at station.now) }
         ensures number { self.new.number ≡ self.old.number }
-        ensures carries { Carries station.now.table.shared.table_id (start_of station.now.table.shared.key) self.new.seat.table_id self.new.seat.me self.new.number cpu.new true true }
+        ensures carries { CarriesIn station.now self.new cpu.new true true }
         ensures shown { self.new.seat.me.0.shown ≡ Some station.now.count }
-        ensures took { Took (start_of station.now.table.shared.key) self.new.number Release cpu.old cpu.new }
-        ensures becomes { cpu.new ≡ own_step station.now.table.shared.key.goal.value Release cpu.old }
-        ensures risen { cpu.new.era ≡ common_era station.now.table.shared.key.cpus.value.items + 1 }
+        ensures took { Took (start_at station.now) self.new.number Release cpu.old cpu.new }
+        ensures risen { cpu.new.era ≡ common_era (start_at station.now).cpus + 1 }
     {
         for _ in rt.forever() {
-            let found = station.table.shared.load::<Releases>(&mut self.seat, 1);
+            let found = station.table.shared.load::<Turn>(&mut self.seat, 1);
             self.shown = Some(found as u32);
             if found == station.count {
                 cpu.shift(Event::Release);
@@ -297,53 +310,21 @@ impl Pass {
         gate: &G,
         cpu: &mut Cpu,
     ) -> Outcome
-        requires carries { Carries station.now.table.shared.table_id (start_of station.now.table.shared.key) self.old.seat.table_id self.old.seat.me self.old.number cpu.old false false }
+        requires carries { CarriesIn station.now self.old cpu.old false false }
         requires taken { cpu.old.phase ≡ Taken }
-        requires goal { goal.now ≡ station.now.table.shared.key.goal.value }
-        requires windows { ram.now.windows ≡ station.now.table.shared.key.ram.value.windows }
-        ensures attended { Attended result station.now.table.shared.table_id (start_of station.now.table.shared.key) self.old.number cpu.old self.new.seat.table_id self.new.seat.me cpu.new }
+        requires goal { goal.now ≡ goal_at station.now }
+        requires windows { ram.now.windows ≡ windows_at station.now }
+        ensures attended { AttendedIn result station.now self.old cpu.old self.new cpu.new }
         ensures number { self.new.number ≡ self.old.number }
         ensures unshown { result ≡ Outcome.Cancelled → self.new.shown ≡ self.old.shown }
-        ensures shown { result ≡ Outcome.Complete → self.new.shown ≡ Some (length station.now.table.shared.key.cpus.value.items) }
+        ensures shown { result ≡ Outcome.Complete → self.new.shown ≡ Some (length (start_at station.now).cpus) }
     {
         self.arrive(station, cpu).tell(gate);
         if !self.wait_first(rt, station, cpu) {
             return Outcome::Cancelled;
         }
-        self.work_all(station, ram, goal, cpu);
-        self.arrive_again(station, cpu);
+        self.change(station, ram, goal, cpu);
         self.wait_second(rt, station, cpu);
         Outcome::Complete
     }
-}
-
-/// A processor with its pass.
-#[derive(Drop)]
-pub struct Attendee {
-    pub cpu: Cpu,
-    pub pass: Pass,
-}
-
-/// Takes the processor through the update, and tells the gate once that it has arrived. It waits for the others,
-/// and for the root.
-pub fn attend<R: Wait, G: Gate>(
-    rt: &R,
-    station: &Station,
-    ram: &Ram,
-    a: Attendee,
-    goal: &RegFile,
-    gate: &G,
-) -> (Attendee, Outcome)
-    requires carries { Carries station.now.table.shared.table_id (start_of station.now.table.shared.key) a.pass.seat.table_id a.pass.seat.me a.pass.number a.cpu false false }
-    requires taken { a.cpu.phase ≡ Taken }
-    requires goal { goal.now ≡ station.now.table.shared.key.goal.value }
-    requires windows { ram.now.windows ≡ station.now.table.shared.key.ram.value.windows }
-    ensures attended { Attended result.1 station.now.table.shared.table_id (start_of station.now.table.shared.key) a.pass.number a.cpu result.0.pass.seat.table_id result.0.pass.seat.me result.0.cpu }
-    ensures number { result.0.pass.number ≡ a.pass.number }
-    ensures unshown { result.1 ≡ Outcome.Cancelled → result.0.pass.shown ≡ a.pass.shown }
-    ensures shown { result.1 ≡ Outcome.Complete → result.0.pass.shown ≡ Some (length station.now.table.shared.key.cpus.value.items) }
-{
-    let Attendee { mut cpu, mut pass } = a;
-    let outcome = pass.go_through(rt, station, ram, goal, gate, &mut cpu);
-    (Attendee { cpu, pass }, outcome)
 }

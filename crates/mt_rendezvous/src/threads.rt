@@ -12,13 +12,14 @@ ghost use Rattle.mt_machine.specs.Start.{HasEraRoom, IsQuiet};
 ghost use Rattle.mt_machine.specs.System.{IsSound};
 ghost use Rattle.mt_machine.specs.Update.{updated};
 ghost use Rattle.mt_core.specs.Rounds.{in_order};
-ghost use Rattle.mt_rendezvous.specs.Station.{Begins, start_of};
-ghost use Rattle.mt_rendezvous.specs.Calls.{IsRoot, Leads, gathered};
+ghost use Rattle.mt_rendezvous.specs.Station.{Begins};
+ghost use Rattle.mt_rendezvous.specs.Calls.{gathered};
 ghost use Rattle.mt_types.specs.Tables.{IsTableOf};
 ghost use Rattle.mt_bus.specs.Parts.{system};
 ghost use Rattle.mt_bus.specs.Holders.{AreHeldBy};
 ghost use Rattle.mt_bus.specs.Tables.{AreTablesOf};
-ghost use Rattle.mt_rendezvous.specs.Update.{AreOf, CameAs, CanUpdate, Came, IsQueue, IsReady, IsReadyAt, OneLess, Returned, Tied, decided, left_by, running, tables_left};
+ghost use Rattle.mt_rendezvous.specs.Update.{AreOf, CanUpdate, Tied, decided, left_by, running, tables_left};
+ghost use Rattle.mt_rendezvous.specs.InStation.{CameAsIn, CameIn, IsQueueIn, IsReadyAsIn, IsReadyIn, IsRootIn, LeadsIn, OneLessIn, ReturnedIn, goal_at, start_at, windows_at};
 
 use crate::broadcast::call_and_take;
 use crate::gather::disband;
@@ -45,9 +46,9 @@ struct Attends {
 }
 
 impl Promise<Box<Attendee>> for Attends {
-    ghost use Rattle.mt_rendezvous.specs.Update.{CameAs};
+    ghost use Rattle.mt_rendezvous.specs.InStation.{CameAsIn};
 
-    ghost kept_by = { λ p a. CameAs p.station.value.table.shared.table_id p.number a.value };
+    ghost kept_by = { λ p a. CameAsIn p.station.value p.number a.value };
 }
 
 // Takes the attendee through the update, or out of it.
@@ -59,10 +60,10 @@ fn attend_whole<R: Wait, G: Gate>(
     goal: &RegFile,
     gate: &G,
 )
-    requires ready { IsReady station.now.table.shared.table_id (start_of station.now.table.shared.key) a.old.cpu a.old.pass.seat.table_id a.old.pass.seat.me a.old.pass.number }
-    requires goal { goal.now ≡ station.now.table.shared.key.goal.value }
-    requires windows { ram.now.windows ≡ station.now.table.shared.key.ram.value.windows }
-    ensures came { Came station.now.table.shared.table_id a.new.pass.seat.table_id a.new.pass.seat.me a.new.pass.number a.new.cpu }
+    requires ready { IsReadyIn station.now a.old }
+    requires goal { goal.now ≡ goal_at station.now }
+    requires windows { ram.now.windows ≡ windows_at station.now }
+    ensures came { CameIn station.now a.new }
     ensures number { a.new.pass.number ≡ a.old.pass.number }
 {
     a.pass.go_through(rt, station, ram, goal, gate, &mut a.cpu);
@@ -80,17 +81,17 @@ fn start<'s, E, R: Threads + Wait + Sync, G: Gate>(
     goal: &'s RegFile,
     gate: &'s G,
 ) -> Result<PromisedHandle<Box<Attendee>, Attends>, Box<Attendee>>
-    requires root { Leads station.now.table.shared.table_id (start_of station.now.table.shared.key) root.old.seat.table_id root.old.seat.me Pending }
-    requires ready { IsReady station.now.table.shared.table_id (start_of station.now.table.shared.key) a.value.cpu a.value.pass.seat.table_id a.value.pass.seat.me a.value.pass.number }
-    requires goal { goal.now ≡ station.now.table.shared.key.goal.value }
-    requires windows { ram.now.windows ≡ station.now.table.shared.key.ram.value.windows }
+    requires root { LeadsIn station.now root.old Pending }
+    requires ready { IsReadyIn station.now a.value }
+    requires goal { goal.now ≡ goal_at station.now }
+    requires windows { ram.now.windows ≡ windows_at station.now }
     ensures held { root.new.seat.me.0.held ≡ root.old.seat.me.0.held }
-    ensures pending { IfOk result (λ h. Leads station.now.table.shared.table_id (start_of station.now.table.shared.key) root.new.seat.table_id root.new.seat.me Pending) }
+    ensures pending { IfOk result (λ h. LeadsIn station.now root.new Pending) }
     ensures child { IfOk result (λ h. (h.promise.station.value ≡ station.now) × (h.promise.number ≡ a.value.pass.number)) }
-    ensures cancelled { IfErr result (λ b. Leads station.now.table.shared.table_id (start_of station.now.table.shared.key) root.new.seat.table_id root.new.seat.me Cancelled) }
-    ensures came { IfErr result (λ b. CameAs station.now.table.shared.table_id a.value.pass.number b.value) }
+    ensures cancelled { IfErr result (λ b. LeadsIn station.now root.new Cancelled) }
+    ensures came { IfErr result (λ b. CameAsIn station.now a.value.pass.number b.value) }
 {
-    if !gate.may_start(a.pass.number as u32) {
+    if !a.pass.may_start(gate) {
         root.cancel(station);
         attend_whole(rt, station, ram, &mut a, goal, gate);
         return Err(a);
@@ -103,9 +104,9 @@ fn start<'s, E, R: Threads + Wait + Sync, G: Gate>(
         promise,
         move || -> Box<Attendee>
             requires shared { IsSync R.row }
-            requires ready { IsReady station.now.table.shared.table_id (start_of station.now.table.shared.key) a.value.cpu a.value.pass.seat.table_id a.value.pass.seat.me a.value.pass.number }
-            requires same { AreOf (start_of station.now.table.shared.key) goal.now ram.now.windows }
-            ensures { CameAs station.entry.now.table.shared.table_id a.value.pass.number result.value }
+            requires ready { IsReadyIn station.now a.value }
+            requires same { AreOf (start_at station.now) goal.now ram.now.windows }
+            ensures { CameAsIn station.entry.now a.value.pass.number result.value }
         {
             let mut a = a;
             attend_whole(rt, station, ram, &mut a, goal, gate);
@@ -122,12 +123,12 @@ fn start<'s, E, R: Threads + Wait + Sync, G: Gate>(
 
 // The attendee's processor comes back.
 fn finish(station: &Station, a: Attendee, root: &mut Root, done: &mut Vec<Cpu>)
-    requires root { IsRoot station.now.table.shared.table_id root.old.seat.table_id root.old.seat.me }
-    requires came { Came station.now.table.shared.table_id a.pass.seat.table_id a.pass.seat.me a.pass.number a.cpu }
+    requires root { IsRootIn station.now root.old }
+    requires came { CameIn station.now a }
     requires next { a.pass.number ≡ length done.old.items }
     requires tied { Tied root.old.seat.me.0 done.old.items }
     requires room { vec_len done.old < vec_capacity done.old }
-    ensures root { IsRoot station.now.table.shared.table_id root.new.seat.table_id root.new.seat.me }
+    ensures root { IsRootIn station.now root.new }
     ensures go { root.new.seat.me.0.go ≡ root.old.seat.me.0.go }
     ensures room { (length done.new.items ≡ length done.old.items + 1) × (vec_capacity done.new ≡ vec_capacity done.old) }
     ensures tied { Tied root.new.seat.me.0 done.new.items }
@@ -138,12 +139,12 @@ fn finish(station: &Station, a: Attendee, root: &mut Root, done: &mut Vec<Cpu>)
 
 // What a thread had comes back.
 fn finish_boxed(station: &Station, a: Box<Attendee>, root: &mut Root, done: &mut Vec<Cpu>)
-    requires root { IsRoot station.now.table.shared.table_id root.old.seat.table_id root.old.seat.me }
-    requires came { Came station.now.table.shared.table_id a.value.pass.seat.table_id a.value.pass.seat.me a.value.pass.number a.value.cpu }
+    requires root { IsRootIn station.now root.old }
+    requires came { CameIn station.now a.value }
     requires next { a.value.pass.number ≡ length done.old.items }
     requires tied { Tied root.old.seat.me.0 done.old.items }
     requires room { vec_len done.old < vec_capacity done.old }
-    ensures root { IsRoot station.now.table.shared.table_id root.new.seat.table_id root.new.seat.me }
+    ensures root { IsRootIn station.now root.new }
     ensures go { root.new.seat.me.0.go ≡ root.old.seat.me.0.go }
     ensures room { (length done.new.items ≡ length done.old.items + 1) × (vec_capacity done.new ≡ vec_capacity done.old) }
     ensures tied { Tied root.new.seat.me.0 done.new.items }
@@ -154,10 +155,10 @@ fn finish_boxed(station: &Station, a: Box<Attendee>, root: &mut Root, done: &mut
 
 // The last attendee.
 fn last(station: &Station, waiting: &mut Vec<Attendee>) -> Option<Attendee>
-    requires { IsQueue station.now.table.shared.table_id (start_of station.now.table.shared.key) waiting.old.items }
+    requires { IsQueueIn station.now waiting.old.items }
     ensures none { IfNone result ((waiting.old.items ≡ []) × (length waiting.old.items ≡ 0)) }
-    ensures some { IfSome result (λ a. IsReadyAt station.now.table.shared.table_id (start_of station.now.table.shared.key) (length waiting.new.items) a) }
-    ensures rest { IfSome result (λ a. OneLess station.now.table.shared.table_id (start_of station.now.table.shared.key) waiting.old.items waiting.new.items) }
+    ensures some { IfSome result (λ a. IsReadyAsIn station.now (length waiting.new.items) a) }
+    ensures rest { IfSome result (λ a. OneLessIn station.now waiting.old.items waiting.new.items) }
     ensures whole { IfSome result (λ a. waiting.old.items ≡ waiting.new.items ++ a ∷ []) }
     ensures kept { IfNone result (waiting.new.items ≡ waiting.old.items) }
     ensures capacity { vec_capacity waiting.new ≡ vec_capacity waiting.old }
@@ -172,10 +173,10 @@ fn last_boxed(
     alloc: Global,
     waiting: &mut Vec<Attendee>,
 ) -> Option<Box<Attendee>>
-    requires { IsQueue station.now.table.shared.table_id (start_of station.now.table.shared.key) waiting.old.items }
+    requires { IsQueueIn station.now waiting.old.items }
     ensures none { IfNone result (waiting.new.items ≡ waiting.old.items) }
-    ensures some { IfSome result (λ a. IsReadyAt station.now.table.shared.table_id (start_of station.now.table.shared.key) (length waiting.new.items) a.value) }
-    ensures rest { IfSome result (λ a. OneLess station.now.table.shared.table_id (start_of station.now.table.shared.key) waiting.old.items waiting.new.items) }
+    ensures some { IfSome result (λ a. IsReadyAsIn station.now (length waiting.new.items) a.value) }
+    ensures rest { IfSome result (λ a. OneLessIn station.now waiting.old.items waiting.new.items) }
 {
     let a = last(station, waiting)?;
     match Box::new(alloc, a) {
@@ -198,13 +199,13 @@ fn leave_all<R: Wait, G: Gate>(
     waiting: &mut Vec<Attendee>,
     done: &mut Vec<Cpu>,
 )
-    requires root { IsRoot station.now.table.shared.table_id root.old.seat.table_id root.old.seat.me }
-    requires goal { goal.now ≡ station.now.table.shared.key.goal.value }
-    requires windows { ram.now.windows ≡ station.now.table.shared.key.ram.value.windows }
-    requires waiting { IsQueue station.now.table.shared.table_id (start_of station.now.table.shared.key) waiting.old.items }
+    requires root { IsRootIn station.now root.old }
+    requires goal { goal.now ≡ goal_at station.now }
+    requires windows { ram.now.windows ≡ windows_at station.now }
+    requires waiting { IsQueueIn station.now waiting.old.items }
     requires room { length waiting.old.items ≤ vec_capacity done.old }
     requires empty { done.old.items ≡ [] }
-    ensures returned { Returned station.now.table.shared.table_id root.new.seat.table_id root.new.seat.me root.old.seat.me.0.go (length waiting.old.items) done.new.items }
+    ensures returned { ReturnedIn station.now root.new root.old.seat.me.0.go (length waiting.old.items) done.new.items }
     ensures capacity { vec_capacity done.new ≡ vec_capacity done.old }
 {
     let Some(mut a) = last(station, waiting) else {
@@ -229,13 +230,13 @@ fn run_all<'s, E, R: Threads + Wait + Sync, G: Gate>(
     waiting: &mut Vec<Attendee>,
     done: &mut Vec<Cpu>,
 ) -> bool
-    requires root { Leads station.now.table.shared.table_id (start_of station.now.table.shared.key) root.old.seat.table_id root.old.seat.me Pending }
-    requires goal { goal.now ≡ station.now.table.shared.key.goal.value }
-    requires windows { ram.now.windows ≡ station.now.table.shared.key.ram.value.windows }
-    requires waiting { IsQueue station.now.table.shared.table_id (start_of station.now.table.shared.key) waiting.old.items }
+    requires root { LeadsIn station.now root.old Pending }
+    requires goal { goal.now ≡ goal_at station.now }
+    requires windows { ram.now.windows ≡ windows_at station.now }
+    requires waiting { IsQueueIn station.now waiting.old.items }
     requires room { length waiting.old.items ≤ vec_capacity done.old }
     requires empty { done.old.items ≡ [] }
-    ensures returned { Returned station.now.table.shared.table_id root.new.seat.table_id root.new.seat.me (decided result) (length waiting.old.items) done.new.items }
+    ensures returned { ReturnedIn station.now root.new (decided result) (length waiting.old.items) done.new.items }
     ensures capacity { vec_capacity done.new ≡ vec_capacity done.old }
 {
     if waiting.is_empty() {
@@ -282,23 +283,23 @@ fn meet<R: Threads + Wait + Sync, G: Gate>(
     mut waiting: Vec<Attendee>,
     mut done: Vec<Cpu>,
 ) -> Ended
-    requires root { Leads station.now.table.shared.table_id (start_of station.now.table.shared.key) root.seat.table_id root.seat.me Pending }
-    requires goal { goal.now ≡ station.now.table.shared.key.goal.value }
-    requires windows { ram.now.windows ≡ station.now.table.shared.key.ram.value.windows }
-    requires waiting { IsQueue station.now.table.shared.table_id (start_of station.now.table.shared.key) waiting.items }
+    requires root { LeadsIn station.now root Pending }
+    requires goal { goal.now ≡ goal_at station.now }
+    requires windows { ram.now.windows ≡ windows_at station.now }
+    requires waiting { IsQueueIn station.now waiting.items }
     requires room { length waiting.items ≤ vec_capacity done }
     requires empty { done.items ≡ [] }
-    ensures { Returned station.now.table.shared.table_id result.root.seat.table_id result.root.seat.me (decided result.given) (length waiting.items) result.done.items }
+    ensures { ReturnedIn station.now result.root (decided result.given) (length waiting.items) result.done.items }
 {
     thread::scope(
         thread::scope_env(),
         rt,
         move |scope| -> Ended
-            requires root { Leads station.now.table.shared.table_id (start_of station.now.table.shared.key) root.seat.table_id root.seat.me Pending }
-            requires same { AreOf (start_of station.now.table.shared.key) goal.now ram.now.windows }
-            requires waiting { IsQueue station.now.table.shared.table_id (start_of station.now.table.shared.key) waiting.items }
+            requires root { LeadsIn station.now root Pending }
+            requires same { AreOf (start_at station.now) goal.now ram.now.windows }
+            requires waiting { IsQueueIn station.now waiting.items }
             requires room { (length waiting.items ≤ vec_capacity done) × (done.items ≡ []) }
-            ensures { Returned station.entry.now.table.shared.table_id result.root.seat.table_id result.root.seat.me (decided result.given) (length waiting.items) result.done.items }
+            ensures { ReturnedIn station.entry.now result.root (decided result.given) (length waiting.items) result.done.items }
         {
             let given = run_all(
                 rt,

@@ -1,4 +1,4 @@
-// What the seats of a station know, and what each step tells. Each play names its event, or says that there is none.
+// What the seats of a station know, and what each step tells.
 use atomic_table::{Join, Play, Split, TableRule};
 use mt_cpu::Cpu;
 use mt_machine::Go;
@@ -50,65 +50,12 @@ impl TableRule<(), View, Key> for Meeting {
     ghost first = { first_view };
 }
 
-/// A pass adds to word 0. It is Arrive, or no event where the word held the cancel before.
-pub struct Arrives;
+/// The play of every step that a pass or the root makes. The word, the operand and the seat say which event it is, or
+/// that it is none.
+pub struct Turn;
 
-impl Play<(), View> for Arrives {
-    ghost use Rattle.mt_rendezvous.specs.Plays.{Arrives as Tells};
-
-    ghost then = { Tells };
-}
-
-/// A pass loads word 0. It is Pass where the count is full, Leave where the cancel stands there, else no event.
-pub struct Passes;
-
-impl Play<(), View> for Passes {
-    ghost use Rattle.mt_rendezvous.specs.Plays.{Passes as Tells};
-
-    ghost then = { Tells };
-}
-
-/// A pass stores its phase word or a word of memory. It is the event that is due for its processor.
-pub struct Works;
-
-impl Play<(), View> for Works {
-    ghost use Rattle.mt_rendezvous.specs.Plays.{Works as Tells};
-
-    ghost then = { Tells };
-}
-
-/// A pass adds to word 1. It is ArriveAgain.
-pub struct ArrivesAgain;
-
-impl Play<(), View> for ArrivesAgain {
-    ghost use Rattle.mt_rendezvous.specs.Plays.{ArrivesAgain as Tells};
-
-    ghost then = { Tells };
-}
-
-/// A pass loads word 1. It is Release where the count is full, else no event. The view keeps the count.
-pub struct Releases;
-
-impl Play<(), View> for Releases {
-    ghost use Rattle.mt_rendezvous.specs.Plays.{Releases as Tells};
-
-    ghost then = { Tells };
-}
-
-/// The root adds 1 to word 0. It is Go.
-pub struct Gives;
-
-impl Play<(), View> for Gives {
-    ghost use Rattle.mt_rendezvous.specs.Plays.{Gives as Tells};
-
-    ghost then = { Tells };
-}
-
-/// The root adds 2^32 to word 0. It is Cancel.
-pub struct Cancels;
-
-impl Play<(), View> for Cancels {
-    ghost use Rattle.mt_rendezvous.specs.Plays.{Cancels as Tells};
+impl Play<(), View> for Turn {
+    ghost use Rattle.mt_rendezvous.specs.Plays.{Tells};
 
     ghost then = { Tells };
 }

@@ -8,8 +8,8 @@ use Rattle.mt_machine.specs.Machine.{MachineEvent, Steps}
 use Rattle.mt_rendezvous.specs.declared.view.View.{View}
 use Rattle.mt_rendezvous.specs.declared.view.Key.{Key}
 use Rattle.mt_rendezvous.specs.Station.{Meets, held, order_of}
-use Rattle.mt_rendezvous.specs.Plays.{Sat, arrive, arrive_again, does, late, own_event, work, written}
-use Rattle.mt_rendezvous.specs.Laws.{ArriveAgainFollows, ArriveFollows, CancelFollows, Follows, GoFollows, GoesTo, JoinFollows, PassFollows, ReleaseFollows, SplitFollows, Station, WorkFollows, loaded, raised}
+use Rattle.mt_rendezvous.specs.Plays.{GoesTo, Sat, arrive, arrive_again, does, late, own_event, work, written}
+use Rattle.mt_rendezvous.specs.Laws.{ArriveAgainFollows, ArriveFollows, CancelFollows, Follows, GoFollows, JoinFollows, PassFollows, ReleaseFollows, SplitFollows, Station, WorkFollows, loaded, raised}
 use Rattle.mt_rendezvous.proofs.Local.{due_alone}
 use Rattle.mt_rendezvous.proofs.Steps.{Arrival, IsDue, Passing, Releasing, Storing, arrival, arriving_again, moved, moved_shown, passing, phase_stored, releasing, shown_only, unmoved, word_stored}
 use Rattle.mt_rendezvous.proofs.RootSteps.{cancelling, giving, joining, splitting}

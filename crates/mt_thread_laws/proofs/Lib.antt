@@ -1,4 +1,5 @@
 pub mod EachStep
+pub mod EveryStep
 pub mod JobOnWorked
 pub mod Lodged
 pub mod LoneGuest
@@ -8,4 +9,5 @@ pub mod OnLone
 pub mod Residents
 pub mod Seats
 pub mod StationOnWorked
+pub mod TwoAtOnce
 pub mod WorkedStart

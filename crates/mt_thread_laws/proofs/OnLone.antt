@@ -17,7 +17,7 @@ use Rattle.mt_rendezvous.specs.declared.view.Start.{Start}
 use Rattle.mt_rendezvous.specs.declared.view.View.{View}
 use Rattle.mt_rendezvous.specs.declared.view.Key.{Key}
 use Rattle.mt_rendezvous.specs.Station.{Begins, FitsHeld, IsHeld, Meets, Sits, added_of, again_of, broadcast, first_memory_word, go_weight, held, joined, phase_word_of, start_of, total}
-use Rattle.mt_thread_laws.specs.WorkedLone.{arrived, arrived_again, both_written, changed, ended, left, lone}
+use Rattle.mt_thread_laws.specs.WorkedLone.{arrived, arrived_again, both_written, cancelled, changed, ended, left, lone}
 use Rattle.mt_thread_laws.specs.WorkedLone.{lone_events, lone_station, passed, pass_of, released, restored, root_of, taken}
 use Rattle.mt_thread_laws.specs.WorkedStations.{first, zeros}
 
@@ -123,6 +123,12 @@ fits_again = record { first = λ w. absurd w; fits = (refl, refl, refl); era = r
 fits_released : FitsHeld lone Given (held 0 released true true)
 fits_released = record { first = λ w. absurd w; fits = (refl, inr (refl, refl)); era = refl }
 
+fits_cancelled : FitsHeld lone Cancelled (held 0 (first Taken) false false)
+fits_cancelled = record { first = λ w. refl; fits = (refl, λ e. absurd (cc e)); era = refl }
+
+led_cancelled : Led (broadcast lone) (run (broadcast lone) (Cancels ∷ []))
+led_cancelled = led_run (Cancels ∷ []) (broadcast lone) (broadcast lone) led_start (refl, tt) refl
+
 led_left : Led (broadcast lone) (run (broadcast lone) (Cancels ∷ Steps 0 Leave ∷ []))
 led_left = led_run (Cancels ∷ Steps 0 Leave ∷ []) (broadcast lone) (broadcast lone) led_start (refl, (refl, tt)) refl
 
@@ -144,6 +150,9 @@ module _ (key : Key) (is : start_of key ≡ lone) where
 
   pub ended_meets : Meets key (ended key)
   ended_meets = meets key is Given (Some 1) (held 0 released true true) (2 ∷ 1 ∷ 8 ∷ both_written) (led_by 17) refl refl refl fits_released refl refl
+
+  pub cancelled_meets : Meets key (cancelled key)
+  cancelled_meets = meets key is Cancelled None (held 0 (first Taken) false false) (0x100000000 ∷ 0 ∷ 0 ∷ zeros) led_cancelled refl refl refl fits_cancelled refl refl
 
   pub left_meets : Meets key (left key)
   left_meets = meets key is Cancelled None (held 0 (first Running) true false) (0x100000001 ∷ 0 ∷ 0 ∷ zeros) led_left refl refl refl fits_left refl refl

@@ -114,6 +114,10 @@ arrived_again key = lone_station key Given None again (2 ∷ 1 ∷ 8 ∷ both_wr
 abbrev pub ended : Key → Station
 ended key = lone_station key Given (Some 1) free (2 ∷ 1 ∷ 8 ∷ both_written)
 
+-- when the root has cancelled, and it hasn't arrived
+abbrev pub cancelled : Key → Station
+cancelled key = lone_station key Cancelled None new (0x100000000 ∷ 0 ∷ 0 ∷ zeros)
+
 -- when it has left after a cancel
 abbrev pub left : Key → Station
 left key = lone_station key Cancelled None out (0x100000001 ∷ 0 ∷ 0 ∷ zeros)

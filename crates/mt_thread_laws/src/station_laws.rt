@@ -1,4 +1,4 @@
-ghost use Rattle.mt_rendezvous.specs.Laws.{BroadcastBegins, HoldsWhereFull, IsLedTo, LeftWhereCancelled, ReleasedWhereFull, StandsForOne};
+ghost use Rattle.mt_rendezvous.specs.Laws.{BroadcastBegins, EachStepFollows, HoldsWhereFull, IsLedTo, LeftWhereCancelled, ReleasedWhereFull, ShownIsFound, StandsForOne};
 ghost use Rattle.mt_rendezvous.specs.Laws.{ArriveAgainFollows, ArriveFollows, CancelFollows, GoFollows, JoinFollows, PassFollows, ReleaseFollows, SplitFollows, WorkFollows};
 
 /// Between any two steps the words and the views stand for one state, to which the broadcast state leads.
@@ -18,6 +18,14 @@ pub fn each_step_is_one_event()
     ensures work { WorkFollows }
     ensures arrive_again { ArriveAgainFollows }
     ensures release { ReleaseFollows }
+{}
+
+/// Whatever step the one play of a station lets a seat make, it is one event or none. A processor is released by a load
+/// of word 1 alone, and passes or leaves the first barrier by a load of word 0 alone. A load of word 1 shows its seat
+/// what it found, and no other step shows it anything.
+pub fn every_step_is_one_event()
+    ensures events { EachStepFollows }
+    ensures shown { ShownIsFound }
 {}
 
 /// Where all have arrived again each processor has the goal's registers and holds nothing, and each

@@ -12,9 +12,9 @@ ghost use Rattle.mt_rendezvous.specs.declared.view.Key.{Key};
 ghost use Rattle.mt_rendezvous.specs.Station.{Begins, Meets, broadcast, first_view, start_of};
 ghost use Rattle.mt_rendezvous.specs.Plays.{with_go};
 ghost use Rattle.mt_rendezvous.specs.Laws.{ArriveAgainFollows, ArriveFollows, CancelFollows, GoFollows, JoinFollows, PassFollows, ReleaseFollows, SplitFollows, WorkFollows};
-ghost use Rattle.mt_rendezvous.specs.Laws.{BroadcastBegins, HoldsWhereFull, IsLedTo, LeftWhereCancelled, ReleasedWhereFull, StandsForOne, machine_of, raised};
-ghost use Rattle.mt_thread_laws.specs.WorkedLone.{Moves, arrived, arrived_again, ended, fills_not, left, lone, passed, restored, taken, taken_back, waits};
-ghost use Rattle.mt_thread_laws.specs.WorkedStations.{at_start, split_once, start};
+ghost use Rattle.mt_rendezvous.specs.Laws.{BroadcastBegins, EachStepFollows, HoldsWhereFull, IsLedTo, IsOneStep, LeftWhereCancelled, ReleasedWhereFull, ShownIsFound, StandsForOne, machine_of, raised};
+ghost use Rattle.mt_thread_laws.specs.WorkedLone.{Moves, arrived, arrived_again, cancelled, ended, fills_not, free, left, lone, out, pass_of, passed, restored, sits, taken, taken_back, waits};
+ghost use Rattle.mt_thread_laws.specs.WorkedStations.{at_start, bare, split_once, start};
 
 /// The root's steps: it gives a processor away, says go, cancels, and takes a processor back.
 pub fn worked_laws_of_the_root()
@@ -36,6 +36,22 @@ pub fn worked_laws_of_the_change()
     ensures phase { WorkFollows → (key : Key) → start_of key ≡ lone → Moves key (passed key) (fills_not key) (Some (Steps 0 SetNoFill)) }
     ensures arrive_again { ArriveAgainFollows → (key : Key) → start_of key ≡ lone → Moves key (restored key) (arrived_again key) (Some (Steps 0 ArriveAgain)) }
     ensures release { ReleaseFollows → (key : Key) → start_of key ≡ lone → Moves key (arrived_again key) (ended key) (Some (Steps 0 Release)) }
+{}
+
+/// The last step at the second barrier, as one of every step.
+pub fn worked_law_of_every_step()
+    ensures released { EachStepFollows → (key : Key) → start_of key ≡ lone
+        → (m : Meets key (arrived_again key)) × IsOneStep key (arrived_again key) m 1 1 0 (bare (pass_of (start_of key) (Some 1) free)) }
+    ensures shown { ShownIsFound → (bare (pass_of lone (Some 1) free)).0.shown ≡ Some 1 }
+{}
+
+/// What the law on every step refuses: to leave by the addition to word 0 where the cancel stands there, and to be
+/// released by the addition to word 1.
+pub fn worked_steps_at_once()
+    ensures cancelled { (key : Key) → start_of key ≡ lone → Meets key (cancelled key) }
+    ensures leaves { (key : Key) → start_of key ≡ lone → (m : Meets key (cancelled key)) → IsOneStep key (cancelled key) m 1 0 1 (sits (start_of key) out) → ⊥ }
+    ensures restored { (key : Key) → start_of key ≡ lone → Meets key (restored key) }
+    ensures released { (key : Key) → start_of key ≡ lone → (m : Meets key (restored key)) → IsOneStep key (restored key) m 1 1 1 (sits (start_of key) free) → ⊥ }
 {}
 
 /// A station at its second barrier is led to and stands for one machine, which has the goal's registers and holds

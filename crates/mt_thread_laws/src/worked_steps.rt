@@ -1,13 +1,15 @@
 // Words and views that meet the rule of the table, and that fail it in one part; where a store goes to; and what doesn't
 // follow on the words and views at the start.
-ghost use Rattle.std.specs.Prelude.{◌≡◌, [], None, Some};
-ghost use Rattle.atomic_table.specs.Table.{opening};
-ghost use Rattle.mt_machine.specs.declared.event.Event.TheVariants.{Arrive};
+ghost use Rattle.std.specs.Prelude.{◌≡◌, ℕ, [], None, Some};
+ghost use mathlib.Core.Option.{none};
+ghost use Rattle.atomic_table.specs.Table.{opening, step};
+ghost use Rattle.mt_machine.specs.declared.event.Event.TheVariants.{Arrive, Leave, Pass, Release, SetNoFill};
 ghost use Rattle.mt_machine.specs.declared.phase.Phase.TheVariants.{Passed};
-ghost use Rattle.mt_machine.specs.Machine.{Goes, Steps};
+ghost use Rattle.mt_machine.specs.Machine.{Cancels as CancelsUpdate, Goes, Steps};
 ghost use Rattle.mt_rendezvous.specs.declared.view.Key.{Key};
 ghost use Rattle.mt_rendezvous.specs.Station.{Meets, first_view, root_left, start_of};
-ghost use Rattle.mt_rendezvous.specs.Laws.{Follows, GoesTo};
+ghost use Rattle.mt_rendezvous.specs.Plays.{GoesTo, Sat, Tells};
+ghost use Rattle.mt_rendezvous.specs.Laws.{ComesOf, Follows};
 ghost use Rattle.mt_rendezvous.specs.Calls.{opening_words};
 ghost use Rattle.mt_thread_laws.specs.WorkedStations.{at_start, but_word, first, start, zeros};
 
@@ -36,4 +38,22 @@ pub fn worked_follows()
     ensures not_kept { (key : Key) → start_of key ≡ start → (m : Meets key (at_start key)) → Follows key (at_start key) (but_word key 0 1) m None → ⊥ }
     ensures not_enabled { (key : Key) → start_of key ≡ start → (m : Meets key (at_start key)) → Follows key (at_start key) (at_start key) m (Some (Steps 7 Arrive)) → ⊥ }
     ensures not_gone_on { (key : Key) → start_of key ≡ start → (m : Meets key (at_start key)) → Follows key (at_start key) (at_start key) m (Some Goes) → ⊥ }
+{}
+
+/// Of which steps an event comes, and of which it doesn't.
+pub fn worked_steps_of_events()
+    ensures released { ComesOf 1 0 (Some (Steps 0 Release)) }
+    ensures released_by_addition { ComesOf 1 1 (Some (Steps 0 Release)) → ⊥ }
+    ensures released_at_first { ComesOf 0 0 (Some (Steps 0 Release)) → ⊥ }
+    ensures passed_by_addition { ComesOf 0 1 (Some (Steps 0 Pass)) → ⊥ }
+    ensures left_by_addition { ComesOf 0 1 (Some (Steps 0 Leave)) → ⊥ }
+    ensures arrived_by_load { ComesOf 0 0 (Some (Steps 0 Arrive)) → ⊥ }
+    ensures stored { ComesOf 2 1 (Some (Steps 0 SetNoFill)) }
+    ensures counted { ComesOf 1 1 (Some (Steps 0 SetNoFill)) → ⊥ }
+    ensures cancelled_by_one { ComesOf 0 1 (Some CancelsUpdate) → ⊥ }
+{}
+
+/// No seat adds more to the second count than 1.
+pub fn worked_addition()
+    ensures { (me new : Sat) (found : ℕ) → Tells (step 0 1 2 0 none) me found new → ⊥ }
 {}

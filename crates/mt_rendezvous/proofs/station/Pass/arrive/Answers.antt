@@ -1,10 +1,10 @@
-use Rattle.std.proofs.Common.{true, false, refl, subst, sym, ap, ◌∙◌, inr, arith}
+use Rattle.std.proofs.Common.{true, false, subst, sym, ap, ◌∙◌, inr, arith}
 use Rattle.mt_machine.specs.declared.phase.Phase.{Phase}
 use Rattle.mt_machine.specs.System.{Processor}
 use Rattle.mt_rendezvous.specs.declared.view.View.{View}
 use Rattle.mt_rendezvous.specs.Station.{Begins, held}
 use Rattle.mt_rendezvous.specs.Plays.{arrive}
-use Rattle.mt_rendezvous.proofs.Steps.{arrives}
+use Rattle.mt_rendezvous.proofs.Told.{arrives_told}
 use Rattle.std.proofs.Common.{◌≡◌, Some}
 use Rattle.std.specs.Prelude.{slice_get}
 use Rattle.mt_rendezvous.proofs.Carried.{carried, of_it}
@@ -12,12 +12,12 @@ use Rattle.mt_rendezvous.proofs.station.Pass.arrive.Goals as goal
 
 pub fetch_add-found-requires : goal.fetch_add-found-requires
 fetch_add-found-requires c = let r = c.requires.carries in let w = c.args.station.now.wide in
-    (r.same, omega arith, arrives c.args.station.now.table.shared.key _ _ c.args.self.now.seat.me (held c.args.self.now.number c.args.cpu.now false false) r.holds refl refl c.requires.taken)
+    (r.same, omega arith, arrives_told c.args.station.now.table.shared.key _ _ c.args.self.now.number c.args.self.now.seat.me c.args.cpu.now c.args.self.now.no_root r.holds c.requires.taken)
 
 pub returns-then-found-lt-CANCEL-clause-carries : goal.returns-then-found-lt-CANCEL-clause-carries
 returns-then-found-lt-CANCEL-clause-carries c =
     let e = c.fetch_add-found.ensures in
-    let tells = e.2 in
+    let tells = (e.2.1 c.args.self.now.no_root).1 in
     let moves = (tells.3 c.if-found-lt-CANCEL.true).0 in
     carried c.requires.carries _ _ c.shift.new.self true false arrive e.0 tells.0 (ap (λ (v : View). v.held) moves) (ap (λ (v : View). v.start) moves)
     (ap (λ (p : Processor). held c.args.self.now.number p true false) (sym (c.shift.ensures c.args.station.now.table.shared.key.goal.value)))
@@ -31,13 +31,13 @@ returns-then-found-lt-CANCEL-clause-same c =
     is ∙ ap (λ (ph : Phase). record c.args.cpu.now { phase = ph }) (sym (ap (λ (p : Processor). p.phase) is))
 
 pub returns-then-found-lt-CANCEL-clause-first : goal.returns-then-found-lt-CANCEL-clause-first
-returns-then-found-lt-CANCEL-clause-first c = of_it c.requires.carries (λ t h. slice_get t.cpus h.number ≡ Some h.cpu) c.fetch_add-found.ensures.2.2
+returns-then-found-lt-CANCEL-clause-first c = of_it c.requires.carries (λ t h. slice_get t.cpus h.number ≡ Some h.cpu) (c.fetch_add-found.ensures.2.1 c.args.self.now.no_root).1.2
 
 pub returns-clause-first : goal.returns-clause-first
-returns-clause-first c = of_it c.requires.carries (λ t h. slice_get t.cpus h.number ≡ Some h.cpu) c.fetch_add-found.ensures.2.2
+returns-clause-first c = of_it c.requires.carries (λ t h. slice_get t.cpus h.number ≡ Some h.cpu) (c.fetch_add-found.ensures.2.1 c.args.self.now.no_root).1.2
 
 pub returns-then-found-lt-CANCEL-clause-begins : goal.returns-then-found-lt-CANCEL-clause-begins
-returns-then-found-lt-CANCEL-clause-begins c = subst Begins c.requires.carries.told c.fetch_add-found.ensures.2.1
+returns-then-found-lt-CANCEL-clause-begins c = subst Begins c.requires.carries.told (c.fetch_add-found.ensures.2.1 c.args.self.now.no_root).1.1
 
 pub returns-clause-begins : goal.returns-clause-begins
-returns-clause-begins c = subst Begins c.requires.carries.told c.fetch_add-found.ensures.2.1
+returns-clause-begins c = subst Begins c.requires.carries.told (c.fetch_add-found.ensures.2.1 c.args.self.now.no_root).1.1

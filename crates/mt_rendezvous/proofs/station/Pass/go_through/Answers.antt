@@ -5,7 +5,7 @@ use Rattle.mt_rendezvous.specs.declared.view.Start.{Start}
 use Rattle.mt_rendezvous.specs.Station.{start_of}
 use Rattle.mt_rendezvous.specs.Plays.{Took}
 use Rattle.mt_rendezvous.specs.Calls.{Carries}
-use Rattle.mt_rendezvous.proofs.Ends.{released, settled}
+use Rattle.mt_rendezvous.proofs.Ends.{settled}
 use Rattle.mt_rendezvous.proofs.station.Pass.go_through.Goals as goal
 
 pub returns-clause-attended : goal.returns-clause-attended
@@ -13,12 +13,11 @@ returns-clause-attended g c =
     let t : Start = start_of c.args.station.now.table.shared.key in
     let w = c.wait_second.ensures in
     let begins = c.arrive.ensures.begins in
-    let number = w.number ∙ c.arrive_again.ensures.number ∙ c.work_all.ensures.number ∙ c.wait_first.ensures.number ∙ c.arrive.ensures.number in
+    let number = w.number ∙ c.change.ensures.number ∙ c.wait_first.ensures.number ∙ c.arrive.ensures.number in
     let q : Processor = c.wait_second.new.cpu in
     let k : ℕ = c.args.self.now.number in
-    let took : Took t k Release c.arrive_again.new.cpu q = subst (λ (n : ℕ). Took t n Release c.arrive_again.new.cpu q) number w.took in (
+    let took : Took t k Release c.change.new.cpu q = subst (λ (n : ℕ). Took t n Release c.change.new.cpu q) number w.took in (
       subst (λ (n : ℕ). Carries c.args.station.now.table.shared.table_id t c.wait_second.new.self.seat.table_id c.wait_second.new.self.seat.me n q true true) number w.carries,
       w.shown ∙ ap (λ (n : ℕ). Some n) (sym c.args.station.now.counted),
-      settled t begins k c.arrive_again.new.cpu q took c.args.cpu.now c.arrive.ensures.first w.risen,
-      released t begins k c.arrive_again.new.cpu q took c.arrive_again.ensures.waits w.becomes,
+      settled t begins k c.change.new.cpu q took c.args.cpu.now c.arrive.ensures.first w.risen,
     )

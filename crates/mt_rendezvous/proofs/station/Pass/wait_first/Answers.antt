@@ -1,47 +1,39 @@
-use Rattle.std.proofs.Common.{◌≡◌, length, true, false, Some, refl, sym, ap, subst, arith}
+use Rattle.std.proofs.Common.{◌≡◌, ◌∙◌, length, true, false, sym, ap, subst, arith}
 use Rattle.mt_machine.specs.declared.phase.Phase.TheVariants.{Arrived}
 use Rattle.mt_machine.specs.declared.event.Event.TheVariants.{Leave, Pass}
-use Rattle.mt_machine.specs.declared.go.Go.TheVariants.{Given, Cancelled}
+use Rattle.mt_machine.specs.declared.go.Go.TheVariants.{Given}
 use Rattle.mt_machine.specs.System.{Processor}
 use Rattle.mt_cpu.specs.Steps.{is_shift}
 use Rattle.mt_rendezvous.specs.declared.view.View.{View}
 use Rattle.mt_rendezvous.specs.declared.view.Start.{Start}
 use Rattle.mt_rendezvous.specs.Station.{held, start_of}
-use Rattle.mt_machine.specs.Machine.{Steps}
-use Rattle.mt_rendezvous.specs.declared.view.Held.{Held}
-use Rattle.mt_rendezvous.specs.Plays.{PassSteps, Took, Stands, does}
-use Rattle.mt_rendezvous.proofs.Keeps.{took_of}
+use Rattle.mt_machine.specs.Machine.{own_step}
+use Rattle.mt_rendezvous.specs.Plays.{Stands, does}
 use Rattle.mt_rendezvous.specs.Calls.{Waited}
-use Rattle.mt_rendezvous.proofs.Steps.{passes}
+use Rattle.mt_rendezvous.proofs.Told.{passes_told}
 use Rattle.mt_rendezvous.proofs.Carried.{carried, of_it}
 use Rattle.mt_rendezvous.proofs.station.Pass.wait_first.Goals as goal
 
 pub load-found-requires : goal.load-found-requires
 load-found-requires g c = let r = c.loop.invariant.carries in let w = c.args.station.now.wide in
-    (r.same, omega arith, passes c.args.station.now.table.shared.key _ _ c.loop.self.seat.me (held c.loop.self.number c.loop.cpu true false) r.holds refl refl c.loop.invariant.waits)
+    (r.same, omega arith, passes_told c.args.station.now.table.shared.key _ _ c.loop.self.number c.loop.self.seat.me c.loop.cpu r.holds c.loop.invariant.waits)
 
 pub returns-then-found-ge-CANCEL-clause-carries : goal.returns-then-found-ge-CANCEL-clause-carries
 returns-then-found-ge-CANCEL-clause-carries g c =
     let e = c.load-found.ensures in
-    let tells = e.2 in
+    let tells = e.2.1 in
     let moves = (tells.2 c.if-found-ge-CANCEL.true).0 in
     carried c.loop.invariant.carries _ _ c.shift.new.self true false (λ t. does t Leave) e.0 tells.0 (ap (λ (v : View). v.held) moves) (ap (λ (v : View). v.start) moves)
     (ap (λ (p : Processor). held c.loop.self.number p true false) (sym (c.shift.ensures c.args.station.now.table.shared.key.goal.value)))
 
 pub returns-then-found-ge-CANCEL-clause-waited : goal.returns-then-found-ge-CANCEL-clause-waited
 returns-then-found-ge-CANCEL-clause-waited g c =
-    let tells = c.load-found.ensures.2 in
     let t : Start = start_of c.args.station.now.table.shared.key in
-    let is = c.shift.ensures t.goal in
-    let shows = tells.2 c.if-found-ge-CANCEL.true in
-    let h : Held = held c.loop.self.number c.loop.cpu true false in
-    let left = took_of t 0 c.load-found.result c.load-found.result Leave h (does t Leave h) (of_it c.loop.invariant.carries (λ u x. PassSteps u 0 c.load-found.result c.load-found.result (Some (Steps x.number Leave)) x (does u Leave x)) shows.1) in
-    subst (λ (p : Processor). Waited false t c.loop.self.number p c.shift.new.self) c.loop.invariant.cpu
-    (is, subst (Took t c.loop.self.number Leave c.loop.cpu) (sym is) left, of_it c.loop.invariant.carries (λ u x. Stands u Cancelled x.number x.cpu) shows.2)
+    c.shift.ensures t.goal ∙ ap (λ (p : Processor). own_step t.goal Leave p) c.loop.invariant.cpu
 
 pub shift-requires-then-found-station-clause-enabled : goal.shift-requires-then-found-station-clause-enabled
 shift-requires-then-found-station-clause-enabled g c =
-    let tells = c.load-found.ensures.2 in
+    let tells = c.load-found.ensures.2.1 in
     let r = c.loop.invariant.carries in
     let long : length c.loop.self.seat.me.0.start.cpus ≡ length c.args.station.now.table.shared.key.cpus.value.items = ap (λ (u : Start). length u.cpus) r.told in
     let counted = c.args.station.now.counted in
@@ -52,7 +44,7 @@ shift-requires-then-found-station-clause-enabled g c =
 pub returns-then-found-station-clause-carries : goal.returns-then-found-station-clause-carries
 returns-then-found-station-clause-carries g c =
     let e = c.load-found.ensures in
-    let tells = e.2 in
+    let tells = e.2.1 in
     let r = c.loop.invariant.carries in
     let long : length c.loop.self.seat.me.0.start.cpus ≡ length c.args.station.now.table.shared.key.cpus.value.items = ap (λ (u : Start). length u.cpus) r.told in
     let counted = c.args.station.now.counted in
@@ -63,7 +55,7 @@ returns-then-found-station-clause-carries g c =
 
 pub returns-then-found-station-clause-waited : goal.returns-then-found-station-clause-waited
 returns-then-found-station-clause-waited g c =
-    let tells = c.load-found.ensures.2 in
+    let tells = c.load-found.ensures.2.1 in
     let r = c.loop.invariant.carries in
     let t : Start = start_of c.args.station.now.table.shared.key in
     let long : length c.loop.self.seat.me.0.start.cpus ≡ length c.args.station.now.table.shared.key.cpus.value.items = ap (λ (u : Start). length u.cpus) r.told in

@@ -1,6 +1,7 @@
 use Rattle.std.proofs.Common.{◌≡◌, true, false}
 use Rattle.mt_rendezvous.specs.Station.{start_of}
-use Rattle.mt_rendezvous.specs.Calls.{Carries, IsWaiting}
+use Rattle.mt_rendezvous.specs.Plays.{IsWaiting}
+use Rattle.mt_rendezvous.specs.Calls.{Carries}
 use Rattle.mt_rendezvous.proofs.station.Pass.wait_first.Given as goal
 
 abbrev pub invariant-loop : goal.invariant-loop

@@ -1,25 +1,25 @@
-use Rattle.std.proofs.Common.{◌≡◌, ℕ, ◌+◌, length, true, Some, refl, sym, ap, ◌∙◌, subst, arith}
+use Rattle.std.proofs.Common.{◌≡◌, ℕ, ◌+◌, length, true, Some, sym, ap, ◌∙◌, subst, arith}
 use Rattle.mt_machine.specs.declared.event.Event.TheVariants.{Release}
 use Rattle.mt_machine.specs.System.{Processor}
-use Rattle.mt_machine.specs.Machine.{Steps, common_era, own_step}
+use Rattle.mt_machine.specs.Machine.{Steps, common_era}
 use Rattle.mt_rendezvous.specs.declared.view.View.{View}
 use Rattle.mt_rendezvous.specs.declared.view.Start.{Start}
 use Rattle.mt_rendezvous.specs.Station.{held, start_of}
 use Rattle.mt_rendezvous.specs.declared.view.Held.{Held}
 use Rattle.mt_rendezvous.specs.Plays.{PassSteps, Took, does}
 use Rattle.mt_rendezvous.proofs.Keeps.{took_of}
-use Rattle.mt_rendezvous.proofs.Steps.{releases}
+use Rattle.mt_rendezvous.proofs.Told.{releases_told}
 use Rattle.mt_rendezvous.proofs.Carried.{carried, of_it}
 use Rattle.mt_rendezvous.proofs.station.Pass.wait_second.Goals as goal
 
 pub load-found-requires : goal.load-found-requires
 load-found-requires g c = let r = c.loop.invariant.carries in let w = c.args.station.now.wide in
-    (r.same, omega arith, releases c.args.station.now.table.shared.key _ _ c.loop.self.seat.me (held c.loop.self.number c.loop.cpu true true) r.holds refl refl (ap (λ (p : Processor). p.phase) c.loop.invariant.cpu ∙ c.requires.waits))
+    (r.same, omega arith, releases_told c.args.station.now.table.shared.key _ _ c.loop.self.number c.loop.self.seat.me c.loop.cpu r.holds (ap (λ (p : Processor). p.phase) c.loop.invariant.cpu ∙ c.requires.waits))
 
 pub returns-then-found-station-clause-carries : goal.returns-then-found-station-clause-carries
 returns-then-found-station-clause-carries g c =
     let e = c.load-found.ensures in
-    let tells = e.2 in
+    let tells = e.2.1 in
     let r = c.loop.invariant.carries in
     let long : length c.loop.self.seat.me.0.start.cpus ≡ length c.args.station.now.table.shared.key.cpus.value.items = ap (λ (u : Start). length u.cpus) r.told in
     let counted = c.args.station.now.counted in
@@ -30,7 +30,7 @@ returns-then-found-station-clause-carries g c =
 
 pub returns-then-found-station-clause-took : goal.returns-then-found-station-clause-took
 returns-then-found-station-clause-took g c =
-    let tells = c.load-found.ensures.2 in
+    let tells = c.load-found.ensures.2.1 in
     let r = c.loop.invariant.carries in
     let t : Start = start_of c.args.station.now.table.shared.key in
     let long : length c.loop.self.seat.me.0.start.cpus ≡ length c.args.station.now.table.shared.key.cpus.value.items = ap (λ (u : Start). length u.cpus) r.told in
@@ -43,7 +43,7 @@ returns-then-found-station-clause-took g c =
 
 pub returns-then-found-station-clause-risen : goal.returns-then-found-station-clause-risen
 returns-then-found-station-clause-risen g c =
-    let tells = c.load-found.ensures.2 in
+    let tells = c.load-found.ensures.2.1 in
     let r = c.loop.invariant.carries in
     let t : Start = start_of c.args.station.now.table.shared.key in
     let long : length c.loop.self.seat.me.0.start.cpus ≡ length c.args.station.now.table.shared.key.cpus.value.items = ap (λ (u : Start). length u.cpus) r.told in
@@ -52,14 +52,9 @@ returns-then-found-station-clause-risen g c =
     let era = of_it r (λ u h. h.cpu.era ≡ common_era u.cpus) (tells.2 (omega arith)).2 in
     ap (λ (p : Processor). p.era) (c.shift.ensures t.goal) ∙ ap (λ (n : ℕ). n + 1) era
 
-pub returns-then-found-station-clause-becomes : goal.returns-then-found-station-clause-becomes
-returns-then-found-station-clause-becomes g c =
-    let t : Start = start_of c.args.station.now.table.shared.key in
-    c.shift.ensures t.goal ∙ ap (λ (p : Processor). own_step t.goal Release p) c.loop.invariant.cpu
-
 pub shift-requires-clause-room : goal.shift-requires-clause-room
 shift-requires-clause-room g c release =
-    let tells = c.load-found.ensures.2 in
+    let tells = c.load-found.ensures.2.1 in
     let r = c.loop.invariant.carries in
     let t : Start = start_of c.args.station.now.table.shared.key in
     let long : length c.loop.self.seat.me.0.start.cpus ≡ length c.args.station.now.table.shared.key.cpus.value.items = ap (λ (u : Start). length u.cpus) r.told in

@@ -1,23 +1,23 @@
-use Rattle.std.proofs.Common.{◌≡◌, ℕ, ◌+◌, List, [], length, true, false, sym, ap, ◌∙◌, subst, arith, Some, Option}
+use Rattle.std.proofs.Common.{◌≡◌, ℕ, ◌+◌, List, [], length, true, sym, refl, ap, ◌∙◌, subst, inl, arith, Some, Option}
+use mathlib.Core.Option.{none}
+use Rattle.atomic_table.specs.Table.{step}
 use Rattle.mt_regs.specs.RegisterFile.{RegisterFile}
 use Rattle.mt_machine.specs.declared.go.Go.TheVariants.{Given}
 use Rattle.mt_machine.specs.System.{Processor}
 use Rattle.mt_machine.specs.Memory.{place}
-use Rattle.mt_machine.specs.Machine.{FitsGoal, Order, due, own_step}
+use Rattle.mt_machine.specs.Machine.{FitsGoal, Order, due, is_changing, own_step}
 use Rattle.mt_machine.specs.declared.event.Event.{Event}
 use Rattle.mt_machine.specs.declared.event.Event.TheVariants.{SetNoFill}
 use Rattle.std.specs.Option.{option_map_or}
-use Rattle.mt_cpu.specs.Steps.{HasWritten}
+use Rattle.mt_cpu.specs.Steps.{HasWritten, is_local}
 use Rattle.mt_rendezvous.specs.declared.view.Start.{Start}
-use Rattle.mt_rendezvous.specs.Station.{held, start_of, order_of, code}
-use Rattle.mt_machine.specs.Machine.{Steps}
-use Rattle.mt_rendezvous.specs.declared.view.Held.{Held}
-use Rattle.mt_rendezvous.proofs.Keeps.{took_of}
-use Rattle.mt_rendezvous.specs.Plays.{PassSteps, Took, Stands, work, own_event}
+use Rattle.mt_rendezvous.specs.Station.{start_of, order_of, code}
+use Rattle.mt_rendezvous.specs.Plays.{own_event}
 use Rattle.mt_rendezvous.proofs.Facts.{fits_goal, has_written, low_numbers, back_place}
 use Rattle.mt_laws.proofs.Words.Places.{place_same}
-use Rattle.mt_rendezvous.proofs.Steps.{works, writes_back}
-use Rattle.mt_rendezvous.proofs.Carried.{of_it}
+use Rattle.mt_rendezvous.proofs.Local.{works_in}
+use Rattle.mt_rendezvous.proofs.Told.{unshown, works_told, writes_back_told}
+use Rattle.mt_rendezvous.proofs.Stored.{carries_on, stands_on}
 use Rattle.mt_rendezvous.proofs.station.Pass.work.Goals as goal
 
 injected : (a b : ℕ) → Some a ≡ Some b → a ≡ b
@@ -76,7 +76,7 @@ store-requires c =
     let long : length c.args.self.now.seat.me.0.start.cpus ≡ length t.cpus = ap (λ (u : Start). length u.cpus) r.told in (
       r.same,
       omega arith,
-      writes_back c.args.station.now.table.shared.key _ _ (c.args.station.now.count + 2 + c.in-Some-place.i) there.0 c.in-Some.address c.in-Some.value c.args.self.now.seat.me (held c.args.self.now.number c.args.cpu.now true false) e
+      writes_back_told c.args.station.now.table.shared.key _ _ c.args.self.now.number c.args.self.now.seat.me c.args.cpu.now (c.args.station.now.count + 2 + c.in-Some-place.i) there.0 c.in-Some.address c.in-Some.value e
           (record { is = r.holds; here = c.requires.between; due_is = c.local-e.ensures.event }) word (subst (λ (u : Start). place u.ram c.in-Some.address ≡ Some there.0) (sym r.told) there.1) (omega arith),
     )
 
@@ -91,26 +91,51 @@ store-requires-in-None c =
     let becomes : c.local-e.new.self ≡ own_step c.args.self.now.seat.me.0.start.goal e c.args.cpu.now = c.local-e.ensures.step ∙ ap (λ (g : RegisterFile). own_step g e c.args.cpu.now) (c.requires.goal ∙ sym (ap (λ (u : Start). u.goal) r.told)) in (
       r.same,
       omega arith,
-      works c.args.station.now.table.shared.key _ _ c.code.result c.args.self.now.seat.me (held c.args.self.now.number c.args.cpu.now true false) e
+      works_told c.args.station.now.table.shared.key _ _ c.args.self.now.number c.args.self.now.seat.me c.args.cpu.now c.code.result e
           (record { is = r.holds; here = c.requires.between; due_is = c.local-e.ensures.event }) (sym c.written.ensures ∙ c.in-None.is)
           (c.code.ensures ∙ ap code (c.phase.ensures ∙ ap (λ (p : Processor). p.phase) becomes)),
     )
 
+pub invariant_of-self-clause-told : goal.invariant_of-self-clause-told
+invariant_of-self-clause-told c =
+    let i : ℕ = c.args.station.now.count + 2 + c.in-Some-place.i in
+    let n : ℕ = c.in-Some.value in
+    c.args.self.now.told
+    ∙ sym (unshown (step c.args.station.now.table.shared.table_id.slots i n 0 none) c.args.self.now.seat.me c.store.new.seat.me n i n (inl (λ (e : i ≡ 1). omega arith)) c.store.ensures.2).0
+
+pub invariant_of-self-clause-no_root : goal.invariant_of-self-clause-no_root
+invariant_of-self-clause-no_root c =
+    let i : ℕ = c.args.station.now.count + 2 + c.in-Some-place.i in
+    let n : ℕ = c.in-Some.value in
+    (unshown (step c.args.station.now.table.shared.table_id.slots i n 0 none) c.args.self.now.seat.me c.store.new.seat.me n i n (inl (λ (e : i ≡ 1). omega arith)) c.store.ensures.2).1
+    ∙ c.args.self.now.no_root
+
+pub returns-in-Some-place-clause-carries : goal.returns-in-Some-place-clause-carries
+returns-in-Some-place-clause-carries c =
+    let i : ℕ = c.args.station.now.count + 2 + c.in-Some-place.i in
+    let n : ℕ = c.in-Some.value in
+    let e = c.store.ensures in
+    carries_on c.requires.carries c.store.new.seat.me c.local-e.new.self i n n (step c.args.station.now.table.shared.table_id.slots i n 0 none) (omega arith) e.2
+    (worked (start_of c.args.station.now.table.shared.key) c.args.goal.now c.local-e.result c.args.cpu.now c.local-e.new.self c.requires.goal c.local-e.ensures.event c.local-e.ensures.step) _ e.0
+
 pub returns-in-Some-place-clause-stands : goal.returns-in-Some-place-clause-stands
 returns-in-Some-place-clause-stands c =
-    let t : Start = start_of c.args.station.now.table.shared.key in
-    let r = c.requires.carries in
-    let tells = c.store.ensures.2 in
-    let now = of_it r (λ u h. Stands u Given h.number (work u h).cpu) tells.3 in
-    subst (Stands t Given c.args.self.now.number) (sym (worked t c.args.goal.now c.local-e.result c.args.cpu.now c.local-e.new.self c.requires.goal c.local-e.ensures.event c.local-e.ensures.step)) now
+    let i : ℕ = c.args.station.now.count + 2 + c.in-Some-place.i in
+    let n : ℕ = c.in-Some.value in
+    stands_on c.requires.carries c.store.new.seat.me c.local-e.new.self i n n (step c.args.station.now.table.shared.table_id.slots i n 0 none) (omega arith) c.store.ensures.2
+    (worked (start_of c.args.station.now.table.shared.key) c.args.goal.now c.local-e.result c.args.cpu.now c.local-e.new.self c.requires.goal c.local-e.ensures.event c.local-e.ensures.step)
 
-abbrev Done : Start → Held → ℕ → ℕ → Type 0
-Done u h i n = (was : ℕ) × PassSteps u i was n (Some (Steps h.number (own_event u h.cpu))) h (work u h)
+-- the processor is between the barriers afterwards too
+between : (t : Start) (g : RegisterFile) (e : Event) (p q : Processor) → is_local p.phase ≡ true → ((o : Order) (ps : List Processor) → due o ps p p.phase ≡ Some e) → q ≡ own_step g e p → is_changing q.phase ≡ true
+between t g e p q here is moved = subst (λ (r : Processor). is_changing r.phase ≡ true) (sym moved) (works_in g p e p.phase refl here is (order_of t Given)).0
 
--- the event took place
-done : (t : Start) (i n number : ℕ) (p q : Processor) → Done t (held number p true false) i n → q ≡ own_step t.goal (own_event t p) p → Took t number (own_event t p) p q
-done t i n number p q d is =
-    subst (Took t number (own_event t p) p) (sym is) (took_of t i d.0 n (own_event t p) (held number p true false) (work t (held number p true false)) d.1)
+pub returns-in-Some-place-clause-between : goal.returns-in-Some-place-clause-between
+returns-in-Some-place-clause-between c =
+    between (start_of c.args.station.now.table.shared.key) c.args.goal.now c.local-e.result c.args.cpu.now c.local-e.new.self c.requires.between c.local-e.ensures.event c.local-e.ensures.step
+
+pub returns-in-None-clause-between : goal.returns-in-None-clause-between
+returns-in-None-clause-between c =
+    between (start_of c.args.station.now.table.shared.key) c.args.goal.now c.local-e.result c.args.cpu.now c.local-e.new.self c.requires.between c.local-e.ensures.event c.local-e.ensures.step
 
 pub returns-in-Some-place-clause-becomes : goal.returns-in-Some-place-clause-becomes
 returns-in-Some-place-clause-becomes c = worked (start_of c.args.station.now.table.shared.key) c.args.goal.now c.local-e.result c.args.cpu.now c.local-e.new.self c.requires.goal c.local-e.ensures.event c.local-e.ensures.step
@@ -118,24 +143,17 @@ returns-in-Some-place-clause-becomes c = worked (start_of c.args.station.now.tab
 pub returns-in-None-clause-becomes : goal.returns-in-None-clause-becomes
 returns-in-None-clause-becomes c = worked (start_of c.args.station.now.table.shared.key) c.args.goal.now c.local-e.result c.args.cpu.now c.local-e.new.self c.requires.goal c.local-e.ensures.event c.local-e.ensures.step
 
-pub returns-in-Some-place-clause-event : goal.returns-in-Some-place-clause-event
-returns-in-Some-place-clause-event c =
-    let t : Start = start_of c.args.station.now.table.shared.key in
-    let i : ℕ = c.args.station.now.count + 2 + c.in-Some-place.i in
-    done t i c.in-Some.value c.args.self.now.number c.args.cpu.now c.local-e.new.self (of_it c.requires.carries (λ u h. Done u h i c.in-Some.value) c.store.ensures.2.2)
-    (worked t c.args.goal.now c.local-e.result c.args.cpu.now c.local-e.new.self c.requires.goal c.local-e.ensures.event c.local-e.ensures.step)
-
-pub returns-in-None-clause-event : goal.returns-in-None-clause-event
-returns-in-None-clause-event c =
-    let t : Start = start_of c.args.station.now.table.shared.key in
+pub returns-in-None-clause-carries : goal.returns-in-None-clause-carries
+returns-in-None-clause-carries c =
     let i : ℕ = c.args.self.now.number + 2 in
-    done t i c.code.result c.args.self.now.number c.args.cpu.now c.local-e.new.self (of_it c.requires.carries (λ u h. Done u h i c.code.result) c.store-in-None.ensures.2.2)
-    (worked t c.args.goal.now c.local-e.result c.args.cpu.now c.local-e.new.self c.requires.goal c.local-e.ensures.event c.local-e.ensures.step)
+    let n : ℕ = c.code.result in
+    let e = c.store-in-None.ensures in
+    carries_on c.requires.carries c.store-in-None.new.seat.me c.local-e.new.self i n n (step c.args.station.now.table.shared.table_id.slots i n 0 none) (omega arith) e.2
+    (worked (start_of c.args.station.now.table.shared.key) c.args.goal.now c.local-e.result c.args.cpu.now c.local-e.new.self c.requires.goal c.local-e.ensures.event c.local-e.ensures.step) _ e.0
 
 pub returns-in-None-clause-stands : goal.returns-in-None-clause-stands
 returns-in-None-clause-stands c =
-    let t : Start = start_of c.args.station.now.table.shared.key in
-    let r = c.requires.carries in
-    let tells = c.store-in-None.ensures.2 in
-    let now = of_it r (λ u h. Stands u Given h.number (work u h).cpu) tells.3 in
-    subst (Stands t Given c.args.self.now.number) (sym (worked t c.args.goal.now c.local-e.result c.args.cpu.now c.local-e.new.self c.requires.goal c.local-e.ensures.event c.local-e.ensures.step)) now
+    let i : ℕ = c.args.self.now.number + 2 in
+    let n : ℕ = c.code.result in
+    stands_on c.requires.carries c.store-in-None.new.seat.me c.local-e.new.self i n n (step c.args.station.now.table.shared.table_id.slots i n 0 none) (omega arith) c.store-in-None.ensures.2
+    (worked (start_of c.args.station.now.table.shared.key) c.args.goal.now c.local-e.result c.args.cpu.now c.local-e.new.self c.requires.goal c.local-e.ensures.event c.local-e.ensures.step)

@@ -1,0 +1,34 @@
+// The whole way of an attendee through an update.
+ghost use Rattle.std.specs.Prelude.{◌≡◌, false, length, Some};
+ghost use Rattle.mt_machine.specs.declared.phase.Phase.TheVariants.{Taken};
+ghost use Rattle.mt_rendezvous.specs.InStation.{AttendedIn, CarriesIn, goal_at, start_at, windows_at};
+
+use crate::station::{Attendee, Outcome, Station};
+use mt_ports::Gate;
+use mt_ram::Ram;
+use mt_regs::RegFile;
+use std::sync::Wait;
+
+/// Takes the processor through the update, and tells the gate once that it has arrived. It waits for the others,
+/// and for the root.
+pub fn attend<R: Wait, G: Gate>(
+    rt: &R,
+    station: &Station,
+    ram: &Ram,
+    a: Attendee,
+    goal: &RegFile,
+    gate: &G,
+) -> (Attendee, Outcome)
+    requires carries { CarriesIn station.now a.pass a.cpu false false }
+    requires taken { a.cpu.phase ≡ Taken }
+    requires goal { goal.now ≡ goal_at station.now }
+    requires windows { ram.now.windows ≡ windows_at station.now }
+    ensures attended { AttendedIn result.1 station.now a.pass a.cpu result.0.pass result.0.cpu }
+    ensures number { result.0.pass.number ≡ a.pass.number }
+    ensures unshown { result.1 ≡ Outcome.Cancelled → result.0.pass.shown ≡ a.pass.shown }
+    ensures shown { result.1 ≡ Outcome.Complete → result.0.pass.shown ≡ Some (length (start_at station.now).cpus) }
+{
+    let Attendee { mut cpu, mut pass } = a;
+    let outcome = pass.go_through(rt, station, ram, goal, gate, &mut cpu);
+    (Attendee { cpu, pass }, outcome)
+}
