@@ -1,9 +1,9 @@
 -- A pass after a step: which resident its seat lodges then.
 use Rattle.std.proofs.Common.{◌≡◌, ◌⊎◌, ◌∙◌, ap, sym, refl, subst, arith, ℕ, zero, suc, ◌+◌, ◌-◌, ◌<◌, ◌≤◌, ◌==◌, Bool, true, false, List, [], ◌∷◌, ◌++◌, length, Option, Some, inl, inr, ⊎_elim}
 use Rattle.std.proofs.lemmas.Bool.{eqb-false, eqb-true}
-use mathlib.Core.Option.{none}
+use mathlib.Core.Option.{Option as Spoken, none, some}
 use Rattle.atomic_table.specs.Seated.{TableId}
-use Rattle.atomic_table.specs.Table.{step as table_step}
+use Rattle.atomic_table.specs.Table.{Step, step as table_step}
 use Rattle.mt_machine.specs.declared.event.Event.{Event}
 use Rattle.mt_machine.specs.declared.event.Event.TheVariants.{Take}
 use Rattle.mt_machine.specs.declared.phase.Phase.TheVariants.{Running}
@@ -22,7 +22,7 @@ use Rattle.mt_private.specs.declared.view.Resident.{Resident}
 use Rattle.mt_private.specs.declared.view.YardView.{YardView}
 use Rattle.mt_private.specs.Residents.{Opens, accessed_by, in_system, own_of, stepped_by, with_first, with_stored}
 use Rattle.mt_private.specs.YardRule.{with_one}
-use Rattle.mt_private.specs.YardPlays.{ArrivesAgainYard, ArrivesYard, IsCallable, OfOne, PassesYard, ReleasesYard, TakesYard, TurnsUnshown, YardSat}
+use Rattle.mt_private.specs.YardPlays.{AccessesYard, ArrivesAgainYard, ArrivesYard, IsCallable, OfOne, OfPass, OfSeat, PassesYard, ReleasesYard, TakesYard, Tells, TurnsUnshown, WorksYard, YardSat, has_added}
 use Rattle.mt_private.specs.YardCalls.{Lodges, Visits, done_by, done_in, stored_by, stored_in}
 use Rattle.mt_private.proofs.Alone.{Onward, called_given, change_one, due_take, round_on}
 
@@ -94,41 +94,67 @@ module _ {table : TableId} {t : Start} {its : TableId} {me : YardSat} {number : 
   pub stepped_stored : (u : Start) (e : Event) → (stepped_by u e its_guest).stored ≡ stored_in me
   stepped_stored u e = in_stored its_guest _ _
 
-  -- no step on a count stores
-  pub takes_stored : (found : ℕ) (new : YardSat) → TakesYard (table_step 0 0 0 0 none) me found new → stored_in new ≡ stored_in me
-  takes_stored found new play =
+  -- no step on a count stores, and none makes the seat another's
+  abbrev pub IsKept : YardSat → Type 0
+  IsKept new = (stored_in new ≡ stored_in me) × (new.0.root ≡ me.0.root)
+
+  kept : (new : YardSat) (w : Resident) (shown : Option ℕ) (cancel : Bool) → new.0 ≡ with_one me.0 w shown cancel → w.stored ≡ stored_in me → IsKept new
+  kept new w shown cancel turns same = (has_stored new w shown cancel turns ∙ same, ap (λ (v : YardView). v.root) turns)
+
+  pub takes_kept : (found : ℕ) (new : YardSat) → TakesYard (table_step 0 0 0 0 none) me found new → IsKept new
+  takes_kept found new play =
       ⊎_elim
-      (λ (low : found < 4294967296). has_stored new _ _ _ ((play.1 low).1 its_guest r.holds).0.0 ∙ stepped_stored me.0.start Take)
-      (λ (high : 4294967296 ≤ found). has_stored new _ _ _ (play.2 high its_guest r.holds).0)
+      (λ (low : found < 4294967296). kept new _ _ _ ((play.1 low).1 its_guest r.holds).0.0 (stepped_stored me.0.start Take))
+      (λ (high : 4294967296 ≤ found). kept new _ _ _ (play.2 high its_guest r.holds).0 refl)
       (below found 4294967296)
 
-  pub arrives_stored : (found : ℕ) (new : YardSat) → ArrivesYard (table_step 0 0 1 0 none) me found new → stored_in new ≡ stored_in me
-  arrives_stored found new play =
+  pub arrives_kept : (found : ℕ) (new : YardSat) → ArrivesYard (table_step 0 0 1 0 none) me found new → IsKept new
+  arrives_kept found new play =
       ⊎_elim
-      (λ (low : found < 4294967296). has_stored new _ _ _ (play.1 low its_guest r.holds).0)
-      (λ (high : 4294967296 ≤ found). has_stored new _ _ _ (play.2 high its_guest r.holds).0)
+      (λ (low : found < 4294967296). kept new _ _ _ (play.1 low its_guest r.holds).0 refl)
+      (λ (high : 4294967296 ≤ found). kept new _ _ _ (play.2 high its_guest r.holds).0 refl)
       (below found 4294967296)
 
-  pub passes_stored : (found : ℕ) (new : YardSat) → PassesYard (table_step 0 0 0 0 none) me found new → stored_in new ≡ stored_in me
-  passes_stored found new play =
+  pub passes_kept : (found : ℕ) (new : YardSat) → PassesYard (table_step 0 0 0 0 none) me found new → IsKept new
+  passes_kept found new play =
       ⊎_elim
       (λ (low : found < 4294967296). one low (found == length me.0.start.cpus + 1) refl)
-      (λ (high : 4294967296 ≤ found). has_stored new _ _ _ (play.2 high its_guest r.holds).0)
+      (λ (high : 4294967296 ≤ found). kept new _ _ _ (play.2 high its_guest r.holds).0 refl)
       (below found 4294967296)
     where
-      one : found < 4294967296 → (b : Bool) → (found == length me.0.start.cpus + 1) ≡ b → stored_in new ≡ stored_in me
-      one low true e = has_stored new _ _ _ (play.1 (eqb-true found (length me.0.start.cpus + 1) e) its_guest r.holds).0.0
-      one low false e = has_stored new _ _ _ (play.3 low (eqb-false found (length me.0.start.cpus + 1) e) its_guest r.holds).0
+      one : found < 4294967296 → (b : Bool) → (found == length me.0.start.cpus + 1) ≡ b → IsKept new
+      one low true e = kept new _ _ _ (play.1 (eqb-true found (length me.0.start.cpus + 1) e) its_guest r.holds).0.0 refl
+      one low false e = kept new _ _ _ (play.3 low (eqb-false found (length me.0.start.cpus + 1) e) its_guest r.holds).0 refl
 
-  pub arrives_again_stored : (new : YardSat) → ArrivesAgainYard (table_step 0 1 1 0 none) me 0 new → stored_in new ≡ stored_in me
-  arrives_again_stored new play = has_stored new _ _ _ (play.1 its_guest r.holds).0
+  pub arrives_again_kept : (found : ℕ) (new : YardSat) → ArrivesAgainYard (table_step 0 1 1 0 none) me found new → IsKept new
+  arrives_again_kept found new play = kept new _ _ _ (play.1 its_guest r.holds).0 refl
 
-  pub releases_stored : (found : ℕ) (new : YardSat) → ReleasesYard (table_step 0 1 0 0 none) me found new → stored_in new ≡ stored_in me
-  releases_stored found new play = one (found == length me.0.start.cpus) refl
+  pub releases_kept : (found : ℕ) (new : YardSat) → ReleasesYard (table_step 0 1 0 0 none) me found new → IsKept new
+  releases_kept found new play = one (found == length me.0.start.cpus) refl
     where
-      one : (b : Bool) → (found == length me.0.start.cpus) ≡ b → stored_in new ≡ stored_in me
-      one true e = has_stored new _ _ _ (play.1 (eqb-true found (length me.0.start.cpus) e) its_guest r.holds).0
-      one false e = has_stored new _ _ _ (play.2 (eqb-false found (length me.0.start.cpus) e) its_guest r.holds).0
+      one : (b : Bool) → (found == length me.0.start.cpus) ≡ b → IsKept new
+      one true e = kept new _ _ _ (play.1 (eqb-true found (length me.0.start.cpus) e) its_guest r.holds).0 refl
+      one false e = kept new _ _ _ (play.2 (eqb-false found (length me.0.start.cpus) e) its_guest r.holds).0 refl
+
+  -- what a step told, by the seat of a pass
+  pub told_pass : me.0.root ≡ false → (i n : ℕ) (said : Spoken Op) (st : Step Op) (found : ℕ) (new : YardSat) → OfSeat me.0.root i n said (has_added me.0.held) st me found new → OfPass i n said added st me found new
+  told_pass pass i n said st found new tells = subst (λ (x : Bool × Bool). OfSeat x.0 i n said x.1 st me found new) (λ j. (pass j, has_added (r.holds j))) tells
+
+  pub works_of : me.0.root ≡ false → (slots i a : ℕ) → i ≡ number + 2 → (new : YardSat) → Tells (table_step slots i a 0 none) me a new → WorksYard (table_step slots i a 0 none) me a new
+  works_of pass slots i a own new tells =
+      let at : i ≡ suc (suc number) = omega arith in
+      subst (λ (w : ℕ). OfPass w a none added (table_step slots i a 0 none) me a new) at (told_pass pass i a none (table_step slots i a 0 none) a new tells)
+
+  pub accesses_of : me.0.root ≡ false → (slots i a b : ℕ) (op : Op) → i ≡ number + 2 → (found : ℕ) (new : YardSat) → Tells (table_step slots i a b (some op)) me found new → AccessesYard (table_step slots i a b (some op)) me found new
+  accesses_of pass slots i a b op own found new tells =
+      let at : i ≡ suc (suc number) = omega arith in
+      subst (λ (w : ℕ). OfPass w a (some op) added (table_step slots i a b (some op)) me found new) at (told_pass pass i a (some op) (table_step slots i a b (some op)) found new tells)
+
+  pub arrives_again_of : me.0.root ≡ false → (slots found : ℕ) (new : YardSat) → Tells (table_step slots 1 1 0 none) me found new → ArrivesAgainYard (table_step slots 1 1 0 none) me found new
+  arrives_again_of pass slots found new tells = told_pass pass 1 1 none (table_step slots 1 1 0 none) found new tells
+
+  pub releases_of : me.0.root ≡ false → (slots found : ℕ) (new : YardSat) → Tells (table_step slots 1 0 0 none) me found new → ReleasesYard (table_step slots 1 0 0 none) me found new
+  releases_of pass slots found new tells = told_pass pass 1 0 none (table_step slots 1 0 0 none) found new tells
 
   -- a step of the update on its own system
   pub stepped_is : (e : Event) (q : Processor) → (step t.goal e 0 own).processors ≡ q ∷ [] → stepped_by t e its_guest ≡ guest number q added again (step t.goal e 0 own).memory (done_in me) (stored_in me)
@@ -179,6 +205,19 @@ module _ {table : TableId} {t : Start} {its : TableId} {me : YardSat} {number : 
             subst (λ (m : Machine). Rounds m n) (sym (called_given t own r.cpu r.alone era))
             (round_on t own r.cpu o.q.cpu Take n r.alone (due_take t Given r.cpu runs era refl) o.q.alone o.era (subst (λ (m : Machine). Rounds (under_way (order_of t Given) m.system) n) o.is later));
       }
+
+-- what a step on the first count told, by what the pass has added
+pub takes_of : {table : TableId} {t : Start} {its : TableId} {me : YardSat} {number : ℕ} {own : System} {again : Bool} (r : Lodges table t its me number own false again) → me.0.root ≡ false → (slots found : ℕ) (new : YardSat)
+    → Tells (table_step slots 0 0 0 none) me found new → TakesYard (table_step slots 0 0 0 none) me found new
+takes_of r pass slots found new tells = told_pass r pass 0 0 none (table_step slots 0 0 0 none) found new tells
+
+pub arrives_of : {table : TableId} {t : Start} {its : TableId} {me : YardSat} {number : ℕ} {own : System} {again : Bool} (r : Lodges table t its me number own false again) → me.0.root ≡ false → (slots found : ℕ) (new : YardSat)
+    → Tells (table_step slots 0 1 0 none) me found new → ArrivesYard (table_step slots 0 1 0 none) me found new
+arrives_of r pass slots found new tells = told_pass r pass 0 1 none (table_step slots 0 1 0 none) found new tells
+
+pub passes_of : {table : TableId} {t : Start} {its : TableId} {me : YardSat} {number : ℕ} {own : System} {again : Bool} (r : Lodges table t its me number own true again) → me.0.root ≡ false → (slots found : ℕ) (new : YardSat)
+    → Tells (table_step slots 0 0 0 none) me found new → PassesYard (table_step slots 0 0 0 none) me found new
+passes_of r pass slots found new tells = told_pass r pass 0 0 none (table_step slots 0 0 0 none) found new tells
 
 -- ---- a pass on its way
 

@@ -1,8 +1,8 @@
 -- What each step of a yard makes of the machine that its residents and counts stand for.
 use Rattle.std.specs.Prelude.{◌≡◌, ◌⊎◌, ℕ, ◌+◌, ◌<◌, ◌≤◌, Bool, true, false, List, [], ◌∷◌, ◌++◌, length, Option, Some, None, slice_index, slice_set}
-use mathlib.Core.Option.{some}
+use mathlib.Core.Option.{none, some}
 use lib.ListN.{get_elem?}
-use Rattle.atomic_table.specs.Table.{State, opening}
+use Rattle.atomic_table.specs.Table.{State, Step, opening}
 use Rattle.mt_machine.specs.declared.phase.Phase.TheVariants.{Running, Taken, Arrived, Restored, Arrived2}
 use Rattle.mt_machine.specs.declared.event.Event.{Event}
 use Rattle.mt_machine.specs.declared.event.Event.TheVariants.{Take, Arrive, Leave, Pass, ArriveAgain, Release}
@@ -23,6 +23,7 @@ use Rattle.mt_private.specs.declared.view.Resident.{Resident}
 use Rattle.mt_private.specs.declared.view.YardView.{YardView}
 use Rattle.mt_private.specs.OneByOne.{at_rest}
 use Rattle.mt_private.specs.Residents.{Decides, Follows, Opens, Yard, accessed_by, own_of, stepped_by, system_of, with_held, with_stored}
+use Rattle.mt_private.specs.YardPlays.{Tells, YardSat, word_after}
 use Rattle.mt_private.specs.YardRule.{MeetsYard, first_yard_view, its_machine, with_one, with_said, yard_both, yard_left, yard_right, yard_spent}
 
 -- a yard, and its resident k, whose pass has added so
@@ -159,6 +160,71 @@ SayingIsOneEvent =
     (key : Key) (s : YardState) (m : MeetsYard key s) (id n : ℕ) (v : YardView) (go : Go) (e : MachineEvent) → get_elem? s.views id ≡ some v → v.root ≡ true
     → 0 < length s.words → slice_index (slice_set s.words 0 n) 1 ≡ slice_index s.words 1 → m.go ≡ Pending → Decides (start_of key) m.all go n (slice_index s.words 1) m.system e
     → IsOneEvent key s (record { words = slice_set s.words 0 n; homes = s.homes; views = slice_set s.views id (with_said v go) }) m (Some e)
+
+-- ---- every step at once
+
+-- the state after a step of the seat id, which is left as `new` says
+abbrev pub after_step : YardState → ℕ → Step Op → YardSat → YardState
+after_step s id st new = record { words = slice_set s.words st.word (word_after st.word st.said st (slice_index s.words st.word)); homes = s.homes; views = slice_set s.views id new.0 }
+
+-- a load of this count
+abbrev pub IsLoad : Step Op → ℕ → Type 0
+IsLoad st i = (st.word ≡ i) × (st.first ≡ 0)
+
+-- an addition of this to it
+abbrev pub IsAddition : Step Op → ℕ → ℕ → Type 0
+IsAddition st i n = (st.word ≡ i) × (st.first ≡ n)
+
+-- The steps that an event comes of: a barrier is reached by an addition, and passed or left by a load of the same count. What lies between them is stored in an event word
+abbrev pub OfStep : Step Op → Event → Type 0
+OfStep st Take = IsLoad st 0
+OfStep st Arrive = IsAddition st 0 1
+OfStep st Pass = IsLoad st 0
+OfStep st Leave = IsLoad st 0
+OfStep st ArriveAgain = IsAddition st 1 1
+OfStep st Release = IsLoad st 1
+OfStep st other = (2 ≤ st.word) × (st.said ≡ none)
+
+-- and an access is exchanged there
+abbrev pub ComesOf : Step Op → Option MachineEvent → Type 0
+ComesOf st None = Unit {0}
+ComesOf st (Some Goes) = IsAddition st 0 1
+ComesOf st (Some Cancels) = IsAddition st 0 4294967296
+ComesOf st (Some (Steps k e)) = OfStep st e
+ComesOf st (Some (Accesses k op)) = (2 ≤ st.word) × (st.said ≡ some op)
+ComesOf st (Some other) = ⊥
+
+-- such a step keeps the rule, and is one event of the yard's machine that comes of it, or none
+pub record IsOneStep (key : Key) (s : YardState) (m : MeetsYard key s) (id : ℕ) (st : Step Op) (new : YardSat) : Type 0 where
+  pub event : Option MachineEvent
+  pub follows : IsOneEvent key s (after_step s id st new) m event
+  pub comes : ComesOf st event
+
+-- so it is with each step that the play lets a seat make in a yard that meets the rule, whatever the word, the operands and the seat
+abbrev pub EachStepFollows : Type 0
+EachStepFollows =
+    (key : Key) (s : YardState) (m : MeetsYard key s) (id : ℕ) (st : Step Op) (me new : YardSat) → get_elem? s.views id ≡ some me.0 → Tells st me (slice_index s.words st.word) new
+    → IsOneStep key s m id st new
+
+-- a load of the second count by a pass shows its seat what it found, and no other step shows it anything
+abbrev pub ShownIsFound : Type 0
+ShownIsFound = (st : Step Op) (me new : YardSat) (found : ℕ) → Tells st me found new → (IsLoad st 1 × (new.0.shown ≡ Some found)) ⊎ ((IsLoad st 1 → ⊥) × (new.0.shown ≡ me.0.shown))
+
+-- ---- what a seat tells of its yard
+
+-- its resident left: this yard's update is cancelled, and the first count shows it
+abbrev pub LeftWhereCancelled : Type 0
+LeftWhereCancelled =
+    (key : Key) (s : YardState) (m : MeetsYard key s) (j : ℕ) (v : YardView) (y : Resident) → get_elem? s.views j ≡ some v → v.held ≡ y ∷ [] → y.held.added ≡ true → y.held.again ≡ false
+    → y.held.cpu.phase ≡ Running → (m.go ≡ Cancelled) × (4294967296 ≤ slice_index s.words 0)
+
+-- its resident was released: this yard's go is given, and the second count shows all
+abbrev pub ReleasedWhereFull : Type 0
+ReleasedWhereFull =
+    (key : Key) (s : YardState) (m : MeetsYard key s) (j : ℕ) (v : YardView) (y : Resident) → get_elem? s.views j ≡ some v → v.held ≡ y ∷ [] → y.held.again ≡ true
+    → y.held.cpu.phase ≡ Running → (m.go ≡ Given) × (slice_index s.words 1 ≡ length key.cpus.value.items)
+
+-- ---- no step
 
 -- the root's first resident is given away, and a pass is taken back: no event
 abbrev pub SplitIsNone : Type 0

@@ -7,7 +7,7 @@ ghost use Rattle.mt_private.specs.YardPlays.{Said};
 ghost use Rattle.mt_private.specs.YardRule.{yard_both};
 
 use crate::gather::Room;
-use crate::view::{CancelsYard, GivesYard, Lodges as HandsOver, Lodging, YardView};
+use crate::view::{Lodges as HandsOver, Lodging, YardTurn, YardView};
 use crate::visiting::{Guest, YardPass};
 use atomic_table::{Seat, Table};
 use mt_bus::System;
@@ -54,7 +54,7 @@ impl Host {
     {
         yard.table
             .shared
-            .fetch_add::<GivesYard>(&mut self.seat, 0, 1);
+            .fetch_add::<YardTurn>(&mut self.seat, 0, 1);
     }
 
     /// Cancels, once, in place of the go. Its addition to the first count is the event Cancel.
@@ -68,7 +68,7 @@ impl Host {
     {
         yard.table
             .shared
-            .fetch_add::<CancelsYard>(&mut self.seat, 0, CANCEL);
+            .fetch_add::<YardTurn>(&mut self.seat, 0, CANCEL);
     }
 
     /// Takes a guest back: joins its pass, and keeps its processor and the words of its pages.

@@ -10,10 +10,12 @@ mod leaving;
 mod pages;
 mod runs;
 mod threads;
+mod tokens;
 mod view;
 mod visiting;
 mod visitor;
 mod visits;
+mod waits;
 
 pub use fault::PrivateFault;
 pub use host::{Host, Yard};

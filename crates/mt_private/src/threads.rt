@@ -10,9 +10,11 @@ ghost use Rattle.mt_private.specs.Visitors.{IsFresh};
 
 use crate::host::{Host, Yard};
 use crate::job::{Job, Told};
+use crate::tokens::Permit;
 use crate::visiting::{Guest, Visited};
 use crate::visitor::Visitor;
 use crate::visits::{core_of, visit_with};
+use crate::waits::Waiter;
 use mt_ports::Gate;
 use mt_regs::RegFile;
 use std::alloc::Global;
@@ -26,13 +28,13 @@ use std::thread::{Promise, PromisedHandle, Scope, Threads};
 struct Visits {
     yard: Snapshot<Yard>,
     job: Snapshot<Job>,
-    number: u64,
+    permit: Permit,
 }
 
 impl Promise<Box<Visitor>> for Visits {
     ghost use Rattle.mt_private.specs.InYard.{HasComeIn};
 
-    ghost kept_by = { λ p v. HasComeIn p.yard.value p.job.value p.number v.value };
+    ghost kept_by = { λ p v. HasComeIn p.yard.value p.job.value p.permit.number v.value };
 }
 
 // The whole visit, on the thread that calls it.
@@ -49,7 +51,7 @@ fn come<R: Wait, G: Gate>(
     ensures { HasComeIn yard.now job.now visitor.old.pass.number visitor.new }
 {
     visitor.visited = visit_with(
-        rt,
+        &Waiter::of(rt),
         yard,
         &mut visitor.pass,
         &mut visitor.core,
@@ -100,14 +102,13 @@ fn start<'s, E, R: Threads + Wait + Sync, G: Gate>(
     requires goal { goal.now ≡ goal_at yard.now }
     ensures same { (host.new.seat.me.0.held ≡ host.old.seat.me.0.held) × (host.new.owns ≡ host.old.owns) × (host.new.rest ≡ host.old.rest) }
     ensures pending { IfOk result (λ h. LeadsIn yard.now host.new.seat Pending) }
-    ensures child { IfOk result (λ h. (h.promise.yard.value ≡ yard.now) × (h.promise.job.value ≡ job.now) × (h.promise.number ≡ visitor.pass.number)) }
+    ensures child { IfOk result (λ h. (h.promise.yard.value ≡ yard.now) × (h.promise.job.value ≡ job.now) × (h.promise.permit.number ≡ visitor.pass.number)) }
     ensures cancelled { IfErr result (λ v. LeadsIn yard.now host.new.seat Cancelled) }
     ensures come { IfErr result (λ v. HasComeIn yard.now job.now visitor.pass.number v) }
 {
-    let number = visitor.pass.number;
-    if !gate.may_start(number as u32) {
+    let Some(permit) = Permit::ask(gate, &visitor.pass) else {
         return Err(give_up(rt, yard, host, visitor, goal, job, gate));
-    }
+    };
     let boxed = match Box::new(alloc, visitor) {
         Ok(boxed) => boxed,
         Err(refused) => {
@@ -117,7 +118,7 @@ fn start<'s, E, R: Threads + Wait + Sync, G: Gate>(
     let promise = Visits {
         yard: Snapshot::of(yard),
         job: Snapshot::of(job),
-        number,
+        permit,
     };
     match scope.spawn_with(
         promise,

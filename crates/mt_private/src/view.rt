@@ -1,4 +1,4 @@
-// What the seats of a yard know.
+// What the seats of a yard know, and the one play of their steps.
 use atomic_table::{Join, Play, Split, TableRule};
 use mt_machine::{Go, Op};
 use mt_ram::Ram;
@@ -35,83 +35,16 @@ impl TableRule<Op, YardView, Key> for Lodging {
     ghost first = { first_yard_view };
 }
 
-/// The root adds 1 to the first count. It is Go.
-pub struct GivesYard;
+/// A step of a seat: it is one event, or none. No other play stands beside it, so the steps of a yard are those that
+/// `Tells` has.
+///
+/// The root adds 1 to the first count, which is Go, or 2^32, which is Cancel. A pass loads that count to take, adds 1 to
+/// arrive, and loads it to pass or leave. It stores its event word for each event that is due between the barriers, and
+/// exchanges it for each access. It adds 1 to the second count to arrive again, and loads it to be released.
+pub struct YardTurn;
 
-impl Play<Op, YardView> for GivesYard {
-    ghost use Rattle.mt_private.specs.YardPlays.{GivesYard as Tells};
-
-    ghost then = { Tells };
-}
-
-/// The root adds 2^32 to the first count. It is Cancel.
-pub struct CancelsYard;
-
-impl Play<Op, YardView> for CancelsYard {
-    ghost use Rattle.mt_private.specs.YardPlays.{CancelsYard as Tells};
-
-    ghost then = { Tells };
-}
-
-/// A pass whose processor runs loads the first count. It is Take, or no event where the cancel stands there.
-pub struct TakesYard;
-
-impl Play<Op, YardView> for TakesYard {
-    ghost use Rattle.mt_private.specs.YardPlays.{TakesYard as Tells};
-
-    ghost then = { Tells };
-}
-
-/// A pass adds to the first count. It is Arrive, or no event where the cancel stood there before.
-pub struct ArrivesYard;
-
-impl Play<Op, YardView> for ArrivesYard {
-    ghost use Rattle.mt_private.specs.YardPlays.{ArrivesYard as Tells};
-
-    ghost then = { Tells };
-}
-
-/// A pass that waits loads the first count. It is Pass, Leave or no event.
-pub struct PassesYard;
-
-impl Play<Op, YardView> for PassesYard {
-    ghost use Rattle.mt_private.specs.YardPlays.{PassesYard as Tells};
-
-    ghost then = { Tells };
-}
-
-/// A pass stores its event word. It is the event that is due for its processor.
-pub struct WorksYard;
-
-impl Play<Op, YardView> for WorksYard {
-    ghost use Rattle.mt_private.specs.YardPlays.{WorksYard as Tells};
-
-    ghost then = { Tells };
-}
-
-/// A pass exchanges its event word where it finds what it stored last, and announces an access, which is that event.
-pub struct AccessesYard;
-
-impl Play<Op, YardView> for AccessesYard {
-    ghost use Rattle.mt_private.specs.YardPlays.{AccessesYard as Tells};
-
-    ghost then = { Tells };
-}
-
-/// A pass adds to the second count. It is ArriveAgain.
-pub struct ArrivesAgainYard;
-
-impl Play<Op, YardView> for ArrivesAgainYard {
-    ghost use Rattle.mt_private.specs.YardPlays.{ArrivesAgainYard as Tells};
-
-    ghost then = { Tells };
-}
-
-/// A pass loads the second count. It is Release where the count is full, else no event. The view keeps the count.
-pub struct ReleasesYard;
-
-impl Play<Op, YardView> for ReleasesYard {
-    ghost use Rattle.mt_private.specs.YardPlays.{ReleasesYard as Tells};
+impl Play<Op, YardView> for YardTurn {
+    ghost use Rattle.mt_private.specs.YardPlays.{Tells};
 
     ghost then = { Tells };
 }

@@ -5,7 +5,6 @@ ghost use Rattle.mt_machine.specs.declared.phase.Phase.{Phase as MachinePhase};
 ghost use Rattle.mt_machine.specs.declared.phase.Phase.TheVariants.{Arrived, Arrived2, Passed, Restored, Running, Taken};
 ghost use Rattle.mt_machine.specs.declared.go.Go.TheVariants.{Given, Pending};
 ghost use Rattle.mt_machine.specs.Access.{access};
-ghost use Rattle.mt_machine.specs.Bus.{drain};
 ghost use Rattle.mt_machine.specs.System.{System as MachineSystem};
 ghost use Rattle.mt_machine.specs.Machine.{Calls, FitsOp, IsEnabled, is_changing};
 ghost use Rattle.mt_machine.specs.Start.{IsQuiet};
@@ -13,13 +12,12 @@ ghost use Rattle.mt_machine.specs.Update.{updated};
 ghost use Rattle.mt_cpu.specs.Steps.{is_local};
 ghost use Rattle.mt_core.specs.Steps.{step_after};
 ghost use Rattle.mt_private.specs.OneByOne.{at_rest, ran};
-ghost use Rattle.mt_private.specs.YardCalls.{AreIn, HasTaken, IsLeft, done_in, in_phase, stored_in};
+ghost use Rattle.mt_private.specs.YardCalls.{AreIn, HasTaken, IsLeft, done_in, stored_in};
 
 use crate::host::Yard;
-use crate::view::{
-    AccessesYard, ArrivesAgainYard, ArrivesYard, PassesYard, ReleasesYard, TakesYard, WorksYard,
-    YardView,
-};
+use crate::tokens::Arrival;
+use crate::view::{YardTurn, YardView};
+use crate::waits::Waiter;
 use atomic_table::Seat;
 use mt_bus::System;
 use mt_core::{Core, a_core_arises};
@@ -28,7 +26,6 @@ use mt_machine::{Done, Op, Phase};
 use mt_ports::Gate;
 use mt_regs::RegFile;
 use std::sync::Wait;
-use std::thread;
 
 /// What a thread carries its processor in.
 #[derive(Drop)]
@@ -39,6 +36,7 @@ pub struct YardPass {
     pub stored: u64,
     pub ghost few: { number < 65536 },
     pub ghost known: { stored ≡ stored_in seat.me },
+    pub ghost no_root: { seat.me.0.root ≡ false },
 }
 
 /// A processor alone, with the words of its own pages, and its pass.
@@ -73,23 +71,10 @@ fn phase_of(core: &Core) -> Phase
 }
 
 // What the coordinator adds to the first count to cancel.
-const CANCEL: u64 = 0x1_0000_0000;
-
-// That the gate is to be told of an arrival. It can't be let go, so a body that forgets to tell is refused.
-struct Arrival {
-    number: u32,
-}
-
-impl Arrival {
-    // Tells the gate.
-    fn tell<G: Gate>(self, gate: &G) {
-        let Arrival { number } = self;
-        gate.arrived(number);
-    }
-}
+pub(crate) const CANCEL: u64 = 0x1_0000_0000;
 
 impl YardPass {
-    ghost use Rattle.mt_private.specs.InYard.{IsWholeUpdate, KeepsLodging, KeepsVisit, LodgesIn, VisitsIn, goal_at};
+    ghost use Rattle.mt_private.specs.InYard.{KeepsLodging, KeepsVisit, LodgesIn, VisitsIn, goal_at};
 
     // Exchanges the own event word, which holds what was stored last. That announces the access and is that event. Does
     // the access.
@@ -109,7 +94,7 @@ impl YardPass {
         let next = self.stored.wrapping_add(1);
         yard.table
             .shared
-            .compare_exchange_with::<AccessesYard>(&mut self.seat, word, self.stored, next, &op);
+            .compare_exchange_with::<YardTurn>(&mut self.seat, word, self.stored, next, &op);
         self.stored = next;
         core.access(0, op)
     }
@@ -154,7 +139,7 @@ impl YardPass {
         ensures stays { result ≡ false → LodgesIn yard.now self.new core.new.system false false × (self.new.seat.me.0.cancel ≡ true) × (core.new ≡ core.old) }
     {
         a_core_arises(core); // a fact for the proof
-        let found = yard.table.shared.load::<TakesYard>(&mut self.seat, 0);
+        let found = yard.table.shared.load::<YardTurn>(&mut self.seat, 0);
         if found >= CANCEL {
             return false;
         }
@@ -174,47 +159,38 @@ impl YardPass {
         ensures visits { KeepsVisit (VisitsIn yard.now self.old core.old false false Pending) (VisitsIn yard.now self.new core.new true false Pending) }
         ensures waits { AreIn Taken core.new.system ⊎ AreIn Arrived core.new.system }
         ensures taken { (first : MachineSystem) → HasTaken first core.old.system → HasTaken first core.new.system }
+        ensures token { result.number ≡ self.old.number }
     {
         let found = yard
             .table
             .shared
-            .fetch_add::<ArrivesYard>(&mut self.seat, 0, 1);
-        let number = self.number as u32;
+            .fetch_add::<YardTurn>(&mut self.seat, 0, 1);
         if found < CANCEL {
             core.step(0);
-            return Arrival { number };
+            return Arrival::of(self);
         }
-        Arrival { number }
+        Arrival::of(self)
     }
 
-    // Waits for the others. The load of the first count that ends it is the event Pass, and the answer is true, or
-    // Leave. Each load before it is none.
-    fn wait_first<R: Wait>(&mut self, rt: &R, yard: &Yard, core: &mut Core) -> bool
-        requires visits { (first : MachineSystem) × VisitsIn yard.now self.old core.old true false Pending first }
-        requires waits { AreIn Taken core.old.system ⊎ AreIn Arrived core.old.system }
+    // Takes and arrives, and tells the gate. False where the load showed the cancel: then it has done neither.
+    fn enter<G: Gate>(&mut self, yard: &Yard, core: &mut Core, goal: &RegFile, gate: &G) -> bool
+        requires lodges { LodgesIn yard.now self.old core.old.system false false }
+        requires runs { AreIn Running core.old.system }
+        requires idle { core.old.order ≡ None }
+        requires goal { goal.now ≡ goal_at yard.now }
         ensures number { self.new.number ≡ self.old.number }
         ensures done { done_in self.new.seat.me ≡ done_in self.old.seat.me }
-        ensures visits { IsTrue result → KeepsVisit (VisitsIn yard.now self.old core.old true false Pending) (VisitsIn yard.now self.new core.new true false Given) }
-        ensures passed { IsTrue result → AreIn Passed core.new.system }
-        ensures lodges { result ≡ false → LodgesIn yard.now self.new core.new.system true false }
-        ensures cancel { result ≡ false → self.new.seat.me.0.cancel ≡ true }
-        ensures left { result ≡ false → (first : MachineSystem) → HasTaken first core.old.system → core.new.system ≡ in_phase Running (drain 0 first) }
+        ensures visits { IsTrue result → VisitsIn yard.now self.new core.new true false Pending core.old.system }
+        ensures waits { IsTrue result → AreIn Taken core.new.system ⊎ AreIn Arrived core.new.system }
+        ensures taken { IsTrue result → HasTaken core.old.system core.new.system }
+        ensures callable { IsTrue result → IsQuiet (at_rest core.old.system) × IsEnabled (at_rest core.old.system) (Calls goal.now) }
+        ensures stays { result ≡ false → LodgesIn yard.now self.new core.new.system false false × (self.new.seat.me.0.cancel ≡ true) × (core.new ≡ core.old) }
     {
-        for _ in rt.forever() {
-            let found = yard.table.shared.load::<PassesYard>(&mut self.seat, 0);
-            if found >= CANCEL {
-                core.cancel();
-                core.step(0);
-                return false;
-            }
-            if found == yard.count + 1 {
-                core.go();
-                core.step(0);
-                return true;
-            }
-            thread::yield_now();
+        if !self.take(yard, core, goal) {
+            return false;
         }
-        unreachable!()
+        self.arrive(yard, core).tell(gate);
+        true
     }
 
     // Does the processor's next event between the barriers. Its store of the own event word is that event.
@@ -231,7 +207,7 @@ impl YardPass {
         let next = self.stored.wrapping_add(1);
         yard.table
             .shared
-            .store::<WorksYard>(&mut self.seat, word, next);
+            .store::<YardTurn>(&mut self.seat, word, next);
         self.stored = next;
         core.step(0);
     }
@@ -262,37 +238,27 @@ impl YardPass {
     {
         yard.table
             .shared
-            .fetch_add::<ArrivesAgainYard>(&mut self.seat, 1, 1);
+            .fetch_add::<YardTurn>(&mut self.seat, 1, 1);
         core.step(0);
     }
 
-    // Waits for the others again. The load of the second count that ends it is the event Release. Each load before it
-    // is none.
-    fn wait_second<R: Wait>(&mut self, rt: &R, yard: &Yard, core: &mut Core)
-        requires visits { (first : MachineSystem) × VisitsIn yard.now self.old core.old true true Given first }
-        requires waits { AreIn Arrived2 core.old.system }
+    // Does all that lies between the two waits: the events between the barriers, and then ArriveAgain.
+    fn change(&mut self, yard: &Yard, core: &mut Core)
+        requires visits { (first : MachineSystem) × VisitsIn yard.now self.old core.old true false Given first }
+        requires passed { AreIn Passed core.old.system }
         ensures number { self.new.number ≡ self.old.number }
         ensures done { done_in self.new.seat.me ≡ done_in self.old.seat.me }
-        ensures lodges { LodgesIn yard.now self.new core.new.system true true }
-        ensures shown { self.new.seat.me.0.shown ≡ Some yard.now.count }
-        ensures runs { AreIn Running core.new.system }
-        ensures whole { IsWholeUpdate yard.now self.old core.old core.new }
+        ensures visits { KeepsVisit (VisitsIn yard.now self.old core.old true false Given) (VisitsIn yard.now self.new core.new true true Given) }
+        ensures waits { AreIn Arrived2 core.new.system }
     {
-        for _ in rt.forever() {
-            let found = yard.table.shared.load::<ReleasesYard>(&mut self.seat, 1);
-            if found == yard.count {
-                core.step(0);
-                return;
-            }
-            thread::yield_now();
-        }
-        unreachable!()
+        self.work_all(yard, core);
+        self.arrive_again(yard, core);
     }
 
     // Takes the processor through the update, once its accesses before it are done.
     pub(crate) fn go_through<R: Wait, G: Gate>(
         &mut self,
-        rt: &R,
+        waiter: &Waiter<R>,
         yard: &Yard,
         core: &mut Core,
         goal: &RegFile,
@@ -309,16 +275,14 @@ impl YardPass {
         ensures cancelled { result ≡ Visited.Cancelled → ((added : Bool) × LodgesIn yard.now self.new core.new.system added false)
             × (self.new.seat.me.0.cancel ≡ true) × IsLeft core.old.system core.new.system }
     {
-        if !self.take(yard, core, goal) {
+        if !self.enter(yard, core, goal, gate) {
             return Visited::Cancelled;
         }
-        self.arrive(yard, core).tell(gate);
-        if !self.wait_first(rt, yard, core) {
+        if !self.wait_first(waiter, yard, core) {
             return Visited::Cancelled;
         }
-        self.work_all(yard, core);
-        self.arrive_again(yard, core);
-        self.wait_second(rt, yard, core);
+        self.change(yard, core);
+        self.wait_second(waiter, yard, core);
         Visited::Complete
     }
 }

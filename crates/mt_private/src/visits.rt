@@ -11,6 +11,7 @@ ghost use Rattle.mt_private.specs.YardCalls.{AreIn, done_in};
 use crate::host::Yard;
 use crate::job::{Job, Told};
 use crate::visiting::{Guest, Visited, YardPass};
+use crate::waits::Waiter;
 use mt_bus::System;
 use mt_core::Core;
 use mt_ports::Gate;
@@ -27,7 +28,7 @@ pub(crate) fn core_of(own: System) -> Core
 
 // The accesses, the update, and where it is done the accesses after it.
 pub(crate) fn visit_with<R: Wait, G: Gate>(
-    rt: &R,
+    waiter: &Waiter<R>,
     yard: &Yard,
     pass: &mut YardPass,
     core: &mut Core,
@@ -49,7 +50,7 @@ pub(crate) fn visit_with<R: Wait, G: Gate>(
     ensures number { pass.new.number ≡ pass.old.number }
 {
     pass.access_all(yard, core, job.before.as_slice(), &mut told.before);
-    match pass.go_through(rt, yard, core, goal, gate) {
+    match pass.go_through(waiter, yard, core, goal, gate) {
         Visited::Complete => {
             pass.access_all(yard, core, job.after.as_slice(), &mut told.after);
             Visited::Complete
@@ -84,7 +85,16 @@ pub fn visit<R: Wait, G: Gate>(
 {
     let Guest { own, mut pass } = guest;
     let mut core = core_of(own);
-    let visited = visit_with(rt, yard, &mut pass, &mut core, goal, job, told, gate);
+    let visited = visit_with(
+        &Waiter::of(rt),
+        yard,
+        &mut pass,
+        &mut core,
+        goal,
+        job,
+        told,
+        gate,
+    );
     let own = core.into_system();
     (Guest { own, pass }, visited)
 }

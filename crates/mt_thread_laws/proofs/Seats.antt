@@ -26,7 +26,7 @@ not_less : (a b : ℕ) → a ≡ b → nat_lt a b ≡ true → ⊥
 not_less a b e less = let l = ltb-true a b less in omega arith
 
 -- one that has released has added to word 1
-again_released : (n e : ℕ) (again : Bool) (p : Phase) → e ≡ n + rise again p → nat_lt n e ≡ true → again ≡ true
+pub again_released : (n e : ℕ) (again : Bool) (p : Phase) → e ≡ n + rise again p → nat_lt n e ≡ true → again ≡ true
 again_released n e true p is less = refl
 again_released n e false Running is less = absurd (not_less n e (omega arith) less)
 again_released n e false other is less = absurd (not_less n e (omega arith) less)
@@ -36,7 +36,7 @@ again_arrived : (go : Go) (added again released : Bool) (p : Phase) → Fits go 
 again_arrived go added again released Arrived2 f by is = f.0
 again_arrived go added again released other f by is = by is
 
-all_count : (l : List Held) → ((k : ℕ) (h : Held) → get_elem? l k ≡ some h → h.again ≡ true) → total again_of l ≡ length l
+pub all_count : (l : List Held) → ((k : ℕ) (h : Held) → get_elem? l k ≡ some h → h.again ≡ true) → total again_of l ≡ length l
 all_count [] each = refl
 all_count (x ∷ xs) each =
     let r = all_count xs (λ k h at. each (suc k) h at) in

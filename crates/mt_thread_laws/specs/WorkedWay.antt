@@ -1,5 +1,7 @@
 -- The way of a worked resident, which is alone in its yard, through an update; and a worked yard of two whose first resident was given away.
 use Rattle.std.specs.Prelude.{◌≡◌, ℕ, Bool, true, false, List, [], ◌∷◌, None, Option, Some}
+use mathlib.Core.Option.{none}
+use Rattle.atomic_table.specs.Table.{step}
 use Rattle.mt_machine.specs.declared.phase.Phase.{Phase}
 use Rattle.mt_machine.specs.declared.phase.Phase.TheVariants.{NoFill}
 use Rattle.mt_machine.specs.declared.go.Go.{Go}
@@ -19,7 +21,7 @@ use Rattle.mt_private.specs.declared.view.YardView.{YardView}
 use Rattle.mt_private.specs.Own.{own_memory}
 use Rattle.mt_private.specs.Residents.{Follows, Yard, pages_at}
 use Rattle.mt_thread_laws.specs.WorkedYard.{alone, first_taken, lodger, lodging, no_counts}
-use Rattle.mt_private.specs.YardLaws.{IsOneEvent, YardState}
+use Rattle.mt_private.specs.YardLaws.{IsOneEvent, IsOneStep, YardState}
 use Rattle.mt_private.specs.YardPlays.{YardSat}
 use Rattle.mt_private.specs.YardRule.{MeetsYard, first_yard_view, with_one, with_said, yard_both, yard_left, yard_right, yard_spent}
 
@@ -76,6 +78,10 @@ settled key = record { words = 2 ∷ 1 ∷ 0 ∷ []; homes = []; views = last_ro
 -- one state meets the rule, and the next follows on it by this event
 abbrev pub Becomes : Key → YardState → YardState → Option MachineEvent → Type 0
 Becomes key s later e = (m : MeetsYard key s) × IsOneEvent key s later m e
+
+-- one state meets the rule, and a load of the first count is a step of seat 1 there
+abbrev pub LoadsFirst : Key → YardState → Type 0
+LoadsFirst key s = (m : MeetsYard key s) × (new : YardSat) × IsOneStep key s m 1 (step 0 0 0 0 none) new
 
 -- ---- the end of a yard
 

@@ -1,6 +1,6 @@
 // Laws on yards: what each step of a seat makes of the machine that words and views stand for.
 ghost use Rattle.mt_private.specs.Visitors.{EndsOneByOne};
-ghost use Rattle.mt_private.specs.YardLaws.{AdditionArrives, AdditionArrivesAgain, AdditionDecides, IsOneMachine, IsReached, JoinIsNone, LoadLeaves, LoadPasses, LoadReleases, LoadStays, LoadTakes, MoveIsOneEvent, SayingIsOneEvent, SplitIsNone, StartMeetsRule, StoreAccesses, StoreWorks, YardsSettle};
+ghost use Rattle.mt_private.specs.YardLaws.{AdditionArrives, AdditionArrivesAgain, AdditionDecides, EachStepFollows, IsOneMachine, IsReached, JoinIsNone, LeftWhereCancelled, LoadLeaves, LoadPasses, LoadReleases, LoadStays, LoadTakes, MoveIsOneEvent, ReleasedWhereFull, SayingIsOneEvent, ShownIsFound, SplitIsNone, StartMeetsRule, StoreAccesses, StoreWorks, YardsSettle};
 
 /// An addition to one of the two counts, and a load of one, is the event that the count tells of, or none: a processor
 /// takes, arrives, passes, leaves, arrives again and is released by what it finds there alone.
@@ -34,12 +34,23 @@ pub fn yard_is_reached()
     ensures start { StartMeetsRule }
 {}
 
-/// Each step of a seat keeps the rule of the table, and is one event of its machine, which was enabled, or none.
+/// Each step that the one play lets a seat make, whatever its word and operands, keeps the rule of the table, and is one
+/// event of its machine, which was enabled, or none. A processor takes, passes and leaves by a load of the first count
+/// alone, and is released by a load of the second alone, which the seat then shows. So does each move by which residents
+/// and counts follow; and a seat that is given away or taken back is none.
 pub fn each_yard_step_is_one_event()
+    ensures steps { EachStepFollows }
+    ensures shown { ShownIsFound }
     ensures moves { MoveIsOneEvent }
     ensures says { SayingIsOneEvent }
     ensures split { SplitIsNone }
     ensures join { JoinIsNone }
+{}
+
+/// A seat whose resident runs again, after one addition or both, tells which go its yard has, and what the count shows.
+pub fn runners_tell_of_the_yard()
+    ensures left { LeftWhereCancelled }
+    ensures released { ReleasedWhereFull }
 {}
 
 /// From the first release on, the machine that words and views stand for is settled: each processor has the goal's

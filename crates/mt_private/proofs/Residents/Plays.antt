@@ -1,5 +1,5 @@
 -- What the steps of a pass ask.
-use Rattle.std.proofs.Common.{◌≡◌, ◌≢◌, ◌⊎◌, ◌∙◌, ap, sym, refl, subst, arith, ℕ, ◌+◌, ◌%◌, ◌^◌, ◌<◌, ◌≤◌, ◌==◌, Bool, true, false, List, [], ◌∷◌, length, map, set, get_or, Option, None, Some, inl, inr, ⊎_elim, get_or-set_same, get_or-set_other}
+use Rattle.std.proofs.Common.{◌≡◌, ◌≢◌, ◌⊎◌, ◌∙◌, ap, sym, refl, subst, arith, ℕ, suc, ◌+◌, ◌%◌, ◌^◌, ◌<◌, ◌≤◌, ◌==◌, Bool, true, false, List, [], ◌∷◌, length, map, set, get_or, Option, None, Some, inl, inr, ⊎_elim, get_or-set_same, get_or-set_other}
 use Rattle.std.specs.Prelude.{slice_index}
 use Rattle.std.proofs.lemmas.Bool.{eqb-false, eqb-true}
 use Rattle.std.proofs.lemmas.List.{length-map}
@@ -32,9 +32,9 @@ use Rattle.mt_private.specs.declared.view.Resident.{Resident}
 use Rattle.mt_private.specs.declared.view.YardView.{YardView}
 use Rattle.mt_private.specs.OneByOne.{at_rest}
 use Rattle.mt_private.specs.Residents.{FitsYard, Follows, Opens, accessed_by, held_of, stepped_by, system_of, with_first, with_held, with_stored, yard_machine}
-use Rattle.mt_private.specs.YardLaws.{Stores}
+use Rattle.mt_private.specs.YardLaws.{IsOneEvent, Stores}
 use Rattle.mt_private.specs.YardRule.{MeetsYard, as_view, with_one}
-use Rattle.mt_private.specs.YardPlays.{AccessesYard, ArrivesAgainYard, ArrivesYard, IsCallable, IsOwnWord, OfOne, PassMoves, PassesYard, ReleasesYard, TakesYard, Turns, WorksYard}
+use Rattle.mt_private.specs.YardPlays.{AccessesYard, ArrivesAgainYard, ArrivesYard, IsCallable, IsOwnWord, OfOne, OfSeat, PassMoves, PassesYard, ReleasesYard, TakesYard, Tells, Turns, WorksYard, has_added}
 use Rattle.mt_private.proofs.Residents.Barriers.{arrives, arrives_again, leaves, not_taken, own_fits, passes, releases, unmoved}
 use Rattle.mt_private.proofs.Residents.Moves.{processor_at}
 use Rattle.mt_private.proofs.Residents.Paths.{uncalled_reached}
@@ -92,10 +92,10 @@ module _ (key : Key) where
         let e = m.yard.resides.opens.few in
         omega arith
 
-    first_low : get_or s.words 0 0 + 1 < 18446744073709551616
+    pub first_low : get_or s.words 0 0 + 1 < 18446744073709551616
     first_low = let a = m.yard.first_count in let b = go_small m.go in let c = few in omega arith
 
-    second_low : get_or s.words 1 0 + 1 < 18446744073709551616
+    pub second_low : get_or s.words 1 0 + 1 < 18446744073709551616
     second_low =
         let a = m.yard.second_count in
         let b = total_small again_of (λ g. weight_small g.again) (map held_of m.all) in
@@ -124,9 +124,9 @@ module _ (key : Key) where
     -- the resident moves, and what that tells
     turn : (i n : ℕ) (w : Resident) (shown : Option ℕ) (cancel : Bool) (e : Option MachineEvent) (x z : ℕ) → w.held.number ≡ y.held.number → Stores y i n w → (cancel ≡ true → m.go ≡ Cancelled)
         → (slice_index (set s.words i n) 0 ≡ x) × (slice_index (set s.words i n) 1 ≡ z) → Follows t m.all m.go m.system y.held.number w e x z
-        → MeetsYard key (record { words = set s.words i n; homes = s.homes; views = set s.views id (with_one v w shown cancel) }) × Turns v (with_one v w shown cancel) y w shown cancel e
+        → IsOneEvent key s (record { words = set s.words i n; homes = s.homes; views = set s.views id (with_one v w shown cancel) }) m e × Turns v (with_one v w shown cancel) y w shown cancel e
     turn i n w shown cancel e x z number stores told counts f = (
-      (placed key s m id v y at is i n w shown cancel e number stores told (subst (λ (c : ℕ × ℕ). Follows t m.all m.go m.system y.held.number w e c.0 c.1) (λ j. (sym counts.0 j, sym counts.1 j)) f)).kept,
+      placed key s m id v y at is i n w shown cancel e number stores told (subst (λ (c : ℕ × ℕ). Follows t m.all m.go m.system y.held.number w e c.0 c.1) (λ j. (sym counts.0 j, sym counts.1 j)) f),
       (
         refl,
         subst (λ (u : Start). PassMoves u y w e) (sym started)
@@ -166,8 +166,9 @@ module _ (key : Key) where
     abbrev Goes : Resident → Option MachineEvent → ℕ → ℕ → Type 0
     Goes w e a b = Follows t m.all m.go m.system k w e a b
 
-    abbrev Kept : ℕ → ℕ → YardView → Type 0
-    Kept i a new = MeetsYard key (record { words = set s.words i a; homes = s.homes; views = set s.views id new })
+    -- word i becomes a, and the view this, which is that event
+    abbrev Made : ℕ → ℕ → YardView → Option MachineEvent → Type 0
+    Made i a new e = IsOneEvent key s (record { words = set s.words i a; homes = s.homes; views = set s.views id new }) m e
 
     its : get_elem? m.all k ≡ some y
     its = here s m id me.0 at y is
@@ -187,12 +188,12 @@ module _ (key : Key) where
 
     -- it moves, by a step that leaves the counts
     by_load : (w : Resident) (cancel : Bool) (e : Option MachineEvent) → w.held.number ≡ k → w.stored ≡ y.stored → (cancel ≡ true → m.go ≡ Cancelled) → Goes w e n z
-        → Kept 0 n (with_one me.0 w me.0.shown cancel) × Turns me.0 (with_one me.0 w me.0.shown cancel) y w me.0.shown cancel e
+        → Made 0 n (with_one me.0 w me.0.shown cancel) e × Turns me.0 (with_one me.0 w me.0.shown cancel) y w me.0.shown cancel e
     by_load w cancel e number stored told f = turn s m id me.0 at y is 0 n w me.0.shown cancel e n z number (inl (omega arith, stored)) told (at_first s m id me.0 at y is n) f
 
     -- a load of the first count by one that hasn't taken
     module _ (out : y.held.added ≡ false) (out_again : y.held.again ≡ false) (runs : y.held.cpu.phase ≡ Running) where
-      pub no_take : m.go ≡ Cancelled → Kept 0 n (with_one me.0 y me.0.shown true) × OfOne me.0 (λ x. Turns me.0 (with_one me.0 y me.0.shown true) x x me.0.shown true None)
+      pub no_take : m.go ≡ Cancelled → Made 0 n (with_one me.0 y me.0.shown true) None × OfOne me.0 (λ x. Turns me.0 (with_one me.0 y me.0.shown true) x x me.0.shown true None)
       no_take c = let p = by_load y true None refl refl (λ _. c) idle in (p.0, one_of (λ x. Turns me.0 (with_one me.0 y me.0.shown true) x x me.0.shown true None) p.1)
 
       abbrev taken : YardView
@@ -201,7 +202,7 @@ module _ (key : Key) where
       abbrev HasTaken : Resident → Type 0
       HasTaken x = Turns me.0 taken x (stepped_by me.0.start Take x) me.0.shown me.0.cancel (Some (Steps x.held.number Take)) × IsCallable me.0.start x
 
-      pub take : m.go ≢ Cancelled → n < 4294967296 → Kept 0 n taken × Opens me.0.start × OfOne me.0 HasTaken
+      pub take : m.go ≢ Cancelled → n < 4294967296 → Made 0 n taken (Some (Steps k Take)) × Opens me.0.start × OfOne me.0 HasTaken
       take apart low =
           let w : Resident = stepped_by me.0.start Take y in
           let f = takes t m.all m.go n z m.system m.yard k y its out out_again runs low in
@@ -218,7 +219,7 @@ module _ (key : Key) where
       abbrev HasCome : Resident → Type 0
       HasCome x = Turns me.0 come x (with_held x (arrive me.0.start x.held)) me.0.shown me.0.cancel (Some (Steps x.held.number Arrive))
 
-      pub add : n < 4294967296 → Kept 0 (n + 1) come × OfOne me.0 HasCome
+      pub add : n < 4294967296 → Made 0 (n + 1) come (Some (Steps k Arrive)) × OfOne me.0 HasCome
       add low =
           let f = (arrives t m.all m.go n z m.system m.yard k y its out out_again taken).0 low in
           let g : Goes (with_held y (arrive me.0.start y.held)) (Some (Steps k Arrive)) (n + 1) z = of_start (λ (u : Start). Goes (with_held y (arrive u y.held)) (Some (Steps k Arrive)) (n + 1) z) f in
@@ -231,7 +232,7 @@ module _ (key : Key) where
       abbrev IsLate : Resident → Type 0
       IsLate x = Turns me.0 late_view x (with_held x (late x.held)) me.0.shown me.0.cancel None
 
-      pub add_late : 4294967296 ≤ n → Kept 0 (n + 1) late_view × OfOne me.0 IsLate
+      pub add_late : 4294967296 ≤ n → Made 0 (n + 1) late_view None × OfOne me.0 IsLate
       add_late high =
           let f = (arrives t m.all m.go n z m.system m.yard k y its out out_again taken).1 high in
           let p = turn s m id me.0 at y is 0 (n + 1) (with_held y (late y.held)) me.0.shown me.0.cancel None (n + 1) z refl (inl (omega arith, refl)) (shown_before s m id me.0 at y is) (at_first s m id me.0 at y is (n + 1)) f in
@@ -245,7 +246,7 @@ module _ (key : Key) where
       abbrev HasGone : Resident → Type 0
       HasGone x = Turns me.0 gone x (with_held x (does me.0.start Leave x.held)) me.0.shown true (Some (Steps x.held.number Leave))
 
-      pub go_out : m.go ≡ Cancelled → 4294967296 ≤ n → Kept 0 n gone × OfOne me.0 HasGone
+      pub go_out : m.go ≡ Cancelled → 4294967296 ≤ n → Made 0 n gone (Some (Steps k Leave)) × OfOne me.0 HasGone
       go_out c high =
           let f = leaves t m.all m.go n z m.system m.yard k y its on out_again waits high in
           let g : Goes (with_held y (does me.0.start Leave y.held)) (Some (Steps k Leave)) n z = of_start (λ (u : Start). Goes (with_held y (does u Leave y.held)) (Some (Steps k Leave)) n z) f in
@@ -258,7 +259,7 @@ module _ (key : Key) where
       abbrev IsThrough : Resident → Type 0
       IsThrough x = Turns me.0 through x (with_held x (does me.0.start Pass x.held)) me.0.shown me.0.cancel (Some (Steps x.held.number Pass)) × (x.held.cpu.phase ≡ Arrived)
 
-      pub pass : m.go ≢ Cancelled → n ≡ length me.0.start.cpus + 1 → Kept 0 n through × OfOne me.0 IsThrough
+      pub pass : m.go ≢ Cancelled → n ≡ length me.0.start.cpus + 1 → Made 0 n through (Some (Steps k Pass)) × OfOne me.0 IsThrough
       pass apart full =
           let same = count s m id me.0 at y is in
           let own = own_fits t m.all m.go n z m.system m.yard k y its in
@@ -274,7 +275,7 @@ module _ (key : Key) where
     abbrev IsIdle : Resident → Type 0
     IsIdle x = Turns me.0 same_view x x me.0.shown me.0.cancel None
 
-    pub wait : Kept 0 n same_view × OfOne me.0 IsIdle
+    pub wait : Made 0 n same_view None × OfOne me.0 IsIdle
     wait = let p = by_load y me.0.cancel None refl refl (shown_before s m id me.0 at y is) idle in (p.0, one_of IsIdle p.1)
 
     -- stores of the own event word
@@ -284,7 +285,7 @@ module _ (key : Key) where
     abbrev HasWorked : ℕ → Resident → Type 0
     HasWorked a x = Turns me.0 (worked a) x (with_stored (stepped_by me.0.start (own_event me.0.start x.held.cpu) x) a) me.0.shown me.0.cancel (Some (Steps x.held.number (own_event me.0.start x.held.cpu)))
 
-    pub work : (i a : ℕ) → i ≡ y.held.number + 2 → y.held.added ≡ true → y.held.again ≡ false → is_local y.held.cpu.phase ≡ true → Kept i a (worked a) × OfOne me.0 (HasWorked a)
+    pub work : (i a : ℕ) → i ≡ y.held.number + 2 → y.held.added ≡ true → y.held.again ≡ false → is_local y.held.cpu.phase ≡ true → Made i a (worked a) (Some (Steps k (own_event me.0.start y.held.cpu))) × OfOne me.0 (HasWorked a)
     work i a own on out_again local =
         let p : Processor = y.held.cpu in
         let f = works t m.all m.go n z m.system m.yard k y its on out_again local (own_event t p) (λ o ps. due_alone o (order_of t Given) ps [] p SetNoFill p.phase local) a in
@@ -299,7 +300,7 @@ module _ (key : Key) where
       abbrev HasUsed : ℕ → Resident → Type 0
       HasUsed a x = Turns me.0 (used a) x (with_stored (accessed_by op x) a) me.0.shown me.0.cancel (Some (Accesses x.held.number op))
 
-      pub use_memory : (i a : ℕ) → i ≡ y.held.number + 2 → y.held.cpu.phase ≡ Running → FitsOp op → Kept i a (used a) × OfOne me.0 (HasUsed a)
+      pub use_memory : (i a : ℕ) → i ≡ y.held.number + 2 → y.held.cpu.phase ≡ Running → FitsOp op → Made i a (used a) (Some (Accesses k op)) × OfOne me.0 (HasUsed a)
       use_memory i a own runs fits =
           let f = accessed t m.all m.go n z m.system m.yard k y its op runs fits a in
           let r = turn s m id me.0 at y is i a (with_stored (accessed_by op y) a) me.0.shown me.0.cancel (Some (Accesses k op)) n z (in_number y _ _) (inr (own, refl)) (shown_before s m id me.0 at y is) (at_own s m id me.0 at y is i a (omega arith)) f.0 in
@@ -310,7 +311,7 @@ module _ (key : Key) where
     holds_stored i own = ap (λ (j : ℕ). get_or s.words j 0) own ∙ m.stored k y its
 
     -- an exchange that finds something else
-    pub miss : (i a : ℕ) → i ≡ y.held.number + 2 → a ≡ y.stored → Kept i a same_view × OfOne me.0 IsIdle
+    pub miss : (i a : ℕ) → i ≡ y.held.number + 2 → a ≡ y.stored → Made i a same_view None × OfOne me.0 IsIdle
     miss i a own same =
         let r = turn s m id me.0 at y is i a y me.0.shown me.0.cancel None n z refl (inr (own, same)) (shown_before s m id me.0 at y is) (at_own s m id me.0 at y is i a (omega arith)) idle in
         (r.0, one_of IsIdle r.1)
@@ -322,7 +323,7 @@ module _ (key : Key) where
     abbrev HasComeAgain : Resident → Type 0
     HasComeAgain x = Turns me.0 come_again x (with_held x (arrive_again me.0.start x.held)) me.0.shown me.0.cancel (Some (Steps x.held.number ArriveAgain))
 
-    pub add_again : y.held.added ≡ true → y.held.again ≡ false → y.held.cpu.phase ≡ Restored → Kept 1 (z + 1) come_again × OfOne me.0 HasComeAgain
+    pub add_again : y.held.added ≡ true → y.held.again ≡ false → y.held.cpu.phase ≡ Restored → Made 1 (z + 1) come_again (Some (Steps k ArriveAgain)) × OfOne me.0 HasComeAgain
     add_again on out_again restored =
         let f = arrives_again t m.all m.go n z m.system m.yard k y its on out_again restored in
         let g : Goes (with_held y (arrive_again me.0.start y.held)) (Some (Steps k ArriveAgain)) n (z + 1) = of_start (λ (u : Start). Goes (with_held y (arrive_again u y.held)) (Some (Steps k ArriveAgain)) n (z + 1)) f in
@@ -335,7 +336,7 @@ module _ (key : Key) where
     abbrev IsReleased : Resident → Type 0
     IsReleased x = Turns me.0 released x (with_held x (does me.0.start Release x.held)) (Some z) me.0.cancel (Some (Steps x.held.number Release))
 
-    pub release : y.held.added ≡ true → y.held.again ≡ true → y.held.cpu.phase ≡ Arrived2 → z ≡ length me.0.start.cpus → Kept 1 z released × OfOne me.0 IsReleased
+    pub release : y.held.added ≡ true → y.held.again ≡ true → y.held.cpu.phase ≡ Arrived2 → z ≡ length me.0.start.cpus → Made 1 z released (Some (Steps k Release)) × OfOne me.0 IsReleased
     release on on_again waits full =
         let same = count s m id me.0 at y is in
         let f = releases t m.all m.go n z m.system m.yard k y its on on_again waits (omega arith) in
@@ -349,46 +350,46 @@ module _ (key : Key) where
     abbrev IsShown : Resident → Type 0
     IsShown x = Turns me.0 shown_view x x (Some z) me.0.cancel None
 
-    pub wait_again : Kept 1 z shown_view × OfOne me.0 IsShown
+    pub wait_again : Made 1 z shown_view None × OfOne me.0 IsShown
     wait_again = let r = turn s m id me.0 at y is 1 z y (Some z) me.0.cancel None n z refl (inl (omega arith, refl)) (shown_before s m id me.0 at y is) (at_second s m id me.0 at y is z) idle in (r.0, one_of IsShown r.1)
 
-  -- ---- what the table asks of each
+  -- ---- that each may be done
 
-  pub takes_yard : (slots id : ℕ) (me : Me Op YardView) (y : Resident) → me.0.held ≡ y ∷ [] → y.held.added ≡ false → y.held.again ≡ false → y.held.cpu.phase ≡ Running
+  takes_allowed : (slots id : ℕ) (me : Me Op YardView) (y : Resident) → me.0.held ≡ y ∷ [] → y.held.added ≡ false → y.held.again ≡ false → y.held.cpu.phase ≡ Running
       → Allows (MeetsYard key) slots id me 0 (λ n. n) (TakesYard (step slots 0 0 0 none) me)
-  takes_yard slots id me y is out out_again runs s m _ at small =
+  takes_allowed slots id me y is out out_again runs s m _ at small =
       ⊎_elim
       (λ (c : (m.go ≡ Cancelled) × (4294967296 ≤ get_or s.words 0 0)).
       let p = no_take id me y is s m at out out_again runs c.0 in
-      (with_one me.0 y me.0.shown true, keeps, tt, p.0, (refl, (λ low. absurd (let high = c.1 in omega arith)), (λ _. p.1))))
+      (with_one me.0 y me.0.shown true, keeps, tt, p.0.kept, (refl, (λ low. absurd (let high = c.1 in omega arith)), (λ _. p.1), (y, is, runs))))
       (λ (c : (m.go ≢ Cancelled) × (get_or s.words 0 0 < 4294967296)).
       let p = take id me y is s m at out out_again runs c.0 c.1 in
-      (with_one me.0 (stepped_by me.0.start Take y) me.0.shown me.0.cancel, keeps, tt, p.0, (refl, (λ _. (p.1, p.2)), (λ high. absurd (let low = c.1 in omega arith)))))
+      (with_one me.0 (stepped_by me.0.start Take y) me.0.shown me.0.cancel, keeps, tt, p.0.kept, (refl, (λ _. (p.1, p.2)), (λ high. absurd (let low = c.1 in omega arith)), (y, is, runs))))
       (sees s m id me.0 at y is)
 
-  pub arrives_yard : (slots id : ℕ) (me : Me Op YardView) (y : Resident) → me.0.held ≡ y ∷ [] → y.held.added ≡ false → y.held.again ≡ false → y.held.cpu.phase ≡ Taken
+  arrives_allowed : (slots id : ℕ) (me : Me Op YardView) (y : Resident) → me.0.held ≡ y ∷ [] → y.held.added ≡ false → y.held.again ≡ false → y.held.cpu.phase ≡ Taken
       → Allows (MeetsYard key) slots id me 0 (λ n. (n + 1) % 2 ^ 64) (ArrivesYard (step slots 0 1 0 none) me)
-  arrives_yard slots id me y is out out_again taken s m _ at small =
+  arrives_allowed slots id me y is out out_again taken s m _ at small =
       let low = first_low s m id me.0 at y is in
       let same : get_or s.words 0 0 + 1 ≡ (get_or s.words 0 0 + 1) % 18446744073709551616 = omega arith in
       ⊎_elim
       (λ (c : (m.go ≡ Cancelled) × (4294967296 ≤ get_or s.words 0 0)).
       let p = add_late id me y is s m at out out_again taken c.1 in
-      (late_view id me y is s m at out out_again taken, keeps, tt, subst (λ (a : ℕ). Kept id me y is s m at 0 a (late_view id me y is s m at out out_again taken)) same p.0, (refl, (λ low. absurd (let high = c.1 in omega arith)), (λ _. p.1))))
+      (late_view id me y is s m at out out_again taken, keeps, tt, (subst (λ (a : ℕ). Made id me y is s m at 0 a (late_view id me y is s m at out out_again taken) None) same p.0).kept, (refl, (λ low. absurd (let high = c.1 in omega arith)), (λ _. p.1), (y, is, taken))))
       (λ (c : (m.go ≢ Cancelled) × (get_or s.words 0 0 < 4294967296)).
       let p = add id me y is s m at out out_again taken c.1 in
-      (come id me y is s m at out out_again taken, keeps, tt, subst (λ (a : ℕ). Kept id me y is s m at 0 a (come id me y is s m at out out_again taken)) same p.0, (refl, (λ _. p.1), (λ high. absurd (let low = c.1 in omega arith)))))
+      (come id me y is s m at out out_again taken, keeps, tt, (subst (λ (a : ℕ). Made id me y is s m at 0 a (come id me y is s m at out out_again taken) (Some (Steps y.held.number Arrive))) same p.0).kept, (refl, (λ _. p.1), (λ high. absurd (let low = c.1 in omega arith)), (y, is, taken))))
       (sees s m id me.0 at y is)
 
-  pub passes_yard : (slots id : ℕ) (me : Me Op YardView) (y : Resident) → me.0.held ≡ y ∷ [] → y.held.added ≡ true → y.held.again ≡ false → (y.held.cpu.phase ≡ Taken) ⊎ (y.held.cpu.phase ≡ Arrived)
+  passes_allowed : (slots id : ℕ) (me : Me Op YardView) (y : Resident) → me.0.held ≡ y ∷ [] → y.held.added ≡ true → y.held.again ≡ false → (y.held.cpu.phase ≡ Taken) ⊎ (y.held.cpu.phase ≡ Arrived)
       → Allows (MeetsYard key) slots id me 0 (λ n. n) (PassesYard (step slots 0 0 0 none) me)
-  passes_yard slots id me y is on out_again waits s m _ at small =
+  passes_allowed slots id me y is on out_again waits s m _ at small =
       let most = m.yard.resides.opens.few in
       let size = count s m id me.0 at y is in
       ⊎_elim
       (λ (c : (m.go ≡ Cancelled) × (4294967296 ≤ get_or s.words 0 0)).
       let p = go_out id me y is s m at on out_again waits c.0 c.1 in
-      (gone id me y is s m at on out_again waits, keeps, tt, p.0, (refl, (λ full. absurd (let high = c.1 in omega arith)), (λ _. p.1), (λ low _. absurd (let high = c.1 in omega arith)))))
+      (gone id me y is s m at on out_again waits, keeps, tt, p.0.kept, (refl, (λ full. absurd (let high = c.1 in omega arith)), (λ _. p.1), (λ low _. absurd (let high = c.1 in omega arith)), (y, is, waits))))
       (λ (c : (m.go ≢ Cancelled) × (get_or s.words 0 0 < 4294967296)). one (get_or s.words 0 0 == length me.0.start.cpus + 1) refl c.0 c.1)
       (sees s m id me.0 at y is)
     where
@@ -397,27 +398,30 @@ module _ (key : Key) where
       one true e apart low =
           let full = eqb-true (get_or s.words 0 0) (length me.0.start.cpus + 1) e in
           let p = pass id me y is s m at on out_again waits apart full in
-          (through id me y is s m at on out_again waits, keeps, tt, p.0, (refl, (λ _. p.1), (λ high. absurd (omega arith)), (λ _ other. absurd (other full))))
+          (through id me y is s m at on out_again waits, keeps, tt, p.0.kept, (refl, (λ _. p.1), (λ high. absurd (omega arith)), (λ _ other. absurd (other full)), (y, is, waits)))
       one false e apart low =
           let other = eqb-false (get_or s.words 0 0) (length me.0.start.cpus + 1) e in
           let p = wait id me y is s m at in
-          (same_view id me y is s m at, keeps, tt, p.0, (refl, (λ full. absurd (other full)), (λ high. absurd (omega arith)), (λ _ _. p.1)))
+          (same_view id me y is s m at, keeps, tt, p.0.kept, (refl, (λ full. absurd (other full)), (λ high. absurd (omega arith)), (λ _ _. p.1), (y, is, waits)))
 
-  pub works_yard : (slots id i a : ℕ) (me : Me Op YardView) (y : Resident) → me.0.held ≡ y ∷ [] → i ≡ y.held.number + 2 → y.held.added ≡ true → y.held.again ≡ false → is_local y.held.cpu.phase ≡ true
+  works_allowed : (slots id i a : ℕ) (me : Me Op YardView) (y : Resident) → me.0.held ≡ y ∷ [] → i ≡ y.held.number + 2 → y.held.added ≡ true → y.held.again ≡ false → is_local y.held.cpu.phase ≡ true
       → Allows (MeetsYard key) slots id me i (λ _. a) (λ _. WorksYard (step slots i a 0 none) me a)
-  works_yard slots id i a me y is own on out_again local s m _ at small =
+  works_allowed slots id i a me y is own on out_again local s m _ at small =
       let p = work id me y is s m at i a own on out_again local in
-      (worked id me y is s m at a, keeps, tt, p.0, (refl, p.1, one_of id me y is s m at (λ x. i ≡ x.held.number + 2) own))
+      (worked id me y is s m at a, keeps, tt, p.0.kept, (refl, p.1, one_of id me y is s m at (λ x. i ≡ x.held.number + 2) own, (y, is, local)))
 
-  pub accesses_yard : (slots id i a b : ℕ) (op : Op) (me : Me Op YardView) (y : Resident) → me.0.held ≡ y ∷ [] → i ≡ y.held.number + 2 → y.held.cpu.phase ≡ Running → FitsOp op
+  accesses_allowed : (slots id i a b : ℕ) (op : Op) (me : Me Op YardView) (y : Resident) → me.0.held ≡ y ∷ [] → i ≡ y.held.number + 2 → y.held.cpu.phase ≡ Running → FitsOp op
       → Allows (MeetsYard key) slots id me i (λ n. either (n == a) b n) (AccessesYard (step slots i a b (some op)) me)
-  accesses_yard slots id i a b op me y is own runs fits s m _ at small = one (get_or s.words i 0 == a) refl
+  accesses_allowed slots id i a b op me y is own runs fits s m _ at small = one (get_or s.words i 0 == a) refl
     where
       finds : OfOne me.0 (λ x. get_or s.words i 0 ≡ x.stored)
       finds = one_of id me y is s m at (λ x. get_or s.words i 0 ≡ x.stored) (holds_stored id me y is s m at i own)
 
       is_own : IsOwnWord i me
       is_own = one_of id me y is s m at (λ x. i ≡ x.held.number + 2) own
+
+      fits_said : (other : Op) → some op ≡ some other → FitsOp other
+      fits_said other said = subst FitsOp (some-injective op other said) fits
 
       becomes : (c : Bool) → (get_or s.words i 0 == a) ≡ c → either c b (get_or s.words i 0) ≡ either (get_or s.words i 0 == a) b (get_or s.words i 0)
       becomes c e = ap (λ (x : Bool). either x b (get_or s.words i 0)) (sym e)
@@ -431,13 +435,15 @@ module _ (key : Key) where
             used id me y is s m at op b,
             keeps,
             tt,
-            subst (λ (v : ℕ). Kept id me y is s m at i v (used id me y is s m at op b)) (becomes true e) p.0,
+            (subst (λ (v : ℕ). Made id me y is s m at i v (used id me y is s m at op b) (Some (Accesses y.held.number op))) (becomes true e) p.0).kept,
             (
               refl,
               (λ _ other said. subst (λ (o : Op). OfOne me.0 (λ x. Turns me.0 (used id me y is s m at op b) x (with_stored (accessed_by o x) b) me.0.shown me.0.cancel (Some (Accesses x.held.number o)))) (some-injective op other said) p.1),
               (λ other. absurd (other found)),
               finds,
               is_own,
+              (y, is, runs),
+              fits_said,
             ),
           )
       one false e =
@@ -446,29 +452,68 @@ module _ (key : Key) where
             same_view id me y is s m at,
             keeps,
             tt,
-            subst (λ (v : ℕ). Kept id me y is s m at i v (same_view id me y is s m at)) (becomes false e) p.0,
-            (refl, (λ found. absurd (other found)), (λ _. p.1), finds, is_own),
+            (subst (λ (v : ℕ). Made id me y is s m at i v (same_view id me y is s m at) None) (becomes false e) p.0).kept,
+            (refl, (λ found. absurd (other found)), (λ _. p.1), finds, is_own, (y, is, runs), fits_said),
           )
 
-  pub arrives_again_yard : (slots id : ℕ) (me : Me Op YardView) (y : Resident) → me.0.held ≡ y ∷ [] → y.held.added ≡ true → y.held.again ≡ false → y.held.cpu.phase ≡ Restored
+  arrives_again_allowed : (slots id : ℕ) (me : Me Op YardView) (y : Resident) → me.0.held ≡ y ∷ [] → y.held.added ≡ true → y.held.again ≡ false → y.held.cpu.phase ≡ Restored
       → Allows (MeetsYard key) slots id me 1 (λ n. (n + 1) % 2 ^ 64) (ArrivesAgainYard (step slots 1 1 0 none) me)
-  arrives_again_yard slots id me y is on out_again restored s m _ at small =
+  arrives_again_allowed slots id me y is on out_again restored s m _ at small =
       let low = second_low s m id me.0 at y is in
       let same : get_or s.words 1 0 + 1 ≡ (get_or s.words 1 0 + 1) % 18446744073709551616 = omega arith in
       let p = add_again id me y is s m at on out_again restored in
-      (come_again id me y is s m at, keeps, tt, subst (λ (a : ℕ). Kept id me y is s m at 1 a (come_again id me y is s m at)) same p.0, (refl, p.1))
+      (come_again id me y is s m at, keeps, tt, (subst (λ (a : ℕ). Made id me y is s m at 1 a (come_again id me y is s m at) (Some (Steps y.held.number ArriveAgain))) same p.0).kept, (refl, p.1, (y, is, restored)))
 
-  pub releases_yard : (slots id : ℕ) (me : Me Op YardView) (y : Resident) → me.0.held ≡ y ∷ [] → y.held.added ≡ true → y.held.again ≡ true → y.held.cpu.phase ≡ Arrived2
+  releases_allowed : (slots id : ℕ) (me : Me Op YardView) (y : Resident) → me.0.held ≡ y ∷ [] → y.held.added ≡ true → y.held.again ≡ true → y.held.cpu.phase ≡ Arrived2
       → Allows (MeetsYard key) slots id me 1 (λ n. n) (ReleasesYard (step slots 1 0 0 none) me)
-  releases_yard slots id me y is on on_again waits s m _ at small = one (get_or s.words 1 0 == length me.0.start.cpus) refl
+  releases_allowed slots id me y is on on_again waits s m _ at small = one (get_or s.words 1 0 == length me.0.start.cpus) refl
     where
       one : (b : Bool) → (get_or s.words 1 0 == length me.0.start.cpus) ≡ b
           → (w : YardView) × (a : Act Op) × Valid s.homes me.1 a × MeetsYard key (stepped s 1 (get_or s.words 1 0) id me.1 w a) × ReleasesYard (step slots 1 0 0 none) me (get_or s.words 1 0) (w, carried_after me.1 a)
       one true e =
           let full = eqb-true (get_or s.words 1 0) (length me.0.start.cpus) e in
           let p = release id me y is s m at on on_again waits full in
-          (released id me y is s m at, keeps, tt, p.0, (refl, (λ _. p.1), (λ other. absurd (other full))))
+          (released id me y is s m at, keeps, tt, p.0.kept, (refl, (λ _. p.1), (λ other. absurd (other full)), (y, is, waits)))
       one false e =
           let other = eqb-false (get_or s.words 1 0) (length me.0.start.cpus) e in
           let p = wait_again id me y is s m at in
-          (shown_view id me y is s m at, keeps, tt, p.0, (refl, (λ full. absurd (other full)), (λ _. p.1)))
+          (shown_view id me y is s m at, keeps, tt, p.0.kept, (refl, (λ full. absurd (other full)), (λ _. p.1), (y, is, waits)))
+
+  -- ---- what the table asks of each
+
+  module _ (slots id : ℕ) (me : Me Op YardView) (y : Resident) (is : me.0.held ≡ y ∷ []) (pass : me.0.root ≡ false) where
+    -- a fact on the seat of a pass, whose resident has added so
+    of_pass : (b : Bool) → y.held.added ≡ b → (P : Bool → Bool → Type 0) → P false b → P me.0.root (has_added me.0.held)
+    of_pass b on P p = subst (λ (x : Bool × Bool). P x.0 x.1) (λ j. (sym pass j, sym (ap has_added is ∙ on) j)) p
+
+    pub takes_yard : y.held.added ≡ false → y.held.again ≡ false → y.held.cpu.phase ≡ Running → Allows (MeetsYard key) slots id me 0 (λ n. n) (Tells (step slots 0 0 0 none) me)
+    takes_yard out out_again runs =
+        of_pass false out (λ root added. Allows (MeetsYard key) slots id me 0 (λ n. n) (OfSeat root 0 0 none added (step slots 0 0 0 none) me)) (takes_allowed slots id me y is out out_again runs)
+
+    pub arrives_yard : y.held.added ≡ false → y.held.again ≡ false → y.held.cpu.phase ≡ Taken → Allows (MeetsYard key) slots id me 0 (λ n. (n + 1) % 2 ^ 64) (Tells (step slots 0 1 0 none) me)
+    arrives_yard out out_again taken =
+        of_pass false out (λ root added. Allows (MeetsYard key) slots id me 0 (λ n. (n + 1) % 2 ^ 64) (OfSeat root 0 1 none added (step slots 0 1 0 none) me)) (arrives_allowed slots id me y is out out_again taken)
+
+    pub passes_yard : y.held.added ≡ true → y.held.again ≡ false → (y.held.cpu.phase ≡ Taken) ⊎ (y.held.cpu.phase ≡ Arrived) → Allows (MeetsYard key) slots id me 0 (λ n. n) (Tells (step slots 0 0 0 none) me)
+    passes_yard on out_again waits =
+        of_pass true on (λ root added. Allows (MeetsYard key) slots id me 0 (λ n. n) (OfSeat root 0 0 none added (step slots 0 0 0 none) me)) (passes_allowed slots id me y is on out_again waits)
+
+    pub works_yard : (i a : ℕ) → i ≡ y.held.number + 2 → y.held.added ≡ true → y.held.again ≡ false → is_local y.held.cpu.phase ≡ true → Allows (MeetsYard key) slots id me i (λ _. a) (λ _. Tells (step slots i a 0 none) me a)
+    works_yard i a own on out_again local =
+        let at : suc (suc y.held.number) ≡ i = omega arith in
+        subst (λ (w : ℕ). Allows (MeetsYard key) slots id me i (λ _. a) (λ _. OfSeat me.0.root w a none (has_added me.0.held) (step slots i a 0 none) me a)) at
+        (of_pass true on (λ root added. Allows (MeetsYard key) slots id me i (λ _. a) (λ _. OfSeat root (suc (suc y.held.number)) a none added (step slots i a 0 none) me a)) (works_allowed slots id i a me y is own on out_again local))
+
+    pub accesses_yard : (i a b : ℕ) (op : Op) → i ≡ y.held.number + 2 → y.held.cpu.phase ≡ Running → FitsOp op → Allows (MeetsYard key) slots id me i (λ n. either (n == a) b n) (Tells (step slots i a b (some op)) me)
+    accesses_yard i a b op own runs fits =
+        let at : suc (suc y.held.number) ≡ i = omega arith in
+        subst (λ (w : ℕ). Allows (MeetsYard key) slots id me i (λ n. either (n == a) b n) (OfSeat me.0.root w a (some op) (has_added me.0.held) (step slots i a b (some op)) me)) at
+        (of_pass y.held.added refl (λ root added. Allows (MeetsYard key) slots id me i (λ n. either (n == a) b n) (OfSeat root (suc (suc y.held.number)) a (some op) added (step slots i a b (some op)) me)) (accesses_allowed slots id i a b op me y is own runs fits))
+
+    pub arrives_again_yard : y.held.added ≡ true → y.held.again ≡ false → y.held.cpu.phase ≡ Restored → Allows (MeetsYard key) slots id me 1 (λ n. (n + 1) % 2 ^ 64) (Tells (step slots 1 1 0 none) me)
+    arrives_again_yard on out_again restored =
+        of_pass true on (λ root added. Allows (MeetsYard key) slots id me 1 (λ n. (n + 1) % 2 ^ 64) (OfSeat root 1 1 none added (step slots 1 1 0 none) me)) (arrives_again_allowed slots id me y is on out_again restored)
+
+    pub releases_yard : y.held.added ≡ true → y.held.again ≡ true → y.held.cpu.phase ≡ Arrived2 → Allows (MeetsYard key) slots id me 1 (λ n. n) (Tells (step slots 1 0 0 none) me)
+    releases_yard on on_again waits =
+        of_pass true on (λ root added. Allows (MeetsYard key) slots id me 1 (λ n. n) (OfSeat root 1 0 none added (step slots 1 0 0 none) me)) (releases_allowed slots id me y is on on_again waits)

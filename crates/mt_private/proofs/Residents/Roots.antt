@@ -1,5 +1,5 @@
 -- What the root's additions ask.
-use Rattle.std.proofs.Common.{◌≡◌, ◌∙◌, sym, refl, subst, arith, ℕ, ◌+◌, ◌%◌, ◌^◌, ◌<◌, ◌⊎◌, true, false, [], length, map, set, get_or, Some, inl, inr, get_or-set_other}
+use Rattle.std.proofs.Common.{◌≡◌, ◌∙◌, sym, refl, subst, arith, ℕ, ◌+◌, ◌%◌, ◌^◌, ◌<◌, ◌⊎◌, Bool, true, false, [], length, map, set, get_or, Some, inl, inr, get_or-set_other}
 use Rattle.std.specs.Prelude.{slice_index}
 use Rattle.std.proofs.lemmas.List.{length-map}
 use mathlib.Core.Option.{none, some}
@@ -17,7 +17,7 @@ use Rattle.mt_private.specs.declared.view.YardView.{YardView}
 use Rattle.mt_private.specs.Residents.{Decides, Yard, held_of}
 use Rattle.mt_private.specs.YardRule.{MeetsYard, as_view, with_said}
 use Rattle.mt_private.specs.YardLaws.{IsOneEvent}
-use Rattle.mt_private.specs.YardPlays.{CancelsYard, GivesYard, Said}
+use Rattle.mt_private.specs.YardPlays.{CancelsYard, GivesYard, OfSeat, Said, Tells, YardSat, has_added}
 use Rattle.mt_private.proofs.Residents.Decisions.{cancels, gives}
 use Rattle.mt_private.proofs.Residents.Seats.{mapped_at, says}
 
@@ -58,33 +58,55 @@ module _ (key : Key) where
         told (inr x) = x
 
     -- a decision, and what it tells
-    said : (n : ℕ) (go : Go) (e : MachineEvent) → Decides t m.all go n (slice_index s.words 1) m.system e
+    pub said : (n : ℕ) (go : Go) (e : MachineEvent) → Decides t m.all go n (slice_index s.words 1) m.system e
         → IsOneEvent key s (record { words = set s.words 0 n; homes = s.homes; views = set s.views id (with_said v go) }) m (Some e) × Said v.start n e go
     said n go e d = (
       says key s m id n v go e at root some_word (second_stays n) was d,
       subst (λ (x : Start). Said x n e go) (sym started) (record { all = m.all; second = slice_index s.words 1; system = m.system; decides = d }),
     )
 
-    giving : Decides t m.all Given ((get_or s.words 0 0 + 1) % 18446744073709551616) (slice_index s.words 1) m.system Goes
+    pub giving : Decides t m.all Given ((get_or s.words 0 0 + 1) % 18446744073709551616) (slice_index s.words 1) m.system Goes
     giving =
         let l = low in
         let same : get_or s.words 0 0 + 1 ≡ (get_or s.words 0 0 + 1) % 18446744073709551616 = omega arith in
         subst (λ (n : ℕ). Decides t m.all Given n (slice_index s.words 1) m.system Goes) same (gives t m.all (slice_index s.words 0) (slice_index s.words 1) m.system yard)
 
-    cancelling : Decides t m.all Cancelled ((get_or s.words 0 0 + 4294967296) % 18446744073709551616) (slice_index s.words 1) m.system Cancels
+    pub cancelling : Decides t m.all Cancelled ((get_or s.words 0 0 + 4294967296) % 18446744073709551616) (slice_index s.words 1) m.system Cancels
     cancelling =
         let l = low in
         let same : get_or s.words 0 0 + 4294967296 ≡ (get_or s.words 0 0 + 4294967296) % 18446744073709551616 = omega arith in
         subst (λ (n : ℕ). Decides t m.all Cancelled n (slice_index s.words 1) m.system Cancels) same (cancels t m.all (slice_index s.words 0) (slice_index s.words 1) m.system yard)
 
+  -- what is so of the host's seat
+  of_host : (me : Me Op YardView) → me.0.root ≡ true → (P : Bool → Type 0) → P true → P me.0.root
+  of_host me root P p = subst P (sym root) p
+
   pub gives_yard : (slots id : ℕ) (me : Me Op YardView) → me.0.root ≡ true → me.0.go ≡ Pending
-      → Allows (MeetsYard key) slots id me 0 (λ n. (n + 1) % 2 ^ 64) (GivesYard (step slots 0 1 0 none) me)
-  gives_yard slots id me root is s m _ at small =
+      → Allows (MeetsYard key) slots id me 0 (λ n. (n + 1) % 2 ^ 64) (Tells (step slots 0 1 0 none) me)
+  gives_yard slots id me root is =
+      of_host me root (λ host. Allows (MeetsYard key) slots id me 0 (λ n. (n + 1) % 2 ^ 64) (OfSeat host 0 1 none (has_added me.0.held) (step slots 0 1 0 none) me))
+      (λ s m _ at small.
       let p = said s m id me.0 at root is ((get_or s.words 0 0 + 1) % 18446744073709551616) Given Goes (giving s m id me.0 at root is) in
-      (with_said me.0 Given, keeps, tt, p.0.kept, (refl, refl, p.1))
+      (with_said me.0 Given, keeps, tt, p.0.kept, (refl, refl, p.1, is)))
 
   pub cancels_yard : (slots id : ℕ) (me : Me Op YardView) → me.0.root ≡ true → me.0.go ≡ Pending
-      → Allows (MeetsYard key) slots id me 0 (λ n. (n + 4294967296) % 2 ^ 64) (CancelsYard (step slots 0 4294967296 0 none) me)
-  cancels_yard slots id me root is s m _ at small =
+      → Allows (MeetsYard key) slots id me 0 (λ n. (n + 4294967296) % 2 ^ 64) (Tells (step slots 0 4294967296 0 none) me)
+  cancels_yard slots id me root is =
+      of_host me root (λ host. Allows (MeetsYard key) slots id me 0 (λ n. (n + 4294967296) % 2 ^ 64) (OfSeat host 0 4294967296 none (has_added me.0.held) (step slots 0 4294967296 0 none) me))
+      (λ s m _ at small.
       let p = said s m id me.0 at root is ((get_or s.words 0 0 + 4294967296) % 18446744073709551616) Cancelled Cancels (cancelling s m id me.0 at root is) in
-      (with_said me.0 Cancelled, keeps, tt, p.0.kept, (refl, refl, p.1))
+      (with_said me.0 Cancelled, keeps, tt, p.0.kept, (refl, refl, p.1, is, refl)))
+
+-- the host's step, by its seat
+pub said_go : (slots found : ℕ) (me new : YardSat) → me.0.root ≡ true → Tells (step slots 0 1 0 none) me found new → GivesYard (step slots 0 1 0 none) me found new
+said_go slots found me new root tells = subst (λ (host : Bool). OfSeat host 0 1 none (has_added me.0.held) (step slots 0 1 0 none) me found new) root tells
+
+pub said_cancel : (slots found : ℕ) (me new : YardSat) → me.0.root ≡ true → Tells (step slots 0 4294967296 0 none) me found new → CancelsYard (step slots 0 4294967296 0 none) me found new
+said_cancel slots found me new root tells = subst (λ (host : Bool). OfSeat host 0 4294967296 none (has_added me.0.held) (step slots 0 4294967296 0 none) me found new) root tells
+
+-- and the event that it was
+pub told_go : (t : Start) (slots found : ℕ) (me new : YardSat) → me.0.root ≡ true → me.0.start ≡ t → Tells (step slots 0 1 0 none) me found new → (count : ℕ) × Said t count Goes Given
+told_go t slots found me new root told tells = ((found + 1) % 2 ^ 64, subst (λ (u : Start). Said u ((found + 1) % 2 ^ 64) Goes Given) told (said_go slots found me new root tells).2)
+
+pub told_cancel : (t : Start) (slots found : ℕ) (me new : YardSat) → me.0.root ≡ true → me.0.start ≡ t → Tells (step slots 0 4294967296 0 none) me found new → (count : ℕ) × Said t count Cancels Cancelled
+told_cancel t slots found me new root told tells = ((found + 4294967296) % 2 ^ 64, subst (λ (u : Start). Said u ((found + 4294967296) % 2 ^ 64) Cancels Cancelled) told (said_cancel slots found me new root tells).2)

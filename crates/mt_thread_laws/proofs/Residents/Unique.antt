@@ -30,7 +30,7 @@ use Rattle.mt_private.proofs.Own.Words.{words_get}
 
 -- ---- lists
 
-mapped_from : {X Y : Type 0} (f : X → Y) (xs : List X) (i : ℕ) (y : Y) → get_elem? (map f xs) i ≡ some y → (x : X) × (get_elem? xs i ≡ some x) × (f x ≡ y)
+pub mapped_from : {X Y : Type 0} (f : X → Y) (xs : List X) (i : ℕ) (y : Y) → get_elem? (map f xs) i ≡ some y → (x : X) × (get_elem? xs i ≡ some x) × (f x ≡ y)
 mapped_from f [] i y at = absurd (some-ne-none y (sym at))
 mapped_from f (x ∷ xs) zero y at = (x, refl, some-injective (f x) y at)
 mapped_from f (x ∷ xs) (suc i) y at = mapped_from f xs i y at

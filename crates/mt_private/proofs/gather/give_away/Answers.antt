@@ -33,6 +33,9 @@ invariant_of-result-clause-known c =
     let t : Start = start_of c.args.yard.now.table.shared.key in
     sym (ap (λ m. stored_by m.0.held) s.4 ∙ ap stored_by (ap one_of (c.requires.offers ∙ offered t c.args.i o.0 o.1)))
 
+pub invariant_of-result-clause-no_root : goal.invariant_of-result-clause-no_root
+invariant_of-result-clause-no_root c = ap (λ m. m.0.root) c.split_seat-seat.ensures.4
+
 pub returns-clause-hosts : goal.returns-clause-hosts
 returns-clause-hosts c =
     let s = c.split_seat-seat.ensures in

@@ -1,6 +1,7 @@
 use Rattle.std.proofs.Common.{◌≡◌, ◌+◌, List, ◌∷◌, [], None, Some, ap, arith, false, inl, length, refl, subst, sym}
-use mathlib.Core.Option.{some}
+use mathlib.Core.Option.{none, some}
 use lib.ListN.{get_elem?}
+use Rattle.atomic_table.specs.Table.{carried_after, step}
 use Rattle.mt_machine.specs.declared.event.Event.TheVariants.{Take}
 use Rattle.mt_machine.specs.declared.go.Go.{Go}
 use Rattle.mt_machine.specs.declared.go.Go.TheVariants.{Given, Pending}
@@ -16,6 +17,7 @@ use Rattle.mt_private.specs.YardRule.{MeetsYard, as_view, first_yard_view, one_o
 use Rattle.mt_thread_laws.proofs.Lodged.{opened_lodging, opens_lodging, second_lodged, zeros}
 use Rattle.mt_thread_laws.proofs.LoneSeats.{settled_meets}
 use Rattle.mt_private.proofs.Residents.Decisions.{gives}
+use Rattle.mt_private.proofs.Residents.Plays.{takes_yard}
 use Rattle.mt_private.proofs.Residents.Seats.{splits}
 use Rattle.mt_private.proofs.Residents.Work.{takes}
 use Rattle.mt_thread_laws.proofs.job_worked_laws.worked_laws_of_tables.Goals as goal
@@ -73,6 +75,20 @@ returns-clause-join c = λ law key is.
       m,
       law key (split_state key) m 0 1 (yard_left (first_yard_view key)) (yard_right (first_yard_view key)) first_lodged refl refl (λ same. omega (arith, same)) refl (one_held key is),
     )
+
+pub returns-clause-steps : goal.returns-clause-steps
+returns-clause-steps c = λ law key is.
+    let m = split_meets key is in
+    let may = takes_yard key 0 1 (yard_right (first_yard_view key), []) first_lodged (one_held key is) refl refl refl refl (split_state key) m refl refl (omega arith) in (
+      m,
+      (may.0, carried_after [] may.1),
+      law key (split_state key) m 1 (step 0 0 0 0 none) (yard_right (first_yard_view key), []) (may.0, carried_after [] may.1) refl may.4,
+    )
+
+pub returns-clause-released : goal.returns-clause-released
+returns-clause-released c = λ law key is.
+    let m = settled_meets key is in
+    (m, (law key (settled key) m 1 (last_pass (start_of key)) released refl refl refl refl).0)
 
 pub returns-clause-settles : goal.returns-clause-settles
 returns-clause-settles c = λ law key is.

@@ -1,7 +1,27 @@
-use Rattle.std.proofs.Common.{arith}
-use Rattle.mt_private.proofs.Residents.Roots.{cancels_yard}
+use Rattle.std.proofs.Common.{◌∙◌, ap, refl, arith}
+use Rattle.mt_private.specs.declared.view.YardView.{YardView}
+use Rattle.mt_private.proofs.Residents.Roots.{cancels_yard, said_cancel, told_cancel}
 use Rattle.mt_private.proofs.host.Host.cancel.Goals as goal
 
 pub fetch_add-requires : goal.fetch_add-requires
 fetch_add-requires c = let r = c.requires in let w = c.args.yard.now.wide in
     (r.same, omega arith, cancels_yard c.args.yard.now.table.shared.key _ _ c.args.self.now.seat.me r.root r.said)
+
+pub returns-clause-hosts : goal.returns-clause-hosts
+returns-clause-hosts c =
+    let r = c.requires in
+    let e = c.fetch_add.ensures in
+    let says = said_cancel _ _ c.args.self.now.seat.me c.fetch_add.new.seat.me r.root e.2 in
+    record {
+      same = e.0 ∙ r.same;
+      root = ap (λ (v : YardView). v.root) says.1 ∙ r.root;
+      said = ap (λ (v : YardView). v.go) says.1;
+      told = ap (λ (v : YardView). v.start) says.1 ∙ r.told;
+      bare = refl;
+    }
+
+pub returns-clause-held : goal.returns-clause-held
+returns-clause-held c = ap (λ (v : YardView). v.held) (said_cancel _ _ c.args.self.now.seat.me c.fetch_add.new.seat.me c.requires.root c.fetch_add.ensures.2).1
+
+pub returns-clause-event : goal.returns-clause-event
+returns-clause-event c = told_cancel _ _ _ c.args.self.now.seat.me c.fetch_add.new.seat.me c.requires.root c.requires.told c.fetch_add.ensures.2

@@ -10,7 +10,7 @@ use Rattle.mt_rendezvous.proofs.Steps.{due_arrive}
 use Rattle.mt_private.specs.Residents.{with_held}
 use Rattle.mt_private.specs.YardRule.{with_one}
 use Rattle.mt_private.proofs.Alone.{in_its_phase, its_phase, onward, taken_on}
-use Rattle.mt_private.proofs.Carried.{arrives_stored, carried, core_is, has_done, its_era, its_guest, of_guest, shifted_is, visits_on}
+use Rattle.mt_private.proofs.Carried.{arrives_kept, arrives_of, carried, core_is, has_done, its_era, its_guest, of_guest, shifted_is, visits_on}
 use Rattle.mt_private.proofs.Residents.Plays.{arrives_yard}
 use Rattle.mt_private.proofs.visiting.YardPass.arrive.Goals as goal
 
@@ -18,29 +18,37 @@ pub fetch_add-found-requires : goal.fetch_add-found-requires
 fetch_add-found-requires c =
     let r = c.requires.visits.1.lodges in
     let w = c.args.yard.now.wide in
-    (r.same, omega arith, arrives_yard c.args.yard.now.table.shared.key _ _ c.args.self.now.seat.me (its_guest r) r.holds refl refl (its_phase Taken c.args.core.now.system r.cpu r.alone c.requires.taken))
+    (r.same, omega arith, arrives_yard c.args.yard.now.table.shared.key _ _ c.args.self.now.seat.me (its_guest r) r.holds c.args.self.now.no_root refl refl (its_phase Taken c.args.core.now.system r.cpu r.alone c.requires.taken))
 
 pub invariant_of-self-clause-known : goal.invariant_of-self-clause-known
-invariant_of-self-clause-known c = c.args.self.now.known ∙ sym (arrives_stored c.requires.visits.1.lodges _ _ c.fetch_add-found.ensures.2)
+invariant_of-self-clause-known c =
+    let r = c.requires.visits.1.lodges in
+    c.args.self.now.known ∙ sym (arrives_kept r _ _ (arrives_of r c.args.self.now.no_root _ _ c.fetch_add-found.new.seat.me c.fetch_add-found.ensures.2)).0
+
+pub invariant_of-self-clause-no_root : goal.invariant_of-self-clause-no_root
+invariant_of-self-clause-no_root c =
+    let r = c.requires.visits.1.lodges in
+    (arrives_kept r _ _ (arrives_of r c.args.self.now.no_root _ _ c.fetch_add-found.new.seat.me c.fetch_add-found.ensures.2)).1 ∙ c.args.self.now.no_root
 
 pub returns-then-found-lt-CANCEL-clause-done : goal.returns-then-found-lt-CANCEL-clause-done
 returns-then-found-lt-CANCEL-clause-done c =
     let r = c.requires.visits.1.lodges in
-    let turn = c.fetch_add-found.ensures.2.1 c.if-found-lt-CANCEL.true (its_guest r) r.holds in
+    let turn = (arrives_of r c.args.self.now.no_root _ _ c.fetch_add-found.new.seat.me c.fetch_add-found.ensures.2).1 c.if-found-lt-CANCEL.true (its_guest r) r.holds in
     has_done r c.fetch_add-found.new.seat.me _ _ _ turn.0
 
 pub returns-then-found-lt-CANCEL-clause-visits : goal.returns-then-found-lt-CANCEL-clause-visits
 returns-then-found-lt-CANCEL-clause-visits c first v =
     let r = v.lodges in
     let e = c.fetch_add-found.ensures in
+    let play = arrives_of r c.args.self.now.no_root _ _ c.fetch_add-found.new.seat.me c.fetch_add-found.ensures.2 in
     let t = start_of c.args.yard.now.table.shared.key in
     let new = c.fetch_add-found.new.seat.me in
     let me = c.args.self.now.seat.me in
     let taken = its_phase Taken c.args.core.now.system r.cpu r.alone c.requires.taken in
     let turn : new.0 ≡ with_one me.0 (with_held (its_guest r) (arrive t (its_guest r).held)) me.0.shown me.0.cancel =
-    of_guest r (λ u y. new.0 ≡ with_one me.0 (with_held y (arrive u y.held)) me.0.shown me.0.cancel) (λ y same. (e.2.1 c.if-found-lt-CANCEL.true y same).0) in
+    of_guest r (λ u y. new.0 ≡ with_one me.0 (with_held y (arrive u y.held)) me.0.shown me.0.cancel) (λ y same. (play.1 c.if-found-lt-CANCEL.true y same).0) in
     let o = onward t Pending c.args.core.now.system r.cpu Arrive c.args.core.now c.step.new.self (core_is v) c.step.ensures.after r.alone (its_era v) (due_arrive t Pending (r.cpu ∷ []) r.cpu taken (λ h. absurd (cc))) refl refl in
-    visits_on v Pending Arrive c.step.new.self _ new (with_held (its_guest r) (arrive t (its_guest r).held)) _ _ true false o (due_arrive t Given (r.cpu ∷ []) r.cpu taken (λ h. absurd (cc))) e.0 e.2.0 turn
+    visits_on v Pending Arrive c.step.new.self _ new (with_held (its_guest r) (arrive t (its_guest r).held)) _ _ true false o (due_arrive t Given (r.cpu ∷ []) r.cpu taken (λ h. absurd (cc))) e.0 play.0 turn
     (shifted_is r Arrive true false o.q.cpu refl o.q.alone)
 
 pub returns-then-found-lt-CANCEL-clause-waits : goal.returns-then-found-lt-CANCEL-clause-waits
@@ -64,16 +72,17 @@ returns-then-found-lt-CANCEL-clause-taken c first has =
 pub returns-clause-done : goal.returns-clause-done
 returns-clause-done c =
     let r = c.requires.visits.1.lodges in
-    let turn = c.fetch_add-found.ensures.2.2 (let high = c.if-found-lt-CANCEL.false in omega arith) (its_guest r) r.holds in
+    let turn = (arrives_of r c.args.self.now.no_root _ _ c.fetch_add-found.new.seat.me c.fetch_add-found.ensures.2).2 (let high = c.if-found-lt-CANCEL.false in omega arith) (its_guest r) r.holds in
     has_done r c.fetch_add-found.new.seat.me _ _ _ turn.0
 
 pub returns-clause-visits : goal.returns-clause-visits
 returns-clause-visits c first v =
     let r = v.lodges in
     let e = c.fetch_add-found.ensures in
-    let turn = e.2.2 (let high = c.if-found-lt-CANCEL.false in omega arith) (its_guest r) r.holds in
+    let play = arrives_of r c.args.self.now.no_root _ _ c.fetch_add-found.new.seat.me c.fetch_add-found.ensures.2 in
+    let turn = play.2 (let high = c.if-found-lt-CANCEL.false in omega arith) (its_guest r) r.holds in
     record {
-      lodges = carried r _ c.fetch_add-found.new.seat.me (with_held (its_guest r) (late (its_guest r).held)) _ _ c.args.core.now.system r.cpu true false e.0 e.2.0 turn.0 r.alone refl;
+      lodges = carried r _ c.fetch_add-found.new.seat.me (with_held (its_guest r) (late (its_guest r).held)) _ _ c.args.core.now.system r.cpu true false e.0 play.0 turn.0 r.alone refl;
       order = v.order;
       era = v.era;
       one = v.one;

@@ -17,7 +17,7 @@ use Rattle.mt_laws.proofs.Barrier.Stages.{Stage}
 use Rattle.mt_rendezvous.specs.Station.{start_of}
 use Rattle.mt_private.specs.declared.view.YardView.{YardView}
 use Rattle.mt_private.proofs.Alone.{called, due_take, in_its_phase, in_phase_one, its_phase, one_all, one_drained, onward}
-use Rattle.mt_private.proofs.Carried.{carried, has_done, its_guest, stepped_done, takes_stored, took, visits_first}
+use Rattle.mt_private.proofs.Carried.{carried, has_done, its_guest, stepped_done, takes_kept, takes_of, took, visits_first}
 use Rattle.mt_private.proofs.Residents.Plays.{takes_yard}
 use Rattle.mt_private.proofs.visiting.YardPass.take.Goals as goal
 
@@ -25,23 +25,31 @@ pub load-found-requires : goal.load-found-requires
 load-found-requires c =
     let r = c.requires.lodges in
     let w = c.args.yard.now.wide in
-    (r.same, omega arith, takes_yard c.args.yard.now.table.shared.key _ _ c.args.self.now.seat.me (its_guest r) r.holds refl refl (its_phase Running c.args.core.now.system r.cpu r.alone c.requires.runs))
+    (r.same, omega arith, takes_yard c.args.yard.now.table.shared.key _ _ c.args.self.now.seat.me (its_guest r) r.holds c.args.self.now.no_root refl refl (its_phase Running c.args.core.now.system r.cpu r.alone c.requires.runs))
 
 pub invariant_of-self-clause-known : goal.invariant_of-self-clause-known
-invariant_of-self-clause-known c = c.args.self.now.known ∙ sym (takes_stored c.requires.lodges _ _ c.load-found.ensures.2)
+invariant_of-self-clause-known c =
+    let r = c.requires.lodges in
+    c.args.self.now.known ∙ sym (takes_kept r _ _ (takes_of r c.args.self.now.no_root _ _ c.load-found.new.seat.me c.load-found.ensures.2)).0
+
+pub invariant_of-self-clause-no_root : goal.invariant_of-self-clause-no_root
+invariant_of-self-clause-no_root c =
+    let r = c.requires.lodges in
+    (takes_kept r _ _ (takes_of r c.args.self.now.no_root _ _ c.load-found.new.seat.me c.load-found.ensures.2)).1 ∙ c.args.self.now.no_root
 
 pub returns-then-found-ge-CANCEL-clause-done : goal.returns-then-found-ge-CANCEL-clause-done
 returns-then-found-ge-CANCEL-clause-done c =
     let r = c.requires.lodges in
-    let turn = (c.load-found.ensures.2.2 c.if-found-ge-CANCEL.true) (its_guest r) r.holds in
+    let turn = ((takes_of r c.args.self.now.no_root _ _ c.load-found.new.seat.me c.load-found.ensures.2).2 c.if-found-ge-CANCEL.true) (its_guest r) r.holds in
     has_done r c.load-found.new.seat.me (its_guest r) _ _ turn.0
 
 pub returns-then-found-ge-CANCEL-clause-stays : goal.returns-then-found-ge-CANCEL-clause-stays
 returns-then-found-ge-CANCEL-clause-stays c _ =
     let r = c.requires.lodges in
     let e = c.load-found.ensures in
-    let turn = (e.2.2 c.if-found-ge-CANCEL.true) (its_guest r) r.holds in (
-      carried r _ c.load-found.new.seat.me (its_guest r) _ _ c.args.core.now.system r.cpu false false e.0 e.2.0 turn.0 r.alone refl,
+    let play = takes_of r c.args.self.now.no_root _ _ c.load-found.new.seat.me c.load-found.ensures.2 in
+    let turn = (play.2 c.if-found-ge-CANCEL.true) (its_guest r) r.holds in (
+      carried r _ c.load-found.new.seat.me (its_guest r) _ _ c.args.core.now.system r.cpu false false e.0 play.0 turn.0 r.alone refl,
       ap (λ (v : YardView). v.cancel) turn.0,
       refl,
     )
@@ -52,13 +60,13 @@ call-requires-clause-some c = let n = ap (λ (ps : List Processor). length ps) c
 pub call-requires-clause-fits : goal.call-requires-clause-fits
 call-requires-clause-fits c =
     let r = c.requires.lodges in
-    let k = took r c.load-found.result c.load-found.new.seat.me c.load-found.ensures.2.1 (let low = c.if-found-ge-CANCEL.false in omega arith) in
+    let k = took r c.load-found.result c.load-found.new.seat.me (takes_of r c.args.self.now.no_root _ _ c.load-found.new.seat.me c.load-found.ensures.2).1 (let low = c.if-found-ge-CANCEL.false in omega arith) in
     one_all (FitsGoal c.same.result) c.args.core.now.system.processors r.cpu r.alone (subst (λ (g : RegisterFile). FitsGoal g r.cpu) (sym (c.same.ensures ∙ c.requires.goal)) k.2)
 
 pub call-requires-clause-room : goal.call-requires-clause-room
 call-requires-clause-room c =
     let r = c.requires.lodges in
-    let k = took r c.load-found.result c.load-found.new.seat.me c.load-found.ensures.2.1 (let low = c.if-found-ge-CANCEL.false in omega arith) in
+    let k = took r c.load-found.result c.load-found.new.seat.me (takes_of r c.args.self.now.no_root _ _ c.load-found.new.seat.me c.load-found.ensures.2).1 (let low = c.if-found-ge-CANCEL.false in omega arith) in
     let room = k.0.room in
     let era = k.3 in
     one_all (λ (p : Processor). p.era < 2 ^ 64 - 1) c.args.core.now.system.processors r.cpu r.alone (omega arith)
@@ -72,7 +80,7 @@ unreachable-requires c = one c.in_default.field-0 c.in_default.is
         let bad : false ≡ true = subst IsSome c.requires.idle some in
         cc
     one (Refused fault) is =
-        let k = took c.requires.lodges c.load-found.result c.load-found.new.seat.me c.load-found.ensures.2.1 (let low = c.if-found-ge-CANCEL.false in omega arith) in
+        let k = took c.requires.lodges c.load-found.result c.load-found.new.seat.me (takes_of c.requires.lodges c.args.self.now.no_root _ _ c.load-found.new.seat.me c.load-found.ensures.2).1 (let low = c.if-found-ge-CANCEL.false in omega arith) in
         let accepted : IsAccepted c.same.result = subst IsAccepted (sym (c.same.ensures ∙ c.requires.goal)) k.0.enabled.2 in
         let none : Some fault ≡ None = one_first_fault_lem c.same.result (Some fault) None (c.call.ensures.refused fault is).1 accepted in
         cc
@@ -80,26 +88,27 @@ unreachable-requires c = one c.in_default.field-0 c.in_default.is
 pub returns-clause-done : goal.returns-clause-done
 returns-clause-done c =
     let r = c.requires.lodges in
-    let k = took r c.load-found.result c.load-found.new.seat.me c.load-found.ensures.2.1 (let low = c.if-found-ge-CANCEL.false in omega arith) in
+    let k = took r c.load-found.result c.load-found.new.seat.me (takes_of r c.args.self.now.no_root _ _ c.load-found.new.seat.me c.load-found.ensures.2).1 (let low = c.if-found-ge-CANCEL.false in omega arith) in
     has_done r c.load-found.new.seat.me _ _ _ k.1 ∙ stepped_done r (start_of c.args.yard.now.table.shared.key) Take
 
 pub returns-clause-visits : goal.returns-clause-visits
 returns-clause-visits c _ =
     let r = c.requires.lodges in
     let e = c.load-found.ensures in
+    let play = takes_of r c.args.self.now.no_root _ _ c.load-found.new.seat.me c.load-found.ensures.2 in
     let t = start_of c.args.yard.now.table.shared.key in
-    let k = took r c.load-found.result c.load-found.new.seat.me e.2.1 (let low = c.if-found-ge-CANCEL.false in omega arith) in
+    let k = took r c.load-found.result c.load-found.new.seat.me play.1 (let low = c.if-found-ge-CANCEL.false in omega arith) in
     let runs = its_phase Running c.args.core.now.system r.cpu r.alone c.requires.runs in
     let o = onward t Pending c.args.core.now.system r.cpu Take c.call.new.self c.step.new.self
     (c.in-Ok.ensures.called.2 ∙ called t c.args.core.now c.same.result r.cpu c.requires.idle r.alone k.3 (c.same.ensures ∙ c.requires.goal))
     c.step.ensures.after r.alone k.3 (due_take t Pending r.cpu runs k.3 refl) refl refl in
-    visits_first r c.step.new.self _ c.load-found.new.seat.me _ _ o runs k.3 e.0 e.2.0 k.1
+    visits_first r c.step.new.self _ c.load-found.new.seat.me _ _ o runs k.3 e.0 play.0 k.1
 
 pub returns-clause-taken : goal.returns-clause-taken
 returns-clause-taken c _ =
     let r = c.requires.lodges in
     let t = start_of c.args.yard.now.table.shared.key in
-    let k = took r c.load-found.result c.load-found.new.seat.me c.load-found.ensures.2.1 (let low = c.if-found-ge-CANCEL.false in omega arith) in
+    let k = took r c.load-found.result c.load-found.new.seat.me (takes_of r c.args.self.now.no_root _ _ c.load-found.new.seat.me c.load-found.ensures.2).1 (let low = c.if-found-ge-CANCEL.false in omega arith) in
     let s : System = c.args.core.now.system in
     let runs = its_phase Running s r.cpu r.alone c.requires.runs in
     let o = onward t Pending s r.cpu Take c.call.new.self c.step.new.self
@@ -113,7 +122,7 @@ returns-clause-taken c _ =
 
 pub returns-clause-callable : goal.returns-clause-callable
 returns-clause-callable c _ =
-    let k = took c.requires.lodges c.load-found.result c.load-found.new.seat.me c.load-found.ensures.2.1 (let low = c.if-found-ge-CANCEL.false in omega arith) in
+    let k = took c.requires.lodges c.load-found.result c.load-found.new.seat.me (takes_of c.requires.lodges c.args.self.now.no_root _ _ c.load-found.new.seat.me c.load-found.ensures.2).1 (let low = c.if-found-ge-CANCEL.false in omega arith) in
     let none = c.requires.idle in
     let goal_is = c.requires.goal in (
       subst IsQuiet (λ i. record { system = c.args.core.now.system; order = none i }) (is_quiet_without_order c.args.core.now c.a_core_arises.ensures.arises none),

@@ -12,11 +12,12 @@ use Rattle.mt_rendezvous.specs.Station.{order_of, start_of}
 use Rattle.mt_rendezvous.specs.Plays.{own_event}
 use Rattle.mt_rendezvous.proofs.Local.{due_alone, works_in}
 use Rattle.mt_private.specs.declared.view.Resident.{Resident}
+use Rattle.mt_private.specs.declared.view.YardView.{YardView}
 use Rattle.mt_private.specs.Residents.{stepped_by, with_stored}
 use Rattle.mt_private.specs.YardRule.{with_one}
 use Rattle.mt_private.specs.YardCalls.{AreIn}
 use Rattle.mt_private.proofs.Alone.{in_its_phase, its_phase, onward}
-use Rattle.mt_private.proofs.Carried.{core_is, guest, has_done, has_stored, its_era, its_guest, of_guest, stepped_done, stepped_is, visits_on}
+use Rattle.mt_private.proofs.Carried.{core_is, guest, has_done, has_stored, its_era, its_guest, of_guest, stepped_done, stepped_is, visits_on, works_of}
 use Rattle.mt_private.proofs.Residents.Plays.{works_yard}
 use Rattle.mt_private.proofs.visiting.YardPass.work.Goals as goal
 
@@ -37,23 +38,29 @@ store-requires c =
     let w = c.args.yard.now.wide in
     let n = c.args.yard.now.counted in
     let below = r.below in
-    (r.same, omega arith, works_yard c.args.yard.now.table.shared.key _ _ _ _ c.args.self.now.seat.me (its_guest r) r.holds refl refl refl (local_at c.args.core.now.system r.cpu b.0 r.alone b.1 b.2))
+    (r.same, omega arith, works_yard c.args.yard.now.table.shared.key _ _ c.args.self.now.seat.me (its_guest r) r.holds c.args.self.now.no_root _ _ refl refl refl (local_at c.args.core.now.system r.cpu b.0 r.alone b.1 b.2))
 
 pub invariant_of-self-clause-known : goal.invariant_of-self-clause-known
 invariant_of-self-clause-known c =
     let r = c.requires.visits.1.lodges in
-    sym (has_stored r c.store.new.seat.me _ _ _ (c.store.ensures.2.1 (its_guest r) r.holds).0)
+    sym (has_stored r c.store.new.seat.me _ _ _ ((works_of r c.args.self.now.no_root _ _ _ refl c.store.new.seat.me c.store.ensures.2).1 (its_guest r) r.holds).0)
+
+pub invariant_of-self-clause-no_root : goal.invariant_of-self-clause-no_root
+invariant_of-self-clause-no_root c =
+    let r = c.requires.visits.1.lodges in
+    ap (λ (v : YardView). v.root) ((works_of r c.args.self.now.no_root _ _ _ refl c.store.new.seat.me c.store.ensures.2).1 (its_guest r) r.holds).0 ∙ c.args.self.now.no_root
 
 pub returns-clause-done : goal.returns-clause-done
 returns-clause-done c =
     let r = c.requires.visits.1.lodges in
-    let turn = c.store.ensures.2.1 (its_guest r) r.holds in
+    let turn = (works_of r c.args.self.now.no_root _ _ _ refl c.store.new.seat.me c.store.ensures.2).1 (its_guest r) r.holds in
     has_done r c.store.new.seat.me _ _ _ turn.0 ∙ stepped_done r c.args.self.now.seat.me.0.start (own_event c.args.self.now.seat.me.0.start r.cpu)
 
 pub returns-clause-visits : goal.returns-clause-visits
 returns-clause-visits c first v =
     let r = v.lodges in
     let e = c.store.ensures in
+    let play = works_of r c.args.self.now.no_root _ _ _ refl c.store.new.seat.me c.store.ensures.2 in
     let t : Start = start_of c.args.yard.now.table.shared.key in
     let s : System = c.args.core.now.system in
     let new = c.store.new.seat.me in
@@ -63,10 +70,10 @@ returns-clause-visits c first v =
     let event : Event = own_event t r.cpu in
     let n : ℕ = (c.args.self.now.stored + 1) % 18446744073709551616 in
     let turn : new.0 ≡ with_one me.0 (with_stored (stepped_by t event (its_guest r)) n) me.0.shown me.0.cancel =
-    of_guest r (λ u y. new.0 ≡ with_one me.0 (with_stored (stepped_by u (own_event u y.held.cpu) y) n) me.0.shown me.0.cancel) (λ y same. (e.2.1 y same).0) in
+    of_guest r (λ u y. new.0 ≡ with_one me.0 (with_stored (stepped_by u (own_event u y.held.cpu) y) n) me.0.shown me.0.cancel) (λ y same. (play.1 y same).0) in
     let o = onward t Given s r.cpu event c.args.core.now c.step.new.self (core_is v) c.step.ensures.after r.alone (its_era v) (is_due t r.cpu local (order_of t Given) (r.cpu ∷ [])) (keeps t r.cpu local).1 refl in
     let is = stepped_is r event o.q.cpu o.q.alone in
-    visits_on v Given event c.step.new.self _ new (with_stored (stepped_by t event (its_guest r)) n) _ _ true false o (is_due t r.cpu local (order_of t Given) (r.cpu ∷ [])) e.0 e.2.0 turn
+    visits_on v Given event c.step.new.self _ new (with_stored (stepped_by t event (its_guest r)) n) _ _ true false o (is_due t r.cpu local (order_of t Given) (r.cpu ∷ [])) e.0 play.0 turn
     (ap (λ (y : Resident). with_stored y n) is
     ∙ (λ i. guest c.args.self.now.number o.q.cpu true false (step t.goal event 0 s).memory ((sym is i).done) n))
 

@@ -1,0 +1,95 @@
+// The two waits of a pass. What it does before, between and behind them is done by functions that can't wait, so it is
+// proved to end.
+ghost use Rattle.std.specs.Prelude.{◌≡◌, ◌⊎◌, true, false, Some, IsTrue};
+ghost use Rattle.mt_machine.specs.declared.phase.Phase.TheVariants.{Arrived, Arrived2, Passed, Running, Taken};
+ghost use Rattle.mt_machine.specs.declared.go.Go.TheVariants.{Given, Pending};
+ghost use Rattle.mt_machine.specs.Bus.{drain};
+ghost use Rattle.mt_machine.specs.System.{System as MachineSystem};
+ghost use Rattle.mt_private.specs.YardCalls.{AreIn, HasTaken, done_in, in_phase};
+
+use crate::host::Yard;
+use crate::view::YardTurn;
+use crate::visiting::{CANCEL, YardPass};
+use mt_core::Core;
+use std::sync::Wait;
+use std::thread;
+
+// What the two waits wait with. Only they can take it out, so a function that is handed one has no loop without end but
+// by them.
+#[derive(Drop)]
+pub(crate) struct Waiter<'a, R> {
+    rt: &'a R,
+}
+
+impl<'a, R> Waiter<'a, R> {
+    pub(crate) fn of(rt: &'a R) -> Waiter<'a, R> {
+        Waiter { rt }
+    }
+}
+
+impl YardPass {
+    ghost use Rattle.mt_private.specs.InYard.{IsWholeUpdate, KeepsVisit, LodgesIn, VisitsIn};
+
+    // Waits for the others. The load of the first count that ends it is the event Pass, and the answer is true, or
+    // Leave. Each load before it is none.
+    pub(crate) fn wait_first<R: Wait>(
+        &mut self,
+        waiter: &Waiter<R>,
+        yard: &Yard,
+        core: &mut Core,
+    ) -> bool
+        requires visits { (first : MachineSystem) × VisitsIn yard.now self.old core.old true false Pending first }
+        requires waits { AreIn Taken core.old.system ⊎ AreIn Arrived core.old.system }
+        ensures number { self.new.number ≡ self.old.number }
+        ensures done { done_in self.new.seat.me ≡ done_in self.old.seat.me }
+        ensures visits { IsTrue result → KeepsVisit (VisitsIn yard.now self.old core.old true false Pending) (VisitsIn yard.now self.new core.new true false Given) }
+        ensures passed { IsTrue result → AreIn Passed core.new.system }
+        ensures lodges { result ≡ false → LodgesIn yard.now self.new core.new.system true false }
+        ensures cancel { result ≡ false → self.new.seat.me.0.cancel ≡ true }
+        ensures left { result ≡ false → (first : MachineSystem) → HasTaken first core.old.system → core.new.system ≡ in_phase Running (drain 0 first) }
+    {
+        for _ in waiter.rt.forever() {
+            let found = yard.table.shared.load::<YardTurn>(&mut self.seat, 0);
+            if found >= CANCEL {
+                core.cancel();
+                core.step(0);
+                return false;
+            }
+            if found == yard.count + 1 {
+                core.go();
+                core.step(0);
+                return true;
+            }
+            thread::yield_now();
+        }
+        unreachable!()
+    }
+
+    // Waits for the others again. The load of the second count that ends it is the event Release. Each load before it
+    // is none.
+    pub(crate) fn wait_second<R: Wait>(
+        &mut self,
+        waiter: &Waiter<R>,
+        yard: &Yard,
+        core: &mut Core,
+    )
+        requires visits { (first : MachineSystem) × VisitsIn yard.now self.old core.old true true Given first }
+        requires waits { AreIn Arrived2 core.old.system }
+        ensures number { self.new.number ≡ self.old.number }
+        ensures done { done_in self.new.seat.me ≡ done_in self.old.seat.me }
+        ensures lodges { LodgesIn yard.now self.new core.new.system true true }
+        ensures shown { self.new.seat.me.0.shown ≡ Some yard.now.count }
+        ensures runs { AreIn Running core.new.system }
+        ensures whole { IsWholeUpdate yard.now self.old core.old core.new }
+    {
+        for _ in waiter.rt.forever() {
+            let found = yard.table.shared.load::<YardTurn>(&mut self.seat, 1);
+            if found == yard.count {
+                core.step(0);
+                return;
+            }
+            thread::yield_now();
+        }
+        unreachable!()
+    }
+}
