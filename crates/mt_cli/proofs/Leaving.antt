@@ -19,16 +19,17 @@ use Rattle.mt_replay.specs.Newcomers.{early_text}
 use Rattle.mt_replay.specs.Transcript.{replay_told, transcript}
 use Rattle.mt_cli.proofs.Coming.{early_without}
 use Rattle.mt_replay.proofs.Refusals.Outcomes.{one_of_three}
-use Rattle.mt_cli.specs.declared.command.Command.TheVariants.{Dump, Replay, Private, Proc}
+use Rattle.mt_cli.specs.declared.command.Command.TheVariants.{Serial, Threaded}
+use Rattle.mt_cli.specs.declared.command.SerialCommand.TheVariants.{Dump}
+use Rattle.mt_cli.specs.declared.command.ThreadedCommand.TheVariants.{Replay, Proc}
 use Rattle.mt_cli.specs.declared.command.DumpCommand.{DumpCommand}
 use Rattle.mt_cli.specs.CommandLine.{command_of, left_of, reads_input}
-use Rattle.mt_cli.specs.Measured.{measured_text}
 use Rattle.mt_cli.specs.declared.command.Command.{Command}
 use Rattle.mt_cli.specs.Answer.{Answer, FileAnswer, refused, accepted, shown, about_file, typed, paged, tidied, too_few, disabled, grained, gran_too_few, gran_disabled}
 use Rattle.mt_cli.specs.Output.{Output, usage, bad_text, answered, replayed, made, summed, measured, requested}
 use Rattle.mt_cli.specs.Tool.{Answered, CutShort, Finished, Leaves, Reads, FailedRead, Overran, Starved, Untouched}
 use Rattle.mt_output.specs.Written.{Writes}
-use Rattle.mt_cli.specs.Written.{Answers, AnswersInput, Makes, Sums, writes, no_memory, bad_input, good_input, no_input}
+use Rattle.mt_cli.specs.Written.{Answers, AnswersInput, Makes, writes, no_memory, bad_input, good_input, no_input}
 
 -- what stands after the bytes that the sink had
 appended : (before text : List ℕ) (old new : Option (List ℕ)) → old ≡ Some before → Appends old new text → new ≡ Some (before ++ text)
@@ -126,9 +127,9 @@ written_leaves words bytes text status result left before old new output read to
 
 -- a run that has written an answer, a front of one, or nothing
 pub answers_leave : (words : List (List ℕ)) (bytes : List ℕ) (dump : Shows) (command : DumpCommand) (result : Status) (left : Option (List ℕ)) (before : List ℕ) (old new : Option (List ℕ))
-    → command_of words ≡ Some (Dump command) → Shown bytes dump → left ≡ Some [] → old ≡ Some before → Answers (Answer dump command) old new result → Leaves words bytes left before new result
+    → command_of words ≡ Some (Serial (Dump command)) → Shown bytes dump → left ≡ Some [] → old ≡ Some before → Answers (Answer dump command) old new result → Leaves words bytes left before new result
 answers_leave words bytes dump command result left before old new says shows read told (writes text status answer wrote) =
-    written_leaves words bytes text status result left before old new (answered command dump text status says shows answer) (left_by words bytes left (Some (Dump command)) says read) told wrote
+    written_leaves words bytes text status result left before old new (answered command dump text status says shows answer) (left_by words bytes left (Some (Serial (Dump command))) says read) told wrote
 answers_leave words bytes dump command result left before old new says shows read told (no_memory is same) = rw is (inl (same ∙ told))
 
 -- what a failed read, or too long an input, leaves of the sink by the command
@@ -142,11 +143,11 @@ too_much words command bytes before after says is = subst (λ (o : Option Comman
 
 -- a command on a dump
 pub input_leaves : (words : List (List ℕ)) (bytes : List ℕ) (command : DumpCommand) (result : Status) (left : Option (List ℕ)) (before : List ℕ) (old new : Option (List ℕ))
-    → command_of words ≡ Some (Dump command) → old ≡ Some before → AnswersInput bytes command left old new result → Leaves words bytes left before new result
-input_leaves words bytes command result left before old new says told (bad_input fault is read wrote) = written_leaves words bytes _ BadText result left before old new (bad_text command fault says is) (left_by words bytes left (Some (Dump command)) says read) told wrote
+    → command_of words ≡ Some (Serial (Dump command)) → old ≡ Some before → AnswersInput bytes command left old new result → Leaves words bytes left before new result
+input_leaves words bytes command result left before old new says told (bad_input fault is read wrote) = written_leaves words bytes _ BadText result left before old new (bad_text command fault says is) (left_by words bytes left (Some (Serial (Dump command))) says read) told wrote
 input_leaves words bytes command result left before old new says told (good_input dump is read answers) = answers_leave words bytes dump command result left before old new says is read told answers
-input_leaves words bytes command result left before old new says told (no_input same (inl failed)) = rw failed (read_failed words (Dump command) bytes left before new says (same ∙ told))
-input_leaves words bytes command result left before old new says told (no_input same (inr long)) = rw long.0 (too_much words (Dump command) bytes before new says (same ∙ told))
+input_leaves words bytes command result left before old new says told (no_input same (inl failed)) = rw failed (read_failed words (Serial (Dump command)) bytes left before new says (same ∙ told))
+input_leaves words bytes command result left before old new says told (no_input same (inr long)) = rw long.0 (too_much words (Serial (Dump command)) bytes before new says (same ∙ told))
 
 -- a text that a number determines
 pub makes_leave : (words : List (List ℕ)) (bytes text : List ℕ) (command : Command) (result : Status) (left : Option (List ℕ)) (before : List ℕ) (old new : Option (List ℕ))
@@ -155,17 +156,10 @@ makes_leave words bytes text command result left before old new says output read
     written_leaves words bytes text Done result left before old new output (left_by words bytes left (Some command) says read) told wrote
 makes_leave words bytes text command result left before old new says output read told (inr (is, same)) = rw is (inl (same ∙ told))
 
--- sums of jobs
-pub sums_leave : (words : List (List ℕ)) (bytes : List ℕ) (cpus n accesses : ℕ) (result : Status) (left : Option (List ℕ)) (before : List ℕ) (old new : Option (List ℕ))
-    → command_of words ≡ Some (Private cpus n accesses) → left ≡ Some bytes → old ≡ Some before → Sums cpus n accesses old new result → Leaves words bytes left before new result
-sums_leave words bytes cpus n accesses result left before old new says read told (inl wrote) =
-    written_leaves words bytes (measured_text cpus n accesses) Done result left before old new (measured cpus n accesses says) (left_by words bytes left (Some (Private cpus n accesses)) says read) told wrote
-sums_leave words bytes cpus n accesses result left before old new says read told (inr (is, same)) = rw is (inl (same ∙ told))
-
 -- ---- a run over lines, which `replay` and `proc` are
 
 -- the command's output is what this tells of the bytes, and this is said of it where it is cut
-record IsRun (words : List (List ℕ)) (bytes : List ℕ) (command : Command) (start : Telling) (early : List ℕ) : Type 0 where
+record IsLineRun (words : List (List ℕ)) (bytes : List ℕ) (command : Command) (start : Telling) (early : List ℕ) : Type 0 where
   says : command_of words ≡ Some command
   output : Output words bytes (stream.transcript start bytes).text (stream.transcript start bytes).status
   read : (left : Option (List ℕ)) → left ≡ Some [] → left ≡ Some (left_of (command_of words) bytes)
@@ -178,27 +172,27 @@ nothing_taken : (before : List ℕ) (new : Option (List ℕ)) → AppendsFront (
 nothing_taken before new ([], back, is, takes) = appended before [] (Some before) new refl takes ∙ ap Some (append-nil before)
 nothing_taken before new (byte ∷ front, back, is, takes) = absurd (cc is)
 
-replays : (words : List (List ℕ)) (bytes : List ℕ) → command_of words ≡ Some Replay → IsRun words bytes Replay replay_told (early_text bytes)
+replays : (words : List (List ℕ)) (bytes : List ℕ) → command_of words ≡ Some (Threaded Replay) → IsLineRun words bytes (Threaded Replay) replay_told (early_text bytes)
 replays words bytes says = record {
   says = says;
   output = replayed says;
-  read = λ left none. left_by words bytes left (Some Replay) says none;
+  read = λ left none. left_by words bytes left (Some (Threaded Replay)) says none;
   known = λ left before after tells. tells;
   much = λ before after cut. cut;
   starved = λ before after early cut. inr (says, (λ without. subst (AppendsFront (Some before) after) (early_without bytes without) early), cut);
 }
 
-procs : (words : List (List ℕ)) (bytes : List ℕ) (cpus : ℕ) → command_of words ≡ Some (Proc cpus) → IsRun words bytes (Proc cpus) (proc_told cpus) []
+procs : (words : List (List ℕ)) (bytes : List ℕ) (cpus : ℕ) → command_of words ≡ Some (Threaded (Proc cpus)) → IsLineRun words bytes (Threaded (Proc cpus)) (proc_told cpus) []
 procs words bytes cpus says = record {
   says = says;
   output = requested cpus says;
-  read = λ left none. left_by words bytes left (Some (Proc cpus)) says none;
+  read = λ left none. left_by words bytes left (Some (Threaded (Proc cpus))) says none;
   known = λ left before after tells. tells;
   much = λ before after cut. cut;
   starved = λ before after early cut. inl (nothing_taken before after early);
 }
 
-module _ (words : List (List ℕ)) (bytes : List ℕ) (command : Command) (start : Telling) (early : List ℕ) (run : IsRun words bytes command start early) (left : Option (List ℕ)) where
+module _ (words : List (List ℕ)) (bytes : List ℕ) (command : Command) (start : Telling) (early : List ℕ) (run : IsLineRun words bytes command start early) (left : Option (List ℕ)) where
   -- the sink took a front of the text
   front_told : (before : List ℕ) (new : Option (List ℕ)) → AppendsFront (Some before) new (stream.transcript start bytes).text → CutShort words bytes before new
   front_told before new cut =
@@ -243,19 +237,19 @@ module _ (words : List (List ℕ)) (bytes : List ℕ) (command : Command) (start
   run_reads old new Disabled tells = absurd tells
 
 pub replays_leave : (words : List (List ℕ)) (bytes : List ℕ) (result : Status) (left : Option (List ℕ)) (before : List ℕ) (new : Option (List ℕ))
-    → command_of words ≡ Some Replay → Replays bytes left (Some before) new result → Leaves words bytes left before new result
-replays_leave words bytes result left before new says tells = run_leaves words bytes Replay replay_told (early_text bytes) (replays words bytes says) left before new result tells
+    → command_of words ≡ Some (Threaded Replay) → Replays bytes left (Some before) new result → Leaves words bytes left before new result
+replays_leave words bytes result left before new says tells = run_leaves words bytes (Threaded Replay) replay_told (early_text bytes) (replays words bytes says) left before new result tells
 
 pub proc_leaves : (words : List (List ℕ)) (bytes : List ℕ) (cpus : ℕ) (result : Status) (left : Option (List ℕ)) (before : List ℕ) (new : Option (List ℕ))
-    → command_of words ≡ Some (Proc cpus) → Runs (proc_told cpus) [] bytes left (Some before) new result → Leaves words bytes left before new result
-proc_leaves words bytes cpus result left before new says tells = run_leaves words bytes (Proc cpus) (proc_told cpus) [] (procs words bytes cpus says) left before new result tells
+    → command_of words ≡ Some (Threaded (Proc cpus)) → Runs (proc_told cpus) [] bytes left (Some before) new result → Leaves words bytes left before new result
+proc_leaves words bytes cpus result left before new says tells = run_leaves words bytes (Threaded (Proc cpus)) (proc_told cpus) [] (procs words bytes cpus says) left before new result tells
 
-pub replays_read : (words : List (List ℕ)) (bytes : List ℕ) (result : Status) (left old new : Option (List ℕ)) → command_of words ≡ Some Replay → Replays bytes left old new result → Reads words bytes left result
-replays_read words bytes result left old new says tells = run_reads words bytes Replay replay_told (early_text bytes) (replays words bytes says) left old new result tells
+pub replays_read : (words : List (List ℕ)) (bytes : List ℕ) (result : Status) (left old new : Option (List ℕ)) → command_of words ≡ Some (Threaded Replay) → Replays bytes left old new result → Reads words bytes left result
+replays_read words bytes result left old new says tells = run_reads words bytes (Threaded Replay) replay_told (early_text bytes) (replays words bytes says) left old new result tells
 
 pub proc_reads : (words : List (List ℕ)) (bytes : List ℕ) (cpus : ℕ) (result : Status) (left old new : Option (List ℕ))
-    → command_of words ≡ Some (Proc cpus) → Runs (proc_told cpus) [] bytes left old new result → Reads words bytes left result
-proc_reads words bytes cpus result left old new says tells = run_reads words bytes (Proc cpus) (proc_told cpus) [] (procs words bytes cpus says) left old new result tells
+    → command_of words ≡ Some (Threaded (Proc cpus)) → Runs (proc_told cpus) [] bytes left old new result → Reads words bytes left result
+proc_reads words bytes cpus result left old new says tells = run_reads words bytes (Threaded (Proc cpus)) (proc_told cpus) [] (procs words bytes cpus says) left old new result tells
 
 -- ---- what is said of the source alone
 
@@ -269,9 +263,9 @@ answered_reads words bytes left status (inr (inr (inr (inr is)))) told = rw is (
 
 -- the status of an answer
 pub answers_read : (words : List (List ℕ)) (bytes : List ℕ) (dump : Shows) (command : DumpCommand) (result : Status) (left old new : Option (List ℕ))
-    → command_of words ≡ Some (Dump command) → Shown bytes dump → left ≡ Some [] → Answers (Answer dump command) old new result → Reads words bytes left result
+    → command_of words ≡ Some (Serial (Dump command)) → Shown bytes dump → left ≡ Some [] → Answers (Answer dump command) old new result → Reads words bytes left result
 answers_read words bytes dump command result left old new says shows read (writes text status answer (inl (is, takes))) =
-    rw is (answered_reads words bytes left status (final dump command text status answer) (record { text = text; output = answered command dump text status says shows answer; read = left_by words bytes left (Some (Dump command)) says read }))
+    rw is (answered_reads words bytes left status (final dump command text status answer) (record { text = text; output = answered command dump text status says shows answer; read = left_by words bytes left (Some (Serial (Dump command))) says read }))
 answers_read words bytes dump command result left old new says shows read (writes text status answer (inr (is, cut))) = rw is tt
 answers_read words bytes dump command result left old new says shows read (no_memory is same) = rw is tt
 
@@ -295,14 +289,14 @@ never_answers dump command old new result answers = by answers
 
 -- the status of a dump that is no dump
 pub offence_reads : (words : List (List ℕ)) (bytes : List ℕ) (command : DumpCommand) (fault : DumpFault) (written : List ℕ) (result : Status) (left old new : Option (List ℕ))
-    → command_of words ≡ Some (Dump command) → dump_offence bytes ≡ Some fault → left ≡ Some [] → Writes written BadText old new result → Reads words bytes left result
+    → command_of words ≡ Some (Serial (Dump command)) → dump_offence bytes ≡ Some fault → left ≡ Some [] → Writes written BadText old new result → Reads words bytes left result
 offence_reads words bytes command fault written result left old new says is read (inl (done, takes)) =
-    rw done (record { text = _; output = bad_text command fault says is; read = left_by words bytes left (Some (Dump command)) says read })
+    rw done (record { text = _; output = bad_text command fault says is; read = left_by words bytes left (Some (Serial (Dump command))) says read })
 offence_reads words bytes command fault written result left old new says is read (inr (failed, cut)) = rw failed tt
 
 -- the status of a command on a dump
 pub input_reads : (words : List (List ℕ)) (bytes : List ℕ) (command : DumpCommand) (result : Status) (left old new : Option (List ℕ))
-    → command_of words ≡ Some (Dump command) → AnswersInput bytes command left old new result → Reads words bytes left result
+    → command_of words ≡ Some (Serial (Dump command)) → AnswersInput bytes command left old new result → Reads words bytes left result
 input_reads words bytes command result left old new says (bad_input fault is read wrote) = offence_reads words bytes command fault _ result left old new says is read wrote
 input_reads words bytes command result left old new says (good_input dump is read answers) = answers_read words bytes dump command result left old new says is read answers
 input_reads words bytes command result left old new says (no_input same (inl failed)) = rw failed tt
@@ -314,10 +308,3 @@ pub makes_read : (words : List (List ℕ)) (bytes text : List ℕ) (command : Co
 makes_read words bytes text command result left old new says output read (inl (inl (is, takes))) = rw is (record { text = text; output = output; read = left_by words bytes left (Some command) says read })
 makes_read words bytes text command result left old new says output read (inl (inr (is, cut))) = rw is tt
 makes_read words bytes text command result left old new says output read (inr (is, same)) = rw is tt
-
--- the status of sums of jobs
-pub sums_read : (words : List (List ℕ)) (bytes : List ℕ) (cpus n accesses : ℕ) (result : Status) (left old new : Option (List ℕ)) → command_of words ≡ Some (Private cpus n accesses) → left ≡ Some bytes → Sums cpus n accesses old new result → Reads words bytes left result
-sums_read words bytes cpus n accesses result left old new says read (inl (inl (is, takes))) =
-    rw is (record { text = _; output = measured cpus n accesses says; read = left_by words bytes left (Some (Private cpus n accesses)) says read })
-sums_read words bytes cpus n accesses result left old new says read (inl (inr (is, cut))) = rw is tt
-sums_read words bytes cpus n accesses result left old new says read (inr (is, same)) = rw is tt

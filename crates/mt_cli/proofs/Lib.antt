@@ -2,6 +2,7 @@ mod Answering
 pub mod FirstFiles
 mod Leaving
 mod Statuses
+mod Ran
 mod LongLines
 mod SoundCommands
 mod Parting

@@ -1,5 +1,5 @@
 -- A page's address that a command line names has 52 bits, and its index is one of eight.
-use Rattle.std.proofs.Common.{◌≡◌, ℕ, ◌-◌, ◌^◌, ◌<◌, ◌≤◌, Bool, true, false, List, [], ◌∷◌, Option, Some, None, refl, arith}
+use Rattle.std.proofs.Common.{◌≡◌, ℕ, ◌-◌, ◌^◌, ◌<◌, ◌≤◌, Bool, true, false, List, [], ◌∷◌, Option, Some, None, ap, refl, arith}
 use Rattle.std.specs.Prelude.{◌&&◌, nat_le, nat_lt, codes, if◌then◌else◌, IfSome, Result, Ok, Err}
 use Rattle.std.proofs.lemmas.Bool.{and_parts, leb-true, ltb-true}
 use Rattle.mt_text.specs.Number.{decimal_number, hex_number}
@@ -7,21 +7,21 @@ use Rattle.mt_text.specs.declared.fault.NumberFault.{NumberFault}
 use Rattle.mt_dump.proofs.OneLine.{decimal_within}
 use Rattle.mt_gran.proofs.GranuleSizes.{size_is}
 use Rattle.mt_cli.specs.declared.command.Command.{Command}
-use Rattle.mt_cli.specs.declared.command.Command.TheVariants.{Dump, Replay, Make, Big, Private, Proc}
+use Rattle.mt_cli.specs.declared.command.Command.TheVariants.{Serial, Threaded}
+use Rattle.mt_cli.specs.declared.command.SerialCommand.{SerialCommand}
+use Rattle.mt_cli.specs.declared.command.SerialCommand.TheVariants.{Dump}
+use Rattle.mt_cli.specs.declared.command.ThreadedCommand.{ThreadedCommand}
+use Rattle.mt_cli.specs.declared.command.ThreadedCommand.TheVariants.{Replay, Proc, Private}
 use Rattle.mt_cli.specs.declared.command.DumpCommand.{DumpCommand}
 use Rattle.mt_cli.specs.declared.command.DumpCommand.TheVariants.{Check, Show, Types, Page, Tidy, Gran}
 use Rattle.mt_cli.specs.declared.command.TidyOption.{TidyOption}
 use Rattle.mt_cli.specs.declared.command.TidyOption.TheVariants.{Spare, Chunk}
-use Rattle.mt_cli.specs.CommandLine.{IsSound, command_of, command_of_one, command_of_three, gran_as, gran_with, big_with, index_of, is_text, log_of, greatest, make_with, most_accesses, of_dump, option_of, page_at, private_with, proc_with, tidy_with, tidy_with_both, usual_chunk, usual_spare}
+use Rattle.mt_cli.specs.CommandLine.{IsSound, IsSoundSerial, IsSoundThreaded, command_of, command_of_one, command_of_three, threaded_of, gran_as, gran_with, big_with, index_of, is_text, log_of, greatest, make_with, most_accesses, of_dump, option_of, page_at, private_with, proc_with, tidy_with, tidy_with_both, usual_chunk, usual_spare}
 
--- a command on a dump is sound
+-- what a command asks is within its limits
 abbrev IsSoundCommand : Command → Type 0
-IsSoundCommand (Dump command) = IsSound command
-IsSoundCommand Replay = Unit {0}
-IsSoundCommand (Proc cpus) = (0 < cpus) × (cpus ≤ 16)
-IsSoundCommand (Make n) = Unit {0}
-IsSoundCommand (Big n) = Unit {0}
-IsSoundCommand (Private cpus n accesses) = (1 ≤ cpus) × (cpus ≤ 16)
+IsSoundCommand (Serial command) = IsSoundSerial command
+IsSoundCommand (Threaded command) = IsSoundThreaded command
 
 on_dump : (command : Option DumpCommand) → IfSome command IsSound → IfSome (of_dump command) IsSoundCommand
 on_dump None sound = tt
@@ -100,7 +100,7 @@ sound_private (Ok cpus) (Err fault) accesses = tt
 sound_private (Ok cpus) (Ok n) (Err fault) = tt
 sound_private (Ok cpus) (Ok n) (Ok accesses) = by_count (nat_le 1 cpus && nat_le cpus 16) refl
   where
-    by_count : (b : Bool) → (nat_le 1 cpus && nat_le cpus 16) ≡ b → IfSome (if b then Some (Private cpus n accesses) else None) IsSoundCommand
+    by_count : (b : Bool) → (nat_le 1 cpus && nat_le cpus 16) ≡ b → IfSome (if b then Some (Threaded (Private cpus n accesses)) else None) IsSoundCommand
     by_count true test = let parts = and_parts _ _ test in (leb-true _ _ parts.0, leb-true _ _ parts.1)
     by_count false test = tt
 
@@ -108,14 +108,14 @@ sound_proc : (number : Result ℕ NumberFault) → ((cpus : ℕ) → number ≡ 
 sound_proc (Err fault) small = tt
 sound_proc (Ok cpus) small = by_test (nat_lt 0 cpus) refl
   where
-    by_test : (b : Bool) → nat_lt 0 cpus ≡ b → IfSome (if b then Some (Proc cpus) else None) IsSoundCommand
+    by_test : (b : Bool) → nat_lt 0 cpus ≡ b → IfSome (if b then Some (Threaded (Proc cpus)) else None) IsSoundCommand
     by_test true test = (ltb-true _ _ test, small cpus refl)
     by_test false test = tt
 
 sound_one : (name : List ℕ) → IfSome (command_of_one name) IsSoundCommand
 sound_one name =
     choice (is_text name (codes "check")) _ _ tt
-    (choice (is_text name (codes "show")) _ _ tt (choice (is_text name (codes "types")) _ _ tt (choice (is_text name (codes "tidy")) (Some (Dump (Tidy usual_spare usual_chunk))) _ tt (choice (is_text name (codes "replay")) (Some Replay) None tt tt))))
+    (choice (is_text name (codes "show")) _ _ tt (choice (is_text name (codes "types")) _ _ tt (choice (is_text name (codes "tidy")) (Some (Serial (Dump (Tidy usual_spare usual_chunk)))) _ tt (choice (is_text name (codes "replay")) (Some (Threaded Replay)) None tt tt))))
 
 sound_three : (name first second : List ℕ) → IfSome (command_of_three name first second) IsSoundCommand
 sound_three name first second =
@@ -136,11 +136,13 @@ sound (name ∷ first ∷ second ∷ third ∷ []) =
     (choice (is_text name (codes "private")) _ None (sound_private (decimal_number first greatest) (decimal_number second greatest) (decimal_number third most_accesses)) tt)
 sound (name ∷ first ∷ second ∷ third ∷ fourth ∷ more) = tt
 
-pub sound_command : (words : List (List ℕ)) (command : DumpCommand) → command_of words ≡ Some (Dump command) → IsSound command
-sound_command words command is = let h = sound words in rw is at h
+pub sound_serial : (words : List (List ℕ)) (command : SerialCommand) → command_of words ≡ Some (Serial command) → IsSoundSerial command
+sound_serial words command is = let h = sound words in rw is at h
 
-pub sound_counts : (words : List (List ℕ)) (cpus n accesses : ℕ) → command_of words ≡ Some (Private cpus n accesses) → (1 ≤ cpus) × (cpus ≤ 16)
-sound_counts words cpus n accesses is = let h = sound words in rw is at h
+pub sound_threaded : (words : List (List ℕ)) (command : ThreadedCommand) → command_of words ≡ Some (Threaded command) → IsSoundThreaded command
+sound_threaded words command is = let h = sound words in rw is at h
 
-pub sound_cpus : (words : List (List ℕ)) (cpus : ℕ) → command_of words ≡ Some (Proc cpus) → (0 < cpus) × (cpus ≤ 16)
-sound_cpus words cpus is = let h = sound words in rw is at h
+pub is_threaded : (asked : Option Command) (command : ThreadedCommand) → threaded_of asked ≡ Some command → asked ≡ Some (Threaded command)
+is_threaded None command is = absurd (cc is)
+is_threaded (Some (Serial other)) command is = absurd (cc is)
+is_threaded (Some (Threaded other)) command is = let e : other ≡ command = cc is in ap (λ (t : ThreadedCommand). Some (Threaded t)) e

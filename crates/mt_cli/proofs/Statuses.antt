@@ -5,7 +5,8 @@ use Rattle.mt_ports.specs.declared.status.Status.TheVariants.{Done, Refused, Usa
 use Rattle.mt_regs.specs.RegisterFile.{RegisterFile}
 use Rattle.mt_dump.specs.Dumps.{Dump as Shows, first_file}
 use Rattle.mt_cli.specs.declared.command.Command.{Command}
-use Rattle.mt_cli.specs.declared.command.Command.TheVariants.{Dump}
+use Rattle.mt_cli.specs.declared.command.Command.TheVariants.{Serial}
+use Rattle.mt_cli.specs.declared.command.SerialCommand.TheVariants.{Dump}
 use Rattle.mt_cli.specs.declared.command.DumpCommand.{DumpCommand}
 use Rattle.mt_cli.specs.CommandLine.{command_of, reads_input}
 use Rattle.mt_cli.specs.Answer.{Answer, FileAnswer, MayChoose, refused, accepted, shown, about_file, typed, paged, tidied, too_few, disabled, grained, gran_too_few, gran_disabled}
@@ -51,7 +52,7 @@ answers_fit dump command old new result (no_memory is same) = (
 
 -- a command on a dump
 pub input_ends : (words : List (List ℕ)) (command : DumpCommand) (result : Status)
-    → command_of words ≡ Some (Dump command) → (result ≡ TooFew → MayChoose command) → (result ≡ Disabled → MayChoose command) → MayEnd (command_of words) result
+    → command_of words ≡ Some (Serial (Dump command)) → (result ≡ TooFew → MayChoose command) → (result ≡ Disabled → MayChoose command) → MayEnd (command_of words) result
 input_ends words command Done says few off = tt
 input_ends words command Refused says few off = ap reads_input says
 input_ends words command Usage says few off = tt

@@ -6,7 +6,11 @@ use Rattle.mt_gran.specs.Sizes.{log_among}
 use Rattle.mt_text.specs.Number.{hex_number, decimal_number}
 use Rattle.mt_text.specs.declared.fault.NumberFault.{NumberFault}
 use Rattle.mt_cli.specs.declared.command.Command.{Command}
-use Rattle.mt_cli.specs.declared.command.Command.TheVariants.{Dump, Replay, Make, Big, Private, Proc}
+use Rattle.mt_cli.specs.declared.command.Command.TheVariants.{Serial, Threaded}
+use Rattle.mt_cli.specs.declared.command.SerialCommand.{SerialCommand}
+use Rattle.mt_cli.specs.declared.command.SerialCommand.TheVariants.{Dump, Make}
+use Rattle.mt_cli.specs.declared.command.ThreadedCommand.{ThreadedCommand}
+use Rattle.mt_cli.specs.declared.command.ThreadedCommand.TheVariants.{Replay, Proc, Big, Private}
 use Rattle.mt_cli.specs.declared.command.DumpCommand.{DumpCommand}
 use Rattle.mt_cli.specs.declared.command.DumpCommand.TheVariants.{Check, Show, Types, Page, Tidy, Gran}
 use Rattle.mt_cli.specs.declared.command.TidyOption.{TidyOption}
@@ -23,16 +27,16 @@ abbrev pub usual_chunk : ℕ
 usual_chunk = 0x10000000
 
 abbrev pub of_dump : Option DumpCommand → Option Command
-of_dump (Some command) = Some (Dump command)
+of_dump (Some command) = Some (Serial (Dump command))
 of_dump None = None
 
 abbrev pub command_of_one : List ℕ → Option Command
 command_of_one name =
-    if is_text name (codes "check") then Some (Dump Check)
-    else if is_text name (codes "show") then Some (Dump Show)
-    else if is_text name (codes "types") then Some (Dump Types)
-    else if is_text name (codes "tidy") then Some (Dump (Tidy usual_spare usual_chunk))
-    else if is_text name (codes "replay") then Some Replay
+    if is_text name (codes "check") then Some (Serial (Dump Check))
+    else if is_text name (codes "show") then Some (Serial (Dump Show))
+    else if is_text name (codes "types") then Some (Serial (Dump Types))
+    else if is_text name (codes "tidy") then Some (Serial (Dump (Tidy usual_spare usual_chunk)))
+    else if is_text name (codes "replay") then Some (Threaded Replay)
     else None
 
 -- what stands behind a text at the front of a word
@@ -95,23 +99,23 @@ abbrev pub most_accesses : ℕ
 most_accesses = 4096
 
 abbrev pub make_with : Result ℕ NumberFault → Option Command
-make_with (Ok n) = Some (Make n)
+make_with (Ok n) = Some (Serial (Make n))
 make_with (Err fault) = None
 
 abbrev pub big_with : Result ℕ NumberFault → Option Command
-big_with (Ok n) = Some (Big n)
+big_with (Ok n) = Some (Threaded (Big n))
 big_with (Err fault) = None
 
 -- of 1 to 16 processors, and at most 4,096 accesses before the update and as many after it
 abbrev pub private_with : Result ℕ NumberFault → Result ℕ NumberFault → Result ℕ NumberFault → Option Command
-private_with (Ok cpus) (Ok n) (Ok accesses) = if nat_le 1 cpus && nat_le cpus 16 then Some (Private cpus n accesses) else None
+private_with (Ok cpus) (Ok n) (Ok accesses) = if nat_le 1 cpus && nat_le cpus 16 then Some (Threaded (Private cpus n accesses)) else None
 private_with (Ok cpus) (Ok n) (Err fault) = None
 private_with (Ok cpus) (Err fault) accesses = None
 private_with (Err fault) n accesses = None
 
 -- one processor to 16
 abbrev pub proc_with : Result ℕ NumberFault → Option Command
-proc_with (Ok cpus) = if nat_lt 0 cpus then Some (Proc cpus) else None
+proc_with (Ok cpus) = if nat_lt 0 cpus then Some (Threaded (Proc cpus)) else None
 proc_with (Err fault) = None
 
 abbrev pub command_of_two : List ℕ → List ℕ → Option Command
@@ -165,29 +169,43 @@ IsSound (Page address index) = (address < 2 ^ 52) × (index < 8)
 IsSound (Tidy spare chunk) = ⊤
 IsSound (Gran log spare chunk) = log ≤ 28
 
+abbrev pub IsSoundSerial : SerialCommand → Type 0
+IsSoundSerial (Dump command) = IsSound command
+IsSoundSerial (Make n) = ⊤
+
+-- one processor to 16
+abbrev pub IsSoundThreaded : ThreadedCommand → Type 0
+IsSoundThreaded Replay = ⊤
+IsSoundThreaded (Proc cpus) = (0 < cpus) × (cpus ≤ 16)
+IsSoundThreaded (Big n) = ⊤
+IsSoundThreaded (Private cpus n accesses) = (1 ≤ cpus) × (cpus ≤ 16)
+
+-- the command, where it is one that starts threads
+abbrev pub threaded_of : Option Command → Option ThreadedCommand
+threaded_of None = None
+threaded_of (Some (Serial command)) = None
+threaded_of (Some (Threaded command)) = Some command
+
 -- the commands that may take memory
 abbrev pub MayTakeMemory : Command → Type 0
-MayTakeMemory (Dump Check) = ⊥
-MayTakeMemory (Dump Show) = ⊥
-MayTakeMemory (Dump Types) = ⊤
-MayTakeMemory (Dump (Page address index)) = ⊥
-MayTakeMemory (Dump (Tidy spare chunk)) = ⊥
-MayTakeMemory (Dump (Gran log spare chunk)) = ⊤
-MayTakeMemory Replay = ⊤
-MayTakeMemory (Proc cpus) = ⊤
-MayTakeMemory (Make n) = ⊤
-MayTakeMemory (Big n) = ⊤
-MayTakeMemory (Private cpus n accesses) = ⊤
+MayTakeMemory (Serial (Dump Check)) = ⊥
+MayTakeMemory (Serial (Dump Show)) = ⊥
+MayTakeMemory (Serial (Dump Types)) = ⊤
+MayTakeMemory (Serial (Dump (Page address index))) = ⊥
+MayTakeMemory (Serial (Dump (Tidy spare chunk))) = ⊥
+MayTakeMemory (Serial (Dump (Gran log spare chunk))) = ⊤
+MayTakeMemory (Serial (Make n)) = ⊤
+MayTakeMemory (Threaded command) = ⊤
 
 -- whether a command reads the input
 abbrev pub reads_input : Option Command → Bool
 reads_input None = false
-reads_input (Some (Dump command)) = true
-reads_input (Some Replay) = true
-reads_input (Some (Proc cpus)) = true
-reads_input (Some (Make n)) = false
-reads_input (Some (Big n)) = false
-reads_input (Some (Private cpus n accesses)) = false
+reads_input (Some (Serial (Dump command))) = true
+reads_input (Some (Serial (Make n))) = false
+reads_input (Some (Threaded Replay)) = true
+reads_input (Some (Threaded (Proc cpus))) = true
+reads_input (Some (Threaded (Big n))) = false
+reads_input (Some (Threaded (Private cpus n accesses))) = false
 
 -- what a run to its end leaves of the input
 abbrev pub left_of : Option Command → List ℕ → List ℕ

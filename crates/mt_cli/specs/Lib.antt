@@ -3,6 +3,7 @@ pub mod CommandLine
 pub mod Generator
 pub mod Lines
 pub mod Output
+pub mod Runs
 pub mod Tool
 pub mod Written
 pub mod Measured

@@ -9,7 +9,9 @@ use Rattle.mt_dump.specs.declared.fault.DumpFault.{DumpFault}
 use Rattle.mt_replay.specs.Summary.{summary}
 use Rattle.mt_replay.specs.Transcript.{transcript}
 use Rattle.mt_proc.specs.Proc.{proc_transcript}
-use Rattle.mt_cli.specs.declared.command.Command.TheVariants.{Dump, Replay, Make, Big, Private, Proc}
+use Rattle.mt_cli.specs.declared.command.Command.TheVariants.{Serial, Threaded}
+use Rattle.mt_cli.specs.declared.command.SerialCommand.TheVariants.{Dump, Make}
+use Rattle.mt_cli.specs.declared.command.ThreadedCommand.TheVariants.{Replay, Proc, Big, Private}
 use Rattle.mt_cli.specs.declared.command.DumpCommand.{DumpCommand}
 use Rattle.mt_cli.specs.CommandLine.{command_of}
 use Rattle.mt_cli.specs.Generator.{make_text}
@@ -25,11 +27,11 @@ big_text n = summary_text (summary (make_text n))
 -- The text and the status for a command line and an input.
 pub data Output (words : List (List ℕ)) (bytes : List ℕ) : List ℕ → Status → Type 0 where
   usage : command_of words ≡ None → Output words bytes usage_line Usage
-  bad_text : (command : DumpCommand) (fault : DumpFault) → command_of words ≡ Some (Dump command) → dump_offence bytes ≡ Some fault → Output words bytes (bad_text_line fault) BadText
-  answered : (command : DumpCommand) (dump : Shows) (text : List ℕ) (status : Status) → command_of words ≡ Some (Dump command) → Shown bytes dump
+  bad_text : (command : DumpCommand) (fault : DumpFault) → command_of words ≡ Some (Serial (Dump command)) → dump_offence bytes ≡ Some fault → Output words bytes (bad_text_line fault) BadText
+  answered : (command : DumpCommand) (dump : Shows) (text : List ℕ) (status : Status) → command_of words ≡ Some (Serial (Dump command)) → Shown bytes dump
       → Answer dump command text status → Output words bytes text status
-  made : (n : ℕ) → command_of words ≡ Some (Make n) → Output words bytes (make_text n) Done
-  summed : (n : ℕ) → command_of words ≡ Some (Big n) → Output words bytes (big_text n) Done
-  measured : (cpus n accesses : ℕ) → command_of words ≡ Some (Private cpus n accesses) → Output words bytes (measured_text cpus n accesses) Done
-  replayed : command_of words ≡ Some Replay → Output words bytes (transcript bytes).text (transcript bytes).status
-  requested : (cpus : ℕ) → command_of words ≡ Some (Proc cpus) → Output words bytes (proc_transcript cpus bytes).text (proc_transcript cpus bytes).status
+  made : (n : ℕ) → command_of words ≡ Some (Serial (Make n)) → Output words bytes (make_text n) Done
+  summed : (n : ℕ) → command_of words ≡ Some (Threaded (Big n)) → Output words bytes (big_text n) Done
+  measured : (cpus n accesses : ℕ) → command_of words ≡ Some (Threaded (Private cpus n accesses)) → Output words bytes (measured_text cpus n accesses) Done
+  replayed : command_of words ≡ Some (Threaded Replay) → Output words bytes (transcript bytes).text (transcript bytes).status
+  requested : (cpus : ℕ) → command_of words ≡ Some (Threaded (Proc cpus)) → Output words bytes (proc_transcript cpus bytes).text (proc_transcript cpus bytes).status

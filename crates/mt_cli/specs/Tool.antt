@@ -4,7 +4,9 @@ use Rattle.mt_text.specs.Text.{longest_input}
 use Rattle.mt_ports.specs.declared.status.Status.{Status}
 use Rattle.mt_ports.specs.declared.status.Status.TheVariants.{Done, Refused, Usage, BadText, ReadFault, WriteFault, NoMemory, TooLong, TooFew, Disabled}
 use Rattle.mt_cli.specs.declared.command.Command.{Command}
-use Rattle.mt_cli.specs.declared.command.Command.TheVariants.{Dump, Replay, Proc, Make, Big, Private}
+use Rattle.mt_cli.specs.declared.command.Command.TheVariants.{Serial, Threaded}
+use Rattle.mt_cli.specs.declared.command.SerialCommand.TheVariants.{Dump}
+use Rattle.mt_cli.specs.declared.command.ThreadedCommand.TheVariants.{Replay, Proc, Big, Private}
 use Rattle.mt_cli.specs.declared.command.DumpCommand.{DumpCommand}
 use Rattle.mt_cli.specs.Answer.{MayChoose}
 use Rattle.mt_cli.specs.CommandLine.{command_of, left_of, reads_input}
@@ -40,29 +42,27 @@ Untouched before after = after ≡ Some before
 -- A read failed: the sink took nothing, but for `replay` and `proc` exactly what the known lines of the bytes tell that were taken.
 abbrev pub FailedRead : Option Command → List ℕ → Option (List ℕ) → List ℕ → Option (List ℕ) → Type 0
 FailedRead None bytes left before after = Untouched before after
-FailedRead (Some (Dump command)) bytes left before after = Untouched before after
-FailedRead (Some Replay) bytes left before after = TellsKnown replay_told bytes left (Some before) after
-FailedRead (Some (Proc cpus)) bytes left before after = TellsKnown (proc_told cpus) bytes left (Some before) after
-FailedRead (Some (Make n)) bytes left before after = Untouched before after
-FailedRead (Some (Big n)) bytes left before after = Untouched before after
-FailedRead (Some (Private cpus n accesses)) bytes left before after = Untouched before after
+FailedRead (Some (Serial command)) bytes left before after = Untouched before after
+FailedRead (Some (Threaded Replay)) bytes left before after = TellsKnown replay_told bytes left (Some before) after
+FailedRead (Some (Threaded (Proc cpus))) bytes left before after = TellsKnown (proc_told cpus) bytes left (Some before) after
+FailedRead (Some (Threaded (Big n))) bytes left before after = Untouched before after
+FailedRead (Some (Threaded (Private cpus n accesses))) bytes left before after = Untouched before after
 
 -- The input is too long: the sink took nothing, but for `replay` and `proc`, which have written a front of their output.
 abbrev pub Overran : Option Command → List (List ℕ) → List ℕ → List ℕ → Option (List ℕ) → Type 0
 Overran None words bytes before after = Untouched before after
-Overran (Some (Dump command)) words bytes before after = Untouched before after
-Overran (Some Replay) words bytes before after = CutShort words bytes before after
-Overran (Some (Proc cpus)) words bytes before after = CutShort words bytes before after
-Overran (Some (Make n)) words bytes before after = Untouched before after
-Overran (Some (Big n)) words bytes before after = Untouched before after
-Overran (Some (Private cpus n accesses)) words bytes before after = Untouched before after
+Overran (Some (Serial command)) words bytes before after = Untouched before after
+Overran (Some (Threaded Replay)) words bytes before after = CutShort words bytes before after
+Overran (Some (Threaded (Proc cpus))) words bytes before after = CutShort words bytes before after
+Overran (Some (Threaded (Big n))) words bytes before after = Untouched before after
+Overran (Some (Threaded (Private cpus n accesses))) words bytes before after = Untouched before after
 
 -- Memory was refused: the sink took nothing, but for `replay`, which may have written a front of its first line, or of more where a line
 -- brings a processor up.
 abbrev pub Starved : List (List ℕ) → List ℕ → List ℕ → Option (List ℕ) → Type 0
 Starved words bytes before after =
     Untouched before after
-    ⊎ ((command_of words ≡ Some Replay) × (IsWithoutNewcomers bytes → AppendsFront (Some before) after accepted_line) × CutShort words bytes before after)
+    ⊎ ((command_of words ≡ Some (Threaded Replay)) × (IsWithoutNewcomers bytes → AppendsFront (Some before) after accepted_line) × CutShort words bytes before after)
 
 -- what each status says of the bytes: those that the source held and has left, and those that the sink had before and has after
 abbrev pub Leaves : List (List ℕ) → List ℕ → Option (List ℕ) → List ℕ → Option (List ℕ) → Status → Type 0
@@ -100,7 +100,7 @@ Reads words bytes left Disabled = Answered words bytes left Disabled
 
 -- the commands that fit ranges into pairs, `tidy` and `gran`
 abbrev pub FitsRanges : Option Command → Type 0
-FitsRanges command = (asked : DumpCommand) × (command ≡ Some (Dump asked)) × MayChoose asked
+FitsRanges command = (asked : DumpCommand) × (command ≡ Some (Serial (Dump asked))) × MayChoose asked
 
 -- The statuses that tell of an input are of commands that read it, and two of them of those that fit ranges into pairs.
 abbrev pub MayEnd : Option Command → Status → Type 0

@@ -4,7 +4,6 @@ use Rattle.mt_text.specs.Text.{longest_input}
 use Rattle.mt_ports.specs.declared.status.Status.{Status}
 use Rattle.mt_ports.specs.declared.status.Status.TheVariants.{Done, BadText, ReadFault, NoMemory, TooLong}
 use Rattle.mt_cli.specs.declared.command.DumpCommand.{DumpCommand}
-use Rattle.mt_cli.specs.Measured.{measured_text}
 use Rattle.mt_cli.specs.Answer.{Answer}
 use Rattle.mt_dump.specs.Dumps.{Dump}
 use Rattle.mt_dump.specs.Dump.{Shown, dump_offence}
@@ -12,13 +11,9 @@ use Rattle.mt_dump.specs.declared.fault.DumpFault.{DumpFault}
 use Rattle.mt_output.specs.Lines.{bad_text_line}
 use Rattle.mt_output.specs.Written.{Writes}
 
--- The sink took a text that a number determines, or a front of it, or nothing for want of memory.
+-- The sink took a text that numbers determine, or a front of it, or nothing for want of memory.
 abbrev pub Makes : List ℕ → Option (List ℕ) → Option (List ℕ) → Status → Type 0
 Makes text old new result = Writes text Done old new result ⊎ ((result ≡ NoMemory) × (new ≡ old))
-
--- The same of the text of jobs that three numbers determine.
-abbrev pub Sums : ℕ → ℕ → ℕ → Option (List ℕ) → Option (List ℕ) → Status → Type 0
-Sums cpus n accesses old new result = Writes (measured_text cpus n accesses) Done old new result ⊎ ((result ≡ NoMemory) × (new ≡ old))
 
 -- The sink took an answer, or a front of one, or nothing for want of memory. Which texts and statuses are an answer is given.
 pub data Answers (answer : List ℕ → Status → Type 0) (old new : Option (List ℕ)) (result : Status) : Type 0 where

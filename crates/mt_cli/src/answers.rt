@@ -7,9 +7,11 @@ ghost use Rattle.mt_cli.specs.declared.command.DumpCommand.TheVariants.{Check, S
 ghost use Rattle.mt_cli.specs.CommandLine.{IsSound, MayTakeMemory};
 ghost use Rattle.mt_cli.specs.Answer.{Answer, FileAnswer, MayChoose};
 ghost use Rattle.mt_cli.specs.Generator.{make_text};
+ghost use Rattle.mt_cli.specs.Measured.{measured_text};
 ghost use Rattle.mt_cli.specs.Output.{big_text};
-ghost use Rattle.mt_cli.specs.declared.command.Command.TheVariants.{Dump as OfDump};
-ghost use Rattle.mt_cli.specs.Written.{Answers, AnswersInput, Makes, Sums};
+ghost use Rattle.mt_cli.specs.declared.command.Command.TheVariants.{Serial};
+ghost use Rattle.mt_cli.specs.declared.command.SerialCommand.TheVariants.{Dump as OfDump};
+ghost use Rattle.mt_cli.specs.Written.{Answers, AnswersInput, Makes};
 ghost use Rattle.mt_regs.specs.Registers.{HasThreeDigits};
 
 use crate::DumpCommand;
@@ -148,7 +150,7 @@ fn answer_accepted<K: Sink>(alloc: Global, command: DumpCommand, d: &Dump, sink:
     requires accepted { first_refusal d.now.files ≡ None }
     requires command { IsSound command }
     ensures bytes { Answers (Answer d.now command) (K.taken sink.old) (K.taken sink.new) result }
-    ensures no_memory { result ≡ Status.NoMemory → MayTakeMemory (OfDump command) }
+    ensures no_memory { result ≡ Status.NoMemory → MayTakeMemory (Serial (OfDump command)) }
     ensures cause { StatusHasCause Status.WriteFault (K.faults sink.old) (K.faults sink.new) result }
 {
     d.is_dump(); // a fact for the proof
@@ -167,7 +169,7 @@ fn answer_accepted<K: Sink>(alloc: Global, command: DumpCommand, d: &Dump, sink:
 pub fn answer<K: Sink>(alloc: Global, command: DumpCommand, d: &Dump, sink: &mut K) -> Status
     requires sound { IsSound command }
     ensures bytes { Answers (Answer d.now command) (K.taken sink.old) (K.taken sink.new) result }
-    ensures no_memory { result ≡ Status.NoMemory → MayTakeMemory (OfDump command) }
+    ensures no_memory { result ≡ Status.NoMemory → MayTakeMemory (Serial (OfDump command)) }
     ensures cause { StatusHasCause Status.WriteFault (K.faults sink.old) (K.faults sink.new) result }
 {
     if let DumpCommand::Show = command {
@@ -220,7 +222,7 @@ pub fn private<R: AllocGlobal + Threads + Wait + Sync, K: Sink, G: Gate>(
 ) -> Status
     requires some { 1 ≤ cpus }
     requires few { cpus ≤ 16 }
-    ensures bytes { Sums cpus n accesses (K.taken sink.old) (K.taken sink.new) result }
+    ensures bytes { Makes (measured_text cpus n accesses) (K.taken sink.old) (K.taken sink.new) result }
     ensures cause { StatusHasCause Status.WriteFault (K.faults sink.old) (K.faults sink.new) result }
 {
     match measured_text(rt, rt.alloc(), cpus, n, accesses, gate) {
@@ -242,7 +244,7 @@ pub fn answer_input<S: Source, K: Sink>(
     ensures usage { result ≢ Status.Usage }
     ensures few { result ≡ Status.TooFew → MayChoose command }
     ensures disabled { result ≡ Status.Disabled → MayChoose command }
-    ensures no_memory { result ≡ Status.NoMemory → MayTakeMemory (OfDump command) }
+    ensures no_memory { result ≡ Status.NoMemory → MayTakeMemory (Serial (OfDump command)) }
     ensures read_fault { StatusHasCause Status.ReadFault (S.faults source.old) (S.faults source.new) result }
     ensures write_fault { StatusHasCause Status.WriteFault (K.faults sink.old) (K.faults sink.new) result }
     ensures too_long { (result ≡ Status.TooLong) ↔ GaveTooMuch (S.given source.old) (S.given source.new) }

@@ -1,19 +1,32 @@
-/// What a command line asks for, by what is read: a dump or a script. A command that reads nothing
-/// has a variant of its own.
+/// What a command line asks for.
 #[derive(Clone, Copy, Debug, PartialEq, Eq)]
 pub enum Command {
+    /// What the calling thread does alone.
+    Serial(SerialCommand),
+    /// What is done on threads that wait for each other.
+    Threaded(ThreadedCommand),
+}
+
+/// A command that starts no thread and waits for nobody.
+#[derive(Clone, Copy, Debug, PartialEq, Eq)]
+pub enum SerialCommand {
     /// An answer about the register file of a dump.
     Dump(DumpCommand),
+    /// The text for measurements that a number determines. It reads nothing.
+    Make(u64),
+}
+
+/// A command that runs processors on threads, and may wait for them.
+#[derive(Clone, Copy, Debug, PartialEq, Eq)]
+pub enum ThreadedCommand {
     /// The transcript of a script.
     Replay,
     /// What becomes of requests behind a dump, on so many processors.
     Proc(u32),
-    /// The text for measurements that a number determines.
-    Make(u64),
-    /// The numbers of that text's transcript.
+    /// The numbers of the transcript of a text for measurements. It reads nothing.
     Big(u64),
     /// What the jobs of so many processors sum to, which begin with this number and make so many
-    /// accesses before one update and as many after it.
+    /// accesses before one update and as many after it. It reads nothing.
     Private { cpus: u32, n: u64, accesses: u32 },
 }
 

@@ -12,7 +12,7 @@ mod top;
 mod words;
 
 pub use answers::{answer, answer_input, big, make, private};
-pub use command::{Command, DumpCommand, TidyOption};
+pub use command::{Command, DumpCommand, SerialCommand, ThreadedCommand, TidyOption};
 pub use generator::make_text;
 pub use lines::{
     disabled_line, lost_line, page_text, run_line, summary_text, too_few_line, used_line,
@@ -20,5 +20,5 @@ pub use lines::{
 pub use measured::measured_text;
 pub use program::program_status;
 pub use texts::{grained_text, tidied_text, types_text};
-pub use top::tool;
+pub use top::{answer_words, tool};
 pub use words::command_of;

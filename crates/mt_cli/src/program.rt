@@ -1,24 +1,37 @@
-ghost use Rattle.std.specs.Prelude.{◌≡◌, ◌⊎◌, ◌↔◌, false, ℕ, List, Some, None, IfErr};
+ghost use Rattle.std.specs.Prelude.{◌≡◌, ◌⊎◌, None, IfErr, IfOk, IsErr, map, string_bytes};
 ghost use Rattle.std.specs.IoError.{error_kind};
 ghost use Rattle.std.specs.Process.{exit_status};
-ghost use Rattle.mt_ports.specs.Causes.{StatusHasCause};
 ghost use Rattle.mt_ports.specs.Exit.{code};
-ghost use Rattle.mt_cli.specs.CommandLine.{command_of, reads_input};
 ghost use Rattle.mt_output.specs.Program.{Exits, words_of};
-ghost use Rattle.mt_text.specs.Feed.{GaveTooMuch};
-ghost use Rattle.mt_cli.specs.Tool.{Leaves, MayEnd, Reads};
+ghost use Rattle.mt_cli.specs.CommandLine.{command_of};
+ghost use Rattle.mt_cli.specs.Runs.{IsRun, sink_run, source_run};
 
 use crate::tool;
 use mt_output::{exit_code, words_behind_name};
-use mt_ports::{Gate, Sink, Source, Status};
+use mt_ports::{Gate, NoMemory, Sink, Source, Status};
+use std::alloc::Global;
 use std::env::Args;
 use std::io::{self, ErrorKind};
 use std::process::ExitCode;
 use std::sync::Wait;
 use std::thread::Threads;
 
-// Runs the tool. Arguments that are no text are wrong usage, and arguments that find no memory end
-// the program before the run.
+// The words of the command line. There are none where an argument is no text, which is wrong usage.
+fn words_from(alloc: Global, args: io::Result<Args>) -> Result<Vec<String>, NoMemory>
+    ensures words { IfOk result (λ words. map string_bytes words.items ≡ words_of args) }
+    ensures no_memory { IfErr args (λ error. error_kind error ≡ ErrorKind.OutOfMemory → IsErr result) }
+{
+    match args {
+        Ok(args) => match words_behind_name(alloc, args) {
+            Ok(words) => Ok(words),
+            Err(_) => Err(NoMemory),
+        },
+        Err(error) if error.kind() == ErrorKind::OutOfMemory => Err(NoMemory),
+        Err(_) => Ok(Vec::new(alloc)),
+    }
+}
+
+// Runs the tool. Arguments that find no memory end the program before the run.
 fn run<R: AllocGlobal + Threads + Wait + Sync, S: Source, K: Sink, G: Gate>(
     rt: &R,
     args: io::Result<Args>,
@@ -26,27 +39,14 @@ fn run<R: AllocGlobal + Threads + Wait + Sync, S: Source, K: Sink, G: Gate>(
     sink: &mut K,
     gate: &G,
 ) -> Status
-    ensures leaves { (bytes before : List ℕ) → S.left source.old ≡ Some bytes → K.taken sink.old ≡ Some before →
-        Leaves (words_of args) bytes (S.left source.new) before (K.taken sink.new) result }
-    ensures reads { (bytes : List ℕ) → S.left source.old ≡ Some bytes → Reads (words_of args) bytes (S.left source.new) result }
-    ensures statuses { MayEnd (command_of (words_of args)) result }
-    ensures usage { result ≡ Status.Usage → command_of (words_of args) ≡ None }
+    ensures run { IsRun (words_of args)
+        (source_run S.left S.faults S.given source.old source.new) (sink_run K.taken K.faults sink.old sink.new) result }
     ensures no_command { command_of (words_of args) ≡ None → (result ≡ Status.Usage) ⊎ (result ≡ Status.WriteFault) ⊎ (result ≡ Status.NoMemory) }
-    ensures unread { reads_input (command_of (words_of args)) ≡ false → source.new ≡ source.old }
-    ensures unread_leaves { (bytes before : List ℕ) → reads_input (command_of (words_of args)) ≡ false → K.taken sink.old ≡ Some before →
-        Leaves (words_of args) bytes (Some bytes) before (K.taken sink.new) result }
-    ensures read_fault { StatusHasCause Status.ReadFault (S.faults source.old) (S.faults source.new) result }
-    ensures write_fault { StatusHasCause Status.WriteFault (K.faults sink.old) (K.faults sink.new) result }
-    ensures too_long { (result ≡ Status.TooLong) ↔ GaveTooMuch (S.given source.old) (S.given source.new) }
     ensures no_memory { IfErr args (λ error. error_kind error ≡ ErrorKind.OutOfMemory → result ≡ Status.NoMemory) }
 {
-    match args {
-        Ok(args) => match words_behind_name(rt.alloc(), args) {
-            Ok(words) => tool(rt, &words, source, sink, gate),
-            Err(_) => Status::NoMemory,
-        },
-        Err(error) if error.kind() == ErrorKind::OutOfMemory => Status::NoMemory,
-        Err(_) => tool(rt, &[], source, sink, gate),
+    match words_from(rt.alloc(), args) {
+        Ok(words) => tool(rt, &words, source, sink, gate),
+        Err(_) => Status::NoMemory,
     }
 }
 
@@ -59,18 +59,9 @@ pub fn program_status<R: AllocGlobal + Threads + Wait + Sync, S: Source, K: Sink
     sink: &mut K,
     gate: &G,
 ) -> ExitCode
-    ensures leaves { (bytes before : List ℕ) → S.left source.old ≡ Some bytes → K.taken sink.old ≡ Some before →
-        Exits result (Leaves (words_of args) bytes (S.left source.new) before (K.taken sink.new)) }
-    ensures reads { (bytes : List ℕ) → S.left source.old ≡ Some bytes → Exits result (Reads (words_of args) bytes (S.left source.new)) }
-    ensures statuses { Exits result (MayEnd (command_of (words_of args))) }
-    ensures usage { Exits result (λ status. status ≡ Status.Usage → command_of (words_of args) ≡ None) }
+    ensures run { Exits result (IsRun (words_of args)
+        (source_run S.left S.faults S.given source.old source.new) (sink_run K.taken K.faults sink.old sink.new)) }
     ensures no_command { Exits result (λ status. command_of (words_of args) ≡ None → (status ≡ Status.Usage) ⊎ (status ≡ Status.WriteFault) ⊎ (status ≡ Status.NoMemory)) }
-    ensures unread { reads_input (command_of (words_of args)) ≡ false → source.new ≡ source.old }
-    ensures unread_leaves { (bytes before : List ℕ) → reads_input (command_of (words_of args)) ≡ false → K.taken sink.old ≡ Some before →
-        Exits result (Leaves (words_of args) bytes (Some bytes) before (K.taken sink.new)) }
-    ensures read_fault { Exits result (StatusHasCause Status.ReadFault (S.faults source.old) (S.faults source.new)) }
-    ensures write_fault { Exits result (StatusHasCause Status.WriteFault (K.faults sink.old) (K.faults sink.new)) }
-    ensures too_long { Exits result (λ status. (status ≡ Status.TooLong) ↔ GaveTooMuch (S.given source.old) (S.given source.new)) }
 
     // Where the arguments find no memory nothing is run.
     ensures no_memory { IfErr args (λ error. error_kind error ≡ ErrorKind.OutOfMemory → exit_status result ≡ code Status.NoMemory) }

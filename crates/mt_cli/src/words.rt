@@ -2,7 +2,7 @@ ghost use Rattle.std.specs.Prelude.{◌≡◌, ◌≤◌, ◌<◌, ◌+◌, ◌^
 ghost use Rattle.mt_text.specs.Number.{decimal_number, hex_number};
 ghost use Rattle.mt_cli.specs.CommandLine.{behind, greatest, command_of, command_of_four, command_of_one, command_of_three, command_of_two, gran_as, gran_with, big_with, index_of, log_of, make_with, most_accesses, of_dump, option_of, private_with, proc_with, tidy_with, tidy_with_both};
 
-use crate::{Command, DumpCommand, TidyOption};
+use crate::{Command, DumpCommand, SerialCommand, ThreadedCommand, TidyOption};
 use mt_gran::granule_log;
 use mt_text::{decimal, hex64};
 
@@ -28,7 +28,7 @@ fn of_dump(command: Option<DumpCommand>) -> Option<Command>
     ensures { result ≡ of_dump command }
 {
     match command {
-        Some(command) => Some(Command::Dump(command)),
+        Some(command) => Some(Command::Serial(SerialCommand::Dump(command))),
         None => None,
     }
 }
@@ -37,15 +37,15 @@ fn command_of_one(name: &[u8]) -> Option<Command>
     ensures { result ≡ command_of_one name.now }
 {
     if name == b"check".as_slice() {
-        Some(Command::Dump(DumpCommand::Check))
+        Some(Command::Serial(SerialCommand::Dump(DumpCommand::Check)))
     } else if name == b"show".as_slice() {
-        Some(Command::Dump(DumpCommand::Show))
+        Some(Command::Serial(SerialCommand::Dump(DumpCommand::Show)))
     } else if name == b"types".as_slice() {
-        Some(Command::Dump(DumpCommand::Types))
+        Some(Command::Serial(SerialCommand::Dump(DumpCommand::Types)))
     } else if name == b"tidy".as_slice() {
-        Some(Command::Dump(USUAL_TIDY))
+        Some(Command::Serial(SerialCommand::Dump(USUAL_TIDY)))
     } else if name == b"replay".as_slice() {
-        Some(Command::Replay)
+        Some(Command::Threaded(ThreadedCommand::Replay))
     } else {
         None
     }
@@ -138,7 +138,7 @@ fn make_with(number: &[u8]) -> Option<Command>
     ensures { result ≡ make_with (decimal_number number.now greatest) }
 {
     match decimal(number, u64::MAX) {
-        Ok(n) => Some(Command::Make(n)),
+        Ok(n) => Some(Command::Serial(SerialCommand::Make(n))),
         Err(_) => None,
     }
 }
@@ -147,7 +147,7 @@ fn big_with(number: &[u8]) -> Option<Command>
     ensures { result ≡ big_with (decimal_number number.now greatest) }
 {
     match decimal(number, u64::MAX) {
-        Ok(n) => Some(Command::Big(n)),
+        Ok(n) => Some(Command::Threaded(ThreadedCommand::Big(n))),
         Err(_) => None,
     }
 }
@@ -163,11 +163,11 @@ fn private_with(cpus: &[u8], number: &[u8], accesses: &[u8]) -> Option<Command>
         return None;
     };
     if cpus >= 1 && cpus <= MOST_PROCESSORS {
-        Some(Command::Private {
+        Some(Command::Threaded(ThreadedCommand::Private {
             cpus: cpus as u32,
             n,
             accesses: accesses as u32,
-        })
+        }))
     } else {
         None
     }
@@ -177,7 +177,7 @@ fn proc_with(number: &[u8]) -> Option<Command>
     ensures { result ≡ proc_with (decimal_number number.now 16) }
 {
     match decimal(number, MOST_PROCESSORS) {
-        Ok(cpus) if cpus > 0 => Some(Command::Proc(cpus as u32)),
+        Ok(cpus) if cpus > 0 => Some(Command::Threaded(ThreadedCommand::Proc(cpus as u32))),
         _ => None,
     }
 }
@@ -216,7 +216,7 @@ fn command_of_three(name: &[u8], first: &[u8], second: &[u8]) -> Option<Command>
     if name == b"page".as_slice() {
         return match (hex64(first), index_of(second)) {
             (Ok(address), Some(index)) if address < ADDRESSES => {
-                Some(Command::Dump(DumpCommand::Page { address, index }))
+                Some(Command::Serial(SerialCommand::Dump(DumpCommand::Page { address, index })))
             }
             _ => None,
         };

@@ -18,7 +18,9 @@ use Rattle.mt_tidy.specs.Keeps.{IsLeast}
 use Rattle.mt_tidy.specs.Kept.{IsTidy, NeedsMore}
 use Rattle.mt_gran.specs.Grained.{IsGrained, NeedsMore as GranNeedsMore}
 use Rattle.mt_gran.proofs.RoundedFit.{needs_is_least, one_least as one_rounded, used_is_least}
-use Rattle.mt_cli.specs.declared.command.Command.TheVariants.{Dump, Replay, Make, Big, Private, Proc}
+use Rattle.mt_cli.specs.declared.command.Command.TheVariants.{Serial, Threaded}
+use Rattle.mt_cli.specs.declared.command.SerialCommand.TheVariants.{Dump, Make}
+use Rattle.mt_cli.specs.declared.command.ThreadedCommand.TheVariants.{Replay, Proc, Big, Private}
 use Rattle.mt_cli.specs.declared.command.Command.{Command}
 use Rattle.mt_cli.specs.declared.command.DumpCommand.{DumpCommand}
 use Rattle.mt_cli.specs.declared.command.DumpCommand.TheVariants.{Check, Show, Types, Page, Tidy, Gran}
@@ -228,13 +230,13 @@ agree_answers dump command text other s t a b = agree_parts dump command text ot
 
 -- one status, and one text unless a tidied or rounded file was written
 abbrev pub AgreeFor : List (List ℕ) → List ℕ → List ℕ → Status → Status → Type 0
-AgreeFor words text other s t = (s ≡ t) × (((command : DumpCommand) → command_of words ≡ Some (Dump command) → MayChoose command → s ≢ Done) → text ≡ other)
+AgreeFor words text other s t = (s ≡ t) × (((command : DumpCommand) → command_of words ≡ Some (Serial (Dump command)) → MayChoose command → s ≢ Done) → text ≡ other)
 
-some_command : (words : List (List ℕ)) (a b : DumpCommand) → command_of words ≡ Some (Dump a) → command_of words ≡ Some (Dump b) → a ≡ b
-some_command words a b first second = let e : Some (Dump a) ≡ Some (Dump b) = sym first ∙ second in cc e
+some_command : (words : List (List ℕ)) (a b : DumpCommand) → command_of words ≡ Some (Serial (Dump a)) → command_of words ≡ Some (Serial (Dump b)) → a ≡ b
+some_command words a b first second = let e : Some (Serial (Dump a)) ≡ Some (Serial (Dump b)) = sym first ∙ second in cc e
 
 agree_answered : (words : List (List ℕ)) (bytes text other : List ℕ) (s t : Status) (a b : DumpCommand) (f g : Shows)
-    → command_of words ≡ Some (Dump a) → command_of words ≡ Some (Dump b) → Shown bytes f → Shown bytes g → Answer f a text s → Answer g b other t → AgreeFor words text other s t
+    → command_of words ≡ Some (Serial (Dump a)) → command_of words ≡ Some (Serial (Dump b)) → Shown bytes f → Shown bytes g → Answer f a text s → Answer g b other t → AgreeFor words text other s t
 agree_answered words bytes text other s t a b f g says also shows too left right =
     let command : b ≡ a = some_command words b a also says in
     let dump : g ≡ f = one_dump bytes g f too shows in
@@ -243,65 +245,65 @@ agree_answered words bytes text other s t a b f g says also shows too left right
     (agree.0, λ not_done. agree.1 (λ chooses. not_done a says chooses))
 
 -- words of `replay` are those of no other command
-no_replay : (words : List (List ℕ)) (command : DumpCommand) → command_of words ≡ Some (Dump command) → command_of words ≡ Some Replay → ⊥
-no_replay words command says is = let e : Some (Dump command) ≡ Some Replay = sym says ∙ is in cc e
+no_replay : (words : List (List ℕ)) (command : DumpCommand) → command_of words ≡ Some (Serial (Dump command)) → command_of words ≡ Some (Threaded Replay) → ⊥
+no_replay words command says is = let e : Some (Serial (Dump command)) ≡ Some (Threaded Replay) = sym says ∙ is in cc e
 
 -- nor are those of `make`
-no_make : (words : List (List ℕ)) (command : DumpCommand) (n : ℕ) → command_of words ≡ Some (Dump command) → command_of words ≡ Some (Make n) → ⊥
-no_make words command n says is = let e : Some (Dump command) ≡ Some (Make n) = sym says ∙ is in cc e
+no_make : (words : List (List ℕ)) (command : DumpCommand) (n : ℕ) → command_of words ≡ Some (Serial (Dump command)) → command_of words ≡ Some (Serial (Make n)) → ⊥
+no_make words command n says is = let e : Some (Serial (Dump command)) ≡ Some (Serial (Make n)) = sym says ∙ is in cc e
 
-no_made_replay : (words : List (List ℕ)) (n : ℕ) → command_of words ≡ Some Replay → command_of words ≡ Some (Make n) → ⊥
-no_made_replay words n says is = let e : Some Replay ≡ Some (Make n) = sym says ∙ is in cc e
+no_made_replay : (words : List (List ℕ)) (n : ℕ) → command_of words ≡ Some (Threaded Replay) → command_of words ≡ Some (Serial (Make n)) → ⊥
+no_made_replay words n says is = let e : Some (Threaded Replay) ≡ Some (Serial (Make n)) = sym says ∙ is in cc e
 
 -- nor are those of `proc` words of another command
-no_proc : (words : List (List ℕ)) (command : DumpCommand) (cpus : ℕ) → command_of words ≡ Some (Dump command) → command_of words ≡ Some (Proc cpus) → ⊥
-no_proc words command cpus says is = let e : Some (Dump command) ≡ Some (Proc cpus) = sym says ∙ is in cc e
+no_proc : (words : List (List ℕ)) (command : DumpCommand) (cpus : ℕ) → command_of words ≡ Some (Serial (Dump command)) → command_of words ≡ Some (Threaded (Proc cpus)) → ⊥
+no_proc words command cpus says is = let e : Some (Serial (Dump command)) ≡ Some (Threaded (Proc cpus)) = sym says ∙ is in cc e
 
-no_proc_replay : (words : List (List ℕ)) (cpus : ℕ) → command_of words ≡ Some Replay → command_of words ≡ Some (Proc cpus) → ⊥
-no_proc_replay words cpus says is = let e : Some Replay ≡ Some (Proc cpus) = sym says ∙ is in cc e
+no_proc_replay : (words : List (List ℕ)) (cpus : ℕ) → command_of words ≡ Some (Threaded Replay) → command_of words ≡ Some (Threaded (Proc cpus)) → ⊥
+no_proc_replay words cpus says is = let e : Some (Threaded Replay) ≡ Some (Threaded (Proc cpus)) = sym says ∙ is in cc e
 
-no_proc_big : (words : List (List ℕ)) (cpus n : ℕ) → command_of words ≡ Some (Proc cpus) → command_of words ≡ Some (Big n) → ⊥
-no_proc_big words cpus n says is = let e : Some (Proc cpus) ≡ Some (Big n) = sym says ∙ is in cc e
+no_proc_big : (words : List (List ℕ)) (cpus n : ℕ) → command_of words ≡ Some (Threaded (Proc cpus)) → command_of words ≡ Some (Threaded (Big n)) → ⊥
+no_proc_big words cpus n says is = let e : Some (Threaded (Proc cpus)) ≡ Some (Threaded (Big n)) = sym says ∙ is in cc e
 
-no_proc_jobs : (words : List (List ℕ)) (number cpus n accesses : ℕ) → command_of words ≡ Some (Proc number) → command_of words ≡ Some (Private cpus n accesses) → ⊥
-no_proc_jobs words number cpus n accesses says is = let e : Some (Proc number) ≡ Some (Private cpus n accesses) = sym says ∙ is in cc e
+no_proc_jobs : (words : List (List ℕ)) (number cpus n accesses : ℕ) → command_of words ≡ Some (Threaded (Proc number)) → command_of words ≡ Some (Threaded (Private cpus n accesses)) → ⊥
+no_proc_jobs words number cpus n accesses says is = let e : Some (Threaded (Proc number)) ≡ Some (Threaded (Private cpus n accesses)) = sym says ∙ is in cc e
 
-no_made_proc : (words : List (List ℕ)) (cpus n : ℕ) → command_of words ≡ Some (Proc cpus) → command_of words ≡ Some (Make n) → ⊥
-no_made_proc words cpus n says is = let e : Some (Proc cpus) ≡ Some (Make n) = sym says ∙ is in cc e
+no_made_proc : (words : List (List ℕ)) (cpus n : ℕ) → command_of words ≡ Some (Threaded (Proc cpus)) → command_of words ≡ Some (Serial (Make n)) → ⊥
+no_made_proc words cpus n says is = let e : Some (Threaded (Proc cpus)) ≡ Some (Serial (Make n)) = sym says ∙ is in cc e
 
-same_number : (words : List (List ℕ)) (m n : ℕ) → command_of words ≡ Some (Make m) → command_of words ≡ Some (Make n) → m ≡ n
-same_number words m n says is = let e : Some (Make m) ≡ Some (Make n) = sym says ∙ is in cc e
+same_number : (words : List (List ℕ)) (m n : ℕ) → command_of words ≡ Some (Serial (Make m)) → command_of words ≡ Some (Serial (Make n)) → m ≡ n
+same_number words m n says is = let e : Some (Serial (Make m)) ≡ Some (Serial (Make n)) = sym says ∙ is in cc e
 
-same_cpus : (words : List (List ℕ)) (m n : ℕ) → command_of words ≡ Some (Proc m) → command_of words ≡ Some (Proc n) → m ≡ n
-same_cpus words m n says is = let e : Some (Proc m) ≡ Some (Proc n) = sym says ∙ is in cc e
+same_cpus : (words : List (List ℕ)) (m n : ℕ) → command_of words ≡ Some (Threaded (Proc m)) → command_of words ≡ Some (Threaded (Proc n)) → m ≡ n
+same_cpus words m n says is = let e : Some (Threaded (Proc m)) ≡ Some (Threaded (Proc n)) = sym says ∙ is in cc e
 
-same_big : (words : List (List ℕ)) (m n : ℕ) → command_of words ≡ Some (Big m) → command_of words ≡ Some (Big n) → m ≡ n
-same_big words m n says is = let e : Some (Big m) ≡ Some (Big n) = sym says ∙ is in cc e
+same_big : (words : List (List ℕ)) (m n : ℕ) → command_of words ≡ Some (Threaded (Big m)) → command_of words ≡ Some (Threaded (Big n)) → m ≡ n
+same_big words m n says is = let e : Some (Threaded (Big m)) ≡ Some (Threaded (Big n)) = sym says ∙ is in cc e
 
 -- words are one command
 one_command : (words : List (List ℕ)) (command other : Command) → command_of words ≡ Some command → command_of words ≡ Some other → command ≡ other
 one_command words command other says is = let e : Some command ≡ Some other = sym says ∙ is in cc e
 
-no_sums : (words : List (List ℕ)) (command : DumpCommand) (cpus n accesses : ℕ) → command_of words ≡ Some (Dump command) → command_of words ≡ Some (Private cpus n accesses) → ⊥
-no_sums words command cpus n accesses says is = let e = one_command words (Dump command) (Private cpus n accesses) says is in cc e
+no_sums : (words : List (List ℕ)) (command : DumpCommand) (cpus n accesses : ℕ) → command_of words ≡ Some (Serial (Dump command)) → command_of words ≡ Some (Threaded (Private cpus n accesses)) → ⊥
+no_sums words command cpus n accesses says is = let e = one_command words (Serial (Dump command)) (Threaded (Private cpus n accesses)) says is in cc e
 
-no_measured_replay : (words : List (List ℕ)) (cpus n accesses : ℕ) → command_of words ≡ Some Replay → command_of words ≡ Some (Private cpus n accesses) → ⊥
-no_measured_replay words cpus n accesses says is = let e = one_command words Replay (Private cpus n accesses) says is in cc e
+no_measured_replay : (words : List (List ℕ)) (cpus n accesses : ℕ) → command_of words ≡ Some (Threaded Replay) → command_of words ≡ Some (Threaded (Private cpus n accesses)) → ⊥
+no_measured_replay words cpus n accesses says is = let e = one_command words (Threaded Replay) (Threaded (Private cpus n accesses)) says is in cc e
 
-no_measured_big : (words : List (List ℕ)) (m cpus n accesses : ℕ) → command_of words ≡ Some (Big m) → command_of words ≡ Some (Private cpus n accesses) → ⊥
-no_measured_big words m cpus n accesses says is = let e = one_command words (Big m) (Private cpus n accesses) says is in cc e
+no_measured_big : (words : List (List ℕ)) (m cpus n accesses : ℕ) → command_of words ≡ Some (Threaded (Big m)) → command_of words ≡ Some (Threaded (Private cpus n accesses)) → ⊥
+no_measured_big words m cpus n accesses says is = let e = one_command words (Threaded (Big m)) (Threaded (Private cpus n accesses)) says is in cc e
 
-no_measured_make : (words : List (List ℕ)) (m cpus n accesses : ℕ) → command_of words ≡ Some (Make m) → command_of words ≡ Some (Private cpus n accesses) → ⊥
-no_measured_make words m cpus n accesses says is = let e = one_command words (Make m) (Private cpus n accesses) says is in cc e
+no_measured_make : (words : List (List ℕ)) (m cpus n accesses : ℕ) → command_of words ≡ Some (Serial (Make m)) → command_of words ≡ Some (Threaded (Private cpus n accesses)) → ⊥
+no_measured_make words m cpus n accesses says is = let e = one_command words (Serial (Make m)) (Threaded (Private cpus n accesses)) says is in cc e
 
 -- the text of a command that sums
 sums_of : Command → List ℕ
-sums_of (Private cpus n accesses) = measured_text cpus n accesses
+sums_of (Threaded (Private cpus n accesses)) = measured_text cpus n accesses
 sums_of other = []
 
-same_sums : (words : List (List ℕ)) (cpus n accesses p m a : ℕ) → command_of words ≡ Some (Private cpus n accesses) → command_of words ≡ Some (Private p m a) → measured_text cpus n accesses ≡ measured_text p m a
+same_sums : (words : List (List ℕ)) (cpus n accesses p m a : ℕ) → command_of words ≡ Some (Threaded (Private cpus n accesses)) → command_of words ≡ Some (Threaded (Private p m a)) → measured_text cpus n accesses ≡ measured_text p m a
 unfolding sums_of
-same_sums words cpus n accesses p m a says is = ap sums_of (one_command words (Private cpus n accesses) (Private p m a) says is)
+same_sums words cpus n accesses p m a says is = ap sums_of (one_command words (Threaded (Private cpus n accesses)) (Threaded (Private p m a)) says is)
 
 pub one_output : (words : List (List ℕ)) (bytes text other : List ℕ) (s t : Status) → Output words bytes text s → Output words bytes other t → AgreeFor words text other s t
 one_output words bytes text other s t (usage none_is) (usage also) = (refl, λ not_done. refl)

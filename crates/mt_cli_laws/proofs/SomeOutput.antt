@@ -12,7 +12,9 @@ use Rattle.mt_cli.proofs.FirstFiles.{first_is_accepted, first_is_file}
 use Rattle.mt_types_laws.proofs.SomeTidy.{tidy_or_more}
 use Rattle.mt_types_laws.proofs.SomeRounding.{rounded_or_more}
 use Rattle.mt_cli.specs.declared.command.Command.{Command}
-use Rattle.mt_cli.specs.declared.command.Command.TheVariants.{Dump, Replay, Make, Big, Private, Proc}
+use Rattle.mt_cli.specs.declared.command.Command.TheVariants.{Serial, Threaded}
+use Rattle.mt_cli.specs.declared.command.SerialCommand.TheVariants.{Dump, Make}
+use Rattle.mt_cli.specs.declared.command.ThreadedCommand.TheVariants.{Replay, Proc, Big, Private}
 use Rattle.mt_cli.specs.declared.command.DumpCommand.{DumpCommand}
 use Rattle.mt_cli.specs.declared.command.DumpCommand.TheVariants.{Check, Show, Types, Page, Tidy, Gran}
 use Rattle.mt_cli.specs.CommandLine.{command_of}
@@ -88,7 +90,7 @@ pub some_output : (words : List (List ℕ)) (bytes : List ℕ) → (text : List 
 unfolding SomeAnswer
 some_output words bytes = by_command (command_of words) refl
   where
-    of_dump_output : (command : DumpCommand) → command_of words ≡ Some (Dump command) → (text : List ℕ) × (status : Status) × Output words bytes text status
+    of_dump_output : (command : DumpCommand) → command_of words ≡ Some (Serial (Dump command)) → (text : List ℕ) × (status : Status) × Output words bytes text status
     of_dump_output command says = elim (shown_or_offence bytes) [
       | inl (dump, shows) ↦ let (text, status, answer) = some_answer dump (shown_dump bytes dump shows) command in (text, status, answered command dump text status says shows answer)
       | inr (fault, is) ↦ (_, _, bad_text command fault says is)
@@ -96,9 +98,9 @@ some_output words bytes = by_command (command_of words) refl
 
     by_command : (o : Option Command) → command_of words ≡ o → (text : List ℕ) × (status : Status) × Output words bytes text status
     by_command None none_is = (_, _, usage none_is)
-    by_command (Some (Dump command)) says = of_dump_output command says
-    by_command (Some Replay) says = (_, _, replayed says)
-    by_command (Some (Proc cpus)) says = (_, _, requested cpus says)
-    by_command (Some (Make n)) says = (_, _, made n says)
-    by_command (Some (Big n)) says = (_, _, summed n says)
-    by_command (Some (Private cpus n accesses)) says = (_, _, measured cpus n accesses says)
+    by_command (Some (Serial (Dump command))) says = of_dump_output command says
+    by_command (Some (Threaded Replay)) says = (_, _, replayed says)
+    by_command (Some (Threaded (Proc cpus))) says = (_, _, requested cpus says)
+    by_command (Some (Serial (Make n))) says = (_, _, made n says)
+    by_command (Some (Threaded (Big n))) says = (_, _, summed n says)
+    by_command (Some (Threaded (Private cpus n accesses))) says = (_, _, measured cpus n accesses says)

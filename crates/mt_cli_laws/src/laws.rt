@@ -2,7 +2,8 @@ ghost use Rattle.std.specs.Prelude.{◌≡◌, ◌≢◌, ◌+◌, ◌++◌, ◌
 ghost use Rattle.mt_ports.specs.declared.status.Status.{Status};
 ghost use Rattle.mt_ports.specs.declared.status.Status.TheVariants.{Done};
 ghost use Rattle.mt_cli.specs.declared.command.DumpCommand.{DumpCommand};
-ghost use Rattle.mt_cli.specs.declared.command.Command.TheVariants.{Dump};
+ghost use Rattle.mt_cli.specs.declared.command.Command.TheVariants.{Serial};
+ghost use Rattle.mt_cli.specs.declared.command.SerialCommand.TheVariants.{Dump};
 ghost use Rattle.mt_cli.specs.CommandLine.{command_of};
 ghost use Rattle.mt_cli.specs.Lines.{used_line};
 ghost use Rattle.mt_cli.specs.Answer.{MayChoose};
@@ -28,7 +29,7 @@ use mt_regs::RegFile;
 pub fn words_and_bytes_have_one_output()
     ensures status { (words : List (List ℕ)) (bytes text other : List ℕ) (s t : Status) → Output words bytes text s → Output words bytes other t → s ≡ t }
     ensures text { (words : List (List ℕ)) (bytes text other : List ℕ) (s t : Status) → Output words bytes text s → Output words bytes other t
-        → ((command : DumpCommand) → command_of words ≡ Some (Dump command) → MayChoose command → s ≢ Done) → text ≡ other }
+        → ((command : DumpCommand) → command_of words ≡ Some (Serial (Dump command)) → MayChoose command → s ≢ Done) → text ≡ other }
 {}
 
 /// Each command line and each input have an output.

@@ -1,7 +1,7 @@
 use Rattle.mt_cli.proofs.program.program_status.Goals as goal
 
-pub returns-clause-leaves : goal.returns-clause-leaves
-returns-clause-leaves g c bytes before left taken = (c.run.result, c.exit_code.ensures, c.run.ensures.leaves bytes before left taken)
+pub returns-clause-run : goal.returns-clause-run
+returns-clause-run g c = (c.run.result, c.exit_code.ensures, c.run.ensures.run)
 
-pub returns-clause-unread_leaves : goal.returns-clause-unread_leaves
-returns-clause-unread_leaves g c bytes before not taken = (c.run.result, c.exit_code.ensures, c.run.ensures.unread_leaves bytes before not taken)
+pub returns-clause-no_command : goal.returns-clause-no_command
+returns-clause-no_command g c = (c.run.result, c.exit_code.ensures, c.run.ensures.no_command)

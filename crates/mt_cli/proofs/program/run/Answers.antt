@@ -1,21 +1,26 @@
-use Rattle.std.proofs.Common.{rules, ◌≡◌, ◌∙◌, ℕ, false, List, Some, [], ap, map, refl, string_bytes, subst}
+use Rattle.std.proofs.Common.{◌≡◌, ◌∙◌, ℕ, List, ap, inl, inr, map, refl, string_bytes, subst}
 use Rattle.mt_output.specs.Program.{words_of}
-use Rattle.mt_cli.specs.CommandLine.{command_of, reads_input}
-use Rattle.mt_cli.specs.Tool.{Leaves}
+use Rattle.mt_cli.specs.CommandLine.{command_of}
+use Rattle.mt_cli.specs.Runs.{IsRun, sink_run, source_run}
+use Rattle.mt_cli.proofs.Ran.{of_error, starved_run}
 use Rattle.mt_cli.proofs.program.run.Goals as goal
 
-pub returns-in-Ok-words_behind_name-clause-leaves : goal.returns-in-Ok-words_behind_name-clause-leaves
-returns-in-Ok-words_behind_name-clause-leaves g c bytes before left taken =
-    let words : map string_bytes c.deref.result.now ≡ words_of c.args.args = search rules in
-    subst (λ (w : List (List ℕ)). Leaves w bytes (g.S.Source.left c.tool.new.source) before (g.K.Sink.taken c.tool.new.sink) c.tool.result) words (c.tool.ensures.leaves bytes before left taken)
+pub returns-in-Ok-clause-run : goal.returns-in-Ok-clause-run
+returns-in-Ok-clause-run g c =
+    subst
+    (λ (w : List (List ℕ)).
+    IsRun w (source_run g.S.Source.left g.S.Source.faults g.S.Source.given c.args.source.now c.tool.new.source) (sink_run g.K.Sink.taken g.K.Sink.faults c.args.sink.now c.tool.new.sink) c.tool.result)
+    (ap (map string_bytes) c.deref.ensures.value ∙ c.in-Ok.ensures.words) c.tool.ensures.run
 
-pub returns-in-Ok-words_behind_name-clause-unread_leaves : goal.returns-in-Ok-words_behind_name-clause-unread_leaves
-returns-in-Ok-words_behind_name-clause-unread_leaves g c bytes before not taken =
-    let words : map string_bytes c.deref.result.now ≡ words_of c.args.args = search rules in
-    let unread : reads_input (command_of (map string_bytes c.deref.result.now)) ≡ false = ap (λ (w : List (List ℕ)). reads_input (command_of w)) words ∙ not in
-    subst (λ (w : List (List ℕ)). Leaves w bytes (Some bytes) before (g.K.Sink.taken c.tool.new.sink) c.tool.result) words (c.tool.ensures.unread_leaves bytes before unread taken)
+pub returns-in-Ok-clause-no_command : goal.returns-in-Ok-clause-no_command
+returns-in-Ok-clause-no_command g c = λ none.
+    let words : map string_bytes c.deref.result.now ≡ words_of c.args.args = ap (map string_bytes) c.deref.ensures.value ∙ c.in-Ok.ensures.words in
+    elim (c.tool.ensures.no_command (ap command_of words ∙ none)) [ inl is ↦ inl is | inr is ↦ inr (inl is) ]
 
-pub returns-in-Err-2-clause-unread_leaves : goal.returns-in-Err-2-clause-unread_leaves
-returns-in-Err-2-clause-unread_leaves g c bytes before not taken =
-    let words : [] ≡ words_of c.args.args = search rules in
-    subst (λ (w : List (List ℕ)). Leaves w bytes (Some bytes) before (g.K.Sink.taken c.tool-in-Err-2.new.sink) c.tool-in-Err-2.result) words (c.tool-in-Err-2.ensures.unread_leaves bytes before refl taken)
+pub returns-in-Ok-clause-no_memory : goal.returns-in-Ok-clause-no_memory
+returns-in-Ok-clause-no_memory g c = of_error _ _ c.args.args (λ e starved is. let no = starved is in absurd (cc no)) c.in-Ok.ensures.no_memory
+
+pub returns-in-Err-clause-run : goal.returns-in-Err-clause-run
+returns-in-Err-clause-run g c =
+    starved_run (words_of c.args.args) (source_run g.S.Source.left g.S.Source.faults g.S.Source.given c.args.source.now c.args.source.now)
+    (sink_run g.K.Sink.taken g.K.Sink.faults c.args.sink.now c.args.sink.now) refl refl
