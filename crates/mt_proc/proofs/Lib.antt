@@ -1,4 +1,5 @@
 pub mod Blocks
+pub mod Courses
 pub mod Digits
 pub mod Endings
 pub mod FirstWords

@@ -34,7 +34,7 @@ pub served_standing : (n : ℕ) (now : Served) → 0 < n → served (standing n 
 served_standing zero now some = absurd (omega arith)
 served_standing (suc n) now some = refl
 
-files_idling : (files : List RegisterFile) (count : ℕ) → files_of (idling files count) ≡ files
+pub files_idling : (files : List RegisterFile) (count : ℕ) → files_of (idling files count) ≡ files
 files_idling [] count = refl
 files_idling (f ∷ fs) count = ap (λ l. f ∷ l) (files_idling fs count)
 
@@ -110,21 +110,25 @@ settled_standing n now =
     (record { file = refl; lines = λ k d within. absurd (omega arith); buffers = λ k d within. absurd (omega arith); entries = λ k d within. absurd (omega arith) }))
 
 -- an update leaves all processors with the goal
-pub goal_standing : (m : Machine) (goal : RegisterFile) → Serves m → updated m.system (in_order m) goal ≡ standing (length m.system.processors) (record { file = goal; count = (served m).count + 1 })
-goal_standing m goal serves =
-    ap (λ (x : Machine). updated x.system (in_order m) goal) serves.stands
+pub stands_after : (m : Machine) (goal : RegisterFile) → m ≡ idling (files_of m) (served m).count → updated m.system (in_order m) goal ≡ standing (length m.system.processors) (record { file = goal; count = (served m).count + 1 })
+stands_after m goal stands =
+    ap (λ (x : Machine). updated x.system (in_order m) goal) stands
     ∙ updated_idling (files_of m) (served m).count (in_order m) goal
     ∙ ap (λ (n : ℕ). standing n (record { file = goal; count = (served m).count + 1 })) (length-map m.system.processors (λ p. p.file))
+
+pub goal_standing : (m : Machine) (goal : RegisterFile) → Serves m → updated m.system (in_order m) goal ≡ standing (length m.system.processors) (record { file = goal; count = (served m).count + 1 })
+goal_standing m goal serves = stands_after m goal serves.stands
 
 -- a request leaves the processors, or all of them with one file
 pub record Becomes (m new : Machine) (now : Served) : Type 0 where
   pub unchanged : now.count ≡ (served m).count → new ≡ m
   pub stands : (served m).count < now.count → new ≡ standing (length m.system.processors) now
   pub same : served new ≡ now
+  pub each : length new.system.processors ≡ length m.system.processors
 
 module _ (m : Machine) (serves : Serves m) where
   kept : Becomes m m (served m)
-  kept = record { unchanged = λ e. refl; stands = λ less. absurd (omega (arith, less)); same = refl }
+  kept = record { unchanged = λ e. refl; stands = λ less. absurd (omega (arith, less)); same = refl; each = refl }
 
   goal_becomes : (goal : RegisterFile) (fault : Option Fault) → Becomes m (option_map_or (λ f. m) fault (updated m.system (in_order m) goal)) (with_goal (served m) goal fault)
   goal_becomes goal (Some fault) = kept
@@ -132,6 +136,7 @@ module _ (m : Machine) (serves : Serves m) where
     unchanged = λ e. absurd (omega (arith, e));
     stands = λ less. goal_standing m goal serves;
     same = ap served (goal_standing m goal serves) ∙ served_standing _ _ serves.some;
+    each = ap (λ (x : Machine). length x.system.processors) (goal_standing m goal serves) ∙ count_standing _ _;
   }
 
   pub becomes : (a : Applied) → Becomes m (changed m a) (with_change (served m) a)

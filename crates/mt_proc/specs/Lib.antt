@@ -1,5 +1,6 @@
 pub mod After
 pub mod Applied
+pub mod Courses
 pub mod Listing
 pub mod Proc
 pub mod Requests

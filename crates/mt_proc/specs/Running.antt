@@ -1,12 +1,16 @@
 -- A run of `proc` between two lines, as its code keeps it (own).
-use Rattle.std.specs.Prelude.{ℕ, ◌≡◌, ◌≤◌, ◌<◌, ◌-◌, ◌^◌, List, [], ⊤, Option}
+use Rattle.std.specs.Prelude.{ℕ, ◌≡◌, ◌≤◌, ◌<◌, ◌-◌, ◌^◌, List, [], length, ⊤, Option, None}
 use Rattle.mt_text.specs.declared.place.Place.{Place}
+use Rattle.mt_regs.specs.Agreement.{first_refusal}
+use Rattle.mt_dump.specs.Dumps.{Dump}
 use Rattle.mt_dump.specs.Reader.{HasRead}
+use Rattle.mt_script.specs.Head.{ends_dump, shows, step_in_dump}
 use Rattle.mt_stream.specs.Lines.{Leading, Path, Running, early_at}
+use Rattle.mt_stream.specs.Runs.{RefusedAtLine, RefusesMemory}
 use Rattle.mt_stream.specs.Told.{Told, told_step}
 use Rattle.mt_proc.specs.declared.running.Run.{Run}
 use Rattle.mt_proc.specs.declared.running.Run.TheVariants as run
-use Rattle.mt_proc.specs.Proc.{Answer, Point, from_point, in_dump, in_requests, proc_end}
+use Rattle.mt_proc.specs.Proc.{Answer, Point, from_point, in_dump, in_requests, proc_end, situation_of}
 use Rattle.mt_proc.specs.Serving.{served}
 
 -- the run stands at this point
@@ -30,8 +34,13 @@ IsQuiet (run.Requests m) text = ⊤
 abbrev pub path_from : ℕ → Point → Path
 path_from cpus p = early_at [] (from_point cpus p)
 
+-- no processor is left out
+abbrev pub HasEach : ℕ → Run → Type 0
+HasEach cpus (run.Dump reader) = ⊤
+HasEach cpus (run.Requests m) = length m.system.processors ≡ cpus
+
 abbrev pub StandsAt : ℕ → Run → List ℕ → Path → Type 0
-StandsAt cpus now so_far was = (p : Point) × IsAt now p × IsQuiet now so_far × (was ≡ path_from cpus p)
+StandsAt cpus now so_far was = (p : Point) × IsAt now p × IsQuiet now so_far × (was ≡ path_from cpus p) × HasEach cpus now
 
 abbrev pub proc_running : ℕ → Running
 proc_running cpus = record { Run = Run; At = StandsAt cpus; ends = end_of_run }
@@ -52,3 +61,18 @@ HasRoom (run.Requests m) = (served m).count < 2 ^ 64 - 1
 abbrev pub IsDump : Run → Type 0
 IsDump (run.Dump reader) = ⊤
 IsDump (run.Requests m) = ⊥
+
+-- ---- where memory is asked for
+
+-- A line asks for memory where it ends a dump whose files are accepted. No other does.
+abbrev pub AsksAt : ℕ → Point → ℕ → List ℕ → Type 0
+AsksAt cpus (in_dump before) number line = (dump : Dump) × (step_in_dump (situation_of cpus) before number line (ends_dump line) ≡ shows dump) × (first_refusal dump.files ≡ None)
+AsksAt cpus (in_requests now) number line = ⊥
+
+-- Memory was refused at that line.
+abbrev pub OutOfMemoryAtLine : ℕ → List ℕ → Option (List ℕ) → Option (List ℕ) → Option (List ℕ) → Type 0
+OutOfMemoryAtLine cpus bytes left before after = RefusedAtLine (from_point cpus) (in_dump []) (AsksAt cpus) bytes left before after
+
+-- or before anything was read
+abbrev pub OutOfMemory : ℕ → List ℕ → Option (List ℕ) → Option (List ℕ) → Option (List ℕ) → Type 0
+OutOfMemory cpus bytes left before after = RefusesMemory (from_point cpus) (in_dump []) (AsksAt cpus) bytes left before after

@@ -176,6 +176,7 @@ impl Processors {
         ensures served { served self.new ≡ asked (served self.old) request.now }
         ensures unchanged { (asked (served self.old) request.now).count ≡ (served self.old).count → self.new ≡ self.old }
         ensures stands { (served self.old).count < (asked (served self.old) request.now).count → self.new ≡ standing (length self.old.system.processors) (asked (served self.old) request.now) }
+        ensures each { length self.new.system.processors ≡ length self.old.system.processors }
         ensures settled { (served self.old).count < (asked (served self.old) request.now).count
             → IsSettled self.new.system (asked (served self.old) request.now).count (asked (served self.old) request.now).file }
     {

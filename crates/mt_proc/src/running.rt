@@ -1,4 +1,4 @@
-ghost use Rattle.std.specs.Prelude.{◌≡◌, ◌≢◌, ◌≤◌, ◌<◌, ◌+◌, ◌-◌, ◌^◌, ◌↔◌, ◌⊎◌, ℕ, List, [], true, length, MatchOption, MatchResult, Ok, Some};
+ghost use Rattle.std.specs.Prelude.{◌≡◌, ◌≢◌, ◌≤◌, ◌<◌, ◌+◌, ◌-◌, ◌^◌, ◌↔◌, ◌⊎◌, ℕ, List, [], true, length, MatchOption, MatchResult, None, Ok, Some};
 ghost use Rattle.mt_text.specs.Feed.{GaveTooMuch};
 ghost use Rattle.mt_ports.specs.Causes.{HasCause, StatusHasCause};
 ghost use Rattle.mt_output.specs.Lines.{bad_text};
@@ -8,12 +8,13 @@ ghost use Rattle.mt_regs.specs.Agreement.{first_refusal};
 ghost use Rattle.mt_dump.specs.ForProcessors.{files_for, has_each};
 ghost use Rattle.mt_machine.specs.Machine.{Machine};
 ghost use Rattle.mt_stream.specs.Lines.{Closes, IsEnding, Leading, Path, Takes, from_line};
-ghost use Rattle.mt_stream.specs.Runs.{Runs};
+ghost use Rattle.mt_stream.specs.Runs.{EndsAs, Runs};
 ghost use Rattle.mt_proc.specs.After.{era_line};
+ghost use Rattle.mt_proc.specs.Courses.{TellsOfMachines};
 ghost use Rattle.mt_proc.specs.Listing.{listing};
-ghost use Rattle.mt_proc.specs.Proc.{begins, no_end, of_request, proc_told, reason_text, request_fault_line};
+ghost use Rattle.mt_proc.specs.Proc.{Point, begins, no_end, of_request, proc_told, proc_transcript, reason_text, request_fault_line};
 ghost use Rattle.mt_proc.specs.Requests.{request_of};
-ghost use Rattle.mt_proc.specs.Running.{HasCount, HasRoom, IsDump, LeadsBy, StandsAt, end_of_run, proc_running};
+ghost use Rattle.mt_proc.specs.Running.{AsksAt, HasCount, HasRoom, IsAt, IsDump, LeadsBy, OutOfMemory, OutOfMemoryAtLine, StandsAt, end_of_run, proc_running};
 ghost use Rattle.mt_proc.specs.Serving.{idling, served};
 
 use crate::listing::line_of;
@@ -72,6 +73,7 @@ fn begin<K: Sink>(
     requires each { has_each cpus dump.now ≡ true }
     ensures bytes { (from : Leading) (number : ℕ) → LeadsBy cpus from (begins dump.now (first_refusal dump.now.files)) number
         → Takes (proc_running cpus) from number [] run.new writer.old writer.new (K.taken sink.old) (K.taken sink.new) result }
+    ensures asks { result ≡ Ok (Some Status.NoMemory) → first_refusal dump.now.files ≡ None }
     ensures starts { (m : Machine) → run.new ≡ Run.Requests m → m ≡ idling (files_for cpus dump.now) 0 }
     ensures ending { (status : Status) → result ≡ Ok (Some status) → IsEnding status }
     ensures counts { (most : ℕ) → MatchResult result (λ ended. MatchOption ended (HasCount most run.new) (λ _. Unit {0})) (λ _. Unit {0}) }
@@ -101,9 +103,10 @@ fn take_request<R: Threads + Wait + Sync, K: Sink, G: Gate>(
     gate: &G,
 ) -> Result<Option<Status>, Failed>
     requires { (served processors.old).count < 2 ^ 64 - 1 }
-    ensures bytes { (cpus : ℕ) (from : Leading) (number : ℕ) (so_far : List ℕ) →
+    ensures bytes { (cpus : ℕ) (from : Leading) (number : ℕ) (so_far : List ℕ) → length processors.old.system.processors ≡ cpus →
         LeadsBy cpus from (of_request (served processors.old) (request_of line.now.number line.now.bytes.now)) number
         → Takes (proc_running cpus) from number so_far (Run.Requests processors.new) writer.old writer.new (K.taken sink.old) (K.taken sink.new) result }
+    ensures asks { result ≢ Ok (Some Status.NoMemory) }
     ensures ending { (status : Status) → result ≡ Ok (Some status) → IsEnding status }
     ensures counts { (most : ℕ) → (served processors.old).count ≤ most → MatchResult result (λ ended. MatchOption ended ((served processors.new).count ≤ most + 1) (λ _. Unit {0})) (λ _. Unit {0}) }
     ensures cause { HasCause (K.faults sink.old) (K.faults sink.new) result }
@@ -142,6 +145,7 @@ fn take_line<R: Threads + Wait + Sync, K: Sink, G: Gate>(
     requires room { HasRoom run.old }
     ensures bytes { (so_far : List ℕ) (was : Path) → StandsAt cpus run.old so_far was →
         Takes (proc_running cpus) (from_line line.now.number line.now.bytes.now was) (line.now.number + 1) so_far run.new writer.old writer.new (K.taken sink.old) (K.taken sink.new) result }
+    ensures asks { (p : Point) → IsAt run.old p → result ≡ Ok (Some Status.NoMemory) → AsksAt cpus p line.now.number line.now.bytes.now }
     ensures ending { (status : Status) → result ≡ Ok (Some status) → IsEnding status }
     ensures counts { (most : ℕ) → HasCount most run.old → MatchResult result (λ ended. MatchOption ended (HasCount (most + 1) run.new) (λ _. Unit {0})) (λ _. Unit {0}) }
     ensures cause { HasCause (K.faults sink.old) (K.faults sink.new) result }
@@ -240,6 +244,7 @@ fn run_lines<R: Threads + Wait + Sync, S: Source, K: Sink, G: Gate>(
     requires some { 0 < cpus }
     requires few { cpus ≤ 16 }
     ensures bytes { (bytes : List ℕ) → S.left source.old ≡ Some bytes → Runs (proc_told cpus) [] bytes (S.left source.new) (K.taken sink.old) (K.taken sink.new) result }
+    ensures memory { (bytes : List ℕ) → S.left source.old ≡ Some bytes → result ≡ Status.NoMemory → OutOfMemoryAtLine cpus bytes (S.left source.new) (K.taken sink.old) (K.taken sink.new) }
     ensures read_fault { StatusHasCause Status.ReadFault (S.faults source.old) (S.faults source.new) result }
     ensures write_fault { StatusHasCause Status.WriteFault (K.faults sink.old) (K.faults sink.new) result }
     ensures too_long { (result ≡ Status.TooLong) ↔ GaveTooMuch (S.given source.old) (S.given source.new) }
@@ -281,8 +286,9 @@ fn run_lines<R: Threads + Wait + Sync, S: Source, K: Sink, G: Gate>(
 /// the ranges of the valid pairs and the number of requests that were carried out. All that is told of
 /// the lines is written before the source is asked for more, and the rest behind an offence or a refused
 /// dump is dropped. At ReadFault what the known lines tell was written, at each other fault a front of
-/// what is told, for want of memory nothing. An update runs each processor on a thread of its own, or
-/// all on this one where it finds no memory, a start is refused or the gate answers false.
+/// what is told, for want of memory nothing. Memory is asked for before the first line, and at the dump's
+/// end. An update runs each processor on a thread of its own, or all on this one where it finds no memory,
+/// a start is refused or the gate answers false.
 pub fn proc<R: AllocGlobal + Threads + Wait + Sync, S: Source, K: Sink, G: Gate>(
     rt: &R,
     source: &mut S,
@@ -295,6 +301,16 @@ pub fn proc<R: AllocGlobal + Threads + Wait + Sync, S: Source, K: Sink, G: Gate>
 
     // Where the source tells its bytes, what each status says of them and of what the sink took.
     ensures bytes { (bytes : List ℕ) → S.left source.old ≡ Some bytes → Runs (proc_told cpus) [] bytes (S.left source.new) (K.taken sink.old) (K.taken sink.new) result }
+
+    // The status is the text's, unless a port fails, too much is read or memory is refused.
+    ensures complete { (bytes : List ℕ) → S.left source.old ≡ Some bytes → EndsAs (proc_transcript cpus bytes).status result }
+
+    // What it tells of a text is told of machines: behind each line `set` or `cleared` every processor has the file that was asked
+    // for and is settled, and any other answer changes no processor.
+    ensures settled { (bytes : List ℕ) → TellsOfMachines cpus bytes }
+
+    // Memory is refused before anything is read, or at the dump's end.
+    ensures memory { (bytes : List ℕ) → S.left source.old ≡ Some bytes → result ≡ Status.NoMemory → OutOfMemory cpus bytes (S.left source.new) (K.taken sink.old) (K.taken sink.new) }
 
     // A port that failed did so once, and the status is its fault; at every other status none failed.
     ensures read_fault { StatusHasCause Status.ReadFault (S.faults source.old) (S.faults source.new) result }

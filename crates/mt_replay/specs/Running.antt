@@ -1,6 +1,7 @@
 -- A replay between two lines, as its code keeps it, and what it leaves in the source and the sink (own).
 --     Replays bytes left before after status      of a source that held these bytes; ReplaysAs telling .., where this is its transcript
-use Rattle.std.specs.Prelude.{ℕ, ◌≡◌, ◌||◌, ◌++◌, Bool, true, false, List, [], ◌∷◌, ⊤, MatchOption, MatchResult, Option, Result, None}
+--     AsksAt point number line      a line that asks for memory; OutOfMemory bytes left before after, where it was refused
+use Rattle.std.specs.Prelude.{ℕ, ◌≡◌, ◌||◌, ◌++◌, Bool, true, false, List, [], ◌∷◌, ⊤, MatchOption, MatchResult, Option, Result, None, Ok}
 use Rattle.mt_text.specs.declared.place.Place.{Place}
 use Rattle.mt_ports.specs.declared.status.Status.{Status}
 use Rattle.mt_ports.specs.declared.status.Status.TheVariants.{NoMemory}
@@ -10,19 +11,21 @@ use Rattle.mt_output.specs.Lines.{accepted_line}
 use Rattle.mt_output.specs.Writing.{Passes}
 use Rattle.mt_script.specs.declared.command.Command.{Command}
 use Rattle.mt_dump.specs.Reader.{HasRead}
-use Rattle.mt_script.specs.Situation.{Situation}
+use Rattle.mt_script.specs.Situation.{Situation, at_start}
 use Rattle.mt_script.specs.Stages.{is_past_dump, takes_windows}
-use Rattle.mt_script.specs.Commands.{end_fault}
+use Rattle.mt_script.specs.Commands.{command_of, end_fault}
+use Rattle.mt_script.specs.Head.{head_step, shows}
 use Rattle.mt_machine.specs.Start.{HasEraRoom}
 use Rattle.mt_regs.specs.Agreement.{first_refusal}
 use Rattle.mt_dump.specs.Dumps.{Dump}
 use Rattle.mt_stream.specs.Lines.{Leading, Path, Running}
-use Rattle.mt_stream.specs.Runs.{RunsAs}
+use Rattle.mt_stream.specs.Runs.{RefusedAtLine, RefusesMemory, RunsAs}
 use Rattle.mt_stream.specs.Told.{Told}
 use Rattle.mt_replay.specs.Kept.{HasEras}
+use Rattle.mt_replay.specs.Parts.{AsksForMemory}
 use Rattle.mt_replay.specs.ReplayState.{ReplayState, command_text, state_after}
 use Rattle.mt_replay.specs.Newcomers.{early, early_text, newcomers_from, newcomers_in, newcomers_of_dump}
-use Rattle.mt_replay.specs.Transcript.{Point, body_lines, in_body, in_head, replay_told, told_at_end, told_dump, told_lines, transcript}
+use Rattle.mt_replay.specs.Transcript.{Point, body_lines, from_point, in_body, in_head, replay_told, told_at_end, told_dump, told_lines, transcript}
 use Rattle.mt_replay.specs.declared.line.Run.{Run}
 use Rattle.mt_replay.specs.declared.line.Run.TheVariants as run
 
@@ -35,6 +38,19 @@ ReplaysAs t bytes left before after status = RunsAs t replay_told (early_text by
 -- what is told is the transcript
 abbrev pub Replays : List ℕ → Option (List ℕ) → Option (List ℕ) → Option (List ℕ) → Status → Type 0
 Replays bytes left before after status = ReplaysAs (transcript bytes) bytes left before after status
+
+-- A line asks for memory where it ends a dump whose files are accepted, or is a command `ram`, `up` or `join`. No other does.
+abbrev pub AsksAt : Point → ℕ → List ℕ → Type 0
+AsksAt (in_head now before) number line = (dump : Dump) × (head_step now before number line ≡ shows dump) × (first_refusal dump.files ≡ None)
+AsksAt (in_body s) number line = (c : Command) × (command_of s.now number line ≡ Ok c) × AsksForMemory c
+
+-- Memory was refused at such a line.
+abbrev pub OutOfMemoryAtLine : List ℕ → Option (List ℕ) → Option (List ℕ) → Option (List ℕ) → Type 0
+OutOfMemoryAtLine bytes left before after = RefusedAtLine from_point (in_head at_start []) AsksAt bytes left before after
+
+-- or before anything was read
+abbrev pub OutOfMemory : List ℕ → Option (List ℕ) → Option (List ℕ) → Option (List ℕ) → Type 0
+OutOfMemory bytes left before after = RefusesMemory from_point (in_head at_start []) AsksAt bytes left before after
 
 -- ---- between two lines
 

@@ -1,5 +1,6 @@
 ghost use Rattle.std.specs.Prelude.{◌≡◌, ◌≢◌, ◌+◌, ℕ, List, [], Bool, true, MatchOption, MatchResult, IfOk, OnOk, OnErr, Some, Ok, Err};
 ghost use Rattle.mt_ports.specs.Causes.{HasCause};
+ghost use Rattle.mt_regs.specs.Agreement.{first_refusal};
 ghost use Rattle.mt_machine.specs.Start.{HasEraRoom};
 ghost use Rattle.mt_output.specs.Lines.{offence_line};
 ghost use Rattle.mt_output.specs.Writing.{Adds};
@@ -9,7 +10,7 @@ ghost use Rattle.mt_dump.specs.ForProcessors.{has_each};
 ghost use Rattle.mt_replay.specs.Kept.{HasEras};
 ghost use Rattle.mt_replay.specs.Parts.{AsksForMemory, IsComing};
 ghost use Rattle.mt_replay.specs.ReplayState.{ReplayState, command_text, state_after};
-ghost use Rattle.mt_replay.specs.Running.{CarriesOut, HasEraRoomAt, HasErasAt, IsAt, IsQuiet, Writes, leading, leading_dump, replay_running, setup_of};
+ghost use Rattle.mt_replay.specs.Running.{AsksAt, CarriesOut, HasEraRoomAt, HasErasAt, IsAt, IsQuiet, Writes, leading, leading_dump, replay_running, setup_of};
 ghost use Rattle.mt_stream.specs.Lines.{IsEnding, Takes};
 ghost use Rattle.mt_replay.specs.Summing.{Begins, Lasts, state_in};
 ghost use Rattle.mt_replay.specs.Transcript.{Point, in_body};
@@ -83,6 +84,7 @@ fn begin<K: Sink>(
         Takes replay_running (leading_dump setup dump number) number [] run.new writer.old writer.new (K.taken sink.old) (K.taken sink.new) result }
     ensures ending { (status : Status) → result ≡ Ok (Some status) → IsEnding status }
     ensures eras { (most : ℕ) → MatchResult result (λ ended. MatchOption ended (HasErasAt most run.new) (λ _. Unit {0})) (λ _. Unit {0}) }
+    ensures asks { result ≡ Ok (Some Status.NoMemory) → first_refusal dump.files ≡ None }
     ensures state { Begins setup dump run.new result }
     ensures cause { HasCause (K.faults sink.old) (K.faults sink.new) result }
 {
@@ -233,6 +235,7 @@ fn take_command<R: Threads + Wait + Sync, K: Sink, G: Gate>(
         (Run.Body replayer.new) writer.old writer.new (K.taken sink.old) (K.taken sink.new) result }
     ensures ending { (status : Status) → result ≡ Ok (Some status) → IsEnding status }
     ensures eras { (most : ℕ) → HasEras most replayer.old → MatchResult result (λ ended. MatchOption ended (HasEras (most + 1) replayer.new) (λ _. Unit {0})) (λ _. Unit {0}) }
+    ensures asks { result ≡ Ok (Some Status.NoMemory) → AsksAt (in_body replayer.old) line.now.number line.now.bytes.now }
     ensures last { Lasts line.now.number line.now.bytes.now (in_body replayer.old) (Run.Body replayer.new) result }
     ensures cause { HasCause (K.faults sink.old) (K.faults sink.new) result }
 {
@@ -257,6 +260,7 @@ fn take_in_head<K: Sink>(
         Takes replay_running (leading came so_far line.now.number line.now.bytes.now was) (line.now.number + 1) so_far run.new writer.old writer.new (K.taken sink.old) (K.taken sink.new) result }
     ensures ending { (status : Status) → result ≡ Ok (Some status) → IsEnding status }
     ensures eras { (most : ℕ) → HasErasAt most run.old → MatchResult result (λ ended. MatchOption ended (HasErasAt (most + 1) run.new) (λ _. Unit {0})) (λ _. Unit {0}) }
+    ensures asks { (was : Point) → IsAt run.old was → result ≡ Ok (Some Status.NoMemory) → AsksAt was line.now.number line.now.bytes.now }
     ensures last { (was : Point) → IsAt run.old was → Lasts line.now.number line.now.bytes.now was run.new result }
     ensures cause { HasCause (K.faults sink.old) (K.faults sink.new) result }
 {
@@ -289,6 +293,7 @@ pub(crate) fn take_line<R: Threads + Wait + Sync, K: Sink, G: Gate>(
         Takes replay_running (leading came so_far line.now.number line.now.bytes.now was) (line.now.number + 1) so_far run.new writer.old writer.new (K.taken sink.old) (K.taken sink.new) result }
     ensures ending { (status : Status) → result ≡ Ok (Some status) → IsEnding status }
     ensures eras { (most : ℕ) → HasErasAt most run.old → MatchResult result (λ ended. MatchOption ended (HasErasAt (most + 1) run.new) (λ _. Unit {0})) (λ _. Unit {0}) }
+    ensures asks { (was : Point) → IsAt run.old was → result ≡ Ok (Some Status.NoMemory) → AsksAt was line.now.number line.now.bytes.now }
     ensures last { (was : Point) → IsAt run.old was → Lasts line.now.number line.now.bytes.now was run.new result }
     ensures cause { HasCause (K.faults sink.old) (K.faults sink.new) result }
 {

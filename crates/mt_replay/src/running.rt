@@ -1,8 +1,10 @@
 ghost use Rattle.std.specs.Prelude.{◌≡◌, ◌≢◌, ◌↔◌, ℕ, List, [], Some};
 ghost use Rattle.mt_text.specs.Feed.{GaveTooMuch};
 ghost use Rattle.mt_ports.specs.Causes.{StatusHasCause};
-ghost use Rattle.mt_replay.specs.Running.{Replays, end_of_run};
+ghost use Rattle.mt_replay.specs.Running.{OutOfMemory, OutOfMemoryAtLine, Replays, end_of_run};
+ghost use Rattle.mt_replay.specs.Transcript.{transcript};
 ghost use Rattle.mt_stream.specs.Lines.{Closes};
+ghost use Rattle.mt_stream.specs.Runs.{EndsAs};
 
 use crate::line::{Run, take_line};
 use mt_output::{Writer, offence_line};
@@ -41,6 +43,7 @@ fn run_lines<R: Threads + Wait + Sync, S: Source, K: Sink, G: Gate>(
 ) -> Status
     requires { writer.old ≡ [] }
     ensures bytes { (bytes : List ℕ) → S.left source.old ≡ Some bytes → Replays bytes (S.left source.new) (K.taken sink.old) (K.taken sink.new) result }
+    ensures memory { (bytes : List ℕ) → S.left source.old ≡ Some bytes → result ≡ Status.NoMemory → OutOfMemoryAtLine bytes (S.left source.new) (K.taken sink.old) (K.taken sink.new) }
     ensures read_fault { StatusHasCause Status.ReadFault (S.faults source.old) (S.faults source.new) result }
     ensures write_fault { StatusHasCause Status.WriteFault (K.faults sink.old) (K.faults sink.new) result }
     ensures too_long { (result ≡ Status.TooLong) ↔ GaveTooMuch (S.given source.old) (S.given source.new) }
@@ -72,8 +75,9 @@ fn run_lines<R: Threads + Wait + Sync, S: Source, K: Sink, G: Gate>(
 /// is read line by line out of one buffer, and all that is told of its lines is written before the
 /// source is asked for more. The rest behind an offence or a refused dump is dropped. At ReadFault
 /// what the known lines write was written, at each other fault a front of the transcript, for want of
-/// memory at most the line `accepted`, unless a line `up` or `join` is read. An update runs each processor on a thread of its own, or all
-/// on this one where it finds no memory, a start is refused or the gate answers false.
+/// memory at most the line `accepted`, unless a line `up` or `join` is read. Memory is asked for before the first line, at the
+/// dump's end, and at the lines `ram`, `up` and `join`. An update runs each processor on a thread of its own, or all on this one
+/// where it finds no memory, a start is refused or the gate answers false.
 pub fn replay<R: AllocGlobal + Threads + Wait + Sync, S: Source, K: Sink, G: Gate>(
     rt: &R,
     source: &mut S,
@@ -82,6 +86,12 @@ pub fn replay<R: AllocGlobal + Threads + Wait + Sync, S: Source, K: Sink, G: Gat
 ) -> Status
     // Where the source tells its bytes, what each status says of them and of what the sink took.
     ensures bytes { (bytes : List ℕ) → S.left source.old ≡ Some bytes → Replays bytes (S.left source.new) (K.taken sink.old) (K.taken sink.new) result }
+
+    // The status is the transcript's, unless a port fails, too much is read or memory is refused.
+    ensures complete { (bytes : List ℕ) → S.left source.old ≡ Some bytes → EndsAs (transcript bytes).status result }
+
+    // Memory is refused before anything is read, or at a line that asks for some. What the lines before it write was then written.
+    ensures memory { (bytes : List ℕ) → S.left source.old ≡ Some bytes → result ≡ Status.NoMemory → OutOfMemory bytes (S.left source.new) (K.taken sink.old) (K.taken sink.new) }
 
     // A port that failed did so once, and the status is its fault; at every other status none failed.
     ensures read_fault { StatusHasCause Status.ReadFault (S.faults source.old) (S.faults source.new) result }

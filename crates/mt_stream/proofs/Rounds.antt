@@ -3,14 +3,15 @@ use Rattle.std.proofs.Common.{◌≡◌, ◌∙◌, ap, sym, refl, subst, arith,
 use Rattle.std.specs.Prelude.{◌≢◌, ◌↔◌, ◌⊎◌}
 use Rattle.std.proofs.lemmas.List.{length-append, length-drop}
 use Rattle.mt_ports.specs.declared.status.Status.{Status}
-use Rattle.mt_ports.specs.declared.status.Status.TheVariants.{BadText, Done, ReadFault, TooLong, WriteFault}
+use Rattle.mt_ports.specs.declared.status.Status.TheVariants.{BadText, Disabled, Done, NoMemory, ReadFault, Refused, TooFew, TooLong, Usage, WriteFault}
 use Rattle.mt_text.specs.Feed.{Feeding, GaveTooMuch, IsFront, IsLong, Moves, Stops, taken, with_end}
 use Rattle.mt_text.specs.declared.fault.FeedFault.{FeedFault}
 use Rattle.mt_text.specs.declared.fault.FeedFault.TheVariants as fault
 use Rattle.mt_text.proofs.Feeding.{front_within}
 use Rattle.mt_text.proofs.Fronts.{long_front}
 use Rattle.mt_stream.specs.Lines.{Closes, CutShort, cut_status}
-use Rattle.mt_stream.specs.Told.{Told}
+use Rattle.mt_stream.specs.Runs.{EndsAs, RunsAs}
+use Rattle.mt_stream.specs.Told.{Telling, Told}
 use Rattle.mt_stream.specs.declared.running.Cut.{Cut}
 use Rattle.mt_stream.specs.declared.running.Cut.TheVariants as cut
 
@@ -52,6 +53,19 @@ close_statuses t waiting a b status one (inr failed) = (λ is. let e : WriteFaul
 
 pub never_much : (status : Status) (before now : ℕ) (feed : Feeding) → status ≢ TooLong → now ≡ before + taken feed → IsLong feed → feed.fault ≡ None → (status ≡ TooLong) ↔ GaveTooMuch before now
 never_much status before now feed other given long none = (λ is. absurd (other is), λ much. absurd (not_much feed long none (omega (arith, given, much))))
+
+-- which statuses a run ends with
+pub ends_as : (t : Told) (start : Telling) (early bytes : List ℕ) (left a b : Option (List ℕ)) (status : Status) → RunsAs t start early bytes left a b status → EndsAs t.status status
+ends_as t start early bytes left a b Done runs = inl runs.status_is
+ends_as t start early bytes left a b Refused runs = inl runs.status_is
+ends_as t start early bytes left a b Usage runs = absurd runs
+ends_as t start early bytes left a b BadText runs = inl runs.status_is
+ends_as t start early bytes left a b ReadFault runs = inr (inl refl)
+ends_as t start early bytes left a b WriteFault runs = inr (inr (inl refl))
+ends_as t start early bytes left a b NoMemory runs = inr (inr (inr (inl refl)))
+ends_as t start early bytes left a b TooLong runs = inr (inr (inr (inr refl)))
+ends_as t start early bytes left a b TooFew runs = absurd runs
+ends_as t start early bytes left a b Disabled runs = absurd runs
 
 -- ---- cuts
 

@@ -8,7 +8,7 @@ use Rattle.std.proofs.lemmas.List.{length-append, length-drop, length-take-le, t
 use Rattle.std.proofs.Math.Seq.{take-length}
 use Rattle.mt_ports.specs.Puts.{AppendsFront}
 use Rattle.mt_ports.specs.declared.status.Status.{Status}
-use Rattle.mt_ports.specs.declared.status.Status.TheVariants.{BadText, Done, NoMemory, Refused, TooLong}
+use Rattle.mt_ports.specs.declared.status.Status.TheVariants.{BadText, Done, NoMemory, ReadFault, Refused, TooLong, WriteFault}
 use Rattle.mt_output.specs.Writing.{Passes}
 use Rattle.mt_output.proofs.Writing.{fails_after, passes_both}
 use Rattle.mt_text.specs.Text.{end_of, lines_of}
@@ -20,8 +20,8 @@ use Rattle.mt_text.proofs.Fronts.{last_front, long_front, place_of_front}
 use Rattle.mt_stream.specs.Known.{known_part, known_text}
 use Rattle.mt_stream.specs.Laws.{AreLaws, IsLongLed}
 use Rattle.mt_stream.specs.Lines.{Closes, CutShort, Ends, Fails, GoesOn, Leads, Leaves, Path, Running, Wants, cut_status, early_of, from_line, leads_behind, tells_of}
-use Rattle.mt_stream.specs.Runs.{Runs}
-use Rattle.mt_stream.specs.Told.{Told, behind, transcript}
+use Rattle.mt_stream.specs.Runs.{RefusedAtLine, Runs}
+use Rattle.mt_stream.specs.Told.{Telling, Told, behind, transcript}
 use Rattle.mt_stream.specs.declared.running.Cut.{Cut}
 use Rattle.mt_stream.specs.declared.running.Cut.TheVariants as cut
 use Rattle.mt_stream.proofs.Fronts.{ended_known, ended_lines, long_lines, unknown_part}
@@ -62,6 +62,32 @@ consumed bytes more (Some rest) takes = (rest, refl, takes)
 
 pub none_left : (left : Option (List ℕ)) (rest : List ℕ) → left ≡ Some rest → IsAtEnd left → rest ≡ []
 none_left left rest is end = subst IsAtEnd is end
+
+-- memory is refused where the line that ends a run was
+pub refused_line : (status : Status) (last : Bool) (more : List ℕ) (left : Option (List ℕ)) (waiting : List ℕ) (a b : Option (List ℕ)) (result : Status) → Leaves status last more left waiting a b result → result ≡ NoMemory → status ≡ NoMemory
+refused_line status last more left waiting a b result (inl unwritten) is = let e : NoMemory ≡ WriteFault = sym is ∙ unwritten.0 in absurd (cc e)
+refused_line status last more left waiting a b result (inr (put, inl kept)) is = sym kept.0 ∙ is
+refused_line status last more left waiting a b result (inr (put, inr (going, other, inl all))) is = sym all.0 ∙ is
+refused_line status last more left waiting a b result (inr (put, inr (going, other, inr (inl read)))) is = let e : NoMemory ≡ ReadFault = sym is ∙ read in absurd (cc e)
+refused_line status last more left waiting a b result (inr (put, inr (going, other, inr (inr much)))) is = let e : NoMemory ≡ TooLong = sym is ∙ much in absurd (cc e)
+
+-- all that waited went to the sink then, and nothing more was read
+refused_leaves : (status : Status) (last : Bool) (more : List ℕ) (left : Option (List ℕ)) (waiting : List ℕ) (a b : Option (List ℕ)) (result : Status) → Leaves status last more left waiting a b result → result ≡ NoMemory → status ≡ NoMemory
+    → Appends a b waiting × (more ≡ [])
+refused_leaves status last more left waiting a b result (inl unwritten) is wants = let e : NoMemory ≡ WriteFault = sym is ∙ unwritten.0 in absurd (cc e)
+refused_leaves status last more left waiting a b result (inr (put, inl kept)) is wants = (put, kept.2)
+refused_leaves status last more left waiting a b result (inr (put, inr (going, other, rest))) is wants = absurd (other wants)
+
+-- neither a cut nor the end refuses memory
+pub cut_has_memory : (why : Cut) → cut_status why ≡ NoMemory → ⊥
+cut_has_memory cut.Write is = cc is
+cut_has_memory (cut.Feed fault.ReadFault) is = cc is
+cut_has_memory (cut.Feed fault.TooLong) is = cc is
+
+pub close_has_memory : (t : Told) (waiting : List ℕ) (a b : Option (List ℕ)) (status : Status) → (t.status ≡ Done) ⊎ (t.status ≡ BadText) → Closes t waiting a b status → status ≡ NoMemory → ⊥
+close_has_memory t waiting a b status (inl done) (inl all) is = let e : Done ≡ NoMemory = sym done ∙ sym all.0 ∙ is in cc e
+close_has_memory t waiting a b status (inr bad) (inl all) is = let e : BadText ≡ NoMemory = sym bad ∙ sym all.0 ∙ is in cc e
+close_has_memory t waiting a b status one (inr failed) is = let e : WriteFault ≡ NoMemory = sym failed.0 ∙ is in cc e
 
 -- what a whole text or a front of it tells, and what lines tell from a point on
 abbrev told_of : Path → Option Place → List ℕ → Leads
@@ -451,6 +477,32 @@ module _ (R : Running) (start : Path) (laws : AreLaws R) where
               let (rest, is) = w.early (Some (end_of bytes)) from.0 in
               subst (AppendsFront a d) (sym (ap (λ (x : Leads). x.early) from.1 ∙ is)) (front_of h.text rest a d put)
 
+      -- it was refused at this line
+      pub line_refused : {P : Type 0} (tell : P → Telling) (first p : P) (Asks : P → ℕ → List ℕ → Type 0) → tells_of start ≡ tell first → tells_of h.point ≡ tell p → result ≡ NoMemory → status ≡ NoMemory → left ≡ waiting → c ≡ b
+          → Asks p feed.line.number feed.line.bytes → RefusedAtLine tell first Asks bytes source_after a d
+      line_refused tell first p Asks begins stands none wants waits kept asks = by (refused_leaves status (is_last feed) more source_after left c d result leaves none wants)
+        where
+          by : Appends c d left × (more ≡ []) → RefusedAtLine tell first Asks bytes source_after a d
+          by (put, no_more) =
+              let rest : h.rest ≡ took.0 = took.2 ∙ ap (λ (l : List ℕ). l ++ took.0) no_more in
+              let is_left : source_after ≡ Some h.rest = took.1 ∙ ap Some (sym rest) in
+              record {
+                lines = h.lent;
+                seen = h.seen;
+                rest = h.rest;
+                cut = h.cut;
+                is_left = is_left;
+                text = h.text;
+                point = p;
+                leads = λ end tail.
+                    ap (λ (t : Telling). t end 1 (lines_of (h.lent ++ tail))) (sym begins) ∙ ap (λ (x : Leads). x.tells) (h.led end tail)
+                    ∙ ap (λ (t : Telling). behind h.text (t end feed.line.number (lines_of tail))) stands ∙ ap (λ (n : ℕ). behind h.text (tell p end n (lines_of tail))) h.number;
+                front = h.front;
+                is = subst (λ (s : Option (List ℕ)). IsFront h.seen s h.front) (h.is_left ∙ sym is_left) h.is;
+                asks = subst (λ (n : ℕ). Asks p n (take h.front.0 h.seen)) h.number (subst (Asks p feed.line.number) h.line asks);
+                taken = passes_out h.text left a c d (subst (λ (l : List ℕ). Passes [] h.text l a c) (sym waits) (subst (λ (o : Option (List ℕ)). Passes [] h.text waiting a o) (sym kept) h.passed)) put;
+              }
+
       -- an offence or a refused dump
       module _ (e : Ends (from_line feed.line.number feed.line.bytes h.point) waiting left b c status) where
         abbrev t : Told
@@ -476,6 +528,15 @@ module _ (R : Running) (start : Path) (laws : AreLaws R) where
               ∙ ap (λ (x : Told). h.text ++ x.text) (ap (λ (x : Leads). x.tells) from.1 ∙ e.stops None from.0)
           | inr last ↦ let x : false ≡ true = sym going ∙ last.0 in absurd (cc x)
         ]
+
+        no_memory : status ≡ NoMemory → (status ≡ Refused) ⊎ (status ≡ BadText) → ⊥
+        no_memory is one = elim one [
+          | inl refused ↦ let x : NoMemory ≡ Refused = sym is ∙ refused in cc x
+          | inr bad ↦ let x : NoMemory ≡ BadText = sym is ∙ bad in cc x
+        ]
+
+        pub ends_with_memory : result ≡ NoMemory → ⊥
+        ends_with_memory none = no_memory (refused_line status (is_last feed) more source_after left c d result leaves none) e.last
 
         pub line_ends : RunsOn start bytes source_after a d result
         line_ends = elim leaves [
@@ -506,12 +567,6 @@ module _ (R : Running) (start : Path) (laws : AreLaws R) where
             nothing_left none last = elim (case bytes source feed now waiting a b h) [
               | inl shown ↦ let x : false ≡ true = sym shown.0 ∙ last in absurd (cc x)
               | inr ends ↦ took.1 ∙ ap Some (sym (sym (none_left source h.rest h.is_left ends.2) ∙ took.2 ∙ ap (λ l. l ++ took.0) none))
-            ]
-
-            no_memory : status ≡ NoMemory → (status ≡ Refused) ⊎ (status ≡ BadText) → ⊥
-            no_memory is one = elim one [
-              | inl refused ↦ let x : NoMemory ≡ Refused = sym is ∙ refused in cc x
-              | inr bad ↦ let x : NoMemory ≡ BadText = sym is ∙ bad in cc x
             ]
 
   -- ---- there is no next line

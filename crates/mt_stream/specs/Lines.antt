@@ -1,5 +1,5 @@
 -- What a run over a text makes of one line, and of the end (own).
-use Rattle.std.specs.Prelude.{ℕ, ◌≡◌, ◌≢◌, ◌⊎◌, Bool, true, false, List, [], ◌∷◌, ◌++◌, Option, Some, Result, Ok, Err, MatchOption, MatchResult}
+use Rattle.std.specs.Prelude.{ℕ, ◌+◌, ◌≡◌, ◌≢◌, ◌⊎◌, Bool, true, false, List, [], ◌∷◌, ◌++◌, Option, Some, Result, Ok, Err, MatchOption, MatchResult}
 use Rattle.std.specs.Io.KnownBytes.{Appends, IsAtEnd}
 use Rattle.mt_text.specs.Text.{end_of, lines_of}
 use Rattle.mt_text.specs.Feed.{Feeding, Moves, Stops}
@@ -88,6 +88,11 @@ Takes R from number so_far now waiting left before after result =
     (λ ended. MatchOption ended (GoesOn R from number so_far now waiting left before after)
     (λ status. Ends from waiting left before after status ⊎ Wants from so_far waiting left before after status))
     (λ _. Fails from waiting before after)
+
+-- what a run makes of a line of this number, wherever it stands
+abbrev pub TakesAnywhere : (R : Running) → R.Run → R.Run → ℕ → List ℕ → List ℕ → List ℕ → Option (List ℕ) → Option (List ℕ) → Result (Option Status) Failed → Type 0
+TakesAnywhere R now new number line waiting left before after result =
+    (so_far : List ℕ) (was : Path) → R.At now so_far was → Takes R (from_line number line was) (number + 1) so_far new waiting left before after result
 
 -- ---- the next line
 

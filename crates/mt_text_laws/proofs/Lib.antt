@@ -1,3 +1,4 @@
+pub mod Ends
 pub mod Good
 pub mod Moving
 pub mod Slices

@@ -1,5 +1,6 @@
 use Rattle.std.proofs.Common.{◌≡◌, ◌∙◌, ℕ, List, ap, arith, inl, length, refl, sym, subst, [], None, Some}
-use Rattle.mt_ports.specs.declared.status.Status.TheVariants.{Refused}
+use Rattle.std.proofs.lemmas.List.{length-map}
+use Rattle.mt_ports.specs.declared.status.Status.TheVariants.{NoMemory, Refused}
 use Rattle.mt_regs.specs.RegisterFile.{RegisterFile}
 use Rattle.mt_regs.specs.StartFiles.{AreStartFiles}
 use Rattle.mt_regs.specs.Agreement.{first_refusal}
@@ -12,7 +13,7 @@ use Rattle.mt_proc.specs.After.{at_first}
 use Rattle.mt_proc.specs.Proc.{begins, in_requests}
 use Rattle.mt_machine.specs.Machine.{Machine}
 use Rattle.mt_proc.specs.Running.{IsDump}
-use Rattle.mt_proc.specs.Serving.{idling, served}
+use Rattle.mt_proc.specs.Serving.{idle, idling, served}
 use Rattle.mt_proc.specs.declared.running.Run.{Run}
 use Rattle.mt_proc.specs.declared.running.Run.TheVariants as run
 use Rattle.mt_proc.proofs.Beginning.{each_accepted, first_for}
@@ -46,8 +47,9 @@ returns-clause-bytes g c = λ from number leads.
     let first : first_of c.as_slice-2.result.now ≡ first_file dump = ap first_of files ∙ first_for c.args.cpus dump c.requires.some in
     let at : served c.in-Ok.processors ≡ at_first (first_file dump) =
     ap served c.in-Ok.ensures ∙ served_idling c.as_slice-2.result.now 0 (omega (arith, count, c.requires.some)) ∙ ap at_first first in
+    let each : length c.in-Ok.processors.system.processors ≡ c.args.cpus = ap (λ (m : Machine). length m.system.processors) c.in-Ok.ensures ∙ length-map c.as_slice-2.result.now (idle 0) ∙ count in
     goes c.args.cpus from number [] (run.Requests c.in-Ok.processors) c.args.writer.now c.args.writer.now (g.K.Sink.taken c.args.sink.now) (g.K.Sink.taken c.args.sink.now) [] (in_requests (at_first (first_file dump)))
-    (leads_as c.args.cpus from number (begins dump (first_refusal dump.files)) (begins dump None) (ap (begins dump) none) leads) at tt
+    (leads_as c.args.cpus from number (begins dump (first_refusal dump.files)) (begins dump None) (ap (begins dump) none) leads) at tt each
     (passes_nothing c.args.writer.now (g.K.Sink.taken c.args.sink.now))
 
 -- the run is in the dump still
@@ -61,3 +63,6 @@ pub returns-clause-starts : goal.returns-clause-starts
 returns-clause-starts g c = λ m same.
     let is : c.in-Ok.processors ≡ m = cc same in
     sym is ∙ c.in-Ok.ensures ∙ ap (λ (fs : List RegisterFile). idling fs 0) (c.as_slice-2.ensures.value ∙ c.files_for-files.ensures.files)
+
+pub returns-in-Some-clause-asks : goal.returns-in-Some-clause-asks
+returns-in-Some-clause-asks g c = λ wants. let e : NoMemory ≡ Refused = c.tell.ensures.answer NoMemory wants in absurd (cc e)

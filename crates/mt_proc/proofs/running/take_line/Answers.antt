@@ -1,21 +1,22 @@
-use Rattle.std.proofs.Common.{◌≡◌, ◌∙◌, ◌+◌, ap, inr, refl, sym, subst, ℕ, List, [], append-nil}
-use Rattle.mt_ports.specs.declared.status.Status.TheVariants.{BadText}
+use Rattle.std.proofs.Common.{◌≡◌, ◌∙◌, ◌+◌, ap, inr, refl, sym, subst, length, ℕ, List, [], append-nil}
+use Rattle.mt_ports.specs.declared.status.Status.TheVariants.{BadText, NoMemory}
 use Rattle.mt_output.specs.Lines.{offence_line}
 use Rattle.mt_output.specs.Writing.{Adds}
 use Rattle.mt_output.proofs.Writing.{passes_nothing}
 use Rattle.mt_regs.specs.Agreement.{first_refusal}
 use Rattle.mt_script.specs.Head.{goes_on, offends}
 use Rattle.mt_stream.specs.Lines.{GoesOn, Path, Takes, from_line}
-use Rattle.mt_proc.specs.Proc.{begins, in_dump, of_head, proc_step, situation_of}
-use Rattle.mt_proc.specs.Running.{IsQuiet, path_from, proc_running}
+use Rattle.mt_proc.specs.Proc.{Point, begins, in_dump, in_requests, of_head, proc_step, situation_of}
+use Rattle.mt_proc.specs.Running.{AsksAt, HasEach, IsQuiet, path_from, proc_running}
+use Rattle.mt_proc.specs.Serving.{served}
 use Rattle.mt_proc.specs.declared.running.Run.{Run}
 use Rattle.mt_proc.specs.declared.running.Run.TheVariants as run
-use Rattle.mt_proc.proofs.Taking.{ends, goes, in_the_dump, leads_as, leads_by}
+use Rattle.mt_proc.proofs.Taking.{ends, goes, in_the_dump, in_the_requests, leads_as, leads_by}
 use Rattle.mt_proc.proofs.running.take_line.Goals as goal
 
 pub returns-in-Ok-None-clause-bytes : goal.returns-in-Ok-None-clause-bytes
 returns-in-Ok-None-clause-bytes g c = λ so_far was stands.
-    let (p, at, quiet, from) = stands in
+    let (p, at, quiet, from, each) = stands in
     let (before, read, in_it) = in_the_dump c.args.run.now c.in-Dump.reader p c.in-Dump.is at in
     let none : so_far ≡ [] = subst (λ (r : Run). IsQuiet r so_far) c.in-Dump.is quiet in
     let is : was ≡ path_from c.args.cpus (in_dump before) = from ∙ ap (path_from c.args.cpus) in_it in
@@ -27,11 +28,11 @@ returns-in-Ok-None-clause-bytes g c = λ so_far was stands.
     (sym is)
     (goes c.args.cpus (from_line number line (path_from c.args.cpus (in_dump before))) (number + 1) so_far (run.Dump c.take_dump_line.new.dump) c.args.writer.now c.args.writer.now (g.K.Sink.taken c.args.sink.now) (g.K.Sink.taken c.args.sink.now) [] (in_dump after)
     (leads_as c.args.cpus (from_line number line (path_from c.args.cpus (in_dump before))) (number + 1) (proc_step c.args.cpus number line (in_dump before)) (of_head (goes_on (situation_of c.args.cpus) after)) (ap of_head step) (leads_by c.args.cpus (in_dump before) number line))
-    holds (append-nil so_far ∙ none) (passes_nothing c.args.writer.now (g.K.Sink.taken c.args.sink.now)))
+    holds (append-nil so_far ∙ none) tt (passes_nothing c.args.writer.now (g.K.Sink.taken c.args.sink.now)))
 
 pub returns-in-Ok-Some-clause-bytes : goal.returns-in-Ok-Some-clause-bytes
 returns-in-Ok-Some-clause-bytes g c = λ so_far was stands.
-    let (p, at, quiet, from) = stands in
+    let (p, at, quiet, from, each) = stands in
     let (before, read, in_it) = in_the_dump c.args.run.now c.in-Dump.reader p c.in-Dump.is at in
     let none : so_far ≡ [] = subst (λ (r : Run). IsQuiet r so_far) c.in-Dump.is quiet in
     let is : was ≡ path_from c.args.cpus (in_dump before) = from ∙ ap (path_from c.args.cpus) in_it in
@@ -49,7 +50,7 @@ returns-in-Ok-Some-clause-bytes g c = λ so_far was stands.
 
 pub returns-in-Err-clause-bytes : goal.returns-in-Err-clause-bytes
 returns-in-Err-clause-bytes g c = λ so_far was stands.
-    let (p, at, quiet, from) = stands in
+    let (p, at, quiet, from, each) = stands in
     let (before, read, in_it) = in_the_dump c.args.run.now c.in-Dump.reader p c.in-Dump.is at in
     let none : so_far ≡ [] = subst (λ (r : Run). IsQuiet r so_far) c.in-Dump.is quiet in
     let is : was ≡ path_from c.args.cpus (in_dump before) = from ∙ ap (path_from c.args.cpus) in_it in
@@ -63,3 +64,31 @@ returns-in-Err-clause-bytes g c = λ so_far was stands.
     (ends c.args.cpus (from_line number line (path_from c.args.cpus (in_dump before))) (number + 1) so_far (run.Dump c.take_dump_line.new.dump) c.args.writer.now c.tell.new.writer (g.K.Sink.taken c.args.sink.now) (g.K.Sink.taken c.tell.new.sink) (offence_line c.in-Err.offence) BadText c.tell.result
     (leads_as c.args.cpus (from_line number line (path_from c.args.cpus (in_dump before))) (number + 1) (proc_step c.args.cpus number line (in_dump before)) (of_head (offends c.in-Err.offence)) (ap of_head step) (leads_by c.args.cpus (in_dump before) number line)) (inr refl)
     (subst (λ l. Adds c.args.writer.now l c.tell.new.writer (g.K.Sink.taken c.args.sink.now) (g.K.Sink.taken c.tell.new.sink) c.tell.result) text c.tell.ensures.bytes) c.tell.ensures.status)
+
+pub returns-in-Requests-clause-bytes : goal.returns-in-Requests-clause-bytes
+returns-in-Requests-clause-bytes g c = λ so_far was stands.
+    let (p, at, quiet, from, each) = stands in
+    let m = c.in-Requests.processors in
+    let number = c.args.line.now.number in
+    let line = c.args.line.now.bytes.now in
+    let is : was ≡ path_from c.args.cpus (in_requests (served m)) = from ∙ ap (path_from c.args.cpus) (in_the_requests c.args.run.now m p c.in-Requests.is at) in
+    let many : length m.system.processors ≡ c.args.cpus = subst (HasEach c.args.cpus) c.in-Requests.is each in
+    subst
+    (λ (q : Path). Takes (proc_running c.args.cpus) (from_line number line q) (number + 1) so_far (run.Requests c.take_request.new.processors) c.args.writer.now c.take_request.new.writer (g.K.Sink.taken c.args.sink.now) (g.K.Sink.taken c.take_request.new.sink) c.take_request.result)
+    (sym is)
+    (c.take_request.ensures.bytes c.args.cpus (from_line number line (path_from c.args.cpus (in_requests (served m)))) (number + 1) so_far many (leads_by c.args.cpus (in_requests (served m)) number line))
+
+pub returns-in-Requests-clause-asks : goal.returns-in-Requests-clause-asks
+returns-in-Requests-clause-asks g c = λ p at wants. absurd (c.take_request.ensures.asks wants)
+
+pub returns-in-Ok-None-clause-asks : goal.returns-in-Ok-None-clause-asks
+returns-in-Ok-None-clause-asks g c = λ p at wants. absurd (cc wants)
+
+pub returns-in-Ok-Some-clause-asks : goal.returns-in-Ok-Some-clause-asks
+returns-in-Ok-Some-clause-asks g c = λ p at wants.
+    let (before, read, in_it) = in_the_dump c.args.run.now c.in-Dump.reader p c.in-Dump.is at in
+    let (holds, step) = rw c.in-Ok-Some.field-0-is at (c.in-Ok-Some.ensures.step (situation_of c.args.cpus) before refl read) in
+    subst (λ (q : Point). AsksAt c.args.cpus q c.args.line.now.number c.args.line.now.bytes.now) (sym in_it) (c.in-Ok-Some.dump, step, c.begin.ensures.asks wants)
+
+pub returns-in-Err-clause-asks : goal.returns-in-Err-clause-asks
+returns-in-Err-clause-asks g c = λ p at wants. let e : NoMemory ≡ BadText = c.tell.ensures.answer NoMemory wants in absurd (cc e)

@@ -2,7 +2,7 @@ use Rattle.std.proofs.Common.{◌≡◌, ◌∙◌, ap, inl, refl, subst, sym, �
 use Rattle.mt_regs.specs.Agreement.{first_refusal}
 use Rattle.mt_output.specs.Lines.{dump_refused_line}
 use Rattle.mt_output.specs.Writing.{Adds}
-use Rattle.mt_ports.specs.declared.status.Status.TheVariants.{Refused}
+use Rattle.mt_ports.specs.declared.status.Status.TheVariants.{NoMemory, Refused}
 use Rattle.mt_dump.specs.Dumps.{Dump}
 use Rattle.mt_dump.specs.ForProcessors.{files_for}
 use Rattle.mt_replay.specs.Kept.{HasEras}
@@ -52,3 +52,6 @@ pub returns-in-Ok-write-clause-state : goal.returns-in-Ok-write-clause-state
 returns-in-Ok-write-clause-state g c =
     let none : first_refusal c.args.dump.files ≡ None = ap first_refusal (sym (c.as_slice-files.ensures.value ∙ ap (λ (d : Dump). d.files) c.dump.view_is)) ∙ sym c.first_refusal.ensures.refusal ∙ c.in_default.is in
     (none, ap run.Body c.in-Ok.ensures)
+
+pub returns-in-Some-clause-asks : goal.returns-in-Some-clause-asks
+returns-in-Some-clause-asks g c = λ wants. let e : NoMemory ≡ Refused = c.tell.ensures.answer NoMemory wants in absurd (cc e)

@@ -1,5 +1,5 @@
 use Rattle.std.proofs.Common.{rules, ◌≡◌, ◌+◌, inr, refl, subst, Ok, Err}
-use Rattle.mt_ports.specs.declared.status.Status.TheVariants.{BadText}
+use Rattle.mt_ports.specs.declared.status.Status.TheVariants.{BadText, NoMemory}
 use Rattle.mt_output.specs.Lines.{offence_line}
 use Rattle.mt_script.specs.Accept.{Fits}
 use Rattle.mt_script.specs.Situation.{Situation}
@@ -46,3 +46,11 @@ returns-in-Err-clause-last g c =
     let is : command_of c.args.replayer.now.now c.args.line.now.number c.args.line.now.bytes.now ≡ Err c.in-Err.fault = search rules in
     last_told c.args.line.now.number c.args.line.now.bytes.now (in_body c.args.replayer.now) (run.Body c.args.replayer.now) BadText c.tell_offence.result c.tell_offence.ensures.status
     (fault_lasts c.args.replayer.now c.args.line.now.number c.args.line.now.bytes.now c.in-Err.fault is)
+
+pub returns-in-Ok-clause-asks : goal.returns-in-Ok-clause-asks
+returns-in-Ok-clause-asks g c = λ wants.
+    let is : command_of c.args.replayer.now.now c.args.line.now.number c.args.line.now.bytes.now ≡ Ok c.in-Ok.command = search rules in
+    (c.in-Ok.command, is, c.do_command.ensures.asks NoMemory wants)
+
+pub returns-in-Err-clause-asks : goal.returns-in-Err-clause-asks
+returns-in-Err-clause-asks g c = λ wants. let e : NoMemory ≡ BadText = c.tell_offence.ensures.answer NoMemory wants in absurd (cc e)

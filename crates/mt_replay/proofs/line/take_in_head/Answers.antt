@@ -1,9 +1,9 @@
 use Rattle.std.proofs.Common.{◌≡◌, ◌∙◌, inr, sym, refl, subst, ◌+◌, ℕ, false, List, [], None, Ok}
-use Rattle.mt_ports.specs.declared.status.Status.TheVariants.{BadText}
+use Rattle.mt_ports.specs.declared.status.Status.TheVariants.{BadText, NoMemory}
 use Rattle.mt_output.specs.Lines.{offence_line}
 use Rattle.mt_script.specs.Head.{offends}
 use Rattle.mt_script.specs.Situation.{Situation}
-use Rattle.mt_replay.specs.Running.{IsQuiet, leading, leading_dump, replay_running}
+use Rattle.mt_replay.specs.Running.{AsksAt, IsQuiet, leading, leading_dump, replay_running}
 use Rattle.mt_replay.specs.Transcript.{Point, in_head}
 use Rattle.mt_stream.specs.Lines.{Takes}
 use Rattle.mt_replay.specs.declared.line.Run.{Run}
@@ -82,3 +82,15 @@ returns-in-Err-clause-last g c = λ was at.
     subst (λ (p : Point). Lasts c.args.line.now.number c.args.line.now.bytes.now p (run.Head c.take.new.self) c.tell_offence.result) (sym is)
     (last_told c.args.line.now.number c.args.line.now.bytes.now (in_head c.in-Head.head.setup before) (run.Head c.take.new.self) BadText c.tell_offence.result c.tell_offence.ensures.status
     (head_offends c.in-Head.head.setup before c.args.line.now.number c.args.line.now.bytes.now c.in-Err.offence (run.Head c.take.new.self) step refl))
+
+pub returns-in-Ok-None-clause-asks : goal.returns-in-Ok-None-clause-asks
+returns-in-Ok-None-clause-asks g c = λ was at wants. absurd (cc wants)
+
+pub returns-in-Ok-Some-clause-asks : goal.returns-in-Ok-Some-clause-asks
+returns-in-Ok-Some-clause-asks g c = λ was at wants.
+    let (before, read, is) = in_the_head c.args.run.now c.in-Head.head was c.in-Head.is at in
+    let (holds, step) = rw c.in-Ok-Some.field-0-is at (c.in-Ok-Some.ensures.step before read) in
+    subst (λ (p : Point). AsksAt p c.args.line.now.number c.args.line.now.bytes.now) (sym is) (c.in-Ok-Some.dump, step, c.begin.ensures.asks wants)
+
+pub returns-in-Err-clause-asks : goal.returns-in-Err-clause-asks
+returns-in-Err-clause-asks g c = λ was at wants. let e : NoMemory ≡ BadText = c.tell_offence.ensures.answer NoMemory wants in absurd (cc e)

@@ -1,15 +1,19 @@
-use Rattle.std.proofs.Common.{false, ◌∙◌, ◌+◌, ◌++◌, arith, sym, refl, subst, ap, inl, inr, Ok, []}
-use Rattle.std.specs.Prelude.{◌⊎◌}
+use Rattle.std.proofs.Common.{false, ◌∙◌, ◌+◌, ◌++◌, arith, sym, refl, subst, ap, None, Some, Ok, Err, []}
 use Rattle.mt_text.specs.Feed.{Feeding, IsLong, Moves, taken}
 use Rattle.mt_script.specs.Situation.{at_start}
-use Rattle.mt_stream.specs.Lines.{Ends, Fails, GoesOn, Wants}
+use Rattle.mt_stream.specs.Lines.{Path, Takes, tells_of}
+use Rattle.mt_stream.proofs.Loops.{ends, fails, goes_last, goes_on, refuses}
 use Rattle.mt_stream.proofs.Rounds.{close_statuses, cut_enough, cut_long, moved_taken, never_much}
-use Rattle.mt_stream.proofs.Telling.{UnderWay, closes, cuts, line_ends, line_fails, line_goes_last, line_goes_on, line_wants, moves_line, no_line, starts}
-use Rattle.mt_replay.specs.Running.{Replays, end_of_run, path_from, replay_running}
-use Rattle.mt_replay.specs.Transcript.{in_head}
+use Rattle.mt_stream.proofs.Telling.{UnderWay, close_has_memory, closes, cut_has_memory, cuts, no_line, starts}
+use Rattle.mt_replay.specs.Running.{AsksAt, Replays, end_of_run, path_from, replay_running}
+use Rattle.mt_replay.specs.Transcript.{from_point, in_head}
 use Rattle.mt_replay.specs.declared.line.Run.TheVariants as run
 use Rattle.mt_replay.proofs.RunningLaws.{at_point, eras_more, replay_laws}
 use Rattle.mt_replay.proofs.running.run_lines.Goals as goal
+
+-- where a run begins
+abbrev first_path : Path
+first_path = path_from false [] (in_head at_start [])
 
 pub lines-init : goal.lines-init
 lines-init g c = record {
@@ -20,18 +24,22 @@ lines-init g c = record {
   sink = refl;
   eras = tt;
   told = λ bytes known.
-      subst (λ (f : Feeding). UnderWay replay_running (path_from false [] (in_head at_start [])) bytes (g.S.Source.left c.args.source.now) f (run.Head c.new.result) c.args.writer.now (g.K.Sink.taken c.args.sink.now) (g.K.Sink.taken c.args.sink.now)) (sym c.new-feed.ensures)
-      (starts replay_running (path_from false [] (in_head at_start [])) replay_laws bytes (g.S.Source.left c.args.source.now) (run.Head c.new.result) c.args.writer.now (g.K.Sink.taken c.args.sink.now) known (in_head at_start [], false, (c.new.ensures.setup, c.new.ensures.dump), (refl, refl), refl) c.requires);
+      subst (λ (f : Feeding). UnderWay replay_running first_path bytes (g.S.Source.left c.args.source.now) f (run.Head c.new.result) c.args.writer.now (g.K.Sink.taken c.args.sink.now) (g.K.Sink.taken c.args.sink.now)) (sym c.new-feed.ensures)
+      (starts replay_running first_path replay_laws bytes (g.S.Source.left c.args.source.now) (run.Head c.new.result) c.args.writer.now (g.K.Sink.taken c.args.sink.now) known (in_head at_start [], false, (c.new.ensures.setup, c.new.ensures.dump), (refl, refl), refl) c.requires);
 }
 
 pub returns-in-Ok-false-clause-bytes : goal.returns-in-Ok-false-clause-bytes
 returns-in-Ok-false-clause-bytes g c = λ bytes known.
     let (more, takes, rises, next) = c.in-Ok-false.ensures.bytes in
     let moves = subst (Moves c.lines.feed c.next_line.new.feed (c.lines.feed.pending ++ more) (g.S.Source.left c.next_line.new.source)) c.in-Ok-false.field-0-test next.0 in
-    closes replay_running (path_from false [] (in_head at_start [])) replay_laws bytes (g.S.Source.left c.next_line.new.source) c.next_line.new.feed.place c.lines.run c.next_line.new.writer (g.K.Sink.taken c.args.sink.now) (g.K.Sink.taken c.next_line.new.sink) (g.K.Sink.taken c.end_text.new.sink) c.end_text.result
-    (no_line replay_running (path_from false [] (in_head at_start [])) replay_laws bytes more (g.S.Source.left c.lines.source) (g.S.Source.left c.next_line.new.source) c.lines.feed c.next_line.new.feed c.lines.run c.lines.writer c.next_line.new.writer
+    closes replay_running first_path replay_laws bytes (g.S.Source.left c.next_line.new.source) c.next_line.new.feed.place c.lines.run c.next_line.new.writer (g.K.Sink.taken c.args.sink.now) (g.K.Sink.taken c.next_line.new.sink) (g.K.Sink.taken c.end_text.new.sink) c.end_text.result
+    (no_line replay_running first_path replay_laws bytes more (g.S.Source.left c.lines.source) (g.S.Source.left c.next_line.new.source) c.lines.feed c.next_line.new.feed c.lines.run c.lines.writer c.next_line.new.writer
     (g.K.Sink.taken c.args.sink.now) (g.K.Sink.taken c.lines.sink) (g.K.Sink.taken c.next_line.new.sink) (c.lines.invariant.told bytes known) takes moves next.1)
     c.end_text.ensures.bytes
+
+pub returns-in-Ok-false-clause-memory : goal.returns-in-Ok-false-clause-memory
+returns-in-Ok-false-clause-memory g c = λ bytes known wants.
+    absurd (close_has_memory (end_of_run c.lines.run c.next_line.new.feed.place) c.next_line.new.writer (g.K.Sink.taken c.next_line.new.sink) (g.K.Sink.taken c.end_text.new.sink) c.end_text.result (replay_laws.ending c.lines.run c.next_line.new.feed.place) c.end_text.ensures.bytes wants)
 
 pub returns-in-Err-clause-bytes : goal.returns-in-Err-clause-bytes
 returns-in-Err-clause-bytes g c = λ bytes known.
@@ -40,8 +48,11 @@ returns-in-Err-clause-bytes g c = λ bytes known.
     cut_enough c.lines.feed c.next_line.new.feed more c.lines.writer c.next_line.new.writer (g.K.Sink.taken c.lines.sink) (g.K.Sink.taken c.next_line.new.sink) (g.S.Source.given c.args.source.now) (g.S.Source.given c.lines.source) (g.S.Source.given c.next_line.new.source)
     c.lines.invariant.given rises c.in-Err.ensures.long c.lines.invariant.no_fault c.in-Err.cut short in
     subst (Replays bytes (g.S.Source.left c.next_line.new.source) (g.K.Sink.taken c.args.sink.now) (g.K.Sink.taken c.next_line.new.sink)) (sym c.cut_status.ensures.value)
-    (cuts replay_running (path_from false [] (in_head at_start [])) replay_laws bytes more (g.S.Source.left c.lines.source) (g.S.Source.left c.next_line.new.source) c.lines.feed c.next_line.new.feed c.lines.run c.lines.writer c.next_line.new.writer
+    (cuts replay_running first_path replay_laws bytes more (g.S.Source.left c.lines.source) (g.S.Source.left c.next_line.new.source) c.lines.feed c.next_line.new.feed c.lines.run c.lines.writer c.next_line.new.writer
     (g.K.Sink.taken c.args.sink.now) (g.K.Sink.taken c.lines.sink) (g.K.Sink.taken c.next_line.new.sink) c.in-Err.cut (c.lines.invariant.told bytes known) takes short c.lines.invariant.no_fault enough)
+
+pub returns-in-Err-clause-memory : goal.returns-in-Err-clause-memory
+returns-in-Err-clause-memory g c = λ bytes known wants. absurd (cut_has_memory c.in-Err.cut (sym c.cut_status.ensures.value ∙ wants))
 
 pub returns-in-Err-clause-too_long : goal.returns-in-Err-clause-too_long
 returns-in-Err-clause-too_long g c =
@@ -55,16 +66,16 @@ pub returns-then-last-clause-bytes : goal.returns-then-last-clause-bytes
 returns-then-last-clause-bytes g c = λ bytes known.
     let (more, takes, rises, next) = c.in-Ok-true.ensures.bytes in
     let moves = subst (Moves c.lines.feed c.next_line.new.feed (c.lines.feed.pending ++ more) (g.S.Source.left c.next_line.new.source)) c.in-Ok-true.field-0-test next.0 in
-    let h =
-    moves_line replay_running (path_from false [] (in_head at_start [])) replay_laws bytes more (g.S.Source.left c.lines.source) (g.S.Source.left c.next_line.new.source) c.lines.feed c.next_line.new.feed c.lines.run c.lines.writer c.next_line.new.writer
-    (g.K.Sink.taken c.args.sink.now) (g.K.Sink.taken c.lines.sink) (g.K.Sink.taken c.next_line.new.sink) (c.lines.invariant.told bytes known) takes moves next.1 in
-    let goes =
-    at_point h.point h.at.1 h.text h.at.0 (λ from. GoesOn replay_running from (c.next_line.new.feed.line.number + 1) h.text c.take_line.new.run c.next_line.new.writer c.take_line.new.writer (g.K.Sink.taken c.next_line.new.sink) (g.K.Sink.taken c.take_line.new.sink)) c.next_line.new.feed.line.number c.next_line.new.feed.line.bytes h.at.4
-    (rw (c.in-Ok-None.field-0-is, c.current.ensures.bytes, c.current.ensures.number) at (c.in-Ok-None.ensures.bytes h.at.1 h.text h.at.0 h.at.2 h.at.3)) in
-    closes replay_running (path_from false [] (in_head at_start [])) replay_laws bytes (g.S.Source.left c.next_line.new.source) c.next_line.new.feed.place c.take_line.new.run c.take_line.new.writer (g.K.Sink.taken c.args.sink.now) (g.K.Sink.taken c.take_line.new.sink) (g.K.Sink.taken c.end_text-then-last.new.sink) c.end_text-then-last.result
-    (line_goes_last replay_running (path_from false [] (in_head at_start [])) replay_laws bytes (g.S.Source.left c.next_line.new.source) c.next_line.new.feed c.lines.run c.next_line.new.writer (g.K.Sink.taken c.args.sink.now) (g.K.Sink.taken c.next_line.new.sink) h c.take_line.new.run c.take_line.new.writer (g.K.Sink.taken c.take_line.new.sink) goes
-    (sym c.is_last-last.ensures ∙ c.if-last.true))
-    c.end_text-then-last.ensures.bytes
+    goes_last replay_running first_path replay_laws bytes more (g.S.Source.left c.lines.source) (g.S.Source.left c.next_line.new.source) c.lines.feed c.next_line.new.feed c.lines.run c.lines.writer c.next_line.new.writer
+    (g.K.Sink.taken c.args.sink.now) (g.K.Sink.taken c.lines.sink) (g.K.Sink.taken c.next_line.new.sink) (c.lines.invariant.told bytes known) takes moves next.1 c.take_line.new.run c.take_line.new.writer (g.K.Sink.taken c.take_line.new.sink)
+    (λ so_far was stands.
+    at_point was stands.1 so_far stands.0 (λ from. Takes replay_running from (c.next_line.new.feed.line.number + 1) so_far c.take_line.new.run c.next_line.new.writer c.take_line.new.writer (g.K.Sink.taken c.next_line.new.sink) (g.K.Sink.taken c.take_line.new.sink) (Ok None)) c.next_line.new.feed.line.number c.next_line.new.feed.line.bytes stands.4
+    (rw (c.in-Ok-None.field-0-is, c.current.ensures.bytes, c.current.ensures.number) at (c.in-Ok-None.ensures.bytes stands.1 so_far stands.0 stands.2 stands.3)))
+    (sym c.is_last-last.ensures ∙ c.if-last.true) (g.K.Sink.taken c.end_text-then-last.new.sink) c.end_text-then-last.result c.end_text-then-last.ensures.bytes
+
+pub returns-then-last-clause-memory : goal.returns-then-last-clause-memory
+returns-then-last-clause-memory g c = λ bytes known wants.
+    absurd (close_has_memory (end_of_run c.take_line.new.run c.next_line.new.feed.place) c.take_line.new.writer (g.K.Sink.taken c.take_line.new.sink) (g.K.Sink.taken c.end_text-then-last.new.sink) c.end_text-then-last.result (replay_laws.ending c.take_line.new.run c.next_line.new.feed.place) c.end_text-then-last.ensures.bytes wants)
 
 pub returns-then-last-clause-too_long : goal.returns-then-last-clause-too_long
 returns-then-last-clause-too_long g c =
@@ -88,13 +99,11 @@ lines-preserved g c =
       sink = c.in-Ok-None.ensures.cause ∙ c.in-Ok-true.ensures.sink ∙ c.lines.invariant.sink;
       eras = eras_more (c.lines.feed.offset + 1) c.next_line.new.feed.offset c.take_line.new.run moved.1 (rw c.in-Ok-None.field-0-is at (c.in-Ok-None.ensures.eras c.lines.feed.offset c.lines.invariant.eras));
       told = λ bytes known.
-          let h =
-          moves_line replay_running (path_from false [] (in_head at_start [])) replay_laws bytes more (g.S.Source.left c.lines.source) (g.S.Source.left c.next_line.new.source) c.lines.feed c.next_line.new.feed c.lines.run c.lines.writer c.next_line.new.writer
-          (g.K.Sink.taken c.args.sink.now) (g.K.Sink.taken c.lines.sink) (g.K.Sink.taken c.next_line.new.sink) (c.lines.invariant.told bytes known) takes moves next.1 in
-          let goes =
-          at_point h.point h.at.1 h.text h.at.0 (λ from. GoesOn replay_running from (c.next_line.new.feed.line.number + 1) h.text c.take_line.new.run c.next_line.new.writer c.take_line.new.writer (g.K.Sink.taken c.next_line.new.sink) (g.K.Sink.taken c.take_line.new.sink)) c.next_line.new.feed.line.number c.next_line.new.feed.line.bytes h.at.4
-          (rw (c.in-Ok-None.field-0-is, c.current.ensures.bytes, c.current.ensures.number) at (c.in-Ok-None.ensures.bytes h.at.1 h.text h.at.0 h.at.2 h.at.3)) in
-          line_goes_on replay_running (path_from false [] (in_head at_start [])) replay_laws bytes (g.S.Source.left c.next_line.new.source) c.next_line.new.feed c.lines.run c.next_line.new.writer (g.K.Sink.taken c.args.sink.now) (g.K.Sink.taken c.next_line.new.sink) h c.take_line.new.run c.take_line.new.writer (g.K.Sink.taken c.take_line.new.sink) goes
+          goes_on replay_running first_path replay_laws bytes more (g.S.Source.left c.lines.source) (g.S.Source.left c.next_line.new.source) c.lines.feed c.next_line.new.feed c.lines.run c.lines.writer c.next_line.new.writer
+          (g.K.Sink.taken c.args.sink.now) (g.K.Sink.taken c.lines.sink) (g.K.Sink.taken c.next_line.new.sink) (c.lines.invariant.told bytes known) takes moves next.1 c.take_line.new.run c.take_line.new.writer (g.K.Sink.taken c.take_line.new.sink)
+          (λ so_far was stands.
+          at_point was stands.1 so_far stands.0 (λ from. Takes replay_running from (c.next_line.new.feed.line.number + 1) so_far c.take_line.new.run c.next_line.new.writer c.take_line.new.writer (g.K.Sink.taken c.next_line.new.sink) (g.K.Sink.taken c.take_line.new.sink) (Ok None)) c.next_line.new.feed.line.number c.next_line.new.feed.line.bytes stands.4
+          (rw (c.in-Ok-None.field-0-is, c.current.ensures.bytes, c.current.ensures.number) at (c.in-Ok-None.ensures.bytes stands.1 so_far stands.0 stands.2 stands.3)))
           (sym c.is_last-last.ensures ∙ c.if-last.false);
     }
 
@@ -105,22 +114,28 @@ pub returns-in-Ok-Some-clause-bytes : goal.returns-in-Ok-Some-clause-bytes
 returns-in-Ok-Some-clause-bytes g c = λ bytes known.
     let (more, takes, rises, next) = c.in-Ok-true.ensures.bytes in
     let moves = subst (Moves c.lines.feed c.next_line.new.feed (c.lines.feed.pending ++ more) (g.S.Source.left c.next_line.new.source)) c.in-Ok-true.field-0-test next.0 in
-    let h =
-    moves_line replay_running (path_from false [] (in_head at_start [])) replay_laws bytes more (g.S.Source.left c.lines.source) (g.S.Source.left c.next_line.new.source) c.lines.feed c.next_line.new.feed c.lines.run c.lines.writer c.next_line.new.writer
-    (g.K.Sink.taken c.args.sink.now) (g.K.Sink.taken c.lines.sink) (g.K.Sink.taken c.next_line.new.sink) (c.lines.invariant.told bytes known) takes moves next.1 in
-    let ends =
-    at_point h.point h.at.1 h.text h.at.0 (λ from. Ends from c.next_line.new.writer c.take_line.new.writer (g.K.Sink.taken c.next_line.new.sink) (g.K.Sink.taken c.take_line.new.sink) c.in-Ok-Some.status ⊎ Wants from h.text c.next_line.new.writer c.take_line.new.writer (g.K.Sink.taken c.next_line.new.sink) (g.K.Sink.taken c.take_line.new.sink) c.in-Ok-Some.status) c.next_line.new.feed.line.number c.next_line.new.feed.line.bytes h.at.4
-    (rw (c.in-Ok-Some.field-0-is, c.current.ensures.bytes, c.current.ensures.number) at (c.in-Ok-Some.ensures.bytes h.at.1 h.text h.at.0 h.at.2 h.at.3)) in
     let (dropped, drains, given, (counted, leaves)) = c.leave.ensures.bytes in
-    let left = rw c.is_last-last.ensures at leaves in
-    elim ends [
-      | inl e ↦ line_ends replay_running (path_from false [] (in_head at_start [])) replay_laws bytes (g.S.Source.left c.next_line.new.source) c.next_line.new.feed c.lines.run c.next_line.new.writer (g.K.Sink.taken c.args.sink.now) (g.K.Sink.taken c.next_line.new.sink) h
-          c.in-Ok-Some.status c.leave.result dropped c.take_line.new.writer (g.S.Source.left c.leave.new.source) (g.K.Sink.taken c.take_line.new.sink) (g.K.Sink.taken c.leave.new.sink) drains
-          (λ is. let many = c.leave.ensures.long.0 is in omega (arith, many, counted)) left e
-      | inr w ↦ line_wants replay_running (path_from false [] (in_head at_start [])) replay_laws bytes (g.S.Source.left c.next_line.new.source) c.next_line.new.feed c.lines.run c.next_line.new.writer (g.K.Sink.taken c.args.sink.now) (g.K.Sink.taken c.next_line.new.sink) h
-          c.in-Ok-Some.status c.leave.result dropped c.take_line.new.writer (g.S.Source.left c.leave.new.source) (g.K.Sink.taken c.take_line.new.sink) (g.K.Sink.taken c.leave.new.sink) drains
-          (λ is. let many = c.leave.ensures.long.0 is in omega (arith, many, counted)) left w
-    ]
+    ends replay_running first_path replay_laws bytes more (g.S.Source.left c.lines.source) (g.S.Source.left c.next_line.new.source) c.lines.feed c.next_line.new.feed c.lines.run c.lines.writer c.next_line.new.writer
+    (g.K.Sink.taken c.args.sink.now) (g.K.Sink.taken c.lines.sink) (g.K.Sink.taken c.next_line.new.sink) (c.lines.invariant.told bytes known) takes moves next.1 c.take_line.new.run c.take_line.new.writer (g.K.Sink.taken c.take_line.new.sink)
+    c.in-Ok-Some.status c.leave.result dropped (g.S.Source.left c.leave.new.source) (g.K.Sink.taken c.leave.new.sink) drains
+    (λ is. let many = c.leave.ensures.long.0 is in omega (arith, many, counted)) (rw c.is_last-last.ensures at leaves)
+    (λ so_far was stands.
+    at_point was stands.1 so_far stands.0 (λ from. Takes replay_running from (c.next_line.new.feed.line.number + 1) so_far c.take_line.new.run c.next_line.new.writer c.take_line.new.writer (g.K.Sink.taken c.next_line.new.sink) (g.K.Sink.taken c.take_line.new.sink) (Ok (Some c.in-Ok-Some.status))) c.next_line.new.feed.line.number c.next_line.new.feed.line.bytes stands.4
+    (rw (c.in-Ok-Some.field-0-is, c.current.ensures.bytes, c.current.ensures.number) at (c.in-Ok-Some.ensures.bytes stands.1 so_far stands.0 stands.2 stands.3)))
+
+pub returns-in-Ok-Some-clause-memory : goal.returns-in-Ok-Some-clause-memory
+returns-in-Ok-Some-clause-memory g c = λ bytes known wants.
+    let (more, takes, rises, next) = c.in-Ok-true.ensures.bytes in
+    let moves = subst (Moves c.lines.feed c.next_line.new.feed (c.lines.feed.pending ++ more) (g.S.Source.left c.next_line.new.source)) c.in-Ok-true.field-0-test next.0 in
+    let (dropped, drains, given, (counted, leaves)) = c.leave.ensures.bytes in
+    refuses replay_running first_path replay_laws bytes more (g.S.Source.left c.lines.source) (g.S.Source.left c.next_line.new.source) c.lines.feed c.next_line.new.feed c.lines.run c.lines.writer c.next_line.new.writer
+    (g.K.Sink.taken c.args.sink.now) (g.K.Sink.taken c.lines.sink) (g.K.Sink.taken c.next_line.new.sink) (c.lines.invariant.told bytes known) takes moves next.1 c.take_line.new.run c.take_line.new.writer (g.K.Sink.taken c.take_line.new.sink)
+    c.in-Ok-Some.status c.leave.result dropped (g.S.Source.left c.leave.new.source) (g.K.Sink.taken c.leave.new.sink) drains
+    (λ is. let many = c.leave.ensures.long.0 is in omega (arith, many, counted)) (rw c.is_last-last.ensures at leaves)
+    (λ so_far was stands.
+    at_point was stands.1 so_far stands.0 (λ from. Takes replay_running from (c.next_line.new.feed.line.number + 1) so_far c.take_line.new.run c.next_line.new.writer c.take_line.new.writer (g.K.Sink.taken c.next_line.new.sink) (g.K.Sink.taken c.take_line.new.sink) (Ok (Some c.in-Ok-Some.status))) c.next_line.new.feed.line.number c.next_line.new.feed.line.bytes stands.4
+    (rw (c.in-Ok-Some.field-0-is, c.current.ensures.bytes, c.current.ensures.number) at (c.in-Ok-Some.ensures.bytes stands.1 so_far stands.0 stands.2 stands.3)))
+    from_point (in_head at_start []) AsksAt refl (λ wants so_far was stands. (stands.0, ap tells_of stands.4, rw (c.current.ensures.bytes, c.current.ensures.number) at (c.in-Ok-Some.ensures.asks stands.0 stands.2 (ap Ok (c.in-Ok-Some.field-0-is ∙ ap Some wants))))) wants
 
 pub returns-in-Ok-Some-clause-too_long : goal.returns-in-Ok-Some-clause-too_long
 returns-in-Ok-Some-clause-too_long g c =
@@ -136,9 +151,11 @@ pub returns-in-Err-take_line-clause-bytes : goal.returns-in-Err-take_line-clause
 returns-in-Err-take_line-clause-bytes g c = λ bytes known.
     let (more, takes, rises, next) = c.in-Ok-true.ensures.bytes in
     let moves = subst (Moves c.lines.feed c.next_line.new.feed (c.lines.feed.pending ++ more) (g.S.Source.left c.next_line.new.source)) c.in-Ok-true.field-0-test next.0 in
-    let h =
-    moves_line replay_running (path_from false [] (in_head at_start [])) replay_laws bytes more (g.S.Source.left c.lines.source) (g.S.Source.left c.next_line.new.source) c.lines.feed c.next_line.new.feed c.lines.run c.lines.writer c.next_line.new.writer
-    (g.K.Sink.taken c.args.sink.now) (g.K.Sink.taken c.lines.sink) (g.K.Sink.taken c.next_line.new.sink) (c.lines.invariant.told bytes known) takes moves next.1 in
-    line_fails replay_running (path_from false [] (in_head at_start [])) replay_laws bytes (g.S.Source.left c.next_line.new.source) c.next_line.new.feed c.lines.run c.next_line.new.writer (g.K.Sink.taken c.args.sink.now) (g.K.Sink.taken c.next_line.new.sink) h (g.K.Sink.taken c.take_line.new.sink)
-    (at_point h.point h.at.1 h.text h.at.0 (λ from. Fails from c.next_line.new.writer (g.K.Sink.taken c.next_line.new.sink) (g.K.Sink.taken c.take_line.new.sink)) c.next_line.new.feed.line.number c.next_line.new.feed.line.bytes h.at.4
-    (rw (c.current.ensures.bytes, c.current.ensures.number) at (c.in-Err-take_line.ensures.bytes h.at.1 h.text h.at.0 h.at.2 h.at.3)))
+    fails replay_running first_path replay_laws bytes more (g.S.Source.left c.lines.source) (g.S.Source.left c.next_line.new.source) c.lines.feed c.next_line.new.feed c.lines.run c.lines.writer c.next_line.new.writer
+    (g.K.Sink.taken c.args.sink.now) (g.K.Sink.taken c.lines.sink) (g.K.Sink.taken c.next_line.new.sink) (c.lines.invariant.told bytes known) takes moves next.1 c.take_line.new.run c.take_line.new.writer (g.K.Sink.taken c.take_line.new.sink) c.in-Err-take_line.field-0
+    (λ so_far was stands.
+    at_point was stands.1 so_far stands.0 (λ from. Takes replay_running from (c.next_line.new.feed.line.number + 1) so_far c.take_line.new.run c.next_line.new.writer c.take_line.new.writer (g.K.Sink.taken c.next_line.new.sink) (g.K.Sink.taken c.take_line.new.sink) (Err c.in-Err-take_line.field-0)) c.next_line.new.feed.line.number c.next_line.new.feed.line.bytes stands.4
+    (rw (c.current.ensures.bytes, c.current.ensures.number) at (c.in-Err-take_line.ensures.bytes stands.1 so_far stands.0 stands.2 stands.3)))
+
+pub returns-in-Err-take_line-clause-memory : goal.returns-in-Err-take_line-clause-memory
+returns-in-Err-take_line-clause-memory g c = λ bytes known wants. absurd (cc wants)

@@ -1,4 +1,4 @@
-use Rattle.std.proofs.Common.{◌∙◌, ap, sym, subst}
+use Rattle.std.proofs.Common.{◌∙◌, ap, length, sym, subst}
 use Rattle.mt_machine.specs.Machine.{Machine}
 use Rattle.mt_machine.specs.Update.{IsSettled}
 use Rattle.mt_proc.specs.After.{asked}
@@ -22,3 +22,6 @@ returns-clause-settled g c = λ more.
     subst (λ (m : Machine). IsSettled m.system now.count now.file)
     (sym (c.change.ensures.changed ∙ (becomes c.args.self.now c.serve.ensures (applied (served c.args.self.now).file c.args.request.now)).stands more))
     (settled_standing _ now)
+
+pub returns-clause-each : goal.returns-clause-each
+returns-clause-each g c = ap (λ (m : Machine). length m.system.processors) c.change.ensures.changed ∙ (becomes c.args.self.now c.serve.ensures (applied (served c.args.self.now).file c.args.request.now)).each
