@@ -67,12 +67,7 @@ impl YardPass {
 
     // Waits for the others again. The load of the second count that ends it is the event Release. Each load before it
     // is none.
-    pub(crate) fn wait_second<R: Wait>(
-        &mut self,
-        waiter: &Waiter<R>,
-        yard: &Yard,
-        core: &mut Core,
-    )
+    pub(crate) fn wait_second<R: Wait>(&mut self, waiter: &Waiter<R>, yard: &Yard, core: &mut Core)
         requires visits { (first : MachineSystem) × VisitsIn yard.now self.old core.old true true Given first }
         requires waits { AreIn Arrived2 core.old.system }
         ensures number { self.new.number ≡ self.old.number }
