@@ -9,9 +9,9 @@ use Rattle.mt_gran.proofs.GranuleSizes.{size_is}
 use Rattle.mt_cli.specs.declared.command.Command.{Command}
 use Rattle.mt_cli.specs.declared.command.Command.TheVariants.{Serial, Threaded}
 use Rattle.mt_cli.specs.declared.command.SerialCommand.{SerialCommand}
-use Rattle.mt_cli.specs.declared.command.SerialCommand.TheVariants.{Dump, Make}
+use Rattle.mt_cli.specs.declared.command.SerialCommand.TheVariants.{Dump}
 use Rattle.mt_cli.specs.declared.command.ThreadedCommand.{ThreadedCommand}
-use Rattle.mt_cli.specs.declared.command.ThreadedCommand.TheVariants.{Replay, Proc, Big, Private}
+use Rattle.mt_cli.specs.declared.command.ThreadedCommand.TheVariants.{Replay, Proc, Private}
 use Rattle.mt_cli.specs.declared.command.DumpCommand.{DumpCommand}
 use Rattle.mt_cli.specs.declared.command.DumpCommand.TheVariants.{Check, Show, Types, Page, Tidy, Gran}
 use Rattle.mt_cli.specs.declared.command.TidyOption.{TidyOption}

@@ -1,5 +1,4 @@
-use Rattle.std.proofs.Common.{◌≡◌, ◌∙◌, ◌⊎◌, ℕ, List, None, ap, inl, inr, map, refl, string_bytes, subst}
-use Rattle.mt_ports.specs.declared.status.Status.TheVariants.{NoMemory}
+use Rattle.std.proofs.Common.{◌≡◌, ◌∙◌, ℕ, List, ap, inl, inr, map, refl, string_bytes, subst}
 use Rattle.mt_output.specs.Program.{words_of}
 use Rattle.mt_cli.specs.CommandLine.{command_of}
 use Rattle.mt_cli.specs.Runs.{IsRun, sink_run, source_run}
