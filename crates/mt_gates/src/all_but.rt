@@ -1,3 +1,4 @@
+use crate::counts::count_one;
 use mt_ports::Gate;
 use std::sync::atomic::{AtomicU64, Ordering};
 
@@ -39,21 +40,4 @@ impl Gate for AllBut {
     fn arrived(&self, k: u32) {
         count_one(&self.told, k);
     }
-}
-
-fn count_one(counts: &AtomicU64, k: u32) {
-    if k < 16 {
-        counts.fetch_add(1u64 << (4 * k), Ordering::SeqCst);
-    }
-}
-
-/// One in the four bits of each processor from one up to another.
-pub fn ones(from: u32, end: u32) -> u64 {
-    let mut counts = 0;
-    for k in from..end {
-        if k < 16 {
-            counts |= 1u64 << (4 * k);
-        }
-    }
-    counts
 }

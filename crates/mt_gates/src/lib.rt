@@ -3,7 +3,9 @@
 #![tactic(auto)]
 
 mod all_but;
+mod counts;
 mod meets;
 
-pub use all_but::{AllBut, ones};
+pub use all_but::AllBut;
+pub use counts::ones;
 pub use meets::Meets;

@@ -1,17 +1,17 @@
-//! Tests of the top call.
+//! Tests of the top call and of summaries: what rows can't say, as ports that fail, gates, and texts that are long.
 #![tactic(auto)]
 
 #[cfg(test)]
-mod cut_tests;
+mod failing_ports;
 #[cfg(test)]
-mod jobs_tests;
+mod gates;
 #[cfg(test)]
-mod limits_tests;
+mod jobs;
 #[cfg(test)]
-mod request_tests;
+mod long_texts;
 #[cfg(test)]
-mod script_tests;
+mod runs;
 #[cfg(test)]
-mod tool_runs;
+mod summaries;
 #[cfg(test)]
-mod tool_tests;
+mod texts;

@@ -57,7 +57,8 @@ fn is_met_longer<R: AllocGlobal + Threads + Wait + Sync + Print>(
     is_met(rt, row, piece)
 }
 
-/// Whether the row is met in pieces of 1, 2, 7 and 4,096 bytes. Prints a line for each in which it isn't.
+/// Whether the row is met in pieces of 1, 2, 7, 4,095, 4,096, 4,097 and 8,192 bytes. Prints a line for each in which
+/// it isn't.
 pub fn judge<R: AllocGlobal + Threads + Wait + Sync + Print>(
     rt: &R,
     row: &Row,
@@ -65,6 +66,9 @@ pub fn judge<R: AllocGlobal + Threads + Wait + Sync + Print>(
     let ones = is_met(rt, row, 1)?;
     let twos = is_met_longer(rt, row, 1, 2)?;
     let sevens = is_met_longer(rt, row, 2, 7)?;
-    let whole = is_met_longer(rt, row, 7, 4096)?;
-    Ok(ones && twos && sevens && whole)
+    let below_line = is_met_longer(rt, row, 7, 4095)?;
+    let lines = is_met_longer(rt, row, 4095, 4096)?;
+    let above_line = is_met_longer(rt, row, 4096, 4097)?;
+    let buffers = is_met_longer(rt, row, 4097, 8192)?;
+    Ok(ones && twos && sevens && below_line && lines && above_line && buffers)
 }

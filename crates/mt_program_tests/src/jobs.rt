@@ -1,60 +1,8 @@
 //! Jobs around one update, through `private` and by a script.
-use crate::tool_runs::{PLAIN, Ports, expect, run};
-use mt_cli::tool;
-use mt_gates::Meets;
-use mt_ports::{MemSink, MemSource, Status};
+use crate::runs::{Ports, run};
+use mt_ports::Status;
 use std::alloc::Global;
 use std::test::Fail;
-
-// `private` reads nothing, not even from a source that fails.
-#[test]
-fn jobs_read_nothing(rt: HostRuntime) -> Result<(), Fail> {
-    let ports = Ports {
-        input: b"x",
-        failing_reads: &[0],
-        ..PLAIN
-    };
-    let ran = run(&rt, &["private", "2", "7", "1"], &ports)?;
-    assert_eq!(rt; ran.status, Status::Done);
-    Ok(())
-}
-
-// Nothing is taken where the first write fails.
-#[test]
-fn jobs_that_can_not_be_written(rt: HostRuntime) -> Result<(), Fail> {
-    let ports = Ports {
-        input: b"x",
-        failing_writes: &[0],
-        ..PLAIN
-    };
-    expect(
-        &rt,
-        &["private", "2", "7", "1"],
-        &ports,
-        Status::WriteFault,
-        b"",
-    )
-}
-
-// Both calls of the gate see the other's flag, so two threads run at once.
-#[test]
-fn two_processors_meet(rt: HostRuntime) -> Result<(), Fail> {
-    let alloc = rt.alloc();
-    let mut owned = Vec::new(alloc);
-    for word in ["private", "2", "7", "0"] {
-        owned.push(String::from_str(alloc, word)?)?;
-    }
-    let gate = Meets::new();
-    let mut source = MemSource::new(Vec::new(alloc), 1, Vec::new(alloc));
-    let Ok(mut sink) = MemSink::new(alloc, 64, Vec::new(alloc)) else {
-        return Err(Fail::from("no memory"));
-    };
-    let status = tool(&rt, &owned, &mut source, &mut sink, &gate);
-    assert_eq!(rt; status, Status::Done);
-    assert!(rt; sink.bytes() == b"values 0000000000000000\nmemory 0000000000000000\n".as_slice());
-    assert!(rt; gate.seen() == 2);
-    Ok(())
-}
 
 const PROCESSORS: u64 = 16;
 
@@ -141,21 +89,18 @@ fn sum_of(transcript: &[u8], word: &[u8]) -> u64 {
 fn jobs_end_as_one_by_one(rt: HostRuntime) -> Result<(), Fail> {
     let alloc = rt.alloc();
     let script = jobs_script(alloc)?;
-    let ports = Ports {
-        input: script.as_str().as_bytes(),
-        ..PLAIN
-    };
-    let replayed = run(&rt, &["replay"], &ports)?;
+    let replayed = run(
+        &rt,
+        &["replay"],
+        &Ports::new(script.as_str().as_bytes(), 4096),
+    )?;
     assert_eq!(rt; replayed.status, Status::Done);
     let values = sum_of(replayed.sink.bytes(), b"value ");
     let memory = sum_of(replayed.sink.bytes(), b"memory ");
     assert!(rt; values != 0 && memory != 0);
     let text = format!(in alloc; "values {values:016x}\nmemory {memory:016x}\n")?;
-    expect(
-        &rt,
-        &["private", "16", "7", "64"],
-        &PLAIN,
-        Status::Done,
-        text.as_str().as_bytes(),
-    )
+    let ran = run(&rt, &["private", "16", "7", "64"], &Ports::new(b"", 4096))?;
+    assert_eq!(rt; ran.status, Status::Done);
+    assert!(rt; ran.sink.bytes() == text.as_str().as_bytes());
+    Ok(())
 }
