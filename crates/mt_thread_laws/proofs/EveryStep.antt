@@ -1,5 +1,5 @@
 -- Every step that the one play tells is one event of its station's machine that comes of such a step, or none.
-use Rattle.std.proofs.Common.{◌≡◌, ◌≢◌, ◌⊎◌, ◌≤◌, ℕ, zero, suc, ◌+◌, ◌%◌, ◌<◌, Bool, true, false, [], length, sym, refl, ap, ◌∙◌, subst, inl, inr, arith}
+use Rattle.std.proofs.Common.{◌≡◌, ℕ, zero, suc, ◌+◌, ◌%◌, Bool, true, false, [], sym, refl, subst, inl, inr, arith}
 use Rattle.std.specs.Prelude.{Option, Some, None, slice_index}
 use mathlib.Core.Option.{none, some}
 use lib.ListN.{get_elem?}

@@ -1,4 +1,4 @@
-use Rattle.std.proofs.Common.{◌≡◌, Some, refl, subst, sym}
+use Rattle.std.proofs.Common.{Some, refl, subst, sym}
 use mathlib.Core.Option.{none}
 use Rattle.atomic_table.specs.Table.{step}
 use Rattle.mt_machine.specs.declared.phase.Phase.TheVariants.{Arrived2}
