@@ -1,3 +1,4 @@
+use crate::checks::{holds, holds_at};
 use mt_cache::{Buffers, Cache};
 
 /// Fills a line that the cache doesn't have.
@@ -26,16 +27,19 @@ fn a_full_cache_drops_the_oldest(rt: HostRuntime) {
     for number in 0..64 {
         fill_new(&mut cache, number);
     }
-    assert!(rt; matches!(cache.oldest_of_full(), Some(line) if line.number == 0));
+    holds(
+        &rt,
+        matches!(cache.oldest_of_full(), Some(line) if line.number == 0),
+    );
     for number in 64..200 {
         fill_new(&mut cache, number);
     }
-    assert_eq!(rt; cache.len(), 64);
+    holds(&rt, cache.len() == 64);
     for i in 0..cache.len() {
-        assert_eq!(rt; cache.nth(i).number, 136 + i as u64);
+        holds(&rt, cache.nth(i).number == 136 + i as u64);
     }
-    assert!(rt; cache.find(135).is_none());
-    assert_eq!(rt; cache.find(199), Some(63));
+    holds(&rt, cache.find(135).is_none());
+    holds(&rt, cache.find(199) == Some(63));
 }
 
 #[test]
@@ -49,14 +53,14 @@ fn lines_stay_in_the_order_of_filling(rt: HostRuntime) {
             cache.invalidate(i);
         }
     }
-    assert!(rt; cache.oldest_of_full().is_none());
+    holds(&rt, cache.oldest_of_full().is_none());
     fill_new(&mut cache, 9);
-    assert!(rt; has_numbers(&cache, &[1, 3, 5, 9]));
+    holds(&rt, has_numbers(&cache, &[1, 3, 5, 9]));
     if cache.first_dirty().is_none() {
         cache.empty();
     }
     fill_new(&mut cache, 7);
-    assert!(rt; has_numbers(&cache, &[7]));
+    holds(&rt, has_numbers(&cache, &[7]));
 }
 
 #[test]
@@ -65,7 +69,7 @@ fn the_first_dirty_word_is_found(rt: HostRuntime) {
     for number in 0..3 {
         fill_new(&mut cache, number);
     }
-    assert!(rt; cache.first_dirty().is_none());
+    holds(&rt, cache.first_dirty().is_none());
     for (number, word) in [(2, 0), (1, 5), (1, 3)] {
         if let Some(i) = cache.find(number)
             && word < 8
@@ -73,30 +77,45 @@ fn the_first_dirty_word_is_found(rt: HostRuntime) {
             cache.write(i, word, 7, true);
         }
     }
-    assert!(rt; cache.first_dirty() == Some((1, 3)));
+    holds(&rt, cache.first_dirty() == Some((1, 3)));
 }
 
 #[test]
 fn a_full_buffer_is_handed_back(rt: HostRuntime) {
     let mut buffers = Buffers::new();
     for number in 0..4 {
-        assert!(rt; buffers.combine(number, 0, 7, 0).is_none(), "at {number}");
-    }
-    assert!(rt; matches!(buffers.combine(4, 0, 7, 0), Some(line) if line.number == 0));
-    for word in 1..7 {
-        assert!(rt; buffers.combine(1, word, 7, 0).is_none(), "at {word}");
-    }
-    assert!(rt;
-        matches!(buffers.combine(1, 7, 7, 0), Some(line) if line.number == 1 && line.dirty == 0xff)
-    );
-    for (i, number) in [(0, 2), (1, 3), (2, 4)] {
-        assert!(rt;
-            matches!(buffers.lines().get(i), Some(line) if line.number == number),
-            "at {i}"
+        holds_at(
+            &rt,
+            number as u64,
+            buffers.combine(number, 0, 7, 0).is_none(),
         );
     }
-    assert_eq!(rt; buffers.lines().len(), 3);
-    assert!(rt; matches!(buffers.take(3), Some(line) if line.number == 3));
-    assert!(rt; buffers.take(3).is_none());
-    assert!(rt; matches!(buffers.take_oldest(), Some(line) if line.number == 2));
+    holds(
+        &rt,
+        matches!(buffers.combine(4, 0, 7, 0), Some(line) if line.number == 0),
+    );
+    for word in 1..7 {
+        holds_at(&rt, word as u64, buffers.combine(1, word, 7, 0).is_none());
+    }
+    holds(
+        &rt,
+        matches!(buffers.combine(1, 7, 7, 0), Some(line) if line.number == 1 && line.dirty == 0xff),
+    );
+    for (i, number) in [(0, 2), (1, 3), (2, 4)] {
+        holds_at(
+            &rt,
+            i as u64,
+            matches!(buffers.lines().get(i), Some(line) if line.number == number),
+        );
+    }
+    holds(&rt, buffers.lines().len() == 3);
+    holds(
+        &rt,
+        matches!(buffers.take(3), Some(line) if line.number == 3),
+    );
+    holds(&rt, buffers.take(3).is_none());
+    holds(
+        &rt,
+        matches!(buffers.take_oldest(), Some(line) if line.number == 2),
+    );
 }

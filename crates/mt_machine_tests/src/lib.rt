@@ -6,6 +6,8 @@ mod admissions;
 #[cfg(test)]
 mod caches;
 #[cfg(test)]
+mod checks;
+#[cfg(test)]
 mod common;
 #[cfg(test)]
 mod interleavings;

@@ -1,3 +1,4 @@
+use crate::checks::{holds, some};
 use mt_cpu::Cpu;
 use mt_kinds::{MemType, PageKinds};
 use mt_machine::{Event, Phase};
@@ -57,58 +58,64 @@ fn translate(cpu: &mut Cpu, va: u64, kind: MemType) -> Option<(u64, MemType)> {
     }
 }
 
+/// Whether the address is translated to this one, where memory has this type.
+fn translates(cpu: &mut Cpu, va: u64, address: u64, kind: MemType) -> bool {
+    translate(cpu, va, kind) == Some((address, kind))
+}
+
 #[test]
 fn global_entries_stay_until_pge_is_cleared(rt: HostRuntime) {
-    let Some(mut cpu) = processor(0x806) else {
-        panic!(rt; "the file is accepted");
-    };
+    let mut cpu = some(&rt, processor(0x806));
     cpu.set_pge(true);
-    assert!(rt; map(&mut cpu, 1, 0x100, true));
-    assert!(rt; map(&mut cpu, 2, 0x200, false));
-    assert!(rt; translate(&mut cpu, 0x1008, MemType::WB) == Some((0x100008, MemType::WB)));
-    assert!(rt; translate(&mut cpu, 0x2000, MemType::WB) == Some((0x200000, MemType::WB)));
-    assert!(rt; translate(&mut cpu, 0x3000, MemType::WB).is_none());
-    assert_eq!(rt; cpu.tlb().entries().len(), 2);
+    holds(&rt, map(&mut cpu, 1, 0x100, true));
+    holds(&rt, map(&mut cpu, 2, 0x200, false));
+    holds(&rt, translates(&mut cpu, 0x1008, 0x100008, MemType::WB));
+    holds(&rt, translates(&mut cpu, 0x2000, 0x200000, MemType::WB));
+    holds(&rt, translate(&mut cpu, 0x3000, MemType::WB).is_none());
+    holds(&rt, cpu.tlb().entries().len() == 2);
     cpu.reload_cr3();
-    assert_eq!(rt; cpu.tlb().entries().len(), 1);
-    assert!(rt;
-        matches!(cpu.tlb().entries().first(), Some(entry) if entry.vpage == 1 && entry.global)
+    holds(&rt, cpu.tlb().entries().len() == 1);
+    holds(
+        &rt,
+        matches!(cpu.tlb().entries().first(), Some(entry) if entry.vpage == 1 && entry.global),
     );
     cpu.set_pge(true);
-    assert_eq!(rt; cpu.tlb().entries().len(), 1);
+    holds(&rt, cpu.tlb().entries().len() == 1);
     cpu.set_pge(false);
-    assert!(rt; cpu.tlb().entries().is_empty());
+    holds(&rt, cpu.tlb().entries().is_empty());
 }
 
 #[test]
 fn an_entry_stands_until_it_is_dropped(rt: HostRuntime) {
-    let Some(mut cpu) = processor(0x804) else {
-        panic!(rt; "the file is accepted");
-    };
-    assert!(rt; map(&mut cpu, 1, 0x100, true));
-    assert!(rt; translate(&mut cpu, 0x1000, MemType::WT) == Some((0x100000, MemType::WT)));
-    assert!(rt; matches!(cpu.tlb().entries().first(), Some(entry) if !entry.global));
-    assert!(rt; map(&mut cpu, 1, 0x300, false));
-    assert!(rt; translate(&mut cpu, 0x1000, MemType::WT) == Some((0x100000, MemType::WT)));
+    let mut cpu = some(&rt, processor(0x804));
+    holds(&rt, map(&mut cpu, 1, 0x100, true));
+    holds(&rt, translates(&mut cpu, 0x1000, 0x100000, MemType::WT));
+    holds(
+        &rt,
+        matches!(cpu.tlb().entries().first(), Some(entry) if !entry.global),
+    );
+    holds(&rt, map(&mut cpu, 1, 0x300, false));
+    holds(&rt, translates(&mut cpu, 0x1000, 0x100000, MemType::WT));
     cpu.invlpg(1);
-    assert!(rt; translate(&mut cpu, 0x1000, MemType::WT) == Some((0x300000, MemType::WT)));
+    holds(&rt, translates(&mut cpu, 0x1000, 0x300000, MemType::WT));
 }
 
 #[test]
 fn the_cache_and_the_buffers_are_lent(rt: HostRuntime) {
-    let Some(mut cpu) = processor(0x806) else {
-        panic!(rt; "the file is accepted");
-    };
+    let mut cpu = some(&rt, processor(0x806));
     cpu.set_cd(true);
-    assert!(rt; cpu.cd() && !cpu.pge() && !cpu.had_pge() && cpu.era() == 0);
-    assert!(rt; cpu.buffers_mut().combine(5, 1, 7, 0).is_none());
-    assert_eq!(rt; cpu.buffers().lines().len(), 1);
-    assert!(rt; cpu.buffers_mut().take_oldest().is_some());
+    holds(
+        &rt,
+        cpu.cd() && !cpu.pge() && !cpu.had_pge() && cpu.era() == 0,
+    );
+    holds(&rt, cpu.buffers_mut().combine(5, 1, 7, 0).is_none());
+    holds(&rt, cpu.buffers().lines().len() == 1);
+    holds(&rt, cpu.buffers_mut().take_oldest().is_some());
     if cpu.cache().find(5).is_none() {
         cpu.cache_mut().fill(5, [0; 8], 0);
     }
-    assert_eq!(rt; cpu.cache().len(), 1);
-    assert_eq!(rt; cpu.maps().list().len(), 0);
+    holds(&rt, cpu.cache().len() == 1);
+    holds(&rt, cpu.maps().list().len() == 0);
 }
 
 /// The processor's next event, where it isn't past its first register.
@@ -140,14 +147,12 @@ fn shift(cpu: &mut Cpu) {
 
 #[test]
 fn a_processor_goes_through_the_first_barrier(rt: HostRuntime) {
-    let Some(mut cpu) = processor(0x806) else {
-        panic!(rt; "the file is accepted");
-    };
+    let mut cpu = some(&rt, processor(0x806));
     let goal = cpu.regs().same();
     for _ in 0..3 {
         shift(&mut cpu);
     }
-    assert!(rt; cpu.phase() == Phase::Passed);
+    holds(&rt, cpu.phase() == Phase::Passed);
     for want in [
         Event::SetNoFill,
         Event::DropLines,
@@ -155,18 +160,16 @@ fn a_processor_goes_through_the_first_barrier(rt: HostRuntime) {
         Event::Disable,
         Event::Write(0),
     ] {
-        assert!(rt; local(&mut cpu, &goal) == Some(want));
+        holds(&rt, local(&mut cpu, &goal) == Some(want));
     }
-    assert!(rt; cpu.phase() == Phase::Writing(1));
-    assert!(rt; cpu.cd() && cpu.regs().deftype == 0x006);
+    holds(&rt, cpu.phase() == Phase::Writing(1));
+    holds(&rt, cpu.cd() && cpu.regs().deftype == 0x006);
 }
 
 #[test]
 fn a_self_snooping_processor_leaves_the_first_flush_out(rt: HostRuntime) {
-    let Some(mut cpu) = processor(0x806) else {
-        panic!(rt; "the file is accepted");
-    };
-    assert!(rt; !cpu.self_snoop());
+    let mut cpu = some(&rt, processor(0x806));
+    holds(&rt, !cpu.self_snoop());
     cpu.set_self_snoop();
     cpu.set_self_snoop();
     let goal = cpu.regs().same();
@@ -179,19 +182,25 @@ fn a_self_snooping_processor_leaves_the_first_flush_out(rt: HostRuntime) {
         Event::Disable,
         Event::Write(0),
     ] {
-        assert!(rt; local(&mut cpu, &goal) == Some(want));
+        holds(&rt, local(&mut cpu, &goal) == Some(want));
     }
-    assert!(rt; cpu.self_snoop());
+    holds(&rt, cpu.self_snoop());
 }
 
 #[test]
 fn one_that_comes_up_is_blank(rt: HostRuntime) {
     let cpu = Cpu::come_up(40, 0x508, 3);
-    assert!(rt; cpu.regs().maxphy == 40 && cpu.regs().cap == 0x508);
-    assert!(rt; cpu.regs().get(0x2ff) == Some(0));
-    assert!(rt; cpu.regs().get(0x277) == Some(0x7_0406_0007_0406));
-    assert!(rt; cpu.cd() && !cpu.pge() && !cpu.had_pge() && !cpu.self_snoop());
-    assert!(rt; cpu.era() == 3);
-    assert!(rt; cpu.cache().len() == 0 && cpu.buffers().lines().is_empty());
-    assert!(rt; cpu.tlb().entries().is_empty());
+    holds(&rt, cpu.regs().maxphy == 40 && cpu.regs().cap == 0x508);
+    holds(&rt, cpu.regs().get(0x2ff) == Some(0));
+    holds(&rt, cpu.regs().get(0x277) == Some(0x7_0406_0007_0406));
+    holds(
+        &rt,
+        cpu.cd() && !cpu.pge() && !cpu.had_pge() && !cpu.self_snoop(),
+    );
+    holds(&rt, cpu.era() == 3);
+    holds(
+        &rt,
+        cpu.cache().len() == 0 && cpu.buffers().lines().is_empty(),
+    );
+    holds(&rt, cpu.tlb().entries().is_empty());
 }

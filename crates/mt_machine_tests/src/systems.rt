@@ -1,6 +1,7 @@
 ghost use Rattle.std.specs.Prelude.{◌<◌, ◌≤◌, length};
 ghost use Rattle.mt_regs.specs.StartFiles.{AreStartFiles};
 
+use crate::checks::{holds, holds_at, some};
 use crate::common::file;
 use mt_bus::System;
 use mt_kinds::MemType;
@@ -66,6 +67,10 @@ fn map(system: &mut System, k: u32, vpage: u64, ppage: u64) -> Option<Ruled> {
     }
 }
 
+fn is_mapped(system: &mut System, k: u32, vpage: u64, ppage: u64) -> bool {
+    map(system, k, vpage, ppage) == Some(Ruled::Okay)
+}
+
 fn access(system: &mut System, k: u32, op: Op) -> Option<Done> {
     if (k as usize) < system.cpus.len() {
         Some(system.access(k, op))
@@ -74,82 +79,152 @@ fn access(system: &mut System, k: u32, op: Op) -> Option<Done> {
     }
 }
 
+/// Whether an access is answered so.
+fn answers(system: &mut System, k: u32, op: Op, done: Done) -> bool {
+    access(system, k, op) == Some(done)
+}
+
+/// Whether a processor has so many lines.
+fn has_lines(system: &System, k: usize, lines: usize) -> bool {
+    match system.cpus.get(k) {
+        Some(cpu) => cpu.cache().len() == lines,
+        None => false,
+    }
+}
+
 #[test]
 fn a_store_takes_the_line_over(rt: HostRuntime) {
-    let Some(mut system) = system(rt.alloc(), 2, 6) else {
-        panic!(rt; "the file is accepted");
-    };
+    let mut system = some(&rt, system(rt.alloc(), 2, 6));
     for k in 0..2 {
-        assert!(rt;
-            map(&mut system, k, 1, 0x100) == Some(Ruled::Okay),
-            "at {k}"
-        );
+        holds_at(&rt, k as u64, is_mapped(&mut system, k, 1, 0x100));
     }
-    assert!(rt; access(&mut system, 0, Op::Store(0x1000, 0x2a)) == Some(Done::Stored(MemType::WB)));
-    assert!(rt; system.ram.read(0x10_0000) == 0);
-    assert!(rt; access(&mut system, 1, Op::Load(0x1000)) == Some(Done::Value(0x2a, MemType::WB)));
-    assert!(rt; system.ram.read(0x10_0000) == 0x2a);
-    assert!(rt; access(&mut system, 1, Op::Store(0x1000, 0x2b)) == Some(Done::Stored(MemType::WB)));
-    assert!(rt; system.ram.read(0x10_0000) == 0x2a);
+    holds(
+        &rt,
+        answers(
+            &mut system,
+            0,
+            Op::Store(0x1000, 0x2a),
+            Done::Stored(MemType::WB),
+        ),
+    );
+    holds(&rt, system.ram.read(0x10_0000) == 0);
+    holds(
+        &rt,
+        answers(
+            &mut system,
+            1,
+            Op::Load(0x1000),
+            Done::Value(0x2a, MemType::WB),
+        ),
+    );
+    holds(&rt, system.ram.read(0x10_0000) == 0x2a);
+    holds(
+        &rt,
+        answers(
+            &mut system,
+            1,
+            Op::Store(0x1000, 0x2b),
+            Done::Stored(MemType::WB),
+        ),
+    );
+    holds(&rt, system.ram.read(0x10_0000) == 0x2a);
     for (k, lines) in [(0, 0), (1, 1)] {
-        assert!(rt;
-            matches!(system.cpus.get(k), Some(cpu) if cpu.cache().len() == lines),
-            "at {k}"
-        );
+        holds_at(&rt, k as u64, has_lines(&system, k, lines));
     }
 }
 
 #[test]
 fn the_oldest_of_four_buffers_gives_way(rt: HostRuntime) {
-    let Some(mut system) = system(rt.alloc(), 1, 1) else {
-        panic!(rt; "the file is accepted");
-    };
-    assert!(rt; map(&mut system, 0, 1, 0x100) == Some(Ruled::Okay));
+    let mut system = some(&rt, system(rt.alloc(), 1, 1));
+    holds(&rt, is_mapped(&mut system, 0, 1, 0x100));
     for (address, v) in [(0x1000, 7), (0x1040, 8), (0x1080, 9), (0x10c0, 10)] {
-        assert!(rt;
-            access(&mut system, 0, Op::Store(address, v)) == Some(Done::Stored(MemType::WC)),
-            "at {address}"
+        holds_at(
+            &rt,
+            address as u64,
+            answers(
+                &mut system,
+                0,
+                Op::Store(address, v),
+                Done::Stored(MemType::WC),
+            ),
         );
     }
-    assert!(rt; system.ram.read(0x10_0000) == 0);
-    assert!(rt; access(&mut system, 0, Op::Store(0x1100, 11)) == Some(Done::Stored(MemType::WC)));
-    assert!(rt; system.ram.read(0x10_0000) == 7);
-    assert!(rt; system.ram.read(0x10_0040) == 0);
-    assert!(rt; access(&mut system, 0, Op::Fence) == Some(Done::Fenced));
-    assert!(rt; system.ram.read(0x10_0040) == 8);
-    assert!(rt; system.ram.read(0x10_0100) == 11);
+    holds(&rt, system.ram.read(0x10_0000) == 0);
+    holds(
+        &rt,
+        answers(
+            &mut system,
+            0,
+            Op::Store(0x1100, 11),
+            Done::Stored(MemType::WC),
+        ),
+    );
+    holds(&rt, system.ram.read(0x10_0000) == 7);
+    holds(&rt, system.ram.read(0x10_0040) == 0);
+    holds(&rt, answers(&mut system, 0, Op::Fence, Done::Fenced));
+    holds(&rt, system.ram.read(0x10_0040) == 8);
+    holds(&rt, system.ram.read(0x10_0100) == 11);
 }
 
 #[test]
 fn refusals_and_no_fill_mode(rt: HostRuntime) {
-    let Some(mut system) = system(rt.alloc(), 1, 6) else {
-        panic!(rt; "the file is accepted");
-    };
-    assert!(rt; map(&mut system, 0, 1, 0x100) == Some(Ruled::Okay));
-    assert!(rt; access(&mut system, 0, Op::Load(0x2000)) == Some(Done::Unmapped));
-    assert!(rt; map(&mut system, 0, 2, 0x200) == Some(Ruled::Okay));
-    assert!(rt; access(&mut system, 0, Op::Load(0x2000)) == Some(Done::NoRam));
+    let mut system = some(&rt, system(rt.alloc(), 1, 6));
+    holds(&rt, is_mapped(&mut system, 0, 1, 0x100));
+    holds(
+        &rt,
+        answers(&mut system, 0, Op::Load(0x2000), Done::Unmapped),
+    );
+    holds(&rt, is_mapped(&mut system, 0, 2, 0x200));
+    holds(&rt, answers(&mut system, 0, Op::Load(0x2000), Done::NoRam));
     if 0 < system.cpus.len() {
-        assert!(rt; system.control(0, Control::Cd(true)) == Ruled::Okay);
+        holds(&rt, system.control(0, Control::Cd(true)) == Ruled::Okay);
     }
-    assert!(rt; access(&mut system, 0, Op::Load(0x1000)) == Some(Done::Value(0, MemType::WB)));
-    assert!(rt;
-        matches!(system.cpus.first(), Some(cpu) if cpu.cache().len() == 0 && cpu.tlb().entries().len() == 2)
+    holds(
+        &rt,
+        answers(
+            &mut system,
+            0,
+            Op::Load(0x1000),
+            Done::Value(0, MemType::WB),
+        ),
+    );
+    holds(
+        &rt,
+        matches!(system.cpus.first(), Some(cpu) if cpu.cache().len() == 0 && cpu.tlb().entries().len() == 2),
     );
 }
 
 #[test]
 fn each_processor_has_the_types_of_its_own_file(rt: HostRuntime) {
-    let Some(mut system) = unlike_pair(rt.alloc(), 6, 4) else {
-        panic!(rt; "the files are accepted");
-    };
+    let mut system = some(&rt, unlike_pair(rt.alloc(), 6, 4));
     for k in 0..2 {
-        assert!(rt;
-            map(&mut system, k, 1, 0x100) == Some(Ruled::Okay),
-            "at {k}"
-        );
+        holds_at(&rt, k as u64, is_mapped(&mut system, k, 1, 0x100));
     }
-    assert!(rt; access(&mut system, 0, Op::Store(0x1000, 0x2a)) == Some(Done::Stored(MemType::WB)));
-    assert!(rt; access(&mut system, 1, Op::Load(0x1000)) == Some(Done::Value(0x2a, MemType::WT)));
-    assert!(rt; access(&mut system, 0, Op::Load(0x1000)) == Some(Done::Value(0x2a, MemType::WB)));
+    holds(
+        &rt,
+        answers(
+            &mut system,
+            0,
+            Op::Store(0x1000, 0x2a),
+            Done::Stored(MemType::WB),
+        ),
+    );
+    holds(
+        &rt,
+        answers(
+            &mut system,
+            1,
+            Op::Load(0x1000),
+            Done::Value(0x2a, MemType::WT),
+        ),
+    );
+    holds(
+        &rt,
+        answers(
+            &mut system,
+            0,
+            Op::Load(0x1000),
+            Done::Value(0x2a, MemType::WB),
+        ),
+    );
 }

@@ -1,3 +1,4 @@
+use crate::checks::{holds, holds_at};
 use mt_kinds::MemType;
 use mt_tlb::{Entry, Mapping, Maps, Tlb};
 
@@ -28,13 +29,13 @@ fn fill_new(tlb: &mut Tlb, vpage: u64) {
 fn no_page_is_added_to_64(rt: HostRuntime) {
     let mut maps = Maps::new();
     for vpage in 0..64 {
-        assert!(rt; maps.set(mapping(vpage)).is_ok(), "at {vpage}");
+        holds_at(&rt, vpage as u64, maps.set(mapping(vpage)).is_ok());
     }
-    assert!(rt; maps.set(mapping(7)).is_ok());
-    assert!(rt; maps.set(mapping(64)).is_err());
-    assert!(rt; maps.find(64).is_none());
-    assert_eq!(rt; maps.list().len(), 64);
-    assert!(rt; matches!(maps.list().get(7), Some(m) if m.vpage == 7));
+    holds(&rt, maps.set(mapping(7)).is_ok());
+    holds(&rt, maps.set(mapping(64)).is_err());
+    holds(&rt, maps.find(64).is_none());
+    holds(&rt, maps.list().len() == 64);
+    holds(&rt, matches!(maps.list().get(7), Some(m) if m.vpage == 7));
 }
 
 #[test]
@@ -43,13 +44,13 @@ fn the_oldest_of_64_entries_is_dropped(rt: HostRuntime) {
     for vpage in 0..65 {
         fill_new(&mut tlb, vpage);
     }
-    assert_eq!(rt; tlb.entries().len(), 64);
-    assert!(rt; tlb.find(0).is_none());
-    assert!(rt; tlb.find(64) == Some(63));
+    holds(&rt, tlb.entries().len() == 64);
+    holds(&rt, tlb.find(0).is_none());
+    holds(&rt, tlb.find(64) == Some(63));
     tlb.drop_page(2);
-    assert_eq!(rt; tlb.entries().len(), 63);
+    holds(&rt, tlb.entries().len() == 63);
     tlb.drop_local();
-    assert_eq!(rt; tlb.entries().len(), 31);
+    holds(&rt, tlb.entries().len() == 31);
     tlb.drop_all();
-    assert!(rt; tlb.entries().is_empty());
+    holds(&rt, tlb.entries().is_empty());
 }

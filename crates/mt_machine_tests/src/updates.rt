@@ -1,7 +1,7 @@
-use crate::common::{call, core_of, file, step, store, word};
+use crate::checks::{holds, holds_at, some};
+use crate::common::{call, core_of, file, has_word, is_called, step, stores, word};
 use mt_core::{CallFault, Core, Stepped};
-use mt_kinds::MemType;
-use mt_machine::{Done, Event};
+use mt_machine::Event;
 use mt_ram::RamFault;
 use std::alloc::Global;
 
@@ -21,48 +21,65 @@ fn is_settled(core: &Core, k: usize, kind: u64, era: u64) -> bool {
         && cpu.tlb().entries().is_empty()
 }
 
+/// Whether a processor's first base register has this value.
+fn has_base(core: &Core, k: usize, base: u64) -> bool {
+    match core.system().cpus.get(k) {
+        Some(cpu) => cpu.regs().get(0x200) == Some(base),
+        None => false,
+    }
+}
+
 /// Two processors, each with one dirty line.
 fn dirty_pair(alloc: Global) -> Option<Core> {
     let mut core = pair(alloc)?;
     for (k, offset, v) in [(0, 0, 0x2a), (1, 0x40, 0x2b)] {
-        if store(&mut core, k, offset, v)? != Done::Stored(MemType::WB) {
+        if !stores(&mut core, k, offset, v) {
             return None;
         }
     }
     Some(core)
 }
 
+/// Whether a step is answered so.
+fn steps(core: &mut Core, k: u32, stepped: Stepped) -> bool {
+    step(core, k) == Some(stepped)
+}
+
 #[test]
 fn rounds_lead_an_update_to_its_end(rt: HostRuntime) {
-    let (Some(mut core), Some(goal)) = (dirty_pair(rt.alloc()), file(4)) else {
-        panic!(rt; "the files are accepted");
-    };
-    assert!(rt; word(&core, 0x10_0000) == Some(0));
-    assert!(rt; word(&core, 0x10_0040) == Some(0));
-    assert!(rt; call(&mut core, goal) == Some(Ok(())));
+    let mut core = some(&rt, dirty_pair(rt.alloc()));
+    let goal = some(&rt, file(4));
+    holds(&rt, has_word(&core, 0x10_0000, 0));
+    holds(&rt, has_word(&core, 0x10_0040, 0));
+    holds(&rt, is_called(&mut core, goal));
     if core.order().is_some() {
         core.round();
     }
-    assert!(rt; core.order().is_none());
-    assert!(rt; word(&core, 0x10_0000) == Some(0x2a));
-    assert!(rt; word(&core, 0x10_0040) == Some(0x2b));
+    holds(&rt, core.order().is_none());
+    holds(&rt, has_word(&core, 0x10_0000, 0x2a));
+    holds(&rt, has_word(&core, 0x10_0040, 0x2b));
     for k in 0..2 {
-        assert!(rt; is_settled(&core, k, 4, 1), "at {k}");
+        holds_at(&rt, k as u64, is_settled(&core, k, 4, 1));
     }
 }
 
 #[test]
 fn steps_in_turn_lead_there_too(rt: HostRuntime) {
-    let (Some(mut core), Some(goal)) = (dirty_pair(rt.alloc()), file(4)) else {
-        panic!(rt; "the files are accepted");
-    };
-    assert!(rt; call(&mut core, goal) == Some(Ok(())));
-    assert!(rt; step(&mut core, 0) == Some(Stepped::Did(Event::Take)));
-    assert!(rt; step(&mut core, 0) == Some(Stepped::Did(Event::Arrive)));
-    assert!(rt; step(&mut core, 0) == Some(Stepped::Waits { arrived: 1, of: 3 }));
-    assert!(rt; core.go());
-    assert!(rt; !core.go());
-    assert!(rt; step(&mut core, 0) == Some(Stepped::Waits { arrived: 2, of: 3 }));
+    let mut core = some(&rt, dirty_pair(rt.alloc()));
+    let goal = some(&rt, file(4));
+    holds(&rt, is_called(&mut core, goal));
+    holds(&rt, steps(&mut core, 0, Stepped::Did(Event::Take)));
+    holds(&rt, steps(&mut core, 0, Stepped::Did(Event::Arrive)));
+    holds(
+        &rt,
+        steps(&mut core, 0, Stepped::Waits { arrived: 1, of: 3 }),
+    );
+    holds(&rt, core.go());
+    holds(&rt, !core.go());
+    holds(
+        &rt,
+        steps(&mut core, 0, Stepped::Waits { arrived: 2, of: 3 }),
+    );
     let mut did = 2u32;
     for _ in 0..200 {
         for k in 0..2 {
@@ -72,67 +89,62 @@ fn steps_in_turn_lead_there_too(rt: HostRuntime) {
         }
     }
     // Each does one event for each of 29 registers, one for its dirty word, and 13 more.
-    assert!(rt; did == 86);
-    assert!(rt; core.order().is_none());
-    assert!(rt; word(&core, 0x10_0000) == Some(0x2a));
+    holds(&rt, did == 86);
+    holds(&rt, core.order().is_none());
+    holds(&rt, has_word(&core, 0x10_0000, 0x2a));
     for k in 0..2 {
-        assert!(rt; step(&mut core, k) == Some(Stepped::NoUpdate), "at {k}");
-        assert!(rt; is_settled(&core, k as usize, 4, 1), "at {k}");
+        holds_at(&rt, k as u64, steps(&mut core, k, Stepped::NoUpdate));
+        holds_at(&rt, k as u64, is_settled(&core, k as usize, 4, 1));
     }
 }
 
 #[test]
 fn refused_calls_change_nothing(rt: HostRuntime) {
-    let (Some(mut core), Some(goal), Some(bad)) = (dirty_pair(rt.alloc()), file(4), file(2)) else {
-        panic!(rt; "the files are made");
-    };
-    assert!(rt; matches!(call(&mut core, bad), Some(Err(CallFault::Refused(_)))));
-    assert!(rt; core.order().is_none());
-    assert!(rt; step(&mut core, 0) == Some(Stepped::NoUpdate));
-    assert!(rt;
-        core.system()
-            .cpus
-            .get(0)
-            .is_some_and(|cpu| cpu.regs().get(0x200) == Some(6))
+    let mut core = some(&rt, dirty_pair(rt.alloc()));
+    let goal = some(&rt, file(4));
+    let bad = some(&rt, file(2));
+    holds(
+        &rt,
+        matches!(call(&mut core, bad), Some(Err(CallFault::Refused(_)))),
     );
-    assert!(rt; call(&mut core, goal) == Some(Ok(())));
-    let Some(other) = file(5) else {
-        panic!(rt; "the file is made");
-    };
-    assert!(rt; call(&mut core, other) == Some(Err(CallFault::UnderWay)));
-    assert!(rt; core.cancel());
-    assert!(rt; core.order().is_none());
+    holds(&rt, core.order().is_none());
+    holds(&rt, steps(&mut core, 0, Stepped::NoUpdate));
+    holds(&rt, has_base(&core, 0, 6));
+    holds(&rt, is_called(&mut core, goal));
+    let other = some(&rt, file(5));
+    holds(
+        &rt,
+        call(&mut core, other) == Some(Err(CallFault::UnderWay)),
+    );
+    holds(&rt, core.cancel());
+    holds(&rt, core.order().is_none());
 }
 
 #[test]
 fn windows_are_added(rt: HostRuntime) {
-    let Some(mut core) = pair(rt.alloc()) else {
-        panic!(rt; "the file is accepted");
-    };
-    assert!(rt; word(&core, 0x20_0000) == None);
-    assert!(rt; core.add_ram(0x20_0000, 2) == Ok(()));
-    assert!(rt; word(&core, 0x20_0078) == Some(0));
-    assert!(rt; core.add_ram(0x30_0008, 1) == Err(RamFault::Misaligned));
-    assert!(rt; word(&core, 0x30_0008) == None);
+    let mut core = some(&rt, pair(rt.alloc()));
+    holds(&rt, word(&core, 0x20_0000).is_none());
+    holds(&rt, core.add_ram(0x20_0000, 2).is_ok());
+    holds(&rt, has_word(&core, 0x20_0078, 0));
+    holds(&rt, core.add_ram(0x30_0008, 1) == Err(RamFault::Misaligned));
+    holds(&rt, word(&core, 0x30_0008).is_none());
 }
 
 #[test]
 fn one_comes_up_and_two_go(rt: HostRuntime) {
-    let Some(mut core) = dirty_pair(rt.alloc()) else {
-        panic!(rt; "the file is accepted");
-    };
+    let mut core = some(&rt, dirty_pair(rt.alloc()));
     let is_idle = core.order().is_none();
     if is_idle && !core.system().cpus.is_empty() && core.system().cpus.len() <= 15 {
-        assert!(rt; core.come_up() == Ok(2));
+        holds(&rt, core.come_up() == Ok(2));
     }
-    assert!(rt; core.system().cpus.len() == 3);
-    assert!(rt; word(&core, 0x10_0040) == Some(0));
+    holds(&rt, core.system().cpus.len() == 3);
+    holds(&rt, has_word(&core, 0x10_0040, 0));
     for k in [2, 1] {
         if core.order().is_none() && core.system().cpus.len() > 1 {
-            assert!(rt; core.go_down() == k, "at {k}");
+            holds_at(&rt, k as u64, core.go_down() == k);
         }
     }
-    assert!(rt; core.system().cpus.len() == 1);
-    assert!(rt; word(&core, 0x10_0000) == Some(0));
-    assert!(rt; word(&core, 0x10_0040) == Some(0x2b));
+    holds(&rt, core.system().cpus.len() == 1);
+    holds(&rt, has_word(&core, 0x10_0000, 0));
+    holds(&rt, has_word(&core, 0x10_0040, 0x2b));
 }
