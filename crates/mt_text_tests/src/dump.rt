@@ -1,9 +1,9 @@
+use crate::checks::{holds, holds_at, some};
 use mt_dump::{Dump, DumpFault, DumpReader, DumpReason, read_dump, read_dump_from, write_dump};
 use mt_ports::MemSource;
 use mt_regs::RegFile;
 use mt_text::{FeedFault, Place, next_line};
-use std::alloc::AllocError;
-use std::process::Abort;
+use std::alloc::{AllocError, Global};
 use std::test::Fail;
 
 // What one section gives to a plain and slow reader: the width and up to four registers, the last of them first.
@@ -258,34 +258,47 @@ fn plain_reading(text: &[u8]) -> Result<PlainDump, DumpFault> {
     }
 }
 
-// A file has what a plain section gave.
-fn expect_file<R: Abort>(rt: &R, file: &RegFile, plain: &Plain) {
+// Whether a file has what a plain section gave.
+fn has_given(file: &RegFile, plain: &Plain) -> bool {
     for register in plain.given {
         if let Some((number, value)) = register {
-            match u32::try_from(number) {
-                Ok(number) => assert_eq!(rt; file.get(number), Some(value)),
-                Err(_) => panic!(rt; "no register has this number"),
+            let Ok(number) = u32::try_from(number) else {
+                return false;
+            };
+            if file.get(number) != Some(value) {
+                return false;
             }
         }
     }
+    true
 }
 
-// Both readers agree on a text.
-fn expect_agreement<R: Abort>(rt: &R, text: &[u8]) {
-    match (read_dump(text), plain_reading(text)) {
-        (Ok(dump), Ok(plain)) => {
-            assert_eq!(rt; dump.version as u64, plain.version.unwrap_or(1));
-            assert_eq!(rt; dump.files.len(), plain.sections.max(1));
-            for k in 0..4_usize {
-                if let Some(file) = dump.file_at(k as u32) {
-                    assert_eq!(rt; file.maxphy as u64, plain.plains[0].width.unwrap_or(36));
-                    assert_eq!(rt; Some(file.cap), plain.plains[0].value(0xfe));
-                    expect_file(rt, file, &plain.plains[k]);
-                }
+// Whether a dump has what the plain reader found.
+fn has_found(dump: &Dump, plain: &PlainDump) -> bool {
+    if dump.version as u64 != plain.version.unwrap_or(1)
+        || dump.files.len() != plain.sections.max(1)
+    {
+        return false;
+    }
+    for k in 0..4_usize {
+        if let Some(file) = dump.file_at(k as u32) {
+            if file.maxphy as u64 != plain.plains[0].width.unwrap_or(36)
+                || Some(file.cap) != plain.plains[0].value(0xfe)
+                || !has_given(file, &plain.plains[k])
+            {
+                return false;
             }
         }
-        (Err(fault), Err(plain)) => assert_eq!(rt; fault, plain),
-        _ => panic!(rt; "one reader refuses what the other takes"),
+    }
+    true
+}
+
+// Whether both readers agree on a text.
+fn agree(text: &[u8]) -> bool {
+    match (read_dump(text), plain_reading(text)) {
+        (Ok(dump), Ok(plain)) => has_found(&dump, &plain),
+        (Err(fault), Err(plain)) => fault == plain,
+        _ => false,
     }
 }
 
@@ -297,51 +310,42 @@ fn any_byte_at_any_place_of_version_2(rt: HostRuntime) {
         let kept = text[place];
         for byte in 0..=255 {
             text[place] = byte;
-            expect_agreement(&rt, &text);
+            holds_at(&rt, place as u64, agree(&text));
         }
         text[place] = kept;
     }
 }
 
-// A text has this fault.
-fn expect_fault<R: Abort>(rt: &R, text: &[u8], reason: DumpReason, line: u64, column: u64) {
-    expect_agreement(rt, text);
+// Whether a text has this fault, for the plain reader too.
+fn has_fault(text: &[u8], reason: DumpReason, line: u64, column: u64) -> bool {
+    let place = Place { line, column };
     match read_dump(text) {
-        Ok(_) => panic!(rt; "the dump was taken"),
-        Err(fault) => assert_eq!(rt;
-            fault,
-            DumpFault {
-                reason,
-                place: Place { line, column }
-            }
-        ),
+        Ok(_) => false,
+        Err(fault) => fault == DumpFault { reason, place } && agree(text),
     }
 }
 
 #[test]
 fn faults_of_versions_and_sections(rt: HostRuntime) {
-    expect_fault(&rt, b"version 3", DumpReason::BadVersion, 1, 9);
-    expect_fault(&rt, b"cpu 0", DumpReason::BadSection, 1, 1);
-    expect_fault(&rt, b"version 1\ncpu 0", DumpReason::BadSection, 2, 1);
-    expect_fault(
+    let differs = b"version 2\ncpu 0\n0fe 508\ncpu 1\n0fe 500".as_slice();
+    let rows = [
+        (b"version 3".as_slice(), DumpReason::BadVersion, 1, 9),
+        (b"cpu 0", DumpReason::BadSection, 1, 1),
+        (b"version 1\ncpu 0", DumpReason::BadSection, 2, 1),
+        (differs, DumpReason::Differs, 5, 5),
+        (b"version 2\ncpu 0\ncpu 1", DumpReason::NoCap, 3, 1),
+        (b"version 2\nmaxphyaddr 36", DumpReason::BadSection, 2, 1),
+        (b"version 2\ncpu 0\n", DumpReason::NoCap, 3, 1),
+        (b"0fe 0\nversion 1", DumpReason::BadSection, 2, 1),
+    ];
+    for (text, reason, line, column) in rows {
+        holds(&rt, has_fault(text, reason, line, column));
+    }
+    holds(&rt, agree(b"# x\n\nversion 1\n0fe 500"));
+    holds(
         &rt,
-        b"version 2\ncpu 0\n0fe 508\ncpu 1\n0fe 500",
-        DumpReason::Differs,
-        5,
-        5,
+        agree(b"\n \n# x\r\nversion: 2\ncpu: 0\n0fe 500\ncpu 1"),
     );
-    expect_fault(&rt, b"version 2\ncpu 0\ncpu 1", DumpReason::NoCap, 3, 1);
-    expect_fault(
-        &rt,
-        b"version 2\nmaxphyaddr 36",
-        DumpReason::BadSection,
-        2,
-        1,
-    );
-    expect_fault(&rt, b"version 2\ncpu 0\n", DumpReason::NoCap, 3, 1);
-    expect_fault(&rt, b"0fe 0\nversion 1", DumpReason::BadSection, 2, 1);
-    expect_agreement(&rt, b"# x\n\nversion 1\n0fe 500");
-    expect_agreement(&rt, b"\n \n# x\r\nversion: 2\ncpu: 0\n0fe 500\ncpu 1");
 }
 
 // So many sections.
@@ -362,23 +366,20 @@ fn sections<R: AllocGlobal>(rt: &R, count: u32) -> Result<Vec<u8>, AllocError> {
     Ok(text)
 }
 
+// Whether there are sixteen files, of which the first has this default type and the last none.
+fn has_sixteen(dump: &Dump, deftype: u64) -> bool {
+    let Some(last) = dump.file_at(15) else {
+        return false;
+    };
+    dump.files.len() == 16 && dump.first_file().deftype == deftype && last.deftype == 0
+}
+
 #[test]
 fn sixteen_sections_and_one_more(rt: HostRuntime) -> Result<(), Fail> {
-    match read_dump(&sections(&rt, 16)?) {
-        Ok(dump) => {
-            assert_eq!(rt; dump.files.len(), 16);
-            assert_eq!(rt; dump.first_file().deftype, 0xc06);
-            match dump.file_at(15) {
-                Some(file) => assert_eq!(rt; file.deftype, 0),
-                None => panic!(rt; "a file is missing"),
-            }
-        }
-        Err(_) => panic!(rt; "the dump was refused"),
-    }
-    match read_dump(&sections(&rt, 17)?) {
-        Ok(_) => panic!(rt; "the dump was taken"),
-        Err(fault) => assert_eq!(rt; fault.reason, DumpReason::BadSection),
-    }
+    let dump = some(&rt, read_dump(&sections(&rt, 16)?).ok());
+    holds(&rt, has_sixteen(&dump, 0xc06));
+    let fault = some(&rt, read_dump(&sections(&rt, 17)?).err());
+    holds(&rt, fault.reason == DumpReason::BadSection);
     Ok(())
 }
 
@@ -389,7 +390,7 @@ fn any_byte_at_any_place(rt: HostRuntime) {
         let kept = text[place];
         for byte in 0..=255 {
             text[place] = byte;
-            expect_agreement(&rt, &text);
+            holds_at(&rt, place as u64, agree(&text));
         }
         text[place] = kept;
     }
@@ -408,7 +409,7 @@ fn lines_of_any_length(rt: HostRuntime) {
     ] {
         let kept = text[end];
         text[end] = byte;
-        expect_agreement(&rt, &text);
+        holds_at(&rt, end as u64, agree(&text));
         text[end] = kept;
     }
     for text in [
@@ -425,67 +426,81 @@ fn lines_of_any_length(rt: HostRuntime) {
         b"maxphyaddr 00000000000000000036\n0fe 500",
         b"0fe 500\nmaxphyaddr 36\nmaxphyaddr: 36",
     ] {
-        expect_agreement(&rt, text);
+        holds(&rt, agree(text));
     }
 }
 
-// A line of the canonical text is this, which ends with LF, or nothing.
-fn expect_line<R: Abort>(rt: &R, file: &Dump, line: u32, text: &[u8]) {
+// Whether a line of the canonical text is this, which ends with LF, or nothing.
+fn has_line(dump: &Dump, line: u32, text: &[u8]) -> bool {
     let mut into = [0; 24];
-    let count = write_dump(file, line, &mut into);
-    assert_eq!(rt; count, text.len());
-    assert!(rt; count <= 24);
-    assert_eq!(rt; &into[..count], text);
+    let count = write_dump(dump, line, &mut into);
+    count == text.len() && count <= 24 && &into[..count] == text
+}
+
+// Whether the canonical text has all of these lines, by their numbers.
+fn has_lines(dump: &Dump, lines: &[(u32, &[u8])]) -> bool {
+    for (line, text) in lines {
+        if !has_line(dump, *line, text) {
+            return false;
+        }
+    }
+    true
+}
+
+// The dump of four lines, which the reader takes one by one.
+fn taken(source: &[u8]) -> Option<Dump> {
+    let mut reader = DumpReader::new();
+    let mut at = 0;
+    for number in 1..=4 {
+        if at > source.len() {
+            return None;
+        }
+        let line = next_line(source, at, number)?;
+        if reader.take(&line).is_err() {
+            return None;
+        }
+        at = line.next;
+    }
+    reader.finish(Place { line: 4, column: 8 }).ok()
 }
 
 #[test]
 fn the_canonical_text(rt: HostRuntime) {
     let source = b"0fe 520\nmaxphyaddr 52\n26f 0123456789abcdef\n23f 800";
-    let mut reader = DumpReader::new();
-    let mut at = 0;
-    for number in 1..=4 {
-        assert!(rt; at <= source.len());
-        match next_line(source, at, number) {
-            Some(line) => {
-                assert_eq!(rt; reader.take(&line), Ok(()));
-                at = line.next;
-            }
-            None => panic!(rt; "no line"),
-        }
-    }
-    match reader.finish(Place { line: 4, column: 8 }) {
-        Ok(file) => {
-            assert_eq!(rt; file.first_file().count(), 77);
-            expect_line(&rt, &file, 0, b"maxphyaddr 52\n");
-            expect_line(&rt, &file, 1, b"0fe 0000000000000520\n");
-            expect_line(&rt, &file, 65, b"23f 0000000000000800\n");
-            expect_line(&rt, &file, 66, b"250 0000000000000000\n");
-            expect_line(&rt, &file, 76, b"26f 0123456789abcdef\n");
-            expect_line(&rt, &file, 77, b"277 0007040600070406\n");
-            expect_line(&rt, &file, 78, b"2ff 0000000000000000\n");
-            expect_line(&rt, &file, 79, b"");
-        }
-        Err(_) => panic!(rt; "the dump was refused"),
-    }
+    let dump = some(&rt, taken(source));
+    holds(&rt, dump.first_file().count() == 77);
+    let lines = [
+        (0, b"maxphyaddr 52\n".as_slice()),
+        (1, b"0fe 0000000000000520\n"),
+        (65, b"23f 0000000000000800\n"),
+        (66, b"250 0000000000000000\n"),
+        (76, b"26f 0123456789abcdef\n"),
+        (77, b"277 0007040600070406\n"),
+        (78, b"2ff 0000000000000000\n"),
+        (79, b""),
+    ];
+    holds(&rt, has_lines(&dump, &lines));
 }
 
 #[test]
 fn the_canonical_text_of_version_2(rt: HostRuntime) {
-    match read_dump(b"version 2\ncpu 0\n0fe 400\ncpu 1\n2ff 800") {
-        Ok(dump) => {
-            expect_line(&rt, &dump, 0, b"version 2\n");
-            expect_line(&rt, &dump, 1, b"cpu 0\n");
-            expect_line(&rt, &dump, 2, b"maxphyaddr 36\n");
-            expect_line(&rt, &dump, 5, b"2ff 0000000000000000\n");
-            expect_line(&rt, &dump, 6, b"cpu 1\n");
-            expect_line(&rt, &dump, 8, b"0fe 0000000000000400\n");
-            expect_line(&rt, &dump, 10, b"2ff 0000000000000800\n");
-            expect_line(&rt, &dump, 11, b"");
-            expect_line(&rt, &Dump::of(dump.first_file()), 4, b"");
-            expect_line(&rt, &dump.copy(), 10, b"2ff 0000000000000800\n");
-        }
-        Err(_) => panic!(rt; "the dump was refused"),
-    }
+    let dump = some(
+        &rt,
+        read_dump(b"version 2\ncpu 0\n0fe 400\ncpu 1\n2ff 800").ok(),
+    );
+    let lines = [
+        (0, b"version 2\n".as_slice()),
+        (1, b"cpu 0\n"),
+        (2, b"maxphyaddr 36\n"),
+        (5, b"2ff 0000000000000000\n"),
+        (6, b"cpu 1\n"),
+        (8, b"0fe 0000000000000400\n"),
+        (10, b"2ff 0000000000000800\n"),
+        (11, b""),
+    ];
+    holds(&rt, has_lines(&dump, &lines));
+    holds(&rt, has_line(&Dump::of(dump.first_file()), 4, b""));
+    holds(&rt, has_line(&dump.copy(), 10, b"2ff 0000000000000800\n"));
 }
 
 // A comment of so many bytes, another of so many, and a dump.
@@ -505,6 +520,22 @@ fn behind_comments<R: AllocGlobal>(
     Ok(text)
 }
 
+// Whether a text is read from a source in pieces as it is at once.
+fn is_read_alike(alloc: Global, text: &[u8], piece: usize) -> Result<bool, Fail> {
+    if piece == 0 {
+        return Ok(false);
+    }
+    let mut source = MemSource::new(text.to_vec(alloc)?, piece, Vec::new(alloc));
+    let Ok(read) = read_dump_from(&mut source) else {
+        return Ok(false);
+    };
+    match (read, read_dump(text)) {
+        (Ok(dump), Ok(wanted)) => Ok(dump.first_file().deftype == wanted.first_file().deftype),
+        (Err(fault), Err(wanted)) => Ok(fault == wanted),
+        _ => Ok(false),
+    }
+}
+
 // Lines at the limit and one past it, at each offset near the edges of a feed's buffer.
 #[test]
 fn a_dump_in_pieces(rt: HostRuntime) -> Result<(), Fail> {
@@ -513,17 +544,7 @@ fn a_dump_in_pieces(rt: HostRuntime) -> Result<(), Fail> {
         for first in 4090..4097 {
             for second in [4096, 4097] {
                 let text = behind_comments(&rt, first, second)?;
-                let mut source = MemSource::new(text.to_vec(alloc)?, piece, Vec::new(alloc));
-                let Ok(read) = read_dump_from(&mut source) else {
-                    panic!(rt; "a fault in {piece}")
-                };
-                match (read, read_dump(&text)) {
-                    (Ok(dump), Ok(wanted)) => {
-                        assert_eq!(rt; dump.first_file().deftype, wanted.first_file().deftype)
-                    }
-                    (Err(fault), Err(wanted)) => assert_eq!(rt; fault, wanted),
-                    _ => panic!(rt; "{first} {second} in {piece}"),
-                }
+                holds_at(&rt, piece as u64, is_read_alike(alloc, &text, piece)?);
             }
         }
     }
@@ -536,6 +557,9 @@ fn a_fault_behind_an_offence(rt: HostRuntime) -> Result<(), Fail> {
     let alloc = rt.alloc();
     let text = b"x\n0fe 508\n".to_vec(alloc)?;
     let mut source = MemSource::new(text, 4, [2].to_vec(alloc)?);
-    assert!(rt; matches!(read_dump_from(&mut source), Err(FeedFault::ReadFault)));
+    holds(
+        &rt,
+        matches!(read_dump_from(&mut source), Err(FeedFault::ReadFault)),
+    );
     Ok(())
 }

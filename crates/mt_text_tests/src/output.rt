@@ -1,3 +1,4 @@
+use crate::checks::holds;
 use crate::memory::memory_sink;
 use arrayvec::ArrayVec;
 use mt_dump::{DumpFault, DumpReason};
@@ -29,7 +30,7 @@ fn ports(alloc: Global, room: usize, failing: &[u64]) -> Result<(Writer, MemSink
 }
 
 #[test]
-fn lines(rt: HostRuntime) -> Result<(), Fail> {
+fn lines(rt: HostRuntime) {
     let place = Place {
         line: 3,
         column: 12,
@@ -42,28 +43,30 @@ fn lines(rt: HostRuntime) -> Result<(), Fail> {
         msr: 0x2ff,
         reason: Reason::ReservedBit,
     };
-    assert_eq!(rt; no_end(7).as_slice(), b"bad text 7:1 no end\n".as_slice());
-    assert_eq!(rt;
-        bad_text_line(&fault).as_slice(),
-        b"bad text 3:12 no cap\n".as_slice()
-    );
-    assert_eq!(rt;
-        offence_line(&Offence::Dump(fault)).as_slice(),
-        b"bad text 3:12 no cap\n".as_slice()
-    );
-    assert_eq!(rt;
-        refused_line(&refused).as_slice(),
-        b"refused 2ff reserved bit\n".as_slice()
-    );
-    assert_eq!(rt;
-        dump_refused_line(1, 0, &refused).as_slice(),
-        b"refused 2ff reserved bit\n".as_slice()
-    );
-    assert_eq!(rt;
-        dump_refused_line(2, 15, &refused).as_slice(),
-        b"refused cpu 15 2ff reserved bit\n".as_slice()
-    );
-    assert_eq!(rt; accepted_line(), b"accepted\n".as_slice());
+    for (line, text) in [
+        (no_end(7), b"bad text 7:1 no end\n".as_slice()),
+        (bad_text_line(&fault), b"bad text 3:12 no cap\n"),
+        (
+            offence_line(&Offence::Dump(fault)),
+            b"bad text 3:12 no cap\n",
+        ),
+        (refused_line(&refused), b"refused 2ff reserved bit\n"),
+        (
+            dump_refused_line(1, 0, &refused),
+            b"refused 2ff reserved bit\n",
+        ),
+        (
+            dump_refused_line(2, 15, &refused),
+            b"refused cpu 15 2ff reserved bit\n",
+        ),
+    ] {
+        holds(&rt, line.as_slice() == text);
+    }
+    holds(&rt, accepted_line() == b"accepted\n".as_slice());
+}
+
+#[test]
+fn parts_of_lines(rt: HostRuntime) {
     let mut line = ArrayVec::new();
     append_number(&mut line, 0x20a);
     append_value(&mut line, 0xc06);
@@ -71,11 +74,10 @@ fn lines(rt: HostRuntime) -> Result<(), Fail> {
     append_decimal(&mut line, 40);
     append_type(&mut line, MemType::WT);
     append_pat_type(&mut line, PatType::UCMinus);
-    assert_eq!(rt;
-        line.as_slice(),
-        b"20a0000000000000c068000000000fff40WTUC-".as_slice()
+    holds(
+        &rt,
+        line.as_slice() == b"20a0000000000000c068000000000fff40WTUC-".as_slice(),
     );
-    Ok(())
 }
 
 // The sink gets some of the lines before the flush, and all of them after it.
@@ -87,12 +89,12 @@ fn more_lines_than_may_wait(rt: HostRuntime) -> Result<(), Fail> {
     for number in 0..4000 {
         let line = no_end(number);
         all.extend_from_slice(line.as_slice())?;
-        assert!(rt; writer.write(&mut sink, line.as_slice()).is_ok());
+        holds(&rt, writer.write(&mut sink, line.as_slice()).is_ok());
     }
     let early = sink.bytes().len();
-    assert!(rt; 0 < early && early < all.len());
-    assert!(rt; writer.flush(&mut sink).is_ok());
-    assert!(rt; sink.bytes() == all.as_slice());
+    holds(&rt, 0 < early && early < all.len());
+    holds(&rt, writer.flush(&mut sink).is_ok());
+    holds(&rt, sink.bytes() == all.as_slice());
     Ok(())
 }
 
@@ -124,11 +126,14 @@ fn lines_are_formed_in_the_writer(rt: HostRuntime) -> Result<(), Fail> {
         append_number(&mut line, number);
         all.extend_from_slice(line.as_slice())?;
         all.extend_from_slice(b" 0000000000000c068000000000fff40WT\n")?;
-        assert!(rt; form(&mut writer, &mut sink, number));
+        holds(&rt, form(&mut writer, &mut sink, number));
     }
-    assert!(rt; 0 < sink.bytes().len() && sink.bytes().len() < all.len());
-    assert!(rt; writer.flush(&mut sink).is_ok());
-    assert!(rt; sink.bytes() == all.as_slice());
+    holds(
+        &rt,
+        0 < sink.bytes().len() && sink.bytes().len() < all.len(),
+    );
+    holds(&rt, writer.flush(&mut sink).is_ok());
+    holds(&rt, sink.bytes() == all.as_slice());
     let (mut writer, mut sink) = ports(alloc, WRITER_ROOM, &[0])?;
     let mut failed = 0;
     for number in 0..4000 {
@@ -137,11 +142,11 @@ fn lines_are_formed_in_the_writer(rt: HostRuntime) -> Result<(), Fail> {
             break;
         }
     }
-    assert!(rt; 0 < failed);
-    assert_eq!(rt; sink.bytes().len(), 0);
-    assert!(rt; form(&mut writer, &mut sink, 7));
-    assert!(rt; writer.flush(&mut sink).is_ok());
-    assert!(rt; sink.bytes().starts_with(b"007 0000000000000c06"));
+    holds(&rt, 0 < failed);
+    holds(&rt, sink.bytes().len() == 0);
+    holds(&rt, form(&mut writer, &mut sink, 7));
+    holds(&rt, writer.flush(&mut sink).is_ok());
+    holds(&rt, sink.bytes().starts_with(b"007 0000000000000c06"));
     Ok(())
 }
 
@@ -150,10 +155,10 @@ fn lines_are_formed_in_the_writer(rt: HostRuntime) -> Result<(), Fail> {
 fn a_sink_may_fail(rt: HostRuntime) -> Result<(), Fail> {
     let alloc = rt.alloc();
     let (mut writer, mut sink) = ports(alloc, 64, &[0])?;
-    assert!(rt; writer.write(&mut sink, accepted_line()).is_ok());
-    assert!(rt; writer.flush(&mut sink).is_err());
-    assert!(rt; writer.flush(&mut sink).is_ok());
-    assert_eq!(rt; sink.bytes().len(), 0);
+    holds(&rt, writer.write(&mut sink, accepted_line()).is_ok());
+    holds(&rt, writer.flush(&mut sink).is_err());
+    holds(&rt, writer.flush(&mut sink).is_ok());
+    holds(&rt, sink.bytes().len() == 0);
     let (mut writer, mut sink) = ports(alloc, 64, &[])?;
     let mut failed = 0;
     for number in 0..WRITER_ROOM as u64 {
@@ -162,8 +167,8 @@ fn a_sink_may_fail(rt: HostRuntime) -> Result<(), Fail> {
             break;
         }
     }
-    assert!(rt; 0 < failed);
-    assert!(rt; sink.bytes().starts_with(b"bad text 0:1 no end\n"));
-    assert_eq!(rt; sink.bytes().len(), 64);
+    holds(&rt, 0 < failed);
+    holds(&rt, sink.bytes().starts_with(b"bad text 0:1 no end\n"));
+    holds(&rt, sink.bytes().len() == 64);
     Ok(())
 }
