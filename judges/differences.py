@@ -3,10 +3,10 @@ from collections import Counter
 
 from definitions import (
     BROKEN, CAP_WC, COLUMNS, DEF_TYPE, E, EFFECTIVE, FE, FIX, FIXED, MEMORY_TYPES, NAMES, OVERLAP, PAT, UC, UC_MINUS, UNDEFINED,
-    UNSUPPORTED, WB, WP, WT, parts_of, ranges_of,
+    UNSUPPORTED, WB, WC, WP, WT, parts_of, ranges_of,
 )
 
-NO_TYPE, ASSERTS = 0xFF, 0xEE
+NO_TYPE, ASSERTS, REFUSES = 0xFF, 0xEE, 0xDD
 SAMPLES = 3
 
 
@@ -36,7 +36,7 @@ class Tally:
 
 
 def shown(kind):
-    return {UNDEFINED: "undefined", NO_TYPE: "none", ASSERTS: "asserts"}.get(kind, NAMES.get(kind, f"{kind}"))
+    return {UNDEFINED: "undefined", NO_TYPE: "none", ASSERTS: "asserts", REFUSES: "refuses the file"}.get(kind, NAMES.get(kind, f"{kind}"))
 
 
 class Page:
@@ -161,6 +161,16 @@ def clashes(registers):
 SAME_MAP = "same"
 
 
+def without_wc(runs):
+    """The same runs with UC in place of WC."""
+    joined = []
+    for first, kind in runs:
+        kind = UC if kind == WC else kind
+        if not joined or joined[-1][1] != kind:
+            joined.append((first, kind))
+    return joined
+
+
 def between(runs, begin, end=1 << 40):
     """The runs from page `begin` up to page `end`."""
     before = [kind for first, kind in runs if first <= begin]
@@ -173,8 +183,12 @@ def other_map_name(judge, wanted, given):
         return SAME_MAP
     ends = [first for first, _ in wanted[1:]]
     described = max([1 << 20] + [end for (_, kind), end in zip(wanted, ends) if kind != UC])
-    if judge == "coreboot" and between(wanted, 256, described) == between(given, 256, described):
+    if judge != "coreboot":
+        return None
+    if between(wanted, 256, described) == between(given, 256, described):
         return "another type above all memory"
+    if between(without_wc(wanted), 256, described) == between(given, 256, described):
+        return "WC given up"
     return None
 
 
@@ -189,7 +203,9 @@ class PairsTally(Tally):
 
     def add_answer(self, registers, name, count, most, usual, bound, sample):
         """Ours is `most` at the largest chunk, `usual` at the default, and `bound` where no range overlaps a larger one than its."""
-        if name is None:
+        if None in (most, usual, bound):
+            self.add(False, None, registers, lambda: f"ours tells no number: {sample()}")
+        elif name is None:
             self.add(False, None, registers, lambda: f"other types: {sample()}")
         elif count < bound or count < most:
             self.add(False, None, registers, lambda: f"{count} pairs, and ours {bound} at its chunk, {most} at the largest: {sample()}")

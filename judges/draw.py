@@ -133,16 +133,27 @@ class Draw:
         return self.rest(width, cap, pairs)
 
     def broken(self):
-        """A file of another kind with one field of one register turned."""
+        """A file of another kind with one field of one register turned, or without a bit of the capabilities."""
         file = self.random.choice((self.apart, self.overlapping, self.with_defined_overlaps))()
         pick = self.random
         numbers = [number for number, _ in file.writable()]
-        kind = pick.choice(("base", "mask", "mask", "gap", "fixed", "pat", "default", "any"))
+        kind = pick.choice(("base", "mask", "mask", "gap", "fixed", "pat", "default", "any", "cap"))
+        if kind == "cap":
+            return self.without_bit(file)
         wanted = {
             "fixed": [number for number in numbers if number in FIXED], "pat": [PAT], "default": [DEF_TYPE], "any": numbers,
             "base": [number for number in numbers if number < 0x250 and number % 2 == 0],
         }.get(kind, [number for number in numbers if number < 0x250 and number % 2])
         set_register(file, pick.choice(wanted or numbers), self.turned(file.width, kind))
+        return file
+
+    def without_bit(self, file):
+        """The file of a processor that has no WC, or no fixed ranges."""
+        if self.random.randrange(2):
+            file.cap &= ~CAP_WC
+        else:
+            file.cap &= ~FIX
+            file.fixed = [0] * 11
         return file
 
     def turned(self, width, kind):
@@ -233,6 +244,7 @@ class Draw:
         ("ranges apart", apart), ("ranges that overlap", overlapping), ("overlaps of WB, WT, UC", with_defined_overlaps),
         ("UC over a clash", under_uc), ("bases not aligned", unaligned), ("the whole space", whole),
         ("one field turned", broken), ("one field turned", broken), ("MTRRs off", off),
+        ("ranges that overlap", overlapping), ("overlaps of WB, WT, UC", with_defined_overlaps),
     )
     MAPS = (
         ("a PC's", computer), ("a PC's", computer), ("taken out of one type", taken_out), ("in one another", chain),

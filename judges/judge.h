@@ -12,6 +12,7 @@
 /* In place of a type byte. */
 #define JUDGE_NO_TYPE 0xff /* the judge has no type for the page */
 #define JUDGE_ASSERTS 0xee /* an assertion of the judge fails */
+#define JUDGE_REFUSES 0xdd /* the judge refuses a register of the file */
 
 struct registers {
     unsigned width;

@@ -72,6 +72,7 @@ static const unsigned fixed_numbers[JUDGE_FIXED] = {
 };
 
 static struct kvm_vcpu vcpu;
+static int refused;
 
 static void blank(const struct registers *r)
 {
@@ -82,20 +83,19 @@ static void blank(const struct registers *r)
 
 static void set(const struct registers *r)
 {
-    int refused = 0;
     blank(r);
+    refused = 0;
     for (unsigned i = 0; i < r->count; i++) {
         refused |= kvm_mtrr_set_msr(&vcpu, 0x200 + 2 * i, r->base[i]);
         refused |= kvm_mtrr_set_msr(&vcpu, 0x201 + 2 * i, r->mask[i]);
     }
     for (int i = 0; i < JUDGE_FIXED && (r->cap & 0x100); i++) refused |= kvm_mtrr_set_msr(&vcpu, fixed_numbers[i], r->fixed[i]);
     refused |= kvm_mtrr_set_msr(&vcpu, MSR_MTRRdefType, r->def_type);
-    if (refused) fprintf(stderr, "kvm: a register of a file that was to be looked up is refused\n"), exit(2);
 }
 
 static unsigned type(uint64_t page)
 {
-    return kvm_mtrr_get_guest_memory_type(&vcpu, page);
+    return refused ? JUDGE_REFUSES : kvm_mtrr_get_guest_memory_type(&vcpu, page);
 }
 
 static int allows(const struct registers *r, unsigned number, uint64_t value)

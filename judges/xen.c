@@ -50,6 +50,7 @@ static unsigned paddr_bits;
 
 static struct mtrr_var_range ranges[JUDGE_PAIRS];
 static struct mtrr_state state;
+static int allowed;
 
 static void blank(const struct registers *r)
 {
@@ -71,20 +72,19 @@ static int write_register(const struct registers *r, unsigned number, uint64_t v
 
 static void set(const struct registers *r)
 {
-    int allowed = 1;
     blank(r);
+    allowed = 1;
     for (unsigned i = 0; i < r->count; i++) {
         allowed &= write_register(r, 0x200 + 2 * i, r->base[i]);
         allowed &= write_register(r, 0x201 + 2 * i, r->mask[i]);
     }
     for (int i = 0; i < JUDGE_FIXED && (r->cap & 0x100); i++) allowed &= mtrr_fix_range_msr_set(&domain, &state, i, r->fixed[i]);
     allowed &= write_register(r, 0x2ff, r->def_type);
-    if (!allowed) fprintf(stderr, "xen: a register of a file that was to be looked up is refused\n"), exit(2);
 }
 
 static unsigned type(uint64_t page)
 {
-    return mtrr_get_type(&state, page << PAGE_SHIFT, 0);
+    return allowed ? mtrr_get_type(&state, page << PAGE_SHIFT, 0) : JUDGE_REFUSES;
 }
 
 static int allows(const struct registers *r, unsigned number, uint64_t value)
