@@ -106,7 +106,7 @@ class Comparison:
         self.judges = {one.name: one.built(apt) for one in JUDGES}
         self.tallies = []
         self.refused = Counter()
-        self.pages = 0
+        self.mapped, self.pages = 0, 0
 
     def tally(self, judge, what):
         self.tallies.append(Tally(judge, what))
@@ -130,6 +130,7 @@ class Comparison:
                 compare_allowed(tally, registers, fault, line)
         mapped = [(registers, type_at, pages_of(registers, pick)) for registers, (_, type_at) in zip(files, told) if type_at]
         lines = [f"types {registers.line()} ; {' '.join(f'{page:x}' for page in pages)}" for registers, _, pages in mapped]
+        self.mapped += len(mapped)
         self.pages += sum(len(pages) for _, _, pages in mapped)
         for tally in self.of_types:
             for (registers, type_at, pages), line in zip(mapped, answers(self.judges[tally.judge], lines)):
@@ -220,7 +221,8 @@ def spread(counts):
 def write(comparison, files, maps, seconds):
     """The table; whether each difference has a name."""
     print(f"files, by kind: {', '.join(f'{kind} {count:,}' for kind, count in files.kinds.items())}")
-    print(f"the program: {', '.join(f'{word} {count:,}' for word, count in comparison.refused.items())}; {comparison.pages:,} pages asked")
+    verdicts = ", ".join(f"{word} {count:,}" for word, count in comparison.refused.items())
+    print(f"the program: {verdicts}; types asked of {comparison.mapped:,} files, at {comparison.pages:,} pages")
     if maps.list:
         kinds = ", ".join(f"{kind} {count:,}" for kind, count in maps.kinds.items())
         print(f"maps, by kind: {kinds}; {comparison.accepted_maps:,} of them accepted")

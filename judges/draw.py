@@ -33,7 +33,7 @@ class Draw:
         cap = count | (0 if self.chance(8) else FIX) | (0 if self.chance(8) else CAP_WC) | (0x800 if self.chance(4) else 0)
         return width, cap
 
-    def rest(self, width, cap, pairs, default=None):
+    def rest(self, width, cap, pairs):
         """The file of these pairs, put in some order, with fixed ranges, PAT and default type drawn."""
         pick, kinds = self.random, self.kinds(cap)
         pairs = list(pairs)
@@ -46,7 +46,7 @@ class Draw:
             draw = pick.choice((lambda: WB, lambda: pick.choice(kinds), lambda: pick.choice((UC, WB))))
             fixed = [value_of(draw() for _ in range(8)) for _ in FIXED]
         pat = POWER_UP_PAT if self.chance(2) else value_of(pick.choice(PAT_TYPES) for _ in range(8))
-        kind = default if default is not None else pick.choice((UC, UC, WB, pick.choice(kinds)))
+        kind = pick.choice((UC, UC, WB, pick.choice(kinds)))
         enabled = E | (FE if cap & FIX and not self.chance(4) else 0)
         return Registers(width, cap, pairs, fixed, pat, kind | enabled)
 
