@@ -4,7 +4,6 @@ import importlib.machinery
 import importlib.util
 import random
 import subprocess
-import sys
 import time
 from collections import Counter
 
@@ -67,19 +66,19 @@ class Files:
 
 
 def given_maps(files, draw):
-    """The pairs of these files where the ranges are on, over fixed ranges that are WB, and hard maps."""
+    """The pairs of these files where the ranges are on, over fixed ranges that are WB."""
     maps = Files()
     for registers in files.list:
         if registers.def_type & E and registers.cap & FIX:
             valid = [pair for pair in registers.pairs if pair[1] & VALID]
-            maps.add("examples and rows", draw.map_of(registers.width, valid, registers.def_type & 0xFF))
-    for registers in hard_maps(draw):
-        maps.add("hard", registers)
+            maps.add("given files", draw.map_of(registers.width, valid, registers.def_type & 0xFF))
     return maps
 
 
-def given_files(top, program):
+def given_files(top, program, draw):
     files = Files()
+    for registers in hard_maps(draw):
+        files.add("hard maps", registers)
     for text in example_texts(top):
         shown_text, status = program.ask(["show"], text)
         for registers in registers_of(shown_text) if status == 0 else ():
@@ -251,7 +250,7 @@ def run(top, program, count, map_count, seed):
     start = time.monotonic()
     comparison = Comparison(top, program, seed)
     draw = Draw(seed)
-    files = given_files(top, program)
+    files = given_files(top, program, draw)
     maps = given_maps(files, draw) if map_count else Files()
     maps.draw(Draw.MAPS, draw, map_count)
     files.draw(Draw.FILES, draw, count)

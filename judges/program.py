@@ -1,5 +1,4 @@
 """The program `mtrr`, or a reading with a plant in its place."""
-import os
 import re
 import subprocess
 import tempfile
