@@ -1,0 +1,68 @@
+-- Longest runs of marks grow at their end.
+use Rattle.std.proofs.Common.{◌≡◌, ◌≢◌, ℕ, suc, ◌-◌, ◌<◌, ◌≤◌, List, [], ◌∷◌, ◌++◌, Option, Some, None, sym, ap, ◌∙◌, inl, inr, arith}
+use Rattle.std.proofs.lemmas.Bool.{cases_lt}
+use Rattle.mt_explain.specs.Spans.{AreSpans, HaveMark, IsLongest, Span, span_end}
+
+pub both_have : {A : Type 0} (marks : ℕ → Option A) (from to end : ℕ) (mark : Option A) → HaveMark marks from to mark → HaveMark marks to end mark → HaveMark marks from end mark
+both_have marks from to end mark first second page low high = elim (cases_lt page to) [
+  | inl inner ↦ first page low inner
+  | inr outer ↦ second page outer high
+]
+
+-- pages without a mark
+pass : {A : Type 0} (marks : ℕ → Option A) (from to end : ℕ) (spans : List (Span A)) → to ≤ end → AreSpans marks from to spans → HaveMark marks to end None → AreSpans marks from end spans
+pass marks from to end [] order are none = (omega (arith, are.0), both_have marks from to end None are.1 none)
+pass marks from to end (s ∷ ss) order are none = (are.0, are.1, are.2, are.3, are.4, pass marks (span_end s) to end ss order are.5 none)
+
+-- a run that begins where the others end, and has another mark than the page before it
+push : {A : Type 0} (marks : ℕ → Option A) (from to : ℕ) (spans : List (Span A)) (s : Span A) → AreSpans marks from to spans → s.first ≡ to → 0 < s.count
+    → HaveMark marks s.first (span_end s) (Some s.mark) → ((page : ℕ) → suc page ≡ to → marks page ≢ Some s.mark) → AreSpans marks from (span_end s) (spans ++ s ∷ [])
+push marks from to [] s are is some have fresh = (
+  omega (arith, are.0, is),
+  λ page low high. are.1 page low (omega (arith, is)),
+  some,
+  have,
+  tt,
+  (omega arith, λ page low high. absurd (omega arith)),
+)
+push marks from to (r ∷ []) s are is some have fresh = (
+  are.0,
+  are.1,
+  are.2,
+  are.3,
+  λ meets same. fresh (to - 1) (omega (arith, are.2, meets, is)) (are.3 (to - 1) (omega (arith, are.2, meets, is)) (omega (arith, are.2, meets, is)) ∙ ap (λ m. Some m) same),
+  push marks (span_end r) to [] s are.5 is some have fresh,
+)
+push marks from to (r ∷ q ∷ qs) s are is some have fresh = (are.0, are.1, are.2, are.3, are.4, push marks (span_end r) to (q ∷ qs) s are.5 is some have fresh)
+
+-- the runs up to a page, which has a mark unless it is the last one, and another one than the page before it
+pub record IsGrown {A : Type 0} (marks : ℕ → Option A) (to : ℕ) (spans : List (Span A)) (next : ℕ) : Type 0 where
+  pub are : AreSpans marks 0 next spans
+  pub bound : next ≤ to
+  pub fresh : next < to → (page : ℕ) → suc page ≡ next → marks page ≢ marks next
+
+pub grown_start : {A : Type 0} (marks : ℕ → Option A) (to next : ℕ) (m : Option A) → next ≤ to → HaveMark marks 0 next None → (next < to → marks next ≡ m) → (m ≡ None → ⊥) → IsGrown marks to [] next
+grown_start marks to next m bound none at marked = record {
+  are = (omega arith, none);
+  bound = bound;
+  fresh = λ within page one same. marked (sym (at within) ∙ sym same ∙ none page (omega arith) (omega (arith, one)));
+}
+
+pub grown_next : {A : Type 0} (marks : ℕ → Option A) (to : ℕ) (spans : List (Span A)) (s : Span A) (page next : ℕ) (m : Option A) → IsGrown marks to spans page → page < to → s.first ≡ page → 0 < s.count
+    → IsLongest marks to s → span_end s ≤ next → next ≤ to → HaveMark marks (span_end s) next None → (next < to → marks next ≡ m) → (m ≡ None → ⊥) → IsGrown marks to (spans ++ s ∷ []) next
+grown_next marks to spans s page next m grown within is some longest order bound none at marked = record {
+  are = pass marks 0 (span_end s) next (spans ++ s ∷ []) order pushed none;
+  bound = bound;
+  fresh = λ inside before one same. elim (cases_lt before (span_end s)) [
+    | inl inner ↦
+        let meets : span_end s ≡ next = omega (arith, order, one, inner) in
+        longest.behind (omega (arith, meets, inside)) (ap marks meets ∙ sym same ∙ longest.pages before (omega (arith, one, meets, some)) inner)
+    | inr outer ↦ marked (sym (at inside) ∙ sym same ∙ none before outer (omega (arith, one)))
+  ];
+}
+  where
+    here : marks page ≡ Some s.mark
+    here = longest.pages page (omega (arith, is)) (omega (arith, is, some))
+
+    pushed : AreSpans marks 0 (span_end s) (spans ++ s ∷ [])
+    pushed = push marks 0 page spans s grown.are is some longest.pages (λ before one same. grown.fresh within before one (same ∙ sym here))

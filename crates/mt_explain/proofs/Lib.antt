@@ -1,0 +1,4 @@
+pub mod Grown
+pub mod Walked
+pub mod Appended
+pub mod Lawful
