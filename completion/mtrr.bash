@@ -1,4 +1,4 @@
-# Completion of mtrr, mtrr-import and mtrr-map for bash.
+# Completion of mtrr, mtrr-import, mtrr-map and mtrr-explain for bash.
 
 _mtrr() {
     local word=${COMP_WORDS[COMP_CWORD]} place=$COMP_CWORD
@@ -49,6 +49,20 @@ _mtrr_import() {
     fi
 }
 
+_mtrr_explain() {
+    local word=${COMP_WORDS[COMP_CWORD]}
+    COMPREPLY=()
+    if [ "$COMP_CWORD" -eq 1 ]; then
+        COMPREPLY=($(compgen -W 'faults page --help --version' -- "$word"))
+    elif [[ $word == -* ]]; then
+        COMPREPLY=($(compgen -W '--json --help' -- "$word"))
+    else
+        COMPREPLY=($(compgen -f -- "$word"))
+        compopt -o filenames
+    fi
+}
+
 complete -F _mtrr mtrr
 complete -F _mtrr_import mtrr-import
 complete mtrr-map
+complete -F _mtrr_explain mtrr-explain
