@@ -2,7 +2,7 @@
 use crate::runs::{Ports, repeated, run_under};
 use crate::texts::{FOUR_GIGABYTES, PAIR, UPDATE, UPDATED};
 use mt_gates::{AllBut, Meets, ones};
-use mt_ports::Status;
+use mt_ports::{Gate, Status};
 use std::process::Abort;
 use std::sync::Wait;
 use std::test::Fail;
@@ -98,4 +98,13 @@ fn each_processor_starts_and_arrives_once(rt: HostRuntime) -> Result<(), Fail> {
         }
     }
     Ok(())
+}
+
+#[test]
+fn one_thread_meets_nobody(rt: HostRuntime) {
+    let gate = Meets::new();
+    gate.arrived(0);
+    gate.arrived(1);
+    gate.arrived(0);
+    assert!(rt; gate.seen() < 2);
 }
