@@ -3,7 +3,7 @@ from collections import Counter
 
 from definitions import (
     BROKEN, CAP_WC, COLUMNS, DEF_TYPE, E, EFFECTIVE, FE, FIX, FIXED, MEMORY_TYPES, NAMES, OVERLAP, PAT, UC, UC_MINUS, UNDEFINED,
-    UNSUPPORTED, WB, WC, WP, WT, parts_of, ranges_of,
+    UNSUPPORTED, VALID, WB, WC, WP, WT, Range, parts_of, ranges_of,
 )
 
 NO_TYPE, ASSERTS, REFUSES = 0xFF, 0xEE, 0xDD
@@ -124,9 +124,10 @@ def allowed_name(registers, number, value, reason, theirs):
     if reason is None or not theirs:
         return None
     if reason == BROKEN:
-        return "mask with a gap"
+        is_mask = number < 0x250 and number % 2 == 1 and value & VALID
+        return "mask with a gap" if is_mask and Range(0, value, registers.width).has_gap else None
     kinds = parts_of(value) if number in FIXED else [value & 0xFF]
-    if reason == UNSUPPORTED and number != PAT and not registers.cap & CAP_WC and all(kind in MEMORY_TYPES for kind in kinds):
+    if reason == UNSUPPORTED and number != PAT and not registers.cap & CAP_WC and WC in kinds and all(kind in MEMORY_TYPES for kind in kinds):
         return "WC without its bit"
     if number == DEF_TYPE and not registers.cap & FIX and value & FE:
         return "FE without FIX"

@@ -90,6 +90,8 @@ def unpacked(package, paths, apt):
         apt.fetch(package, folder)
     archives = [*folder.glob("*.orig.tar.*"), *folder.glob("*.debian.tar.*")]
     archives = [path for path in archives if not path.name.endswith(".asc")]
+    if not any(".orig.tar." in path.name for path in archives) or not any(".debian.tar." in path.name for path in archives):
+        raise Unavailable(f"{folder} has no whole source: remove it, and run this again")
     print(f"peers: unpacking {package}", file=sys.stderr)
     for archive in archives:
         strip, members = (0, ["debian/patches"]) if ".debian.tar." in archive.name else (1, [f"*/{path}" for path in paths])
