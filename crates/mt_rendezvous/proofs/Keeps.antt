@@ -312,7 +312,7 @@ module _ (key : Key) where
       record {
         led = l;
         steps = subst (λ (y : Start). PassSteps y i (slice_index s.words i) n e h w) (sym told)
-            (record { all = m.all; go = m.go; words = s.words; led = m.led_to; at = there; word = refl; enabled = comes.0; becomes = comes.1 });
+            (record { all = m.all; go = m.go; words = s.words; led = m.led_to; at = there; first = m.first; second = m.second; word = refl; enabled = comes.0; becomes = comes.1 });
         follows = record {
           enabled = comes.0;
           becomes = comes.1;

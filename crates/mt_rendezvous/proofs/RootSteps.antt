@@ -20,7 +20,7 @@ use Rattle.mt_rendezvous.specs.declared.view.Held.{Held}
 use Rattle.mt_rendezvous.specs.declared.view.Start.{Start}
 use Rattle.mt_rendezvous.specs.declared.view.View.{View}
 use Rattle.mt_rendezvous.specs.declared.view.Key.{Key}
-use Rattle.mt_rendezvous.specs.Station.{order_of, broadcast, Begins, cpu_of, first_memory_word, system_of, joined, start_of, held, numbered, first_view, total, added_of, again_of, go_weight, phase_word, phase_word_of, Fits, FitsHeld, rise, Apart, Sits, IsHeld, Meets, one, others, root_left, pass_right, both, spent}
+use Rattle.mt_rendezvous.specs.Station.{order_of, broadcast, Begins, cpu_of, first_count, first_memory_word, system_of, joined, start_of, held, numbered, first_view, total, added_of, again_of, go_weight, phase_word, phase_word_of, Fits, FitsHeld, rise, Apart, Sits, IsHeld, Meets, one, others, root_left, pass_right, both, spent}
 use Rattle.mt_rendezvous.specs.Calls.{opening_words}
 use Rattle.mt_rendezvous.specs.Plays.{Decided, after_event, with_go, Gives, Cancels}
 use Rattle.mt_rendezvous.specs.Laws.{Follows, machine_of}
@@ -274,7 +274,7 @@ module _ (key : Key) where
       let becomes : joined start m.all new (set s.words 0 n) ≡ next (joined start m.all Pending s.words) e = low ∙ sym a.moves in
       record {
         steps = subst (λ (y : Start). Decided y 0 (get_or s.words 0 0) n e new) (sym (root_told s m id v at root))
-            (record { all = m.all; words = s.words; led = l; word = refl; enabled = a.enabled; becomes = becomes });
+            (record { all = m.all; words = s.words; led = l; first = m.first ∙ ap (first_count m.all) was; second = y; word = refl; enabled = a.enabled; becomes = becomes });
         follows = record {
           enabled = subst (λ (g : Go). IsEnabled (joined start m.all g s.words) e) (sym was) a.enabled;
           becomes = becomes ∙ ap (λ (g : Go). next (joined start m.all g s.words) e) (sym was);

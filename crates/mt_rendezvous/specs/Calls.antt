@@ -32,6 +32,10 @@ pub record Carries (table : TableId) (t : Start) (its : TableId) (me : Me (Unit 
   pub below : number < length t.cpus
   pub bare : me.1 ≡ []
 
+-- the pass of the view's one processor has added to word 0
+abbrev pub HasAdded : View → Type 0
+HasAdded v = (h : Held) × (v.held ≡ h ∷ []) × (h.added ≡ true)
+
 -- the root's seat
 pub record Leads (table : TableId) (t : Start) (its : TableId) (me : Me (Unit {0}) View) (go : Go) : Type 0 where
   pub same : its ≡ table

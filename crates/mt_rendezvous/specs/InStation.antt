@@ -1,7 +1,8 @@
 -- What holds at a station: relations on a table and what it was gathered from, applied to the station's own, and to the root, passes and attendees.
-use Rattle.std.specs.Prelude.{ℕ, Bool, List}
+use Rattle.std.specs.Prelude.{◌≡◌, ℕ, Bool, List, length}
 use Rattle.mt_regs.specs.RegisterFile.{RegisterFile}
 use Rattle.mt_machine.specs.declared.go.Go.{Go}
+use Rattle.mt_machine.specs.declared.go.Go.TheVariants.{Pending}
 use Rattle.mt_machine.specs.Memory.{Window}
 use Rattle.mt_machine.specs.System.{Processor}
 use Rattle.mt_rendezvous.specs.declared.station.Attendee.{Attendee}
@@ -11,7 +12,7 @@ use Rattle.mt_rendezvous.specs.declared.station.Root.{Root}
 use Rattle.mt_rendezvous.specs.declared.station.Station.{Station}
 use Rattle.mt_rendezvous.specs.declared.view.Start.{Start}
 use Rattle.mt_rendezvous.specs.Station.{start_of}
-use Rattle.mt_rendezvous.specs.Calls.{Attended, Carries, HoldsOne, IsRoot, Leads, Offers}
+use Rattle.mt_rendezvous.specs.Calls.{Attended, Carries, HasAdded, HoldsOne, IsRoot, Leads, Offers}
 use Rattle.mt_rendezvous.specs.Update.{AllNew, Came, CameAs, IsNew, IsQueue, IsReady, IsReadyAt, OneLess, Returned}
 
 -- from what it was gathered
@@ -40,6 +41,9 @@ OffersIn station i root = Offers (start_at station) i root.seat.me
 
 abbrev pub CarriesIn : Station → Pass → Processor → Bool → Bool → Type 0
 CarriesIn station pass cpu added again = Carries station.table.shared.table_id (start_at station) pass.seat.table_id pass.seat.me pass.number cpu added again
+
+abbrev pub HasAddedIn : Pass → Type 0
+HasAddedIn pass = HasAdded pass.seat.me.0
 
 -- what comes of the pass that had the processor p
 abbrev pub AttendedIn : Outcome → Station → Pass → Processor → Pass → Processor → Type 0
@@ -76,3 +80,12 @@ OneLessIn station items left = OneLess station.table.shared.table_id (start_at s
 
 abbrev pub ReturnedIn : Station → Root → Go → ℕ → List Processor → Type 0
 ReturnedIn station root go count done = Returned station.table.shared.table_id root.seat.table_id root.seat.me go count done
+
+-- ---- what is gathered
+
+-- a station of this start: its root, before the go, and an attendee for each processor, which carries it as it was
+pub record IsGatheredIn (t : Start) (station : Station) (root : Root) (items : List Attendee) : Type 0 where
+  pub key : start_at station ≡ t
+  pub leads : LeadsIn station root Pending
+  pub count : length items ≡ length t.cpus
+  pub attendees : AllNewIn station items

@@ -18,7 +18,7 @@ use Rattle.mt_cpu.specs.Steps.{is_local}
 use Rattle.mt_rendezvous.specs.declared.view.Held.{Held}
 use Rattle.mt_rendezvous.specs.declared.view.Start.{Start}
 use Rattle.mt_rendezvous.specs.declared.view.View.{View}
-use Rattle.mt_rendezvous.specs.Station.{Begins, order_of, broadcast, code, first_memory_word, held, joined, view, with_held}
+use Rattle.mt_rendezvous.specs.Station.{Begins, order_of, broadcast, code, first_count, first_memory_word, held, joined, second_count, view, with_held}
 
 abbrev pub Sat : Type 0
 Sat = Me (Unit {0}) View
@@ -35,7 +35,8 @@ abbrev pub CanFollow : Machine → Option MachineEvent → Type 0
 CanFollow m None = Unit {0}
 CanFollow m (Some e) = IsEnabled m e
 
--- A step of the pass that holds h, by which word i becomes new where it was found: the words and views stood for a machine that the broadcast leads to.
+-- A step of the pass that holds h, by which word i becomes new where it was found: the words and views stood for a machine that the broadcast leads to,
+-- and the two counts held what had been added to them.
 -- With the new word, and with w in place of h, they stand for the machine after this event, which was enabled, or for the same machine if there is none.
 pub record PassSteps (t : Start) (i found new : ℕ) (e : Option MachineEvent) (h w : Held) : Type 0 where
   pub all : List Held
@@ -43,6 +44,8 @@ pub record PassSteps (t : Start) (i found new : ℕ) (e : Option MachineEvent) (
   pub words : List ℕ
   pub led : Led (broadcast t) (joined t all go words)
   pub at : get_elem? all h.number ≡ some h
+  pub first : slice_index words 0 ≡ first_count all go
+  pub second : slice_index words 1 ≡ second_count all
   pub word : slice_index words i ≡ found
   pub enabled : CanFollow (joined t all go words) e
   pub becomes : joined t (slice_set all h.number w) go (slice_set words i new) ≡ after_event (joined t all go words) e
@@ -52,6 +55,8 @@ pub record Decided (t : Start) (i found new : ℕ) (e : MachineEvent) (go : Go) 
   pub all : List Held
   pub words : List ℕ
   pub led : Led (broadcast t) (joined t all Pending words)
+  pub first : slice_index words 0 ≡ first_count all Pending
+  pub second : slice_index words 1 ≡ second_count all
   pub word : slice_index words i ≡ found
   pub enabled : IsEnabled (joined t all Pending words) e
   pub becomes : joined t all go (slice_set words i new) ≡ next (joined t all Pending words) e

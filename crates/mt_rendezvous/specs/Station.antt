@@ -122,6 +122,13 @@ go_weight Pending = 0
 go_weight Given = 1
 go_weight Cancelled = 4294967296
 
+-- what has been added to the two counts, words 0 and 1
+abbrev pub first_count : List Held → Go → ℕ
+first_count all go = total added_of all + go_weight go
+
+abbrev pub second_count : List Held → ℕ
+second_count all = total again_of all
+
 -- the number of a phase that an event of a processor alone leads to
 abbrev pub code : Phase → ℕ
 code NoFill = 1
@@ -201,8 +208,8 @@ pub record Meets (key : Key) (s : State (Unit {0}) View) : Type 0 where
   pub some_one : 0 < length all
   pub few : length all < 65536
   pub wide : length s.words ≡ first_memory_word (start_of key) + length key.ram.value.words
-  pub first : slice_index s.words 0 ≡ total added_of all + go_weight go
-  pub second : slice_index s.words 1 ≡ total again_of all
+  pub first : slice_index s.words 0 ≡ first_count all go
+  pub second : slice_index s.words 1 ≡ second_count all
   pub fits : (k : ℕ) (h : Held) → get_elem? all k ≡ some h → FitsHeld (start_of key) go h × (h.number ≡ k)
   pub codes : (k : ℕ) (h : Held) → get_elem? all k ≡ some h → slice_index s.words (k + 2) ≡ phase_word_of h
   pub present : (k : ℕ) → k < length all → IsHeld s.views k

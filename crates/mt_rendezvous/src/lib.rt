@@ -5,9 +5,11 @@ mod arrival;
 mod attending;
 mod broadcast;
 mod gather;
+mod refusal;
 mod station;
 mod threads;
 mod view;
+mod waits;
 
 pub use attending::attend;
 pub use broadcast::call_and_take;

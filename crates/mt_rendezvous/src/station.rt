@@ -2,15 +2,14 @@
 ghost use Rattle.std.specs.Prelude.{◌≡◌, ◌+◌, ◌<◌, true, false, length, slice_get, Some, IsTrue};
 ghost use Rattle.mt_machine.specs.declared.phase.Phase.TheVariants.{Taken, Restored, Arrived2};
 ghost use Rattle.mt_machine.specs.declared.go.Go.TheVariants.{Pending, Given, Cancelled};
-ghost use Rattle.mt_machine.specs.declared.event.Event.TheVariants.{Release};
-ghost use Rattle.mt_machine.specs.Machine.{own_step, is_changing, common_era};
+ghost use Rattle.mt_machine.specs.Machine.{own_step, is_changing};
 ghost use Rattle.mt_cpu.specs.Steps.{is_local};
 ghost use Rattle.mt_rendezvous.specs.Station.{Begins, code};
-ghost use Rattle.mt_rendezvous.specs.Plays.{IsWaiting, Made, Stands, Took, own_event, written};
-ghost use Rattle.mt_rendezvous.specs.Calls.{Waited};
+ghost use Rattle.mt_rendezvous.specs.Plays.{IsWaiting, Made, Stands, own_event, written};
 
 use crate::arrival::Arrival;
 use crate::view::{Key, Meeting, Turn, View};
+use crate::waits::Waiter;
 use atomic_table::{Seat, Table};
 use mt_cpu::{Cpu, is_local};
 use mt_machine::{Event, Phase};
@@ -19,12 +18,11 @@ use mt_ram::Ram;
 use mt_regs::RegFile;
 use std::alloc::Global;
 use std::sync::Wait;
-use std::thread;
 
 // What the root adds to the first word, to give the go or to cancel.
 const GO: u64 = 1;
 
-const CANCEL: u64 = 0x1_0000_0000;
+pub(crate) const CANCEL: u64 = 0x1_0000_0000;
 
 /// The words of one update: the two counts, a phase word for each processor, and the words of memory.
 #[derive(Drop)]
@@ -144,11 +142,6 @@ impl Pass {
         self.shown
     }
 
-    // Asks the gate whether the thread of its processor may be started.
-    pub(crate) fn may_start<G: Gate>(&self, gate: &G) -> bool {
-        gate.may_start(self.processor())
-    }
-
     // Adds to word 0: the event Arrive, or none where the word held the cancel before.
     pub(crate) fn arrive(&mut self, station: &Station, cpu: &mut Cpu) -> Arrival
         requires carries { CarriesIn station.now self.old cpu.old false false }
@@ -168,31 +161,6 @@ impl Pass {
             return Arrival::of(self);
         }
         Arrival::of(self)
-    }
-
-    // Waits for the others. The load of word 0 that ends it is the event Pass, and the answer is true, or Leave.
-    // Each load before it is none.
-    pub(crate) fn wait_first<R: Wait>(&mut self, rt: &R, station: &Station, cpu: &mut Cpu) -> bool
-        requires carries { CarriesIn station.now self.old cpu.old true false }
-        requires waits { IsWaiting cpu.old.phase }
-        ensures number { self.new.number ≡ self.old.number }
-        ensures carries { CarriesIn station.now self.new cpu.new true false }
-        ensures shown { self.new.shown ≡ self.old.shown }
-        ensures waited { Waited result (start_at station.now) self.new.number cpu.old cpu.new }
-    {
-        for _ in rt.forever() {
-            let found = station.table.shared.load::<Turn>(&mut self.seat, 0);
-            if found >= CANCEL {
-                cpu.shift(Event::Leave);
-                return false;
-            }
-            if found == station.count + 1 {
-                cpu.shift(Event::Pass);
-                return true;
-            }
-            thread::yield_now();
-        }
-        unreachable!()
     }
 
     // Does the processor's next event between the barriers. Its one store, of the word of memory that is written
@@ -277,33 +245,10 @@ impl Pass {
         self.arrive_again(station, cpu);
     }
 
-    // Waits for the others again. The load of word 1 that ends it is the event Release. Each load before it is none.
-    pub(crate) fn wait_second<R: Wait>(&mut self, rt: &R, station: &Station, cpu: &mut Cpu)
-        requires carries { CarriesIn station.now self.old cpu.old true true }
-        requires waits { cpu.old.phase ≡ Arrived2 }
-        requires begins { Begins (start_at station.now) }
-        ensures number { self.new.number ≡ self.old.number }
-        ensures carries { CarriesIn station.now self.new cpu.new true true }
-        ensures shown { self.new.seat.me.0.shown ≡ Some station.now.count }
-        ensures took { Took (start_at station.now) self.new.number Release cpu.old cpu.new }
-        ensures risen { cpu.new.era ≡ common_era (start_at station.now).cpus + 1 }
-    {
-        for _ in rt.forever() {
-            let found = station.table.shared.load::<Turn>(&mut self.seat, 1);
-            self.shown = Some(found as u32);
-            if found == station.count {
-                cpu.shift(Event::Release);
-                return;
-            }
-            thread::yield_now();
-        }
-        unreachable!()
-    }
-
     // Takes the processor through the update where it stands, since it is large.
     pub(crate) fn go_through<R: Wait, G: Gate>(
         &mut self,
-        rt: &R,
+        waiter: &Waiter<R>,
         station: &Station,
         ram: &Ram,
         goal: &RegFile,
@@ -320,11 +265,11 @@ impl Pass {
         ensures shown { result ≡ Outcome.Complete → self.new.shown ≡ Some (length (start_at station.now).cpus) }
     {
         self.arrive(station, cpu).tell(gate);
-        if !self.wait_first(rt, station, cpu) {
+        if !self.wait_first(waiter, station, cpu) {
             return Outcome::Cancelled;
         }
         self.change(station, ram, goal, cpu);
-        self.wait_second(rt, station, cpu);
+        self.wait_second(waiter, station, cpu);
         Outcome::Complete
     }
 }

@@ -1,6 +1,6 @@
 // An update on threads: one for each processor, in a scope.
 ghost use Rattle.std.specs.Prelude.{◌≡◌, ℕ, ◌+◌, ◌++◌, ◌∷◌, ◌<◌, ◌≤◌, ◌↔◌, [], Bool, true, false, length, map};
-ghost use Rattle.std.specs.Prelude.{Err, None, Some, IsSome, OnOk, OnErr, IfOk, IfErr, IfSome, IfNone, vec_len, vec_capacity};
+ghost use Rattle.std.specs.Prelude.{Err, None, Some, IsSome, OnOk, OnErr, IfOk, IfErr, IfSome, IfNone, is_ok, vec_len, vec_capacity};
 ghost use Rattle.std.specs.List.{All};
 ghost use Rattle.std.specs.Thread.{IsSync};
 ghost use Rattle.mt_regs.specs.declared.fault.Fault.{Fault};
@@ -23,7 +23,9 @@ ghost use Rattle.mt_rendezvous.specs.InStation.{CameAsIn, CameIn, IsQueueIn, IsR
 
 use crate::broadcast::call_and_take;
 use crate::gather::disband;
+use crate::refusal::{Refusal, boxed, gather_station, room};
 use crate::station::{Attendee, Root, Station};
+use crate::waits::Waiter;
 use mt_bus::{Holders, System};
 use mt_core::{CallFault, Core, a_core_arises};
 use mt_cpu::Cpu;
@@ -53,7 +55,7 @@ impl Promise<Box<Attendee>> for Attends {
 
 // Takes the attendee through the update, or out of it.
 fn attend_whole<R: Wait, G: Gate>(
-    rt: &R,
+    waiter: &Waiter<R>,
     station: &Station,
     ram: &Ram,
     a: &mut Attendee,
@@ -66,11 +68,12 @@ fn attend_whole<R: Wait, G: Gate>(
     ensures came { CameIn station.now a.new }
     ensures number { a.new.pass.number ≡ a.old.pass.number }
 {
-    a.pass.go_through(rt, station, ram, goal, gate, &mut a.cpu);
+    a.pass
+        .go_through(waiter, station, ram, goal, gate, &mut a.cpu);
 }
 
 // Starts a thread for the attendee, where the gate lets it. Where it isn't started the root cancels, and the
-// attendee leaves.
+// attendee leaves, and comes back with the refusal.
 fn start<'s, E, R: Threads + Wait + Sync, G: Gate>(
     rt: &'s R,
     scope: &Scope<'s, E>,
@@ -80,7 +83,7 @@ fn start<'s, E, R: Threads + Wait + Sync, G: Gate>(
     mut a: Box<Attendee>,
     goal: &'s RegFile,
     gate: &'s G,
-) -> Result<PromisedHandle<Box<Attendee>, Attends>, Box<Attendee>>
+) -> Result<PromisedHandle<Box<Attendee>, Attends>, (Box<Attendee>, Refusal)>
     requires root { LeadsIn station.now root.old Pending }
     requires ready { IsReadyIn station.now a.value }
     requires goal { goal.now ≡ goal_at station.now }
@@ -88,13 +91,16 @@ fn start<'s, E, R: Threads + Wait + Sync, G: Gate>(
     ensures held { root.new.seat.me.0.held ≡ root.old.seat.me.0.held }
     ensures pending { IfOk result (λ h. LeadsIn station.now root.new Pending) }
     ensures child { IfOk result (λ h. (h.promise.station.value ≡ station.now) × (h.promise.number ≡ a.value.pass.number)) }
-    ensures cancelled { IfErr result (λ b. LeadsIn station.now root.new Cancelled) }
-    ensures came { IfErr result (λ b. CameAsIn station.now a.value.pass.number b.value) }
+    ensures cancelled { IfErr result (λ e. LeadsIn station.now root.new Cancelled) }
+    ensures came { IfErr result (λ e. CameAsIn station.now a.value.pass.number e.0.value) }
 {
-    if !a.pass.may_start(gate) {
-        root.cancel(station);
-        attend_whole(rt, station, ram, &mut a, goal, gate);
-        return Err(a);
+    match Refusal::ask(gate, &a.pass) {
+        Ok(()) => {}
+        Err(refusal) => {
+            root.cancel(station);
+            attend_whole(&Waiter::of(rt), station, ram, &mut a, goal, gate);
+            return Err((a, refusal));
+        }
     }
     let promise = Attends {
         station: Snapshot::of(station),
@@ -109,14 +115,15 @@ fn start<'s, E, R: Threads + Wait + Sync, G: Gate>(
             ensures { CameAsIn station.entry.now a.value.pass.number result.value }
         {
             let mut a = a;
-            attend_whole(rt, station, ram, &mut a, goal, gate);
+            attend_whole(&Waiter::of(rt), station, ram, &mut a, goal, gate);
             a
         },
     ) {
         Ok(child) => Ok(child),
-        Err(refused) => {
+        Err(failed) => {
+            let refusal = Refusal::of_thread(&failed);
             root.cancel(station);
-            Err((refused.value)())
+            Err(((failed.value)(), refusal))
         }
     }
 }
@@ -167,30 +174,33 @@ fn last(station: &Station, waiting: &mut Vec<Attendee>) -> Option<Attendee>
     waiting.pop()
 }
 
-// The last attendee, in a block that a thread takes without a copy, where there is memory.
+// The last attendee, in a block that a thread takes without a copy.
 fn last_boxed(
     station: &Station,
     alloc: Global,
     waiting: &mut Vec<Attendee>,
-) -> Option<Box<Attendee>>
-    requires { IsQueueIn station.now waiting.old.items }
-    ensures none { IfNone result (waiting.new.items ≡ waiting.old.items) }
-    ensures some { IfSome result (λ a. IsReadyAsIn station.now (length waiting.new.items) a.value) }
-    ensures rest { IfSome result (λ a. OneLessIn station.now waiting.old.items waiting.new.items) }
+) -> Result<Box<Attendee>, Refusal>
+    requires queue { IsQueueIn station.now waiting.old.items }
+    requires waits { 0 < vec_len waiting.old }
+    ensures kept { IfErr result (λ e. waiting.new.items ≡ waiting.old.items) }
+    ensures some { IfOk result (λ a. IsReadyAsIn station.now (length waiting.new.items) a.value) }
+    ensures rest { IfOk result (λ a. OneLessIn station.now waiting.old.items waiting.new.items) }
 {
-    let a = last(station, waiting)?;
-    match Box::new(alloc, a) {
-        Ok(boxed) => Some(boxed),
-        Err(refused) => {
-            waiting.push_reserved(refused.value);
-            None
+    let Some(a) = last(station, waiting) else {
+        unreachable!()
+    };
+    match boxed(alloc, a) {
+        Ok(block) => Ok(block),
+        Err((a, refusal)) => {
+            waiting.push_reserved(a);
+            Err(refusal)
         }
     }
 }
 
 // With the cancel given, all of these leave.
 fn leave_all<R: Wait, G: Gate>(
-    rt: &R,
+    waiter: &Waiter<R>,
     station: &Station,
     ram: &Ram,
     root: &mut Root,
@@ -211,13 +221,14 @@ fn leave_all<R: Wait, G: Gate>(
     let Some(mut a) = last(station, waiting) else {
         return;
     };
-    leave_all(rt, station, ram, root, goal, gate, waiting, done);
-    attend_whole(rt, station, ram, &mut a, goal, gate);
+    leave_all(
+        waiter, station, ram, root, goal, gate, waiting, done,
+    );
+    attend_whole(waiter, station, ram, &mut a, goal, gate);
     finish(station, a, root, done);
 }
 
-// Starts a thread for each of these, gives the go, and takes all back. Where one isn't started it cancels, and
-// the answer is false.
+// Starts a thread for each of these, gives the go, and takes all back. Where one isn't started it cancels.
 fn run_all<'s, E, R: Threads + Wait + Sync, G: Gate>(
     rt: &'s R,
     alloc: Global,
@@ -229,44 +240,53 @@ fn run_all<'s, E, R: Threads + Wait + Sync, G: Gate>(
     gate: &'s G,
     waiting: &mut Vec<Attendee>,
     done: &mut Vec<Cpu>,
-) -> bool
+) -> Result<(), Refusal>
     requires root { LeadsIn station.now root.old Pending }
     requires goal { goal.now ≡ goal_at station.now }
     requires windows { ram.now.windows ≡ windows_at station.now }
     requires waiting { IsQueueIn station.now waiting.old.items }
     requires room { length waiting.old.items ≤ vec_capacity done.old }
     requires empty { done.old.items ≡ [] }
-    ensures returned { ReturnedIn station.now root.new (decided result) (length waiting.old.items) done.new.items }
+    ensures returned { ReturnedIn station.now root.new (decided (is_ok result)) (length waiting.old.items) done.new.items }
     ensures capacity { vec_capacity done.new ≡ vec_capacity done.old }
 {
     if waiting.is_empty() {
         root.go(station);
-        return true;
+        return Ok(());
     }
-    let Some(a) = last_boxed(station, alloc, waiting) else {
-        root.cancel(station);
-        leave_all(rt, station, ram, root, goal, gate, waiting, done);
-        return false;
+    let a = match last_boxed(station, alloc, waiting) {
+        Ok(a) => a,
+        Err(refusal) => {
+            root.cancel(station);
+            let waiter = Waiter::of(rt);
+            leave_all(
+                &waiter, station, ram, root, goal, gate, waiting, done,
+            );
+            return Err(refusal);
+        }
     };
     match start(rt, scope, station, ram, root, a, goal, gate) {
         Ok(child) => {
-            let given = run_all(
+            let outcome = run_all(
                 rt, alloc, scope, station, ram, root, goal, gate, waiting, done,
             );
             finish_boxed(station, child.join(rt), root, done);
-            given
+            outcome
         }
-        Err(a) => {
-            leave_all(rt, station, ram, root, goal, gate, waiting, done);
+        Err((a, refusal)) => {
+            let waiter = Waiter::of(rt);
+            leave_all(
+                &waiter, station, ram, root, goal, gate, waiting, done,
+            );
             finish_boxed(station, a, root, done);
-            false
+            Err(refusal)
         }
     }
 }
 
-// Where the threads have ended: whether the go was given, the root, and the processors.
+// Where the threads have ended: whether the go was given, or what was refused, the root, and the processors.
 struct Ended {
-    given: bool,
+    outcome: Result<(), Refusal>,
     root: Root,
     done: Vec<Cpu>,
 }
@@ -289,7 +309,7 @@ fn meet<R: Threads + Wait + Sync, G: Gate>(
     requires waiting { IsQueueIn station.now waiting.items }
     requires room { length waiting.items ≤ vec_capacity done }
     requires empty { done.items ≡ [] }
-    ensures { ReturnedIn station.now result.root (decided result.given) (length waiting.items) result.done.items }
+    ensures { ReturnedIn station.now result.root (decided (is_ok result.outcome)) (length waiting.items) result.done.items }
 {
     thread::scope(
         thread::scope_env(),
@@ -299,9 +319,9 @@ fn meet<R: Threads + Wait + Sync, G: Gate>(
             requires same { AreOf (start_at station.now) goal.now ram.now.windows }
             requires waiting { IsQueueIn station.now waiting.items }
             requires room { (length waiting.items ≤ vec_capacity done) × (done.items ≡ []) }
-            ensures { ReturnedIn station.entry.now result.root (decided result.given) (length waiting.items) result.done.items }
+            ensures { ReturnedIn station.entry.now result.root (decided (is_ok result.outcome)) (length waiting.items) result.done.items }
         {
-            let given = run_all(
+            let outcome = run_all(
                 rt,
                 alloc,
                 scope,
@@ -313,14 +333,19 @@ fn meet<R: Threads + Wait + Sync, G: Gate>(
                 &mut waiting,
                 &mut done,
             );
-            Ended { given, root, done }
+            Ended {
+                outcome,
+                root,
+                done,
+            }
         },
     )
 }
 
-// The processors, and whether the update is done. If not, they run and nothing else has changed.
+// The processors, and whether the update is done, or what was refused. If it isn't done, they run and nothing else has
+// changed.
 struct Led {
-    given: bool,
+    outcome: Result<(), Refusal>,
     cpus: Vec<Cpu>,
 }
 
@@ -343,12 +368,15 @@ fn leave_each(cpus: &mut [Cpu])
 }
 
 // Without memory for the threads all leave.
-fn run_again(mut cpus: Vec<Cpu>) -> Led
+fn run_again(mut cpus: Vec<Cpu>, refusal: Refusal) -> Led
     requires { All (λ c. c.phase ≡ Taken) cpus.items }
-    ensures { (result.given ≡ false) × (result.cpus.items ≡ map running cpus.items) }
+    ensures { (is_ok result.outcome ≡ false) × (result.cpus.items ≡ map running cpus.items) }
 {
     leave_each(cpus.as_mut_slice());
-    Led { given: false, cpus }
+    Led {
+        outcome: Err(refusal),
+        cpus,
+    }
 }
 
 // Leads taken processors through the update, on a thread each.
@@ -363,29 +391,38 @@ fn lead_on_threads<R: Threads + Wait + Sync, G: Gate>(
     requires some { 0 < vec_len cpus }
     requires few { vec_len cpus ≤ 16 }
     requires begins { Begins (gathered cpus.items ram.old goal.now) }
-    ensures left { system result.cpus.items ram.new ≡ left_by result.given (system cpus.items ram.old) goal.now }
+    ensures left { system result.cpus.items ram.new ≡ left_by (is_ok result.outcome) (system cpus.items ram.old) goal.now }
     ensures count { length result.cpus.items ≡ length cpus.items }
 {
-    let Ok(done) = Vec::with_capacity(alloc, cpus.len()) else {
-        return run_again(cpus);
+    let done = match room(alloc, &cpus) {
+        Ok(done) => done,
+        Err(refusal) => return run_again(cpus, refusal),
     };
-    match Station::gather(alloc, cpus, ram, goal) {
+    match gather_station(alloc, cpus, ram, goal) {
         Ok((station, root, waiting)) => {
-            let Ended { given, root, done } = meet(
+            let Ended {
+                outcome,
+                root,
+                done,
+            } = meet(
                 rt, alloc, &station, ram, root, goal, gate, waiting, done,
             );
             disband(station, root, ram);
-            Led { given, cpus: done }
+            Led {
+                outcome,
+                cpus: done,
+            }
         }
-        Err(cpus) => run_again(cpus),
+        Err((cpus, refusal)) => run_again(cpus, refusal),
     }
 }
 
-// The update by the calls of a core.
-fn lead_alone(system: System, goal: &RegFile) -> Core
+// The update by the calls of a core, which a refusal alone allows.
+fn lead_alone(refusal: Refusal, system: System, goal: &RegFile) -> Core
     requires { CanUpdate system goal.now }
     ensures { result ≡ updated system [] goal.now }
 {
+    refusal.spend();
     let mut core = Core::new(system);
     let Ok(()) = core.call(goal.same()) else {
         unreachable!()
@@ -457,13 +494,12 @@ fn finished<R: Threads + Wait + Sync, G: Gate>(
         mut tables,
         holders,
     } = system;
-    let Led { given, cpus } = lead_on_threads(rt, alloc, cpus, &mut ram, goal, gate);
-    renew_tables(&mut tables, given, kinds);
+    let Led { outcome, cpus } = lead_on_threads(rt, alloc, cpus, &mut ram, goal, gate);
+    renew_tables(&mut tables, outcome.is_ok(), kinds);
     let system = put_together(cpus, ram, tables, holders);
-    if given {
-        at_rest(system)
-    } else {
-        lead_alone(system, goal)
+    match outcome {
+        Ok(()) => at_rest(system),
+        Err(refusal) => lead_alone(refusal, system, goal),
     }
 }
 

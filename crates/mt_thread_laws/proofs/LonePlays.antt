@@ -21,7 +21,7 @@ arrives = (
   (λ below. (
     refl,
     one_held (λ h. PassSteps lone 0 0 1 (Some (Steps h.number Arrive)) h (arrive lone h)) new
-        (record { all = new ∷ []; go = Pending; words = 0 ∷ 0 ∷ 0 ∷ zeros; led = led_start; at = refl; word = refl; enabled = refl; becomes = refl }),
+        (record { all = new ∷ []; go = Pending; words = 0 ∷ 0 ∷ 0 ∷ zeros; led = led_start; at = refl; first = refl; second = refl; word = refl; enabled = refl; becomes = refl }),
   )),
   (λ above. absurd (omega (arith, above))),
 )
@@ -32,7 +32,7 @@ passes = (
   (λ full. (
     refl,
     one_held (λ h. PassSteps lone 0 2 2 (Some (Steps h.number Pass)) h (does lone Pass h)) come
-        (record { all = come ∷ []; go = Given; words = 2 ∷ 0 ∷ 0 ∷ zeros; led = led_by 2; at = refl; word = refl; enabled = refl; becomes = refl }),
+        (record { all = come ∷ []; go = Given; words = 2 ∷ 0 ∷ 0 ∷ zeros; led = led_by 2; at = refl; first = refl; second = refl; word = refl; enabled = refl; becomes = refl }),
     one_held (λ h. (h.cpu.phase ≡ Arrived) × Stands lone Given h.number (does lone Pass h).cpu) come (refl, record { machine = _; led = led_by 3; order = refl; at = refl }),
   )),
   (λ above. absurd (omega (arith, above))),
@@ -44,7 +44,7 @@ works = (
   refl,
   refl,
   one_held (λ h. (was : ℕ) × PassSteps lone 2 was 1 (Some (Steps h.number (own_event lone h.cpu))) h (work lone h)) gone
-      (0, record { all = gone ∷ []; go = Given; words = 2 ∷ 0 ∷ 0 ∷ zeros; led = led_by 3; at = refl; word = refl; enabled = refl; becomes = refl }),
+      (0, record { all = gone ∷ []; go = Given; words = 2 ∷ 0 ∷ 0 ∷ zeros; led = led_by 3; at = refl; first = refl; second = refl; word = refl; enabled = refl; becomes = refl }),
   one_held (λ h. Stands lone Given h.number (work lone h).cpu) gone (record { machine = _; led = led_by 4; order = refl; at = refl }),
 )
 
@@ -53,7 +53,7 @@ arrives_again = (
   refl,
   refl,
   one_held (λ h. PassSteps lone 1 0 1 (Some (Steps h.number ArriveAgain)) h (arrive_again lone h)) back
-      (record { all = back ∷ []; go = Given; words = 2 ∷ 0 ∷ 8 ∷ both_written; led = led_by 15; at = refl; word = refl; enabled = refl; becomes = refl }),
+      (record { all = back ∷ []; go = Given; words = 2 ∷ 0 ∷ 8 ∷ both_written; led = led_by 15; at = refl; first = refl; second = refl; word = refl; enabled = refl; becomes = refl }),
 )
 
 pub releases : Releases (step 0 1 0 0 none) (sits lone again) 1 (bare (pass_of lone (Some 1) free))
@@ -63,7 +63,7 @@ releases = (
   (λ full. (
     refl,
     one_held (λ h. PassSteps lone 1 1 1 (Some (Steps h.number Release)) h (does lone Release h)) again
-        (record { all = again ∷ []; go = Given; words = 2 ∷ 1 ∷ 8 ∷ both_written; led = led_by 16; at = refl; word = refl; enabled = refl; becomes = refl }),
+        (record { all = again ∷ []; go = Given; words = 2 ∷ 1 ∷ 8 ∷ both_written; led = led_by 16; at = refl; first = refl; second = refl; word = refl; enabled = refl; becomes = refl }),
     one_held (λ h. h.cpu.era ≡ common_era lone.cpus) again refl,
   )),
   (λ other. absurd (other refl)),

@@ -14,10 +14,10 @@ use Rattle.mt_thread_laws.proofs.WorkedStart.{begins_start}
 use Rattle.mt_thread_laws.proofs.station_worked_laws.worked_laws_of_the_root.Goals as goal
 
 goes : Decided start 0 0 1 Goes Given
-goes = record { all = both_taken; words = words_of 0 0; led = led_start; word = refl; enabled = refl; becomes = refl }
+goes = record { all = both_taken; words = words_of 0 0; led = led_start; first = refl; second = refl; word = refl; enabled = refl; becomes = refl }
 
 cancels : Decided start 0 0 0x100000000 CancelsUpdate Cancelled
-cancels = record { all = both_taken; words = words_of 0 0; led = led_start; word = refl; enabled = refl; becomes = refl }
+cancels = record { all = both_taken; words = words_of 0 0; led = led_start; first = refl; second = refl; word = refl; enabled = refl; becomes = refl }
 
 pub returns-clause-split : goal.returns-clause-split
 returns-clause-split c = λ law key is. (

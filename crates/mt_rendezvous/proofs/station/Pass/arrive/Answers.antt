@@ -41,3 +41,9 @@ returns-then-found-lt-CANCEL-clause-begins c = subst Begins c.requires.carries.t
 
 pub returns-clause-begins : goal.returns-clause-begins
 returns-clause-begins c = subst Begins c.requires.carries.told (c.fetch_add-found.ensures.2.1 c.args.self.now.no_root).1.1
+
+-- the pass has added by then
+pub of-requires : goal.of-requires
+of-requires c =
+    let moves = ((c.fetch_add-found.ensures.2.1 c.args.self.now.no_root).1.3 c.if-found-lt-CANCEL.true).0 in
+    (_, ap (λ (v : View). v.held) moves ∙ ap (map (arrive c.args.self.now.seat.me.0.start)) c.requires.carries.holds, refl)

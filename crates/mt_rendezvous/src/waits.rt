@@ -1,0 +1,91 @@
+// The two waits of a pass. What it does before, between and behind them is done by functions that can't wait, so it is
+// proved to end.
+ghost use Rattle.std.specs.Prelude.{◌≡◌, ◌+◌, true, Some};
+ghost use Rattle.mt_machine.specs.declared.phase.Phase.TheVariants.{Arrived2};
+ghost use Rattle.mt_machine.specs.declared.event.Event.TheVariants.{Release};
+ghost use Rattle.mt_machine.specs.Machine.{common_era};
+ghost use Rattle.mt_rendezvous.specs.Station.{Begins};
+ghost use Rattle.mt_rendezvous.specs.Plays.{IsWaiting, Took};
+ghost use Rattle.mt_rendezvous.specs.Calls.{Waited};
+
+use crate::station::{CANCEL, Pass, Station};
+use crate::view::Turn;
+use mt_cpu::Cpu;
+use mt_machine::Event;
+use std::sync::Wait;
+use std::thread;
+
+// What the two waits wait with. Only this module can take it out, so a function that has a waiter alone has no loop
+// without end but by them.
+#[derive(Drop)]
+pub(crate) struct Waiter<'a, R> {
+    rt: &'a R,
+}
+
+impl<'a, R> Waiter<'a, R> {
+    pub(crate) fn of(rt: &'a R) -> Waiter<'a, R> {
+        Waiter { rt }
+    }
+}
+
+impl Pass {
+    ghost use Rattle.mt_rendezvous.specs.InStation.{CarriesIn, start_at};
+
+    // Waits for the others. The load of word 0 that ends it is the event Pass, and the answer is true, or Leave.
+    // Each load before it is none.
+    pub(crate) fn wait_first<R: Wait>(
+        &mut self,
+        waiter: &Waiter<R>,
+        station: &Station,
+        cpu: &mut Cpu,
+    ) -> bool
+        requires carries { CarriesIn station.now self.old cpu.old true false }
+        requires waits { IsWaiting cpu.old.phase }
+        ensures number { self.new.number ≡ self.old.number }
+        ensures carries { CarriesIn station.now self.new cpu.new true false }
+        ensures shown { self.new.shown ≡ self.old.shown }
+        ensures waited { Waited result (start_at station.now) self.new.number cpu.old cpu.new }
+    {
+        for _ in waiter.rt.forever() {
+            let found = station.table.shared.load::<Turn>(&mut self.seat, 0);
+            if found >= CANCEL {
+                cpu.shift(Event::Leave);
+                return false;
+            }
+            if found == station.count + 1 {
+                cpu.shift(Event::Pass);
+                return true;
+            }
+            thread::yield_now();
+        }
+        unreachable!()
+    }
+
+    // Waits for the others again. The load of word 1 that ends it is the event Release. Each load before it is none.
+    pub(crate) fn wait_second<R: Wait>(
+        &mut self,
+        waiter: &Waiter<R>,
+        station: &Station,
+        cpu: &mut Cpu,
+    )
+        requires carries { CarriesIn station.now self.old cpu.old true true }
+        requires waits { cpu.old.phase ≡ Arrived2 }
+        requires begins { Begins (start_at station.now) }
+        ensures number { self.new.number ≡ self.old.number }
+        ensures carries { CarriesIn station.now self.new cpu.new true true }
+        ensures shown { self.new.seat.me.0.shown ≡ Some station.now.count }
+        ensures took { Took (start_at station.now) self.new.number Release cpu.old cpu.new }
+        ensures risen { cpu.new.era ≡ common_era (start_at station.now).cpus + 1 }
+    {
+        for _ in waiter.rt.forever() {
+            let found = station.table.shared.load::<Turn>(&mut self.seat, 1);
+            self.shown = Some(found as u32);
+            if found == station.count {
+                cpu.shift(Event::Release);
+                return;
+            }
+            thread::yield_now();
+        }
+        unreachable!()
+    }
+}
