@@ -1,6 +1,9 @@
 -- A run of `proc` between two lines, as its code keeps it (own).
-use Rattle.std.specs.Prelude.{ℕ, ◌≡◌, ◌≤◌, ◌<◌, ◌-◌, ◌^◌, List, [], length, ⊤, Option, None}
+use Rattle.std.specs.Prelude.{ℕ, ◌≡◌, ◌≤◌, ◌<◌, ◌-◌, ◌^◌, List, [], length, ⊤, Option, None, Some, Result, MatchOption, MatchResult}
 use Rattle.mt_text.specs.declared.place.Place.{Place}
+use Rattle.mt_ports.specs.declared.status.Failed.{Failed}
+use Rattle.mt_ports.specs.declared.status.Status.{Status}
+use Rattle.mt_ports.specs.declared.status.Status.TheVariants.{NoMemory}
 use Rattle.mt_regs.specs.Agreement.{first_refusal}
 use Rattle.mt_dump.specs.Dumps.{Dump}
 use Rattle.mt_dump.specs.Reader.{HasRead}
@@ -11,7 +14,15 @@ use Rattle.mt_stream.specs.Told.{Told, told_step}
 use Rattle.mt_proc.specs.declared.running.Run.{Run}
 use Rattle.mt_proc.specs.declared.running.Run.TheVariants as run
 use Rattle.mt_proc.specs.Proc.{Answer, Point, from_point, in_dump, in_requests, proc_end, situation_of}
-use Rattle.mt_proc.specs.Serving.{served}
+use Rattle.mt_proc.specs.Serving.{Serves, served}
+
+-- P of the bytes that a source holds, if it tells them
+abbrev pub IfKnown : Option (List ℕ) → (List ℕ → Type 0) → Type 0
+IfKnown held P = (bytes : List ℕ) → held ≡ Some bytes → P bytes
+
+-- P, if the run goes on behind a line
+abbrev pub IfGoesOn : Result (Option Status) Failed → Type 0 → Type 0
+IfGoesOn result P = MatchResult result (λ ended. MatchOption ended P (λ _. Unit {0})) (λ _. Unit {0})
 
 -- the run stands at this point
 abbrev pub IsAt : Run → Point → Type 0
@@ -34,13 +45,13 @@ IsQuiet (run.Requests m) text = ⊤
 abbrev pub path_from : ℕ → Point → Path
 path_from cpus p = early_at [] (from_point cpus p)
 
--- no processor is left out
-abbrev pub HasEach : ℕ → Run → Type 0
-HasEach cpus (run.Dump reader) = ⊤
-HasEach cpus (run.Requests m) = length m.system.processors ≡ cpus
+-- No processor is left out, each runs and holds nothing, and all have done as many updates. They have one file once a request was carried out.
+abbrev pub AllServe : ℕ → Run → Type 0
+AllServe cpus (run.Dump reader) = ⊤
+AllServe cpus (run.Requests m) = (length m.system.processors ≡ cpus) × Serves m
 
 abbrev pub StandsAt : ℕ → Run → List ℕ → Path → Type 0
-StandsAt cpus now so_far was = (p : Point) × IsAt now p × IsQuiet now so_far × (was ≡ path_from cpus p) × HasEach cpus now
+StandsAt cpus now so_far was = (p : Point) × IsAt now p × IsQuiet now so_far × (was ≡ path_from cpus p) × AllServe cpus now
 
 abbrev pub proc_running : ℕ → Running
 proc_running cpus = record { Run = Run; At = StandsAt cpus; ends = end_of_run }
@@ -72,6 +83,10 @@ AsksAt cpus (in_requests now) number line = ⊥
 -- Memory was refused at that line.
 abbrev pub OutOfMemoryAtLine : ℕ → List ℕ → Option (List ℕ) → Option (List ℕ) → Option (List ℕ) → Type 0
 OutOfMemoryAtLine cpus bytes left before after = RefusedAtLine (from_point cpus) (in_dump []) (AsksAt cpus) bytes left before after
+
+-- the same, if the run's status is that memory was refused
+abbrev pub RefusedInLines : ℕ → List ℕ → Option (List ℕ) → Option (List ℕ) → Option (List ℕ) → Status → Type 0
+RefusedInLines cpus bytes left before after status = status ≡ NoMemory → OutOfMemoryAtLine cpus bytes left before after
 
 -- or before anything was read
 abbrev pub OutOfMemory : ℕ → List ℕ → Option (List ℕ) → Option (List ℕ) → Option (List ℕ) → Type 0

@@ -148,6 +148,7 @@ impl Processors {
         requires { (served self.old).count < 2 ^ 64 - 1 }
         ensures text { result.items ≡ answer_text (served self.old) request.now }
         ensures changed { self.new ≡ changed self.old (applied (served self.old).file request.now) }
+        ensures serves { Serves self.new }
     {
         match apply(self.file(), request) {
             Applied::Goal(goal, n) => match update(rt, alloc, &mut self.core, goal, gate) {
@@ -177,6 +178,7 @@ impl Processors {
         ensures unchanged { (asked (served self.old) request.now).count ≡ (served self.old).count → self.new ≡ self.old }
         ensures stands { (served self.old).count < (asked (served self.old) request.now).count → self.new ≡ standing (length self.old.system.processors) (asked (served self.old) request.now) }
         ensures each { length self.new.system.processors ≡ length self.old.system.processors }
+        ensures serves { Serves self.new }
         ensures settled { (served self.old).count < (asked (served self.old) request.now).count
             → IsSettled self.new.system (asked (served self.old) request.now).count (asked (served self.old) request.now).file }
     {

@@ -1,4 +1,4 @@
-ghost use Rattle.std.specs.Prelude.{◌≡◌, ◌≢◌, ◌≤◌, ◌<◌, ◌+◌, ◌-◌, ◌^◌, ◌↔◌, ◌⊎◌, ℕ, List, [], true, length, MatchOption, MatchResult, None, Ok, Some};
+ghost use Rattle.std.specs.Prelude.{◌≡◌, ◌≢◌, ◌≤◌, ◌<◌, ◌+◌, ◌-◌, ◌^◌, ◌↔◌, ◌⊎◌, ℕ, List, [], true, length, None, Ok, Some};
 ghost use Rattle.mt_text.specs.Feed.{GaveTooMuch};
 ghost use Rattle.mt_ports.specs.Causes.{HasCause, StatusHasCause};
 ghost use Rattle.mt_output.specs.Lines.{bad_text};
@@ -14,7 +14,8 @@ ghost use Rattle.mt_proc.specs.Courses.{TellsOfMachines};
 ghost use Rattle.mt_proc.specs.Listing.{listing};
 ghost use Rattle.mt_proc.specs.Proc.{Point, begins, no_end, of_request, proc_told, proc_transcript, reason_text, request_fault_line};
 ghost use Rattle.mt_proc.specs.Requests.{request_of};
-ghost use Rattle.mt_proc.specs.Running.{AsksAt, HasCount, HasRoom, IsAt, IsDump, LeadsBy, OutOfMemory, OutOfMemoryAtLine, StandsAt, end_of_run, proc_running};
+ghost use Rattle.mt_proc.specs.Running.{AllServe, AsksAt, HasCount, HasRoom, IfGoesOn, IfKnown, IsAt, IsDump, LeadsBy};
+ghost use Rattle.mt_proc.specs.Running.{OutOfMemory, RefusedInLines, StandsAt, end_of_run, proc_running};
 ghost use Rattle.mt_proc.specs.Serving.{idling, served};
 
 use crate::listing::line_of;
@@ -76,7 +77,7 @@ fn begin<K: Sink>(
     ensures asks { result ≡ Ok (Some Status.NoMemory) → first_refusal dump.now.files ≡ None }
     ensures starts { (m : Machine) → run.new ≡ Run.Requests m → m ≡ idling (files_for cpus dump.now) 0 }
     ensures ending { (status : Status) → result ≡ Ok (Some status) → IsEnding status }
-    ensures counts { (most : ℕ) → MatchResult result (λ ended. MatchOption ended (HasCount most run.new) (λ _. Unit {0})) (λ _. Unit {0}) }
+    ensures counts { (most : ℕ) → IfGoesOn result (HasCount most run.new) }
     ensures cause { HasCause (K.faults sink.old) (K.faults sink.new) result }
 {
     dump.is_dump(); // a fact for the proof
@@ -103,12 +104,12 @@ fn take_request<R: Threads + Wait + Sync, K: Sink, G: Gate>(
     gate: &G,
 ) -> Result<Option<Status>, Failed>
     requires { (served processors.old).count < 2 ^ 64 - 1 }
-    ensures bytes { (cpus : ℕ) (from : Leading) (number : ℕ) (so_far : List ℕ) → length processors.old.system.processors ≡ cpus →
+    ensures bytes { (cpus : ℕ) (from : Leading) (number : ℕ) (so_far : List ℕ) → AllServe cpus (Run.Requests processors.old) →
         LeadsBy cpus from (of_request (served processors.old) (request_of line.now.number line.now.bytes.now)) number
         → Takes (proc_running cpus) from number so_far (Run.Requests processors.new) writer.old writer.new (K.taken sink.old) (K.taken sink.new) result }
     ensures asks { result ≢ Ok (Some Status.NoMemory) }
     ensures ending { (status : Status) → result ≡ Ok (Some status) → IsEnding status }
-    ensures counts { (most : ℕ) → (served processors.old).count ≤ most → MatchResult result (λ ended. MatchOption ended ((served processors.new).count ≤ most + 1) (λ _. Unit {0})) (λ _. Unit {0}) }
+    ensures counts { (most : ℕ) → (served processors.old).count ≤ most → IfGoesOn result ((served processors.new).count ≤ most + 1) }
     ensures cause { HasCause (K.faults sink.old) (K.faults sink.new) result }
 {
     match read_request(line) {
@@ -147,7 +148,7 @@ fn take_line<R: Threads + Wait + Sync, K: Sink, G: Gate>(
         Takes (proc_running cpus) (from_line line.now.number line.now.bytes.now was) (line.now.number + 1) so_far run.new writer.old writer.new (K.taken sink.old) (K.taken sink.new) result }
     ensures asks { (p : Point) → IsAt run.old p → result ≡ Ok (Some Status.NoMemory) → AsksAt cpus p line.now.number line.now.bytes.now }
     ensures ending { (status : Status) → result ≡ Ok (Some status) → IsEnding status }
-    ensures counts { (most : ℕ) → HasCount most run.old → MatchResult result (λ ended. MatchOption ended (HasCount (most + 1) run.new) (λ _. Unit {0})) (λ _. Unit {0}) }
+    ensures counts { (most : ℕ) → HasCount most run.old → IfGoesOn result (HasCount (most + 1) run.new) }
     ensures cause { HasCause (K.faults sink.old) (K.faults sink.new) result }
 {
     let reader = match run {
@@ -243,8 +244,8 @@ fn run_lines<R: Threads + Wait + Sync, S: Source, K: Sink, G: Gate>(
     requires waiting { writer.old ≡ [] }
     requires some { 0 < cpus }
     requires few { cpus ≤ 16 }
-    ensures bytes { (bytes : List ℕ) → S.left source.old ≡ Some bytes → Runs (proc_told cpus) [] bytes (S.left source.new) (K.taken sink.old) (K.taken sink.new) result }
-    ensures memory { (bytes : List ℕ) → S.left source.old ≡ Some bytes → result ≡ Status.NoMemory → OutOfMemoryAtLine cpus bytes (S.left source.new) (K.taken sink.old) (K.taken sink.new) }
+    ensures bytes { IfKnown (S.left source.old) (λ bytes. Runs (proc_told cpus) [] bytes (S.left source.new) (K.taken sink.old) (K.taken sink.new) result) }
+    ensures memory { IfKnown (S.left source.old) (λ bytes. RefusedInLines cpus bytes (S.left source.new) (K.taken sink.old) (K.taken sink.new) result) }
     ensures read_fault { StatusHasCause Status.ReadFault (S.faults source.old) (S.faults source.new) result }
     ensures write_fault { StatusHasCause Status.WriteFault (K.faults sink.old) (K.faults sink.new) result }
     ensures too_long { (result ≡ Status.TooLong) ↔ GaveTooMuch (S.given source.old) (S.given source.new) }

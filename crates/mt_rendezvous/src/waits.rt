@@ -1,6 +1,6 @@
 // The two waits of a pass. What it does before, between and behind them is done by functions that can't wait, so it is
 // proved to end.
-ghost use Rattle.std.specs.Prelude.{◌≡◌, ◌+◌, true, Some};
+ghost use Rattle.std.specs.Prelude.{◌≡◌, ◌+◌, true, false, Some};
 ghost use Rattle.mt_machine.specs.declared.phase.Phase.TheVariants.{Arrived2};
 ghost use Rattle.mt_machine.specs.declared.event.Event.TheVariants.{Release};
 ghost use Rattle.mt_machine.specs.Machine.{common_era};

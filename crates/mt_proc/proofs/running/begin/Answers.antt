@@ -13,11 +13,11 @@ use Rattle.mt_proc.specs.After.{at_first}
 use Rattle.mt_proc.specs.Proc.{begins, in_requests}
 use Rattle.mt_machine.specs.Machine.{Machine}
 use Rattle.mt_proc.specs.Running.{IsDump}
-use Rattle.mt_proc.specs.Serving.{idle, idling, served}
+use Rattle.mt_proc.specs.Serving.{Serves, idle, idling, served}
 use Rattle.mt_proc.specs.declared.running.Run.{Run}
 use Rattle.mt_proc.specs.declared.running.Run.TheVariants as run
 use Rattle.mt_proc.proofs.Beginning.{each_accepted, first_for}
-use Rattle.mt_proc.proofs.Served.{served_idling}
+use Rattle.mt_proc.proofs.Served.{served_idling, serves_idling}
 use Rattle.mt_proc.proofs.Taking.{ends, goes, leads_as}
 use Rattle.mt_proc.proofs.running.begin.Goals as goal
 
@@ -48,8 +48,11 @@ returns-clause-bytes g c = λ from number leads.
     let at : served c.in-Ok.processors ≡ at_first (first_file dump) =
     ap served c.in-Ok.ensures ∙ served_idling c.as_slice-2.result.now 0 (omega (arith, count, c.requires.some)) ∙ ap at_first first in
     let each : length c.in-Ok.processors.system.processors ≡ c.args.cpus = ap (λ (m : Machine). length m.system.processors) c.in-Ok.ensures ∙ length-map c.as_slice-2.result.now (idle 0) ∙ count in
+    let start = subst AreStartFiles (sym c.as_slice-2.ensures.value) (c.files_for-files.ensures.start (each_accepted dump.files none)) in
+    let serves : Serves c.in-Ok.processors =
+    subst Serves (sym c.in-Ok.ensures) (serves_idling c.as_slice-2.result.now (omega (arith, count, c.requires.some)) (omega (arith, count, c.requires.few)) start) in
     goes c.args.cpus from number [] (run.Requests c.in-Ok.processors) c.args.writer.now c.args.writer.now (g.K.Sink.taken c.args.sink.now) (g.K.Sink.taken c.args.sink.now) [] (in_requests (at_first (first_file dump)))
-    (leads_as c.args.cpus from number (begins dump (first_refusal dump.files)) (begins dump None) (ap (begins dump) none) leads) at tt each
+    (leads_as c.args.cpus from number (begins dump (first_refusal dump.files)) (begins dump None) (ap (begins dump) none) leads) at tt (each, serves)
     (passes_nothing c.args.writer.now (g.K.Sink.taken c.args.sink.now))
 
 -- the run is in the dump still

@@ -7,7 +7,7 @@ use Rattle.mt_regs.specs.Agreement.{first_refusal}
 use Rattle.mt_script.specs.Head.{goes_on, offends}
 use Rattle.mt_stream.specs.Lines.{GoesOn, Path, Takes, from_line}
 use Rattle.mt_proc.specs.Proc.{Point, begins, in_dump, in_requests, of_head, proc_step, situation_of}
-use Rattle.mt_proc.specs.Running.{AsksAt, HasEach, IsQuiet, path_from, proc_running}
+use Rattle.mt_proc.specs.Running.{AllServe, AsksAt, IsQuiet, path_from, proc_running}
 use Rattle.mt_proc.specs.Serving.{served}
 use Rattle.mt_proc.specs.declared.running.Run.{Run}
 use Rattle.mt_proc.specs.declared.running.Run.TheVariants as run
@@ -72,11 +72,11 @@ returns-in-Requests-clause-bytes g c = λ so_far was stands.
     let number = c.args.line.now.number in
     let line = c.args.line.now.bytes.now in
     let is : was ≡ path_from c.args.cpus (in_requests (served m)) = from ∙ ap (path_from c.args.cpus) (in_the_requests c.args.run.now m p c.in-Requests.is at) in
-    let many : length m.system.processors ≡ c.args.cpus = subst (HasEach c.args.cpus) c.in-Requests.is each in
+    let serve : AllServe c.args.cpus (run.Requests m) = subst (AllServe c.args.cpus) c.in-Requests.is each in
     subst
     (λ (q : Path). Takes (proc_running c.args.cpus) (from_line number line q) (number + 1) so_far (run.Requests c.take_request.new.processors) c.args.writer.now c.take_request.new.writer (g.K.Sink.taken c.args.sink.now) (g.K.Sink.taken c.take_request.new.sink) c.take_request.result)
     (sym is)
-    (c.take_request.ensures.bytes c.args.cpus (from_line number line (path_from c.args.cpus (in_requests (served m)))) (number + 1) so_far many (leads_by c.args.cpus (in_requests (served m)) number line))
+    (c.take_request.ensures.bytes c.args.cpus (from_line number line (path_from c.args.cpus (in_requests (served m)))) (number + 1) so_far serve (leads_by c.args.cpus (in_requests (served m)) number line))
 
 pub returns-in-Requests-clause-asks : goal.returns-in-Requests-clause-asks
 returns-in-Requests-clause-asks g c = λ p at wants. absurd (c.take_request.ensures.asks wants)

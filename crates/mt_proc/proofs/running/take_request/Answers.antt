@@ -27,7 +27,7 @@ returns-in-Ok-clause-bytes g c = λ cpus from number so_far each leads.
     goes cpus from number so_far (run.Requests c.ask-answer.new.self) c.args.writer.now c.write.new.self (g.K.Sink.taken c.args.sink.now) (g.K.Sink.taken c.write.new.sink)
     (answer_text now c.in-Ok-Some.request) (in_requests (asked now c.in-Ok-Some.request))
     (leads_as cpus from number (of_request now (request_of c.args.line.now.number c.args.line.now.bytes.now)) (of_request now (Ok (Some c.in-Ok-Some.request))) (ap (of_request now) (sym is)) leads)
-    c.ask-answer.ensures.served tt (c.ask-answer.ensures.each ∙ each)
+    c.ask-answer.ensures.served tt (c.ask-answer.ensures.each ∙ each.0, c.ask-answer.ensures.serves)
     (subst (λ l. Passes c.args.writer.now l c.write.new.self (g.K.Sink.taken c.args.sink.now) (g.K.Sink.taken c.write.new.sink)) text c.in-Ok.ensures.bytes)
 
 pub returns-in-Err-write-clause-bytes : goal.returns-in-Err-write-clause-bytes
