@@ -1,4 +1,4 @@
-use Rattle.std.proofs.Common.{true, false, subst, sym, ap, ◌∙◌, inr, arith}
+use Rattle.std.proofs.Common.{true, false, map, refl, subst, sym, ap, ◌∙◌, inr, arith}
 use Rattle.mt_machine.specs.declared.phase.Phase.{Phase}
 use Rattle.mt_machine.specs.System.{Processor}
 use Rattle.mt_rendezvous.specs.declared.view.View.{View}
@@ -46,4 +46,4 @@ returns-clause-begins c = subst Begins c.requires.carries.told (c.fetch_add-foun
 pub of-requires : goal.of-requires
 of-requires c =
     let moves = ((c.fetch_add-found.ensures.2.1 c.args.self.now.no_root).1.3 c.if-found-lt-CANCEL.true).0 in
-    (_, ap (λ (v : View). v.held) moves ∙ ap (map (arrive c.args.self.now.seat.me.0.start)) c.requires.carries.holds, refl)
+    record { added = (_, ap (λ (v : View). v.held) moves ∙ ap (map (arrive c.args.self.now.seat.me.0.start)) c.requires.carries.holds, refl) }
