@@ -221,9 +221,7 @@ fn leave_all<R: Wait, G: Gate>(
     let Some(mut a) = last(station, waiting) else {
         return;
     };
-    leave_all(
-        waiter, station, ram, root, goal, gate, waiting, done,
-    );
+    leave_all(waiter, station, ram, root, goal, gate, waiting, done);
     attend_whole(waiter, station, ram, &mut a, goal, gate);
     finish(station, a, root, done);
 }
@@ -259,9 +257,7 @@ fn run_all<'s, E, R: Threads + Wait + Sync, G: Gate>(
         Err(refusal) => {
             root.cancel(station);
             let waiter = Waiter::of(rt);
-            leave_all(
-                &waiter, station, ram, root, goal, gate, waiting, done,
-            );
+            leave_all(&waiter, station, ram, root, goal, gate, waiting, done);
             return Err(refusal);
         }
     };
@@ -275,9 +271,7 @@ fn run_all<'s, E, R: Threads + Wait + Sync, G: Gate>(
         }
         Err((a, refusal)) => {
             let waiter = Waiter::of(rt);
-            leave_all(
-                &waiter, station, ram, root, goal, gate, waiting, done,
-            );
+            leave_all(&waiter, station, ram, root, goal, gate, waiting, done);
             finish_boxed(station, a, root, done);
             Err(refusal)
         }
@@ -404,9 +398,7 @@ fn lead_on_threads<R: Threads + Wait + Sync, G: Gate>(
                 outcome,
                 root,
                 done,
-            } = meet(
-                rt, alloc, &station, ram, root, goal, gate, waiting, done,
-            );
+            } = meet(rt, alloc, &station, ram, root, goal, gate, waiting, done);
             disband(station, root, ram);
             Led {
                 outcome,
