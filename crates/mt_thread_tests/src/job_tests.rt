@@ -214,7 +214,8 @@ fn each_refused_start_ends_so_too(rt: HostRuntime) {
 fn a_common_page_is_named(rt: HostRuntime) {
     let mut core = some(&rt, common_core(rt.alloc()));
     holds(&rt, shared_page(&core) == Some(0x100));
-    holds(&rt, is_refused(&rt, rt.alloc(), &mut core, 4, PrivateFault::Shared(0x100)));
+    let shared = PrivateFault::Shared(0x100);
+    holds(&rt, is_refused(&rt, rt.alloc(), &mut core, 4, shared));
 }
 
 #[test]
@@ -350,7 +351,8 @@ fn jobs_end_alike<R: Threads + Wait + Sync, G: Gate>(
 #[test]
 fn many_accesses_end_as_one_by_one(rt: HostRuntime) {
     for round in 0..50 {
-        succeeds_at(&rt, round, jobs_end_alike(&rt, rt.alloc(), 16, 6, round, &OpenGate));
+        let alike = jobs_end_alike(&rt, rt.alloc(), 16, 6, round, &OpenGate);
+        succeeds_at(&rt, round, alike);
     }
 }
 
@@ -358,7 +360,8 @@ fn many_accesses_end_as_one_by_one(rt: HostRuntime) {
 fn refused_starts_end_as_one_by_one(rt: HostRuntime) {
     for k in 0..16 {
         let gate = AllBut::new(k);
-        succeeds_at(&rt, k as u64, jobs_end_alike(&rt, rt.alloc(), 16, 6, k as u64, &gate));
+        let alike = jobs_end_alike(&rt, rt.alloc(), 16, 6, k as u64, &gate);
+        succeeds_at(&rt, k as u64, alike);
         holds_at(&rt, k as u64, stops_at(&gate, k, 16));
     }
 }
@@ -366,7 +369,8 @@ fn refused_starts_end_as_one_by_one(rt: HostRuntime) {
 #[test]
 fn buffered_accesses_end_as_one_by_one(rt: HostRuntime) {
     for round in 0..20 {
-        succeeds_at(&rt, round, jobs_end_alike(&rt, rt.alloc(), 4, 1, round, &OpenGate));
+        let alike = jobs_end_alike(&rt, rt.alloc(), 4, 1, round, &OpenGate);
+        succeeds_at(&rt, round, alike);
     }
 }
 
@@ -406,7 +410,8 @@ fn one_accesses_while_another_waits(rt: HostRuntime) {
             arrived: AtomicU64::new(0),
             seen: AtomicU64::new(0),
         };
-        succeeds_at(&rt, round, jobs_end_alike(&rt, rt.alloc(), 2, 6, round, &gate));
+        let alike = jobs_end_alike(&rt, rt.alloc(), 2, 6, round, &gate);
+        succeeds_at(&rt, round, alike);
         holds_at(&rt, round, gate.seen.load(Ordering::SeqCst) == 1);
     }
 }
@@ -440,7 +445,8 @@ fn processors_without_accesses_meet(rt: HostRuntime) {
 fn each_processor_starts_and_arrives_once(rt: HostRuntime) {
     for count in [1, 3, 16] {
         let gate = AllBut::new(16);
-        succeeds_at(&rt, count as u64, store_and_load(&rt, rt.alloc(), count, &gate));
+        let done = store_and_load(&rt, rt.alloc(), count, &gate);
+        succeeds_at(&rt, count as u64, done);
         holds_at(&rt, count as u64, gate.asked() == ones(0, count));
         holds_at(&rt, count as u64, gate.told() == ones(0, count));
     }
@@ -492,8 +498,9 @@ fn refusals_come_in_order(rt: HostRuntime) {
         reason: Reason::UnsupportedType,
     });
     let shared = PrivateFault::Shared(0x100);
-    holds(&rt, is_refused(&rt, alloc, &mut called, 4, PrivateFault::UnderWay));
-    holds(&rt, is_refused(&rt, alloc, &mut called, 2, PrivateFault::UnderWay));
+    let under_way = PrivateFault::UnderWay;
+    holds(&rt, is_refused(&rt, alloc, &mut called, 4, under_way));
+    holds(&rt, is_refused(&rt, alloc, &mut called, 2, under_way));
     holds(&rt, is_refused(&rt, alloc, &mut core, 2, refused));
     holds(&rt, is_refused(&rt, alloc, &mut common, 2, refused));
     holds(&rt, is_refused(&rt, alloc, &mut common, 4, shared));

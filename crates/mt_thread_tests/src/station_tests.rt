@@ -327,7 +327,8 @@ fn sixteen_end_as_by_turns(rt: HostRuntime) {
     }
     for round in 0..200u64 {
         let row = some(&rt, ends_of(&rt, rt.alloc(), 16, true));
-        holds_at(&rt, round, ends_as(&row, &core, Outcome::Complete, Some(16)));
+        let alike = ends_as(&row, &core, Outcome::Complete, Some(16));
+        holds_at(&rt, round, alike);
     }
 }
 
