@@ -115,6 +115,14 @@ module _ {table : TableId} {t : Start} {its : TableId} {me : YardSat} {number : 
       (λ (high : 4294967296 ≤ found). kept new _ _ _ (play.2 high its_guest r.holds).0 refl)
       (below found 4294967296)
 
+  -- after its addition it has added
+  pub arrives_added : (found : ℕ) (new : YardSat) → ArrivesYard (table_step 0 0 1 0 none) me found new → has_added new.0.held ≡ true
+  arrives_added found new play =
+      ⊎_elim
+      (λ (low : found < 4294967296). ap (λ (v : YardView). has_added v.held) (play.1 low its_guest r.holds).0)
+      (λ (high : 4294967296 ≤ found). ap (λ (v : YardView). has_added v.held) (play.2 high its_guest r.holds).0)
+      (below found 4294967296)
+
   pub passes_kept : (found : ℕ) (new : YardSat) → PassesYard (table_step 0 0 0 0 none) me found new → IsKept new
   passes_kept found new play =
       ⊎_elim

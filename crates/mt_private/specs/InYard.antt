@@ -25,7 +25,7 @@ use Rattle.mt_private.specs.Gathered.{AreGathered, IsGathered}
 use Rattle.mt_private.specs.OneByOne.{at_rest}
 use Rattle.mt_private.specs.Visitors.{AreWaiting, HasCome, IsNew, OneLess, Returned}
 use Rattle.mt_private.specs.YardCalls.{Lodges, VisitEnds, Visits}
-use Rattle.mt_private.specs.YardPlays.{as_sat}
+use Rattle.mt_private.specs.YardPlays.{as_sat, has_added}
 
 -- from what it was gathered
 abbrev pub start_at : Yard → Start
@@ -55,6 +55,10 @@ KeepsLodging yard pass own later new = (added again : Bool) → LodgesIn yard pa
 -- the resident's own machine takes part in the update, from a first system
 abbrev pub VisitsIn : Yard → YardPass → Machine → Bool → Bool → Go → System → Type 0
 VisitsIn yard pass core added again go = Visits yard.table.shared.table_id (start_at yard) pass.seat.table_id pass.seat.me pass.number core added again go
+
+-- the pass's processor has added to the first count
+abbrev pub HasAdded : YardPass → Type 0
+HasAdded pass = has_added pass.seat.me.0.held ≡ true
 
 -- from whatever first system it took part before, it does after
 abbrev pub KeepsVisit : (System → Type 0) → (System → Type 0) → Type 0

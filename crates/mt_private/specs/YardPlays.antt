@@ -2,7 +2,7 @@
 use Rattle.std.specs.Prelude.{◌≡◌, ◌≢◌, ◌⊎◌, ℕ, zero, suc, ◌+◌, ◌%◌, ◌^◌, ◌<◌, ◌≤◌, ◌==◌, Bool, true, false, List, [], ◌∷◌, if◌then◌else◌, length, Option, None, Some}
 use mathlib.Core.Option.{Option as Spoken, none, some}
 use lib.ListN.{get_elem?}
-use Rattle.atomic_table.specs.Table.{Me, Step}
+use Rattle.atomic_table.specs.Table.{Me, Step, step}
 use Rattle.mt_machine.specs.declared.op.Op.{Op}
 use Rattle.mt_machine.specs.declared.phase.Phase.{Phase}
 use Rattle.mt_machine.specs.declared.phase.Phase.TheVariants.{Arrived, Arrived2, Restored, Running, Taken}
@@ -195,6 +195,10 @@ has_added (y ∷ ys) = y.held.added
 -- each step of a seat of a yard is one of these, and tells what that one does
 abbrev pub Tells : Step Op → YardSat → ℕ → YardSat → Type 0
 Tells st me found new = OfSeat me.0.root st.word st.first st.said (has_added me.0.held) st me found new
+
+-- the seat becomes the other by a step of word i with this operand
+abbrev pub Made : ℕ → ℕ → YardSat → YardSat → Type 0
+Made i a me new = (found : ℕ) × Tells (step 0 i a 0 none) me found new
 
 -- what a step leaves in its word: in a count the sum, in an event word what is stored, or what an exchange puts there
 abbrev pub own_word_after : Spoken Op → Step Op → ℕ → ℕ

@@ -285,44 +285,24 @@ impl Yard {
         ensures refused { IfErr result (λ s. s ≡ system) }
     {
         a_system_is_sound(&system); // a fact for the proof
+        let Ok(mut guests) = Vec::with_capacity(alloc, system.cpus.len()) else {
+            return Err(system);
+        };
+        let Some(owns) = places_for(alloc, system.cpus.len()) else {
+            return Err(system);
+        };
+        let Some(mut rooms) = rooms_for(alloc, system.cpus.as_slice(), &system.ram) else {
+            return Err(system);
+        };
+        let Some((yard, mut seat)) = open(alloc, &system.cpus, &system.ram, goal) else {
+            return Err(system);
+        };
         let System {
             mut cpus,
             mut ram,
             mut tables,
             holders,
         } = system;
-        let Ok(mut guests) = Vec::with_capacity(alloc, cpus.len()) else {
-            return Err(System {
-                cpus,
-                ram,
-                tables,
-                holders,
-            });
-        };
-        let Some(owns) = places_for(alloc, cpus.len()) else {
-            return Err(System {
-                cpus,
-                ram,
-                tables,
-                holders,
-            });
-        };
-        let Some(mut rooms) = rooms_for(alloc, cpus.as_slice(), &ram) else {
-            return Err(System {
-                cpus,
-                ram,
-                tables,
-                holders,
-            });
-        };
-        let Some((yard, mut seat)) = open(alloc, &cpus, &ram, goal) else {
-            return Err(System {
-                cpus,
-                ram,
-                tables,
-                holders,
-            });
-        };
         keep_left(cpus.as_slice(), rooms.as_slice(), &mut ram);
         give_all(
             &yard,

@@ -1,9 +1,8 @@
 // The yard, and the seat of its host.
-ghost use Rattle.std.specs.Prelude.{◌≡◌, ℕ, ◌+◌, ◌<◌, Bool, Some, length, slice_set};
+ghost use Rattle.std.specs.Prelude.{◌≡◌, ◌+◌, ◌<◌, Bool, Some, length, slice_set};
 ghost use Rattle.mt_machine.specs.declared.go.Go.TheVariants.{Cancelled, Given, Pending};
-ghost use Rattle.mt_machine.specs.Machine.{Cancels as CancelsUpdate, Goes};
 ghost use Rattle.mt_private.specs.YardCalls.{Keeps};
-ghost use Rattle.mt_private.specs.YardPlays.{Said};
+ghost use Rattle.mt_private.specs.YardPlays.{Made};
 ghost use Rattle.mt_private.specs.YardRule.{yard_both};
 
 use crate::gather::Room;
@@ -41,7 +40,7 @@ pub struct Host {
 }
 
 impl Host {
-    ghost use Rattle.mt_private.specs.InYard.{IsRootIn, LeadsIn, LodgesIn, start_at};
+    ghost use Rattle.mt_private.specs.InYard.{IsRootIn, LeadsIn, LodgesIn};
 
     /// Gives the go, once. Its addition to the first count is the event Go.
     pub fn go(&mut self, yard: &Yard)
@@ -50,7 +49,7 @@ impl Host {
         ensures held { self.new.seat.me.0.held ≡ self.old.seat.me.0.held }
         ensures owns { self.new.owns ≡ self.old.owns }
         ensures rest { self.new.rest ≡ self.old.rest }
-        ensures event { (count : ℕ) × Said (start_at yard.now) count Goes Given }
+        ensures event { Made 0 1 self.old.seat.me self.new.seat.me }
     {
         yard.table
             .shared
@@ -64,7 +63,7 @@ impl Host {
         ensures held { self.new.seat.me.0.held ≡ self.old.seat.me.0.held }
         ensures owns { self.new.owns ≡ self.old.owns }
         ensures rest { self.new.rest ≡ self.old.rest }
-        ensures event { (count : ℕ) × Said (start_at yard.now) count CancelsUpdate Cancelled }
+        ensures event { Made 0 4294967296 self.old.seat.me self.new.seat.me }
     {
         yard.table
             .shared

@@ -1,5 +1,5 @@
 /// What stands at a word beside the own one of a processor.
-#[derive(Clone, Copy, Debug)]
+#[derive(Clone, Copy)]
 pub enum Joint {
     /// The word where the own one is 0, else 0.
     Less,

@@ -39,7 +39,7 @@ impl Promise<Box<Visitor>> for Visits {
 
 // The whole visit, on the thread that calls it.
 fn come<R: Wait, G: Gate>(
-    rt: &R,
+    waiter: &Waiter<R>,
     yard: &Yard,
     visitor: &mut Visitor,
     goal: &RegFile,
@@ -51,7 +51,7 @@ fn come<R: Wait, G: Gate>(
     ensures { HasComeIn yard.now job.now visitor.old.pass.number visitor.new }
 {
     visitor.visited = visit_with(
-        &Waiter::of(rt),
+        waiter,
         yard,
         &mut visitor.pass,
         &mut visitor.core,
@@ -64,7 +64,7 @@ fn come<R: Wait, G: Gate>(
 
 // Cancels, and so the visitor does its accesses before the update on this thread, and leaves.
 fn give_up<R: Wait, G: Gate>(
-    rt: &R,
+    waiter: &Waiter<R>,
     yard: &Yard,
     host: &mut Host,
     mut visitor: Visitor,
@@ -80,7 +80,7 @@ fn give_up<R: Wait, G: Gate>(
     ensures come { HasComeIn yard.now job.now visitor.pass.number result }
 {
     host.cancel(yard);
-    come(rt, yard, &mut visitor, goal, job, gate);
+    come(waiter, yard, &mut visitor, goal, job, gate);
     visitor
 }
 
@@ -107,12 +107,12 @@ fn start<'s, E, R: Threads + Wait + Sync, G: Gate>(
     ensures come { IfErr result (λ v. HasComeIn yard.now job.now visitor.pass.number v) }
 {
     let Some(permit) = Permit::ask(gate, &visitor.pass) else {
-        return Err(give_up(rt, yard, host, visitor, goal, job, gate));
+        return Err(give_up(&Waiter::of(rt), yard, host, visitor, goal, job, gate));
     };
     let boxed = match Box::new(alloc, visitor) {
         Ok(boxed) => boxed,
         Err(refused) => {
-            return Err(give_up(rt, yard, host, refused.value, goal, job, gate));
+            return Err(give_up(&Waiter::of(rt), yard, host, refused.value, goal, job, gate));
         }
     };
     let promise = Visits {
@@ -129,7 +129,7 @@ fn start<'s, E, R: Threads + Wait + Sync, G: Gate>(
             ensures { HasComeIn yard.entry.now job.entry.now boxed.value.pass.number result.value }
         {
             let mut boxed = boxed;
-            come(rt, yard, &mut boxed, goal, job, gate);
+            come(&Waiter::of(rt), yard, &mut boxed, goal, job, gate);
             boxed
         },
     ) {
@@ -202,7 +202,7 @@ fn job_at(jobs: &[Job], k: usize) -> &Job
 
 // With the cancel given, all of these do their accesses before the update, and leave.
 fn leave_all<R: Wait, G: Gate>(
-    rt: &R,
+    waiter: &Waiter<R>,
     yard: &Yard,
     host: &mut Host,
     goal: &RegFile,
@@ -227,8 +227,8 @@ fn leave_all<R: Wait, G: Gate>(
         return;
     };
     let job = job_at(jobs, waiting.len());
-    leave_all(rt, yard, host, goal, jobs, gate, waiting, told);
-    come(rt, yard, &mut visitor, goal, job, gate);
+    leave_all(waiter, yard, host, goal, jobs, gate, waiting, told);
+    come(waiter, yard, &mut visitor, goal, job, gate);
     finish(yard, jobs, visitor, host, told);
 }
 
@@ -272,7 +272,7 @@ fn run_all<'s, E, R: Threads + Wait + Sync, G: Gate>(
             given
         }
         Err(visitor) => {
-            leave_all(rt, yard, host, goal, jobs, gate, waiting, told);
+            leave_all(&Waiter::of(rt), yard, host, goal, jobs, gate, waiting, told);
             finish(yard, jobs, visitor, host, told);
             false
         }

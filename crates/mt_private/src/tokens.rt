@@ -5,14 +5,17 @@ ghost use Rattle.std.specs.Prelude.{◌≡◌, IfSome};
 use crate::visiting::YardPass;
 use mt_ports::Gate;
 
-// That the gate is to be told of the arrival of a pass's processor. It is made of the pass, and it can't be let go: a body
-// outside this module that doesn't call `tell` is refused.
+// That the gate is to be told of the arrival of a pass's processor. It is made of a pass that has added to the first
+// count, so not before the addition. It can't be let go: a body outside this module that doesn't call `tell` is refused.
 pub(crate) struct Arrival {
     number: u32,
 }
 
 impl Arrival {
+    ghost use Rattle.mt_private.specs.InYard.{HasAdded};
+
     pub(crate) fn of(pass: &YardPass) -> Arrival
+        requires { HasAdded pass.now }
         ensures { result.number ≡ pass.now.number }
     {
         Arrival {

@@ -165,11 +165,12 @@ impl YardPass {
             .table
             .shared
             .fetch_add::<YardTurn>(&mut self.seat, 0, 1);
+        let token = Arrival::of(self);
         if found < CANCEL {
             core.step(0);
-            return Arrival::of(self);
+            return token;
         }
-        Arrival::of(self)
+        token
     }
 
     // Takes and arrives, and tells the gate. False where the load showed the cancel: then it has done neither.

@@ -4,6 +4,7 @@ ghost use Rattle.std.specs.List.{All};
 ghost use Rattle.mt_machine.specs.Machine.{FitsOp};
 ghost use Rattle.mt_private.specs.Jobs.{FitsJob};
 
+use crate::checks::{holds, holds_at, some, succeeds_at};
 use crate::common::{bare_core, called, file, is_same_system, may_call, update_alone, word};
 use mt_core::Core;
 use mt_gates::{AllBut, Meets, ones};
@@ -186,49 +187,49 @@ fn store_and_load<R: Threads + Wait + Sync, G: Gate>(
 fn each_loads_what_it_stored(rt: HostRuntime) {
     for count in [1, 2, 3, 16] {
         let done = store_and_load(&rt, rt.alloc(), count, &OpenGate);
-        assert!(rt; done == Some(true), "{count}");
+        succeeds_at(&rt, count as u64, done);
     }
+}
+
+/// Whether the gate was asked once of each processor from the refused one on, and told once at most of each behind it and of
+/// no other. The last processor is started first, and whoever isn't started is shown the cancel before it takes.
+fn stops_at(gate: &AllBut, refused: u32, count: u32) -> bool {
+    let behind = ones(refused.wrapping_add(1), count);
+    gate.asked() == ones(refused, count) && gate.told() | behind == behind
 }
 
 #[test]
 fn each_refused_start_ends_so_too(rt: HostRuntime) {
     for count in [1, 2, 3] {
         for k in 0..count {
-            let done = store_and_load(&rt, rt.alloc(), count, &AllBut::new(k));
-            assert!(rt; done == Some(true), "{k} of {count}");
+            let gate = AllBut::new(k);
+            let done = store_and_load(&rt, rt.alloc(), count, &gate);
+            succeeds_at(&rt, k as u64, done);
+            holds_at(&rt, k as u64, stops_at(&gate, k, count));
         }
     }
 }
 
 #[test]
 fn a_common_page_is_named(rt: HostRuntime) {
-    let alloc = rt.alloc();
-    let (Some(mut core), Some(goal), Some(jobs)) = (
-        common_core(alloc),
-        file(4),
-        empty_jobs(alloc, 2),
-    ) else {
-        panic!(rt; "the file is accepted");
-    };
-    assert!(rt; shared_page(&core) == Some(0x100));
-    let answer = on_threads(&rt, alloc, &mut core, goal, jobs, &OpenGate);
-    assert!(rt; matches!(answer, Some(Err(PrivateFault::Shared(0x100)))));
+    let mut core = some(&rt, common_core(rt.alloc()));
+    holds(&rt, shared_page(&core) == Some(0x100));
+    let shared = PrivateFault::Shared(0x100);
+    holds(&rt, is_refused(&rt, rt.alloc(), &mut core, 4, shared));
 }
 
 #[test]
 fn own_pages_are_private(rt: HostRuntime) {
-    let Some(core) = core_of(rt.alloc(), 16) else {
-        panic!(rt; "the file is accepted");
-    };
-    assert!(rt; shared_page(&core).is_none());
+    let core = some(&rt, core_of(rt.alloc(), 16));
+    holds(&rt, shared_page(&core).is_none());
 }
 
 /// Both calls of the gate see the other's flag, so two threads run at once.
 #[test]
 fn two_processors_meet(rt: HostRuntime) {
     let gate = Meets::new();
-    assert!(rt; store_and_load(&rt, rt.alloc(), 2, &gate) == Some(true));
-    assert!(rt; gate.seen() == 2);
+    succeeds_at(&rt, 2, store_and_load(&rt, rt.alloc(), 2, &gate));
+    holds(&rt, gate.seen() == 2);
 }
 
 /// So many loads and stores of words of the own page, by draws.
@@ -351,15 +352,17 @@ fn jobs_end_alike<R: Threads + Wait + Sync, G: Gate>(
 fn many_accesses_end_as_one_by_one(rt: HostRuntime) {
     for round in 0..50 {
         let alike = jobs_end_alike(&rt, rt.alloc(), 16, 6, round, &OpenGate);
-        assert!(rt; alike == Some(true), "{round}");
+        succeeds_at(&rt, round, alike);
     }
 }
 
 #[test]
 fn refused_starts_end_as_one_by_one(rt: HostRuntime) {
     for k in 0..16 {
-        let alike = jobs_end_alike(&rt, rt.alloc(), 16, 6, k as u64, &AllBut::new(k));
-        assert!(rt; alike == Some(true), "{k}");
+        let gate = AllBut::new(k);
+        let alike = jobs_end_alike(&rt, rt.alloc(), 16, 6, k as u64, &gate);
+        succeeds_at(&rt, k as u64, alike);
+        holds_at(&rt, k as u64, stops_at(&gate, k, 16));
     }
 }
 
@@ -367,7 +370,7 @@ fn refused_starts_end_as_one_by_one(rt: HostRuntime) {
 fn buffered_accesses_end_as_one_by_one(rt: HostRuntime) {
     for round in 0..20 {
         let alike = jobs_end_alike(&rt, rt.alloc(), 4, 1, round, &OpenGate);
-        assert!(rt; alike == Some(true), "{round}");
+        succeeds_at(&rt, round, alike);
     }
 }
 
@@ -408,8 +411,8 @@ fn one_accesses_while_another_waits(rt: HostRuntime) {
             seen: AtomicU64::new(0),
         };
         let alike = jobs_end_alike(&rt, rt.alloc(), 2, 6, round, &gate);
-        assert!(rt; alike == Some(true), "{round}");
-        assert!(rt; gate.seen.load(Ordering::SeqCst) == 1, "{round}");
+        succeeds_at(&rt, round, alike);
+        holds_at(&rt, round, gate.seen.load(Ordering::SeqCst) == 1);
     }
 }
 
@@ -434,20 +437,18 @@ fn update_alone_on_threads<R: Threads + Wait + Sync, G: Gate>(
 #[test]
 fn processors_without_accesses_meet(rt: HostRuntime) {
     let gate = Meets::new();
-    assert!(rt; update_alone_on_threads(&rt, rt.alloc(), &gate) == Some(true));
-    assert!(rt; gate.seen() == 2);
+    succeeds_at(&rt, 2, update_alone_on_threads(&rt, rt.alloc(), &gate));
+    holds(&rt, gate.seen() == 2);
 }
 
 #[test]
 fn each_processor_starts_and_arrives_once(rt: HostRuntime) {
     for count in [1, 3, 16] {
         let gate = AllBut::new(16);
-        assert!(rt;
-            store_and_load(&rt, rt.alloc(), count, &gate) == Some(true),
-            "{count}"
-        );
-        assert!(rt; gate.asked() == ones(0, count), "{count}");
-        assert!(rt; gate.told() == ones(0, count), "{count}");
+        let done = store_and_load(&rt, rt.alloc(), count, &gate);
+        succeeds_at(&rt, count as u64, done);
+        holds_at(&rt, count as u64, gate.asked() == ones(0, count));
+        holds_at(&rt, count as u64, gate.told() == ones(0, count));
     }
 }
 
@@ -474,25 +475,34 @@ fn called_core(alloc: Global) -> Option<Core> {
     Some(core)
 }
 
+/// Whether two empty jobs aren't run for this reason.
+fn is_refused<R: Threads + Wait + Sync>(
+    rt: &R,
+    alloc: Global,
+    core: &mut Core,
+    kind: u64,
+    fault: PrivateFault,
+) -> bool {
+    refusal(rt, alloc, core, kind) == Some(fault)
+}
+
 /// An update under way comes before the goal's fault, and that before a page in common.
 #[test]
 fn refusals_come_in_order(rt: HostRuntime) {
     let alloc = rt.alloc();
-    let (Some(mut called), Some(mut common), Some(mut core)) = (
-        called_core(alloc),
-        common_core(alloc),
-        core_of(alloc, 2),
-    ) else {
-        panic!(rt; "the files are accepted");
-    };
+    let mut called = some(&rt, called_core(alloc));
+    let mut common = some(&rt, common_core(alloc));
+    let mut core = some(&rt, core_of(alloc, 2));
     let refused = PrivateFault::Refused(Fault {
         msr: 0x200,
         reason: Reason::UnsupportedType,
     });
-    assert!(rt; refusal(&rt, alloc, &mut called, 4) == Some(PrivateFault::UnderWay));
-    assert!(rt; refusal(&rt, alloc, &mut called, 2) == Some(PrivateFault::UnderWay));
-    assert!(rt; refusal(&rt, alloc, &mut core, 2) == Some(refused));
-    assert!(rt; refusal(&rt, alloc, &mut common, 2) == Some(refused));
-    assert!(rt; refusal(&rt, alloc, &mut common, 4) == Some(PrivateFault::Shared(0x100)));
-    assert!(rt; refusal(&rt, alloc, &mut core, 4).is_none());
+    let shared = PrivateFault::Shared(0x100);
+    let under_way = PrivateFault::UnderWay;
+    holds(&rt, is_refused(&rt, alloc, &mut called, 4, under_way));
+    holds(&rt, is_refused(&rt, alloc, &mut called, 2, under_way));
+    holds(&rt, is_refused(&rt, alloc, &mut core, 2, refused));
+    holds(&rt, is_refused(&rt, alloc, &mut common, 2, refused));
+    holds(&rt, is_refused(&rt, alloc, &mut common, 4, shared));
+    holds(&rt, refusal(&rt, alloc, &mut core, 4).is_none());
 }

@@ -6,6 +6,7 @@ ghost use Rattle.mt_rendezvous.specs.Station.{Begins, start_of};
 ghost use Rattle.mt_rendezvous.specs.Calls.{Attends, HoldsOne, IsRoot, Leads, gathered};
 ghost use Rattle.mt_rendezvous.specs.Update.{AllNew, AreOf, IsNew};
 
+use crate::checks::{holds, holds_at, some};
 use crate::common::{file, is_same_cpu, may_call, word};
 use crate::update_tests::{core_of, store};
 use mt_bus::System;
@@ -244,37 +245,54 @@ fn ends_of<R: Threads + Wait + Sync>(
     Some(Row { done, ram, told })
 }
 
+/// Whether the word of memory at this address is this one.
+fn is_word(row: &Row, address: u64, value: u64) -> bool {
+    word(&row.ram, address) == Some(value)
+}
+
+/// Whether it completed, and was shown so many.
+fn has_completed(told: &Told, count: u32) -> bool {
+    told.outcome == Outcome::Complete && told.shown == Some(count)
+}
+
+/// Whether it left, was shown nothing, and has its one dirty line.
+fn has_left(told: &Told) -> bool {
+    let cache = told.cpu.cache();
+    told.outcome == Outcome::Cancelled
+        && told.shown.is_none()
+        && cache.len() == 1
+        && cache.nth(0).dirty == 1
+}
+
+/// Whether so many left.
+fn all_left(done: &[Told], count: usize) -> bool {
+    for told in done {
+        if !has_left(told) {
+            return false;
+        }
+    }
+    done.len() == count
+}
+
 #[test]
 fn two_complete(rt: HostRuntime) {
-    let Some(row) = ends_of(&rt, rt.alloc(), 2, true) else {
-        panic!(rt; "the threads are started");
-    };
-    assert!(rt; row.done.len() == 2);
+    let row = some(&rt, ends_of(&rt, rt.alloc(), 2, true));
+    holds(&rt, row.done.len() == 2);
     for told in row.done.iter() {
-        assert!(rt; told.outcome == Outcome::Complete);
-        assert!(rt; told.shown == Some(2));
+        holds(&rt, has_completed(told, 2));
     }
-    assert!(rt; word(&row.ram, 0x10_0000) == Some(0x2a));
-    assert!(rt; word(&row.ram, 0x10_0040) == Some(0x2b));
-    assert!(rt; row.told == 0x11);
+    holds(&rt, is_word(&row, 0x10_0000, 0x2a));
+    holds(&rt, is_word(&row, 0x10_0040, 0x2b));
+    holds(&rt, row.told == 0x11);
 }
 
 #[test]
 fn two_leave(rt: HostRuntime) {
-    let Some(row) = ends_of(&rt, rt.alloc(), 2, false) else {
-        panic!(rt; "the threads are started");
-    };
-    assert!(rt; row.done.len() == 2);
-    for told in row.done.iter() {
-        assert!(rt; told.outcome == Outcome::Cancelled);
-        assert!(rt; told.shown.is_none());
-        let cache = told.cpu.cache();
-        assert_eq!(rt; cache.len(), 1);
-        assert!(rt; cache.nth(0).dirty == 1);
-    }
-    assert!(rt; word(&row.ram, 0x10_0000) == Some(0));
-    assert!(rt; word(&row.ram, 0x10_0040) == Some(0));
-    assert!(rt; row.told == 0x11);
+    let row = some(&rt, ends_of(&rt, rt.alloc(), 2, false));
+    holds(&rt, all_left(row.done.as_slice(), 2));
+    holds(&rt, is_word(&row, 0x10_0000, 0));
+    holds(&rt, is_word(&row, 0x10_0040, 0));
+    holds(&rt, row.told == 0x11);
 }
 
 /// Whether the row ends with this outcome as the core does, each pass having told the gate once.
@@ -303,42 +321,29 @@ fn taken_row(alloc: Global) -> Option<Core> {
 
 #[test]
 fn sixteen_end_as_by_turns(rt: HostRuntime) {
-    let Some(mut core) = taken_row(rt.alloc()) else {
-        panic!(rt; "the files are accepted");
-    };
+    let mut core = some(&rt, taken_row(rt.alloc()));
     if core.order().is_some() {
         core.round();
     }
-    for round in 0..200u32 {
-        let Some(row) = ends_of(&rt, rt.alloc(), 16, true) else {
-            panic!(rt; "the threads are started");
-        };
-        assert!(rt;
-            ends_as(&row, &core, Outcome::Complete, Some(16)),
-            "in round {round}"
-        );
+    for round in 0..200u64 {
+        let row = some(&rt, ends_of(&rt, rt.alloc(), 16, true));
+        let alike = ends_as(&row, &core, Outcome::Complete, Some(16));
+        holds_at(&rt, round, alike);
     }
 }
 
 #[test]
 fn sixteen_leave_as_by_steps(rt: HostRuntime) {
-    let Some(mut core) = taken_row(rt.alloc()) else {
-        panic!(rt; "the files are accepted");
-    };
+    let mut core = some(&rt, taken_row(rt.alloc()));
     core.cancel();
     for k in 0..16 {
         if k < core.system().cpus.len() {
             core.step(k as u32);
         }
     }
-    assert!(rt; core.order().is_none());
-    for round in 0..200u32 {
-        let Some(row) = ends_of(&rt, rt.alloc(), 16, false) else {
-            panic!(rt; "the threads are started");
-        };
-        assert!(rt;
-            ends_as(&row, &core, Outcome::Cancelled, None),
-            "in round {round}"
-        );
+    holds(&rt, core.order().is_none());
+    for round in 0..200u64 {
+        let row = some(&rt, ends_of(&rt, rt.alloc(), 16, false));
+        holds_at(&rt, round, ends_as(&row, &core, Outcome::Cancelled, None));
     }
 }

@@ -10,6 +10,7 @@ ghost use Rattle.mt_private.specs.InYard.{AreGatheredIn, IsGatheredIn, IsRootIn,
 ghost use Rattle.mt_private.specs.Jobs.{FitsJob, IsOpen};
 ghost use Rattle.mt_private.specs.YardCalls.{AreIn};
 
+use crate::checks::{holds, some};
 use crate::common::{file, may_call, word};
 use crate::job_tests::{core_of, fits_job, jobs_of};
 use mt_bus::System;
@@ -201,36 +202,41 @@ fn alone<R: Wait>(rt: &R, alloc: Global, given: bool) -> Option<(Came, u64)> {
     Some((came, told))
 }
 
+/// Whether the own system has one processor, of this era and with so many lines, and this word at 1 MB.
+fn is_left(own: &System, era: u64, lines: usize, value: u64) -> bool {
+    let cpus = own.cpus.as_slice();
+    cpus.len() == 1
+        && cpus[0].era() == era
+        && cpus[0].cache().len() == lines
+        && word(&own.ram, 0x10_0000) == Some(value)
+}
+
+/// Whether the answers before the update are that one word was stored as WB.
+fn has_stored(told: &Told) -> bool {
+    told.before.as_slice() == [Done::Stored(MemType::WB)].as_slice()
+}
+
+/// Whether those after it are the one word, loaded as UC.
+fn has_loaded(told: &Told) -> bool {
+    told.after.as_slice() == [Done::Value(0x2a, MemType::UC)].as_slice()
+}
+
 #[test]
 fn one_completes(rt: HostRuntime) {
-    let Some((came, arrived)) = alone(&rt, rt.alloc(), true) else {
-        panic!(rt; "the yard is gathered");
-    };
-    assert!(rt; came.visited == Visited::Complete);
-    assert!(rt; came.told.before.as_slice() == [Done::Stored(MemType::WB)].as_slice());
-    assert!(rt; came.told.after.as_slice() == [Done::Value(0x2a, MemType::UC)].as_slice());
-    assert!(rt; arrived == 1);
-    assert!(rt; word(&came.own.ram, 0x10_0000) == Some(0x2a));
-    assert!(rt; came.own.cpus.len() == 1);
-    for cpu in came.own.cpus.iter() {
-        assert!(rt; cpu.era() == 1);
-        assert!(rt; cpu.cache().len() == 0);
-    }
+    let (came, arrived) = some(&rt, alone(&rt, rt.alloc(), true));
+    holds(&rt, came.visited == Visited::Complete);
+    holds(&rt, has_stored(&came.told));
+    holds(&rt, has_loaded(&came.told));
+    holds(&rt, arrived == 1);
+    holds(&rt, is_left(&came.own, 1, 0, 0x2a));
 }
 
 #[test]
 fn one_leaves(rt: HostRuntime) {
-    let Some((came, arrived)) = alone(&rt, rt.alloc(), false) else {
-        panic!(rt; "the yard is gathered");
-    };
-    assert!(rt; came.visited == Visited::Cancelled);
-    assert!(rt; came.told.before.as_slice() == [Done::Stored(MemType::WB)].as_slice());
-    assert!(rt; came.told.after.is_empty());
-    assert!(rt; arrived == 0);
-    assert!(rt; word(&came.own.ram, 0x10_0000) == Some(0));
-    assert!(rt; came.own.cpus.len() == 1);
-    for cpu in came.own.cpus.iter() {
-        assert!(rt; cpu.era() == 0);
-        assert!(rt; cpu.cache().len() == 1);
-    }
+    let (came, arrived) = some(&rt, alone(&rt, rt.alloc(), false));
+    holds(&rt, came.visited == Visited::Cancelled);
+    holds(&rt, has_stored(&came.told));
+    holds(&rt, came.told.after.is_empty());
+    holds(&rt, arrived == 0);
+    holds(&rt, is_left(&came.own, 0, 1, 0));
 }

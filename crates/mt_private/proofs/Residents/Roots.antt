@@ -17,7 +17,7 @@ use Rattle.mt_private.specs.declared.view.YardView.{YardView}
 use Rattle.mt_private.specs.Residents.{Decides, Yard, held_of}
 use Rattle.mt_private.specs.YardRule.{MeetsYard, as_view, with_said}
 use Rattle.mt_private.specs.YardLaws.{IsOneEvent}
-use Rattle.mt_private.specs.YardPlays.{CancelsYard, GivesYard, OfSeat, Said, Tells, YardSat, has_added}
+use Rattle.mt_private.specs.YardPlays.{CancelsYard, GivesYard, Made, OfSeat, Said, Tells, YardSat, has_added}
 use Rattle.mt_private.proofs.Residents.Decisions.{cancels, gives}
 use Rattle.mt_private.proofs.Residents.Seats.{mapped_at, says}
 
@@ -104,9 +104,6 @@ said_go slots found me new root tells = subst (λ (host : Bool). OfSeat host 0 1
 pub said_cancel : (slots found : ℕ) (me new : YardSat) → me.0.root ≡ true → Tells (step slots 0 4294967296 0 none) me found new → CancelsYard (step slots 0 4294967296 0 none) me found new
 said_cancel slots found me new root tells = subst (λ (host : Bool). OfSeat host 0 4294967296 none (has_added me.0.held) (step slots 0 4294967296 0 none) me found new) root tells
 
--- and the event that it was
-pub told_go : (t : Start) (slots found : ℕ) (me new : YardSat) → me.0.root ≡ true → me.0.start ≡ t → Tells (step slots 0 1 0 none) me found new → (count : ℕ) × Said t count Goes Given
-told_go t slots found me new root told tells = ((found + 1) % 2 ^ 64, subst (λ (u : Start). Said u ((found + 1) % 2 ^ 64) Goes Given) told (said_go slots found me new root tells).2)
-
-pub told_cancel : (t : Start) (slots found : ℕ) (me new : YardSat) → me.0.root ≡ true → me.0.start ≡ t → Tells (step slots 0 4294967296 0 none) me found new → (count : ℕ) × Said t count Cancels Cancelled
-told_cancel t slots found me new root told tells = ((found + 4294967296) % 2 ^ 64, subst (λ (u : Start). Said u ((found + 4294967296) % 2 ^ 64) Cancels Cancelled) told (said_cancel slots found me new root tells).2)
+-- and by what it was made
+pub made : (slots i a found : ℕ) (me new : YardSat) → slots ≡ 0 → Tells (step slots i a 0 none) me found new → Made i a me new
+made slots i a found me new none_held tells = (found, subst (λ (n : ℕ). Tells (step n i a 0 none) me found new) none_held tells)

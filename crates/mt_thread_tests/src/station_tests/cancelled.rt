@@ -6,8 +6,9 @@ ghost use Rattle.mt_rendezvous.specs.Station.{Begins, start_of};
 ghost use Rattle.mt_rendezvous.specs.Calls.{HoldsOne, IsRoot, Leads, gathered};
 ghost use Rattle.mt_rendezvous.specs.Update.{AllNew, AreOf, IsNew};
 
-use super::{Comes, Ended, Row, Told, attend_whole, dirty_row, last, take};
-use crate::common::{file, word};
+use super::{Comes, Ended, Row, Told, all_left, attend_whole, dirty_row, is_word, last, take};
+use crate::checks::{holds_at, some};
+use crate::common::file;
 use mt_bus::System;
 use mt_cpu::Cpu;
 use mt_gates::AllBut;
@@ -200,20 +201,11 @@ fn three<R: Threads + Wait + Sync>(rt: &R, alloc: Global, late: usize, told: u64
 #[test]
 fn a_station_may_be_cancelled_at_each_arrival(rt: HostRuntime) {
     for (late, told) in [(3, 0), (2, 0x100), (1, 0x110), (0, 0x111)] {
-        let Some(row) = three(&rt, rt.alloc(), late, told) else {
-            panic!(rt; "the threads are started, with {late} late");
-        };
-        assert!(rt; row.done.len() == 3);
-        for told in row.done.iter() {
-            assert!(rt; told.outcome == Outcome::Cancelled, "with {late} late");
-            assert!(rt; told.shown.is_none());
-            let cache = told.cpu.cache();
-            assert_eq!(rt; cache.len(), 1);
-            assert!(rt; cache.nth(0).dirty == 1);
-        }
-        for address in [0x10_0000, 0x10_0040, 0x10_0080] {
-            assert!(rt; word(&row.ram, address) == Some(0));
-        }
-        assert!(rt; row.told == 0x111);
+        let row = some(&rt, three(&rt, rt.alloc(), late, told));
+        holds_at(&rt, late as u64, all_left(row.done.as_slice(), 3));
+        holds_at(&rt, late as u64, is_word(&row, 0x10_0000, 0));
+        holds_at(&rt, late as u64, is_word(&row, 0x10_0040, 0));
+        holds_at(&rt, late as u64, is_word(&row, 0x10_0080, 0));
+        holds_at(&rt, late as u64, row.told == 0x111);
     }
 }

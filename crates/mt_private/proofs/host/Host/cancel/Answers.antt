@@ -1,6 +1,6 @@
 use Rattle.std.proofs.Common.{◌∙◌, ap, refl, arith}
 use Rattle.mt_private.specs.declared.view.YardView.{YardView}
-use Rattle.mt_private.proofs.Residents.Roots.{cancels_yard, said_cancel, told_cancel}
+use Rattle.mt_private.proofs.Residents.Roots.{cancels_yard, made, said_cancel}
 use Rattle.mt_private.proofs.host.Host.cancel.Goals as goal
 
 pub fetch_add-requires : goal.fetch_add-requires
@@ -24,4 +24,4 @@ pub returns-clause-held : goal.returns-clause-held
 returns-clause-held c = ap (λ (v : YardView). v.held) (said_cancel _ _ c.args.self.now.seat.me c.fetch_add.new.seat.me c.requires.root c.fetch_add.ensures.2).1
 
 pub returns-clause-event : goal.returns-clause-event
-returns-clause-event c = told_cancel _ _ _ c.args.self.now.seat.me c.fetch_add.new.seat.me c.requires.root c.requires.told c.fetch_add.ensures.2
+returns-clause-event c = made _ 0 4294967296 _ c.args.self.now.seat.me c.fetch_add.new.seat.me c.args.yard.now.no_slots c.fetch_add.ensures.2

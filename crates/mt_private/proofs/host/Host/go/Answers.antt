@@ -1,6 +1,6 @@
 use Rattle.std.proofs.Common.{◌∙◌, ap, refl, arith}
 use Rattle.mt_private.specs.declared.view.YardView.{YardView}
-use Rattle.mt_private.proofs.Residents.Roots.{gives_yard, said_go, told_go}
+use Rattle.mt_private.proofs.Residents.Roots.{gives_yard, made, said_go}
 use Rattle.mt_private.proofs.host.Host.go.Goals as goal
 
 pub fetch_add-requires : goal.fetch_add-requires
@@ -24,4 +24,4 @@ pub returns-clause-held : goal.returns-clause-held
 returns-clause-held c = ap (λ (v : YardView). v.held) (said_go _ _ c.args.self.now.seat.me c.fetch_add.new.seat.me c.requires.root c.fetch_add.ensures.2).1
 
 pub returns-clause-event : goal.returns-clause-event
-returns-clause-event c = told_go _ _ _ c.args.self.now.seat.me c.fetch_add.new.seat.me c.requires.root c.requires.told c.fetch_add.ensures.2
+returns-clause-event c = made _ 0 1 _ c.args.self.now.seat.me c.fetch_add.new.seat.me c.args.yard.now.no_slots c.fetch_add.ensures.2

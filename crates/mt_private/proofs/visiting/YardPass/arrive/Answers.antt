@@ -10,7 +10,7 @@ use Rattle.mt_rendezvous.proofs.Steps.{due_arrive}
 use Rattle.mt_private.specs.Residents.{with_held}
 use Rattle.mt_private.specs.YardRule.{with_one}
 use Rattle.mt_private.proofs.Alone.{in_its_phase, its_phase, onward, taken_on}
-use Rattle.mt_private.proofs.Carried.{arrives_kept, arrives_of, carried, core_is, has_done, its_era, its_guest, of_guest, shifted_is, visits_on}
+use Rattle.mt_private.proofs.Carried.{arrives_added, arrives_kept, arrives_of, carried, core_is, has_done, its_era, its_guest, of_guest, shifted_is, visits_on}
 use Rattle.mt_private.proofs.Residents.Plays.{arrives_yard}
 use Rattle.mt_private.proofs.visiting.YardPass.arrive.Goals as goal
 
@@ -19,6 +19,11 @@ fetch_add-found-requires c =
     let r = c.requires.visits.1.lodges in
     let w = c.args.yard.now.wide in
     (r.same, omega arith, arrives_yard c.args.yard.now.table.shared.key _ _ c.args.self.now.seat.me (its_guest r) r.holds c.args.self.now.no_root refl refl (its_phase Taken c.args.core.now.system r.cpu r.alone c.requires.taken))
+
+pub of-token-requires : goal.of-token-requires
+of-token-requires c =
+    let r = c.requires.visits.1.lodges in
+    arrives_added r _ _ (arrives_of r c.args.self.now.no_root _ _ c.fetch_add-found.new.seat.me c.fetch_add-found.ensures.2)
 
 pub invariant_of-self-clause-known : goal.invariant_of-self-clause-known
 invariant_of-self-clause-known c =
