@@ -4,7 +4,7 @@ _mtrr() {
     local word=${COMP_WORDS[COMP_CWORD]} place=$COMP_CWORD
     COMPREPLY=()
     if [ "$place" -eq 1 ]; then
-        COMPREPLY=($(compgen -W 'check show types page tidy gran replay proc make big private' -- "$word"))
+        COMPREPLY=($(compgen -W 'check show types page tidy gran replay proc make big private --help --version' -- "$word"))
         return
     fi
     case ${COMP_WORDS[1]} in
