@@ -2,7 +2,7 @@ ghost use Rattle.std.specs.Prelude.{◌≡◌, ◌++◌, IfOk};
 ghost use Rattle.mt_dump.specs.Canon.{canon};
 ghost use Rattle.mt_dump.specs.Dumps.{dump_of};
 ghost use Rattle.std.specs.List.{All};
-ghost use Rattle.mt_answers.specs.Lines.{IsLine, lost_line, parts_text, types_text, used_line};
+ghost use Rattle.mt_answers.specs.Lines.{IsLine, lost_line, part_line, parts_text, types_text, used_line};
 ghost use Rattle.mt_types.specs.Runs.{IsTypeMap};
 
 use crate::lines::{lost_line, run_line, used_line};
@@ -34,6 +34,15 @@ pub fn types_text(alloc: Global, runs: &[Run]) -> Result<Vec<u8>, AllocError>
     Ok(text)
 }
 
+fn append_part(text: &mut Vec<u8>, part: &Run) -> Result<(), AllocError>
+    requires { IsLine part.now }
+    ensures { IfOk result (λ _. text.new.items ≡ text.old.items ++ part_line part.now) }
+{
+    text.extend_from_slice(b"# part ")?;
+    text.extend_from_slice(run_line(part).as_slice())?;
+    Ok(())
+}
+
 // The lines of all parts.
 fn parts_text(alloc: Global, parts: &[Run]) -> Result<Vec<u8>, AllocError>
     requires { All IsLine parts.now }
@@ -41,8 +50,7 @@ fn parts_text(alloc: Global, parts: &[Run]) -> Result<Vec<u8>, AllocError>
 {
     let mut text = Vec::new(alloc);
     'parts: for part in parts {
-        text.extend_from_slice(b"# part ")?;
-        text.extend_from_slice(run_line(part).as_slice())?;
+        append_part(&mut text, part)?;
     }
     Ok(text)
 }

@@ -32,7 +32,7 @@ returns-in-Make g c =
     let ends = makes_own _ _ _ c.make.result c.make.ensures.bytes in
     let never = never_own c.make.result ends in
     record {
-      bytes = λ asked bytes says is. rw c.in-Make.is at says in absurd (cc says);
+      bytes = λ asked bytes says is. absurd (cc (c.in-Make.is, says));
       text = rw c.in-Make.is c.make.ensures.bytes;
       unread = λ not. refl;
       usage = never.0;
@@ -48,7 +48,7 @@ returns-in-Help g c =
     let ends = written_own c.written.result c.written.ensures.status in
     let never = never_own c.written.result ends in
     record {
-      bytes = λ asked bytes says is. rw c.in-Help.is at says in absurd (cc says);
+      bytes = λ asked bytes says is. absurd (cc (c.in-Help.is, says));
       text = rw c.in-Help.is (inl (subst (λ (t : List ℕ). Writes t Done (g.K.Sink.taken c.args.sink.now) (g.K.Sink.taken c.written.new.sink) c.written.result) c.help_text.ensures c.written.ensures.bytes));
       unread = λ not. refl;
       usage = never.0;
@@ -64,7 +64,7 @@ returns-in-Version g c =
     let ends = written_own c.written-in-Version.result c.written-in-Version.ensures.status in
     let never = never_own c.written-in-Version.result ends in
     record {
-      bytes = λ asked bytes says is. rw c.in-Version.is at says in absurd (cc says);
+      bytes = λ asked bytes says is. absurd (cc (c.in-Version.is, says));
       text = rw c.in-Version.is (inl (subst (λ (t : List ℕ). Writes t Done (g.K.Sink.taken c.args.sink.now) (g.K.Sink.taken c.written-in-Version.new.sink) c.written-in-Version.result) c.version_text.ensures c.written-in-Version.ensures.bytes));
       unread = λ not. refl;
       usage = never.0;
