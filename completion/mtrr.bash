@@ -4,7 +4,7 @@ _mtrr() {
     local word=${COMP_WORDS[COMP_CWORD]} place=$COMP_CWORD
     COMPREPLY=()
     if [ "$place" -eq 1 ]; then
-        COMPREPLY=($(compgen -W 'check show types page tidy gran replay proc make big private' -- "$word"))
+        COMPREPLY=($(compgen -W 'check show types page tidy gran replay proc make big private --help --version' -- "$word"))
         return
     fi
     case ${COMP_WORDS[1]} in
@@ -43,7 +43,7 @@ _mtrr_import() {
     local word=${COMP_WORDS[COMP_CWORD]}
     COMPREPLY=()
     if [ "$COMP_CWORD" -eq 1 ]; then
-        COMPREPLY=($(compgen -W 'coreboot edk2 inteltool linux rdmsr x86info xen' -- "$word"))
+        COMPREPLY=($(compgen -W 'coreboot edk2 inteltool linux rdmsr x86info xen --help --version' -- "$word"))
     else
         _mtrr_supply "$word" maxphyaddr 0fe 268 277 2ff
     fi
@@ -64,5 +64,5 @@ _mtrr_explain() {
 
 complete -F _mtrr mtrr
 complete -F _mtrr_import mtrr-import
-complete mtrr-map
+complete -W '--help --version' mtrr-map
 complete -F _mtrr_explain mtrr-explain

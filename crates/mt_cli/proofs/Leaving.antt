@@ -1,12 +1,11 @@
 -- From what the calls say of the bytes to what a run leaves.
-use Rattle.std.proofs.Common.{◌≡◌, ◌≢◌, ◌⊎◌, ℕ, true, false, List, [], ◌++◌, Option, Some, None, refl, sym, subst, ◌∙◌, ap, inl, inr, ◌∷◌}
+use Rattle.std.proofs.Common.{◌≡◌, ℕ, true, false, List, [], ◌++◌, Option, Some, None, refl, sym, subst, ◌∙◌, ap, inl, inr, ◌∷◌}
 use Rattle.std.proofs.lemmas.List.{append-nil}
 use Rattle.std.specs.Io.KnownBytes.{Appends}
 use Rattle.mt_ports.specs.Puts.{AppendsFront}
 use Rattle.mt_ports.specs.declared.status.Status.{Status}
 use Rattle.mt_ports.specs.declared.status.Status.TheVariants.{Done, Refused, Usage, BadText, ReadFault, WriteFault, NoMemory, TooLong, TooFew, Disabled}
-use Rattle.mt_regs.specs.RegisterFile.{RegisterFile}
-use Rattle.mt_dump.specs.Dumps.{Dump as Shows, first_file}
+use Rattle.mt_dump.specs.Dumps.{Dump as Shows}
 use Rattle.mt_dump.specs.Dump.{Shown, dump_offence}
 use Rattle.mt_dump.specs.declared.fault.DumpFault.{DumpFault}
 use Rattle.mt_stream.specs.Runs.{Runs, TellsAll, TellsKnown}
@@ -17,52 +16,26 @@ use Rattle.mt_proc.proofs.Endings.{one_of_three as one_of_three_of_proc}
 use Rattle.mt_replay.specs.Running.{Replays}
 use Rattle.mt_replay.specs.Newcomers.{early_text}
 use Rattle.mt_replay.specs.Transcript.{replay_told, transcript}
+use Rattle.mt_answers.proofs.Endings.{IsFinal, final}
 use Rattle.mt_cli.proofs.Coming.{early_without}
 use Rattle.mt_replay.proofs.Refusals.Outcomes.{one_of_three}
-use Rattle.mt_cli.specs.declared.command.Command.TheVariants.{Serial, Threaded}
-use Rattle.mt_cli.specs.declared.command.SerialCommand.TheVariants.{Dump}
-use Rattle.mt_cli.specs.declared.command.ThreadedCommand.TheVariants.{Replay, Proc}
-use Rattle.mt_cli.specs.declared.command.DumpCommand.{DumpCommand}
-use Rattle.mt_cli.specs.CommandLine.{command_of, left_of, reads_input}
-use Rattle.mt_cli.specs.declared.command.Command.{Command}
-use Rattle.mt_cli.specs.Answer.{Answer, FileAnswer, refused, accepted, shown, about_file, typed, paged, tidied, too_few, disabled, grained, gran_too_few, gran_disabled}
-use Rattle.mt_cli.specs.Output.{Output, usage, bad_text, answered, replayed, made, summed, measured, requested}
+use Rattle.mt_answers.specs.declared.command.Command.TheVariants.{Serial, Threaded}
+use Rattle.mt_answers.specs.declared.command.SerialCommand.TheVariants.{Dump}
+use Rattle.mt_answers.specs.declared.command.ThreadedCommand.TheVariants.{Replay, Proc}
+use Rattle.mt_answers.specs.declared.command.DumpCommand.{DumpCommand}
+use Rattle.mt_answers.specs.CommandLine.{command_of, left_of, reads_input}
+use Rattle.mt_answers.specs.declared.command.Command.{Command}
+use Rattle.mt_answers.specs.Answer.{Answer}
+use Rattle.mt_cli.specs.Output.{Output, usage, bad_text, answered, replayed, printed, summed, measured, requested}
 use Rattle.mt_cli.specs.Tool.{Answered, CutShort, Finished, Leaves, Reads, FailedRead, Overran, Starved, Untouched}
 use Rattle.mt_output.specs.Written.{Writes}
-use Rattle.mt_cli.specs.Written.{Answers, AnswersInput, Makes, writes, no_memory, bad_input, good_input, no_input}
+use Rattle.mt_answers.specs.Written.{Answers, AnswersInput, Makes, writes, no_memory, bad_input, good_input, no_input}
 
 -- what stands after the bytes that the sink had
 appended : (before text : List ℕ) (old new : Option (List ℕ)) → old ≡ Some before → Appends old new text → new ≡ Some (before ++ text)
 appended before text None new is takes = cc is
 appended before text (Some xs) None is takes = absurd takes
 appended before text (Some xs) (Some ys) is takes = let e : xs ≡ before = cc is in ap Some (takes ∙ ap (λ (l : List ℕ). l ++ text) e)
-
--- the statuses with which a command answers about a file, and with which a transcript ends
-IsFinal : Status → Type 0
-IsFinal status = (status ≡ Done) ⊎ (status ≡ Refused) ⊎ (status ≡ BadText) ⊎ (status ≡ TooFew) ⊎ (status ≡ Disabled)
-
-final_of_file : (file : RegisterFile) (command : DumpCommand) (text : List ℕ) (status : Status) → FileAnswer file command text status → IsFinal status
-unfolding IsFinal
-final_of_file file command text status (typed runs are) = inl refl
-final_of_file file command text status (paged address index) = inl refl
-final_of_file file command text status (tidied spare chunk used new is) = inl refl
-final_of_file file command text status (too_few spare chunk needs has is) = inr (inr (inr (inl refl)))
-final_of_file file command text status (disabled spare chunk off) = inr (inr (inr (inr refl)))
-final_of_file file command text status (grained log spare chunk used lost parts new is) = inl refl
-final_of_file file command text status (gran_too_few log spare chunk needs has is) = inr (inr (inr (inl refl)))
-final_of_file file command text status (gran_disabled log spare chunk off) = inr (inr (inr (inr refl)))
-
-final : (dump : Shows) (command : DumpCommand) (text : List ℕ) (status : Status) → Answer dump command text status → IsFinal status
-unfolding IsFinal
-final dump command text status (refused other k fault tests first) = inr (inl refl)
-final dump command text status (accepted good) = inl refl
-final dump command text status shown = inl refl
-final dump command text status (about_file other t s good answer) = final_of_file (first_file dump) other t s answer
-
-final_cases : (dump : Shows) (command : DumpCommand) (text : List ℕ) (status : Status) → Answer dump command text status
-    → (status ≡ Done) ⊎ (status ≡ Refused) ⊎ (status ≡ BadText) ⊎ (status ≡ TooFew) ⊎ (status ≡ Disabled)
-unfolding IsFinal
-final_cases dump command text status answer = final dump command text status answer
 
 final_of_transcript : (bytes : List ℕ) → IsFinal (transcript bytes).status
 unfolding IsFinal
@@ -107,7 +80,7 @@ whole words bytes text status left before after (answered command dump t s says 
     let fin : IsFinal s = final dump command t s answer in
     finished_leaves words bytes left before after s fin
     (record { text = t; output = answered command dump t s says shows answer; taken = taken; read = read })
-whole words bytes text status left before after (made n says) = λ read taken. record { text = _; output = made n says; taken = taken; read = read }
+whole words bytes text status left before after (printed command t says is) = λ read taken. record { text = _; output = printed command t says is; taken = taken; read = read }
 whole words bytes text status left before after (summed n says) = λ read taken. record { text = _; output = summed n says; taken = taken; read = read }
 whole words bytes text status left before after (measured cpus n accesses says) = λ read taken. record { text = _; output = measured cpus n accesses says; taken = taken; read = read }
 whole words bytes text status left before after (replayed says) = λ read taken.
@@ -268,24 +241,6 @@ answers_read words bytes dump command result left old new says shows read (write
     rw is (answered_reads words bytes left status (final dump command text status answer) (record { text = text; output = answered command dump text status says shows answer; read = left_by words bytes left (Some (Serial (Dump command))) says read }))
 answers_read words bytes dump command result left old new says shows read (writes text status answer (inr (is, cut))) = rw is tt
 answers_read words bytes dump command result left old new says shows read (no_memory is same) = rw is tt
-
--- the statuses with which an answer never ends
-pub never_answers : (dump : Shows) (command : DumpCommand) (old new : Option (List ℕ)) (result : Status) → Answers (Answer dump command) old new result → (result ≢ Usage) × (result ≢ ReadFault) × (result ≢ TooLong)
-never_answers dump command old new result answers = by answers
-  where
-    but : (status : Status) → result ≡ status → (status ≢ Usage) × (status ≢ ReadFault) × (status ≢ TooLong) → (result ≢ Usage) × (result ≢ ReadFault) × (result ≢ TooLong)
-    but status is others = rw is others
-
-    by : Answers (Answer dump command) old new result → (result ≢ Usage) × (result ≢ ReadFault) × (result ≢ TooLong)
-    by (writes text status answer (inl (is, takes))) = elim (final_cases dump command text status answer) [
-      | inl ends ↦ but Done (is ∙ ends) (λ e. cc e, λ e. cc e, λ e. cc e)
-      | inr (inl ends) ↦ but Refused (is ∙ ends) (λ e. cc e, λ e. cc e, λ e. cc e)
-      | inr (inr (inl ends)) ↦ but BadText (is ∙ ends) (λ e. cc e, λ e. cc e, λ e. cc e)
-      | inr (inr (inr (inl ends))) ↦ but TooFew (is ∙ ends) (λ e. cc e, λ e. cc e, λ e. cc e)
-      | inr (inr (inr (inr ends))) ↦ but Disabled (is ∙ ends) (λ e. cc e, λ e. cc e, λ e. cc e)
-    ]
-    by (writes text status answer (inr (is, cut))) = but WriteFault is (λ e. cc e, λ e. cc e, λ e. cc e)
-    by (no_memory is same) = but NoMemory is (λ e. cc e, λ e. cc e, λ e. cc e)
 
 -- the status of a dump that is no dump
 pub offence_reads : (words : List (List ℕ)) (bytes : List ℕ) (command : DumpCommand) (fault : DumpFault) (written : List ℕ) (result : Status) (left old new : Option (List ℕ))

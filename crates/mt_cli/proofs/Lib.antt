@@ -1,12 +1,6 @@
-mod Answering
-pub mod FirstFiles
-mod Leaving
-mod Statuses
-mod Ran
-mod LongLines
-mod SoundCommands
-mod Parting
 pub mod Coming
-mod Making
 mod Drawing
+mod Leaving
 mod Owning
+mod Ran
+mod Statuses

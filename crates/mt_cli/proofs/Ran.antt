@@ -1,6 +1,6 @@
 -- From what the calls say to what is proved of a run.
 use Rattle.std.proofs.Common.{◌≡◌, ◌≢◌, ◌⊎◌, ◌∙◌, ℕ, Bool, true, false, List, [], Option, None, Some, ap, inl, inr, refl, sym, subst, arith}
-use Rattle.std.specs.Prelude.{◌↔◌, if◌then◌else◌, IfErr, Result, Ok, Err}
+use Rattle.std.specs.Prelude.{◌↔◌, if◌then◌else◌, IfErr, IfSome, Result, Ok, Err}
 use Rattle.mt_ports.specs.Causes.{StatusHasCause}
 use Rattle.mt_ports.specs.declared.status.Status.{Status}
 use Rattle.mt_ports.specs.declared.status.Status.TheVariants.{Done, Usage, ReadFault, WriteFault, NoMemory, TooLong, TooFew, Disabled}
@@ -9,20 +9,24 @@ use Rattle.mt_output.specs.Written.{Writes}
 use Rattle.mt_stream.specs.Runs.{Runs}
 use Rattle.mt_proc.specs.Proc.{proc_told}
 use Rattle.mt_replay.specs.Running.{Replays}
-use Rattle.mt_cli.specs.declared.command.Command.{Command}
-use Rattle.mt_cli.specs.declared.command.Command.TheVariants.{Serial, Threaded}
-use Rattle.mt_cli.specs.declared.command.SerialCommand.TheVariants.{Dump}
-use Rattle.mt_cli.specs.declared.command.ThreadedCommand.TheVariants.{Replay, Proc}
-use Rattle.mt_cli.specs.declared.command.DumpCommand.{DumpCommand}
-use Rattle.mt_cli.specs.CommandLine.{MayTakeMemory, command_of, left_of, reads_input}
-use Rattle.mt_cli.specs.Answer.{MayChoose}
-use Rattle.mt_cli.specs.Lines.{usage_line}
-use Rattle.mt_cli.specs.Output.{Output, usage}
+use Rattle.mt_answers.specs.declared.command.Command.{Command}
+use Rattle.mt_answers.specs.declared.command.Command.TheVariants.{Serial, Threaded}
+use Rattle.mt_answers.specs.declared.command.SerialCommand.{SerialCommand}
+use Rattle.mt_answers.specs.declared.command.SerialCommand.TheVariants.{Dump, Make, Help, Version}
+use Rattle.mt_answers.specs.declared.command.ThreadedCommand.TheVariants.{Replay, Proc}
+use Rattle.mt_answers.specs.declared.command.DumpCommand.{DumpCommand}
+use Rattle.mt_answers.specs.CommandLine.{MayTakeMemory, command_of, left_of, reads_input}
+use Rattle.mt_answers.specs.Generator.{make_text}
+use Rattle.mt_answers.specs.Help.{help_text, own_text, version_text}
+use Rattle.mt_answers.specs.Lines.{usage_line}
+use Rattle.mt_cli.specs.Output.{Output, printed, usage}
 use Rattle.mt_cli.specs.Runs.{IsRun, IsToolRun, SinkRun, SourceRun, sink_run, source_run}
-use Rattle.mt_cli.specs.Tool.{Leaves, MayEnd, Reads}
-use Rattle.mt_cli.specs.Written.{AnswersInput, Makes}
+use Rattle.mt_answers.specs.Statuses.{MayEnd}
+use Rattle.mt_cli.specs.Tool.{Leaves, Reads}
+use Rattle.mt_answers.specs.Written.{AnswersInput, Makes}
 use Rattle.mt_cli.proofs.Leaving.{input_leaves, input_reads, left_by, makes_leave, makes_read, must_read, proc_leaves, proc_reads, replays_leave, replays_read, written_leaves}
-use Rattle.mt_cli.proofs.Statuses.{input_ends, makes_end, run_ends, usage_ends}
+use Rattle.mt_answers.proofs.Endings.{makes_own, never_own, own_ends}
+use Rattle.mt_cli.proofs.Statuses.{run_ends, usage_ends}
 
 is_command : (words : List (List ℕ)) (command : Command) → command_of words ≡ Some command → command_of words ≡ None → ⊥
 is_command words command says none = let e : Some command ≡ None = sym says ∙ none in cc e
@@ -78,29 +82,25 @@ usage_ran words source sink result none same wrote ends cause = record {
   no_memory = λ is. absurd (usage_keeps result ends is);
 }
 
--- a text that numbers determine
-makes_no_usage : (text : List ℕ) (old new : Option (List ℕ)) (result : Status) → Makes text old new result → result ≢ Usage
-makes_no_usage text old new result (inl (inl (ends, takes))) = λ is. let e : Done ≡ Usage = sym ends ∙ is in cc e
-makes_no_usage text old new result (inl (inr (ends, cut))) = λ is. let e : WriteFault ≡ Usage = sym ends ∙ is in cc e
-makes_no_usage text old new result (inr (ends, same)) = λ is. let e : NoMemory ≡ Usage = sym ends ∙ is in cc e
-
 all_left : (command : Command) (bytes : List ℕ) (left : Option (List ℕ)) → reads_input (Some command) ≡ false → left ≡ Some bytes → left ≡ Some (left_of (Some command) bytes)
 all_left command bytes left not is = is ∙ ap (λ (b : Bool). Some (if b then [] else bytes)) (sym not)
 
+-- a text that numbers determine, or that is one for all
 pub makes_ran : {S K : Type 0} (words : List (List ℕ)) (text : List ℕ) (command : Command) (source : SourceRun S) (sink : SinkRun K) (result : Status)
-    → command_of words ≡ Some command → reads_input (Some command) ≡ false → MayTakeMemory command
+    → command_of words ≡ Some command → reads_input (Some command) ≡ false → (result ≡ NoMemory → MayTakeMemory command)
     → ((bytes : List ℕ) → Output words bytes text Done) → source.new ≡ source.old
     → Makes text (sink.taken sink.old) (sink.taken sink.new) result → StatusHasCause WriteFault (sink.faults sink.old) (sink.faults sink.new) result
     → IsToolRun words source sink result
 makes_ran words text command source sink result says not memory output same makes cause = record {
   run =
+      let ends = makes_own text (sink.taken sink.old) (sink.taken sink.new) result makes in
       unread_run words source sink result (ap reads_input says ∙ not) same
       (λ bytes before left is taken. makes_leave words bytes text command result left before (sink.taken sink.old) (sink.taken sink.new) says (output bytes) (all_left command bytes left not is) taken makes)
       (λ bytes left is. makes_read words bytes text command result left (sink.taken sink.old) (sink.taken sink.new) says (output bytes) (all_left command bytes left not is) makes)
-      (makes_end words text (sink.taken sink.old) (sink.taken sink.new) result makes)
-      (λ is. absurd (makes_no_usage text (sink.taken sink.old) (sink.taken sink.new) result makes is)) cause;
+      (own_ends (command_of words) result ends)
+      (λ is. absurd ((never_own result ends).0 is)) cause;
   no_command = λ none. absurd (is_command words command says none);
-  no_memory = λ is. (command, says, memory);
+  no_memory = λ is. (command, says, memory is);
 }
 
 -- ---- a run that reads the input
@@ -131,19 +131,39 @@ reading_ran words command source sink result says reads leaves told ends never m
 }
 
 -- a command on a dump
-pub input_ran : {S K : Type 0} (words : List (List ℕ)) (command : DumpCommand) (source : SourceRun S) (sink : SinkRun K) (result : Status)
+input_ran : {S K : Type 0} (words : List (List ℕ)) (command : DumpCommand) (source : SourceRun S) (sink : SinkRun K) (result : Status)
     → command_of words ≡ Some (Serial (Dump command))
     → ((bytes : List ℕ) → source.left source.old ≡ Some bytes → AnswersInput bytes command (source.left source.new) (sink.taken sink.old) (sink.taken sink.new) result)
-    → result ≢ Usage → (result ≡ TooFew → MayChoose command) → (result ≡ Disabled → MayChoose command) → (result ≡ NoMemory → MayTakeMemory (Serial (Dump command)))
+    → result ≢ Usage → MayEnd (Some (Serial (Dump command))) result → (result ≡ NoMemory → MayTakeMemory (Serial (Dump command)))
     → StatusHasCause ReadFault (source.faults source.old) (source.faults source.new) result
     → StatusHasCause WriteFault (sink.faults sink.old) (sink.faults sink.new) result
     → ((result ≡ TooLong) ↔ GaveTooMuch (source.given source.old) (source.given source.new))
     → IsToolRun words source sink result
-input_ran words command source sink result says answers never few off memory failed cause long =
+input_ran words command source sink result says answers never ends memory failed cause long =
     reading_ran words (Serial (Dump command)) source sink result says refl
     (λ bytes before is taken. input_leaves words bytes command result (source.left source.new) before (sink.taken sink.old) (sink.taken sink.new) says taken (answers bytes is))
     (λ bytes is. input_reads words bytes command result (source.left source.new) (sink.taken sink.old) (sink.taken sink.new) says (answers bytes is))
-    (input_ends words command result says few off) never memory failed cause long
+    (subst (λ (o : Option Command). MayEnd o result) (sym says) ends) never memory failed cause long
+
+-- a serial command
+pub serial_ran : {S K : Type 0} (words : List (List ℕ)) (command : SerialCommand) (source : SourceRun S) (sink : SinkRun K) (result : Status)
+    → command_of words ≡ Some (Serial command)
+    → ((asked : DumpCommand) (bytes : List ℕ) → command ≡ Dump asked → source.left source.old ≡ Some bytes → AnswersInput bytes asked (source.left source.new) (sink.taken sink.old) (sink.taken sink.new) result)
+    → IfSome (own_text command) (λ text. Makes text (sink.taken sink.old) (sink.taken sink.new) result)
+    → (reads_input (Some (Serial command)) ≡ false → source.new ≡ source.old)
+    → result ≢ Usage → MayEnd (Some (Serial command)) result → (result ≡ NoMemory → MayTakeMemory (Serial command))
+    → StatusHasCause ReadFault (source.faults source.old) (source.faults source.new) result
+    → StatusHasCause WriteFault (sink.faults sink.old) (sink.faults sink.new) result
+    → ((result ≡ TooLong) ↔ GaveTooMuch (source.given source.old) (source.given source.new))
+    → IsToolRun words source sink result
+serial_ran words (Dump asked) source sink result says answers makes unread never ends memory failed cause long =
+    input_ran words asked source sink result says (λ bytes. answers asked bytes refl) never ends memory failed cause long
+serial_ran words (Make n) source sink result says answers makes unread never ends memory failed cause long =
+    makes_ran words (make_text n) (Serial (Make n)) source sink result says refl memory (λ bytes. printed (Make n) (make_text n) says refl) (unread refl) makes cause
+serial_ran words Help source sink result says answers makes unread never ends memory failed cause long =
+    makes_ran words help_text (Serial Help) source sink result says refl memory (λ bytes. printed Help help_text says refl) (unread refl) makes cause
+serial_ran words Version source sink result says answers makes unread never ends memory failed cause long =
+    makes_ran words version_text (Serial Version) source sink result says refl memory (λ bytes. printed Version version_text says refl) (unread refl) makes cause
 
 -- a script
 pub replay_ran : {S K : Type 0} (words : List (List ℕ)) (source : SourceRun S) (sink : SinkRun K) (result : Status)

@@ -1,9 +1,4 @@
-pub mod Answer
-pub mod CommandLine
-pub mod Generator
-pub mod Lines
+pub mod Measured
 pub mod Output
 pub mod Runs
 pub mod Tool
-pub mod Written
-pub mod Measured

@@ -24,7 +24,7 @@ use Rattle.mt_private.specs.Jobs.{answers_in}
 use Rattle.mt_private.specs.OneByOne.{OneByOne, jobs_one_by_one, one_by_one}
 use Rattle.mt_dump.specs.Canon.{value_text}
 use Rattle.mt_output.specs.Lines.{line}
-use Rattle.mt_cli.specs.Generator.{drawn, stepped}
+use Rattle.mt_answers.specs.Generator.{drawn, stepped}
 
 -- ---- jobs
 

@@ -6,9 +6,10 @@ use Rattle.mt_ports.specs.Causes.{StatusHasCause}
 use Rattle.mt_ports.specs.declared.status.Status.{Status}
 use Rattle.mt_ports.specs.declared.status.Status.TheVariants.{Usage, ReadFault, WriteFault, NoMemory, TooLong}
 use Rattle.mt_text.specs.Feed.{GaveTooMuch}
-use Rattle.mt_cli.specs.declared.command.Command.{Command}
-use Rattle.mt_cli.specs.CommandLine.{MayTakeMemory, command_of, reads_input}
-use Rattle.mt_cli.specs.Tool.{Leaves, MayEnd, Reads}
+use Rattle.mt_answers.specs.declared.command.Command.{Command}
+use Rattle.mt_answers.specs.CommandLine.{MayTakeMemory, command_of, reads_input}
+use Rattle.mt_answers.specs.Statuses.{MayEnd}
+use Rattle.mt_cli.specs.Tool.{Leaves, Reads}
 
 -- a source before a run and after it, with what it tells of itself
 pub record SourceRun (S : Type 0) : Type 0 where
@@ -40,7 +41,7 @@ pub record IsRun {S K : Type 0} (words : List (List ℕ)) (source : SourceRun S)
   pub reads : (bytes : List ℕ) → source.left source.old ≡ Some bytes → Reads words bytes (source.left source.new) status
   -- Whatever the ports tell, the statuses about an input come only of commands that read it, and TooFew and Disabled only of `tidy` and `gran`.
   pub statuses : MayEnd (command_of words) status
-  -- Usage comes only where the words are no command line. Nothing is then read, nor by `make`, `big` and `private`.
+  -- Usage comes only where the words are no command line. Nothing is then read, nor by `make`, `big`, `private`, `--help` and `--version`.
   pub usage : status ≡ Usage → command_of words ≡ None
   pub unread : reads_input (command_of words) ≡ false → source.new ≡ source.old
   -- The sink then took the output, or a front of it, whether or not the source tells its bytes: it is one for all bytes.

@@ -1,15 +1,12 @@
 -- What a run of the program leaves in the source and the sink (own).
-use Rattle.std.specs.Prelude.{ℕ, ◌≡◌, ◌<◌, ◌⊎◌, true, List, ◌++◌, length, Option, None, Some, ⊤}
+use Rattle.std.specs.Prelude.{ℕ, ◌≡◌, ◌<◌, ◌⊎◌, List, ◌++◌, length, Option, None, Some, ⊤}
 use Rattle.mt_text.specs.Text.{longest_input}
 use Rattle.mt_ports.specs.declared.status.Status.{Status}
 use Rattle.mt_ports.specs.declared.status.Status.TheVariants.{Done, Refused, Usage, BadText, ReadFault, WriteFault, NoMemory, TooLong, TooFew, Disabled}
-use Rattle.mt_cli.specs.declared.command.Command.{Command}
-use Rattle.mt_cli.specs.declared.command.Command.TheVariants.{Serial, Threaded}
-use Rattle.mt_cli.specs.declared.command.SerialCommand.TheVariants.{Dump}
-use Rattle.mt_cli.specs.declared.command.ThreadedCommand.TheVariants.{Replay, Proc, Big, Private}
-use Rattle.mt_cli.specs.declared.command.DumpCommand.{DumpCommand}
-use Rattle.mt_cli.specs.Answer.{MayChoose}
-use Rattle.mt_cli.specs.CommandLine.{command_of, left_of, reads_input}
+use Rattle.mt_answers.specs.declared.command.Command.{Command}
+use Rattle.mt_answers.specs.declared.command.Command.TheVariants.{Serial, Threaded}
+use Rattle.mt_answers.specs.declared.command.ThreadedCommand.TheVariants.{Replay, Proc, Big, Private}
+use Rattle.mt_answers.specs.CommandLine.{command_of, left_of}
 use Rattle.mt_ports.specs.Puts.{AppendsFront}
 use Rattle.mt_output.specs.Lines.{accepted_line}
 use Rattle.mt_script.specs.Newcomers.{IsWithoutNewcomers}
@@ -95,22 +92,3 @@ Reads words bytes left NoMemory = ⊤
 Reads words bytes left TooLong = longest_input < length bytes
 Reads words bytes left TooFew = Answered words bytes left TooFew
 Reads words bytes left Disabled = Answered words bytes left Disabled
-
--- ---- statuses, whether or not a port tells its bytes
-
--- the commands that fit ranges into pairs, `tidy` and `gran`
-abbrev pub FitsRanges : Option Command → Type 0
-FitsRanges command = (asked : DumpCommand) × (command ≡ Some (Serial (Dump asked))) × MayChoose asked
-
--- The statuses that tell of an input are of commands that read it, and two of them of those that fit ranges into pairs.
-abbrev pub MayEnd : Option Command → Status → Type 0
-MayEnd command Done = ⊤
-MayEnd command Refused = reads_input command ≡ true
-MayEnd command Usage = ⊤
-MayEnd command BadText = reads_input command ≡ true
-MayEnd command ReadFault = reads_input command ≡ true
-MayEnd command WriteFault = ⊤
-MayEnd command NoMemory = ⊤
-MayEnd command TooLong = reads_input command ≡ true
-MayEnd command TooFew = FitsRanges command
-MayEnd command Disabled = FitsRanges command

@@ -8,8 +8,8 @@ ghost use Rattle.mt_private.specs.declared.job.Part.TheVariants.{Before, After};
 ghost use Rattle.mt_private.specs.Jobs.{FitsJob, answers_in, ops_in};
 ghost use Rattle.mt_cli.specs.Measured.{AreRan, IsSetUp, behind_ops, drawn_op, drawn_ops, file_of, measured_machine, measured_text, ops_after, ops_before, own_page, sums_text, value_of, values_from, with_own, words_sum};
 
-use crate::generator::{drawn, stepped};
 use arrayvec::ArrayVec;
+use mt_answers::{drawn, stepped};
 use mt_core::Core;
 use mt_machine::{Control, Done, Op};
 use mt_output::{LineBuffer, append, append_value};

@@ -1,9 +1,9 @@
-ghost use Rattle.std.specs.Prelude.{◌≡◌, ◌⊎◌, None, IfErr, IfOk, IsErr, map, string_bytes};
+ghost use Rattle.std.specs.Prelude.{◌≡◌, ◌≢◌, ◌⊎◌, [], None, IfErr, IfOk, IsErr, IsOkAnd, map, string_bytes};
 ghost use Rattle.std.specs.IoError.{error_kind};
 ghost use Rattle.std.specs.Process.{exit_status};
 ghost use Rattle.mt_ports.specs.Exit.{code};
 ghost use Rattle.mt_output.specs.Program.{Exits, words_of};
-ghost use Rattle.mt_cli.specs.CommandLine.{command_of};
+ghost use Rattle.mt_answers.specs.CommandLine.{command_of};
 ghost use Rattle.mt_cli.specs.Runs.{IsRun, sink_run, source_run};
 
 use crate::tool;
@@ -16,10 +16,12 @@ use std::process::ExitCode;
 use std::sync::Wait;
 use std::thread::Threads;
 
-// The words of the command line. There are none where an argument is no text, which is wrong usage.
+// The words of the command line. There are none where an argument is no text, which is wrong usage. Fails exactly where
+// the arguments find no memory, or the list of words none.
 fn words_from(alloc: Global, args: io::Result<Args>) -> Result<Vec<String>, NoMemory>
     ensures words { IfOk result (λ words. map string_bytes words.items ≡ words_of args) }
     ensures no_memory { IfErr args (λ error. error_kind error ≡ ErrorKind.OutOfMemory → IsErr result) }
+    ensures no_text { IfErr args (λ error. error_kind error ≢ ErrorKind.OutOfMemory → IsOkAnd result (λ words. words.items ≡ [])) }
 {
     match args {
         Ok(args) => match words_behind_name(alloc, args) {
@@ -43,6 +45,7 @@ fn run<R: AllocGlobal + Threads + Wait + Sync, S: Source, K: Sink, G: Gate>(
         (source_run S.left S.faults S.given source.old source.new) (sink_run K.taken K.faults sink.old sink.new) result }
     ensures no_command { command_of (words_of args) ≡ None → (result ≡ Status.Usage) ⊎ (result ≡ Status.WriteFault) ⊎ (result ≡ Status.NoMemory) }
     ensures no_memory { IfErr args (λ error. error_kind error ≡ ErrorKind.OutOfMemory → result ≡ Status.NoMemory) }
+    ensures no_text { IfErr args (λ error. error_kind error ≢ ErrorKind.OutOfMemory → (result ≡ Status.Usage) ⊎ (result ≡ Status.WriteFault)) }
 {
     match words_from(rt.alloc(), args) {
         Ok(words) => tool(rt, &words, source, sink, gate),
@@ -65,6 +68,9 @@ pub fn program_status<R: AllocGlobal + Threads + Wait + Sync, S: Source, K: Sink
 
     // Where the arguments find no memory nothing is run.
     ensures no_memory { IfErr args (λ error. error_kind error ≡ ErrorKind.OutOfMemory → exit_status result ≡ code Status.NoMemory) }
+
+    // An argument that is no text is wrong usage.
+    ensures no_text { Exits result (λ status. IfErr args (λ error. error_kind error ≢ ErrorKind.OutOfMemory → (status ≡ Status.Usage) ⊎ (status ≡ Status.WriteFault))) }
 {
     exit_code(run(rt, args, source, sink, gate))
 }

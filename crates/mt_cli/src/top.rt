@@ -1,34 +1,16 @@
 ghost use Rattle.std.specs.Prelude.{◌≡◌, ℕ, List, Some, None, map, string_bytes, IfOk, OnErr, MatchResult};
-ghost use Rattle.mt_cli.specs.declared.command.Command.TheVariants.{Serial, Threaded};
-ghost use Rattle.mt_cli.specs.CommandLine.{IsSoundSerial, IsSoundThreaded, command_of, threaded_of};
+ghost use Rattle.mt_answers.specs.declared.command.Command.TheVariants.{Threaded};
+ghost use Rattle.mt_answers.specs.CommandLine.{IsSoundThreaded, command_of, threaded_of};
 ghost use Rattle.mt_cli.specs.Runs.{IsToolRun, sink_run, source_run};
 
-use crate::answers::{answer_input, big, make, private};
-use crate::{Command, SerialCommand, ThreadedCommand, command_of};
-use mt_output::written;
+use crate::sums::{big, private};
+use mt_answers::{Command, ThreadedCommand, command_of, run_serial, wrong_usage};
 use mt_ports::{Gate, Sink, Source, Status};
 use mt_proc::proc;
 use mt_replay::replay;
 use std::alloc::Global;
 use std::sync::Wait;
 use std::thread::Threads;
-
-// Does what the calling thread does alone.
-fn run_serial<S: Source, K: Sink>(
-    alloc: Global,
-    command: SerialCommand,
-    source: &mut S,
-    sink: &mut K,
-) -> Status
-    requires { IsSoundSerial command }
-    ensures { (words : List (List ℕ)) → command_of words ≡ Some (Serial command) →
-        IsToolRun words (source_run S.left S.faults S.given source.old source.new) (sink_run K.taken K.faults sink.old sink.new) result }
-{
-    match command {
-        SerialCommand::Dump(command) => answer_input(alloc, command, source, sink),
-        SerialCommand::Make(n) => make(alloc, n, sink),
-    }
-}
 
 // Does what is done on threads.
 fn run_threaded<R: AllocGlobal + Threads + Wait + Sync, S: Source, K: Sink, G: Gate>(
@@ -52,8 +34,8 @@ fn run_threaded<R: AllocGlobal + Threads + Wait + Sync, S: Source, K: Sink, G: G
     }
 }
 
-/// Does what `tool` does for words that start no thread: those of `check`, `show`, `types`, `page`, `tidy`, `gran` and
-/// `make`, and those that are no command line. It has no handle to wait by, so it is proved to return for every input.
+/// Does what `tool` does for words that start no thread: those of `check`, `show`, `types`, `page`, `tidy`, `gran`,
+/// `make`, `--help` and `--version`, and those that are no command line. It has no handle to wait by, so it is proved to return for every input.
 /// It hands any other command back, and calls no port for it.
 pub fn answer_words<S: Source, K: Sink>(
     alloc: Global,
@@ -71,7 +53,7 @@ pub fn answer_words<S: Source, K: Sink>(
     ensures untouched { OnErr result ((source.new ≡ source.old) × (sink.new ≡ sink.old)) }
 {
     let Some(command) = command_of(words) else {
-        return Ok(written(sink, b"usage\n", Status::Usage));
+        return Ok(wrong_usage(sink));
     };
     match command {
         Command::Serial(command) => Ok(run_serial(alloc, command, source, sink)),
@@ -80,8 +62,8 @@ pub fn answer_words<S: Source, K: Sink>(
 }
 
 /// Does all that the program does, and answers its status. The words are the command line without
-/// the program's name. Nothing is read where they are no command line, nor by `make`, `big` and
-/// `private`; otherwise the input is read to its end, unless the source or the sink fails, memory is refused or
+/// the program's name. Nothing is read where they are no command line, nor by `make`, `big`,
+/// `private`, `--help` and `--version`; otherwise the input is read to its end, unless the source or the sink fails, memory is refused or
 /// there are more than 16,777,216 bytes. A port that failed isn't called
 /// again, since that call might fail too. Words that start no thread go to `answer_words`.
 pub fn tool<R: AllocGlobal + Threads + Wait + Sync, S: Source, K: Sink, G: Gate>(

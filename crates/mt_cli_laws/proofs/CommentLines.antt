@@ -12,7 +12,7 @@ use Rattle.mt_dump.specs.Canon.{canon}
 use Rattle.mt_dump.specs.Dumps.{Dump}
 use Rattle.mt_dump.specs.Dump.{Shown}
 use Rattle.mt_dump.proofs.Comments.{shown_behind_comment}
-use Rattle.mt_cli.specs.Lines.{used_line}
+use Rattle.mt_answers.specs.Lines.{used_line}
 
 digit_is_no_end : (digit : ℕ) → 48 ≤ digit → not (is_line_end digit) ≡ true
 digit_is_no_end digit above = grind (arith, nat_tests)

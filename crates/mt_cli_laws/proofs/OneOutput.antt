@@ -1,8 +1,8 @@
 -- Words and bytes have one status, and one text but where several lists of ranges are least.
-use Rattle.std.proofs.Common.{◌≡◌, ◌≢◌, ℕ, ◌++◌, false, List, [], Some, None, refl, sym, subst, ap, ◌∙◌, inl, inr, arith}
+use Rattle.std.proofs.Common.{◌≡◌, ◌≢◌, ℕ, ◌++◌, false, List, [], Option, Some, None, refl, sym, subst, ap, ◌∙◌, inl, inr, arith}
 use Rattle.std.specs.Prelude.{◌⊎◌}
 use Rattle.mt_ports.specs.declared.status.Status.{Status}
-use Rattle.mt_ports.specs.declared.status.Status.TheVariants.{Done, Refused, TooFew, Disabled}
+use Rattle.mt_ports.specs.declared.status.Status.TheVariants.{Done, Refused, Usage, BadText, TooFew, Disabled}
 use Rattle.mt_regs.specs.RegisterFile.{RegisterFile, is_enabled}
 use Rattle.mt_regs.specs.declared.fault.Fault.{Fault}
 use Rattle.mt_regs.specs.Agreement.{first_refusal}
@@ -11,26 +11,30 @@ use Rattle.mt_types.specs.Runs.{IsRunsOf}
 use Rattle.mt_types.proofs.OneMap.{one_type_map}
 use Rattle.mt_dump.specs.Canon.{canon}
 use Rattle.mt_dump.specs.Dumps.{Dump as Shows, dump_of, first_file}
-use Rattle.mt_dump.specs.Dump.{Shown}
+use Rattle.mt_dump.specs.Dump.{Shown, dump_offence}
+use Rattle.mt_dump.specs.declared.fault.DumpFault.{DumpFault}
 use Rattle.mt_dump.proofs.Ends.{one_dump, shown_no_offence}
 use Rattle.mt_proc.specs.Proc.{proc_transcript}
+use Rattle.mt_replay.specs.Transcript.{transcript}
 use Rattle.mt_tidy.specs.Keeps.{IsLeast}
 use Rattle.mt_tidy.specs.Kept.{IsTidy, NeedsMore}
 use Rattle.mt_gran.specs.Grained.{IsGrained, NeedsMore as GranNeedsMore}
 use Rattle.mt_gran.proofs.RoundedFit.{needs_is_least, one_least as one_rounded, used_is_least}
-use Rattle.mt_cli.specs.declared.command.Command.TheVariants.{Serial, Threaded}
-use Rattle.mt_cli.specs.declared.command.SerialCommand.TheVariants.{Dump, Make}
-use Rattle.mt_cli.specs.declared.command.ThreadedCommand.TheVariants.{Replay, Proc, Big, Private}
-use Rattle.mt_cli.specs.declared.command.Command.{Command}
-use Rattle.mt_cli.specs.declared.command.DumpCommand.{DumpCommand}
-use Rattle.mt_cli.specs.declared.command.DumpCommand.TheVariants.{Check, Show, Types, Page, Tidy, Gran}
+use Rattle.mt_answers.specs.declared.command.Command.TheVariants.{Serial, Threaded}
+use Rattle.mt_answers.specs.declared.command.SerialCommand.{SerialCommand}
+use Rattle.mt_answers.specs.declared.command.SerialCommand.TheVariants.{Dump, Make, Help, Version}
+use Rattle.mt_answers.specs.declared.command.ThreadedCommand.TheVariants.{Replay, Proc, Big, Private}
+use Rattle.mt_answers.specs.declared.command.Command.{Command}
+use Rattle.mt_answers.specs.declared.command.DumpCommand.{DumpCommand}
+use Rattle.mt_answers.specs.declared.command.DumpCommand.TheVariants.{Check, Show, Types, Page, Tidy, Gran}
 use Rattle.mt_cli.specs.Measured.{measured_text}
-use Rattle.mt_cli.specs.CommandLine.{command_of}
+use Rattle.mt_answers.specs.CommandLine.{command_of}
 use Rattle.mt_output.specs.Lines.{bad_text_line, dump_refused_line}
-use Rattle.mt_cli.specs.Lines.{check_text, disabled_line, page_text, too_few_line, types_text, used_line}
-use Rattle.mt_cli.specs.Generator.{make_text}
-use Rattle.mt_cli.specs.Answer.{Answer, FileAnswer, MayChoose, refused, accepted, shown, about_file, typed, paged, tidied, too_few, disabled, grained, gran_too_few, gran_disabled}
-use Rattle.mt_cli.specs.Output.{Output, big_text, usage, bad_text, answered, replayed, made, summed, measured, requested}
+use Rattle.mt_answers.specs.Lines.{check_text, disabled_line, page_text, too_few_line, types_text, usage_line, used_line}
+use Rattle.mt_answers.specs.Generator.{make_text}
+use Rattle.mt_answers.specs.Help.{help_text, own_text, version_text}
+use Rattle.mt_answers.specs.Answer.{Answer, FileAnswer, MayChoose, refused, accepted, shown, about_file, typed, paged, tidied, too_few, disabled, grained, gran_too_few, gran_disabled}
+use Rattle.mt_cli.specs.Output.{Output, big_text, usage, bad_text, answered, replayed, printed, summed, measured, requested}
 
 -- the answer names the first file that isn't accepted
 pub record Refusal (dump : Shows) (command : DumpCommand) (text : List ℕ) (status : Status) : Type 0 where
@@ -228,153 +232,93 @@ agree_parts dump command text other s t (inr a) (inr b) = agree_own dump command
 pub agree_answers : (dump : Shows) (command : DumpCommand) (text other : List ℕ) (s t : Status) → Answer dump command text s → Answer dump command other t → Agree command text other s t
 agree_answers dump command text other s t a b = agree_parts dump command text other s t (taken_apart dump command text s a) (taken_apart dump command other t b)
 
+-- ---- all commands
+
+-- an input that is no dump
+pub record Offending (bytes text : List ℕ) (status : Status) : Type 0 where
+  pub fault : DumpFault
+  pub offence : dump_offence bytes ≡ Some fault
+  pub is_text : text ≡ bad_text_line fault
+  pub is_status : status ≡ BadText
+
+pub record Answering (bytes : List ℕ) (command : DumpCommand) (text : List ℕ) (status : Status) : Type 0 where
+  pub dump : Shows
+  pub shows : Shown bytes dump
+  pub answer : Answer dump command text status
+
+pub record Exactly (line : List ℕ) (ends : Status) (text : List ℕ) (status : Status) : Type 0 where
+  pub is_text : text ≡ line
+  pub is_status : status ≡ ends
+
+-- the outputs of each command
+abbrev pub OutputOwn : List ℕ → Option Command → List ℕ → Status → Type 0
+OutputOwn bytes None text status = Exactly usage_line Usage text status
+OutputOwn bytes (Some (Serial (Dump command))) text status = Offending bytes text status ⊎ Answering bytes command text status
+OutputOwn bytes (Some (Serial (Make n))) text status = Plain (make_text n) text status
+OutputOwn bytes (Some (Serial Help)) text status = Plain help_text text status
+OutputOwn bytes (Some (Serial Version)) text status = Plain version_text text status
+OutputOwn bytes (Some (Threaded Replay)) text status = Exactly (transcript bytes).text (transcript bytes).status text status
+OutputOwn bytes (Some (Threaded (Proc cpus))) text status = Exactly (proc_transcript cpus bytes).text (proc_transcript cpus bytes).status text status
+OutputOwn bytes (Some (Threaded (Big n))) text status = Plain (big_text n) text status
+OutputOwn bytes (Some (Threaded (Private cpus n accesses))) text status = Plain (measured_text cpus n accesses) text status
+
+abbrev text_in : Option (List ℕ) → List ℕ
+text_in None = []
+text_in (Some text) = text
+
+own_of_serial : (bytes : List ℕ) (command : SerialCommand) (text : List ℕ) → own_text command ≡ Some text → OutputOwn bytes (Some (Serial command)) text Done
+own_of_serial bytes (Dump command) text is = absurd (cc is)
+own_of_serial bytes (Make n) text is = record { is_text = sym (ap text_in is); is_status = refl }
+own_of_serial bytes Help text is = record { is_text = sym (ap text_in is); is_status = refl }
+own_of_serial bytes Version text is = record { is_text = sym (ap text_in is); is_status = refl }
+
+pub output_apart : (words : List (List ℕ)) (bytes text : List ℕ) (status : Status) → Output words bytes text status → OutputOwn bytes (command_of words) text status
+output_apart words bytes text status output = by output
+  where
+    of : (command : Option Command) → command_of words ≡ command → OutputOwn bytes command text status → OutputOwn bytes (command_of words) text status
+    of command says own = subst (λ (o : Option Command). OutputOwn bytes o text status) (sym says) own
+
+    by : Output words bytes text status → OutputOwn bytes (command_of words) text status
+    by (usage none_is) = of None none_is (record { is_text = refl; is_status = refl })
+    by (bad_text command fault says is) = of (Some (Serial (Dump command))) says (inl (record { fault = fault; offence = is; is_text = refl; is_status = refl }))
+    by (answered command dump u v says shows answer) = of (Some (Serial (Dump command))) says (inr (record { dump = dump; shows = shows; answer = answer }))
+    by (printed command u says is) = of (Some (Serial command)) says (own_of_serial bytes command u is)
+    by (summed n says) = of (Some (Threaded (Big n))) says (record { is_text = refl; is_status = refl })
+    by (measured cpus n accesses says) = of (Some (Threaded (Private cpus n accesses))) says (record { is_text = refl; is_status = refl })
+    by (replayed says) = of (Some (Threaded Replay)) says (record { is_text = refl; is_status = refl })
+    by (requested cpus says) = of (Some (Threaded (Proc cpus))) says (record { is_text = refl; is_status = refl })
+
 -- one status, and one text unless a tidied or rounded file was written
+abbrev AgreeOn : Option Command → List ℕ → List ℕ → Status → Status → Type 0
+AgreeOn asked text other s t = (s ≡ t) × (((command : DumpCommand) → asked ≡ Some (Serial (Dump command)) → MayChoose command → s ≢ Done) → text ≡ other)
+
 abbrev pub AgreeFor : List (List ℕ) → List ℕ → List ℕ → Status → Status → Type 0
-AgreeFor words text other s t = (s ≡ t) × (((command : DumpCommand) → command_of words ≡ Some (Serial (Dump command)) → MayChoose command → s ≢ Done) → text ≡ other)
+AgreeFor words text other s t = AgreeOn (command_of words) text other s t
 
-some_command : (words : List (List ℕ)) (a b : DumpCommand) → command_of words ≡ Some (Serial (Dump a)) → command_of words ≡ Some (Serial (Dump b)) → a ≡ b
-some_command words a b first second = let e : Some (Serial (Dump a)) ≡ Some (Serial (Dump b)) = sym first ∙ second in cc e
+agree_input : (bytes : List ℕ) (command : DumpCommand) (text other : List ℕ) (s t : Status)
+    → Offending bytes text s ⊎ Answering bytes command text s → Offending bytes other t ⊎ Answering bytes command other t → AgreeOn (Some (Serial (Dump command))) text other s t
+agree_input bytes command text other s t (inl a) (inl b) =
+    let e : Some a.fault ≡ Some b.fault = sym a.offence ∙ b.offence in
+    let same : a.fault ≡ b.fault = cc e in
+    (a.is_status ∙ sym b.is_status, λ not_done. a.is_text ∙ ap bad_text_line same ∙ sym b.is_text)
+agree_input bytes command text other s t (inl a) (inr b) = let e : Some a.fault ≡ None = sym a.offence ∙ shown_no_offence bytes b.dump b.shows in absurd (cc e)
+agree_input bytes command text other s t (inr a) (inl b) = let e : Some b.fault ≡ None = sym b.offence ∙ shown_no_offence bytes a.dump a.shows in absurd (cc e)
+agree_input bytes command text other s t (inr a) (inr b) =
+    let same : b.dump ≡ a.dump = one_dump bytes b.dump a.dump b.shows a.shows in
+    let agree = agree_answers a.dump command text other s t a.answer (subst (λ (d : Shows). Answer d command other t) same b.answer) in
+    (agree.0, λ not_done. agree.1 (λ chooses. not_done command refl chooses))
 
-agree_answered : (words : List (List ℕ)) (bytes text other : List ℕ) (s t : Status) (a b : DumpCommand) (f g : Shows)
-    → command_of words ≡ Some (Serial (Dump a)) → command_of words ≡ Some (Serial (Dump b)) → Shown bytes f → Shown bytes g → Answer f a text s → Answer g b other t → AgreeFor words text other s t
-agree_answered words bytes text other s t a b f g says also shows too left right =
-    let command : b ≡ a = some_command words b a also says in
-    let dump : g ≡ f = one_dump bytes g f too shows in
-    let same : Answer f a other t = subst (λ (c : DumpCommand). Answer f c other t) command (subst (λ (h : Shows). Answer h b other t) dump right) in
-    let agree = agree_answers f a text other s t left same in
-    (agree.0, λ not_done. agree.1 (λ chooses. not_done a says chooses))
-
--- words of `replay` are those of no other command
-no_replay : (words : List (List ℕ)) (command : DumpCommand) → command_of words ≡ Some (Serial (Dump command)) → command_of words ≡ Some (Threaded Replay) → ⊥
-no_replay words command says is = let e : Some (Serial (Dump command)) ≡ Some (Threaded Replay) = sym says ∙ is in cc e
-
--- nor are those of `make`
-no_make : (words : List (List ℕ)) (command : DumpCommand) (n : ℕ) → command_of words ≡ Some (Serial (Dump command)) → command_of words ≡ Some (Serial (Make n)) → ⊥
-no_make words command n says is = let e : Some (Serial (Dump command)) ≡ Some (Serial (Make n)) = sym says ∙ is in cc e
-
-no_made_replay : (words : List (List ℕ)) (n : ℕ) → command_of words ≡ Some (Threaded Replay) → command_of words ≡ Some (Serial (Make n)) → ⊥
-no_made_replay words n says is = let e : Some (Threaded Replay) ≡ Some (Serial (Make n)) = sym says ∙ is in cc e
-
--- nor are those of `proc` words of another command
-no_proc : (words : List (List ℕ)) (command : DumpCommand) (cpus : ℕ) → command_of words ≡ Some (Serial (Dump command)) → command_of words ≡ Some (Threaded (Proc cpus)) → ⊥
-no_proc words command cpus says is = let e : Some (Serial (Dump command)) ≡ Some (Threaded (Proc cpus)) = sym says ∙ is in cc e
-
-no_proc_replay : (words : List (List ℕ)) (cpus : ℕ) → command_of words ≡ Some (Threaded Replay) → command_of words ≡ Some (Threaded (Proc cpus)) → ⊥
-no_proc_replay words cpus says is = let e : Some (Threaded Replay) ≡ Some (Threaded (Proc cpus)) = sym says ∙ is in cc e
-
-no_proc_big : (words : List (List ℕ)) (cpus n : ℕ) → command_of words ≡ Some (Threaded (Proc cpus)) → command_of words ≡ Some (Threaded (Big n)) → ⊥
-no_proc_big words cpus n says is = let e : Some (Threaded (Proc cpus)) ≡ Some (Threaded (Big n)) = sym says ∙ is in cc e
-
-no_proc_jobs : (words : List (List ℕ)) (number cpus n accesses : ℕ) → command_of words ≡ Some (Threaded (Proc number)) → command_of words ≡ Some (Threaded (Private cpus n accesses)) → ⊥
-no_proc_jobs words number cpus n accesses says is = let e : Some (Threaded (Proc number)) ≡ Some (Threaded (Private cpus n accesses)) = sym says ∙ is in cc e
-
-no_made_proc : (words : List (List ℕ)) (cpus n : ℕ) → command_of words ≡ Some (Threaded (Proc cpus)) → command_of words ≡ Some (Serial (Make n)) → ⊥
-no_made_proc words cpus n says is = let e : Some (Threaded (Proc cpus)) ≡ Some (Serial (Make n)) = sym says ∙ is in cc e
-
-same_number : (words : List (List ℕ)) (m n : ℕ) → command_of words ≡ Some (Serial (Make m)) → command_of words ≡ Some (Serial (Make n)) → m ≡ n
-same_number words m n says is = let e : Some (Serial (Make m)) ≡ Some (Serial (Make n)) = sym says ∙ is in cc e
-
-same_cpus : (words : List (List ℕ)) (m n : ℕ) → command_of words ≡ Some (Threaded (Proc m)) → command_of words ≡ Some (Threaded (Proc n)) → m ≡ n
-same_cpus words m n says is = let e : Some (Threaded (Proc m)) ≡ Some (Threaded (Proc n)) = sym says ∙ is in cc e
-
-same_big : (words : List (List ℕ)) (m n : ℕ) → command_of words ≡ Some (Threaded (Big m)) → command_of words ≡ Some (Threaded (Big n)) → m ≡ n
-same_big words m n says is = let e : Some (Threaded (Big m)) ≡ Some (Threaded (Big n)) = sym says ∙ is in cc e
-
--- words are one command
-one_command : (words : List (List ℕ)) (command other : Command) → command_of words ≡ Some command → command_of words ≡ Some other → command ≡ other
-one_command words command other says is = let e : Some command ≡ Some other = sym says ∙ is in cc e
-
-no_sums : (words : List (List ℕ)) (command : DumpCommand) (cpus n accesses : ℕ) → command_of words ≡ Some (Serial (Dump command)) → command_of words ≡ Some (Threaded (Private cpus n accesses)) → ⊥
-no_sums words command cpus n accesses says is = let e = one_command words (Serial (Dump command)) (Threaded (Private cpus n accesses)) says is in cc e
-
-no_measured_replay : (words : List (List ℕ)) (cpus n accesses : ℕ) → command_of words ≡ Some (Threaded Replay) → command_of words ≡ Some (Threaded (Private cpus n accesses)) → ⊥
-no_measured_replay words cpus n accesses says is = let e = one_command words (Threaded Replay) (Threaded (Private cpus n accesses)) says is in cc e
-
-no_measured_big : (words : List (List ℕ)) (m cpus n accesses : ℕ) → command_of words ≡ Some (Threaded (Big m)) → command_of words ≡ Some (Threaded (Private cpus n accesses)) → ⊥
-no_measured_big words m cpus n accesses says is = let e = one_command words (Threaded (Big m)) (Threaded (Private cpus n accesses)) says is in cc e
-
-no_measured_make : (words : List (List ℕ)) (m cpus n accesses : ℕ) → command_of words ≡ Some (Serial (Make m)) → command_of words ≡ Some (Threaded (Private cpus n accesses)) → ⊥
-no_measured_make words m cpus n accesses says is = let e = one_command words (Serial (Make m)) (Threaded (Private cpus n accesses)) says is in cc e
-
--- the text of a command that sums
-sums_of : Command → List ℕ
-sums_of (Threaded (Private cpus n accesses)) = measured_text cpus n accesses
-sums_of other = []
-
-same_sums : (words : List (List ℕ)) (cpus n accesses p m a : ℕ) → command_of words ≡ Some (Threaded (Private cpus n accesses)) → command_of words ≡ Some (Threaded (Private p m a)) → measured_text cpus n accesses ≡ measured_text p m a
-unfolding sums_of
-same_sums words cpus n accesses p m a says is = ap sums_of (one_command words (Threaded (Private cpus n accesses)) (Threaded (Private p m a)) says is)
+agree_own_output : (bytes : List ℕ) (asked : Option Command) (text other : List ℕ) (s t : Status) → OutputOwn bytes asked text s → OutputOwn bytes asked other t → AgreeOn asked text other s t
+agree_own_output bytes None text other s t a b = (a.is_status ∙ sym b.is_status, λ not_done. a.is_text ∙ sym b.is_text)
+agree_own_output bytes (Some (Serial (Dump command))) text other s t a b = agree_input bytes command text other s t a b
+agree_own_output bytes (Some (Serial (Make n))) text other s t a b = (a.is_status ∙ sym b.is_status, λ not_done. a.is_text ∙ sym b.is_text)
+agree_own_output bytes (Some (Serial Help)) text other s t a b = (a.is_status ∙ sym b.is_status, λ not_done. a.is_text ∙ sym b.is_text)
+agree_own_output bytes (Some (Serial Version)) text other s t a b = (a.is_status ∙ sym b.is_status, λ not_done. a.is_text ∙ sym b.is_text)
+agree_own_output bytes (Some (Threaded Replay)) text other s t a b = (a.is_status ∙ sym b.is_status, λ not_done. a.is_text ∙ sym b.is_text)
+agree_own_output bytes (Some (Threaded (Proc cpus))) text other s t a b = (a.is_status ∙ sym b.is_status, λ not_done. a.is_text ∙ sym b.is_text)
+agree_own_output bytes (Some (Threaded (Big n))) text other s t a b = (a.is_status ∙ sym b.is_status, λ not_done. a.is_text ∙ sym b.is_text)
+agree_own_output bytes (Some (Threaded (Private cpus n accesses))) text other s t a b = (a.is_status ∙ sym b.is_status, λ not_done. a.is_text ∙ sym b.is_text)
 
 pub one_output : (words : List (List ℕ)) (bytes text other : List ℕ) (s t : Status) → Output words bytes text s → Output words bytes other t → AgreeFor words text other s t
-one_output words bytes text other s t (usage none_is) (usage also) = (refl, λ not_done. refl)
-one_output words bytes text other s t (usage none_is) (bad_text command fault says is) = absurd (cc (none_is, says))
-one_output words bytes text other s t (usage none_is) (answered command file u v says shows answer) = absurd (cc (none_is, says))
-one_output words bytes text other s t (usage none_is) (replayed says) = absurd (cc (none_is, says))
-one_output words bytes text other s t (usage none_is) (made n says) = absurd (cc (none_is, says))
-one_output words bytes text other s t (usage none_is) (measured cpus n accesses says) = absurd (cc (none_is, says))
-one_output words bytes text other s t (usage none_is) (requested cpus says) = absurd (cc (none_is, says))
-one_output words bytes text other s t (bad_text command fault says is) (usage none_is) = absurd (cc (none_is, says))
-one_output words bytes text other s t (bad_text command fault says is) (bad_text again offence also too) =
-    let e : Some fault ≡ Some offence = sym is ∙ too in
-    let same : fault ≡ offence = cc e in
-    (refl, λ not_done. ap bad_text_line same)
-one_output words bytes text other s t (bad_text command fault says is) (answered again file u v also shows answer) =
-    let e : Some fault ≡ None = sym is ∙ shown_no_offence bytes file shows in absurd (cc e)
-one_output words bytes text other s t (bad_text command fault says is) (replayed also) = absurd (no_replay words command says also)
-one_output words bytes text other s t (bad_text command fault says is) (made n also) = absurd (no_make words command n says also)
-one_output words bytes text other s t (bad_text command fault says is) (measured cpus n accesses also) = absurd (no_sums words command cpus n accesses says also)
-one_output words bytes text other s t (bad_text command fault says is) (requested cpus also) = absurd (no_proc words command cpus says also)
-one_output words bytes text other s t (answered command file u v says shows answer) (usage none_is) = absurd (cc (none_is, says))
-one_output words bytes text other s t (answered command file u v says shows answer) (bad_text again fault also is) =
-    let e : Some fault ≡ None = sym is ∙ shown_no_offence bytes file shows in absurd (cc e)
-one_output words bytes text other s t (answered command file u v says shows answer) (answered again other_file w x also too reply) =
-    agree_answered words bytes u w v x command again file other_file says also shows too answer reply
-one_output words bytes text other s t (answered command file u v says shows answer) (replayed also) = absurd (no_replay words command says also)
-one_output words bytes text other s t (answered command file u v says shows answer) (made n also) = absurd (no_make words command n says also)
-one_output words bytes text other s t (answered command file u v says shows answer) (measured cpus n accesses also) = absurd (no_sums words command cpus n accesses says also)
-one_output words bytes text other s t (answered command file u v says shows answer) (requested cpus also) = absurd (no_proc words command cpus says also)
-one_output words bytes text other s t (replayed says) (usage none_is) = absurd (cc (none_is, says))
-one_output words bytes text other s t (replayed says) (bad_text again fault also is) = absurd (no_replay words again also says)
-one_output words bytes text other s t (replayed says) (answered again file u v also shows answer) = absurd (no_replay words again also says)
-one_output words bytes text other s t (replayed says) (replayed also) = (refl, λ not_done. refl)
-one_output words bytes text other s t (replayed says) (made n also) = absurd (no_made_replay words n says also)
-one_output words bytes text other s t (replayed says) (measured cpus n accesses also) = absurd (no_measured_replay words cpus n accesses says also)
-one_output words bytes text other s t (replayed says) (requested cpus also) = absurd (no_proc_replay words cpus says also)
-one_output words bytes text other s t (made n says) (usage none_is) = absurd (cc (none_is, says))
-one_output words bytes text other s t (made n says) (bad_text again fault also is) = absurd (no_make words again n also says)
-one_output words bytes text other s t (made n says) (answered again file u v also shows answer) = absurd (no_make words again n also says)
-one_output words bytes text other s t (made n says) (replayed also) = absurd (no_made_replay words n also says)
-one_output words bytes text other s t (made n says) (made m also) = (refl, λ not_done. ap make_text (same_number words n m says also))
-one_output words bytes text other s t (usage none_is) (summed n says) = absurd (cc (none_is, says))
-one_output words bytes text other s t (bad_text command fault says is) (summed n also) = absurd (cc (says, also))
-one_output words bytes text other s t (answered command file u v says shows answer) (summed n also) = absurd (cc (says, also))
-one_output words bytes text other s t (replayed says) (summed n also) = absurd (cc (says, also))
-one_output words bytes text other s t (made n says) (summed m also) = absurd (cc (says, also))
-one_output words bytes text other s t (summed n says) (usage none_is) = absurd (cc (none_is, says))
-one_output words bytes text other s t (summed n says) (bad_text again fault also is) = absurd (cc (says, also))
-one_output words bytes text other s t (summed n says) (answered again file u v also shows answer) = absurd (cc (says, also))
-one_output words bytes text other s t (summed n says) (replayed also) = absurd (cc (says, also))
-one_output words bytes text other s t (summed n says) (made m also) = absurd (cc (says, also))
-one_output words bytes text other s t (summed n says) (summed m also) = (refl, λ not_done. ap big_text (same_big words n m says also))
-one_output words bytes text other s t (summed n says) (measured cpus m accesses also) = absurd (no_measured_big words n cpus m accesses says also)
-one_output words bytes text other s t (made m says) (measured cpus n accesses also) = absurd (no_measured_make words m cpus n accesses says also)
-one_output words bytes text other s t (measured cpus n accesses says) (usage none_is) = absurd (cc (none_is, says))
-one_output words bytes text other s t (measured cpus n accesses says) (bad_text again fault also is) = absurd (no_sums words again cpus n accesses also says)
-one_output words bytes text other s t (measured cpus n accesses says) (answered again file u v also shows answer) = absurd (no_sums words again cpus n accesses also says)
-one_output words bytes text other s t (measured cpus n accesses says) (replayed also) = absurd (no_measured_replay words cpus n accesses also says)
-one_output words bytes text other s t (measured cpus n accesses says) (made m also) = absurd (no_measured_make words m cpus n accesses also says)
-one_output words bytes text other s t (measured cpus n accesses says) (summed m also) = absurd (no_measured_big words m cpus n accesses also says)
-one_output words bytes text other s t (measured cpus n accesses says) (measured p m a also) = (refl, λ not_done. same_sums words cpus n accesses p m a says also)
-one_output words bytes text other s t (made n says) (requested cpus also) = absurd (no_made_proc words cpus n also says)
-one_output words bytes text other s t (requested cpus says) (usage none_is) = absurd (cc (none_is, says))
-one_output words bytes text other s t (requested cpus says) (bad_text again fault also is) = absurd (no_proc words again cpus also says)
-one_output words bytes text other s t (requested cpus says) (answered again file u v also shows answer) = absurd (no_proc words again cpus also says)
-one_output words bytes text other s t (requested cpus says) (replayed also) = absurd (no_proc_replay words cpus also says)
-one_output words bytes text other s t (requested cpus says) (made n also) = absurd (no_made_proc words cpus n says also)
-one_output words bytes text other s t (requested cpus says) (requested number also) =
-    let same : cpus ≡ number = same_cpus words cpus number says also in
-    (ap (λ (n : ℕ). (proc_transcript n bytes).status) same, λ not_done. ap (λ (n : ℕ). (proc_transcript n bytes).text) same)
-one_output words bytes text other s t (requested cpus says) (summed n also) = absurd (no_proc_big words cpus n says also)
-one_output words bytes text other s t (summed n says) (requested cpus also) = absurd (no_proc_big words cpus n also says)
-one_output words bytes text other s t (requested number says) (measured cpus n accesses also) = absurd (no_proc_jobs words number cpus n accesses says also)
-one_output words bytes text other s t (measured cpus n accesses says) (requested number also) = absurd (no_proc_jobs words number cpus n accesses also says)
+one_output words bytes text other s t first second =
+    agree_own_output bytes (command_of words) text other s t (output_apart words bytes text s first) (output_apart words bytes other t second)

@@ -8,18 +8,18 @@ use Rattle.mt_regs.specs.Agreement.{first_refusal}
 use Rattle.mt_types.proofs.SomeMap.{a_type_map}
 use Rattle.mt_dump.specs.Dumps.{Dump as Shows, IsDump, first_file}
 use Rattle.mt_dump.proofs.Ends.{shown_dump, shown_or_offence}
-use Rattle.mt_cli.proofs.FirstFiles.{first_is_accepted, first_is_file}
+use Rattle.mt_answers.proofs.FirstFiles.{first_is_accepted, first_is_file}
 use Rattle.mt_types_laws.proofs.SomeTidy.{tidy_or_more}
 use Rattle.mt_types_laws.proofs.SomeRounding.{rounded_or_more}
-use Rattle.mt_cli.specs.declared.command.Command.{Command}
-use Rattle.mt_cli.specs.declared.command.Command.TheVariants.{Serial, Threaded}
-use Rattle.mt_cli.specs.declared.command.SerialCommand.TheVariants.{Dump, Make}
-use Rattle.mt_cli.specs.declared.command.ThreadedCommand.TheVariants.{Replay, Proc, Big, Private}
-use Rattle.mt_cli.specs.declared.command.DumpCommand.{DumpCommand}
-use Rattle.mt_cli.specs.declared.command.DumpCommand.TheVariants.{Check, Show, Types, Page, Tidy, Gran}
-use Rattle.mt_cli.specs.CommandLine.{command_of}
-use Rattle.mt_cli.specs.Answer.{Answer, FileAnswer, refused, accepted, shown, about_file, typed, paged, tidied, too_few, disabled, grained, gran_too_few, gran_disabled}
-use Rattle.mt_cli.specs.Output.{Output, usage, bad_text, answered, replayed, made, summed, measured, requested}
+use Rattle.mt_answers.specs.declared.command.Command.{Command}
+use Rattle.mt_answers.specs.declared.command.Command.TheVariants.{Serial, Threaded}
+use Rattle.mt_answers.specs.declared.command.SerialCommand.TheVariants.{Dump, Make, Help, Version}
+use Rattle.mt_answers.specs.declared.command.ThreadedCommand.TheVariants.{Replay, Proc, Big, Private}
+use Rattle.mt_answers.specs.declared.command.DumpCommand.{DumpCommand}
+use Rattle.mt_answers.specs.declared.command.DumpCommand.TheVariants.{Check, Show, Types, Page, Tidy, Gran}
+use Rattle.mt_answers.specs.CommandLine.{command_of}
+use Rattle.mt_answers.specs.Answer.{Answer, FileAnswer, refused, accepted, shown, about_file, typed, paged, tidied, too_few, disabled, grained, gran_too_few, gran_disabled}
+use Rattle.mt_cli.specs.Output.{Output, usage, bad_text, answered, replayed, printed, summed, measured, requested}
 
 SomeAnswer : Shows → DumpCommand → Type 0
 SomeAnswer dump command = (text : List ℕ) × (status : Status) × Answer dump command text status
@@ -101,6 +101,8 @@ some_output words bytes = by_command (command_of words) refl
     by_command (Some (Serial (Dump command))) says = of_dump_output command says
     by_command (Some (Threaded Replay)) says = (_, _, replayed says)
     by_command (Some (Threaded (Proc cpus))) says = (_, _, requested cpus says)
-    by_command (Some (Serial (Make n))) says = (_, _, made n says)
+    by_command (Some (Serial (Make n))) says = (_, _, printed (Make n) _ says refl)
+    by_command (Some (Serial Help)) says = (_, _, printed Help _ says refl)
+    by_command (Some (Serial Version)) says = (_, _, printed Version _ says refl)
     by_command (Some (Threaded (Big n))) says = (_, _, summed n says)
     by_command (Some (Threaded (Private cpus n accesses))) says = (_, _, measured cpus n accesses says)

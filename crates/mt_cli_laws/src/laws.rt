@@ -1,12 +1,12 @@
 ghost use Rattle.std.specs.Prelude.{◌≡◌, ◌≢◌, ◌+◌, ◌++◌, ◌^◌, ◌<◌, ◌≤◌, ◌↔◌, ℕ, List, None, Some};
 ghost use Rattle.mt_ports.specs.declared.status.Status.{Status};
 ghost use Rattle.mt_ports.specs.declared.status.Status.TheVariants.{Done};
-ghost use Rattle.mt_cli.specs.declared.command.DumpCommand.{DumpCommand};
-ghost use Rattle.mt_cli.specs.declared.command.Command.TheVariants.{Serial};
-ghost use Rattle.mt_cli.specs.declared.command.SerialCommand.TheVariants.{Dump};
-ghost use Rattle.mt_cli.specs.CommandLine.{command_of};
-ghost use Rattle.mt_cli.specs.Lines.{used_line};
-ghost use Rattle.mt_cli.specs.Answer.{MayChoose};
+ghost use Rattle.mt_answers.specs.declared.command.DumpCommand.{DumpCommand};
+ghost use Rattle.mt_answers.specs.declared.command.Command.TheVariants.{Serial};
+ghost use Rattle.mt_answers.specs.declared.command.SerialCommand.TheVariants.{Dump};
+ghost use Rattle.mt_answers.specs.CommandLine.{command_of};
+ghost use Rattle.mt_answers.specs.Lines.{used_line};
+ghost use Rattle.mt_answers.specs.Answer.{MayChoose};
 ghost use Rattle.mt_cli.specs.Output.{Output};
 ghost use Rattle.mt_dump.specs.Canon.{canon};
 ghost use Rattle.mt_dump.specs.Dump.{Shown};
@@ -19,7 +19,7 @@ ghost use Rattle.mt_script.specs.Newcomers.{IsWithoutNewcomers};
 ghost use Rattle.mt_script.specs.Script.{script_offence};
 ghost use Rattle.mt_replay.specs.Statuses.{ShowsDump};
 ghost use Rattle.mt_replay.specs.Transcript.{transcript};
-ghost use Rattle.mt_cli.specs.Generator.{make_text};
+ghost use Rattle.mt_answers.specs.Generator.{make_text};
 
 use mt_dump::a_register_file_is_shown_by_its_text;
 use mt_regs::RegFile;

@@ -2,12 +2,13 @@
 ghost use Rattle.std.specs.Prelude.{◌∷◌, [], codes, List, None, Some, ℕ};
 ghost use Rattle.mt_ports.specs.declared.status.Status.TheVariants as status;
 ghost use Rattle.mt_script.specs.Newcomers.{IsWithoutNewcomers};
-ghost use Rattle.mt_cli.specs.declared.command.Command.TheVariants.{Serial};
-ghost use Rattle.mt_cli.specs.declared.command.SerialCommand.TheVariants as asks;
-ghost use Rattle.mt_cli.specs.declared.command.DumpCommand.TheVariants as of_dump;
-ghost use Rattle.mt_cli.specs.CommandLine.{MayTakeMemory, command_of};
-ghost use Rattle.mt_cli.specs.Answer.{MayChoose};
-ghost use Rattle.mt_cli.specs.Tool.{CutShort, FailedRead, Finished, MayEnd, Overran, Reads, Starved};
+ghost use Rattle.mt_answers.specs.declared.command.Command.TheVariants.{Serial};
+ghost use Rattle.mt_answers.specs.declared.command.SerialCommand.TheVariants as asks;
+ghost use Rattle.mt_answers.specs.declared.command.DumpCommand.TheVariants as of_dump;
+ghost use Rattle.mt_answers.specs.CommandLine.{MayTakeMemory, command_of};
+ghost use Rattle.mt_answers.specs.Answer.{MayChoose};
+ghost use Rattle.mt_answers.specs.Statuses.{MayEnd};
+ghost use Rattle.mt_cli.specs.Tool.{CutShort, FailedRead, Finished, Overran, Reads, Starved};
 
 /// What a run may leave in its source and sink, and what it can't.
 pub fn worked_endings()
@@ -39,10 +40,12 @@ pub fn worked_statuses()
     ensures make_refuses_nothing { MayEnd (command_of (codes "make" ∷ codes "7" ∷ [])) status.Refused → ⊥ }
     ensures big_finds_no_offence { MayEnd (command_of (codes "big" ∷ codes "7" ∷ [])) status.BadText → ⊥ }
     ensures private_reads_nothing { MayEnd (command_of (codes "private" ∷ codes "2" ∷ codes "7" ∷ codes "0" ∷ [])) status.ReadFault → ⊥ }
+    ensures help_reads_nothing { MayEnd (command_of (codes "--help" ∷ [])) status.ReadFault → ⊥ }
     ensures no_words_are_too_long { MayEnd (command_of []) status.TooLong → ⊥ }
     ensures no_memory_for_show { MayTakeMemory (Serial (asks.Dump of_dump.Show)) → ⊥ }
     ensures no_memory_for_page { MayTakeMemory (Serial (asks.Dump (of_dump.Page 0 0))) → ⊥ }
     ensures no_memory_for_tidy { MayTakeMemory (Serial (asks.Dump (of_dump.Tidy 1 0))) → ⊥ }
+    ensures no_memory_for_help { MayTakeMemory (Serial asks.Help) → ⊥ }
     ensures one_map { MayChoose of_dump.Types → ⊥ }
     ensures one_page { MayChoose (of_dump.Page 0 0) → ⊥ }
     ensures one_check { MayChoose of_dump.Check → ⊥ }

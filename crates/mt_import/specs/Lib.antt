@@ -15,4 +15,5 @@ pub mod Supplied
 pub mod Rows
 pub mod Outcome
 pub mod Reader
+pub mod Help
 pub mod Import

@@ -6,6 +6,7 @@ mod dumping;
 mod edk2;
 mod fault;
 mod format;
+mod help;
 mod inteltool;
 mod kernel;
 mod line_words;

@@ -1,5 +1,5 @@
 use mt_import::import;
-use mt_map::map;
+use mt_map::{Asked, map};
 use mt_ports::{MemSink, MemSource, Status};
 use std::process::Abort;
 use std::test::Fail;
@@ -37,7 +37,7 @@ fn expect_none<R: AllocGlobal + Abort>(
     let Ok(mut sink) = MemSink::new(alloc, ROOM, failing_writes.to_vec(alloc)?) else {
         return Err(Fail::from("no memory"));
     };
-    assert_eq!(rt; map(alloc, false, &mut source, &mut sink), status);
+    assert_eq!(rt; map(alloc, Some(Asked::Picture), &mut source, &mut sink), status);
     assert!(rt; sink.bytes().is_empty());
     Ok(())
 }

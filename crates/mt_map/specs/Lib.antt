@@ -1,3 +1,4 @@
+pub mod Asked
 pub mod Bands
 pub mod Map
 pub mod Sizes

@@ -1,11 +1,9 @@
--- What the program writes for an input, and the status that it ends with (own). It takes no words. A dump of several sections is drawn as
+-- What the program writes for an input, and the status that it ends with (own). A dump of several sections is drawn as
 -- processor 0's file beside that of the first processor whose registers aren't processor 0's, or of processor 1 where all have the same.
 --     MapOf dump text status      the picture of a dump, or the line of the fault for which there is none
---     Output has_words bytes text status      what is written for an input
---     Maps has_words bytes left old new result      what a run leaves in the source and the sink
-use Rattle.std.specs.Prelude.{ℕ, ◌≡◌, ◌<◌, ◌⊎◌, codes, Bool, true, false, List, [], ◌∷◌, length, Option, Some, None, slice_get, nat_lt, if◌then◌else◌, Result, Ok, Err}
-use Rattle.std.specs.Vec.Iter.{into_iter_items}
-use Rattle.std.specs.declared.vec.IntoIter.{IntoIter}
+--     Output asked bytes text status      what is written for what the words ask and for an input
+--     Maps asked bytes left old new result      what a run leaves in the source and the sink
+use Rattle.std.specs.Prelude.{ℕ, ◌≡◌, ◌<◌, ◌⊎◌, codes, List, [], ◌∷◌, length, Option, Some, None, slice_get}
 use Rattle.std.specs.List.{All}
 use Rattle.mt_text.specs.Text.{longest_input}
 use Rattle.mt_ports.specs.declared.status.Status.{Status}
@@ -19,6 +17,9 @@ use Rattle.mt_dump.specs.Dump.{Shown, dump_offence}
 use Rattle.mt_dump.specs.declared.fault.DumpFault.{DumpFault}
 use Rattle.mt_output.specs.Lines.{bad_text_line, dump_refused_line, line}
 use Rattle.mt_output.specs.Written.{Writes}
+use Rattle.mt_map.specs.declared.asked.Asked.{Asked}
+use Rattle.mt_map.specs.declared.asked.Asked.TheVariants.{Picture}
+use Rattle.mt_map.specs.Asked.{left_of, own_text}
 
 -- ---- which files are drawn
 
@@ -53,10 +54,11 @@ pub data MapOf (dump : Dump) : List ℕ → Status → Type 0 where
   drawn : (text : List ℕ) → CanBeDrawn dump → MapOf dump text (status_of (first_refusal dump.files))
   not_drawn : (k : ℕ) (fault : Fault) → (CanBeDrawn dump → ⊥) → first_refusal dump.files ≡ Some (k, fault) → MapOf dump (dump_refused_line dump.version k fault) Refused
 
-pub data Output (has_words : Bool) (bytes : List ℕ) : List ℕ → Status → Type 0 where
-  usage : has_words ≡ true → Output has_words bytes (line (codes "usage")) Usage
-  bad_text : (fault : DumpFault) → has_words ≡ false → dump_offence bytes ≡ Some fault → Output has_words bytes (bad_text_line fault) BadText
-  mapped : (dump : Dump) (text : List ℕ) (status : Status) → has_words ≡ false → Shown bytes dump → MapOf dump text status → Output has_words bytes text status
+pub data Output (asked : Option Asked) (bytes : List ℕ) : List ℕ → Status → Type 0 where
+  usage : asked ≡ None → Output asked bytes (line (codes "usage")) Usage
+  printed : (text : List ℕ) → own_text asked ≡ Some text → Output asked bytes text Done
+  bad_text : (fault : DumpFault) → asked ≡ Some Picture → dump_offence bytes ≡ Some fault → Output asked bytes (bad_text_line fault) BadText
+  mapped : (dump : Dump) (text : List ℕ) (status : Status) → asked ≡ Some Picture → Shown bytes dump → MapOf dump text status → Output asked bytes text status
 
 -- ---- a run
 
@@ -65,26 +67,11 @@ pub data Tells (output : List ℕ → Status → Type 0) (old new : Option (List
   writes : (text : List ℕ) (status : Status) → output text status → Writes text status old new result → Tells output old new result
   no_memory : result ≡ NoMemory → new ≡ old → Tells output old new result
 
--- with words nothing is read
-abbrev pub left_of : Bool → List ℕ → List ℕ
-left_of has_words bytes = if has_words then bytes else []
-
 -- The output for all bytes of the source was written, or nothing where the source failed or gave too much.
-pub data Maps (has_words : Bool) (bytes : List ℕ) (left old new : Option (List ℕ)) (result : Status) : Type 0 where
-  told : left ≡ Some (left_of has_words bytes) → Tells (Output has_words bytes) old new result → Maps has_words bytes left old new result
-  unread : new ≡ old → (result ≡ ReadFault) ⊎ ((result ≡ TooLong) × (longest_input < length bytes)) → Maps has_words bytes left old new result
-
--- ---- the program
-
--- there is an argument behind the program's name
-abbrev pub has_words : {A B : Type 0} → IntoIter A B → Bool
-has_words args = nat_lt 1 (length (into_iter_items args))
-
--- arguments that are no text are words too
-abbrev pub words_in : {A B E : Type 0} → Result (IntoIter A B) E → Bool
-words_in (Ok args) = has_words args
-words_in (Err error) = true
+pub data Maps (asked : Option Asked) (bytes : List ℕ) (left old new : Option (List ℕ)) (result : Status) : Type 0 where
+  told : left ≡ Some (left_of asked bytes) → Tells (Output asked bytes) old new result → Maps asked bytes left old new result
+  unread : new ≡ old → (result ≡ ReadFault) ⊎ ((result ≡ TooLong) × (longest_input < length bytes)) → Maps asked bytes left old new result
 
 -- the same where the arguments may have found no memory: then nothing is read or written
-abbrev pub Runs : Bool → List ℕ → Option (List ℕ) → Option (List ℕ) → Option (List ℕ) → Status → Type 0
-Runs has_words bytes left old new result = Maps has_words bytes left old new result ⊎ ((result ≡ NoMemory) × (left ≡ Some bytes) × (new ≡ old))
+abbrev pub Runs : Option Asked → List ℕ → Option (List ℕ) → Option (List ℕ) → Option (List ℕ) → Status → Type 0
+Runs asked bytes left old new result = Maps asked bytes left old new result ⊎ ((result ≡ NoMemory) × (left ≡ Some bytes) × (new ≡ old))

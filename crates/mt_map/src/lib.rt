@@ -1,6 +1,7 @@
 //! Pictures of the types that a dump's register files give to the address space.
 #![tactic(auto)]
 
+mod asked;
 mod band;
 mod bar;
 mod columns;
@@ -17,6 +18,7 @@ mod size;
 mod stack;
 mod style;
 
+pub use asked::{Asked, asked_by};
 pub use band::Band;
 pub use bar::Bar;
 pub use edges::cuts;

@@ -5,23 +5,17 @@ ghost use Rattle.mt_ports.specs.Causes.{StatusHasCause};
 ghost use Rattle.mt_ports.specs.Exit.{code};
 ghost use Rattle.mt_text.specs.Feed.{GaveTooMuch};
 ghost use Rattle.mt_output.specs.Program.{Exits};
-ghost use Rattle.mt_map.specs.Map.{Runs, has_words, words_in};
+ghost use Rattle.mt_map.specs.Asked.{asked_in};
+ghost use Rattle.mt_map.specs.Map.{Runs};
 
-use crate::map;
-use mt_output::exit_code;
+use crate::{asked_by, map};
+use mt_output::{exit_code, words_behind_name};
 use mt_ports::{Sink, Source, Status};
 use std::env::Args;
 use std::io::{self, ErrorKind};
 use std::process::ExitCode;
 
-// Whether there is an argument behind the program's name.
-fn has_words(args: Args) -> bool
-    ensures { result ≡ has_words args }
-{
-    args.count() > 1
-}
-
-// Arguments that are no text are words too, and arguments that find no memory end the program before the run.
+// Arguments that are no text are wrong usage, and arguments that find no memory end the program before the run.
 fn run<R: AllocGlobal, S: Source, K: Sink>(
     rt: &R,
     args: io::Result<Args>,
@@ -29,21 +23,24 @@ fn run<R: AllocGlobal, S: Source, K: Sink>(
     sink: &mut K,
 ) -> Status
     ensures runs { (bytes : List ℕ) → S.left source.old ≡ Some bytes →
-        Runs (words_in args) bytes (S.left source.new) (K.taken sink.old) (K.taken sink.new) result }
+        Runs (asked_in args) bytes (S.left source.new) (K.taken sink.old) (K.taken sink.new) result }
     ensures read_fault { StatusHasCause Status.ReadFault (S.faults source.old) (S.faults source.new) result }
     ensures write_fault { StatusHasCause Status.WriteFault (K.faults sink.old) (K.faults sink.new) result }
     ensures too_long { (result ≡ Status.TooLong) ↔ GaveTooMuch (S.given source.old) (S.given source.new) }
     ensures no_memory { IfErr args (λ error. error_kind error ≡ ErrorKind.OutOfMemory → result ≡ Status.NoMemory) }
 {
     match args {
-        Ok(args) => map(rt.alloc(), has_words(args), source, sink),
+        Ok(args) => match words_behind_name(rt.alloc(), args) {
+            Ok(words) => map(rt.alloc(), asked_by(&words), source, sink),
+            Err(_) => Status::NoMemory,
+        },
         Err(error) if error.kind() == ErrorKind::OutOfMemory => Status::NoMemory,
-        Err(_) => map(rt.alloc(), true, source, sink),
+        Err(_) => map(rt.alloc(), None, source, sink),
     }
 }
 
 /// Does all that the program does with its arguments, and answers what it ends with: the number of
-/// the status. Any argument but the first is a word.
+/// the status. The words of the command line are the arguments but the first.
 pub fn program_status<R: AllocGlobal, S: Source, K: Sink>(
     rt: &R,
     args: io::Result<Args>,
@@ -51,7 +48,7 @@ pub fn program_status<R: AllocGlobal, S: Source, K: Sink>(
     sink: &mut K,
 ) -> ExitCode
     ensures runs { (bytes : List ℕ) → S.left source.old ≡ Some bytes →
-        Exits result (Runs (words_in args) bytes (S.left source.new) (K.taken sink.old) (K.taken sink.new)) }
+        Exits result (Runs (asked_in args) bytes (S.left source.new) (K.taken sink.old) (K.taken sink.new)) }
     ensures read_fault { Exits result (StatusHasCause Status.ReadFault (S.faults source.old) (S.faults source.new)) }
     ensures write_fault { Exits result (StatusHasCause Status.WriteFault (K.faults sink.old) (K.faults sink.new)) }
     ensures too_long { Exits result (λ status. (status ≡ Status.TooLong) ↔ GaveTooMuch (S.given source.old) (S.given source.new)) }

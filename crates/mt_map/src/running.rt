@@ -1,11 +1,14 @@
-ghost use Rattle.std.specs.Prelude.{◌≡◌, ◌≢◌, ◌↔◌, ℕ, List, None, Some, IsTrue, true, false};
+ghost use Rattle.std.specs.Prelude.{◌≡◌, ◌≢◌, ◌↔◌, ℕ, List, None, Some, IsTrue};
 ghost use Rattle.std.specs.List.{All};
 ghost use Rattle.mt_ports.specs.Causes.{StatusHasCause};
 ghost use Rattle.mt_text.specs.Feed.{GaveTooMuch};
 ghost use Rattle.mt_regs.specs.Agreement.{first_refusal};
 ghost use Rattle.mt_regs.specs.Faults.{register_fault};
+ghost use Rattle.mt_map.specs.declared.asked.Asked.TheVariants.{Picture};
 ghost use Rattle.mt_map.specs.Map.{CanBeDrawn, MapOf, Maps, Tells, beside, others, status_of};
 
+use crate::Asked;
+use crate::asked::{help_text, version_text};
 use crate::edges::cuts;
 use crate::picture::picture_text;
 use crate::stack::bands;
@@ -119,33 +122,45 @@ pub fn draw<K: Sink>(alloc: Global, d: &Dump, sink: &mut K) -> Status
     }
 }
 
-/// Does all that the program does, and answers its status. With words it writes `usage`, and reads
-/// nothing. Else it reads a dump to its end, unless the source fails or gives more than 16,777,216
-/// bytes; then nothing is written.
+// Reads a dump to its end, and draws it.
+fn draw_input<S: Source, K: Sink>(alloc: Global, source: &mut S, sink: &mut K) -> Status
+    ensures maps { (bytes : List ℕ) → S.left source.old ≡ Some bytes →
+        Maps (Some Picture) bytes (S.left source.new) (K.taken sink.old) (K.taken sink.new) result }
+    ensures read_fault { StatusHasCause Status.ReadFault (S.faults source.old) (S.faults source.new) result }
+    ensures write_fault { StatusHasCause Status.WriteFault (K.faults sink.old) (K.faults sink.new) result }
+    ensures too_long { (result ≡ Status.TooLong) ↔ GaveTooMuch (S.given source.old) (S.given source.new) }
+{
+    match read_dump_from(source) {
+        Ok(Ok(dump)) => draw(alloc, &dump, sink),
+        Ok(Err(fault)) => written(sink, bad_text_line(&fault).as_slice(), Status::BadText),
+        Err(FeedFault::ReadFault) => Status::ReadFault,
+        Err(FeedFault::TooLong) => Status::TooLong,
+    }
+}
+
+/// Does all that the program does, and answers its status. For a picture it reads a dump to its end, unless the source
+/// fails or gives more than 16,777,216 bytes; then nothing is written. Where the words ask for nothing it writes `usage`.
 pub fn map<S: Source, K: Sink>(
     alloc: Global,
-    has_words: bool,
+    asked: Option<Asked>,
     source: &mut S,
     sink: &mut K,
 ) -> Status
     ensures maps { (bytes : List ℕ) → S.left source.old ≡ Some bytes →
-        Maps has_words bytes (S.left source.new) (K.taken sink.old) (K.taken sink.new) result }
+        Maps asked bytes (S.left source.new) (K.taken sink.old) (K.taken sink.new) result }
 
-    // With words nothing is read.
-    ensures unread { has_words ≡ true → source.new ≡ source.old }
+    // Nothing is read but for a picture.
+    ensures unread { asked ≢ Some Picture → source.new ≡ source.old }
 
     // A port that failed did so once, and the status is its fault; at every other status none failed.
     ensures read_fault { StatusHasCause Status.ReadFault (S.faults source.old) (S.faults source.new) result }
     ensures write_fault { StatusHasCause Status.WriteFault (K.faults sink.old) (K.faults sink.new) result }
     ensures too_long { (result ≡ Status.TooLong) ↔ GaveTooMuch (S.given source.old) (S.given source.new) }
 {
-    if has_words {
-        return written(sink, b"usage\n", Status::Usage);
-    }
-    match read_dump_from(source) {
-        Ok(Ok(dump)) => draw(alloc, &dump, sink),
-        Ok(Err(fault)) => written(sink, bad_text_line(&fault).as_slice(), Status::BadText),
-        Err(FeedFault::ReadFault) => Status::ReadFault,
-        Err(FeedFault::TooLong) => Status::TooLong,
+    match asked {
+        None => written(sink, b"usage\n", Status::Usage),
+        Some(Asked::Help) => written(sink, help_text(), Status::Done),
+        Some(Asked::Version) => written(sink, version_text(), Status::Done),
+        Some(Asked::Picture) => draw_input(alloc, source, sink),
     }
 }

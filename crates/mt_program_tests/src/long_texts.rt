@@ -1,7 +1,7 @@
 //! Texts up to the limit of an input, with more to write than may wait, and of a thousand updates.
 use crate::runs::{Ports, repeated, run};
 use crate::texts::{FOUR_GIGABYTES, PAIR};
-use mt_cli::make_text;
+use mt_answers::make_text;
 use mt_ports::Status;
 use std::alloc::Global;
 use std::test::Fail;

@@ -10,7 +10,7 @@ use Rattle.hex.specs.Hex.{hex_digit_value, is_hex_digit}
 use Rattle.mt_text.specs.Text.{is_word_byte}
 use Rattle.mt_text.specs.Number.{decimal_number, hex_number, hex_value}
 use Rattle.mt_text.proofs.Plain.{digits_plain, digits_word, hex_number-digits, is_plain}
-use Rattle.mt_cli.specs.Generator.{hexadecimal}
+use Rattle.mt_answers.specs.Generator.{hexadecimal}
 
 -- ---- words
 

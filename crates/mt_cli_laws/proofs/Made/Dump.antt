@@ -18,7 +18,7 @@ use Rattle.mt_script.specs.Situation.{Situation}
 use Rattle.mt_script.specs.declared.command.Stage.TheVariants.{Commands}
 use Rattle.mt_script.specs.declared.command.Command.TheVariants as command
 use Rattle.mt_replay.specs.Statuses.{ShowsDump}
-use Rattle.mt_cli.specs.Generator.{head_text}
+use Rattle.mt_answers.specs.Generator.{head_text}
 
 -- the registers of all processors
 abbrev pub made_file : RegisterFile

@@ -9,7 +9,7 @@ use Rattle.mt_output.specs.Lines.{line}
 use Rattle.mt_script.specs.Commands.{command_of, outside}
 use Rattle.mt_script.specs.declared.command.Command.{Command}
 use Rattle.mt_script.specs.declared.command.Command.TheVariants as command
-use Rattle.mt_cli.specs.Generator.{global_line, hexadecimal, load_line, local_line, store_line}
+use Rattle.mt_answers.specs.Generator.{global_line, hexadecimal, load_line, local_line, store_line}
 use Rattle.mt_cli_laws.proofs.Made.Digits.{IsProcessor, IsWord, hexadecimal_read, hexadecimal_word, processor}
 use Rattle.mt_cli_laws.proofs.Made.Dump.{ready}
 use Rattle.mt_cli_laws.proofs.Made.Words.{word_first, word_last}

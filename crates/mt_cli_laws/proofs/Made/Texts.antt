@@ -17,7 +17,7 @@ use Rattle.mt_script.specs.declared.command.Command.TheVariants as command
 use Rattle.mt_replay.specs.Statuses.{ShowsDump}
 use Rattle.mt_replay.specs.Transcript.{transcript}
 use Rattle.mt_replay.proofs.Refusals.Outcomes.{accepted_unless_refused, done_where_no_offence}
-use Rattle.mt_cli.specs.Generator.{access_line, accesses, after_accesses, behind_access, drawn, head_text, make_text, map_line, maps, pge_line, processor_lines, processors, round_text, round_value, rounds, stepped}
+use Rattle.mt_answers.specs.Generator.{access_line, accesses, after_accesses, behind_access, drawn, head_text, make_text, map_line, maps, pge_line, processor_lines, processors, round_text, round_value, rounds, stepped}
 use Rattle.mt_cli_laws.proofs.Made.Dump.{made_accepted, made_dump, made_shown, ready}
 use Rattle.mt_cli_laws.proofs.Made.Lines.{IsCommand, global_is_line, global_reads, load_body, load_is_line, load_reads, local_is_line, local_reads, map_body, pge_body, pge_is_line, pge_reads, store_body, store_is_line, store_reads}
 

@@ -1,7 +1,7 @@
 use Rattle.std.proofs.Common.{◌≡◌, ◌∙◌, ap, sym, subst, arith, rules, ◌+◌, ◌-◌, ◌++◌, ◌∷◌, [], get_or, ℕ, List}
 use Rattle.mt_machine.specs.declared.op.Op.{Op}
 use Rattle.mt_machine.specs.Machine.{FitsOp}
-use Rattle.mt_cli.specs.Generator.{stepped}
+use Rattle.mt_answers.specs.Generator.{stepped}
 use Rattle.mt_cli.specs.Measured.{behind_op, behind_ops, drawn_ops}
 use Rattle.mt_cli.proofs.Drawing.{behind_end, behind_on, each_push, ops_end, ops_on}
 use Rattle.mt_cli.proofs.measured.drawn_ops.Goals as goal

@@ -1,7 +1,7 @@
 use Rattle.std.proofs.Common.{◌∙◌, Some, ap, refl}
-use Rattle.mt_cli.specs.declared.command.Command.TheVariants.{Threaded}
-use Rattle.mt_cli.specs.declared.command.ThreadedCommand.{ThreadedCommand}
-use Rattle.mt_cli.specs.declared.command.ThreadedCommand.TheVariants.{Big, Private}
+use Rattle.mt_answers.specs.declared.command.Command.TheVariants.{Threaded}
+use Rattle.mt_answers.specs.declared.command.ThreadedCommand.{ThreadedCommand}
+use Rattle.mt_answers.specs.declared.command.ThreadedCommand.TheVariants.{Big, Private}
 use Rattle.mt_cli.specs.Measured.{measured_text}
 use Rattle.mt_cli.specs.Output.{big_text, measured, summed}
 use Rattle.mt_cli.specs.Runs.{sink_run, source_run}
@@ -42,7 +42,7 @@ returns-in-Big g c words says =
     makes_ran words (big_text c.in-Big.n) (Threaded (Big c.in-Big.n))
     (source_run g.S.Source.left g.S.Source.faults g.S.Source.given c.args.source.now c.args.source.now)
     (sink_run g.K.Sink.taken g.K.Sink.faults c.args.sink.now c.big.new.sink)
-    c.big.result is refl tt (λ bytes. summed c.in-Big.n is) refl c.big.ensures.bytes c.big.ensures.cause
+    c.big.result is refl (λ none. tt) (λ bytes. summed c.in-Big.n is) refl c.big.ensures.bytes c.big.ensures.cause
 
 pub returns-in-Private : goal.returns-in-Private
 returns-in-Private g c words says =
@@ -50,4 +50,4 @@ returns-in-Private g c words says =
     makes_ran words (measured_text c.in-Private.cpus c.in-Private.n c.in-Private.accesses) (Threaded (Private c.in-Private.cpus c.in-Private.n c.in-Private.accesses))
     (source_run g.S.Source.left g.S.Source.faults g.S.Source.given c.args.source.now c.args.source.now)
     (sink_run g.K.Sink.taken g.K.Sink.faults c.args.sink.now c.private.new.sink)
-    c.private.result is refl tt (λ bytes. measured c.in-Private.cpus c.in-Private.n c.in-Private.accesses is) refl c.private.ensures.bytes c.private.ensures.cause
+    c.private.result is refl (λ none. tt) (λ bytes. measured c.in-Private.cpus c.in-Private.n c.in-Private.accesses is) refl c.private.ensures.bytes c.private.ensures.cause

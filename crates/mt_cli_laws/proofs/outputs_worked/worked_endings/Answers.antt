@@ -4,8 +4,8 @@ use Rattle.mt_ports.specs.declared.status.Status.{Status}
 use Rattle.mt_ports.specs.declared.status.Status.TheVariants as status
 use Rattle.mt_script.specs.Newcomers.{IsWithoutNewcomers}
 use Rattle.mt_replay.specs.Transcript.{transcript}
-use Rattle.mt_cli.specs.Lines.{usage_line}
-use Rattle.mt_cli.specs.Output.{Output, usage, bad_text, answered, made, replayed, summed, measured, requested}
+use Rattle.mt_answers.specs.Lines.{usage_line}
+use Rattle.mt_cli.specs.Output.{Output, usage, bad_text, answered, printed, replayed, summed, measured, requested}
 use Rattle.mt_cli.specs.Tool.{Starved}
 use Rattle.mt_cli_laws.proofs.outputs_worked.worked_endings.Goals as goal
 
@@ -14,7 +14,7 @@ of_no_words : (bytes text : List ℕ) (s : Status) → Output [] bytes text s �
 of_no_words bytes _ _ (usage is) = refl
 of_no_words bytes _ _ (bad_text command fault is offence) = cc is
 of_no_words bytes _ _ (answered command file text s is shown answer) = cc is
-of_no_words bytes _ _ (made n is) = cc is
+of_no_words bytes _ _ (printed command text is own) = cc is
 of_no_words bytes _ _ (summed n is) = cc is
 of_no_words bytes _ _ (measured cpus n accesses is) = cc is
 of_no_words bytes _ _ (requested cpus is) = cc is
@@ -24,7 +24,7 @@ status_of_no_words : (bytes text : List ℕ) (s : Status) → Output [] bytes te
 status_of_no_words bytes _ _ (usage is) = refl
 status_of_no_words bytes _ _ (bad_text command fault is offence) = cc is
 status_of_no_words bytes _ _ (answered command file text s is shown answer) = cc is
-status_of_no_words bytes _ _ (made n is) = cc is
+status_of_no_words bytes _ _ (printed command text is own) = cc is
 status_of_no_words bytes _ _ (summed n is) = cc is
 status_of_no_words bytes _ _ (measured cpus n accesses is) = cc is
 status_of_no_words bytes _ _ (requested cpus is) = cc is
@@ -94,7 +94,7 @@ of_replay : (bytes text : List ℕ) (s : Status) → Output (codes "replay" ∷ 
 of_replay bytes _ _ (usage is) = cc is
 of_replay bytes _ _ (bad_text command fault is offence) = cc is
 of_replay bytes _ _ (answered command file text s is shown answer) = cc is
-of_replay bytes _ _ (made n is) = cc is
+of_replay bytes _ _ (printed command text is own) = cc is
 of_replay bytes _ _ (summed n is) = cc is
 of_replay bytes _ _ (measured cpus n accesses is) = cc is
 of_replay bytes _ _ (requested cpus is) = cc is

@@ -1,19 +1,8 @@
-use Rattle.std.proofs.Common.{◌∙◌, subst, List, ℕ}
-use Rattle.mt_ports.specs.declared.status.Status.TheVariants.{BadText}
+use Rattle.std.proofs.Common.{List, ℕ, subst}
+use Rattle.mt_ports.specs.declared.status.Status.TheVariants.{Done}
 use Rattle.mt_output.specs.Written.{Writes}
-use Rattle.mt_map.proofs.Telling.{told_bad, told_dump, told_usage}
+use Rattle.mt_map.proofs.Telling.{told_help, told_usage, told_version}
 use Rattle.mt_map.proofs.running.map.Goals as goal
 
-pub returns-then-has_words-clause-maps : goal.returns-then-has_words-clause-maps
-returns-then-has_words-clause-maps g c bytes is = told_usage c.args.has_words bytes _ _ _ _ c.if-has_words.true is c.written.ensures.bytes
-
-pub returns-in-Ok-Ok-clause-maps : goal.returns-in-Ok-Ok-clause-maps
-returns-in-Ok-Ok-clause-maps g c bytes is =
-    told_dump c.args.has_words bytes c.in-Ok-Ok.dump _ _ _ _ c.if-has_words.false (c.in-Ok-Ok.ensures.end bytes is) (rw c.in-Ok-Ok.field-0-is at (c.in-Ok-Ok.ensures.answer bytes is)) c.draw.ensures.tells
-
-pub returns-in-Ok-Err-clause-maps : goal.returns-in-Ok-Err-clause-maps
-returns-in-Ok-Err-clause-maps g c bytes is =
-    let old = g.K.Sink.taken c.args.sink.now in
-    let new = g.K.Sink.taken c.written-in-Ok-Err.new.sink in
-    told_bad c.args.has_words bytes c.in-Ok-Err.fault _ _ _ _ c.if-has_words.false (c.in-Ok-Err.ensures.end bytes is) (rw c.in-Ok-Err.field-0-is at (c.in-Ok-Err.ensures.answer bytes is))
-    (subst (λ (text : List ℕ). Writes text BadText old new c.written-in-Ok-Err.result) (c.as_slice.ensures.value ∙ c.bad_text_line.ensures) c.written-in-Ok-Err.ensures.bytes)
+pub returns-in-None-clause-maps : goal.returns-in-None-clause-maps
+returns-in-None-clause-maps g c bytes is = told_usage c.args.asked bytes _ _ _ _ c.in-None.is is c.written.ensures.bytes

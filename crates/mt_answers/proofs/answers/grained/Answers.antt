@@ -1,0 +1,40 @@
+use Rattle.std.proofs.Common.{◌++◌, ◌∙◌, List, ap, sym, subst}
+use Rattle.std.specs.List.{All}
+use Rattle.mt_regs.specs.RegisterFile.{RegisterFile}
+use Rattle.mt_regs.proofs.Powers.{few_pages}
+use Rattle.mt_types.specs.declared.run.Run.{Run}
+use Rattle.mt_dump.specs.Canon.{canon}
+use Rattle.mt_dump.specs.Dumps.{dump_of}
+use Rattle.mt_gran.specs.Granules.{pages_of}
+use Rattle.mt_answers.specs.Lines.{IsLine, disabled_line, lost_line, parts_text, used_line}
+use Rattle.mt_answers.specs.declared.command.DumpCommand.TheVariants.{Gran}
+use Rattle.mt_answers.specs.Answer.{FileAnswer, grained, gran_disabled, gran_too_few}
+use Rattle.mt_answers.proofs.Answering.{answers_with}
+use Rattle.mt_answers.proofs.Parting.{parts_have_lines, too_few}
+use Rattle.mt_answers.proofs.answers.grained.Goals as goal
+
+pub grained_text-requires : goal.grained_text-requires
+grained_text-requires g c =
+    subst (λ (parts : List Run). All IsLine parts) (sym c.as_slice-parts.ensures.runs)
+    (parts_have_lines (pages_of c.args.f.now) c.args.log c.in-Ok.grained.parts (few_pages c.args.f.now.width c.is_register_file.ensures.narrow) c.in-Ok.ensures.ok.parts_are)
+
+pub returns-in-Ok-grained_text-clause-bytes : goal.returns-in-Ok-grained_text-clause-bytes
+returns-in-Ok-grained_text-clause-bytes g c =
+    answers_with (FileAnswer c.args.f.now (Gran c.args.log c.args.spare c.args.chunk)) _ _ _ _ _ _
+    (grained c.args.log c.args.spare c.args.chunk c.in-Ok.grained.tidied.used c.in-Ok.grained.lost c.in-Ok.grained.parts c.in-Ok.grained.tidied.file c.in-Ok.ensures.ok)
+    (c.as_slice.ensures.value ∙ c.in-Ok-grained_text.ensures
+    ∙ ap (λ (parts : List Run). parts_text parts ++ lost_line c.in-Ok.grained.lost ++ used_line c.in-Ok.grained.tidied.used ++ canon (dump_of c.in-Ok.grained.tidied.file)) c.as_slice-parts.ensures.runs)
+    c.written.ensures.bytes
+
+pub returns-in-Err-Disabled-clause-bytes : goal.returns-in-Err-Disabled-clause-bytes
+returns-in-Err-Disabled-clause-bytes g c =
+    let why = rw c.in-Err-Disabled.field-0-is at c.in-Err-Disabled.ensures.err in
+    answers_with (FileAnswer c.args.f.now (Gran c.args.log c.args.spare c.args.chunk)) _ _ _ _ _ _ (gran_disabled c.args.log c.args.spare c.args.chunk why.1)
+    (c.as_slice-in-Err-Disabled.ensures.value ∙ c.disabled_line.ensures ∙ ap (λ (f : RegisterFile). disabled_line f.default_type) c.f.view_is) c.written-in-Err-Disabled.ensures.bytes
+
+pub returns-in-Err-TooFew-clause-bytes : goal.returns-in-Err-TooFew-clause-bytes
+returns-in-Err-TooFew-clause-bytes g c =
+    let why = rw c.in-Err-TooFew.field-0-is at c.in-Err-TooFew.ensures.err in
+    answers_with (FileAnswer c.args.f.now (Gran c.args.log c.args.spare c.args.chunk)) _ _ _ _ _ _ (gran_too_few c.args.log c.args.spare c.args.chunk c.in-Err-TooFew.needs c.in-Err-TooFew.has why)
+    (c.as_slice-in-Err-TooFew.ensures.value ∙ too_few _ _ c.in-Err-TooFew.needs c.in-Err-TooFew.has c.in-Err-TooFew.needs-is c.in-Err-TooFew.has-is _ c.too_few_line.ensures)
+    c.written-in-Err-TooFew.ensures.bytes

@@ -1,0 +1,7 @@
+pub mod Answer
+pub mod CommandLine
+pub mod Generator
+pub mod Help
+pub mod Lines
+pub mod Statuses
+pub mod Written

@@ -1,0 +1,271 @@
+ghost use Rattle.std.specs.Prelude.{◌≡◌, ◌≤◌, ◌<◌, ◌+◌, ◌^◌, map, string_bytes, IfSome, MatchOption};
+ghost use Rattle.mt_text.specs.Number.{decimal_number, hex_number};
+ghost use Rattle.mt_answers.specs.CommandLine.{behind, greatest, command_of, command_of_four, command_of_one, command_of_three, command_of_two, gran_as, gran_with, big_with, index_of, log_of, make_with, most_accesses, of_dump, option_of, private_with, proc_with, tidy_with, tidy_with_both};
+
+use crate::{Command, DumpCommand, SerialCommand, ThreadedCommand, TidyOption};
+use mt_gran::granule_log;
+use mt_text::{decimal, hex64};
+
+const USUAL_SPARE: u8 = 1;
+
+const USUAL_CHUNK: u64 = 0x1000_0000;
+
+// `tidy` without options.
+const USUAL_TIDY: DumpCommand = DumpCommand::Tidy {
+    spare: USUAL_SPARE,
+    chunk: USUAL_CHUNK,
+};
+
+const MOST_SPARE: u64 = 32;
+
+const MOST_PROCESSORS: u64 = 16;
+
+const ADDRESSES: u64 = 1 << 52;
+
+const MOST_ACCESSES: u64 = 4096;
+
+fn of_dump(command: Option<DumpCommand>) -> Option<Command>
+    ensures { result ≡ of_dump command }
+{
+    match command {
+        Some(command) => Some(Command::Serial(SerialCommand::Dump(command))),
+        None => None,
+    }
+}
+
+fn command_of_one(name: &[u8]) -> Option<Command>
+    ensures { result ≡ command_of_one name.now }
+{
+    if name == b"check".as_slice() {
+        Some(Command::Serial(SerialCommand::Dump(DumpCommand::Check)))
+    } else if name == b"show".as_slice() {
+        Some(Command::Serial(SerialCommand::Dump(DumpCommand::Show)))
+    } else if name == b"types".as_slice() {
+        Some(Command::Serial(SerialCommand::Dump(DumpCommand::Types)))
+    } else if name == b"tidy".as_slice() {
+        Some(Command::Serial(SerialCommand::Dump(USUAL_TIDY)))
+    } else if name == b"replay".as_slice() {
+        Some(Command::Threaded(ThreadedCommand::Replay))
+    } else if name == b"--help".as_slice() {
+        Some(Command::Serial(SerialCommand::Help))
+    } else if name == b"--version".as_slice() {
+        Some(Command::Serial(SerialCommand::Version))
+    } else {
+        None
+    }
+}
+
+// What stands behind a text at the front of a word.
+fn behind<'a>(text: &[u8], word: &'a [u8]) -> Option<&'a [u8]>
+    ensures { MatchOption result (behind text.now word.now ≡ None) (λ x. behind text.now word.now ≡ Some x.now) }
+{
+    word.strip_prefix(text)
+}
+
+// An option of `tidy`.
+fn option_of(word: &[u8]) -> Option<TidyOption>
+    ensures { result ≡ option_of word.now }
+{
+    if let Some(digits) = behind(b"spare=", word) {
+        return match decimal(digits, MOST_SPARE) {
+            Ok(spare) => Some(TidyOption::Spare(spare as u8)),
+            Err(_) => None,
+        };
+    }
+    match behind(b"chunk=", word) {
+        Some(digits) => match hex64(digits) {
+            Ok(chunk) => Some(TidyOption::Chunk(chunk)),
+            Err(_) => None,
+        },
+        None => None,
+    }
+}
+
+fn tidy_with(option: Option<TidyOption>) -> Option<DumpCommand>
+    ensures { result ≡ tidy_with option }
+{
+    match option {
+        Some(TidyOption::Spare(spare)) => Some(DumpCommand::Tidy {
+            spare,
+            chunk: USUAL_CHUNK,
+        }),
+        Some(TidyOption::Chunk(chunk)) => Some(DumpCommand::Tidy {
+            spare: USUAL_SPARE,
+            chunk,
+        }),
+        None => None,
+    }
+}
+
+fn tidy_with_both(first: Option<TidyOption>, second: Option<TidyOption>) -> Option<DumpCommand>
+    ensures { result ≡ tidy_with_both first second }
+{
+    match (first, second) {
+        (Some(TidyOption::Spare(spare)), Some(TidyOption::Chunk(chunk))) => {
+            Some(DumpCommand::Tidy { spare, chunk })
+        }
+        (Some(TidyOption::Chunk(chunk)), Some(TidyOption::Spare(spare))) => {
+            Some(DumpCommand::Tidy { spare, chunk })
+        }
+        _ => None,
+    }
+}
+
+fn log_of(size: &[u8]) -> Option<u8>
+    ensures { result ≡ log_of (hex_number size.now) }
+{
+    match hex64(size) {
+        Ok(size) => granule_log(size),
+        Err(_) => None,
+    }
+}
+
+// `gran` has a size before the options of `tidy`.
+fn gran_as(log: Option<u8>, command: Option<DumpCommand>) -> Option<DumpCommand>
+    ensures { result ≡ gran_as log command }
+{
+    match (log, command) {
+        (Some(log), Some(DumpCommand::Tidy { spare, chunk })) => {
+            Some(DumpCommand::Gran { log, spare, chunk })
+        }
+        _ => None,
+    }
+}
+
+fn gran_with(size: &[u8], command: Option<DumpCommand>) -> Option<DumpCommand>
+    ensures { result ≡ gran_with size.now command }
+{
+    gran_as(log_of(size), command)
+}
+
+fn make_with(number: &[u8]) -> Option<Command>
+    ensures { result ≡ make_with (decimal_number number.now greatest) }
+{
+    match decimal(number, u64::MAX) {
+        Ok(n) => Some(Command::Serial(SerialCommand::Make(n))),
+        Err(_) => None,
+    }
+}
+
+fn big_with(number: &[u8]) -> Option<Command>
+    ensures { result ≡ big_with (decimal_number number.now greatest) }
+{
+    match decimal(number, u64::MAX) {
+        Ok(n) => Some(Command::Threaded(ThreadedCommand::Big(n))),
+        Err(_) => None,
+    }
+}
+
+fn private_with(cpus: &[u8], number: &[u8], accesses: &[u8]) -> Option<Command>
+    ensures { result ≡ private_with (decimal_number cpus.now greatest) (decimal_number number.now greatest) (decimal_number accesses.now most_accesses) }
+{
+    let (Ok(cpus), Ok(n), Ok(accesses)) = (
+        decimal(cpus, u64::MAX),
+        decimal(number, u64::MAX),
+        decimal(accesses, MOST_ACCESSES),
+    ) else {
+        return None;
+    };
+    if cpus >= 1 && cpus <= MOST_PROCESSORS {
+        Some(Command::Threaded(ThreadedCommand::Private {
+            cpus: cpus as u32,
+            n,
+            accesses: accesses as u32,
+        }))
+    } else {
+        None
+    }
+}
+
+fn proc_with(number: &[u8]) -> Option<Command>
+    ensures { result ≡ proc_with (decimal_number number.now 16) }
+{
+    match decimal(number, MOST_PROCESSORS) {
+        Ok(cpus) if cpus > 0 => Some(Command::Threaded(ThreadedCommand::Proc(cpus as u32))),
+        _ => None,
+    }
+}
+
+fn command_of_two(name: &[u8], option: &[u8]) -> Option<Command>
+    ensures { result ≡ command_of_two name.now option.now }
+{
+    if name == b"tidy".as_slice() {
+        of_dump(tidy_with(option_of(option)))
+    } else if name == b"gran".as_slice() {
+        of_dump(gran_with(option, Some(USUAL_TIDY)))
+    } else if name == b"make".as_slice() {
+        make_with(option)
+    } else if name == b"big".as_slice() {
+        big_with(option)
+    } else if name == b"proc".as_slice() {
+        proc_with(option)
+    } else {
+        None
+    }
+}
+
+// One decimal digit from 0 to 7.
+fn index_of(word: &[u8]) -> Option<u8>
+    ensures { result ≡ index_of word.now }
+{
+    match word {
+        [digit] if *digit >= b'0' && *digit < b'8' => Some(*digit - b'0'),
+        _ => None,
+    }
+}
+
+fn command_of_three(name: &[u8], first: &[u8], second: &[u8]) -> Option<Command>
+    ensures { result ≡ command_of_three name.now first.now second.now }
+{
+    if name == b"page".as_slice() {
+        return match (hex64(first), index_of(second)) {
+            (Ok(address), Some(index)) if address < ADDRESSES => {
+                Some(Command::Serial(SerialCommand::Dump(DumpCommand::Page { address, index })))
+            }
+            _ => None,
+        };
+    }
+    if name == b"tidy".as_slice() {
+        of_dump(tidy_with_both(option_of(first), option_of(second)))
+    } else if name == b"gran".as_slice() {
+        of_dump(gran_with(first, tidy_with(option_of(second))))
+    } else {
+        None
+    }
+}
+
+fn command_of_four(name: &[u8], first: &[u8], second: &[u8], third: &[u8]) -> Option<Command>
+    ensures { result ≡ command_of_four name.now first.now second.now third.now }
+{
+    if name == b"gran".as_slice() {
+        let options = tidy_with_both(option_of(second), option_of(third));
+        of_dump(gran_with(first, options))
+    } else if name == b"private".as_slice() {
+        private_with(first, second, third)
+    } else {
+        None
+    }
+}
+
+/// The command of a command line, the program's name left out. There is none exactly where the
+/// words are in no row of the grammar.
+pub fn command_of(words: &[String]) -> Option<Command>
+    ensures { result ≡ command_of (map string_bytes words.now) }
+{
+    match words {
+        [name] => command_of_one(name.as_str().as_bytes()),
+        [name, option] => command_of_two(name.as_str().as_bytes(), option.as_str().as_bytes()),
+        [name, first, second] => command_of_three(
+            name.as_str().as_bytes(),
+            first.as_str().as_bytes(),
+            second.as_str().as_bytes(),
+        ),
+        [name, first, second, third] => command_of_four(
+            name.as_str().as_bytes(),
+            first.as_str().as_bytes(),
+            second.as_str().as_bytes(),
+            third.as_str().as_bytes(),
+        ),
+        _ => None,
+    }
+}

@@ -1,6 +1,0 @@
-use Rattle.std.proofs.Common.{◌≡◌, flat_map, take}
-use Rattle.mt_cli.specs.Lines.{part_line}
-use Rattle.mt_cli.proofs.texts.parts_text.Given as goal
-
-abbrev pub invariant-parts : goal.invariant-parts
-invariant-parts l = l.text.items ≡ flat_map part_line (take l.part-index l.parts)

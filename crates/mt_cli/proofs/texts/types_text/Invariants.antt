@@ -1,6 +1,0 @@
-use Rattle.std.proofs.Common.{◌≡◌, flat_map, take}
-use Rattle.mt_cli.specs.Lines.{run_line}
-use Rattle.mt_cli.proofs.texts.types_text.Given as goal
-
-abbrev pub invariant-runs : goal.invariant-runs
-invariant-runs l = l.text.items ≡ flat_map run_line (take l.run-index l.runs)

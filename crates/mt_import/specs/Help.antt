@@ -1,0 +1,46 @@
+-- The texts of `--help` and `--version` (own).
+--     own_text words      the text of these words, where they are one of the two
+use Rattle.std.specs.Prelude.{ℕ, List, [], ◌∷◌, codes, flat_map, if◌then◌else◌, Option, Some, None}
+use Rattle.mt_output.specs.Lines.{line}
+use Rattle.mt_import.specs.Pieces.{is_text}
+
+abbrev pub help_lines : List (List ℕ)
+help_lines =
+    codes "usage: mtrr-import FORMAT [REGISTER=VALUE ..] [maxphyaddr=N] < LOG"
+    ∷ codes ""
+    ∷ codes "Writes the dump for mtrr that another program's log shows, or what is"
+    ∷ codes "missing from it. Each register or width that is missing is a word."
+    ∷ codes ""
+    ∷ codes "  FORMAT          coreboot, edk2, inteltool, linux, rdmsr, x86info, xen"
+    ∷ codes "  REGISTER=VALUE  a register of the processors, both hexadecimal"
+    ∷ codes "  maxphyaddr=N    the bits of a physical address, 32 to 52"
+    ∷ codes "  --help          this text; nothing is read"
+    ∷ codes "  --version       the version; nothing is read"
+    ∷ codes ""
+    ∷ codes "Exit status:"
+    ∷ codes "  0  done"
+    ∷ codes "  1  something is missing"
+    ∷ codes "  2  wrong usage"
+    ∷ codes "  3  the log has a fault"
+    ∷ codes "  4  reading failed"
+    ∷ codes "  5  writing failed"
+    ∷ codes "  6  no memory"
+    ∷ codes "  7  the log has more than 16,777,216 bytes"
+    ∷ []
+
+unfoldable pub help_text : List ℕ
+help_text = flat_map line help_lines
+
+unfoldable pub version_text : List ℕ
+version_text = line (codes "mtrr-import 1.0.0")
+
+abbrev pub own_text_of : List ℕ → Option (List ℕ)
+own_text_of word =
+    if is_text (codes "--help") word then Some help_text
+    else if is_text (codes "--version") word then Some version_text
+    else None
+
+abbrev pub own_text : List (List ℕ) → Option (List ℕ)
+own_text [] = None
+own_text (word ∷ []) = own_text_of word
+own_text (word ∷ second ∷ more) = None

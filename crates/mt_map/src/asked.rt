@@ -1,0 +1,66 @@
+ghost use Rattle.std.specs.Prelude.{◌≡◌, map, string_bytes};
+ghost use Rattle.mt_map.specs.Asked.{asked_by, asked_by_one, help_text, version_text};
+
+/// What the words of the command line ask for.
+#[derive(Clone, Copy)]
+pub enum Asked {
+    /// The picture of a dump.
+    Picture,
+    /// What the program does. It reads nothing.
+    Help,
+    /// The version of the program. It reads nothing.
+    Version,
+}
+
+fn asked_by_one(word: &[u8]) -> Option<Asked>
+    ensures { result ≡ asked_by_one word.now }
+{
+    if word == b"--help".as_slice() {
+        Some(Asked::Help)
+    } else if word == b"--version".as_slice() {
+        Some(Asked::Version)
+    } else {
+        None
+    }
+}
+
+/// What the words of the command line ask for. There is nothing exactly where they are wrong usage.
+pub fn asked_by(words: &[String]) -> Option<Asked>
+    ensures { result ≡ asked_by (map string_bytes words.now) }
+{
+    match words {
+        [] => Some(Asked::Picture),
+        [word] => asked_by_one(word.as_str().as_bytes()),
+        _ => None,
+    }
+}
+
+/// What `--help` writes.
+pub(crate) fn help_text() -> &'static [u8]
+    ensures { result.now ≡ help_text }
+{
+    b"usage: mtrr-map < DUMP > PICTURE
+
+Draws the memory types of a dump of memory type range registers as SVG.
+
+  --help     this text; nothing is read
+  --version  the version; nothing is read
+
+Exit status:
+  0  done
+  1  the registers have a fault
+  2  wrong usage
+  3  the dump has a fault
+  4  reading failed
+  5  writing failed
+  6  no memory
+  7  the dump has more than 16,777,216 bytes
+"
+}
+
+/// What `--version` writes.
+pub(crate) fn version_text() -> &'static [u8]
+    ensures { result.now ≡ version_text }
+{
+    b"mtrr-map 1.0.0\n"
+}
