@@ -14,7 +14,7 @@ use Rattle.mt_answers.specs.Statuses.{MayEnd}
 use Rattle.mt_answers.specs.Written.{Answers, Makes, writes, no_memory}
 
 -- the statuses with which a command answers about a file, and with which a transcript ends
-pub IsFinal : Status → Type 0
+unfoldable pub IsFinal : Status → Type 0
 IsFinal status = (status ≡ Done) ⊎ (status ≡ Refused) ⊎ (status ≡ BadText) ⊎ (status ≡ TooFew) ⊎ (status ≡ Disabled)
 
 final_of_file : (file : RegisterFile) (command : DumpCommand) (text : List ℕ) (status : Status) → FileAnswer file command text status → IsFinal status

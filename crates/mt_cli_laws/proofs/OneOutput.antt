@@ -272,21 +272,21 @@ own_of_serial bytes (Make n) text is = record { is_text = sym (ap text_in is); i
 own_of_serial bytes Help text is = record { is_text = sym (ap text_in is); is_status = refl }
 own_of_serial bytes Version text is = record { is_text = sym (ap text_in is); is_status = refl }
 
-pub output_apart : (words : List (List ℕ)) (bytes text : List ℕ) (status : Status) → Output words bytes text status → OutputOwn bytes (command_of words) text status
-output_apart words bytes text status output = by output
-  where
-    of : (command : Option Command) → command_of words ≡ command → OutputOwn bytes command text status → OutputOwn bytes (command_of words) text status
-    of command says own = subst (λ (o : Option Command). OutputOwn bytes o text status) (sym says) own
+own_as : (words : List (List ℕ)) (bytes : List ℕ) (command : Option Command) (text : List ℕ) (status : Status) → command_of words ≡ command → OutputOwn bytes command text status → OutputOwn bytes (command_of words) text status
+own_as words bytes command text status says own = subst (λ (o : Option Command). OutputOwn bytes o text status) (sym says) own
 
-    by : Output words bytes text status → OutputOwn bytes (command_of words) text status
-    by (usage none_is) = of None none_is (record { is_text = refl; is_status = refl })
-    by (bad_text command fault says is) = of (Some (Serial (Dump command))) says (inl (record { fault = fault; offence = is; is_text = refl; is_status = refl }))
-    by (answered command dump u v says shows answer) = of (Some (Serial (Dump command))) says (inr (record { dump = dump; shows = shows; answer = answer }))
-    by (printed command u says is) = of (Some (Serial command)) says (own_of_serial bytes command u is)
-    by (summed n says) = of (Some (Threaded (Big n))) says (record { is_text = refl; is_status = refl })
-    by (measured cpus n accesses says) = of (Some (Threaded (Private cpus n accesses))) says (record { is_text = refl; is_status = refl })
-    by (replayed says) = of (Some (Threaded Replay)) says (record { is_text = refl; is_status = refl })
-    by (requested cpus says) = of (Some (Threaded (Proc cpus))) says (record { is_text = refl; is_status = refl })
+pub output_apart : (words : List (List ℕ)) (bytes text : List ℕ) (status : Status) → Output words bytes text status → OutputOwn bytes (command_of words) text status
+output_apart words bytes _ _ (usage none_is) = own_as words bytes None usage_line Usage none_is (record { is_text = refl; is_status = refl })
+output_apart words bytes _ _ (bad_text command fault says is) =
+    own_as words bytes (Some (Serial (Dump command))) (bad_text_line fault) BadText says (inl (record { fault = fault; offence = is; is_text = refl; is_status = refl }))
+output_apart words bytes text status (answered command dump _ _ says shows answer) = own_as words bytes (Some (Serial (Dump command))) text status says (inr (record { dump = dump; shows = shows; answer = answer }))
+output_apart words bytes text _ (printed command _ says is) = own_as words bytes (Some (Serial command)) text Done says (own_of_serial bytes command text is)
+output_apart words bytes _ _ (summed n says) = own_as words bytes (Some (Threaded (Big n))) (big_text n) Done says (record { is_text = refl; is_status = refl })
+output_apart words bytes _ _ (measured cpus n accesses says) =
+    own_as words bytes (Some (Threaded (Private cpus n accesses))) (measured_text cpus n accesses) Done says (record { is_text = refl; is_status = refl })
+output_apart words bytes _ _ (replayed says) = own_as words bytes (Some (Threaded Replay)) (transcript bytes).text (transcript bytes).status says (record { is_text = refl; is_status = refl })
+output_apart words bytes _ _ (requested cpus says) =
+    own_as words bytes (Some (Threaded (Proc cpus))) (proc_transcript cpus bytes).text (proc_transcript cpus bytes).status says (record { is_text = refl; is_status = refl })
 
 -- one status, and one text unless a tidied or rounded file was written
 abbrev AgreeOn : Option Command → List ℕ → List ℕ → Status → Status → Type 0

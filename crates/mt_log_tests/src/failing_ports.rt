@@ -37,7 +37,10 @@ fn expect_none<R: AllocGlobal + Abort>(
     let Ok(mut sink) = MemSink::new(alloc, ROOM, failing_writes.to_vec(alloc)?) else {
         return Err(Fail::from("no memory"));
     };
-    assert_eq!(rt; map(alloc, Some(Asked::Picture), &mut source, &mut sink), status);
+    assert_eq!(rt;
+        map(alloc, Some(Asked::Picture), &mut source, &mut sink),
+        status
+    );
     assert!(rt; sink.bytes().is_empty());
     Ok(())
 }
