@@ -8,7 +8,7 @@ import subprocess
 from collections import Counter
 from concurrent.futures import ThreadPoolExecutor
 
-from definitions import COLUMNS, E, FE, FIX, MEMORY_TYPES, NAMES, OVERLAP, VALID, Registers
+from definitions import BYTES, COLUMNS, E, FE, FIX, MEMORY_TYPES, NAMES, OVERLAP, VALID, Registers
 from differences import Tally, compare_allowed, compare_types, effective_name, shown
 from draw import Draw, hard_maps, pages_of, value_of
 from dumps import dump_of
@@ -23,6 +23,8 @@ READ_ONE = (b"check", b"show", b"types", b"page", b"tidy", b"gran")
 
 def answers_of(path, lines):
     """A judge's answers to these questions."""
+    if not lines:
+        return []
     ran = subprocess.run([path], input="\n".join(lines) + "\n", capture_output=True, text=True)
     said = ran.stdout.splitlines()
     if ran.returncode != 0 or len(said) != len(lines):
@@ -174,10 +176,12 @@ class Comparison:
         self.compare_mapped([(answers, pages, fault, said["types"][1][0]) for (answers, pages, _), fault, said in zip(asked, faults, told)])
 
     def ask_all(self, answers, pages, number):
-        """What the program says of a file, by each command that only reads it: the words, and the text and status."""
+        """What the program says of a file, by commands that only read it: the words, and the text and status."""
         page = pages[number % len(pages)] if number % 16 else answers.registers.pages() << number // 16 % 4
         address = min(page, (1 << 40) - 1) << 12 | number >> 20
-        asked = {"check": ["check"], "show": ["show"], "types": ["types"], "page": ["page", f"{address:x}", str(number // 64 % 8)]}
+        asked = {"types": ["types"], "page": ["page", f"{address:x}", str(number // 64 % 8)]}
+        turn = "check" if number // 512 % 2 else "show"
+        asked[turn] = [turn]
         if answers.fault or not answers.registers.def_type & E:
             asked["tidy, refused or off"] = ["tidy"]
         return {name: (words, self.program.ask(words, answers.registers)) for name, words in asked.items()}
@@ -222,7 +226,7 @@ class Comparison:
         pat = value_of([*COLUMNS, 0, 0])
         registers = Registers(36, 0x508, [], fixed, pat, E | FE)
         cells = [(16 * row, kind, index, entry) for row, kind in enumerate(MEMORY_TYPES) for index, entry in enumerate(COLUMNS)]
-        ours = [self.program.ask(["page", f"{page << 12:x}", f"{index}"], registers)[0].split()[-1:] for page, _, index, _ in cells]
+        ours = [self.effective_by_program(registers, page, index) for page, _, index, _ in cells]
         for judge in ("xen", "linux"):
             tally = self.tally(judge, "effective types")
             said = self.judges.ask(judge, [f"effective {kind:x} {entry:x}" for _, kind, _, entry in cells])
@@ -230,8 +234,13 @@ class Comparison:
                 other = int(line, 16)
                 if judge == "linux":
                     other = self.reading.effective(kind, other)
-                tally.add(own == [NAMES[other]], effective_name(judge, kind, entry, own, other), registers, lambda: (
-                    f"MTRR {NAMES[kind]}, PAT {NAMES[entry]}: ours {own}, {judge} {shown(other)}"))
+                tally.add(own == other, effective_name(judge, kind, entry, own, other), registers, lambda: (
+                    f"MTRR {NAMES[kind]}, PAT {NAMES[entry]}: ours {shown(own)}, {judge} {shown(other)}"))
+
+    def effective_by_program(self, registers, page, index):
+        """The type in effect that the program's last word names, or -1."""
+        text, _ = self.program.ask(["page", f"{page << 12:x}", f"{index}"], registers)
+        return BYTES.get(text.rstrip("\n").rpartition(" ")[2], -1)
 
     # Pairs.
 
@@ -267,7 +276,7 @@ class Comparison:
 
     def compare_refused_maps(self, maps):
         """Maps that ours refuses, which no judge can be held to: why, and whether Linux's cleanup, which alone reads registers, answers."""
-        said = self.judges.ask("linux", [map_line(answers, []) for answers in maps]) if maps else []
+        said = self.judges.ask("linux", [map_line(answers, []) for answers in maps])
         for answers, line in zip(maps, said):
             words = words_for(MOST)
             self.of_tidied.add_answer(answers.registers, words, self.program.ask(words, answers.registers), answers.tidy())

@@ -108,7 +108,7 @@ def patched(folder):
 def unpacked(package, paths, apt):
     """The folder with these paths of a package, which no patch of Debian's changes."""
     folder = CACHE / f"{package}_{apt.version(package)}"
-    done = folder / ".unpacked"
+    done = folder / ".checked"
     if done.exists() and done.read_text().split() == paths:
         return folder
     folder.mkdir(parents=True, exist_ok=True)
