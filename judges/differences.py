@@ -79,8 +79,8 @@ class Page:
         return self.is_by_ranges and bool(self.kinds) and self.answers.reading.meeting(self.kinds)[1] is UNDEFINED
 
     def by_kvm(self, begin):
-        """KVM's type, where a range holds the pages from `begin` of it to its last: from the highest base down, and late with UC."""
-        ranges = sorted(reversed(self.answers.ranges), key=lambda one: -one.base)
+        """KVM's type, where a range holds the pages from `begin` of it to its last: down from the highest base register."""
+        ranges = sorted(reversed(self.answers.ranges), key=lambda one: (-one.base, -one.kind))
         kinds = self.kinds_of(lambda one: begin(one) <= self.page <= one.last, ranges)
         return joined(kinds, WB, is_uc_late=True) if kinds else self.registers.def_type & 0xFF
 
