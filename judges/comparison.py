@@ -12,7 +12,7 @@ from definitions import BYTES, COLUMNS, E, FE, FIX, MEMORY_TYPES, NAMES, OVERLAP
 from differences import Tally, compare_allowed, compare_types, effective_name, shown
 from draw import Draw, hard_maps, pages_of, value_of
 from dumps import dump_of
-from explanations import faults_explained, faults_wanted, page_explained, page_wanted
+from explanations import explained, faults_explained, faults_wanted, page_explained, page_wanted
 from pairs import MOST, SAME_MAP, USUAL, Least, PairsTally, other_map_name, words_for
 from program import runs_of
 from roster import JUDGES
@@ -212,12 +212,12 @@ class Comparison:
     def compare_explanations(self, asked):
         of_faults, of_pages = self.of_explanations
         for (answers, _, _), said in zip(asked, self.program.explain(["faults"], [answers.registers for answers, _, _ in asked])):
-            of_faults.add_answer(answers.registers, ["faults"], faults_explained(said), faults_wanted(answers))
+            of_faults.add_answer(answers.registers, ["faults"], explained(faults_explained, said), faults_wanted(answers))
         clashing = [(answers, page) for answers, pages, number in asked if answers.fault and answers.fault[1] == OVERLAP
                     for page in (answers.holes[number % len(answers.holes)][number % 2], pages[number % len(pages)])]
         said = self.pool.map(lambda one: self.program.explain(["page", f"{one[1] << 12:x}"], [one[0].registers])[0], clashing)
         for (answers, page), one in zip(clashing, said):
-            of_pages.add_answer(answers.registers, ["page", f"{page << 12:x}"], page_explained(one), page_wanted(answers, page))
+            of_pages.add_answer(answers.registers, ["page", f"{page << 12:x}"], explained(page_explained, one), page_wanted(answers, page))
 
     # Effective types.
 

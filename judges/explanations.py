@@ -4,6 +4,14 @@ from definitions import NAMES, UNDEFINED, parts_of
 PROBLEMS = {"reserved bit": "reserved bits are set", "unsupported type": "no type", "broken mask": "the mask has a gap"}
 
 
+def explained(form, said):
+    """An answer in this form, or as it is where it has none."""
+    try:
+        return form(said)
+    except (LookupError, TypeError, ValueError):
+        return said
+
+
 def pairs_of(said):
     return [pair["pair"] for pair in said["pairs"]]
 

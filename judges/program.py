@@ -9,6 +9,8 @@ import threading
 
 from definitions import BYTES, Reading
 
+TIMEOUT = 120  # seconds
+
 
 class Program:
     """Asks the built programs, one process a question."""
@@ -32,25 +34,31 @@ class Program:
         self.mine.input.truncate()
         self.mine.input.write(data)
         self.mine.input.seek(0)
-        ran = subprocess.run([self.path, *words], stdin=self.mine.input, stdout=subprocess.PIPE, close_fds=False)
+        try:
+            ran = subprocess.run([self.path, *words], stdin=self.mine.input, stdout=subprocess.PIPE, close_fds=False, timeout=TIMEOUT)
+        except subprocess.TimeoutExpired:
+            return "no end\n", None
         return ran.stdout.decode("latin-1"), ran.returncode
 
     def ask(self, words, registers):
         return self.run(words, registers.text().encode())
 
     def explain(self, words, files):
-        """What `mtrr-explain` says of each of these files, as JSON."""
+        """What `mtrr-explain` says of each of these files, as JSON; None of each where it doesn't answer all of them."""
         self.count()
         with tempfile.TemporaryDirectory(prefix="mtrr-peers-") as folder:
             paths = [os.path.join(folder, f"{number}") for number in range(len(files))]
             for path, registers in zip(paths, files):
                 with open(path, "w") as file:
                     file.write(registers.text())
-            ran = subprocess.run([self.explain_path, *words, "--json", *paths], stdout=subprocess.PIPE)
-        said = [json.loads(line) for line in ran.stdout.splitlines()]
-        if [one["file"] for one in said] != paths:
-            raise RuntimeError(f"{self.explain_path}: {len(said)} answers for {len(paths)} files, status {ran.returncode}")
-        return [one["cpus"][0] for one in said]
+            try:
+                ran = subprocess.run([self.explain_path, *words, "--json", *paths], stdout=subprocess.PIPE, timeout=TIMEOUT)
+                said = [json.loads(line) for line in ran.stdout.splitlines()]
+                if [one["file"] for one in said] == paths:
+                    return [one["cpus"][0] for one in said]
+            except (subprocess.TimeoutExpired, ValueError, LookupError, TypeError):
+                pass
+        return [None] * len(files)
 
 
 class Remembering(Program):
