@@ -151,7 +151,8 @@ class Comparison:
     # Types and registers.
 
     def compare_files(self):
-        self.of_commands = {name: self.tally("definitions", name) for name in ("check", "show", "types", "page", "tidy, refused or off")}
+        self.of_commands = {name: self.tally("definitions", name) for name in ("check", "show", "types", "page")}
+        self.of_commands["tidy"] = self.tally("definitions", "tidy, refused or off")
         self.of_explanations = [self.tally("definitions", f"explain {name}") for name in ("faults", "page")]
         self.of_types = [self.tally(judge, "types") for judge in ("linux", "kvm", "xen", "edk2")]
         self.of_registers = [self.tally(judge, "registers") for judge in ("kvm", "xen")]
@@ -161,30 +162,28 @@ class Comparison:
 
     def compare_batch(self, files, pick):
         asked = [(self.reading.of(registers), pages_of(registers, pick), pick.getrandbits(32)) for registers in files]
-        told = list(self.pool.map(lambda one: self.ask_all(*one), asked))
-        faults = []
+        told = list(self.pool.map(lambda one: self.ask_two(*one), asked))
         for (answers, _, _), said in zip(asked, told):
-            for name, (words, ours) in said.items():
-                self.of_commands[name].add_answer(answers.registers, words, ours, answers.to(words))
-            faults.append(self.fault_of(*said["types"][1]))
+            for words, ours in said:
+                self.of_commands[words[0]].add_answer(answers.registers, words, ours, answers.to(words))
+        types = [said[0][1] for said in told]
+        faults = [self.fault_of(text, status) for text, status in types]
         for tally in self.of_registers:
             said = self.judges.ask(tally.judge, ["allows " + registers.line() for registers in files])
             for registers, fault, line in zip(files, faults, said):
                 compare_allowed(tally, registers, fault, line)
         if self.program.explain_path:
             self.compare_explanations(asked)
-        self.compare_mapped([(answers, pages, fault, said["types"][1][0]) for (answers, pages, _), fault, said in zip(asked, faults, told)])
+        self.compare_mapped([(answers, pages, fault, text) for (answers, pages, _), fault, (text, _) in zip(asked, faults, types)])
 
-    def ask_all(self, answers, pages, number):
-        """What the program says of a file, by commands that only read it: the words, and the text and status."""
+    def ask_two(self, answers, pages, number):
+        """What the program says of a file, by `types` and by another command in turn: the words, and the text and status."""
         page = pages[number % len(pages)] if number % 16 else answers.registers.pages() << number // 16 % 4
         address = min(page, (1 << 40) - 1) << 12 | number >> 20
-        asked = {"types": ["types"], "page": ["page", f"{address:x}", str(number // 64 % 8)]}
-        turn = "check" if number // 512 % 2 else "show"
-        asked[turn] = [turn]
+        turns = [["check"], ["show"], ["page", f"{address:x}", str(number // 64 % 8)]]
         if answers.fault or not answers.registers.def_type & E:
-            asked["tidy, refused or off"] = ["tidy"]
-        return {name: (words, self.program.ask(words, answers.registers)) for name, words in asked.items()}
+            turns.append(["tidy"])
+        return [(words, self.program.ask(words, answers.registers)) for words in (["types"], turns[number // 512 % len(turns)])]
 
     def fault_of(self, text, status):
         """The program's first fault, as the register's number and the reason, or None."""
@@ -213,8 +212,8 @@ class Comparison:
         of_faults, of_pages = self.of_explanations
         for (answers, _, _), said in zip(asked, self.program.explain(["faults"], [answers.registers for answers, _, _ in asked])):
             of_faults.add_answer(answers.registers, ["faults"], explained(faults_explained, said), faults_wanted(answers))
-        clashing = [(answers, page) for answers, pages, number in asked if answers.fault and answers.fault[1] == OVERLAP
-                    for page in (answers.holes[number % len(answers.holes)][number % 2], pages[number % len(pages)])]
+        clashing = [(answers, pages[number // 2 % len(pages)] if number % 2 else answers.holes[number // 2 % len(answers.holes)][number // 512 % 2])
+                    for answers, pages, number in asked if answers.fault and answers.fault[1] == OVERLAP]
         said = self.pool.map(lambda one: self.program.explain(["page", f"{one[1] << 12:x}"], [one[0].registers])[0], clashing)
         for (answers, page), one in zip(clashing, said):
             of_pages.add_answer(answers.registers, ["page", f"{page << 12:x}"], explained(page_explained, one), page_wanted(answers, page))
