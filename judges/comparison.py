@@ -18,6 +18,7 @@ from program import runs_of
 from roster import JUDGES
 
 BATCH = 500
+PARTS = ("texts", "files", "effective", "pairs")
 READ_ONE = (b"check", b"show", b"types", b"page", b"tidy", b"gran")
 
 
@@ -131,13 +132,11 @@ class Comparison:
         self.tallies.append(Tally(judge, what))
         return self.tallies[-1]
 
-    def run(self, with_maps=True):
+    def run(self, parts=PARTS):
+        """Compares these parts, in their order."""
         with ThreadPoolExecutor() as self.pool:
-            self.compare_texts()
-            self.compare_files()
-            self.compare_effective()
-            if with_maps and self.cases.maps.list:
-                self.compare_pairs()
+            for part in parts:
+                getattr(self, f"compare_{part}")()
         return self
 
     def compare_texts(self):
@@ -244,6 +243,8 @@ class Comparison:
     # Pairs.
 
     def compare_pairs(self):
+        if not self.cases.maps.list:
+            return
         self.of_tidied = self.tally("definitions", "tidy")
         self.of_pairs = [PairsTally(judge) for judge in ("linux", "edk2", "coreboot")]
         self.tallies += self.of_pairs
