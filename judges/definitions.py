@@ -1,6 +1,7 @@
 """Register files, and what docs/MODEL.md says of them, read once more in Python: a second reader beside the program.
 
 A `Reading` may have a plant: one cell that is wrong. `./peers -x NAME` puts such a reading in the program's place."""
+from functools import cached_property
 
 UC, WC, WT, WP, WB, UC_MINUS = 0, 1, 4, 5, 6, 7
 MEMORY_TYPES = (UC, WC, WT, WP, WB)
@@ -9,6 +10,7 @@ NAMES = {UC: "UC", WC: "WC", WT: "WT", WP: "WP", WB: "WB", UC_MINUS: "UC-"}
 BYTES = {name: byte for byte, name in NAMES.items()}
 UNDEFINED = None
 
+CAP = 0xFE
 FIXED = (0x250, 0x258, 0x259, *range(0x268, 0x270))
 PAT, DEF_TYPE = 0x277, 0x2FF
 POWER_UP_PAT = 0x0007040600070406
@@ -56,12 +58,30 @@ class Registers:
         yield PAT, self.pat
         yield DEF_TYPE, self.def_type
 
+    def put(self, number, value):
+        if number == PAT:
+            self.pat = value
+        elif number == DEF_TYPE:
+            self.def_type = value
+        elif number in FIXED:
+            self.fixed[FIXED.index(number)] = value
+        else:
+            place, is_mask = divmod(number - 0x200, 2)
+            base, mask = self.pairs[place]
+            self.pairs[place] = (base, value) if is_mask else (value, mask)
+
     def text(self):
         """A dump of these registers, without the lines that say nothing."""
         lines = [] if self.width == 36 else [f"maxphyaddr {self.width}"]
         lines.append(f"0fe {self.cap:x}")
         usual = {PAT: POWER_UP_PAT}
         lines += [f"{number:03x} {value:x}" for number, value in self.writable() if value != usual.get(number, 0)]
+        return "\n".join(lines) + "\n"
+
+    def canonical(self):
+        """The canonical text, as `mtrr show` writes it."""
+        lines = [f"maxphyaddr {self.width}", f"0fe {self.cap:016x}"]
+        lines += [f"{number:03x} {value:016x}" for number, value in self.writable()]
         return "\n".join(lines) + "\n"
 
     def line(self):
@@ -76,32 +96,6 @@ class Registers:
 
     def is_fixed(self, page):
         return page < 256 and bool(self.def_type & FE)
-
-
-def registers_of(text):
-    """The register files that a canonical text shows, one for each section."""
-    files, lines = [], [line.split() for line in text.splitlines()]
-    for word, *rest in lines:
-        if word in ("version", "cpu"):
-            continue
-        if word == "maxphyaddr":
-            files.append(Registers(int(rest[0]), 0))
-            continue
-        number, value, last = int(word, 16), int(rest[0], 16), files[-1]
-        if number == 0xFE:
-            last.cap = value
-            last.pairs = [(0, 0)] * (value & 0xFF)
-        elif number == PAT:
-            last.pat = value
-        elif number == DEF_TYPE:
-            last.def_type = value
-        elif number in FIXED:
-            last.fixed[FIXED.index(number)] = value
-        else:
-            place, is_mask = divmod(number - 0x200, 2)
-            base, mask = last.pairs[place]
-            last.pairs[place] = (base, value) if is_mask else (value, mask)
-    return files
 
 
 def pair_of(first, log, kind, width):
@@ -129,12 +123,17 @@ class Range:
     def size(self):
         return (self.last - self.first + 1) << 12
 
-    def is_aligned(self):
-        return self.base == self.first
-
 
 def ranges_of(registers):
     return [Range(base, mask, registers.width) for base, mask in registers.pairs if mask & VALID]
+
+
+def largest_overlap(registers):
+    """The largest of the larger ones of two ranges that share a page, in bytes, or 0."""
+    ranges = ranges_of(registers)
+    sizes = [max(one.size(), other.size()) for place, one in enumerate(ranges) for other in ranges[:place]
+             if one.first <= other.last and other.first <= one.last]
+    return max(sizes, default=0)
 
 
 def fixed_type(registers, page):
@@ -148,7 +147,7 @@ def fixed_type(registers, page):
 
 
 class Reading:
-    """Faults and types of register files by docs/MODEL.md. PLANTS names the cells that a plant makes wrong."""
+    """docs/MODEL.md, as read here. PLANTS names the cells that a plant makes wrong."""
 
     PLANTS = {
         "overlap": "WT and WB that overlap give WB",
@@ -161,15 +160,15 @@ class Reading:
         self.plant = plant
 
     def meeting(self, kinds):
-        """The type of a page where valid pairs of these types match, one at least."""
+        """The rule for a page where valid pairs of these types match, one at least, by its name in docs/EXPLAIN.md; and the type."""
         kinds = set(kinds)
         if len(kinds) == 1:
-            return kinds.pop()
+            return "one-type", kinds.pop()
         if UC in kinds:
-            return UC
+            return "uc-wins", UC
         if kinds == {WT, WB}:
-            return WB if self.plant == "overlap" else WT
-        return UNDEFINED
+            return "wt-over-wb", WB if self.plant == "overlap" else WT
+        return "undefined", UNDEFINED
 
     def matches(self, one, page):
         if self.plant == "mask" and page < one.base:
@@ -178,81 +177,134 @@ class Reading:
             return False
         return one.matches(page)
 
-    def type_at(self, registers, ranges, page):
-        """The type of a page of a file without a register at fault by itself; `ranges` are the file's."""
-        if not registers.def_type & E:
-            return UC
-        if registers.is_fixed(page):
-            return fixed_type(registers, page)
-        kinds = [one.kind for one in ranges if self.matches(one, page)]
-        return self.meeting(kinds) if kinds else registers.def_type & 0xFF
-
-    def runs(self, registers):
-        """The runs of pages of one type, as (first page, type), each up to the next one's first."""
-        ranges = ranges_of(registers)
-        edges = {0, *range(0, 256, 1 if registers.def_type & FE else 256), 256}
-        for one in ranges:
-            edges.update((one.first, one.last + 1, one.base))
-        runs = []
-        for edge in sorted(edge for edge in edges if edge < registers.pages()):
-            kind = self.type_at(registers, ranges, edge)
-            if not runs or runs[-1][1] != kind:
-                runs.append((edge, kind))
-        return runs
-
-    def own_fault(self, registers, number, value):
-        """What is wrong with the value of a register by itself, or None."""
-        high = value >> registers.width
-        kinds = MEMORY_TYPES if registers.cap & CAP_WC else (UC, WT, WP, WB)
-        if number == PAT:
-            if any(part >> 3 for part in parts_of(value)):
-                return RESERVED
-            return None if all(part in PAT_TYPES for part in parts_of(value)) else UNSUPPORTED
-        if number == DEF_TYPE:
-            if value & 0x300 or value >> 12 or (value & FE and not registers.cap & FIX):
-                return RESERVED
-            return None if value & 0xFF in kinds else UNSUPPORTED
-        if number in FIXED:
-            return None if all(part in kinds for part in parts_of(value)) else UNSUPPORTED
-        if number % 2 == 0:
-            if value & 0xF00 or high:
-                return RESERVED
-            return None if value & 0xFF in kinds else UNSUPPORTED
-        if value & 0x7FF or high:
-            return RESERVED
-        return BROKEN if value & VALID and Range(0, value, registers.width).has_gap else None
-
-    def first_fault(self, registers):
-        for number, value in registers.writable():
-            reason = self.own_fault(registers, number, value)
-            if reason:
-                return number, reason
-        runs = self.runs(registers)
-        if all(kind is not UNDEFINED for _, kind in runs):
-            return None
-        return self.least_clash(registers, runs), OVERLAP
-
-    def least_clash(self, registers, runs):
-        """The base of the least pair that matches a page of no defined type."""
-        ends = [first for first, _ in runs[1:]] + [registers.pages()]
-        holes = [(first, end) for (first, kind), end in zip(runs, ends) if kind is UNDEFINED]
-        for place, (base, mask) in enumerate(registers.pairs):
-            one = Range(base, mask, registers.width)
-            if mask & VALID and any(one.first < end and first <= one.last for first, end in holes):
-                return 0x200 + 2 * place
-        raise AssertionError("no pair matches a page of no defined type")
-
-    def types(self, registers):
-        """What `mtrr types` writes, and its status."""
-        fault = self.first_fault(registers)
-        if fault:
-            return f"refused {fault[0]:03x} {fault[1]}\n", 1
-        runs = self.runs(registers)
-        ends = [first for first, _ in runs[1:]] + [registers.pages()]
-        lines = [f"{first << 12:013x}-{(end << 12) - 1:013x} {NAMES[kind]}" for (first, kind), end in zip(runs, ends)]
-        return "\n".join(lines) + "\n", 0
-
     def effective(self, kind, entry):
         if self.plant == "effective" and (kind, entry) == (WP, UC_MINUS):
             return UC
         return EFFECTIVE[kind][COLUMNS.index(entry)]
+
+    def faults(self, registers, number, value):
+        """What is wrong with the value of a register by itself, in the order of the tests."""
+        high = value >> registers.width
+        kinds = MEMORY_TYPES if registers.cap & CAP_WC else (UC, WT, WP, WB)
+        is_reserved = is_broken = False
+        types = [value & 0xFF]
+        if number == PAT:
+            kinds, types = PAT_TYPES, parts_of(value)
+            is_reserved = any(part >> 3 for part in types)
+        elif number == DEF_TYPE:
+            is_reserved = value & 0x300 or value >> 12 or (value & FE and not registers.cap & FIX)
+        elif number in FIXED:
+            types = parts_of(value)
+        elif number % 2 == 0:
+            is_reserved = value & 0xF00 or high
+        else:
+            types = []
+            is_reserved = value & 0x7FF or high
+            is_broken = value & VALID and Range(0, value, registers.width).has_gap
+        if is_reserved:
+            yield RESERVED
+        if any(kind not in kinds for kind in types):
+            yield UNSUPPORTED
+        if is_broken:
+            yield BROKEN
+
+    def of(self, registers):
+        return Answers(self, registers)
+
+
+class Answers:
+    """What a reading says of a register file, and what `mtrr` then writes, with its status."""
+
+    def __init__(self, reading, registers):
+        self.reading, self.registers, self.ranges = reading, registers, ranges_of(registers)
+
+    @cached_property
+    def own_faults(self):
+        """Each register with faults by itself, in ascending order, and these."""
+        faults = ((number, list(self.reading.faults(self.registers, number, value))) for number, value in self.registers.writable())
+        return [(number, reasons) for number, reasons in faults if reasons]
+
+    def matching(self, page):
+        """The numbers of the valid pairs that match a page."""
+        valid = [place for place, (_, mask) in enumerate(self.registers.pairs) if mask & VALID]
+        return [place for place, one in zip(valid, self.ranges) if self.reading.matches(one, page)]
+
+    def decided(self, page):
+        """The rule that decides a page's type, where no register has a fault by itself, and the type."""
+        registers = self.registers
+        if not registers.def_type & E:
+            return "off", UC
+        if registers.is_fixed(page):
+            return "fixed", fixed_type(registers, page)
+        kinds = [one.kind for one in self.ranges if self.reading.matches(one, page)]
+        return self.reading.meeting(kinds) if kinds else ("default", registers.def_type & 0xFF)
+
+    def type_at(self, page):
+        return self.decided(page)[1]
+
+    @cached_property
+    def pieces(self):
+        """Pages between edges, as (first page, type): the same pairs match all pages of a piece."""
+        edges = {0, *range(0, 256, 1 if self.registers.def_type & FE else 256), 256}
+        for one in self.ranges:
+            edges.update((one.first, one.last + 1, one.base))
+        return [(edge, self.type_at(edge)) for edge in sorted(edges) if edge < self.registers.pages()]
+
+    @cached_property
+    def runs(self):
+        """The runs of pages of one type, as (first page, type), each up to the next one's first."""
+        return [piece for last, piece in zip([(0, -1), *self.pieces], self.pieces) if piece[1] != last[1]]
+
+    def spans(self):
+        """The runs, as (first page, last page, type)."""
+        ends = [first for first, _ in self.runs[1:]] + [self.registers.pages()]
+        return [(first, end - 1, kind) for (first, kind), end in zip(self.runs, ends)]
+
+    @cached_property
+    def holes(self):
+        """The runs of pages of no defined type."""
+        return [(first, last) for first, last, kind in self.spans() if kind is UNDEFINED]
+
+    @cached_property
+    def fault(self):
+        """The number of the first register at fault and why, or None."""
+        if self.own_faults:
+            number, reasons = self.own_faults[0]
+            return number, reasons[0]
+        clashing = [place for first, kind in self.pieces if kind is UNDEFINED for place in self.matching(first)]
+        return (0x200 + 2 * min(clashing), OVERLAP) if clashing else None
+
+    def to(self, words):
+        """What `mtrr` writes for these words, and its status."""
+        if words[0] == "page":
+            return self.page(int(words[1], 16), int(words[2]))
+        return {"check": self.check, "show": self.show, "types": self.types, "tidy": self.tidy}[words[0]]()
+
+    def refused(self):
+        number, reason = self.fault
+        return f"refused {number:03x} {reason}\n", 1
+
+    def check(self):
+        return self.refused() if self.fault else ("accepted\n", 0)
+
+    def show(self):
+        return self.registers.canonical(), 0
+
+    def types(self):
+        if self.fault:
+            return self.refused()
+        return "".join(f"{first << 12:013x}-{(last << 12) + 0xFFF:013x} {NAMES[kind]}\n" for first, last, kind in self.spans()), 0
+
+    def page(self, address, index):
+        if self.fault:
+            return self.refused()
+        page, entry = address >> 12, self.registers.pat >> (8 * index) & 0xFF
+        if page >= self.registers.pages():
+            return f"page {page << 12:013x} outside\n", 0
+        kind = self.type_at(page)
+        effective = self.reading.effective(kind, entry)
+        return f"page {page << 12:013x} mtrr {NAMES[kind]} pat {NAMES[entry]} effective {NAMES[effective]}\n", 0
+
+    def tidy(self):
+        """Of a file that isn't tidied, as it is refused or its MTRRs are off."""
+        return self.refused() if self.fault else (f"disabled 2ff {self.registers.def_type:016x}\n", 9)

@@ -1,9 +1,11 @@
-"""What is compared, and which differences have a name. docs/PEERS.md has the cause of each."""
+"""What is compared of register files, and which differences have a name. docs/PEERS.md has the cause of each."""
+import threading
 from collections import Counter
+from functools import cached_property
 
 from definitions import (
-    BROKEN, CAP_WC, COLUMNS, DEF_TYPE, E, EFFECTIVE, FE, FIX, FIXED, MEMORY_TYPES, NAMES, OVERLAP, PAT, UC, UC_MINUS, UNDEFINED,
-    UNSUPPORTED, VALID, WB, WC, WP, WT, Range, parts_of, ranges_of,
+    BROKEN, CAP_WC, COLUMNS, DEF_TYPE, E, EFFECTIVE, FE, FIX, FIXED, MEMORY_TYPES, NAMES, OVERLAP, PAT, RESERVED, UC, UC_MINUS,
+    UNDEFINED, UNSUPPORTED, VALID, WB, WC, WP, WT, Range, parts_of,
 )
 
 NO_TYPE, ASSERTS, REFUSES = 0xFF, 0xEE, 0xDD
@@ -19,102 +21,128 @@ class Tally:
         self.named = Counter()
         self.others = 0
         self.samples = {}
+        self.lock = threading.RLock()
 
     def asked(self):
         return self.same + sum(self.named.values()) + self.others
 
     def add(self, same, name, registers, sample):
         """One case of a file; `name` is the difference's, or None where it has none, and `sample` shows it."""
-        if same:
-            self.same += 1
-        elif name:
-            self.named[name] += 1
-        else:
-            self.others += 1
-            if len(self.samples) < SAMPLES:
-                self.samples.setdefault(registers.text(), sample())
+        with self.lock:
+            if same:
+                self.same += 1
+            elif name:
+                self.named[name] += 1
+            else:
+                self.others += 1
+                if len(self.samples) < SAMPLES:
+                    self.samples.setdefault(registers.text(), sample())
+
+    def add_answer(self, registers, words, ours, wanted):
+        """What the program wrote for these words, and its status, beside what the definitions have."""
+        self.add(ours == wanted, None, registers, lambda: f"{words}: the program: {ours}; the definitions: {wanted}")
 
 
 def shown(kind):
     return {UNDEFINED: "undefined", NO_TYPE: "none", ASSERTS: "asserts", REFUSES: "refuses the file"}.get(kind, NAMES.get(kind, f"{kind}"))
 
 
+def joined(kinds, clash, is_uc_late=False):
+    """The type when a judge goes through the types of the ranges that hold a page: `clash` where two don't go together. A judge
+    that is late with UC has a clash too where a type follows UC."""
+    first, *rest = kinds
+    for kind in rest:
+        if kind == first:
+            continue
+        if UC in (first, kind):
+            return clash if is_uc_late and first == UC else UC
+        if {first, kind} != {WT, WB}:
+            return clash
+        first = WT
+    return first
+
+
 class Page:
-    """A page of a file, with the types of the pairs that match it in their order, whatever the program says of it."""
+    """A page of a file, with the types of the pairs that match it in their order."""
 
-    def __init__(self, registers, ranges, page):
-        self.registers, self.page, self.default = registers, page, registers.def_type & 0xFF
-        self.is_off = not registers.def_type & E
-        self.kinds = [one.kind for one in ranges if one.matches(page)]
-        # The same where a range begins at its base and ends with its block, or has its block's size from there on.
-        self.cut = [one.kind for one in ranges if one.base <= page <= one.last]
-        self.moved = [one.kind for one in ranges if one.base <= page <= one.base + one.last - one.first]
+    def __init__(self, answers, page):
+        self.answers, self.page, self.registers = answers, page, answers.registers
+        self.is_off = not self.registers.def_type & E
+        self.is_by_ranges = not self.is_off and not self.registers.is_fixed(page)
+        self.kinds = self.kinds_of(lambda one: one.matches(page))
+
+    def kinds_of(self, holds, ranges=None):
+        return [one.kind for one in ranges or self.answers.ranges if holds(one)]
+
+    @cached_property
+    def is_undefined(self):
+        return self.is_by_ranges and bool(self.kinds) and self.answers.reading.meeting(self.kinds)[1] is UNDEFINED
+
+    def by_kvm(self, begin):
+        """KVM's type, where a range holds the pages from `begin` of it to its last: down from the highest base register."""
+        ranges = sorted(reversed(self.answers.ranges), key=lambda one: (-one.base, -one.kind))
+        kinds = self.kinds_of(lambda one: begin(one) <= self.page <= one.last, ranges)
+        return joined(kinds, WB, is_uc_late=True) if kinds else self.registers.def_type & 0xFF
+
+    def by_edk2(self, begin):
+        """EDK2's type, where a range holds as many pages as its mask says, from `begin` of it on."""
+        kinds = self.kinds_of(lambda one: begin(one) <= self.page <= begin(one) + one.last - one.first)
+        return joined(kinds, ASSERTS) if kinds else self.registers.def_type & 0xFF
 
 
-def is_clash(kinds):
-    """Whether two of the types, UC left aside, don't go together."""
-    kinds = set(kinds) - {UC}
-    return len(kinds) > 1 and kinds != {WT, WB}
+def first_of(one):
+    return one.first
 
 
-def meeting(kinds, default):
-    """The type where ranges of these types hold a page, UNDEFINED included."""
-    if not kinds:
-        return default
-    if UC in kinds:
-        return UC
-    return UNDEFINED if is_clash(kinds) else min(kinds)
+def base_of(one):
+    return one.base
 
 
 def linux_type(page, ours, theirs):
-    if ours == UC and theirs == NO_TYPE and page.is_off:
-        return "off has no type"
-    if ours is UNDEFINED and theirs == UC:
-        return "undefined is UC"
-    return None
+    if page.is_off:
+        return "off has no type" if ours == UC and theirs == NO_TYPE else None
+    return "undefined is UC" if ours is UNDEFINED and page.is_undefined and theirs == UC else None
 
 
 def kvm_type(page, ours, theirs):
-    if ours is UNDEFINED and theirs == WB:
-        return "undefined is WB"
-    if ours == UC and theirs == WB and UC in page.cut and len(set(page.cut)) > 1:
-        return "WB in place of UC"
-    if page.cut != page.kinds and theirs in (meeting(page.cut, page.default), WB if is_clash(page.cut) or UC in page.cut else None):
-        return "a range is cut at its base"
-    return None
+    if not page.is_by_ranges:
+        return None
+    if theirs == page.by_kvm(first_of):
+        if ours is UNDEFINED and page.is_undefined and theirs == WB:
+            return "undefined is WB"
+        if ours == UC and UC in page.kinds and theirs == WB:
+            return "WB in place of UC"
+    return "a range is cut at its base" if theirs == page.by_kvm(base_of) != page.by_kvm(first_of) else None
 
 
 def xen_type(page, ours, theirs):
-    if ours is UNDEFINED and page.kinds and theirs == page.kinds[-1]:
-        return "undefined is the last one's"
-    return None
+    return "undefined is the last one's" if ours is UNDEFINED and page.is_undefined and theirs == page.kinds[-1] else None
 
 
 def edk2_type(page, ours, theirs):
-    if theirs == UC and not (page.registers.cap & FIX and page.registers.cap & 0xFF):
-        return "UC without fixed ranges or pairs"
-    if ours is UNDEFINED and theirs == ASSERTS:
-        return "undefined asserts"
-    if ours == UC and theirs == ASSERTS and UC in page.kinds and is_clash(page.kinds):
-        return "asserts beside UC"
-    if page.moved != page.kinds and theirs in (meeting(page.moved, page.default), ASSERTS if is_clash(page.moved) else None):
-        return "a range is moved to its base"
-    return None
+    if not (page.registers.cap & FIX and page.registers.cap & 0xFF):
+        return "UC without fixed ranges or pairs" if theirs == UC else None
+    if not page.is_by_ranges:
+        return None
+    if theirs == page.by_edk2(first_of) == ASSERTS:
+        if ours is UNDEFINED and page.is_undefined:
+            return "undefined asserts"
+        if ours == UC and UC in page.kinds:
+            return "asserts beside UC"
+    return "a range is moved to its base" if theirs == page.by_edk2(base_of) != page.by_edk2(first_of) else None
 
 
 TYPE_NAMES = {"linux": linux_type, "kvm": kvm_type, "xen": xen_type, "edk2": edk2_type}
 
 
-def compare_types(tally, registers, pages, ours, theirs):
+def compare_types(tally, answers, pages, ours, theirs):
     """Each page's type by the program, or by the reading where it refuses the file, beside the judge's."""
-    ranges = ranges_of(registers)
     for page, own, other in zip(pages, ours, theirs):
         if own == other:
             tally.same += 1
             continue
-        at = Page(registers, ranges, page)
-        name = None if registers.is_fixed(page) and not at.is_off else TYPE_NAMES[tally.judge](at, own, other)
-        tally.add(False, name, registers, lambda: (
+        at = Page(answers, page)
+        tally.add(False, TYPE_NAMES[tally.judge](at, own, other), answers.registers, lambda: (
             f"page {page:x}: ours {shown(own)}, {tally.judge} {shown(other)}; "
             f"ranges that match it: {' '.join(NAMES.get(kind, '?') for kind in at.kinds) or 'none'}"))
 
@@ -129,7 +157,7 @@ def allowed_name(registers, number, value, reason, theirs):
     kinds = parts_of(value) if number in FIXED else [value & 0xFF]
     if reason == UNSUPPORTED and number != PAT and not registers.cap & CAP_WC and WC in kinds and all(kind in MEMORY_TYPES for kind in kinds):
         return "WC without its bit"
-    if number == DEF_TYPE and not registers.cap & FIX and value & FE:
+    if reason == RESERVED and number == DEF_TYPE and not registers.cap & FIX and value & FE and not (value >> 12 or value & 0x300):
         return "FE without FIX"
     return None
 
@@ -146,71 +174,7 @@ def compare_allowed(tally, registers, fault, theirs):
 
 
 def effective_name(judge, kind, entry, ours, theirs):
-    if judge == "linux" and entry == WB and kind in (WT, WP) and theirs == EFFECTIVE[kind][COLUMNS.index(UC_MINUS)]:
+    is_asked_less = judge == "linux" and entry == WB and kind in (WT, WP)
+    if is_asked_less and theirs == EFFECTIVE[kind][COLUMNS.index(UC_MINUS)] and ours == EFFECTIVE[kind][COLUMNS.index(WB)]:
         return "WB over WT or WP is asked as UC-"
     return None
-
-
-def clashes(registers):
-    """The largest of the larger ones of two ranges that share a page, in bytes, or 0."""
-    ranges = ranges_of(registers)
-    sizes = [max(one.size(), other.size()) for place, one in enumerate(ranges) for other in ranges[:place]
-             if one.first <= other.last and other.first <= one.last]
-    return max(sizes, default=0)
-
-
-SAME_MAP = "same"
-
-
-def without_wc(runs):
-    """The same runs with UC in place of WC."""
-    joined = []
-    for first, kind in runs:
-        kind = UC if kind == WC else kind
-        if not joined or joined[-1][1] != kind:
-            joined.append((first, kind))
-    return joined
-
-
-def between(runs, begin, end=1 << 40):
-    """The runs from page `begin` up to page `end`."""
-    before = [kind for first, kind in runs if first <= begin]
-    return [(begin, before[-1])] + [(first, kind) for first, kind in runs if begin < first < end]
-
-
-def other_map_name(judge, wanted, given):
-    """Whether pairs give the types that were wanted beyond the first megabyte, or the name of what they do instead, or None."""
-    if between(wanted, 256) == between(given, 256):
-        return SAME_MAP
-    ends = [first for first, _ in wanted[1:]]
-    described = max([1 << 20] + [end for (_, kind), end in zip(wanted, ends) if kind != UC])
-    if judge != "coreboot":
-        return None
-    if between(wanted, 256, described) == between(given, 256, described):
-        return "another type above all memory"
-    if between(without_wc(wanted), 256, described) == between(given, 256, described):
-        return "WC given up"
-    return None
-
-
-class PairsTally(Tally):
-    """How many pairs a judge took for a map, beside our least for the types that its pairs give."""
-
-    def __init__(self, judge):
-        super().__init__(judge, "pairs")
-        self.none = Counter()
-        self.more = Counter()
-        self.beside_default = Counter()
-
-    def add_answer(self, registers, name, count, most, usual, bound, sample):
-        """Ours is `most` at the largest chunk, `usual` at the default, and `bound` where no range overlaps a larger one than its."""
-        if None in (most, usual, bound):
-            self.add(False, None, registers, lambda: f"ours tells no number: {sample()}")
-        elif name is None:
-            self.add(False, None, registers, lambda: f"other types: {sample()}")
-        elif count < bound or count < most:
-            self.add(False, None, registers, lambda: f"{count} pairs, and ours {bound} at its chunk, {most} at the largest: {sample()}")
-        else:
-            self.add(name == SAME_MAP, name, registers, sample)
-            self.more[count - most] += 1
-            self.beside_default[count - usual] += 1

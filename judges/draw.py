@@ -144,7 +144,8 @@ class Draw:
             "fixed": [number for number in numbers if number in FIXED], "pat": [PAT], "default": [DEF_TYPE], "any": numbers,
             "base": [number for number in numbers if number < 0x250 and number % 2 == 0],
         }.get(kind, [number for number in numbers if number < 0x250 and number % 2])
-        set_register(file, pick.choice(wanted or numbers), self.turned(file.width, kind))
+        number = pick.choice(wanted or numbers)
+        file.put(number, self.turned(file.width, kind)(dict(file.writable())[number]))
         return file
 
     def without_bit(self, file):
@@ -250,19 +251,6 @@ class Draw:
         ("a PC's", computer), ("a PC's", computer), ("taken out of one type", taken_out), ("in one another", chain),
         ("lone blocks", lone), ("mixed", mixed),
     )
-
-
-def set_register(file, number, turn):
-    if number == PAT:
-        file.pat = turn(file.pat)
-    elif number == DEF_TYPE:
-        file.def_type = turn(file.def_type)
-    elif number in FIXED:
-        file.fixed[FIXED.index(number)] = turn(file.fixed[FIXED.index(number)])
-    else:
-        place, is_mask = divmod(number - 0x200, 2)
-        base, mask = file.pairs[place]
-        file.pairs[place] = (base, turn(mask)) if is_mask else (turn(base), mask)
 
 
 def nested(place):

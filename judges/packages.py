@@ -33,9 +33,10 @@ def run(words, **options):
 
 
 class Apt:
-    """An apt with folders and source lines of its own, which leaves the system's alone."""
+    """An apt with folders and source lines of its own, which leaves the system's alone. It has the pinned versions, or the newest."""
 
-    def __init__(self):
+    def __init__(self, is_newest=False):
+        self.is_newest, self.used = is_newest, {}
         self.root = CACHE / "apt"
         for folder in ("state/lists/partial", "cache/archives/partial"):
             (self.root / folder).mkdir(parents=True, exist_ok=True)
@@ -50,39 +51,64 @@ class Apt:
         }
         return run([program, *(f"-o{name}={value}" for name, value in settings.items()), *words], **options)
 
-    def fetch(self, package, folder):
-        """Downloads the files of the pinned version into the folder."""
-        version = VERSIONS[package]
-        if not self.updated:
-            print("peers: fetching the lists of Debian's source packages", file=sys.stderr)
-            ran = self.run("apt-get", "-qq", "update")
-            if ran.returncode != 0:
-                raise Unavailable(f"apt-get update failed:\n{ran.stderr}")
-            self.updated = True
-        print(f"peers: fetching the source of {package} {version}", file=sys.stderr)
-        ran = self.run("apt-get", "-qq", "source", "--download-only", f"{package}={version}", cwd=folder)
+    def update(self):
+        if self.updated:
+            return
+        print("peers: fetching the lists of Debian's source packages", file=sys.stderr)
+        ran = self.run("apt-get", "-qq", "update")
         if ran.returncode != 0:
-            shown = self.run("apt-cache", "showsrc", package).stdout
-            had = ", ".join(sorted(set(re.findall(r"^Version: (.*)$", shown, re.M)))) or "none"
-            raise Unavailable(f"{package} {version} can't be had; Debian has: {had}\n{ran.stderr}")
+            raise Unavailable(f"apt-get update failed:\n{ran.stderr}")
+        self.updated = True
+
+    def had(self, package):
+        """The versions that Debian has now."""
+        self.update()
+        return sorted(set(re.findall(r"^Version: (.*)$", self.run("apt-cache", "showsrc", "--only-source", package).stdout, re.M)))
+
+    def version(self, package):
+        if package not in self.used:
+            self.used[package] = self.newest(package) if self.is_newest else VERSIONS[package]
+        return self.used[package]
+
+    def newest(self, package):
+        newest = "0"
+        for version in self.had(package):
+            if run(["dpkg", "--compare-versions", version, "gt", newest]).returncode == 0:
+                newest = version
+        if newest != VERSIONS[package]:
+            print(f"peers: {package} {newest} in place of {VERSIONS[package]}, of which docs/PEERS.md speaks", file=sys.stderr)
+        return newest
+
+    def fetch(self, package, folder):
+        """Downloads the files of the version in use into the folder."""
+        version = self.version(package)
+        had = self.had(package)
+        if version not in had:
+            raise Unavailable(f"{package} {version} can't be had; Debian has {', '.join(had) or 'none'} now. ./peers -u takes its newest, "
+                              "for which docs/PEERS.md has no figures")
+        print(f"peers: fetching the source of {package} {version}", file=sys.stderr)
+        ran = self.run("apt-get", "-qq", "source", "--download-only", "--only-source", f"{package}={version}", cwd=folder)
+        if ran.returncode != 0:
+            raise Unavailable(f"{package} {version} can't be fetched:\n{ran.stderr}")
 
 
 def patched(folder):
-    """The paths that the patches of a package change."""
+    """The paths that the patches of a package change, make, move or remove."""
+    change = r"^(?:---|\+\+\+) (?!/dev/null)[^/\s]+/(\S+)|^(?:rename|copy) (?:from|to) (\S+)|^diff --git a/(\S+) b/(\S+)"
     paths = set()
     series = folder / "debian/patches/series"
     for line in series.read_text().splitlines() if series.exists() else ():
         name = line.split("#")[0].split()
         if name:
             text = (folder / "debian/patches" / name[0]).read_text(errors="replace")
-            paths.update(re.findall(r"^\+\+\+ [^/\s]+/(\S+)", text, re.M))
+            paths.update(path for found in re.findall(change, text, re.M) for path in found if path)
     return paths
 
 
 def unpacked(package, paths, apt):
-    """The folder with these paths of the pinned package, as Debian's patches leave them."""
-    folder = CACHE / f"{package}_{VERSIONS[package]}"
-    done = folder / ".unpacked"
+    """The folder with these paths of a package, which no patch of Debian's changes."""
+    folder = CACHE / f"{package}_{apt.version(package)}"
+    done = folder / ".checked"
     if done.exists() and done.read_text().split() == paths:
         return folder
     folder.mkdir(parents=True, exist_ok=True)
@@ -94,10 +120,12 @@ def unpacked(package, paths, apt):
         raise Unavailable(f"{folder} has no whole source: remove it, and run this again")
     print(f"peers: unpacking {package}", file=sys.stderr)
     for archive in archives:
-        strip, members = (0, ["debian/patches"]) if ".debian.tar." in archive.name else (1, [f"*/{path}" for path in paths])
+        strip, members = (0, ["debian"]) if ".debian.tar." in archive.name else (1, [f"*/{path}" for path in paths])
         ran = run(["tar", "-xf", archive, "-C", folder, f"--strip-components={strip}", "--wildcards", *members])
-        if ran.returncode != 0 and strip:
-            raise Unavailable(f"{package}: {ran.stderr}")
+        if ran.returncode != 0:
+            raise Unavailable(f"{package}: {archive.name} can't be unpacked:\n{ran.stderr}")
+    if (folder / "debian/source/format").read_text().strip() != "3.0 (quilt)":
+        raise Unavailable(f"{package}: its patches aren't where those of a package of format 3.0 (quilt) are")
     touched = sorted(path for path in patched(folder) if any(path == wanted or path.startswith(wanted + "/") for wanted in paths))
     if touched:
         raise Unavailable(f"{package}: a patch of Debian's changes {', '.join(touched)}")

@@ -1,65 +1,97 @@
-"""The program `mtrr`, or a reading with a plant in its place."""
+"""The programs `mtrr` and `mtrr-explain`, or a reading with a plant in their place."""
+import copy
+import json
+import os
 import re
 import subprocess
 import tempfile
+import threading
 
-from definitions import BYTES, Reading, ranges_of
+from definitions import BYTES, Reading
+
+TIMEOUT = 120  # seconds
 
 
 class Program:
-    """Asks the built program, one process a question."""
+    """Asks the built programs, one process a question."""
 
-    def __init__(self, path):
-        self.path = path
+    def __init__(self, path, explain_path):
+        self.path, self.explain_path = path, explain_path
         self.reading = Reading()
-        self.input = tempfile.TemporaryFile()
+        self.mine, self.lock = threading.local(), threading.Lock()
         self.asked = 0
 
-    def ask(self, words, text):
-        """What it writes, and its status."""
-        self.asked += 1
-        self.input.seek(0)
-        self.input.truncate()
-        self.input.write(text.encode())
-        self.input.flush()
-        self.input.seek(0)
-        ran = subprocess.run([self.path, *words], stdin=self.input, stdout=subprocess.PIPE, close_fds=False)
-        return ran.stdout.decode(), ran.returncode
+    def count(self):
+        with self.lock:
+            self.asked += 1
 
-    def types(self, registers):
-        return self.ask(["types"], registers.text())
+    def run(self, words, data):
+        """What `mtrr` writes for these words and bytes, and its status."""
+        if not hasattr(self.mine, "input"):
+            self.mine.input = tempfile.TemporaryFile(buffering=0)
+        self.count()
+        self.mine.input.seek(0)
+        self.mine.input.truncate()
+        self.mine.input.write(data)
+        self.mine.input.seek(0)
+        try:
+            ran = subprocess.run([self.path, *words], stdin=self.mine.input, stdout=subprocess.PIPE, close_fds=False, timeout=TIMEOUT)
+        except subprocess.TimeoutExpired:
+            return "no end\n", None
+        return ran.stdout.decode("latin-1"), ran.returncode
 
-    def effective(self, registers, page, index):
-        """The effective type of a page, by the PAT entry of this index."""
-        text, status = self.ask(["page", f"{page << 12:x}", str(index)], registers.text())
-        return BYTES[text.split()[-1]] if status == 0 else None
+    def ask(self, words, registers):
+        return self.run(words, registers.text().encode())
 
-    def least(self, registers, chunk):
-        """The least number of pairs for the same types, where the larger of two that overlap has at most `chunk` bytes."""
-        text, status = self.ask(["tidy", "spare=0", f"chunk={chunk:x}"], registers.text())
-        found = re.match(r"# used (\d+)" if status == 0 else r"too few needs (\d+) ", text)
-        return int(found.group(1)) if found and status in (0, 8) else None
+    def explain(self, words, files):
+        """What `mtrr-explain` says of each of these files, as JSON; None of each where it doesn't answer all of them."""
+        self.count()
+        with tempfile.TemporaryDirectory(prefix="mtrr-peers-") as folder:
+            paths = [os.path.join(folder, f"{number}") for number in range(len(files))]
+            for path, registers in zip(paths, files):
+                with open(path, "w") as file:
+                    file.write(registers.text())
+            try:
+                ran = subprocess.run([self.explain_path, *words, "--json", *paths], stdout=subprocess.PIPE, timeout=TIMEOUT)
+                said = [json.loads(line) for line in ran.stdout.splitlines()]
+                if [one["file"] for one in said] == paths:
+                    return [one["cpus"][0] for one in said]
+            except (subprocess.TimeoutExpired, ValueError, LookupError, TypeError):
+                pass
+        return [None] * len(files)
+
+
+class Remembering(Program):
+    """The programs, each asked once of each thing."""
+
+    def __init__(self, path, explain_path):
+        super().__init__(path, explain_path)
+        self.known = {}
+
+    def run(self, words, data):
+        key = (*words, data)
+        if key not in self.known:
+            self.known[key] = super().run(words, data)
+        return self.known[key]
+
+    def explain(self, words, files):
+        key = (*words, *(registers.key() for registers in files))
+        if key not in self.known:
+            self.known[key] = super().explain(words, files)
+        return copy.deepcopy(self.known[key])
 
 
 class Planted(Program):
-    """A reading with one wrong cell, which answers in the program's place; the program only reads dumps."""
+    """A reading with one wrong cell, which answers in the program's place. It only reads dumps."""
 
-    def __init__(self, path, plant):
-        super().__init__(path)
+    def __init__(self, program, plant):
+        super().__init__(program.path, None)
         self.reading = Reading(plant)
 
-    def types(self, registers):
-        return self.reading.types(registers)
-
-    def effective(self, registers, page, index):
-        kind = self.reading.type_at(registers, ranges_of(registers), page)
-        return self.reading.effective(kind, registers.pat >> (8 * index) & 0xFF)
+    def ask(self, words, registers):
+        return self.reading.of(registers).to(words)
 
 
 def runs_of(text):
     """The runs that `mtrr types` wrote, as (first page, type)."""
-    runs = []
-    for line in text.splitlines():
-        span, kind = line.split()
-        runs.append((int(span.split("-")[0], 16) >> 12, BYTES[kind]))
-    return runs
+    return [(int(first, 16) >> 12, BYTES[kind]) for first, kind in re.findall(r"^(\w+)-\w+ (\S+)$", text, re.M)]
