@@ -1,4 +1,7 @@
 pub mod Grown
+pub mod Fitting
+pub mod Types
 pub mod Walked
+pub mod Differing
 pub mod Appended
 pub mod Lawful
