@@ -1,5 +1,4 @@
 pub mod Grown
-pub mod Fitting
 pub mod Types
 pub mod Walked
 pub mod Differing

@@ -1,5 +1,5 @@
 -- Types that pages show are compared.
-use Rattle.std.proofs.Common.{◌≡◌, Bool, true, false, Option, Some, None, ap, subst, sym, refl}
+use Rattle.std.proofs.Common.{◌≡◌, true, Option, Some, None, ap, subst, refl}
 use Rattle.mt_regs.specs.declared.page_type.PageType.{PageType}
 use Rattle.mt_regs.specs.declared.page_type.PageType.TheVariants.{Kind, Undefined}
 use Rattle.mt_trie.proofs.Joins.{is_type-true, is_type_self}

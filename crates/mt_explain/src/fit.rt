@@ -1,6 +1,5 @@
 ghost use Rattle.std.specs.Prelude.{◌≡◌, ◌≤◌, ◌<◌, ◌^◌, ◌+◌, IfErr, IfOk, slice_get, length};
-ghost use Rattle.mt_tidy.specs.Keeps.{IsLeast};
-ghost use Rattle.mt_explain.specs.Fit.{AreLeast, IsRounding, IsUnfit};
+ghost use Rattle.mt_explain.specs.Fit.{AreLeast, IsNeeded, IsRounding, IsUnfit};
 ghost use Rattle.mt_explain.specs.Spans.{AreSpans};
 
 use crate::marked::Marked;
@@ -27,7 +26,7 @@ fn chunk_bytes(place: usize) -> u64
 
 // The least number of pairs for the file's types at one chunk.
 fn least_pairs(f: &RegFile, chunk: u64, area: &mut WorkArea) -> Result<u64, Unfit>
-    ensures ok { IfOk result (IsLeast f.now chunk) }
+    ensures ok { IfOk result (IsNeeded f.now chunk) }
     ensures err { IfErr result (IsUnfit f.now) }
 {
     match tidy(f, 0, chunk, area) {

@@ -334,9 +334,8 @@ fn append_sides(text: &mut String, report: &DiffReport<'_>) -> Result<(), AllocE
     if report.old.processors != report.new.processors {
         write!(
             text,
-            "  - processors 0 to {}\n  + processors 0 to {}\n",
-            report.old.processors.saturating_sub(1),
-            report.new.processors.saturating_sub(1)
+            "  - processors: {}\n  + processors: {}\n",
+            report.old.processors, report.new.processors
         )?;
     }
     Ok(())

@@ -199,7 +199,7 @@ fn append_cpu(text: &mut String, cpu: &CpuFaults, many: bool) -> Result<(), Allo
     }
     if !cpu.looked {
         text.push_str(
-            "  pages with no defined type aren't looked for: the manual gives no page a type with these values\n",
+            "  pages with no defined type aren't looked for: what a register at fault does to pages isn't defined\n",
         )?;
     }
     Ok(())

@@ -29,7 +29,7 @@ pub struct ChunkText {
     pub command: Option<String>,
 }
 
-/// What the types rounded to granules need and lose from one size on, up to the next.
+/// What the types rounded to granules of one size need and lose.
 #[derive(Drop, Serialize)]
 pub struct GranuleText {
     pub granule: String,
@@ -118,7 +118,7 @@ fn granule_text(alloc: Global, g: u8, r: Rounding, has: Budget) -> Result<Granul
     })
 }
 
-// Each size at which what granules need or lose changes.
+// Each size at which the number of pairs that granules need changes.
 fn granule_texts(
     alloc: Global,
     f: &RegFile,
@@ -131,10 +131,10 @@ fn granule_texts(
             Ok(now) => now,
             Err(why) => return Ok(Err(why)),
         };
-        if last != Some(now) {
+        if last != Some(now.pairs) {
             texts.push(granule_text(alloc, g, now, has)?)?;
         }
-        last = Some(now);
+        last = Some(now.pairs);
     }
     Ok(Ok(texts))
 }
@@ -195,10 +195,10 @@ fn append_need(
     has: Budget,
 ) -> Result<(), AllocError> {
     match free {
-        Some(free) => write!(text, "{needs} pairs, {free} free"),
+        Some(free) => write!(text, "{needs} needed, {free} free"),
         None => write!(
             text,
-            "{needs} pairs, {} too many",
+            "{needs} needed, {} too many",
             needs.saturating_sub(has.pairs.saturating_sub(has.spare))
         ),
     }
@@ -231,8 +231,8 @@ pub fn fit_text(alloc: Global, report: &FitReport<'_>) -> Result<String, AllocEr
     let mut text = String::new(alloc);
     write!(
         text,
-        "{}: it has {} pairs, of which {} are to stay free; its types need {}\n",
-        report.file, report.has.pairs, report.has.spare, report.needs
+        "{}: pairs: {}, needed: {}, to stay free: {}\n",
+        report.file, report.has.pairs, report.needs, report.has.spare
     )?;
     for c in &report.chunks {
         append_chunk(&mut text, c, report.has)?;

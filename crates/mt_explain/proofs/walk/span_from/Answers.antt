@@ -1,4 +1,4 @@
-use Rattle.std.proofs.Common.{◌≡◌, ◌∙◌, ◌+◌, ◌-◌, Some, sym, ap, arith}
+use Rattle.std.proofs.Common.{◌≡◌, ◌∙◌, ◌+◌, ◌-◌, sym, ap, arith}
 use Rattle.mt_explain.proofs.Grown.{both_have}
 use Rattle.mt_explain.proofs.walk.span_from.Goals as goal
 use Rattle.mt_explain.proofs.walk.span_from.Goals.{else-loop-end-test, then-loop-end-test+then-not-has}

@@ -1,6 +1,6 @@
 use Rattle.std.proofs.Common.{◌+◌, ◌∙◌, List, sym, subst, arith}
 use Rattle.mt_explain.specs.declared.span.Span.{Span}
-use Rattle.mt_explain.proofs.Grown.{IsGrown, grown_next, grown_past, grown_start}
+use Rattle.mt_explain.proofs.Grown.{IsGrown, grown_next, grown_past}
 use Rattle.mt_explain.proofs.walk.spans.Goals as goal
 
 pub loop-page-preserved-in_default : goal.loop-page-preserved-in_default
