@@ -1,3 +1,5 @@
+ghost use Rattle.std.specs.Prelude.{◌<◌};
+
 use crate::texts::first_address;
 use mt_kinds::{MemType, PatType, byte_at, is_bit_set};
 use mt_ranges::block_of;

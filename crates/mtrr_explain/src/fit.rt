@@ -1,3 +1,5 @@
+ghost use Rattle.std.specs.Prelude.{◌<◌};
+
 use crate::fields::size_text;
 use crate::input::Given;
 use mt_explain::{Rounding, Span, Unfit, least_by_chunk, rounding_of, steps};
