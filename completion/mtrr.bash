@@ -53,9 +53,13 @@ _mtrr_explain() {
     local word=${COMP_WORDS[COMP_CWORD]}
     COMPREPLY=()
     if [ "$COMP_CWORD" -eq 1 ]; then
-        COMPREPLY=($(compgen -W 'faults page --help --version' -- "$word"))
+        COMPREPLY=($(compgen -W 'faults page diff fit --help --version' -- "$word"))
     elif [[ $word == -* ]]; then
-        COMPREPLY=($(compgen -W '--json --help' -- "$word"))
+        case ${COMP_WORDS[1]} in
+        diff) COMPREPLY=($(compgen -W '--cpus --json --help' -- "$word")) ;;
+        fit) COMPREPLY=($(compgen -W '--spare --json --help' -- "$word")) ;;
+        *) COMPREPLY=($(compgen -W '--json --help' -- "$word")) ;;
+        esac
     else
         COMPREPLY=($(compgen -f -- "$word"))
         compopt -o filenames

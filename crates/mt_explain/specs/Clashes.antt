@@ -1,19 +1,20 @@
 -- The longest runs of pages that have no defined type and that the same pairs match (own).
 --     AreClashes file clashes      all of them, in ascending order
-use Rattle.std.specs.Prelude.{ℕ, List, map, Option, None, Some, if◌then◌else◌}
+use Rattle.std.specs.Prelude.{ℕ, List, Option, None, Some, if◌then◌else◌}
+use Rattle.arrayvec.specs.ArrayVec.{ArrayVec}
 use Rattle.mt_regs.specs.RegisterFile.{RegisterFile, page_count}
 use Rattle.mt_regs.specs.PageTypes.{page_type}
 use Rattle.mt_regs.specs.FirstFault.{is_undefined}
-use Rattle.mt_explain.specs.declared.clash.Clash.{Clash}
+use Rattle.mt_explain.specs.declared.span.Span.{Span}
 use Rattle.mt_explain.specs.Pairs.{matching_pairs}
-use Rattle.mt_explain.specs.Spans.{AreSpans, Span}
+use Rattle.mt_explain.specs.Spans.{AreSpans}
+
+abbrev pub numbers : List ℕ → ArrayVec ℕ
+numbers ns = record { items = ns }
 
 -- the pairs that match a page, if it has no defined type
-abbrev pub clash_mark : RegisterFile → ℕ → Option (List ℕ)
-clash_mark f page = if is_undefined (page_type f page) then Some (matching_pairs f page) else None
+abbrev pub clash_mark : RegisterFile → ℕ → Option (ArrayVec ℕ)
+clash_mark f page = if is_undefined (page_type f page) then Some (numbers (matching_pairs f page)) else None
 
-abbrev pub span_of : Clash → Span (List ℕ)
-span_of c = record { first = c.first; count = c.count; mark = c.pairs.items }
-
-abbrev pub AreClashes : RegisterFile → List Clash → Type 0
-AreClashes f clashes = AreSpans (clash_mark f) 0 (page_count f) (map span_of clashes)
+abbrev pub AreClashes : RegisterFile → List (Span (ArrayVec ℕ)) → Type 0
+AreClashes f clashes = AreSpans (clash_mark f) 0 (page_count f) clashes

@@ -1,6 +1,9 @@
 pub mod Clashes
+pub mod Differences
 pub mod Effective
 pub mod FieldFaults
+pub mod Fit
 pub mod Pairs
 pub mod Rules
 pub mod Spans
+pub mod TypeChanges

@@ -1,12 +1,7 @@
 -- The longest runs of pages that have one mark (own). A page without a mark is in none of them.
 --     AreSpans marks from to spans      all such runs from one page up to another, in ascending order
 use Rattle.std.specs.Prelude.{◌≡◌, ◌≢◌, ℕ, ◌+◌, ◌<◌, ◌≤◌, List, [], ◌∷◌, Option, None, Some}
-
--- the count pages from page first on
-pub record Span (A : Type 0) : Type 0 where
-  pub first : ℕ
-  pub count : ℕ
-  pub mark : A
+use Rattle.mt_explain.specs.declared.span.Span.{Span}
 
 -- the page after the last
 abbrev pub span_end : {A : Type 0} → Span A → ℕ

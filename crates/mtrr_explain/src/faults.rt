@@ -102,7 +102,7 @@ fn undefined_text(alloc: Global, f: &RegFile, clash: &Clash) -> Result<Undefined
         first: first_address(alloc, clash.first)?,
         last: last_address(alloc, end)?,
         pages: clash.count,
-        pairs: pair_texts(alloc, f, clash.pairs.as_slice())?,
+        pairs: pair_texts(alloc, f, clash.mark.as_slice())?,
     })
 }
 
@@ -199,7 +199,7 @@ fn append_cpu(text: &mut String, cpu: &CpuFaults, many: bool) -> Result<(), Allo
     }
     if !cpu.looked {
         text.push_str(
-            "  where pairs meet with no defined type is looked for once these are mended\n",
+            "  pages with no defined type aren't looked for: what a register at fault does to pages isn't defined\n",
         )?;
     }
     Ok(())

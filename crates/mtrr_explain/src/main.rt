@@ -1,8 +1,12 @@
-//! Explains dumps: every fault of their registers, and what gives a page its type.
+//! Explains dumps: every fault of their registers, what gives a page its type, what differs between two dumps, and how many pairs
+//! the types need.
 #![tactic(auto)]
 
 mod command;
+mod diff;
 mod faults;
+mod fields;
+mod fit;
 mod input;
 mod names;
 mod page;

@@ -2,6 +2,7 @@ use std::alloc::{AllocError, Global};
 
 fn fixed_name(msr: u32) -> Option<&'static str> {
     match msr {
+        0x0fe => Some("IA32_MTRRCAP"),
         0x250 => Some("IA32_MTRR_FIX64K_00000"),
         0x258 => Some("IA32_MTRR_FIX16K_80000"),
         0x259 => Some("IA32_MTRR_FIX16K_A0000"),

@@ -39,7 +39,8 @@ pub struct PageReport<'a> {
     pub cpus: Vec<CpuPage>,
 }
 
-fn kind_name(kind: PageType) -> &'static str {
+/// The name of a page's type.
+pub fn kind_name(kind: PageType) -> &'static str {
     match kind {
         PageType::Kind(kind) => kind.name(),
         PageType::Undefined => "undefined",
