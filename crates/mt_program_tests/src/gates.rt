@@ -107,4 +107,5 @@ fn one_thread_meets_nobody(rt: HostRuntime) {
     gate.arrived(1);
     gate.arrived(0);
     assert!(rt; gate.seen() < 2);
+    assert!(rt; gate.told() == 0x12);
 }
