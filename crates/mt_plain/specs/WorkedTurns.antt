@@ -21,4 +21,4 @@ abbrev pub told_update : PlainUpdate
 told_update = record { word = 0; processors = 1; arrived = 0; arrived_again = 0 }
 
 abbrev pub told_processor : PlainProcessor
-told_processor = record { phase = 0; place = 0; registers = 2; self_snoop = false; finished = false }
+told_processor = record { phase = 0; place = 0; registers = 2; self_snoop = 0; finished = 0 }

@@ -146,8 +146,8 @@ fn processor_at(phase: u32, place: u32) -> PlainProcessor {
         phase,
         place,
         registers: 2,
-        self_snoop: false,
-        finished: false,
+        self_snoop: 0,
+        finished: 0,
     }
 }
 
