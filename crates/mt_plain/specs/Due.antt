@@ -1,7 +1,7 @@
 -- What a processor does next in an update, from what C's words tell of it and of the others. The steps and their order are
 -- those of Intel SDM volume 3A, chapter Memory Cache Control, section "MTRR Considerations in MP Systems"; their numbers, the
 -- coordinator and its words are this project's choices (own).
-use Rattle.std.specs.Prelude.{◌≡◌, ℕ, ◌+◌, ◌==◌, nat_lt, not, ◌&&◌, List, [], ◌∷◌, length, if◌then◌else◌, slice_get, Option, None, Some}
+use Rattle.std.specs.Prelude.{◌≡◌, ℕ, ◌+◌, ◌==◌, nat_lt, Bool, not, ◌&&◌, List, [], ◌∷◌, length, if◌then◌else◌, slice_get, Option, None, Some}
 use Rattle.std.specs.List.{count_by}
 use Rattle.mt_machine.specs.declared.event.Event.{Event}
 use Rattle.mt_machine.specs.declared.event.Event.TheVariants.{Take, Arrive, Leave, Pass, SetNoFill, WriteBack, DropLines, FlushTlb, Disable, Write, Enable, SetNormal, RestorePge, ArriveAgain, Release}
