@@ -89,11 +89,11 @@ words_seen o ps = λ i. record {
   processors = fused o ps i;
 }
 
-all_seen : (q : Seen → Bool) (ps : List Processor) → list_all (λ p. q (seen p)) ps ≡ list_all q (seen_of ps)
+pub all_seen : (q : Seen → Bool) (ps : List Processor) → list_all (λ p. q (seen p)) ps ≡ list_all q (seen_of ps)
 all_seen q [] = refl
 all_seen q (p ∷ ps) = ap (λ b. q (seen p) && b) (all_seen q ps)
 
-any_seen : (q : Seen → Bool) (ps : List Processor) → list_any (λ p. q (seen p)) ps ≡ list_any q (seen_of ps)
+pub any_seen : (q : Seen → Bool) (ps : List Processor) → list_any (λ p. q (seen p)) ps ≡ list_any q (seen_of ps)
 any_seen q [] = refl
 any_seen q (p ∷ ps) = ap (λ b. q (seen p) || b) (any_seen q ps)
 
