@@ -114,6 +114,7 @@ module _ (first b : Machine) (start : IsStart first) (o : Order) (k : ℕ) where
 
   written : (n : ℕ) → Flushes n → (s : System) (p : Processor) (x v : ℕ) → Along first b (machine s (Some o)) → is_over o s.processors ≡ false → slice_get s.processors k ≡ Some p → IsDraining p → left_of p ≤ suc n
       → write_back_or_drop p ≡ WriteBack x v → Gone s (seen_after DropLines (seen p))
+  unfolding single
   written n rest s p x v a lasts at d few is =
       let e : Event = WriteBack x v in
       let h : due o s.processors p p.phase ≡ Some e = due_drain o s.processors p d ∙ ap Some is in

@@ -92,22 +92,21 @@ module _ (o : Order) (ps : List Processor) where
   words_of_at (r ∷ rs) zero p at = let same : r ≡ p = cc in ap (λ q. Some (processor_words o q)) same
   words_of_at (r ∷ rs) (suc k) p at = words_of_at rs k p at
 
+  abbrev after_event : Processor → Event → did.Kept
+  after_event p e = record { update = counted (update_words o ps) p.phase (whole_flush e); processor = moved (processor_words o p) p.phase (whole_flush e); status = 0 }
+
+  abbrev refused : Processor → did.Kept
+  refused p = record { update = update_words o ps; processor = processor_words o p; status = 12 }
+
   -- a step that is booked is an event of the machine that is due
   pub record Booked (step : PlainStep) (p : Processor) : Type 0 where
     pub event : Event
     pub due_is : due o ps p p.phase ≡ Some event
-    pub is : kept (update_words o ps) (processor_words o p) step
-    ≡ record { update = counted (update_words o ps) p.phase (whole_flush event); processor = moved (processor_words o p) p.phase (whole_flush event); status = 0 }
+    pub is : kept (update_words o ps) (processor_words o p) step ≡ after_event p event
 
   pub books : (step : PlainStep) (p : Processor) → IsTold (update_words o ps) (processor_words o p) o ps p → (kept (update_words o ps) (processor_words o p) step).status ≡ 0 → Booked step p
   books step p is_told done = by_due (due o ps p p.phase) refl
     where
-      u : PlainUpdate
-      u = update_words o ps
-
-      d : PlainProcessor
-      d = processor_words o p
-
       leads : kept (update_words o ps) (processor_words o p) step ≡ kept_by (update_words o ps) (processor_words o p) step p.phase (option_map whole_flush (due o ps p p.phase))
       leads =
           ap (λ go. kept_at (update_words o ps) (processor_words o p) step go (phase_of (processor_words o p))) is_told.word
@@ -118,13 +117,15 @@ module _ (o : Order) (ps : List Processor) where
       at_event e is true allowed = record {
         event = e;
         due_is = is;
-        is = leads ∙ ap (λ x. kept_by (update_words o ps) (processor_words o p) step p.phase (option_map whole_flush x)) is
-        ∙ ap (λ (t : Bool). if t then record { update = counted (update_words o ps) p.phase (whole_flush e); processor = moved (processor_words o p) p.phase (whole_flush e); status = 0 } else record { update = update_words o ps; processor = processor_words o p; status = 12 }) allowed;
+        is =
+            leads
+            ∙ ap (λ x. kept_by (update_words o ps) (processor_words o p) step p.phase (option_map whole_flush x)) is
+            ∙ ap (λ (t : Bool). if t then after_event p e else refused p) allowed;
       }
       at_event e is false allowed =
-          let other : kept (update_words o ps) (processor_words o p) step ≡ record { update = update_words o ps; processor = processor_words o p; status = 12 } =
+          let other : kept (update_words o ps) (processor_words o p) step ≡ refused p =
           leads ∙ ap (λ x. kept_by (update_words o ps) (processor_words o p) step p.phase (option_map whole_flush x)) is
-          ∙ ap (λ (t : Bool). if t then record { update = counted (update_words o ps) p.phase (whole_flush e); processor = moved (processor_words o p) p.phase (whole_flush e); status = 0 } else record { update = update_words o ps; processor = processor_words o p; status = 12 }) allowed in
+          ∙ ap (λ (t : Bool). if t then after_event p e else refused p) allowed in
           let twelve : (kept (update_words o ps) (processor_words o p) step).status ≡ 12 = ap (λ (x : did.Kept). x.status) other in
           absurd (cc)
 
