@@ -1,7 +1,7 @@
 // Sizes and alignments in bytes, as `include/mtrr.h` asserts them.
 use mt_plain::{
-    PlainFault, PlainLoss, PlainNeed, PlainPair, PlainProcessor, PlainRegisters, PlainRun, PlainStep,
-    PlainUpdate,
+    PlainFault, PlainLoss, PlainNeed, PlainPair, PlainProcessor, PlainRegisters, PlainRun,
+    PlainStep, PlainUpdate,
 };
 use mt_tidy::WorkArea;
 
