@@ -1,8 +1,7 @@
 -- A step that is booked leaves the books of the machine after its event.
-use Rattle.std.proofs.Common.{◌≡◌, ◌∙◌, ap, refl, sym, subst, arith, ℕ, zero, suc, ◌+◌, ◌-◌, Bool, true, false, List, [], ◌∷◌, length, set, Option, None, Some}
-use Rattle.std.specs.Prelude.{cond, slice_get, map, nat_lt, ◌==◌, ◌&&◌, if◌then◌else◌}
+use Rattle.std.proofs.Common.{◌≡◌, ◌∙◌, ap, refl, sym, arith, ℕ, zero, suc, ◌+◌, ◌-◌, Bool, true, false, List, [], ◌∷◌, length, set, Some}
+use Rattle.std.specs.Prelude.{cond, slice_get, map, nat_lt}
 use Rattle.std.specs.List.{count_by}
-use Rattle.std.specs.Option.{option_map}
 use Rattle.std.proofs.lemmas.List.{length-set, map-set}
 use Rattle.mt_machine.specs.declared.event.Event.{Event}
 use Rattle.mt_machine.specs.declared.event.Event.TheVariants.{Take, Arrive, Leave, Pass, SetNoFill, WriteBack, DropLines, FlushTlb, Disable, Write, Enable, SetNormal, RestorePge, ArriveAgain, Release}
@@ -11,11 +10,10 @@ use Rattle.mt_machine.specs.declared.phase.Phase.TheVariants.{Running, Taken, Ar
 use Rattle.mt_machine.specs.Machine.{Order}
 use Rattle.mt_machine.proofs.Rows.{is_row}
 use Rattle.mt_laws.proofs.Steps.StepCounts.{count_more}
-use Rattle.mt_plain.specs.declared.turn.PlainUpdate.{PlainUpdate}
 use Rattle.mt_plain.specs.Did.{counted, finished_after, moved}
 use Rattle.mt_plain.specs.Due.{phase_after, phase_number, phase_place}
-use Rattle.mt_plain_laws.specs.Rendezvous.{Rendezvous, byte_of, go_number}
-use Rattle.mt_plain_laws.proofs.Seen.{Seen, again, ahead, arrived, era_after, seen_after, told, told_of, update_of}
+use Rattle.mt_plain_laws.specs.Rendezvous.{byte_of, go_number}
+use Rattle.mt_plain_laws.proofs.Seen.{Seen, again, arrived, era_after, seen_after, told, told_of, update_of}
 
 -- ---- how many pass a test where one element is replaced
 

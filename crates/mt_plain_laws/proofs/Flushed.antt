@@ -1,5 +1,5 @@
 -- A step of the books as events of the machine: one, or the write-backs of a cache and the invalidation that ends them.
-use Rattle.std.proofs.Common.{◌≡◌, ◌⊎◌, ◌∙◌, ap, refl, sym, subst, arith, inl, inr, ⊎_elim, ℕ, ◌+◌, ◌≤◌, zero, suc, Bool, true, false, List, [], ◌∷◌, length, set, Option, None, Some}
+use Rattle.std.proofs.Common.{◌≡◌, ◌⊎◌, ◌∙◌, ap, refl, sym, subst, arith, inl, inr, ⊎_elim, ℕ, ◌+◌, ◌≤◌, zero, suc, Bool, true, false, List, [], ◌∷◌, set, Option, None, Some}
 use Rattle.std.specs.Prelude.{slice_get, nat_lt, not, ◌==◌, ◌&&◌, if◌then◌else◌}
 use Rattle.std.specs.Option.{option_map_or}
 use Rattle.std.proofs.lemmas.Bool.{eqb-true, le-ltb}
@@ -10,12 +10,12 @@ use Rattle.mt_machine.specs.declared.phase.Phase.TheVariants.{Running, NoFill, E
 use Rattle.mt_machine.specs.Access.{is_running}
 use Rattle.mt_machine.specs.Machine.{IsEnabled, Machine, MachineEvent, Order, Reached, Steps, after, before_own, due, is_cancelled, is_over, next, own_step, remaining_order, step, write_back_or_drop}
 use Rattle.mt_machine.specs.Start.{IsStart}
-use Rattle.mt_machine.specs.System.{Processor, System, change}
+use Rattle.mt_machine.specs.System.{Processor, System}
 use Rattle.mt_machine.specs.Update.{Led, is_led, is_release, led_on}
-use Rattle.mt_machine.proofs.Rows.{back_case, due_row, first_flush_case, is_row}
+use Rattle.mt_machine.proofs.Rows.{back_case, due_row, first_flush_case}
 use Rattle.mt_laws.proofs.Invariant.Kept.{start_aligned}
 use Rattle.mt_laws.proofs.Invariant.Standing.{Standing, reached_standing, start_standing}
-use Rattle.mt_laws.proofs.Steps.Counts.{Ready, is_past, left_of, one_less}
+use Rattle.mt_laws.proofs.Steps.Counts.{is_past, left_of, one_less}
 use Rattle.mt_laws.proofs.Steps.StepCounts.{ready}
 use Rattle.mt_plain.specs.Due.{whole_flush}
 use Rattle.mt_plain_laws.proofs.Seen.{Seen, over_seen, seen, seen_after, seen_at, seen_of, step_sees}

@@ -1,5 +1,5 @@
 -- The books go along with the machine.
-use Rattle.std.proofs.Common.{◌≡◌, ◌≢◌, ◌⊎◌, ◌∙◌, ap, refl, sym, subst, arith, inl, inr, ⊎_elim, ℕ, ◌+◌, ◌<◌, ◌≤◌, zero, suc, Bool, true, false, List, [], ◌∷◌, length, set, Option, None, Some}
+use Rattle.std.proofs.Common.{◌≡◌, ◌⊎◌, ◌∙◌, ap, refl, sym, subst, arith, inl, ⊎_elim, ℕ, ◌+◌, ◌<◌, ◌≤◌, zero, suc, Bool, true, false, List, [], ◌∷◌, length, set, Option, None, Some}
 use Rattle.std.specs.Prelude.{cond, slice_get, map, nat_lt, not, ◌==◌, ◌&&◌, ◌||◌, if◌then◌else◌}
 use Rattle.std.specs.List.{count_by, list_all, list_any}
 use Rattle.std.specs.Option.{option_map, option_map_or}
@@ -11,30 +11,28 @@ use Rattle.mt_machine.specs.declared.go.Go.TheVariants.{Pending, Given, Cancelle
 use Rattle.mt_machine.specs.declared.phase.Phase.{Phase}
 use Rattle.mt_machine.specs.declared.phase.Phase.TheVariants.{Running, Writing}
 use Rattle.mt_machine.specs.Access.{is_running}
-use Rattle.mt_machine.specs.Machine.{Calls, Cancels, Goes, IsEnabled, Machine, Order, Reached, after, at_start, common_era, due, has_arrived, has_arrived_again, has_released, is_arrived, is_arrived_again, is_cancelled, is_changing, is_given, is_over, is_waiting_to_pass, next, remaining_order}
-use Rattle.mt_machine.specs.Start.{IsQuiet, IsStart}
+use Rattle.mt_machine.specs.Machine.{Calls, Cancels, Goes, Machine, Order, after, at_start, common_era, due, has_arrived, has_arrived_again, has_released, is_arrived, is_arrived_again, is_cancelled, is_changing, is_given, is_over, is_waiting_to_pass, next, remaining_order}
+use Rattle.mt_machine.specs.Start.{IsStart}
 use Rattle.mt_machine.specs.System.{Processor, System}
-use Rattle.mt_machine.specs.Update.{Led, led_start}
+use Rattle.mt_machine.specs.Update.{led_start}
 use Rattle.mt_machine.proofs.Rows.{due_row, is_row}
 use Rattle.mt_laws.specs.Updates.{order_of_call}
-use Rattle.mt_laws.proofs.Barrier.Barriers.{Invariant, Kept, Rest, reached_keeps}
+use Rattle.mt_laws.proofs.Barrier.Barriers.{Kept, Rest, reached_keeps}
 use Rattle.mt_laws.proofs.Barrier.Claims.{all_get, passed_rank, start_invariant}
 use Rattle.mt_laws.proofs.Barrier.Ranks.{Guarded, all_at, stage_at}
 use Rattle.mt_laws.proofs.Barrier.Stages.{stage_of, stages, stages_of}
 use Rattle.mt_laws.proofs.Steps.StepCounts.{count_more}
 use Rattle.mt_plain.specs.declared.turn.PlainProcessor.{PlainProcessor}
 use Rattle.mt_plain.specs.declared.turn.PlainStep.{PlainStep}
-use Rattle.mt_plain.specs.declared.turn.PlainUpdate.{PlainUpdate}
 use Rattle.mt_plain.specs.Did.{can_count, counted, is_event, kept, kept_at, kept_by, moved}
 use Rattle.mt_plain.specs.Did as did
 use Rattle.mt_plain.specs.Due.{IsTold, due_event, go_of, has_flags, phase_number, phase_of, phase_place, phases, whole_flush}
 use Rattle.mt_plain.proofs.Turns.{event_is}
-use Rattle.mt_regs.specs.RegisterFile.{RegisterFile}
 use Rattle.mt_regs.specs.Registers.{writable}
-use Rattle.mt_plain_laws.specs.Rendezvous.{AreAllowed, BeginsTelling, Books, CallsOff, EachIsTold, Gives, IsAllowed, IsFollowed, Move, MovesAreLed, Rendezvous, RendezvousIsLed, Tells, all_moved, begun, booked, byte_of, first_words, go_number, moved_to, processor_words, update_words, words_of}
+use Rattle.mt_plain_laws.specs.Rendezvous.{AreAllowed, BeginsTelling, Books, CallsOff, EachIsTold, Gives, IsAllowed, Move, MovesAreLed, Rendezvous, RendezvousIsLed, Tells, all_moved, begun, booked, byte_of, first_words, go_number, moved_to, processor_words, update_words, words_of}
 use Rattle.mt_plain_laws.proofs.Counted.{booked_is}
-use Rattle.mt_plain_laws.proofs.Flushed.{Along, Gone, due_behind, follows, grow, machine}
-use Rattle.mt_plain_laws.proofs.Seen.{Seen, ahead, era_after, seen, seen_after, seen_at, seen_of, told, told_of, words_seen}
+use Rattle.mt_plain_laws.proofs.Flushed.{Along, due_behind, follows, grow, machine, set_here}
+use Rattle.mt_plain_laws.proofs.Seen.{Seen, ahead, all_seen, era_after, seen, seen_after, seen_at, seen_of, told_of, words_seen}
 
 -- ---- what the books of a processor are read as
 

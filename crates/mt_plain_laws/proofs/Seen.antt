@@ -1,6 +1,6 @@
 -- What the books show of a processor, and how its events change that.
-use Rattle.std.proofs.Common.{◌≡◌, ◌∙◌, ap, refl, sym, subst, ℕ, ◌+◌, zero, suc, Bool, true, false, List, [], ◌∷◌, length, set, Option, None, Some}
-use Rattle.std.specs.Prelude.{cond, slice_get, slice_index_or, map, nat_lt, not, ◌&&◌, ◌||◌, if◌then◌else◌}
+use Rattle.std.proofs.Common.{◌≡◌, ◌∙◌, ap, refl, sym, ℕ, ◌+◌, zero, suc, Bool, List, [], ◌∷◌, length, set, Option, Some}
+use Rattle.std.specs.Prelude.{cond, slice_get, slice_index_or, map, nat_lt, not, ◌&&◌, ◌||◌}
 use Rattle.std.specs.List.{count_by, list_all, list_any}
 use Rattle.std.specs.Option.{option_map_or, option_map}
 use Rattle.std.proofs.lemmas.List.{length-map, map-set}
@@ -12,8 +12,7 @@ use Rattle.mt_regs.specs.Registers.{writable}
 use Rattle.mt_machine.specs.declared.event.Event.{Event}
 use Rattle.mt_machine.specs.declared.event.Event.TheVariants.{Take, WriteBack, FlushTlb, Write, Release}
 use Rattle.mt_machine.specs.declared.phase.Phase.{Phase}
-use Rattle.mt_machine.specs.Bus.{drain}
-use Rattle.mt_machine.specs.Machine.{Order, before_own, has_arrived, has_arrived_again, has_released, is_arrived, is_arrived_again, is_cancelled, is_changing, is_over, is_waiting_to_pass, own_step, step, with_goal}
+use Rattle.mt_machine.specs.Machine.{Order, before_own, has_released, is_arrived, is_arrived_again, is_cancelled, is_changing, is_over, is_waiting_to_pass, own_step, step, with_goal}
 use Rattle.mt_machine.specs.System.{Processor, System, change}
 use Rattle.mt_laws.proofs.Barrier.Barriers.{flush_era}
 use Rattle.mt_laws.proofs.Invariant.Flags.{own_keeps_flag}
