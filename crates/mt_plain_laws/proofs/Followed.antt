@@ -9,7 +9,7 @@ use Rattle.mt_machine.specs.declared.event.Event.TheVariants.{Take, WriteBack, R
 use Rattle.mt_machine.specs.declared.go.Go.{Go}
 use Rattle.mt_machine.specs.declared.go.Go.TheVariants.{Pending, Given, Cancelled}
 use Rattle.mt_machine.specs.declared.phase.Phase.{Phase}
-use Rattle.mt_machine.specs.declared.phase.Phase.TheVariants.{Running, Writing}
+use Rattle.mt_machine.specs.declared.phase.Phase.TheVariants.{Running, Taken, Arrived, Writing, Arrived2}
 use Rattle.mt_machine.specs.Access.{is_running}
 use Rattle.mt_machine.specs.Machine.{Calls, Cancels, Goes, Machine, Order, after, at_start, common_era, due, has_arrived, has_arrived_again, has_released, is_arrived, is_arrived_again, is_cancelled, is_changing, is_given, is_over, is_waiting_to_pass, next, remaining_order}
 use Rattle.mt_machine.specs.Start.{IsStart}
@@ -18,7 +18,7 @@ use Rattle.mt_machine.specs.Update.{led_start}
 use Rattle.mt_machine.proofs.Rows.{due_row, is_row}
 use Rattle.mt_laws.specs.Updates.{order_of_call}
 use Rattle.mt_laws.proofs.Barrier.Barriers.{Kept, Rest, reached_keeps}
-use Rattle.mt_laws.proofs.Barrier.Claims.{all_get, passed_rank, start_invariant}
+use Rattle.mt_laws.proofs.Barrier.Claims.{all_get, none_runs_of, passed_rank, start_invariant}
 use Rattle.mt_laws.proofs.Barrier.Ranks.{Guarded, all_at, stage_at}
 use Rattle.mt_laws.proofs.Barrier.Stages.{stage_of, stages, stages_of}
 use Rattle.mt_laws.proofs.Steps.StepCounts.{count_more}
@@ -29,7 +29,7 @@ use Rattle.mt_plain.specs.Did as did
 use Rattle.mt_plain.specs.Due.{IsTold, due_event, go_of, has_flags, phase_number, phase_of, phase_place, phases, whole_flush}
 use Rattle.mt_plain.proofs.Turns.{event_is}
 use Rattle.mt_regs.specs.Registers.{writable}
-use Rattle.mt_plain_laws.specs.Rendezvous.{AreAllowed, BeginsTelling, Books, CallsOff, EachIsTold, Gives, IsAllowed, Move, MovesAreLed, Rendezvous, RendezvousIsLed, Tells, all_moved, begun, booked, byte_of, first_words, go_number, moved_to, processor_words, update_words, words_of}
+use Rattle.mt_plain_laws.specs.Rendezvous.{AreAllowed, BeginsTelling, Books, CallsOff, EachIsTold, Gives, IsAllowed, Move, MovesAreLed, NoneRunsInBooks, Rendezvous, RendezvousIsLed, Tells, all_moved, begun, booked, byte_of, first_words, go_number, moved_to, processor_words, update_words, words_of}
 use Rattle.mt_plain_laws.proofs.Counted.{booked_is}
 use Rattle.mt_plain_laws.proofs.Flushed.{Along, due_behind, follows, grow, machine, set_here}
 use Rattle.mt_plain_laws.proofs.Seen.{Seen, ahead, all_seen, era_after, seen, seen_after, seen_at, seen_of, told_of, words_seen}
@@ -379,3 +379,25 @@ each_is_told s m o w k p start r t is at =
     let g : Guarded o (stages m.system) = subst (λ (x : Option Order). Kept x (stages m.system)) is (reached_keeps r (start_invariant s start)) in
     subst (λ (v : Rendezvous). (d : PlainProcessor) × (slice_get v.processors k ≡ Some d) × IsTold v.update d o m.system.processors p) (sym t.words)
     (processor_words o p, words_of_at o m.system.processors m.system.processors k p at, each_told o m.system.processors g k p at)
+
+changes : (ph : Phase) → 2 < phase_number ph → phase_number ph < 13 → is_changing ph ≡ true
+changes Running low high = absurd (omega (arith, low))
+changes Taken low high = absurd (omega (arith, low))
+changes Arrived low high = absurd (omega (arith, low))
+changes Arrived2 low high = absurd (omega (arith, high))
+changes other low high = refl
+
+runs_at : (ph : Phase) → phase_number ph ≡ 0 → is_running ph ≡ true
+runs_at Running is = refl
+runs_at other is = absurd (cc)
+
+pub none_runs_in_books : NoneRunsInBooks
+none_runs_in_books s m o w i j d e start r t at_d at_e low high at_rest =
+    let p = words_at o m.system.processors m.system.processors i d (ap (λ (v : Rendezvous). slice_get v.processors i) (sym t.words) ∙ at_d) in
+    let q = words_at o m.system.processors m.system.processors j e (ap (λ (v : Rendezvous). slice_get v.processors j) (sym t.words) ∙ at_e) in
+    let same : phase_number p.0.phase ≡ d.phase = ap (λ (x : PlainProcessor). x.phase) p.2 in
+    let idle : phase_number q.0.phase ≡ 0 = ap (λ (x : PlainProcessor). x.phase) q.2 ∙ at_rest in
+    let changing = changes p.0.phase (omega (arith, same, low)) (omega (arith, same, high)) in
+    let runs = runs_at q.0.phase idle in
+    let none = none_runs_of s m start r i j p.0 q.0 p.1 q.1 changing in
+    cc

@@ -1,5 +1,5 @@
 -- A rendezvous of processors that keeps its books in C's words, as the header says, and the machine's update that it leads (own).
-use Rattle.std.specs.Prelude.{◌≡◌, ℕ, ◌<◌, Bool, true, false, List, [], ◌∷◌, length, map, slice_get, slice_set, Some}
+use Rattle.std.specs.Prelude.{◌≡◌, ◌≢◌, ℕ, ◌<◌, Bool, true, false, List, [], ◌∷◌, length, map, slice_get, slice_set, Some}
 use Rattle.std.specs.List.{count_by}
 use Rattle.std.specs.Option.{option_map_or}
 use Rattle.mt_machine.specs.declared.go.Go.{Go}
@@ -135,3 +135,9 @@ EachIsTold =
     (s m : Machine) (o : Order) (w : Rendezvous) (k : ℕ) (p : Processor) → IsStart s → Reached s m → Tells w o m → m.order ≡ Some o
     → slice_get m.system.processors k ≡ Some p
     → (d : PlainProcessor) × (slice_get w.processors k ≡ Some d) × IsTold w.update d o m.system.processors p
+
+-- while one processor's books say that it changes its registers (phases 3 to 12), no other's say that it runs (phase 0)
+abbrev pub NoneRunsInBooks : Type 0
+NoneRunsInBooks =
+    (s m : Machine) (o : Order) (w : Rendezvous) (i j : ℕ) (d e : PlainProcessor) → IsStart s → Reached s m → Tells w o m
+    → slice_get w.processors i ≡ Some d → slice_get w.processors j ≡ Some e → 2 < d.phase → d.phase < 13 → e.phase ≢ 0
