@@ -1,12 +1,14 @@
 /*
- * The calls under a storm of interrupts on the same stack, as a kernel has them: a program without a C library steps through
- * each call by the trap flag. Before every instruction a signal's handler overwrites the 128 bytes below the stack pointer and
- * the vector registers, which an interrupt and a kernel's own code may. The answers are to be those without the storm.
+ * The calls under a storm of interrupts on the same stack, as a kernel has
+ * them: a program without a C library steps through each call by the trap flag.
+ * Before every instruction a signal's handler overwrites the 128 bytes below
+ * the stack pointer and the vector registers, which an interrupt and a kernel's
+ * own code may. The answers are to be those without the storm.
  *
  *     storm [SIGNALS]        3,000,000 unless told otherwise
  *
- * Prints how much stack each call took, as the handler saw it, and the number of signals. The exit status is 0 if each answer
- * was right, and 1 if not.
+ * Prints how much stack each call took, as the handler saw it, and the number
+ * of signals. The exit status is 0 if each answer was right, and 1 if not.
  */
 #define _GNU_SOURCE
 #include <signal.h>
@@ -19,7 +21,10 @@ static long syscall_of(long number, long a, long b, long c, long d)
 {
     long result;
     register long r10 __asm__("r10") = d;
-    __asm__ volatile("syscall" : "=a"(result) : "a"(number), "D"(a), "S"(b), "d"(c), "r"(r10) : "rcx", "r11", "memory");
+    __asm__ volatile("syscall"
+                     : "=a"(result)
+                     : "a"(number), "D"(a), "S"(b), "d"(c), "r"(r10)
+                     : "rcx", "r11", "memory");
     return result;
 }
 
@@ -57,7 +62,8 @@ static void interrupt(int number, siginfo_t *info, void *context)
         stack[-i] = 0xa5a5a5a5a5a5a5a5u + signals;
     if ((uint64_t)stack < lowest)
         lowest = (uint64_t)stack;
-    /* x87's and the vector registers, in the format of FXSAVE, with XSAVE's word of what was in use behind it */
+    /* x87's and the vector registers, in the format of FXSAVE, with XSAVE's
+     * word of what was in use behind it */
     uint64_t *saved = (uint64_t *)interrupted->uc_mcontext.fpregs;
     for (int i = 4; i < 52; i++)
         saved[i] = (uint64_t)signals * 0x9e3779b97f4a7c15u;
@@ -68,12 +74,14 @@ static void interrupt(int number, siginfo_t *info, void *context)
 
 static void __attribute__((noinline)) begin_storm(void)
 {
-    __asm__ volatile("pushfq\n\torq $0x100, (%%rsp)\n\tpopfq" ::: "memory", "cc");
+    __asm__ volatile("pushfq\n\torq $0x100, (%%rsp)\n\tpopfq" ::
+                         : "memory", "cc");
 }
 
 static void __attribute__((noinline)) end_storm(void)
 {
-    __asm__ volatile("pushfq\n\tandq $~0x100, (%%rsp)\n\tpopfq" ::: "memory", "cc");
+    __asm__ volatile("pushfq\n\tandq $~0x100, (%%rsp)\n\tpopfq" ::
+                         : "memory", "cc");
 }
 
 __asm__("come_back:\n\tmovl $15, %eax\n\tsyscall");
@@ -115,7 +123,9 @@ static void draw_registers(struct mtrr_registers *r)
     for (uint64_t i = 0; i < pairs; i++) {
         uint64_t log = 12 + draw(r->width - 11);
         uint64_t top = ((uint64_t)1 << r->width) - 1;
-        r->pairs[i].base = (draw((uint64_t)1 << (r->width - 12)) << 12 >> log << log) | kinds[draw(draw(3) ? 5 : 8)];
+        r->pairs[i].base =
+            (draw((uint64_t)1 << (r->width - 12)) << 12 >> log << log) |
+            kinds[draw(draw(3) ? 5 : 8)];
         r->pairs[i].mask = (top >> log << log) | 0x800;
     }
     for (int i = 0; i < MTRR_FIXED_REGISTERS; i++)
@@ -146,8 +156,10 @@ struct answers {
 };
 
 static struct mtrr_work work;
-static const char *const names[] = {"mtrr_is_file", "mtrr_first_fault", "mtrr_page_type", "mtrr_effective_type",
-    "mtrr_type_map", "mtrr_tidy", "mtrr_gran", "mtrr_due", "mtrr_did"};
+static const char *const names[] = {
+    "mtrr_is_file",        "mtrr_first_fault", "mtrr_page_type",
+    "mtrr_effective_type", "mtrr_type_map",    "mtrr_tidy",
+    "mtrr_gran",           "mtrr_due",         "mtrr_did"};
 #define CALLS 9
 static uint64_t stacks[CALLS];
 
@@ -164,17 +176,21 @@ static void ask(uint32_t call, struct asked *q, struct answers *a)
         a->status[2] = mtrr_page_type(&q->registers, q->page, &a->kind);
         break;
     case 3:
-        a->status[3] = mtrr_effective_type(&q->registers, q->page, 1, &a->effective);
+        a->status[3] =
+            mtrr_effective_type(&q->registers, q->page, 1, &a->effective);
         break;
     case 4:
-        a->status[4] = mtrr_type_map(&q->registers, a->runs, MTRR_MAX_RUNS, &a->count);
+        a->status[4] =
+            mtrr_type_map(&q->registers, a->runs, MTRR_MAX_RUNS, &a->count);
         break;
     case 5:
-        a->status[5] = mtrr_tidy(&q->registers, 1, q->chunk, &work, &a->tidied, &a->need[0]);
+        a->status[5] = mtrr_tidy(&q->registers, 1, q->chunk, &work, &a->tidied,
+                                 &a->need[0]);
         break;
     case 6:
-        a->status[6] = mtrr_gran(&q->registers, q->size, 1, q->chunk, &work, &a->rounded, &a->need[1], &a->loss, a->parts,
-                                 MTRR_MAX_PARTS);
+        a->status[6] =
+            mtrr_gran(&q->registers, q->size, 1, q->chunk, &work, &a->rounded,
+                      &a->need[1], &a->loss, a->parts, MTRR_MAX_PARTS);
         break;
     case 7:
         a->status[7] = mtrr_due(&q->update, &q->processor, &a->step);
@@ -232,8 +248,11 @@ int run(long count, char **words)
         q.page = draw((uint64_t)1 << (q.registers.width - 12));
         q.chunk = draw(2) ? (uint64_t)1 << 52 : 0x10000000;
         q.size = (uint64_t)4096 << draw(20);
-        q.update = (struct mtrr_update){(uint32_t)draw(3), 4, (uint32_t)draw(5), (uint32_t)draw(5)};
-        q.processor = (struct mtrr_processor){(uint32_t)draw(14), (uint32_t)draw(9), 9, (uint8_t)draw(2), (uint8_t)draw(2)};
+        q.update = (struct mtrr_update){(uint32_t)draw(3), 4, (uint32_t)draw(5),
+                                        (uint32_t)draw(5)};
+        q.processor =
+            (struct mtrr_processor){(uint32_t)draw(14), (uint32_t)draw(9), 9,
+                                    (uint8_t)draw(2), (uint8_t)draw(2)};
         wrong += !is_same(&q);
     }
     for (uint32_t call = 0; call < CALLS; call++) {
@@ -251,5 +270,6 @@ int run(long count, char **words)
     return wrong != 0;
 }
 
-__asm__(".globl _start\n_start:\n\tmovq (%rsp), %rdi\n\tleaq 8(%rsp), %rsi\n\tandq $-16, %rsp\n\tcall run\n\t"
+__asm__(".globl _start\n_start:\n\tmovq (%rsp), %rdi\n\tleaq 8(%rsp), "
+        "%rsi\n\tandq $-16, %rsp\n\tcall run\n\t"
         "movl %eax, %edi\n\tmovl $60, %eax\n\tsyscall");

@@ -38,7 +38,8 @@ static uint64_t *place_of(struct mtrr_registers *registers, uint64_t number)
     return NULL;
 }
 
-/* Takes lines as `200: 6`, `maxphyaddr 36` and comments; far less strict than the program. */
+/* Takes lines as `200: 6`, `maxphyaddr 36` and comments; far less strict than
+ * the program. */
 static int read_dump(FILE *in, struct mtrr_registers *registers)
 {
     char line[512];
@@ -55,7 +56,8 @@ static int read_dump(FILE *in, struct mtrr_registers *registers)
             return 0;
         if (strcmp(first, "cpu") == 0)
             is_first = strtoull(second, NULL, 10) == 0;
-        if (!is_first || strcmp(first, "cpu") == 0 || strcmp(first, "version") == 0)
+        if (!is_first || strcmp(first, "cpu") == 0 ||
+            strcmp(first, "version") == 0)
             continue;
         if (strcmp(first, "maxphyaddr") == 0) {
             registers->width = strtoull(second, NULL, 10);
@@ -118,13 +120,16 @@ static int print_map(const struct mtrr_registers *registers)
     return 0;
 }
 
-static int print_page(const struct mtrr_registers *registers, uint64_t address, uint32_t index)
+static int print_page(const struct mtrr_registers *registers, uint64_t address,
+                      uint32_t index)
 {
     uint32_t kind, effective;
     if (mtrr_page_type(registers, address / 4096, &kind) != MTRR_DONE ||
-        mtrr_effective_type(registers, address / 4096, index, &effective) != MTRR_DONE)
+        mtrr_effective_type(registers, address / 4096, index, &effective) !=
+            MTRR_DONE)
         return 2;
-    printf("page %013" PRIx64 " mtrr %s pat %s effective %s\n", address / 4096 * 4096, name_of(kind),
+    printf("page %013" PRIx64 " mtrr %s pat %s effective %s\n",
+           address / 4096 * 4096, name_of(kind),
            name_of(registers->pat >> 8 * index & 0xff), name_of(effective));
     return 0;
 }
@@ -144,8 +149,7 @@ static void print_file(struct mtrr_registers *registers)
             printf("%03" PRIx32 " %016" PRIx64 "\n", fixed_numbers[i],
                    registers->fixed[i]);
     printf("%03x %016" PRIx64 "\n", MTRR_MSR_PAT, registers->pat);
-    printf("%03x %016" PRIx64 "\n", MTRR_MSR_DEF_TYPE,
-           registers->default_type);
+    printf("%03x %016" PRIx64 "\n", MTRR_MSR_DEF_TYPE, registers->default_type);
 }
 
 /* A file with the fewest pairs, or why there is none. */
@@ -154,7 +158,8 @@ static int print_new(uint32_t answer, const struct mtrr_registers *registers,
 {
     switch (answer) {
     case MTRR_DISABLED:
-        printf("disabled %03x %016" PRIx64 "\n", MTRR_MSR_DEF_TYPE, registers->default_type);
+        printf("disabled %03x %016" PRIx64 "\n", MTRR_MSR_DEF_TYPE,
+               registers->default_type);
         return 1;
     case MTRR_TOO_FEW:
         printf("too few needs %" PRIu64 " has %" PRIu64 "\n", need->needs,
@@ -178,8 +183,7 @@ static int print_tidied(const struct mtrr_registers *registers,
     static struct mtrr_work work;
     struct mtrr_registers tidied;
     struct mtrr_need need;
-    uint32_t answer =
-        mtrr_tidy(registers, spare, chunk, &work, &tidied, &need);
+    uint32_t answer = mtrr_tidy(registers, spare, chunk, &work, &tidied, &need);
     return print_new(answer, registers, &tidied, &need);
 }
 
@@ -229,7 +233,8 @@ int main(int count, char **words)
     if (count >= 2 && strcmp(words[1], "types") == 0)
         return print_map(&registers);
     if (count >= 4 && strcmp(words[1], "page") == 0)
-        return print_page(&registers, strtoull(words[2], NULL, 16), (uint32_t)strtoul(words[3], NULL, 10));
+        return print_page(&registers, strtoull(words[2], NULL, 16),
+                          (uint32_t)strtoul(words[3], NULL, 10));
     if (count >= 2 && strcmp(words[1], "tidy") == 0)
         return print_tidied(&registers, 1,
                             number_at(count, words, 2, 0x10000000));

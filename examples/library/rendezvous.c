@@ -65,8 +65,10 @@ static void unlock(void)
     pthread_mutex_unlock(&books.mutex);
 }
 
-/* What a processor does for a step. The barriers' steps are mtrr_did's alone. */
-static void carry_out(struct machine *m, const struct mtrr_step *step, uint32_t k)
+/* What a processor does for a step. The barriers' steps are mtrr_did's alone.
+ */
+static void carry_out(struct machine *m, const struct mtrr_step *step,
+                      uint32_t k)
 {
     m->steps++;
     switch (step->number) {
@@ -131,7 +133,8 @@ static void attend(uint32_t k)
         struct mtrr_step step;
         lock();
         uint32_t answer = mtrr_due(&books.update, me, &step);
-        int is_through = me->finished || (me->phase == MTRR_RUNNING && books.update.word == MTRR_CANCELLED);
+        int is_through = me->finished || (me->phase == MTRR_RUNNING &&
+                                          books.update.word == MTRR_CANCELLED);
         unlock();
         if (answer == MTRR_WAITS && is_through)
             return;
@@ -148,10 +151,12 @@ static void attend(uint32_t k)
         uint32_t booked = mtrr_did(&books.update, me, &step);
         look_around();
         unlock();
-        /* cancelled since: what was carried out is taken back, and the books say what is due now */
+        /* cancelled since: what was carried out is taken back, and the books
+         * say what is due now */
         if (booked != MTRR_DONE && step.number == MTRR_TAKE)
             machines[k].interrupts = 1;
-        if (booked != MTRR_DONE && step.number != MTRR_TAKE && step.number != MTRR_ARRIVE)
+        if (booked != MTRR_DONE && step.number != MTRR_TAKE &&
+            step.number != MTRR_ARRIVE)
             fault("a step was lost", k);
     }
 }
@@ -200,12 +205,17 @@ static void look(int was_given, const uint64_t before[][REGISTERS])
         const struct machine *m = &machines[k];
         const uint64_t *wanted = was_given ? goal : before[k];
         if (memcmp(m->registers, wanted, sizeof goal) != 0)
-            fault(was_given ? "has other registers than the goal" : "has changed, though the update was cancelled", k);
+            fault(was_given ? "has other registers than the goal"
+                            : "has changed, though the update was cancelled",
+                  k);
         if (!m->interrupts || !m->pge || m->cd)
             fault("isn't back as it was", k);
-        if (was_given && m->steps != 14u + REGISTERS - 1 - books.processors[k].self_snoop)
+        if (was_given &&
+            m->steps != 14u + REGISTERS - 1 - books.processors[k].self_snoop)
             fault("made another number of steps", k);
-        if (was_given && (m->tlbs_flushed != 2 || m->caches_flushed != 2 - books.processors[k].self_snoop))
+        if (was_given &&
+            (m->tlbs_flushed != 2 ||
+             m->caches_flushed != 2 - books.processors[k].self_snoop))
             fault("flushed another number of times", k);
     }
 }
@@ -259,7 +269,8 @@ int main(int count, char **words)
     }
     for (uint32_t k = 0; k < processors; k++)
         pthread_join(threads[k], NULL);
-    printf("%ld updates on %u processors: %ld went through, %ld were cancelled, %ld faults\n", updates,
-           (unsigned)processors, given, updates - given, faults);
+    printf("%ld updates on %u processors: %ld went through, %ld were "
+           "cancelled, %ld faults\n",
+           updates, (unsigned)processors, given, updates - given, faults);
     return faults != 0;
 }

@@ -1,5 +1,5 @@
 -- What a step that was carried out changes in the words of an update (own).
-use Rattle.std.specs.Prelude.{◌≡◌, ℕ, ◌+◌, ◌-◌, ◌==◌, nat_lt, ◌&&◌, Bool, true, if◌then◌else◌, Option, None, Some}
+use Rattle.std.specs.Prelude.{ℕ, ◌+◌, ◌-◌, ◌==◌, nat_lt, ◌&&◌, Bool, true, if◌then◌else◌, Option, None, Some}
 use Rattle.mt_machine.specs.declared.event.Event.{Event}
 use Rattle.mt_machine.specs.declared.event.Event.TheVariants.{Arrive, Leave, ArriveAgain, Release}
 use Rattle.mt_machine.specs.declared.go.Go.{Go}

@@ -1,5 +1,4 @@
 -- Words of updates of worked examples.
-use Rattle.std.specs.Prelude.{false}
 use Rattle.mt_machine.specs.declared.go.Go.TheVariants.{Pending}
 use Rattle.mt_machine.specs.Machine.{Order}
 use Rattle.mt_machine.specs.System.{Processor, start_processor}
