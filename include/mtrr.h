@@ -1,20 +1,47 @@
 /*
  * Questions to a file of x86 range registers (MTRRs) and its PAT.
  *
- * No call allocates, keeps state, prints, waits or calls back: each may be
- * called from any thread, and again from within an interrupt. A call reads
- * the structs that it is given and writes only what it says. Each pointer
- * must be valid and aligned, never null, and what a call writes through one
- * pointer may not overlap what another points to.
+ * There are two archives with the same calls:
+ *
+ *   libmtrr-kernel.a  for kernels and firmware. It uses general registers
+ *                     alone, stores nothing below the stack pointer, and
+ *                     needs no symbol of its caller's. It may be called in a
+ *                     kernel, in firmware, with interrupts on, and from
+ *                     within an interrupt.
+ *   libmtrr.a         for programs with an operating system beneath them. It
+ *                     uses the red zone and SSE, and needs memcpy and memset.
+ *                     Don't call it in a kernel, firmware or interrupt.
+ *
+ * Stack, at most, of libmtrr-kernel.a: mtrr_is_file, mtrr_due and mtrr_did
+ * take 256 bytes, mtrr_tidy 32 KB, mtrr_gran 88 KB, the others 4 KB.
+ *
+ * No call allocates, keeps state, prints, waits or calls back. A call reads
+ * the structs that it is given and writes only what it says. Several may run
+ * at once on any threads, if none writes what another one uses.
+ *
+ * Each pointer must be valid and aligned. It must not be null, except that
+ * `runs` and `parts` may be null where `room` is 0. What a call writes through
+ * one pointer may not overlap what another points to.
  *
  * A page is 4,096 bytes, and a page's number is its physical address / 4096.
  */
 #ifndef MTRR_H
 #define MTRR_H
 
+/* The first rises when a call, a struct or a number changes, the second when one is added. */
+#define MTRR_VERSION_MAJOR 1
+#define MTRR_VERSION_MINOR 0
+
+#if defined(__KERNEL__) /* Linux, which has no <stdint.h> */
+#include <linux/stddef.h>
+#include <linux/types.h>
+#elif defined(__XEN__)
+#include <xen/types.h>
+#else
 #include <stdbool.h>
 #include <stddef.h>
 #include <stdint.h>
+#endif
 
 #ifdef __cplusplus
 extern "C" {
@@ -39,10 +66,11 @@ extern "C" {
 #define MTRR_NO_ENTRY 5u  /* the PAT has entries 0 to 7 */
 #define MTRR_NO_ROOM 6u   /* the array is too small for the type map, or for the parts */
 #define MTRR_WAITS 7u     /* the processor has nothing to do */
-#define MTRR_NO_PHASE 8u  /* there is no such phase or no such word */
+#define MTRR_NO_PHASE 8u  /* there is no such phase or word, or a flag is above 1 */
 #define MTRR_DISABLED 9u  /* the range registers are off */
 #define MTRR_TOO_FEW 10u  /* more pairs are needed than may be used */
 #define MTRR_NO_GRANULE 11u /* the size isn't a power of two from 4 KB to 1 TB */
+#define MTRR_NOT_DUE 12u  /* the step isn't the one that is due: nothing was changed */
 
 /* What is wrong with a register. */
 #define MTRR_RESERVED_BIT 1u
@@ -84,8 +112,8 @@ extern "C" {
 
 /* The steps. */
 #define MTRR_TAKE 1u          /* turn interrupts off, and fence */
-#define MTRR_ARRIVE 2u        /* add 1 to `arrived` */
-#define MTRR_LEAVE 3u         /* take 1 from `arrived` if it was added, interrupts on */
+#define MTRR_ARRIVE 2u        /* nothing: mtrr_did adds 1 to `arrived` */
+#define MTRR_LEAVE 3u         /* interrupts on; mtrr_did takes 1 from `arrived` if it was added */
 #define MTRR_PASS 4u          /* nothing: go on */
 #define MTRR_SET_NO_FILL 5u   /* CR0.CD = 1, CR0.NW = 0 */
 #define MTRR_FLUSH_CACHES 6u  /* WBINVD */
@@ -95,7 +123,7 @@ extern "C" {
 #define MTRR_ENABLE 10u       /* write the default type, E with it */
 #define MTRR_SET_NORMAL 11u   /* CR0.CD = 0 */
 #define MTRR_RESTORE_PGE 12u  /* CR4.PGE as before */
-#define MTRR_ARRIVE_AGAIN 13u /* add 1 to `arrived_again` */
+#define MTRR_ARRIVE_AGAIN 13u /* nothing: mtrr_did adds 1 to `arrived_again` */
 #define MTRR_RELEASE 14u      /* interrupts on: the processor is through */
 
 #define MTRR_MAX_PAIRS 32
@@ -164,13 +192,13 @@ struct mtrr_update {
     uint32_t arrived_again; /* at the second barrier or past it */
 };
 
-/* Where a processor stands in it. */
+/* Where a processor stands in it. A flag is 0 or 1. */
 struct mtrr_processor {
     uint32_t phase;     /* MTRR_RUNNING and the like */
     uint32_t place;     /* MTRR_WRITING: of the next register */
     uint32_t registers; /* how many it has, as below */
-    bool self_snoop;    /* CPUID.1:EDX bit 27 */
-    bool finished;      /* it is through with this update */
+    uint8_t self_snoop; /* CPUID.1:EDX bit 27 */
+    uint8_t finished;   /* it is through with this update */
 };
 
 /* A step, and where the processor stands after it. */
@@ -180,6 +208,68 @@ struct mtrr_step {
     uint32_t next_phase;
     uint32_t next_place;
 };
+
+/* The layout, which the library was built for. C99 has no assertions, so there nothing is tested. */
+#if defined(__cplusplus) && __cplusplus >= 201103L
+#define MTRR_ASSERT(holds, what) static_assert(holds, what);
+#define MTRR_ALIGNMENT(name) alignof(name)
+#elif defined(__STDC_VERSION__) && __STDC_VERSION__ >= 201112L
+#define MTRR_ASSERT(holds, what) _Static_assert(holds, what);
+#define MTRR_ALIGNMENT(name) _Alignof(struct name)
+#else
+#define MTRR_ASSERT(holds, what)
+#endif
+#define MTRR_HAS_SIZE(name, size, alignment)                                  \
+    MTRR_ASSERT(sizeof(struct name) == size, "size of " #name)                \
+    MTRR_ASSERT(MTRR_ALIGNMENT(name) == alignment, "alignment of " #name)
+#define MTRR_IS_AT(name, field, offset)                                       \
+    MTRR_ASSERT(offsetof(struct name, field) == offset, #name "." #field)
+MTRR_HAS_SIZE(mtrr_pair, 16, 8)
+MTRR_IS_AT(mtrr_pair, base, 0)
+MTRR_IS_AT(mtrr_pair, mask, 8)
+MTRR_HAS_SIZE(mtrr_registers, 632, 8)
+MTRR_IS_AT(mtrr_registers, width, 0)
+MTRR_IS_AT(mtrr_registers, capabilities, 8)
+MTRR_IS_AT(mtrr_registers, pairs, 16)
+MTRR_IS_AT(mtrr_registers, fixed, 528)
+MTRR_IS_AT(mtrr_registers, pat, 616)
+MTRR_IS_AT(mtrr_registers, default_type, 624)
+MTRR_HAS_SIZE(mtrr_fault, 8, 4)
+MTRR_IS_AT(mtrr_fault, number, 0)
+MTRR_IS_AT(mtrr_fault, reason, 4)
+MTRR_HAS_SIZE(mtrr_run, 24, 8)
+MTRR_IS_AT(mtrr_run, first, 0)
+MTRR_IS_AT(mtrr_run, pages, 8)
+MTRR_IS_AT(mtrr_run, kind, 16)
+MTRR_HAS_SIZE(mtrr_need, 16, 8)
+MTRR_IS_AT(mtrr_need, needs, 0)
+MTRR_IS_AT(mtrr_need, has, 8)
+MTRR_HAS_SIZE(mtrr_work, 32768, 8)
+MTRR_IS_AT(mtrr_work, words, 0)
+MTRR_HAS_SIZE(mtrr_loss, 16, 8)
+MTRR_IS_AT(mtrr_loss, pages, 0)
+MTRR_IS_AT(mtrr_loss, parts, 8)
+MTRR_HAS_SIZE(mtrr_update, 16, 4)
+MTRR_IS_AT(mtrr_update, word, 0)
+MTRR_IS_AT(mtrr_update, processors, 4)
+MTRR_IS_AT(mtrr_update, arrived, 8)
+MTRR_IS_AT(mtrr_update, arrived_again, 12)
+MTRR_HAS_SIZE(mtrr_processor, 16, 4)
+MTRR_IS_AT(mtrr_processor, phase, 0)
+MTRR_IS_AT(mtrr_processor, place, 4)
+MTRR_IS_AT(mtrr_processor, registers, 8)
+MTRR_IS_AT(mtrr_processor, self_snoop, 12)
+MTRR_IS_AT(mtrr_processor, finished, 13)
+MTRR_HAS_SIZE(mtrr_step, 16, 4)
+MTRR_IS_AT(mtrr_step, number, 0)
+MTRR_IS_AT(mtrr_step, place, 4)
+MTRR_IS_AT(mtrr_step, next_phase, 8)
+MTRR_IS_AT(mtrr_step, next_place, 12)
+MTRR_ASSERT(sizeof(size_t) == 8, "size of size_t")
+#undef MTRR_IS_AT
+#undef MTRR_HAS_SIZE
+#undef MTRR_ALIGNMENT
+#undef MTRR_ASSERT
 
 /*
  * Whether the words are a register file's: a width of 32 to 52 bits, VCNT at
@@ -285,17 +375,39 @@ uint32_t mtrr_gran(const struct mtrr_registers *registers, uint64_t size,
  * fixed-range registers where the processor has them, IA32_PAT, and last the
  * default type. `place` counts them from 0; MTRR_ENABLE writes the last.
  *
- * After the step the caller stores next_phase and next_place, and `finished`
- * after MTRR_RELEASE. Where another program keeps the order, the call checks
- * it: what that does next must be what this answers.
+ * The caller carries the step out and then calls mtrr_did. Where another
+ * program keeps the order, the call checks it: what that does next must be
+ * what this returns.
  *
  * MTRR_DONE: *step was written. MTRR_WAITS: the processor waits at a barrier,
- * is through, or has left. MTRR_NO_PHASE: the phase is above MTRR_ARRIVED_2
- * or the word above MTRR_CANCELLED. *step is written at MTRR_DONE alone.
+ * is through, or has left. MTRR_NO_PHASE: the phase is above MTRR_ARRIVED_2,
+ * the word above MTRR_CANCELLED, or a flag above 1. *step is written at
+ * MTRR_DONE alone.
  */
 uint32_t mtrr_due(const struct mtrr_update *update,
                   const struct mtrr_processor *processor,
                   struct mtrr_step *step);
+
+/*
+ * Books a step that the processor has carried out: the counts of the update,
+ * and the processor's phase, place and `finished`.
+ *
+ * An update begins with the word MTRR_NOTHING_YET and both counts 0, and each
+ * processor with the phase MTRR_RUNNING, the place 0 and `finished` 0. From
+ * then on these words change by mtrr_did alone, and the word once, by the
+ * coordinator, from MTRR_NOTHING_YET to MTRR_GO or MTRR_CANCELLED. One of
+ * these at a time, under a lock that the calls of mtrr_due hold too; steps
+ * are carried out without it.
+ *
+ * MTRR_DONE: the step is the one that is due, and was booked. MTRR_NOT_DUE:
+ * it isn't, or a count has no room for it, as words of no update have it. It
+ * is no longer due where the update was cancelled after mtrr_due wrote
+ * MTRR_TAKE or MTRR_ARRIVE: ask mtrr_due again, and where the step was
+ * MTRR_TAKE turn interrupts on. MTRR_NO_PHASE: see mtrr_due. Nothing is
+ * changed unless the answer is MTRR_DONE.
+ */
+uint32_t mtrr_did(struct mtrr_update *update, struct mtrr_processor *processor,
+                  const struct mtrr_step *step);
 
 #ifdef __cplusplus
 }

@@ -1,8 +1,9 @@
 /*
- * Reads a dump of one processor from standard input, as `mtrr` reads it but
- * less strictly. `check` writes the first fault or `accepted`, `types` the
- * type of each stretch of addresses, `tidy [CHUNK]` the tidied registers, and
- * `gran SIZE [CHUNK]` the rounded ones with what is lost.
+ * Reads a dump from standard input, as `mtrr` reads it but less strictly; of
+ * several processors it takes processor 0. `check` writes the first fault or
+ * `accepted`, `types` the type of each stretch of addresses, `page ADDR INDEX`
+ * the types of one page, `tidy [CHUNK]` the tidied registers, and `gran SIZE
+ * [CHUNK]` the rounded ones with what is lost.
  */
 #include <inttypes.h>
 #include <stdio.h>
@@ -10,6 +11,9 @@
 #include <string.h>
 
 #include "mtrr.h"
+
+/* A type that the PAT alone has. */
+#define UC_MINUS 7
 
 static const uint32_t fixed_numbers[MTRR_FIXED_REGISTERS] = {
     0x250, 0x258, 0x259, 0x268, 0x269, 0x26a,
@@ -34,10 +38,12 @@ static uint64_t *place_of(struct mtrr_registers *registers, uint64_t number)
     return NULL;
 }
 
-/* Takes lines as `200: 6`, `maxphyaddr 36` and comments; far less strict than the program. */
+/* Takes lines as `200: 6`, `maxphyaddr 36` and comments; far less strict than
+ * the program. */
 static int read_dump(FILE *in, struct mtrr_registers *registers)
 {
     char line[512];
+    int is_first = 1;
     while (fgets(line, sizeof line, in)) {
         char *comment = strchr(line, '#');
         if (comment)
@@ -48,6 +54,11 @@ static int read_dump(FILE *in, struct mtrr_registers *registers)
         char *second = strtok(NULL, " \t:\r\n");
         if (!second)
             return 0;
+        if (strcmp(first, "cpu") == 0)
+            is_first = strtoull(second, NULL, 10) == 0;
+        if (!is_first || strcmp(first, "cpu") == 0 ||
+            strcmp(first, "version") == 0)
+            continue;
         if (strcmp(first, "maxphyaddr") == 0) {
             registers->width = strtoull(second, NULL, 10);
             continue;
@@ -71,6 +82,8 @@ static const char *name_of(uint32_t kind)
         return "WT";
     case MTRR_WP:
         return "WP";
+    case UC_MINUS:
+        return "UC-";
     default:
         return "WB";
     }
@@ -107,6 +120,20 @@ static int print_map(const struct mtrr_registers *registers)
     return 0;
 }
 
+static int print_page(const struct mtrr_registers *registers, uint64_t address,
+                      uint32_t index)
+{
+    uint32_t kind, effective;
+    if (mtrr_page_type(registers, address / 4096, &kind) != MTRR_DONE ||
+        mtrr_effective_type(registers, address / 4096, index, &effective) !=
+            MTRR_DONE)
+        return 2;
+    printf("page %013" PRIx64 " mtrr %s pat %s effective %s\n",
+           address / 4096 * 4096, name_of(kind),
+           name_of(registers->pat >> 8 * index & 0xff), name_of(effective));
+    return 0;
+}
+
 /* Each register in ascending order, as `mtrr show` writes them. */
 static void print_file(struct mtrr_registers *registers)
 {
@@ -122,17 +149,17 @@ static void print_file(struct mtrr_registers *registers)
             printf("%03" PRIx32 " %016" PRIx64 "\n", fixed_numbers[i],
                    registers->fixed[i]);
     printf("%03x %016" PRIx64 "\n", MTRR_MSR_PAT, registers->pat);
-    printf("%03x %016" PRIx64 "\n", MTRR_MSR_DEF_TYPE,
-           registers->default_type);
+    printf("%03x %016" PRIx64 "\n", MTRR_MSR_DEF_TYPE, registers->default_type);
 }
 
 /* A file with the fewest pairs, or why there is none. */
-static int print_new(uint32_t answer, struct mtrr_registers *file,
-                     const struct mtrr_need *need)
+static int print_new(uint32_t answer, const struct mtrr_registers *registers,
+                     struct mtrr_registers *file, const struct mtrr_need *need)
 {
     switch (answer) {
     case MTRR_DISABLED:
-        puts("disabled");
+        printf("disabled %03x %016" PRIx64 "\n", MTRR_MSR_DEF_TYPE,
+               registers->default_type);
         return 1;
     case MTRR_TOO_FEW:
         printf("too few needs %" PRIu64 " has %" PRIu64 "\n", need->needs,
@@ -156,9 +183,8 @@ static int print_tidied(const struct mtrr_registers *registers,
     static struct mtrr_work work;
     struct mtrr_registers tidied;
     struct mtrr_need need;
-    uint32_t answer =
-        mtrr_tidy(registers, spare, chunk, &work, &tidied, &need);
-    return print_new(answer, &tidied, &need);
+    uint32_t answer = mtrr_tidy(registers, spare, chunk, &work, &tidied, &need);
+    return print_new(answer, registers, &tidied, &need);
 }
 
 static int print_rounded(const struct mtrr_registers *registers, uint64_t size,
@@ -178,7 +204,7 @@ static int print_rounded(const struct mtrr_registers *registers, uint64_t size,
         }
         printf("# lost %" PRIu64 "\n", loss.pages);
     }
-    return print_new(answer, &rounded, &need);
+    return print_new(answer, registers, &rounded, &need);
 }
 
 /* The word at a place as a hexadecimal number, where there is one. */
@@ -206,6 +232,9 @@ int main(int count, char **words)
     }
     if (count >= 2 && strcmp(words[1], "types") == 0)
         return print_map(&registers);
+    if (count >= 4 && strcmp(words[1], "page") == 0)
+        return print_page(&registers, strtoull(words[2], NULL, 16),
+                          (uint32_t)strtoul(words[3], NULL, 10));
     if (count >= 2 && strcmp(words[1], "tidy") == 0)
         return print_tidied(&registers, 1,
                             number_at(count, words, 2, 0x10000000));

@@ -6,6 +6,7 @@ ghost use Rattle.std.specs.Option.{option_map};
 ghost use Rattle.mt_gran.specs.Sizes.{IsGranuleSize};
 ghost use Rattle.mt_machine.specs.Machine.{Order, due as machine_due};
 ghost use Rattle.mt_machine.specs.System.{Processor};
+ghost use Rattle.mt_plain.specs.Did.{kept};
 ghost use Rattle.mt_plain.specs.Due.{IsTold, due_status, due_step, event_words, whole_flush};
 ghost use Rattle.mt_plain.specs.Maps.{IsMapIn, has_map, map_status, no_map_status};
 ghost use Rattle.mt_plain.specs.Plain.{effective_number, effective_status, fault_status, fault_words, file_in, has_no_other_pair, is_file, page_number, page_status};
@@ -15,9 +16,11 @@ ghost use Rattle.mt_regs.specs.Faults.{IsFirstFault};
 ghost use Rattle.mt_regs.specs.RegisterFile.{IsRegisterFile};
 ghost use Rattle.mt_regs.specs.declared.fault.Fault.{Fault};
 
+mod layout;
+
 use mt_plain::{
     PlainFault, PlainLoss, PlainNeed, PlainProcessor, PlainRegisters, PlainRun, PlainStep,
-    PlainUpdate, a_due_step_is_the_machines, due, effective_type, first_fault, gran, is_file,
+    PlainUpdate, a_due_step_is_the_machines, did, due, effective_type, first_fault, gran, is_file,
     page_type, tidy, type_map,
 };
 use mt_tidy::WorkArea;
@@ -85,8 +88,8 @@ pub extern "C" fn mtrr_type_map(
 }
 
 /// What a processor does next in an update: 0 where the step was written, 7 where nothing is due, as it waits at a
-/// barrier or takes no part, and 8 where there is no such phase or word of the coordinator's. `step` is written where
-/// the answer is 0 alone.
+/// barrier or takes no part, and 8 where there is no such phase or word of the coordinator's, or a flag is above 1. `step`
+/// is written where the answer is 0 alone.
 #[unsafe(no_mangle)]
 pub extern "C" fn mtrr_due(
     update: &PlainUpdate,
@@ -100,6 +103,22 @@ pub extern "C" fn mtrr_due(
 {
     a_due_step_is_the_machines(); // a fact for the proof
     due(update, processor, step)
+}
+
+/// Books a step that was carried out: what the barriers count, where the processor stands, and whether it is through.
+/// 0 where the step was the one that is due, and update and processor were changed; 12 where it isn't, and 8 where there
+/// is no such phase or word of the coordinator's, or a flag is above 1: then both are as before.
+#[unsafe(no_mangle)]
+pub extern "C" fn mtrr_did(
+    update: &mut PlainUpdate,
+    processor: &mut PlainProcessor,
+    step: &PlainStep,
+) -> u32
+    ensures update { update.new ≡ (kept update.old processor.old step.now).update }
+    ensures processor { processor.new ≡ (kept update.old processor.old step.now).processor }
+    ensures status { result ≡ (kept update.old processor.old step.now).status }
+{
+    did(update, processor, step)
 }
 
 /// The file with the same type for each page and the fewest valid pairs, of which the larger of two that share a page has

@@ -1,4 +1,4 @@
 mod Mapping
 mod OneRegister
-mod Turns
+pub mod Turns
 mod Zeros

@@ -1,7 +1,7 @@
 -- What a processor does next in an update, from what C's words tell of it and of the others. The steps and their order are
 -- those of Intel SDM volume 3A, chapter Memory Cache Control, section "MTRR Considerations in MP Systems"; their numbers, the
 -- coordinator and its words are this project's choices (own).
-use Rattle.std.specs.Prelude.{◌≡◌, ℕ, ◌+◌, ◌==◌, nat_lt, not, ◌&&◌, List, [], ◌∷◌, length, if◌then◌else◌, slice_get, Option, None, Some}
+use Rattle.std.specs.Prelude.{◌≡◌, ℕ, ◌+◌, ◌==◌, nat_lt, Bool, not, ◌&&◌, List, [], ◌∷◌, length, if◌then◌else◌, slice_get, Option, None, Some}
 use Rattle.std.specs.List.{count_by}
 use Rattle.mt_machine.specs.declared.event.Event.{Event}
 use Rattle.mt_machine.specs.declared.event.Event.TheVariants.{Take, Arrive, Leave, Pass, SetNoFill, WriteBack, DropLines, FlushTlb, Disable, Write, Enable, SetNormal, RestorePge, ArriveAgain, Release}
@@ -21,8 +21,13 @@ abbrev pub phases : ℕ → List Phase
 phases place =
     Running ∷ Taken ∷ Arrived ∷ Passed ∷ NoFill ∷ Flushed ∷ TlbFlushed ∷ Writing place ∷ Enabled ∷ Flushed2 ∷ TlbFlushed2 ∷ Normal ∷ Restored ∷ Arrived2 ∷ []
 
+-- the bytes that stand for yes and no are 1 and 0
+abbrev pub has_flags : PlainProcessor → Bool
+has_flags p = nat_lt p.self_snoop 2 && nat_lt p.finished 2
+
+-- the phase, where there is one and both bytes are flags
 abbrev pub phase_of : PlainProcessor → Option Phase
-phase_of p = slice_get (phases p.place) p.phase
+phase_of p = if has_flags p then slice_get (phases p.place) p.phase else None
 
 abbrev pub phase_number : Phase → ℕ
 phase_number Running = 0
@@ -76,11 +81,11 @@ whole_flush other = other
 
 -- the event that is due by what the words tell
 abbrev pub due_event : PlainUpdate → PlainProcessor → Go → Phase → Option Event
-due_event u p go Running = if not p.finished && not (is_cancelled go) then Some Take else None
+due_event u p go Running = if (p.finished == 0) && not (is_cancelled go) then Some Take else None
 due_event u p go Taken = Some (if is_cancelled go then Leave else Arrive)
 due_event u p go Arrived = if is_cancelled go then Some Leave else (if (u.arrived == u.processors) && is_given go then Some Pass else None)
 due_event u p go Passed = Some SetNoFill
-due_event u p go NoFill = Some (if p.self_snoop then FlushTlb else DropLines)
+due_event u p go NoFill = Some (if p.self_snoop == 1 then FlushTlb else DropLines)
 due_event u p go Flushed = Some FlushTlb
 due_event u p go TlbFlushed = Some Disable
 due_event u p go (Writing i) = Some (if nat_lt (i + 1) p.registers then Write i else Enable)
@@ -122,7 +127,7 @@ event_words (Some e) phase old = record {
   next_place = phase_place (phase_after e phase);
 }
 
--- the answer: 0 a step, 7 nothing is due, 8 no such phase or word
+-- the answer: 0 a step, 7 nothing is due, 8 no such phase, flag or word
 abbrev pub status_by : PlainUpdate → PlainProcessor → Option Go → Option Phase → ℕ
 status_by u p None phase = 8
 status_by u p (Some go) None = 8
@@ -143,10 +148,10 @@ due_step u p old = step_by u p (go_of u.word) (phase_of p) old
 -- the words tell of an update, of which the processor is one
 pub record IsTold (u : PlainUpdate) (d : PlainProcessor) (o : Order) (ps : List Processor) (p : Processor) : Type 0 where
   pub phase : phase_of d ≡ Some p.phase
-  pub finished : not d.finished ≡ (p.era == o.from_era)
+  pub finished : (d.finished == 0) ≡ (p.era == o.from_era)
   pub word : go_of u.word ≡ Some o.go
   pub processors : u.processors ≡ length ps
   pub arrived : u.arrived ≡ count_by (has_arrived o) ps
   pub arrived_again : u.arrived_again ≡ count_by (has_arrived_again o) ps
-  pub self_snoop : d.self_snoop ≡ p.self_snoop
+  pub self_snoop : (d.self_snoop == 1) ≡ p.self_snoop
   pub registers : d.registers ≡ length (writable p.file)

@@ -1,4 +1,5 @@
 pub mod Due
+pub mod Did
 pub mod Maps
 pub mod Plain
 pub mod Tidying

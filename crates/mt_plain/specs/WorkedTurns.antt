@@ -1,5 +1,4 @@
 -- Words of updates of worked examples.
-use Rattle.std.specs.Prelude.{false}
 use Rattle.mt_machine.specs.declared.go.Go.TheVariants.{Pending}
 use Rattle.mt_machine.specs.Machine.{Order}
 use Rattle.mt_machine.specs.System.{Processor, start_processor}
@@ -21,4 +20,4 @@ abbrev pub told_update : PlainUpdate
 told_update = record { word = 0; processors = 1; arrived = 0; arrived_again = 0 }
 
 abbrev pub told_processor : PlainProcessor
-told_processor = record { phase = 0; place = 0; registers = 2; self_snoop = false; finished = false }
+told_processor = record { phase = 0; place = 0; registers = 2; self_snoop = 0; finished = 0 }

@@ -2,6 +2,7 @@
 #![tactic(auto)]
 
 mod answers;
+mod books;
 mod file;
 mod laws;
 mod maps;
@@ -13,6 +14,7 @@ mod turn;
 mod worked;
 
 pub use answers::{effective_type, first_fault, page_type};
+pub use books::did;
 pub use file::{file_of, is_file};
 pub use laws::each_file_is_taken;
 pub use maps::type_map;

@@ -2,7 +2,7 @@ ghost use Rattle.std.specs.Prelude.{◌≡◌, ◌+◌, ◌<◌, ◌^◌, ℕ, n
 ghost use Rattle.std.specs.Option.{option_map};
 ghost use Rattle.mt_machine.specs.Machine.{Order, due, own_step};
 ghost use Rattle.mt_machine.specs.System.{Processor};
-ghost use Rattle.mt_plain.specs.Due.{IsTold, due_event, due_status, due_step, event_number, event_place, event_words, go_of, phase_after, phase_number, phase_of, phase_place, whole_flush};
+ghost use Rattle.mt_plain.specs.Due.{IsTold, due_event, due_status, due_step, event_number, event_place, event_words, go_of, has_flags, phase_after, phase_number, phase_of, phase_place, whole_flush};
 ghost use Rattle.mt_regs.specs.RegisterFile.{RegisterFile};
 
 use crate::answers::DONE;
@@ -11,11 +11,20 @@ use mt_machine::{Event, Go, Phase};
 
 const WAITS: u32 = 7;
 
-const NO_PHASE: u32 = 8;
+pub(crate) const NO_PHASE: u32 = 8;
 
-fn phase_of(p: &PlainProcessor) -> Option<Phase>
+fn has_flags(p: &PlainProcessor) -> bool
+    ensures { result ≡ has_flags p.now }
+{
+    p.self_snoop < 2 && p.finished < 2
+}
+
+pub(crate) fn phase_of(p: &PlainProcessor) -> Option<Phase>
     ensures { result ≡ phase_of p.now }
 {
+    if !has_flags(p) {
+        return None;
+    }
     let phases = [
         Phase::Running,
         Phase::Taken,
@@ -35,14 +44,14 @@ fn phase_of(p: &PlainProcessor) -> Option<Phase>
     phases.get(p.phase as usize).copied()
 }
 
-fn go_of(word: u32) -> Option<Go>
+pub(crate) fn go_of(word: u32) -> Option<Go>
     ensures { result ≡ go_of word }
 {
     let words = [Go::Pending, Go::Given, Go::Cancelled];
     words.get(word as usize).copied()
 }
 
-fn phase_number(phase: Phase) -> u32
+pub(crate) fn phase_number(phase: Phase) -> u32
     ensures { result ≡ phase_number phase }
 {
     match phase {
@@ -63,7 +72,7 @@ fn phase_number(phase: Phase) -> u32
     }
 }
 
-fn phase_place(phase: Phase) -> u32
+pub(crate) fn phase_place(phase: Phase) -> u32
     ensures { result ≡ phase_place phase }
 {
     match phase {
@@ -72,7 +81,7 @@ fn phase_place(phase: Phase) -> u32
     }
 }
 
-fn event_number(event: Event) -> u32
+pub(crate) fn event_number(event: Event) -> u32
     ensures { result ≡ event_number event }
 {
     match event {
@@ -94,7 +103,7 @@ fn event_number(event: Event) -> u32
     }
 }
 
-fn event_place(event: Event) -> u32
+pub(crate) fn event_place(event: Event) -> u32
     ensures { result ≡ event_place event }
 {
     match event {
@@ -115,20 +124,20 @@ fn write_or_enable(place: u32, registers: u32) -> Event
 }
 
 // The event that is due. All write-backs of a cache and the invalidation that ends them count as one.
-fn due_event(u: &PlainUpdate, p: &PlainProcessor, go: Go, phase: Phase) -> Option<Event>
+pub(crate) fn due_event(u: &PlainUpdate, p: &PlainProcessor, go: Go, phase: Phase) -> Option<Event>
     ensures event { result ≡ due_event u.now p.now go phase }
     ensures few { (i : ℕ) → result ≡ Some (Event.Write i) → i + 1 < 2 ^ 32 }
 {
     let cancelled = matches!(go, Go::Cancelled);
     let given = matches!(go, Go::Given);
     match phase {
-        Phase::Running if !p.finished && !cancelled => Some(Event::Take),
+        Phase::Running if p.finished == 0 && !cancelled => Some(Event::Take),
         Phase::Taken if cancelled => Some(Event::Leave),
         Phase::Taken => Some(Event::Arrive),
         Phase::Arrived if cancelled => Some(Event::Leave),
         Phase::Arrived if u.arrived == u.processors && given => Some(Event::Pass),
         Phase::Passed => Some(Event::SetNoFill),
-        Phase::NoFill if p.self_snoop => Some(Event::FlushTlb),
+        Phase::NoFill if p.self_snoop == 1 => Some(Event::FlushTlb),
         Phase::NoFill => Some(Event::DropLines),
         Phase::Flushed => Some(Event::FlushTlb),
         Phase::TlbFlushed => Some(Event::Disable),
@@ -143,7 +152,7 @@ fn due_event(u: &PlainUpdate, p: &PlainProcessor, go: Go, phase: Phase) -> Optio
     }
 }
 
-fn phase_after(event: Event, phase: Phase) -> Phase
+pub(crate) fn phase_after(event: Event, phase: Phase) -> Phase
     requires { (i : ℕ) → event ≡ Event.Write i → i + 1 < 2 ^ 32 }
     ensures { result ≡ phase_after event phase }
 {
@@ -173,8 +182,8 @@ fn phase_after(event: Event, phase: Phase) -> Phase
 }
 
 /// What a processor does next in an update: 0 where the step was written, 7 where nothing is due, as it waits at a
-/// barrier or takes no part, and 8 where there is no such phase or word of the coordinator's. `step` is written where
-/// the answer is 0 alone.
+/// barrier or takes no part, and 8 where there is no such phase or word of the coordinator's, or a flag is above 1. `step`
+/// is written where the answer is 0 alone.
 pub fn due(u: &PlainUpdate, p: &PlainProcessor, step: &mut PlainStep) -> u32
     ensures status { result ≡ due_status u.now p.now }
     ensures step { step.new ≡ due_step u.now p.now step.old }

@@ -22,10 +22,10 @@ pub struct PlainProcessor {
     pub place: u32,
     /// How many writable registers it has.
     pub registers: u32,
-    /// Bit 27 of EDX of CPUID leaf 1.
-    pub self_snoop: bool,
-    /// It is through with this update.
-    pub finished: bool,
+    /// Bit 27 of EDX of CPUID leaf 1: 0 or 1.
+    pub self_snoop: u8,
+    /// Whether it is through with this update: 0 or 1.
+    pub finished: u8,
 }
 
 /// A step, and where the processor stands after it.

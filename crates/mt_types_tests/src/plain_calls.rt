@@ -1,6 +1,6 @@
 use mt_plain::{
     PlainFault, PlainLoss, PlainNeed, PlainPair, PlainProcessor, PlainRegisters, PlainRun,
-    PlainStep, PlainUpdate, due, effective_type, first_fault, gran, is_file, page_type, tidy,
+    PlainStep, PlainUpdate, did, due, effective_type, first_fault, gran, is_file, page_type, tidy,
     type_map,
 };
 use mt_tidy::WorkArea;
@@ -146,8 +146,8 @@ fn processor_at(phase: u32, place: u32) -> PlainProcessor {
         phase,
         place,
         registers: 2,
-        self_snoop: false,
-        finished: false,
+        self_snoop: 0,
+        finished: 0,
     }
 }
 
@@ -181,6 +181,34 @@ fn nothing_is_due(rt: HostRuntime) {
         8
     );
     assert_eq!(rt; step.number, 0);
+}
+
+// One processor alone, from the call to the end.
+#[test]
+fn the_books_of_an_update(rt: HostRuntime) {
+    let mut u = update_of(0, 0, 0);
+    u.processors = 1;
+    let mut p = processor_at(0, 0);
+    let mut step = NO_STEP;
+    for number in [1u32, 2] {
+        assert_eq!(rt; due(&u, &p, &mut step), 0);
+        assert_eq!(rt; step.number, number);
+        assert_eq!(rt; did(&mut u, &mut p, &step), 0);
+        assert_eq!(rt; did(&mut u, &mut p, &step), 12);
+    }
+    assert_eq!(rt; u.arrived, 1);
+    assert_eq!(rt; due(&u, &p, &mut step), 7);
+    u.word = 1;
+    for _ in 0..13 {
+        assert_eq!(rt; due(&u, &p, &mut step), 0);
+        assert_eq!(rt; did(&mut u, &mut p, &step), 0);
+    }
+    assert_eq!(rt; step.number, 14);
+    assert_eq!(rt; u.arrived_again, 1);
+    assert_eq!(rt; p.finished, 1);
+    assert_eq!(rt; due(&u, &p, &mut step), 7);
+    p.self_snoop = 2;
+    assert_eq!(rt; did(&mut u, &mut p, &step), 8);
 }
 
 // WB to 4 GB in two pairs of 2 GB each.

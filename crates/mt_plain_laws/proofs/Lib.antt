@@ -1,0 +1,4 @@
+mod Seen
+mod Counted
+mod Flushed
+mod Followed

@@ -1,0 +1,2 @@
+pub mod Rendezvous
+pub mod WorkedRendezvous
