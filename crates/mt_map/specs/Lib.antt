@@ -1,3 +1,4 @@
 pub mod Bands
 pub mod Map
+pub mod Shapes
 pub mod Sizes

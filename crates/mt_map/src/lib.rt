@@ -3,27 +3,32 @@
 
 mod band;
 mod bar;
-mod columns;
 mod drawing;
 mod edges;
 mod heading;
+mod layout;
 mod picture;
 mod program;
 mod ranges;
 mod rect;
 mod rows;
 mod running;
+mod shape;
+mod shaping;
 mod size;
 mod stack;
 mod style;
+mod writing;
 
 pub use band::Band;
 pub use bar::Bar;
 pub use edges::cuts;
-pub use picture::picture_text;
+pub use picture::{Picture, picture_of_files, picture_text};
 pub use program::program_status;
 pub use ranges::{Bars, bars};
 pub use rect::Rect;
 pub use running::{draw, map, picture_of};
+pub use shape::{Pages, Shape, Side};
+pub use shaping::shapes;
 pub use size::{Size, Unit, page_size};
 pub use stack::{Stack, bands, height, top_of};

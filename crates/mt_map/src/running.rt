@@ -6,9 +6,7 @@ ghost use Rattle.mt_regs.specs.Agreement.{first_refusal};
 ghost use Rattle.mt_regs.specs.Faults.{register_fault};
 ghost use Rattle.mt_map.specs.Map.{CanBeDrawn, MapOf, Maps, Tells, beside, others, status_of};
 
-use crate::edges::cuts;
-use crate::picture::picture_text;
-use crate::stack::bands;
+use crate::picture::{picture_of_files, picture_text};
 use arrayvec::ArrayVec;
 use mt_dump::{Dump, read_dump_from};
 use mt_output::{bad_text_line, dump_refused_line, written};
@@ -84,10 +82,9 @@ pub fn picture_of(alloc: Global, d: &Dump) -> Result<Vec<u8>, NoMemory>
     let k = beside(d);
     let others = others(d, k);
     let f = d.first_file();
-    let cuts = cuts(alloc, f, others.as_slice())?;
-    let stack = bands(alloc, f, others.as_slice(), cuts.as_slice())?;
+    let picture = picture_of_files(alloc, f, others.as_slice())?;
     let refusal = first_refusal(d.files.as_slice());
-    let text = picture_text(alloc, d.version, refusal, f, k, others.as_slice(), &stack)?;
+    let text = picture_text(alloc, d.version, refusal, f, k, others.as_slice(), &picture)?;
     Ok(text)
 }
 
