@@ -14,7 +14,7 @@ use Rattle.mt_map.specs.declared.band.Band.{Band}
 use Rattle.mt_map.specs.declared.shape.Side.TheVariants.{First, Second}
 use Rattle.mt_map.specs.Bands.{AreEdges, HaveOneType, IsBandOf, band, bands, bands_from, differs, height, is_different, other_type}
 use Rattle.mt_map.specs.Shapes.{AreRowsOf, IsColumnOf, IsSecondColumn, column, has_page}
-use Rattle.mt_map.proofs.Stacking.{lt_test}
+use Rattle.mt_map.proofs.Stacking.{lt_test, not_lt}
 
 next_rows : (f : RegisterFile) (others : List RegisterFile) (page top cut : ℕ) (cuts : List ℕ) → IsBandOf f others page cut
     → bands_from f others page top (cut ∷ cuts) ≡ band f others page cut top ∷ bands_from f others cut (top + height (cut - page)) cuts
@@ -91,14 +91,33 @@ just_second true true c off = absurd (cc off)
 just_second true false c off = refl
 just_second false b c off = refl
 
+and_no : (a b : Bool) → b ≡ false → (a && b) ≡ false
+and_no true b off = off
+and_no false b off = refl
+
+no_and : (a b : Bool) → a ≡ false → (a && b) ≡ false
+no_and true b off = absurd (cc off)
+no_and false b off = refl
+
+both : (a b : Bool) → a ≡ true → b ≡ true → (a && b) ≡ true
+both true b on also = also
+both false b on also = absurd (cc on)
+
+le_test : (a b : ℕ) → a ≤ b → nat_le a b ≡ true
+le_test a b h = grind (arith, nat_tests, h)
+
+not_le : (a b : ℕ) → b < a → nat_le a b ≡ false
+not_le a b h = grind (arith, nat_tests, h)
+
+-- where a row has no page below its first, and none from its end on
 below : (first count p : ℕ) → p < first → (nat_le first p && nat_lt p (first + count)) ≡ false
-below first count p less = grind (arith, nat_tests, less)
+below first count p less = no_and (nat_le first p) (nat_lt p (first + count)) (not_le first p less)
 
 inside : (first count p : ℕ) → first ≤ p → p < first + count → (nat_le first p && nat_lt p (first + count)) ≡ true
-inside first count p low high = grind (arith, nat_tests, low, high)
+inside first count p low high = both (nat_le first p) (nat_lt p (first + count)) (le_test first p low) (lt_test p (first + count) high)
 
 above : (first count p : ℕ) → first + count ≤ p → (nat_le first p && nat_lt p (first + count)) ≡ false
-above first count p past = grind (arith, nat_tests, past)
+above first count p past = and_no (nat_le first p) (nat_lt p (first + count)) (not_lt p (first + count) past)
 
 module _ (f : RegisterFile) (others : List RegisterFile) (p : ℕ) where
   later_none : (page top : ℕ) (cuts : List ℕ) → AreEdges f others page cuts → p < page → marked p (bands_from f others page top cuts) ≡ false
@@ -109,7 +128,7 @@ module _ (f : RegisterFile) (others : List RegisterFile) (p : ℕ) where
       let rows : List Band = bands_from f others cut (top + height (cut - page)) cuts in
       ap (marked p) (next_rows f others page top cut cuts of) ∙ marked_next p (band f others page cut top) rows
       ∙ neither (is_different (band f others page cut top)) (has_page p (band f others page cut top)) (marked p rows) (below page (cut - page) p less)
-          (later_none cut (top + height (cut - page)) cuts are.1 (omega (arith, less, of.some)))
+      (later_none cut (top + height (cut - page)) cuts are.1 (omega (arith, less, of.some)))
 
   are_marked : ((page cut : ℕ) → HaveOneType others page cut → page ≤ p → p < cut → other_type others p ≡ other_type others page) → p < page_count f
       → (page top : ℕ) (cuts : List ℕ) → AreEdges f others page cuts → page ≤ p → marked p (bands_from f others page top cuts) ≡ differs (page_type f p) (other_type others p)
@@ -118,17 +137,17 @@ module _ (f : RegisterFile) (others : List RegisterFile) (p : ℕ) where
       let of : IsBandOf f others page cut = are.0 in
       let row : Band = band f others page cut top in
       let rows : List Band = bands_from f others cut (top + height (cut - page)) cuts in
-      ap (marked p) (next_rows f others page top cut cuts of) ∙ marked_next p row rows
-      ∙ elim (cases_lt p cut) [
+      let at : ((is_different row && has_page p row) || marked p rows) ≡ differs (page_type f p) (other_type others p) = elim (cases_lt p cut) [
         | inl inner ↦
             just_first (is_different row) (has_page p row) (marked p rows) (inside page (cut - page) p low (omega (arith, inner, low)))
-                (later_none cut (top + height (cut - page)) cuts are.1 inner)
+            (later_none cut (top + height (cut - page)) cuts are.1 inner)
             ∙ ap (λ (kind : PageType). differs kind (other_type others page)) (sym (of.same p low inner within))
             ∙ ap (differs (page_type f p)) (sym (other page cut of.other_same low inner))
         | inr outer ↦
             just_second (is_different row) (has_page p row) (marked p rows) (above page (cut - page) p (omega (arith, outer, of.some)))
             ∙ are_marked other within cut (top + height (cut - page)) cuts are.1 outer
-      ]
+      ] in
+      ap (marked p) (next_rows f others page top cut cuts of) ∙ marked_next p row rows ∙ at
 
 -- ---- rows
 

@@ -1,19 +1,9 @@
 -- Bands end at the edges of both files.
 use Rattle.std.proofs.Common.{◌≡◌, ◌∙◌, ◌<◌, ◌≤◌, ◌++◌, ◌∷◌, [], List, ℕ, ap, subst, sym, append_assoc, append-nil, inl, inr, arith}
 use Rattle.std.proofs.lemmas.Bool.{cases_lt}
-use Rattle.mt_regs.specs.Alike.{IsAlike}
 use Rattle.mt_regs.specs.RegisterFile.{RegisterFile, page_count}
 use Rattle.mt_regs.specs.PageTypes.{page_type}
 use Rattle.mt_map.specs.Bands.{AreEdges, HasOneType, HaveOneType, IsBandOf, other_type}
-
-pub alike_one : (f : RegisterFile) (first edge end : ℕ) → end ≤ edge → IsAlike f first edge → HasOneType f first end
-alike_one f first edge end less alike page low high within = alike.kind page low (omega arith)
-
-pub past_one : (f : RegisterFile) (first end : ℕ) → page_count f ≤ first → HasOneType f first end
-past_one f first end past page low high within = absurd (omega (arith, past, low, within))
-
-pub shorter : (f : RegisterFile) (first end less : ℕ) → less ≤ end → HasOneType f first end → HasOneType f first less
-shorter f first end less below same page low high within = same page low (omega arith) within
 
 grows : (f : RegisterFile) (first end next : ℕ) → HasOneType f first end → page_type f end ≡ page_type f first → HasOneType f end next → HasOneType f first next
 grows f first end next same at later page low high within = elim (cases_lt page end) [

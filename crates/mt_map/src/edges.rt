@@ -58,20 +58,28 @@ fn has_edge(f: &RegFile, page: u64) -> bool {
 }
 
 // Whether a file gives a page the type of an earlier one, and no bar begins or ends there.
-fn goes_on(f: &RegFile, first: u64, page: u64) -> bool
+fn keeps_type(f: &RegFile, first: u64, page: u64) -> bool
     ensures { IsTrue result → page_type f.now page ≡ page_type f.now first }
 {
     f.page_type(page).is(f.page_type(first)) && !has_edge(f, page)
 }
 
 // The same for a second file, if there is one.
-fn other_goes_on(others: &[RegFile], first: u64, page: u64) -> bool
+fn other_keeps_type(others: &[RegFile], first: u64, page: u64) -> bool
     ensures { IsTrue result → other_type others.now page ≡ other_type others.now first }
 {
     match others {
         [] => true,
-        [other, ..] => goes_on(other, first, page),
+        [other, ..] => keeps_type(other, first, page),
     }
+}
+
+// Whether a band goes on at a page behind its first.
+fn goes_on(f: &RegFile, others: &[RegFile], first: u64, page: u64) -> bool
+    ensures same { IsTrue result → page_type f.now page ≡ page_type f.now first }
+    ensures other_same { IsTrue result → other_type others.now page ≡ other_type others.now first }
+{
+    keeps_type(f, first, page) && other_keeps_type(others, first, page)
 }
 
 // The end of the band that begins at a page.
@@ -84,7 +92,7 @@ fn band_end(f: &RegFile, others: &[RegFile], first: u64) -> u64
     let pages = f.pages();
     let mut end = next_edge(f, others, first);
     while end < pages {
-        if !(goes_on(f, first, end) && other_goes_on(others, first, end)) {
+        if !goes_on(f, others, first, end) {
             break;
         }
         end = next_edge(f, others, end);

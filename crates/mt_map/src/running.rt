@@ -79,6 +79,7 @@ fn status_of(refusal: Option<(u32, Fault)>) -> Status
 pub fn picture_of(alloc: Global, d: &Dump) -> Result<Vec<u8>, NoMemory>
     requires { CanBeDrawn d.now }
 {
+    d.is_dump(); // a fact for the proof
     let k = beside(d);
     let others = others(d, k);
     let f = d.first_file();

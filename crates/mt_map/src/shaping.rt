@@ -31,8 +31,9 @@ fn add_bands(shapes: &mut Vec<Shape>, side: Side, rows: &[Band]) -> Result<(), A
     ensures { OnOk result (shapes.new.items ≡ shapes.old.items ++ filter_map (band_in side) rows.now) }
 {
     'rows: for row in rows {
-        if let Some(run) = run_in(side, row) {
-            shapes.push(Shape::Band(side, run))?;
+        match run_in(side, row) {
+            Some(run) => shapes.push(Shape::Band(side, run))?,
+            None => {}
         }
     }
     Ok(())
@@ -85,11 +86,7 @@ fn add_column(
 }
 
 // Adds all that is drawn of the second file, if there is one.
-fn add_second(
-    shapes: &mut Vec<Shape>,
-    others: &[RegFile],
-    rows: &[Band],
-) -> Result<(), AllocError>
+fn add_second(shapes: &mut Vec<Shape>, others: &[RegFile], rows: &[Band]) -> Result<(), AllocError>
     requires { All (λ g. register_fault g ≡ None) others.now }
     ensures { OnOk result (shapes.new.items ≡ shapes.old.items ++ second_shapes others.now rows.now) }
 {

@@ -112,7 +112,11 @@ fn append_place(text: &mut String, x: u64, y: u64) -> Result<(), AllocError> {
 }
 
 fn append_pair(text: &mut String, bar: &Bar) -> Result<(), AllocError> {
-    write!(text, "{:x} base {:x} mask {:x} ", bar.number, bar.base, bar.mask)
+    write!(
+        text,
+        "{:x} base {:x} mask {:x} ",
+        bar.number, bar.base, bar.mask
+    )
 }
 
 // Adds the values of the registers of a bar, in a line below the rows.
