@@ -14,7 +14,7 @@ rows-preserved c =
     elim c.match-run_in.branch [
       | in-Some+in_ok-push-in-Some w ↦ rw w.shapes-is
           (some_more (band_in c.args.side) c.args.rows.now c.rows.row-index (record { first = 0; count = 0; top = 0; kind = Kind UC; other = None }) c.rows-test.true
-          (BandShape c.args.side w.in-Some.run) c.args.shapes.now.items c.rows.shapes.items _
+          (BandShape c.args.side w.in-Some.run') c.args.shapes.now.items c.rows.shapes.items _
           (ap (λ (found : Option Run). option_map (BandShape c.args.side) found) (sym c.run_in.ensures ∙ w.in-Some.is)) w.in_ok-push-in-Some.ensures.items c.rows.invariant)
       | in-None w ↦ rw w.shapes-is
           (none_more (band_in c.args.side) c.args.rows.now c.rows.row-index (record { first = 0; count = 0; top = 0; kind = Kind UC; other = None }) c.rows-test.true

@@ -1,4 +1,4 @@
-use Rattle.std.proofs.Common.{◌≡◌, ◌∙◌, Option, Some, None, get_or, refl, sym, true, false}
+use Rattle.std.proofs.Common.{◌≡◌, ◌∙◌, Some, None, get_or, refl, sym, true, false}
 use Rattle.mt_kinds.specs.declared.mem_type.MemType.TheVariants.{UC}
 use Rattle.mt_regs.specs.declared.page_type.PageType.TheVariants.{Kind}
 use Rattle.mt_map.specs.declared.band.Band.{Band}
