@@ -1,4 +1,4 @@
-use Rattle.std.proofs.Common.{◌∙◌, Option, Some, None, ap, sym}
+use Rattle.std.proofs.Common.{◌∙◌, Option, None, ap, sym}
 use Rattle.std.specs.Option.{option_map}
 use Rattle.mt_kinds.specs.declared.mem_type.MemType.TheVariants.{UC}
 use Rattle.mt_regs.specs.declared.page_type.PageType.TheVariants.{Kind}
