@@ -11,10 +11,10 @@ use Rattle.mt_regs.specs.PageTypes.{page_type}
 use Rattle.mt_map.specs.declared.band.Band.{Band}
 use Rattle.mt_map.specs.Bands.{IsPlaced, band, bands_from, bottom_from, height, other_type}
 
-lt_test : (a b : ℕ) → a < b → nat_lt a b ≡ true
+pub lt_test : (a b : ℕ) → a < b → nat_lt a b ≡ true
 lt_test a b h = grind (arith, nat_tests, h)
 
-not_lt : (a b : ℕ) → b ≤ a → nat_lt a b ≡ false
+pub not_lt : (a b : ℕ) → b ≤ a → nat_lt a b ≡ false
 not_lt a b h = grind (arith, nat_tests, h)
 
 pub band_next : (f : RegisterFile) (others : List RegisterFile) (done after all : List Band) (page top i : ℕ) (cuts : List ℕ) (d end : ℕ) (kind : PageType) (other : Option PageType) (h : ℕ)

@@ -1,7 +1,7 @@
 -- The bands of a picture of one register file, or of two: the pages between neighbouring edges (own).
 --     bands file others cuts      the bands between edges in ascending order
 --     height pages      how high a band of so many pages is, in pixels: the more the higher, and at least as high as its label
-use Rattle.std.specs.Prelude.{ℕ, ◌+◌, ◌-◌, ◌^◌, ◌<◌, ◌≤◌, min, nat_lt, Bool, true, false, not, ◌&&◌, List, [], ◌∷◌, if◌then◌else◌, Option, Some, None}
+use Rattle.std.specs.Prelude.{◌≡◌, ℕ, ◌+◌, ◌-◌, ◌^◌, ◌<◌, ◌≤◌, min, nat_lt, Bool, true, false, not, ◌&&◌, List, [], ◌∷◌, if◌then◌else◌, Option, Some, None}
 use Rattle.mt_regs.specs.declared.page_type.PageType.{PageType}
 use Rattle.mt_regs.specs.declared.page_type.PageType.TheVariants.{Kind, Undefined}
 use Rattle.mt_regs.specs.RegisterFile.{RegisterFile, is_enabled, is_fixed_enabled, page_count}
@@ -57,6 +57,29 @@ bottom_from f page top (cut ∷ cuts) =
 
 abbrev pub bottom : RegisterFile → List ℕ → ℕ
 bottom f cuts = bottom_from f 0 0 cuts
+
+-- ---- edges
+
+-- the pages from the first up to the end that the file has are of one type
+abbrev pub HasOneType : RegisterFile → ℕ → ℕ → Type 0
+HasOneType f first end = (page : ℕ) → first ≤ page → page < end → page < page_count f → page_type f page ≡ page_type f first
+
+-- the same for the second file, if there is one
+abbrev pub HaveOneType : List RegisterFile → ℕ → ℕ → Type 0
+HaveOneType [] first end = Unit {0}
+HaveOneType (g ∷ others) first end = HasOneType g first end
+
+-- the pages from the first up to the end are a band: each file gives them one type
+pub record IsBandOf (f : RegisterFile) (others : List RegisterFile) (first end : ℕ) : Type 0 where
+  pub some : first < end
+  pub within : end ≤ page_count f
+  pub same : HasOneType f first end
+  pub other_same : HaveOneType others first end
+
+-- from a page on, the pages up to each edge are a band, and the last edge is the end of the address space
+abbrev pub AreEdges : RegisterFile → List RegisterFile → ℕ → List ℕ → Type 0
+AreEdges f others page [] = page ≡ page_count f
+AreEdges f others page (cut ∷ cuts) = IsBandOf f others page cut × AreEdges f others cut cuts
 
 -- ---- two files
 

@@ -1,4 +1,5 @@
 pub mod Asked
 pub mod Bands
 pub mod Map
+pub mod Shapes
 pub mod Sizes

@@ -1,7 +1,8 @@
 ghost use Rattle.std.specs.Prelude.{◌≡◌};
-ghost use Rattle.mt_map.specs.Bands.{is_same};
+ghost use Rattle.mt_map.specs.Bands.{is_different, is_same};
+ghost use Rattle.mt_map.specs.Shapes.{label};
 
-use crate::Rect;
+use crate::{Band, Rect};
 use mt_regs::{PageType, same_type};
 use std::alloc::AllocError;
 
@@ -54,15 +55,17 @@ pub(crate) fn append_rule(text: &mut String, y: u64, width: u64) -> Result<(), A
 }
 
 /// The name of a type, which is also that of its pattern.
-pub(crate) fn name_of_kind(kind: PageType) -> &'static str {
+pub(crate) fn name_of_kind(kind: PageType) -> &'static str
+    ensures { result.now ≡ label kind }
+{
     match kind {
         PageType::Kind(kind) => kind.name(),
         PageType::Undefined => "undefined",
     }
 }
 
-/// Whether two types are one, or both undefined.
-pub(crate) fn is_same(kind: PageType, other: PageType) -> bool
+// Whether two types are one, or both undefined.
+fn is_same(kind: PageType, other: PageType) -> bool
     ensures { result ≡ is_same kind other }
 {
     match kind {
@@ -74,5 +77,15 @@ pub(crate) fn is_same(kind: PageType, other: PageType) -> bool
             PageType::Kind(_) => false,
             PageType::Undefined => true,
         },
+    }
+}
+
+/// Whether the two files give a row different types.
+pub(crate) fn is_different(row: &Band) -> bool
+    ensures { result ≡ is_different row.now }
+{
+    match row.other {
+        None => false,
+        Some(other) => !is_same(row.kind, other),
     }
 }

@@ -1,27 +1,18 @@
-ghost use Rattle.std.specs.Prelude.{◌≡◌, ◌<◌, ◌≤◌, IfSome, length};
+ghost use Rattle.std.specs.Prelude.{◌≡◌, ◌≤◌, ◌^◌, IfSome, length};
 ghost use Rattle.std.specs.List.{filter};
 ghost use Rattle.mt_map.specs.Bands.{is_different};
 ghost use Rattle.mt_ranges.specs.Match.{is_valid};
 ghost use Rattle.mt_regs.specs.Registers.{HasThreeDigits};
 
-use crate::drawing::{append_box, append_label, is_same};
-use crate::edges::are_fixed_on;
-use crate::ranges::bars;
+use crate::drawing::{append_box, append_label, append_rule, is_different};
+use crate::layout::Layout;
+use crate::ranges::{are_fixed_on, bars};
+use crate::shaping::default_of;
 use crate::{Band, Rect};
 use mt_output::{accepted_line, dump_refused_line};
 use mt_ranges::is_valid;
-use mt_regs::{Fault, RegFile, listed_type};
+use mt_regs::{Fault, RegFile};
 use std::alloc::{AllocError, Global};
-
-/// Whether the two files give a band different types.
-pub(crate) fn is_different(band: &Band) -> bool
-    ensures { result ≡ is_different band.now }
-{
-    match band.other {
-        None => false,
-        Some(other) => !is_same(band.kind, other),
-    }
-}
 
 fn different_count(bands: &[Band]) -> usize
     ensures { result ≡ length (filter is_different bands.now) }
@@ -105,10 +96,9 @@ fn fixed_text(is_on: bool) -> &'static str {
 }
 
 fn state_text(alloc: Global, f: &RegFile) -> Result<String, AllocError> {
-    if !f.is_enabled() {
+    let Some(kind) = default_of(f) else {
         return String::from_str(alloc, ", MTRRs off: each page is UC");
-    }
-    let kind = listed_type((f.deftype % 256) as u8);
+    };
     let mut text = String::new(alloc);
     text.push_str(", default type ")?;
     text.push_str(kind.name())?;
@@ -178,13 +168,6 @@ pub(crate) fn append_keys(text: &mut String) -> Result<(), AllocError> {
     Ok(())
 }
 
-/// Where the bars of the first file begin.
-pub(crate) fn first_bar(others: &[RegFile]) -> u64
-    ensures few { result ≤ 600 }
-{
-    if others.is_empty() { 442 } else { 566 }
-}
-
 // How wide the bars of a file are, or their head where that is wider.
 fn group_width(f: &RegFile) -> u64
     ensures few { result ≤ 1140 }
@@ -192,28 +175,38 @@ fn group_width(f: &RegFile) -> u64
     (32 * bars(f).len() as u64).max(96) + 24
 }
 
-/// Where the bars of the second file begin.
-pub(crate) fn second_bar(f: &RegFile, others: &[RegFile]) -> u64
-    ensures few { result ≤ 1740 }
-{
-    first_bar(others) + group_width(f)
-}
-
-// Where the bars end.
-fn right_end(f: &RegFile, others: &[RegFile]) -> u64
-    ensures few { result ≤ 2880 }
+fn second_width(others: &[RegFile]) -> u64
+    ensures few { result ≤ 1140 }
 {
     match others {
-        [] => second_bar(f, others),
-        [other, ..] => second_bar(f, others) + group_width(other),
+        [] => 0,
+        [other, ..] => group_width(other),
     }
 }
 
-/// How wide the picture is.
-pub(crate) fn picture_width(f: &RegFile, others: &[RegFile]) -> u64
-    ensures many { 700 ≤ result }
+fn value_lines(f: &RegFile, others: &[RegFile]) -> u64
+    ensures few { result ≤ 33 }
 {
-    right_end(f, others).max(700)
+    let count = bars(f).len() as u64;
+    match others {
+        [] => count,
+        [other, ..] => count.max(bars(other).len() as u64),
+    }
+}
+
+/// Where the parts of a picture stand whose rows end at this bottom.
+pub(crate) fn layout(f: &RegFile, others: &[RegFile], bottom: u64) -> Layout
+    requires { bottom ≤ 2 ^ 50 }
+{
+    let first_bar = if others.is_empty() { 442 } else { 566 };
+    let second_bar = first_bar + group_width(f);
+    Layout {
+        bottom,
+        first_bar,
+        second_bar,
+        width: (second_bar + second_width(others)).max(700),
+        height: bottom + 212 + 16 * value_lines(f, others),
+    }
 }
 
 // Adds a head that names a processor.
@@ -230,35 +223,34 @@ fn append_cpu_head(text: &mut String, x: u64, k: u32) -> Result<(), AllocError> 
 
 fn append_type_heads(
     text: &mut String,
-    f: &RegFile,
+    layout: &Layout,
     k: u32,
-    others: &[RegFile],
+    is_alone: bool,
 ) -> Result<(), AllocError> {
-    match others {
-        [] => {
-            append_label(text, "type", 372, 140, "type")?;
-            append_label(text, "head", 442, 140, "pairs")?;
-            Ok(())
-        }
-        [_, ..] => {
-            append_cpu_head(text, 372, 0)?;
-            append_cpu_head(text, 496, k)?;
-            append_pairs_head(text, 566, 0)?;
-            append_pairs_head(text, second_bar(f, others), k)?;
-            Ok(())
-        }
+    if is_alone {
+        append_label(text, "type", 372, 140, "type")?;
+        append_label(text, "head", layout.first_bar, 140, "pairs")?;
+        return Ok(());
     }
+    append_cpu_head(text, 372, 0)?;
+    append_cpu_head(text, 496, k)?;
+    append_pairs_head(text, layout.first_bar, 0)?;
+    append_pairs_head(text, layout.second_bar, k)?;
+    Ok(())
 }
 
 /// Adds the heads of the columns.
 pub(crate) fn append_heads(
     text: &mut String,
-    f: &RegFile,
+    layout: &Layout,
     k: u32,
-    others: &[RegFile],
+    is_alone: bool,
 ) -> Result<(), AllocError> {
     append_label(text, "head", 12, 140, "addresses")?;
     append_label(text, "head size", 310, 140, "size")?;
-    append_type_heads(text, f, k, others)?;
+    append_type_heads(text, layout, k, is_alone)?;
+    append_rule(text, layout.bottom + 150, layout.width - 24)?;
+    append_label(text, "head", 12, layout.bottom + 171, "default type")?;
+    append_label(text, "head", 12, layout.bottom + 196, "values")?;
     Ok(())
 }

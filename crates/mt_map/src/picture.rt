@@ -1,19 +1,45 @@
-ghost use Rattle.std.specs.Prelude.{◌≤◌, ◌<◌, ◌^◌, IfSome};
+ghost use Rattle.std.specs.Prelude.{◌≡◌, ◌≤◌, ◌<◌, ◌^◌, IfOk, IfSome, None};
 ghost use Rattle.std.specs.List.{All};
-ghost use Rattle.mt_map.specs.Bands.{IsPlaced};
+ghost use Rattle.mt_regs.specs.Faults.{register_fault};
 ghost use Rattle.mt_regs.specs.Registers.{HasThreeDigits};
+ghost use Rattle.mt_map.specs.Bands.{IsPlaced};
+ghost use Rattle.mt_map.specs.Shapes.{AreRowsOf, shapes_of};
 
-use crate::columns::{append_bars, append_other_bars};
-use crate::drawing::append_rule;
-use crate::heading::{
-    append_files, append_heads, append_keys, append_title, first_bar, picture_width, verdict_text,
-};
-use crate::rows::append_bands;
-use crate::stack::Stack;
+use crate::Shape;
+use crate::edges::cuts;
+use crate::heading::{append_files, append_heads, append_keys, append_title, layout, verdict_text};
+use crate::layout::Layout;
+use crate::rows::append_rows;
+use crate::shaping::shapes;
+use crate::stack::{Stack, bands};
 use crate::style::append_head;
+use crate::writing::append_shapes;
 use mt_ports::NoMemory;
 use mt_regs::{Fault, RegFile};
 use std::alloc::{AllocError, Global};
+
+/// What is drawn of a file, or of two: the rows, and the shapes over them.
+#[derive(Drop)]
+pub struct Picture {
+    pub stack: Stack,
+    pub shapes: Vec<Shape>,
+}
+
+/// The picture of a file beside a second one, if there is one. Its address space is as large. `NoMemory` is the one error.
+pub fn picture_of_files(alloc: Global, f: &RegFile, others: &[RegFile]) -> Result<Picture, NoMemory>
+    requires checked { register_fault f.now ≡ None }
+    requires others_checked { All (λ g. register_fault g ≡ None) others.now }
+    requires one_width { All (λ g. g.width ≡ f.now.width) others.now }
+    ensures rows { IfOk result (λ p. AreRowsOf f.now others.now p.stack.bands.items) }
+    ensures shapes { IfOk result (λ p. p.shapes.items ≡ shapes_of f.now others.now p.stack.bands.items) }
+    ensures placed { IfOk result (λ p. All IsPlaced p.stack.bands.items) }
+    ensures few { IfOk result (λ p. p.stack.bottom ≤ 2 ^ 50) }
+{
+    let cuts = cuts(alloc, f, others)?;
+    let stack = bands(alloc, f, others, cuts.as_slice())?;
+    let shapes = shapes(alloc, f, others, stack.bands.as_slice())?;
+    Ok(Picture { stack, shapes })
+}
 
 // The text behind the verdict.
 fn body_text(
@@ -21,21 +47,18 @@ fn body_text(
     f: &RegFile,
     k: u32,
     others: &[RegFile],
-    stack: &Stack,
+    layout: &Layout,
+    picture: &Picture,
 ) -> Result<String, AllocError>
-    requires bottom { stack.now.bottom ≤ 2 ^ 50 }
-    requires placed { All IsPlaced stack.now.bands.items }
+    requires placed { All IsPlaced picture.now.stack.bands.items }
 {
-    let bands = stack.bands.as_slice();
-    let width = picture_width(f, others);
+    let rows = picture.stack.bands.as_slice();
     let mut text = String::new(alloc);
     append_files(alloc, &mut text, f, k, others)?;
     append_keys(&mut text)?;
-    append_heads(&mut text, f, k, others)?;
-    append_bands(alloc, &mut text, width, bands)?;
-    append_rule(&mut text, 150 + stack.bottom, width - 24)?;
-    append_bars(&mut text, f, stack.bottom, bands, first_bar(others))?;
-    append_other_bars(&mut text, f, others, stack.bottom, bands)?;
+    append_heads(&mut text, layout, k, others.is_empty())?;
+    append_rows(alloc, &mut text, layout.width, rows)?;
+    append_shapes(&mut text, layout, rows, picture.shapes.as_slice())?;
     text.push_str("</svg>\n")?;
     Ok(text)
 }
@@ -43,19 +66,17 @@ fn body_text(
 // The text in front of the verdict.
 fn front_text(
     alloc: Global,
-    f: &RegFile,
     others: &[RegFile],
-    stack: &Stack,
-) -> Result<String, AllocError>
-    requires bottom { stack.now.bottom ≤ 2 ^ 50 }
-{
+    layout: &Layout,
+    picture: &Picture,
+) -> Result<String, AllocError> {
     let mut text = String::new(alloc);
-    append_head(&mut text, picture_width(f, others), stack.bottom + 174)?;
-    append_title(alloc, &mut text, others, stack.bands.as_slice())?;
+    append_head(&mut text, layout.width, layout.height)?;
+    append_title(alloc, &mut text, others, picture.stack.bands.as_slice())?;
     Ok(text)
 }
 
-/// The picture of a file beside a second one, which is that of processor `k`, if there is one.
+/// The text of the picture of a file beside a second one, which is that of processor `k`, if there is one.
 pub fn picture_text(
     alloc: Global,
     version: u8,
@@ -63,14 +84,15 @@ pub fn picture_text(
     f: &RegFile,
     k: u32,
     others: &[RegFile],
-    stack: &Stack,
+    picture: &Picture,
 ) -> Result<Vec<u8>, AllocError>
     requires short { IfSome refusal (λ found. HasThreeDigits found.1.msr) }
-    requires bottom { stack.now.bottom ≤ 2 ^ 50 }
-    requires placed { All IsPlaced stack.now.bands.items }
+    requires bottom { picture.now.stack.bottom ≤ 2 ^ 50 }
+    requires placed { All IsPlaced picture.now.stack.bands.items }
 {
-    let mut text = front_text(alloc, f, others, stack)?.into_bytes();
+    let layout = layout(f, others, picture.stack.bottom);
+    let mut text = front_text(alloc, others, &layout, picture)?.into_bytes();
     text.extend_from_slice(verdict_text(alloc, version, refusal)?.as_slice())?;
-    text.extend_from_slice(body_text(alloc, f, k, others, stack)?.as_bytes())?;
+    text.extend_from_slice(body_text(alloc, f, k, others, &layout, picture)?.as_bytes())?;
     Ok(text)
 }

@@ -9,9 +9,7 @@ ghost use Rattle.mt_map.specs.Map.{CanBeDrawn, MapOf, Maps, Tells, beside, other
 
 use crate::Asked;
 use crate::asked::{help_text, version_text};
-use crate::edges::cuts;
-use crate::picture::picture_text;
-use crate::stack::bands;
+use crate::picture::{picture_of_files, picture_text};
 use arrayvec::ArrayVec;
 use mt_dump::{Dump, read_dump_from};
 use mt_output::{bad_text_line, dump_refused_line, written};
@@ -84,13 +82,13 @@ fn status_of(refusal: Option<(u32, Fault)>) -> Status
 pub fn picture_of(alloc: Global, d: &Dump) -> Result<Vec<u8>, NoMemory>
     requires { CanBeDrawn d.now }
 {
+    d.is_dump(); // a fact for the proof
     let k = beside(d);
     let others = others(d, k);
     let f = d.first_file();
-    let cuts = cuts(alloc, f, others.as_slice())?;
-    let stack = bands(alloc, f, others.as_slice(), cuts.as_slice())?;
+    let picture = picture_of_files(alloc, f, others.as_slice())?;
     let refusal = first_refusal(d.files.as_slice());
-    let text = picture_text(alloc, d.version, refusal, f, k, others.as_slice(), &stack)?;
+    let text = picture_text(alloc, d.version, refusal, f, k, others.as_slice(), &picture)?;
     Ok(text)
 }
 

@@ -12,10 +12,11 @@ pub enum Unit {
     Terabyte,
 }
 
-/// So many units, or about so many.
+/// So many units and tenths of a unit, or about so many. Only a rounded size has tenths.
 #[derive(Clone, Copy, Debug, PartialEq, Eq)]
 pub struct Size {
     pub count: u64,
+    pub tenths: u64,
     pub unit: Unit,
     pub is_rounded: bool,
 }
@@ -25,6 +26,7 @@ fn whole_size(pages: u64) -> Size
     requires few { pages ≤ 2 ^ 40 }
     ensures whole { result.count * kilobytes result.unit ≡ 4 * pages }
     ensures not_rounded { result.is_rounded ≡ false }
+    ensures no_tenths { result.tenths ≡ 0 }
 {
     let (count, unit) = if pages % 0x10000000 == 0 {
         (pages / 0x10000000, Unit::Terabyte)
@@ -37,36 +39,37 @@ fn whole_size(pages: u64) -> Size
     };
     Size {
         count,
+        tenths: 0,
         unit,
         is_rounded: false,
     }
 }
 
-// So many pages in the smallest unit from a megabyte on of which they are about fewer than 100,000.
+// So many pages in tenths of the largest unit from a megabyte on of which they are at least one.
 fn rounded_size(pages: u64) -> Size
     requires few { pages ≤ 2 ^ 40 }
+    requires some { 0x100 ≤ pages }
     ensures near { IsNear pages result }
-    ensures short { result.count < 100000 }
+    ensures short { IsShort result }
     ensures rounded { result.is_rounded ≡ true }
 {
-    let megabytes = (pages + 0x80) / 0x100;
-    let gigabytes = (pages + 0x20000) / 0x40000;
-    let (count, unit) = if megabytes < 100_000 {
-        (megabytes, Unit::Megabyte)
-    } else if gigabytes < 100_000 {
-        (gigabytes, Unit::Gigabyte)
+    let (tenths, unit) = if pages < 0x40000 {
+        ((10 * pages + 0x80) / 0x100, Unit::Megabyte)
+    } else if pages < 0x10000000 {
+        ((10 * pages + 0x20000) / 0x40000, Unit::Gigabyte)
     } else {
-        ((pages + 0x8000000) / 0x10000000, Unit::Terabyte)
+        ((10 * pages + 0x8000000) / 0x10000000, Unit::Terabyte)
     };
     Size {
-        count,
+        count: tenths / 10,
+        tenths: tenths % 10,
         unit,
         is_rounded: true,
     }
 }
 
-/// The size of so many pages: exact, in the largest unit of which they are a whole number, where that has at most seven digits, so
-/// that it fits beside the longest address; else rounded to at most five.
+/// The size of so many pages: exact, in the largest unit of which they are a whole number, where that has at most four digits;
+/// else rounded to a tenth of a unit.
 pub fn page_size(pages: u64) -> Size
     requires few { pages ≤ 2 ^ 40 }
     ensures exact { result.is_rounded ≡ false → result.count * kilobytes result.unit ≡ 4 * pages }
@@ -74,7 +77,7 @@ pub fn page_size(pages: u64) -> Size
     ensures short { IsShort result }
 {
     let whole = whole_size(pages);
-    if whole.count < 10_000_000 {
+    if whole.count < 10_000 {
         whole
     } else {
         rounded_size(pages)
@@ -100,6 +103,9 @@ pub(crate) fn size_text(alloc: Global, pages: u64) -> Result<String, AllocError>
         text.push_str("&#8776; ")?;
     }
     write!(text, "{}", size.count)?;
+    if size.tenths > 0 {
+        write!(text, ".{}", size.tenths)?;
+    }
     text.push_str(unit_name(size.unit))?;
     Ok(text)
 }

@@ -1,7 +1,0 @@
-use Rattle.mt_kinds.specs.declared.mem_type.MemType.TheVariants.{UC}
-use Rattle.mt_regs.specs.declared.page_type.PageType.TheVariants.{Kind}
-use Rattle.std.specs.Prelude.{None}
-use Rattle.mt_map.proofs.rows.append_bands.Goals as goal
-
-pub append_band-requires-clause-placed : goal.append_band-requires-clause-placed
-append_band-requires-clause-placed c = c.requires.placed c.bands.band-index (record { first = 0; count = 0; top = 0; kind = Kind UC; other = None }) c.bands-test.true

@@ -1,0 +1,15 @@
+ghost use Rattle.std.specs.Prelude.{◌≤◌, ◌^◌};
+
+/// Where the parts of a picture stand, in pixels: the bottom of the rows, the left edges of the bars of each file, and the width and height of the whole.
+#[derive(Clone, Copy)]
+pub(crate) struct Layout {
+    pub bottom: u64,
+    pub first_bar: u64,
+    pub second_bar: u64,
+    pub width: u64,
+    pub height: u64,
+    ghost low: { bottom ≤ 2 ^ 50 },
+    ghost first_near: { first_bar ≤ 10000 },
+    ghost second_near: { second_bar ≤ 10000 },
+    ghost wide: { 24 ≤ width },
+}
