@@ -3,15 +3,8 @@
 #![tactic(auto)]
 
 mod command;
-mod diff;
-mod faults;
-mod fields;
-mod fit;
 mod input;
-mod names;
-mod page;
 mod program;
-mod texts;
 
 use std::process::ExitCode;
 

@@ -1,13 +1,10 @@
 use crate::command::{Question, command, question_of};
-use crate::diff::{DiffReport, cpus_report, diff_text, files_report};
-use crate::faults::{faults_report, faults_text};
-use crate::fit::{fit_report, fit_text};
-use crate::input::{Given, read};
-use crate::names::register_name;
-use crate::page::{page_report, page_text};
+use crate::input::read;
 use anyhow::{Result, bail};
 use clap::ArgMatches;
-use mt_explain::Unfit;
+use mt_reports::{
+    Answer, Form, Given, diff_answer, diff_of_cpus_answer, faults_answer, fit_answer, page_answer,
+};
 use std::env::{self, Env};
 use std::fs::Files;
 use std::io::Input;
@@ -41,88 +38,15 @@ fn read_named<R: Files + Input + AllocGlobal>(rt: &R, file: &str) -> Result<Give
     }
 }
 
-fn tell_faults<R: Files + Input + Print + AllocGlobal>(
-    rt: &R,
-    file: &str,
-    json: bool,
-) -> Result<Verdict> {
-    let alloc = rt.alloc();
-    let given = read(rt, file)?;
-    let report = faults_report(alloc, file, &given)?;
-    if json {
-        println!(rt; "{}", serde_json::to_string(alloc, &report)?)?;
-    } else {
-        print!(rt; "{}", faults_text(alloc, &report)?)?;
-    }
-    Ok(verdict_of(report.found))
-}
-
-fn tell_page<R: Files + Input + Print + AllocGlobal>(
-    rt: &R,
-    file: &str,
-    address: u64,
-    json: bool,
-) -> Result<Verdict> {
-    let alloc = rt.alloc();
-    let given = read(rt, file)?;
-    if address / 4096 >= given.dump.first_file().pages() {
-        bail!(
-            "the address is beyond {} bits",
-            given.dump.first_file().maxphy
-        );
-    }
-    let report = page_report(alloc, file, &given, address)?;
-    if json {
-        println!(rt; "{}", serde_json::to_string(alloc, &report)?)?;
-    } else {
-        print!(rt; "{}", page_text(alloc, &report)?)?;
-    }
-    Ok(verdict_of(report.undefined))
-}
-
-fn tell_fit<R: Files + Input + Print + AllocGlobal>(
-    rt: &R,
-    file: &str,
-    spare: u64,
-    json: bool,
-) -> Result<Verdict> {
-    let alloc = rt.alloc();
-    let given = read(rt, file)?;
-    let report = match fit_report(alloc, file, &given, spare)? {
-        Ok(report) => report,
-        Err(Unfit::Refused(fault)) => bail!(
-            "not accepted: {:03x} {} is at fault, as faults tells",
-            fault.msr,
-            register_name(alloc, fault.msr)?
-        ),
-        Err(Unfit::Disabled) => bail!("E of IA32_MTRR_DEF_TYPE is clear: the MTRRs are off"),
-    };
-    if json {
-        println!(rt; "{}", serde_json::to_string(alloc, &report)?)?;
-    } else {
-        print!(rt; "{}", fit_text(alloc, &report)?)?;
-    }
-    Ok(verdict_of(!report.fits))
-}
-
-fn tell_diff<R: Print + AllocGlobal>(
-    rt: &R,
-    report: &DiffReport<'_>,
-    json: bool,
-) -> Result<Verdict> {
-    let alloc = rt.alloc();
-    if json {
-        println!(rt; "{}", serde_json::to_string(alloc, report)?)?;
-    } else {
-        print!(rt; "{}", diff_text(alloc, report)?)?;
-    }
-    Ok(verdict_of(report.differ))
+fn print_answer<R: Print>(rt: &R, answer: &Answer) -> Result<Verdict> {
+    print!(rt; "{}", answer.text)?;
+    Ok(verdict_of(answer.found))
 }
 
 fn tell_diff_of_files<R: Files + Input + Print + AllocGlobal>(
     rt: &R,
     files: &[&str],
-    json: bool,
+    form: Form,
 ) -> Result<Verdict> {
     let [old, new] = files else {
         bail!("diff compares two files, or with --cpus two processors of one");
@@ -130,27 +54,24 @@ fn tell_diff_of_files<R: Files + Input + Print + AllocGlobal>(
     let (old, new) = (*old, *new);
     let old_given = read_named(rt, old)?;
     let new_given = read_named(rt, new)?;
-    let report = files_report(rt.alloc(), (old, new), &old_given, &new_given)?;
-    tell_diff(rt, &report, json)
+    let answer = diff_answer(rt.alloc(), (old, new), &old_given, &new_given, form)?;
+    print_answer(rt, &answer)
 }
 
 fn tell_diff_of_cpus<R: Files + Input + Print + AllocGlobal>(
     rt: &R,
     files: &[&str],
     cpus: (u32, u32),
-    json: bool,
+    form: Form,
 ) -> Result<Verdict> {
     let [file] = files else {
         bail!("diff compares two files, or with --cpus two processors of one");
     };
     let file = *file;
     let given = read_named(rt, file)?;
-    match cpus_report(rt.alloc(), file, &given, cpus)? {
-        Some(report) => tell_diff(rt, &report, json),
-        None => bail!(
-            "{file}: it has processors 0 to {}",
-            given.dump.files.len().saturating_sub(1)
-        ),
+    match diff_of_cpus_answer(rt.alloc(), file, &given, cpus, form) {
+        Ok(answer) => print_answer(rt, &answer),
+        Err(error) => bail!("{file}: {error}"),
     }
 }
 
@@ -158,13 +79,16 @@ fn tell<R: Files + Input + Print + AllocGlobal>(
     rt: &R,
     file: &str,
     question: Question,
-    json: bool,
+    form: Form,
 ) -> Result<Verdict> {
-    match question {
-        Question::Page { address } => tell_page(rt, file, address, json),
-        Question::Fit { spare } => tell_fit(rt, file, spare, json),
-        _ => tell_faults(rt, file, json),
-    }
+    let alloc = rt.alloc();
+    let given = read(rt, file)?;
+    let answer = match question {
+        Question::Page { address } => page_answer(alloc, file, &given, address, form)?,
+        Question::Fit { spare } => fit_answer(alloc, file, &given, spare, form)?,
+        _ => faults_answer(alloc, file, &given, form)?,
+    };
+    print_answer(rt, &answer)
 }
 
 // Answers for each file. One that can't be read doesn't keep the others from being answered.
@@ -172,11 +96,11 @@ fn tell_each<R: Files + Input + Print + Eprint + AllocGlobal>(
     rt: &R,
     files: &[&str],
     question: Question,
-    json: bool,
+    form: Form,
 ) -> Result<Verdict> {
     let mut verdict = Verdict::Nothing;
     for file in files {
-        match tell(rt, *file, question, json) {
+        match tell(rt, *file, question, form) {
             Ok(found) => verdict = worse(verdict, found),
             Err(error) => {
                 eprintln!(rt; "mtrr-explain: {file}: {error:#}")?;
@@ -192,14 +116,18 @@ fn tell_all<R: Files + Input + Print + Eprint + AllocGlobal>(
     name: &str,
     matches: &ArgMatches<'_>,
 ) -> Result<Verdict> {
-    let json = matches.get_flag("json");
+    let form = if matches.get_flag("json") {
+        Form::Json
+    } else {
+        Form::Text
+    };
     let Some(files) = matches.get_strs("FILE") else {
         return Ok(Verdict::Trouble);
     };
     match question_of(name, matches)? {
-        Question::DiffFiles => tell_diff_of_files(rt, files, json),
-        Question::DiffCpus { old, new } => tell_diff_of_cpus(rt, files, (old, new), json),
-        question => tell_each(rt, files, question, json),
+        Question::DiffFiles => tell_diff_of_files(rt, files, form),
+        Question::DiffCpus { old, new } => tell_diff_of_cpus(rt, files, (old, new), form),
+        question => tell_each(rt, files, question, form),
     }
 }
 

@@ -1,7 +1,7 @@
 ghost use Rattle.std.specs.Prelude.{◌≡◌, None};
 ghost use Rattle.mt_regs.specs.Faults.{register_fault};
 
-use crate::input::Given;
+use crate::given::Given;
 use crate::texts::{
     PairText, RegisterText, append_pairs, append_register, first_address, last_address, pair_texts,
     register_text,

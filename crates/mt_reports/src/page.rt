@@ -1,4 +1,4 @@
-use crate::input::Given;
+use crate::given::Given;
 use crate::texts::{
     PairText, RegisterText, append_pairs, append_register, pair_texts, register_text,
 };

@@ -1,7 +1,7 @@
 ghost use Rattle.std.specs.Prelude.{◌<◌};
 
 use crate::fields::size_text;
-use crate::input::Given;
+use crate::given::Given;
 use mt_explain::{Rounding, Span, Unfit, least_by_chunk, rounding_of, steps};
 use mt_regs::RegFile;
 use serde::Serialize;

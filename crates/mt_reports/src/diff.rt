@@ -1,5 +1,5 @@
 use crate::fields::{ValueText, append_value, value_text};
-use crate::input::Given;
+use crate::given::Given;
 use crate::names::register_name;
 use crate::page::kind_name;
 use crate::texts::{RegisterText, append_register, first_address, last_address, register_text};

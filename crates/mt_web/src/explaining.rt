@@ -1,0 +1,199 @@
+use crate::told::{Told, no_memory};
+use crate::words::words_in;
+use mt_reports::{
+    Answer, Form, Given, NoReport, diff_answer, diff_of_cpus_answer, faults_answer, fit_answer,
+    given_of, page_answer,
+};
+use mt_text::{decimal, hex64};
+use std::alloc::Global;
+
+const TROUBLE: u32 = 2;
+
+const GREATEST_CPU: u64 = 15;
+
+const MOST_PAIRS: u64 = 32;
+
+/// What words ask for, with the names of the inputs that it is asked about.
+#[derive(Clone, Copy)]
+enum Question<'a> {
+    Faults(&'a str),
+    Page(&'a str, u64),
+    Fit(&'a str, u64),
+    Diff(&'a str, &'a str),
+    DiffOfCpus(&'a str, u32, u32),
+}
+
+/// Why there is no report, and the name of the input that it lies with.
+#[derive(Drop)]
+struct Trouble<'a> {
+    file: &'a str,
+    why: NoReport,
+}
+
+fn spare_of(word: &str) -> Option<u64> {
+    match decimal(word.as_bytes(), MOST_PAIRS) {
+        Ok(spare) => Some(spare),
+        Err(_) => None,
+    }
+}
+
+fn cpu_of(word: &str) -> Option<u32> {
+    match decimal(word.as_bytes(), GREATEST_CPU) {
+        Ok(cpu) => Some(cpu as u32),
+        Err(_) => None,
+    }
+}
+
+fn faults_question(words: &[String]) -> Option<Question<'_>> {
+    match words {
+        [file] => Some(Question::Faults(file.as_str())),
+        _ => None,
+    }
+}
+
+fn page_question(words: &[String]) -> Option<Question<'_>> {
+    match words {
+        [address, file] => match hex64(address.as_bytes()) {
+            Ok(address) => Some(Question::Page(file.as_str(), address)),
+            Err(_) => None,
+        },
+        _ => None,
+    }
+}
+
+fn fit_question(words: &[String]) -> Option<Question<'_>> {
+    match words {
+        [file] => Some(Question::Fit(file.as_str(), 0)),
+        [option, spare, file] if option.as_str() == "--spare" => {
+            let spare = spare_of(spare.as_str())?;
+            Some(Question::Fit(file.as_str(), spare))
+        }
+        _ => None,
+    }
+}
+
+fn diff_question(words: &[String]) -> Option<Question<'_>> {
+    match words {
+        [old, new] => Some(Question::Diff(old.as_str(), new.as_str())),
+        [option, old, new, file] if option.as_str() == "--cpus" => {
+            let old = cpu_of(old.as_str())?;
+            let new = cpu_of(new.as_str())?;
+            Some(Question::DiffOfCpus(file.as_str(), old, new))
+        }
+        _ => None,
+    }
+}
+
+fn question_of(words: &[String]) -> Option<Question<'_>> {
+    let (name, words) = words.split_first()?;
+    match name.as_str() {
+        "faults" => faults_question(words),
+        "page" => page_question(words),
+        "fit" => fit_question(words),
+        "diff" => diff_question(words),
+        _ => None,
+    }
+}
+
+fn given_named<'a>(file: &'a str, bytes: &[u8]) -> Result<Given, Trouble<'a>> {
+    match given_of(bytes) {
+        Ok(given) => Ok(given),
+        Err(why) => Err(Trouble { file, why }),
+    }
+}
+
+fn named<'a>(file: &'a str, answer: Result<Answer, NoReport>) -> Result<Answer, Trouble<'a>> {
+    match answer {
+        Ok(answer) => Ok(answer),
+        Err(why) => Err(Trouble { file, why }),
+    }
+}
+
+fn diff<'a>(
+    alloc: Global,
+    files: (&'a str, &'a str),
+    first: &[u8],
+    second: &[u8],
+) -> Result<Answer, Trouble<'a>> {
+    let old = given_named(files.0, first)?;
+    let new = given_named(files.1, second)?;
+    named(files.0, diff_answer(alloc, files, &old, &new, Form::Json))
+}
+
+// The answer about the first input, or for `Diff` about both.
+fn answer<'a>(
+    alloc: Global,
+    question: Question<'a>,
+    first: &[u8],
+    second: &[u8],
+) -> Result<Answer, Trouble<'a>> {
+    match question {
+        Question::Diff(old, new) => diff(alloc, (old, new), first, second),
+        Question::Faults(file) => {
+            let given = given_named(file, first)?;
+            named(file, faults_answer(alloc, file, &given, Form::Json))
+        }
+        Question::Page(file, address) => {
+            let given = given_named(file, first)?;
+            named(file, page_answer(alloc, file, &given, address, Form::Json))
+        }
+        Question::Fit(file, spare) => {
+            let given = given_named(file, first)?;
+            named(file, fit_answer(alloc, file, &given, spare, Form::Json))
+        }
+        Question::DiffOfCpus(file, old, new) => {
+            let given = given_named(file, first)?;
+            named(
+                file,
+                diff_of_cpus_answer(alloc, file, &given, (old, new), Form::Json),
+            )
+        }
+    }
+}
+
+fn trouble_told(alloc: Global, trouble: &Trouble<'_>) -> Told {
+    match format!(in alloc; "{}: {}\n", trouble.file, trouble.why) {
+        Ok(text) => Told {
+            text: text.into_bytes(),
+            number: TROUBLE,
+        },
+        Err(_) => no_memory(alloc),
+    }
+}
+
+fn told_of(alloc: Global, answer: Result<Answer, Trouble<'_>>) -> Told {
+    match answer {
+        Ok(answer) => Told {
+            text: answer.text.into_bytes(),
+            number: if answer.found { 1 } else { 0 },
+        },
+        Err(
+            Trouble {
+                why: NoReport::Memory(_) | NoReport::Json(_),
+                ..
+            },
+        ) => no_memory(alloc),
+        Err(trouble) => trouble_told(alloc, &trouble),
+    }
+}
+
+fn usage_told(alloc: Global) -> Told {
+    match Vec::from_slice(alloc, b"usage\n") {
+        Ok(text) => Told {
+            text,
+            number: TROUBLE,
+        },
+        Err(_) => no_memory(alloc),
+    }
+}
+
+/// The report that the words in a text ask for, as JSON, about one input or two.
+pub(crate) fn explained(alloc: Global, words: &[u8], first: &[u8], second: &[u8]) -> Told {
+    let Ok(words) = words_in(alloc, words) else {
+        return no_memory(alloc);
+    };
+    match question_of(words.as_slice()) {
+        Some(question) => told_of(alloc, answer(alloc, question, first, second)),
+        None => usage_told(alloc),
+    }
+}
