@@ -16,10 +16,8 @@ class Definition:
     text: str  # with the comment above it
 
     def lines(self):
-        return len(self.text.split("\n"))
-
-    def code_lines(self):
-        return sum(not line.strip().startswith("--") and bool(line.strip()) for line in self.text.split("\n"))
+        """How many lines it has, comments and blank lines left out."""
+        return sum(bool(line.strip()) and not line.strip().startswith("--") for line in self.text.split("\n"))
 
     def is_relation(self):
         """Whether it is a statement, or takes arguments to one: no function's value, and no record of plain values."""
