@@ -1,17 +1,40 @@
 use mt_regs::RegFile;
-use std::test::Fail;
 
 // A file of 36 bits with these values of registers.
-pub fn file_of(cap: u64, registers: &[(u32, u64)]) -> Result<RegFile, Fail> {
+pub fn file_of(cap: u64, registers: &[(u32, u64)]) -> Option<RegFile> {
     let Ok(mut f) = RegFile::blank(36, cap) else {
-        return Err(Fail::from("shape"));
+        return None;
     };
     for (number, value) in registers {
-        let Ok(()) = f.set(*number, *value) else {
-            return Err(Fail::from("no such register"));
-        };
+        if f.set(*number, *value).is_err() {
+            return None;
+        }
     }
-    Ok(f)
+    Some(f)
+}
+
+// The file of an ordinary machine: 8.5 GB of write-back memory with a hole below 4 GB, and fixed ranges.
+pub fn ordinary() -> Option<RegFile> {
+    let mut f = file_of(
+        0xd08,
+        &[
+            (0x200, 6),
+            (0x201, 0xf_0000_0800),
+            (0x202, 0x1_0000_0006),
+            (0x203, 0xf_0000_0800),
+            (0x204, 0x2_0000_0006),
+            (0x205, 0xf_e000_0800),
+            (0x206, 0xe000_0000),
+            (0x207, 0xf_e000_0800),
+            (0x250, 0x0606_0606_0606_0606),
+            (0x258, 0x0606_0606_0606_0606),
+            (0x2ff, 0xc00),
+        ],
+    )?;
+    for number in 0x268..0x270 {
+        let _ = f.set(number, 0x0505_0505_0505_0505);
+    }
+    Some(f)
 }
 
 // Whether the file's pairs are these and zeros.

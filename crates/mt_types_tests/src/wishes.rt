@@ -3,6 +3,7 @@ ghost use Rattle.std.specs.List.{All};
 ghost use Rattle.mt_types.specs.Runs.{pages_end};
 ghost use Rattle.mt_trie.specs.Wishes.{IsDefined};
 
+use crate::checks::holds;
 use mt_kinds::MemType;
 use mt_ranges::block_of;
 use mt_regs::PageType;
@@ -38,24 +39,29 @@ fn map_of(alloc: Global) -> Result<Runs, Fail>
     Ok(runs)
 }
 
+// Whether the block of a pair wants this of the runs.
+fn wants(runs: &Runs, pair: (u64, u64), fixed: bool, wanted: Wish) -> bool
+    requires pages { pages_end 0 runs.now ≡ 512 }
+    requires defined { All IsDefined runs.now }
+{
+    match block_of(pair.0, pair.1, 36) {
+        Some(block) => block.end() <= 512 && want(runs.part(&block), fixed, &block) == wanted,
+        None => false,
+    }
+}
+
 #[test]
 fn wishes_of_blocks(rt: HostRuntime) -> Result<(), Fail> {
     let runs = map_of(rt.alloc())?;
-    let rows = [
-        (0, 0xf_fff8_0800, false, Wish::Only(MemType::WB)),
-        (0, 0xf_fff0_0800, false, Wish::Mixed),
-        (0, 0xf_fff0_0800, true, Wish::Any),
-        (0, 0xf_ffe0_0800, true, Wish::Only(MemType::WB)),
-        (0xff000, 0xf_ffff_f800, false, Wish::Only(MemType::UC)),
-        (0x100000, 0xf_fff0_0800, true, Wish::Only(MemType::WB)),
-    ];
-    for (base, mask, fixed, wanted) in rows {
-        let Some(block) = block_of(base, mask, 36) else {
-            return Err(Fail::from("no block"));
-        };
-        let within = block.end() <= 512;
-        assert!(rt; within);
-        assert_eq!(rt; want(runs.part(&block), fixed, &block), wanted);
+    for (pair, fixed, wanted) in [
+        ((0, 0xf_fff8_0800), false, Wish::Only(MemType::WB)),
+        ((0, 0xf_fff0_0800), false, Wish::Mixed),
+        ((0, 0xf_fff0_0800), true, Wish::Any),
+        ((0, 0xf_ffe0_0800), true, Wish::Only(MemType::WB)),
+        ((0xff000, 0xf_ffff_f800), false, Wish::Only(MemType::UC)),
+        ((0x100000, 0xf_fff0_0800), true, Wish::Only(MemType::WB)),
+    ] {
+        holds(&rt, wants(&runs, pair, fixed, wanted));
     }
     Ok(())
 }
