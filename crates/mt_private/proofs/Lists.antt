@@ -1,11 +1,22 @@
 -- Elements of lists by their places.
-use Rattle.std.proofs.Common.{◌≡◌, ◌≢◌, ◌∙◌, ap, refl, ℕ, zero, suc, ◌+◌, ◌<◌, List, [], ◌∷◌, ◌++◌, drop, length, replicate, Some, inl, inr, ⊎_elim, arith}
-use Rattle.std.specs.Prelude.{◌⊎◌, slice_get, slice_set}
+use Rattle.std.proofs.Common.{◌≡◌, ◌≢◌, ◌∙◌, ap, refl, sym, Bool, true, false, ℕ, zero, suc, ◌+◌, ◌<◌, List, [], ◌∷◌, ◌++◌, drop, length, replicate, Some, inl, inr, ⊎_elim, arith}
+use Rattle.std.specs.Prelude.{◌⊎◌, ◌||◌, slice_get, slice_set}
+use Rattle.std.specs.List.{fold, list_any}
 use Rattle.std.proofs.lemmas.List.{drop_more}
 use Rattle.std.proofs.lemmas.Option.{get_or_from_slice_get, slice_get_within}
 
 pub drop_at : {X : Type 0} (xs : List X) (i : ℕ) (x : X) → slice_get xs i ≡ Some x → drop i xs ≡ x ∷ drop (i + 1) xs
 drop_at xs i x at = drop_more xs i x (slice_get_within xs i x at) ∙ ap (λ y. y ∷ drop (i + 1) xs) (get_or_from_slice_get xs i x x at)
+
+-- one step of a walk over a list
+pub any_here : {X : Type 0} (p : X → Bool) (xs : List X) (i : ℕ) (x : X) → slice_get xs i ≡ Some x → p x ≡ true → list_any p (drop i xs) ≡ true
+any_here p xs i x at is = ap (list_any p) (drop_at xs i x at) ∙ ap (λ (b : Bool). b || list_any p (drop (i + 1) xs)) is
+
+pub any_on : {X : Type 0} (p : X → Bool) (xs : List X) (i : ℕ) (x : X) → slice_get xs i ≡ Some x → p x ≡ false → list_any p (drop (i + 1) xs) ≡ list_any p (drop i xs)
+any_on p xs i x at is = sym (ap (list_any p) (drop_at xs i x at) ∙ ap (λ (b : Bool). b || list_any p (drop (i + 1) xs)) is)
+
+pub fold_on : {A X : Type 0} (f : A → X → A) (a : A) (xs : List X) (i : ℕ) (x : X) → slice_get xs i ≡ Some x → fold f (f a x) (drop (i + 1) xs) ≡ fold f a (drop i xs)
+fold_on f a xs i x at = sym (ap (fold f a) (drop_at xs i x at))
 
 -- what stands at a place after a list was changed at one
 pub at_put : {X : Type 0} (xs : List X) (k i : ℕ) (y q : X) → slice_get (slice_set xs k y) i ≡ Some q → ((i ≡ k) × (y ≡ q)) ⊎ ((i ≢ k) × (slice_get xs i ≡ Some q))

@@ -17,7 +17,7 @@ ghost use Rattle.mt_private.specs.Left.{word_beside, word_by_word};
 use crate::host::{Host, Yard};
 use crate::joint::Joint;
 use crate::pages::names;
-use crate::view::{Lodges, YardView};
+use crate::view::{HandsOver, YardView};
 use crate::visiting::{Guest, YardPass};
 use atomic_table::{Seat, Table};
 use mt_bus::{Holders, System, a_system_is_sound};
@@ -184,7 +184,7 @@ fn give_away(yard: &Yard, seat: &mut Seat<Op, YardView>, own: System, i: usize) 
     ensures offers { OffersFrom (start_at yard.now) (i + 1) seat.new.me }
     ensures guest { IsGatheredIn yard.now i result }
 {
-    let seat = yard.table.shared.split_seat::<Lodges>(seat);
+    let seat = yard.table.shared.split_seat::<HandsOver>(seat);
     Guest {
         own,
         pass: YardPass {

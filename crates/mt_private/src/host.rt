@@ -6,7 +6,7 @@ ghost use Rattle.mt_private.specs.YardPlays.{Made};
 ghost use Rattle.mt_private.specs.YardRule.{yard_both};
 
 use crate::gather::Room;
-use crate::view::{Lodges as HandsOver, Lodging, YardTurn, YardView};
+use crate::view::{HandsOver, Lodging, YardTurn, YardView};
 use crate::visiting::{Guest, YardPass};
 use atomic_table::{Seat, Table};
 use mt_bus::System;
@@ -15,7 +15,7 @@ use mt_rendezvous::Key;
 use std::alloc::Global;
 
 // What the host adds to the first count to cancel.
-const CANCEL: u64 = 0x1_0000_0000;
+pub(crate) const CANCEL: u64 = 0x1_0000_0000;
 
 /// The words of one update between accesses: the two counts, and an event word for each processor.
 #[derive(Drop)]

@@ -1,37 +1,65 @@
 // The least page that two processors name, found by a walk over all names, without memory.
-ghost use Rattle.std.specs.Prelude.{◌≡◌, ◌↔◌, ◌/◌, ◌==◌, ℕ, None, Some};
+ghost use Rattle.std.specs.Prelude.{◌≡◌, ◌↔◌, ◌/◌, ◌<◌, ◌≤◌, ◌==◌, ℕ, None, Some, cond, length, slice_get};
 ghost use Rattle.std.specs.List.{fold, list_any};
 ghost use Rattle.mt_private.specs.Pages.{IsLeastShared, IsPrivate, after_names, better, is_below, is_shared, names, naming, page_of_line};
 
 use mt_cache::{Cache, CacheLine};
 use mt_core::Core;
 use mt_cpu::Cpu;
+use mt_tlb::{Entry, Mapping};
 
 /// Lines of 64 bytes in a page of 4,096.
 const LINES: u64 = 64;
 
-fn page_of(line: &CacheLine) -> u64
-    ensures { result ≡ page_of_line line.now }
-{
-    line.number / LINES
+// What lies in a physical page.
+trait InPage {
+    ghost its_page: { Self → ℕ };
+
+    fn page(&self) -> u64
+        ensures { result ≡ its_page self.now };
 }
 
-fn has_mapping(cpu: &Cpu, page: u64) -> bool
-    ensures { result ≡ list_any (λ m. m.ppage == page) cpu.now.mappings }
-{
-    cpu.maps().list().iter().any(|m| m.ppage == page)
+impl InPage for Mapping {
+    ghost its_page = { λ m. m.ppage };
+
+    fn page(&self) -> u64 {
+        self.ppage
+    }
 }
 
-fn has_entry(cpu: &Cpu, page: u64) -> bool
-    ensures { result ≡ list_any (λ e. e.ppage == page) cpu.now.entries }
-{
-    cpu.tlb().entries().iter().any(|e| e.ppage == page)
+impl InPage for Entry {
+    ghost its_page = { λ e. e.ppage };
+
+    fn page(&self) -> u64 {
+        self.ppage
+    }
 }
 
-fn has_buffer(cpu: &Cpu, page: u64) -> bool
-    ensures { result ≡ list_any (λ l. page_of_line l == page) cpu.now.buffers }
+impl InPage for CacheLine {
+    ghost its_page = { page_of_line };
+
+    fn page(&self) -> u64 {
+        self.number / LINES
+    }
+}
+
+fn at<T>(xs: &[T], i: usize) -> &T
+    requires { i < length xs.now }
+    ensures { slice_get xs.now i ≡ Some result.now }
 {
-    cpu.buffers().lines().iter().any(|l| page_of(l) == page)
+    &xs[i]
+}
+
+// Whether one of these lies in the page.
+fn any_in<T: InPage>(xs: &[T], page: u64) -> bool
+    ensures { result ≡ list_any (λ x. T.its_page x == page) xs.now }
+{
+    for i in 0..xs.len() {
+        if at(xs, i).page() == page {
+            return true;
+        }
+    }
+    false
 }
 
 // Whether a cached line lies in the page.
@@ -39,7 +67,7 @@ fn has_cached(cache: &Cache, page: u64) -> bool
     ensures { result ≡ list_any (λ l. page_of_line l == page) cache.now }
 {
     for i in 0..cache.len() {
-        if page_of(cache.nth(i)) == page {
+        if cache.nth(i).page() == page {
             return true;
         }
     }
@@ -50,17 +78,28 @@ fn has_cached(cache: &Cache, page: u64) -> bool
 pub(crate) fn names(cpu: &Cpu, page: u64) -> bool
     ensures { result ≡ names page cpu.now }
 {
-    has_mapping(cpu, page)
-        || has_entry(cpu, page)
+    any_in(cpu.maps().list(), page)
+        || any_in(cpu.tlb().entries(), page)
         || has_cached(cpu.cache(), page)
-        || has_buffer(cpu, page)
+        || any_in(cpu.buffers().lines(), page)
+}
+
+fn one_if(is: bool) -> u64
+    ensures value { result ≡ cond is 1 0 }
+    ensures most { result ≤ 1 }
+{
+    if is { 1 } else { 0 }
 }
 
 // Whether two processors name the page.
 fn is_shared(cpus: &[Cpu], page: u64) -> bool
     ensures { result ≡ is_shared cpus.now page }
 {
-    cpus.iter().filter(|cpu| names(cpu, page)).count() > 1
+    let mut count = 0u64;
+    for k in 0..cpus.len() {
+        count += one_if(names(at(cpus, k), page));
+    }
+    count > 1
 }
 
 fn is_below(page: u64, best: Option<u64>) -> bool
@@ -83,58 +122,46 @@ fn better(cpus: &[Cpu], best: Option<u64>, page: u64) -> Option<u64>
     }
 }
 
-fn over_mappings(cpus: &[Cpu], best: Option<u64>, cpu: &Cpu) -> Option<u64>
-    ensures { result ≡ fold (λ b m. better (is_shared cpus.now) b m.ppage) best cpu.now.mappings }
+// The best one after the pages of these.
+fn over_pages<T: InPage>(cpus: &[Cpu], best: Option<u64>, xs: &[T]) -> Option<u64>
+    ensures { result ≡ fold (λ b x. better (is_shared cpus.now) b (T.its_page x)) best xs.now }
 {
-    let mappings = cpu.maps().list().iter();
-    mappings.fold(best, |b, m| better(cpus, b, m.ppage))
+    let mut best = best;
+    for i in 0..xs.len() {
+        best = better(cpus, best, at(xs, i).page());
+    }
+    best
 }
 
-fn over_entries(cpus: &[Cpu], best: Option<u64>, cpu: &Cpu) -> Option<u64>
-    ensures { result ≡ fold (λ b e. better (is_shared cpus.now) b e.ppage) best cpu.now.entries }
-{
-    let entries = cpu.tlb().entries().iter();
-    entries.fold(best, |b, e| better(cpus, b, e.ppage))
-}
-
+// The best one after those of a cache.
 fn over_cached(cpus: &[Cpu], best: Option<u64>, cache: &Cache) -> Option<u64>
     ensures { result ≡ fold (λ b l. better (is_shared cpus.now) b (page_of_line l)) best cache.now }
 {
     let mut best = best;
     for i in 0..cache.len() {
-        best = better(cpus, best, page_of(cache.nth(i)));
+        best = better(cpus, best, cache.nth(i).page());
     }
     best
-}
-
-fn over_lines(cpus: &[Cpu], best: Option<u64>, cpu: &Cpu) -> Option<u64>
-    ensures { result ≡ fold (λ b l. better (is_shared cpus.now) b (page_of_line l)) best cpu.now.lines }
-{
-    over_cached(cpus, best, cpu.cache())
-}
-
-fn over_buffers(cpus: &[Cpu], best: Option<u64>, cpu: &Cpu) -> Option<u64>
-    ensures { result ≡ fold (λ b l. better (is_shared cpus.now) b (page_of_line l)) best cpu.now.buffers }
-{
-    let buffers = cpu.buffers().lines().iter();
-    buffers.fold(best, |b, l| better(cpus, b, page_of(l)))
 }
 
 // The best one after all names of a processor.
 fn over_names(cpus: &[Cpu], best: Option<u64>, cpu: &Cpu) -> Option<u64>
     ensures { result ≡ after_names (is_shared cpus.now) best cpu.now }
 {
-    let best = over_mappings(cpus, best, cpu);
-    let best = over_entries(cpus, best, cpu);
-    let best = over_lines(cpus, best, cpu);
-    over_buffers(cpus, best, cpu)
+    let mapped = over_pages(cpus, best, cpu.maps().list());
+    let translated = over_pages(cpus, mapped, cpu.tlb().entries());
+    let cached = over_cached(cpus, translated, cpu.cache());
+    over_pages(cpus, cached, cpu.buffers().lines())
 }
 
 fn over_all(cpus: &[Cpu]) -> Option<u64>
     ensures { result ≡ fold (after_names (is_shared cpus.now)) None cpus.now }
 {
-    cpus.iter()
-        .fold(None, |best, cpu| over_names(cpus, best, cpu))
+    let mut best = None;
+    for k in 0..cpus.len() {
+        best = over_names(cpus, best, at(cpus, k));
+    }
+    best
 }
 
 fn over_core(core: &Core) -> Option<u64>

@@ -18,6 +18,7 @@ ghost use Rattle.mt_private.specs.Pages.{IsLeastShared, IsPrivate};
 ghost use Rattle.mt_private.specs.declared.job.Part.{Part as JobPart};
 ghost use Rattle.mt_private.specs.declared.job.Part.TheVariants.{Before, After};
 
+use crate::caller::{Caller, Refusal};
 use crate::fault::PrivateFault;
 use crate::host::{Host, Yard};
 use crate::job::{Job, Part, Told};
@@ -166,8 +167,8 @@ fn update_alone(core: &mut Core, goal: &RegFile)
     core.round();
 }
 
-// What is left where no thread went on: the update, and the accesses after it.
-fn end_alone(core: &mut Core, goal: &RegFile, jobs: &[Job], told: &mut Vec<Told>)
+// What is left where no thread went on: the update, and the accesses after it. A refusal alone allows it.
+fn end_alone(refusal: Refusal, core: &mut Core, goal: &RegFile, jobs: &[Job], told: &mut Vec<Told>)
     requires quiet { IsQuiet core.old }
     requires callable { IsEnabled core.old (Calls goal.now) }
     requires some { 0 < length core.old.system.processors }
@@ -181,19 +182,19 @@ fn end_alone(core: &mut Core, goal: &RegFile, jobs: &[Job], told: &mut Vec<Told>
     ensures after { map (answers_in After) told.new.items ≡ (ran_each 0 (map (ops_in After) jobs.now) (updated core.old.system (in_order core.old) goal.now).system).answers }
     ensures before { map (answers_in Before) told.new.items ≡ map (answers_in Before) told.old.items }
 {
+    refusal.spend();
     update_alone(core, goal);
     do_parts(core, Part::After, jobs, told.as_mut_slice());
 }
 
 // The jobs and the update, on a thread for each processor, where there is memory for the yard.
 fn visit_all<R: Threads + Wait + Sync, G: Gate>(
-    rt: &R,
+    caller: &Caller<R, G>,
     alloc: Global,
     core: &mut Core,
     goal: &RegFile,
     jobs: &[Job],
     told: Vec<Told>,
-    gate: &G,
 ) -> Option<Vec<Told>>
     requires none { core.old.order ≡ None }
     requires opens { Opens (gathered core.old.system.processors core.old.system.memory goal.now) }
@@ -210,16 +211,64 @@ fn visit_all<R: Threads + Wait + Sync, G: Gate>(
         return None;
     };
     let Ended {
-        given,
+        outcome,
         host,
         mut told,
-    } = meet(rt, alloc, &yard, host, goal, jobs, gate, guests, told);
+    } = meet(caller, alloc, &yard, host, goal, jobs, guests, told);
     *core = rested(leave(yard, host));
-    if given {
-        return Some(told);
+    match outcome {
+        Ok(()) => Some(told),
+        Err(refusal) => {
+            end_alone(refusal, core, goal, jobs, &mut told);
+            Some(told)
+        }
     }
-    end_alone(core, goal, jobs, &mut told);
-    Some(told)
+}
+
+/// Does what `run_private` does, for a caller with a runtime and a gate.
+///
+/// # Errors
+///
+/// Those of `run_private`. Nothing then changes.
+pub fn run_private_with<R: Threads + Wait + Sync, G: Gate>(
+    caller: &Caller<R, G>,
+    alloc: Global,
+    core: &mut Core,
+    goal: RegFile,
+    jobs: Vec<Job>,
+) -> Result<Vec<Told>, PrivateFault>
+    requires some { 0 < length core.old.system.processors }
+    requires one_each { vec_len jobs ≡ length core.old.system.processors }
+    requires addresses { All FitsJob jobs.items }
+    requires fits { All (FitsGoal goal) core.old.system.processors }
+    requires room { HasEraRoom core.old }
+    ensures under_way { (result ≡ Err PrivateFault.UnderWay) ↔ IsSome core.old.order }
+    ensures refused { (fault : Fault) → (result ≡ Err (PrivateFault.Refused fault)) ↔ ((core.old.order ≡ None) × IsFirstFault goal (Some fault)) }
+    ensures shared { (page : ℕ) → (result ≡ Err (PrivateFault.Shared page)) ↔ ((core.old.order ≡ None) × IsAccepted goal × IsLeastShared core.old.system page) }
+    ensures no_memory { result ≡ Err PrivateFault.NoMemory → (core.old.order ≡ None) × IsAccepted goal × IsPrivate core.old.system }
+    ensures left { IfOk result (λ told. core.new ≡ (jobs_one_by_one core.old.system goal jobs.items).left) }
+    ensures before { IfOk result (λ told. map (answers_in Before) told.items ≡ (jobs_one_by_one core.old.system goal jobs.items).before) }
+    ensures after { IfOk result (λ told. map (answers_in After) told.items ≡ (jobs_one_by_one core.old.system goal jobs.items).after) }
+    ensures kept { OnErr result (core.new ≡ core.old) }
+{
+    if core.order().is_some() {
+        return Err(PrivateFault::UnderWay);
+    }
+    if let Some(fault) = goal.first_fault() {
+        return Err(PrivateFault::Refused(fault));
+    }
+    if let Some(page) = shared_page(core) {
+        return Err(PrivateFault::Shared(page));
+    }
+    let Ok(told) = room_for(alloc, jobs.as_slice()) else {
+        return Err(PrivateFault::NoMemory);
+    };
+    a_core_arises(core); // a fact for the proof
+    goal.is_register_file(); // a fact for the proof
+    let Some(told) = visit_all(caller, alloc, core, &goal, jobs.as_slice(), told) else {
+        return Err(PrivateFault::NoMemory);
+    };
+    Ok(told)
 }
 
 /// Runs a job for each processor and one update, on a thread for each processor, which goes on with its accesses up to the
@@ -253,22 +302,5 @@ pub fn run_private<R: Threads + Wait + Sync, G: Gate>(
     ensures after { IfOk result (λ told. map (answers_in After) told.items ≡ (jobs_one_by_one core.old.system goal jobs.items).after) }
     ensures kept { OnErr result (core.new ≡ core.old) }
 {
-    if core.order().is_some() {
-        return Err(PrivateFault::UnderWay);
-    }
-    if let Some(fault) = goal.first_fault() {
-        return Err(PrivateFault::Refused(fault));
-    }
-    if let Some(page) = shared_page(core) {
-        return Err(PrivateFault::Shared(page));
-    }
-    let Ok(told) = room_for(alloc, jobs.as_slice()) else {
-        return Err(PrivateFault::NoMemory);
-    };
-    a_core_arises(core); // a fact for the proof
-    goal.is_register_file(); // a fact for the proof
-    let Some(told) = visit_all(rt, alloc, core, &goal, jobs.as_slice(), told, gate) else {
-        return Err(PrivateFault::NoMemory);
-    };
-    Ok(told)
+    run_private_with(&Caller::of(rt, gate), alloc, core, goal, jobs)
 }

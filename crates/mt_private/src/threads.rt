@@ -1,6 +1,6 @@
 // The guests of a yard on threads: one for each, in a scope.
 ghost use Rattle.std.specs.Prelude.{◌≡◌, ℕ, ◌+◌, ◌<◌, ◌≤◌, [], length, slice_get, vec_capacity, vec_len};
-ghost use Rattle.std.specs.Prelude.{Some, IfOk, IfErr, IfSome, IfNone};
+ghost use Rattle.std.specs.Prelude.{Some, IfOk, IfErr, IfSome, IfNone, is_ok};
 ghost use Rattle.std.specs.Thread.{IsSync};
 ghost use Rattle.mt_machine.specs.declared.go.Go.TheVariants.{Cancelled, Pending};
 ghost use Rattle.mt_rendezvous.specs.Update.{decided};
@@ -8,69 +8,49 @@ ghost use Rattle.mt_private.specs.declared.job.Job.{Job as ItsJob};
 ghost use Rattle.mt_private.specs.InYard.{AreWaitingIn, HasComeIn, IsNewIn, IsRootIn, LeadsIn, OneLessIn, ReturnedIn, goal_at, start_at};
 ghost use Rattle.mt_private.specs.Visitors.{IsFresh};
 
+use crate::caller::{Caller, Permit, Refusal, Visits, boxed};
 use crate::host::{Host, Yard};
 use crate::job::{Job, Told};
-use crate::tokens::Permit;
 use crate::visiting::{Guest, Visited};
 use crate::visitor::Visitor;
 use crate::visits::{core_of, visit_with};
-use crate::waits::Waiter;
 use mt_ports::Gate;
 use mt_regs::RegFile;
 use std::alloc::Global;
-use std::snapshot::Snapshot;
 use std::sync::Wait;
-use std::thread;
-use std::thread::{Promise, PromisedHandle, Scope, Threads};
-
-// What the thread of a visitor promises: it comes back, and its visit has ended.
-#[derive(Drop)]
-struct Visits {
-    yard: Snapshot<Yard>,
-    job: Snapshot<Job>,
-    permit: Permit,
-}
-
-impl Promise<Box<Visitor>> for Visits {
-    ghost use Rattle.mt_private.specs.InYard.{HasComeIn};
-
-    ghost kept_by = { λ p v. HasComeIn p.yard.value p.job.value p.permit.number v.value };
-}
+use std::thread::{PromisedHandle, Scope, Threads};
 
 // The whole visit, on the thread that calls it.
 fn come<R: Wait, G: Gate>(
-    waiter: &Waiter<R>,
+    caller: &Caller<R, G>,
     yard: &Yard,
     visitor: &mut Visitor,
     goal: &RegFile,
     job: &Job,
-    gate: &G,
 )
     requires waits { IsNewIn yard.now job.now visitor.old.pass.number visitor.old }
     requires goal { goal.now ≡ goal_at yard.now }
     ensures { HasComeIn yard.now job.now visitor.old.pass.number visitor.new }
 {
     visitor.visited = visit_with(
-        waiter,
+        caller,
         yard,
         &mut visitor.pass,
         &mut visitor.core,
         goal,
         job,
         &mut visitor.told,
-        gate,
     );
 }
 
 // Cancels, and so the visitor does its accesses before the update on this thread, and leaves.
 fn give_up<R: Wait, G: Gate>(
-    waiter: &Waiter<R>,
+    caller: &Caller<R, G>,
     yard: &Yard,
     host: &mut Host,
     mut visitor: Visitor,
     goal: &RegFile,
     job: &Job,
-    gate: &G,
 ) -> Visitor
     requires hosts { LeadsIn yard.now host.old.seat Pending }
     requires waits { IsNewIn yard.now job.now visitor.pass.number visitor }
@@ -80,14 +60,14 @@ fn give_up<R: Wait, G: Gate>(
     ensures come { HasComeIn yard.now job.now visitor.pass.number result }
 {
     host.cancel(yard);
-    come(waiter, yard, &mut visitor, goal, job, gate);
+    come(caller, yard, &mut visitor, goal, job);
     visitor
 }
 
 // Starts a thread for the visitor, where there is memory and the gate lets it. Where none is started the host
-// cancels, and the visitor leaves.
+// cancels, and the visitor leaves, and comes back with the refusal.
 fn start<'s, E, R: Threads + Wait + Sync, G: Gate>(
-    rt: &'s R,
+    caller: &'s Caller<R, G>,
     alloc: Global,
     scope: &Scope<'s, E>,
     yard: &'s Yard,
@@ -95,33 +75,31 @@ fn start<'s, E, R: Threads + Wait + Sync, G: Gate>(
     visitor: Visitor,
     goal: &'s RegFile,
     job: &'s Job,
-    gate: &'s G,
-) -> Result<PromisedHandle<Box<Visitor>, Visits>, Visitor>
+) -> Result<PromisedHandle<Box<Visitor>, Visits>, (Visitor, Refusal)>
     requires hosts { LeadsIn yard.now host.old.seat Pending }
     requires waits { IsNewIn yard.now job.now visitor.pass.number visitor }
     requires goal { goal.now ≡ goal_at yard.now }
     ensures same { (host.new.seat.me.0.held ≡ host.old.seat.me.0.held) × (host.new.owns ≡ host.old.owns) × (host.new.rest ≡ host.old.rest) }
     ensures pending { IfOk result (λ h. LeadsIn yard.now host.new.seat Pending) }
-    ensures child { IfOk result (λ h. (h.promise.yard.value ≡ yard.now) × (h.promise.job.value ≡ job.now) × (h.promise.permit.number ≡ visitor.pass.number)) }
-    ensures cancelled { IfErr result (λ v. LeadsIn yard.now host.new.seat Cancelled) }
-    ensures come { IfErr result (λ v. HasComeIn yard.now job.now visitor.pass.number v) }
+    ensures child { IfOk result (λ h. (h.promise.yard.value ≡ yard.now) × (h.promise.job.value ≡ job.now) × (h.promise.number ≡ visitor.pass.number)) }
+    ensures cancelled { IfErr result (λ e. LeadsIn yard.now host.new.seat Cancelled) }
+    ensures come { IfErr result (λ e. HasComeIn yard.now job.now visitor.pass.number e.0) }
 {
-    let Some(permit) = Permit::ask(gate, &visitor.pass) else {
-        return Err(give_up(&Waiter::of(rt), yard, host, visitor, goal, job, gate));
-    };
-    let boxed = match Box::new(alloc, visitor) {
+    let boxed = match boxed(alloc, visitor) {
         Ok(boxed) => boxed,
-        Err(refused) => {
-            return Err(give_up(&Waiter::of(rt), yard, host, refused.value, goal, job, gate));
+        Err((visitor, refusal)) => {
+            return Err((give_up(caller, yard, host, visitor, goal, job), refusal));
         }
     };
-    let promise = Visits {
-        yard: Snapshot::of(yard),
-        job: Snapshot::of(job),
-        permit,
+    let permit = match Permit::ask(caller, &boxed.pass) {
+        Ok(permit) => permit,
+        Err(refusal) => {
+            let visitor = Box::into_inner(boxed);
+            return Err((give_up(caller, yard, host, visitor, goal, job), refusal));
+        }
     };
     match scope.spawn_with(
-        promise,
+        permit.visits(yard, job),
         move || -> Box<Visitor>
             requires shared { IsSync R.row }
             requires waits { IsNewIn yard.now job.now boxed.value.pass.number boxed.value }
@@ -129,14 +107,15 @@ fn start<'s, E, R: Threads + Wait + Sync, G: Gate>(
             ensures { HasComeIn yard.entry.now job.entry.now boxed.value.pass.number result.value }
         {
             let mut boxed = boxed;
-            come(&Waiter::of(rt), yard, &mut boxed, goal, job, gate);
+            come(caller, yard, &mut boxed, goal, job);
             boxed
         },
     ) {
         Ok(child) => Ok(child),
-        Err(refused) => {
+        Err(failed) => {
+            let refusal = Refusal::of_thread(&failed);
             host.cancel(yard);
-            Err(Box::into_inner((refused.value)()))
+            Err((Box::into_inner((failed.value)()), refusal))
         }
     }
 }
@@ -200,18 +179,19 @@ fn job_at(jobs: &[Job], k: usize) -> &Job
     &jobs[k]
 }
 
-// With the cancel given, all of these do their accesses before the update, and leave.
+// With the cancel given, all of these do their accesses before the update, and leave. None of them would where it isn't: it
+// would wait for the go.
 fn leave_all<R: Wait, G: Gate>(
-    waiter: &Waiter<R>,
+    caller: &Caller<R, G>,
     yard: &Yard,
     host: &mut Host,
     goal: &RegFile,
     jobs: &[Job],
-    gate: &G,
     waiting: &mut Vec<Guest>,
     told: &mut Vec<Told>,
 )
     requires hosts { IsRootIn yard.now host.old.seat }
+    requires cancelled { host.old.seat.me.0.go ≡ Cancelled }
     requires fresh { IsFresh (start_at yard.now) host.old.seat.me.0 host.old.owns.items }
     requires waiting { AreWaitingIn yard.now jobs.now waiting.old.items told.old.items }
     requires few { length waiting.old.items ≤ yard.now.count }
@@ -227,32 +207,30 @@ fn leave_all<R: Wait, G: Gate>(
         return;
     };
     let job = job_at(jobs, waiting.len());
-    leave_all(waiter, yard, host, goal, jobs, gate, waiting, told);
-    come(waiter, yard, &mut visitor, goal, job, gate);
+    leave_all(caller, yard, host, goal, jobs, waiting, told);
+    come(caller, yard, &mut visitor, goal, job);
     finish(yard, jobs, visitor, host, told);
 }
 
-// Starts a thread for each of these, gives the go, and takes all back. Where one isn't started it cancels, and the
-// answer is false.
+// Starts a thread for each of these, gives the go, and takes all back. Where one isn't started it cancels.
 fn run_all<'s, E, R: Threads + Wait + Sync, G: Gate>(
-    rt: &'s R,
+    caller: &'s Caller<R, G>,
     alloc: Global,
     scope: &Scope<'s, E>,
     yard: &'s Yard,
     host: &mut Host,
     goal: &'s RegFile,
     jobs: &'s [Job],
-    gate: &'s G,
     waiting: &mut Vec<Guest>,
     told: &mut Vec<Told>,
-) -> bool
+) -> Result<(), Refusal>
     requires hosts { LeadsIn yard.now host.old.seat Pending }
     requires fresh { IsFresh (start_at yard.now) host.old.seat.me.0 host.old.owns.items }
     requires waiting { AreWaitingIn yard.now jobs.now waiting.old.items told.old.items }
     requires few { length waiting.old.items ≤ yard.now.count }
     requires room { length waiting.old.items ≤ vec_capacity told.old }
     requires goal { goal.now ≡ goal_at yard.now }
-    ensures go { host.new.seat.me.0.go ≡ decided result }
+    ensures go { host.new.seat.me.0.go ≡ decided (is_ok result) }
     ensures returned { ReturnedIn yard.now jobs.now host.new told.new.items }
     ensures rest { host.new.rest ≡ host.old.rest }
     ensures count { length told.new.items ≡ length waiting.old.items }
@@ -260,41 +238,38 @@ fn run_all<'s, E, R: Threads + Wait + Sync, G: Gate>(
 {
     let Some(visitor) = last(yard, jobs, waiting, told) else {
         host.go(yard);
-        return true;
+        return Ok(());
     };
     let job = job_at(jobs, waiting.len());
-    match start(rt, alloc, scope, yard, host, visitor, goal, job, gate) {
+    match start(caller, alloc, scope, yard, host, visitor, goal, job) {
         Ok(child) => {
-            let given = run_all(
-                rt, alloc, scope, yard, host, goal, jobs, gate, waiting, told,
-            );
-            finish(yard, jobs, Box::into_inner(child.join(rt)), host, told);
-            given
+            let outcome = run_all(caller, alloc, scope, yard, host, goal, jobs, waiting, told);
+            finish(yard, jobs, Box::into_inner(child.join(caller)), host, told);
+            outcome
         }
-        Err(visitor) => {
-            leave_all(&Waiter::of(rt), yard, host, goal, jobs, gate, waiting, told);
+        Err((visitor, refusal)) => {
+            leave_all(caller, yard, host, goal, jobs, waiting, told);
             finish(yard, jobs, visitor, host, told);
-            false
+            Err(refusal)
         }
     }
 }
 
-// Where the threads have ended: whether the go was given, the host, and the answers.
+// Where the threads have ended: whether the go was given, or what was refused, the host, and the answers.
 pub(crate) struct Ended {
-    pub(crate) given: bool,
+    pub(crate) outcome: Result<(), Refusal>,
     pub(crate) host: Host,
     pub(crate) told: Vec<Told>,
 }
 
 // The scope of the threads.
 pub(crate) fn meet<R: Threads + Wait + Sync, G: Gate>(
-    rt: &R,
+    caller: &Caller<R, G>,
     alloc: Global,
     yard: &Yard,
     mut host: Host,
     goal: &RegFile,
     jobs: &[Job],
-    gate: &G,
     mut waiting: Vec<Guest>,
     mut told: Vec<Told>,
 ) -> Ended
@@ -305,13 +280,11 @@ pub(crate) fn meet<R: Threads + Wait + Sync, G: Gate>(
     requires room { length waiting.items ≤ vec_capacity told }
     requires goal { goal.now ≡ goal_at yard.now }
     ensures returned { ReturnedIn yard.now jobs.now result.host result.told.items }
-    ensures go { result.host.seat.me.0.go ≡ decided result.given }
+    ensures go { result.host.seat.me.0.go ≡ decided (is_ok result.outcome) }
     ensures rest { result.host.rest ≡ host.rest }
     ensures count { length result.told.items ≡ length waiting.items }
 {
-    thread::scope(
-        thread::scope_env(),
-        rt,
+    caller.scope(
         move |scope| -> Ended
             requires hosts { LeadsIn yard.now host.seat Pending }
             requires fresh { IsFresh (start_at yard.now) host.seat.me.0 host.owns.items }
@@ -320,23 +293,26 @@ pub(crate) fn meet<R: Threads + Wait + Sync, G: Gate>(
             requires room { length waiting.items ≤ vec_capacity told }
             requires same { goal.now ≡ goal_at yard.now }
             ensures returned { ReturnedIn yard.entry.now jobs.entry.now result.host result.told.items }
-            ensures go { result.host.seat.me.0.go ≡ decided result.given }
+            ensures go { result.host.seat.me.0.go ≡ decided (is_ok result.outcome) }
             ensures rest { result.host.rest ≡ host.rest }
             ensures count { length result.told.items ≡ length waiting.items }
         {
-            let given = run_all(
-                rt,
+            let outcome = run_all(
+                caller,
                 alloc,
                 scope,
                 yard,
                 &mut host,
                 goal,
                 jobs,
-                gate,
                 &mut waiting,
                 &mut told,
             );
-            Ended { given, host, told }
+            Ended {
+                outcome,
+                host,
+                told,
+            }
         },
     )
 }

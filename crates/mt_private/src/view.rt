@@ -50,9 +50,9 @@ impl Play<Op, YardView> for YardTurn {
 }
 
 /// The root gives its first resident away, and takes one back. Neither is an event.
-pub struct Lodges;
+pub struct HandsOver;
 
-impl Split<YardView> for Lodges {
+impl Split<YardView> for HandsOver {
     ghost use Rattle.mt_private.specs.YardRule.{yard_left, yard_right};
 
     ghost left = { yard_left };
@@ -60,7 +60,7 @@ impl Split<YardView> for Lodges {
     ghost right = { yard_right };
 }
 
-impl Join<YardView> for Lodges {
+impl Join<YardView> for HandsOver {
     ghost use Rattle.mt_private.specs.YardRule.{yard_both, yard_spent};
 
     ghost both = { yard_both };

@@ -14,10 +14,9 @@ ghost use Rattle.mt_core.specs.Steps.{step_after};
 ghost use Rattle.mt_private.specs.OneByOne.{at_rest, ran};
 ghost use Rattle.mt_private.specs.YardCalls.{AreIn, HasTaken, IsLeft, done_in, stored_in};
 
-use crate::host::Yard;
-use crate::tokens::Arrival;
+use crate::caller::Caller;
+use crate::host::{CANCEL, Yard};
 use crate::view::{YardTurn, YardView};
-use crate::waits::Waiter;
 use atomic_table::Seat;
 use mt_bus::System;
 use mt_core::{Core, a_core_arises};
@@ -69,9 +68,6 @@ fn phase_of(core: &Core) -> Phase
 {
     core.system().cpus.as_slice()[0].phase()
 }
-
-// What the coordinator adds to the first count to cancel.
-pub(crate) const CANCEL: u64 = 0x1_0000_0000;
 
 impl YardPass {
     ghost use Rattle.mt_private.specs.InYard.{KeepsLodging, KeepsVisit, LodgesIn, VisitsIn, goal_at};
@@ -150,50 +146,6 @@ impl YardPass {
         true
     }
 
-    // Adds to the first count: the event Arrive, or none where it held the cancel before.
-    fn arrive(&mut self, yard: &Yard, core: &mut Core) -> Arrival
-        requires visits { (first : MachineSystem) × VisitsIn yard.now self.old core.old false false Pending first }
-        requires taken { AreIn Taken core.old.system }
-        ensures number { self.new.number ≡ self.old.number }
-        ensures done { done_in self.new.seat.me ≡ done_in self.old.seat.me }
-        ensures visits { KeepsVisit (VisitsIn yard.now self.old core.old false false Pending) (VisitsIn yard.now self.new core.new true false Pending) }
-        ensures waits { AreIn Taken core.new.system ⊎ AreIn Arrived core.new.system }
-        ensures taken { (first : MachineSystem) → HasTaken first core.old.system → HasTaken first core.new.system }
-        ensures token { result.number ≡ self.old.number }
-    {
-        let found = yard
-            .table
-            .shared
-            .fetch_add::<YardTurn>(&mut self.seat, 0, 1);
-        let token = Arrival::of(self);
-        if found < CANCEL {
-            core.step(0);
-            return token;
-        }
-        token
-    }
-
-    // Takes and arrives, and tells the gate. False where the load showed the cancel: then it has done neither.
-    fn enter<G: Gate>(&mut self, yard: &Yard, core: &mut Core, goal: &RegFile, gate: &G) -> bool
-        requires lodges { LodgesIn yard.now self.old core.old.system false false }
-        requires runs { AreIn Running core.old.system }
-        requires idle { core.old.order ≡ None }
-        requires goal { goal.now ≡ goal_at yard.now }
-        ensures number { self.new.number ≡ self.old.number }
-        ensures done { done_in self.new.seat.me ≡ done_in self.old.seat.me }
-        ensures visits { IsTrue result → VisitsIn yard.now self.new core.new true false Pending core.old.system }
-        ensures waits { IsTrue result → AreIn Taken core.new.system ⊎ AreIn Arrived core.new.system }
-        ensures taken { IsTrue result → HasTaken core.old.system core.new.system }
-        ensures callable { IsTrue result → IsQuiet (at_rest core.old.system) × IsEnabled (at_rest core.old.system) (Calls goal.now) }
-        ensures stays { result ≡ false → LodgesIn yard.now self.new core.new.system false false × (self.new.seat.me.0.cancel ≡ true) × (core.new ≡ core.old) }
-    {
-        if !self.take(yard, core, goal) {
-            return false;
-        }
-        self.arrive(yard, core).tell(gate);
-        true
-    }
-
     // Does the processor's next event between the barriers. Its store of the own event word is that event.
     fn work(&mut self, yard: &Yard, core: &mut Core)
         requires visits { (first : MachineSystem) × VisitsIn yard.now self.old core.old true false Given first }
@@ -259,11 +211,10 @@ impl YardPass {
     // Takes the processor through the update, once its accesses before it are done.
     pub(crate) fn go_through<R: Wait, G: Gate>(
         &mut self,
-        waiter: &Waiter<R>,
+        caller: &Caller<R, G>,
         yard: &Yard,
         core: &mut Core,
         goal: &RegFile,
-        gate: &G,
     ) -> Visited
         requires lodges { LodgesIn yard.now self.old core.old.system false false }
         requires runs { AreIn Running core.old.system }
@@ -276,14 +227,15 @@ impl YardPass {
         ensures cancelled { result ≡ Visited.Cancelled → ((added : Bool) × LodgesIn yard.now self.new core.new.system added false)
             × (self.new.seat.me.0.cancel ≡ true) × IsLeft core.old.system core.new.system }
     {
-        if !self.enter(yard, core, goal, gate) {
+        if !self.take(yard, core, goal) {
             return Visited::Cancelled;
         }
-        if !self.wait_first(waiter, yard, core) {
+        let heard = self.arrive(yard, core).tell(caller);
+        if !self.wait_first(caller, heard, yard, core) {
             return Visited::Cancelled;
         }
         self.change(yard, core);
-        self.wait_second(waiter, yard, core);
+        self.wait_second(caller, yard, core);
         Visited::Complete
     }
 }

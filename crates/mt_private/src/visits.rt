@@ -8,10 +8,10 @@ ghost use Rattle.mt_private.specs.Jobs.{FitsJob, IsOpen};
 ghost use Rattle.mt_private.specs.OneByOne.{at_rest};
 ghost use Rattle.mt_private.specs.YardCalls.{AreIn, done_in};
 
+use crate::caller::Caller;
 use crate::host::Yard;
 use crate::job::{Job, Told};
 use crate::visiting::{Guest, Visited, YardPass};
-use crate::waits::Waiter;
 use mt_bus::System;
 use mt_core::Core;
 use mt_ports::Gate;
@@ -28,14 +28,13 @@ pub(crate) fn core_of(own: System) -> Core
 
 // The accesses, the update, and where it is done the accesses after it.
 pub(crate) fn visit_with<R: Wait, G: Gate>(
-    waiter: &Waiter<R>,
+    caller: &Caller<R, G>,
     yard: &Yard,
     pass: &mut YardPass,
     core: &mut Core,
     goal: &RegFile,
     job: &Job,
     told: &mut Told,
-    gate: &G,
 ) -> Visited
     requires lodges { LodgesIn yard.now pass.old core.old.system false false }
     requires runs { AreIn Running core.old.system }
@@ -50,7 +49,7 @@ pub(crate) fn visit_with<R: Wait, G: Gate>(
     ensures number { pass.new.number ≡ pass.old.number }
 {
     pass.access_all(yard, core, job.before.as_slice(), &mut told.before);
-    match pass.go_through(waiter, yard, core, goal, gate) {
+    match pass.go_through(caller, yard, core, goal) {
         Visited::Complete => {
             pass.access_all(yard, core, job.after.as_slice(), &mut told.after);
             Visited::Complete
@@ -86,14 +85,13 @@ pub fn visit<R: Wait, G: Gate>(
     let Guest { own, mut pass } = guest;
     let mut core = core_of(own);
     let visited = visit_with(
-        &Waiter::of(rt),
+        &Caller::of(rt, gate),
         yard,
         &mut pass,
         &mut core,
         goal,
         job,
         told,
-        gate,
     );
     let own = core.into_system();
     (Guest { own, pass }, visited)

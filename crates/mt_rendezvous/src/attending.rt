@@ -3,8 +3,8 @@ ghost use Rattle.std.specs.Prelude.{◌≡◌, false, length, Some};
 ghost use Rattle.mt_machine.specs.declared.phase.Phase.TheVariants.{Taken};
 ghost use Rattle.mt_rendezvous.specs.InStation.{AttendedIn, CarriesIn, goal_at, start_at, windows_at};
 
+use crate::caller::Caller;
 use crate::station::{Attendee, Outcome, Station};
-use crate::waits::Waiter;
 use mt_ports::Gate;
 use mt_ram::Ram;
 use mt_regs::RegFile;
@@ -30,6 +30,6 @@ pub fn attend<R: Wait, G: Gate>(
     ensures shown { result.1 ≡ Outcome.Complete → result.0.pass.shown ≡ Some (length (start_at station.now).cpus) }
 {
     let Attendee { mut cpu, mut pass } = a;
-    let outcome = pass.go_through(&Waiter::of(rt), station, ram, goal, gate, &mut cpu);
+    let outcome = pass.go_through(&Caller::of(rt, gate), station, ram, goal, &mut cpu);
     (Attendee { cpu, pass }, outcome)
 }

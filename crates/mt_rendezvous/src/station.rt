@@ -7,9 +7,8 @@ ghost use Rattle.mt_cpu.specs.Steps.{is_local};
 ghost use Rattle.mt_rendezvous.specs.Station.{Begins, code};
 ghost use Rattle.mt_rendezvous.specs.Plays.{IsWaiting, Made, Stands, own_event, written};
 
-use crate::arrival::Arrival;
+use crate::caller::Caller;
 use crate::view::{Key, Meeting, Turn, View};
-use crate::waits::Waiter;
 use atomic_table::{Seat, Table};
 use mt_cpu::{Cpu, is_local};
 use mt_machine::{Event, Phase};
@@ -142,27 +141,6 @@ impl Pass {
         self.shown
     }
 
-    // Adds to word 0: the event Arrive, or none where the word held the cancel before.
-    pub(crate) fn arrive(&mut self, station: &Station, cpu: &mut Cpu) -> Arrival
-        requires carries { CarriesIn station.now self.old cpu.old false false }
-        requires taken { cpu.old.phase ≡ Taken }
-        ensures carries { CarriesIn station.now self.new cpu.new true false }
-        ensures waits { IsWaiting cpu.new.phase }
-        ensures same { cpu.new ≡ record cpu.old { phase = cpu.new.phase } }
-        ensures first { slice_get (start_at station.now).cpus self.old.number ≡ Some cpu.old }
-        ensures shown { self.new.shown ≡ self.old.shown }
-        ensures begins { Begins (start_at station.now) }
-        ensures number { self.new.number ≡ self.old.number }
-        ensures token { result.number ≡ self.old.number }
-    {
-        let found = station.table.shared.fetch_add::<Turn>(&mut self.seat, 0, 1);
-        if found < CANCEL {
-            cpu.shift(Event::Arrive);
-            return Arrival::of(self);
-        }
-        Arrival::of(self)
-    }
-
     // Does the processor's next event between the barriers. Its one store, of the word of memory that is written
     // back or else of the own phase word, is that event.
     pub(crate) fn work(&mut self, station: &Station, ram: &Ram, goal: &RegFile, cpu: &mut Cpu)
@@ -248,11 +226,10 @@ impl Pass {
     // Takes the processor through the update where it stands, since it is large.
     pub(crate) fn go_through<R: Wait, G: Gate>(
         &mut self,
-        waiter: &Waiter<R>,
+        caller: &Caller<R, G>,
         station: &Station,
         ram: &Ram,
         goal: &RegFile,
-        gate: &G,
         cpu: &mut Cpu,
     ) -> Outcome
         requires carries { CarriesIn station.now self.old cpu.old false false }
@@ -264,12 +241,12 @@ impl Pass {
         ensures unshown { result ≡ Outcome.Cancelled → self.new.shown ≡ self.old.shown }
         ensures shown { result ≡ Outcome.Complete → self.new.shown ≡ Some (length (start_at station.now).cpus) }
     {
-        self.arrive(station, cpu).tell(gate);
-        if !self.wait_first(waiter, station, cpu) {
+        let heard = self.arrive(station, cpu).tell(caller);
+        if !self.wait_first(caller, heard, station, cpu) {
             return Outcome::Cancelled;
         }
         self.change(station, ram, goal, cpu);
-        self.wait_second(waiter, station, cpu);
+        self.wait_second(caller, station, cpu);
         Outcome::Complete
     }
 }

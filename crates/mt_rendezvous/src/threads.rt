@@ -22,10 +22,9 @@ ghost use Rattle.mt_rendezvous.specs.Update.{AreOf, CanUpdate, Tied, decided, le
 ghost use Rattle.mt_rendezvous.specs.InStation.{CameAsIn, CameIn, IsQueueIn, IsReadyAsIn, IsReadyIn, IsRootIn, LeadsIn, OneLessIn, ReturnedIn, goal_at, start_at, windows_at};
 
 use crate::broadcast::call_and_take;
+use crate::caller::{Attends, Caller, Permit, Refusal, boxed, gather_station, room};
 use crate::gather::disband;
-use crate::refusal::{Refusal, boxed, gather_station, room};
 use crate::station::{Attendee, Root, Station};
-use crate::waits::Waiter;
 use mt_bus::{Holders, System};
 use mt_core::{CallFault, Core, a_core_arises};
 use mt_cpu::Cpu;
@@ -35,32 +34,17 @@ use mt_ram::Ram;
 use mt_regs::RegFile;
 use mt_types::KindTable;
 use std::alloc::Global;
-use std::snapshot::Snapshot;
+use std::mem;
 use std::sync::Wait;
-use std::thread::{Promise, PromisedHandle, Scope, Threads};
-use std::{mem, thread};
-
-// What the thread of a processor promises: the processor comes back, and runs.
-#[derive(Drop)]
-struct Attends {
-    station: Snapshot<Station>,
-    number: u64,
-}
-
-impl Promise<Box<Attendee>> for Attends {
-    ghost use Rattle.mt_rendezvous.specs.InStation.{CameAsIn};
-
-    ghost kept_by = { λ p a. CameAsIn p.station.value p.number a.value };
-}
+use std::thread::{PromisedHandle, Scope, Threads};
 
 // Takes the attendee through the update, or out of it.
 fn attend_whole<R: Wait, G: Gate>(
-    waiter: &Waiter<R>,
+    caller: &Caller<R, G>,
     station: &Station,
     ram: &Ram,
     a: &mut Attendee,
     goal: &RegFile,
-    gate: &G,
 )
     requires ready { IsReadyIn station.now a.old }
     requires goal { goal.now ≡ goal_at station.now }
@@ -68,21 +52,19 @@ fn attend_whole<R: Wait, G: Gate>(
     ensures came { CameIn station.now a.new }
     ensures number { a.new.pass.number ≡ a.old.pass.number }
 {
-    a.pass
-        .go_through(waiter, station, ram, goal, gate, &mut a.cpu);
+    a.pass.go_through(caller, station, ram, goal, &mut a.cpu);
 }
 
 // Starts a thread for the attendee, where the gate lets it. Where it isn't started the root cancels, and the
 // attendee leaves, and comes back with the refusal.
 fn start<'s, E, R: Threads + Wait + Sync, G: Gate>(
-    rt: &'s R,
+    caller: &'s Caller<R, G>,
     scope: &Scope<'s, E>,
     station: &'s Station,
     ram: &'s Ram,
     root: &mut Root,
     mut a: Box<Attendee>,
     goal: &'s RegFile,
-    gate: &'s G,
 ) -> Result<PromisedHandle<Box<Attendee>, Attends>, (Box<Attendee>, Refusal)>
     requires root { LeadsIn station.now root.old Pending }
     requires ready { IsReadyIn station.now a.value }
@@ -94,20 +76,16 @@ fn start<'s, E, R: Threads + Wait + Sync, G: Gate>(
     ensures cancelled { IfErr result (λ e. LeadsIn station.now root.new Cancelled) }
     ensures came { IfErr result (λ e. CameAsIn station.now a.value.pass.number e.0.value) }
 {
-    match Refusal::ask(gate, &a.pass) {
-        Ok(()) => {}
+    let permit = match Permit::ask(caller, &a.pass) {
+        Ok(permit) => permit,
         Err(refusal) => {
             root.cancel(station);
-            attend_whole(&Waiter::of(rt), station, ram, &mut a, goal, gate);
+            attend_whole(caller, station, ram, &mut a, goal);
             return Err((a, refusal));
         }
-    }
-    let promise = Attends {
-        station: Snapshot::of(station),
-        number: a.pass.number,
     };
     match scope.spawn_with(
-        promise,
+        permit.attends(station),
         move || -> Box<Attendee>
             requires shared { IsSync R.row }
             requires ready { IsReadyIn station.now a.value }
@@ -115,7 +93,7 @@ fn start<'s, E, R: Threads + Wait + Sync, G: Gate>(
             ensures { CameAsIn station.entry.now a.value.pass.number result.value }
         {
             let mut a = a;
-            attend_whole(&Waiter::of(rt), station, ram, &mut a, goal, gate);
+            attend_whole(caller, station, ram, &mut a, goal);
             a
         },
     ) {
@@ -198,18 +176,18 @@ fn last_boxed(
     }
 }
 
-// With the cancel given, all of these leave.
+// With the cancel given, all of these leave. None of them would where it isn't: it would wait for the go.
 fn leave_all<R: Wait, G: Gate>(
-    waiter: &Waiter<R>,
+    caller: &Caller<R, G>,
     station: &Station,
     ram: &Ram,
     root: &mut Root,
     goal: &RegFile,
-    gate: &G,
     waiting: &mut Vec<Attendee>,
     done: &mut Vec<Cpu>,
 )
     requires root { IsRootIn station.now root.old }
+    requires cancelled { root.old.seat.me.0.go ≡ Cancelled }
     requires goal { goal.now ≡ goal_at station.now }
     requires windows { ram.now.windows ≡ windows_at station.now }
     requires waiting { IsQueueIn station.now waiting.old.items }
@@ -221,21 +199,20 @@ fn leave_all<R: Wait, G: Gate>(
     let Some(mut a) = last(station, waiting) else {
         return;
     };
-    leave_all(waiter, station, ram, root, goal, gate, waiting, done);
-    attend_whole(waiter, station, ram, &mut a, goal, gate);
+    leave_all(caller, station, ram, root, goal, waiting, done);
+    attend_whole(caller, station, ram, &mut a, goal);
     finish(station, a, root, done);
 }
 
 // Starts a thread for each of these, gives the go, and takes all back. Where one isn't started it cancels.
 fn run_all<'s, E, R: Threads + Wait + Sync, G: Gate>(
-    rt: &'s R,
+    caller: &'s Caller<R, G>,
     alloc: Global,
     scope: &Scope<'s, E>,
     station: &'s Station,
     ram: &'s Ram,
     root: &mut Root,
     goal: &'s RegFile,
-    gate: &'s G,
     waiting: &mut Vec<Attendee>,
     done: &mut Vec<Cpu>,
 ) -> Result<(), Refusal>
@@ -256,22 +233,20 @@ fn run_all<'s, E, R: Threads + Wait + Sync, G: Gate>(
         Ok(a) => a,
         Err(refusal) => {
             root.cancel(station);
-            let waiter = Waiter::of(rt);
-            leave_all(&waiter, station, ram, root, goal, gate, waiting, done);
+            leave_all(caller, station, ram, root, goal, waiting, done);
             return Err(refusal);
         }
     };
-    match start(rt, scope, station, ram, root, a, goal, gate) {
+    match start(caller, scope, station, ram, root, a, goal) {
         Ok(child) => {
             let outcome = run_all(
-                rt, alloc, scope, station, ram, root, goal, gate, waiting, done,
+                caller, alloc, scope, station, ram, root, goal, waiting, done,
             );
-            finish_boxed(station, child.join(rt), root, done);
+            finish_boxed(station, child.join(caller), root, done);
             outcome
         }
         Err((a, refusal)) => {
-            let waiter = Waiter::of(rt);
-            leave_all(&waiter, station, ram, root, goal, gate, waiting, done);
+            leave_all(caller, station, ram, root, goal, waiting, done);
             finish_boxed(station, a, root, done);
             Err(refusal)
         }
@@ -287,13 +262,12 @@ struct Ended {
 
 // The scope of the threads.
 fn meet<R: Threads + Wait + Sync, G: Gate>(
-    rt: &R,
+    caller: &Caller<R, G>,
     alloc: Global,
     station: &Station,
     ram: &Ram,
     mut root: Root,
     goal: &RegFile,
-    gate: &G,
     mut waiting: Vec<Attendee>,
     mut done: Vec<Cpu>,
 ) -> Ended
@@ -305,9 +279,7 @@ fn meet<R: Threads + Wait + Sync, G: Gate>(
     requires empty { done.items ≡ [] }
     ensures { ReturnedIn station.now result.root (decided (is_ok result.outcome)) (length waiting.items) result.done.items }
 {
-    thread::scope(
-        thread::scope_env(),
-        rt,
+    caller.scope(
         move |scope| -> Ended
             requires root { LeadsIn station.now root Pending }
             requires same { AreOf (start_at station.now) goal.now ram.now.windows }
@@ -316,14 +288,13 @@ fn meet<R: Threads + Wait + Sync, G: Gate>(
             ensures { ReturnedIn station.entry.now result.root (decided (is_ok result.outcome)) (length waiting.items) result.done.items }
         {
             let outcome = run_all(
-                rt,
+                caller,
                 alloc,
                 scope,
                 station,
                 ram,
                 &mut root,
                 goal,
-                gate,
                 &mut waiting,
                 &mut done,
             );
@@ -375,12 +346,11 @@ fn run_again(mut cpus: Vec<Cpu>, refusal: Refusal) -> Led
 
 // Leads taken processors through the update, on a thread each.
 fn lead_on_threads<R: Threads + Wait + Sync, G: Gate>(
-    rt: &R,
+    caller: &Caller<R, G>,
     alloc: Global,
     cpus: Vec<Cpu>,
     ram: &mut Ram,
     goal: &RegFile,
-    gate: &G,
 ) -> Led
     requires some { 0 < vec_len cpus }
     requires few { vec_len cpus ≤ 16 }
@@ -398,7 +368,7 @@ fn lead_on_threads<R: Threads + Wait + Sync, G: Gate>(
                 outcome,
                 root,
                 done,
-            } = meet(rt, alloc, &station, ram, root, goal, gate, waiting, done);
+            } = meet(caller, alloc, &station, ram, root, goal, waiting, done);
             disband(station, root, ram);
             Led {
                 outcome,
@@ -467,12 +437,11 @@ fn at_rest(system: System) -> Core
 
 // From the state in which all have taken to the end of the update.
 fn finished<R: Threads + Wait + Sync, G: Gate>(
-    rt: &R,
+    caller: &Caller<R, G>,
     alloc: Global,
     system: System,
     goal: &RegFile,
     kinds: &KindTable,
-    gate: &G,
 ) -> Core
     requires some { 0 < length system.processors }
     requires few { length system.processors ≤ 16 }
@@ -486,7 +455,7 @@ fn finished<R: Threads + Wait + Sync, G: Gate>(
         mut tables,
         holders,
     } = system;
-    let Led { outcome, cpus } = lead_on_threads(rt, alloc, cpus, &mut ram, goal, gate);
+    let Led { outcome, cpus } = lead_on_threads(caller, alloc, cpus, &mut ram, goal);
     renew_tables(&mut tables, outcome.is_ok(), kinds);
     let system = put_together(cpus, ram, tables, holders);
     match outcome {
@@ -520,11 +489,10 @@ fn kinds_of(core: &Core) -> KindTable
 
 // The core whose processors have taken comes to the end of the update.
 fn lead<R: Threads + Wait + Sync, G: Gate>(
-    rt: &R,
+    caller: &Caller<R, G>,
     alloc: Global,
     core: &mut Core,
     goal: &RegFile,
-    gate: &G,
 )
     requires some { 0 < length core.old.system.processors }
     requires order { (o : Order) × (core.old.order ≡ Some o) × (o.goal ≡ goal.now) }
@@ -534,7 +502,32 @@ fn lead<R: Threads + Wait + Sync, G: Gate>(
     a_core_arises(core); // a fact for the proof
     let kinds = kinds_of(core);
     let system = mem::replace(core, stand_in(alloc)).into_system();
-    *core = finished(rt, alloc, system, goal, &kinds, gate);
+    *core = finished(caller, alloc, system, goal, &kinds);
+}
+
+/// Does what `update` does, for a caller with a runtime and a gate.
+///
+/// # Errors
+///
+/// Those of `Core::call`; nothing then changes.
+pub fn update_with<R: Threads + Wait + Sync, G: Gate>(
+    caller: &Caller<R, G>,
+    alloc: Global,
+    core: &mut Core,
+    goal: RegFile,
+) -> Result<(), CallFault>
+    requires some { 0 < length core.old.system.processors }
+    requires fits { All (FitsGoal goal) core.old.system.processors }
+    requires room { HasEraRoom core.old }
+    ensures under_way { (result ≡ Err CallFault.UnderWay) ↔ IsSome core.old.order }
+    ensures refused { (fault : Fault) → result ≡ Err (CallFault.Refused fault) → (core.old.order ≡ None) × IsFirstFault goal (Some fault) }
+    ensures updated { OnOk result ((core.old.order ≡ None) × IsAccepted goal × (core.new ≡ updated core.old.system (in_order core.old) goal)) }
+    ensures kept { OnErr result (core.new ≡ core.old) }
+{
+    let aim = goal.same();
+    call_and_take(core, goal)?;
+    lead(caller, alloc, core, &aim);
+    Ok(())
 }
 
 /// Updates the range registers of all processors, on a thread for each. Where one isn't started, or memory isn't
@@ -558,8 +551,5 @@ pub fn update<R: Threads + Wait + Sync, G: Gate>(
     ensures updated { OnOk result ((core.old.order ≡ None) × IsAccepted goal × (core.new ≡ updated core.old.system (in_order core.old) goal)) }
     ensures kept { OnErr result (core.new ≡ core.old) }
 {
-    let aim = goal.same();
-    call_and_take(core, goal)?;
-    lead(rt, alloc, core, &aim, gate);
-    Ok(())
+    update_with(&Caller::of(rt, gate), alloc, core, goal)
 }

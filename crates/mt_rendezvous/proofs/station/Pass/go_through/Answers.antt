@@ -21,3 +21,6 @@ returns-clause-attended g c =
       w.shown ∙ ap (λ (n : ℕ). Some n) (sym c.args.station.now.counted),
       settled t begins k c.change.new.cpu q took c.args.cpu.now c.arrive.ensures.first w.risen,
     )
+
+pub wait_first-requires-clause-heard : goal.wait_first-requires-clause-heard
+wait_first-requires-clause-heard g c = c.tell-heard.ensures ∙ c.arrive.ensures.token ∙ sym c.arrive.ensures.number

@@ -4,7 +4,7 @@ use Rattle.mt_regs.specs.Faults.{IsAccepted, IsFirstFault}
 use Rattle.mt_private.specs.declared.job.Job.{Job}
 use Rattle.mt_private.specs.Jobs.{AreOpen, FitsJob}
 use Rattle.mt_private.proofs.Causes.{accepted, opens_of, private_where_none, refused, shared, unshared}
-use Rattle.mt_private.proofs.runs.run_private.Goals as goal
+use Rattle.mt_private.proofs.runs.run_private_with.Goals as goal
 
 pub returns-in-Some-clause-refused : goal.returns-in-Some-clause-refused
 returns-in-Some-clause-refused g c =

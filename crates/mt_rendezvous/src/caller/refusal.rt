@@ -1,34 +1,72 @@
-// Why an update isn't done on threads.
+// Whether a thread may be started, and why an update isn't done on threads.
 ghost use Rattle.std.specs.Prelude.{◌≡◌, ◌<◌, ◌≤◌, [], IfErr, IfOk, vec_capacity, vec_len};
 ghost use Rattle.mt_rendezvous.specs.Station.{Begins};
 ghost use Rattle.mt_rendezvous.specs.Calls.{gathered};
 ghost use Rattle.mt_rendezvous.specs.InStation.{IsGatheredIn};
 
+use crate::caller::Caller;
 use crate::station::{Attendee, Pass, Root, Station};
 use mt_cpu::Cpu;
 use mt_ports::Gate;
 use mt_ram::Ram;
 use mt_regs::RegFile;
 use std::alloc::Global;
-use std::thread::SpawnError;
+use std::snapshot::Snapshot;
+use std::thread::{Promise, SpawnError};
 
-// That a start, a thread or memory was refused. This module alone makes one: it asks the gate and the allocator itself,
-// and takes the error of a thread that wasn't started. It has no bytes, and can't be copied or let go. Whoever has one
-// hands it on, and `lead_alone` spends it.
-pub(crate) struct Refusal {
-    made: (),
+// That the caller's gate lets the thread of a pass's processor start. It can't be copied, so one answer starts one thread.
+pub(crate) struct Permit {
+    number: u64,
 }
 
-impl Refusal {
-    // Asks the gate whether the thread of the pass's processor may be started.
-    pub(crate) fn ask<G: Gate>(gate: &G, pass: &Pass) -> Result<(), Refusal> {
-        if gate.may_start(pass.processor()) {
-            Ok(())
+// What the thread of a processor promises: the processor comes back, and runs. A permit alone makes one.
+#[derive(Drop)]
+pub(crate) struct Attends {
+    station: Snapshot<Station>,
+    number: u64,
+}
+
+impl Promise<Box<Attendee>> for Attends {
+    ghost use Rattle.mt_rendezvous.specs.InStation.{CameAsIn};
+
+    ghost kept_by = { λ p a. CameAsIn p.station.value p.number a.value };
+}
+
+impl Permit {
+    // Asks the caller's gate whether the thread of the pass's processor may be started.
+    pub(crate) fn ask<R, G: Gate>(caller: &Caller<R, G>, pass: &Pass) -> Result<Permit, Refusal>
+        ensures { IfOk result (λ permit. permit.number ≡ pass.now.number) }
+    {
+        if caller.gate.may_start(pass.processor()) {
+            Ok(Permit {
+                number: pass.number,
+            })
         } else {
             Err(Refusal { made: () })
         }
     }
 
+    // Spends it for the promise of the thread that is started.
+    pub(crate) fn attends(self, station: &Station) -> Attends
+        ensures station { result.station.value ≡ station.now }
+        ensures number { result.number ≡ self.number }
+    {
+        let Permit { number } = self;
+        Attends {
+            station: Snapshot::of(station),
+            number,
+        }
+    }
+}
+
+// That a start, a thread or memory was refused. This module alone makes one: it asks the caller's gate and the allocator
+// itself, and takes the error of a thread that wasn't started. It has no bytes, and can't be copied or let go. Whoever has
+// one hands it on, and `lead_alone` spends it.
+pub(crate) struct Refusal {
+    made: (),
+}
+
+impl Refusal {
     // A thread wasn't started.
     pub(crate) fn of_thread<F>(_failed: &SpawnError<F>) -> Refusal {
         Refusal { made: () }

@@ -4,7 +4,7 @@ use Rattle.mt_machine.specs.System.{System}
 use Rattle.mt_machine.specs.Update.{updated}
 use Rattle.mt_core.specs.Rounds.{in_order}
 use Rattle.mt_laws.proofs.Updates.ToBroadcast.{updated_from_broadcast}
-use Rattle.mt_rendezvous.proofs.threads.update.Goals as goal
+use Rattle.mt_rendezvous.proofs.threads.update_with.Goals as goal
 
 pub returns-clause-updated : goal.returns-clause-updated
 returns-clause-updated g c =

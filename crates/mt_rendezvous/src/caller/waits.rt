@@ -8,6 +8,7 @@ ghost use Rattle.mt_rendezvous.specs.Station.{Begins};
 ghost use Rattle.mt_rendezvous.specs.Plays.{IsWaiting, Took};
 ghost use Rattle.mt_rendezvous.specs.Calls.{Waited};
 
+use crate::caller::{Caller, Heard};
 use crate::station::{CANCEL, Pass, Station};
 use crate::view::Turn;
 use mt_cpu::Cpu;
@@ -15,38 +16,27 @@ use mt_machine::Event;
 use std::sync::Wait;
 use std::thread;
 
-// What the two waits wait with. Only this module can take it out, so a function that has a waiter alone has no loop
-// without end but by them.
-#[derive(Drop)]
-pub(crate) struct Waiter<'a, R> {
-    rt: &'a R,
-}
-
-impl<'a, R> Waiter<'a, R> {
-    pub(crate) fn of(rt: &'a R) -> Waiter<'a, R> {
-        Waiter { rt }
-    }
-}
-
 impl Pass {
     ghost use Rattle.mt_rendezvous.specs.InStation.{CarriesIn, start_at};
 
-    // Waits for the others. The load of word 0 that ends it is the event Pass, and the answer is true, or Leave.
-    // Each load before it is none.
-    pub(crate) fn wait_first<R: Wait>(
+    // Waits for the others, once the gate was told of the arrival. The load of word 0 that ends it is the event Pass, and
+    // the answer is true, or Leave. Each load before it is none.
+    pub(crate) fn wait_first<R: Wait, G>(
         &mut self,
-        waiter: &Waiter<R>,
+        caller: &Caller<R, G>,
+        _heard: Heard,
         station: &Station,
         cpu: &mut Cpu,
     ) -> bool
         requires carries { CarriesIn station.now self.old cpu.old true false }
         requires waits { IsWaiting cpu.old.phase }
+        requires heard { _heard.number ≡ self.old.number }
         ensures number { self.new.number ≡ self.old.number }
         ensures carries { CarriesIn station.now self.new cpu.new true false }
         ensures shown { self.new.shown ≡ self.old.shown }
         ensures waited { Waited result (start_at station.now) self.new.number cpu.old cpu.new }
     {
-        for _ in waiter.rt.forever() {
+        for _ in caller.rt.forever() {
             let found = station.table.shared.load::<Turn>(&mut self.seat, 0);
             if found >= CANCEL {
                 cpu.shift(Event::Leave);
@@ -62,9 +52,9 @@ impl Pass {
     }
 
     // Waits for the others again. The load of word 1 that ends it is the event Release. Each load before it is none.
-    pub(crate) fn wait_second<R: Wait>(
+    pub(crate) fn wait_second<R: Wait, G>(
         &mut self,
-        waiter: &Waiter<R>,
+        caller: &Caller<R, G>,
         station: &Station,
         cpu: &mut Cpu,
     )
@@ -77,7 +67,7 @@ impl Pass {
         ensures took { Took (start_at station.now) self.new.number Release cpu.old cpu.new }
         ensures risen { cpu.new.era ≡ common_era (start_at station.now).cpus + 1 }
     {
-        for _ in waiter.rt.forever() {
+        for _ in caller.rt.forever() {
             let found = station.table.shared.load::<Turn>(&mut self.seat, 1);
             self.shown = Some(found as u32);
             if found == station.count {

@@ -7,39 +7,29 @@ ghost use Rattle.mt_machine.specs.Bus.{drain};
 ghost use Rattle.mt_machine.specs.System.{System as MachineSystem};
 ghost use Rattle.mt_private.specs.YardCalls.{AreIn, HasTaken, done_in, in_phase};
 
-use crate::host::Yard;
+use crate::caller::{Caller, Heard};
+use crate::host::{CANCEL, Yard};
 use crate::view::YardTurn;
-use crate::visiting::{CANCEL, YardPass};
+use crate::visiting::YardPass;
 use mt_core::Core;
 use std::sync::Wait;
 use std::thread;
 
-// What the two waits wait with. Only they can take it out, so a function that is handed one has no loop without end but
-// by them.
-#[derive(Drop)]
-pub(crate) struct Waiter<'a, R> {
-    rt: &'a R,
-}
-
-impl<'a, R> Waiter<'a, R> {
-    pub(crate) fn of(rt: &'a R) -> Waiter<'a, R> {
-        Waiter { rt }
-    }
-}
-
 impl YardPass {
     ghost use Rattle.mt_private.specs.InYard.{IsWholeUpdate, KeepsVisit, LodgesIn, VisitsIn};
 
-    // Waits for the others. The load of the first count that ends it is the event Pass, and the answer is true, or
-    // Leave. Each load before it is none.
-    pub(crate) fn wait_first<R: Wait>(
+    // Waits for the others, once the gate was told of the arrival. The load of the first count that ends it is the event
+    // Pass, and the answer is true, or Leave. Each load before it is none.
+    pub(crate) fn wait_first<R: Wait, G>(
         &mut self,
-        waiter: &Waiter<R>,
+        caller: &Caller<R, G>,
+        _heard: Heard,
         yard: &Yard,
         core: &mut Core,
     ) -> bool
         requires visits { (first : MachineSystem) × VisitsIn yard.now self.old core.old true false Pending first }
         requires waits { AreIn Taken core.old.system ⊎ AreIn Arrived core.old.system }
+        requires heard { _heard.number ≡ self.old.number }
         ensures number { self.new.number ≡ self.old.number }
         ensures done { done_in self.new.seat.me ≡ done_in self.old.seat.me }
         ensures visits { IsTrue result → KeepsVisit (VisitsIn yard.now self.old core.old true false Pending) (VisitsIn yard.now self.new core.new true false Given) }
@@ -48,7 +38,7 @@ impl YardPass {
         ensures cancel { result ≡ false → self.new.seat.me.0.cancel ≡ true }
         ensures left { result ≡ false → (first : MachineSystem) → HasTaken first core.old.system → core.new.system ≡ in_phase Running (drain 0 first) }
     {
-        for _ in waiter.rt.forever() {
+        for _ in caller.rt.forever() {
             let found = yard.table.shared.load::<YardTurn>(&mut self.seat, 0);
             if found >= CANCEL {
                 core.cancel();
@@ -67,7 +57,12 @@ impl YardPass {
 
     // Waits for the others again. The load of the second count that ends it is the event Release. Each load before it
     // is none.
-    pub(crate) fn wait_second<R: Wait>(&mut self, waiter: &Waiter<R>, yard: &Yard, core: &mut Core)
+    pub(crate) fn wait_second<R: Wait, G>(
+        &mut self,
+        caller: &Caller<R, G>,
+        yard: &Yard,
+        core: &mut Core,
+    )
         requires visits { (first : MachineSystem) × VisitsIn yard.now self.old core.old true true Given first }
         requires waits { AreIn Arrived2 core.old.system }
         ensures number { self.new.number ≡ self.old.number }
@@ -77,7 +72,7 @@ impl YardPass {
         ensures runs { AreIn Running core.new.system }
         ensures whole { IsWholeUpdate yard.now self.old core.old core.new }
     {
-        for _ in waiter.rt.forever() {
+        for _ in caller.rt.forever() {
             let found = yard.table.shared.load::<YardTurn>(&mut self.seat, 1);
             if found == yard.count {
                 core.step(0);

@@ -1,0 +1,67 @@
+// What a call was handed to start threads with, to wait with, and to ask and tell.
+use mt_ports::Gate;
+use std::sync::Wait;
+use std::thread;
+use std::thread::{Scope, Threads};
+
+mod arrival;
+mod refusal;
+mod waits;
+
+pub(crate) use arrival::Heard;
+pub(crate) use refusal::{Attends, Permit, Refusal, boxed, gather_station, room};
+
+/// The runtime and the gate of a call. Only this module takes them out, to wait at the two barriers and for threads that
+/// end, to ask the gate and to tell it. So a function that has a caller, and no runtime, can make no other caller: it asks
+/// and tells this one's gate, and each loop of its own terminates.
+#[derive(Drop)]
+pub struct Caller<R, G> {
+    rt: R,
+    gate: G,
+}
+
+// It starts and joins threads, and doesn't lend what waits.
+impl<R: Threads, G> Threads for Caller<R, G> {}
+
+/// A gate that is lent, which does what the gate does.
+#[derive(Drop)]
+pub struct Lent<'a, G> {
+    gate: &'a G,
+}
+
+impl<'a, G: Gate> Lent<'a, G> {
+    /// Lends the gate.
+    pub fn of(gate: &'a G) -> Lent<'a, G> {
+        Lent { gate }
+    }
+}
+
+impl<'a, G: Gate> Gate for Lent<'a, G> {
+    fn may_start(&self, k: u32) -> bool {
+        self.gate.may_start(k)
+    }
+
+    fn arrived(&self, k: u32) {
+        self.gate.arrived(k)
+    }
+}
+
+impl<'a, R: Wait, G: Gate> Caller<&'a R, Lent<'a, G>> {
+    /// The caller with this runtime and this gate.
+    pub fn of(rt: &'a R, gate: &'a G) -> Caller<&'a R, Lent<'a, G>> {
+        Caller {
+            rt,
+            gate: Lent::of(gate),
+        }
+    }
+}
+
+impl<R: Threads + Wait, G> Caller<R, G> {
+    // Calls f with a scope, and waits for the threads that f starts there.
+    pub(crate) fn scope<'e, F: for<'s> FnOnce(&'s Scope<'s, &'e ()>) -> T, T>(&self, f: F) -> T
+        requires { F.IsAlwaysCallable f }
+        ensures { (s : _) × F.post f s result }
+    {
+        thread::scope(thread::scope_env(), &self.rt, f)
+    }
+}

@@ -1,0 +1,72 @@
+// The arrival of a pass at the first barrier, and that the gate was told of it.
+ghost use Rattle.std.specs.Prelude.{◌≡◌, true, false, slice_get, Some};
+ghost use Rattle.mt_machine.specs.declared.phase.Phase.TheVariants.{Taken};
+ghost use Rattle.mt_rendezvous.specs.Station.{Begins};
+ghost use Rattle.mt_rendezvous.specs.Plays.{IsWaiting};
+ghost use Rattle.mt_rendezvous.specs.InStation.{HasAddedIn};
+
+use crate::caller::Caller;
+use crate::station::{CANCEL, Pass, Station};
+use crate::view::Turn;
+use mt_cpu::Cpu;
+use mt_machine::Event;
+use mt_ports::Gate;
+
+// That the gate is to be told of an arrival. `Pass::arrive` alone makes one, by the number of a pass that has added to the
+// first count, and no pass adds twice. It can't be copied, and only `tell` takes it apart.
+pub(crate) struct Arrival {
+    number: u32,
+}
+
+// That the caller's gate was told of an arrival: `Arrival::tell` alone makes one. No pass leaves the first barrier without
+// one of its number (`Pass::wait_first`).
+#[derive(Drop)]
+pub(crate) struct Heard {
+    number: u32,
+}
+
+impl Arrival {
+    // The arrival of this pass's processor.
+    fn of(pass: &Pass) -> Arrival
+        requires added { HasAddedIn pass.now }
+        ensures { result.number ≡ pass.now.number }
+    {
+        Arrival {
+            number: pass.processor(),
+        }
+    }
+
+    // Tells the caller's gate, once.
+    pub(crate) fn tell<R, G: Gate>(self, caller: &Caller<R, G>) -> Heard
+        ensures { result.number ≡ self.number }
+    {
+        let Arrival { number } = self;
+        caller.gate.arrived(number);
+        Heard { number }
+    }
+}
+
+impl Pass {
+    ghost use Rattle.mt_rendezvous.specs.InStation.{CarriesIn, start_at};
+
+    // Adds to word 0: the event Arrive, or none where the word held the cancel before.
+    pub(crate) fn arrive(&mut self, station: &Station, cpu: &mut Cpu) -> Arrival
+        requires carries { CarriesIn station.now self.old cpu.old false false }
+        requires taken { cpu.old.phase ≡ Taken }
+        ensures carries { CarriesIn station.now self.new cpu.new true false }
+        ensures waits { IsWaiting cpu.new.phase }
+        ensures same { cpu.new ≡ record cpu.old { phase = cpu.new.phase } }
+        ensures first { slice_get (start_at station.now).cpus self.old.number ≡ Some cpu.old }
+        ensures shown { self.new.shown ≡ self.old.shown }
+        ensures begins { Begins (start_at station.now) }
+        ensures number { self.new.number ≡ self.old.number }
+        ensures token { result.number ≡ self.old.number }
+    {
+        let found = station.table.shared.fetch_add::<Turn>(&mut self.seat, 0, 1);
+        if found < CANCEL {
+            cpu.shift(Event::Arrive);
+            return Arrival::of(self);
+        }
+        Arrival::of(self)
+    }
+}
