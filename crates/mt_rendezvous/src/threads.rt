@@ -26,7 +26,7 @@ use crate::gather::disband;
 use crate::refusal::{Refusal, boxed, gather_station, room};
 use crate::station::{Attendee, Root, Station};
 use crate::waits::Waiter;
-use mt_bus::{Holders, System};
+use mt_bus::{Holders, System, SystemParts};
 use mt_core::{CallFault, Core, a_core_arises};
 use mt_cpu::Cpu;
 use mt_machine::Event;
@@ -37,8 +37,8 @@ use mt_types::KindTable;
 use std::alloc::Global;
 use std::snapshot::Snapshot;
 use std::sync::Wait;
+use std::thread;
 use std::thread::{Promise, PromisedHandle, Scope, Threads};
-use std::{mem, thread};
 
 // What the thread of a processor promises: the processor comes back, and runs.
 #[derive(Drop)]
@@ -448,12 +448,12 @@ fn put_together(cpus: Vec<Cpu>, ram: Ram, tables: Vec<KindTable>, holders: Holde
     requires held { AreHeldBy cpus.items holders }
     ensures { result ≡ system cpus.items ram }
 {
-    System {
+    System::from_parts(SystemParts {
         cpus,
         ram,
         tables,
         holders,
-    }
+    })
 }
 
 // A core without an update under way.
@@ -480,12 +480,12 @@ fn finished<R: Threads + Wait + Sync, G: Gate>(
     requires begins { Begins (gathered system.processors system.memory goal.now) }
     ensures { result ≡ updated system [] goal.now }
 {
-    let System {
+    let SystemParts {
         cpus,
         mut ram,
         mut tables,
         holders,
-    } = system;
+    } = system.into_parts();
     let Led { outcome, cpus } = lead_on_threads(rt, alloc, cpus, &mut ram, goal, gate);
     renew_tables(&mut tables, outcome.is_ok(), kinds);
     let system = put_together(cpus, ram, tables, holders);
@@ -493,18 +493,6 @@ fn finished<R: Threads + Wait + Sync, G: Gate>(
         Ok(()) => at_rest(system),
         Err(refusal) => lead_alone(refusal, system, goal),
     }
-}
-
-// A core without processors and windows, which stands in for another.
-fn stand_in(alloc: Global) -> Core
-    ensures { result ≡ record { system = system [] (record { windows = []; words = [] }); order = None } }
-{
-    Core::new(System {
-        cpus: Vec::new(alloc),
-        ram: Ram::new(alloc),
-        tables: Vec::new(alloc),
-        holders: Holders::unknown(alloc),
-    })
 }
 
 // The types of the goal of the update that is under way.
@@ -533,7 +521,7 @@ fn lead<R: Threads + Wait + Sync, G: Gate>(
 {
     a_core_arises(core); // a fact for the proof
     let kinds = kinds_of(core);
-    let system = mem::replace(core, stand_in(alloc)).into_system();
+    let system = core.take_system(alloc);
     *core = finished(rt, alloc, system, goal, &kinds, gate);
 }
 
