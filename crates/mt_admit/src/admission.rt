@@ -25,7 +25,7 @@ fn count(core: &Core) -> usize
     ensures core { IsCore core.now }
 {
     a_core_arises(core); // a fact for the proof
-    core.system().cpus.len()
+    core.system().cpus().len()
 }
 
 // Processor 0's registers.
@@ -33,7 +33,7 @@ fn first_file(core: &Core) -> RegFile
     requires { 0 < length core.now.system.processors }
     ensures { result ≡ first_file core.now.system }
 {
-    core.system().cpus.as_slice()[0].regs().same()
+    core.system().cpus()[0].regs().same()
 }
 
 // Begins an update to registers without a fault, where none is under way.

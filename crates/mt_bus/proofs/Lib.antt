@@ -9,8 +9,10 @@ mod Masks
 pub mod Held
 mod Others
 mod Skipped
+mod Holding
 mod Places
 mod Refusing
+pub mod Stepping
 mod Rooms
 pub mod Tables
 mod Translated

@@ -11,9 +11,12 @@ ghost use Rattle.mt_machine.specs.Machine.{FitsControl};
 ghost use Rattle.mt_machine.specs.Control.{control};
 ghost use Rattle.mt_machine.specs.Bus.{drain};
 ghost use Rattle.mt_machine.specs.Access.{access};
+ghost use Rattle.mt_bus.specs.Parts.{system};
 ghost use Rattle.mt_bus.specs.Tables.{AreTablesOf};
+ghost use Rattle.mt_bus.specs.Whole.{IsWhole};
 
 use crate::holders::Holders;
+use crate::system_parts::SystemParts;
 use crate::{accesses, buffers, controls};
 use mt_cpu::Cpu;
 use mt_machine::{Control, Done, Op, Ruled};
@@ -30,12 +33,10 @@ use std::marker::Model;
 /// may have it. The tables and the holders are no part of the system's value.
 #[derive(Drop)]
 pub struct System {
-    pub cpus: Vec<Cpu>,
-    pub ram: Ram,
-    /// Each processor's table of types.
-    pub tables: Vec<KindTable>,
-    /// Which caches may have a line.
-    pub holders: Holders,
+    pub(crate) cpus: Vec<Cpu>,
+    pub(crate) ram: Ram,
+    pub(crate) tables: Vec<KindTable>,
+    pub(crate) holders: Holders,
 }
 
 impl Model for System {
@@ -109,6 +110,71 @@ impl System {
             tables,
             holders,
         })
+    }
+
+    /// A system without processors and windows.
+    pub fn empty(alloc: Global) -> System
+        ensures { result ≡ system [] (record { windows = []; words = [] }) }
+    {
+        System {
+            cpus: Vec::new(alloc),
+            ram: Ram::new(alloc),
+            tables: Vec::new(alloc),
+            holders: Holders::unknown(alloc),
+        }
+    }
+
+    /// Puts a system together. Requires that caches and memory agree, that the tables are those of the processors' registers,
+    /// and that the holders have each cached line.
+    pub fn from_parts(parts: SystemParts) -> System
+        requires { IsWhole parts }
+        ensures { result ≡ system parts.cpus.items parts.ram }
+    {
+        let SystemParts {
+            cpus,
+            ram,
+            tables,
+            holders,
+        } = parts;
+        System {
+            cpus,
+            ram,
+            tables,
+            holders,
+        }
+    }
+
+    /// Takes the system apart.
+    pub fn into_parts(self) -> SystemParts
+        ensures whole { IsWhole result }
+        ensures value { system result.cpus.items result.ram ≡ self }
+    {
+        let System {
+            cpus,
+            ram,
+            tables,
+            holders,
+        } = self;
+        SystemParts {
+            cpus,
+            ram,
+            tables,
+            holders,
+        }
+    }
+
+    /// The processors, by their numbers.
+    pub fn cpus(&self) -> &[Cpu]
+        ensures { result.now ≡ self.now.processors }
+    {
+        self.cpus.as_slice()
+    }
+
+    /// The memory.
+    pub fn ram(&self) -> &Ram
+        ensures { result.now ≡ self.now.memory }
+    {
+        &self.ram
     }
 
     /// Adds a window of zero words to the memory, from an address in bytes on.

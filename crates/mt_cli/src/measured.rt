@@ -245,7 +245,7 @@ fn run_jobs<R: Threads + Wait + Sync, G: Gate>(
 fn memory_sum(core: &Core) -> u64
     ensures { result ≡ words_sum core.now.system.memory.words }
 {
-    words_sum(&core.system().ram)
+    words_sum(core.system().ram())
 }
 
 // The sums of these answers, and of the memory's words.

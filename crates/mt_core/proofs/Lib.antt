@@ -1,6 +1,5 @@
 pub mod Arising
 pub mod Eras
-mod Holding
 pub mod Progress
 pub mod Reaching
 pub mod Settling

@@ -14,35 +14,33 @@ use Rattle.mt_regs.specs.declared.registers.Register.{Register}
 use Rattle.mt_regs.specs.RegisterFile.{RegisterFile}
 use Rattle.mt_regs.specs.Registers.{value_of, writable}
 use Rattle.mt_regs.specs.Faults.{IsAccepted}
-use Rattle.mt_cpu.specs.Steps.{HasWritten, is_local, is_shift}
+use Rattle.mt_cpu.specs.Steps.{HasWritten, is_shift}
 use Rattle.mt_machine.specs.declared.phase.Phase.{Phase}
 use Rattle.mt_machine.specs.declared.phase.Phase.TheVariants.{Running}
 use Rattle.mt_machine.specs.declared.event.Event.{Event}
-use Rattle.mt_machine.specs.declared.event.Event.TheVariants.{Release, Take, WriteBack}
-use Rattle.mt_machine.specs.Memory.{IsMemory, Memory, Window, put_word}
+use Rattle.mt_machine.specs.declared.event.Event.TheVariants.{Release, Take}
+use Rattle.mt_machine.specs.Memory.{IsMemory, Window}
 use Rattle.mt_machine.specs.System.{IsSound, Processor, System, snooping, with_self_snoop}
 use Rattle.mt_machine.specs.Bus.{drain, with_buffers}
 use Rattle.mt_machine.specs.Access.{is_running}
-use Rattle.mt_machine.specs.Machine.{FitsGoal, Machine, MachineEvent, IsEnabled, Order, Steps, before_own, due, due_at, next, own_step, remaining_order, step}
+use Rattle.mt_machine.specs.Machine.{FitsGoal, Machine, MachineEvent, IsEnabled, Order, Steps, before_own, due, due_at, next, remaining_order, step}
 use Rattle.mt_machine.proofs.Files.{AgreeAll}
-use Rattle.mt_laws.proofs.Barrier.Claims.{all_get}
 use Rattle.mt_laws.proofs.Barrier.Ranks.{Guarded, stage_at}
 use Rattle.mt_laws.proofs.Barrier.Stages.{drain_stages, stage_of, stages}
 use Rattle.mt_laws.proofs.Clearing.Follows.{follows_drain}
 use Rattle.mt_bus.proofs.Tables.{same_length}
+use Rattle.mt_bus.proofs.Stepping.{taken}
 use Rattle.mt_core.proofs.Arising.{went}
 use Rattle.mt_laws.proofs.Clearing.Renewed.{at_change, is_take, no_take}
 use Rattle.mt_laws.proofs.Invariant.Kept.{start_sound}
 use Rattle.mt_laws.proofs.Invariant.Parts.{memory_of}
 use Rattle.mt_laws.proofs.Invariant.Standing.{Standing, standing_next, standing_sound, start_standing}
-use Rattle.mt_laws.proofs.Registers.UnderWay.{lines_are_low}
 use Rattle.mt_laws.proofs.Words.Sound.{aligned_all, sound_agrees}
-use Rattle.mt_bus.proofs.Changed.{changed_is}
 use Rattle.mt_bus.proofs.Grown.{sound_grown}
 use Rattle.mt_ram.specs.Windows.{with_window}
 use Rattle.mt_core.specs.Arises.{Arises, IsCore, by_event, by_window, from_start, grown, by_snooping, snooped, by_coming_up, by_going_down}
-use Rattle.mt_bus.specs.Parts.{system, with_changed}
-use Rattle.mt_core.specs.Steps.{under_way, with_word_of}
+use Rattle.mt_bus.specs.Steps.{IsReady}
+use Rattle.mt_core.specs.Steps.{under_way}
 
 abbrev Stands : Machine → Type 0
 Stands m = IsMemory m.system.memory × Standing m.system.memory.windows m
@@ -141,9 +139,6 @@ module _ (o : Order) (s : System) (core : IsCore (under_way o s)) where
     pub written_at : HasWritten o.goal p
     written_at i writing = let f = (stands core.arises).1.filed.1 k p at in agree_all o.goal p.file (take i (writable o.goal)) (f.writing i writing).1
 
-    pub low_at : All (λ l. l.number < 2 ^ 46) p.lines
-    low_at = (all_get (λ q. All (λ l. l.number < 2 ^ 46) q.lines × All (λ l. l.number < 2 ^ 46) q.buffers) s.processors (lines_are_low s (is_sound (under_way o s) core.arises)) k p at).0
-
     pub room_at : (e : Event) → IsTrue (is_shift e p.phase) → e ≡ Release → p.era < 2 ^ 64 - 1
     room_at e shift release =
         let guarded : Guarded o (stages s) = (stands core.arises).1.kept.0 in
@@ -162,26 +157,6 @@ drained k s p at =
     (λ (e : (k ≢ k) × (slice_get _ k ≡ Some p)). absurd (e.0 refl))
     (at_change (with_buffers (λ _. [])) k _ k p at)
 
-pub worked : (goal : RegisterFile) (e : Event) (k : ℕ) (ps : List Processor) (m : Memory) → e ≢ Take
-    → system (with_changed (own_step goal e) k ps) (with_word_of e m) ≡ step goal e k (system ps m)
-worked goal Take k ps m other = absurd (other refl)
-worked goal (WriteBack address value) k ps m other = changed_is (own_step goal (WriteBack address value)) k ps (put_word m address value)
-worked goal e k ps m other = changed_is (own_step goal e) k ps m
-
-local_rests : (ph : Phase) → IsTrue (is_local ph) → is_running ph ≡ false
-local_rests Running h = absurd (cc)
-local_rests other h = refl
-
-pub taken : is_take Take ≡ true
-unfolding is_take
-taken = refl
-
-pub local_takes_not : (o : Order) (ps : List Processor) (p : Processor) (e : Event) → IsTrue (is_local p.phase) → due o ps p p.phase ≡ Some e → e ≢ Take
-local_takes_not o ps p e h is same =
-    let a : is_take e ≡ true = ap is_take same ∙ taken in
-    let b : is_take e ≡ false = no_take o ps p p.phase e (local_rests p.phase h) is in
-    absurd (cc)
-
 take_runs : (o : Order) (ps : List Processor) (p : Processor) (ph : Phase) → due o ps p ph ≡ Some Take → is_shift Take ph ≡ true
 take_runs o ps p Running h = refl
 take_runs o ps p other h = absurd (let b : is_take Take ≡ false = no_take o ps p other Take refl h in let a : is_take Take ≡ true = taken in cc)
@@ -195,12 +170,6 @@ taken_at o s k is q at =
 pub drained_length : (k : ℕ) (s : System) → length (drain k s).processors ≡ length s.processors
 drained_length k s = same_length s (drain k s) (drain_stages k s)
 
--- what a barrier event asks of the processor
-pub record IsReady (e : Event) (q : Processor) : Type 0 where
-  pub enabled : IsTrue (is_shift e q.phase)
-  pub room : e ≡ Release → q.era < 2 ^ 64 - 1
-  pub empty : e ≡ Take → q.buffers ≡ []
-
 abbrev Shifts : Event → ℕ → System → Type 0
 Shifts e k s = (p : Processor) → slice_get s.processors k ≡ Some p → IsTrue (is_shift e p.phase)
 
@@ -208,15 +177,6 @@ pub prepared : (o : Order) (s : System) → IsCore (under_way o s) → (k : ℕ)
     → (q : Processor) → slice_get (before_own e k s).processors k ≡ Some q → IsReady e q
 prepared o s core k Take due shifts q at = record { enabled = taken_at o s k due q at; room = λ same. absurd (cc); empty = λ _. drained k s q at }
 prepared o s core k e due shifts q at = record { enabled = shifts q at; room = room_at o s core k q at e (shifts q at); empty = λ same. absurd (cc) }
-
-pub prepared_length : (e : Event) (k : ℕ) (s : System) → length (before_own e k s).processors ≡ length s.processors
-prepared_length Take k s = drained_length k s
-prepared_length e k s = refl
-
-pub unprepared : (e : Event) (ph : Phase) (k : ℕ) (s : System) → e ≢ Take → IsTrue (is_shift e ph) → s ≡ before_own e k s
-unprepared Take ph k s other h = absurd (other refl)
-unprepared (WriteBack address value) ph k s other h = absurd (cc)
-unprepared e ph k s other h = refl
 
 -- a step by its event and by the order that is left
 pub advanced : (o : Order) (s : System) → IsCore (under_way o s) → (k : ℕ) (e : Event) → due_at (under_way o s) k ≡ Some e

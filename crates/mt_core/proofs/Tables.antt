@@ -16,12 +16,12 @@ use Rattle.mt_cpu.specs.Steps.{is_shift}
 use Rattle.mt_laws.proofs.Clearing.Follows.{follows_drain}
 use Rattle.mt_laws.proofs.Clearing.Renewed.{at_change}
 use Rattle.mt_laws.proofs.Registers.Filed.{FiledAt, filed_steps, flush_file, is_done}
+use Rattle.mt_bus.specs.Steps.{KeepsSystem, tables_after}
 use Rattle.mt_bus.specs.Tables.{AreTablesOf}
 use Rattle.mt_bus.proofs.Changed.{processor_of}
 use Rattle.mt_core.specs.Arises.{IsCore}
 use Rattle.mt_core.specs.Steps.{under_way}
-use Rattle.mt_core.specs.Tables.{tables_after}
-use Rattle.mt_core.proofs.Stepping.{stands}
+use Rattle.mt_core.proofs.Stepping.{stands, step_sound}
 
 -- ---- one processor
 
@@ -124,26 +124,18 @@ tables_stepped o s core k e is t ts new h = record {
         let st = (stands core.arises).1 in
         (filed_steps o e k s from.0 from.1 (due_in o s k from.0 e is from.1) st.kept.0 st.filed).1 j q at
 
-pub before_local : (e : Event) (k : ℕ) (s : System) → e ≢ Take → (before_own e k s).processors ≡ s.processors
-before_local Take k s other = absurd (other refl)
-before_local (WriteBack a v) k s other = refl
-before_local e k s other = refl
-
-shift_leaves : (e : Event) (ph : Phase) (k : ℕ) (t : TypeTable) (ts : List TypeTable) → is_shift e ph ≡ true → tables_after e k t ts ≡ ts
-shift_leaves Enable ph k t ts h = absurd (cc)
-shift_leaves e ph k t ts h = refl
-
 shift_enables_not : (e : Event) (ph : Phase) → is_shift e ph ≡ true → e ≢ Enable
 shift_enables_not Enable ph h = absurd (cc)
 shift_enables_not e ph h = λ same. absurd (let w : is_shift Enable ph ≡ true = ap (λ (v : Event). is_shift v ph) (sym same) ∙ h in cc)
 
--- an event of the barriers leaves the tables
-pub tables_shifted : (o : Order) (s : System) → IsCore (under_way o s) → (k : ℕ) (e : Event) → due_at (under_way o s) k ≡ Some e → k < length s.processors
-    → ((p : Processor) → slice_get s.processors k ≡ Some p → is_shift e p.phase ≡ true) → (ts : List TypeTable)
-    → AreTablesOf (before_own e k s).processors ts → AreTablesOf (step o.goal e k s).processors ts
-tables_shifted o s core k e is within shift ts h =
-    let here = processor_of s.processors k within in
-    let shifts = shift here.0 here.1 in
-    let t : TypeTable = record { parts = []; covered = 0 } in
-    subst (AreTablesOf (step o.goal e k s).processors) (shift_leaves e here.0.phase k t ts shifts)
-    (tables_stepped o s core k e is t ts (λ same. absurd (shift_enables_not e here.0.phase shifts same)) h)
+-- an event of the barriers leaves the tables, and Enable puts the goal's table there
+pub kept_local : (o : Order) (s : System) → IsCore (under_way o s) → (k : ℕ) (e : Event) → due_at (under_way o s) k ≡ Some e → (t : TypeTable) → IsTableOf o.goal t → KeepsSystem o.goal e k s t
+kept_local o s core k e is t new = record { sound = step_sound o s core k e is; tables = λ ts h. tables_stepped o s core k e is t ts (λ _. new) h }
+
+pub kept_shifted : (o : Order) (s : System) → IsCore (under_way o s) → (k : ℕ) (e : Event) → due_at (under_way o s) k ≡ Some e → k < length s.processors
+    → ((p : Processor) → slice_get s.processors k ≡ Some p → is_shift e p.phase ≡ true) → (t : TypeTable) → KeepsSystem o.goal e k s t
+kept_shifted o s core k e is within shift t =
+    let here = processor_of s.processors k within in record {
+      sound = step_sound o s core k e is;
+      tables = λ ts h. tables_stepped o s core k e is t ts (λ same. absurd (shift_enables_not e here.0.phase (shift here.0 here.1) same)) h;
+    }

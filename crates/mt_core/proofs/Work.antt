@@ -29,7 +29,8 @@ use Rattle.mt_laws.proofs.Words.Sound.{aligned_all}
 use Rattle.mt_core.specs.Arises.{Arises}
 use Rattle.mt_core.proofs.Arising.{machine, step_length}
 use Rattle.mt_bus.proofs.Changed.{processor_of}
-use Rattle.mt_core.proofs.Stepping.{stands, taken}
+use Rattle.mt_bus.proofs.Stepping.{taken}
+use Rattle.mt_core.proofs.Stepping.{stands}
 
 -- no processor has more to do once it has passed the first barrier: its registers, the words of 64 lines, and ten events more
 abbrev full : Order → ℕ

@@ -5,4 +5,3 @@ pub mod Rounds
 pub mod Since
 pub mod Steps
 pub mod Stops
-pub mod Tables

@@ -5,9 +5,6 @@ use Rattle.mt_machine.specs.declared.phase.Phase.{Phase}
 use Rattle.mt_machine.specs.declared.phase.Phase.TheVariants.{Arrived, Arrived2}
 use Rattle.mt_machine.specs.System.{Processor, System}
 use Rattle.mt_machine.specs.Machine.{BarrierCount, Machine, Order, Steps, due_at, first_barrier_count, is_cancelled, next, second_barrier_count}
-use Rattle.mt_machine.specs.declared.event.Event.{Event}
-use Rattle.mt_machine.specs.declared.event.Event.TheVariants.{WriteBack}
-use Rattle.mt_machine.specs.Memory.{Memory, put_word}
 use Rattle.mt_core.specs.declared.stepped.Stepped.{Stepped}
 use Rattle.mt_core.specs.declared.stepped.Stepped.TheVariants.{Did, NoUpdate, Waits}
 
@@ -38,8 +35,3 @@ step_answer m k = option_map_or Did (due_at m k) (pause_at m k)
 -- nothing changes where no event is due
 abbrev pub step_after : Machine → ℕ → Machine
 step_after m k = option_map_or (λ e. next m (Steps k e)) (due_at m k) m
-
--- the memory with the word that an event writes back
-abbrev pub with_word_of : Event → Memory → Memory
-with_word_of (WriteBack address value) m = put_word m address value
-with_word_of other m = m

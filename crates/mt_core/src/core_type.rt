@@ -13,6 +13,7 @@ ghost use Rattle.mt_machine.specs.Machine.{BarrierCount, Calls, Cancels, FitsCon
 ghost use Rattle.mt_machine.specs.Update.{IsSettled};
 ghost use Rattle.mt_machine.specs.declared.event.Event.TheVariants.{Release};
 ghost use Rattle.mt_core.specs.declared.stepped.Stepped.TheVariants.{Did, NoUpdate, Waits};
+ghost use Rattle.mt_bus.specs.Parts.{system};
 ghost use Rattle.mt_core.specs.Arises.{IsCore, grown, snooped};
 ghost use Rattle.mt_core.specs.Headline.{WaitsIn};
 ghost use Rattle.mt_core.specs.Rounds.{IsWholeUpdate, Rounds, each_steps, with_go_given};
@@ -32,6 +33,7 @@ use mt_regs::RegFile;
 use mt_types::KindTable;
 use std::alloc::Global;
 use std::marker::Model;
+use std::mem;
 
 /// Processors over one memory with the update that is under way, if there is one.
 #[derive(Drop)]
@@ -56,13 +58,13 @@ fn common_era(system: &System) -> u64
     requires { 0 < length system.now.processors }
     ensures { result ≡ common_era system.now.processors }
 {
-    system.cpus.as_slice()[0].era()
+    system.cpus()[0].era()
 }
 
 fn is_over_in(system: &System, order: &Order) -> bool
     ensures { result ≡ is_over order.now system.now.processors }
 {
-    is_over(system.cpus.as_slice(), order)
+    is_over(system.cpus(), order)
 }
 
 fn pause_in(system: &System, order: &Order, k: u32) -> Stepped
@@ -70,7 +72,7 @@ fn pause_in(system: &System, order: &Order, k: u32) -> Stepped
     requires few { length system.now.processors ≤ 16 }
     ensures { result ≡ pause_at (under_way order.now system.now) k }
 {
-    pause(system.cpus.as_slice(), order, k as usize)
+    pause(system.cpus(), order, k as usize)
 }
 
 impl Core {
@@ -121,6 +123,14 @@ impl Core {
         ensures { result ≡ self.system }
     {
         self.system
+    }
+
+    /// The same out of a loan. It leaves a core without processors and windows.
+    pub fn take_system(&mut self, alloc: Global) -> System
+        ensures taken { result ≡ self.old.system }
+        ensures left { self.new ≡ record { system = system [] (record { windows = []; words = [] }); order = None } }
+    {
+        mem::replace(self, Core::new(System::empty(alloc))).into_system()
     }
 
     /// One access of a processor, an address being in bytes. The order stays.
@@ -271,7 +281,7 @@ impl Core {
     fn count(&self) -> u32
         ensures { result ≡ length self.now.system.processors }
     {
-        self.system.cpus.len() as u32
+        self.system.cpus().len() as u32
     }
 
     // One turn: each processor in ascending order does its event that is due.

@@ -13,7 +13,7 @@ fn write_back_core(alloc: Global, cpus: u32) -> Option<Core> {
 
 /// Loads the first word of page 1, through a mapping that it sets.
 fn load(core: &mut Core, k: u32) -> Option<Done> {
-    if map(core, k)? != Ruled::Okay || (k as usize) >= core.system().cpus.len() {
+    if map(core, k)? != Ruled::Okay || (k as usize) >= core.system().cpus().len() {
         return None;
     }
     Some(core.access(k, Op::Load(0x1000)))
@@ -24,7 +24,7 @@ fn loads(core: &mut Core, k: u32, v: u64, kind: MemType) -> bool {
 }
 
 fn bring_up(core: &mut Core) -> Option<Result<u32, UpFault>> {
-    let cpus = core.system().cpus.as_slice();
+    let cpus = core.system().cpus();
     if cpus.is_empty() || !has_room(cpus) {
         return None;
     }
@@ -32,7 +32,7 @@ fn bring_up(core: &mut Core) -> Option<Result<u32, UpFault>> {
 }
 
 fn admit_one(core: &mut Core) -> Option<Result<u32, UpFault>> {
-    let cpus = core.system().cpus.as_slice();
+    let cpus = core.system().cpus();
     if cpus.is_empty() || !has_room(cpus) {
         return None;
     }
@@ -40,7 +40,7 @@ fn admit_one(core: &mut Core) -> Option<Result<u32, UpFault>> {
 }
 
 fn retire_one(core: &mut Core) -> Option<Result<u32, RetireFault>> {
-    if core.system().cpus.is_empty() {
+    if core.system().cpus().is_empty() {
         return None;
     }
     Some(retire(core))
@@ -63,7 +63,7 @@ fn refuses(core: &mut Core, fault: UpFault) -> bool {
 
 /// Whether a register of a processor has this value, and its cache is in no-fill mode or not.
 fn has_register(core: &Core, k: usize, msr: u32, value: u64, cd: bool) -> bool {
-    match core.system().cpus.get(k) {
+    match core.system().cpus().get(k) {
         Some(cpu) => cpu.regs().get(msr) == Some(value) && cpu.cd() == cd,
         None => false,
     }
@@ -89,7 +89,7 @@ fn sixteen_come_and_go(rt: HostRuntime) {
     }
     holds(&rt, has_word(&core, 0x10_0000, 0));
     holds(&rt, retire_one(&mut core) == Some(Err(RetireFault::Last)));
-    holds(&rt, core.system().cpus.len() == 1);
+    holds(&rt, core.system().cpus().len() == 1);
 }
 
 /// Whether none comes or goes while an update is under way. None if there is none.
@@ -118,7 +118,7 @@ fn none_comes_within_an_update(rt: HostRuntime) {
     // Each does one event for each of 29 registers, and 13 more.
     holds(&rt, refused >= 84);
     holds(&rt, core.order().is_none());
-    holds(&rt, core.system().cpus.len() == 2);
+    holds(&rt, core.system().cpus().len() == 2);
     holds(&rt, admits(&mut core, 2));
     for k in 0..3 {
         holds_at(&rt, k as u64, has_register(&core, k, 0x200, 4, false));

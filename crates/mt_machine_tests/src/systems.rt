@@ -59,7 +59,7 @@ fn map(system: &mut System, k: u32, vpage: u64, ppage: u64) -> Option<Ruled> {
         index: 0,
         global: false,
     };
-    let pages = system.cpus.get(k as usize)?.regs().pages();
+    let pages = system.cpus().get(k as usize)?.regs().pages();
     if x.vpage < 1 << 36 && x.ppage < pages {
         Some(system.control(k, Control::Map(x)))
     } else {
@@ -72,7 +72,7 @@ fn is_mapped(system: &mut System, k: u32, vpage: u64, ppage: u64) -> bool {
 }
 
 fn access(system: &mut System, k: u32, op: Op) -> Option<Done> {
-    if (k as usize) < system.cpus.len() {
+    if (k as usize) < system.cpus().len() {
         Some(system.access(k, op))
     } else {
         None
@@ -86,7 +86,7 @@ fn answers(system: &mut System, k: u32, op: Op, done: Done) -> bool {
 
 /// Whether a processor has so many lines.
 fn has_lines(system: &System, k: usize, lines: usize) -> bool {
-    match system.cpus.get(k) {
+    match system.cpus().get(k) {
         Some(cpu) => cpu.cache().len() == lines,
         None => false,
     }
@@ -107,7 +107,7 @@ fn a_store_takes_the_line_over(rt: HostRuntime) {
             Done::Stored(MemType::WB),
         ),
     );
-    holds(&rt, system.ram.read(0x10_0000) == 0);
+    holds(&rt, system.ram().read(0x10_0000) == 0);
     holds(
         &rt,
         answers(
@@ -117,7 +117,7 @@ fn a_store_takes_the_line_over(rt: HostRuntime) {
             Done::Value(0x2a, MemType::WB),
         ),
     );
-    holds(&rt, system.ram.read(0x10_0000) == 0x2a);
+    holds(&rt, system.ram().read(0x10_0000) == 0x2a);
     holds(
         &rt,
         answers(
@@ -127,7 +127,7 @@ fn a_store_takes_the_line_over(rt: HostRuntime) {
             Done::Stored(MemType::WB),
         ),
     );
-    holds(&rt, system.ram.read(0x10_0000) == 0x2a);
+    holds(&rt, system.ram().read(0x10_0000) == 0x2a);
     for (k, lines) in [(0, 0), (1, 1)] {
         holds_at(&rt, k as u64, has_lines(&system, k, lines));
     }
@@ -149,7 +149,7 @@ fn the_oldest_of_four_buffers_gives_way(rt: HostRuntime) {
             ),
         );
     }
-    holds(&rt, system.ram.read(0x10_0000) == 0);
+    holds(&rt, system.ram().read(0x10_0000) == 0);
     holds(
         &rt,
         answers(
@@ -159,11 +159,11 @@ fn the_oldest_of_four_buffers_gives_way(rt: HostRuntime) {
             Done::Stored(MemType::WC),
         ),
     );
-    holds(&rt, system.ram.read(0x10_0000) == 7);
-    holds(&rt, system.ram.read(0x10_0040) == 0);
+    holds(&rt, system.ram().read(0x10_0000) == 7);
+    holds(&rt, system.ram().read(0x10_0040) == 0);
     holds(&rt, answers(&mut system, 0, Op::Fence, Done::Fenced));
-    holds(&rt, system.ram.read(0x10_0040) == 8);
-    holds(&rt, system.ram.read(0x10_0100) == 11);
+    holds(&rt, system.ram().read(0x10_0040) == 8);
+    holds(&rt, system.ram().read(0x10_0100) == 11);
 }
 
 #[test]
@@ -176,7 +176,7 @@ fn refusals_and_no_fill_mode(rt: HostRuntime) {
     );
     holds(&rt, is_mapped(&mut system, 0, 2, 0x200));
     holds(&rt, answers(&mut system, 0, Op::Load(0x2000), Done::NoRam));
-    if 0 < system.cpus.len() {
+    if 0 < system.cpus().len() {
         holds(&rt, system.control(0, Control::Cd(true)) == Ruled::Okay);
     }
     holds(
@@ -190,7 +190,7 @@ fn refusals_and_no_fill_mode(rt: HostRuntime) {
     );
     holds(
         &rt,
-        matches!(system.cpus.first(), Some(cpu) if cpu.cache().len() == 0 && cpu.tlb().entries().len() == 2),
+        matches!(system.cpus().first(), Some(cpu) if cpu.cache().len() == 0 && cpu.tlb().entries().len() == 2),
     );
 }
 

@@ -12,7 +12,7 @@ fn pair(alloc: Global) -> Option<Core> {
 
 /// Whether a processor has this first pair, is in this era and holds nothing.
 fn is_settled(core: &Core, k: usize, kind: u64, era: u64) -> bool {
-    let Some(cpu) = core.system().cpus.get(k) else {
+    let Some(cpu) = core.system().cpus().get(k) else {
         return false;
     };
     cpu.regs().get(0x200) == Some(kind)
@@ -23,7 +23,7 @@ fn is_settled(core: &Core, k: usize, kind: u64, era: u64) -> bool {
 
 /// Whether a processor's first base register has this value.
 fn has_base(core: &Core, k: usize, base: u64) -> bool {
-    match core.system().cpus.get(k) {
+    match core.system().cpus().get(k) {
         Some(cpu) => cpu.regs().get(0x200) == Some(base),
         None => false,
     }
@@ -134,17 +134,17 @@ fn windows_are_added(rt: HostRuntime) {
 fn one_comes_up_and_two_go(rt: HostRuntime) {
     let mut core = some(&rt, dirty_pair(rt.alloc()));
     let is_idle = core.order().is_none();
-    if is_idle && !core.system().cpus.is_empty() && core.system().cpus.len() <= 15 {
+    if is_idle && !core.system().cpus().is_empty() && core.system().cpus().len() <= 15 {
         holds(&rt, core.come_up() == Ok(2));
     }
-    holds(&rt, core.system().cpus.len() == 3);
+    holds(&rt, core.system().cpus().len() == 3);
     holds(&rt, has_word(&core, 0x10_0040, 0));
     for k in [2, 1] {
-        if core.order().is_none() && core.system().cpus.len() > 1 {
+        if core.order().is_none() && core.system().cpus().len() > 1 {
             holds_at(&rt, k as u64, core.go_down() == k);
         }
     }
-    holds(&rt, core.system().cpus.len() == 1);
+    holds(&rt, core.system().cpus().len() == 1);
     holds(&rt, has_word(&core, 0x10_0000, 0));
     holds(&rt, has_word(&core, 0x10_0040, 0x2b));
 }

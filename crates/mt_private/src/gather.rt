@@ -20,7 +20,7 @@ use crate::pages::names;
 use crate::view::{HandsOver, YardView};
 use crate::visiting::{Guest, YardPass};
 use atomic_table::{Seat, Table};
-use mt_bus::{Holders, System, a_system_is_sound};
+use mt_bus::{Holders, System, SystemParts, a_system_is_sound};
 use mt_cpu::Cpu;
 use mt_kinds::PAGE_BYTES;
 use mt_machine::Op;
@@ -167,12 +167,12 @@ fn settle(cpu: Cpu, table: KindTable, room: Room) -> System
     cpus.push_reserved(cpu);
     tables.push_reserved(table);
     holders.forget();
-    System {
+    System::from_parts(SystemParts {
         cpus,
         ram,
         tables,
         holders,
-    }
+    })
 }
 
 // The root's next resident goes to a new pass.
@@ -285,24 +285,25 @@ impl Yard {
         ensures refused { IfErr result (λ s. s ≡ system) }
     {
         a_system_is_sound(&system); // a fact for the proof
-        let Ok(mut guests) = Vec::with_capacity(alloc, system.cpus.len()) else {
+        let Ok(mut guests) = Vec::with_capacity(alloc, system.cpus().len()) else {
             return Err(system);
         };
-        let Some(owns) = places_for(alloc, system.cpus.len()) else {
+        let Some(owns) = places_for(alloc, system.cpus().len()) else {
             return Err(system);
         };
-        let Some(mut rooms) = rooms_for(alloc, system.cpus.as_slice(), &system.ram) else {
+        let Some(mut rooms) = rooms_for(alloc, system.cpus(), system.ram()) else {
             return Err(system);
         };
-        let Some((yard, mut seat)) = open(alloc, &system.cpus, &system.ram, goal) else {
-            return Err(system);
+        let parts = system.into_parts();
+        let Some((yard, mut seat)) = open(alloc, &parts.cpus, &parts.ram, goal) else {
+            return Err(System::from_parts(parts));
         };
-        let System {
+        let SystemParts {
             mut cpus,
             mut ram,
             mut tables,
             holders,
-        } = system;
+        } = parts;
         keep_left(cpus.as_slice(), rooms.as_slice(), &mut ram);
         give_all(
             &yard,

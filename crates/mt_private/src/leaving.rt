@@ -11,7 +11,7 @@ ghost use Rattle.mt_private.specs.Residents.{system_of};
 use crate::gather::{Room, put_words};
 use crate::host::{Host, Yard};
 use crate::joint::Joint;
-use mt_bus::System;
+use mt_bus::{System, SystemParts};
 use mt_ram::Ram;
 
 // The one processor and its table go to the end of the lists, and its words to their places.
@@ -27,12 +27,12 @@ fn bring(own: System, room: &mut Room)
     ensures count { length room.new.tables.items ≡ length room.old.tables.items + 1 }
     ensures room { (vec_capacity room.new.cpus ≡ vec_capacity room.old.cpus) × (vec_capacity room.new.tables ≡ vec_capacity room.old.tables) }
 {
-    let System {
+    let SystemParts {
         mut cpus,
         ram,
         mut tables,
         ..
-    } = own;
+    } = own.into_parts();
     let Some(cpu) = cpus.pop() else {
         unreachable!()
     };
@@ -76,12 +76,12 @@ fn assembled(rest: Room) -> System
         mut holders,
     } = rest;
     holders.forget();
-    System {
+    System::from_parts(SystemParts {
         cpus,
         ram,
         tables,
         holders,
-    }
+    })
 }
 
 /// Ends the yard, whose guests have all come back, and leaves the system that its words and views stand for. Its

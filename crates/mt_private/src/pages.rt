@@ -167,7 +167,7 @@ fn over_all(cpus: &[Cpu]) -> Option<u64>
 fn over_core(core: &Core) -> Option<u64>
     ensures { let ps = core.now.system.processors in result ≡ fold (after_names (is_shared ps)) None ps }
 {
-    over_all(core.system().cpus.as_slice())
+    over_all(core.system().cpus())
 }
 
 /// The least physical page, an address divided by 4,096, that two processors name: in which a mapping, a TLB entry, a

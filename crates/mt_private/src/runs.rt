@@ -26,14 +26,12 @@ use crate::leaving::leave;
 use crate::pages::shared_page;
 use crate::threads::{Ended, meet};
 use crate::visiting::Guest;
-use mt_bus::{Holders, System};
+use mt_bus::System;
 use mt_core::{Core, a_core_arises};
 use mt_machine::{Done, Op};
 use mt_ports::{Gate, NoMemory};
-use mt_ram::Ram;
 use mt_regs::RegFile;
 use std::alloc::Global;
-use std::mem;
 use std::sync::Wait;
 use std::thread::Threads;
 
@@ -113,16 +111,6 @@ fn room_for(alloc: Global, jobs: &[Job]) -> Result<Vec<Told>, NoMemory>
     Ok(told)
 }
 
-// A core without processors and windows, which stands in for another.
-fn stand_in(alloc: Global) -> Core {
-    Core::new(System {
-        cpus: Vec::new(alloc),
-        ram: Ram::new(alloc),
-        tables: Vec::new(alloc),
-        holders: Holders::unknown(alloc),
-    })
-}
-
 fn rested(system: System) -> Core
     requires quiet { IsQuiet (at_rest system) }
     requires few { length system.processors ≤ 16 }
@@ -143,7 +131,7 @@ fn gather_core(alloc: Global, core: &mut Core, goal: &RegFile) -> Option<(Yard, 
     ensures count { IfSome result (λ y. length y.2.items ≡ length core.old.system.processors) }
     ensures guests { IfSome result (λ y. AreGatheredIn y.0 y.2.items) }
 {
-    let system = mem::replace(core, stand_in(alloc)).into_system();
+    let system = core.take_system(alloc);
     match Yard::gather(alloc, system, goal) {
         Ok(yard) => Some(yard),
         Err(system) => {

@@ -66,7 +66,7 @@ fn phase_of(core: &Core) -> Phase
     requires { length core.now.system.processors ≡ 1 }
     ensures { AreIn result core.now.system }
 {
-    core.system().cpus.as_slice()[0].phase()
+    core.system().cpus()[0].phase()
 }
 
 impl YardPass {

@@ -127,14 +127,14 @@ impl Processors {
     pub fn file(&self) -> &RegFile
         ensures { result.now ≡ (served self.now).file }
     {
-        self.core.system().cpus.as_slice()[0].regs()
+        self.core.system().cpus()[0].regs()
     }
 
     /// How many requests were carried out.
     pub fn count(&self) -> u64
         ensures { result ≡ (served self.now).count }
     {
-        self.core.system().cpus.as_slice()[0].era()
+        self.core.system().cpus()[0].era()
     }
 
     // Does what a request asks for, and answers what is written of it.

@@ -38,7 +38,7 @@ fn take_all(core: &mut Core)
     ensures count { length core.new.system.processors ≡ length core.old.system.processors }
 {
     a_core_arises(core); // a fact for the proof
-    let count = core.system().cpus.len() as u32;
+    let count = core.system().cpus().len() as u32;
     for k in 0..count {
         core.step(k);
     }

@@ -25,7 +25,7 @@ use crate::broadcast::call_and_take;
 use crate::caller::{Attends, Caller, Permit, Refusal, boxed, gather_station, room};
 use crate::gather::disband;
 use crate::station::{Attendee, Root, Station};
-use mt_bus::{Holders, System};
+use mt_bus::{Holders, System, SystemParts};
 use mt_core::{CallFault, Core, a_core_arises};
 use mt_cpu::Cpu;
 use mt_machine::Event;
@@ -34,7 +34,6 @@ use mt_ram::Ram;
 use mt_regs::RegFile;
 use mt_types::KindTable;
 use std::alloc::Global;
-use std::mem;
 use std::sync::Wait;
 use std::thread::{PromisedHandle, Scope, Threads};
 
@@ -418,12 +417,12 @@ fn put_together(cpus: Vec<Cpu>, ram: Ram, tables: Vec<KindTable>, holders: Holde
     requires held { AreHeldBy cpus.items holders }
     ensures { result ≡ system cpus.items ram }
 {
-    System {
+    System::from_parts(SystemParts {
         cpus,
         ram,
         tables,
         holders,
-    }
+    })
 }
 
 // A core without an update under way.
@@ -449,12 +448,12 @@ fn finished<R: Threads + Wait + Sync, G: Gate>(
     requires begins { Begins (gathered system.processors system.memory goal.now) }
     ensures { result ≡ updated system [] goal.now }
 {
-    let System {
+    let SystemParts {
         cpus,
         mut ram,
         mut tables,
         holders,
-    } = system;
+    } = system.into_parts();
     let Led { outcome, cpus } = lead_on_threads(caller, alloc, cpus, &mut ram, goal);
     renew_tables(&mut tables, outcome.is_ok(), kinds);
     let system = put_together(cpus, ram, tables, holders);
@@ -462,18 +461,6 @@ fn finished<R: Threads + Wait + Sync, G: Gate>(
         Ok(()) => at_rest(system),
         Err(refusal) => lead_alone(refusal, system, goal),
     }
-}
-
-// A core without processors and windows, which stands in for another.
-fn stand_in(alloc: Global) -> Core
-    ensures { result ≡ record { system = system [] (record { windows = []; words = [] }); order = None } }
-{
-    Core::new(System {
-        cpus: Vec::new(alloc),
-        ram: Ram::new(alloc),
-        tables: Vec::new(alloc),
-        holders: Holders::unknown(alloc),
-    })
 }
 
 // The types of the goal of the update that is under way.
@@ -501,7 +488,7 @@ fn lead<R: Threads + Wait + Sync, G: Gate>(
 {
     a_core_arises(core); // a fact for the proof
     let kinds = kinds_of(core);
-    let system = mem::replace(core, stand_in(alloc)).into_system();
+    let system = core.take_system(alloc);
     *core = finished(caller, alloc, system, goal, &kinds);
 }
 

@@ -84,7 +84,7 @@ fn file_at(core: &Core, k: u32) -> &RegFile
     requires { k < length core.now.system.processors }
     ensures { (f : RegisterFile) → result.now ≡ file_at core.now.system.processors k f }
 {
-    core.system().cpus.as_slice()[k as usize].regs()
+    core.system().cpus()[k as usize].regs()
 }
 
 /// A step of a processor, and what it did.
@@ -102,7 +102,7 @@ pub(crate) fn step(writer: &mut Writer, core: &mut Core, k: u32)
 fn common_era(core: &Core) -> u64
     ensures { result ≡ common_era core.now.system.processors }
 {
-    match core.system().cpus.as_slice().first() {
+    match core.system().cpus().first() {
         Some(cpu) => cpu.era(),
         None => 0,
     }
@@ -192,7 +192,7 @@ pub(crate) fn word(writer: &mut Writer, core: &Core, address: u64)
     requires line { length writer.old + LINE_ROOM ≤ WRITER_ROOM }
     ensures { writer.new ≡ writer.old ++ memory_line (memory_word core.now.system.memory address) }
 {
-    let ram = &core.system().ram;
+    let ram = core.system().ram();
     match ram.place(address) {
         Some(place) => writer.append(memory_line(Some(ram.word(place))).as_slice()),
         None => writer.append(memory_line(None).as_slice()),
@@ -252,7 +252,7 @@ pub(crate) fn is_absent(core: &Core, c: &Command) -> bool
     ensures { result ≡ is_absent core.now c.now }
 {
     match named(c) {
-        Some(k) => !((k as usize) < core.system().cpus.len()),
+        Some(k) => !((k as usize) < core.system().cpus().len()),
         None => false,
     }
 }

@@ -70,7 +70,7 @@ fn first_file(core: &Core) -> RegFile
     requires { 0 < length core.now.system.processors }
     ensures { (f : RegisterFile) → result ≡ file_at core.now.system.processors 0 f }
 {
-    core.system().cpus.as_slice()[0].regs().same()
+    core.system().cpus()[0].regs().same()
 }
 
 // A section begins with the registers of the first processor.
@@ -254,7 +254,7 @@ impl Replayer {
     pub(crate) fn ram(&self) -> &Ram
         ensures { result.now ≡ self.now.machine.system.memory }
     {
-        &self.core.system().ram
+        self.core.system().ram()
     }
 
     /// What every replayer keeps. This does nothing.
@@ -347,6 +347,6 @@ impl Replayer {
         ensures cause { HasCause (K.faults sink.old) (K.faults sink.new) result }
     {
         self.setup.accept(&Command::Report);
-        write_report(self.core.system().cpus.as_slice(), writer, sink)
+        write_report(self.core.system().cpus(), writer, sink)
     }
 }

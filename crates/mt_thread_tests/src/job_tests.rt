@@ -27,7 +27,7 @@ fn map(core: &mut Core, k: u32, ppage: u64) -> Option<()> {
         index: 0,
         global: false,
     };
-    let pages = core.system().cpus.get(k as usize)?.regs().pages();
+    let pages = core.system().cpus().get(k as usize)?.regs().pages();
     if ppage >= pages || core.control(k, Control::Map(x)) != Ruled::Okay {
         return None;
     }
@@ -141,7 +141,7 @@ fn on_threads<R: Threads + Wait + Sync, G: Gate>(
     jobs: Vec<Job>,
     gate: &G,
 ) -> Option<Result<Vec<Told>, PrivateFault>> {
-    let is_one_each = jobs.len() == core.system().cpus.len();
+    let is_one_each = jobs.len() == core.system().cpus().len();
     if !may_call(core, &goal) || !is_one_each || !all_fit(jobs.as_slice()) {
         return None;
     }
@@ -153,12 +153,12 @@ fn on_threads<R: Threads + Wait + Sync, G: Gate>(
 fn is_done(core: &Core, told: &[Told], k: u32) -> Option<bool> {
     let v = 0x2a_u64.saturating_add(k as u64);
     let answers = told.get(k as usize)?;
-    let cpu = core.system().cpus.get(k as usize)?;
+    let cpu = core.system().cpus().get(k as usize)?;
     let base = 0x10_0000u64.saturating_mul((k as u64).saturating_add(1));
     Some(
         answers.before.as_slice() == [Done::Stored(MemType::WB)].as_slice()
             && answers.after.as_slice() == [Done::Value(v, MemType::UC)].as_slice()
-            && word(&core.system().ram, base)? == v
+            && word(core.system().ram(), base)? == v
             && cpu.era() == 1
             && cpu.cache().len() == 0,
     )
@@ -270,7 +270,7 @@ fn drawn_jobs(alloc: Global, count: u32, round: u64) -> Option<Vec<Job>> {
 fn access_each(alloc: Global, core: &mut Core, k: u32, ops: &[Op]) -> Option<Vec<Done>> {
     let mut told = Vec::new(alloc);
     for op in ops {
-        if !fits_op(*op) || k as usize >= core.system().cpus.len() {
+        if !fits_op(*op) || k as usize >= core.system().cpus().len() {
             return None;
         }
         if told.push(core.access(k, *op)).is_err() {
@@ -309,7 +309,7 @@ fn part_by_calls(
 /// Whether some processor's write-combining buffers aren't empty.
 fn has_buffers(core: &Core) -> bool {
     core.system()
-        .cpus
+        .cpus()
         .iter()
         .any(|cpu| !cpu.buffers().lines().is_empty())
 }
@@ -427,7 +427,7 @@ fn update_alone_on_threads<R: Threads + Wait + Sync, G: Gate>(
     let Ok(told) = on_threads(rt, alloc, &mut core, file(4)?, jobs, gate)? else {
         return None;
     };
-    let risen = core.system().cpus.iter().all(|cpu| cpu.era() == 1);
+    let risen = core.system().cpus().iter().all(|cpu| cpu.era() == 1);
     let empty = told
         .iter()
         .all(|t| t.before.is_empty() && t.after.is_empty());

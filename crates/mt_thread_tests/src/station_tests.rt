@@ -9,7 +9,7 @@ ghost use Rattle.mt_rendezvous.specs.Update.{AllNew, AreOf, IsNew};
 use crate::checks::{holds, holds_at, some};
 use crate::common::{file, is_same_cpu, may_call, word};
 use crate::update_tests::{core_of, store};
-use mt_bus::System;
+use mt_bus::SystemParts;
 use mt_core::{Core, a_core_arises};
 use mt_cpu::Cpu;
 use mt_gates::AllBut;
@@ -238,7 +238,7 @@ fn ends_of<R: Threads + Wait + Sync>(
     if !take(&mut core, &goal) {
         return None;
     }
-    let System { cpus, mut ram, .. } = core.into_system();
+    let SystemParts { cpus, mut ram, .. } = core.into_system().into_parts();
     let gate = AllBut::new(16);
     let done = meet(rt, alloc, cpus, &mut ram, &goal, &gate, given)?;
     let told = gate.told();
@@ -297,7 +297,7 @@ fn two_leave(rt: HostRuntime) {
 
 /// Whether the row ends with this outcome as the core does, each pass having told the gate once.
 fn ends_as(row: &Row, core: &Core, outcome: Outcome, shown: Option<u32>) -> bool {
-    let cpus = core.system().cpus.as_slice();
+    let cpus = core.system().cpus();
     let mut each = row.done.iter().zip(cpus.iter());
     row.done.len() == cpus.len()
         && row.told == 0x1111_1111_1111_1111
@@ -306,7 +306,7 @@ fn ends_as(row: &Row, core: &Core, outcome: Outcome, shown: Option<u32>) -> bool
         })
         && (0..16u64).all(|k| {
             let address = 0x10_0000 + 0x40 * k;
-            word(&row.ram, address) == word(&core.system().ram, address)
+            word(&row.ram, address) == word(core.system().ram(), address)
         })
 }
 
@@ -337,7 +337,7 @@ fn sixteen_leave_as_by_steps(rt: HostRuntime) {
     let mut core = some(&rt, taken_row(rt.alloc()));
     core.cancel();
     for k in 0..16 {
-        if k < core.system().cpus.len() {
+        if k < core.system().cpus().len() {
             core.step(k as u32);
         }
     }

@@ -65,7 +65,7 @@ fn last(yard: &Yard, waiting: &mut Vec<Guest>) -> Option<Guest>
 fn runs(own: &System) -> bool
     ensures { IsTrue result → AreIn Running own.now }
 {
-    let cpus = own.cpus.as_slice();
+    let cpus = own.cpus();
     cpus.len() == 1 && cpus[0].phase() == Phase::Running
 }
 
@@ -204,11 +204,11 @@ fn alone<R: Wait>(rt: &R, alloc: Global, given: bool) -> Option<(Came, u64)> {
 
 /// Whether the own system has one processor, of this era and with so many lines, and this word at 1 MB.
 fn is_left(own: &System, era: u64, lines: usize, value: u64) -> bool {
-    let cpus = own.cpus.as_slice();
+    let cpus = own.cpus();
     cpus.len() == 1
         && cpus[0].era() == era
         && cpus[0].cache().len() == lines
-        && word(&own.ram, 0x10_0000) == Some(value)
+        && word(own.ram(), 0x10_0000) == Some(value)
 }
 
 /// Whether the answers before the update are that one word was stored as WB.

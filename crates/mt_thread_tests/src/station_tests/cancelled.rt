@@ -9,7 +9,7 @@ ghost use Rattle.mt_rendezvous.specs.Update.{AllNew, AreOf, IsNew};
 use super::{Comes, Ended, Row, Told, all_left, attend_whole, dirty_row, is_word, last, take};
 use crate::checks::{holds_at, some};
 use crate::common::file;
-use mt_bus::System;
+use mt_bus::SystemParts;
 use mt_cpu::Cpu;
 use mt_gates::AllBut;
 use mt_ram::Ram;
@@ -190,7 +190,7 @@ fn three<R: Threads + Wait + Sync>(rt: &R, alloc: Global, late: usize, told: u64
     if !take(&mut core, &goal) {
         return None;
     }
-    let System { cpus, mut ram, .. } = core.into_system();
+    let SystemParts { cpus, mut ram, .. } = core.into_system().into_parts();
     let gate = AllBut::new(16);
     let done = meet(rt, alloc, cpus, &mut ram, &goal, &gate, late, told)?;
     let told = gate.told();

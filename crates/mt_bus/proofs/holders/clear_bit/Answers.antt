@@ -1,4 +1,4 @@
-use Rattle.std.proofs.Common.{◌≡◌, ◌∙◌, ap, arith, ◌-◌, bit_and, slice_index_or}
+use Rattle.std.proofs.Common.{◌∙◌, ap, arith, ◌-◌, bit_and, slice_index_or}
 use Rattle.mt_bus.proofs.Masks.{covers_cleared, covers_on, same_within}
 use Rattle.mt_bus.proofs.holders.clear_bit.Goals as goal
 
