@@ -49,6 +49,18 @@ _mtrr_import() {
     fi
 }
 
+# A title, `files`, or one of the words that stand alone.
+_mtrr_map() {
+    local word=${COMP_WORDS[COMP_CWORD]}
+    _mtrr_supply "$word" title
+    case " ${COMP_WORDS[*]:0:COMP_CWORD} " in
+    *' files '*) return ;;
+    esac
+    COMPREPLY+=($(compgen -W files -- "$word"))
+    [ "$COMP_CWORD" -ne 1 ] || COMPREPLY+=($(compgen -W '--help --version' -- "$word"))
+    [[ ${COMPREPLY[*]} == 'title=' ]] || compopt +o nospace
+}
+
 _mtrr_explain() {
     local word=${COMP_WORDS[COMP_CWORD]}
     COMPREPLY=()
@@ -68,5 +80,5 @@ _mtrr_explain() {
 
 complete -F _mtrr mtrr
 complete -F _mtrr_import mtrr-import
-complete -W '--help --version' mtrr-map
+complete -F _mtrr_map mtrr-map
 complete -F _mtrr_explain mtrr-explain

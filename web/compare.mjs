@@ -6,6 +6,7 @@ import { tmpdir } from 'node:os';
 import { FORMATS, OTHERS, QUESTIONS, dumps, explainProgram, logs, program, randomDump, scriptInNode, top } from './programs.mjs';
 
 const SUPPLIED = ['maxphyaddr=36', '0fe=d08', '277=7040600070406', '268=505050505050505', '2ff=c00'];
+const PICTURES = [[], ['--help'], ['--version'], ['more'], ['files'], ['title=<b>&\u00e9'], ['files', 'title=x'], ['title='], ['title=\ufffe']];
 const ADDRESSES = ['0', 'a0000', 'c0000000', 'fee00000', 'ffffffffffffffff'];
 const MOST = 1 << 24;
 const long = Buffer.alloc(MOST, '# a comment of thirty-two bytes\n');
@@ -47,7 +48,7 @@ export async function compare({ call, guess }, randoms) {
 
     for (const { bytes } of dumps) {
         for (const words of [...QUESTIONS, ...OTHERS]) await beside('dumps', 'mtrr_run', words, bytes);
-        for (const words of [[], ['--help'], ['--version'], ['more']]) await beside('pictures', 'mtrr_map', words, bytes);
+        for (const words of PICTURES) await beside('pictures', 'mtrr_map', words, bytes);
     }
     for (const { bytes, name } of logs) {
         for (const format of FORMATS) for (let k = 0; k <= SUPPLIED.length; k++) await beside('logs', 'mtrr_import', [format, ...SUPPLIED.slice(0, k)], bytes);

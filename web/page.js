@@ -73,7 +73,7 @@ function call(tool, words, ...inputs) {
 
 const run = (words, input) => call('mtrr_run', words, input);
 const importLog = (words, input) => call('mtrr_import', words, input);
-const draw = input => call('mtrr_map', [], input);
+const draw = (input, words) => call('mtrr_map', words, input);
 
 // An answer of mtrr-explain: its JSON, or the text that says why there is none.
 function explain(words, first, second) {
@@ -259,8 +259,8 @@ function bandsOf(svg) {
         top: Number(boxes[k].getAttribute('y')), height: Number(boxes[k].getAttribute('height')) }));
 }
 
-function pictureOf(dump) {
-    const told = draw(dump);
+function pictureOf(dump, ...words) {
+    const told = draw(dump, words);
     const parsed = new DOMParser().parseFromString(told.text, 'image/svg+xml').documentElement;
     return parsed.localName === 'svg' ? document.adoptNode(parsed) : null;
 }
@@ -290,7 +290,7 @@ function layMap(dump) {
 
     function point(event) {
         const place = svg.getBoundingClientRect();
-        const y = (event.clientY - place.top) * ground.height / place.height;
+        const y = ground.y + (event.clientY - place.top) * ground.height / place.height;
         const band = bands.find(band => y >= band.top && y < band.top + band.height);
         if (!band) return;
         const share = BigInt(Math.floor((y - band.top) / band.height * 4096)) * (band.last - band.first + 1n) / 4096n;
@@ -372,9 +372,9 @@ const sections = (first, second) => encoder.encode(`version 2\ncpu 0\n${decoder.
 
 function layComparison(first, second) {
     const both = sections(encoder.encode(run(['show'], first).text), encoder.encode(run(['show'], second).text));
-    const svg = pictureOf(both);
-    return [...layDiff(explain(['diff', 'the first', 'the second'], first, second), ['first', 'second']),
-        svg && make('div', {}, make('h3', {}, 'Side by side: the first is drawn as cpu 0, the second as cpu 1'), pictureBox(svg, { role: 'img', 'aria-label': 'Both maps side by side' }))];
+    const svg = pictureOf(both, 'files');
+    return [...layDiff(explain(['diff', 'the first', 'the second'], first, second), ['before', 'after']),
+        svg && make('div', {}, make('h3', {}, 'Side by side'), pictureBox(svg, { role: 'img', 'aria-label': 'Both maps side by side' }))];
 }
 
 function layProcessors(dump) {

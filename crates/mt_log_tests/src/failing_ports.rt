@@ -1,5 +1,5 @@
 use mt_import::import;
-use mt_map::{Asked, map};
+use mt_map::{Asked, Labels, map};
 use mt_ports::{MemSink, MemSource, Status};
 use std::process::Abort;
 use std::test::Fail;
@@ -38,7 +38,7 @@ fn expect_none<R: AllocGlobal + Abort>(
         return Err(Fail::from("no memory"));
     };
     assert_eq!(rt;
-        map(alloc, Some(Asked::Picture), &mut source, &mut sink),
+        map(alloc, Some(Asked::Picture), Labels::default(), &mut source, &mut sink),
         status
     );
     assert!(rt; sink.bytes().is_empty());

@@ -1,7 +1,9 @@
 -- What the words of the command line ask for (own).
---     asked_by words      what these words ask for; all but one list of words and two are wrong usage
+--     asked_by words      what these words ask for; all other lists of words are wrong usage
+--     title_in words      the caption that they give to a picture
+--     has_files words     whether they say that the sections of a dump are files
 --     own_text asked      the text of `--help` and of `--version`
-use Rattle.std.specs.Prelude.{ℕ, nat_eq, List, [], ◌∷◌, codes, drop, flat_map, map, if◌then◌else◌, Option, Some, None, Result, Ok, Err, String, string_bytes}
+use Rattle.std.specs.Prelude.{ℕ, nat_eq, nat_le, nat_lt, Bool, true, false, not, ◌&&◌, ◌||◌, List, [], ◌∷◌, codes, drop, take, length, flat_map, map, if◌then◌else◌, Option, Some, None, Result, Ok, Err, String, string_bytes}
 use Rattle.std.specs.Cmp.Lexicographic.{pointwise}
 use Rattle.std.specs.Vec.Iter.{into_iter_items}
 use Rattle.std.specs.declared.vec.IntoIter.{IntoIter}
@@ -11,12 +13,14 @@ use Rattle.mt_map.specs.declared.asked.Asked.TheVariants.{Picture, Help, Version
 
 abbrev pub help_lines : List (List ℕ)
 help_lines =
-    codes "usage: mtrr-map < DUMP > PICTURE"
+    codes "usage: mtrr-map [title=TEXT] [files] < DUMP > PICTURE"
     ∷ codes ""
     ∷ codes "Draws the memory types of a dump of memory type range registers as SVG."
     ∷ codes ""
-    ∷ codes "  --help     this text; nothing is read"
-    ∷ codes "  --version  the version; nothing is read"
+    ∷ codes "  title=TEXT  a caption of 1 to 80 bytes, without control characters"
+    ∷ codes "  files       the two sections are files, named before and after"
+    ∷ codes "  --help      this text; nothing is read"
+    ∷ codes "  --version   the version; nothing is read"
     ∷ codes ""
     ∷ codes "Exit status:"
     ∷ codes "  0  done"
@@ -35,16 +39,89 @@ help_text = flat_map line help_lines
 unfoldable pub version_text : List ℕ
 version_text = line (codes "mtrr-map 1.0.0")
 
+-- ---- captions
+
+-- the most bytes of a caption
+abbrev pub longest_title : ℕ
+longest_title = 80
+
+-- the rest of U+FFFE or U+FFFF in UTF-8, behind its first byte: XML has neither of these characters
+abbrev pub is_noncharacter_tail : List ℕ → Bool
+is_noncharacter_tail [] = false
+is_noncharacter_tail (second ∷ []) = false
+is_noncharacter_tail (second ∷ third ∷ more) = nat_eq second 0xbf && nat_le 0xbe third
+
+-- a text without control characters, of characters that XML has
+abbrev pub is_plain : List ℕ → Bool
+is_plain [] = true
+is_plain (byte ∷ rest) = nat_le 0x20 byte && not (nat_eq byte 0xef && is_noncharacter_tail rest) && is_plain rest
+
+abbrev pub is_title : List ℕ → Bool
+is_title text = nat_lt 0 (length text) && nat_le (length text) longest_title && is_plain text
+
+abbrev pub title_as : Option (List ℕ) → Option (List ℕ)
+title_as None = None
+title_as (Some text) = if is_title text then Some text else None
+
+abbrev pub behind : List ℕ → List ℕ → Option (List ℕ)
+behind head word = if pointwise nat_eq (take (length head) word) head then Some (drop (length head) word) else None
+
+-- the caption that a word gives
+abbrev pub title_of : List ℕ → Option (List ℕ)
+title_of word = title_as (behind (codes "title=") word)
+
+abbrev pub has_title : Option (List ℕ) → Bool
+has_title None = false
+has_title (Some text) = true
+
+abbrev pub or_title : Option (List ℕ) → Option (List ℕ) → Option (List ℕ)
+or_title None other = other
+or_title (Some text) other = Some text
+
+abbrev pub title_in : List (List ℕ) → Option (List ℕ)
+title_in [] = None
+title_in (word ∷ []) = title_of word
+title_in (word ∷ second ∷ more) = or_title (title_of word) (title_of second)
+
+-- a byte of a caption as a picture has it
+abbrev pub escaped_byte : ℕ → List ℕ
+escaped_byte byte =
+    if nat_eq byte 0x26 then codes "&amp;"
+    else if nat_eq byte 0x3c then codes "&lt;"
+    else if nat_eq byte 0x3e then codes "&gt;"
+    else byte ∷ []
+
+abbrev pub escaped : List ℕ → List ℕ
+escaped text = flat_map escaped_byte text
+
+-- ---- files
+
+abbrev pub is_files : List ℕ → Bool
+is_files word = pointwise nat_eq word (codes "files")
+
+abbrev pub has_files : List (List ℕ) → Bool
+has_files [] = false
+has_files (word ∷ []) = is_files word
+has_files (word ∷ second ∷ more) = is_files word || is_files second
+
+-- ---- words
+
 abbrev pub asked_by_one : List ℕ → Option Asked
 asked_by_one word =
     if pointwise nat_eq word (codes "--help") then Some Help
     else if pointwise nat_eq word (codes "--version") then Some Version
+    else if has_title (title_of word) || is_files word then Some Picture
     else None
+
+-- a caption and `files`, in either order
+abbrev pub are_labels : List ℕ → List ℕ → Bool
+are_labels word second = (has_title (title_of word) && is_files second) || (is_files word && has_title (title_of second))
 
 abbrev pub asked_by : List (List ℕ) → Option Asked
 asked_by [] = Some Picture
 asked_by (word ∷ []) = asked_by_one word
-asked_by (word ∷ second ∷ more) = None
+asked_by (word ∷ second ∷ []) = if are_labels word second then Some Picture else None
+asked_by (word ∷ second ∷ third ∷ more) = None
 
 -- arguments that are no text are wrong usage
 abbrev pub asked_in : {A B E : Type 0} → Result (IntoIter (String A) B) E → Option Asked

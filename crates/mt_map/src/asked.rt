@@ -1,5 +1,7 @@
 ghost use Rattle.std.specs.Prelude.{◌≡◌, map, string_bytes};
-ghost use Rattle.mt_map.specs.Asked.{asked_by, asked_by_one, help_text, version_text};
+ghost use Rattle.mt_map.specs.Asked.{are_labels, asked_by, asked_by_one, help_text, version_text};
+
+use crate::labels::{is_files, title_of};
 
 /// What the words of the command line ask for.
 #[derive(Clone, Copy)]
@@ -19,19 +21,35 @@ fn asked_by_one(word: &[u8]) -> Option<Asked>
         Some(Asked::Help)
     } else if word == b"--version".as_slice() {
         Some(Asked::Version)
+    } else if title_of(word).is_some() || is_files(word) {
+        Some(Asked::Picture)
     } else {
         None
     }
 }
 
-/// What the words of the command line ask for. There is nothing exactly where they are wrong usage.
+// Whether two words are a caption and `files`, in either order.
+fn are_labels(word: &[u8], second: &[u8]) -> bool
+    ensures { result ≡ are_labels word.now second.now }
+{
+    (title_of(word).is_some() && is_files(second)) || (is_files(word) && title_of(second).is_some())
+}
+
+/// What the words of the command line ask for. Returns `None` if and only if they are wrong usage.
 pub fn asked_by(words: &[String]) -> Option<Asked>
     ensures { result ≡ asked_by (map string_bytes words.now) }
 {
     match words {
         [] => Some(Asked::Picture),
         [word] => asked_by_one(word.as_str().as_bytes()),
-        _ => None,
+        [word, second] => {
+            if are_labels(word.as_str().as_bytes(), second.as_str().as_bytes()) {
+                Some(Asked::Picture)
+            } else {
+                None
+            }
+        }
+        [_, _, _, ..] => None,
     }
 }
 
@@ -39,12 +57,14 @@ pub fn asked_by(words: &[String]) -> Option<Asked>
 pub(crate) fn help_text() -> &'static [u8]
     ensures { result.now ≡ help_text }
 {
-    b"usage: mtrr-map < DUMP > PICTURE
+    b"usage: mtrr-map [title=TEXT] [files] < DUMP > PICTURE
 
 Draws the memory types of a dump of memory type range registers as SVG.
 
-  --help     this text; nothing is read
-  --version  the version; nothing is read
+  title=TEXT  a caption of 1 to 80 bytes, without control characters
+  files       the two sections are files, named before and after
+  --help      this text; nothing is read
+  --version   the version; nothing is read
 
 Exit status:
   0  done

@@ -5,14 +5,38 @@ ghost use Rattle.mt_ranges.specs.Match.{is_valid};
 ghost use Rattle.mt_regs.specs.Registers.{HasThreeDigits};
 
 use crate::drawing::{append_box, append_label, append_rule, is_different};
+use crate::labels::escaped;
 use crate::layout::Layout;
 use crate::ranges::{are_fixed_on, bars};
 use crate::shaping::default_of;
-use crate::{Band, Rect};
+use crate::{Band, Legend, Rect};
 use mt_output::{accepted_line, dump_refused_line};
 use mt_ranges::is_valid;
 use mt_regs::{Fault, RegFile};
 use std::alloc::{AllocError, Global};
+
+/// What a picture calls its two files.
+#[derive(Clone, Copy)]
+pub enum Names {
+    /// Processor 0, and the processor of this number.
+    Cpus(u32),
+    /// The file before a change, and the one after it.
+    Files,
+}
+
+fn first_name(names: Names) -> &'static str {
+    match names {
+        Names::Cpus(_) => "cpu 0",
+        Names::Files => "before",
+    }
+}
+
+fn second_name(alloc: Global, names: Names) -> Result<String, AllocError> {
+    match names {
+        Names::Cpus(k) => format!(in alloc; "cpu {k}"),
+        Names::Files => String::from_str(alloc, "after"),
+    }
+}
 
 fn different_count(bands: &[Band]) -> usize
     ensures { result ≡ length (filter is_different bands.now) }
@@ -53,28 +77,51 @@ fn accepted_text(alloc: Global) -> Result<Vec<u8>, AllocError> {
     Ok(text)
 }
 
-fn refused_text(alloc: Global, version: u8, k: u32, fault: &Fault) -> Result<Vec<u8>, AllocError>
+// What stands in front of the line of a fault, and the version of that line. With two files it names no processor.
+fn refused_as(legend: &Legend<'_>, k: u32) -> (&'static [u8], u8) {
+    match legend.names {
+        Names::Cpus(_) => (b"", legend.version),
+        Names::Files if k == 0 => (b"before: ", 1),
+        Names::Files => (b"after: ", 1),
+    }
+}
+
+fn refused_text(
+    alloc: Global,
+    legend: &Legend<'_>,
+    k: u32,
+    fault: &Fault,
+) -> Result<Vec<u8>, AllocError>
     requires { HasThreeDigits fault.now.msr }
 {
+    let (name, version) = refused_as(legend, k);
     let mut text = Vec::new(alloc);
     text.extend_from_slice(b"<text class='refused' x='12' y='50'>")?;
+    text.extend_from_slice(name)?;
     text.extend_from_slice(dump_refused_line(version, k, fault).as_slice())?;
     text.extend_from_slice(b"</text>\n")?;
     Ok(text)
 }
 
 /// That the files are accepted, or what is refused.
-pub(crate) fn verdict_text(
-    alloc: Global,
-    version: u8,
-    refusal: Option<(u32, Fault)>,
-) -> Result<Vec<u8>, AllocError>
-    requires short { IfSome refusal (λ found. HasThreeDigits found.1.msr) }
+pub(crate) fn verdict_text(alloc: Global, legend: &Legend<'_>) -> Result<Vec<u8>, AllocError>
+    requires short { IfSome legend.now.refusal (λ found. HasThreeDigits found.1.msr) }
 {
-    match refusal {
+    match legend.refusal {
         None => accepted_text(alloc),
-        Some((k, fault)) => refused_text(alloc, version, k, &fault),
+        Some((k, fault)) => refused_text(alloc, legend, k, &fault),
     }
+}
+
+/// The caption above a picture, if it has one.
+pub(crate) fn caption_text(alloc: Global, title: Option<&[u8]>) -> Result<Vec<u8>, AllocError> {
+    let mut text = Vec::new(alloc);
+    if let Some(title) = title {
+        text.extend_from_slice(b"<text class='title' x='12' y='4'>")?;
+        text.extend_from_slice(escaped(alloc, title)?.as_slice())?;
+        text.extend_from_slice(b"</text>\n")?;
+    }
+    Ok(text)
 }
 
 fn valid_count(f: &RegFile) -> usize
@@ -106,18 +153,22 @@ fn state_text(alloc: Global, f: &RegFile) -> Result<String, AllocError> {
     Ok(text)
 }
 
-fn append_width(text: &mut String, k: u32, width: u8) -> Result<(), AllocError> {
-    write!(text, "cpu {k}: {width} address bits, ")
+fn append_counts(
+    text: &mut String,
+    name: &str,
+    f: &RegFile,
+    valid: usize,
+) -> Result<(), AllocError> {
+    let (width, count) = (f.maxphy, f.pairs.len());
+    write!(
+        text,
+        "{name}: {width} address bits, {valid} of {count} pairs valid"
+    )
 }
 
-fn append_valid(text: &mut String, valid: usize, count: usize) -> Result<(), AllocError> {
-    write!(text, "{valid} of {count} pairs valid")
-}
-
-fn file_text(alloc: Global, k: u32, f: &RegFile) -> Result<String, AllocError> {
+fn file_text(alloc: Global, name: &str, f: &RegFile) -> Result<String, AllocError> {
     let mut text = String::new(alloc);
-    append_width(&mut text, k, f.maxphy)?;
-    append_valid(&mut text, valid_count(f), f.pairs.len())?;
+    append_counts(&mut text, name, f, valid_count(f))?;
     text.push_str(state_text(alloc, f)?.as_str())?;
     Ok(text)
 }
@@ -126,16 +177,17 @@ fn file_text(alloc: Global, k: u32, f: &RegFile) -> Result<String, AllocError> {
 pub(crate) fn append_files(
     alloc: Global,
     text: &mut String,
+    names: Names,
     f: &RegFile,
-    k: u32,
     others: &[RegFile],
 ) -> Result<(), AllocError> {
-    let first = file_text(alloc, 0, f)?;
+    let first = file_text(alloc, first_name(names), f)?;
     append_label(text, "file", 12, 68, first.as_str())?;
     match others {
         [] => Ok(()),
         [other, ..] => {
-            let second = file_text(alloc, k, other)?;
+            let name = second_name(alloc, names)?;
+            let second = file_text(alloc, name.as_str(), other)?;
             append_label(text, "file", 12, 86, second.as_str())?;
             Ok(())
         }
@@ -194,61 +246,83 @@ fn value_lines(f: &RegFile, others: &[RegFile]) -> u64
     }
 }
 
+fn caption_height(title: Option<&[u8]>) -> u64
+    ensures few { result ≤ 24 }
+{
+    match title {
+        None => 0,
+        Some(_) => 24,
+    }
+}
+
+// How wide a caption is at most, but for very wide letters.
+fn title_width(title: Option<&[u8]>) -> u64 {
+    match title {
+        None => 0,
+        Some(title) => 24 + 11 * title.len().min(80) as u64,
+    }
+}
+
 /// Where the parts of a picture stand whose rows end at this bottom.
-pub(crate) fn layout(f: &RegFile, others: &[RegFile], bottom: u64) -> Layout
+pub(crate) fn layout(f: &RegFile, others: &[RegFile], title: Option<&[u8]>, bottom: u64) -> Layout
     requires { bottom ≤ 2 ^ 50 }
 {
     let first_bar = if others.is_empty() { 442 } else { 566 };
     let second_bar = first_bar + group_width(f);
+    let width = (second_bar + second_width(others)).max(700);
     Layout {
         bottom,
         first_bar,
         second_bar,
-        width: (second_bar + second_width(others)).max(700),
-        height: bottom + 212 + 16 * value_lines(f, others),
+        width: width.max(title_width(title)),
+        height: bottom + 212 + 16 * value_lines(f, others) + caption_height(title),
+        has_caption: title.is_some(),
     }
 }
 
-// Adds a head that names a processor.
-fn append_pairs_head(text: &mut String, x: u64, k: u32) -> Result<(), AllocError> {
-    write!(
-        text,
-        "<text class='head' x='{x}' y='140'>pairs, cpu {k}</text>\n"
-    )
+fn pairs_head(alloc: Global, name: &str) -> Result<String, AllocError> {
+    let mut text = String::from_str(alloc, "pairs, ")?;
+    text.push_str(name)?;
+    Ok(text)
 }
 
-fn append_cpu_head(text: &mut String, x: u64, k: u32) -> Result<(), AllocError> {
-    write!(text, "<text class='type' x='{x}' y='140'>cpu {k}</text>\n")
-}
-
-fn append_type_heads(
+// Adds the heads of the columns of two files.
+fn append_both_heads(
+    alloc: Global,
     text: &mut String,
     layout: &Layout,
-    k: u32,
-    is_alone: bool,
+    names: Names,
 ) -> Result<(), AllocError> {
-    if is_alone {
-        append_label(text, "type", 372, 140, "type")?;
-        append_label(text, "head", layout.first_bar, 140, "pairs")?;
-        return Ok(());
-    }
-    append_cpu_head(text, 372, 0)?;
-    append_cpu_head(text, 496, k)?;
-    append_pairs_head(text, layout.first_bar, 0)?;
-    append_pairs_head(text, layout.second_bar, k)?;
+    let first = first_name(names);
+    let second = second_name(alloc, names)?;
+    append_label(text, "type", 372, 140, first)?;
+    append_label(text, "type", 496, 140, second.as_str())?;
+    let head = pairs_head(alloc, first)?;
+    append_label(text, "head", layout.first_bar, 140, head.as_str())?;
+    let head = pairs_head(alloc, second.as_str())?;
+    append_label(text, "head", layout.second_bar, 140, head.as_str())?;
     Ok(())
+}
+
+// Adds the heads of the columns of one file.
+fn append_type_heads(text: &mut String, layout: &Layout) -> Result<(), AllocError> {
+    append_label(text, "type", 372, 140, "type")?;
+    append_label(text, "head", layout.first_bar, 140, "pairs")
 }
 
 /// Adds the heads of the columns.
 pub(crate) fn append_heads(
+    alloc: Global,
     text: &mut String,
     layout: &Layout,
-    k: u32,
-    is_alone: bool,
+    names: Option<Names>,
 ) -> Result<(), AllocError> {
     append_label(text, "head", 12, 140, "addresses")?;
     append_label(text, "head size", 310, 140, "size")?;
-    append_type_heads(text, layout, k, is_alone)?;
+    match names {
+        None => append_type_heads(text, layout)?,
+        Some(names) => append_both_heads(alloc, text, layout, names)?,
+    }
     append_rule(text, layout.bottom + 150, layout.width - 24)?;
     append_label(text, "head", 12, layout.bottom + 171, "default type")?;
     append_label(text, "head", 12, layout.bottom + 196, "values")?;

@@ -1,6 +1,7 @@
 ghost use Rattle.std.specs.Prelude.{◌≤◌, ◌^◌};
 
-/// Where the parts of a picture stand, in pixels: the bottom of the rows, the left edges of the bars of each file, and the width and height of the whole.
+/// Where the parts of a picture stand, in pixels: the bottom of the rows, the left edges of the bars of each file, the width and height
+/// of the whole without its caption, and the room for that.
 #[derive(Clone, Copy)]
 pub(crate) struct Layout {
     pub bottom: u64,
@@ -8,6 +9,7 @@ pub(crate) struct Layout {
     pub second_bar: u64,
     pub width: u64,
     pub height: u64,
+    pub has_caption: bool,
     ghost low: { bottom ≤ 2 ^ 50 },
     ghost first_near: { first_bar ≤ 10000 },
     ghost second_near: { second_bar ≤ 10000 },

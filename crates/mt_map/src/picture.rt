@@ -5,15 +5,17 @@ ghost use Rattle.mt_regs.specs.Registers.{HasThreeDigits};
 ghost use Rattle.mt_map.specs.Bands.{IsPlaced};
 ghost use Rattle.mt_map.specs.Shapes.{AreRowsOf, shapes_of};
 
-use crate::Shape;
 use crate::edges::cuts;
-use crate::heading::{append_files, append_heads, append_keys, append_title, layout, verdict_text};
+use crate::heading::{
+    append_files, append_heads, append_keys, append_title, caption_text, layout, verdict_text,
+};
 use crate::layout::Layout;
 use crate::rows::append_rows;
 use crate::shaping::shapes;
 use crate::stack::{Stack, bands};
-use crate::style::append_head;
+use crate::style::head_text;
 use crate::writing::append_shapes;
+use crate::{Names, Shape};
 use mt_ports::NoMemory;
 use mt_regs::{Fault, RegFile};
 use std::alloc::{AllocError, Global};
@@ -41,58 +43,66 @@ pub fn picture_of_files(alloc: Global, f: &RegFile, others: &[RegFile]) -> Resul
     Ok(Picture { stack, shapes })
 }
 
+/// What a picture says besides of its files.
+#[derive(Clone, Copy)]
+pub struct Legend<'a> {
+    /// The caption, in UTF-8, if there is one.
+    pub title: Option<&'a [u8]>,
+    pub names: Names,
+    /// The version of the dump.
+    pub version: u8,
+    /// The first fault of all files, with the number of its processor.
+    pub refusal: Option<(u32, Fault)>,
+}
+
 // The text behind the verdict.
 fn body_text(
     alloc: Global,
-    f: &RegFile,
-    k: u32,
-    others: &[RegFile],
+    names: Names,
+    files: (&RegFile, &[RegFile]),
     layout: &Layout,
     picture: &Picture,
 ) -> Result<String, AllocError>
     requires placed { All IsPlaced picture.now.stack.bands.items }
 {
+    let (f, others) = files;
     let rows = picture.stack.bands.as_slice();
+    let heads = if others.is_empty() { None } else { Some(names) };
     let mut text = String::new(alloc);
-    append_files(alloc, &mut text, f, k, others)?;
+    append_files(alloc, &mut text, names, f, others)?;
     append_keys(&mut text)?;
-    append_heads(&mut text, layout, k, others.is_empty())?;
+    append_heads(alloc, &mut text, layout, heads)?;
     append_rows(alloc, &mut text, layout.width, rows)?;
     append_shapes(&mut text, layout, rows, picture.shapes.as_slice())?;
     text.push_str("</svg>\n")?;
     Ok(text)
 }
 
-// The text in front of the verdict.
-fn front_text(
-    alloc: Global,
-    others: &[RegFile],
-    layout: &Layout,
-    picture: &Picture,
-) -> Result<String, AllocError> {
+// The title, in front of the verdict.
+fn title_text(alloc: Global, others: &[RegFile], picture: &Picture) -> Result<String, AllocError> {
     let mut text = String::new(alloc);
-    append_head(&mut text, layout.width, layout.height)?;
     append_title(alloc, &mut text, others, picture.stack.bands.as_slice())?;
     Ok(text)
 }
 
-/// The text of the picture of a file beside a second one, which is that of processor `k`, if there is one.
+/// The text of the picture of a file beside a second one, if there is one.
 pub fn picture_text(
     alloc: Global,
-    version: u8,
-    refusal: Option<(u32, Fault)>,
+    legend: &Legend<'_>,
     f: &RegFile,
-    k: u32,
     others: &[RegFile],
     picture: &Picture,
 ) -> Result<Vec<u8>, AllocError>
-    requires short { IfSome refusal (λ found. HasThreeDigits found.1.msr) }
+    requires short { IfSome legend.now.refusal (λ found. HasThreeDigits found.1.msr) }
     requires bottom { picture.now.stack.bottom ≤ 2 ^ 50 }
     requires placed { All IsPlaced picture.now.stack.bands.items }
 {
-    let layout = layout(f, others, picture.stack.bottom);
-    let mut text = front_text(alloc, others, &layout, picture)?.into_bytes();
-    text.extend_from_slice(verdict_text(alloc, version, refusal)?.as_slice())?;
-    text.extend_from_slice(body_text(alloc, f, k, others, &layout, picture)?.as_bytes())?;
+    let layout = layout(f, others, legend.title, picture.stack.bottom);
+    let body = body_text(alloc, legend.names, (f, others), &layout, picture)?;
+    let mut text = head_text(alloc, &layout)?.into_bytes();
+    text.extend_from_slice(caption_text(alloc, legend.title)?.as_slice())?;
+    text.extend_from_slice(title_text(alloc, others, picture)?.as_bytes())?;
+    text.extend_from_slice(verdict_text(alloc, legend)?.as_slice())?;
+    text.extend_from_slice(body.as_bytes())?;
     Ok(text)
 }

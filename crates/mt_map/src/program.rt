@@ -8,7 +8,7 @@ ghost use Rattle.mt_output.specs.Program.{Exits};
 ghost use Rattle.mt_map.specs.Asked.{asked_in};
 ghost use Rattle.mt_map.specs.Map.{Runs};
 
-use crate::{asked_by, map};
+use crate::{Labels, asked_by, labels_of, map};
 use mt_output::{exit_code, words_behind_name};
 use mt_ports::{Sink, Source, Status};
 use std::env::Args;
@@ -31,11 +31,17 @@ fn run<R: AllocGlobal, S: Source, K: Sink>(
 {
     match args {
         Ok(args) => match words_behind_name(rt.alloc(), args) {
-            Ok(words) => map(rt.alloc(), asked_by(&words), source, sink),
+            Ok(words) => map(
+                rt.alloc(),
+                asked_by(&words),
+                labels_of(&words),
+                source,
+                sink,
+            ),
             Err(_) => Status::NoMemory,
         },
         Err(error) if error.kind() == ErrorKind::OutOfMemory => Status::NoMemory,
-        Err(_) => map(rt.alloc(), None, source, sink),
+        Err(_) => map(rt.alloc(), None, Labels::default(), source, sink),
     }
 }
 

@@ -7,9 +7,9 @@ ghost use Rattle.mt_regs.specs.Faults.{register_fault};
 ghost use Rattle.mt_map.specs.declared.asked.Asked.TheVariants.{Picture};
 ghost use Rattle.mt_map.specs.Map.{CanBeDrawn, MapOf, Maps, Tells, beside, others, status_of};
 
-use crate::Asked;
 use crate::asked::{help_text, version_text};
-use crate::picture::{picture_of_files, picture_text};
+use crate::picture::{Legend, picture_of_files, picture_text};
+use crate::{Asked, Labels, Names};
 use arrayvec::ArrayVec;
 use mt_dump::{Dump, read_dump_from};
 use mt_output::{bad_text_line, dump_refused_line, written};
@@ -78,8 +78,17 @@ fn status_of(refusal: Option<(u32, Fault)>) -> Status
     }
 }
 
+// What its files are called, of which the second is that of processor `k`. Two sections alone can be two files.
+fn names_of(d: &Dump, labels: Labels<'_>, k: u32) -> Names {
+    if labels.are_files && d.files.len() == 2 {
+        Names::Files
+    } else {
+        Names::Cpus(k)
+    }
+}
+
 /// The picture of a dump. `NoMemory` is the one error.
-pub fn picture_of(alloc: Global, d: &Dump) -> Result<Vec<u8>, NoMemory>
+pub fn picture_of(alloc: Global, d: &Dump, labels: Labels<'_>) -> Result<Vec<u8>, NoMemory>
     requires { CanBeDrawn d.now }
 {
     d.is_dump(); // a fact for the proof
@@ -87,8 +96,13 @@ pub fn picture_of(alloc: Global, d: &Dump) -> Result<Vec<u8>, NoMemory>
     let others = others(d, k);
     let f = d.first_file();
     let picture = picture_of_files(alloc, f, others.as_slice())?;
-    let refusal = first_refusal(d.files.as_slice());
-    let text = picture_text(alloc, d.version, refusal, f, k, others.as_slice(), &picture)?;
+    let legend = Legend {
+        title: labels.title,
+        names: names_of(d, labels, k),
+        version: d.version,
+        refusal: first_refusal(d.files.as_slice()),
+    };
+    let text = picture_text(alloc, &legend, f, others.as_slice(), &picture)?;
     Ok(text)
 }
 
@@ -99,14 +113,14 @@ fn can_be_drawn(d: &Dump) -> bool
 }
 
 /// Writes the picture of a dump, or the line of the fault for which there is none.
-pub fn draw<K: Sink>(alloc: Global, d: &Dump, sink: &mut K) -> Status
+pub fn draw<K: Sink>(alloc: Global, d: &Dump, labels: Labels<'_>, sink: &mut K) -> Status
     ensures tells { Tells (MapOf d.now) (K.taken sink.old) (K.taken sink.new) result }
     ensures cause { StatusHasCause Status.WriteFault (K.faults sink.old) (K.faults sink.new) result }
 {
     d.is_dump(); // a fact for the proof
     let refusal = first_refusal(d.files.as_slice());
     if can_be_drawn(d) {
-        return match picture_of(alloc, d) {
+        return match picture_of(alloc, d, labels) {
             Ok(text) => written(sink, text.as_slice(), status_of(refusal)),
             Err(NoMemory) => Status::NoMemory,
         };
@@ -121,7 +135,12 @@ pub fn draw<K: Sink>(alloc: Global, d: &Dump, sink: &mut K) -> Status
 }
 
 // Reads a dump to its end, and draws it.
-fn draw_input<S: Source, K: Sink>(alloc: Global, source: &mut S, sink: &mut K) -> Status
+fn draw_input<S: Source, K: Sink>(
+    alloc: Global,
+    labels: Labels<'_>,
+    source: &mut S,
+    sink: &mut K,
+) -> Status
     ensures maps { (bytes : List ℕ) → S.left source.old ≡ Some bytes →
         Maps (Some Picture) bytes (S.left source.new) (K.taken sink.old) (K.taken sink.new) result }
     ensures read_fault { StatusHasCause Status.ReadFault (S.faults source.old) (S.faults source.new) result }
@@ -129,7 +148,7 @@ fn draw_input<S: Source, K: Sink>(alloc: Global, source: &mut S, sink: &mut K) -
     ensures too_long { (result ≡ Status.TooLong) ↔ GaveTooMuch (S.given source.old) (S.given source.new) }
 {
     match read_dump_from(source) {
-        Ok(Ok(dump)) => draw(alloc, &dump, sink),
+        Ok(Ok(dump)) => draw(alloc, &dump, labels, sink),
         Ok(Err(fault)) => written(sink, bad_text_line(&fault).as_slice(), Status::BadText),
         Err(FeedFault::ReadFault) => Status::ReadFault,
         Err(FeedFault::TooLong) => Status::TooLong,
@@ -141,6 +160,7 @@ fn draw_input<S: Source, K: Sink>(alloc: Global, source: &mut S, sink: &mut K) -
 pub fn map<S: Source, K: Sink>(
     alloc: Global,
     asked: Option<Asked>,
+    labels: Labels<'_>,
     source: &mut S,
     sink: &mut K,
 ) -> Status
@@ -159,6 +179,6 @@ pub fn map<S: Source, K: Sink>(
         None => written(sink, b"usage\n", Status::Usage),
         Some(Asked::Help) => written(sink, help_text(), Status::Done),
         Some(Asked::Version) => written(sink, version_text(), Status::Done),
-        Some(Asked::Picture) => draw_input(alloc, source, sink),
+        Some(Asked::Picture) => draw_input(alloc, labels, source, sink),
     }
 }

@@ -1,7 +1,6 @@
 -- What `mtrr-import` writes for words and a log, as its call over buffers has it (own).
 --     ImportsFor words bytes text number      this text with this number is what the words make of these bytes
 use Rattle.std.specs.Prelude.{ℕ, ◌≡◌, List}
-use Rattle.mt_ports.specs.declared.status.Status.{Status}
 use Rattle.mt_import.specs.Import.{output_of}
 use Rattle.mt_web.specs.Outcome.{Outcome}
 

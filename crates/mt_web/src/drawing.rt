@@ -5,7 +5,7 @@ ghost use Rattle.mt_web.specs.Words.{words_in};
 use crate::ports::{ByteSource, TextSink};
 use crate::told::{Told, ended, no_memory};
 use crate::words::words_in;
-use mt_map::{asked_by, map};
+use mt_map::{asked_by, labels_of, map};
 use std::alloc::Global;
 
 // The picture of a dump, or what else these words ask for.
@@ -14,7 +14,7 @@ fn drawn_by(alloc: Global, words: &[String], input: &[u8]) -> Told
 {
     let mut source = ByteSource::new(input);
     let mut sink = TextSink::new(alloc);
-    let status = map(alloc, asked_by(words), &mut source, &mut sink);
+    let status = map(alloc, asked_by(words), labels_of(words), &mut source, &mut sink);
     ended(alloc, status, sink)
 }
 

@@ -97,7 +97,7 @@ fn fit_command<'a>(alloc: Global) -> Result<Command<'a>, AllocError> {
 pub fn command<'a>(alloc: Global) -> Result<Command<'a>, AllocError> {
     Command::new(alloc, "mtrr-explain")
         .bin_name("mtrr-explain")?
-        .version("1.0")
+        .version("1.0.0")
         .about("Explains the memory types that dumps of range registers give")
         .after_help(
             "Exit status: 0 if nothing was found, 1 if there are faults or differences or too few pairs, 2 if there is trouble.",
