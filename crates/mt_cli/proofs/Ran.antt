@@ -8,12 +8,13 @@ use Rattle.mt_text.specs.Feed.{GaveTooMuch}
 use Rattle.mt_output.specs.Written.{Writes}
 use Rattle.mt_stream.specs.Runs.{Runs}
 use Rattle.mt_proc.specs.Proc.{proc_told}
-use Rattle.mt_replay.specs.Running.{Replays}
+use Rattle.mt_proc.specs.Running.{OutOfMemory as ProcOutOfMemory}
+use Rattle.mt_replay.specs.Running.{OutOfMemory as ReplayOutOfMemory, Replays}
 use Rattle.mt_answers.specs.declared.command.Command.{Command}
 use Rattle.mt_answers.specs.declared.command.Command.TheVariants.{Serial, Threaded}
 use Rattle.mt_answers.specs.declared.command.SerialCommand.{SerialCommand}
 use Rattle.mt_answers.specs.declared.command.SerialCommand.TheVariants.{Dump, Make, Help, Version}
-use Rattle.mt_answers.specs.declared.command.ThreadedCommand.TheVariants.{Replay, Proc}
+use Rattle.mt_answers.specs.declared.command.ThreadedCommand.TheVariants.{Big, Private, Proc, Replay}
 use Rattle.mt_answers.specs.declared.command.DumpCommand.{DumpCommand}
 use Rattle.mt_answers.specs.CommandLine.{MayTakeMemory, command_of, left_of, reads_input}
 use Rattle.mt_answers.specs.Generator.{make_text}
@@ -22,7 +23,7 @@ use Rattle.mt_answers.specs.Lines.{usage_line}
 use Rattle.mt_cli.specs.Output.{Output, printed, usage}
 use Rattle.mt_cli.specs.Runs.{IsRun, IsToolRun, SinkRun, SourceRun, sink_run, source_run}
 use Rattle.mt_answers.specs.Statuses.{MayEnd}
-use Rattle.mt_cli.specs.Tool.{Leaves, Reads}
+use Rattle.mt_cli.specs.Tool.{Leaves, OutOfMemory, Reads}
 use Rattle.mt_answers.specs.Written.{AnswersInput, Makes}
 use Rattle.mt_cli.proofs.Leaving.{input_leaves, input_reads, left_by, makes_leave, makes_read, must_read, proc_leaves, proc_reads, replays_leave, replays_read, written_leaves}
 use Rattle.mt_answers.proofs.Endings.{makes_own, never_own, own_ends}
@@ -80,10 +81,19 @@ usage_ran words source sink result none same wrote ends cause = record {
       (λ bytes left is. usage_reads words bytes left result is ends) (usage_ends words result ends) (λ is. none) cause;
   no_command = λ is. ends;
   no_memory = λ is. absurd (usage_keeps result ends is);
+  memory = λ bytes is no. absurd (usage_keeps result ends no);
 }
 
 all_left : (command : Command) (bytes : List ℕ) (left : Option (List ℕ)) → reads_input (Some command) ≡ false → left ≡ Some bytes → left ≡ Some (left_of (Some command) bytes)
 all_left command bytes left not is = is ∙ ap (λ (b : Bool). Some (if b then [] else bytes)) (sym not)
+
+-- its lines ask for nothing
+no_lines : (command : Command) (bytes : List ℕ) (left before after : Option (List ℕ)) → reads_input (Some command) ≡ false → OutOfMemory (Some command) bytes left before after
+no_lines (Serial command) bytes left before after not = tt
+no_lines (Threaded Replay) bytes left before after not = absurd (cc not)
+no_lines (Threaded (Proc cpus)) bytes left before after not = absurd (cc not)
+no_lines (Threaded (Big n)) bytes left before after not = tt
+no_lines (Threaded (Private cpus n accesses)) bytes left before after not = tt
 
 -- a text that numbers determine, or that is one for all
 pub makes_ran : {S K : Type 0} (words : List (List ℕ)) (text : List ℕ) (command : Command) (source : SourceRun S) (sink : SinkRun K) (result : Status)
@@ -101,6 +111,9 @@ makes_ran words text command source sink result says not memory output same make
       (λ is. absurd ((never_own result ends).0 is)) cause;
   no_command = λ none. absurd (is_command words command says none);
   no_memory = λ is. (command, says, memory is);
+  memory = λ bytes is no.
+      subst (λ (o : Option Command). OutOfMemory o bytes (source.left source.new) (sink.taken sink.old) (sink.taken sink.new)) (sym says)
+      (no_lines command bytes (source.left source.new) (sink.taken sink.old) (sink.taken sink.new) not);
 }
 
 -- ---- a run that reads the input
@@ -110,11 +123,12 @@ reading_ran : {S K : Type 0} (words : List (List ℕ)) (command : Command) (sour
     → ((bytes before : List ℕ) → source.left source.old ≡ Some bytes → sink.taken sink.old ≡ Some before → Leaves words bytes (source.left source.new) before (sink.taken sink.new) result)
     → ((bytes : List ℕ) → source.left source.old ≡ Some bytes → Reads words bytes (source.left source.new) result)
     → MayEnd (command_of words) result → result ≢ Usage → (result ≡ NoMemory → MayTakeMemory command)
+    → ((bytes : List ℕ) → source.left source.old ≡ Some bytes → result ≡ NoMemory → OutOfMemory (Some command) bytes (source.left source.new) (sink.taken sink.old) (sink.taken sink.new))
     → StatusHasCause ReadFault (source.faults source.old) (source.faults source.new) result
     → StatusHasCause WriteFault (sink.faults sink.old) (sink.faults sink.new) result
     → ((result ≡ TooLong) ↔ GaveTooMuch (source.given source.old) (source.given source.new))
     → IsToolRun words source sink result
-reading_ran words command source sink result says reads leaves told ends never memory failed cause long = record {
+reading_ran words command source sink result says reads leaves told ends never memory refused failed cause long = record {
   run = record {
     leaves = leaves;
     reads = told;
@@ -128,6 +142,8 @@ reading_ran words command source sink result says reads leaves told ends never m
   };
   no_command = λ none. absurd (is_command words command says none);
   no_memory = λ is. (command, says, memory is);
+  memory = λ bytes is no.
+      subst (λ (o : Option Command). OutOfMemory o bytes (source.left source.new) (sink.taken sink.old) (sink.taken sink.new)) (sym says) (refused bytes is no);
 }
 
 -- a command on a dump
@@ -143,7 +159,7 @@ input_ran words command source sink result says answers never ends memory failed
     reading_ran words (Serial (Dump command)) source sink result says refl
     (λ bytes before is taken. input_leaves words bytes command result (source.left source.new) before (sink.taken sink.old) (sink.taken sink.new) says taken (answers bytes is))
     (λ bytes is. input_reads words bytes command result (source.left source.new) (sink.taken sink.old) (sink.taken sink.new) says (answers bytes is))
-    (subst (λ (o : Option Command). MayEnd o result) (sym says) ends) never memory failed cause long
+    (subst (λ (o : Option Command). MayEnd o result) (sym says) ends) never memory (λ bytes is no. tt) failed cause long
 
 -- a serial command
 pub serial_ran : {S K : Type 0} (words : List (List ℕ)) (command : SerialCommand) (source : SourceRun S) (sink : SinkRun K) (result : Status)
@@ -169,35 +185,37 @@ serial_ran words Version source sink result says answers makes unread never ends
 pub replay_ran : {S K : Type 0} (words : List (List ℕ)) (source : SourceRun S) (sink : SinkRun K) (result : Status)
     → command_of words ≡ Some (Threaded Replay)
     → ((bytes : List ℕ) → source.left source.old ≡ Some bytes → Replays bytes (source.left source.new) (sink.taken sink.old) (sink.taken sink.new) result)
+    → ((bytes : List ℕ) → source.left source.old ≡ Some bytes → result ≡ NoMemory → ReplayOutOfMemory bytes (source.left source.new) (sink.taken sink.old) (sink.taken sink.new))
     → result ≢ Usage → (result ≢ TooFew) × (result ≢ Disabled)
     → StatusHasCause ReadFault (source.faults source.old) (source.faults source.new) result
     → StatusHasCause WriteFault (sink.faults sink.old) (sink.faults sink.new) result
     → ((result ≡ TooLong) ↔ GaveTooMuch (source.given source.old) (source.given source.new))
     → IsToolRun words source sink result
-replay_ran words source sink result says replays never few failed cause long =
+replay_ran words source sink result says replays refused never few failed cause long =
     reading_ran words (Threaded Replay) source sink result says refl
     (λ bytes before is taken.
     replays_leave words bytes result (source.left source.new) before (sink.taken sink.new) says
     (subst (λ (o : Option (List ℕ)). Replays bytes (source.left source.new) o (sink.taken sink.new) result) taken (replays bytes is)))
     (λ bytes is. replays_read words bytes result (source.left source.new) (sink.taken sink.old) (sink.taken sink.new) says (replays bytes is))
-    (run_ends words (Threaded Replay) result says refl few) never (λ is. tt) failed cause long
+    (run_ends words (Threaded Replay) result says refl few) never (λ is. tt) refused failed cause long
 
 -- requests
 pub proc_ran : {S K : Type 0} (words : List (List ℕ)) (cpus : ℕ) (source : SourceRun S) (sink : SinkRun K) (result : Status)
     → command_of words ≡ Some (Threaded (Proc cpus))
     → ((bytes : List ℕ) → source.left source.old ≡ Some bytes → Runs (proc_told cpus) [] bytes (source.left source.new) (sink.taken sink.old) (sink.taken sink.new) result)
+    → ((bytes : List ℕ) → source.left source.old ≡ Some bytes → result ≡ NoMemory → ProcOutOfMemory cpus bytes (source.left source.new) (sink.taken sink.old) (sink.taken sink.new))
     → result ≢ Usage → (result ≢ TooFew) × (result ≢ Disabled)
     → StatusHasCause ReadFault (source.faults source.old) (source.faults source.new) result
     → StatusHasCause WriteFault (sink.faults sink.old) (sink.faults sink.new) result
     → ((result ≡ TooLong) ↔ GaveTooMuch (source.given source.old) (source.given source.new))
     → IsToolRun words source sink result
-proc_ran words cpus source sink result says runs never few failed cause long =
+proc_ran words cpus source sink result says runs refused never few failed cause long =
     reading_ran words (Threaded (Proc cpus)) source sink result says refl
     (λ bytes before is taken.
     proc_leaves words bytes cpus result (source.left source.new) before (sink.taken sink.new) says
     (subst (λ (o : Option (List ℕ)). Runs (proc_told cpus) [] bytes (source.left source.new) o (sink.taken sink.new) result) taken (runs bytes is)))
     (λ bytes is. proc_reads words bytes cpus result (source.left source.new) (sink.taken sink.old) (sink.taken sink.new) says (runs bytes is))
-    (run_ends words (Threaded (Proc cpus)) result says refl few) never (λ is. tt) failed cause long
+    (run_ends words (Threaded (Proc cpus)) result says refl few) never (λ is. tt) refused failed cause long
 
 -- ---- ports that a call before it left as they were
 

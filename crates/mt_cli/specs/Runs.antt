@@ -9,7 +9,7 @@ use Rattle.mt_text.specs.Feed.{GaveTooMuch}
 use Rattle.mt_answers.specs.declared.command.Command.{Command}
 use Rattle.mt_answers.specs.CommandLine.{MayTakeMemory, command_of, reads_input}
 use Rattle.mt_answers.specs.Statuses.{MayEnd}
-use Rattle.mt_cli.specs.Tool.{Leaves, Reads}
+use Rattle.mt_cli.specs.Tool.{Leaves, OutOfMemory, Reads}
 
 -- a source before a run and after it, with what it tells of itself
 pub record SourceRun (S : Type 0) : Type 0 where
@@ -58,3 +58,6 @@ pub record IsToolRun {S K : Type 0} (words : List (List ℕ)) (source : SourceRu
   pub no_command : command_of words ≡ None → (status ≡ Usage) ⊎ (status ≡ WriteFault)
   -- Memory is refused to no command that takes none.
   pub no_memory : status ≡ NoMemory → (command : Command) × (command_of words ≡ Some command) × MayTakeMemory command
+  -- Where the source tells its bytes, memory is refused to `replay` and `proc` before anything is read, or at a line that asks for some.
+  pub memory : (bytes : List ℕ) → source.left source.old ≡ Some bytes → status ≡ NoMemory
+      → OutOfMemory (command_of words) bytes (source.left source.new) (sink.taken sink.old) (sink.taken sink.new)

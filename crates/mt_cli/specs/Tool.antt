@@ -12,6 +12,8 @@ use Rattle.mt_output.specs.Lines.{accepted_line}
 use Rattle.mt_script.specs.Newcomers.{IsWithoutNewcomers}
 use Rattle.mt_stream.specs.Runs.{TellsKnown}
 use Rattle.mt_proc.specs.Proc.{proc_told}
+use Rattle.mt_proc.specs.Running.{OutOfMemory as ProcOutOfMemory}
+use Rattle.mt_replay.specs.Running.{OutOfMemory as ReplayOutOfMemory}
 use Rattle.mt_replay.specs.Transcript.{replay_told}
 use Rattle.mt_cli.specs.Output.{Output}
 
@@ -60,6 +62,16 @@ abbrev pub Starved : List (List ℕ) → List ℕ → List ℕ → Option (List 
 Starved words bytes before after =
     Untouched before after
     ⊎ ((command_of words ≡ Some (Threaded Replay)) × (IsWithoutNewcomers bytes → AppendsFront (Some before) after accepted_line) × CutShort words bytes before after)
+
+-- Memory was refused to `replay` or `proc` before anything was read, or at a line that asks for some. What the lines before it tell was
+-- then written. Of any other command `Starved` says what there is to say.
+abbrev pub OutOfMemory : Option Command → List ℕ → Option (List ℕ) → Option (List ℕ) → Option (List ℕ) → Type 0
+OutOfMemory None bytes left before after = ⊤
+OutOfMemory (Some (Serial command)) bytes left before after = ⊤
+OutOfMemory (Some (Threaded Replay)) bytes left before after = ReplayOutOfMemory bytes left before after
+OutOfMemory (Some (Threaded (Proc cpus))) bytes left before after = ProcOutOfMemory cpus bytes left before after
+OutOfMemory (Some (Threaded (Big n))) bytes left before after = ⊤
+OutOfMemory (Some (Threaded (Private cpus n accesses))) bytes left before after = ⊤
 
 -- what each status says of the bytes: those that the source held and has left, and those that the sink had before and has after
 abbrev pub Leaves : List (List ℕ) → List ℕ → Option (List ℕ) → List ℕ → Option (List ℕ) → Status → Type 0

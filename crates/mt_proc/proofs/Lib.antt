@@ -1,5 +1,4 @@
 pub mod Blocks
-pub mod Courses
 pub mod Digits
 pub mod Endings
 pub mod FirstWords
@@ -10,4 +9,4 @@ pub mod Served
 pub mod Sizes
 pub mod Taking
 pub mod Written
-mod Beginning
+pub mod Beginning

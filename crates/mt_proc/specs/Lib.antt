@@ -1,6 +1,5 @@
 pub mod After
 pub mod Applied
-pub mod Courses
 pub mod Listing
 pub mod Proc
 pub mod Requests

@@ -10,7 +10,6 @@ ghost use Rattle.mt_machine.specs.Machine.{Machine};
 ghost use Rattle.mt_stream.specs.Lines.{Closes, IsEnding, Leading, Path, Takes, from_line};
 ghost use Rattle.mt_stream.specs.Runs.{EndsAs, Runs};
 ghost use Rattle.mt_proc.specs.After.{era_line};
-ghost use Rattle.mt_proc.specs.Courses.{TellsOfMachines};
 ghost use Rattle.mt_proc.specs.Listing.{listing};
 ghost use Rattle.mt_proc.specs.Proc.{Point, begins, no_end, of_request, proc_told, proc_transcript, reason_text, request_fault_line};
 ghost use Rattle.mt_proc.specs.Requests.{request_of};
@@ -305,10 +304,6 @@ pub fn proc<R: AllocGlobal + Threads + Wait + Sync, S: Source, K: Sink, G: Gate>
 
     // The status is the text's, unless a port fails, too much is read or memory is refused.
     ensures complete { (bytes : List ℕ) → S.left source.old ≡ Some bytes → EndsAs (proc_transcript cpus bytes).status result }
-
-    // What it tells of a text is told of machines: behind each line `set` or `cleared` every processor has the file that was asked
-    // for and is settled, and any other answer changes no processor.
-    ensures settled { (bytes : List ℕ) → TellsOfMachines cpus bytes }
 
     // Memory is refused before anything is read, or at the dump's end.
     ensures memory { (bytes : List ℕ) → S.left source.old ≡ Some bytes → result ≡ Status.NoMemory → OutOfMemory cpus bytes (S.left source.new) (K.taken sink.old) (K.taken sink.new) }

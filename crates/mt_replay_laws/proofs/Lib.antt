@@ -5,6 +5,7 @@ pub mod Hiding
 pub mod KnownLines
 pub mod Listed
 pub mod Paths
+pub mod ProcCourses
 pub mod Refusals
 pub mod SameFiles
 pub mod ShownDump

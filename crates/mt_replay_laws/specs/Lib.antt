@@ -1,6 +1,7 @@
 pub mod Flat
 pub mod Headline
 pub mod Movers
+pub mod ProcCourses
 pub mod Settling
 pub mod Through
 pub mod WorkedScript

@@ -1,4 +1,4 @@
-ghost use Rattle.std.specs.Prelude.{◌≡◌, ◌↔◌, ◌+◌, ◌++◌, ℕ, List};
+ghost use Rattle.std.specs.Prelude.{◌≡◌, ◌↔◌, ◌+◌, ◌++◌, ◌<◌, ℕ, List};
 ghost use Rattle.mt_text.specs.Text.{lines_of};
 ghost use Rattle.mt_regs.specs.RegisterFile.{IsRegisterFile, RegisterFile};
 ghost use Rattle.mt_stream.specs.Known.{known_text};
@@ -7,6 +7,7 @@ ghost use Rattle.mt_proc.specs.After.{Served, answer_text, asked, done_text};
 ghost use Rattle.mt_proc.specs.declared.request.Request.{Request as Asked};
 ghost use Rattle.mt_proc.specs.Proc.{LinesTellRequests, proc_told};
 ghost use Rattle.mt_proc.specs.Listing.{all_asked, listing, ranges_of, requests_from};
+ghost use Rattle.mt_replay_laws.specs.ProcCourses.{TellsOfMachines};
 
 /// The lines of a file's valid pairs are read as requests for exactly the blocks and types of these
 /// pairs, in order, wherever the lines stand.
@@ -26,6 +27,12 @@ pub fn lines_tell_of_their_requests()
 pub fn what_is_carried_out_is_told()
     ensures told { (now : Served) (request : Asked) → ((n : ℕ) × (answer_text now request ≡ done_text request n)) ↔ ((asked now request).count ≡ now.count + 1) }
     ensures stands { (now : Served) (request : Asked) → ((n : ℕ) → answer_text now request ≡ done_text request n → ⊥) → asked now request ≡ now }
+{}
+
+/// What `proc` tells of a text is told of machines. Behind each line `set` or `cleared` every processor has the file that was
+/// asked for and is settled. Any other answer changes no processor.
+pub fn texts_tell_of_machines()
+    ensures { (cpus : ℕ) (text : List ℕ) → 0 < cpus → TellsOfMachines cpus text }
 {}
 
 /// What the known lines of a front tell is a front of what the whole text tells, whatever bytes come

@@ -22,7 +22,7 @@ use Rattle.mt_private.specs.Own.{own_memory}
 use Rattle.mt_private.specs.Residents.{Follows, Yard, pages_at}
 use Rattle.mt_thread_laws.specs.WorkedYard.{alone, first_taken, lodger, lodging, no_counts}
 use Rattle.mt_private.specs.YardLaws.{IsOneEvent, IsOneStep, YardState}
-use Rattle.mt_private.specs.YardPlays.{YardSat}
+use Rattle.mt_private.specs.YardPlays.{Tells, YardSat}
 use Rattle.mt_private.specs.YardRule.{MeetsYard, first_yard_view, with_one, with_said, yard_both, yard_left, yard_right, yard_spent}
 
 abbrev pub first_words : Memory
@@ -82,6 +82,10 @@ Becomes key s later e = (m : MeetsYard key s) × IsOneEvent key s later m e
 -- one state meets the rule, and a load of the first count is a step of seat 1 there
 abbrev pub LoadsFirst : Key → YardState → Type 0
 LoadsFirst key s = (m : MeetsYard key s) × (new : YardSat) × IsOneStep key s m 1 (step 0 0 0 0 none) new
+
+-- a load of the first count is a step of its first guest, and shows it nothing of the second
+abbrev pub TakesUnshown : Key → Type 0
+TakesUnshown key = (new : YardSat) × Tells (step 0 0 0 0 none) (yard_right (first_yard_view key), []) 0 new × (new.0.shown ≡ None)
 
 -- ---- the end of a yard
 

@@ -1,10 +1,11 @@
 // Worked relations that laws cite: one that meets each, and for each part one that fails in that part.
 ghost use Rattle.std.specs.Prelude.{◌≡◌, ◌∷◌, [], None, Some, false, true};
-ghost use Rattle.atomic_table.specs.Table.{opening};
-ghost use Rattle.mt_machine.specs.declared.event.Event.TheVariants.{Arrive, WriteBack};
+ghost use mathlib.Core.Option.{none, some};
+ghost use Rattle.atomic_table.specs.Table.{opening, step};
+ghost use Rattle.mt_machine.specs.declared.event.Event.TheVariants.{Arrive, Release, SetNoFill, WriteBack};
 ghost use Rattle.mt_machine.specs.declared.go.Go.TheVariants.{Given, Pending};
-ghost use Rattle.mt_machine.specs.declared.op.Op.TheVariants.{Load, Store};
-ghost use Rattle.mt_machine.specs.Machine.{Goes, Steps};
+ghost use Rattle.mt_machine.specs.declared.op.Op.TheVariants.{Fence, Load, Store};
+ghost use Rattle.mt_machine.specs.Machine.{Accesses, Cancels, Goes, Steps};
 ghost use Rattle.mt_rendezvous.specs.declared.view.Key.{Key};
 ghost use Rattle.mt_rendezvous.specs.Station.{start_of};
 ghost use Rattle.mt_private.specs.OneByOne.{at_rest};
@@ -13,7 +14,7 @@ ghost use Rattle.mt_private.specs.Pages.{IsPrivate};
 ghost use Rattle.mt_private.specs.Residents.{with_stored};
 ghost use Rattle.mt_thread_laws.specs.Worked.{first_page, marked, pair, second_page, shared, sharing, uncached};
 ghost use Rattle.mt_thread_laws.specs.WorkedYard.{at_start, both_lodged, first_lodged, first_state, lodged, lodging};
-ghost use Rattle.mt_private.specs.YardLaws.{Has, IsOneEvent, Settles, Stores};
+ghost use Rattle.mt_private.specs.YardLaws.{ComesOf, Has, IsOneEvent, Settles, Stores};
 ghost use Rattle.mt_private.specs.YardRule.{MeetsYard, first_yard_view, with_said, yard_left};
 
 /// Two processors that name no page in common.
@@ -63,6 +64,21 @@ pub fn worked_event_words()
     ensures count_stored { Stores first_lodged 0 9 (with_stored first_lodged 9) → ⊥ }
     ensures elsewhere { Stores first_lodged 3 9 (with_stored first_lodged 9) → ⊥ }
     ensures otherwise { Stores first_lodged 2 9 first_lodged → ⊥ }
+{}
+
+/// Of which steps of a yard an event comes, and of which it doesn't.
+pub fn worked_steps_of_yard_events()
+    ensures released { ComesOf (step 0 1 0 0 none) (Some (Steps 0 Release)) }
+    ensures released_by_addition { ComesOf (step 0 1 1 0 none) (Some (Steps 0 Release)) → ⊥ }
+    ensures released_at_first { ComesOf (step 0 0 0 0 none) (Some (Steps 0 Release)) → ⊥ }
+    ensures arrived_by_load { ComesOf (step 0 0 0 0 none) (Some (Steps 0 Arrive)) → ⊥ }
+    ensures stored { ComesOf (step 0 2 1 0 none) (Some (Steps 0 SetNoFill)) }
+    ensures counted { ComesOf (step 0 1 1 0 none) (Some (Steps 0 SetNoFill)) → ⊥ }
+    ensures exchanged { ComesOf (step 0 2 0 1 (some Fence)) (Some (Steps 0 SetNoFill)) → ⊥ }
+    ensures accessed { ComesOf (step 0 2 0 1 (some Fence)) (Some (Accesses 0 Fence)) }
+    ensures accessed_in_a_count { ComesOf (step 0 1 0 1 (some Fence)) (Some (Accesses 0 Fence)) → ⊥ }
+    ensures accessed_otherwise { ComesOf (step 0 2 0 1 (some (Load 0x1000))) (Some (Accesses 0 Fence)) → ⊥ }
+    ensures cancelled_by_one { ComesOf (step 0 0 1 0 none) (Some Cancels) → ⊥ }
 {}
 
 /// A yard and its first resident.

@@ -20,10 +20,10 @@ ghost use Rattle.mt_private.specs.Left.{Leaves};
 ghost use Rattle.mt_private.specs.OneByOne.{jobs_one_by_one};
 ghost use Rattle.mt_private.specs.Residents.{Decides, Follows, Yard, accessed_by, own_of, system_of, with_stored};
 ghost use Rattle.mt_private.specs.Visitors.{EndsOneByOne, Returned};
-ghost use Rattle.mt_thread_laws.specs.WorkedWay.{Becomes, GoesOn, HasNoAnswers, IsEmptyJob, LoadsFirst, changed, fills_not, given, guest, joined, last_seat, released, settled, split_taken};
+ghost use Rattle.mt_thread_laws.specs.WorkedWay.{Becomes, GoesOn, HasNoAnswers, IsEmptyJob, LoadsFirst, TakesUnshown, changed, fills_not, given, guest, joined, last_seat, released, settled, split_taken};
 ghost use Rattle.mt_thread_laws.specs.WorkedYard.{alone, first_state, lodged, lodging, split_state};
 ghost use Rattle.mt_private.specs.YardLaws.{AdditionArrives, AdditionArrivesAgain, AdditionDecides, LoadLeaves, LoadPasses, LoadReleases, LoadStays, LoadTakes, StoreAccesses, StoreWorks};
-ghost use Rattle.mt_private.specs.YardLaws.{EachStepFollows, IsOneMachine, IsReached, JoinIsNone, MoveIsOneEvent, ReleasedWhereFull, SayingIsOneEvent, Settles, SplitIsNone, StartMeetsRule, YardsSettle};
+ghost use Rattle.mt_private.specs.YardLaws.{EachStepFollows, IsOneMachine, IsReached, JoinIsNone, MoveIsOneEvent, ReleasedWhereFull, SayingIsOneEvent, Settles, ShownIsFound, SplitIsNone, StartMeetsRule, YardsSettle};
 ghost use Rattle.mt_private.specs.YardRule.{MeetsYard, its_machine};
 
 /// Loads of the counts.
@@ -60,6 +60,7 @@ pub fn worked_laws_of_tables()
     ensures split { SplitIsNone → (key : Key) → start_of key ≡ lodging → Becomes key (first_state key) (split_state key) None }
     ensures moves { MoveIsOneEvent → (key : Key) → start_of key ≡ lodging → Becomes key (split_state key) (split_taken key) (Some (Steps 0 Take)) }
     ensures steps { EachStepFollows → (key : Key) → start_of key ≡ lodging → LoadsFirst key (split_state key) }
+    ensures shown { ShownIsFound → (key : Key) → start_of key ≡ lodging → TakesUnshown key }
     ensures released { ReleasedWhereFull → (key : Key) → start_of key ≡ alone → (m : MeetsYard key (settled key)) × (m.go ≡ Given) }
     ensures settles { YardsSettle → (key : Key) → start_of key ≡ alone → (m : MeetsYard key (settled key)) × Settles (start_of key) (its_machine key (settled key) m) }
     ensures join { JoinIsNone → (key : Key) → start_of key ≡ lodging → Becomes key (split_state key) (joined key) None }

@@ -26,7 +26,7 @@ returns-in-Replay g c words says =
     (source_run g.S.Source.left g.S.Source.faults g.S.Source.given c.args.source.now c.replay.new.source)
     (sink_run g.K.Sink.taken g.K.Sink.faults c.args.sink.now c.replay.new.sink)
     c.replay.result (says ∙ ap (λ (t : ThreadedCommand). Some (Threaded t)) c.in-Replay.is)
-    c.replay.ensures.bytes c.replay.ensures.usage c.replay.ensures.few c.replay.ensures.read_fault c.replay.ensures.write_fault c.replay.ensures.too_long
+    c.replay.ensures.bytes c.replay.ensures.memory c.replay.ensures.usage c.replay.ensures.few c.replay.ensures.read_fault c.replay.ensures.write_fault c.replay.ensures.too_long
 
 pub returns-in-Proc : goal.returns-in-Proc
 returns-in-Proc g c words says =
@@ -34,7 +34,7 @@ returns-in-Proc g c words says =
     (source_run g.S.Source.left g.S.Source.faults g.S.Source.given c.args.source.now c.proc.new.source)
     (sink_run g.K.Sink.taken g.K.Sink.faults c.args.sink.now c.proc.new.sink)
     c.proc.result (says ∙ ap (λ (t : ThreadedCommand). Some (Threaded t)) c.in-Proc.is)
-    c.proc.ensures.bytes c.proc.ensures.usage c.proc.ensures.few c.proc.ensures.read_fault c.proc.ensures.write_fault c.proc.ensures.too_long
+    c.proc.ensures.bytes c.proc.ensures.memory c.proc.ensures.usage c.proc.ensures.few c.proc.ensures.read_fault c.proc.ensures.write_fault c.proc.ensures.too_long
 
 pub returns-in-Big : goal.returns-in-Big
 returns-in-Big g c words says =

@@ -1,4 +1,4 @@
-use Rattle.std.proofs.Common.{◌≡◌, ◌+◌, List, ◌∷◌, [], None, Some, ap, arith, false, inl, length, refl, subst, sym}
+use Rattle.std.proofs.Common.{◌≡◌, ◌+◌, List, ◌∷◌, [], None, Some, ap, arith, false, inl, length, refl, subst, sym, ⊎_elim}
 use mathlib.Core.Option.{none, some}
 use lib.ListN.{get_elem?}
 use Rattle.atomic_table.specs.Table.{carried_after, step}
@@ -13,6 +13,8 @@ use Rattle.mt_private.specs.declared.view.Resident.{Resident}
 use Rattle.mt_private.specs.Residents.{Follows, Opens, Yard}
 use Rattle.mt_thread_laws.specs.WorkedWay.{last_pass, released, settled}
 use Rattle.mt_thread_laws.specs.WorkedYard.{first_lodged, first_state, first_taken, lodging, no_counts, split_state}
+use Rattle.mt_private.specs.YardLaws.{IsLoad}
+use Rattle.mt_private.specs.YardPlays.{YardSat}
 use Rattle.mt_private.specs.YardRule.{MeetsYard, as_view, first_yard_view, one_of, residents, yard_left, yard_right}
 use Rattle.mt_thread_laws.proofs.Lodged.{opened_lodging, opens_lodging, second_lodged, zeros}
 use Rattle.mt_thread_laws.proofs.LoneSeats.{settled_meets}
@@ -83,6 +85,17 @@ returns-clause-steps c = λ law key is.
       m,
       (may.0, carried_after [] may.1),
       law key (split_state key) m 1 (step 0 0 0 0 none) (yard_right (first_yard_view key), []) (may.0, carried_after [] may.1) refl may.4,
+    )
+
+pub returns-clause-shown : goal.returns-clause-shown
+returns-clause-shown c = λ law key is.
+    let me : YardSat = (yard_right (first_yard_view key), []) in
+    let may = takes_yard key 0 1 me first_lodged (one_held key is) refl refl refl refl (split_state key) (split_meets key is) refl refl (omega arith) in
+    let new : YardSat = (may.0, carried_after [] may.1) in
+    let st = step 0 0 0 0 none in (
+      new,
+      may.4,
+      ⊎_elim (λ (e : IsLoad st 1 × (new.0.shown ≡ Some 0)). absurd (let e : 0 ≡ 1 = e.0.0 in omega arith)) (λ (e : (IsLoad st 1 → ⊥) × (new.0.shown ≡ me.0.shown)). e.1) (law st me new 0 may.4),
     )
 
 pub returns-clause-released : goal.returns-clause-released

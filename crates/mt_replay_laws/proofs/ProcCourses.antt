@@ -35,7 +35,7 @@ use Rattle.mt_proc.specs.declared.request.Request.TheVariants.{Disable, Range}
 use Rattle.mt_proc.specs.declared.request.ProcFault.{ProcFault}
 use Rattle.mt_proc.specs.After.{Served, answer_text, at_first, change_text, done_text, end_text, with_change, with_goal}
 use Rattle.mt_proc.specs.Applied.{applied}
-use Rattle.mt_proc.specs.Courses.{LeavesSettled, ProcStep, TellsOfMachines, steps_after, steps_begun, steps_by, steps_from, steps_in, texts_of}
+use Rattle.mt_replay_laws.specs.ProcCourses.{LeavesSettled, ProcStep, TellsOfMachines, steps_after, steps_begun, steps_by, steps_from, steps_in, texts_of}
 use Rattle.mt_proc.specs.Proc.{Point, begins, in_dump, in_requests, of_head, of_request, proc_end, proc_step, request_fault_line, situation_of}
 use Rattle.mt_proc.specs.Requests.{request_of}
 use Rattle.mt_proc.specs.Serving.{changed, files_of, idle, idling, served, standing}
