@@ -14,7 +14,8 @@ ghost use Rattle.mt_types.specs.Runs.{IsTypeMap, pages_end};
 
 use crate::block_costs::{first_half, leaves_type, next_block, with_type};
 use crate::costs::Costs;
-use crate::lent::{Wanted, wish_of};
+use crate::lent::wish_of;
+use crate::packed::PackedRuns;
 use crate::range::Range;
 use crate::rules::Rules;
 use crate::whole_costs::{best_at, find_halves};
@@ -86,7 +87,7 @@ fn put_whole(rules: &Rules, b: &Block, x: Context, t: MemType, out: &mut ArrayVe
 
 /// Adds a list that fits the block and is as short as its cost.
 pub fn lay_in(
-    wanted: &Wanted,
+    wanted: &PackedRuns,
     rules: &Rules,
     b: &Block,
     x: Context,

@@ -7,47 +7,13 @@ ghost use Rattle.mt_trie.specs.Wishes.{IsDefined};
 ghost use Rattle.mt_types.specs.declared.run.Run.{Run};
 ghost use Rattle.mt_types.specs.Runs.{HasPage, IsChain, IsTypeMap, pages_end};
 
-use crate::packed::PackedRun;
+use crate::packed::PackedRuns;
 use crate::rules::Rules;
 use mt_ranges::Block;
 use mt_trie::Wish;
-use mt_types::Run;
-use std::marker::Model;
-
-/// The type map that is wanted.
-#[derive(Drop)]
-pub struct Wanted<'a> {
-    pub packed: &'a [PackedRun],
-}
-
-impl<'a> Model for Wanted<'a> {
-    ghost use Rattle.std.specs.Prelude.{List};
-    ghost use Rattle.mt_tidy.specs.Packed.{runs_of};
-    ghost use Rattle.mt_types.specs.declared.run.Run.{Run};
-
-    ghost Value = { List Run };
-
-    ghost view = { λ w. runs_of w.packed.now };
-}
-
-impl<'a> Wanted<'a> {
-    fn count(&self) -> usize
-        ensures { result ≡ length self.now }
-    {
-        self.packed.len()
-    }
-
-    fn run_at(&self, i: usize) -> Run
-        requires { i < length self.now }
-        ensures { (d : Run) → result ≡ slice_index_or self.now i d }
-    {
-        let packed = self.packed;
-        packed[i].unpacked()
-    }
-}
 
 // The place of the run that has a page.
-fn index_of(list: &Wanted, page: u64) -> usize
+fn index_of(list: &PackedRuns, page: u64) -> usize
     requires chain { IsChain 0 list.now }
     requires covered { page < pages_end 0 list.now }
     ensures within { result < length list.now }
@@ -79,7 +45,7 @@ fn first_page(rules: &Rules, b: &Block) -> u64
 
 /// What the pages of a block want.
 #[inline(never)] // so that its callers, which call themselves, take little stack
-pub fn wish_of(wanted: &Wanted, rules: &Rules, b: &Block) -> Wish
+pub fn wish_of(wanted: &PackedRuns, rules: &Rules, b: &Block) -> Wish
     requires map { IsTypeMap wanted.now }
     requires defined { All IsDefined wanted.now }
     requires covered { block_end b.now ≤ pages_end 0 wanted.now }

@@ -14,7 +14,8 @@ ghost use Rattle.mt_types.specs.Runs.{IsTypeMap, pages_end};
 
 use crate::block_costs::{all_costs, best, first_half, is_small, next_block, only_costs};
 use crate::costs::{Costs, Reach};
-use crate::lent::{Wanted, wish_of};
+use crate::lent::wish_of;
+use crate::packed::PackedRuns;
 use crate::rules::Rules;
 use crate::work_area::CostTable;
 use mt_kinds::MemType;
@@ -83,7 +84,7 @@ fn find_divided(rules: &Rules, b: &Block, table: &mut CostTable)
 
 /// Finds the costs of the halves of a block of which some pages want one type and some another.
 #[cycle(finding)]
-pub fn find_halves(wanted: &Wanted, rules: &Rules, b: &Block, table: &mut CostTable)
+pub fn find_halves(wanted: &PackedRuns, rules: &Rules, b: &Block, table: &mut CostTable)
     requires map { IsTypeMap wanted.now }
     requires defined { All IsDefined wanted.now }
     requires covered { block_end b.now ≤ pages_end 0 wanted.now }
@@ -102,7 +103,7 @@ pub fn find_halves(wanted: &Wanted, rules: &Rules, b: &Block, table: &mut CostTa
 
 /// Finds the costs of a block in all contexts.
 #[cycle(finding)]
-pub fn find_costs(wanted: &Wanted, rules: &Rules, b: &Block, table: &mut CostTable)
+pub fn find_costs(wanted: &PackedRuns, rules: &Rules, b: &Block, table: &mut CostTable)
     requires map { IsTypeMap wanted.now }
     requires defined { All IsDefined wanted.now }
     requires covered { block_end b.now ≤ pages_end 0 wanted.now }
