@@ -29,7 +29,7 @@ const _: () = prove!(size_of::<PlainLoss>() == 16);
 
 const _: () = prove!(align_of::<PlainLoss>() == 8);
 
-const _: () = prove!(size_of::<WorkArea>() == 32768);
+const _: () = prove!(size_of::<WorkArea>() == 53752);
 
 const _: () = prove!(align_of::<WorkArea>() == 8);
 

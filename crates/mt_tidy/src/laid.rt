@@ -1,15 +1,16 @@
-ghost use Rattle.std.specs.Prelude.{◌≡◌, ◌++◌, ◌≤◌, ◌<◌, ◌^◌, [], List, None, Some, false, length, if◌then◌else◌};
+ghost use Rattle.std.specs.Prelude.{◌≡◌, ◌++◌, ◌≤◌, ◌<◌, ◌^◌, [], None, Some, false, length, if◌then◌else◌};
 ghost use Rattle.std.specs.List.{All};
 ghost use Rattle.mt_ranges.specs.Blocks.{block_end};
 ghost use Rattle.mt_tidy.specs.AllCosts.{IsBelow, cost_in};
-ghost use Rattle.mt_tidy.specs.Cost.{cost, divided, leaves_type, only_cost, task_by};
+ghost use Rattle.mt_tidy.specs.Cost.{cost, divided, leaves_type, only_cost, task_by, wish};
 ghost use Rattle.mt_tidy.specs.Fits.{Begun, Laid, ranges_on};
 ghost use Rattle.mt_tidy.specs.Halved.{BegunOver, HoldsHalves};
 ghost use Rattle.mt_tidy.specs.LeastList.{MayBeUsed};
 ghost use Rattle.mt_tidy.specs.Remembered.{Remembers};
 ghost use Rattle.mt_tidy.specs.Room.{HasRoom};
+ghost use Rattle.mt_trie.specs.Wishes.{IsDefined};
 ghost use Rattle.mt_trie.specs.declared.context.Context.{Context};
-ghost use Rattle.mt_types.specs.declared.run.Run.{Run};
+ghost use Rattle.mt_trie.specs.declared.wish.Wish.TheVariants.{Mixed};
 ghost use Rattle.mt_types.specs.Runs.{IsTypeMap, pages_end};
 
 use crate::block_costs::{first_half, leaves_type, next_block, with_type};
@@ -58,19 +59,28 @@ fn begin_at(
     }
 }
 
-// Adds the range that is chosen for a block whose halves' costs a table holds.
+// Adds the range that is chosen for a block of which some pages want one type and some another, and answers what is then
+// left for the halves.
 #[inline(never)] // so that `lay_in` takes little stack
 fn begin_over(
+    wanted: &PackedRuns,
     rules: &Rules,
     b: &Block,
     x: Context,
-    table: &CostTable,
+    table: &mut CostTable,
     out: &mut ArrayVec<Range, 32>,
 ) -> Context
-    requires halves { (runs : List Run) × HoldsHalves (task_by rules.now runs) b.now.log b.now.first table.now
-        × HasRoom (cost (task_by rules.now runs) b.now.log b.now.first x) out.old.items }
-    ensures { BegunOver rules.now b.now.log b.now.first x table.now out.old.items out.new.items result }
+    requires map { IsTypeMap wanted.now }
+    requires defined { All IsDefined wanted.now }
+    requires covered { block_end b.now ≤ pages_end 0 wanted.now }
+    requires mixed { wish (task_by rules.now wanted.now) b.now.log b.now.first ≡ Mixed }
+    requires slots { All (Remembers (task_by rules.now wanted.now)) table.old.slots }
+    requires room { HasRoom (cost (task_by rules.now wanted.now) b.now.log b.now.first x) out.old.items }
+    ensures begun { BegunOver rules.now b.now.log b.now.first x table.new out.old.items out.new.items result }
+    ensures halves { HoldsHalves (task_by rules.now wanted.now) b.now.log b.now.first table.new }
+    ensures slots { All (Remembers (task_by rules.now wanted.now)) table.new.slots }
 {
+    find_halves(wanted, rules, b, table);
     let halves = table.halves(b.log - 1);
     begin_at(rules, b, &halves, x, out)
 }
@@ -106,12 +116,11 @@ pub fn lay_in(
         Wish::Any => {}
         Wish::Only(t) => put_whole(rules, b, x, t, out),
         Wish::Mixed => {
-            let first = first_half(b);
-            let second = next_block(&first);
-            find_halves(wanted, rules, b, table);
-            let y = begin_over(rules, b, x, table, out);
-            lay_in(wanted, rules, &first, y, table, out);
-            lay_in(wanted, rules, &second, y, table, out);
+            let y = begin_over(wanted, rules, b, x, table, out);
+            let mut half = first_half(b);
+            lay_in(wanted, rules, &half, y, table, out);
+            half = next_block(&half);
+            lay_in(wanted, rules, &half, y, table, out);
         }
     }
 }

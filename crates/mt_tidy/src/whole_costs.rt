@@ -94,11 +94,11 @@ pub fn find_halves(wanted: &PackedRuns, rules: &Rules, b: &Block, table: &mut Co
     ensures slots { All (Remembers (task_by rules.now wanted.now)) table.new.slots }
     ensures saved { KeepsSaved b.now.log table.old table.new }
 {
-    let lower = first_half(b);
-    let upper = next_block(&lower);
-    find_costs(wanted, rules, &lower, table);
-    table.save(lower.log);
-    find_costs(wanted, rules, &upper, table);
+    let mut half = first_half(b);
+    find_costs(wanted, rules, &half, table);
+    table.save(half.log);
+    half = next_block(&half);
+    find_costs(wanted, rules, &half, table);
 }
 
 /// Finds the costs of a block in all contexts.

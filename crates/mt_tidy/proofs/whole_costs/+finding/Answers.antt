@@ -7,27 +7,27 @@ use Rattle.mt_tidy.proofs.Wishes.{mixed_divides}
 use Rattle.mt_types.specs.Runs.{pages_end}
 use Rattle.mt_tidy.proofs.whole_costs.+finding.Goals as goal
 
-pub find_halves-first_half-lower-requires : goal.find_halves-first_half-lower-requires
-find_halves-first_half-lower-requires t c = mixed_divides (task_by c.args.rules.now c.args.wanted.now) c.args.b.now.log c.args.b.now.first c.requires.mixed
+pub find_halves-first_half-half-requires : goal.find_halves-first_half-half-requires
+find_halves-first_half-half-requires t c = mixed_divides (task_by c.args.rules.now c.args.wanted.now) c.args.b.now.log c.args.b.now.first c.requires.mixed
 
 pub find_halves-find_costs-requires : goal.find_halves-find_costs-requires
 find_halves-find_costs-requires t c =
-    let pages = halves_covered c.args.b.now.first c.first_half-lower.result.log c.args.b.now.log (pages_end 0 c.args.wanted.now) c.first_half-lower.ensures.log c.requires.covered in (
-      omega (arith, c.first_half-lower.ensures.log, c.decreases),
-      (c.requires.map, (c.requires.defined, (omega (arith, pages, c.first_half-lower.ensures.first), c.requires.slots))),
+    let pages = halves_covered c.args.b.now.first c.first_half-half.result.log c.args.b.now.log (pages_end 0 c.args.wanted.now) c.first_half-half.ensures.log c.requires.covered in (
+      omega (arith, c.first_half-half.ensures.log, c.decreases),
+      (c.requires.map, (c.requires.defined, (omega (arith, pages, c.first_half-half.ensures.first), c.requires.slots))),
     )
 
 pub find_halves-find_costs-requires-2 : goal.find_halves-find_costs-requires-2
 find_halves-find_costs-requires-2 t c =
-    let pages = halves_covered c.args.b.now.first c.first_half-lower.result.log c.args.b.now.log (pages_end 0 c.args.wanted.now) c.first_half-lower.ensures.log c.requires.covered in
-    let size : 2 ^ c.next_block-upper.result.log ≡ 2 ^ c.first_half-lower.result.log = ap (λ n. 2 ^ n) c.next_block-upper.ensures.log in (
-      omega (arith, c.first_half-lower.ensures.log, c.next_block-upper.ensures.log, c.decreases),
+    let pages = halves_covered c.args.b.now.first c.first_half-half.result.log c.args.b.now.log (pages_end 0 c.args.wanted.now) c.first_half-half.ensures.log c.requires.covered in
+    let size : 2 ^ c.next_block-half.result.log ≡ 2 ^ c.first_half-half.result.log = ap (λ n. 2 ^ n) c.next_block-half.ensures.log in (
+      omega (arith, c.first_half-half.ensures.log, c.next_block-half.ensures.log, c.decreases),
       (
         c.requires.map,
         (
           c.requires.defined,
           (
-            omega (arith, pages, size, c.first_half-lower.ensures.first, c.next_block-upper.ensures.first),
+            omega (arith, pages, size, c.first_half-half.ensures.first, c.next_block-half.ensures.first),
             subst (λ ss. All (Remembers (task_by c.args.rules.now c.args.wanted.now)) ss) (sym c.save.ensures.slots) c.find_costs.ensures.slots,
           ),
         ),
@@ -37,14 +37,14 @@ find_halves-find_costs-requires-2 t c =
 pub find_halves-returns-clause-halves : goal.find_halves-returns-clause-halves
 find_halves-returns-clause-halves t c =
     halves_hold _ c.args.b.now.log c.args.b.now.first _ _ _ _ c.find_costs.new.table c.save.new.self c.find_costs-2.new.table c.requires.mixed
-    c.first_half-lower.ensures.log c.first_half-lower.ensures.first c.next_block-upper.ensures.log c.next_block-upper.ensures.first
+    c.first_half-half.ensures.log c.first_half-half.ensures.first c.next_block-half.ensures.log c.next_block-half.ensures.first
     c.find_costs.ensures.found c.save.ensures.saved c.find_costs-2.ensures.saved c.find_costs-2.ensures.found
 
 pub find_halves-returns-clause-saved : goal.find_halves-returns-clause-saved
 find_halves-returns-clause-saved t c = λ i d above.
-    c.find_costs-2.ensures.saved i d (omega (arith, above, c.first_half-lower.ensures.log, c.next_block-upper.ensures.log))
-    ∙ c.save.ensures.others i d (omega (arith, above, c.first_half-lower.ensures.log))
-    ∙ c.find_costs.ensures.saved i d (omega (arith, above, c.first_half-lower.ensures.log))
+    c.find_costs-2.ensures.saved i d (omega (arith, above, c.first_half-half.ensures.log, c.next_block-half.ensures.log))
+    ∙ c.save.ensures.others i d (omega (arith, above, c.first_half-half.ensures.log))
+    ∙ c.find_costs.ensures.saved i d (omega (arith, above, c.first_half-half.ensures.log))
 
 pub find_costs-returns-then-recall-clause-slots : goal.find_costs-returns-then-recall-clause-slots
 find_costs-returns-then-recall-clause-slots t c =
