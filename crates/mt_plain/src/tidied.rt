@@ -38,6 +38,7 @@ fn plain_pairs(pairs: &[(u64, u64)]) -> [PlainPair; 32]
 }
 
 // The words that tell a file.
+#[inline(never)] // so that its caller takes little stack while it searches
 pub(crate) fn words_of(f: &RegFile) -> PlainRegisters
     ensures file { file_in result ≡ f.now }
     ensures others { has_no_other_pair result ≡ true }
