@@ -6,7 +6,7 @@ ghost use Rattle.mt_plain.specs.Rounding.{IsGranAnswer, places};
 
 use crate::answers::{DONE, FAULT, NO_FILE};
 use crate::maps::{put_run, room_status, run_words};
-use crate::tidied::{DISABLED, TOO_FEW, usable_pairs, words_of};
+use crate::tidied::{DISABLED, TOO_FEW, put_words, usable_pairs};
 use crate::{PlainLoss, PlainNeed, PlainRegisters, PlainRun, file_of};
 use mt_gran::{GranFault, gran_in, granule_log};
 use mt_tidy::{PackedRuns, WorkArea};
@@ -57,7 +57,7 @@ pub fn gran(
                 packed: &work.wanted[..grained.parts],
             };
             put_runs(&lost, parts);
-            *rounded = words_of(&grained.tidied.file);
+            put_words(&grained.tidied.file, rounded);
             *need = PlainNeed {
                 needs: grained.tidied.used as u64,
                 has: usable_pairs(&file, spare),

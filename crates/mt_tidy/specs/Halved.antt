@@ -1,9 +1,8 @@
 -- The costs of a block's two halves, as a table of costs holds them (own).
-use Rattle.std.specs.Prelude.{◌≡◌, ℕ, ◌+◌, ◌-◌, ◌^◌, ◌<◌, ◌≤◌, List, []}
+use Rattle.std.specs.Prelude.{◌≡◌, ℕ, ◌+◌, ◌-◌, ◌^◌, ◌≤◌, List, []}
 use Rattle.std.specs.List.{slice_index_or}
 use Rattle.mt_trie.specs.declared.context.Context.{Context}
 use Rattle.mt_trie.specs.declared.wish.Wish.TheVariants.{Mixed}
-use Rattle.mt_types.specs.declared.run.Run.{Run}
 use Rattle.mt_tidy.specs.AllCosts.{AreCosts, cost_in}
 use Rattle.mt_tidy.specs.Cost.{Task, plus, task_by, wish}
 use Rattle.mt_tidy.specs.Fits.{Begun}

@@ -16,9 +16,8 @@ ghost use Rattle.mt_types.specs.Runs.{IsTypeMap, pages_end};
 use crate::block_costs::{first_half, leaves_type, next_block, with_type};
 use crate::costs::Costs;
 use crate::lent::wish_of;
-use crate::packed::PackedRuns;
 use crate::range::Range;
-use crate::rules::Rules;
+use crate::rules::{Rules, Search};
 use crate::whole_costs::{best_at, find_halves};
 use crate::work_area::CostTable;
 use arrayvec::ArrayVec;
@@ -63,26 +62,25 @@ fn begin_at(
 // left for the halves.
 #[inline(never)] // so that `lay_in` takes little stack
 fn begin_over(
-    wanted: &PackedRuns,
-    rules: &Rules,
+    search: &Search,
     b: &Block,
     x: Context,
     table: &mut CostTable,
     out: &mut ArrayVec<Range, 32>,
 ) -> Context
-    requires map { IsTypeMap wanted.now }
-    requires defined { All IsDefined wanted.now }
-    requires covered { block_end b.now ≤ pages_end 0 wanted.now }
-    requires mixed { wish (task_by rules.now wanted.now) b.now.log b.now.first ≡ Mixed }
-    requires slots { All (Remembers (task_by rules.now wanted.now)) table.old.slots }
-    requires room { HasRoom (cost (task_by rules.now wanted.now) b.now.log b.now.first x) out.old.items }
-    ensures begun { BegunOver rules.now b.now.log b.now.first x table.new out.old.items out.new.items result }
-    ensures halves { HoldsHalves (task_by rules.now wanted.now) b.now.log b.now.first table.new }
-    ensures slots { All (Remembers (task_by rules.now wanted.now)) table.new.slots }
+    requires map { IsTypeMap search.now.wanted }
+    requires defined { All IsDefined search.now.wanted }
+    requires covered { block_end b.now ≤ pages_end 0 search.now.wanted }
+    requires mixed { wish (task_by search.now.rules search.now.wanted) b.now.log b.now.first ≡ Mixed }
+    requires slots { All (Remembers (task_by search.now.rules search.now.wanted)) table.old.slots }
+    requires room { HasRoom (cost (task_by search.now.rules search.now.wanted) b.now.log b.now.first x) out.old.items }
+    ensures begun { BegunOver search.now.rules b.now.log b.now.first x table.new out.old.items out.new.items result }
+    ensures halves { HoldsHalves (task_by search.now.rules search.now.wanted) b.now.log b.now.first table.new }
+    ensures slots { All (Remembers (task_by search.now.rules search.now.wanted)) table.new.slots }
 {
-    find_halves(wanted, rules, b, table);
+    find_halves(search, b, table);
     let halves = table.halves(b.log - 1);
-    begin_at(rules, b, &halves, x, out)
+    begin_at(&search.rules, b, &halves, x, out)
 }
 
 // Adds the range of a block whose pages want one type, but for where the context leaves it.
@@ -97,30 +95,29 @@ fn put_whole(rules: &Rules, b: &Block, x: Context, t: MemType, out: &mut ArrayVe
 
 /// Adds a list that fits the block and is as short as its cost.
 pub fn lay_in(
-    wanted: &PackedRuns,
-    rules: &Rules,
+    search: &Search,
     b: &Block,
     x: Context,
     table: &mut CostTable,
     out: &mut ArrayVec<Range, 32>,
 )
-    requires map { IsTypeMap wanted.now }
-    requires usable { All (MayBeUsed rules.now) wanted.now }
-    requires covered { block_end b.now ≤ pages_end 0 wanted.now }
-    requires slots { All (Remembers (task_by rules.now wanted.now)) table.old.slots }
-    requires room { HasRoom (cost (task_by rules.now wanted.now) b.now.log b.now.first x) out.old.items }
-    ensures laid { Laid (task_by rules.now wanted.now) b.now.log b.now.first x out.old.items out.new.items }
-    ensures slots { All (Remembers (task_by rules.now wanted.now)) table.new.slots }
+    requires map { IsTypeMap search.now.wanted }
+    requires usable { All (MayBeUsed search.now.rules) search.now.wanted }
+    requires covered { block_end b.now ≤ pages_end 0 search.now.wanted }
+    requires slots { All (Remembers (task_by search.now.rules search.now.wanted)) table.old.slots }
+    requires room { HasRoom (cost (task_by search.now.rules search.now.wanted) b.now.log b.now.first x) out.old.items }
+    ensures laid { Laid (task_by search.now.rules search.now.wanted) b.now.log b.now.first x out.old.items out.new.items }
+    ensures slots { All (Remembers (task_by search.now.rules search.now.wanted)) table.new.slots }
 {
-    match wish_of(wanted, rules, b) {
+    match wish_of(&search.wanted, &search.rules, b) {
         Wish::Any => {}
-        Wish::Only(t) => put_whole(rules, b, x, t, out),
+        Wish::Only(t) => put_whole(&search.rules, b, x, t, out),
         Wish::Mixed => {
-            let y = begin_over(wanted, rules, b, x, table, out);
+            let y = begin_over(search, b, x, table, out);
             let mut half = first_half(b);
-            lay_in(wanted, rules, &half, y, table, out);
+            lay_in(search, &half, y, table, out);
             half = next_block(&half);
-            lay_in(wanted, rules, &half, y, table, out);
+            lay_in(search, &half, y, table, out);
         }
     }
 }

@@ -15,8 +15,7 @@ ghost use Rattle.mt_types.specs.Runs.{IsTypeMap, pages_end};
 use crate::block_costs::{all_costs, best, first_half, is_small, next_block, only_costs};
 use crate::costs::{Costs, Reach};
 use crate::lent::wish_of;
-use crate::packed::PackedRuns;
-use crate::rules::Rules;
+use crate::rules::{Rules, Search};
 use crate::work_area::CostTable;
 use mt_kinds::MemType;
 use mt_ranges::Block;
@@ -84,43 +83,43 @@ fn find_divided(rules: &Rules, b: &Block, table: &mut CostTable)
 
 /// Finds the costs of the halves of a block of which some pages want one type and some another.
 #[cycle(finding)]
-pub fn find_halves(wanted: &PackedRuns, rules: &Rules, b: &Block, table: &mut CostTable)
-    requires map { IsTypeMap wanted.now }
-    requires defined { All IsDefined wanted.now }
-    requires covered { block_end b.now ≤ pages_end 0 wanted.now }
-    requires mixed { wish (task_by rules.now wanted.now) b.now.log b.now.first ≡ Mixed }
-    requires slots { All (Remembers (task_by rules.now wanted.now)) table.old.slots }
-    ensures halves { HoldsHalves (task_by rules.now wanted.now) b.now.log b.now.first table.new }
-    ensures slots { All (Remembers (task_by rules.now wanted.now)) table.new.slots }
+pub fn find_halves(search: &Search, b: &Block, table: &mut CostTable)
+    requires map { IsTypeMap search.now.wanted }
+    requires defined { All IsDefined search.now.wanted }
+    requires covered { block_end b.now ≤ pages_end 0 search.now.wanted }
+    requires mixed { wish (task_by search.now.rules search.now.wanted) b.now.log b.now.first ≡ Mixed }
+    requires slots { All (Remembers (task_by search.now.rules search.now.wanted)) table.old.slots }
+    ensures halves { HoldsHalves (task_by search.now.rules search.now.wanted) b.now.log b.now.first table.new }
+    ensures slots { All (Remembers (task_by search.now.rules search.now.wanted)) table.new.slots }
     ensures saved { KeepsSaved b.now.log table.old table.new }
 {
     let mut half = first_half(b);
-    find_costs(wanted, rules, &half, table);
+    find_costs(search, &half, table);
     table.save(half.log);
     half = next_block(&half);
-    find_costs(wanted, rules, &half, table);
+    find_costs(search, &half, table);
 }
 
 /// Finds the costs of a block in all contexts.
 #[cycle(finding)]
-pub fn find_costs(wanted: &PackedRuns, rules: &Rules, b: &Block, table: &mut CostTable)
-    requires map { IsTypeMap wanted.now }
-    requires defined { All IsDefined wanted.now }
-    requires covered { block_end b.now ≤ pages_end 0 wanted.now }
-    requires slots { All (Remembers (task_by rules.now wanted.now)) table.old.slots }
-    ensures found { HasFound (task_by rules.now wanted.now) b.now.log b.now.first table.new }
-    ensures slots { All (Remembers (task_by rules.now wanted.now)) table.new.slots }
+pub fn find_costs(search: &Search, b: &Block, table: &mut CostTable)
+    requires map { IsTypeMap search.now.wanted }
+    requires defined { All IsDefined search.now.wanted }
+    requires covered { block_end b.now ≤ pages_end 0 search.now.wanted }
+    requires slots { All (Remembers (task_by search.now.rules search.now.wanted)) table.old.slots }
+    ensures found { HasFound (task_by search.now.rules search.now.wanted) b.now.log b.now.first table.new }
+    ensures slots { All (Remembers (task_by search.now.rules search.now.wanted)) table.new.slots }
     ensures saved { KeepsSaved b.now.log table.old table.new }
 {
     if table.recall(b) {
         return;
     }
-    match wish_of(wanted, rules, b) {
+    match wish_of(&search.wanted, &search.rules, b) {
         Wish::Any => find_free(b, table),
-        Wish::Only(t) => find_only(rules, b, t, table),
+        Wish::Only(t) => find_only(&search.rules, b, t, table),
         Wish::Mixed => {
-            find_halves(wanted, rules, b, table);
-            find_divided(rules, b, table);
+            find_halves(search, b, table);
+            find_divided(&search.rules, b, table);
         }
     }
 }

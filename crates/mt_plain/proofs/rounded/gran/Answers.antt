@@ -31,8 +31,8 @@ returns-in-Ok-clause-file c = λ is log has.
     (record {
       used = grained.tidied.used;
       parts = lost;
-      words = c.words_of.ensures.words;
-      grained = subst (λ h. IsGrained (file_in c.args.r.now) log c.args.chunk c.args.spare h grained.tidied.used grained.lost lost) (sym c.words_of.ensures.file) at_log;
+      words = c.put_words.ensures.words;
+      grained = subst (λ h. IsGrained (file_in c.args.r.now) log c.args.chunk c.args.spare h grained.tidied.used grained.lost lost) (sym c.put_words.ensures.file) at_log;
       needs_is = refl;
       has_is = c.usable_pairs.ensures ∙ ap (λ f. pair_count f - c.args.spare) c.in-Some.ensures.file;
       count_is = omega (

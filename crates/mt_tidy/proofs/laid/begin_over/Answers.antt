@@ -1,5 +1,4 @@
 use Rattle.std.proofs.Common.{◌-◌, arith, sym}
-use Rattle.mt_tidy.specs.Cost.{task_by}
 use Rattle.mt_tidy.proofs.Rooms.{room_is}
 use Rattle.mt_tidy.proofs.Sizes.{divided_is, halves_below, halves_held, lower_below, upper_below}
 use Rattle.mt_tidy.proofs.Wishes.{mixed_divides}
@@ -25,7 +24,7 @@ begin_at-requires-clause-below c =
 pub begin_at-requires-clause-room : goal.begin_at-requires-clause-room
 begin_at-requires-clause-room c =
     room_is _ _ c.args.out.now.items
-    (sym (divided_is c.args.rules.now c.args.wanted.now c.args.b.now.log (c.args.b.now.log - 1) c.args.b.now.first c.halves-halves.result
+    (sym (divided_is c.args.search.now.rules c.args.search.now.wanted c.args.b.now.log (c.args.b.now.log - 1) c.args.b.now.first c.halves-halves.result
     (halves_held _ c.args.b.now.log c.args.b.now.first c.find_halves.new.table c.halves-halves.result c.find_halves.ensures.halves c.halves-halves.ensures) c.requires.mixed c.args.x))
     c.requires.room
 

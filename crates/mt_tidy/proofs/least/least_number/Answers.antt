@@ -6,11 +6,11 @@ use Rattle.mt_tidy.proofs.WholeCost.{finite, usable_defined}
 use Rattle.mt_tidy.proofs.least.least_number.Goals as goal
 
 pub find_costs-requires-clause-defined : goal.find_costs-requires-clause-defined
-find_costs-requires-clause-defined c = usable_defined c.args.rules.now c.args.wanted.now c.requires.usable.supported
+find_costs-requires-clause-defined c = usable_defined c.args.search.now.rules c.args.search.now.wanted c.requires.usable.supported
 
 pub unreachable-requires : goal.unreachable-requires
 unreachable-requires c =
-    let found = finite (task_by c.args.rules.now c.args.wanted.now) c.args.log 0 in
+    let found = finite (task_by c.args.search.now.rules c.args.search.now.wanted) c.args.log 0 in
     not_some found.0 (sym c.in-None.is ∙ c.untouched.ensures ∙ c.find_costs.ensures.found Untouched ∙ found.1)
 
 pub returns-clause-number : goal.returns-clause-number
