@@ -13,7 +13,7 @@
  *                     Don't call it in a kernel, firmware or interrupt.
  *
  * Stack, at most, of libmtrr-kernel.a: mtrr_is_file, mtrr_due and mtrr_did
- * take 256 bytes, mtrr_tidy 32 KB, mtrr_gran 88 KB, the others 4 KB.
+ * take 256 bytes, mtrr_tidy and mtrr_gran 8 KB, the others 4 KB.
  *
  * No call allocates, keeps state, prints, waits or calls back. A call reads
  * the structs that it is given and writes only what it says. Several may run
@@ -29,7 +29,7 @@
 #define MTRR_H
 
 /* The first rises when a call, a struct or a number changes, the second when one is added. */
-#define MTRR_VERSION_MAJOR 1
+#define MTRR_VERSION_MAJOR 2
 #define MTRR_VERSION_MINOR 0
 
 #if defined(__KERNEL__) /* Linux, which has no <stdint.h> */
@@ -171,11 +171,11 @@ struct mtrr_need {
 };
 
 /*
- * Room for mtrr_tidy and mtrr_gran to work in. What it holds may be anything when the call
- * begins, and is unspecified when it ends.
+ * Room for mtrr_tidy and mtrr_gran to work in. It may hold any bytes when the call begins, and
+ * holds any when it ends. The result doesn't depend on them.
  */
 struct mtrr_work {
-    uint64_t words[4096];
+    uint64_t words[6719];
 };
 
 /* What a rounding to granules loses. */
@@ -244,7 +244,7 @@ MTRR_IS_AT(mtrr_run, kind, 16)
 MTRR_HAS_SIZE(mtrr_need, 16, 8)
 MTRR_IS_AT(mtrr_need, needs, 0)
 MTRR_IS_AT(mtrr_need, has, 8)
-MTRR_HAS_SIZE(mtrr_work, 32768, 8)
+MTRR_HAS_SIZE(mtrr_work, 53752, 8)
 MTRR_IS_AT(mtrr_work, words, 0)
 MTRR_HAS_SIZE(mtrr_loss, 16, 8)
 MTRR_IS_AT(mtrr_loss, pages, 0)

@@ -106,6 +106,38 @@ static void arrays(void)
            "all pairs spare");
 }
 
+/* The library reads and writes each field where the header has it. */
+static void layout(void)
+{
+    struct mtrr_registers r = plain();
+    static struct mtrr_work work;
+    struct mtrr_registers tidied;
+    struct mtrr_need need = {9, 9};
+    struct mtrr_loss loss = {9, 9};
+    struct mtrr_run run;
+    uint32_t kind = 9;
+    r.pairs[1].base = 0xe0000000u;
+    r.pairs[1].mask = 0xffff00800u;
+    memset(&work, 0xa5, sizeof work);
+    memset(&tidied, 0xa5, sizeof tidied);
+    expect(mtrr_gran(&r, 0x10000000, 2, 1ull << 52, &work, &tidied, &need,
+                     &loss, &run, 1) == MTRR_DONE &&
+               need.needs == 2 && need.has == 6 && loss.parts == 1 &&
+               run.first == 0xe0100 && run.pages == 0xff00 &&
+               loss.pages == 0xff00 && run.kind == MTRR_WB,
+           "the fields of a need, a loss and a run");
+    expect(tidied.width == r.width && tidied.capabilities == r.capabilities &&
+               tidied.pairs[0].base == 6 && tidied.pairs[0].mask != 0 &&
+               tidied.fixed[0] == 0 && tidied.fixed[10] == 0 &&
+               tidied.pat == r.pat && tidied.default_type == r.default_type,
+           "the fields of the registers");
+    r.capabilities = 0x108;
+    r.default_type = 0xc00;
+    r.fixed[10] = 6ull << 56;
+    expect(mtrr_page_type(&r, 255, &kind) == MTRR_DONE && kind == MTRR_WB,
+           "the last fixed-range register");
+}
+
 static void books(void)
 {
     struct mtrr_update update = {MTRR_GO, 1, 0, 0};
@@ -162,6 +194,7 @@ int main(void)
     files();
     pages();
     arrays();
+    layout();
     books();
     return failures != 0;
 }

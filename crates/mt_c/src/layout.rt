@@ -1,4 +1,5 @@
-// Sizes and alignments in bytes, as `include/mtrr.h` asserts them.
+// Sizes and alignments in bytes, as `include/mtrr.h` asserts them. `repr(C)` puts each field at the first place behind the field
+// before that its alignment allows. Rattle has no `offset_of` to assert the header's offsets by; `library/edges.c` tests them.
 use mt_plain::{
     PlainFault, PlainLoss, PlainNeed, PlainPair, PlainProcessor, PlainRegisters, PlainRun,
     PlainStep, PlainUpdate,
@@ -29,7 +30,7 @@ const _: () = prove!(size_of::<PlainLoss>() == 16);
 
 const _: () = prove!(align_of::<PlainLoss>() == 8);
 
-const _: () = prove!(size_of::<WorkArea>() == 32768);
+const _: () = prove!(size_of::<WorkArea>() == 53752);
 
 const _: () = prove!(align_of::<WorkArea>() == 8);
 

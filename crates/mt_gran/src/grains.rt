@@ -1,13 +1,13 @@
-ghost use Rattle.std.specs.Prelude.{◌≡◌, ◌≤◌, IfErr, IfOk};
+ghost use Rattle.std.specs.Prelude.{◌≡◌, ◌≤◌, IfErr, IfOk, length};
 ghost use Rattle.mt_regs.specs.Faults.{IsAccepted};
 ghost use Rattle.mt_gran.specs.Granules.{AreRounded, pages_of};
 ghost use Rattle.mt_gran.specs.Grained.{IsGrained, IsWhy};
+ghost use Rattle.mt_gran.specs.Listed.{runs_in};
 
 use crate::lists::{lost_of, lost_parts, rounded_runs};
-use crate::run_list::NO_RUN;
 use crate::{GranFault, RunList};
 use mt_regs::RegFile;
-use mt_tidy::{Tidied, TooFew, WorkArea, fit, own_runs_in};
+use mt_tidy::{NO_RUN, PackedRuns, Tidied, TooFew, WorkArea, fit, own_runs_in};
 
 /// A file of the rounded types with as few valid pairs as may be, and what was lost.
 #[derive(Drop)]
@@ -19,6 +19,16 @@ pub struct Grained {
     pub parts: RunList<306>,
 }
 
+/// As `Grained`, where the parts are left in a work area.
+#[derive(Drop)]
+pub struct GrainedIn {
+    pub tidied: Tidied,
+    /// How many pages had WB and have UC now.
+    pub lost: u64,
+    /// How many parts there are, in the first places of the area's `wanted`.
+    pub parts: usize,
+}
+
 /// The type map of an accepted file, rounded to granules of `2^g` pages: a page keeps its type where it is free or all
 /// pages of its granule that aren't free have one type, and gets UC otherwise.
 pub fn rounded(f: &RegFile, g: u8) -> RunList<612>
@@ -26,14 +36,66 @@ pub fn rounded(f: &RegFile, g: u8) -> RunList<612>
     requires size { g ≤ 28 }
     ensures { AreRounded (pages_of f.now) g result }
 {
-    let mut runs = [NO_RUN; 153];
-    let count = own_runs_in(f, &mut runs);
-    rounded_runs(f, &runs[..count], g)
+    let mut own = [NO_RUN; 153];
+    let count = own_runs_in(f, &mut own);
+    let own = PackedRuns {
+        packed: &own[..count],
+    };
+    let mut runs = [NO_RUN; 612];
+    let count = rounded_runs(f, &own, g, &mut runs);
+    RunList::of(&PackedRuns {
+        packed: &runs[..count],
+    })
 }
 
 /// The file that differs from `f` in its pairs alone and gives each page its type rounded to granules of `2^g` pages,
 /// with the fewest pairs, as `fit` does, and what is lost. Each refusal comes exactly where `GranFault` says. No memory is
-/// taken: costs are kept in `area`, whose contents may be any.
+/// taken: what is large is in `area`, whose contents may be any. The parts that are lost are left there.
+pub fn gran_in(
+    f: &RegFile,
+    g: u8,
+    spare: u8,
+    chunk: u64,
+    area: &mut WorkArea,
+) -> Result<GrainedIn, GranFault>
+    requires { g ≤ 28 }
+    ensures ok { IfOk result (λ grained. IsGrained f.now g chunk spare grained.tidied.file grained.tidied.used grained.lost (runs_in grained.parts area.new.wanted)) }
+    ensures few { IfOk result (λ grained. (grained.parts ≤ 306) × (grained.parts ≤ length area.new.wanted)) }
+    ensures err { IfErr result (λ fault. IsWhy f.now g chunk spare fault) }
+{
+    if let Some(fault) = f.first_fault() {
+        return Err(GranFault::Refused(fault));
+    }
+    if !f.is_enabled() {
+        return Err(GranFault::Disabled);
+    }
+    f.is_register_file(); // a fact for the proof
+    let count = own_runs_in(f, &mut area.own);
+    let own = PackedRuns {
+        packed: &area.own[..count],
+    };
+    let count = rounded_runs(f, &own, g, &mut area.wanted);
+    match fit(f, &area.wanted[..count], spare, chunk, &mut area.costs) {
+        Ok(tidied) => {
+            let parts = lost_parts(f, &own, g, &mut area.wanted);
+            let lost = lost_of(
+                f,
+                &PackedRuns {
+                    packed: &area.wanted[..parts],
+                },
+                g,
+            );
+            Ok(GrainedIn {
+                tidied,
+                lost,
+                parts,
+            })
+        }
+        Err(TooFew { needs, has }) => Err(GranFault::TooFew { needs, has }),
+    }
+}
+
+/// As `gran_in`, with the parts in a list of their own.
 pub fn gran(
     f: &RegFile,
     g: u8,
@@ -45,26 +107,12 @@ pub fn gran(
     ensures ok { IfOk result (λ grained. IsGrained f.now g chunk spare grained.tidied.file grained.tidied.used grained.lost grained.parts) }
     ensures err { IfErr result (λ fault. IsWhy f.now g chunk spare fault) }
 {
-    if let Some(fault) = f.first_fault() {
-        return Err(GranFault::Refused(fault));
-    }
-    if !f.is_enabled() {
-        return Err(GranFault::Disabled);
-    }
-    f.is_register_file(); // a fact for the proof
-    let mut runs = [NO_RUN; 153];
-    let count = own_runs_in(f, &mut runs);
-    let own = &runs[..count];
-    let wanted = rounded_runs(f, own, g);
-    match fit(f, wanted.as_slice(), spare, chunk, area) {
-        Ok(tidied) => {
-            let parts = lost_parts(f, own, g);
-            Ok(Grained {
-                tidied,
-                lost: lost_of(f, parts.as_slice(), g),
-                parts,
-            })
-        }
-        Err(TooFew { needs, has }) => Err(GranFault::TooFew { needs, has }),
-    }
+    let grained = gran_in(f, g, spare, chunk, area)?;
+    Ok(Grained {
+        tidied: grained.tidied,
+        lost: grained.lost,
+        parts: RunList::of(&PackedRuns {
+            packed: &area.wanted[..grained.parts],
+        }),
+    })
 }

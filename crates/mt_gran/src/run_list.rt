@@ -1,12 +1,12 @@
-ghost use Rattle.std.specs.Prelude.{◌≡◌, ◌<◌, ◌≤◌, [], ◌∷◌, ◌++◌, length, IfNone};
-ghost use Rattle.std.specs.Option.{option_to_list};
+ghost use Rattle.std.specs.Prelude.{◌≡◌, ◌≤◌, length, take};
 
 use mt_kinds::MemType;
 use mt_regs::PageType;
+use mt_tidy::PackedRuns;
 use mt_types::Run;
 use std::marker::Model;
 
-pub(crate) const NO_RUN: Run = Run {
+const NO_RUN: Run = Run {
     first: 0,
     count: 0,
     kind: PageType::Kind(MemType::UC),
@@ -30,36 +30,28 @@ impl<const N: usize> Model for RunList<N> {
     ghost invariant = { λ r. (r.count ≤ N) × (length r.places ≡ N) };
 }
 
+// The runs that stand as words, in the first places of an array.
+fn unpacked<const N: usize>(runs: &PackedRuns) -> [Run; N]
+    requires { length runs.now ≤ N }
+    ensures { take (length runs.now) result ≡ runs.now }
+{
+    let mut places = [NO_RUN; N];
+    for i in 0..runs.count() {
+        places[i] = runs.run_at(i);
+    }
+    places
+}
+
 impl<const N: usize> RunList<N> {
-    // No run.
-    pub(crate) fn new() -> RunList<N>
-        ensures { result ≡ [] }
+    // The runs that stand as words.
+    pub(crate) fn of(runs: &PackedRuns) -> RunList<N>
+        requires { length runs.now ≤ N }
+        ensures { result ≡ runs.now }
     {
         RunList {
-            places: [NO_RUN; N],
-            count: 0,
+            places: unpacked(runs),
+            count: runs.count(),
         }
-    }
-
-    // Adds a run at the end.
-    pub(crate) fn push(&mut self, run: Run)
-        requires { length self.old < N }
-        ensures { self.new ≡ self.old ++ run ∷ [] }
-    {
-        self.places[self.count] = run;
-        self.count += 1;
-    }
-
-    // Takes the last run off, if there is one.
-    pub(crate) fn pop(&mut self) -> Option<Run>
-        ensures list { self.old ≡ self.new ++ option_to_list result }
-        ensures none { IfNone result ((self.old ≡ []) × (self.new ≡ [])) }
-    {
-        if self.count == 0 {
-            return None;
-        }
-        self.count -= 1;
-        Some(self.places[self.count])
     }
 
     /// All runs.

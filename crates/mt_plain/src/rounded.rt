@@ -6,20 +6,19 @@ ghost use Rattle.mt_plain.specs.Rounding.{IsGranAnswer, places};
 
 use crate::answers::{DONE, FAULT, NO_FILE};
 use crate::maps::{put_run, room_status, run_words};
-use crate::tidied::{DISABLED, TOO_FEW, usable_pairs, words_of};
+use crate::tidied::{DISABLED, TOO_FEW, put_words, usable_pairs};
 use crate::{PlainLoss, PlainNeed, PlainRegisters, PlainRun, file_of};
-use mt_gran::{GranFault, granule_log};
-use mt_tidy::WorkArea;
-use mt_types::Run;
+use mt_gran::{GranFault, gran_in, granule_log};
+use mt_tidy::{PackedRuns, WorkArea};
 
 const NO_GRANULE: u32 = 11;
 
 // Writes runs to an array, as far as it goes.
-fn put_runs(from: &[Run], to: &mut [PlainRun])
+fn put_runs(from: &PackedRuns, to: &mut [PlainRun])
     ensures { to.new ≡ overwritten (map plain_run from.now) to.old }
 {
-    for i in 0..from.len() {
-        put_run(to, i, run_words(from[i]));
+    for i in 0..from.count() {
+        put_run(to, i, run_words(from.run_at(i)));
     }
 }
 
@@ -51,21 +50,23 @@ pub fn gran(
     let Some(log) = granule_log(size) else {
         return NO_GRANULE;
     };
-    match mt_gran::gran(&file, log, spare, chunk, work) {
+    match gran_in(&file, log, spare, chunk, work) {
         Ok(grained) => {
             let room = parts.len();
-            let lost = grained.parts.as_slice();
-            put_runs(lost, parts);
-            *rounded = words_of(&grained.tidied.file);
+            let lost = PackedRuns {
+                packed: &work.wanted[..grained.parts],
+            };
+            put_runs(&lost, parts);
+            put_words(&grained.tidied.file, rounded);
             *need = PlainNeed {
                 needs: grained.tidied.used as u64,
                 has: usable_pairs(&file, spare),
             };
             *loss = PlainLoss {
                 pages: grained.lost,
-                parts: lost.len() as u64,
+                parts: grained.parts as u64,
             };
-            room_status(room, lost.len())
+            room_status(room, grained.parts)
         }
         Err(GranFault::Refused(_)) => FAULT,
         Err(GranFault::Disabled) => DISABLED,

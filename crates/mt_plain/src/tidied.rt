@@ -38,7 +38,7 @@ fn plain_pairs(pairs: &[(u64, u64)]) -> [PlainPair; 32]
 }
 
 // The words that tell a file.
-pub(crate) fn words_of(f: &RegFile) -> PlainRegisters
+fn words_of(f: &RegFile) -> PlainRegisters
     ensures file { file_in result ≡ f.now }
     ensures others { has_no_other_pair result ≡ true }
     ensures words { is_file result ≡ true }
@@ -51,6 +51,15 @@ pub(crate) fn words_of(f: &RegFile) -> PlainRegisters
         pat: f.pat,
         default_type: f.deftype,
     }
+}
+
+// Writes the words that tell a file.
+#[inline(never)] // so that its callers take little stack while they search
+pub(crate) fn put_words(f: &RegFile, words: &mut PlainRegisters)
+    ensures file { file_in words.new ≡ f.now }
+    ensures words { is_file words.new ≡ true }
+{
+    *words = words_of(f);
 }
 
 // How many pairs may be used.
@@ -81,7 +90,7 @@ pub fn tidy(
     };
     match tidied_file(&file, spare, chunk, work) {
         Ok(answer) => {
-            *tidied = words_of(&answer.file);
+            put_words(&answer.file, tidied);
             *need = PlainNeed {
                 needs: answer.used as u64,
                 has: usable_pairs(&file, spare),

@@ -51,6 +51,10 @@ slot_remembers k log first costs small are = record {
       (subst (λ n. cost_in costs x ≡ cost k log n x) first_is (are x));
 }
 
+-- and has these costs
+pub slot_has : (k : Task) (log first : ℕ) (costs : Costs) → log ≤ 40 → AreCosts k log first costs → AreCosts k log first (costs_in (slot_of (key_of log first) costs))
+slot_has k log first costs small are = (slot_remembers k log first costs small are).right log first (omega (arith, small)) refl
+
 -- a slot without a key remembers, whatever stands in it
 pub nothing_remembers : (k : Task) (slot : Slot) → slot.key ≡ 0 → Remembers k slot
 nothing_remembers k slot none = record { right = λ log first small is. absurd (omega (arith, none, is)) }

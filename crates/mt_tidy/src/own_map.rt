@@ -2,10 +2,12 @@ ghost use Rattle.std.specs.Prelude.{◌≡◌, ◌<◌, ◌≤◌, ℕ, List, le
 ghost use Rattle.mt_kinds.specs.declared.mem_type.MemType.{MemType};
 ghost use Rattle.mt_regs.specs.Faults.{IsAccepted};
 ghost use Rattle.mt_tidy.specs.OwnParts.{ArePartsOf};
+ghost use Rattle.mt_tidy.specs.Packed.{runs_of};
 ghost use Rattle.mt_tidy.specs.Wanted.{IsWanted};
 ghost use Rattle.mt_types.specs.declared.run.Run.{Run};
 ghost use Rattle.mt_types.specs.Runs.{IsRunsOf, run_end};
 
+use crate::packed::PackedRun;
 use mt_kinds::MemType;
 use mt_regs::{PageType, RegFile};
 use mt_types::{KindTable, Run};
@@ -47,18 +49,18 @@ fn run_at(parts: &[(u64, MemType)], covered: u64, i: usize) -> Run
 
 /// Writes the type map of an accepted file, which ranges can give it, to the first places of an array, and answers how
 /// many runs it has. It takes no memory.
-pub fn own_runs_in(f: &RegFile, runs: &mut [Run]) -> usize
+pub fn own_runs_in(f: &RegFile, runs: &mut [PackedRun]) -> usize
     requires accepted { IsAccepted f.now }
     requires room { 153 ≤ length runs.old }
     ensures few { result ≤ length runs.new }
-    ensures runs { IsRunsOf f.now (take result runs.new) }
-    ensures wanted { IsWanted f.now (take result runs.new) }
+    ensures runs { IsRunsOf f.now (runs_of (take result runs.new)) }
+    ensures wanted { IsWanted f.now (runs_of (take result runs.new)) }
 {
     f.is_register_file(); // a fact for the proof
     let table = KindTable::of(f);
     let parts = table.parts.as_slice();
     for i in 0..parts.len() {
-        runs[i] = run_at(parts, table.covered, i);
+        runs[i] = PackedRun::of(run_at(parts, table.covered, i));
     }
     parts.len()
 }

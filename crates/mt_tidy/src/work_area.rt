@@ -1,10 +1,16 @@
-ghost use Rattle.std.specs.Prelude.{◌≡◌, ◌<◌, IfSome};
-ghost use Rattle.std.specs.List.{All};
-ghost use Rattle.mt_tidy.specs.AllCosts.{AreCosts};
+ghost use Rattle.std.specs.Prelude.{◌≡◌, ◌+◌, ◌<◌, ◌^◌, ℕ, true};
+ghost use Rattle.std.specs.List.{All, slice_index_or};
+ghost use Rattle.mt_tidy.specs.AllCosts.{AreCosts, IsBelow, cost_in};
 ghost use Rattle.mt_tidy.specs.Cost.{Task};
+ghost use Rattle.mt_tidy.specs.Halved.{AreSums};
 ghost use Rattle.mt_tidy.specs.Remembered.{Remembers, cost_of_word, costs_in, key_of, slot_of, word_of_cost};
+ghost use Rattle.mt_tidy.specs.declared.work_area.Slot.{Slot};
+ghost use Rattle.mt_trie.specs.declared.context.Context.{Context};
+ghost use Rattle.mt_trie.specs.declared.context.Context.TheVariants.{Untouched};
 
+use crate::block_costs::sums;
 use crate::costs::Costs;
+use crate::packed::{NO_RUN, PackedRun};
 use mt_ranges::Block;
 
 /// The costs of one block in each context, as words: 2^64 - 1 stands for infinite.
@@ -22,11 +28,26 @@ pub struct Slot {
     pub clash: u64,
 }
 
-/// Room for the costs of 512 blocks, so that few are found twice. What stands in it when a call begins doesn't matter.
+/// The costs of up to 512 blocks, so that few are found twice, and those that a search has under way: so its stack is small.
+#[repr(C)]
+#[derive(Drop)]
+pub struct CostTable {
+    pub(crate) slots: [Slot; 512],
+    // of the lower half of the block that is divided, by the half's log
+    pub(crate) saved: [Slot; 40],
+    // of the block that was looked for last
+    pub(crate) found: Slot,
+}
+
+/// Room for a call to work in. What is in it when the call begins doesn't matter.
 #[repr(C)]
 #[derive(Drop)]
 pub struct WorkArea {
-    pub(crate) slots: [Slot; 512],
+    pub costs: CostTable,
+    /// The type map of the file.
+    pub own: [PackedRun; 153],
+    /// The type map that is wanted where it isn't the file's own.
+    pub wanted: [PackedRun; 612],
 }
 
 const NOTHING: Slot = Slot {
@@ -97,14 +118,7 @@ fn costs_in(slot: &Slot) -> Costs
     }
 }
 
-impl WorkArea {
-    /// An area of zeros.
-    pub fn new() -> WorkArea {
-        WorkArea {
-            slots: [NOTHING; 512],
-        }
-    }
-
+impl CostTable {
     // Forgets all.
     pub(crate) fn clear(&mut self)
         ensures { (k : Task) → All (Remembers k) self.new.slots }
@@ -114,24 +128,84 @@ impl WorkArea {
         }
     }
 
-    // The costs of a block, where they are remembered.
-    pub(crate) fn recall(&self, b: &Block) -> Option<Costs>
-        ensures { IfSome result (λ costs. (k : Task) → All (Remembers k) self.now.slots → AreCosts k b.now.log b.now.first costs) }
+    // Finds the costs of a block, where they are remembered.
+    pub(crate) fn recall(&mut self, b: &Block) -> bool
+        ensures found { result ≡ true → (k : Task) → All (Remembers k) self.old.slots → AreCosts k b.now.log b.now.first (costs_in self.new.found) }
+        ensures slots { self.new.slots ≡ self.old.slots }
+        ensures saved { self.new.saved ≡ self.old.saved }
     {
         let key = key_of(b);
-        let slot = self.slots[place_of(key)];
-        if slot.key == key {
-            Some(costs_in(&slot))
+        let place = place_of(key);
+        if self.slots[place].key == key {
+            self.found = self.slots[place];
+            true
         } else {
-            None
+            false
         }
     }
 
-    // Remembers the costs of a block, and forgets what stood in their place.
-    pub(crate) fn remember(&mut self, b: &Block, costs: &Costs)
-        ensures { (k : Task) → AreCosts k b.now.log b.now.first costs.now → All (Remembers k) self.old.slots → All (Remembers k) self.new.slots }
+    // Has found the costs of a block.
+    pub(crate) fn put(&mut self, b: &Block, costs: &Costs)
+        ensures found { (k : Task) → AreCosts k b.now.log b.now.first costs.now → AreCosts k b.now.log b.now.first (costs_in self.new.found) }
+        ensures slots { self.new.slots ≡ self.old.slots }
+        ensures saved { self.new.saved ≡ self.old.saved }
+    {
+        self.found = slot_of(key_of(b), costs);
+    }
+
+    // Has found the costs of a block, and remembers them in place of what their slot had.
+    pub(crate) fn keep(&mut self, b: &Block, costs: &Costs)
+        ensures found { (k : Task) → AreCosts k b.now.log b.now.first costs.now → AreCosts k b.now.log b.now.first (costs_in self.new.found) }
+        ensures slots { (k : Task) → AreCosts k b.now.log b.now.first costs.now → All (Remembers k) self.old.slots → All (Remembers k) self.new.slots }
+        ensures saved { self.new.saved ≡ self.old.saved }
     {
         let key = key_of(b);
+        self.found = slot_of(key, costs);
         self.slots[place_of(key)] = slot_of(key, costs);
+    }
+
+    // Saves what was found, for the half of a block.
+    pub(crate) fn save(&mut self, log: u8)
+        requires { log < 40 }
+        ensures saved { (d : Slot) → slice_index_or self.new.saved log d ≡ self.old.found }
+        ensures others { (i : ℕ) (d : Slot) → log < i → slice_index_or self.new.saved i d ≡ slice_index_or self.old.saved i d }
+        ensures slots { self.new.slots ≡ self.old.slots }
+        ensures found { self.new.found ≡ self.old.found }
+    {
+        self.saved[log as usize] = self.found;
+    }
+
+    // The cost in the context that no range holds, as it was found last.
+    pub(crate) fn untouched(&self) -> Option<u64>
+        ensures { result ≡ cost_in (costs_in self.now.found) Untouched }
+    {
+        cost_of_word(self.found.untouched)
+    }
+
+    // The costs of two halves, taken together.
+    pub(crate) fn halves(&self, log: u8) -> Costs
+        requires log { log < 40 }
+        requires lower { (d : Slot) (y : Context) → IsBelow (2 ^ 60) (cost_in (costs_in (slice_index_or self.now.saved log d)) y) }
+        requires upper { (y : Context) → IsBelow (2 ^ 60) (cost_in (costs_in self.now.found) y) }
+        ensures { AreSums self.now log result }
+    {
+        let lower = costs_in(&self.saved[log as usize]);
+        let upper = costs_in(&self.found);
+        sums(&lower, &upper)
+    }
+}
+
+impl WorkArea {
+    /// An area of zeros.
+    pub fn new() -> WorkArea {
+        WorkArea {
+            costs: CostTable {
+                slots: [NOTHING; 512],
+                saved: [NOTHING; 40],
+                found: NOTHING,
+            },
+            own: [NO_RUN; 153],
+            wanted: [NO_RUN; 612],
+        }
     }
 }

@@ -3,5 +3,5 @@ use Rattle.mt_gran.specs.Granules.{pages_of}
 use Rattle.mt_gran.proofs.Counts.{Counted}
 use Rattle.mt_gran.proofs.lists.lost_of.Given as goal
 
-abbrev pub invariant-loop-part : goal.invariant-loop-part
-invariant-loop-part l = Counted (pages_of l.f) l.g (drop l.part-index l.parts) l.lost
+abbrev pub invariant-loop-i : goal.invariant-loop-i
+invariant-loop-i l = Counted (pages_of l.f) l.g (drop l.i l.parts) l.lost

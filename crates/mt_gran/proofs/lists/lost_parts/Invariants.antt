@@ -1,8 +1,9 @@
-use Rattle.std.proofs.Common.{◌*◌, ◌≤◌, drop, length}
+use Rattle.std.proofs.Common.{◌≡◌, ◌*◌, ◌≤◌, drop, length}
 use Rattle.mt_gran.specs.Granules.{pages_of}
+use Rattle.mt_gran.specs.Listed.{runs_in}
 use Rattle.mt_gran.specs.Marks.{lost_mark}
 use Rattle.mt_gran.proofs.Rest.{Goes}
 use Rattle.mt_gran.proofs.lists.lost_parts.Given as goal
 
-abbrev pub invariant-loop-run : goal.invariant-loop-run
-invariant-loop-run l = Goes l.f (lost_mark (pages_of l.f) l.g) (drop l.run-index l.own) l.list × (length l.list ≤ 2 * l.run-index)
+abbrev pub invariant-loop-i : goal.invariant-loop-i
+invariant-loop-i l = Goes l.f (lost_mark (pages_of l.f) l.g) (drop l.i l.own) (runs_in l.count l.list) × (l.count ≤ 2 * l.i) × (length l.list ≡ length l.fn.list)

@@ -1,15 +1,17 @@
-use Rattle.std.proofs.Common.{◌≡◌, ◌∙◌, ◌-◌, ℕ, List, ap, inl, inr, length, map, refl, subst, sym}
+use Rattle.std.proofs.Common.{◌≡◌, ◌∙◌, ◌-◌, ℕ, List, ap, arith, inl, inr, refl, subst, sym, take}
+use Rattle.std.proofs.lemmas.List.{length-map, length-take}
 use Rattle.mt_gran.specs.declared.fault.GranFault.TheVariants.{TooFew}
 use Rattle.mt_gran.specs.Grained.{IsGrained, IsWhy}
+use Rattle.mt_gran.specs.Listed.{runs_in}
 use Rattle.mt_gran.proofs.GranuleSizes.{one_log}
 use Rattle.mt_plain.specs.declared.plain.PlainLoss.{PlainLoss}
 use Rattle.mt_plain.specs.declared.plain.PlainRegisters.{PlainRegisters}
 use Rattle.mt_plain.specs.declared.plain.PlainRun.{PlainRun}
-use Rattle.mt_plain.specs.Maps.{overwritten, plain_run}
 use Rattle.mt_plain.specs.Plain.{file_in}
 use Rattle.mt_plain.specs.Rounding.{as_tidy, places}
 use Rattle.mt_plain.specs.Tidying.{need_words, why_status}
 use Rattle.mt_regs.specs.RegisterFile.{pair_count}
+use Rattle.mt_tidy.specs.Packed.{run_of}
 use Rattle.mt_plain.proofs.rounded.gran.Goals as goal
 
 same_need : (file : PlainRegisters) (loss : PlainLoss) (parts : List PlainRun) (a b needs has : ℕ) → a ≡ needs → b ≡ has
@@ -21,20 +23,26 @@ pub returns-in-Ok-clause-file : goal.returns-in-Ok-clause-file
 returns-in-Ok-clause-file c = λ is log has.
     let found = c.in-Some-granule_log.log in
     let grained = c.in-Ok.grained in
-    let at_file = subst (λ f. IsGrained f found c.args.chunk c.args.spare grained.tidied.file grained.tidied.used grained.lost grained.parts) c.in-Some.ensures.file c.in-Ok.ensures.ok in
-    let at_log = subst (λ g. IsGrained (file_in c.args.r.now) g c.args.chunk c.args.spare grained.tidied.file grained.tidied.used grained.lost grained.parts)
+    let lost = runs_in grained.parts c.gran_in.new.area.wanted in
+    let at_file = subst (λ f. IsGrained f found c.args.chunk c.args.spare grained.tidied.file grained.tidied.used grained.lost lost) c.in-Some.ensures.file c.in-Ok.ensures.ok in
+    let at_log = subst (λ g. IsGrained (file_in c.args.r.now) g c.args.chunk c.args.spare grained.tidied.file grained.tidied.used grained.lost lost)
     (one_log c.args.size found log c.in-Some-granule_log.ensures.some has) at_file in
     inl
     (record {
       used = grained.tidied.used;
-      parts = grained.parts;
-      words = c.words_of.ensures.words;
-      grained = subst (λ h. IsGrained (file_in c.args.r.now) log c.args.chunk c.args.spare h grained.tidied.used grained.lost grained.parts) (sym c.words_of.ensures.file) at_log;
+      parts = lost;
+      words = c.put_words.ensures.words;
+      grained = subst (λ h. IsGrained (file_in c.args.r.now) log c.args.chunk c.args.spare h grained.tidied.used grained.lost lost) (sym c.put_words.ensures.file) at_log;
       needs_is = refl;
       has_is = c.usable_pairs.ensures ∙ ap (λ f. pair_count f - c.args.spare) c.in-Some.ensures.file;
-      count_is = ap length c.as_slice-lost.ensures.runs;
-      few = c.as_slice-lost.ensures.few;
-      array = c.put_runs.ensures ∙ ap (λ runs. overwritten (map plain_run runs) c.args.parts.now) c.as_slice-lost.ensures.runs;
+      count_is = omega (
+        arith,
+        length-map (take grained.parts c.gran_in.new.area.wanted) run_of,
+        length-take grained.parts c.gran_in.new.area.wanted,
+        c.in-Ok.ensures.few.1,
+      );
+      few = c.in-Ok.ensures.few.0;
+      array = c.put_runs.ensures;
       status_is = c.room_status.ensures;
     })
 

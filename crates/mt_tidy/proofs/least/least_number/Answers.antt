@@ -5,13 +5,13 @@ use Rattle.mt_tidy.proofs.Rooms.{not_some}
 use Rattle.mt_tidy.proofs.WholeCost.{finite, usable_defined}
 use Rattle.mt_tidy.proofs.least.least_number.Goals as goal
 
-pub costs_of-requires-clause-defined : goal.costs_of-requires-clause-defined
-costs_of-requires-clause-defined c = usable_defined c.args.rules.now c.args.wanted.now c.requires.usable.supported
+pub find_costs-requires-clause-defined : goal.find_costs-requires-clause-defined
+find_costs-requires-clause-defined c = usable_defined c.args.search.now.rules c.args.search.now.wanted c.requires.usable.supported
 
 pub unreachable-requires : goal.unreachable-requires
 unreachable-requires c =
-    let found = finite (task_by c.args.rules.now c.args.wanted.now) c.args.log 0 in
-    not_some found.0 (sym c.in-None.is ∙ c.costs_of.ensures.costs Untouched ∙ found.1)
+    let found = finite (task_by c.args.search.now.rules c.args.search.now.wanted) c.args.log 0 in
+    not_some found.0 (sym c.in-None.is ∙ c.untouched.ensures ∙ c.find_costs.ensures.found Untouched ∙ found.1)
 
 pub returns-clause-number : goal.returns-clause-number
-returns-clause-number c = sym (c.costs_of.ensures.costs Untouched) ∙ c.in-Some.is
+returns-clause-number c = sym (c.untouched.ensures ∙ c.find_costs.ensures.found Untouched) ∙ c.in-Some.is

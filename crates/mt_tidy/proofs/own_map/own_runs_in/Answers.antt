@@ -1,8 +1,9 @@
 use Rattle.std.proofs.Common.{◌∙◌, ◌<◌, ◌∷◌, ◌++◌, [], ap, sym, refl, arith, length, subst, take}
-use Rattle.std.proofs.lemmas.List.{length-map, length-set, take_more, take_more_set}
+use Rattle.std.proofs.lemmas.List.{length-map, length-set, map-append, take_more, take_more_set}
 use Rattle.mt_regs.specs.declared.page_type.PageType.TheVariants.{Undefined}
 use Rattle.mt_types.specs.Tables.{part_of}
 use Rattle.mt_tidy.specs.OwnParts.{ArePartsOf}
+use Rattle.mt_tidy.specs.Packed.{run_of, runs_of}
 use Rattle.mt_tidy.proofs.OwnRuns.{as_many, run_with, runs_wanted, wanted_defined}
 use Rattle.mt_tidy.proofs.own_map.own_runs_in.Goals as goal
 
@@ -37,9 +38,10 @@ loop-i-preserved c =
       good,
       are,
       few,
-      take_more_set c.loop-i.runs c.loop-i.i c.run_at.result room
-          ∙ ap (λ xs. xs ++ c.run_at.result ∷ []) same
-          ∙ ap (λ r. take c.loop-i.i runs ++ r ∷ []) (c.run_at.ensures runs (run_with 0 0 Undefined) (subst (λ n. ArePartsOf runs c.as_slice-parts.result.now n) (sym covered) are))
+      ap runs_of (take_more_set c.loop-i.runs c.loop-i.i c.of.result room)
+          ∙ map-append run_of (take c.loop-i.i c.loop-i.runs) (c.of.result ∷ [])
+          ∙ ap (λ xs. xs ++ run_of c.of.result ∷ []) same
+          ∙ ap (λ r. take c.loop-i.i runs ++ r ∷ []) (c.of.ensures ∙ c.run_at.ensures runs (run_with 0 0 Undefined) (subst (λ n. ArePartsOf runs c.as_slice-parts.result.now n) (sym covered) are))
           ∙ sym (take_more runs c.loop-i.i (run_with 0 0 Undefined) inner),
-      length-set c.loop-i.runs c.loop-i.i c.run_at.result ∙ len,
+      length-set c.loop-i.runs c.loop-i.i c.of.result ∙ len,
     )

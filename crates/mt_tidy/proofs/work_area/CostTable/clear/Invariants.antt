@@ -1,7 +1,7 @@
 use Rattle.std.proofs.Common.{◌≡◌, length}
 use Rattle.std.specs.List.{AllWithin}
 use Rattle.mt_tidy.specs.declared.work_area.Slot.{Slot}
-use Rattle.mt_tidy.proofs.work_area.WorkArea.clear.Given as goal
+use Rattle.mt_tidy.proofs.work_area.CostTable.clear.Given as goal
 
 abbrev has_no_key : Slot → Type 0
 has_no_key slot = slot.key ≡ 0

@@ -1,0 +1,31 @@
+# Functions of ./build and library/rt-lib. Beside these $top is the top of the repository, $name a crate, $crates its closure, and
+# $room an empty folder.
+
+# The crates that $name stands on, itself included, by the lines `NAME: DEP DEP ..` of crates.txt.
+closure() {
+    awk -v top="$name" '{ sub(/#.*/, "") }
+        /:/ { split($0, halves, ":"); split(halves[1], head, " "); deps[head[1]] = halves[2] }
+        function visit(crate, below, i, n) {
+            if (!(crate in deps) || crate in seen) return
+            seen[crate] = 1
+            n = split(deps[crate], below, " ")
+            for (i = 1; i <= n; i++) visit(below[i])
+            print crate
+        }
+        END { visit(top) }' "$top/crates.txt"
+}
+
+# Copies these crates to $room/repo, but not what was built of them nor their edits, and their lines of crates.txt.
+copy() {
+    mkdir -p "$room/repo/crates" "$room/repo/.git" && cp "$top/HANDLES" "$room/repo" || return 1
+    for crate in $crates; do
+        mkdir "$room/repo/crates/$crate" || return 1
+        for part in "$top/crates/$crate"/*; do
+            case ${part##*/} in
+            out | must-fail) ;;
+            *) cp -r "$part" "$room/repo/crates/$crate" || return 1 ;;
+            esac
+        done
+        grep "^$crate[ :]" "$top/crates.txt" >>"$room/repo/crates.txt" || return 1
+    done
+}
