@@ -1,6 +1,7 @@
 pub mod Asked
 pub mod Calls
 mod DirtyCounts
+mod Doing
 pub mod Eras
 pub mod Files
 pub mod FirstFault

@@ -1,3 +1,4 @@
+pub mod Doing
 pub mod FirstFault
 pub mod Heads
 pub mod Kept

@@ -1,4 +1,5 @@
 -- A script between two lines after its dump: what stands set up, the machine, and what a command writes and leaves (own).
+--     task_of command      what the command asks for
 --     command_text state command      what the command writes
 --     state_after state command      what it leaves
 use Rattle.std.specs.Prelude.{ℕ, ◌/◌, ◌&&◌, nat_lt, not, Bool, true, false, List, [], length, if◌then◌else◌, slice_get, Option, None, Some, is_some}
@@ -36,6 +37,14 @@ use Rattle.mt_script.specs.declared.command.Stage.{Stage}
 use Rattle.mt_script.specs.declared.command.Stage.TheVariants.{InUpdate}
 use Rattle.mt_script.specs.declared.command.Command.{Command}
 use Rattle.mt_script.specs.declared.command.Command.TheVariants as command
+use Rattle.mt_replay.specs.declared.task.Task.{Task}
+use Rattle.mt_replay.specs.declared.task.Task.TheVariants as task
+use Rattle.mt_replay.specs.declared.task.Act.{Act}
+use Rattle.mt_replay.specs.declared.task.Act.TheVariants as act
+use Rattle.mt_replay.specs.declared.task.Ask.{Ask}
+use Rattle.mt_replay.specs.declared.task.Ask.TheVariants as ask
+use Rattle.mt_replay.specs.declared.task.Section.{Section}
+use Rattle.mt_replay.specs.declared.task.Section.TheVariants as section
 use Rattle.mt_replay.specs.FirstFault.{first_fault}
 use Rattle.mt_replay.specs.Texts.{absent_line, call_fault_line, called_line, cancel_line, complete_line, done_line, full_line, go_line, joined_line, memory_line, no_line, register_line, report_text, retired_line, ruled_line, stepped_line, under_way_line, up_line}
 
@@ -149,97 +158,116 @@ after_join m = if may_come m then admitted m else m
 abbrev pub after_retire : Machine → Machine
 after_retire m = if may_go m then without_last m else m
 
--- ---- commands on processors that are there
+-- ---- what a command asks for
 
-abbrev pub present_text : ReplayState → Command → List ℕ
-present_text s (command.Cpus n) = []
-present_text s command.Dump = []
-present_text s (command.Ram base lines) = []
-present_text s (command.Selfsnoop k) = []
-present_text s (command.Load k address) = accessed_line s.machine k (op.Load address)
-present_text s (command.Store k address value) = accessed_line s.machine k (op.Store address value)
-present_text s (command.Fence k) = accessed_line s.machine k op.Fence
-present_text s (command.Map k address physical index global) = controlled_line s.machine k (control_of.Map (mapping address physical index global))
-present_text s (command.Invlpg k address) = controlled_line s.machine k (control_of.Invlpg address)
-present_text s (command.Cr3 k) = controlled_line s.machine k control_of.Cr3
-present_text s (command.Pge k on) = controlled_line s.machine k (control_of.Pge on)
-present_text s (command.Cd k on) = controlled_line s.machine k (control_of.Cd on)
-present_text s command.Update = []
-present_text s command.Begin = []
-present_text s command.Go = go_line (is_undecided (go_of s.machine))
-present_text s command.Cancel = cancel_line (is_undecided (go_of s.machine))
-present_text s command.Report = report_text s.machine.system.processors
-present_text s (command.Step k) = stepped_line (file_at (step_after s.machine k).system.processors k s.goal) (step_answer s.machine k)
-present_text s command.Up = up_text s.machine
-present_text s command.Join = join_text s.machine
-present_text s command.Retire = retire_text s.machine
-present_text s (command.Word address) = memory_line (memory_word s.machine.system.memory address)
-present_text s (command.Msr k number) = register_line number (register_value s k number)
-present_text s command.Blank = []
-present_text s command.DumpLine = []
-present_text s (command.Register number value) = []
-present_text s command.End = if is_update s.now.stage then update_line s.machine s.goal else call_line s.machine s.goal
+abbrev pub task_of : Command → Task
+task_of (command.Cpus n) = task.Act act.Nothing
+task_of command.Dump = task.Act act.Nothing
+task_of (command.Ram base lines) = task.Window base lines
+task_of (command.Selfsnoop k) = task.Act (act.Selfsnoop k)
+task_of (command.Load k address) = task.Act (act.Ask k (ask.Access (op.Load address)))
+task_of (command.Store k address value) = task.Act (act.Ask k (ask.Access (op.Store address value)))
+task_of (command.Fence k) = task.Act (act.Ask k (ask.Access op.Fence))
+task_of (command.Map k address physical index global) = task.Act (act.Ask k (ask.Control (control_of.Map (mapping address physical index global))))
+task_of (command.Invlpg k address) = task.Act (act.Ask k (ask.Control (control_of.Invlpg address)))
+task_of (command.Cr3 k) = task.Act (act.Ask k (ask.Control control_of.Cr3))
+task_of (command.Pge k on) = task.Act (act.Ask k (ask.Control (control_of.Pge on)))
+task_of (command.Cd k on) = task.Act (act.Ask k (ask.Control (control_of.Cd on)))
+task_of command.Update = task.Act (act.Section section.Begin)
+task_of command.Begin = task.Act (act.Section section.Begin)
+task_of command.Go = task.Act act.Go
+task_of command.Cancel = task.Act act.Cancel
+task_of command.Report = task.Report
+task_of (command.Step k) = task.Act (act.Ask k ask.Step)
+task_of command.Up = task.Up
+task_of command.Join = task.Join
+task_of command.Retire = task.Act act.Retire
+task_of (command.Word address) = task.Act (act.Word address)
+task_of (command.Msr k number) = task.Act (act.Ask k (ask.Register number))
+task_of command.Blank = task.Act act.Nothing
+task_of command.DumpLine = task.Act act.Nothing
+task_of (command.Register number value) = task.Act (act.Section (section.Register number value))
+task_of command.End = task.Act (act.Section section.End)
 
-abbrev pub present_after : ReplayState → Command → Machine
-present_after s (command.Cpus n) = s.machine
-present_after s command.Dump = s.machine
-present_after s (command.Ram base lines) = grown (window base lines) s.machine
-present_after s (command.Selfsnoop k) = snooped k s.machine
-present_after s (command.Load k address) = next s.machine (Accesses k (op.Load address))
-present_after s (command.Store k address value) = next s.machine (Accesses k (op.Store address value))
-present_after s (command.Fence k) = next s.machine (Accesses k op.Fence)
-present_after s (command.Map k address physical index global) = next s.machine (Controls k (control_of.Map (mapping address physical index global)))
-present_after s (command.Invlpg k address) = next s.machine (Controls k (control_of.Invlpg address))
-present_after s (command.Cr3 k) = next s.machine (Controls k control_of.Cr3)
-present_after s (command.Pge k on) = next s.machine (Controls k (control_of.Pge on))
-present_after s (command.Cd k on) = next s.machine (Controls k (control_of.Cd on))
-present_after s command.Update = s.machine
-present_after s command.Begin = s.machine
-present_after s command.Go = after_word Goes s.machine
-present_after s command.Cancel = after_word Cancels s.machine
-present_after s command.Report = s.machine
-present_after s (command.Step k) = step_after s.machine k
-present_after s command.Up = after_up s.machine
-present_after s command.Join = after_join s.machine
-present_after s command.Retire = after_retire s.machine
-present_after s (command.Word address) = s.machine
-present_after s (command.Msr k number) = s.machine
-present_after s command.Blank = s.machine
-present_after s command.DumpLine = s.machine
-present_after s (command.Register number value) = s.machine
-present_after s command.End = if is_update s.now.stage then after_update s.machine s.goal else after_call s.machine s.goal
+-- ---- what is done, and what it writes
+
+-- of a processor that is asked, if any, where it is there
+pub record Outcome : Type 0 where
+  pub text : List ℕ
+  pub machine : Machine
+  pub goal : RegisterFile
+
+abbrev pub leads_to : ReplayState → List ℕ → Machine → Outcome
+leads_to s text m = record { text = text; machine = m; goal = s.goal }
+
+abbrev pub asked_of : ReplayState → ℕ → Ask → Outcome
+asked_of s k (ask.Access o) = leads_to s (accessed_line s.machine k o) (next s.machine (Accesses k o))
+asked_of s k (ask.Control c) = leads_to s (controlled_line s.machine k c) (next s.machine (Controls k c))
+asked_of s k ask.Step = leads_to s (stepped_line (file_at (step_after s.machine k).system.processors k s.goal) (step_answer s.machine k)) (step_after s.machine k)
+asked_of s k (ask.Register number) = leads_to s (register_line number (register_value s k number)) s.machine
+
+abbrev pub laid : ReplayState → Section → Outcome
+laid s section.Begin = record { text = []; machine = s.machine; goal = first_file s }
+laid s (section.Register number value) = record { text = []; machine = s.machine; goal = with_register s.goal number value }
+laid s section.End =
+    leads_to s
+    (if is_update s.now.stage then update_line s.machine s.goal else call_line s.machine s.goal)
+    (if is_update s.now.stage then after_update s.machine s.goal else after_call s.machine s.goal)
+
+abbrev pub acted : ReplayState → Act → Outcome
+acted s (act.Ask k a) = asked_of s k a
+acted s act.Go = leads_to s (go_line (is_undecided (go_of s.machine))) (after_word Goes s.machine)
+acted s act.Cancel = leads_to s (cancel_line (is_undecided (go_of s.machine))) (after_word Cancels s.machine)
+acted s (act.Word address) = leads_to s (memory_line (memory_word s.machine.system.memory address)) s.machine
+acted s act.Retire = leads_to s (retire_text s.machine) (after_retire s.machine)
+acted s (act.Selfsnoop k) = leads_to s [] (snooped k s.machine)
+acted s (act.Section line) = laid s line
+acted s act.Nothing = leads_to s [] s.machine
+
+abbrev pub outcome : ReplayState → Task → Outcome
+outcome s task.Report = leads_to s (report_text s.machine.system.processors) s.machine
+outcome s (task.Window base lines) = leads_to s [] (grown (window base lines) s.machine)
+outcome s task.Up = leads_to s (up_text s.machine) (after_up s.machine)
+outcome s task.Join = leads_to s (join_text s.machine) (after_join s.machine)
+outcome s (task.Act a) = acted s a
+
+-- the processor of which something is asked
+abbrev pub asked : Task → Option ℕ
+asked (task.Act (act.Ask k a)) = Some k
+asked other = None
+
+-- it isn't there: it went, or hasn't come up yet
+abbrev pub misses : Machine → Task → Bool
+misses m t = option_map_or (λ k. not (nat_lt k (length m.system.processors))) (asked t) false
+
+abbrev pub done_text : ReplayState → Task → List ℕ
+done_text s t = if misses s.machine t then absent_line else (outcome s t).text
+
+abbrev pub done_after : ReplayState → Task → Machine
+done_after s t = if misses s.machine t then s.machine else (outcome s t).machine
 
 -- ---- commands
 
--- the processor that a command names, where it asks something of one
-abbrev pub named : Command → Option ℕ
-named (command.Load k address) = Some k
-named (command.Store k address value) = Some k
-named (command.Fence k) = Some k
-named (command.Map k address physical index global) = Some k
-named (command.Invlpg k address) = Some k
-named (command.Cr3 k) = Some k
-named (command.Pge k on) = Some k
-named (command.Cd k on) = Some k
-named (command.Step k) = Some k
-named (command.Msr k number) = Some k
-named other = None
+abbrev pub present_text : ReplayState → Command → List ℕ
+present_text s c = (outcome s (task_of c)).text
 
--- it isn't there: it went, or hasn't come up yet
+abbrev pub present_after : ReplayState → Command → Machine
+present_after s c = (outcome s (task_of c)).machine
+
+abbrev pub named : Command → Option ℕ
+named c = asked (task_of c)
+
 abbrev pub is_absent : Machine → Command → Bool
-is_absent m c = option_map_or (λ k. not (nat_lt k (length m.system.processors))) (named c) false
+is_absent m c = misses m (task_of c)
 
 abbrev pub command_text : ReplayState → Command → List ℕ
-command_text s c = if is_absent s.machine c then absent_line else present_text s c
+command_text s c = done_text s (task_of c)
 
 abbrev pub machine_after : ReplayState → Command → Machine
-machine_after s c = if is_absent s.machine c then s.machine else present_after s c
+machine_after s c = done_after s (task_of c)
 
 abbrev pub goal_after : ReplayState → Command → RegisterFile
-goal_after s command.Update = first_file s
-goal_after s command.Begin = first_file s
-goal_after s (command.Register number value) = with_register s.goal number value
-goal_after s other = s.goal
+goal_after s c = (outcome s (task_of c)).goal
 
 abbrev pub state_after : ReplayState → Command → ReplayState
 state_after s c = record { now = accepted s.now c; machine = machine_after s c; goal = goal_after s c }

@@ -11,7 +11,6 @@ use Rattle.mt_dump.specs.Dumps.{Dump}
 use Rattle.mt_script.specs.Situation.{Situation}
 use Rattle.mt_script.specs.Commands.{command_of}
 use Rattle.mt_script.specs.declared.command.Command.{Command}
-use Rattle.mt_script.specs.declared.command.Command.TheVariants as command
 use Rattle.mt_script.specs.declared.fault.ScriptFault.{ScriptFault}
 use Rattle.mt_replay.specs.Heads.{HeadEnd, head_end, head_of, has_offence, shows_dump, stays_open}
 use Rattle.mt_replay.specs.ReplayState.{ReplayState, command_text, first_state, state_after}

@@ -10,12 +10,16 @@ ghost use Rattle.mt_core.specs.Arises.{grown};
 ghost use Rattle.mt_core.specs.Rounds.{in_order};
 ghost use Rattle.mt_core.specs.Steps.{step_after, step_answer};
 ghost use Rattle.mt_machine.specs.Update.{updated};
-ghost use Rattle.mt_replay.specs.ReplayState.{accessed_line, after_call, after_join, after_retire, after_up, after_update, after_word, call_fault, call_line, controlled_line, file_at, is_absent, is_undecided, join_text, memory_word, named, retire_text, up_text, update_line};
+ghost use Rattle.mt_replay.specs.ReplayState.{accessed_line, after_call, after_join, after_retire, after_up, after_update, after_word, call_fault, call_line, controlled_line, asked_of, done_after, done_text, file_at, is_undecided, join_text, mapping, memory_word, retire_text, task_of, up_text, update_line};
+ghost use Rattle.mt_script.specs.Situation.{Situation};
+ghost use Rattle.mt_replay.specs.Doing.{CanAsk};
+ghost use Rattle.mt_replay.specs.Parts.{state};
 ghost use Rattle.mt_replay.specs.Texts.{cancel_line, go_line, memory_line, register_line, stepped_line};
 ghost use Rattle.mt_regs.specs.Registers.{HasThreeDigits, value_at};
 ghost use Rattle.std.specs.Option.{option_map_or};
 ghost use Rattle.mt_kinds.specs.Sizes.{most_lines};
 
+use crate::task::{Act, Ask, Section, Task};
 use crate::texts::{
     append_done, append_ruled, append_stepped, call_fault_line, called_line, cancel_line,
     complete_line, full_line, go_line, joined_line, memory_line, register_line, retired_line,
@@ -23,12 +27,14 @@ use crate::texts::{
 };
 use mt_admit::{RetireFault, UpFault};
 use mt_core::{CallFault, Core, a_core_arises};
+use mt_kinds::PAGE_BYTES;
 use mt_machine::{Control, Op};
 use mt_output::{LINE_ROOM, LineBuffer, WRITER_ROOM, Writer};
 use mt_ports::{Gate, NoMemory};
 use mt_ram::RamFault;
 use mt_regs::RegFile;
 use mt_script::Command;
+use mt_tlb::Mapping;
 use std::alloc::Global;
 use std::sync::Wait;
 use std::thread::Threads;
@@ -228,32 +234,87 @@ pub(crate) fn add_window(core: &mut Core, base: u64, lines: u32) -> Result<(), N
     }
 }
 
-// The processor that a command names, where it asks something of one.
-fn named(c: &Command) -> Option<u32>
-    ensures { result ≡ named c.now }
+// Addresses are of bytes, and a mapping is of pages.
+fn mapping(address: u64, physical: u64, index: u8, global: bool) -> Mapping
+    ensures { result ≡ mapping address physical index global }
 {
-    match *c {
-        Command::Load(k, _) => Some(k),
-        Command::Store(k, _, _) => Some(k),
-        Command::Fence(k) => Some(k),
-        Command::Map(k, _, _, _, _) => Some(k),
-        Command::Invlpg(k, _) => Some(k),
-        Command::Cr3(k) => Some(k),
-        Command::Pge(k, _) => Some(k),
-        Command::Cd(k, _) => Some(k),
-        Command::Step(k) => Some(k),
-        Command::Msr(k, _) => Some(k),
-        _ => None,
+    Mapping {
+        vpage: address / PAGE_BYTES,
+        ppage: physical / PAGE_BYTES,
+        index,
+        global,
     }
 }
 
-/// Whether a command names a processor that isn't there.
-pub(crate) fn is_absent(core: &Core, c: &Command) -> bool
-    ensures { result ≡ is_absent core.now c.now }
+/// What a command asks for.
+#[inline(always)]
+pub(crate) fn task_of(c: &Command) -> Task
+    ensures { result ≡ task_of c.now }
 {
-    match named(c) {
-        Some(k) => !((k as usize) < core.system().cpus().len()),
-        None => false,
+    match *c {
+        Command::Report => Task::Report,
+        Command::Ram(base, lines) => Task::Window(base, lines),
+        Command::Up => Task::Up,
+        Command::Join => Task::Join,
+        Command::Load(k, address) => Task::Act(Act::Ask(k, Ask::Access(Op::Load(address)))),
+        Command::Store(k, address, value) => {
+            Task::Act(Act::Ask(k, Ask::Access(Op::Store(address, value))))
+        }
+        Command::Fence(k) => Task::Act(Act::Ask(k, Ask::Access(Op::Fence))),
+        Command::Map(k, address, physical, index, global) => {
+            let x = mapping(address, physical, index, global);
+            Task::Act(Act::Ask(k, Ask::Control(Control::Map(x))))
+        }
+        Command::Invlpg(k, address) => Task::Act(Act::Ask(
+            k,
+            Ask::Control(Control::Invlpg(address)),
+        )),
+        Command::Cr3(k) => Task::Act(Act::Ask(k, Ask::Control(Control::Cr3))),
+        Command::Pge(k, on) => Task::Act(Act::Ask(k, Ask::Control(Control::Pge(on)))),
+        Command::Cd(k, on) => Task::Act(Act::Ask(k, Ask::Control(Control::Cd(on)))),
+        Command::Step(k) => Task::Act(Act::Ask(k, Ask::Step)),
+        Command::Msr(k, msr) => Task::Act(Act::Ask(k, Ask::Register(msr))),
+        Command::Go => Task::Act(Act::Go),
+        Command::Cancel => Task::Act(Act::Cancel),
+        Command::Word(address) => Task::Act(Act::Word(address)),
+        Command::Retire => Task::Act(Act::Retire),
+        Command::Selfsnoop(k) => Task::Act(Act::Selfsnoop(k)),
+        Command::Update | Command::Begin => Task::Act(Act::Section(Section::Begin)),
+        Command::Register { msr, value } => Task::Act(Act::Section(Section::Register(msr, value))),
+        Command::End => Task::Act(Act::Section(Section::End)),
+        Command::Cpus(_) | Command::Dump | Command::Blank | Command::DumpLine => {
+            Task::Act(Act::Nothing)
+        }
+    }
+}
+
+// What a processor that is there is asked.
+fn ask_present(writer: &mut Writer, core: &mut Core, k: u32, ask: Ask)
+    requires line { length writer.old + LINE_ROOM ≤ WRITER_ROOM }
+    requires processor { k < length core.old.system.processors }
+    requires fits { CanAsk core.old k ask }
+    ensures text { (now : Situation) (goal : RegisterFile) → writer.new ≡ writer.old ++ (asked_of (state now core.old goal) k ask).text }
+    ensures after { (now : Situation) (goal : RegisterFile) → core.new ≡ (asked_of (state now core.old goal) k ask).machine }
+{
+    match ask {
+        Ask::Access(op) => access(writer, core, k, op),
+        Ask::Control(c) => control(writer, core, k, c),
+        Ask::Step => step(writer, core, k),
+        Ask::Register(msr) => register(writer, core, k, msr),
+    }
+}
+
+/// What a processor is asked, or that it is absent.
+pub(crate) fn ask_one(writer: &mut Writer, core: &mut Core, k: u32, ask: Ask)
+    requires line { length writer.old + LINE_ROOM ≤ WRITER_ROOM }
+    requires fits { CanAsk core.old k ask }
+    ensures text { (now : Situation) (goal : RegisterFile) → writer.new ≡ writer.old ++ done_text (state now core.old goal) (Task.Act (Act.Ask k ask)) }
+    ensures after { (now : Situation) (goal : RegisterFile) → core.new ≡ done_after (state now core.old goal) (Task.Act (Act.Ask k ask)) }
+{
+    if (k as usize) < core.system().cpus().len() {
+        ask_present(writer, core, k, ask);
+    } else {
+        writer.append(b"absent\n");
     }
 }
 

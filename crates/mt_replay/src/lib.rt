@@ -7,6 +7,7 @@ mod replayer;
 mod report;
 mod running;
 mod summing;
+mod task;
 mod texts;
 
 pub use replayer::Replayer;

@@ -8,14 +8,16 @@ ghost use Rattle.mt_script.specs.Accept.{Fits};
 ghost use Rattle.mt_script.specs.Stages.{is_in_dump};
 ghost use Rattle.mt_dump.specs.ForProcessors.{has_each};
 ghost use Rattle.mt_replay.specs.Kept.{HasEras};
-ghost use Rattle.mt_replay.specs.Parts.{AsksForMemory, IsComing};
-ghost use Rattle.mt_replay.specs.ReplayState.{ReplayState, command_text, state_after};
+ghost use Rattle.mt_replay.specs.Parts.{AsksForMemory};
+ghost use Rattle.mt_replay.specs.ReplayState.{ReplayState, command_text, state_after, task_of};
 ghost use Rattle.mt_replay.specs.Running.{AsksAt, CarriesOut, HasEraRoomAt, HasErasAt, IsAt, IsQuiet, Writes, leading, leading_dump, replay_running, setup_of};
 ghost use Rattle.mt_stream.specs.Lines.{IsEnding, Takes};
 ghost use Rattle.mt_replay.specs.Summing.{Begins, Lasts, state_in};
 ghost use Rattle.mt_replay.specs.Transcript.{Point, in_body};
 
+use crate::commands::task_of;
 use crate::replayer::Replayer;
+use crate::task::{Act, Task};
 use mt_dump::Dump;
 use mt_output::{LineBuffer, Writer, accepted_line, dump_refused_line, offence_line};
 use mt_ports::{Failed, Gate, NoMemory, Sink, Status};
@@ -104,29 +106,27 @@ fn begin<K: Sink>(
     }
 }
 
-// Does a command that asks for no memory and is no report. Its line is formed behind the bytes that wait, once
-// there is room for it.
+// Does a command that asks for this act. Its line is formed behind the bytes that wait, once there is room for it.
 fn form<R: Threads + Wait + Sync, K: Sink, G: Gate>(
     rt: &R,
     alloc: Global,
     replayer: &mut Replayer,
     c: &Command,
+    asked: Act,
     writer: &mut Writer,
     sink: &mut K,
     gate: &G,
 ) -> Result<(), Failed>
     requires fits { Fits replayer.old.now c.now }
+    requires asked { task_of c.now ≡ Task.Act asked }
     requires room { HasEraRoom replayer.old.machine }
-    requires no_report { c.now ≢ Command.Report }
-    requires no_window { (base : ℕ) → (lines : ℕ) → c.now ≢ Command.Ram base lines }
-    requires no_newcomer { IsComing c.now → ⊥ }
     ensures bytes { Adds writer.old (command_text replayer.old c.now) writer.new (K.taken sink.old) (K.taken sink.new) result }
     ensures after { OnOk result (replayer.new ≡ state_after replayer.old c.now) }
     ensures cause { HasCause (K.faults sink.old) (K.faults sink.new) result }
 {
     match writer.make_room(sink) {
         Ok(()) => {
-            replayer.run(rt, alloc, c, writer, gate);
+            replayer.run(rt, alloc, c, asked, writer, gate);
             Ok(())
         }
         Err(failed) => Err(failed),
@@ -201,18 +201,18 @@ fn do_command<R: Threads + Wait + Sync, K: Sink, G: Gate>(
     ensures refused { (status : Status) → result ≡ Ok (Some status) → status ≡ Status.NoMemory }
     ensures cause { HasCause (K.faults sink.old) (K.faults sink.new) result }
 {
-    match *c {
-        Command::Report => match replayer.report(writer, sink) {
+    match task_of(c) {
+        Task::Report => match replayer.report(writer, sink) {
             Ok(()) => Ok(None),
             Err(failed) => Err(failed),
         },
-        Command::Ram(base, lines) => match replayer.add_window(base, lines) {
+        Task::Window(base, lines) => match replayer.add_window(base, lines) {
             Ok(()) => Ok(None),
             Err(_) => Ok(Some(Status::NoMemory)),
         },
-        Command::Up => bring_up(replayer, writer, sink),
-        Command::Join => admit(replayer, writer, sink),
-        _ => match form(rt, alloc, replayer, c, writer, sink, gate) {
+        Task::Up => bring_up(replayer, writer, sink),
+        Task::Join => admit(replayer, writer, sink),
+        Task::Act(asked) => match form(rt, alloc, replayer, c, asked, writer, sink, gate) {
             Ok(()) => Ok(None),
             Err(failed) => Err(failed),
         },

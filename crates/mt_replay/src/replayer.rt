@@ -1,33 +1,33 @@
-ghost use Rattle.std.specs.Prelude.{◌≡◌, ◌≢◌, ℕ, ◌≤◌, ◌<◌, ◌+◌, ◌++◌, true, false, length, IfOk, OnOk, OnErr, if◌then◌else◌};
+ghost use Rattle.std.specs.Prelude.{◌≡◌, ◌≤◌, ◌<◌, ◌+◌, ◌++◌, true, length, IfOk, OnOk, OnErr, if◌then◌else◌};
 ghost use Rattle.std.specs.List.{All};
 ghost use Rattle.mt_regs.specs.Faults.{IsAccepted};
 ghost use Rattle.mt_regs.specs.RegisterFile.{RegisterFile};
 ghost use Rattle.mt_dump.specs.ForProcessors.{has_each};
 ghost use Rattle.mt_machine.specs.Machine.{FitsGoal};
 ghost use Rattle.mt_machine.specs.Start.{HasEraRoom};
+ghost use Rattle.mt_script.specs.Situation.{Situation};
 ghost use Rattle.mt_script.specs.Stages.{is_in_dump};
 ghost use Rattle.mt_script.specs.Accept.{Fits, accepted};
 ghost use Rattle.mt_ports.specs.Causes.{HasCause};
 ghost use Rattle.mt_output.specs.Writing.{Adds};
 ghost use Rattle.mt_replay.specs.Kept.{IsReplayState};
-ghost use Rattle.mt_replay.specs.Parts.{IsComing, state};
-ghost use Rattle.mt_replay.specs.ReplayState.{after_call, after_update, call_line, command_text, file_at, first_state, goal_after, is_absent, is_update, machine_after, mapping, present_after, present_text, state_after, update_line, with_register};
+ghost use Rattle.mt_replay.specs.Doing.{CanAct};
+ghost use Rattle.mt_replay.specs.declared.task.Task.{Task};
+ghost use Rattle.mt_replay.specs.Parts.{state};
+ghost use Rattle.mt_replay.specs.ReplayState.{acted, after_call, after_update, call_line, command_text, done_after, done_text, file_at, first_state, is_update, laid, state_after, task_of, update_line, with_register};
 
 use crate::commands::{
-    access, add_window, admit, bring_up, call, cancel, control, go, is_absent, register, retire,
-    step, update, word,
+    add_window, admit, ask_one, bring_up, call, cancel, go, retire, update, word,
 };
 use crate::report::write_report;
+use crate::task::{Act, Section};
 use mt_core::Core;
 use mt_dump::Dump;
-use mt_kinds::PAGE_BYTES;
-use mt_machine::{Control, Op};
 use mt_output::{LINE_ROOM, LineBuffer, WRITER_ROOM, Writer};
 use mt_ports::{Failed, Gate, NoMemory, Sink};
 use mt_ram::Ram;
 use mt_regs::RegFile;
 use mt_script::{Command, Setup, Stage};
-use mt_tlb::Mapping;
 use std::alloc::Global;
 use std::marker::Model;
 use std::sync::Wait;
@@ -51,18 +51,6 @@ impl Model for Replayer {
     ghost view = { λ r. record { now = r.setup; machine = r.core; goal = r.goal } };
 
     ghost invariant = { λ r. IsReplayState (record { now = r.setup; machine = r.core; goal = r.goal }) };
-}
-
-// Addresses are of bytes, and a mapping is of pages.
-fn mapping(address: u64, physical: u64, index: u8, global: bool) -> Mapping
-    ensures { result ≡ mapping address physical index global }
-{
-    Mapping {
-        vpage: address / PAGE_BYTES,
-        ppage: physical / PAGE_BYTES,
-        index,
-        global,
-    }
 }
 
 // The registers of the first processor, with which the goal of a section begins.
@@ -112,115 +100,70 @@ fn set(goal: &mut RegFile, msr: u32, value: u64)
     let _ = goal.set(msr, value);
 }
 
-// What a command that asks for no memory, and is no report, load or store, writes and does to the machine and the
-// goal, where the processor that it names is there.
+// A line of a section.
 #[inline(never)]
-fn act_rarely<R: Threads + Wait + Sync, G: Gate>(
+fn take_section_line<R: Threads + Wait + Sync, G: Gate>(
     rt: &R,
     alloc: Global,
     writer: &mut Writer,
-    setup: &Setup,
     core: &mut Core,
     goal: &mut RegFile,
-    c: &Command,
+    line: Section,
+    stage: Stage,
     gate: &G,
 )
     requires line { length writer.old + LINE_ROOM ≤ WRITER_ROOM }
-    requires state { IsReplayState (state setup.now core.old goal.old) }
-    requires there { is_absent core.old c.now ≡ false }
-    requires fits { Fits setup.now c.now }
+    requires some { 0 < length core.old.system.processors }
+    requires fits { All (FitsGoal goal.old) core.old.system.processors }
     requires room { HasEraRoom core.old }
-    requires no_report { c.now ≢ Command.Report }
-    requires no_window { (base : ℕ) → (lines : ℕ) → c.now ≢ Command.Ram base lines }
-    requires no_newcomer { IsComing c.now → ⊥ }
-    requires no_load { (k : ℕ) (address : ℕ) → c.now ≢ Command.Load k address }
-    requires no_store { (k : ℕ) (address : ℕ) (value : ℕ) → c.now ≢ Command.Store k address value }
-    ensures text { writer.new ≡ writer.old ++ present_text (state setup.now core.old goal.old) c.now }
-    ensures machine { core.new ≡ present_after (state setup.now core.old goal.old) c.now }
-    ensures goal { goal.new ≡ goal_after (state setup.now core.old goal.old) c.now }
+    ensures text { (now : Situation) → now.stage ≡ stage → writer.new ≡ writer.old ++ (laid (state now core.old goal.old) line).text }
+    ensures machine { (now : Situation) → now.stage ≡ stage → core.new ≡ (laid (state now core.old goal.old) line).machine }
+    ensures goal { (now : Situation) → goal.new ≡ (laid (state now core.old goal.old) line).goal }
 {
-    match *c {
-        Command::Fence(k) => access(writer, core, k, Op::Fence),
-        Command::Map(k, address, physical, index, global) => {
-            let x = mapping(address, physical, index, global);
-            control(writer, core, k, Control::Map(x));
-        }
-        Command::Invlpg(k, address) => control(writer, core, k, Control::Invlpg(address)),
-        Command::Cr3(k) => control(writer, core, k, Control::Cr3),
-        Command::Pge(k, on) => control(writer, core, k, Control::Pge(on)),
-        Command::Cd(k, on) => control(writer, core, k, Control::Cd(on)),
-        Command::Go => go(writer, core),
-        Command::Cancel => cancel(writer, core),
-        Command::Step(k) => step(writer, core, k),
-        Command::Word(address) => word(writer, core, address),
-        Command::Msr(k, msr) => register(writer, core, k, msr),
-        Command::Selfsnoop(k) => core.self_snoop(k),
-        Command::Retire => retire(writer, core),
-        Command::End => end_section(rt, alloc, writer, core, goal, setup.stage(), gate),
-        Command::Update | Command::Begin => begin_goal(core, goal),
-        Command::Register { msr, value } => set(goal, msr, value),
-        Command::Cpus(_) | Command::Dump | Command::Blank | Command::DumpLine => {}
-        Command::Load(..) | Command::Store(..) => unreachable!(),
-        Command::Report | Command::Ram(..) | Command::Up | Command::Join => unreachable!(),
+    match line {
+        Section::Begin => begin_goal(core, goal),
+        Section::Register(msr, value) => set(goal, msr, value),
+        Section::End => end_section(rt, alloc, writer, core, goal, stage, gate),
     }
 }
 
-// The same of loads and stores too.
-fn act_there<R: Threads + Wait + Sync, G: Gate>(
+// Does what asks for no memory.
+fn do_act<R: Threads + Wait + Sync, G: Gate>(
     rt: &R,
     alloc: Global,
     writer: &mut Writer,
     setup: &Setup,
     core: &mut Core,
     goal: &mut RegFile,
-    c: &Command,
+    act: Act,
     gate: &G,
 )
     requires line { length writer.old + LINE_ROOM ≤ WRITER_ROOM }
     requires state { IsReplayState (state setup.now core.old goal.old) }
-    requires there { is_absent core.old c.now ≡ false }
-    requires fits { Fits setup.now c.now }
+    requires can { CanAct core.old act }
     requires room { HasEraRoom core.old }
-    requires no_report { c.now ≢ Command.Report }
-    requires no_window { (base : ℕ) → (lines : ℕ) → c.now ≢ Command.Ram base lines }
-    requires no_newcomer { IsComing c.now → ⊥ }
-    ensures text { writer.new ≡ writer.old ++ present_text (state setup.now core.old goal.old) c.now }
-    ensures machine { core.new ≡ present_after (state setup.now core.old goal.old) c.now }
-    ensures goal { goal.new ≡ goal_after (state setup.now core.old goal.old) c.now }
+    ensures text { writer.new ≡ writer.old ++ done_text (state setup.now core.old goal.old) (Task.Act act) }
+    ensures machine { core.new ≡ done_after (state setup.now core.old goal.old) (Task.Act act) }
+    ensures goal { goal.new ≡ (acted (state setup.now core.old goal.old) act).goal }
 {
-    match *c {
-        Command::Load(k, address) => access(writer, core, k, Op::Load(address)),
-        Command::Store(k, address, value) => access(writer, core, k, Op::Store(address, value)),
-        _ => act_rarely(rt, alloc, writer, setup, core, goal, c, gate),
-    }
-}
-
-// The same, whether the processor is there or not.
-fn act<R: Threads + Wait + Sync, G: Gate>(
-    rt: &R,
-    alloc: Global,
-    writer: &mut Writer,
-    setup: &Setup,
-    core: &mut Core,
-    goal: &mut RegFile,
-    c: &Command,
-    gate: &G,
-)
-    requires line { length writer.old + LINE_ROOM ≤ WRITER_ROOM }
-    requires state { IsReplayState (state setup.now core.old goal.old) }
-    requires fits { Fits setup.now c.now }
-    requires room { HasEraRoom core.old }
-    requires no_report { c.now ≢ Command.Report }
-    requires no_window { (base : ℕ) → (lines : ℕ) → c.now ≢ Command.Ram base lines }
-    requires no_newcomer { IsComing c.now → ⊥ }
-    ensures text { writer.new ≡ writer.old ++ command_text (state setup.now core.old goal.old) c.now }
-    ensures machine { core.new ≡ machine_after (state setup.now core.old goal.old) c.now }
-    ensures goal { goal.new ≡ goal_after (state setup.now core.old goal.old) c.now }
-{
-    if is_absent(core, c) {
-        writer.append(b"absent\n");
-    } else {
-        act_there(rt, alloc, writer, setup, core, goal, c, gate);
+    match act {
+        Act::Ask(k, asked) => ask_one(writer, core, k, asked),
+        Act::Go => go(writer, core),
+        Act::Cancel => cancel(writer, core),
+        Act::Word(address) => word(writer, core, address),
+        Act::Retire => retire(writer, core),
+        Act::Selfsnoop(k) => core.self_snoop(k),
+        Act::Section(line) => take_section_line(
+            rt,
+            alloc,
+            writer,
+            core,
+            goal,
+            line,
+            setup.stage(),
+            gate,
+        ),
+        Act::Nothing => {}
     }
 }
 
@@ -264,33 +207,32 @@ impl Replayer {
         let _ = &self.goal;
     }
 
-    /// Does a command that asks for no memory and is no report, and adds its line to the bytes that wait.
-    /// An update runs each processor on a thread of its own, where the gate and the allocator let it.
-    pub fn run<R: Threads + Wait + Sync, G: Gate>(
+    /// Does a command that asks for this act, and adds its line to the bytes that wait. An update runs each
+    /// processor on a thread of its own, where the gate and the allocator let it.
+    pub(crate) fn run<R: Threads + Wait + Sync, G: Gate>(
         &mut self,
         rt: &R,
         alloc: Global,
         c: &Command,
+        asked: Act,
         writer: &mut Writer,
         gate: &G,
     )
         requires line { length writer.old + LINE_ROOM ≤ WRITER_ROOM }
         requires fits { Fits self.old.now c.now }
+        requires asked { task_of c.now ≡ Task.Act asked }
         requires room { HasEraRoom self.old.machine }
-        requires no_report { c.now ≢ Command.Report }
-        requires no_window { (base : ℕ) → (lines : ℕ) → c.now ≢ Command.Ram base lines }
-        requires no_newcomer { IsComing c.now → ⊥ }
         ensures text { writer.new ≡ writer.old ++ command_text self.old c.now }
         ensures after { self.new ≡ state_after self.old c.now }
     {
-        act(
+        do_act(
             rt,
             alloc,
             writer,
             &self.setup,
             &mut self.core,
             &mut self.goal,
-            c,
+            asked,
             gate,
         );
         self.setup.accept(c);

@@ -30,8 +30,6 @@ use Rattle.mt_machine.specs.declared.event.Event.{Event}
 use Rattle.mt_machine.specs.declared.event.Event.TheVariants as event
 use Rattle.mt_machine.specs.declared.phase.Phase.{Phase}
 use Rattle.mt_machine.specs.declared.phase.Phase.TheVariants as phase
-use Rattle.mt_machine.specs.declared.op.Op.TheVariants as op
-use Rattle.mt_machine.specs.declared.control.Control.TheVariants as control_of
 use Rattle.mt_machine.specs.Access.{access}
 use Rattle.mt_machine.specs.Control.{control}
 use Rattle.mt_machine.specs.Machine.{Machine, common_era, go_of}
@@ -43,7 +41,6 @@ use Rattle.mt_core.specs.declared.fault.CallFault.TheVariants as call
 use Rattle.mt_core.specs.declared.stepped.Stepped.{Stepped}
 use Rattle.mt_core.specs.declared.stepped.Stepped.TheVariants as stepped
 use Rattle.mt_script.specs.declared.command.Command.{Command}
-use Rattle.mt_script.specs.declared.command.Command.TheVariants as command
 use Rattle.mt_script.specs.declared.fault.ScriptFault.{ScriptFault}
 use Rattle.mt_script.specs.declared.fault.ScriptReason.{ScriptReason}
 use Rattle.mt_script.specs.declared.fault.ScriptReason.TheVariants as script
@@ -54,8 +51,15 @@ use Rattle.mt_script.specs.Commands.{command_of}
 use Rattle.mt_script.specs.Situation.{Situation}
 use Rattle.mt_output.specs.Lines.{accepted_line, address_text, bad_text, dump_reason_text, dump_refused_line, line, offence_line, reason_text, refused_cpu_line, refused_line, script_reason_text}
 use Rattle.mt_machine.specs.ComingAndGoing.{last_number}
+use Rattle.mt_replay.specs.declared.task.Task.{Task}
+use Rattle.mt_replay.specs.declared.task.Task.TheVariants as task
+use Rattle.mt_replay.specs.declared.task.Act.{Act}
+use Rattle.mt_replay.specs.declared.task.Act.TheVariants as act
+use Rattle.mt_replay.specs.declared.task.Ask.{Ask}
+use Rattle.mt_replay.specs.declared.task.Ask.TheVariants as ask
+use Rattle.mt_replay.specs.declared.task.Section.TheVariants as section
 use Rattle.mt_replay.specs.Running.{IsAt, from_line}
-use Rattle.mt_replay.specs.ReplayState.{ReplayState, after_update, call_fault, call_line, command_text, file_at, is_undecided, is_update, mapping, memory_word, register_value, update_line, is_absent, may_come, may_go, present_text, retire_text, stays_line}
+use Rattle.mt_replay.specs.ReplayState.{ReplayState, after_update, call_fault, call_line, command_text, file_at, is_undecided, is_update, memory_word, register_value, update_line, is_absent, may_come, may_go, present_text, retire_text, stays_line, acted, asked_of, outcome, task_of}
 use Rattle.mt_replay.specs.Summary.{is_complete, updates_in}
 use Rattle.mt_replay.specs.Texts.{call_fault_line, called_line, cancel_line, complete_line, done_line, event_text, go_line, have_one_file, memory_line, number_at, phase_text, processor_line, processor_lines, register_line, registers_line, report_text, ruled_line, stale_count, stepped_line, switch_text, absent_line, full_line, joined_line, no_line, retired_line, under_way_line, up_line}
 use Rattle.mt_replay.specs.Transcript.{Point, body_lines, head_lines, in_body, in_head, told_command, told_dump}
@@ -374,33 +378,34 @@ leave_writes m = by (may_go m)
     by true = one (both (said (codes "retired ") refl) (decimal_inside (last_number m.system)))
     by false = stay_writes (is_some m.order) no_line (one (said (codes "no") refl))
 
-present_writes : (s : ReplayState) (c : Command) → Writes 1 (present_text s c)
-present_writes s (command.Load k address) = done_writes (access s.machine.system k (op.Load address)).answer
-present_writes s (command.Store k address value) = done_writes (access s.machine.system k (op.Store address value)).answer
-present_writes s (command.Fence k) = done_writes (access s.machine.system k op.Fence).answer
-present_writes s (command.Map k address physical index global) = ruled_writes (control s.machine.system k (control_of.Map (mapping address physical index global))).answer
-present_writes s (command.Invlpg k address) = ruled_writes (control s.machine.system k (control_of.Invlpg address)).answer
-present_writes s (command.Cr3 k) = ruled_writes (control s.machine.system k control_of.Cr3).answer
-present_writes s (command.Pge k on) = ruled_writes (control s.machine.system k (control_of.Pge on)).answer
-present_writes s (command.Cd k on) = ruled_writes (control s.machine.system k (control_of.Cd on)).answer
-present_writes s command.Go = go_writes (is_undecided (go_of s.machine))
-present_writes s command.Cancel = cancel_writes (is_undecided (go_of s.machine))
-present_writes s command.Report = more (omega arith) (report_writes s.machine.system.processors)
-present_writes s (command.Step k) = step_writes (file_at (step_after s.machine k).system.processors k s.goal) (step_answer s.machine k)
-present_writes s (command.Word address) = memory_writes (memory_word s.machine.system.memory address)
-present_writes s (command.Msr k number) = register_writes number (register_value s k number)
-present_writes s command.Up = come_writes s.machine (up_line (length s.machine.system.processors)) (one (both (said (codes "up ") refl) (decimal_inside (length s.machine.system.processors))))
-present_writes s command.Join = come_writes s.machine (joined_line (length s.machine.system.processors)) (one (both (said (codes "joined ") refl) (decimal_inside (length s.machine.system.processors))))
-present_writes s command.Retire = leave_writes s.machine
-present_writes s command.End = end_writes s (is_update s.now.stage)
-present_writes s other = nothing
+asked_writes : (s : ReplayState) (k : ℕ) (a : Ask) → Writes 1 (asked_of s k a).text
+asked_writes s k (ask.Access o) = done_writes (access s.machine.system k o).answer
+asked_writes s k (ask.Control c) = ruled_writes (control s.machine.system k c).answer
+asked_writes s k ask.Step = step_writes (file_at (step_after s.machine k).system.processors k s.goal) (step_answer s.machine k)
+asked_writes s k (ask.Register number) = register_writes number (register_value s k number)
+
+acted_writes : (s : ReplayState) (a : Act) → Writes 1 (acted s a).text
+acted_writes s (act.Ask k a) = asked_writes s k a
+acted_writes s act.Go = go_writes (is_undecided (go_of s.machine))
+acted_writes s act.Cancel = cancel_writes (is_undecided (go_of s.machine))
+acted_writes s (act.Word address) = memory_writes (memory_word s.machine.system.memory address)
+acted_writes s act.Retire = leave_writes s.machine
+acted_writes s (act.Section section.End) = end_writes s (is_update s.now.stage)
+acted_writes s other = nothing
+
+task_writes : (s : ReplayState) (t : Task) → Writes 1 (outcome s t).text
+task_writes s task.Report = more (omega arith) (report_writes s.machine.system.processors)
+task_writes s task.Up = come_writes s.machine (up_line (length s.machine.system.processors)) (one (both (said (codes "up ") refl) (decimal_inside (length s.machine.system.processors))))
+task_writes s task.Join = come_writes s.machine (joined_line (length s.machine.system.processors)) (one (both (said (codes "joined ") refl) (decimal_inside (length s.machine.system.processors))))
+task_writes s (task.Act a) = acted_writes s a
+task_writes s other = nothing
 
 command_writes : (s : ReplayState) (c : Command) → Writes 1 (command_text s c)
 command_writes s c = by (is_absent s.machine c)
   where
     by : (b : Bool) → Writes 1 (if b then absent_line else present_text s c)
     by true = one (said (codes "absent") refl)
-    by false = present_writes s c
+    by false = task_writes s (task_of c)
 
 -- what a line leads to where no known line stands behind it
 abbrev pub alone : ℕ → List ℕ → Point → Told
