@@ -1,0 +1,187 @@
+use crate::cpu::Cpu;
+use crate::lines;
+use crate::step::Step;
+use mt_kinds::{LINE_BYTES, WORD_BYTES, is_bit_set};
+use mt_machine::{Event, Phase};
+use mt_regs::{RegFile, Register};
+
+// The bit E of the default-type register.
+const ENABLE: u8 = 11;
+
+/// The write-back of the first dirty word, or the invalidation of all lines if no word is dirty.
+pub(crate) fn write_back_or_drop(cpu: &Cpu) -> Event {
+    let Some(line) = lines::first_dirty_line(cpu.lines.as_slice()) else {
+        return Event::DropLines;
+    };
+    let Some(word) = lines::first_dirty_word(line.dirty) else {
+        return Event::DropLines;
+    };
+    Event::WriteBack {
+        address: line.number.wrapping_mul(LINE_BYTES).wrapping_add(WORD_BYTES * word as u64),
+        value: line.words[word as usize],
+    }
+}
+
+// The event of an arrival at a barrier.
+fn arrival(phase: Phase) -> Option<Event> {
+    match phase {
+        Phase::Taken => Some(Event::Arrive),
+        Phase::Restored => Some(Event::ArriveAgain),
+        _ => None,
+    }
+}
+
+// The event of a passage of a barrier.
+fn passage(phase: Phase) -> Option<Event> {
+    match phase {
+        Phase::Arrived => Some(Event::Pass),
+        _ => None,
+    }
+}
+
+// PGE is cleared in the first flush of the TLB, and isn't set in the second.
+fn clearing(phase: Phase) -> Option<Event> {
+    match phase {
+        Phase::Flushed2 => None,
+        _ => Some(Event::FlushTlb),
+    }
+}
+
+// A reload of CR3 is the second flush of the TLB, and with PGE clear the first.
+fn reloading(cpu: &Cpu) -> Option<Event> {
+    match cpu.phase {
+        Phase::Flushed2 => Some(Event::FlushTlb),
+        Phase::NoFill | Phase::Flushed if !cpu.pge => Some(Event::FlushTlb),
+        _ => None,
+    }
+}
+
+/// The event of the machine that a step of a processor is, if it is one. `part` is the number of registers that are written.
+pub(crate) fn event_of(step: Step, part: u32, cpu: &Cpu) -> Option<Event> {
+    match step {
+        Step::Interrupt => Some(Event::Take),
+        Step::ArriveAt(_) => arrival(cpu.phase),
+        Step::WaitAt { .. } => passage(cpu.phase),
+        Step::SetCd => Some(Event::SetNoFill),
+        Step::Wbinvd => Some(write_back_or_drop(cpu)),
+        Step::Invd => Some(Event::DropLines),
+        Step::ClearPge => clearing(cpu.phase),
+        Step::ReloadCr3 => reloading(cpu),
+        Step::ClearEnable => Some(Event::Disable),
+        Step::WriteRegisters => Some(Event::Write(part)),
+        Step::WriteDefault => Some(Event::Enable),
+        Step::ClearCd => Some(Event::SetNormal),
+        Step::ReturnPge => Some(Event::RestorePge),
+        Step::GoOn => Some(Event::Release),
+        Step::Access(_) | Step::Control(_) => None,
+    }
+}
+
+fn after_drop(phase: Phase) -> Phase {
+    match phase {
+        Phase::Enabled => Phase::Flushed2,
+        _ => Phase::Flushed,
+    }
+}
+
+fn after_flush(phase: Phase) -> Phase {
+    match phase {
+        Phase::Flushed2 => Phase::TlbFlushed2,
+        _ => Phase::TlbFlushed,
+    }
+}
+
+fn drop_local(cpu: &mut Cpu) {
+    cpu.entries.retain(|e| e.global);
+}
+
+/// PGE is remembered, and cleared if it is set, which drops all entries. If it is clear, CR3 is reloaded.
+pub(crate) fn clear_pge(cpu: &mut Cpu) {
+    if cpu.pge {
+        cpu.had_pge = true;
+        cpu.pge = false;
+        cpu.entries.clear();
+    } else {
+        drop_local(cpu);
+        cpu.had_pge = false;
+    }
+}
+
+fn flush_tlb(cpu: &mut Cpu) {
+    match cpu.phase {
+        Phase::Flushed2 => drop_local(cpu),
+        _ => clear_pge(cpu),
+    }
+    cpu.phase = after_flush(cpu.phase);
+}
+
+fn without_enable(deftype: u64) -> u64
+    ensures { result ≡ (if is_bit_set deftype 11 then deftype - 2 ^ 11 else deftype) }
+{
+    if is_bit_set(deftype, ENABLE) {
+        deftype - (1 << ENABLE)
+    } else {
+        deftype
+    }
+}
+
+fn disable(cpu: &mut Cpu) {
+    let deftype = without_enable(cpu.regs.deftype);
+    cpu.regs.put(Register::DefaultType, deftype);
+    cpu.phase = Phase::Writing(0);
+}
+
+// The register at a place of the goal gets the goal's value.
+fn write_register(cpu: &mut Cpu, goal: &RegFile, i: u32) {
+    let register = match goal.register_at(i) {
+        Some(register) => register,
+        None => Register::DefaultType,
+    };
+    cpu.regs.put(register, goal.value_of(register));
+    cpu.phase = Phase::Writing(i + 1);
+}
+
+fn enable(cpu: &mut Cpu, goal: &RegFile) {
+    cpu.regs.put(Register::DefaultType, goal.deftype);
+    cpu.phase = Phase::Enabled;
+}
+
+/// The processor's own part of an event.
+pub(crate) fn own_step(cpu: &mut Cpu, goal: &RegFile, e: Event) {
+    match e {
+        Event::Take => cpu.phase = Phase::Taken,
+        Event::Arrive => cpu.phase = Phase::Arrived,
+        Event::Leave => cpu.phase = Phase::Running,
+        Event::Pass => cpu.phase = Phase::Passed,
+        Event::SetNoFill => {
+            cpu.cd = true;
+            cpu.phase = Phase::NoFill;
+        }
+        Event::WriteBack { address, .. } => {
+            let word = (address % LINE_BYTES / WORD_BYTES) as u8;
+            lines::clean_word(cpu.lines.as_mut_slice(), address / LINE_BYTES, word);
+        }
+        Event::DropLines => {
+            cpu.lines.clear();
+            cpu.phase = after_drop(cpu.phase);
+        }
+        Event::FlushTlb => flush_tlb(cpu),
+        Event::Disable => disable(cpu),
+        Event::Write(i) => write_register(cpu, goal, i),
+        Event::Enable => enable(cpu, goal),
+        Event::SetNormal => {
+            cpu.cd = false;
+            cpu.phase = Phase::Normal;
+        }
+        Event::RestorePge => {
+            cpu.pge = cpu.had_pge;
+            cpu.had_pge = false;
+            cpu.phase = Phase::Restored;
+        }
+        Event::ArriveAgain => cpu.phase = Phase::Arrived2,
+        Event::Release => {
+            cpu.phase = Phase::Running;
+            cpu.era += 1;
+        }
+    }
+}
