@@ -52,7 +52,7 @@ impl From<NoMemory> for Trouble {
 #[derive(Drop)]
 pub enum Ask {
     /// One run: the processors in the order of their steps. `None` stands for whole turns up to the end.
-    Run(Vec<Option<u32>>),
+    Run(Vec<Option<usize>>),
     /// All interleavings, up to so many states.
     All(u32),
 }

@@ -1,3 +1,12 @@
+ghost use Rattle.std.specs.Prelude.{◌≡◌, ◌<◌, length, map, IfOk, OnOk, Some, slice_get, if◌then◌else◌};
+ghost use Rattle.mt_tlb.specs.declared.mapping.Mapping.{Mapping};
+ghost use Rattle.mt_tlb.specs.Entries.{is_full_for, is_mapped, maps_page, set_mapping};
+ghost use Rattle.mt_machine.specs.System.{Processor};
+ghost use Rattle.mt_machine.specs.Control.{control_at, drop_page, reload_cr3, set_page_global};
+ghost use Rattle.mt_bus.specs.Parts.{ruled, system};
+ghost use Rattle.mt_judge.specs.Parts.{memory};
+ghost use Rattle.mt_judge.specs.Steps.{HasIndex};
+
 use crate::buffers::drain;
 use crate::cpu::Cpu;
 use mt_kinds::PAGE_BYTES;
@@ -30,8 +39,11 @@ fn replace(maps: &mut [Mapping], x: Mapping)
     }
 }
 
-fn map(cpu: &mut Cpu, x: Mapping) -> Result<Ruled, NoMemory>
+/// Sets the mapping of a page.
+pub(crate) fn map(cpu: &mut Cpu, x: Mapping) -> Result<Ruled, NoMemory>
     requires { x.index < 8 }
+    ensures answer { IfOk result (λ ruled. ruled ≡ (if is_full_for x cpu.old.mappings then Ruled.Full else Ruled.Okay)) }
+    ensures after { OnOk result (cpu.new ≡ (if is_full_for x cpu.old.mappings then cpu.old else record cpu.old { mappings = set_mapping x cpu.old.mappings })) }
 {
     if is_mapped(cpu.maps.as_slice(), x.vpage) {
         replace(cpu.maps.as_mut_slice(), x);
@@ -46,15 +58,21 @@ fn map(cpu: &mut Cpu, x: Mapping) -> Result<Ruled, NoMemory>
     }
 }
 
-fn drop_page(cpu: &mut Cpu, vpage: u64) {
+fn drop_page(cpu: &mut Cpu, vpage: u64)
+    ensures { cpu.new ≡ drop_page vpage cpu.old }
+{
     cpu.entries.retain(|e| e.vpage != vpage);
 }
 
-fn reload_cr3(cpu: &mut Cpu) {
+fn reload_cr3(cpu: &mut Cpu)
+    ensures { cpu.new ≡ reload_cr3 cpu.old }
+{
     cpu.entries.retain(|e| e.global);
 }
 
-fn set_pge(cpu: &mut Cpu, on: bool) {
+fn set_pge(cpu: &mut Cpu, on: bool)
+    ensures { cpu.new ≡ set_page_global on cpu.old }
+{
     if on != cpu.pge {
         cpu.pge = on;
         cpu.entries.clear();
@@ -69,7 +87,9 @@ pub(crate) fn control(
     k: usize,
     c: Control,
 ) -> Result<Ruled, NoMemory>
-    requires { k < length cpus.old }
+    requires processor { k < length cpus.old }
+    requires index { HasIndex c }
+    ensures { IfOk result (λ r. (p : Processor) → slice_get cpus.old k ≡ Some p → ruled r (system cpus.new (memory layout.now words.new)) ≡ control_at (system cpus.old (memory layout.now words.old)) k p c) }
 {
     match c {
         Control::Map(x) => return map(&mut cpus[k], x),
@@ -93,6 +113,8 @@ pub(crate) fn control(
     Ok(Ruled::Okay)
 }
 
-fn set_cd(cpu: &mut Cpu, on: bool) {
+fn set_cd(cpu: &mut Cpu, on: bool)
+    ensures { cpu.new ≡ record cpu.old { cache_disabled = on } }
+{
     cpu.cd = on;
 }

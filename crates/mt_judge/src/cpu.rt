@@ -1,7 +1,5 @@
-ghost use Rattle.std.specs.Prelude.{◌≡◌, ◌<◌, [], IfOk, IsTrue};
-ghost use Rattle.std.specs.List.{All};
-ghost use Rattle.mt_regs.specs.RegisterFile.{RegisterFile};
-ghost use Rattle.mt_machine.specs.System.{Processor, start_processor};
+ghost use Rattle.std.specs.Prelude.{◌≡◌, ◌<◌, IfOk};
+ghost use Rattle.mt_machine.specs.System.{start_processor};
 ghost use Rattle.mt_machine.specs.Access.{new_entry};
 
 use mt_cache::CacheLine;
@@ -94,6 +92,27 @@ impl Cpu {
             era: self.era,
             self_snoop: self.self_snoop,
         })
+    }
+
+    /// The lines of the cache, oldest first.
+    pub fn lines(&self) -> &[CacheLine]
+        ensures { result.now ≡ self.now.lines }
+    {
+        self.lines.as_slice()
+    }
+
+    /// The write-combining buffers, oldest first.
+    pub fn buffers(&self) -> &[CacheLine]
+        ensures { result.now ≡ self.now.buffers }
+    {
+        self.buffers.as_slice()
+    }
+
+    /// Whether CR0.CD is set.
+    pub fn cd(&self) -> bool
+        ensures { result ≡ self.now.cache_disabled }
+    {
+        self.cd
     }
 
     // The entry that a mapping makes.

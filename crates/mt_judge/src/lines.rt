@@ -1,24 +1,26 @@
-ghost use Rattle.std.specs.Prelude.{◌≡◌, ◌<◌, [], ◌∷◌, ◌++◌, slice_get, Some, OnOk};
-ghost use Rattle.std.specs.List.{find};
-ghost use Rattle.mt_cache.specs.declared.line.CacheLine.{CacheLine};
-ghost use Rattle.mt_kinds.specs.Bits.{is_bit_set};
+ghost use Rattle.std.specs.Prelude.{◌≡◌, ◌<◌, [], ◌∷◌, ◌++◌, IfSome, OnOk, is_some, if◌then◌else◌};
+ghost use Rattle.std.specs.List.{position};
 ghost use Rattle.mt_cache.specs.Calls.{write_word};
-ghost use Rattle.mt_cache.specs.Lines.{change_line, clean_line, clean_word, combined_with, eight, find_line, first_dirty_line, oldest_of_full, without_line, write_dirty};
+ghost use Rattle.mt_cache.specs.Lines.{change_line, clean_line, clean_word, clear_bit, combined_with, find_line, first_dirty_line, first_dirty_word, has_number, oldest_of_full, without_line};
 
 use mt_cache::CacheLine;
 use mt_kinds::is_bit_set;
 use mt_ports::NoMemory;
 
+fn place_of(lines: &[CacheLine], number: u64) -> Option<usize>
+    ensures { result ≡ position (has_number number) lines.now }
+{
+    lines.iter().position(|l| l.number == number)
+}
+
 /// The line of this number.
 pub(crate) fn find_line(lines: &[CacheLine], number: u64) -> Option<CacheLine>
     ensures { result ≡ find_line number lines.now }
 {
-    for line in lines {
-        if line.number == number {
-            return Some(*line);
-        }
+    match place_of(lines, number) {
+        Some(i) => Some(lines[i]),
+        None => None,
     }
-    None
 }
 
 /// The oldest line of a list of so many.
@@ -31,14 +33,20 @@ pub(crate) fn oldest_of_full(lines: &[CacheLine], size: usize) -> Option<CacheLi
     }
 }
 
+fn clean_if(line: &mut CacheLine, number: u64)
+    ensures { line.new ≡ (if has_number number line.old then clean_line line.old else line.old) }
+{
+    if line.number == number {
+        line.dirty = 0;
+    }
+}
+
 /// Marks the line of this number clean.
 pub(crate) fn clean_line(lines: &mut [CacheLine], number: u64)
     ensures { lines.new ≡ change_line number clean_line lines.old }
 {
     for i in 0..lines.len() {
-        if lines[i].number == number {
-            lines[i].dirty = 0;
-        }
+        clean_if(&mut lines[i], number);
     }
 }
 
@@ -49,15 +57,22 @@ fn clean_bit(dirty: u8, word: u8) -> u8
     dirty & (255 - (1 << word))
 }
 
+fn clean_word_if(line: &mut CacheLine, number: u64, word: u8)
+    requires { word < 8 }
+    ensures { line.new ≡ (if has_number number line.old then clean_word word line.old else line.old) }
+{
+    if line.number == number {
+        line.dirty = clean_bit(line.dirty, word);
+    }
+}
+
 /// Marks a word of the line of this number clean.
 pub(crate) fn clean_word(lines: &mut [CacheLine], number: u64, word: u8)
     requires { word < 8 }
     ensures { lines.new ≡ change_line number (clean_word word) lines.old }
 {
     for i in 0..lines.len() {
-        if lines[i].number == number {
-            lines[i].dirty = clean_bit(lines[i].dirty, word);
-        }
+        clean_word_if(&mut lines[i], number, word);
     }
 }
 
@@ -66,11 +81,20 @@ fn put(line: &mut CacheLine, word: u8, v: u64, dirty: bool)
     ensures { line.new ≡ write_word word v dirty line.old }
 {
     line.words[word as usize] = v;
-    line.dirty = if dirty {
-        line.dirty | (1 << word)
+    if dirty {
+        line.dirty |= 1 << word;
     } else {
-        clean_bit(line.dirty, word)
-    };
+        line.dirty = clean_bit(line.dirty, word);
+    }
+}
+
+fn put_if(line: &mut CacheLine, number: u64, word: u8, v: u64, dirty: bool)
+    requires { word < 8 }
+    ensures { line.new ≡ (if has_number number line.old then write_word word v dirty line.old else line.old) }
+{
+    if line.number == number {
+        put(line, word, v, dirty);
+    }
 }
 
 /// Writes a word of the line of this number.
@@ -79,9 +103,7 @@ pub(crate) fn write_word(lines: &mut [CacheLine], number: u64, word: u8, v: u64,
     ensures { lines.new ≡ change_line number (write_word word v dirty) lines.old }
 {
     for i in 0..lines.len() {
-        if lines[i].number == number {
-            put(&mut lines[i], word, v, dirty);
-        }
+        put_if(&mut lines[i], number, word, v, dirty);
     }
 }
 
@@ -128,25 +150,30 @@ pub(crate) fn combine(
 }
 
 /// The first dirty word of a line.
-pub(crate) fn first_dirty_word(dirty: u8) -> Option<u8>
-    ensures { result ≡ find (is_bit_set dirty) eight }
+pub(crate) fn first_dirty_word(line: &CacheLine) -> Option<u8>
+    ensures word { result ≡ first_dirty_word line.now }
+    ensures small { IfSome result (λ word. word < 8) }
 {
     for word in 0..8 {
-        if is_bit_set(dirty as u64, word) {
+        if is_bit_set(line.dirty as u64, word) {
             return Some(word);
         }
     }
     None
 }
 
+fn first_place(lines: &[CacheLine]) -> Option<usize>
+    ensures { result ≡ position (λ l. is_some (first_dirty_word l)) lines.now }
+{
+    lines.iter().position(|l| first_dirty_word(l).is_some())
+}
+
 /// The first line with a dirty word.
 pub(crate) fn first_dirty_line(lines: &[CacheLine]) -> Option<CacheLine>
     ensures { result ≡ first_dirty_line lines.now }
 {
-    for line in lines {
-        if first_dirty_word(line.dirty).is_some() {
-            return Some(*line);
-        }
+    match first_place(lines) {
+        Some(i) => Some(lines[i]),
+        None => None,
     }
-    None
 }

@@ -1,8 +1,10 @@
+ghost use Rattle.std.specs.Prelude.{◌<◌};
+
 use crate::case::{Reason, Trouble};
 use crate::step::Step;
 use crate::words::{address, bad, count, is, shape, switch, value};
 use mt_kinds::WORD_BYTES;
-use mt_machine::{Control, Op};
+use mt_machine::Op;
 use mt_text::Words;
 
 /// Barriers are numbered from 0 to 7.
@@ -81,7 +83,7 @@ pub(crate) fn instruction(words: &Words<'_>, first: usize) -> Result<Step, Troub
         Ok(Step::Access(Op::Store(va, value(words, first + 1)?)))
     } else if is(word, "invlpg") {
         shape(words, first + 1)?;
-        Ok(Step::Control(Control::Invlpg(address(words, first, 1, VIRTUAL_END)?)))
+        Ok(Step::Invlpg(address(words, first, 1, VIRTUAL_END)?))
     } else {
         switching(words, first)
     }
@@ -93,16 +95,16 @@ fn switching(words: &Words<'_>, first: usize) -> Result<Step, Trouble>
     let word = words.text(0);
     if is(word, "pge") {
         shape(words, first + 1)?;
-        Ok(Step::Control(Control::Pge(switch(words, first)?)))
+        Ok(Step::Pge(switch(words, first)?))
     } else if is(word, "cd") {
         shape(words, first + 1)?;
-        Ok(Step::Control(Control::Cd(switch(words, first)?)))
+        Ok(Step::Cd(switch(words, first)?))
     } else if is(word, "fence") {
         shape(words, first)?;
         Ok(Step::Access(Op::Fence))
     } else if is(word, "cr3") {
         shape(words, first)?;
-        Ok(Step::Control(Control::Cr3))
+        Ok(Step::ReloadCr3)
     } else {
         bad(words.place(0), Reason::BadLine)
     }

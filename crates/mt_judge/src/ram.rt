@@ -1,4 +1,5 @@
-ghost use Rattle.std.specs.Prelude.{◌≡◌, ◌<◌, ◌^◌};
+ghost use Rattle.std.specs.Prelude.{◌≡◌, ◌<◌, ◌^◌, slice_index, if◌then◌else◌};
+ghost use Rattle.mt_cache.specs.Lines.{has_number};
 ghost use Rattle.mt_machine.specs.Memory.{line_words, put_word, word_address, word_at, write_back, write_back_of, write_back_word};
 ghost use Rattle.mt_judge.specs.Parts.{memory};
 
@@ -36,8 +37,8 @@ pub(crate) fn write(layout: &Ram, words: &mut [u64], address: u64, v: u64)
     }
 }
 
-// The address of a word of a line.
-fn word_address(number: u64, word: u8) -> u64
+/// The address of a word of a line.
+pub(crate) fn word_address(number: u64, word: u8) -> u64
     requires line { number < 2 ^ 46 }
     requires word { word < 8 }
     ensures { result ≡ word_address number word }
@@ -97,13 +98,19 @@ pub(crate) fn write_back(layout: &Ram, words: &mut [u64], line: &CacheLine)
     }
 }
 
+fn write_back_if(layout: &Ram, words: &mut [u64], line: &CacheLine, number: u64)
+    ensures { memory layout.now words.new ≡ (if has_number number line.now then write_back (memory layout.now words.old) line.now else memory layout.now words.old) }
+{
+    if line.number == number {
+        write_back(layout, words, line);
+    }
+}
+
 /// Writes the dirty words of each line of this number to memory.
 pub(crate) fn write_back_of(layout: &Ram, words: &mut [u64], lines: &[CacheLine], number: u64)
     ensures { memory layout.now words.new ≡ write_back_of number (memory layout.now words.old) lines.now }
 {
     for line in lines {
-        if line.number == number {
-            write_back(layout, words, line);
-        }
+        write_back_if(layout, words, line, number);
     }
 }

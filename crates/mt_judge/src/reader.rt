@@ -1,14 +1,15 @@
-use crate::accesses::access;
+ghost use Rattle.std.specs.Prelude.{◌≤◌, length};
+
 use crate::case::{Ask, Input, Reason, Trouble};
-use crate::controls::control;
+use crate::controls::map;
 use crate::cpu::{Cpu, copied};
 use crate::listing::{BARRIERS, VIRTUAL_END, instruction, step_of};
-use crate::moves::{Case, Procedure, State};
+use crate::moves::{Case, Procedure, State, aside};
 use crate::step::{Place as ListPlace, Step};
 use crate::words::{address, bad, count, count_in, is, is_end, shape, value};
 use mt_dump::{Dump, read_dump};
 use mt_kinds::{LINE_BYTES, MOST_LINES, PAGE_BYTES};
-use mt_machine::{Control, Ruled};
+use mt_machine::Ruled;
 use mt_ports::NoMemory;
 use mt_ram::{Ram, RamFault};
 use mt_regs::{RegFile, first_refusal};
@@ -27,7 +28,7 @@ const MOST_STATES: u64 = 1 << 21;
 enum Section {
     Outside,
     Goal { given: Vec<u32> },
-    List { cpus: Vec<u32>, steps: Vec<Step> },
+    List { cpus: Vec<usize>, steps: Vec<Step> },
 }
 
 /// Reads the lines behind the dump.
@@ -133,41 +134,26 @@ impl Reader {
             index,
             global,
         };
-        match self.control(k, Control::Map(mapping))? {
-            Ruled::Okay => Ok(()),
-            Ruled::Full | Ruled::Busy => bad(words.place(2), Reason::OutOfRange),
+        match self.start.cpus.get_mut(k) {
+            Some(cpu) => match map(cpu, mapping)? {
+                Ruled::Okay => Ok(()),
+                Ruled::Full | Ruled::Busy => bad(words.place(2), Reason::OutOfRange),
+            },
+            None => bad(words.place(1), Reason::OutOfRange),
         }
-    }
-
-    fn control(&mut self, k: usize, c: Control) -> Result<Ruled, Trouble> {
-        Ok(control(
-            &self.case.layout,
-            self.start.cpus.as_mut_slice(),
-            self.start.words.as_mut_slice(),
-            k,
-            c,
-        )?)
     }
 
     // An access or a control instruction before the procedures begin.
     fn before(&mut self, words: &Words<'_>) -> Result<(), Trouble> {
         let step = instruction(words, 2)?;
         let k = self.cpu(words, 1)?;
-        match step {
-            Step::Access(op) => {
-                access(
-                    &self.case.layout,
-                    self.start.cpus.as_mut_slice(),
-                    self.start.words.as_mut_slice(),
-                    k,
-                    op,
-                )?;
-            }
-            Step::Control(c) => {
-                self.control(k, c)?;
-            }
-            _ => {}
-        }
+        aside(
+            &self.case.layout,
+            self.start.cpus.as_mut_slice(),
+            self.start.words.as_mut_slice(),
+            k,
+            step,
+        )?;
         Ok(())
     }
 
@@ -199,7 +185,7 @@ impl Reader {
         let mut cpus = Vec::new(self.alloc);
         for i in 1..words.count() {
             let k = self.cpu(words, i)?;
-            push(&mut cpus, k as u32)?;
+            push(&mut cpus, k)?;
         }
         self.section = Section::List {
             cpus,
@@ -217,7 +203,7 @@ impl Reader {
             let next = if is(word.text, "turns") {
                 None
             } else {
-                Some(count_in(word.text, word.place, 0, self.cpus().saturating_sub(1))? as u32)
+                Some(count_in(word.text, word.place, 0, self.cpus().saturating_sub(1))? as usize)
             };
             push(&mut order, next)?;
         }
@@ -291,7 +277,7 @@ impl Reader {
     fn end_list(&mut self) -> Result<(), Trouble> {
         if let Section::List { cpus, steps } = &self.section {
             for k in cpus.as_slice() {
-                if let Some(list) = self.case.lists.get_mut(*k as usize) {
+                if let Some(list) = self.case.lists.get_mut(*k) {
                     list.steps = copied(self.alloc, steps.as_slice())?;
                 }
             }

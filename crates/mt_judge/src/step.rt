@@ -1,4 +1,4 @@
-use mt_machine::{Control, Op};
+use mt_machine::Op;
 
 /// A step of a list.
 #[derive(Clone, Copy, Debug, PartialEq, Eq)]
@@ -32,14 +32,19 @@ pub enum Step {
     /// The processor goes on: its interrupts are on.
     GoOn,
     Access(Op),
-    Control(Control),
+    /// The TLB entry of a virtual address's page is dropped.
+    Invlpg(u64),
+    /// CR4.PGE is set or cleared.
+    Pge(bool),
+    /// CR0.CD is set or cleared, with the write-combining buffers emptied first.
+    Cd(bool),
 }
 
 /// Where a processor is in its list.
 #[derive(Clone, Copy, Debug, PartialEq, Eq)]
 pub struct Place {
     /// The number of steps that are done.
-    pub step: u32,
+    pub step: usize,
     /// The number of registers that `WriteRegisters` has written.
-    pub part: u32,
+    pub part: u8,
 }

@@ -1,6 +1,16 @@
+ghost use Rattle.std.specs.Prelude.{◌≡◌, ◌<◌, ◌+◌, ◌-◌, ◌^◌, ℕ, if◌then◌else◌};
+ghost use Rattle.std.specs.List.{All};
+ghost use Rattle.mt_kinds.specs.Bits.{is_bit_set};
+ghost use Rattle.mt_regs.specs.RegisterFile.{RegisterFile};
+ghost use Rattle.mt_machine.specs.Control.{reload_cr3};
+ghost use Rattle.mt_machine.specs.Machine.{FitsGoal, after_drop, after_flush, flush_tlb, own_step, write_back_event, write_back_or_drop};
+ghost use Rattle.mt_judge.specs.Steps.{arrival, clearing, event_of, passage, reloading};
+
 use crate::cpu::Cpu;
 use crate::lines;
+use crate::ram::word_address;
 use crate::step::Step;
+use mt_cache::CacheLine;
 use mt_kinds::{LINE_BYTES, WORD_BYTES, is_bit_set};
 use mt_machine::{Event, Phase};
 use mt_regs::{RegFile, Register};
@@ -8,22 +18,34 @@ use mt_regs::{RegFile, Register};
 // The bit E of the default-type register.
 const ENABLE: u8 = 11;
 
+fn write_back_event(line: &CacheLine) -> Event
+    requires { line.now.number < 2 ^ 46 }
+    ensures { result ≡ write_back_event line.now }
+{
+    match lines::first_dirty_word(line) {
+        Some(word) => Event::WriteBack {
+            address: word_address(line.number, word),
+            value: line.words[word as usize],
+        },
+        None => Event::DropLines,
+    }
+}
+
 /// The write-back of the first dirty word, or the invalidation of all lines if no word is dirty.
-pub(crate) fn write_back_or_drop(cpu: &Cpu) -> Event {
-    let Some(line) = lines::first_dirty_line(cpu.lines.as_slice()) else {
-        return Event::DropLines;
-    };
-    let Some(word) = lines::first_dirty_word(line.dirty) else {
-        return Event::DropLines;
-    };
-    Event::WriteBack {
-        address: line.number.wrapping_mul(LINE_BYTES).wrapping_add(WORD_BYTES * word as u64),
-        value: line.words[word as usize],
+pub(crate) fn write_back_or_drop(cpu: &Cpu) -> Event
+    requires { All (λ l. l.number < 2 ^ 46) cpu.now.lines }
+    ensures { result ≡ write_back_or_drop cpu.now }
+{
+    match lines::first_dirty_line(cpu.lines.as_slice()) {
+        Some(line) => write_back_event(&line),
+        None => Event::DropLines,
     }
 }
 
 // The event of an arrival at a barrier.
-fn arrival(phase: Phase) -> Option<Event> {
+fn arrival(phase: Phase) -> Option<Event>
+    ensures { result ≡ arrival phase }
+{
     match phase {
         Phase::Taken => Some(Event::Arrive),
         Phase::Restored => Some(Event::ArriveAgain),
@@ -32,7 +54,9 @@ fn arrival(phase: Phase) -> Option<Event> {
 }
 
 // The event of a passage of a barrier.
-fn passage(phase: Phase) -> Option<Event> {
+fn passage(phase: Phase) -> Option<Event>
+    ensures { result ≡ passage phase }
+{
     match phase {
         Phase::Arrived => Some(Event::Pass),
         _ => None,
@@ -40,7 +64,9 @@ fn passage(phase: Phase) -> Option<Event> {
 }
 
 // PGE is cleared in the first flush of the TLB, and isn't set in the second.
-fn clearing(phase: Phase) -> Option<Event> {
+fn clearing(phase: Phase) -> Option<Event>
+    ensures { result ≡ clearing phase }
+{
     match phase {
         Phase::Flushed2 => None,
         _ => Some(Event::FlushTlb),
@@ -48,7 +74,9 @@ fn clearing(phase: Phase) -> Option<Event> {
 }
 
 // A reload of CR3 is the second flush of the TLB, and with PGE clear the first.
-fn reloading(cpu: &Cpu) -> Option<Event> {
+fn reloading(cpu: &Cpu) -> Option<Event>
+    ensures { result ≡ reloading cpu.now.phase cpu.now.page_global }
+{
     match cpu.phase {
         Phase::Flushed2 => Some(Event::FlushTlb),
         Phase::NoFill | Phase::Flushed if !cpu.pge => Some(Event::FlushTlb),
@@ -57,7 +85,10 @@ fn reloading(cpu: &Cpu) -> Option<Event> {
 }
 
 /// The event of the machine that a step of a processor is, if it is one. `part` is the number of registers that are written.
-pub(crate) fn event_of(step: Step, part: u32, cpu: &Cpu) -> Option<Event> {
+pub(crate) fn event_of(step: Step, part: u32, cpu: &Cpu) -> Option<Event>
+    requires { All (λ l. l.number < 2 ^ 46) cpu.now.lines }
+    ensures { result ≡ event_of step part cpu.now }
+{
     match step {
         Step::Interrupt => Some(Event::Take),
         Step::ArriveAt(_) => arrival(cpu.phase),
@@ -73,30 +104,38 @@ pub(crate) fn event_of(step: Step, part: u32, cpu: &Cpu) -> Option<Event> {
         Step::ClearCd => Some(Event::SetNormal),
         Step::ReturnPge => Some(Event::RestorePge),
         Step::GoOn => Some(Event::Release),
-        Step::Access(_) | Step::Control(_) => None,
+        Step::Access(_) | Step::Invlpg(_) | Step::Pge(_) | Step::Cd(_) => None,
     }
 }
 
-fn after_drop(phase: Phase) -> Phase {
+fn after_drop(phase: Phase) -> Phase
+    ensures { result ≡ after_drop phase }
+{
     match phase {
         Phase::Enabled => Phase::Flushed2,
         _ => Phase::Flushed,
     }
 }
 
-fn after_flush(phase: Phase) -> Phase {
+fn after_flush(phase: Phase) -> Phase
+    ensures { result ≡ after_flush phase }
+{
     match phase {
         Phase::Flushed2 => Phase::TlbFlushed2,
         _ => Phase::TlbFlushed,
     }
 }
 
-fn drop_local(cpu: &mut Cpu) {
+fn drop_local(cpu: &mut Cpu)
+    ensures { cpu.new ≡ reload_cr3 cpu.old }
+{
     cpu.entries.retain(|e| e.global);
 }
 
 /// PGE is remembered, and cleared if it is set, which drops all entries. If it is clear, CR3 is reloaded.
-pub(crate) fn clear_pge(cpu: &mut Cpu) {
+pub(crate) fn clear_pge(cpu: &mut Cpu)
+    ensures { cpu.new ≡ flush_tlb Phase.Flushed cpu.old }
+{
     if cpu.pge {
         cpu.had_pge = true;
         cpu.pge = false;
@@ -107,7 +146,9 @@ pub(crate) fn clear_pge(cpu: &mut Cpu) {
     }
 }
 
-fn flush_tlb(cpu: &mut Cpu) {
+fn flush_tlb(cpu: &mut Cpu)
+    ensures { cpu.new ≡ record (flush_tlb cpu.old.phase cpu.old) { phase = after_flush cpu.old.phase } }
+{
     match cpu.phase {
         Phase::Flushed2 => drop_local(cpu),
         _ => clear_pge(cpu),
@@ -125,14 +166,22 @@ fn without_enable(deftype: u64) -> u64
     }
 }
 
-fn disable(cpu: &mut Cpu) {
+fn disable(cpu: &mut Cpu)
+    ensures { (goal : RegisterFile) → cpu.new ≡ own_step goal Event.Disable cpu.old }
+{
     let deftype = without_enable(cpu.regs.deftype);
     cpu.regs.put(Register::DefaultType, deftype);
     cpu.phase = Phase::Writing(0);
 }
 
 // The register at a place of the goal gets the goal's value.
-fn write_register(cpu: &mut Cpu, goal: &RegFile, i: u32) {
+fn write_register(cpu: &mut Cpu, goal: &RegFile, i: u32)
+    requires fits { FitsGoal goal.now cpu.old }
+    requires small { i + 1 < 2 ^ 32 }
+    ensures { cpu.new ≡ own_step goal.now (Event.Write i) cpu.old }
+{
+    goal.is_register_file(); // a fact for the proof
+    cpu.regs.is_register_file(); // a fact for the proof
     let register = match goal.register_at(i) {
         Some(register) => register,
         None => Register::DefaultType,
@@ -141,13 +190,20 @@ fn write_register(cpu: &mut Cpu, goal: &RegFile, i: u32) {
     cpu.phase = Phase::Writing(i + 1);
 }
 
-fn enable(cpu: &mut Cpu, goal: &RegFile) {
+fn enable(cpu: &mut Cpu, goal: &RegFile)
+    ensures { cpu.new ≡ own_step goal.now Event.Enable cpu.old }
+{
     cpu.regs.put(Register::DefaultType, goal.deftype);
     cpu.phase = Phase::Enabled;
 }
 
 /// The processor's own part of an event.
-pub(crate) fn own_step(cpu: &mut Cpu, goal: &RegFile, e: Event) {
+pub(crate) fn own_step(cpu: &mut Cpu, goal: &RegFile, e: Event)
+    requires fits { FitsGoal goal.now cpu.old }
+    requires small { (i : ℕ) → e ≡ Event.Write i → i + 1 < 2 ^ 32 }
+    requires room { cpu.old.era < 2 ^ 64 - 1 }
+    ensures { cpu.new ≡ own_step goal.now e cpu.old }
+{
     match e {
         Event::Take => cpu.phase = Phase::Taken,
         Event::Arrive => cpu.phase = Phase::Arrived,

@@ -3,7 +3,7 @@ use crate::moves::{Case, Move, Outcome, State};
 use crate::step::Step;
 use crate::wrong::{Fault, Wrong};
 use mt_kinds::{LINE_BYTES, PAGE_BYTES};
-use mt_machine::{Control, Done, Event, Op, Phase, Ruled};
+use mt_machine::{Done, Event, Op, Phase};
 use mt_regs::RegFile;
 use std::alloc::AllocError;
 use std::fmt::Write;
@@ -26,7 +26,9 @@ fn tell_step(text: &mut String, step: Step) -> Result<(), AllocError> {
         Step::ReturnPge => text.push_str("restore-pge"),
         Step::GoOn => text.push_str("release"),
         Step::Access(op) => tell_access(text, op),
-        Step::Control(c) => tell_control(text, c),
+        Step::Invlpg(va) => write!(text, "invlpg {va:x}"),
+        Step::Pge(on) => text.push_str(if on { "pge on" } else { "pge off" }),
+        Step::Cd(on) => text.push_str(if on { "cd on" } else { "cd off" }),
     }
 }
 
@@ -35,26 +37,6 @@ fn tell_access(text: &mut String, op: Op) -> Result<(), AllocError> {
         Op::Load(va) => write!(text, "load {va:x}"),
         Op::Store(va, v) => write!(text, "store {va:x} {v:x}"),
         Op::Fence => text.push_str("fence"),
-    }
-}
-
-fn switch(on: bool) -> &'static str {
-    if on { "on" } else { "off" }
-}
-
-fn tell_control(text: &mut String, c: Control) -> Result<(), AllocError> {
-    match c {
-        Control::Map(m) => write!(text, "map {:x}", m.vpage),
-        Control::Invlpg(va) => write!(text, "invlpg {va:x}"),
-        Control::Cr3 => text.push_str("cr3"),
-        Control::Pge(on) => {
-            let word = switch(on);
-            write!(text, "pge {word}")
-        }
-        Control::Cd(on) => {
-            let word = switch(on);
-            write!(text, "cd {word}")
-        }
     }
 }
 
@@ -79,9 +61,6 @@ fn tell_outcome(text: &mut String, outcome: Outcome) -> Result<(), AllocError> {
     match outcome {
         Outcome::Nothing => Ok(()),
         Outcome::Accessed(done) => tell_done(text, done),
-        Outcome::Ruled(Ruled::Full) => text.push_str(" full"),
-        Outcome::Ruled(Ruled::Busy) => text.push_str(" busy"),
-        Outcome::Ruled(Ruled::Okay) => Ok(()),
     }
 }
 
@@ -139,7 +118,7 @@ pub(crate) fn tell_undue(text: &mut String, before: &State, m: &Move) -> Result<
             let word = event_word(event);
             write!(text, "  not due: the manual has {word} here\n")
         }
-        None => match before.cpus.get(m.cpu as usize) {
+        None => match before.cpus.get(m.cpu) {
             Some(cpu) if cpu.phase == Phase::Arrived => {
                 let count = arrived(cpus);
                 write!(text, "  not due: {count} of {of} have arrived at the first barrier\n")
@@ -205,9 +184,9 @@ pub(crate) fn tell_pause(
     text: &mut String,
     case: &Case,
     state: &State,
-    k: u32,
+    k: usize,
 ) -> Result<(), AllocError> {
-    match case.step_at(state, k as usize) {
+    match case.step_at(state, k) {
         Some(step) => {
             write!(text, "{k} waits: ")?;
             tell_step(text, step)?;

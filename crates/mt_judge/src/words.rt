@@ -1,3 +1,5 @@
+ghost use Rattle.std.specs.Prelude.{◌<◌, ◌≤◌, IfOk};
+
 use crate::case::{Reason, Trouble};
 use mt_text::{Line, NumberFault, Place, Words, decimal, hex64};
 
