@@ -2,10 +2,10 @@ ghost use Rattle.std.specs.Prelude.{◌≡◌, ◌<◌, ◌+◌, ◌-◌, ◌^�
 ghost use Rattle.std.specs.List.{All};
 ghost use Rattle.mt_kinds.specs.Bits.{is_bit_set};
 ghost use Rattle.mt_regs.specs.RegisterFile.{RegisterFile};
-ghost use Rattle.mt_machine.specs.Control.{reload_cr3};
 ghost use Rattle.mt_machine.specs.Machine.{FitsGoal, after_drop, after_flush, flush_tlb, own_step, write_back_event, write_back_or_drop};
 ghost use Rattle.mt_judge.specs.Steps.{arrival, clearing, event_of, passage, reloading};
 
+use crate::controls::reload_cr3;
 use crate::cpu::Cpu;
 use crate::lines;
 use crate::ram::word_address;
@@ -126,12 +126,6 @@ fn after_flush(phase: Phase) -> Phase
     }
 }
 
-fn drop_local(cpu: &mut Cpu)
-    ensures { cpu.new ≡ reload_cr3 cpu.old }
-{
-    cpu.entries.retain(|e| e.global);
-}
-
 /// PGE is remembered, and cleared if it is set, which drops all entries. If it is clear, CR3 is reloaded.
 pub(crate) fn clear_pge(cpu: &mut Cpu)
     ensures { cpu.new ≡ flush_tlb Phase.Flushed cpu.old }
@@ -141,7 +135,7 @@ pub(crate) fn clear_pge(cpu: &mut Cpu)
         cpu.pge = false;
         cpu.entries.clear();
     } else {
-        drop_local(cpu);
+        reload_cr3(cpu);
         cpu.had_pge = false;
     }
 }
@@ -150,7 +144,7 @@ fn flush_tlb(cpu: &mut Cpu)
     ensures { cpu.new ≡ record (flush_tlb cpu.old.phase cpu.old) { phase = after_flush cpu.old.phase } }
 {
     match cpu.phase {
-        Phase::Flushed2 => drop_local(cpu),
+        Phase::Flushed2 => reload_cr3(cpu),
         _ => clear_pge(cpu),
     }
     cpu.phase = after_flush(cpu.phase);
