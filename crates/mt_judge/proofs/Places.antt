@@ -1,8 +1,8 @@
 -- No word lies at or above the end of the physical addresses; the words of a line in turn; the items that a search finds.
-use Rattle.std.proofs.Common.{◌≡◌, ◌∙◌, ap, sym, refl, arith, ℕ, zero, suc, ◌<◌, ◌≤◌, ◌+◌, ◌-◌, ◌*◌, ◌/◌, ◌%◌, ◌^◌, ◌==◌, ◌&&◌, nat_le, nat_lt, Bool, true, false, if◌then◌else◌, List, [], ◌∷◌, drop, Option, Some, None}
+use Rattle.std.proofs.Common.{◌≡◌, ◌∙◌, ap, sym, refl, arith, ℕ, zero, suc, ◌<◌, ◌≤◌, ◌+◌, ◌-◌, ◌*◌, ◌/◌, ◌%◌, ◌^◌, ◌==◌, ◌&&◌, nat_le, nat_lt, Bool, true, false, if◌then◌else◌, List, [], ◌∷◌, ◌++◌, map, drop, Option, Some, None}
 use Rattle.std.specs.Prelude.{slice_index, slice_get, slice_set}
 use Rattle.std.specs.Option.{option_map_or}
-use Rattle.std.specs.List.{All, filter, fold, find, position}
+use Rattle.std.specs.List.{All, filter, fold, find, list_all, position}
 use Rattle.std.proofs.lemmas.Bool.{ltb-true}
 use Rattle.std.proofs.lemmas.List.Elements.{All-head, All-tail}
 use Rattle.mt_lists.proofs.Keys.{at_position}
@@ -87,3 +87,31 @@ written_here n m l ls rest is = one (has_number n l) refl ∙ ap (λ xs. fold wr
     one : (b : Bool) → has_number n l ≡ b → fold write_back (if b then write_back m l else m) (filter (has_number n) ls) ≡ fold write_back m (if b then l ∷ filter (has_number n) ls else filter (has_number n) ls)
     one true e = refl
     one false e = refl
+
+-- ---- an address above the end of the physical addresses
+
+pub nowhere : (m : Memory) (address : ℕ) → IsMemory m → 2 ^ 52 ≤ address → place m address ≡ None
+nowhere m address h high = one (address % 8 == 0)
+  where
+    one : (b : Bool) → (if b then place_in m.windows 0 address else None) ≡ None
+    one true = none_above m.windows 0 address h.bounded high
+    one false = refl
+
+-- ---- a test of all items
+
+pub all_replaced : {X : Type 0} (within test : X → Bool) (x : X) (xs : List X) → within x ≡ true → list_all within xs ≡ true → list_all within (map (λ y. if test y then x else y) xs) ≡ true
+all_replaced within test x [] own all = refl
+all_replaced within test x (y ∷ ys) own all = one (within y) (test y) refl all
+  where
+    one : (b t : Bool) → within y ≡ b → (b && list_all within ys) ≡ true → (within (if t then x else y) && list_all within (map (λ z. if test z then x else z) ys)) ≡ true
+    one true true is rest = ap (λ b. b && list_all within (map (λ z. if test z then x else z) ys)) own ∙ all_replaced within test x ys own rest
+    one true false is rest = ap (λ b. b && list_all within (map (λ z. if test z then x else z) ys)) is ∙ all_replaced within test x ys own rest
+    one false t is rest = absurd (cc)
+
+pub all_added : {X : Type 0} (within : X → Bool) (x : X) (xs : List X) → within x ≡ true → list_all within xs ≡ true → list_all within (xs ++ x ∷ []) ≡ true
+all_added within x [] own all = ap (λ b. b && true) own
+all_added within x (y ∷ ys) own all = one (within y) refl all
+  where
+    one : (b : Bool) → within y ≡ b → (b && list_all within ys) ≡ true → (within y && list_all within (ys ++ x ∷ [])) ≡ true
+    one true is rest = ap (λ b. b && list_all within (ys ++ x ∷ [])) is ∙ all_added within x ys own rest
+    one false is rest = absurd (cc)

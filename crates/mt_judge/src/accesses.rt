@@ -28,6 +28,9 @@ use mt_tlb::{Entry, Mapping};
 
 const MOST_ENTRIES: usize = 64;
 
+/// The pages below the end of the physical addresses.
+const PHYSICAL_PAGES: u64 = 1 << 40;
+
 fn entry_place(entries: &[Entry], vpage: u64) -> Option<usize>
     ensures { result ≡ position (has_page vpage) entries.now }
 {
@@ -156,12 +159,19 @@ fn load(
     Ok(v)
 }
 
+fn write_in(cpu: &mut Cpu, number: u64, word: u8, v: u64, dirty: bool)
+    requires { word < 8 }
+    ensures { cpu.new ≡ with_lines (change_line number (write_word word v dirty)) cpu.old }
+{
+    lines::write_word(cpu.lines.as_mut_slice(), number, word, v, dirty);
+}
+
 fn write_own(cpus: &mut [Cpu], k: usize, address: u64, v: u64, dirty: bool)
     requires { k < length cpus.old }
     ensures { cpus.new ≡ with_changed (with_lines (change_line (address / 64) (write_word (word_of address) v dirty))) k cpus.old }
 {
     let cpu = &mut cpus[k];
-    lines::write_word(cpu.lines.as_mut_slice(), address / LINE_BYTES, word_of(address), v, dirty);
+    write_in(cpu, address / LINE_BYTES, word_of(address), v, dirty);
 }
 
 fn first_of_store(layout: &Ram, cpus: &mut [Cpu], words: &mut [u64], k: usize, kind: MemType, number: u64)
@@ -289,9 +299,16 @@ fn translate_in(cpus: &mut [Cpu], k: usize, va: u64) -> Result<Option<Entry>, No
 fn physical(layout: &Ram, entry: &Entry, va: u64) -> Option<u64>
     ensures { result ≡ (if is_some (place layout.now (physical entry.now va)) then Some (physical entry.now va) else None) }
 {
-    let address = entry.ppage.checked_mul(PAGE_BYTES)?.checked_add(va % PAGE_BYTES)?;
-    layout.place(address)?;
-    Some(address)
+    if entry.ppage >= PHYSICAL_PAGES {
+        let _ = layout.words(); // a fact for the proof
+        return None;
+    }
+    let address = PAGE_BYTES * entry.ppage + va % PAGE_BYTES;
+    if layout.place(address).is_some() {
+        Some(address)
+    } else {
+        None
+    }
 }
 
 fn load_at(

@@ -28,8 +28,8 @@ pub struct Cpu {
 }
 
 impl Model for Cpu {
-    ghost use Rattle.std.specs.Prelude.{◌<◌};
-    ghost use Rattle.std.specs.List.{All};
+    ghost use Rattle.std.specs.Prelude.{◌≡◌, nat_lt, true};
+    ghost use Rattle.std.specs.List.{list_all};
     ghost use Rattle.mt_machine.specs.System.{Processor};
 
     ghost Value = { Processor };
@@ -48,7 +48,7 @@ impl Model for Cpu {
       self_snoop = c.self_snoop;
     } };
 
-    ghost invariant = { λ c. All (λ m. m.index < 8) c.maps.items };
+    ghost invariant = { λ c. list_all (λ m. nat_lt m.index 8) c.maps.items ≡ true };
 }
 
 impl Cpu {

