@@ -1,4 +1,4 @@
-# Completion of mtrr, mtrr-import, mtrr-map and mtrr-explain for bash.
+# Completion of mtrr, mtrr-import, mtrr-map, mtrr-explain and mtrr-judge for bash.
 
 _mtrr() {
     local word=${COMP_WORDS[COMP_CWORD]} place=$COMP_CWORD
@@ -81,4 +81,5 @@ _mtrr_explain() {
 complete -F _mtrr mtrr
 complete -F _mtrr_import mtrr-import
 complete -F _mtrr_map mtrr-map
+complete -W '--help --version' mtrr-judge
 complete -F _mtrr_explain mtrr-explain

@@ -1,0 +1,3 @@
+mod Emptying
+mod Others
+mod Places

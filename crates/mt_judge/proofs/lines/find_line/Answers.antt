@@ -1,0 +1,17 @@
+use Rattle.std.proofs.Common.{◌∙◌, sym}
+use Rattle.std.proofs.lemmas.Option.{slice_get-get_or}
+use Rattle.mt_lists.proofs.Keys.{at_position, no_position, position_within}
+use Rattle.mt_cache.specs.Lines.{has_number}
+use Rattle.mt_judge.proofs.lines.find_line.Goals as goal
+
+pub bounds-lines-i : goal.bounds-lines-i
+bounds-lines-i c = position_within (has_number c.args.number) c.args.lines.now c.in-Some.i (sym c.place_of.ensures ∙ c.in-Some.is)
+
+pub returns-in-Some : goal.returns-in-Some
+returns-in-Some c =
+    let at = sym c.place_of.ensures ∙ c.in-Some.is in
+    sym (slice_get-get_or c.args.lines.now c.in-Some.i _ (position_within (has_number c.args.number) c.args.lines.now c.in-Some.i at))
+    ∙ at_position (has_number c.args.number) c.args.lines.now c.in-Some.i at
+
+pub returns-in-None : goal.returns-in-None
+returns-in-None c = sym (no_position (has_number c.args.number) c.args.lines.now (sym c.place_of.ensures ∙ c.in-None.is))

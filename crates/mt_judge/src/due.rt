@@ -1,0 +1,121 @@
+ghost use Rattle.std.specs.Prelude.{◌≡◌, ◌<◌, ◌^◌, length, nat_lt, true, if◌then◌else◌, None, Some, slice_get};
+ghost use Rattle.std.specs.List.{list_all};
+ghost use Rattle.mt_machine.specs.System.{Processor};
+
+use crate::cpu::Cpu;
+use crate::steps::write_back_or_drop;
+use mt_machine::{Event, Phase};
+
+// Whether a processor has finished an update. Eras begin at 0.
+fn has_released(cpu: &Cpu) -> bool
+{
+    cpu.era > 0
+}
+
+fn has_passed(cpu: &Cpu) -> bool
+{
+    let changing = !matches!(
+        cpu.phase,
+        Phase::Running | Phase::Taken | Phase::Arrived | Phase::Arrived2
+    );
+    changing || cpu.phase == Phase::Arrived2 || has_released(cpu)
+}
+
+/// Whether a processor counts at the first barrier.
+fn has_arrived(cpu: &Cpu) -> bool
+{
+    cpu.phase == Phase::Arrived || has_passed(cpu)
+}
+
+/// Whether a processor counts at the second barrier.
+fn has_arrived_again(cpu: &Cpu) -> bool
+{
+    cpu.phase == Phase::Arrived2 || has_released(cpu)
+}
+
+/// How many have arrived at the first barrier.
+pub(crate) fn arrived(cpus: &[Cpu]) -> usize {
+    let mut count = 0usize;
+    for cpu in cpus {
+        if has_arrived(cpu) {
+            count = count.saturating_add(1);
+        }
+    }
+    count
+}
+
+/// How many have arrived at the second barrier.
+pub(crate) fn arrived_again(cpus: &[Cpu]) -> usize {
+    let mut count = 0usize;
+    for cpu in cpus {
+        if has_arrived_again(cpu) {
+            count = count.saturating_add(1);
+        }
+    }
+    count
+}
+
+fn have_arrived(cpus: &[Cpu]) -> bool
+{
+    cpus.iter().all(|cpu| has_arrived(cpu))
+}
+
+fn have_arrived_again(cpus: &[Cpu]) -> bool
+{
+    cpus.iter().all(|cpu| has_arrived_again(cpu))
+}
+
+fn first_flush(cpu: &Cpu) -> Event
+    requires { list_all (λ l. nat_lt l.number (2 ^ 46)) cpu.now.lines ≡ true }
+    ensures { result ≡ first_flush cpu.now }
+{
+    if cpu.self_snoop {
+        Event::FlushTlb
+    } else {
+        write_back_or_drop(cpu)
+    }
+}
+
+fn write_or_enable(cpu: &Cpu, i: u32) -> Event
+    ensures { result ≡ write_or_enable cpu.now i }
+{
+    if i as u64 + 1 < cpu.regs.count() as u64 {
+        Event::Write(i)
+    } else {
+        Event::Enable
+    }
+}
+
+fn when(test: bool, e: Event) -> Option<Event>
+    ensures { result ≡ (if test then Some e else None) }
+{
+    if test { Some(e) } else { None }
+}
+
+/// The event of a processor that the manual's procedure has due.
+pub(crate) fn due(cpus: &[Cpu], k: usize) -> Option<Event>
+    requires processor { k < length cpus.now }
+    requires numbers { (p : Processor) → slice_get cpus.now k ≡ Some p → list_all (λ l. nat_lt l.number (2 ^ 46)) p.lines ≡ true }
+{
+    due_of(cpus, &cpus[k])
+}
+
+fn due_of(cpus: &[Cpu], cpu: &Cpu) -> Option<Event>
+    requires { list_all (λ l. nat_lt l.number (2 ^ 46)) cpu.now.lines ≡ true }
+{
+    match cpu.phase {
+        Phase::Running => when(!has_released(cpu), Event::Take),
+        Phase::Taken => Some(Event::Arrive),
+        Phase::Arrived => when(have_arrived(cpus), Event::Pass),
+        Phase::Passed => Some(Event::SetNoFill),
+        Phase::NoFill => Some(first_flush(cpu)),
+        Phase::Flushed | Phase::Flushed2 => Some(Event::FlushTlb),
+        Phase::TlbFlushed => Some(Event::Disable),
+        Phase::Writing(i) => Some(write_or_enable(cpu, i)),
+        Phase::Enabled => Some(write_back_or_drop(cpu)),
+        Phase::TlbFlushed2 => Some(Event::SetNormal),
+        Phase::Normal => Some(Event::RestorePge),
+        Phase::Restored => Some(Event::ArriveAgain),
+        Phase::Arrived2 => when(have_arrived_again(cpus), Event::Release),
+    }
+}

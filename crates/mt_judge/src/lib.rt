@@ -1,0 +1,38 @@
+//! Judges a procedure that changes memory type registers: what its steps leave wrong, on which processor and where.
+//!
+//! A case has a list of steps for each processor. A step does what the machine's event does, whether or not it is due.
+#![tactic(auto)]
+
+mod accesses;
+mod buffers;
+mod case;
+mod controls;
+mod cpu;
+mod due;
+mod fills;
+mod hash;
+mod judging;
+mod lines;
+mod listing;
+mod moves;
+mod program;
+mod ram;
+mod reader;
+mod same;
+mod search;
+mod snoops;
+mod step;
+mod steps;
+mod telling;
+mod words;
+mod wrong;
+
+pub use case::{Ask, Input, Reason, Trouble};
+pub use cpu::Cpu;
+pub use judging::{Verdict, judge, judge_all, judge_run};
+pub use moves::{Case, Move, Outcome, Procedure, State, advance};
+pub use program::program_status;
+pub use reader::read_input;
+pub use search::{Found, Node, Origin, Search};
+pub use step::{Place, Step};
+pub use wrong::{Fault, Wrong, fault_of, wrongs_of};

@@ -1,0 +1,126 @@
+ghost use Rattle.std.specs.Prelude.{◌<◌};
+
+use crate::case::{Reason, Trouble};
+use crate::step::Step;
+use crate::words::{address, bad, count, is, shape, switch, value};
+use mt_kinds::WORD_BYTES;
+use mt_machine::Op;
+use mt_text::Words;
+
+/// Barriers are numbered from 0 to 7.
+pub(crate) const BARRIERS: u64 = 8;
+
+/// The end of the virtual addresses.
+pub(crate) const VIRTUAL_END: u64 = 1 << 48;
+
+// A step that is one word.
+fn plain(word: &[u8]) -> Option<Step> {
+    if is(word, "take") {
+        Some(Step::Interrupt)
+    } else if is(word, "set-cd") {
+        Some(Step::SetCd)
+    } else if is(word, "wbinvd") {
+        Some(Step::Wbinvd)
+    } else if is(word, "invd") {
+        Some(Step::Invd)
+    } else if is(word, "clear-pge") {
+        Some(Step::ClearPge)
+    } else if is(word, "reload-cr3") {
+        Some(Step::ReloadCr3)
+    } else {
+        plain_register(word)
+    }
+}
+
+fn plain_register(word: &[u8]) -> Option<Step> {
+    if is(word, "clear-e") {
+        Some(Step::ClearEnable)
+    } else if is(word, "write") {
+        Some(Step::WriteRegisters)
+    } else if is(word, "enable") {
+        Some(Step::WriteDefault)
+    } else if is(word, "clear-cd") {
+        Some(Step::ClearCd)
+    } else if is(word, "restore-pge") {
+        Some(Step::ReturnPge)
+    } else if is(word, "release") {
+        Some(Step::GoOn)
+    } else if is(word, "fence") {
+        Some(Step::Access(Op::Fence))
+    } else {
+        None
+    }
+}
+
+fn arrival(words: &Words<'_>) -> Result<Step, Trouble> {
+    shape(words, 2)?;
+    Ok(Step::ArriveAt(count(words, 1, 0, BARRIERS - 1)? as u32))
+}
+
+fn wait(words: &Words<'_>) -> Result<Step, Trouble> {
+    shape(words, 3)?;
+    Ok(Step::WaitAt {
+        barrier: count(words, 1, 0, BARRIERS - 1)? as u32,
+        count: count(words, 2, 1, 64)? as u32,
+    })
+}
+
+fn word_address(words: &Words<'_>, i: usize) -> Result<u64, Trouble> {
+    address(words, i, WORD_BYTES, VIRTUAL_END)
+}
+
+// An access or a control instruction, whose first argument is the word of this number.
+pub(crate) fn instruction(words: &Words<'_>, first: usize) -> Result<Step, Trouble>
+    requires { first < 3 }
+{
+    let word = words.text(0);
+    if is(word, "load") {
+        shape(words, first + 1)?;
+        Ok(Step::Access(Op::Load(word_address(words, first)?)))
+    } else if is(word, "store") {
+        shape(words, first + 2)?;
+        let va = word_address(words, first)?;
+        Ok(Step::Access(Op::Store(va, value(words, first + 1)?)))
+    } else if is(word, "invlpg") {
+        shape(words, first + 1)?;
+        Ok(Step::Invlpg(address(words, first, 1, VIRTUAL_END)?))
+    } else {
+        switching(words, first)
+    }
+}
+
+fn switching(words: &Words<'_>, first: usize) -> Result<Step, Trouble>
+    requires { first < 3 }
+{
+    let word = words.text(0);
+    if is(word, "pge") {
+        shape(words, first + 1)?;
+        Ok(Step::Pge(switch(words, first)?))
+    } else if is(word, "cd") {
+        shape(words, first + 1)?;
+        Ok(Step::Cd(switch(words, first)?))
+    } else if is(word, "fence") {
+        shape(words, first)?;
+        Ok(Step::Access(Op::Fence))
+    } else if is(word, "cr3") {
+        shape(words, first)?;
+        Ok(Step::ReloadCr3)
+    } else {
+        bad(words.place(0), Reason::BadLine)
+    }
+}
+
+/// The step that a line of a procedure names.
+pub(crate) fn step_of(words: &Words<'_>) -> Result<Step, Trouble> {
+    if is(words.text(0), "arrive") {
+        return arrival(words);
+    }
+    if is(words.text(0), "wait") {
+        return wait(words);
+    }
+    if let Some(step) = plain(words.text(0)) {
+        shape(words, 1)?;
+        return Ok(step);
+    }
+    instruction(words, 1)
+}

@@ -1,0 +1,125 @@
+use crate::case::{Reason, Trouble};
+use crate::judging::{Verdict, judge};
+use crate::reader::read_input;
+use mt_output::{exit_code, words_behind_name, written};
+use mt_ports::{Sink, Source, Status};
+use mt_text::Place;
+use std::alloc::{AllocError, Global};
+use std::env::Args;
+use std::io::{self, ErrorKind};
+use std::process::ExitCode;
+
+/// The bytes of the longest input that isn't too long.
+const LONGEST: usize = 1 << 24;
+
+const HELP: &[u8] = b"usage: mtrr-judge < CASE > VERDICT
+
+Judges a procedure that changes memory type registers: runs lists of
+steps on the machine of mtrr, and tells what they leave wrong.
+
+  --help     this text; nothing is read
+  --version  the version; nothing is read
+
+Exit status:
+  0  nothing is wrong
+  1  something is wrong, or a step isn't due
+  2  wrong usage
+  3  the case has a fault
+  4  reading failed
+  5  writing failed
+  6  no memory
+  7  the case has more than 16,777,216 bytes
+";
+
+const VERSION: &[u8] = b"mtrr-judge 1.0.0\n";
+
+// All bytes of a source.
+fn read_all<S: Source>(alloc: Global, source: &mut S) -> Result<Vec<u8>, Status> {
+    let mut bytes = Vec::new(alloc);
+    let mut buffer = [0; 8192];
+    for _ in 0..=LONGEST {
+        let Ok(count) = source.take(&mut buffer) else {
+            return Err(Status::ReadFault);
+        };
+        if count == 0 {
+            return Ok(bytes);
+        }
+        if bytes.len() + count > LONGEST {
+            return Err(Status::TooLong);
+        }
+        if bytes.extend_from_slice(&buffer[..count]).is_err() {
+            return Err(Status::NoMemory);
+        }
+    }
+    Err(Status::TooLong)
+}
+
+fn bad_line(alloc: Global, place: Place, reason: Reason) -> Result<String, AllocError> {
+    let line = place.line;
+    let column = place.column;
+    let why = reason.text();
+    format!(in alloc; "bad text {line}:{column} {why}\n")
+}
+
+// The verdict on a text, and its status.
+fn answer<R: Eprint + AllocGlobal>(rt: &R, text: &[u8]) -> Result<(String, Status), Status> {
+    match read_input(rt.alloc(), text) {
+        Ok(input) => match judge(rt, input) {
+            Ok(Verdict { text, wrong: true }) => Ok((text, Status::Refused)),
+            Ok(Verdict { text, wrong: false }) => Ok((text, Status::Done)),
+            Err(_) => Err(Status::NoMemory),
+        },
+        Err(Trouble::NoMemory) => Err(Status::NoMemory),
+        Err(Trouble::Bad { place, reason }) => match bad_line(rt.alloc(), place, reason) {
+            Ok(line) => Ok((line, Status::BadText)),
+            Err(_) => Err(Status::NoMemory),
+        },
+    }
+}
+
+fn judge_input<R: Eprint + AllocGlobal, S: Source, K: Sink>(
+    rt: &R,
+    source: &mut S,
+    sink: &mut K,
+) -> Status {
+    let bytes = match read_all(rt.alloc(), source) {
+        Ok(bytes) => bytes,
+        Err(status) => return status,
+    };
+    match answer(rt, bytes.as_slice()) {
+        Ok((text, status)) => written(sink, text.as_bytes(), status),
+        Err(status) => status,
+    }
+}
+
+fn run<R: Eprint + AllocGlobal, S: Source, K: Sink>(
+    rt: &R,
+    args: io::Result<Args>,
+    source: &mut S,
+    sink: &mut K,
+) -> Status {
+    let words = match args {
+        Ok(args) => words_behind_name(rt.alloc(), args),
+        Err(error) if error.kind() == ErrorKind::OutOfMemory => return Status::NoMemory,
+        Err(_) => return written(sink, b"usage\n", Status::Usage),
+    };
+    match words {
+        Ok(words) => match words.as_slice() {
+            [] => judge_input(rt, source, sink),
+            [word] if word.as_str() == "--help" => written(sink, HELP, Status::Done),
+            [word] if word.as_str() == "--version" => written(sink, VERSION, Status::Done),
+            _ => written(sink, b"usage\n", Status::Usage),
+        },
+        Err(_) => Status::NoMemory,
+    }
+}
+
+/// Does all that the program does with its arguments, and returns its exit status.
+pub fn program_status<R: Eprint + AllocGlobal, S: Source, K: Sink>(
+    rt: &R,
+    args: io::Result<Args>,
+    source: &mut S,
+    sink: &mut K,
+) -> ExitCode {
+    exit_code(run(rt, args, source, sink))
+}

@@ -1,0 +1,411 @@
+ghost use Rattle.std.specs.Prelude.{◌≤◌, length};
+
+use crate::case::{Ask, Input, Reason, Trouble};
+use crate::controls::map;
+use crate::cpu::{Cpu, copied};
+use crate::listing::{BARRIERS, VIRTUAL_END, instruction, step_of};
+use crate::moves::{Case, Procedure, State, aside};
+use crate::step::{Place as ListPlace, Step};
+use crate::words::{address, bad, count, count_in, is, is_end, shape, value};
+use mt_dump::{Dump, read_dump};
+use mt_kinds::{LINE_BYTES, MOST_LINES, PAGE_BYTES};
+use mt_machine::Ruled;
+use mt_ports::NoMemory;
+use mt_ram::{Ram, RamFault};
+use mt_regs::{RegFile, first_refusal};
+use mt_text::{Line, Place, Words, end_place, next_line};
+use mt_tlb::Mapping;
+use std::alloc::Global;
+
+/// At most so many processors.
+const MOST_CPUS: u64 = 4;
+
+/// At most so many states are found.
+const MOST_STATES: u64 = 1 << 21;
+
+/// What the lines that come belong to.
+#[derive(Drop)]
+enum Section {
+    Outside,
+    Goal { given: Vec<u32> },
+    List { cpus: Vec<usize>, steps: Vec<Step> },
+}
+
+/// Reads the lines behind the dump.
+#[derive(Drop)]
+pub(crate) struct Reader {
+    alloc: Global,
+    case: Case,
+    start: State,
+    has_goal: bool,
+    ask: Option<Ask>,
+    section: Section,
+}
+
+fn push<T: Drop>(list: &mut Vec<T>, item: T) -> Result<(), Trouble> {
+    match list.push(item) {
+        Ok(()) => Ok(()),
+        Err(_) => Err(Trouble::NoMemory),
+    }
+}
+
+// What a processor has at the start of a case.
+fn start_of(alloc: Global, dump: &Dump, cpus: u32) -> Result<(State, Vec<Procedure>), Trouble>
+    requires { cpus ≤ 16 }
+{
+    let mut start = State {
+        cpus: Vec::new(alloc),
+        words: Vec::new(alloc),
+        places: Vec::new(alloc),
+        arrived: Vec::new(alloc),
+    };
+    let mut lists = Vec::new(alloc);
+    for file in dump.files_for(cpus).as_slice() {
+        push(&mut start.cpus, Cpu::new(alloc, file.same()))?;
+        push(&mut start.places, ListPlace { step: 0, part: 0 })?;
+        push(
+            &mut lists,
+            Procedure {
+                steps: Vec::new(alloc),
+            },
+        )?;
+    }
+    for _ in 0..BARRIERS {
+        push(&mut start.arrived, 0)?;
+    }
+    Ok((start, lists))
+}
+
+impl Reader {
+    fn new(alloc: Global, dump: &Dump, cpus: u32) -> Result<Reader, Trouble>
+        requires { cpus ≤ 16 }
+    {
+        let (start, lists) = start_of(alloc, dump, cpus)?;
+        Ok(Reader {
+            alloc,
+            case: Case {
+                layout: Ram::new(alloc),
+                goal: dump.first_file().same(),
+                lists,
+            },
+            start,
+            has_goal: false,
+            ask: None,
+            section: Section::Outside,
+        })
+    }
+
+    fn cpus(&self) -> u64 {
+        self.start.cpus.len() as u64
+    }
+
+    // The processor whose number is a word.
+    fn cpu(&self, words: &Words<'_>, i: usize) -> Result<usize, Trouble> {
+        Ok(count(words, i, 0, self.cpus().saturating_sub(1))? as usize)
+    }
+
+    fn ram(&mut self, words: &Words<'_>) -> Result<(), Trouble> {
+        shape(words, 3)?;
+        let end = PAGE_BYTES * self.case.goal.pages();
+        let base = address(words, 1, LINE_BYTES, end)?;
+        let lines = count(words, 2, 1, MOST_LINES)?;
+        if LINE_BYTES * lines > end - base {
+            return bad(words.place(2), Reason::OutOfRange);
+        }
+        match self.case.layout.add(base, lines as u32) {
+            Ok(()) => {}
+            Err(RamFault::NoMemory) => return Err(Trouble::NoMemory),
+            Err(_) => return bad(words.place(2), Reason::OutOfRange),
+        }
+        match self.start.words.resize(self.case.layout.words(), 0) {
+            Ok(()) => Ok(()),
+            Err(_) => Err(Trouble::NoMemory),
+        }
+    }
+
+    fn map(&mut self, words: &Words<'_>) -> Result<(), Trouble> {
+        let global = words.count() == 6 && is(words.text(5), "global");
+        if !global {
+            shape(words, 5)?;
+        }
+        let k = self.cpu(words, 1)?;
+        let va = address(words, 2, PAGE_BYTES, VIRTUAL_END)?;
+        let pa = address(words, 3, PAGE_BYTES, PAGE_BYTES * self.case.goal.pages())?;
+        let index = count(words, 4, 0, 7)? as u8;
+        let mapping = Mapping {
+            vpage: va / PAGE_BYTES,
+            ppage: pa / PAGE_BYTES,
+            index,
+            global,
+        };
+        match self.start.cpus.get_mut(k) {
+            Some(cpu) => match map(cpu, mapping)? {
+                Ruled::Okay => Ok(()),
+                Ruled::Full | Ruled::Busy => bad(words.place(2), Reason::OutOfRange),
+            },
+            None => bad(words.place(1), Reason::OutOfRange),
+        }
+    }
+
+    // An access or a control instruction before the procedures begin.
+    fn before(&mut self, words: &Words<'_>) -> Result<(), Trouble> {
+        let step = instruction(words, 2)?;
+        let k = self.cpu(words, 1)?;
+        aside(
+            &self.case.layout,
+            self.start.cpus.as_mut_slice(),
+            self.start.words.as_mut_slice(),
+            k,
+            step,
+        )?;
+        Ok(())
+    }
+
+    fn self_snoop(&mut self, words: &Words<'_>) -> Result<(), Trouble> {
+        shape(words, 2)?;
+        let k = self.cpu(words, 1)?;
+        if let Some(cpu) = self.start.cpus.get_mut(k) {
+            cpu.self_snoop = true;
+        }
+        Ok(())
+    }
+
+    fn begin_goal(&mut self, words: &Words<'_>) -> Result<(), Trouble> {
+        shape(words, 1)?;
+        if self.has_goal {
+            return bad(words.place(0), Reason::Repeated);
+        }
+        self.has_goal = true;
+        self.section = Section::Goal {
+            given: Vec::new(self.alloc),
+        };
+        Ok(())
+    }
+
+    fn begin_list(&mut self, words: &Words<'_>) -> Result<(), Trouble> {
+        if words.count() < 2 {
+            return bad(words.place(0), Reason::BadLine);
+        }
+        let mut cpus = Vec::new(self.alloc);
+        for i in 1..words.count() {
+            let k = self.cpu(words, i)?;
+            push(&mut cpus, k)?;
+        }
+        self.section = Section::List {
+            cpus,
+            steps: Vec::new(self.alloc),
+        };
+        Ok(())
+    }
+
+    fn run(&mut self, line: &Line<'_>) -> Result<(), Trouble> {
+        let mut order = Vec::new(self.alloc);
+        for i in 1..line.words() {
+            let Some(word) = line.word(i) else {
+                break;
+            };
+            let next = if is(word.text, "turns") {
+                None
+            } else {
+                Some(count_in(word.text, word.place, 0, self.cpus().saturating_sub(1))? as usize)
+            };
+            push(&mut order, next)?;
+        }
+        self.ask = Some(Ask::Run(order));
+        Ok(())
+    }
+
+    fn all(&mut self, words: &Words<'_>) -> Result<(), Trouble> {
+        shape(words, 2)?;
+        self.ask = Some(Ask::All(count(words, 1, 1, MOST_STATES)? as u32));
+        Ok(())
+    }
+
+    // A line outside the sections.
+    fn outside(&mut self, line: &Line<'_>, words: &Words<'_>) -> Result<(), Trouble> {
+        let word = words.text(0);
+        if self.ask.is_some() {
+            bad(words.place(0), Reason::NotNow)
+        } else if is(word, "ram") {
+            self.ram(words)
+        } else if is(word, "selfsnoop") {
+            self.self_snoop(words)
+        } else if is(word, "map") {
+            self.map(words)
+        } else if is(word, "goal") {
+            self.begin_goal(words)
+        } else if is(word, "procedure") {
+            self.begin_list(words)
+        } else if is(word, "run") {
+            self.run(line)
+        } else if is(word, "all") {
+            self.all(words)
+        } else {
+            self.before(words)
+        }
+    }
+
+    // A line of the goal.
+    fn register(&mut self, words: &Words<'_>) -> Result<(), Trouble> {
+        shape(words, 2)?;
+        let number = value(words, 0)?;
+        let v = value(words, 1)?;
+        if number > u32::MAX as u64 || self.case.goal.set(number as u32, v).is_err() {
+            return bad(words.place(0), Reason::UnknownRegister);
+        }
+        if let Section::Goal { given } = &mut self.section {
+            if given.as_slice().contains(&(number as u32)) {
+                return bad(words.place(0), Reason::Repeated);
+            }
+            push(given, number as u32)?;
+        }
+        Ok(())
+    }
+
+    fn end_goal(&mut self, place: Place) -> Result<(), Trouble> {
+        self.section = Section::Outside;
+        if self.case.goal.first_fault().is_some() {
+            return bad(place, Reason::Refused);
+        }
+        Ok(())
+    }
+
+    fn step(&mut self, words: &Words<'_>) -> Result<(), Trouble> {
+        let step = step_of(words)?;
+        if let Section::List { steps, .. } = &mut self.section {
+            push(steps, step)?;
+        }
+        Ok(())
+    }
+
+    fn end_list(&mut self) -> Result<(), Trouble> {
+        if let Section::List { cpus, steps } = &self.section {
+            for k in cpus.as_slice() {
+                if let Some(list) = self.case.lists.get_mut(*k) {
+                    list.steps = copied(self.alloc, steps.as_slice())?;
+                }
+            }
+        }
+        self.section = Section::Outside;
+        Ok(())
+    }
+
+    fn line(&mut self, line: &Line<'_>) -> Result<(), Trouble> {
+        if line.too_long() {
+            return bad(line.past_limit(), Reason::BadLine);
+        }
+        let words = line.first_words();
+        if words.count() == 0 {
+            return Ok(());
+        }
+        match (&self.section, is_end(line)) {
+            (Section::Outside, _) => self.outside(line, &words),
+            (Section::Goal { .. }, false) => self.register(&words),
+            (Section::Goal { .. }, true) => self.end_goal(words.place(0)),
+            (Section::List { .. }, false) => self.step(&words),
+            (Section::List { .. }, true) => self.end_list(),
+        }
+    }
+
+    fn input(self, end: Place) -> Result<Input, Trouble> {
+        let Reader {
+            case,
+            start,
+            ask,
+            section,
+            ..
+        } = self;
+        match (section, ask) {
+            (Section::Outside, Some(ask)) => Ok(Input { case, start, ask }),
+            _ => bad(end, Reason::NoEnd),
+        }
+    }
+}
+
+// The place of a fault of a dump, which begins behind so many lines.
+fn later(place: Place, lines: u64) -> Place {
+    Place {
+        line: place.line.saturating_add(lines),
+        column: place.column,
+    }
+}
+
+// The next line with words from an offset on.
+fn next_worded<'a>(source: &'a [u8], from: usize, number: u64) -> Result<Line<'a>, Trouble>
+    requires { from ≤ length source.now }
+{
+    let mut at = from;
+    let mut count = number;
+    while let Some(line) = next_line(source, at, count) {
+        if line.too_long() {
+            return bad(line.past_limit(), Reason::BadLine);
+        }
+        if line.words() > 0 {
+            return Ok(line);
+        }
+        at = line.next;
+        count = count.saturating_add(1);
+    }
+    bad(end_place(source), Reason::NoEnd)
+}
+
+// The line `end` of the dump that begins at an offset.
+fn dump_end<'a>(source: &'a [u8], from: usize, number: u64) -> Result<Line<'a>, Trouble>
+    requires { from ≤ length source.now }
+{
+    let mut at = from;
+    let mut count = number;
+    while let Some(line) = next_line(source, at, count) {
+        if is_end(&line) {
+            return Ok(line);
+        }
+        at = line.next;
+        count = count.saturating_add(1);
+    }
+    bad(end_place(source), Reason::NoEnd)
+}
+
+// The dump of N processors, each accepted.
+fn dump_of(text: &[u8], lines: u64, cpus: u32, end: Place) -> Result<Dump, Trouble> {
+    match read_dump(text) {
+        Ok(dump) => {
+            if !dump.has_each(cpus) {
+                return bad(end, Reason::OutOfRange);
+            }
+            if first_refusal(dump.files.as_slice()).is_some() {
+                return bad(end, Reason::Refused);
+            }
+            Ok(dump)
+        }
+        Err(fault) => bad(later(fault.place, lines), Reason::BadDump),
+    }
+}
+
+/// The case that a text gives.
+pub fn read_input(alloc: Global, source: &[u8]) -> Result<Input, Trouble> {
+    let first = next_worded(source, 0, 1)?;
+    let words = first.first_words();
+    if !is(words.text(0), "cpus") {
+        return bad(words.place(0), Reason::BadLine);
+    }
+    shape(&words, 2)?;
+    let cpus = count(&words, 1, 1, MOST_CPUS)? as u32;
+    let second = next_worded(source, first.next, first.number.saturating_add(1))?;
+    let words = second.first_words();
+    if !is(words.text(0), "dump") {
+        return bad(words.place(0), Reason::BadLine);
+    }
+    shape(&words, 1)?;
+    let end = dump_end(source, second.next, second.number.saturating_add(1))?;
+    let text = &source[second.next..end.offset];
+    let dump = dump_of(text, second.number, cpus, end.first_words().place(0))?;
+    let mut reader = Reader::new(alloc, &dump, cpus)?;
+    let mut at = end.next;
+    let mut number = end.number.saturating_add(1);
+    while let Some(line) = next_line(source, at, number) {
+        reader.line(&line)?;
+        at = line.next;
+        number = number.saturating_add(1);
+    }
+    reader.input(end_place(source))
+}
