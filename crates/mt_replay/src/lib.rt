@@ -10,5 +10,5 @@ mod summing;
 mod texts;
 
 pub use replayer::Replayer;
-pub use running::replay;
-pub use summing::{Totals, summary};
+pub use running::{replay, replay_with};
+pub use summing::{Totals, summary, summary_with};

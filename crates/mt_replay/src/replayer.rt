@@ -26,6 +26,7 @@ use mt_output::{LINE_ROOM, LineBuffer, WRITER_ROOM, Writer};
 use mt_ports::{Failed, Gate, NoMemory, Sink};
 use mt_ram::Ram;
 use mt_regs::RegFile;
+use mt_rendezvous::Caller;
 use mt_script::{Command, Setup, Stage};
 use mt_tlb::Mapping;
 use std::alloc::Global;
@@ -84,13 +85,12 @@ fn begin_goal(core: &Core, goal: &mut RegFile)
 
 // A section ends: an update, or a call for one.
 fn end_section<R: Threads + Wait + Sync, G: Gate>(
-    rt: &R,
+    caller: &Caller<R, G>,
     alloc: Global,
     writer: &mut Writer,
     core: &mut Core,
     goal: &RegFile,
     stage: Stage,
-    gate: &G,
 )
     requires line { length writer.old + LINE_ROOM ≤ WRITER_ROOM }
     requires some { 0 < length core.old.system.processors }
@@ -100,7 +100,7 @@ fn end_section<R: Threads + Wait + Sync, G: Gate>(
     ensures after { core.new ≡ (if is_update stage then after_update core.old goal.now else after_call core.old goal.now) }
 {
     if stage == Stage::InUpdate {
-        update(rt, alloc, writer, core, goal, gate);
+        update(caller, alloc, writer, core, goal);
     } else {
         call(writer, core, goal);
     }
@@ -116,14 +116,13 @@ fn set(goal: &mut RegFile, msr: u32, value: u64)
 // goal, where the processor that it names is there.
 #[inline(never)]
 fn act_rarely<R: Threads + Wait + Sync, G: Gate>(
-    rt: &R,
+    caller: &Caller<R, G>,
     alloc: Global,
     writer: &mut Writer,
     setup: &Setup,
     core: &mut Core,
     goal: &mut RegFile,
     c: &Command,
-    gate: &G,
 )
     requires line { length writer.old + LINE_ROOM ≤ WRITER_ROOM }
     requires state { IsReplayState (state setup.now core.old goal.old) }
@@ -156,7 +155,7 @@ fn act_rarely<R: Threads + Wait + Sync, G: Gate>(
         Command::Msr(k, msr) => register(writer, core, k, msr),
         Command::Selfsnoop(k) => core.self_snoop(k),
         Command::Retire => retire(writer, core),
-        Command::End => end_section(rt, alloc, writer, core, goal, setup.stage(), gate),
+        Command::End => end_section(caller, alloc, writer, core, goal, setup.stage()),
         Command::Update | Command::Begin => begin_goal(core, goal),
         Command::Register { msr, value } => set(goal, msr, value),
         Command::Cpus(_) | Command::Dump | Command::Blank | Command::DumpLine => {}
@@ -167,14 +166,13 @@ fn act_rarely<R: Threads + Wait + Sync, G: Gate>(
 
 // The same of loads and stores too.
 fn act_there<R: Threads + Wait + Sync, G: Gate>(
-    rt: &R,
+    caller: &Caller<R, G>,
     alloc: Global,
     writer: &mut Writer,
     setup: &Setup,
     core: &mut Core,
     goal: &mut RegFile,
     c: &Command,
-    gate: &G,
 )
     requires line { length writer.old + LINE_ROOM ≤ WRITER_ROOM }
     requires state { IsReplayState (state setup.now core.old goal.old) }
@@ -191,20 +189,19 @@ fn act_there<R: Threads + Wait + Sync, G: Gate>(
     match *c {
         Command::Load(k, address) => access(writer, core, k, Op::Load(address)),
         Command::Store(k, address, value) => access(writer, core, k, Op::Store(address, value)),
-        _ => act_rarely(rt, alloc, writer, setup, core, goal, c, gate),
+        _ => act_rarely(caller, alloc, writer, setup, core, goal, c),
     }
 }
 
 // The same, whether the processor is there or not.
 fn act<R: Threads + Wait + Sync, G: Gate>(
-    rt: &R,
+    caller: &Caller<R, G>,
     alloc: Global,
     writer: &mut Writer,
     setup: &Setup,
     core: &mut Core,
     goal: &mut RegFile,
     c: &Command,
-    gate: &G,
 )
     requires line { length writer.old + LINE_ROOM ≤ WRITER_ROOM }
     requires state { IsReplayState (state setup.now core.old goal.old) }
@@ -220,7 +217,7 @@ fn act<R: Threads + Wait + Sync, G: Gate>(
     if is_absent(core, c) {
         writer.append(b"absent\n");
     } else {
-        act_there(rt, alloc, writer, setup, core, goal, c, gate);
+        act_there(caller, alloc, writer, setup, core, goal, c);
     }
 }
 
@@ -268,11 +265,10 @@ impl Replayer {
     /// An update runs each processor on a thread of its own, where the gate and the allocator let it.
     pub fn run<R: Threads + Wait + Sync, G: Gate>(
         &mut self,
-        rt: &R,
+        caller: &Caller<R, G>,
         alloc: Global,
         c: &Command,
         writer: &mut Writer,
-        gate: &G,
     )
         requires line { length writer.old + LINE_ROOM ≤ WRITER_ROOM }
         requires fits { Fits self.old.now c.now }
@@ -284,14 +280,13 @@ impl Replayer {
         ensures after { self.new ≡ state_after self.old c.now }
     {
         act(
-            rt,
+            caller,
             alloc,
             writer,
             &self.setup,
             &mut self.core,
             &mut self.goal,
             c,
-            gate,
         );
         self.setup.accept(c);
     }
