@@ -14,7 +14,7 @@ use mt_core::Core;
 use mt_machine::{Control, Done, Op};
 use mt_output::{LineBuffer, append, append_value};
 use mt_ports::{Gate, NoMemory};
-use mt_private::{Job, Part, Told, run_private};
+use mt_private::{Caller, Job, Part, Told, run_private_with};
 use mt_ram::Ram;
 use mt_regs::{RegFile, Register};
 use mt_tlb::Mapping;
@@ -222,11 +222,10 @@ fn sums_text(values: u64, memory: u64) -> LineBuffer
 
 // The jobs, and an update between.
 fn run_jobs<R: Threads + Wait + Sync, G: Gate>(
-    rt: &R,
+    caller: &Caller<R, G>,
     alloc: Global,
     core: &mut Core,
     jobs: Vec<Job>,
-    gate: &G,
 ) -> Result<Vec<Told>, NoMemory>
     requires some { 0 < vec_len jobs }
     requires set_up { IsSetUp (vec_len jobs) core.old }
@@ -236,7 +235,7 @@ fn run_jobs<R: Threads + Wait + Sync, G: Gate>(
     let Some(goal) = file_of(4) else {
         return Err(NoMemory);
     };
-    match run_private(rt, alloc, core, goal, jobs, gate) {
+    match run_private_with(caller, alloc, core, goal, jobs) {
         Ok(told) => Ok(told),
         Err(_) => Err(NoMemory),
     }
@@ -260,12 +259,11 @@ fn told_text(core: &Core, told: &[Told]) -> LineBuffer
 
 /// What the jobs that three numbers determine load, and what memory holds at the end: their sums modulo 2^64.
 pub fn measured_text<R: Threads + Wait + Sync, G: Gate>(
-    rt: &R,
+    caller: &Caller<R, G>,
     alloc: Global,
     cpus: u32,
     n: u64,
     accesses: u32,
-    gate: &G,
 ) -> Result<LineBuffer, NoMemory>
     requires some { 0 < cpus }
     requires few { cpus ≤ 16 }
@@ -273,6 +271,6 @@ pub fn measured_text<R: Threads + Wait + Sync, G: Gate>(
 {
     let mut core = measured_core(alloc, cpus)?;
     let jobs = jobs_of(alloc, cpus, n, accesses)?;
-    let told = run_jobs(rt, alloc, &mut core, jobs, gate)?;
+    let told = run_jobs(caller, alloc, &mut core, jobs)?;
     Ok(told_text(&core, told.as_slice()))
 }

@@ -10,7 +10,8 @@ use arrayvec::ArrayVec;
 use mt_answers::make_text;
 use mt_output::{LineBuffer, append, append_decimal, append_value, written};
 use mt_ports::{Gate, Sink, Status};
-use mt_replay::{Totals, summary};
+use mt_replay::{Totals, summary_with};
+use std::alloc::Global;
 use std::sync::Wait;
 use std::thread::Threads;
 
@@ -32,39 +33,39 @@ pub fn summary_text(totals: &Totals) -> LineBuffer
 }
 
 /// Writes the numbers of the transcript of the text for measurements, which is run as a script.
-pub fn big<R: AllocGlobal + Threads + Wait + Sync, K: Sink, G: Gate>(
-    rt: &R,
+pub fn big<R: Threads + Wait + Sync, K: Sink, G: Gate>(
+    caller: &mt_rendezvous::Caller<R, G>,
+    alloc: Global,
     n: u64,
     sink: &mut K,
-    gate: &G,
 ) -> Status
     ensures bytes { Makes (big_text n) (K.taken sink.old) (K.taken sink.new) result }
     ensures cause { StatusHasCause Status.WriteFault (K.faults sink.old) (K.faults sink.new) result }
 {
-    let Ok(text) = make_text(rt.alloc(), n) else {
+    let Ok(text) = make_text(alloc, n) else {
         return Status::NoMemory;
     };
-    match summary(rt, text.as_slice(), gate) {
+    match summary_with(caller, alloc, text.as_slice()) {
         Ok(totals) => written(sink, summary_text(&totals).as_slice(), Status::Done),
         Err(_) => Status::NoMemory,
     }
 }
 
 /// Writes what the jobs sum to that three numbers determine.
-pub fn private<R: AllocGlobal + Threads + Wait + Sync, K: Sink, G: Gate>(
-    rt: &R,
+pub fn private<R: Threads + Wait + Sync, K: Sink, G: Gate>(
+    caller: &mt_private::Caller<R, G>,
+    alloc: Global,
     cpus: u32,
     n: u64,
     accesses: u32,
     sink: &mut K,
-    gate: &G,
 ) -> Status
     requires some { 1 ≤ cpus }
     requires few { cpus ≤ 16 }
     ensures bytes { Makes (measured_text cpus n accesses) (K.taken sink.old) (K.taken sink.new) result }
     ensures cause { StatusHasCause Status.WriteFault (K.faults sink.old) (K.faults sink.new) result }
 {
-    match measured_text(rt, rt.alloc(), cpus, n, accesses, gate) {
+    match measured_text(caller, alloc, cpus, n, accesses) {
         Ok(text) => written(sink, text.as_slice(), Status::Done),
         Err(_) => Status::NoMemory,
     }

@@ -3,33 +3,34 @@ ghost use Rattle.mt_answers.specs.declared.command.Command.TheVariants.{Threaded
 ghost use Rattle.mt_answers.specs.CommandLine.{IsSoundThreaded, command_of, threaded_of};
 ghost use Rattle.mt_cli.specs.Runs.{IsToolRun, sink_run, source_run};
 
+use crate::callers::Callers;
 use crate::sums::{big, private};
 use mt_answers::{Command, ThreadedCommand, command_of, run_serial, wrong_usage};
 use mt_ports::{Gate, Sink, Source, Status};
-use mt_proc::proc;
-use mt_replay::replay;
+use mt_proc::proc_with;
+use mt_replay::replay_with;
 use std::alloc::Global;
 use std::sync::Wait;
 use std::thread::Threads;
 
 // Does what is done on threads.
-fn run_threaded<R: AllocGlobal + Threads + Wait + Sync, S: Source, K: Sink, G: Gate>(
-    rt: &R,
+fn run_threaded<R: Threads + Wait + Sync, S: Source, K: Sink, G: Gate>(
+    callers: &Callers<R, G>,
+    alloc: Global,
     command: ThreadedCommand,
     source: &mut S,
     sink: &mut K,
-    gate: &G,
 ) -> Status
     requires { IsSoundThreaded command }
     ensures { (words : List (List ℕ)) → command_of words ≡ Some (Threaded command) →
         IsToolRun words (source_run S.left S.faults S.given source.old source.new) (sink_run K.taken K.faults sink.old sink.new) result }
 {
     match command {
-        ThreadedCommand::Replay => replay(rt, source, sink, gate),
-        ThreadedCommand::Proc(cpus) => proc(rt, source, sink, gate, cpus),
-        ThreadedCommand::Big(n) => big(rt, n, sink, gate),
+        ThreadedCommand::Replay => replay_with(&callers.updates, alloc, source, sink),
+        ThreadedCommand::Proc(cpus) => proc_with(&callers.updates, alloc, source, sink, cpus),
+        ThreadedCommand::Big(n) => big(&callers.updates, alloc, n, sink),
         ThreadedCommand::Private { cpus, n, accesses } => {
-            private(rt, cpus, n, accesses, sink, gate)
+            private(&callers.jobs, alloc, cpus, n, accesses, sink)
         }
     }
 }
@@ -61,6 +62,23 @@ pub fn answer_words<S: Source, K: Sink>(
     }
 }
 
+/// Does what `tool` does, for a caller with a runtime and a gate. None of its lines waits but those of an update and of jobs.
+pub fn tool_with<R: Threads + Wait + Sync, S: Source, K: Sink, G: Gate>(
+    callers: &Callers<R, G>,
+    alloc: Global,
+    words: &[String],
+    source: &mut S,
+    sink: &mut K,
+) -> Status
+    ensures { IsToolRun (map string_bytes words.now)
+        (source_run S.left S.faults S.given source.old source.new) (sink_run K.taken K.faults sink.old sink.new) result }
+{
+    match answer_words(alloc, words, source, sink) {
+        Ok(status) => status,
+        Err(command) => run_threaded(callers, alloc, command, source, sink),
+    }
+}
+
 /// Does all that the program does, and answers its status. The words are the command line without
 /// the program's name. Nothing is read where they are no command line, nor by `make`, `big`,
 /// `private`, `--help` and `--version`; otherwise the input is read to its end, unless the source or the sink fails, memory is refused or
@@ -76,8 +94,5 @@ pub fn tool<R: AllocGlobal + Threads + Wait + Sync, S: Source, K: Sink, G: Gate>
     ensures { IsToolRun (map string_bytes words.now)
         (source_run S.left S.faults S.given source.old source.new) (sink_run K.taken K.faults sink.old sink.new) result }
 {
-    match answer_words(rt.alloc(), words, source, sink) {
-        Ok(status) => status,
-        Err(command) => run_threaded(rt, command, source, sink, gate),
-    }
+    tool_with(&Callers::of(rt, gate), rt.alloc(), words, source, sink)
 }

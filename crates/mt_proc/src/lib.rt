@@ -14,4 +14,4 @@ pub use listing::write_range;
 pub use processors::Processors;
 pub use reading::read_request;
 pub use request::{ProcFault, ProcReason, Request};
-pub use running::proc;
+pub use running::{proc, proc_with};

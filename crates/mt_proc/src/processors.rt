@@ -15,6 +15,7 @@ use mt_core::{CallFault, Core};
 use mt_output::{LineBuffer, append, append_decimal, refused_line};
 use mt_ports::{Gate, NoMemory};
 use mt_regs::{Fault, RegFile};
+use mt_rendezvous::{Caller, update_with};
 use std::alloc::Global;
 use std::marker::Model;
 use std::sync::Wait;
@@ -80,11 +81,10 @@ fn refusal(fault: CallFault) -> Option<Fault>
 
 // Updates all processors to a goal, or answers its first fault.
 fn update<R: Threads + Wait + Sync, G: Gate>(
-    rt: &R,
+    caller: &Caller<R, G>,
     alloc: Global,
     core: &mut Core,
     goal: RegFile,
-    gate: &G,
 ) -> Option<Fault>
     requires serves { Serves core.old }
     requires width { goal.width ≡ (served core.old).file.width }
@@ -96,7 +96,7 @@ fn update<R: Threads + Wait + Sync, G: Gate>(
     ensures short { IfSome result (λ fault. HasThreeDigits fault.msr) }
 {
     goal.is_register_file(); // a fact for the proof
-    match mt_rendezvous::update(rt, alloc, core, goal, gate) {
+    match update_with(caller, alloc, core, goal) {
         Ok(()) => None,
         Err(fault) => refusal(fault),
     }
@@ -140,10 +140,9 @@ impl Processors {
     // Does what a request asks for, and answers what is written of it.
     fn change<R: Threads + Wait + Sync, G: Gate>(
         &mut self,
-        rt: &R,
+        caller: &Caller<R, G>,
         alloc: Global,
         request: &Request,
-        gate: &G,
     ) -> LineBuffer
         requires { (served self.old).count < 2 ^ 64 - 1 }
         ensures text { result.items ≡ answer_text (served self.old) request.now }
@@ -151,7 +150,7 @@ impl Processors {
         ensures serves { Serves self.new }
     {
         match apply(self.file(), request) {
-            Applied::Goal(goal, n) => match update(rt, alloc, &mut self.core, goal, gate) {
+            Applied::Goal(goal, n) => match update(caller, alloc, &mut self.core, goal) {
                 Some(fault) => refused_line(&fault),
                 None => done_line(request, n),
             },
@@ -166,10 +165,9 @@ impl Processors {
     /// with one file. A request that isn't carried out changes no processor.
     pub fn ask<R: Threads + Wait + Sync, G: Gate>(
         &mut self,
-        rt: &R,
+        caller: &Caller<R, G>,
         alloc: Global,
         request: &Request,
-        gate: &G,
     ) -> LineBuffer
         requires { (served self.old).count < 2 ^ 64 - 1 }
         ensures text { result.items ≡ answer_text (served self.old) request.now }
@@ -183,6 +181,6 @@ impl Processors {
             → IsSettled self.new.system (asked (served self.old) request.now).count (asked (served self.old) request.now).file }
     {
         self.serve(); // a fact for the proof
-        self.change(rt, alloc, request, gate)
+        self.change(caller, alloc, request)
     }
 }

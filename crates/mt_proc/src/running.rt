@@ -26,6 +26,7 @@ use mt_output::{
 };
 use mt_ports::{Failed, Gate, Sink, Source, Status};
 use mt_regs::{RegFile, first_refusal};
+use mt_rendezvous::Caller;
 use mt_script::{Offence, ScriptFault, ScriptReason, take_dump_line};
 use mt_stream::{close, cut_status, leave, next_line, tell};
 use mt_text::{Feed, Line, Place};
@@ -94,13 +95,12 @@ fn begin<K: Sink>(
 
 // Takes a line behind the dump's end.
 fn take_request<R: Threads + Wait + Sync, K: Sink, G: Gate>(
-    rt: &R,
+    caller: &Caller<R, G>,
     alloc: Global,
     processors: &mut Processors,
     line: &Line<'_>,
     writer: &mut Writer,
     sink: &mut K,
-    gate: &G,
 ) -> Result<Option<Status>, Failed>
     requires { (served processors.old).count < 2 ^ 64 - 1 }
     ensures bytes { (cpus : ℕ) (from : Leading) (number : ℕ) (so_far : List ℕ) → AllServe cpus (Run.Requests processors.old) →
@@ -114,7 +114,7 @@ fn take_request<R: Threads + Wait + Sync, K: Sink, G: Gate>(
     match read_request(line) {
         Ok(None) => Ok(None),
         Ok(Some(request)) => {
-            let answer = processors.ask(rt, alloc, &request, gate);
+            let answer = processors.ask(caller, alloc, &request);
             match writer.write(sink, answer.as_slice()) {
                 Ok(()) => Ok(None),
                 Err(failed) => Err(failed),
@@ -131,14 +131,13 @@ fn take_request<R: Threads + Wait + Sync, K: Sink, G: Gate>(
 
 // Takes a line. There is a status where the run ends with it.
 fn take_line<R: Threads + Wait + Sync, K: Sink, G: Gate>(
-    rt: &R,
+    caller: &Caller<R, G>,
     alloc: Global,
     cpus: u32,
     run: &mut Run,
     line: &Line<'_>,
     writer: &mut Writer,
     sink: &mut K,
-    gate: &G,
 ) -> Result<Option<Status>, Failed>
     requires some { 0 < cpus }
     requires few { cpus ≤ 16 }
@@ -153,7 +152,7 @@ fn take_line<R: Threads + Wait + Sync, K: Sink, G: Gate>(
     let reader = match run {
         Run::Dump(reader) => reader,
         Run::Requests(processors) => {
-            return take_request(rt, alloc, processors, line, writer, sink, gate);
+            return take_request(caller, alloc, processors, line, writer, sink);
         }
     };
     match take_dump_line(reader, cpus, line) {
@@ -232,12 +231,11 @@ fn end_text<K: Sink>(run: &Run, feed: &Feed, writer: &mut Writer, sink: &mut K) 
 
 // Runs the lines of a source to their end, to an offence or a refused dump, or to a fault.
 fn run_lines<R: Threads + Wait + Sync, S: Source, K: Sink, G: Gate>(
-    rt: &R,
+    caller: &Caller<R, G>,
     alloc: Global,
     source: &mut S,
     writer: &mut Writer,
     sink: &mut K,
-    gate: &G,
     cpus: u32,
 ) -> Status
     requires waiting { writer.old ≡ [] }
@@ -260,16 +258,7 @@ fn run_lines<R: Threads + Wait + Sync, S: Source, K: Sink, G: Gate>(
             Err(cut) => return cut_status(&cut),
         }
         let last = feed.is_last();
-        match take_line(
-            rt,
-            alloc,
-            cpus,
-            &mut run,
-            &feed.current(),
-            writer,
-            sink,
-            gate,
-        ) {
+        match take_line(caller, alloc, cpus, &mut run, &feed.current(), writer, sink) {
             Ok(None) => {
                 if last {
                     return end_text(&run, &feed, writer, sink);
@@ -279,6 +268,39 @@ fn run_lines<R: Threads + Wait + Sync, S: Source, K: Sink, G: Gate>(
             Err(_) => return Status::WriteFault,
         }
     }
+}
+
+/// Does what `proc` does, for a caller with a runtime and a gate.
+pub fn proc_with<R: Threads + Wait + Sync, S: Source, K: Sink, G: Gate>(
+    caller: &Caller<R, G>,
+    alloc: Global,
+    source: &mut S,
+    sink: &mut K,
+    cpus: u32,
+) -> Status
+    requires some { 0 < cpus }
+    requires few { cpus ≤ 16 }
+
+    // Where the source tells its bytes, what each status says of them and of what the sink took.
+    ensures bytes { (bytes : List ℕ) → S.left source.old ≡ Some bytes → Runs (proc_told cpus) [] bytes (S.left source.new) (K.taken sink.old) (K.taken sink.new) result }
+
+    // The status is the text's, unless a port fails, too much is read or memory is refused.
+    ensures complete { (bytes : List ℕ) → S.left source.old ≡ Some bytes → EndsAs (proc_transcript cpus bytes).status result }
+
+    // Memory is refused before anything is read, or at the dump's end.
+    ensures memory { (bytes : List ℕ) → S.left source.old ≡ Some bytes → result ≡ Status.NoMemory → OutOfMemory cpus bytes (S.left source.new) (K.taken sink.old) (K.taken sink.new) }
+
+    // A port that failed did so once, and the status is its fault; at every other status none failed.
+    ensures read_fault { StatusHasCause Status.ReadFault (S.faults source.old) (S.faults source.new) result }
+    ensures write_fault { StatusHasCause Status.WriteFault (K.faults sink.old) (K.faults sink.new) result }
+    ensures too_long { (result ≡ Status.TooLong) ↔ GaveTooMuch (S.given source.old) (S.given source.new) }
+    ensures usage { result ≢ Status.Usage }
+    ensures few { (result ≢ Status.TooFew) × (result ≢ Status.Disabled) }
+{
+    let Ok(mut writer) = Writer::new(alloc) else {
+        return Status::NoMemory;
+    };
+    run_lines(caller, alloc, source, &mut writer, sink, cpus)
 }
 
 /// Reads a dump, a line `end` and requests in the form of Linux's mtrr document, carries each request
@@ -315,8 +337,5 @@ pub fn proc<R: AllocGlobal + Threads + Wait + Sync, S: Source, K: Sink, G: Gate>
     ensures usage { result ≢ Status.Usage }
     ensures few { (result ≢ Status.TooFew) × (result ≢ Status.Disabled) }
 {
-    let Ok(mut writer) = Writer::new(rt.alloc()) else {
-        return Status::NoMemory;
-    };
-    run_lines(rt, rt.alloc(), source, &mut writer, sink, gate, cpus)
+    proc_with(&Caller::of(rt, gate), rt.alloc(), source, sink, cpus)
 }

@@ -33,6 +33,7 @@ use mt_output::{LINE_ROOM, LineBuffer, WRITER_ROOM, Writer};
 use mt_ports::{Gate, NoMemory};
 use mt_ram::RamFault;
 use mt_regs::RegFile;
+use mt_rendezvous::{Caller, update_with};
 use mt_script::Command;
 use mt_tlb::Mapping;
 use std::alloc::Global;
@@ -133,11 +134,10 @@ fn begin(core: &mut Core, goal: &RegFile) -> Option<CallFault>
 
 // Updates the processors to these registers, each on a thread of its own, and answers why it isn't begun.
 fn lead<R: Threads + Wait + Sync, G: Gate>(
-    rt: &R,
+    caller: &Caller<R, G>,
     alloc: Global,
     core: &mut Core,
     goal: &RegFile,
-    gate: &G,
 ) -> Option<CallFault>
     requires some { 0 < length core.old.system.processors }
     requires fits { All (FitsGoal goal.now) core.old.system.processors }
@@ -147,7 +147,7 @@ fn lead<R: Threads + Wait + Sync, G: Gate>(
     ensures short { (own : Fault) → result ≡ Some (CallFault.Refused own) → HasThreeDigits own.msr }
 {
     goal.is_register_file(); // a fact for the proof
-    match mt_rendezvous::update(rt, alloc, core, goal.same(), gate) {
+    match update_with(caller, alloc, core, goal.same()) {
         Ok(()) => None,
         Err(fault) => Some(fault),
     }
@@ -156,12 +156,11 @@ fn lead<R: Threads + Wait + Sync, G: Gate>(
 /// A whole update to these registers, and the era after it, or why it isn't begun.
 #[inline(never)]
 pub(crate) fn update<R: Threads + Wait + Sync, G: Gate>(
-    rt: &R,
+    caller: &Caller<R, G>,
     alloc: Global,
     writer: &mut Writer,
     core: &mut Core,
     goal: &RegFile,
-    gate: &G,
 )
     requires line { length writer.old + LINE_ROOM ≤ WRITER_ROOM }
     requires some { 0 < length core.old.system.processors }
@@ -170,7 +169,7 @@ pub(crate) fn update<R: Threads + Wait + Sync, G: Gate>(
     ensures text { writer.new ≡ writer.old ++ update_line core.old goal.now }
     ensures after { core.new ≡ after_update core.old goal.now }
 {
-    match lead(rt, alloc, core, goal, gate) {
+    match lead(caller, alloc, core, goal) {
         None => writer.append(complete_line(common_era(core)).as_slice()),
         Some(fault) => writer.append(call_fault_line(&fault).as_slice()),
     }

@@ -11,5 +11,5 @@ mod task;
 mod texts;
 
 pub use replayer::Replayer;
-pub use running::replay;
-pub use summing::{Totals, summary};
+pub use running::{replay, replay_with};
+pub use summing::{Totals, summary, summary_with};

@@ -22,6 +22,7 @@ use mt_dump::Dump;
 use mt_output::{LineBuffer, Writer, accepted_line, dump_refused_line, offence_line};
 use mt_ports::{Failed, Gate, NoMemory, Sink, Status};
 use mt_regs::first_refusal;
+use mt_rendezvous::Caller;
 use mt_script::{Command, Head, Offence, Setup, read_command};
 use mt_stream::tell;
 use mt_text::Line;
@@ -108,14 +109,13 @@ fn begin<K: Sink>(
 
 // Does a command that asks for this act. Its line is formed behind the bytes that wait, once there is room for it.
 fn form<R: Threads + Wait + Sync, K: Sink, G: Gate>(
-    rt: &R,
+    caller: &Caller<R, G>,
     alloc: Global,
     replayer: &mut Replayer,
     c: &Command,
     asked: Act,
     writer: &mut Writer,
     sink: &mut K,
-    gate: &G,
 ) -> Result<(), Failed>
     requires fits { Fits replayer.old.now c.now }
     requires asked { task_of c.now ≡ Task.Act asked }
@@ -126,7 +126,7 @@ fn form<R: Threads + Wait + Sync, K: Sink, G: Gate>(
 {
     match writer.make_room(sink) {
         Ok(()) => {
-            replayer.run(rt, alloc, c, asked, writer, gate);
+            replayer.run(caller, alloc, c, asked, writer);
             Ok(())
         }
         Err(failed) => Err(failed),
@@ -186,13 +186,12 @@ fn admit<K: Sink>(
 
 // Does a command and writes what it says. There is a status where memory is refused.
 fn do_command<R: Threads + Wait + Sync, K: Sink, G: Gate>(
-    rt: &R,
+    caller: &Caller<R, G>,
     alloc: Global,
     replayer: &mut Replayer,
     c: &Command,
     writer: &mut Writer,
     sink: &mut K,
-    gate: &G,
 ) -> Result<Option<Status>, Failed>
     requires fits { Fits replayer.old.now c.now }
     requires room { HasEraRoom replayer.old.machine }
@@ -212,7 +211,7 @@ fn do_command<R: Threads + Wait + Sync, K: Sink, G: Gate>(
         },
         Task::Up => bring_up(replayer, writer, sink),
         Task::Join => admit(replayer, writer, sink),
-        Task::Act(asked) => match form(rt, alloc, replayer, c, asked, writer, sink, gate) {
+        Task::Act(asked) => match form(caller, alloc, replayer, c, asked, writer, sink) {
             Ok(()) => Ok(None),
             Err(failed) => Err(failed),
         },
@@ -221,13 +220,12 @@ fn do_command<R: Threads + Wait + Sync, K: Sink, G: Gate>(
 
 // Takes a line behind the dump's end.
 fn take_command<R: Threads + Wait + Sync, K: Sink, G: Gate>(
-    rt: &R,
+    caller: &Caller<R, G>,
     alloc: Global,
     replayer: &mut Replayer,
     line: &Line<'_>,
     writer: &mut Writer,
     sink: &mut K,
-    gate: &G,
 ) -> Result<Option<Status>, Failed>
     requires { HasEraRoom replayer.old.machine }
     ensures bytes { (came : Bool) (so_far : List ℕ) → IsQuiet (Run.Body replayer.old) came so_far →
@@ -241,7 +239,7 @@ fn take_command<R: Threads + Wait + Sync, K: Sink, G: Gate>(
 {
     replayer.is_replay_state(); // a fact for the proof
     match read_command(line, replayer.setup()) {
-        Ok(command) => do_command(rt, alloc, replayer, &command, writer, sink, gate),
+        Ok(command) => do_command(caller, alloc, replayer, &command, writer, sink),
         Err(fault) => tell_offence(writer, sink, &Offence::Script(fault)),
     }
 }
@@ -280,13 +278,12 @@ fn take_in_head<K: Sink>(
 
 /// Takes a line. There is a status where the replay ends with it.
 pub(crate) fn take_line<R: Threads + Wait + Sync, K: Sink, G: Gate>(
-    rt: &R,
+    caller: &Caller<R, G>,
     alloc: Global,
     run: &mut Run,
     line: &Line<'_>,
     writer: &mut Writer,
     sink: &mut K,
-    gate: &G,
 ) -> Result<Option<Status>, Failed>
     requires { HasEraRoomAt run.old }
     ensures bytes { (came : Bool) (so_far : List ℕ) (was : Point) → IsAt run.old was → IsQuiet run.old came so_far →
@@ -298,7 +295,7 @@ pub(crate) fn take_line<R: Threads + Wait + Sync, K: Sink, G: Gate>(
     ensures cause { HasCause (K.faults sink.old) (K.faults sink.new) result }
 {
     match run {
-        Run::Body(replayer) => take_command(rt, alloc, replayer, line, writer, sink, gate),
+        Run::Body(replayer) => take_command(caller, alloc, replayer, line, writer, sink),
         Run::Head(_) => take_in_head(alloc, run, line, writer, sink),
     }
 }

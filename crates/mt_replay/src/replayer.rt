@@ -27,6 +27,7 @@ use mt_output::{LINE_ROOM, LineBuffer, WRITER_ROOM, Writer};
 use mt_ports::{Failed, Gate, NoMemory, Sink};
 use mt_ram::Ram;
 use mt_regs::RegFile;
+use mt_rendezvous::Caller;
 use mt_script::{Command, Setup, Stage};
 use std::alloc::Global;
 use std::marker::Model;
@@ -72,13 +73,12 @@ fn begin_goal(core: &Core, goal: &mut RegFile)
 
 // A section ends: an update, or a call for one.
 fn end_section<R: Threads + Wait + Sync, G: Gate>(
-    rt: &R,
+    caller: &Caller<R, G>,
     alloc: Global,
     writer: &mut Writer,
     core: &mut Core,
     goal: &RegFile,
     stage: Stage,
-    gate: &G,
 )
     requires line { length writer.old + LINE_ROOM ≤ WRITER_ROOM }
     requires some { 0 < length core.old.system.processors }
@@ -88,7 +88,7 @@ fn end_section<R: Threads + Wait + Sync, G: Gate>(
     ensures after { core.new ≡ (if is_update stage then after_update core.old goal.now else after_call core.old goal.now) }
 {
     if stage == Stage::InUpdate {
-        update(rt, alloc, writer, core, goal, gate);
+        update(caller, alloc, writer, core, goal);
     } else {
         call(writer, core, goal);
     }
@@ -103,14 +103,13 @@ fn set(goal: &mut RegFile, msr: u32, value: u64)
 // A line of a section.
 #[inline(never)]
 fn take_section_line<R: Threads + Wait + Sync, G: Gate>(
-    rt: &R,
+    caller: &Caller<R, G>,
     alloc: Global,
     writer: &mut Writer,
     core: &mut Core,
     goal: &mut RegFile,
     line: Section,
     stage: Stage,
-    gate: &G,
 )
     requires line { length writer.old + LINE_ROOM ≤ WRITER_ROOM }
     requires some { 0 < length core.old.system.processors }
@@ -123,20 +122,19 @@ fn take_section_line<R: Threads + Wait + Sync, G: Gate>(
     match line {
         Section::Begin => begin_goal(core, goal),
         Section::Register(msr, value) => set(goal, msr, value),
-        Section::End => end_section(rt, alloc, writer, core, goal, stage, gate),
+        Section::End => end_section(caller, alloc, writer, core, goal, stage),
     }
 }
 
 // Does what asks for no memory.
 fn do_act<R: Threads + Wait + Sync, G: Gate>(
-    rt: &R,
+    caller: &Caller<R, G>,
     alloc: Global,
     writer: &mut Writer,
     setup: &Setup,
     core: &mut Core,
     goal: &mut RegFile,
     act: Act,
-    gate: &G,
 )
     requires line { length writer.old + LINE_ROOM ≤ WRITER_ROOM }
     requires state { IsReplayState (state setup.now core.old goal.old) }
@@ -154,14 +152,13 @@ fn do_act<R: Threads + Wait + Sync, G: Gate>(
         Act::Retire => retire(writer, core),
         Act::Selfsnoop(k) => core.self_snoop(k),
         Act::Section(line) => take_section_line(
-            rt,
+            caller,
             alloc,
             writer,
             core,
             goal,
             line,
             setup.stage(),
-            gate,
         ),
         Act::Nothing => {}
     }
@@ -211,12 +208,11 @@ impl Replayer {
     /// processor on a thread of its own, where the gate and the allocator let it.
     pub(crate) fn run<R: Threads + Wait + Sync, G: Gate>(
         &mut self,
-        rt: &R,
+        caller: &Caller<R, G>,
         alloc: Global,
         c: &Command,
         asked: Act,
         writer: &mut Writer,
-        gate: &G,
     )
         requires line { length writer.old + LINE_ROOM ≤ WRITER_ROOM }
         requires fits { Fits self.old.now c.now }
@@ -226,14 +222,13 @@ impl Replayer {
         ensures after { self.new ≡ state_after self.old c.now }
     {
         do_act(
-            rt,
+            caller,
             alloc,
             writer,
             &self.setup,
             &mut self.core,
             &mut self.goal,
             asked,
-            gate,
         );
         self.setup.accept(c);
     }

@@ -9,6 +9,7 @@ ghost use Rattle.mt_stream.specs.Runs.{EndsAs};
 use crate::line::{Run, take_line};
 use mt_output::{Writer, offence_line};
 use mt_ports::{Gate, Sink, Source, Status};
+use mt_rendezvous::Caller;
 use mt_script::{Head, Offence, read_end};
 use mt_stream::{close, cut_status, leave, next_line};
 use mt_text::Feed;
@@ -34,12 +35,11 @@ fn end_text<K: Sink>(run: &Run, feed: &Feed, writer: &mut Writer, sink: &mut K) 
 
 // Runs the lines of a source to their end, to an offence or a refused dump, or to a fault.
 fn run_lines<R: Threads + Wait + Sync, S: Source, K: Sink, G: Gate>(
-    rt: &R,
+    caller: &Caller<R, G>,
     alloc: Global,
     source: &mut S,
     writer: &mut Writer,
     sink: &mut K,
-    gate: &G,
 ) -> Status
     requires { writer.old ≡ [] }
     ensures bytes { (bytes : List ℕ) → S.left source.old ≡ Some bytes → Replays bytes (S.left source.new) (K.taken sink.old) (K.taken sink.new) result }
@@ -59,7 +59,7 @@ fn run_lines<R: Threads + Wait + Sync, S: Source, K: Sink, G: Gate>(
             Err(cut) => return cut_status(&cut),
         }
         let last = feed.is_last();
-        match take_line(rt, alloc, &mut run, &feed.current(), writer, sink, gate) {
+        match take_line(caller, alloc, &mut run, &feed.current(), writer, sink) {
             Ok(None) => {
                 if last {
                     return end_text(&run, &feed, writer, sink);
@@ -69,6 +69,35 @@ fn run_lines<R: Threads + Wait + Sync, S: Source, K: Sink, G: Gate>(
             Err(_) => return Status::WriteFault,
         }
     }
+}
+
+/// Does what `replay` does, for a caller with a runtime and a gate.
+pub fn replay_with<R: Threads + Wait + Sync, S: Source, K: Sink, G: Gate>(
+    caller: &Caller<R, G>,
+    alloc: Global,
+    source: &mut S,
+    sink: &mut K,
+) -> Status
+    // Where the source tells its bytes, what each status says of them and of what the sink took.
+    ensures bytes { (bytes : List ℕ) → S.left source.old ≡ Some bytes → Replays bytes (S.left source.new) (K.taken sink.old) (K.taken sink.new) result }
+
+    // The status is the transcript's, unless a port fails, too much is read or memory is refused.
+    ensures complete { (bytes : List ℕ) → S.left source.old ≡ Some bytes → EndsAs (transcript bytes).status result }
+
+    // Memory is refused before anything is read, or at a line that asks for some. What the lines before it write was then written.
+    ensures memory { (bytes : List ℕ) → S.left source.old ≡ Some bytes → result ≡ Status.NoMemory → OutOfMemory bytes (S.left source.new) (K.taken sink.old) (K.taken sink.new) }
+
+    // A port that failed did so once, and the status is its fault; at every other status none failed.
+    ensures read_fault { StatusHasCause Status.ReadFault (S.faults source.old) (S.faults source.new) result }
+    ensures write_fault { StatusHasCause Status.WriteFault (K.faults sink.old) (K.faults sink.new) result }
+    ensures too_long { (result ≡ Status.TooLong) ↔ GaveTooMuch (S.given source.old) (S.given source.new) }
+    ensures usage { result ≢ Status.Usage }
+    ensures few { (result ≢ Status.TooFew) × (result ≢ Status.Disabled) }
+{
+    let Ok(mut writer) = Writer::new(alloc) else {
+        return Status::NoMemory;
+    };
+    run_lines(caller, alloc, source, &mut writer, sink)
 }
 
 /// Runs a script on one machine and writes its transcript, with the transcript's status. The script
@@ -100,8 +129,5 @@ pub fn replay<R: AllocGlobal + Threads + Wait + Sync, S: Source, K: Sink, G: Gat
     ensures usage { result ≢ Status.Usage }
     ensures few { (result ≢ Status.TooFew) × (result ≢ Status.Disabled) }
 {
-    let Ok(mut writer) = Writer::new(rt.alloc()) else {
-        return Status::NoMemory;
-    };
-    run_lines(rt, rt.alloc(), source, &mut writer, sink, gate)
+    replay_with(&Caller::of(rt, gate), rt.alloc(), source, sink)
 }

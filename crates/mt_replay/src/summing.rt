@@ -7,6 +7,7 @@ use crate::line::{Run, take_line};
 use mt_output::{Writer, offence_line};
 use mt_ports::{Failed, Gate, NoMemory, Sink, Status};
 use mt_ram::Ram;
+use mt_rendezvous::Caller;
 use mt_script::{Head, Offence, read_end};
 use mt_text::{end_place, hex64, next_line};
 use std::alloc::Global;
@@ -140,11 +141,10 @@ fn with_memory(totals: &Totals, run: &Run) -> Totals
 
 // Runs the lines of a text to their end, to an offence or to a refused dump.
 fn sum_lines<R: Threads + Wait + Sync, G: Gate>(
-    rt: &R,
+    caller: &Caller<R, G>,
     alloc: Global,
     source: &[u8],
     writer: &mut Writer,
-    gate: &G,
 ) -> Result<Totals, NoMemory>
     requires { writer.old ≡ [] }
     ensures { IfOk result (λ totals. totals ≡ summary source.now) }
@@ -155,7 +155,7 @@ fn sum_lines<R: Threads + Wait + Sync, G: Gate>(
     let mut at = 0;
     let mut number = 1;
     'lines: while let Some(line) = next_line(source, at, number) {
-        match take_line(rt, alloc, &mut run, &line, writer, &mut sink, gate) {
+        match take_line(caller, alloc, &mut run, &line, writer, &mut sink) {
             Ok(None) => add_waiting(&mut totals, writer),
             Ok(Some(status)) => {
                 if status == Status::NoMemory {
@@ -177,6 +177,18 @@ fn sum_lines<R: Threads + Wait + Sync, G: Gate>(
     Ok(with_memory(&totals, &run))
 }
 
+/// Does what `summary` does, for a caller with a runtime and a gate.
+pub fn summary_with<R: Threads + Wait + Sync, G: Gate>(
+    caller: &Caller<R, G>,
+    alloc: Global,
+    source: &[u8],
+) -> Result<Totals, NoMemory>
+    ensures { IfOk result (λ totals. totals ≡ summary source.now) }
+{
+    let mut writer = Writer::new(alloc)?;
+    sum_lines(caller, alloc, source, &mut writer)
+}
+
 /// The numbers of a script's transcript, which isn't written. The script is run as by `replay`,
 /// however long it is. An error says that memory was refused.
 pub fn summary<R: AllocGlobal + Threads + Wait + Sync, G: Gate>(
@@ -186,6 +198,5 @@ pub fn summary<R: AllocGlobal + Threads + Wait + Sync, G: Gate>(
 ) -> Result<Totals, NoMemory>
     ensures { IfOk result (λ totals. totals ≡ summary source.now) }
 {
-    let mut writer = Writer::new(rt.alloc())?;
-    sum_lines(rt, rt.alloc(), source, &mut writer, gate)
+    summary_with(&Caller::of(rt, gate), rt.alloc(), source)
 }

@@ -12,10 +12,10 @@ big_is : (n : ℕ) (text written : List ℕ) (t : Totals) → text ≡ make_text
 unfolding big_text
 big_is n text written t made is line = line ∙ ap summary_text (is ∙ ap summary made)
 
-pub returns-in-Ok-summary-clause-bytes : goal.returns-in-Ok-summary-clause-bytes
-returns-in-Ok-summary-clause-bytes g c =
+pub returns-in-Ok-summary_with-clause-bytes : goal.returns-in-Ok-summary_with-clause-bytes
+returns-in-Ok-summary_with-clause-bytes g c =
     inl (subst (λ (t : List ℕ). Writes t Done (g.K.Sink.taken c.args.sink.now) (g.K.Sink.taken c.written.new.sink) c.written.result)
-    (big_is c.args.n c.as_slice.result.now c.as_slice-in-Ok-summary.result.now c.in-Ok-summary.totals (c.as_slice.ensures.value ∙ c.in-Ok.ensures) c.in-Ok-summary.ensures (c.as_slice-in-Ok-summary.ensures.value ∙ c.summary_text.ensures))
+    (big_is c.args.n c.as_slice.result.now c.as_slice-in-Ok-summary_with.result.now c.in-Ok-summary_with.totals (c.as_slice.ensures.value ∙ c.in-Ok.ensures) c.in-Ok-summary_with.ensures (c.as_slice-in-Ok-summary_with.ensures.value ∙ c.summary_text.ensures))
     c.written.ensures.bytes)
 
 pub returns-clause-bytes : goal.returns-clause-bytes

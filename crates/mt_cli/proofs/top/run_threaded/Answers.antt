@@ -8,11 +8,11 @@ use Rattle.mt_cli.specs.Runs.{sink_run, source_run}
 use Rattle.mt_cli.proofs.Ran.{makes_ran, proc_ran, replay_ran}
 use Rattle.mt_cli.proofs.top.run_threaded.Goals as goal
 
-pub proc-requires-clause-some : goal.proc-requires-clause-some
-proc-requires-clause-some g c κs within = let sound = rw c.in-Proc.is at c.requires in sound.0
+pub proc_with-requires-clause-some : goal.proc_with-requires-clause-some
+proc_with-requires-clause-some g c κs within = let sound = rw c.in-Proc.is at c.requires in sound.0
 
-pub proc-requires-clause-few : goal.proc-requires-clause-few
-proc-requires-clause-few g c κs within = let sound = rw c.in-Proc.is at c.requires in sound.1
+pub proc_with-requires-clause-few : goal.proc_with-requires-clause-few
+proc_with-requires-clause-few g c κs within = let sound = rw c.in-Proc.is at c.requires in sound.1
 
 pub private-requires-clause-some : goal.private-requires-clause-some
 private-requires-clause-some g c κs within = let sound = rw c.in-Private.is at c.requires in sound.0
@@ -23,18 +23,18 @@ private-requires-clause-few g c κs within = let sound = rw c.in-Private.is at c
 pub returns-in-Replay : goal.returns-in-Replay
 returns-in-Replay g c words says =
     replay_ran words
-    (source_run g.S.Source.left g.S.Source.faults g.S.Source.given c.args.source.now c.replay.new.source)
-    (sink_run g.K.Sink.taken g.K.Sink.faults c.args.sink.now c.replay.new.sink)
-    c.replay.result (says ∙ ap (λ (t : ThreadedCommand). Some (Threaded t)) c.in-Replay.is)
-    c.replay.ensures.bytes c.replay.ensures.memory c.replay.ensures.usage c.replay.ensures.few c.replay.ensures.read_fault c.replay.ensures.write_fault c.replay.ensures.too_long
+    (source_run g.S.Source.left g.S.Source.faults g.S.Source.given c.args.source.now c.replay_with.new.source)
+    (sink_run g.K.Sink.taken g.K.Sink.faults c.args.sink.now c.replay_with.new.sink)
+    c.replay_with.result (says ∙ ap (λ (t : ThreadedCommand). Some (Threaded t)) c.in-Replay.is)
+    c.replay_with.ensures.bytes c.replay_with.ensures.memory c.replay_with.ensures.usage c.replay_with.ensures.few c.replay_with.ensures.read_fault c.replay_with.ensures.write_fault c.replay_with.ensures.too_long
 
 pub returns-in-Proc : goal.returns-in-Proc
 returns-in-Proc g c words says =
     proc_ran words c.in-Proc.cpus
-    (source_run g.S.Source.left g.S.Source.faults g.S.Source.given c.args.source.now c.proc.new.source)
-    (sink_run g.K.Sink.taken g.K.Sink.faults c.args.sink.now c.proc.new.sink)
-    c.proc.result (says ∙ ap (λ (t : ThreadedCommand). Some (Threaded t)) c.in-Proc.is)
-    c.proc.ensures.bytes c.proc.ensures.memory c.proc.ensures.usage c.proc.ensures.few c.proc.ensures.read_fault c.proc.ensures.write_fault c.proc.ensures.too_long
+    (source_run g.S.Source.left g.S.Source.faults g.S.Source.given c.args.source.now c.proc_with.new.source)
+    (sink_run g.K.Sink.taken g.K.Sink.faults c.args.sink.now c.proc_with.new.sink)
+    c.proc_with.result (says ∙ ap (λ (t : ThreadedCommand). Some (Threaded t)) c.in-Proc.is)
+    c.proc_with.ensures.bytes c.proc_with.ensures.memory c.proc_with.ensures.usage c.proc_with.ensures.few c.proc_with.ensures.read_fault c.proc_with.ensures.write_fault c.proc_with.ensures.too_long
 
 pub returns-in-Big : goal.returns-in-Big
 returns-in-Big g c words says =

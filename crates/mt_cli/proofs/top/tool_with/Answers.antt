@@ -2,7 +2,7 @@ use Rattle.std.proofs.Common.{map, rules, string_bytes}
 use Rattle.mt_answers.specs.CommandLine.{command_of}
 use Rattle.mt_cli.proofs.Ran.{ran_from}
 use Rattle.mt_answers.proofs.SoundCommands.{is_threaded, sound_threaded}
-use Rattle.mt_cli.proofs.top.tool.Goals as goal
+use Rattle.mt_cli.proofs.top.tool_with.Goals as goal
 
 pub run_threaded-requires : goal.run_threaded-requires
 run_threaded-requires g c =
