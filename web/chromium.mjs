@@ -47,7 +47,7 @@ async function open(fragment = '') {
     await page('Page.navigate', { url: 'about:blank' });
     await page('Page.navigate', { url: `file://${top}web/mtrr.html${fragment}` });
     for (let k = 0; k < 200; k++) {
-        if (await evaluate("'ready' in document.documentElement.dataset || !document.getElementById('alert')?.hidden").catch(() => false)) return;
+        if (await evaluate("'ready' in document.documentElement.dataset || document.getElementById('alert')?.hidden === false").catch(() => false)) return;
         await new Promise(give => setTimeout(give, 50));
     }
     throw new Error('the page did not start');

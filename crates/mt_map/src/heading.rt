@@ -7,36 +7,14 @@ ghost use Rattle.mt_regs.specs.Registers.{HasThreeDigits};
 use crate::drawing::{append_box, append_label, append_rule, is_different};
 use crate::labels::escaped;
 use crate::layout::Layout;
+use crate::names::{first_name, second_name};
 use crate::ranges::{are_fixed_on, bars};
 use crate::shaping::default_of;
-use crate::{Band, Legend, Rect};
+use crate::{Band, Legend, Names, Rect};
 use mt_output::{accepted_line, dump_refused_line};
 use mt_ranges::is_valid;
 use mt_regs::{Fault, RegFile};
 use std::alloc::{AllocError, Global};
-
-/// What a picture calls its two files.
-#[derive(Clone, Copy)]
-pub enum Names {
-    /// Processor 0, and the processor of this number.
-    Cpus(u32),
-    /// The file before a change, and the one after it.
-    Files,
-}
-
-fn first_name(names: Names) -> &'static str {
-    match names {
-        Names::Cpus(_) => "cpu 0",
-        Names::Files => "before",
-    }
-}
-
-fn second_name(alloc: Global, names: Names) -> Result<String, AllocError> {
-    match names {
-        Names::Cpus(k) => format!(in alloc; "cpu {k}"),
-        Names::Files => String::from_str(alloc, "after"),
-    }
-}
 
 fn different_count(bands: &[Band]) -> usize
     ensures { result ≡ length (filter is_different bands.now) }
@@ -153,22 +131,18 @@ fn state_text(alloc: Global, f: &RegFile) -> Result<String, AllocError> {
     Ok(text)
 }
 
-fn append_counts(
-    text: &mut String,
-    name: &str,
-    f: &RegFile,
-    valid: usize,
-) -> Result<(), AllocError> {
-    let (width, count) = (f.maxphy, f.pairs.len());
-    write!(
-        text,
-        "{name}: {width} address bits, {valid} of {count} pairs valid"
-    )
+fn append_width(text: &mut String, name: &str, width: u8) -> Result<(), AllocError> {
+    write!(text, "{name}: {width} address bits, ")
+}
+
+fn append_valid(text: &mut String, valid: usize, count: usize) -> Result<(), AllocError> {
+    write!(text, "{valid} of {count} pairs valid")
 }
 
 fn file_text(alloc: Global, name: &str, f: &RegFile) -> Result<String, AllocError> {
     let mut text = String::new(alloc);
-    append_counts(&mut text, name, f, valid_count(f))?;
+    append_width(&mut text, name, f.maxphy)?;
+    append_valid(&mut text, valid_count(f), f.pairs.len())?;
     text.push_str(state_text(alloc, f)?.as_str())?;
     Ok(text)
 }
@@ -280,10 +254,11 @@ pub(crate) fn layout(f: &RegFile, others: &[RegFile], title: Option<&[u8]>, bott
     }
 }
 
-fn pairs_head(alloc: Global, name: &str) -> Result<String, AllocError> {
-    let mut text = String::from_str(alloc, "pairs, ")?;
-    text.push_str(name)?;
-    Ok(text)
+fn append_pairs_head(text: &mut String, x: u64, name: &str) -> Result<(), AllocError> {
+    write!(
+        text,
+        "<text class='head' x='{x}' y='140'>pairs, {name}</text>\n"
+    )
 }
 
 // Adds the heads of the columns of two files.
@@ -297,10 +272,8 @@ fn append_both_heads(
     let second = second_name(alloc, names)?;
     append_label(text, "type", 372, 140, first)?;
     append_label(text, "type", 496, 140, second.as_str())?;
-    let head = pairs_head(alloc, first)?;
-    append_label(text, "head", layout.first_bar, 140, head.as_str())?;
-    let head = pairs_head(alloc, second.as_str())?;
-    append_label(text, "head", layout.second_bar, 140, head.as_str())?;
+    append_pairs_head(text, layout.first_bar, first)?;
+    append_pairs_head(text, layout.second_bar, second.as_str())?;
     Ok(())
 }
 

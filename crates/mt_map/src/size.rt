@@ -4,7 +4,7 @@ ghost use Rattle.mt_map.specs.Sizes.{IsNear, IsShort, kilobytes};
 use std::alloc::{AllocError, Global};
 
 /// The units in which a picture tells sizes, each 1,024 of the one before it.
-#[derive(Clone, Copy)]
+#[derive(Clone, Copy, Debug, PartialEq, Eq)]
 pub enum Unit {
     Kilobyte,
     Megabyte,
@@ -13,7 +13,7 @@ pub enum Unit {
 }
 
 /// So many units and tenths of a unit, or about so many. Only a rounded size has tenths.
-#[derive(Clone, Copy)]
+#[derive(Clone, Copy, Debug, PartialEq, Eq)]
 pub struct Size {
     pub count: u64,
     pub tenths: u64,
