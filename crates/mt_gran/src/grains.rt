@@ -19,12 +19,11 @@ pub struct Grained {
     pub parts: RunList<306>,
 }
 
-/// As `Grained`, where the parts are left in a work area.
-#[derive(Drop)]
-pub struct GrainedIn {
-    pub tidied: Tidied,
+/// What a rounding loses, where the parts are left in a work area.
+#[derive(Clone, Copy, Drop)]
+pub struct Lost {
     /// How many pages had WB and have UC now.
-    pub lost: u64,
+    pub pages: u64,
     /// How many parts there are, in the first places of the area's `wanted`.
     pub parts: usize,
 }
@@ -50,17 +49,19 @@ pub fn rounded(f: &RegFile, g: u8) -> RunList<612>
 
 /// The file that differs from `f` in its pairs alone and gives each page its type rounded to granules of `2^g` pages,
 /// with the fewest pairs, as `fit` does, and what is lost. Each refusal comes exactly where `GranFault` says. No memory is
-/// taken: what is large is in `area`, whose contents may be any. The parts that are lost are left there.
+/// taken: what is large is in `area`, whose contents may be any. The parts that are lost are left there, and `lost` is
+/// written where the file is rounded.
 pub fn gran_in(
     f: &RegFile,
     g: u8,
     spare: u8,
     chunk: u64,
     area: &mut WorkArea,
-) -> Result<GrainedIn, GranFault>
+    lost: &mut Lost,
+) -> Result<Tidied, GranFault>
     requires { g ≤ 28 }
-    ensures ok { IfOk result (λ grained. IsGrained f.now g chunk spare grained.tidied.file grained.tidied.used grained.lost (runs_in grained.parts area.new.wanted)) }
-    ensures few { IfOk result (λ grained. (grained.parts ≤ 306) × (grained.parts ≤ length area.new.wanted)) }
+    ensures ok { IfOk result (λ tidied. IsGrained f.now g chunk spare tidied.file tidied.used lost.new.pages (runs_in lost.new.parts area.new.wanted)) }
+    ensures few { IfOk result (λ _. (lost.new.parts ≤ 306) × (lost.new.parts ≤ length area.new.wanted)) }
     ensures err { IfErr result (λ fault. IsWhy f.now g chunk spare fault) }
 {
     if let Some(fault) = f.first_fault() {
@@ -78,18 +79,15 @@ pub fn gran_in(
     match fit(f, &area.wanted[..count], spare, chunk, &mut area.costs) {
         Ok(tidied) => {
             let parts = lost_parts(f, &own, g, &mut area.wanted);
-            let lost = lost_of(
+            let pages = lost_of(
                 f,
                 &PackedRuns {
                     packed: &area.wanted[..parts],
                 },
                 g,
             );
-            Ok(GrainedIn {
-                tidied,
-                lost,
-                parts,
-            })
+            *lost = Lost { pages, parts };
+            Ok(tidied)
         }
         Err(TooFew { needs, has }) => Err(GranFault::TooFew { needs, has }),
     }
@@ -107,12 +105,13 @@ pub fn gran(
     ensures ok { IfOk result (λ grained. IsGrained f.now g chunk spare grained.tidied.file grained.tidied.used grained.lost grained.parts) }
     ensures err { IfErr result (λ fault. IsWhy f.now g chunk spare fault) }
 {
-    let grained = gran_in(f, g, spare, chunk, area)?;
+    let mut lost = Lost { pages: 0, parts: 0 };
+    let tidied = gran_in(f, g, spare, chunk, area, &mut lost)?;
     Ok(Grained {
-        tidied: grained.tidied,
-        lost: grained.lost,
+        tidied,
+        lost: lost.pages,
         parts: RunList::of(&PackedRuns {
-            packed: &area.wanted[..grained.parts],
+            packed: &area.wanted[..lost.parts],
         }),
     })
 }

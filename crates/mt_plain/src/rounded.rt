@@ -8,7 +8,7 @@ use crate::answers::{DONE, FAULT, NO_FILE};
 use crate::maps::{put_run, room_status, run_words};
 use crate::tidied::{DISABLED, TOO_FEW, put_words, usable_pairs};
 use crate::{PlainLoss, PlainNeed, PlainRegisters, PlainRun, file_of};
-use mt_gran::{GranFault, gran_in, granule_log};
+use mt_gran::{GranFault, Lost, gran_in, granule_log};
 use mt_tidy::{PackedRuns, WorkArea};
 
 const NO_GRANULE: u32 = 11;
@@ -50,23 +50,24 @@ pub fn gran(
     let Some(log) = granule_log(size) else {
         return NO_GRANULE;
     };
-    match gran_in(&file, log, spare, chunk, work) {
-        Ok(grained) => {
+    let mut lost = Lost { pages: 0, parts: 0 };
+    match gran_in(&file, log, spare, chunk, work, &mut lost) {
+        Ok(tidied) => {
             let room = parts.len();
-            let lost = PackedRuns {
-                packed: &work.wanted[..grained.parts],
+            let runs = PackedRuns {
+                packed: &work.wanted[..lost.parts],
             };
-            put_runs(&lost, parts);
-            put_words(&grained.tidied.file, rounded);
+            put_runs(&runs, parts);
+            put_words(&tidied.file, rounded);
             *need = PlainNeed {
-                needs: grained.tidied.used as u64,
+                needs: tidied.used as u64,
                 has: usable_pairs(&file, spare),
             };
             *loss = PlainLoss {
-                pages: grained.lost,
-                parts: grained.parts as u64,
+                pages: lost.pages,
+                parts: lost.parts as u64,
             };
-            room_status(room, grained.parts)
+            room_status(room, lost.parts)
         }
         Err(GranFault::Refused(_)) => FAULT,
         Err(GranFault::Disabled) => DISABLED,

@@ -17,5 +17,5 @@ returns-in-Ok-clause-ok c =
     let accepted : IsAccepted c.args.f.now = subst (IsFirstFault c.args.f.now) c.in_default.is c.first_fault.ensures in
     let enabled : is_enabled c.args.f.now ≡ true = sym c.is_enabled.ensures ∙ c.if-not-is_enabled.false in
     grained c.args.f.now accepted enabled c.args.g c.args.chunk c.args.spare (runs_in c.rounded_runs-count.result c.rounded_runs-count.new.list) c.rounded_runs-count.ensures.runs
-    c.in-Ok.tidied.file c.in-Ok.tidied.used c.in-Ok.ensures.ok c.lost_of-lost.result c.lost_of-lost.ensures
+    c.in-Ok.tidied.file c.in-Ok.tidied.used c.in-Ok.ensures.ok c.lost_of-pages.result c.lost_of-pages.ensures
     (runs_in c.lost_parts-parts.result c.lost_parts-parts.new.list) c.lost_parts-parts.ensures.runs

@@ -22,23 +22,25 @@ same_need file loss parts a b needs has first second =
 pub returns-in-Ok-clause-file : goal.returns-in-Ok-clause-file
 returns-in-Ok-clause-file c = λ is log has.
     let found = c.in-Some-granule_log.log in
-    let grained = c.in-Ok.grained in
-    let lost = runs_in grained.parts c.gran_in.new.area.wanted in
-    let at_file = subst (λ f. IsGrained f found c.args.chunk c.args.spare grained.tidied.file grained.tidied.used grained.lost lost) c.in-Some.ensures.file c.in-Ok.ensures.ok in
-    let at_log = subst (λ g. IsGrained (file_in c.args.r.now) g c.args.chunk c.args.spare grained.tidied.file grained.tidied.used grained.lost lost)
+    let tidied = c.in-Ok.tidied in
+    let pages = c.gran_in.new.lost.pages in
+    let count = c.gran_in.new.lost.parts in
+    let lost = runs_in count c.gran_in.new.area.wanted in
+    let at_file = subst (λ f. IsGrained f found c.args.chunk c.args.spare tidied.file tidied.used pages lost) c.in-Some.ensures.file c.in-Ok.ensures.ok in
+    let at_log = subst (λ g. IsGrained (file_in c.args.r.now) g c.args.chunk c.args.spare tidied.file tidied.used pages lost)
     (one_log c.args.size found log c.in-Some-granule_log.ensures.some has) at_file in
     inl
     (record {
-      used = grained.tidied.used;
+      used = tidied.used;
       parts = lost;
       words = c.put_words.ensures.words;
-      grained = subst (λ h. IsGrained (file_in c.args.r.now) log c.args.chunk c.args.spare h grained.tidied.used grained.lost lost) (sym c.put_words.ensures.file) at_log;
+      grained = subst (λ h. IsGrained (file_in c.args.r.now) log c.args.chunk c.args.spare h tidied.used pages lost) (sym c.put_words.ensures.file) at_log;
       needs_is = refl;
       has_is = c.usable_pairs.ensures ∙ ap (λ f. pair_count f - c.args.spare) c.in-Some.ensures.file;
       count_is = omega (
         arith,
-        length-map (take grained.parts c.gran_in.new.area.wanted) run_of,
-        length-take grained.parts c.gran_in.new.area.wanted,
+        length-map (take count c.gran_in.new.area.wanted) run_of,
+        length-take count c.gran_in.new.area.wanted,
         c.in-Ok.ensures.few.1,
       );
       few = c.in-Ok.ensures.few.0;
