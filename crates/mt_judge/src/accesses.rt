@@ -83,10 +83,9 @@ fn translate(cpu: &mut Cpu, vpage: u64) -> Result<Option<Entry>, NoMemory>
     if let Some(entry) = find_entry(cpu.entries.as_slice(), vpage) {
         return Ok(Some(entry));
     }
-    let Some(mapping) = find_mapping(cpu.maps.as_slice(), vpage) else {
+    let Some(entry) = cpu.made_entry(vpage) else {
         return Ok(None);
     };
-    let entry = cpu.new_entry(&mapping);
     add_entry(&mut cpu.entries, entry)?;
     Ok(Some(entry))
 }

@@ -1,4 +1,5 @@
-ghost use Rattle.std.specs.Prelude.{◌≡◌, ◌<◌, length, map, IfOk, OnOk, Some, slice_get, if◌then◌else◌};
+ghost use Rattle.std.specs.Prelude.{◌≡◌, ◌<◌, length, map, IfOk, OnOk, Some, nat_lt, true, slice_get, if◌then◌else◌};
+ghost use Rattle.std.specs.List.{list_all};
 ghost use Rattle.mt_tlb.specs.declared.mapping.Mapping.{Mapping};
 ghost use Rattle.mt_tlb.specs.Entries.{global_entries, is_full_for, is_mapped, maps_page, set_mapping, without_page};
 ghost use Rattle.mt_machine.specs.System.{Processor};
@@ -40,23 +41,32 @@ fn replace(maps: &mut [Mapping], x: Mapping)
     }
 }
 
+fn put_mapping(maps: &mut Vec<Mapping>, x: Mapping) -> Result<Ruled, NoMemory>
+    requires { x.index < 8 }
+    ensures answer { IfOk result (λ ruled. ruled ≡ (if is_full_for x maps.old.items then Ruled.Full else Ruled.Okay)) }
+    ensures after { OnOk result (maps.new.items ≡ (if is_full_for x maps.old.items then maps.old.items else set_mapping x maps.old.items)) }
+    ensures kept { list_all (λ m. nat_lt m.index 8) maps.old.items ≡ true → list_all (λ m. nat_lt m.index 8) maps.new.items ≡ true }
+{
+    if is_mapped(maps.as_slice(), x.vpage) {
+        replace(maps.as_mut_slice(), x);
+        return Ok(Ruled::Okay);
+    }
+    if maps.len() == MOST_MAPPINGS {
+        return Ok(Ruled::Full);
+    }
+    match maps.push(x) {
+        Ok(()) => Ok(Ruled::Okay),
+        Err(_) => Err(NoMemory),
+    }
+}
+
 /// Sets the mapping of a page.
 pub(crate) fn map(cpu: &mut Cpu, x: Mapping) -> Result<Ruled, NoMemory>
     requires { x.index < 8 }
     ensures answer { IfOk result (λ ruled. ruled ≡ (if is_full_for x cpu.old.mappings then Ruled.Full else Ruled.Okay)) }
     ensures after { OnOk result (cpu.new ≡ (if is_full_for x cpu.old.mappings then cpu.old else record cpu.old { mappings = set_mapping x cpu.old.mappings })) }
 {
-    if is_mapped(cpu.maps.as_slice(), x.vpage) {
-        replace(cpu.maps.as_mut_slice(), x);
-        return Ok(Ruled::Okay);
-    }
-    if cpu.maps.len() == MOST_MAPPINGS {
-        return Ok(Ruled::Full);
-    }
-    match cpu.maps.push(x) {
-        Ok(()) => Ok(Ruled::Okay),
-        Err(_) => Err(NoMemory),
-    }
+    put_mapping(&mut cpu.maps, x)
 }
 
 fn without_page(entries: &mut Vec<Entry>, vpage: u64)

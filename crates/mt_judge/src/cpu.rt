@@ -1,7 +1,10 @@
 ghost use Rattle.std.specs.Prelude.{◌≡◌, ◌<◌, IfOk};
+ghost use Rattle.std.specs.Option.{option_map};
+ghost use Rattle.mt_tlb.specs.Entries.{find_mapping};
 ghost use Rattle.mt_machine.specs.System.{start_processor};
 ghost use Rattle.mt_machine.specs.Access.{new_entry};
 
+use crate::accesses::find_mapping;
 use mt_cache::CacheLine;
 use mt_kinds::{MemType, Pat, effective};
 use mt_machine::Phase;
@@ -113,6 +116,23 @@ impl Cpu {
         ensures { result ≡ self.now.cache_disabled }
     {
         self.cd
+    }
+
+    /// Where the processor stands in the manual's procedure.
+    pub fn phase(&self) -> Phase
+        ensures { result ≡ self.now.phase }
+    {
+        self.phase
+    }
+
+    // The entry that the mapping of a page makes.
+    pub(crate) fn made_entry(&self, vpage: u64) -> Option<Entry>
+        ensures { result ≡ option_map (new_entry self.now) (find_mapping vpage self.now.mappings) }
+    {
+        match find_mapping(self.maps.as_slice(), vpage) {
+            Some(mapping) => Some(self.new_entry(&mapping)),
+            None => None,
+        }
     }
 
     // The entry that a mapping makes.

@@ -36,7 +36,7 @@ pub(crate) fn write_back_or_drop(cpu: &Cpu) -> Event
     requires { list_all (λ l. nat_lt l.number (2 ^ 46)) cpu.now.lines ≡ true }
     ensures { result ≡ write_back_or_drop cpu.now }
 {
-    match lines::first_dirty_line(cpu.lines.as_slice()) {
+    match lines::first_dirty_line(cpu.lines()) {
         Some(line) => write_back_event(&line),
         None => Event::DropLines,
     }

@@ -89,8 +89,16 @@ pub(crate) fn tell_move(text: &mut String, goal: &RegFile, m: &Move) -> Result<(
     text.push_str("\n")
 }
 
-// The step of a procedure that an event is.
-fn event_word(event: Event) -> &'static str {
+// The flush of the TLB that is due.
+fn flush_word(phase: Phase) -> &'static str {
+    match phase {
+        Phase::Flushed2 => "reload-cr3",
+        _ => "clear-pge",
+    }
+}
+
+// The step of a procedure that an event is, in a phase.
+fn event_word(event: Event, phase: Phase) -> &'static str {
     match event {
         Event::Take => "take",
         Event::Arrive => "arrive",
@@ -98,7 +106,7 @@ fn event_word(event: Event) -> &'static str {
         Event::Pass => "wait",
         Event::SetNoFill => "set-cd",
         Event::WriteBack { .. } | Event::DropLines => "wbinvd",
-        Event::FlushTlb => "clear-pge or reload-cr3",
+        Event::FlushTlb => flush_word(phase),
         Event::Disable => "clear-e",
         Event::Write(_) => "write",
         Event::Enable => "enable",
@@ -113,22 +121,20 @@ fn event_word(event: Event) -> &'static str {
 pub(crate) fn tell_undue(text: &mut String, before: &State, m: &Move) -> Result<(), AllocError> {
     let cpus = before.cpus.as_slice();
     let of = cpus.len();
-    match m.due {
-        Some(event) => {
-            let word = event_word(event);
+    match (m.due, m.phase) {
+        (Some(event), phase) => {
+            let word = event_word(event, phase);
             write!(text, "  not due: the manual has {word} here\n")
         }
-        None => match before.cpus.get(m.cpu) {
-            Some(cpu) if cpu.phase == Phase::Arrived => {
-                let count = arrived(cpus);
-                write!(text, "  not due: {count} of {of} have arrived at the first barrier\n")
-            }
-            Some(cpu) if cpu.phase == Phase::Arrived2 => {
-                let count = arrived_again(cpus);
-                write!(text, "  not due: {count} of {of} have arrived at the second barrier\n")
-            }
-            _ => text.push_str("  not due: the manual's procedure has ended\n"),
-        },
+        (None, Phase::Arrived) => {
+            let count = arrived(cpus);
+            write!(text, "  not due: {count} of {of} have arrived at the first barrier\n")
+        }
+        (None, Phase::Arrived2) => {
+            let count = arrived_again(cpus);
+            write!(text, "  not due: {count} of {of} have arrived at the second barrier\n")
+        }
+        (None, _) => text.push_str("  not due: the manual's procedure has ended\n"),
     }
 }
 
