@@ -134,8 +134,8 @@ module _ (state : State) (seen : Seen) (reading : Reading) (slot : ℕ) (next : 
       let p = eqb-true reading.processor k same in
       let n = eqb-true reading.number number same_too in
       rw (same, same_too) (
-        ap (λ j. held_at slots j (slot_of number)) (sym p) ∙ ap (λ m. held_at slots reading.processor (slot_of m)) (sym n) ∙ here
-        ∙ ap (λ j. slot_with (slot_shown seen.readings j reading.number) reading) p ∙ ap (λ m. slot_with (slot_shown seen.readings k m) reading) n
+      ap (λ j. held_at slots j (slot_of number)) (sym p) ∙ ap (λ m. held_at slots reading.processor (slot_of m)) (sym n) ∙ here
+      ∙ ap (λ j. slot_with (slot_shown seen.readings j reading.number) reading) p ∙ ap (λ m. slot_with (slot_shown seen.readings k m) reading) n
       )
   shown k number true false same apart = let e : (reading.processor == k && reading.number == number) ≡ false = rw (same, apart) refl in rw (same, apart) (other k number e (slot_of number) refl ∙ holds.slots_are k number)
   shown k number false number_test apart same = let e : (reading.processor == k && reading.number == number) ≡ false = rw apart refl in rw apart (other k number e (slot_of number) refl ∙ holds.slots_are k number)

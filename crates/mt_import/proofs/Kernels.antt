@@ -1,6 +1,5 @@
 -- Runs of fixed ranges, and calls of rdmsr.
-use Rattle.std.proofs.Common.{◌≡◌, ◌<◌, ◌+◌, ◌-◌, ℕ, zero, suc, true, false, ◌==◌, nat_lt, List, length, Option, Some, None, refl, sym, ◌∙◌, ap, arith}
-use Rattle.std.proofs.lemmas.Bool.{eqb-refl}
+use Rattle.std.proofs.Common.{◌≡◌, ◌<◌, ◌≤◌, ◌+◌, ◌-◌, ℕ, zero, suc, true, false, ◌==◌, nat_lt, List, length, Option, Some, None, refl, sym, ◌∙◌, ap, arith}
 use Rattle.std.proofs.lemmas.Bool.Decides.{nat_tests}
 use Rattle.mt_text.specs.Words.{text_of}
 use Rattle.mt_text.specs.declared.place.Place.{Place}
@@ -11,7 +10,7 @@ use Rattle.mt_import.specs.Rdmsr.{announced, call_from, option_at, register_name
 pub some_run : (first end code : ℕ) (place : Place) → first < end → types_said (Some first) (Some end) (Some code) place ≡ Shows (Some 0) (all_fixed_shown first end code place)
 some_run first end code place less = let test : nat_lt first end ≡ true = grind (arith, nat_tests, less) in rw test refl
 
-pub no_run : (first end code : ℕ) (place : Place) → (first < end → ⊥) → types_said (Some first) (Some end) (Some code) place ≡ Nothing
+pub no_run : (first end code : ℕ) (place : Place) → end ≤ first → types_said (Some first) (Some end) (Some code) place ≡ Nothing
 no_run first end code place more = let test : nat_lt first end ≡ false = grind (arith, nat_tests, more) in rw test refl
 
 same : (a b : ℕ) → a ≡ b → (a == b) ≡ true

@@ -153,14 +153,7 @@ fn fixed_by(number: u32, bytes: u64, code: u8, place: Place) -> Option<Shown>
     }
 }
 
-fn fixed_shown(
-    first: u32,
-    end: u32,
-    code: u8,
-    place: Place,
-    at: u32,
-    number: u32,
-) -> Option<Shown>
+fn fixed_shown(first: u32, end: u32, code: u8, place: Place, at: u32, number: u32) -> Option<Shown>
     requires within { at ≤ 80 }
     requires code { code ≤ 6 }
     ensures { result ≡ fixed_shown first end code place at number }

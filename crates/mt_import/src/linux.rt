@@ -113,7 +113,11 @@ fn pat_word(words: &LineWords<'_>) -> u8
     ensures some { 1 ≤ result }
     ensures few { result ≤ 3 }
 {
-    if is_text(b"[0-7]:", words.text(2)) { 2 } else { 3 }
+    if is_text(b"[0-7]:", words.text(2)) {
+        2
+    } else {
+        3
+    }
 }
 
 fn pat_said(words: &LineWords<'_>) -> Said

@@ -55,7 +55,7 @@ impl LogReader {
         requires fit { IfSome self.now.width IsFit }
         ensures text { text.new.items ≡ text.old.items
             ++ (if is_missing (values_of supplied.now (slots_of self.now) self.now.width) self.now.processors number
-                then missing_line number (hint_of supplied.now (slots_of self.now) self.now.width number) else []) }
+            then missing_line number (hint_of supplied.now (slots_of self.now) self.now.width number) else []) }
         ensures size { array_vec_len text.new ≤ array_vec_len text.old + 48 }
     {
         if self.is_missing(supplied, number) {

@@ -85,11 +85,7 @@ fn attached(word: &[u8]) -> Option<u32>
 }
 
 // An option: how many words it has, and the processor that the call is of behind it, or none for all of them.
-fn option_at(
-    at: u8,
-    processor: Option<u32>,
-    words: &LineWords<'_>,
-) -> Option<(u8, Option<u32>)>
+fn option_at(at: u8, processor: Option<u32>, words: &LineWords<'_>) -> Option<(u8, Option<u32>)>
     requires { at ≤ 12 }
     ensures option { result ≡ option_at at processor words.now.words }
     ensures small { IfSome result (λ found. found.0 ≤ 2) }

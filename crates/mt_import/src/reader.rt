@@ -128,11 +128,7 @@ fn contradiction(reading: &Reading, rival: Option<Rival>) -> Option<ImportFault>
     ensures { result ≡ contradiction reading.now rival }
 {
     match rival {
-        Some(rival) => Some(ImportFault::Contradiction(
-            reading.place,
-            reading.number,
-            rival,
-        )),
+        Some(rival) => Some(ImportFault::Contradiction(reading.place, reading.number, rival)),
         None => None,
     }
 }
@@ -258,9 +254,7 @@ impl LogReader {
     {
         if reading.processor >= MOST_PROCESSORS {
             Some(ImportFault::BadProcessor(reading.place))
-        } else if reading.number == CAPABILITIES
-            && self.pairs_after(reading) > MAX_PAIRS as u64
-        {
+        } else if reading.number == CAPABILITIES && self.pairs_after(reading) > MAX_PAIRS as u64 {
             Some(ImportFault::TooManyPairs(reading.place))
         } else {
             contradiction(reading, self.rival(supplied, reading))
@@ -437,7 +431,12 @@ impl LogReader {
             return Err(ImportFault::Contradiction(place, DEFAULT_TYPE, rival));
         }
         let table = self.context.table;
-        self.take_shows(supplied, 0, table, &fixed_shows(is_enabled, is_alone, place))
+        self.take_shows(
+            supplied,
+            0,
+            table,
+            &fixed_shows(is_enabled, is_alone, place),
+        )
     }
 
     // Takes what a line says.

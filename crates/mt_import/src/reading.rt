@@ -215,12 +215,7 @@ impl Context {
         ensures { result ≡ variable_shows self.now is_enabled place }
     {
         let value = if is_enabled { ENABLED } else { 0 };
-        one_shown(shown_bits(
-            DEFAULT_TYPE,
-            self.variable_bits(is_enabled),
-            value,
-            place,
-        ))
+        one_shown(shown_bits(DEFAULT_TYPE, self.variable_bits(is_enabled), value, place))
     }
 }
 

@@ -244,13 +244,7 @@ impl LogReader {
         }
     }
 
-    fn assumed_pair(
-        &self,
-        assumed: &Assumed,
-        k: u32,
-        width: Option<u8>,
-        number: u32,
-    ) -> Option<u64>
+    fn assumed_pair(&self, assumed: &Assumed, k: u32, width: Option<u8>, number: u32) -> Option<u64>
         requires processor { k < 16 }
         requires number { number < 0x1000 }
         requires width { IfSome width (λ width. width ≤ 52) }

@@ -13,6 +13,6 @@ returns c =
     c.or_supplied.ensures
     ∙ ap (λ a. or_supplied a c.or_supplied-supplied.result) (c.whole.ensures ∙ ap whole_value c.slot.ensures)
     ∙ ap (or_supplied (whole_value (slots c.args.number))) (
-      c.or_supplied-supplied.ensures ∙ ap (λ a. or_supplied a c.disabled_value.result) c.value.ensures
-      ∙ ap (or_supplied (supplied_value c.args.supplied.now c.args.number)) c.disabled_value.ensures
+    c.or_supplied-supplied.ensures ∙ ap (λ a. or_supplied a c.disabled_value.result) c.value.ensures
+    ∙ ap (or_supplied (supplied_value c.args.supplied.now c.args.number)) c.disabled_value.ensures
     )

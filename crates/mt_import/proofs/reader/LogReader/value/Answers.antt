@@ -11,6 +11,6 @@ returns c =
     c.or_supplied.ensures
     ∙ ap (λ a. or_supplied a c.assumed_value.result) c.firm_value.ensures
     ∙ ap (or_supplied (firm_value c.args.supplied.now slots c.args.number)) (
-      c.assumed_value.ensures ∙ ap (λ a. assumed_value a slots c.width-width.result c.args.number) c.assumed.ensures
-      ∙ ap (λ w. assumed_value c.args.supplied.now.assumed slots w c.args.number) c.width-width.ensures.width
+    c.assumed_value.ensures ∙ ap (λ a. assumed_value a slots c.width-width.result c.args.number) c.assumed.ensures
+    ∙ ap (λ w. assumed_value c.args.supplied.now.assumed slots w c.args.number) c.width-width.ensures.width
     )
