@@ -43,9 +43,9 @@ _mtrr_import() {
     local word=${COMP_WORDS[COMP_CWORD]}
     COMPREPLY=()
     if [ "$COMP_CWORD" -eq 1 ]; then
-        COMPREPLY=($(compgen -W 'coreboot edk2 inteltool linux rdmsr x86info xen --help --version' -- "$word"))
+        COMPREPLY=($(compgen -W 'auto coreboot edk2 inteltool linux rdmsr x86info xen --help --version' -- "$word"))
     else
-        _mtrr_supply "$word" maxphyaddr 0fe 268 277 2ff
+        _mtrr_supply "$word" maxphyaddr assume 0fe 268 277 2ff
     fi
 }
 

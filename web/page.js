@@ -87,13 +87,11 @@ const FORMATS = ['rdmsr', 'x86info', 'inteltool', 'coreboot', 'edk2', 'linux', '
 const SHOWN_BYTES = 1 << 18;
 const sides = [0, 1].map(place => ({ place, bytes: nothing, format: 'auto', supplied: {}, name: '' }));
 
-// How many registers more a log shows in a format than an empty one does, when the width and the number of pairs are supplied.
+// How many lines of a log are of a format: the importer counts them where something is missing.
 function shownBy(format, bytes) {
-    const probe = [format, 'maxphyaddr=36', '0fe=510'];
-    const told = importLog(probe, bytes);
-    if (told.status < 2) return lines(importLog(probe, nothing).text).length - (told.status ? lines(told.text).length : 0);
-    const bare = importLog([format], bytes).text; // the log shows another width or number of pairs, or has a fault
-    return bare === importLog([format], nothing).text ? 0 : 1000 - lines(bare).length;
+    const told = importLog([format], bytes);
+    const counted = told.status === 1 ? /^(\d+) of /.exec(told.text) : null;
+    return counted ? Number(counted[1]) : told.status === 0 ? Infinity : 1;
 }
 
 function guess(bytes) {
@@ -178,7 +176,7 @@ function showSecond() {
 
 // The fields for what is missing stay while there is something in them.
 function layFields(side) {
-    const missing = side.told.status === 1 && side.found !== 'dump' ? lines(side.told.text).filter(line => line.startsWith('missing ')).map(line => line.slice(8)) : [];
+    const missing = side.told.status === 1 && side.found !== 'dump' ? lines(side.told.text).filter(line => line.startsWith('missing ')).map(line => line.slice(8).split(':')[0]) : [];
     const names = [...new Set([...Object.keys(side.supplied).filter(name => side.supplied[name] !== ''), ...missing])];
     if (side.found === 'dump' || !side.found) names.length = 0;
     if (names.join() === side.names) return missing;

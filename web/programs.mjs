@@ -8,11 +8,11 @@ export const top = fileURLToPath(new URL('..', import.meta.url));
 export const PROGRAMS = { mtrr_run: 'mtrr', mtrr_import: 'mtrr_import', mtrr_map: 'mtrr_map' };
 export const FORMATS = ['rdmsr', 'x86info', 'inteltool', 'coreboot', 'edk2', 'linux', 'xen'];
 
-// What a program writes for words and bytes, and its status. `mtrr-explain` reads its inputs from files.
+// What a program writes for words and bytes, and its status. `mtrr-explain` reads its inputs from files, and `mtrr-import` writes reasons to standard error.
 export function program(tool, words, input) {
     const done = spawnSync(`${top}crates/${PROGRAMS[tool]}/out/${PROGRAMS[tool]}`, words, { input, maxBuffer: 1 << 28 });
     if (done.error && done.error.code !== 'EPIPE') throw done.error; // a program need not read its input
-    return { status: done.status, text: done.stdout };
+    return { status: done.status, text: tool === 'mtrr_import' && done.status !== 0 ? done.stderr : done.stdout };
 }
 
 export function explainProgram(words, files) {

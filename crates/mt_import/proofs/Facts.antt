@@ -3,11 +3,10 @@ use Rattle.std.proofs.Common.{◌≡◌, ◌+◌, ℕ, zero, suc, List, [], ◌�
 use Rattle.std.specs.Prelude.{slice_get}
 use Rattle.std.proofs.lemmas.List.{append-nil, take-append-drop}
 use Rattle.mt_import.specs.declared.fault.ImportFault.{ImportFault}
-use Rattle.mt_import.specs.declared.reading.Shown.{Shown}
+use Rattle.mt_import.specs.declared.shape.Shown.{Shown}
 use Rattle.mt_import.specs.Readings.{Fact, shown_facts, shows_facts}
 use Rattle.mt_import.specs.Supplied.{Supplied}
-use Rattle.mt_import.specs.Outcome.{Seen, fact_fault, facts_fault, seen_after, seen_with}
-use Rattle.mt_import.specs.Rows.{or_fault}
+use Rattle.mt_import.specs.Outcome.{Seen, fact_fault, facts_fault, or_fault, seen_after, seen_with}
 use Rattle.mt_import.specs.Reader.{HasTaken, State}
 
 pub seen_append : (seen : Seen) (facts others : List Fact) → seen_after seen (facts ++ others) ≡ seen_after (seen_after seen facts) others
@@ -26,47 +25,47 @@ fault_append supplied seen (fact ∷ facts) others =
 
 -- ---- the registers that a line shows
 
-shows_append : (processor : ℕ) (xs ys : List (Option Shown)) → shows_facts processor (xs ++ ys) ≡ shows_facts processor xs ++ shows_facts processor ys
-shows_append processor [] ys = refl
-shows_append processor (x ∷ xs) ys = ap (λ facts. shown_facts processor x ++ facts) (shows_append processor xs ys) ∙ sym (append_assoc (shown_facts processor x) (shows_facts processor xs) (shows_facts processor ys))
+shows_append : (processor table : ℕ) (xs ys : List (Option Shown)) → shows_facts processor table (xs ++ ys) ≡ shows_facts processor table xs ++ shows_facts processor table ys
+shows_append processor table [] ys = refl
+shows_append processor table (x ∷ xs) ys = ap (λ facts. shown_facts processor table x ++ facts) (shows_append processor table xs ys) ∙ sym (append_assoc (shown_facts processor table x) (shows_facts processor table xs) (shows_facts processor table ys))
 
-shows_more : (processor i : ℕ) (xs : List (Option Shown)) (x : Option Shown) → slice_get xs i ≡ Some x → shows_facts processor (take (i + 1) xs) ≡ shows_facts processor (take i xs) ++ shown_facts processor x
-shows_more processor i xs x at = rw add-one (by i xs at)
+shows_more : (processor table i : ℕ) (xs : List (Option Shown)) (x : Option Shown) → slice_get xs i ≡ Some x → shows_facts processor table (take (i + 1) xs) ≡ shows_facts processor table (take i xs) ++ shown_facts processor table x
+shows_more processor table i xs x at = rw add-one (by i xs at)
   where
-    by : (i : ℕ) (xs : List (Option Shown)) → slice_get xs i ≡ Some x → shows_facts processor (take (suc i) xs) ≡ shows_facts processor (take i xs) ++ shown_facts processor x
+    by : (i : ℕ) (xs : List (Option Shown)) → slice_get xs i ≡ Some x → shows_facts processor table (take (suc i) xs) ≡ shows_facts processor table (take i xs) ++ shown_facts processor table x
     by i [] at = cc at
-    by zero (y ∷ ys) at = let same : y ≡ x = cc at in rw same (append-nil (shown_facts processor x))
-    by (suc i) (y ∷ ys) at = ap (λ facts. shown_facts processor y ++ facts) (by i ys at) ∙ sym (append_assoc (shown_facts processor y) (shows_facts processor (take i ys)) (shown_facts processor x))
+    by zero (y ∷ ys) at = let same : y ≡ x = cc at in rw same (append-nil (shown_facts processor table x))
+    by (suc i) (y ∷ ys) at = ap (λ facts. shown_facts processor table y ++ facts) (by i ys at) ∙ sym (append_assoc (shown_facts processor table y) (shows_facts processor table (take i ys)) (shown_facts processor table x))
 
 -- A reader has taken the first of what a line shows, behind what it had taken, and found no fault.
-pub record HasTakenFirst (state : State) (supplied : Supplied) (seen : Seen) (processor i : ℕ) (shows : List (Option Shown)) : Type 0 where
-  pub held : HasTaken state (seen_after seen (shows_facts processor (take i shows)))
-  pub none : facts_fault supplied seen (shows_facts processor (take i shows)) ≡ None
+pub record HasTakenFirst (state : State) (supplied : Supplied) (seen : Seen) (processor table i : ℕ) (shows : List (Option Shown)) : Type 0 where
+  pub held : HasTaken state (seen_after seen (shows_facts processor table (take i shows)))
+  pub none : facts_fault supplied seen (shows_facts processor table (take i shows)) ≡ None
 
-module _ (supplied : Supplied) (seen : Seen) (processor i : ℕ) (shows : List (Option Shown)) (shown : Option Shown) (at : slice_get shows i ≡ Some shown) where
+module _ (supplied : Supplied) (seen : Seen) (processor table i : ℕ) (shows : List (Option Shown)) (shown : Option Shown) (at : slice_get shows i ≡ Some shown) where
   abbrev first : List Fact
-  first = shows_facts processor (take i shows)
+  first = shows_facts processor table (take i shows)
 
-  more : shows_facts processor (take (i + 1) shows) ≡ first ++ shown_facts processor shown
-  more = shows_more processor i shows shown at
+  more : shows_facts processor table (take (i + 1) shows) ≡ first ++ shown_facts processor table shown
+  more = shows_more processor table i shows shown at
 
-  fault_more : facts_fault supplied seen first ≡ None → facts_fault supplied seen (shows_facts processor (take (i + 1) shows)) ≡ facts_fault supplied (seen_after seen first) (shown_facts processor shown)
-  fault_more none = ap (facts_fault supplied seen) more ∙ fault_append supplied seen first (shown_facts processor shown) ∙ ap (λ o. or_fault o (facts_fault supplied (seen_after seen first) (shown_facts processor shown))) none
+  fault_more : facts_fault supplied seen first ≡ None → facts_fault supplied seen (shows_facts processor table (take (i + 1) shows)) ≡ facts_fault supplied (seen_after seen first) (shown_facts processor table shown)
+  fault_more none = ap (facts_fault supplied seen) more ∙ fault_append supplied seen first (shown_facts processor table shown) ∙ ap (λ o. or_fault o (facts_fault supplied (seen_after seen first) (shown_facts processor table shown))) none
 
-  pub takes_next : (old new : State) → HasTakenFirst old supplied seen processor i shows
-      → HasTaken new (seen_after (seen_after seen first) (shown_facts processor shown)) → facts_fault supplied (seen_after seen first) (shown_facts processor shown) ≡ None
-      → HasTakenFirst new supplied seen processor (i + 1) shows
+  pub takes_next : (old new : State) → HasTakenFirst old supplied seen processor table i shows
+      → HasTaken new (seen_after (seen_after seen first) (shown_facts processor table shown)) → facts_fault supplied (seen_after seen first) (shown_facts processor table shown) ≡ None
+      → HasTakenFirst new supplied seen processor table (i + 1) shows
   takes_next old new taken held none = record {
-    held = subst (HasTaken new) (sym (ap (seen_after seen) more ∙ seen_append seen first (shown_facts processor shown))) held;
+    held = subst (HasTaken new) (sym (ap (seen_after seen) more ∙ seen_append seen first (shown_facts processor table shown))) held;
     none = fault_more taken.none ∙ none;
   }
 
-  pub stops_at : (state : State) (fault : ImportFault) → HasTakenFirst state supplied seen processor i shows → facts_fault supplied (seen_after seen first) (shown_facts processor shown) ≡ Some fault
-      → facts_fault supplied seen (shows_facts processor shows) ≡ Some fault
+  pub stops_at : (state : State) (fault : ImportFault) → HasTakenFirst state supplied seen processor table i shows → facts_fault supplied (seen_after seen first) (shown_facts processor table shown) ≡ Some fault
+      → facts_fault supplied seen (shows_facts processor table shows) ≡ Some fault
   stops_at state fault taken found =
       let here = fault_more taken.none ∙ found in
-      let rest = shows_facts processor (drop (i + 1) shows) in
-      ap (λ xs. facts_fault supplied seen (shows_facts processor xs)) (sym (take-append-drop (i + 1) shows))
-      ∙ ap (facts_fault supplied seen) (shows_append processor (take (i + 1) shows) (drop (i + 1) shows))
-      ∙ fault_append supplied seen (shows_facts processor (take (i + 1) shows)) rest
-      ∙ ap (λ o. or_fault o (facts_fault supplied (seen_after seen (shows_facts processor (take (i + 1) shows))) rest)) here
+      let rest = shows_facts processor table (drop (i + 1) shows) in
+      ap (λ xs. facts_fault supplied seen (shows_facts processor table xs)) (sym (take-append-drop (i + 1) shows))
+      ∙ ap (facts_fault supplied seen) (shows_append processor table (take (i + 1) shows) (drop (i + 1) shows))
+      ∙ fault_append supplied seen (shows_facts processor table (take (i + 1) shows)) rest
+      ∙ ap (λ o. or_fault o (facts_fault supplied (seen_after seen (shows_facts processor table (take (i + 1) shows))) rest)) here

@@ -1,5 +1,5 @@
 -- What a reader keeps when it takes one more fact.
-use Rattle.std.proofs.Common.{◌≡◌, ◌≢◌, ◌≤◌, ◌<◌, ◌+◌, ◌-◌, ◌*◌, ℕ, Bool, true, false, ◌==◌, ◌&&◌, nat_lt, zero, suc, List, ◌∷◌, replicate, Option, Some, None, refl, sym, ◌∙◌, ap, arith, slice_set, inl, inr}
+use Rattle.std.proofs.Common.{◌≡◌, ◌≢◌, ◌≤◌, ◌<◌, ◌+◌, ◌-◌, ◌*◌, ℕ, Bool, true, false, ◌==◌, ◌&&◌, nat_lt, zero, suc, List, ◌∷◌, replicate, Option, Some, None, refl, sym, ◌∙◌, ap, arith, slice_set, inl, inr, subst, bit_or}
 use Rattle.std.specs.Prelude.{◌⊎◌, max, is_some}
 use Rattle.std.specs.List.{slice_index_or}
 use Rattle.std.proofs.lemmas.Bool.{eqb-true}
@@ -11,32 +11,37 @@ use Rattle.mt_regs.specs.RegisterFile.{RegisterFile, IsRegisterFile, low_byte}
 use Rattle.mt_regs.specs.Registers.{register_of, value_at}
 use Rattle.mt_regs.specs.declared.registers.Register as register
 use Rattle.mt_regs.proofs.ByNumber.{register_of-range}
-use Rattle.mt_import.specs.declared.reading.Reading.{Reading}
+use Rattle.mt_import.specs.declared.format.Format.{Format}
+use Rattle.mt_import.specs.declared.shape.Reading.{Reading}
+use Rattle.mt_import.specs.declared.shape.Slot.{Slot}
 use Rattle.mt_import.specs.declared.reading.Context.{Context}
 use Rattle.mt_text.specs.declared.place.Place.{Place}
-use Rattle.mt_import.specs.Readings.{is_register_value, is_width}
-use Rattle.mt_import.specs.Outcome.{Seen, capabilities_after, nothing_seen, processors, seen_with, value_shown}
+use Rattle.mt_import.specs.Readings.{is_line, is_register_value, is_warning, is_width}
+use Rattle.mt_import.specs.Outcome.{Seen, capabilities_after, nothing_seen, processors, seen_with, slot_shown, tally_warned, tally_with}
+use Rattle.mt_import.specs.Slot.{blank_slot, slot_with}
 use Rattle.mt_import.specs.Reader.{HasTaken, IsFit, State, held_at, slot_of}
 
-none_at : (n i : ℕ) → ◌≡◌ {A = Option ℕ} (slice_index_or (replicate n None) i None) None
+none_at : (n i : ℕ) → slice_index_or (replicate n blank_slot) i blank_slot ≡ blank_slot
 none_at zero i = refl
 none_at (suc n) zero = refl
 none_at (suc n) (suc i) = none_at n i
 
-at_start : (processor : ℕ) (slot : Option ℕ) → held_at (replicate 4112 None) processor slot ≡ None
+at_start : (processor : ℕ) (slot : Option ℕ) → held_at (replicate 4112 blank_slot) processor slot ≡ blank_slot
 at_start processor None = refl
 at_start processor (Some slot) = none_at 4112 (257 * processor + slot)
 
-pub taken_new : (context : Context) → HasTaken (record { context = context; values = replicate 4112 None; capabilities = None; processors = 1; width = None }) nothing_seen
-taken_new context = record {
-  size = length-replicate {A = Option ℕ} 4112 None;
-  values_are = λ processor number. at_start processor (slot_of number);
+pub taken_new : (context : Context) (format : Option Format)
+    → HasTaken (record { context = context; slots = replicate 4112 blank_slot; capabilities = blank_slot; processors = 1; width = None; tally = record { format = format; lines = 0; matches = 0; warned = false } }) (nothing_seen format)
+taken_new context format = record {
+  size = length-replicate {A = Slot} 4112 blank_slot;
+  slots_are = λ processor number. at_start processor (slot_of number);
   capabilities_is = refl;
   processors_is = refl;
   width_is = refl;
+  tally_is = refl;
   some = omega arith;
   few = omega arith;
-  pairs = λ processor value is. cc is;
+  pairs = λ processor. omega arith;
   fit = tt;
 }
 
@@ -94,13 +99,14 @@ most a b some few few_too = (grind (arith, nat_tests, some), grind (arith, nat_t
 places_apart : (p k slot s : ℕ) → slot < 257 → s < 257 → 257 * k + s ≡ 257 * p + slot → k ≡ p
 places_apart p k slot s within within_too same = omega (arith, within, within_too, same)
 
-module _ (state : State) (seen : Seen) (reading : Reading) (slot : ℕ) (holds : HasTaken state seen) (at : slot_of reading.number ≡ Some slot) (few : reading.processor < 16) where
-  abbrev values : List (Option ℕ)
-  values = slice_set state.values (257 * reading.processor + slot) (Some reading.value)
+module _ (state : State) (seen : Seen) (reading : Reading) (slot : ℕ) (next : Slot) (holds : HasTaken state seen) (at : slot_of reading.number ≡ Some slot) (few : reading.processor < 16)
+    (is_next : next ≡ slot_with (held_at state.slots reading.processor (Some slot)) reading) where
+  abbrev slots : List Slot
+  slots = slice_set state.slots (257 * reading.processor + slot) next
 
-  other : (k number : ℕ) → (reading.processor == k && reading.number == number) ≡ false → (found : Option ℕ) → slot_of number ≡ found → held_at values k found ≡ held_at state.values k found
+  other : (k number : ℕ) → (reading.processor == k && reading.number == number) ≡ false → (found : Option ℕ) → slot_of number ≡ found → held_at slots k found ≡ held_at state.slots k found
   other k number apart None is = refl
-  other k number apart (Some s) is = get_or-set_other state.values (257 * reading.processor + slot) (257 * k + s) (Some reading.value) None differ
+  other k number apart (Some s) is = get_or-set_other state.slots (257 * reading.processor + slot) (257 * k + s) next blank_slot differ
     where
       equal : (a b : ℕ) → a ≡ b → (b == a) ≡ true
       equal a b e = grind (arith, nat_tests, e)
@@ -112,66 +118,110 @@ module _ (state : State) (seen : Seen) (reading : Reading) (slot : ℕ) (holds :
           let n = slots_apart number reading.number slot (is ∙ ap Some q) at in
           let e : true ≡ false = rw (equal k reading.processor p, equal number reading.number n) at apart in cc e
 
-  here : slice_index_or values (257 * reading.processor + slot) None ≡ Some reading.value
-  here = get_or-set_at state.values (257 * reading.processor + slot) (257 * reading.processor + slot) (Some reading.value) None refl (omega (arith, holds.size, slot_within reading.number slot at, few))
+  -- what was held is what was shown
+  before : held_at state.slots reading.processor (Some slot) ≡ slot_shown seen.readings reading.processor reading.number
+  before = ap (held_at state.slots reading.processor) (sym at) ∙ holds.slots_are reading.processor reading.number
+
+  here : held_at slots reading.processor (slot_of reading.number) ≡ slot_with (slot_shown seen.readings reading.processor reading.number) reading
+  here =
+      ap (held_at slots reading.processor) at
+      ∙ get_or-set_at state.slots (257 * reading.processor + slot) (257 * reading.processor + slot) next blank_slot refl (omega (arith, holds.size, slot_within reading.number slot at, few))
+      ∙ is_next ∙ ap (λ s. slot_with s reading) before
 
   shown : (k number : ℕ) (processor_test number_test : Bool) → (reading.processor == k) ≡ processor_test → (reading.number == number) ≡ number_test
-      → held_at values k (slot_of number) ≡ value_shown k number (reading ∷ seen.readings)
+      → held_at slots k (slot_of number) ≡ slot_shown (reading ∷ seen.readings) k number
   shown k number true true same same_too =
       let p = eqb-true reading.processor k same in
       let n = eqb-true reading.number number same_too in
-      rw (same, same_too) (ap (λ j. held_at values j (slot_of number)) (sym p) ∙ ap (λ m. held_at values reading.processor (slot_of m)) (sym n) ∙ ap (held_at values reading.processor) at ∙ here)
-  shown k number true false same apart = let e : (reading.processor == k && reading.number == number) ≡ false = rw (same, apart) refl in rw (same, apart) (other k number e (slot_of number) refl ∙ holds.values_are k number)
-  shown k number false number_test apart same = let e : (reading.processor == k && reading.number == number) ≡ false = rw apart refl in rw apart (other k number e (slot_of number) refl ∙ holds.values_are k number)
+      rw (same, same_too) (
+      ap (λ j. held_at slots j (slot_of number)) (sym p) ∙ ap (λ m. held_at slots reading.processor (slot_of m)) (sym n) ∙ here
+      ∙ ap (λ j. slot_with (slot_shown seen.readings j reading.number) reading) p ∙ ap (λ m. slot_with (slot_shown seen.readings k m) reading) n
+      )
+  shown k number true false same apart = let e : (reading.processor == k && reading.number == number) ≡ false = rw (same, apart) refl in rw (same, apart) (other k number e (slot_of number) refl ∙ holds.slots_are k number)
+  shown k number false number_test apart same = let e : (reading.processor == k && reading.number == number) ≡ false = rw apart refl in rw apart (other k number e (slot_of number) refl ∙ holds.slots_are k number)
 
-  fits : (reading.number ≡ 0xfe → low_byte reading.value ≤ 32) → (k value : ℕ) (processor_test number_test : Bool) → (reading.processor == k) ≡ processor_test → (reading.number == 0xfe) ≡ number_test
-      → value_shown k 0xfe (reading ∷ seen.readings) ≡ Some value → low_byte value ≤ 32
-  fits sound k value true true same same_too is =
-      let e : Some reading.value ≡ Some value = rw (same, same_too) at is in
-      let v : reading.value ≡ value = cc e in
-      rw (← v) (sound (eqb-true reading.number 0xfe same_too))
-  fits sound k value true false same apart is = holds.pairs k value (rw (same, apart) at is)
-  fits sound k value false number_test apart same is = holds.pairs k value (rw apart at is)
+  fits : (reading.number ≡ 0xfe → low_byte (bit_or (slot_shown seen.readings reading.processor 0xfe).value reading.value) ≤ 32)
+      → (k : ℕ) (processor_test number_test : Bool) → (reading.processor == k) ≡ processor_test → (reading.number == 0xfe) ≡ number_test → low_byte (slot_shown (reading ∷ seen.readings) k 0xfe).value ≤ 32
+  fits sound k true true same same_too =
+      rw (same, same_too) (subst (λ j. low_byte (bit_or (slot_shown seen.readings j 0xfe).value reading.value) ≤ 32) (eqb-true reading.processor k same) (sound (eqb-true reading.number 0xfe same_too)))
+  fits sound k true false same apart = rw (same, apart) (holds.pairs k)
+  fits sound k false number_test apart same = rw apart (holds.pairs k)
 
-  pub taken_more : (reading.number ≡ 0xfe → low_byte reading.value ≤ 32)
-      → HasTaken (record { context = state.context; values = values; capabilities = capabilities_after reading state.capabilities; processors = max (reading.processor + 1) state.processors; width = state.width }) (seen_with seen (is_register_value reading))
+  pub taken_more : (reading.number ≡ 0xfe → low_byte (bit_or (slot_shown seen.readings reading.processor 0xfe).value reading.value) ≤ 32)
+      → HasTaken (record { context = state.context; slots = slots; capabilities = capabilities_after reading state.capabilities; processors = max (reading.processor + 1) state.processors; width = state.width; tally = state.tally })
+      (seen_with seen (is_register_value reading))
   taken_more sound =
       let bounds = most (reading.processor + 1) (processors seen.readings) (omega arith) (omega (arith, few)) holds.few in
       record {
-        size = length-set state.values (257 * reading.processor + slot) (Some reading.value) ∙ holds.size;
-        values_are = λ k number. shown k number (reading.processor == k) (reading.number == number) refl refl;
+        size = length-set state.slots (257 * reading.processor + slot) next ∙ holds.size;
+        slots_are = λ k number. shown k number (reading.processor == k) (reading.number == number) refl refl;
         capabilities_is = ap (capabilities_after reading) holds.capabilities_is;
         processors_is = ap (max (reading.processor + 1)) holds.processors_is;
         width_is = holds.width_is;
+        tally_is = holds.tally_is;
         some = bounds.0;
         few = bounds.1;
-        pairs = λ k value. fits sound k value (reading.processor == k) (reading.number == 0xfe) refl refl;
+        pairs = λ k. fits sound k (reading.processor == k) (reading.number == 0xfe) refl refl;
         fit = holds.fit;
       }
 
 pub taken_width : (state : State) (seen : Seen) (width : ℕ) (place : Place) → HasTaken state seen → IsFit width
-    → HasTaken (record { context = state.context; values = state.values; capabilities = state.capabilities; processors = state.processors; width = Some width }) (seen_with seen (is_width width place))
+    → HasTaken (record { context = state.context; slots = state.slots; capabilities = state.capabilities; processors = state.processors; width = Some width; tally = state.tally }) (seen_with seen (is_width width place))
 taken_width state seen width place holds fit = record {
   size = holds.size;
-  values_are = holds.values_are;
+  slots_are = holds.slots_are;
   capabilities_is = holds.capabilities_is;
   processors_is = holds.processors_is;
   width_is = refl;
+  tally_is = holds.tally_is;
   some = holds.some;
   few = holds.few;
   pairs = holds.pairs;
   fit = fit;
 }
 
--- what a reader keeps doesn't speak of its context
-pub taken_in : (state : State) (seen : Seen) (context : Context) → HasTaken state seen
-    → HasTaken (record { context = context; values = state.values; capabilities = state.capabilities; processors = state.processors; width = state.width }) seen
-taken_in state seen context holds = record {
+-- a line was counted
+pub taken_line : (state : State) (seen : Seen) (number : ℕ) (format : Option Format) (matched : Bool) → HasTaken state seen
+    → HasTaken (record { context = state.context; slots = state.slots; capabilities = state.capabilities; processors = state.processors; width = state.width; tally = tally_with state.tally number format matched }) (seen_with seen (is_line number format matched))
+taken_line state seen number format matched holds = record {
   size = holds.size;
-  values_are = holds.values_are;
+  slots_are = holds.slots_are;
   capabilities_is = holds.capabilities_is;
   processors_is = holds.processors_is;
   width_is = holds.width_is;
+  tally_is = ap (λ t. tally_with t number format matched) holds.tally_is;
+  some = holds.some;
+  few = holds.few;
+  pairs = holds.pairs;
+  fit = holds.fit;
+}
+
+-- the kernel warned
+pub taken_warning : (state : State) (seen : Seen) → HasTaken state seen
+    → HasTaken (record { context = state.context; slots = state.slots; capabilities = state.capabilities; processors = state.processors; width = state.width; tally = tally_warned state.tally }) (seen_with seen is_warning)
+taken_warning state seen holds = record {
+  size = holds.size;
+  slots_are = holds.slots_are;
+  capabilities_is = holds.capabilities_is;
+  processors_is = holds.processors_is;
+  width_is = holds.width_is;
+  tally_is = ap tally_warned holds.tally_is;
+  some = holds.some;
+  few = holds.few;
+  pairs = holds.pairs;
+  fit = holds.fit;
+}
+
+-- what a reader keeps doesn't speak of its context
+pub taken_in : (state : State) (seen : Seen) (context : Context) → HasTaken state seen
+    → HasTaken (record { context = context; slots = state.slots; capabilities = state.capabilities; processors = state.processors; width = state.width; tally = state.tally }) seen
+taken_in state seen context holds = record {
+  size = holds.size;
+  slots_are = holds.slots_are;
+  capabilities_is = holds.capabilities_is;
+  processors_is = holds.processors_is;
+  width_is = holds.width_is;
+  tally_is = holds.tally_is;
   some = holds.some;
   few = holds.few;
   pairs = holds.pairs;

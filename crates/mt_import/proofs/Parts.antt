@@ -9,7 +9,8 @@ use Rattle.mt_regs.specs.RegisterFile.{RegisterFile, IsRegisterFile, low_byte}
 use Rattle.mt_regs.specs.Registers.{number_of}
 use Rattle.mt_regs.specs.declared.registers.Register.{Register}
 use Rattle.mt_dump.specs.Dumps.{IsDump, first_of, first_file}
-use Rattle.mt_import.specs.Outcome.{dump_in, file_of, files_of, first_pairs, fixed_of, is_missing, missing_line, missing_lines, value_or_zero}
+use Rattle.mt_import.specs.Outcome.{dump_in, file_of, files_of, first_pairs, fixed_of, is_missing, missing_line, missing_lines, note_line, note_lines, noted, value_or_zero}
+use Rattle.mt_import.specs.Values.{or_supplied}
 
 pub length_pairs : (values : ℕ → Option ℕ) (n : ℕ) → length (first_pairs values n) ≡ n
 length_pairs values zero = refl
@@ -99,15 +100,48 @@ missing_at values (suc count) k number less none = by (k == count) refl (λ belo
     by true same below = let e = eqb-true k count same in rw (ap (λ j. is_none (values j number)) (sym e) ∙ none) (with_true (is_missing values count number))
     by false apart below = rw (below (other k count less (eqb-false k count apart))) refl
 
--- the lines of the registers that are missing, one register more
-pub missing_more : (values : ℕ → ℕ → Option ℕ) (count i : ℕ) (rs : List Register) (r : Register) → slice_get rs i ≡ Some r
-    → missing_lines values count (map number_of (take (i + 1) rs)) ≡ missing_lines values count (map number_of (take i rs)) ++ (if is_missing values count (number_of r) then missing_line (number_of r) else [])
-missing_more values count i rs r at = rw add-one (by i rs at)
+-- a register that some processor has by an assumption alone, before all others
+pub noted_on : (firm values : ℕ → ℕ → Option ℕ) (count number : ℕ) → noted firm values count number ≡ None → (is_none (firm count number) ≡ true → values count number ≡ None) → noted firm values (count + 1) number ≡ None
+noted_on firm values count number none next = rw add-one (rw none (by (is_none (firm count number)) refl))
   where
-    by : (i : ℕ) (rs : List Register) → slice_get rs i ≡ Some r
-        → missing_lines values count (map number_of (take (suc i) rs)) ≡ missing_lines values count (map number_of (take i rs)) ++ (if is_missing values count (number_of r) then missing_line (number_of r) else [])
-    by i [] at = cc at
-    by zero (s ∷ rs) at = let same : s ≡ r = cc at in rw same (append-nil (if is_missing values count (number_of r) then missing_line (number_of r) else []))
-    by (suc i) (s ∷ rs) at =
-        ap (λ l. (if is_missing values count (number_of s) then missing_line (number_of s) else []) ++ l) (by i rs at)
-        ∙ sym (append_assoc (if is_missing values count (number_of s) then missing_line (number_of s) else []) (missing_lines values count (map number_of (take i rs))) (if is_missing values count (number_of r) then missing_line (number_of r) else []))
+    by : (test : Bool) → is_none (firm count number) ≡ test → or_supplied None (if test then values count number else None) ≡ None
+    by true is = next is
+    by false is = refl
+
+pub noted_at : (firm values : ℕ → ℕ → Option ℕ) (count k number value : ℕ) → k < count → noted firm values k number ≡ None → is_none (firm k number) ≡ true → values k number ≡ Some value → noted firm values count number ≡ Some value
+noted_at firm values zero k number value less none unfirm is = absurd (omega (arith, less))
+noted_at firm values (suc count) k number value less none unfirm is = by (k == count) refl (λ below. noted_at firm values count k number value below none unfirm is)
+  where
+    other : (a b : ℕ) → a < suc b → (a ≡ b → ⊥) → a < b
+    other a b less apart = omega (arith, less, apart)
+
+    here : noted firm values (suc k) number ≡ Some value
+    here = rw (none, unfirm) is
+
+    by : (test : Bool) → (k == count) ≡ test → (k < count → noted firm values count number ≡ Some value) → noted firm values (suc count) number ≡ Some value
+    by true same below = ap (λ j. noted firm values (suc j) number) (sym (eqb-true k count same)) ∙ here
+    by false apart below = rw (below (other k count less (eqb-false k count apart))) refl
+
+-- texts of the registers of a list, one register more
+module _ (text : ℕ → List ℕ) (all : List ℕ → List ℕ) (none : all [] ≡ []) (next : (n : ℕ) (ns : List ℕ) → all (n ∷ ns) ≡ text n ++ all ns) where
+  pub texts_more : (i : ℕ) (rs : List Register) (r : Register) → slice_get rs i ≡ Some r → all (map number_of (take (i + 1) rs)) ≡ all (map number_of (take i rs)) ++ text (number_of r)
+  texts_more i rs r at = rw add-one (by i rs at)
+    where
+      by : (i : ℕ) (rs : List Register) → slice_get rs i ≡ Some r → all (map number_of (take (suc i) rs)) ≡ all (map number_of (take i rs)) ++ text (number_of r)
+      by i [] at = cc at
+      by zero (s ∷ rs) at = let same : s ≡ r = cc at in rw same (next (number_of r) [] ∙ ap (λ l. text (number_of r) ++ l) none ∙ append-nil (text (number_of r)) ∙ sym (ap (λ l. l ++ text (number_of r)) none))
+      by (suc i) (s ∷ rs) at =
+          next (number_of s) (map number_of (take (suc i) rs)) ∙ ap (λ l. text (number_of s) ++ l) (by i rs at)
+          ∙ sym (append_assoc (text (number_of s)) (all (map number_of (take i rs))) (text (number_of r)))
+          ∙ ap (λ l. l ++ text (number_of r)) (sym (next (number_of s) (map number_of (take i rs))))
+
+-- the lines of the registers that are missing
+pub missing_more : (hints : ℕ → Option ℕ) (values : ℕ → ℕ → Option ℕ) (count i : ℕ) (rs : List Register) (r : Register) → slice_get rs i ≡ Some r
+    → missing_lines hints values count (map number_of (take (i + 1) rs))
+    ≡ missing_lines hints values count (map number_of (take i rs)) ++ (if is_missing values count (number_of r) then missing_line (number_of r) (hints (number_of r)) else [])
+missing_more hints values count = texts_more (λ n. if is_missing values count n then missing_line n (hints n) else []) (missing_lines hints values count) refl (λ n ns. refl)
+
+-- the comments on the registers that were assumed
+pub notes_more : (firm values : ℕ → ℕ → Option ℕ) (count i : ℕ) (rs : List Register) (r : Register) → slice_get rs i ≡ Some r
+    → note_lines firm values count (map number_of (take (i + 1) rs)) ≡ note_lines firm values count (map number_of (take i rs)) ++ note_line (number_of r) (noted firm values count (number_of r))
+notes_more firm values count = texts_more (λ n. note_line n (noted firm values count n)) (note_lines firm values count) refl (λ n ns. refl)

@@ -1,26 +1,57 @@
--- Two ways to tell the same values come to the same text and status.
-use Rattle.std.proofs.Common.{◌≡◌, ◌≤◌, ◌+◌, ◌*◌, ℕ, zero, suc, Bool, true, false, List, [], ◌∷◌, ◌++◌, map, Option, Some, None, refl, sym, subst, ap, ◌∙◌}
-use Rattle.std.specs.Prelude.{IfSome, if◌then◌else◌}
-use Rattle.mt_ports.specs.declared.status.Status.TheVariants.{Refused}
+-- Two ways to tell the same slots come to the same texts and status.
+use Rattle.std.proofs.Common.{◌≡◌, ◌≤◌, ◌<◌, ◌+◌, ◌*◌, ◌%◌, ℕ, zero, suc, Bool, true, false, List, [], ◌∷◌, ◌++◌, map, Option, Some, None, refl, sym, subst, ap, ◌∙◌, arith}
+use Rattle.std.specs.Prelude.{IfSome, bit_or, if◌then◌else◌, ◌==◌, unwrap_or}
 use Rattle.mt_kinds.specs.Bits.{is_bit_set}
 use Rattle.mt_regs.specs.RegisterFile.{low_byte}
 use Rattle.mt_regs.specs.Registers.{fixed_numbers}
-use Rattle.mt_import.specs.Supplied.{IsSupplied, Supplied, supplied_value}
-use Rattle.mt_import.specs.Outcome.{Seen, dump_or_missing, dump_told, ended, ended_with, file_of, files_of, first_pairs, fixed_of, is_empty, is_missing, missing_lines, missing_width, needed, or_supplied, processors, value_in, value_or_zero, value_shown}
-use Rattle.mt_import.specs.Reader.{HasTaken, IsFit, State, values_of, width_of}
+use Rattle.mt_import.specs.declared.shape.Slot.{Slot}
+use Rattle.mt_import.specs.declared.shape.Tally.{Tally}
+use Rattle.mt_import.specs.declared.supplied.Assumed.{Assumed}
+use Rattle.mt_import.specs.Slot.{is_disabled, whole_value}
+use Rattle.mt_import.specs.Supplied.{IsSupplied, Supplied, all_assumed, supplied_value}
+use Rattle.mt_import.specs.Values.{assumed_capabilities, assumed_pair, assumed_value, assumed_width, assumed_zero, base_of, disabled_value, firm_value, firm_width, mask_of, masks_in, only_if, or_supplied, pair_count, shown_pairs, value_by, widest, width_by}
+use Rattle.mt_import.specs.Outcome.{Seen, Slots, Told, dump_told, ended, ended_by, ended_with, file_of, files_of, first_pairs, firm_of, fixed_of, hint_of, is_missing, missing_lines, missing_of, missing_width, needed, note_line, note_lines, noted, notes_of, processors, refusal, remarks, slot_shown, value_or_zero, values_of, width_note}
+use Rattle.mt_import.specs.Reader.{HasTaken, IsFit, State, slots_of}
+
+-- ---- the same slots of one processor
+
+module _ (v w : ℕ → Slot) (same : (n : ℕ) → v n ≡ w n) where
+  same_disabled : (number : ℕ) → disabled_value v number ≡ disabled_value w number
+  same_disabled number = rw (same (mask_of number)) refl
+
+  same_firm : (supplied : Supplied) (number : ℕ) → firm_value supplied v number ≡ firm_value supplied w number
+  same_firm supplied number = rw (same number, same_disabled number) refl
+
+  same_pairs : (n : ℕ) → shown_pairs v n ≡ shown_pairs w n
+  same_pairs zero = refl
+  same_pairs (suc n) = rw (same (0x201 + 2 * n), same_pairs n) refl
+
+  same_capabilities : assumed_capabilities v ≡ assumed_capabilities w
+  same_capabilities = rw (same 0xfe, same_pairs 32) refl
+
+  same_zero : (number : ℕ) → assumed_zero v number ≡ assumed_zero w number
+  same_zero number = rw (same (base_of number), same (mask_of number)) refl
+
+  same_assumed_pair : (assumed : Assumed) (width : Option ℕ) (number : ℕ) → assumed_pair assumed v width number ≡ assumed_pair assumed w width number
+  same_assumed_pair assumed width number = rw (same number, same_zero number) refl
+
+  same_assumed : (assumed : Assumed) (width : Option ℕ) (number : ℕ) → assumed_value assumed v width number ≡ assumed_value assumed w width number
+  same_assumed assumed width number = rw (same_capabilities, same_assumed_pair assumed width number) refl
+
+  same_masks : (n : ℕ) → masks_in v n ≡ masks_in w n
+  same_masks zero = refl
+  same_masks (suc n) = rw (same (0x201 + 2 * n), same_masks n) refl
+
+-- ---- the same values
 
 module _ (v w : ℕ → ℕ → Option ℕ) (same : (k n : ℕ) → v k n ≡ w k n) where
   same_missing : (count number : ℕ) → is_missing v count number ≡ is_missing w count number
   same_missing zero number = refl
   same_missing (suc count) number = rw (same_missing count number, same count number) refl
 
-  same_lines : (count : ℕ) (numbers : List ℕ) → missing_lines v count numbers ≡ missing_lines w count numbers
-  same_lines count [] = refl
-  same_lines count (number ∷ numbers) = rw (same_missing count number, same_lines count numbers) refl
-
-  same_pairs : (k n : ℕ) → first_pairs (v k) n ≡ first_pairs (w k) n
-  same_pairs k zero = refl
-  same_pairs k (suc n) = rw (same_pairs k n, same k (0x200 + 2 * n), same k (0x201 + 2 * n)) refl
+  same_first_pairs : (k n : ℕ) → first_pairs (v k) n ≡ first_pairs (w k) n
+  same_first_pairs k zero = refl
+  same_first_pairs k (suc n) = rw (same_first_pairs k n, same k (0x200 + 2 * n), same k (0x201 + 2 * n)) refl
 
   same_values : (k : ℕ) (numbers : List ℕ) → map (value_or_zero (v k)) numbers ≡ map (value_or_zero (w k)) numbers
   same_values k [] = refl
@@ -31,38 +62,124 @@ module _ (v w : ℕ → ℕ → Option ℕ) (same : (k n : ℕ) → v k n ≡ w 
   same_fixed k false = refl
 
   same_file : (k width capabilities : ℕ) → file_of (v k) width capabilities ≡ file_of (w k) width capabilities
-  same_file k width capabilities = rw (same_pairs k (low_byte capabilities), same_fixed k (is_bit_set capabilities 8), same k 0x277, same k 0x2ff) refl
+  same_file k width capabilities = rw (same_first_pairs k (low_byte capabilities), same_fixed k (is_bit_set capabilities 8), same k 0x277, same k 0x2ff) refl
 
   same_files : (width capabilities count : ℕ) → files_of v width capabilities count ≡ files_of w width capabilities count
   same_files width capabilities zero = refl
   same_files width capabilities (suc k) = rw (same_files width capabilities k, same_file k width capabilities) refl
 
-  same_told : (count : ℕ) (missing : List ℕ) (width capabilities : Option ℕ) → dump_told v count missing width capabilities ≡ dump_told w count missing width capabilities
-  same_told count missing (Some width) (Some capabilities) = rw (same_files width capabilities count) refl
-  same_told count missing (Some width) None = refl
-  same_told count missing None capabilities = refl
+  same_told : (refused : Told) (count : ℕ) (notes reasons : List ℕ) (width capabilities : Option ℕ) → dump_told refused v count notes reasons width capabilities ≡ dump_told refused w count notes reasons width capabilities
+  same_told refused count notes reasons (Some width) (Some capabilities) = rw (same_files width capabilities count) refl
+  same_told refused count notes reasons (Some width) None = refl
+  same_told refused count notes reasons None capabilities = refl
 
-  same_dump : (count : ℕ) (missing : List ℕ) (width capabilities : Option ℕ) → dump_or_missing v count missing width capabilities ≡ dump_or_missing w count missing width capabilities
-  same_dump count missing width capabilities = ap (λ told. if is_empty missing then told else (missing, Refused)) (same_told count missing width capabilities)
+  same_by : (missing notes : List ℕ) (tally : Tally) (auto : Bool) (count : ℕ) (width : Option ℕ) → ended_by missing notes tally auto v count width ≡ ended_by missing notes tally auto w count width
+  same_by missing notes tally auto count width = rw (same 0 0xfe, same_told (refusal tally missing) count notes (remarks auto tally) width (w 0 0xfe)) refl
 
-  pub same_ended : (count : ℕ) (width : Option ℕ) → ended_with v count width ≡ ended_with w count width
-  same_ended count width =
-      rw (same 0 0xfe, same_lines count (needed (w 0 0xfe))) (same_dump count (missing_width width ++ missing_lines w count (needed (w 0 0xfe))) width (w 0 0xfe))
+module _ (v w : ℕ → ℕ → Option ℕ) (same : (k n : ℕ) → v k n ≡ w k n) (a b : ℕ → Option ℕ) (same_hint : (n : ℕ) → a n ≡ b n) where
+  same_lines : (count : ℕ) (numbers : List ℕ) → missing_lines a v count numbers ≡ missing_lines b w count numbers
+  same_lines count [] = refl
+  same_lines count (number ∷ numbers) = rw (same_missing v w same count number, same_hint number, same_lines count numbers) refl
+
+module _ (v w : ℕ → ℕ → Option ℕ) (same : (k n : ℕ) → v k n ≡ w k n) (a b : ℕ → ℕ → Option ℕ) (same_firm_too : (k n : ℕ) → a k n ≡ b k n) where
+  same_noted : (count number : ℕ) → noted a v count number ≡ noted b w count number
+  same_noted zero number = refl
+  same_noted (suc k) number = rw (same_noted k number, same k number, same_firm_too k number) refl
+
+  same_notes : (count : ℕ) (numbers : List ℕ) → note_lines a v count numbers ≡ note_lines b w count numbers
+  same_notes count [] = refl
+  same_notes count (number ∷ numbers) = rw (same_noted count number, same_notes count numbers) refl
+
+-- ---- the same slots of all processors
+
+module _ (supplied : Supplied) (v w : Slots) (same : (k n : ℕ) → v k n ≡ w k n) (shown : Option ℕ) where
+  same_width : width_by supplied v shown ≡ width_by supplied w shown
+  same_width = rw (same_masks (v 0) (w 0) (same 0) 32) refl
+
+  same_value : (k n : ℕ) → values_of supplied v shown k n ≡ values_of supplied w shown k n
+  unfolding values_of
+  same_value k n = rw (same_width, same_firm (v k) (w k) (same k) supplied n, same_assumed (v k) (w k) (same k) supplied.assumed (width_by supplied w shown) n) refl
+
+  same_hints : (n : ℕ) → hint_of supplied v shown n ≡ hint_of supplied w shown n
+  unfolding hint_of
+  same_hints n = rw (same_width, same_assumed (v 0) (w 0) (same 0) all_assumed (or_supplied (width_by supplied w shown) (Some 52)) n) refl
+
+  same_firm_of : (k n : ℕ) → firm_of supplied v k n ≡ firm_of supplied w k n
+  unfolding firm_of
+  same_firm_of k n = same_firm (v k) (w k) (same k) supplied n
+
+  same_missing_of : (count : ℕ) → missing_of supplied v count shown ≡ missing_of supplied w count shown
+  same_missing_of count =
+      rw (same_width, same_masks (v 0) (w 0) (same 0) 32, same_value 0 0xfe)
+      (ap (λ l. missing_width (width_by supplied w shown) (widest (masks_in (w 0) 32)) ++ l)
+      (same_lines (values_of supplied v shown) (values_of supplied w shown) same_value (hint_of supplied v shown) (hint_of supplied w shown) same_hints count (needed (values_of supplied w shown 0 0xfe))))
+
+  same_notes_of : (count : ℕ) → notes_of supplied v count shown ≡ notes_of supplied w count shown
+  same_notes_of count =
+      rw (same_width, same_value 0 0xfe)
+      (ap (λ l. width_note (firm_width supplied shown) (width_by supplied w shown) ++ l)
+      (same_notes (values_of supplied v shown) (values_of supplied w shown) same_value (firm_of supplied v) (firm_of supplied w) same_firm_of count (needed (values_of supplied w shown 0 0xfe))))
+
+  pub same_ended : (auto : Bool) (count : ℕ) (tally : Tally) → ended_with auto supplied v count shown tally ≡ ended_with auto supplied w count shown tally
+  same_ended auto count tally =
+      ap (λ m. ended_by m (notes_of supplied v count shown) tally auto (values_of supplied v shown) count (width_by supplied v shown)) (same_missing_of count)
+      ∙ ap (λ m. ended_by (missing_of supplied w count shown) m tally auto (values_of supplied v shown) count (width_by supplied v shown)) (same_notes_of count)
+      ∙ same_by (values_of supplied v shown) (values_of supplied w shown) same_value (missing_of supplied w count shown) (notes_of supplied w count shown) tally auto count (width_by supplied v shown)
+      ∙ ap (λ m. ended_by (missing_of supplied w count shown) (notes_of supplied w count shown) tally auto (values_of supplied w shown) count m) same_width
 
 -- what the reader and the words tell is what the facts show
-pub same_end : (supplied : Supplied) (state : State) (seen : Seen) → HasTaken state seen → ended_with (values_of supplied state) state.processors (width_of supplied state) ≡ ended supplied seen
-same_end supplied state seen held =
-    rw (held.processors_is, held.width_is)
-    (same_ended (values_of supplied state) (value_in supplied seen.readings) (λ k n. ap (λ o. or_supplied o (supplied_value supplied n)) (held.values_are k n)) (processors seen.readings) (or_supplied seen.width supplied.width))
+pub same_end : (auto : Bool) (supplied : Supplied) (state : State) (seen : Seen) → HasTaken state seen
+    → ended_with auto supplied (slots_of state) state.processors state.width state.tally ≡ ended auto supplied seen
+same_end auto supplied state seen held =
+    rw (held.processors_is, held.width_is, held.tally_is)
+    (same_ended supplied (slots_of state) (slot_shown seen.readings) held.slots_are seen.width auto (processors seen.readings) seen.tally)
 
--- the capability register of processor 0 has at most 32 pairs
-pub sound_end : (supplied : Supplied) (state : State) (seen : Seen) → HasTaken state seen → IsSupplied supplied → (value : ℕ) → values_of supplied state 0 0xfe ≡ Some value → low_byte value ≤ 32
-sound_end supplied state seen held sound value is =
-    by (value_shown 0 0xfe seen.readings) refl (sym (ap (λ o. or_supplied o (supplied_value supplied 0xfe)) (held.values_are 0 0xfe)) ∙ is)
+-- ---- the capability register of processor 0 has at most 32 pairs
+
+few_shown : (slots : ℕ → Slot) (n : ℕ) → shown_pairs slots n ≤ n
+few_shown slots zero = omega arith
+few_shown slots (suc n) = by (is_bit_set (slots (0x201 + 2 * n)).bits 11) (few_shown slots n)
   where
-    by : (found : Option ℕ) → value_shown 0 0xfe seen.readings ≡ found → or_supplied found (supplied_value supplied 0xfe) ≡ Some value → low_byte value ≤ 32
-    by (Some other) shown is = held.pairs 0 value (shown ∙ is)
-    by None shown is = sound.pairs value is
+    by : (test : Bool) → shown_pairs slots n ≤ n → (if test then suc n else shown_pairs slots n) ≤ suc n
+    by true few = omega arith
+    by false few = omega (arith, few)
+
+few_pairs : (slots : ℕ → Slot) → low_byte (slots 0xfe).value ≤ 32 → pair_count slots ≤ 32
+few_pairs slots few = by ((slots 0xfe).bits % 256 == 255)
+  where
+    by : (test : Bool) → (if test then low_byte (slots 0xfe).value else shown_pairs slots 32) ≤ 32
+    by true = few
+    by false = few_shown slots 32
+
+low_of : (count : ℕ) → count ≤ 32 → low_byte (count + 0x500) ≤ 32
+low_of count few = omega (arith, few)
+
+module _ (supplied : Supplied) (slots : ℕ → Slot) (width : Option ℕ) (few : low_byte (slots 0xfe).value ≤ 32) (sound : IsSupplied supplied) where
+  from_assumed : (test assumed : Bool) (value : ℕ) → only_if assumed (if test then Some (pair_count slots + 0x500) else None) ≡ Some value → low_byte value ≤ 32
+  from_assumed true true value is = let e : pair_count slots + 0x500 ≡ value = cc is in rw (← e) (low_of (pair_count slots) (few_pairs slots few))
+  from_assumed false true value is = cc is
+  from_assumed test false value is = cc is
+
+  from_supplied : (given : Option ℕ) → supplied_value supplied 0xfe ≡ given → (value : ℕ) → or_supplied (or_supplied given None) (assumed_value supplied.assumed slots width 0xfe) ≡ Some value → low_byte value ≤ 32
+  from_supplied (Some other) given value is = sound.pairs value (given ∙ is)
+  from_supplied None given value is = from_assumed (is_bit_set (slots 0xfe).value 8) supplied.assumed.capabilities value is
+
+  from_shown : (whole : Bool) (value : ℕ) → or_supplied (or_supplied (if whole then Some (slots 0xfe).value else None) (or_supplied (supplied_value supplied 0xfe) None)) (assumed_value supplied.assumed slots width 0xfe) ≡ Some value → low_byte value ≤ 32
+  from_shown true value is = let e : (slots 0xfe).value ≡ value = cc is in rw (← e) few
+  from_shown false value is = from_supplied (supplied_value supplied 0xfe) refl value is
+
+pub sound_end : (supplied : Supplied) (state : State) (seen : Seen) → HasTaken state seen → IsSupplied supplied → (value : ℕ) → values_of supplied (slots_of state) state.width 0 0xfe ≡ Some value → low_byte value ≤ 32
+unfolding values_of
+sound_end supplied state seen held sound value is =
+    let few : low_byte (slots_of state 0 0xfe).value ≤ 32 = rw (held.slots_are 0 0xfe) (held.pairs 0) in
+    from_shown supplied (slots_of state 0) (width_by supplied (slots_of state) state.width) few sound ((slots_of state 0 0xfe).fresh == 0xffffffffffffffff) value is
+
+-- ---- what a value is made of
+
+pub value_is : (supplied : Supplied) (slots : Slots) (shown : Option ℕ) (k n : ℕ)
+    → values_of supplied slots shown k n ≡ or_supplied (firm_value supplied (slots k) n) (assumed_value supplied.assumed (slots k) (width_by supplied slots shown) n)
+unfolding values_of
+value_is supplied slots shown k n = refl
 
 -- the width that the reader holds is one that a dump may have
 pub fit_end : (state : State) (seen : Seen) → HasTaken state seen → IfSome state.width IsFit

@@ -1,16 +1,5 @@
--- A run of fixed ranges is filled in, one after the other.
-use Rattle.std.proofs.Common.{◌≡◌, ◌+◌, ◌-◌, ◌*◌, ◌^◌, ◌≤◌, ◌<◌, Fits, w64, ℕ, zero, suc, List, [], ◌∷◌, ◌++◌, length, take, drop, Option, ap, arith}
-use Rattle.std.specs.Prelude.{replicate, slice_set}
-use Rattle.std.proofs.lemmas.List.{append_assoc, drop-set-lt, take_more_set}
-
-pub filled_on : (xs : List (Option ℕ)) (i end : ℕ) (v : Option ℕ) → i < end → end ≤ length xs
-    → take (i + 1) (slice_set xs i v) ++ (replicate (end - (i + 1)) v ++ drop end (slice_set xs i v)) ≡ take i xs ++ (replicate (end - i) v ++ drop end xs)
-filled_on xs i end v less within =
-    let e : end - i ≡ suc (end - (i + 1)) = omega (arith, less) in
-    let r : replicate (end - i) v ≡ v ∷ replicate (end - (i + 1)) v = ap (λ n. replicate n v) e in
-    rw (take_more_set xs i v (omega (arith, less, within)), drop-set-lt end xs i v less, r) (append_assoc (take i xs) (v ∷ []) (replicate (end - (i + 1)) v ++ drop end xs))
-
--- ---- bytes
+-- Bytes of a value, each after the other.
+use Rattle.std.proofs.Common.{◌+◌, ◌*◌, ◌^◌, ◌≤◌, ◌<◌, Fits, w64, ℕ, zero, suc, arith}
 
 -- seven bytes at most
 below : (n value : ℕ) → n ≤ 7 → value < 256 ^ n → value < 72057594037927936

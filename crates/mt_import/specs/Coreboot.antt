@@ -1,7 +1,7 @@
 -- Lines of coreboot's console. Source: coreboot 25.09 and 4.15: src/cpu/x86/mtrr/debug.c, `_display_mtrrs` and what it calls; src/cpu/x86/mtrr/mtrr.c, `commit_fixed_mtrrs`, `prep_var_mtrr`,
 -- `_x86_setup_mtrrs`; src/console/printk.c, `line_start`.
 --     coreboot_said number line      what a line of this number says
-use Rattle.std.specs.Prelude.{ℕ, ◌+◌, ◌*◌, ◌%◌, ◌==◌, ◌&&◌, nat_lt, codes, Bool, List, ◌∷◌, replicate, if◌then◌else◌, Option, Some, None, Result, Ok, Err}
+use Rattle.std.specs.Prelude.{ℕ, ◌+◌, ◌*◌, ◌%◌, ◌==◌, ◌&&◌, nat_lt, codes, Bool, List, if◌then◌else◌, Option, Some, None, Result, Ok, Err}
 use Rattle.mt_kinds.specs.Sizes.{page_bytes}
 use Rattle.mt_text.specs.Text.{without_ending, words_of}
 use Rattle.mt_text.specs.Words.{place_of, text_of}
@@ -9,8 +9,10 @@ use Rattle.mt_text.specs.Number.{decimal_number}
 use Rattle.mt_text.specs.declared.fault.NumberFault.{NumberFault}
 use Rattle.mt_text.specs.declared.place.Place.{Place}
 use Rattle.mt_import.specs.declared.reading.Said.{Said}
-use Rattle.mt_import.specs.declared.reading.Said.TheVariants.{Nothing, Shows}
-use Rattle.mt_import.specs.Pieces.{before, behind, is_text, prefixed_number, prefixed_register, shown_as, shows_one, shows_width, whole_number}
+use Rattle.mt_import.specs.declared.reading.Said.TheVariants.{Nothing, Begins, Shows}
+use Rattle.mt_import.specs.Pieces.{before, behind, is_text, prefixed_number, prefixed_register, shown_as, shown_bits, shows_one, shows_width, whole_number}
+use Rattle.mt_import.specs.Readings.{one_shown, two_shown}
+use Rattle.mt_import.specs.Kernel.{default_shown}
 
 -- ---- what `_display_mtrrs` prints: `0xVALUE: NAME`, and more behind it
 
@@ -91,7 +93,7 @@ is_page address = nat_lt address 0x10000000000000 && address % page_bytes == 0
 -- PhysBase has the type in its low byte, and PhysMask has V set.
 abbrev pub shows_pair : Result ℕ NumberFault → Option ℕ → Option ℕ → Result ℕ NumberFault → Place → Place → Said
 shows_pair (Ok pair) (Some base) (Some mask) (Ok kind) base_place mask_place =
-    if is_page base && is_page mask then Shows None (shown_as (0x200 + 2 * pair) (base + kind) base_place ∷ shown_as (0x201 + 2 * pair) (mask + 0x800) mask_place ∷ replicate 9 None)
+    if is_page base && is_page mask then Shows None (two_shown (shown_as (0x200 + 2 * pair) (base + kind) base_place) (shown_as (0x201 + 2 * pair) (mask + 0x800) mask_place))
     else Nothing
 shows_pair (Ok pair) (Some base) (Some mask) (Err fault) base_place mask_place = Nothing
 shows_pair (Ok pair) (Some base) None kind base_place mask_place = Nothing
@@ -112,11 +114,43 @@ is_size first words =
 abbrev pub size_from : ℕ → ℕ → List (ℕ × List ℕ) → Said
 size_from first number words = if is_size first words then shows_width (decimal_number (text_of words (first + 4)) 255) (place_of number words (first + 4)) else Nothing
 
+-- `WB selected as default type.`: a table begins
+abbrev pub is_default : ℕ → List (ℕ × List ℕ) → Bool
+is_default first words =
+    is_text (codes "selected") (text_of words (first + 1)) && is_text (codes "as") (text_of words (first + 2)) && is_text (codes "default") (text_of words (first + 3))
+    && is_text (codes "type.") (text_of words (first + 4))
+
+abbrev pub default_named : List ℕ → Option ℕ
+default_named word = if is_text (codes "WB") word then Some 6 else if is_text (codes "UC") word then Some 0 else None
+
+abbrev pub default_from : ℕ → ℕ → List (ℕ × List ℕ) → Said
+default_from first number words = Begins (one_shown (default_shown (default_named (text_of words first)) (place_of number words first)))
+
+-- `Fixed MTRRs   : Enabled` and `Variable MTRRs: Enabled`: FE and E
+abbrev pub flag_said : ℕ → List ℕ → Place → Said
+flag_said bit word place =
+    if is_text (codes "Enabled") word then Shows None (one_shown (shown_bits 0x2ff bit bit place))
+    else if is_text (codes "Disabled") word then Shows None (one_shown (shown_bits 0x2ff bit 0 place))
+    else Nothing
+
+abbrev pub is_fixed_flag : ℕ → List (ℕ × List ℕ) → Bool
+is_fixed_flag first words = is_text (codes "Fixed") (text_of words first) && is_text (codes "MTRRs") (text_of words (first + 1)) && is_text (codes ":") (text_of words (first + 2))
+
+abbrev pub is_variable_flag : ℕ → List (ℕ × List ℕ) → Bool
+is_variable_flag first words = is_text (codes "Variable") (text_of words first) && is_text (codes "MTRRs:") (text_of words (first + 1))
+
+abbrev pub other_from : ℕ → ℕ → List (ℕ × List ℕ) → Said
+other_from first number words =
+    if is_fixed_flag first words then flag_said 0x400 (text_of words (first + 3)) (place_of number words (first + 3))
+    else if is_variable_flag first words then flag_said 0x800 (text_of words (first + 2)) (place_of number words (first + 2))
+    else displayed_from first number words
+
 -- behind `MTRR:`
 abbrev pub set_from : ℕ → ℕ → List (ℕ × List ℕ) → Said
 set_from first number words =
     if is_fixed first words then fixed_from None first number words
     else if is_pair first words then pair_from first number words
+    else if is_default first words then default_from first number words
     else Nothing
 
 -- ---- a line
@@ -146,7 +180,7 @@ said_from first number words =
     if is_text (codes "apic_id") (text_of words first) then said_of_id (first + 1) number words
     else if is_text (codes "MTRR:") (text_of words first) then set_from (first + 1) number words
     else if is_text (codes "CPU") (text_of words first) then size_from first number words
-    else displayed_from first number words
+    else other_from first number words
 
 -- The level of these lines may stand in front, as one word.
 abbrev pub level_words : List (ℕ × List ℕ) → ℕ

@@ -6,8 +6,8 @@ use Rattle.mt_text.specs.Words.{first_words, text_of, place_of}
 use Rattle.mt_text.specs.declared.place.Place.{Place}
 use Rattle.mt_import.specs.declared.reading.Said.{Said}
 use Rattle.mt_import.specs.declared.reading.Said.TheVariants.{Nothing, Shows}
-use Rattle.mt_import.specs.Pieces.{behind, is_text, shows_one, sixteen_digits}
-use Rattle.mt_import.specs.Table.{two_shown, value_at}
+use Rattle.mt_import.specs.Pieces.{behind, is_text, shows_one, sixteen_digits, value_at}
+use Rattle.mt_import.specs.Readings.{two_shown}
 use Rattle.mt_import.specs.Linux.{pair_numbered}
 
 -- the number of the k-th fixed-range register

@@ -6,14 +6,17 @@ use Rattle.mt_import.specs.Pieces.{is_text}
 
 abbrev pub help_lines : List (List ℕ)
 help_lines =
-    codes "usage: mtrr-import FORMAT [REGISTER=VALUE ..] [maxphyaddr=N] < LOG"
+    codes "usage: mtrr-import FORMAT [WORD ..] < LOG"
     ∷ codes ""
-    ∷ codes "Writes the dump for mtrr that another program's log shows, or what is"
-    ∷ codes "missing from it. Each register or width that is missing is a word."
+    ∷ codes "Writes the dump for mtrr that another program's log shows. What is missing"
+    ∷ codes "from it, or at fault, is told on standard error."
     ∷ codes ""
-    ∷ codes "  FORMAT          coreboot, edk2, inteltool, linux, rdmsr, x86info, xen"
+    ∷ codes "  FORMAT          auto, coreboot, edk2, inteltool, linux, rdmsr, x86info, xen"
     ∷ codes "  REGISTER=VALUE  a register of the processors, both hexadecimal"
     ∷ codes "  maxphyaddr=N    the bits of a physical address, 32 to 52"
+    ∷ codes "  assume=NAME     what may be assumed where nothing says it: capabilities,"
+    ∷ codes "                  masks, pairs, pat, width or all; a comment names each"
+    ∷ codes "                  value that was assumed"
     ∷ codes "  --help          this text; nothing is read"
     ∷ codes "  --version       the version; nothing is read"
     ∷ codes ""

@@ -1,31 +1,47 @@
 -- What the program writes for a command line and a log, and the status that it ends with (own).
---     log_told format supplied text      the text and the status for a log
---     output_of words bytes      the same for a command line
-use Rattle.std.specs.Prelude.{ℕ, ◌≡◌, ◌<◌, ◌⊎◌, codes, List, [], length, Option, Some, None, ⊤}
+--     log_told choice supplied text      the texts and the status for a log
+--     told_of words bytes      the same for a command line
+--     output_of words bytes      one text and the status: the dump, or else the reasons
+use Rattle.std.specs.Prelude.{ℕ, ◌≡◌, ◌<◌, ◌⊎◌, ◌++◌, codes, List, [], length, if◌then◌else◌, Option, Some, None, ⊤}
+use Rattle.std.specs.Io.KnownBytes.{Appends}
 use Rattle.mt_text.specs.Text.{longest_input}
+use Rattle.mt_ports.specs.Causes.{Rose}
+use Rattle.mt_ports.specs.Puts.{AppendsFront}
 use Rattle.mt_ports.specs.declared.status.Status.{Status}
 use Rattle.mt_ports.specs.declared.status.Status.TheVariants.{Done, Refused, Usage, BadText, ReadFault, WriteFault, NoMemory, TooLong, TooFew, Disabled}
 use Rattle.mt_output.specs.Lines.{line}
 use Rattle.mt_output.specs.Written.{Writes}
-use Rattle.mt_import.specs.declared.format.Format.{Format}
-use Rattle.mt_import.specs.Shown.{shown}
+use Rattle.mt_import.specs.declared.format.Choice.{Choice}
+use Rattle.mt_import.specs.Shown.{format_of, is_auto, shown}
 use Rattle.mt_import.specs.Help.{own_text}
 use Rattle.mt_import.specs.Supplied.{Supplied, command_of}
-use Rattle.mt_import.specs.Outcome.{Told, nothing_seen, outcome}
+use Rattle.mt_import.specs.Outcome.{Told, is_empty, nothing_seen, outcome}
 
-abbrev pub log_told : Format → Supplied → List ℕ → Told
-log_told format supplied text = outcome supplied nothing_seen (shown format text)
+abbrev pub log_told : Choice → Supplied → List ℕ → Told
+log_told choice supplied text = outcome (is_auto choice) supplied (nothing_seen (format_of choice)) (shown (format_of choice) text)
 
-abbrev pub output_by : Option (List ℕ) → Option (Format × Supplied) → List ℕ → Told
-output_by (Some text) command bytes = (text, Done)
-output_by None None bytes = (line (codes "usage"), Usage)
-output_by None (Some command) bytes = log_told command.0 command.1 bytes
+abbrev pub own_told : List ℕ → Told
+own_told text = record { notes = []; dump = text; reasons = []; status = Done }
 
-abbrev pub output_of : List (List ℕ) → List ℕ → Told
-output_of words bytes = output_by (own_text words) (command_of words) bytes
+abbrev pub usage_told : Told
+usage_told = record { notes = []; dump = []; reasons = line (codes "usage"); status = Usage }
+
+abbrev pub told_by : Option (List ℕ) → Option (Choice × Supplied) → List ℕ → Told
+told_by (Some text) command bytes = own_told text
+told_by None None bytes = usage_told
+told_by None (Some command) bytes = log_told command.0 command.1 bytes
+
+abbrev pub told_of : List (List ℕ) → List ℕ → Told
+told_of words bytes = told_by (own_text words) (command_of words) bytes
+
+abbrev pub one_text : Told → List ℕ
+one_text texts = if is_empty texts.dump then texts.reasons else texts.notes ++ texts.dump
+
+abbrev pub output_of : List (List ℕ) → List ℕ → List ℕ × Status
+output_of words bytes = (one_text (told_of words bytes), (told_of words bytes).status)
 
 -- without a command, and for the program's own texts, nothing is read
-abbrev pub left_by : Option (List ℕ) → Option (Format × Supplied) → List ℕ → List ℕ
+abbrev pub left_by : Option (List ℕ) → Option (Choice × Supplied) → List ℕ → List ℕ
 left_by (Some text) command bytes = bytes
 left_by None None bytes = bytes
 left_by None (Some command) bytes = []
@@ -46,11 +62,41 @@ IsWritten TooLong = ⊥
 IsWritten TooFew = ⊥
 IsWritten Disabled = ⊥
 
+-- the source failed, or gave too much
+abbrev pub IsUnread : List ℕ → Status → Type 0
+IsUnread bytes result = (result ≡ ReadFault) ⊎ ((result ≡ TooLong) × (longest_input < length bytes))
+
 -- the output for the words and all bytes of the source was written, or nothing where the source failed or gave too much
 pub data Imports (words : List (List ℕ)) (bytes : List ℕ) (left old new : Option (List ℕ)) (result : Status) : Type 0 where
   told : left ≡ Some (left_of words bytes) → Writes (output_of words bytes).0 (output_of words bytes).1 old new result → Imports words bytes left old new result
-  unread : new ≡ old → (result ≡ ReadFault) ⊎ ((result ≡ TooLong) × (longest_input < length bytes)) → Imports words bytes left old new result
+  unread : new ≡ old → IsUnread bytes result → Imports words bytes left old new result
+
+-- ---- the same with standard error apart
+
+-- the bytes that a sink took
+pub record Taken : Type 0 where
+  pub old : Option (List ℕ)
+  pub new : Option (List ℕ)
+
+-- Each sink took its text and the status is that of the texts, or one failed, and each took a front of its text.
+abbrev pub WritesApart : Told → Taken → Taken → Status → Type 0
+WritesApart texts out errors result =
+    ((result ≡ texts.status) × Appends out.old out.new (texts.notes ++ texts.dump) × Appends errors.old errors.new texts.reasons)
+    ⊎ ((result ≡ WriteFault) × AppendsFront out.old out.new (texts.notes ++ texts.dump) × AppendsFront errors.old errors.new texts.reasons)
+
+pub data ImportsApart (words : List (List ℕ)) (bytes : List ℕ) (left : Option (List ℕ)) (out errors : Taken) (result : Status) : Type 0 where
+  told : left ≡ Some (left_of words bytes) → WritesApart (told_of words bytes) out errors result → ImportsApart words bytes left out errors result
+  unread : out.new ≡ out.old → errors.new ≡ errors.old → IsUnread bytes result → ImportsApart words bytes left out errors result
 
 -- the same where the arguments may have found no memory: then nothing is read or written
-abbrev pub Runs : List (List ℕ) → List ℕ → Option (List ℕ) → Option (List ℕ) → Option (List ℕ) → Status → Type 0
-Runs words bytes left old new result = Imports words bytes left old new result ⊎ ((result ≡ NoMemory) × (left ≡ Some bytes) × (new ≡ old))
+abbrev pub Runs : List (List ℕ) → List ℕ → Option (List ℕ) → Taken → Taken → Status → Type 0
+Runs words bytes left out errors result =
+    ImportsApart words bytes left out errors result ⊎ ((result ≡ NoMemory) × (left ≡ Some bytes) × (out.new ≡ out.old) × (errors.new ≡ errors.old))
+
+-- One of two sinks failed, once, where the status is `WriteFault`; else none did. Counts are before and after.
+abbrev pub OneFailed : ℕ × ℕ → ℕ × ℕ → Type 0
+OneFailed out errors = (Rose out.0 out.1 × (errors.1 ≡ errors.0)) ⊎ ((out.1 ≡ out.0) × Rose errors.0 errors.1)
+
+pub record HaveCause (out errors : ℕ × ℕ) (status : Status) : Type 0 where
+  pub one : status ≡ WriteFault → OneFailed out errors
+  pub neither : (status ≡ WriteFault → ⊥) → (out.1 ≡ out.0) × (errors.1 ≡ errors.0)

@@ -1,15 +1,16 @@
 -- Lines on MTRRs that the kernels of Linux and Xen print alike: print_mtrr_state, print_fixed_last and mtrr_attrib_to_str
 -- (Linux 6.1: arch/x86/kernel/cpu/mtrr/generic.c and if.c; Xen 4.17: xen/arch/x86/cpu/mtrr/generic.c).
 --     kernel_said alone number words      what a line of these words says, where `alone` tells whether the line on fixed ranges shows FE also without E
-use Rattle.std.specs.Prelude.{ℕ, ◌+◌, ◌-◌, ◌*◌, ◌/◌, ◌%◌, ◌==◌, ◌&&◌, ◌||◌, not, nat_lt, codes, Bool, true, false, List, length, take, drop, if◌then◌else◌, Option, Some, None}
+use Rattle.std.specs.Prelude.{ℕ, ◌+◌, ◌-◌, ◌*◌, ◌/◌, ◌%◌, ◌==◌, ◌&&◌, not, nat_le, nat_lt, codes, Bool, true, false, List, [], ◌∷◌, length, take, drop, if◌then◌else◌, Option, Some, None}
 use Rattle.mt_kinds.specs.Sizes.{page_bytes}
 use Rattle.mt_text.specs.Words.{text_of, place_of}
 use Rattle.mt_text.specs.Number.{hex_number, decimal_number}
 use Rattle.mt_text.specs.declared.place.Place.{Place}
 use Rattle.mt_import.specs.declared.reading.Said.{Said}
-use Rattle.mt_import.specs.declared.reading.Said.TheVariants.{Nothing, InTable}
-use Rattle.mt_import.specs.declared.table.TableLine.TheVariants.{DefaultType, Disabled, FixedRanges, Pair, PairDisabled, Types, VariableRanges}
-use Rattle.mt_import.specs.Pieces.{is_text, number_in}
+use Rattle.mt_import.specs.declared.reading.Said.TheVariants.{Nothing, Shows, Begins, FixedRanges, VariableRanges}
+use Rattle.mt_import.specs.declared.shape.Shown.{Shown}
+use Rattle.mt_import.specs.Pieces.{is_text, number_in, shown_bits, value_at}
+use Rattle.mt_import.specs.Readings.{one_shown, two_shown}
 
 -- the code of a memory type: Intel SDM, volume 3A, chapter Memory Cache Control, section Memory Type Range Registers (MTRRs); `?` has none
 abbrev pub type_named : List ℕ → Option ℕ
@@ -26,21 +27,25 @@ type_named word =
 abbrev pub enabled_by : List ℕ → Option Bool
 enabled_by word = if is_text (codes "enabled:") word then Some true else if is_text (codes "disabled:") word then Some false else None
 
-abbrev pub fixed_said : Place → Option Bool → Said
-fixed_said place None = Nothing
-fixed_said place (Some enabled) = InTable (FixedRanges enabled place)
+abbrev pub fixed_said : Bool → Place → Option Bool → Said
+fixed_said alone place None = Nothing
+fixed_said alone place (Some enabled) = FixedRanges enabled alone place
 
--- Without E, and where FE isn't shown alone, IA32_MTRR_DEF_TYPE isn't known.
-abbrev pub variable_said : Bool → Place → Option Bool → Said
-variable_said alone place None = Nothing
-variable_said alone place (Some enabled) = if enabled || alone then InTable (VariableRanges enabled place) else InTable (Disabled place)
+abbrev pub variable_said : Place → Option Bool → Said
+variable_said place None = Nothing
+variable_said place (Some enabled) = VariableRanges enabled place
+
+-- Intel SDM, volume 3A, section IA32_MTRR_DEF_TYPE MSR: the type in bits 7:0, FE in bit 10, E in bit 11; the other bits are reserved, and 0.
+abbrev pub default_shown : Option ℕ → Place → Option Shown
+default_shown None place = None
+default_shown (Some code) place = shown_bits 0x2ff 0xfffffffffffff3ff code place
 
 abbrev pub head_said : Bool → ℕ → List (ℕ × List ℕ) → Said
 head_said alone number words =
-    if is_text (codes "default") (text_of words 1) && is_text (codes "type:") (text_of words 2) then InTable (DefaultType (type_named (text_of words 3)) (place_of number words 3))
+    if is_text (codes "default") (text_of words 1) && is_text (codes "type:") (text_of words 2) then Begins (one_shown (default_shown (type_named (text_of words 3)) (place_of number words 3)))
     else if not (is_text (codes "ranges") (text_of words 2)) then Nothing
-    else if is_text (codes "fixed") (text_of words 1) then fixed_said (place_of number words 3) (enabled_by (text_of words 3))
-    else if is_text (codes "variable") (text_of words 1) then variable_said alone (place_of number words 3) (enabled_by (text_of words 3))
+    else if is_text (codes "fixed") (text_of words 1) then fixed_said alone (place_of number words 3) (enabled_by (text_of words 3))
+    else if is_text (codes "variable") (text_of words 1) then variable_said (place_of number words 3) (enabled_by (text_of words 3))
     else Nothing
 
 -- ---- `FIRST-LAST T`, five digits each
@@ -56,12 +61,38 @@ range_at address =
     else if nat_lt 0x100000 address then None
     else range_from 24 (address - 0xc0000) 0x1000
 
+-- 1 for a range of a run, else 0
+abbrev pub in_run : ℕ → ℕ → ℕ → ℕ
+in_run first end i = if nat_le first i && nat_lt i end then 1 else 0
+
+-- a byte of 1 for each of the eight ranges from this one on that the run has
+abbrev pub run_bytes : ℕ → ℕ → ℕ → ℕ
+run_bytes first end at =
+    in_run first end at + 0x100 * in_run first end (at + 1) + 0x10000 * in_run first end (at + 2) + 0x1000000 * in_run first end (at + 3)
+    + 0x100000000 * in_run first end (at + 4) + 0x10000000000 * in_run first end (at + 5) + 0x1000000000000 * in_run first end (at + 6)
+    + 0x100000000000000 * in_run first end (at + 7)
+
+abbrev pub fixed_by : ℕ → ℕ → ℕ → Place → Option Shown
+fixed_by number bytes code place = if bytes == 0 then None else shown_bits number (255 * bytes) (code * bytes) place
+
+-- the fixed-range register whose ranges begin with this one
+abbrev pub fixed_shown : ℕ → ℕ → ℕ → Place → ℕ → ℕ → Option Shown
+fixed_shown first end code place at number = fixed_by number (run_bytes first end at) code place
+
+-- a run of ranges of one type
+abbrev pub all_fixed_shown : ℕ → ℕ → ℕ → Place → List (Option Shown)
+all_fixed_shown first end code place =
+    fixed_shown first end code place 0 0x250 ∷ fixed_shown first end code place 8 0x258 ∷ fixed_shown first end code place 16 0x259
+    ∷ fixed_shown first end code place 24 0x268 ∷ fixed_shown first end code place 32 0x269 ∷ fixed_shown first end code place 40 0x26a
+    ∷ fixed_shown first end code place 48 0x26b ∷ fixed_shown first end code place 56 0x26c ∷ fixed_shown first end code place 64 0x26d
+    ∷ fixed_shown first end code place 72 0x26e ∷ fixed_shown first end code place 80 0x26f ∷ []
+
 abbrev pub types_said : Option ℕ → Option ℕ → Option ℕ → Place → Said
 types_said None end code place = Nothing
 types_said (Some first) None code place = Nothing
 types_said (Some first) (Some end) None place = Nothing
 types_said (Some first) (Some end) (Some code) place =
-    if nat_lt first end then InTable (Types (record { first = first; end = end; memory_type = code; place = place })) else Nothing
+    if nat_lt first end then Shows (Some 0) (all_fixed_shown first end code place) else Nothing
 
 abbrev pub addresses_said : Option ℕ → Option ℕ → Option ℕ → Place → Said
 addresses_said None last code place = Nothing
@@ -90,19 +121,15 @@ mask_value (Some mask) = if mask % page_bytes == 0 then Some (mask + 0x800) else
 
 abbrev pub pair_said : Option ℕ → ℕ → List (ℕ × List ℕ) → Said
 pair_said None number words = Nothing
-pair_said (Some pair) number words = InTable (Pair (record {
-  pair = pair;
-  base = base_value (number_in (hex_number (text_of words 2))) (type_named (text_of words 5));
-  base_place = place_of number words 2;
-  mask = mask_value (number_in (hex_number (text_of words 4)));
-  mask_place = place_of number words 4;
-}))
+pair_said (Some pair) number words = Shows (Some 0) (two_shown
+    (value_at (0x200 + 2 * pair) (place_of number words 2) (base_value (number_in (hex_number (text_of words 2))) (type_named (text_of words 5))))
+    (value_at (0x201 + 2 * pair) (place_of number words 4) (mask_value (number_in (hex_number (text_of words 4))))))
 
--- ---- `N disabled`
+-- ---- `N disabled`: V is clear
 
 abbrev pub disabled_said : Option ℕ → Place → Said
 disabled_said None place = Nothing
-disabled_said (Some pair) place = InTable (PairDisabled pair place)
+disabled_said (Some pair) place = Shows (Some 0) (one_shown (shown_bits (0x201 + 2 * pair) 0x800 0 place))
 
 -- ---- all lines
 

@@ -1,55 +1,76 @@
--- What facts and supplied words come to: the text and the status (own).
---     outcome supplied seen facts      the text and the status of facts that stand behind others
-use Rattle.std.specs.Prelude.{ℕ, zero, suc, ◌+◌, ◌*◌, ◌==◌, ◌&&◌, ◌||◌, nat_lt, not, max, codes, decimal, Bool, true, false, List, [], ◌∷◌, ◌++◌, map, replicate, if◌then◌else◌, Option, Some, None, is_none, unwrap_or}
+-- What facts and supplied words come to: the texts and the status (own).
+--     outcome auto supplied seen facts      what facts come to that stand behind others
+use Rattle.std.specs.Prelude.{ℕ, zero, suc, ◌+◌, ◌*◌, ◌==◌, ◌&&◌, ◌||◌, nat_lt, not, max, bit_or, codes, decimal, Bool, true, false, List, [], ◌∷◌, ◌++◌, map, replicate, if◌then◌else◌, Option, Some, None, is_none, is_some, unwrap_or}
+use Rattle.mt_ports.specs.Causes.{one_more}
 use Rattle.mt_ports.specs.declared.status.Status.{Status}
 use Rattle.mt_ports.specs.declared.status.Status.TheVariants.{Done, Refused, BadText}
 use Rattle.mt_text.specs.declared.place.Place.{Place}
 use Rattle.mt_regs.specs.RegisterFile.{RegisterFile, blank_file, low_byte}
 use Rattle.mt_kinds.specs.Bits.{is_bit_set}
 use Rattle.mt_regs.specs.Registers.{fixed_numbers, number_of, writable}
-use Rattle.mt_dump.specs.Canon.{canon, number_text}
+use Rattle.mt_dump.specs.Canon.{canon, number_text, value_text}
 use Rattle.mt_dump.specs.Dumps.{Dump}
 use Rattle.mt_output.specs.Lines.{bad_text, line}
-use Rattle.mt_import.specs.declared.reading.Reading.{Reading}
 use Rattle.mt_import.specs.declared.fault.ImportFault.{ImportFault}
 use Rattle.mt_import.specs.declared.fault.ImportFault.TheVariants.{LongLine, BadProcessor, TooManyPairs, BadWidth, Contradiction, WidthContradiction}
-use Rattle.mt_import.specs.Readings.{Fact, is_register_value, is_row, is_width, is_fault}
-use Rattle.mt_import.specs.Rows.{or_fault, row_fault}
-use Rattle.mt_import.specs.Supplied.{Supplied, differs, supplied_value}
+use Rattle.mt_import.specs.declared.fault.Rival.{Rival}
+use Rattle.mt_import.specs.declared.fault.Rival.TheVariants.{Line, Word}
+use Rattle.mt_import.specs.declared.format.Format.{Format}
+use Rattle.mt_import.specs.declared.format.Format.TheVariants.{Rdmsr, X86info, Inteltool, Coreboot, Edk2, Linux, Xen}
+use Rattle.mt_import.specs.declared.shape.Reading.{Reading}
+use Rattle.mt_import.specs.declared.shape.Slot.{Slot}
+use Rattle.mt_import.specs.declared.shape.Tally.{Tally}
+use Rattle.mt_import.specs.Readings.{Fact, is_line, is_register_value, is_width, is_warning, is_fault}
+use Rattle.mt_import.specs.Slot.{blank_slot, clashes, slot_with}
+use Rattle.mt_import.specs.Supplied.{Supplied, all_assumed, bits_differ, differs, supplied_value}
+use Rattle.mt_import.specs.Values.{assumed_value, firm_value, firm_width, masks_in, or_supplied, value_by, widest, width_by}
 
 -- ---- what facts show
 
--- the width that facts show, and their readings, of which the last stands first
+-- the width that facts show, their readings, of which the last stands first, and the tally
 pub record Seen : Type 0 where
   pub width : Option ℕ
   pub readings : List Reading
+  pub tally : Tally
 
-abbrev pub nothing_seen : Seen
-nothing_seen = record { width = None; readings = [] }
+-- before all lines of a log, where the format may be known
+abbrev pub nothing_seen : Option Format → Seen
+nothing_seen format = record { width = None; readings = []; tally = record { format = format; lines = 0; matches = 0; warned = false } }
+
+abbrev pub one_if : Bool → ℕ → ℕ
+one_if true count = one_more count
+one_if false count = count
+
+abbrev pub tally_with : Tally → ℕ → Option Format → Bool → Tally
+tally_with tally number format matched = record { format = format; lines = number; matches = one_if matched tally.matches; warned = tally.warned }
+
+abbrev pub tally_warned : Tally → Tally
+tally_warned tally = record { format = tally.format; lines = tally.lines; matches = tally.matches; warned = true }
 
 abbrev pub seen_with : Seen → Fact → Seen
-seen_with seen (is_register_value reading) = record { width = seen.width; readings = reading ∷ seen.readings }
-seen_with seen (is_width width place) = record { width = Some width; readings = seen.readings }
-seen_with seen (is_row table line) = seen
+seen_with seen (is_line number format matched) = record { width = seen.width; readings = seen.readings; tally = tally_with seen.tally number format matched }
+seen_with seen (is_register_value reading) = record { width = seen.width; readings = reading ∷ seen.readings; tally = seen.tally }
+seen_with seen (is_width width place) = record { width = Some width; readings = seen.readings; tally = seen.tally }
+seen_with seen is_warning = record { width = seen.width; readings = seen.readings; tally = tally_warned seen.tally }
 seen_with seen (is_fault fault) = seen
 
 abbrev pub seen_after : Seen → List Fact → Seen
 seen_after seen [] = seen
 seen_after seen (fact ∷ facts) = seen_after (seen_with seen fact) facts
 
--- the value of a processor's register, where a reading shows it
-abbrev pub value_shown : ℕ → ℕ → List Reading → Option ℕ
-value_shown processor number [] = None
-value_shown processor number (reading ∷ before) =
-    if reading.processor == processor && reading.number == number then Some reading.value else value_shown processor number before
+-- what readings show of a processor's register
+abbrev pub slot_shown : List Reading → ℕ → ℕ → Slot
+slot_shown [] processor number = blank_slot
+slot_shown (reading ∷ before) processor number =
+    if reading.processor == processor && reading.number == number then slot_with (slot_shown before processor number) reading else slot_shown before processor number
 
--- the capability register's value behind one more reading
-abbrev pub capabilities_after : Reading → Option ℕ → Option ℕ
-capabilities_after reading before = if reading.number == 0xfe then Some reading.value else before
+-- the capability register's behind one more reading
+abbrev pub capabilities_after : Reading → Slot → Slot
+capabilities_after reading before = if reading.number == 0xfe then slot_with before reading else before
 
--- the capability register's value, where a reading of any processor shows it
-abbrev pub capabilities_shown : List Reading → Option ℕ
-capabilities_shown [] = None
+-- what readings of any processor show of the capability register
+abbrev pub capabilities_shown : List Reading → Slot
+capabilities_shown [] = blank_slot
 capabilities_shown (reading ∷ before) = capabilities_after reading (capabilities_shown before)
 
 -- how many processors there are: as many as are shown, and one at least
@@ -57,29 +78,29 @@ abbrev pub processors : List Reading → ℕ
 processors [] = 1
 processors (reading ∷ before) = max (reading.processor + 1) (processors before)
 
--- what is shown, or else supplied
-abbrev pub or_supplied : Option ℕ → Option ℕ → Option ℕ
-or_supplied (Some value) other = Some value
-or_supplied None other = other
-
-abbrev pub value_in : Supplied → List Reading → ℕ → ℕ → Option ℕ
-value_in supplied before processor number = or_supplied (value_shown processor number before) (supplied_value supplied number)
-
 -- ---- faults
 
--- The same register is supplied or shown with another value. All processors have one capability register's value.
-abbrev pub contradicts : Supplied → List Reading → Reading → Bool
-contradicts supplied before reading =
-    differs (supplied_value supplied reading.number) reading.value
-    || differs (value_shown reading.processor reading.number before) reading.value
-    || (reading.number == 0xfe && differs (capabilities_shown before) reading.value)
+abbrev pub or_fault : Option ImportFault → Option ImportFault → Option ImportFault
+or_fault (Some fault) other = Some fault
+or_fault None other = other
+
+-- A word or a line before it gives other bits. All processors have one capability register's value.
+abbrev pub rival : Supplied → List Reading → Reading → Option Rival
+rival supplied before reading =
+    if bits_differ (supplied_value supplied reading.number) reading.bits reading.value then Some Word
+    else if clashes (slot_shown before reading.processor reading.number) reading then Some (Line (slot_shown before reading.processor reading.number).line)
+    else if reading.number == 0xfe && clashes (capabilities_shown before) reading then Some (Line (capabilities_shown before).line)
+    else None
+
+abbrev pub contradiction : Reading → Option Rival → Option ImportFault
+contradiction reading None = None
+contradiction reading (Some other) = Some (Contradiction reading.place reading.number other)
 
 abbrev pub reading_fault : Supplied → List Reading → Reading → Option ImportFault
 reading_fault supplied before reading =
     if nat_lt 15 reading.processor then Some (BadProcessor reading.place)
-    else if reading.number == 0xfe && nat_lt 32 (low_byte reading.value) then Some (TooManyPairs reading.place)
-    else if contradicts supplied before reading then Some (Contradiction reading.place reading.number)
-    else None
+    else if reading.number == 0xfe && nat_lt 32 (low_byte (bit_or (slot_shown before reading.processor 0xfe).value reading.value)) then Some (TooManyPairs reading.place)
+    else contradiction reading (rival supplied before reading)
 
 -- a width that a dump may have
 abbrev pub is_fit_width : ℕ → Bool
@@ -92,9 +113,10 @@ width_fault supplied seen width place =
     else None
 
 abbrev pub fact_fault : Supplied → Seen → Fact → Option ImportFault
+fact_fault supplied seen (is_line number format matched) = None
 fact_fault supplied seen (is_register_value reading) = reading_fault supplied seen.readings reading
 fact_fault supplied seen (is_width width place) = width_fault supplied seen width place
-fact_fault supplied seen (is_row table line) = row_fault supplied table line
+fact_fault supplied seen is_warning = None
 fact_fault supplied seen (is_fault fault) = Some fault
 
 -- the first fault of facts
@@ -102,8 +124,12 @@ abbrev pub facts_fault : Supplied → Seen → List Fact → Option ImportFault
 facts_fault supplied seen [] = None
 facts_fault supplied seen (fact ∷ facts) = or_fault (fact_fault supplied seen fact) (facts_fault supplied (seen_with seen fact) facts)
 
-abbrev pub contradiction_line : Place → ℕ → List ℕ
-contradiction_line place number = line (codes "contradiction " ++ decimal place.line ++ codes ":" ++ decimal place.column ++ codes " " ++ number_text number)
+abbrev pub rival_text : Rival → List ℕ
+rival_text (Line number) = codes ": line " ++ decimal number ++ codes " shows it otherwise"
+rival_text Word = codes ": a word supplies it otherwise"
+
+abbrev pub contradiction_line : Place → ℕ → Rival → List ℕ
+contradiction_line place number other = line (codes "contradiction " ++ decimal place.line ++ codes ":" ++ decimal place.column ++ codes " " ++ number_text number ++ rival_text other)
 
 abbrev pub width_line : Place → List ℕ
 width_line place = line (codes "contradiction " ++ decimal place.line ++ codes ":" ++ decimal place.column ++ codes " maxphyaddr")
@@ -113,7 +139,7 @@ fault_line (LongLine place) = bad_text place (codes "bad line")
 fault_line (BadProcessor place) = bad_text place (codes "bad processor")
 fault_line (TooManyPairs place) = bad_text place (codes "too many pairs")
 fault_line (BadWidth place) = bad_text place (codes "bad width")
-fault_line (Contradiction place number) = contradiction_line place number
+fault_line (Contradiction place number other) = contradiction_line place number other
 fault_line (WidthContradiction place) = width_line place
 
 -- ---- what is missing
@@ -128,16 +154,34 @@ abbrev pub is_missing : (ℕ → ℕ → Option ℕ) → ℕ → ℕ → Bool
 is_missing values zero number = false
 is_missing values (suc count) number = is_missing values count number || is_none (values count number)
 
-abbrev pub missing_line : ℕ → List ℕ
-missing_line number = line (codes "missing " ++ number_text number)
+-- the assumption that gives a register this value
+abbrev pub assumption_text : ℕ → ℕ → List ℕ
+assumption_text number value =
+    if number == 0x277 then codes "assume=pat"
+    else if number == 0xfe then codes "assume=capabilities"
+    else if value == 0 then codes "assume=pairs"
+    else codes "assume=masks"
 
-abbrev pub missing_lines : (ℕ → ℕ → Option ℕ) → ℕ → List ℕ → List ℕ
-missing_lines values count [] = []
-missing_lines values count (number ∷ numbers) = (if is_missing values count number then missing_line number else []) ++ missing_lines values count numbers
+-- the assumption that would supply processor 0's register
+abbrev pub hint_text : ℕ → Option ℕ → List ℕ
+hint_text number None = []
+hint_text number (Some value) = codes " or " ++ assumption_text number value
 
-abbrev pub missing_width : Option ℕ → List ℕ
-missing_width None = line (codes "missing maxphyaddr")
-missing_width (Some width) = []
+abbrev pub missing_line : ℕ → Option ℕ → List ℕ
+missing_line number hint = line (codes "missing " ++ number_text number ++ codes ": " ++ number_text number ++ codes "=VALUE" ++ hint_text number hint)
+
+abbrev pub missing_lines : (ℕ → Option ℕ) → (ℕ → ℕ → Option ℕ) → ℕ → List ℕ → List ℕ
+missing_lines hints values count [] = []
+missing_lines hints values count (number ∷ numbers) = (if is_missing values count number then missing_line number (hints number) else []) ++ missing_lines hints values count numbers
+
+abbrev pub width_hint : Option ℕ → List ℕ
+width_hint None = line (codes "missing maxphyaddr: maxphyaddr=N")
+width_hint (Some width) = line (codes "missing maxphyaddr: maxphyaddr=N or assume=width")
+
+-- where the width isn't known, with the one that the masks would have
+abbrev pub missing_width : Option ℕ → Option ℕ → List ℕ
+missing_width None hint = width_hint hint
+missing_width (Some width) hint = []
 
 -- ---- the dump
 
@@ -177,35 +221,110 @@ version_of count = if count == 1 then 1 else 2
 abbrev pub dump_in : (ℕ → ℕ → Option ℕ) → ℕ → ℕ → ℕ → Dump
 dump_in values count width capabilities = record { version = version_of count; files = files_of values width capabilities count }
 
--- ---- the text and the status
+-- ---- notes on what was assumed
 
-abbrev pub Told : Type 0
-Told = List ℕ × Status
+-- the value that one of so many processors has by an assumption alone
+abbrev pub noted : (ℕ → ℕ → Option ℕ) → (ℕ → ℕ → Option ℕ) → ℕ → ℕ → Option ℕ
+noted firm values zero number = None
+noted firm values (suc k) number = or_supplied (noted firm values k number) (if is_none (firm k number) then values k number else None)
+
+abbrev pub note_line : ℕ → Option ℕ → List ℕ
+note_line number None = []
+note_line number (Some value) = line (codes "# assumed " ++ number_text number ++ codes " " ++ value_text value ++ codes " by " ++ assumption_text number value)
+
+abbrev pub note_lines : (ℕ → ℕ → Option ℕ) → (ℕ → ℕ → Option ℕ) → ℕ → List ℕ → List ℕ
+note_lines firm values count [] = []
+note_lines firm values count (number ∷ numbers) = note_line number (noted firm values count number) ++ note_lines firm values count numbers
+
+abbrev pub width_note : Option ℕ → Option ℕ → List ℕ
+width_note (Some width) assumed = []
+width_note None None = []
+width_note None (Some width) = line (codes "# assumed maxphyaddr " ++ decimal width ++ codes " by assume=width")
+
+-- ---- the texts and the status
+
+-- the texts for standard output, of which comments come first, and for standard error, and the status
+pub record Told : Type 0 where
+  pub notes : List ℕ
+  pub dump : List ℕ
+  pub reasons : List ℕ
+  pub status : Status
 
 abbrev pub is_empty : List ℕ → Bool
 is_empty [] = true
 is_empty (byte ∷ bytes) = false
 
+abbrev pub format_name : Option Format → List ℕ
+format_name None = codes "any format"
+format_name (Some Rdmsr) = codes "rdmsr"
+format_name (Some X86info) = codes "x86info"
+format_name (Some Inteltool) = codes "inteltool"
+format_name (Some Coreboot) = codes "coreboot"
+format_name (Some Edk2) = codes "edk2"
+format_name (Some Linux) = codes "linux"
+format_name (Some Xen) = codes "xen"
+
+-- `3 of 812 lines are of linux`
+abbrev pub count_line : Tally → List ℕ
+count_line tally = line (decimal tally.matches ++ codes " of " ++ decimal tally.lines ++ codes " lines are of " ++ format_name tally.format)
+
+abbrev pub warning_text : Bool → List ℕ
+warning_text true = line (codes "warning: the kernel found that the processors' MTRRs differ")
+warning_text false = []
+
+-- what is told beside a dump: of `auto` the format
+abbrev pub remarks : Bool → Tally → List ℕ
+remarks auto tally = (if auto then count_line tally else []) ++ warning_text tally.warned
+
+abbrev pub refusal : Tally → List ℕ → Told
+refusal tally missing = record { notes = []; dump = []; reasons = count_line tally ++ (warning_text tally.warned ++ missing); status = Refused }
+
+abbrev pub Slots : Type 0
+Slots = ℕ → ℕ → Slot
+
+-- the values of each processor's registers
+unfoldable pub values_of : Supplied → Slots → Option ℕ → ℕ → ℕ → Option ℕ
+values_of supplied slots shown_width k number = value_by supplied slots (width_by supplied slots shown_width) k number
+
+-- those that aren't assumed
+unfoldable pub firm_of : Supplied → Slots → ℕ → ℕ → Option ℕ
+firm_of supplied slots k number = firm_value supplied (slots k) number
+
+-- what processor 0's register would be if all were assumed
+unfoldable pub hint_of : Supplied → Slots → Option ℕ → ℕ → Option ℕ
+hint_of supplied slots shown_width number = assumed_value all_assumed (slots 0) (or_supplied (width_by supplied slots shown_width) (Some 52)) number
+
+abbrev pub missing_of : Supplied → Slots → ℕ → Option ℕ → List ℕ
+missing_of supplied slots count shown_width =
+    missing_width (width_by supplied slots shown_width) (widest (masks_in (slots 0) 32))
+    ++ missing_lines (hint_of supplied slots shown_width) (values_of supplied slots shown_width) count (needed (values_of supplied slots shown_width 0 0xfe))
+
+abbrev pub notes_of : Supplied → Slots → ℕ → Option ℕ → List ℕ
+notes_of supplied slots count shown_width =
+    width_note (firm_width supplied shown_width) (width_by supplied slots shown_width)
+    ++ note_lines (firm_of supplied slots) (values_of supplied slots shown_width) count (needed (values_of supplied slots shown_width 0 0xfe))
+
 -- the dump, where its width and its capability register are known
-abbrev pub dump_told : (ℕ → ℕ → Option ℕ) → ℕ → List ℕ → Option ℕ → Option ℕ → Told
-dump_told values count missing (Some width) (Some capabilities) = (canon (dump_in values count width capabilities), Done)
-dump_told values count missing (Some width) None = (missing, Refused)
-dump_told values count missing None capabilities = (missing, Refused)
+abbrev pub dump_told : Told → (ℕ → ℕ → Option ℕ) → ℕ → List ℕ → List ℕ → Option ℕ → Option ℕ → Told
+dump_told refused values count notes reasons (Some width) (Some capabilities) = record { notes = notes; dump = canon (dump_in values count width capabilities); reasons = reasons; status = Done }
+dump_told refused values count notes reasons (Some width) None = refused
+dump_told refused values count notes reasons None capabilities = refused
 
 -- the dump, or what is missing
-abbrev pub dump_or_missing : (ℕ → ℕ → Option ℕ) → ℕ → List ℕ → Option ℕ → Option ℕ → Told
-dump_or_missing values count missing width capabilities =
-    if is_empty missing then dump_told values count missing width capabilities else (missing, Refused)
+abbrev pub ended_by : List ℕ → List ℕ → Tally → Bool → (ℕ → ℕ → Option ℕ) → ℕ → Option ℕ → Told
+ended_by missing notes tally auto values count width =
+    if is_empty missing then dump_told (refusal tally missing) values count notes (remarks auto tally) width (values 0 0xfe) else refusal tally missing
 
-abbrev pub ended_with : (ℕ → ℕ → Option ℕ) → ℕ → Option ℕ → Told
-ended_with values count width = dump_or_missing values count (missing_width width ++ missing_lines values count (needed (values 0 0xfe))) width (values 0 0xfe)
+abbrev pub ended_with : Bool → Supplied → Slots → ℕ → Option ℕ → Tally → Told
+ended_with auto supplied slots count shown_width tally =
+    ended_by (missing_of supplied slots count shown_width) (notes_of supplied slots count shown_width) tally auto (values_of supplied slots shown_width) count (width_by supplied slots shown_width)
 
-abbrev pub ended : Supplied → Seen → Told
-ended supplied seen = ended_with (value_in supplied seen.readings) (processors seen.readings) (or_supplied seen.width supplied.width)
+abbrev pub ended : Bool → Supplied → Seen → Told
+ended auto supplied seen = ended_with auto supplied (slot_shown seen.readings) (processors seen.readings) seen.width seen.tally
 
 abbrev pub unless : Option ImportFault → Told → Told
-unless (Some fault) told = (fault_line fault, BadText)
+unless (Some fault) told = record { notes = []; dump = []; reasons = fault_line fault; status = BadText }
 unless None told = told
 
-abbrev pub outcome : Supplied → Seen → List Fact → Told
-outcome supplied seen facts = unless (facts_fault supplied seen facts) (ended supplied (seen_after seen facts))
+abbrev pub outcome : Bool → Supplied → Seen → List Fact → Told
+outcome auto supplied seen facts = unless (facts_fault supplied seen facts) (ended auto supplied (seen_after seen facts))

@@ -7,7 +7,8 @@ use Rattle.mt_text.specs.declared.place.Place.{Place}
 use Rattle.mt_regs.specs.Registers.{number_limit}
 use Rattle.mt_import.specs.declared.reading.Said.{Said}
 use Rattle.mt_import.specs.declared.reading.Said.TheVariants.{Nothing, Shows, Width}
-use Rattle.mt_import.specs.declared.reading.Shown.{Shown}
+use Rattle.mt_import.specs.declared.shape.Shown.{Shown}
+use Rattle.mt_import.specs.Slot.{all_bits}
 
 -- the word is this text
 abbrev pub is_text : List ℕ → List ℕ → Bool
@@ -52,8 +53,18 @@ register_in (Err fault) = None
 abbrev pub prefixed_register : List ℕ → Option ℕ
 prefixed_register word = if is_prefixed word then register_in (hex_number word) else None
 
+-- bits of a register
+abbrev pub shown_bits : ℕ → ℕ → ℕ → Place → Option Shown
+shown_bits number bits value place = Some (record { number = number; bits = bits; value = value; place = place })
+
+-- a whole register
 abbrev pub shown_as : ℕ → ℕ → Place → Option Shown
-shown_as number value place = Some (record { number = number; value = value; place = place })
+shown_as number value place = shown_bits number all_bits value place
+
+-- a whole register, where its value is known
+abbrev pub value_at : ℕ → Place → Option ℕ → Option Shown
+value_at number place None = None
+value_at number place (Some value) = shown_as number value place
 
 -- A processor that no dump has. Lines behind one that turns to a processor whose number can't be read are of it.
 abbrev pub unread_processor : ℕ

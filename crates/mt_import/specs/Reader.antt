@@ -6,23 +6,30 @@ use Rattle.mt_regs.specs.Registers.{HasThreeDigits}
 use Rattle.mt_import.specs.declared.fault.ImportFault.{ImportFault}
 use Rattle.mt_import.specs.declared.fault.ImportFault.TheVariants.{LongLine, BadProcessor, TooManyPairs, BadWidth, Contradiction, WidthContradiction}
 use Rattle.mt_import.specs.declared.reading.Context.{Context}
-use Rattle.mt_import.specs.Supplied.{Supplied, supplied_value}
-use Rattle.mt_import.specs.Outcome.{Seen, capabilities_shown, or_supplied, processors, value_shown}
+use Rattle.mt_import.specs.declared.shape.Slot.{Slot}
+use Rattle.mt_import.specs.declared.shape.Tally.{Tally}
+use Rattle.mt_import.specs.Slot.{blank_slot}
+use Rattle.mt_import.specs.Outcome.{Seen, capabilities_shown, processors, slot_shown}
 
 pub record State : Type 0 where
   pub context : Context
-  pub values : List (Option ℕ)  -- 257 for each processor
-  pub capabilities : Option ℕ
+  pub slots : List Slot  -- 257 for each processor
+  pub capabilities : Slot
   pub processors : ℕ
   pub width : Option ℕ
+  pub tally : Tally
 
 -- where a register stands among those of a processor
 abbrev pub slot_of : ℕ → Option ℕ
 slot_of number = if number == 0xfe then Some 0 else if nat_lt number 0x200 then None else if nat_lt number 0x300 then Some (number - 0x1ff) else None
 
-abbrev pub held_at : List (Option ℕ) → ℕ → Option ℕ → Option ℕ
-held_at values processor None = None
-held_at values processor (Some slot) = slice_index_or values (257 * processor + slot) None
+abbrev pub held_at : List Slot → ℕ → Option ℕ → Slot
+held_at slots processor None = blank_slot
+held_at slots processor (Some slot) = slice_index_or slots (257 * processor + slot) blank_slot
+
+-- what a reader holds of each register
+abbrev pub slots_of : State → ℕ → ℕ → Slot
+slots_of state processor number = held_at state.slots processor (slot_of number)
 
 -- a width that a dump may have
 abbrev pub IsFit : ℕ → Type 0
@@ -30,22 +37,16 @@ IsFit width = (32 ≤ width) × (width ≤ 52)
 
 -- A reader has taken these facts.
 pub record HasTaken (state : State) (seen : Seen) : Type 0 where
-  pub size : length state.values ≡ 4112
-  pub values_are : (processor number : ℕ) → held_at state.values processor (slot_of number) ≡ value_shown processor number seen.readings
+  pub size : length state.slots ≡ 4112
+  pub slots_are : (processor number : ℕ) → slots_of state processor number ≡ slot_shown seen.readings processor number
   pub capabilities_is : state.capabilities ≡ capabilities_shown seen.readings
   pub processors_is : state.processors ≡ processors seen.readings
   pub width_is : state.width ≡ seen.width
+  pub tally_is : state.tally ≡ seen.tally
   pub some : 1 ≤ processors seen.readings
   pub few : processors seen.readings ≤ 16
-  pub pairs : (processor value : ℕ) → value_shown processor 0xfe seen.readings ≡ Some value → low_byte value ≤ 32
+  pub pairs : (processor : ℕ) → low_byte (slot_shown seen.readings processor 0xfe).value ≤ 32
   pub fit : IfSome seen.width IsFit
-
--- what a reader and the words tell
-abbrev pub values_of : Supplied → State → ℕ → ℕ → Option ℕ
-values_of supplied state processor number = or_supplied (held_at state.values processor (slot_of number)) (supplied_value supplied number)
-
-abbrev pub width_of : Supplied → State → Option ℕ
-width_of supplied state = or_supplied state.width supplied.width
 
 -- the register's number has three hexadecimal digits at most
 abbrev pub IsShort : ImportFault → Type 0
@@ -53,5 +54,5 @@ IsShort (LongLine place) = ⊤
 IsShort (BadProcessor place) = ⊤
 IsShort (TooManyPairs place) = ⊤
 IsShort (BadWidth place) = ⊤
-IsShort (Contradiction place number) = HasThreeDigits number
+IsShort (Contradiction place number rival) = HasThreeDigits number
 IsShort (WidthContradiction place) = ⊤

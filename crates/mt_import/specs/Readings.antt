@@ -1,19 +1,23 @@
 -- What the lines of a log say, each by itself, and the facts that they come to (own).
---     facts_from context says      the facts of these lines, behind lines that lead to this
-use Rattle.std.specs.Prelude.{ℕ, nat_lt, ◌&&◌, Bool, List, [], ◌∷◌, ◌++◌, if◌then◌else◌, Option, Some, None, is_some, unwrap_or}
+--     said_facts context said      what a line shows, behind lines that lead to this
+--     context_after context format said      what the line leads to
+use Rattle.std.specs.Prelude.{ℕ, ◌+◌, ◌==◌, ◌&&◌, ◌||◌, not, nat_lt, Bool, true, false, List, [], ◌∷◌, ◌++◌, if◌then◌else◌, Option, Some, None, is_some, unwrap_or}
+use Rattle.mt_ports.specs.Causes.{one_more}
 use Rattle.mt_regs.specs.RegisterFile.{RegisterFile, blank_file}
 use Rattle.mt_regs.specs.Registers.{number_limit, value_at}
 use Rattle.mt_text.specs.declared.place.Place.{Place}
 use Rattle.mt_import.specs.declared.fault.ImportFault.{ImportFault}
 use Rattle.mt_import.specs.declared.fault.ImportFault.TheVariants.{Contradiction, LongLine}
+use Rattle.mt_import.specs.declared.fault.Rival.TheVariants.{Line}
+use Rattle.mt_import.specs.declared.format.Format.{Format}
 use Rattle.mt_import.specs.declared.reading.Context.{Context}
-use Rattle.mt_import.specs.declared.reading.Reading.{Reading}
 use Rattle.mt_import.specs.declared.reading.Said.{Said}
-use Rattle.mt_import.specs.declared.reading.Said.TheVariants.{Nothing, Announces, Value, Turns, Shows, Width, Clash, InTable, Long}
-use Rattle.mt_import.specs.declared.reading.Shown.{Shown}
-use Rattle.mt_import.specs.declared.table.Table.{Table}
-use Rattle.mt_import.specs.declared.table.TableLine.{TableLine}
-use Rattle.mt_import.specs.Table.{table_after, table_of, table_shows}
+use Rattle.mt_import.specs.declared.reading.Said.TheVariants.{Nothing, Announces, Value, Turns, Shows, Begins, FixedRanges, VariableRanges, Width, Warns, Long}
+use Rattle.mt_import.specs.declared.shape.Announced.{Announced}
+use Rattle.mt_import.specs.declared.shape.FixedLine.{FixedLine}
+use Rattle.mt_import.specs.declared.shape.Reading.{Reading}
+use Rattle.mt_import.specs.declared.shape.Shown.{Shown}
+use Rattle.mt_import.specs.Pieces.{shown_as, shown_bits}
 
 -- a file that has each register that some file has: 32 pairs, and FIX
 unfoldable pub all_registers : RegisterFile
@@ -23,58 +27,142 @@ all_registers = blank_file 36 0x120
 abbrev pub is_register : ℕ → Bool
 is_register number = nat_lt number number_limit && is_some (value_at all_registers number)
 
--- A register's value, the address width and its place, a line of a kernel's table behind lines that show this, or why a log shows no dump.
+-- A line with the format that is known behind it and whether the line is of that format, bits of a register, the address width and its place, a line on which the kernel warned, or why a log shows no dump.
 pub data Fact : Type 0 where
+  is_line : ℕ → Option Format → Bool → Fact
   is_register_value : Reading → Fact
   is_width : ℕ → Place → Fact
-  is_row : Table → TableLine → Fact
+  is_warning : Fact
   is_fault : ImportFault → Fact
 
 -- before all lines
-abbrev pub at_start : Context
-at_start = record { announced = None; processor = 0; table = table_of None }
+abbrev pub starts : Option Format → Context
+starts format = record { format = format; announced = None; processor = 0; table = 0; fixed = None }
+
+abbrev pub is_match : Said → Bool
+is_match Nothing = false
+is_match (Announces processor number) = true
+is_match (Value value place) = true
+is_match (Turns processor) = true
+is_match (Shows processor shows) = true
+is_match (Begins shows) = true
+is_match (FixedRanges enabled alone place) = true
+is_match (VariableRanges enabled place) = true
+is_match (Width width place) = true
+is_match Warns = true
+is_match (Long place) = true
+
+-- ---- registers
 
 -- Registers that no dump has are passed over.
-abbrev pub reading_facts : ℕ → Shown → List Fact
-reading_facts processor shown =
-    if is_register shown.number then is_register_value (record { processor = processor; number = shown.number; value = shown.value; place = shown.place }) ∷ [] else []
+abbrev pub reading_facts : ℕ → ℕ → Shown → List Fact
+reading_facts processor table shown =
+    if is_register shown.number
+    then is_register_value (record { processor = processor; table = table; number = shown.number; bits = shown.bits; value = shown.value; place = shown.place }) ∷ []
+    else []
 
-abbrev pub shown_facts : ℕ → Option Shown → List Fact
-shown_facts processor None = []
-shown_facts processor (Some shown) = reading_facts processor shown
+abbrev pub shown_facts : ℕ → ℕ → Option Shown → List Fact
+shown_facts processor table None = []
+shown_facts processor table (Some shown) = reading_facts processor table shown
 
-abbrev pub shows_facts : ℕ → List (Option Shown) → List Fact
-shows_facts processor [] = []
-shows_facts processor (shown ∷ shows) = shown_facts processor shown ++ shows_facts processor shows
+abbrev pub shows_facts : ℕ → ℕ → List (Option Shown) → List Fact
+shows_facts processor table [] = []
+shows_facts processor table (shown ∷ shows) = shown_facts processor table shown ++ shows_facts processor table shows
+
+abbrev pub two_shown : Option Shown → Option Shown → List (Option Shown)
+two_shown a b = a ∷ b ∷ None ∷ None ∷ None ∷ None ∷ None ∷ None ∷ None ∷ None ∷ None ∷ []
+
+abbrev pub one_shown : Option Shown → List (Option Shown)
+one_shown a = two_shown a None
 
 -- A value belongs to the register that the line just before announces.
-abbrev pub value_facts : Option (ℕ × ℕ) → ℕ → Place → List Fact
-value_facts None value place = []
-value_facts (Some announced) value place = reading_facts announced.0 (record { number = announced.1; value = value; place = place })
+abbrev pub value_facts : Option Announced → ℕ → ℕ → Place → List Fact
+value_facts None table value place = []
+value_facts (Some announced) table value place = shown_facts announced.processor table (shown_as announced.number value place)
+
+-- ---- IA32_MTRR_DEF_TYPE in a kernel's table: FE in bit 10, E in bit 11
+
+-- Linux from 4.3 on calls fixed ranges disabled also where E is clear, so that `disabled:` shows FE only in Xen's lines.
+abbrev pub fixed_bits : Bool → Bool → ℕ
+fixed_bits enabled alone = if enabled || alone then 0x400 else 0
+
+-- The line shows FIX of the capability register too: it is printed only with FIX.
+abbrev pub fixed_shows : Bool → Bool → Place → List (Option Shown)
+fixed_shows enabled alone place =
+    two_shown (shown_bits 0x2ff (fixed_bits enabled alone) (if enabled then fixed_bits enabled alone else 0) place) (shown_bits 0xfe 0x100 0x100 place)
+
+abbrev pub is_off : Option FixedLine → ℕ → Bool
+is_off None table = false
+is_off (Some line) table = not line.is_enabled && line.table == table
+
+-- Fixed ranges that aren't enabled in this table, where E is set, show that FE is clear.
+abbrev pub variable_bits : Context → Bool → ℕ
+variable_bits context enabled = if enabled && is_off context.fixed context.table then 0xc00 else 0x800
+
+abbrev pub variable_shows : Context → Bool → Place → List (Option Shown)
+variable_shows context enabled place = one_shown (shown_bits 0x2ff (variable_bits context enabled) (if enabled then 0x800 else 0) place)
+
+-- Lines on fixed ranges have to agree.
+abbrev pub unlike : Bool → Bool → Bool
+unlike true on = not on
+unlike false on = on
+
+abbrev pub is_fixed_clash : Option FixedLine → Bool → Bool
+is_fixed_clash None enabled = false
+is_fixed_clash (Some line) enabled = unlike line.is_enabled enabled
+
+abbrev pub fixed_line : Option FixedLine → ℕ
+fixed_line None = 0
+fixed_line (Some line) = line.line
+
+abbrev pub fixed_facts : Context → Bool → Bool → Place → List Fact
+fixed_facts context enabled alone place =
+    if is_fixed_clash context.fixed enabled then is_fault (Contradiction place 0x2ff (Line (fixed_line context.fixed))) ∷ []
+    else shows_facts 0 context.table (fixed_shows enabled alone place)
+
+-- ---- a line
 
 -- what a line comes to behind lines that lead to this
-abbrev pub facts_of : Context → Said → List Fact
-facts_of context Nothing = []
-facts_of context (Announces processor number) = []
-facts_of context (Value value place) = value_facts context.announced value place
-facts_of context (Turns processor) = []
-facts_of context (Shows processor shows) = shows_facts (unwrap_or processor context.processor) shows
-facts_of context (Width width place) = is_width width place ∷ []
-facts_of context (Clash place number) = if is_register number then is_fault (Contradiction place number) ∷ [] else []
-facts_of context (InTable line) = is_row context.table line ∷ shows_facts 0 (table_shows context.table line)
-facts_of context (Long place) = is_fault (LongLine place) ∷ []
+abbrev pub said_facts : Context → Said → List Fact
+said_facts context Nothing = []
+said_facts context (Announces processor number) = []
+said_facts context (Value value place) = value_facts context.announced context.table value place
+said_facts context (Turns processor) = []
+said_facts context (Shows processor shows) = shows_facts (unwrap_or processor context.processor) context.table shows
+said_facts context (Begins shows) = shows_facts 0 (one_more context.table) shows
+said_facts context (FixedRanges enabled alone place) = fixed_facts context enabled alone place
+said_facts context (VariableRanges enabled place) = shows_facts 0 context.table (variable_shows context enabled place)
+said_facts context (Width width place) = is_width width place ∷ []
+said_facts context Warns = is_warning ∷ []
+said_facts context (Long place) = is_fault (LongLine place) ∷ []
+
+-- the same with the line itself, which has this number
+abbrev pub line_facts : ℕ → Option Format → Context → Said → List Fact
+line_facts number format context said = is_line number format (is_match said) ∷ said_facts context said
+
+-- the next processor's register, where the value of each follows
+abbrev pub next_announced : Option Announced → Option Announced
+next_announced None = None
+next_announced (Some announced) =
+    if announced.goes_on && nat_lt announced.processor 65535 then Some (record { processor = announced.processor + 1; number = announced.number; goes_on = true }) else None
+
+abbrev pub announced_by : Option ℕ → ℕ → Announced
+announced_by (Some processor) number = record { processor = processor; number = number; goes_on = false }
+announced_by None number = record { processor = 0; number = number; goes_on = true }
 
 -- what is announced by a line
-abbrev pub announced_after : Said → Option (ℕ × ℕ)
-announced_after (Announces processor number) = Some (processor, number)
-announced_after Nothing = None
-announced_after (Value value place) = None
-announced_after (Turns processor) = None
-announced_after (Shows processor shows) = None
-announced_after (Width width place) = None
-announced_after (Clash place number) = None
-announced_after (InTable line) = None
-announced_after (Long place) = None
+abbrev pub announced_after : Said → Option Announced → Option Announced
+announced_after (Announces processor number) before = Some (announced_by processor number)
+announced_after (Value value place) before = next_announced before
+announced_after Nothing before = None
+announced_after (Turns processor) before = None
+announced_after (Shows processor shows) before = None
+announced_after (Begins shows) before = None
+announced_after (FixedRanges enabled alone place) before = None
+announced_after (VariableRanges enabled place) before = None
+announced_after (Width width place) before = None
+announced_after Warns before = None
+announced_after (Long place) before = None
 
 -- the processor that lines behind this line are of
 abbrev pub processor_after : Said → ℕ → ℕ
@@ -83,26 +171,46 @@ processor_after Nothing before = before
 processor_after (Announces processor number) before = before
 processor_after (Value value place) before = before
 processor_after (Shows processor shows) before = before
+processor_after (Begins shows) before = before
+processor_after (FixedRanges enabled alone place) before = before
+processor_after (VariableRanges enabled place) before = before
 processor_after (Width width place) before = before
-processor_after (Clash place number) before = before
-processor_after (InTable line) before = before
+processor_after Warns before = before
 processor_after (Long place) before = before
 
--- what a kernel's table shows behind a line
-abbrev pub table_behind : Said → Table → Table
-table_behind (InTable line) before = table_after before line
+-- how many tables have begun
+abbrev pub table_behind : Said → ℕ → ℕ
+table_behind (Begins shows) before = one_more before
 table_behind Nothing before = before
 table_behind (Announces processor number) before = before
 table_behind (Value value place) before = before
 table_behind (Turns processor) before = before
 table_behind (Shows processor shows) before = before
+table_behind (FixedRanges enabled alone place) before = before
+table_behind (VariableRanges enabled place) before = before
 table_behind (Width width place) before = before
-table_behind (Clash place number) before = before
+table_behind Warns before = before
 table_behind (Long place) before = before
 
-abbrev pub context_after : Context → Said → Context
-context_after context said = record { announced = announced_after said; processor = processor_after said context.processor; table = table_behind said context.table }
+-- the last line on fixed ranges
+abbrev pub fixed_after : Said → ℕ → Option FixedLine → Option FixedLine
+fixed_after (FixedRanges enabled alone place) table before = Some (record { is_enabled = enabled; table = table; line = place.line })
+fixed_after Nothing table before = before
+fixed_after (Announces processor number) table before = before
+fixed_after (Value value place) table before = before
+fixed_after (Turns processor) table before = before
+fixed_after (Shows processor shows) table before = before
+fixed_after (Begins shows) table before = before
+fixed_after (VariableRanges enabled place) table before = before
+fixed_after (Width width place) table before = before
+fixed_after Warns table before = before
+fixed_after (Long place) table before = before
 
-abbrev pub facts_from : Context → List Said → List Fact
-facts_from context [] = []
-facts_from context (said ∷ says) = facts_of context said ++ facts_from (context_after context said) says
+abbrev pub context_after : Context → Option Format → Said → Context
+context_after context format said = record {
+  format = format;
+  announced = announced_after said context.announced;
+  processor = processor_after said context.processor;
+  table = table_behind said context.table;
+  fixed = fixed_after said context.table context.fixed;
+}

@@ -1,25 +1,34 @@
 -- What the words of the command line supply (own).
 --     command_of words      the format and what is supplied, where the words are a command line
-use Rattle.std.specs.Prelude.{ℕ, ◌≡◌, ◌≤◌, ◌+◌, ◌==◌, ◌&&◌, not, nat_lt, codes, Bool, false, List, [], ◌∷◌, ◌++◌, length, take, drop, position, if◌then◌else◌, Option, Some, None, Result, Ok, Err, is_some, IfSome}
+use Rattle.std.specs.Prelude.{ℕ, ◌≡◌, ◌≤◌, ◌+◌, ◌==◌, ◌&&◌, ◌||◌, not, nat_lt, bit_and, codes, Bool, true, false, ⊤, List, [], ◌∷◌, ◌++◌, length, take, drop, position, if◌then◌else◌, Option, Some, None, Result, Ok, Err, is_some, IfSome}
 use Rattle.std.specs.List.{find}
 use Rattle.std.specs.Option.{option_map}
 use Rattle.mt_text.specs.Number.{hex_number, decimal_number}
 use Rattle.mt_text.specs.declared.fault.NumberFault.{NumberFault}
 use Rattle.mt_regs.specs.RegisterFile.{low_byte}
-use Rattle.mt_import.specs.declared.format.Format.{Format}
+use Rattle.mt_import.specs.declared.format.Choice.{Choice}
+use Rattle.mt_import.specs.declared.format.Choice.TheVariants.{Auto, Only}
 use Rattle.mt_import.specs.declared.format.Format.TheVariants.{Rdmsr, X86info, Inteltool, Coreboot, Edk2, Linux, Xen}
+use Rattle.mt_import.specs.declared.supplied.Assumed.{Assumed}
 use Rattle.mt_import.specs.declared.supplied.Given.{Given}
-use Rattle.mt_import.specs.declared.supplied.Given.TheVariants.{Width, Register}
+use Rattle.mt_import.specs.declared.supplied.Given.TheVariants.{Width, Register, Assume}
 use Rattle.mt_import.specs.Pieces.{behind, is_text}
 use Rattle.mt_import.specs.Readings.{is_register}
 
--- the width and the registers that words give
+-- the width and the registers that words give, and what they allow to be assumed
 pub record Supplied : Type 0 where
   pub width : Option ℕ
   pub registers : List (ℕ × ℕ)
+  pub assumed : Assumed
+
+abbrev pub nothing_assumed : Assumed
+nothing_assumed = record { pat = false; pairs = false; masks = false; width = false; capabilities = false }
+
+abbrev pub all_assumed : Assumed
+all_assumed = record { pat = true; pairs = true; masks = true; width = true; capabilities = true }
 
 abbrev pub nothing_supplied : Supplied
-nothing_supplied = record { width = None; registers = [] }
+nothing_supplied = record { width = None; registers = []; assumed = nothing_assumed }
 
 abbrev pub value_among : ℕ → List (ℕ × ℕ) → Option ℕ
 value_among number registers = option_map (λ register. register.1) (find (λ register. register.0 == number) registers)
@@ -27,10 +36,15 @@ value_among number registers = option_map (λ register. register.1) (find (λ re
 abbrev pub supplied_value : Supplied → ℕ → Option ℕ
 supplied_value supplied number = value_among number supplied.registers
 
--- a value that is supplied or shown is another
+-- a width that is supplied or shown is another
 abbrev pub differs : Option ℕ → ℕ → Bool
 differs None value = false
 differs (Some other) value = not (other == value)
+
+-- a word's value is another in these bits
+abbrev pub bits_differ : Option ℕ → ℕ → ℕ → Bool
+bits_differ None bits value = false
+bits_differ (Some word) bits value = not (bit_and word bits == value)
 
 -- a width and a count of pairs that a file may have
 pub record IsSupplied (supplied : Supplied) : Type 0 where
@@ -41,6 +55,7 @@ pub record IsSupplied (supplied : Supplied) : Type 0 where
 abbrev pub AreGiven : Given → Type 0
 AreGiven (Width width) = (32 ≤ width) × (width ≤ 52)
 AreGiven (Register number value) = number ≡ 0xfe → low_byte value ≤ 32
+AreGiven (Assume assumed) = ⊤
 
 abbrev pub is_equals : ℕ → Bool
 is_equals byte = byte == 61
@@ -62,20 +77,47 @@ abbrev pub given_at : List ℕ → Option ℕ → Option Given
 given_at word None = None
 given_at word (Some at) = given_register (hex_number (take at word)) (hex_number (drop (at + 1) word))
 
+abbrev pub assumption_named : List ℕ → Option Assumed
+assumption_named name =
+    if is_text (codes "pat") name then Some (record nothing_assumed { pat = true })
+    else if is_text (codes "pairs") name then Some (record nothing_assumed { pairs = true })
+    else if is_text (codes "masks") name then Some (record nothing_assumed { masks = true })
+    else if is_text (codes "width") name then Some (record nothing_assumed { width = true })
+    else if is_text (codes "capabilities") name then Some (record nothing_assumed { capabilities = true })
+    else if is_text (codes "all") name then Some all_assumed
+    else None
+
+abbrev pub given_assumption : Option Assumed → Option Given
+given_assumption None = None
+given_assumption (Some assumed) = Some (Assume assumed)
+
+abbrev pub given_unless : List ℕ → Option (List ℕ) → Option Given
+given_unless word (Some name) = given_assumption (assumption_named name)
+given_unless word None = given_at word (position is_equals word)
+
 abbrev pub given_by : List ℕ → Option (List ℕ) → Option Given
 given_by word (Some digits) = given_width (decimal_number digits 52)
-given_by word None = given_at word (position is_equals word)
+given_by word None = given_unless word (behind (codes "assume=") word)
 
--- `maxphyaddr=N` or `REGISTER=VALUE`
+-- `maxphyaddr=N`, `assume=NAME` or `REGISTER=VALUE`
 abbrev pub given_of : List ℕ → Option Given
 given_of word = given_by word (behind (codes "maxphyaddr=") word)
 
+abbrev pub are_both : Assumed → Assumed → Bool
+are_both a b = (a.pat && b.pat) || (a.pairs && b.pairs) || (a.masks && b.masks) || (a.width && b.width) || (a.capabilities && b.capabilities)
+
+abbrev pub assumed_too : Assumed → Assumed → Assumed
+assumed_too a b = record { pat = a.pat || b.pat; pairs = a.pairs || b.pairs; masks = a.masks || b.masks; width = a.width || b.width; capabilities = a.capabilities || b.capabilities }
+
 -- nothing is given twice
 abbrev pub with_given : Supplied → Given → Option Supplied
-with_given supplied (Width width) = if is_some supplied.width then None else Some (record { width = Some width; registers = supplied.registers })
+with_given supplied (Width width) = if is_some supplied.width then None else Some (record { width = Some width; registers = supplied.registers; assumed = supplied.assumed })
 with_given supplied (Register number value) =
     if is_some (supplied_value supplied number) then None
-    else Some (record { width = supplied.width; registers = supplied.registers ++ (number, value) ∷ [] })
+    else Some (record { width = supplied.width; registers = supplied.registers ++ (number, value) ∷ []; assumed = supplied.assumed })
+with_given supplied (Assume assumed) =
+    if are_both supplied.assumed assumed then None
+    else Some (record { width = supplied.width; registers = supplied.registers; assumed = assumed_too supplied.assumed assumed })
 
 abbrev pub with_word : Supplied → Option Given → Option Supplied
 with_word supplied None = None
@@ -86,23 +128,24 @@ with_words None words = None
 with_words (Some supplied) [] = Some supplied
 with_words (Some supplied) (word ∷ words) = with_words (with_word supplied (given_of word)) words
 
-abbrev pub format_named : List ℕ → Option Format
+abbrev pub format_named : List ℕ → Option Choice
 format_named word =
-    if is_text (codes "rdmsr") word then Some Rdmsr
-    else if is_text (codes "x86info") word then Some X86info
-    else if is_text (codes "inteltool") word then Some Inteltool
-    else if is_text (codes "coreboot") word then Some Coreboot
-    else if is_text (codes "edk2") word then Some Edk2
-    else if is_text (codes "linux") word then Some Linux
-    else if is_text (codes "xen") word then Some Xen
+    if is_text (codes "auto") word then Some Auto
+    else if is_text (codes "rdmsr") word then Some (Only Rdmsr)
+    else if is_text (codes "x86info") word then Some (Only X86info)
+    else if is_text (codes "inteltool") word then Some (Only Inteltool)
+    else if is_text (codes "coreboot") word then Some (Only Coreboot)
+    else if is_text (codes "edk2") word then Some (Only Edk2)
+    else if is_text (codes "linux") word then Some (Only Linux)
+    else if is_text (codes "xen") word then Some (Only Xen)
     else None
 
-abbrev pub command_with : Option Format → Option Supplied → Option (Format × Supplied)
+abbrev pub command_with : Option Choice → Option Supplied → Option (Choice × Supplied)
 command_with None supplied = None
-command_with (Some format) None = None
-command_with (Some format) (Some supplied) = Some (format, supplied)
+command_with (Some choice) None = None
+command_with (Some choice) (Some supplied) = Some (choice, supplied)
 
--- the format and the width and 78 registers at most
-abbrev pub command_of : List (List ℕ) → Option (Format × Supplied)
+-- the format, and the width, 78 registers and five assumptions at most
+abbrev pub command_of : List (List ℕ) → Option (Choice × Supplied)
 command_of [] = None
-command_of (name ∷ words) = if nat_lt 79 (length words) then None else command_with (format_named name) (with_words (Some nothing_supplied) words)
+command_of (name ∷ words) = if nat_lt 84 (length words) then None else command_with (format_named name) (with_words (Some nothing_supplied) words)

@@ -1,7 +1,8 @@
 -- Lines of x86info, with `--mtrr`, `--addr` or both. Source: Debian's x86info 1.31~pre0.8052aabdd159bc9050e7dc264f33782c5acce05f-2, /usr/bin/x86info, its strings and the function
 -- that prints `MTRR registers:`.
 --     x86info_said number line      what a line of this number says
-use Rattle.std.specs.Prelude.{ℕ, ◌+◌, ◌-◌, ◌==◌, ◌&&◌, codes, Bool, List, if◌then◌else◌, Option, Some, None, is_some, Result, Ok, Err}
+--     sizes_said number line      the width that a line on the sizes of addresses shows
+use Rattle.std.specs.Prelude.{ℕ, ◌+◌, ◌-◌, ◌==◌, ◌&&◌, ◌||◌, codes, Bool, List, if◌then◌else◌, Option, Some, None, is_some, Result, Ok, Err}
 use Rattle.mt_text.specs.Text.{without_return}
 use Rattle.mt_text.specs.Words.{first_words, place_of, text_of}
 use Rattle.mt_text.specs.Number.{decimal_number}
@@ -45,19 +46,32 @@ register_from first number words =
 abbrev pub first_read : List (ℕ × List ℕ) → ℕ
 first_read words = if is_name (text_of words 4) then 4 else if is_name (text_of words 2) then 2 else 0
 
--- `Address sizes : 46 bits physical, 48 bits virtual`
+-- `Address sizes : 46 bits physical, 48 bits virtual` of x86info, or `address sizes : ..` of /proc/cpuinfo
 abbrev pub is_sizes : List (ℕ × List ℕ) → Bool
-is_sizes words = is_text (codes "Address") (text_of words 0) && is_text (codes "sizes") (text_of words 1) && is_text (codes "physical,") (text_of words 5)
+is_sizes words =
+    (is_text (codes "Address") (text_of words 0) || is_text (codes "address") (text_of words 0)) && is_text (codes "sizes") (text_of words 1)
+    && is_text (codes "physical,") (text_of words 5)
 
 -- `Address Size: 48 bits virtual, 40 bits physical`
 abbrev pub is_size : List (ℕ × List ℕ) → Bool
 is_size words = is_text (codes "Address") (text_of words 0) && is_text (codes "Size:") (text_of words 1) && is_text (codes "virtual,") (text_of words 4)
 
-abbrev pub said_by_words : ℕ → List (ℕ × List ℕ) → Said
-said_by_words number words =
+-- `Address sizes: 39 bits physical, 48 bits virtual` of lscpu
+abbrev pub is_listed : List (ℕ × List ℕ) → Bool
+is_listed words = is_text (codes "Address") (text_of words 0) && is_text (codes "sizes:") (text_of words 1) && is_text (codes "physical,") (text_of words 4)
+
+abbrev pub sizes_by_words : ℕ → List (ℕ × List ℕ) → Said
+sizes_by_words number words =
     if is_sizes words then shows_width (decimal_number (text_of words 3) 255) (place_of number words 3)
     else if is_size words then shows_width (decimal_number (text_of words 5) 255) (place_of number words 5)
-    else register_from (first_read words) number words
+    else if is_listed words then shows_width (decimal_number (text_of words 2) 255) (place_of number words 2)
+    else Nothing
+
+abbrev pub sizes_said : ℕ → List ℕ → Said
+sizes_said number line = sizes_by_words number (first_words number line).words
+
+abbrev pub said_by_words : ℕ → List (ℕ × List ℕ) → Said
+said_by_words number words = register_from (first_read words) number words
 
 -- `CPU #N:`, cut behind its `#`, or another line
 abbrev pub said_by : Option (List ℕ) → ℕ → List ℕ → Said

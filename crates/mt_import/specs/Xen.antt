@@ -1,7 +1,8 @@
--- Lines of Xen's console on MTRRs: print_mtrr_state (Xen 4.17, xen/arch/x86/cpu/mtrr/generic.c), behind `(XEN) ` and a time stamp (printk_start_of_line, xen/drivers/char/console.c).
+-- Lines of Xen's console on MTRRs: print_mtrr_state (Xen 4.11 to 4.19, xen/arch/x86/cpu/mtrr/generic.c), behind `(XEN) ` and a time stamp (printk_start_of_line, xen/drivers/char/console.c).
 --     xen_said number line      what a line says
 use Rattle.std.specs.Prelude.{ℕ, codes, true, List, if◌then◌else◌}
-use Rattle.mt_text.specs.Words.{text_of, first_words}
+use Rattle.mt_text.specs.Text.{words_of}
+use Rattle.mt_text.specs.Words.{text_of}
 use Rattle.mt_import.specs.declared.reading.Said.{Said}
 use Rattle.mt_import.specs.declared.reading.Said.TheVariants.{Nothing}
 use Rattle.mt_import.specs.Pieces.{is_text}
@@ -11,6 +12,4 @@ use Rattle.mt_import.specs.Kernel.{kernel_said}
 -- The line on fixed ranges shows FE whatever E is.
 abbrev pub xen_said : ℕ → List ℕ → Said
 xen_said number line =
-    if is_text (codes "(XEN)") (text_of (first_words number line).words 0)
-    then kernel_said true number (words_behind (behind_stamp 1 (first_words number line).words) line)
-    else Nothing
+    if is_text (codes "(XEN)") (text_of (words_of line) 0) then kernel_said true number (words_behind (behind_stamp 1 (words_of line)) line) else Nothing

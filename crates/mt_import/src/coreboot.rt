@@ -1,13 +1,15 @@
 ghost use Rattle.std.specs.Prelude.{◌≡◌, ◌≤◌, Some, IfOk};
 ghost use Rattle.mt_text.specs.Number.{decimal_number};
 ghost use Rattle.mt_text.specs.Text.{words_of};
-ghost use Rattle.mt_import.specs.Coreboot.{colon_number, coreboot_said, displayed_from, fixed_16k_named, fixed_4k_by, fixed_from, fixed_of, is_fixed, is_fixed_of, is_page, is_pair, is_setup, is_size, level_words, of_pair, pair_digits, pair_from, register_named, said_from, said_of_id, set_from, shows_pair, size_from};
+ghost use Rattle.mt_import.specs.Coreboot.{colon_number, coreboot_said, default_from, default_named, displayed_from, fixed_16k_named, fixed_4k_by, fixed_from, fixed_of, flag_said, is_default, is_fixed, is_fixed_flag, is_fixed_of, is_page, is_pair, is_setup, is_size, is_variable_flag, level_words, of_pair, other_from, pair_digits, pair_from, register_named, said_from, said_of_id, set_from, shows_pair, size_from};
 
 use crate::Said;
+use crate::kernel::default_shown;
 use crate::pieces::{
-    VALUE_SIZE, before, behind, is_text, prefixed_number, prefixed_register, shown_as, shows_one,
-    shows_width, whole_number, word_place, word_text,
+    VALUE_SIZE, before, behind, is_text, prefixed_number, prefixed_register, shown_as, shown_bits,
+    shows_one, shows_width, whole_number, word_place, word_text,
 };
+use crate::reading::{one_shown, two_shown};
 use mt_kinds::PAGE_BYTES;
 use mt_regs::{CAPABILITIES, DEFAULT_TYPE, FIRST_PAIR};
 use mt_text::{Line, NumberFault, Place, decimal, without_ending};
@@ -19,6 +21,12 @@ const VALID: u64 = 0x800;
 const MOST_PAIRS: u64 = 31;
 
 const IDS: u64 = 0x10000;
+
+// FE of IA32_MTRR_DEF_TYPE.
+const FIXED_ENABLED: u64 = 0x400;
+
+// E of IA32_MTRR_DEF_TYPE.
+const ENABLED: u64 = 0x800;
 
 fn colon_number(word: &[u8]) -> Option<u64>
     ensures { result ≡ colon_number word.now }
@@ -181,12 +189,7 @@ fn shows_pair(
     }
     let base = shown_as(FIRST_PAIR + 2 * pair as u32, base + kind, base_place);
     let mask = shown_as(FIRST_MASK + 2 * pair as u32, mask + VALID, mask_place);
-    Said::Shows(
-        None,
-        [
-            base, mask, None, None, None, None, None, None, None, None, None,
-        ],
-    )
+    Said::Shows(None, two_shown(base, mask))
 }
 
 fn pair_from(first: usize, line: &Line<'_>) -> Said
@@ -228,6 +231,82 @@ fn size_from(first: usize, line: &Line<'_>) -> Said
     }
 }
 
+// `WB selected as default type.`
+fn is_default(first: usize, line: &Line<'_>) -> bool
+    requires { first ≤ 8 }
+    ensures { result ≡ is_default first (words_of line.now.bytes.now) }
+{
+    is_text(b"selected", word_text(line, first + 1))
+        && is_text(b"as", word_text(line, first + 2))
+        && is_text(b"default", word_text(line, first + 3))
+        && is_text(b"type.", word_text(line, first + 4))
+}
+
+fn default_named(word: &[u8]) -> Option<u8>
+    ensures { result ≡ default_named word.now }
+{
+    if is_text(b"WB", word) {
+        Some(6)
+    } else if is_text(b"UC", word) {
+        Some(0)
+    } else {
+        None
+    }
+}
+
+fn default_from(first: usize, line: &Line<'_>) -> Said
+    requires { first ≤ 8 }
+    ensures { result ≡ default_from first line.now.number (words_of line.now.bytes.now) }
+{
+    let code = default_named(word_text(line, first));
+    Said::Begins(one_shown(default_shown(code, word_place(line, first))))
+}
+
+fn flag_said(bit: u64, word: &[u8], place: Place) -> Said
+    ensures { result ≡ flag_said bit word.now place }
+{
+    if is_text(b"Enabled", word) {
+        Said::Shows(None, one_shown(shown_bits(DEFAULT_TYPE, bit, bit, place)))
+    } else if is_text(b"Disabled", word) {
+        Said::Shows(None, one_shown(shown_bits(DEFAULT_TYPE, bit, 0, place)))
+    } else {
+        Said::Nothing
+    }
+}
+
+// `Fixed MTRRs   : Enabled`
+fn is_fixed_flag(first: usize, line: &Line<'_>) -> bool
+    requires { first ≤ 8 }
+    ensures { result ≡ is_fixed_flag first (words_of line.now.bytes.now) }
+{
+    is_text(b"Fixed", word_text(line, first))
+        && is_text(b"MTRRs", word_text(line, first + 1))
+        && is_text(b":", word_text(line, first + 2))
+}
+
+// `Variable MTRRs: Enabled`
+fn is_variable_flag(first: usize, line: &Line<'_>) -> bool
+    requires { first ≤ 8 }
+    ensures { result ≡ is_variable_flag first (words_of line.now.bytes.now) }
+{
+    is_text(b"Variable", word_text(line, first)) && is_text(b"MTRRs:", word_text(line, first + 1))
+}
+
+fn other_from(first: usize, line: &Line<'_>) -> Said
+    requires { first ≤ 8 }
+    ensures { result ≡ other_from first line.now.number (words_of line.now.bytes.now) }
+{
+    if is_fixed_flag(first, line) {
+        let place = word_place(line, first + 3);
+        flag_said(FIXED_ENABLED, word_text(line, first + 3), place)
+    } else if is_variable_flag(first, line) {
+        let place = word_place(line, first + 2);
+        flag_said(ENABLED, word_text(line, first + 2), place)
+    } else {
+        displayed_from(first, line)
+    }
+}
+
 // Behind `MTRR:`.
 fn set_from(first: usize, line: &Line<'_>) -> Said
     requires { first ≤ 8 }
@@ -237,6 +316,8 @@ fn set_from(first: usize, line: &Line<'_>) -> Said
         fixed_from(None, first, line)
     } else if is_pair(first, line) {
         pair_from(first, line)
+    } else if is_default(first, line) {
+        default_from(first, line)
     } else {
         Said::Nothing
     }
@@ -294,7 +375,7 @@ fn said_from(first: usize, line: &Line<'_>) -> Said
     } else if is_text(b"CPU", word) {
         size_from(first, line)
     } else {
-        displayed_from(first, line)
+        other_from(first, line)
     }
 }
 

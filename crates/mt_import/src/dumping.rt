@@ -1,16 +1,17 @@
-ghost use Rattle.std.specs.Prelude.{◌≡◌, ◌≤◌, ◌<◌, ℕ, Some, map, IfSome};
+ghost use Rattle.std.specs.Prelude.{◌≡◌, ◌≤◌, ◌<◌, ◌+◌, ℕ, Some, length, map, IfSome};
 ghost use Rattle.mt_regs.specs.Registers.{fixed_numbers};
-ghost use Rattle.mt_ports.specs.declared.status.Status.TheVariants.{Refused};
 ghost use Rattle.mt_kinds.specs.Bits.{is_bit_set};
 ghost use Rattle.mt_regs.specs.RegisterFile.{low_byte};
-ghost use Rattle.mt_import.specs.Outcome.{dump_in, ended_with, file_of, files_of, first_pairs, fixed_of, value_or_zero, version_of};
-ghost use Rattle.mt_import.specs.Reader.{IsFit, values_of, width_of};
+ghost use Rattle.mt_import.specs.Outcome.{dump_in, dump_told, ended_with, file_of, files_of, first_pairs, fixed_of, is_empty, notes_of, refusal, remarks, value_or_zero, values_of, version_of};
+ghost use Rattle.mt_import.specs.Reader.{IsFit, slots_of};
+ghost use Rattle.mt_import.specs.Values.{width_by};
 ghost use Rattle.mt_import.specs.Import.{IsWritten};
 
-use crate::text::Imported;
+use crate::shape::Tally;
+use crate::text::{Imported, count_line, warning_text};
 use crate::{LogReader, Supplied};
 use arrayvec::ArrayVec;
-use mt_dump::{Dump, TextBuffer, canonical_text};
+use mt_dump::{Dump, TextBuffer, append_text, canonical_text};
 use mt_kinds::is_bit_set;
 use mt_ports::Status;
 use mt_regs::{CAPABILITIES, DEFAULT_TYPE, FIRST_PAIR, PAT, RegFile};
@@ -30,8 +31,10 @@ fn version_of(count: u32) -> u8
 
 impl LogReader {
     fn value_or_zero(&self, supplied: &Supplied, k: u32, number: u32) -> u64
-        requires { k < 16 }
-        ensures { result ≡ value_or_zero (values_of supplied.now self.now k) number }
+        requires processor { k < 16 }
+        requires number { number < 0x1000 }
+        requires fit { IfSome self.now.width IsFit }
+        ensures { result ≡ value_or_zero (values_of supplied.now (slots_of self.now) self.now.width k) number }
     {
         match self.value(supplied, k, number) {
             Some(value) => value,
@@ -43,7 +46,8 @@ impl LogReader {
     fn pairs(&self, supplied: &Supplied, k: u32, count: u8) -> ArrayVec<(u64, u64), 32>
         requires processor { k < 16 }
         requires few { count ≤ 32 }
-        ensures { result.items ≡ first_pairs (values_of supplied.now self.now k) count }
+        requires fit { IfSome self.now.width IsFit }
+        ensures { result.items ≡ first_pairs (values_of supplied.now (slots_of self.now) self.now.width k) count }
     {
         let mut pairs = ArrayVec::new();
         'pairs: for n in 0..count {
@@ -58,8 +62,9 @@ impl LogReader {
 
     // The fixed-range registers.
     fn fixed(&self, supplied: &Supplied, k: u32) -> [u64; 11]
-        requires { k < 16 }
-        ensures { result ≡ map (value_or_zero (values_of supplied.now self.now k)) fixed_numbers }
+        requires processor { k < 16 }
+        requires fit { IfSome self.now.width IsFit }
+        ensures { result ≡ map (value_or_zero (values_of supplied.now (slots_of self.now) self.now.width k)) fixed_numbers }
     {
         [
             self.value_or_zero(supplied, k, 0x250),
@@ -78,8 +83,9 @@ impl LogReader {
 
     // The fixed-range registers, which are 0 without FIX.
     fn fixed_part(&self, supplied: &Supplied, k: u32, capabilities: u64) -> [u64; 11]
-        requires { k < 16 }
-        ensures { result ≡ fixed_of (values_of supplied.now self.now k) (is_bit_set capabilities 8) }
+        requires processor { k < 16 }
+        requires fit { IfSome self.now.width IsFit }
+        ensures { result ≡ fixed_of (values_of supplied.now (slots_of self.now) self.now.width k) (is_bit_set capabilities 8) }
     {
         if is_bit_set(capabilities, 8) {
             self.fixed(supplied, k)
@@ -94,7 +100,8 @@ impl LogReader {
         requires wide { 32 ≤ width }
         requires narrow { width ≤ 52 }
         requires pairs { low_byte capabilities ≤ 32 }
-        ensures { result ≡ file_of (values_of supplied.now self.now k) width capabilities }
+        requires fit { IfSome self.now.width IsFit }
+        ensures { result ≡ file_of (values_of supplied.now (slots_of self.now) self.now.width k) width capabilities }
     {
         let count = pair_count(capabilities);
         let fixed = self.fixed_part(supplied, k, capabilities);
@@ -114,7 +121,8 @@ impl LogReader {
         requires wide { 32 ≤ width }
         requires narrow { width ≤ 52 }
         requires pairs { low_byte capabilities ≤ 32 }
-        ensures { result.items ≡ files_of (values_of supplied.now self.now) width capabilities self.now.processors }
+        requires fit { IfSome self.now.width IsFit }
+        ensures { result.items ≡ files_of (values_of supplied.now (slots_of self.now) self.now.width) width capabilities self.now.processors }
     {
         let mut files = ArrayVec::new();
         'files: for k in 0..self.count() {
@@ -129,45 +137,95 @@ impl LogReader {
         requires wide { 32 ≤ width }
         requires narrow { width ≤ 52 }
         requires pairs { low_byte capabilities ≤ 32 }
-        ensures { result ≡ dump_in (values_of supplied.now self.now) self.now.processors width capabilities }
+        requires fit { IfSome self.now.width IsFit }
+        ensures { result ≡ dump_in (values_of supplied.now (slots_of self.now) self.now.width) self.now.processors width capabilities }
     {
         let version = version_of(self.count());
         let files = self.files(supplied, width, capabilities);
         Dump { version, files }
     }
 
-    /// The dump of all lines that were taken, or what is missing.
-    pub fn finish(&self, supplied: &Supplied) -> Imported
+    // The dump, where nothing is missing.
+    fn dump_told(&self, is_auto: bool, supplied: &Supplied, missing: &[u8]) -> Imported
         requires some { 1 ≤ self.now.processors }
         requires few { self.now.processors ≤ 16 }
-        requires pairs { (value : ℕ) → values_of supplied.now self.now 0 0xfe ≡ Some value → low_byte value ≤ 32 }
+        requires pairs { (value : ℕ) → values_of supplied.now (slots_of self.now) self.now.width 0 0xfe ≡ Some value → low_byte value ≤ 32 }
         requires fit { IfSome self.now.width IsFit }
-        ensures told { result ≡ ended_with (values_of supplied.now self.now) self.now.processors (width_of supplied.now self.now) }
-        ensures written { IsWritten result.1 }
+        requires room { length missing.now ≤ 0x7000 }
+        ensures told { result ≡ dump_told (refusal self.now.tally missing.now) (values_of supplied.now (slots_of self.now) self.now.width) self.now.processors
+            (notes_of supplied.now (slots_of self.now) self.now.processors self.now.width) (remarks is_auto self.now.tally)
+            (width_by supplied.now (slots_of self.now) self.now.width) (values_of supplied.now (slots_of self.now) self.now.width 0 0xfe) }
+        ensures written { IsWritten result.status }
     {
-        supplied.is_supplied(); // a fact for the proof
-        let missing = self.missing(supplied);
-        if !missing.is_empty() {
-            return missing_text(missing);
-        }
+        let tally = self.tally();
         let Some(width) = self.width(supplied) else {
-            return missing_text(missing);
+            return refusal(&tally, missing);
         };
         let Some(capabilities) = self.value(supplied, 0, CAPABILITIES) else {
-            return missing_text(missing);
+            return refusal(&tally, missing);
         };
         Imported {
-            text: canonical_text(&self.dump(supplied, width, capabilities)),
+            notes: self.notes(supplied),
+            dump: canonical_text(&self.dump(supplied, width, capabilities)),
+            reasons: remarks(is_auto, &tally),
             status: Status::Done,
+        }
+    }
+
+    /// The dump of all lines that were taken, or what is missing.
+    pub fn finish(&self, is_auto: bool, supplied: &Supplied) -> Imported
+        requires some { 1 ≤ self.now.processors }
+        requires few { self.now.processors ≤ 16 }
+        requires pairs { (value : ℕ) → values_of supplied.now (slots_of self.now) self.now.width 0 0xfe ≡ Some value → low_byte value ≤ 32 }
+        requires fit { IfSome self.now.width IsFit }
+        ensures told { result ≡ ended_with is_auto supplied.now (slots_of self.now) self.now.processors self.now.width self.now.tally }
+        ensures written { IsWritten result.status }
+    {
+        let missing = self.missing(supplied);
+        let text = missing.as_slice();
+        if is_empty(text) {
+            self.dump_told(is_auto, supplied, text)
+        } else {
+            refusal(&self.tally(), text)
         }
     }
 }
 
-fn missing_text(text: TextBuffer) -> Imported
-    ensures { result ≡ (text.items, Refused) }
+fn is_empty(text: &[u8]) -> bool
+    ensures { result ≡ is_empty text.now }
 {
+    match text {
+        [] => true,
+        _ => false,
+    }
+}
+
+// What is told beside a dump.
+fn remarks(is_auto: bool, tally: &Tally) -> TextBuffer
+    ensures { result.items ≡ remarks is_auto tally.now }
+{
+    let mut text = ArrayVec::new();
+    if is_auto {
+        append_text(&mut text, count_line(tally).as_slice());
+    }
+    append_text(&mut text, warning_text(tally.warned));
+    text
+}
+
+// What is told in place of a dump.
+fn refusal(tally: &Tally, missing: &[u8]) -> Imported
+    requires { length missing.now ≤ 0x7000 }
+    ensures told { result ≡ refusal tally.now missing.now }
+    ensures written { IsWritten result.status }
+{
+    let mut reasons = ArrayVec::new();
+    append_text(&mut reasons, count_line(tally).as_slice());
+    append_text(&mut reasons, warning_text(tally.warned));
+    append_text(&mut reasons, missing);
     Imported {
-        text,
+        notes: ArrayVec::new(),
+        dump: ArrayVec::new(),
+        reasons,
         status: Status::Refused,
     }
 }

@@ -3,8 +3,8 @@ ghost use Rattle.mt_import.specs.Edk2.{edk2_said, fixed_number, said_by_words, s
 
 use crate::Said;
 use crate::linux::pair_numbered;
-use crate::pieces::{behind, is_text, shows_one, sixteen_digits};
-use crate::tabled::{two_shown, value_at};
+use crate::pieces::{behind, is_text, shows_one, sixteen_digits, value_at};
+use crate::reading::two_shown;
 use mt_regs::{DEFAULT_TYPE, FIRST_PAIR};
 use mt_text::{Line, Place, Words};
 

@@ -1,18 +1,27 @@
 use mt_text::Place;
 
+/// What else gives another value.
+#[derive(Clone, Copy, Debug, PartialEq, Eq)]
+pub enum Rival {
+    /// The line of this number.
+    Line(u64),
+    /// A word of the command line.
+    Word,
+}
+
 /// Why a log shows no dump, and where.
 #[derive(Clone, Copy, Debug, PartialEq, Eq)]
 pub enum ImportFault {
-    /// A line has more than 4,096 bytes.
+    /// The line has more than 4,096 bytes.
     LongLine(Place),
-    /// A processor has a number past 15.
+    /// The register is of a processor past the sixteenth, or of one whose number can't be read.
     BadProcessor(Place),
     /// The capability register has more than 32 pairs.
     TooManyPairs(Place),
     /// The address width is less than 32 bits or more than 52.
     BadWidth(Place),
     /// The register has another value elsewhere.
-    Contradiction(Place, u32),
+    Contradiction(Place, u32, Rival),
     /// The address width is another elsewhere.
     WidthContradiction(Place),
 }

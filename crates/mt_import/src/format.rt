@@ -1,5 +1,5 @@
 ghost use Rattle.std.specs.Prelude.{◌≡◌};
-ghost use Rattle.mt_import.specs.Shown.{said_by_line, said_of};
+ghost use Rattle.mt_import.specs.Shown.{chosen, format_of, format_told, is_auto, is_telling, said_by_line, said_in, said_of, said_or_sizes, tells};
 
 use crate::Said;
 use crate::coreboot::coreboot_said;
@@ -7,7 +7,7 @@ use crate::edk2::edk2_said;
 use crate::inteltool::inteltool_said;
 use crate::linux::linux_said;
 use crate::rdmsr::rdmsr_said;
-use crate::x86info::x86info_said;
+use crate::x86info::{sizes_said, x86info_said};
 use crate::xen::xen_said;
 use mt_text::Line;
 
@@ -28,6 +28,35 @@ pub enum Format {
     Linux,
     /// The console of Xen.
     Xen,
+}
+
+/// The formats that a log may have.
+#[derive(Clone, Copy, Debug, PartialEq, Eq)]
+pub enum Choice {
+    /// That of the first line that tells one.
+    Auto,
+    Only(Format),
+}
+
+impl Choice {
+    /// The format, if it is known.
+    pub(crate) fn format(self) -> Option<Format>
+        ensures { result ≡ format_of self }
+    {
+        match self {
+            Choice::Auto => None,
+            Choice::Only(format) => Some(format),
+        }
+    }
+
+    pub(crate) fn is_auto(self) -> bool
+        ensures { result ≡ is_auto self }
+    {
+        match self {
+            Choice::Auto => true,
+            Choice::Only(_) => false,
+        }
+    }
 }
 
 impl Format {
@@ -52,6 +81,79 @@ impl Format {
         if line.too_long() {
             return Said::Long(line.past_limit());
         }
-        self.said_by_line(line)
+        said_or_sizes(self.said_by_line(line), line)
+    }
+
+    fn tells(self, line: &Line<'_>) -> bool
+        ensures { result ≡ tells self line.now.number line.now.bytes.now }
+    {
+        is_telling(&self.said_by_line(line))
+    }
+}
+
+fn said_or_sizes(said: Said, line: &Line<'_>) -> Said
+    ensures { result ≡ said_or_sizes said line.now.number line.now.bytes.now }
+{
+    match said {
+        Said::Nothing => sizes_said(line),
+        said => said,
+    }
+}
+
+fn is_telling(said: &Said) -> bool
+    ensures { result ≡ is_telling said.now }
+{
+    match said {
+        Said::Announces(..)
+        | Said::Shows(..)
+        | Said::Begins(_)
+        | Said::FixedRanges(..)
+        | Said::VariableRanges(..) => true,
+        _ => false,
+    }
+}
+
+fn format_told(line: &Line<'_>) -> Option<Format>
+    ensures { result ≡ format_told line.now.number line.now.bytes.now }
+{
+    if line.too_long() {
+        None
+    } else if Format::Xen.tells(line) {
+        Some(Format::Xen)
+    } else if Format::Linux.tells(line) {
+        Some(Format::Linux)
+    } else if Format::Coreboot.tells(line) {
+        Some(Format::Coreboot)
+    } else if Format::Edk2.tells(line) {
+        Some(Format::Edk2)
+    } else if Format::Inteltool.tells(line) {
+        Some(Format::Inteltool)
+    } else if Format::X86info.tells(line) {
+        Some(Format::X86info)
+    } else if Format::Rdmsr.tells(line) {
+        Some(Format::Rdmsr)
+    } else {
+        None
+    }
+}
+
+/// The format that is known behind a line, if it was known before or the line tells it.
+pub(crate) fn chosen(format: Option<Format>, line: &Line<'_>) -> Option<Format>
+    ensures { result ≡ chosen format line.now.number line.now.bytes.now }
+{
+    match format {
+        Some(format) => Some(format),
+        None => format_told(line),
+    }
+}
+
+/// What a line says in a format, if one is known.
+pub(crate) fn said_in(format: Option<Format>, line: &Line<'_>) -> Said
+    ensures { result ≡ said_in format line.now.number line.now.bytes.now }
+{
+    match format {
+        Some(format) => format.said_of(line),
+        None if line.too_long() => Said::Long(line.past_limit()),
+        None => sizes_said(line),
     }
 }

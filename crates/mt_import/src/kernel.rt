@@ -1,14 +1,19 @@
 ghost use Rattle.std.specs.Prelude.{◌≡◌, ◌≤◌, ◌<◌, ◌+◌, IfSome};
-ghost use Rattle.mt_import.specs.Kernel.{addresses_said, base_value, disabled_said, enabled_by, fixed_said, head_said, kernel_said, mask_value, pair_said, range_at, range_from, run_said, type_named, types_said, variable_said};
+ghost use Rattle.mt_import.specs.Kernel.{addresses_said, all_fixed_shown, base_value, default_shown, disabled_said, enabled_by, fixed_by, fixed_said, fixed_shown, head_said, in_run, kernel_said, mask_value, pair_said, range_at, range_from, run_bytes, run_said, type_named, types_said, variable_said};
 
 use crate::line_words::LineWords;
-use crate::pieces::{is_text, number_in};
-use crate::{PairLine, Said, TableLine, TypeRun};
+use crate::pieces::{is_text, number_in, shown_bits, value_at};
+use crate::reading::{one_shown, two_shown};
+use crate::{Said, Shown, Shows};
 use mt_kinds::PAGE_BYTES;
+use mt_regs::{DEFAULT_TYPE, FIRST_PAIR};
 use mt_text::{Place, decimal, hex64};
 
 // V of PhysMask.
 const VALID: u64 = 0x800;
+
+// All of IA32_MTRR_DEF_TYPE but FE and E.
+const DEFAULT_BITS: u64 = 0xffff_ffff_ffff_f3ff;
 
 /// The code of a memory type by its name.
 pub(crate) fn type_named(word: &[u8]) -> Option<u8>
@@ -42,24 +47,31 @@ fn enabled_by(word: &[u8]) -> Option<bool>
     }
 }
 
-fn fixed_said(place: Place, enabled: Option<bool>) -> Said
-    ensures { result ≡ fixed_said place enabled }
+fn fixed_said(is_alone: bool, place: Place, enabled: Option<bool>) -> Said
+    ensures { result ≡ fixed_said is_alone place enabled }
 {
     match enabled {
-        Some(enabled) => Said::InTable(TableLine::FixedRanges(enabled, place)),
+        Some(is_enabled) => Said::FixedRanges(is_enabled, is_alone, place),
         None => Said::Nothing,
     }
 }
 
-fn variable_said(alone: bool, place: Place, enabled: Option<bool>) -> Said
-    ensures { result ≡ variable_said alone place enabled }
+fn variable_said(place: Place, enabled: Option<bool>) -> Said
+    ensures { result ≡ variable_said place enabled }
 {
     match enabled {
-        Some(enabled) if enabled || alone => {
-            Said::InTable(TableLine::VariableRanges(enabled, place))
-        }
-        Some(_) => Said::InTable(TableLine::Disabled(place)),
+        Some(is_enabled) => Said::VariableRanges(is_enabled, place),
         None => Said::Nothing,
+    }
+}
+
+/// The default type, and the reserved bits of its register.
+pub(crate) fn default_shown(code: Option<u8>, place: Place) -> Option<Shown>
+    ensures { result ≡ default_shown code place }
+{
+    match code {
+        Some(code) => shown_bits(DEFAULT_TYPE, DEFAULT_BITS, code as u64, place),
+        None => None,
     }
 }
 
@@ -68,13 +80,13 @@ fn head_said(alone: bool, words: &LineWords<'_>) -> Said
 {
     if is_text(b"default", words.text(1)) && is_text(b"type:", words.text(2)) {
         let code = type_named(words.text(3));
-        Said::InTable(TableLine::DefaultType(code, words.place(3)))
+        Said::Begins(one_shown(default_shown(code, words.place(3))))
     } else if !is_text(b"ranges", words.text(2)) {
         Said::Nothing
     } else if is_text(b"fixed", words.text(1)) {
-        fixed_said(words.place(3), enabled_by(words.text(3)))
+        fixed_said(alone, words.place(3), enabled_by(words.text(3)))
     } else if is_text(b"variable", words.text(1)) {
-        variable_said(alone, words.place(3), enabled_by(words.text(3)))
+        variable_said(words.place(3), enabled_by(words.text(3)))
     } else {
         Said::Nothing
     }
@@ -106,23 +118,91 @@ fn range_at(address: u64) -> Option<u32>
     }
 }
 
+fn in_run(first: u32, end: u32, i: u32) -> u64
+    ensures bit { result ≡ in_run first end i }
+    ensures small { result ≤ 1 }
+{
+    if first <= i && i < end { 1 } else { 0 }
+}
+
+// A byte of 1 for each of the eight ranges from this one on that the run has.
+fn run_bytes(first: u32, end: u32, at: u32) -> u64
+    requires { at ≤ 80 }
+    ensures bytes { result ≡ run_bytes first end at }
+    ensures small { result ≤ 0x101010101010101 }
+{
+    in_run(first, end, at)
+        + 0x100 * in_run(first, end, at + 1)
+        + 0x10000 * in_run(first, end, at + 2)
+        + 0x100_0000 * in_run(first, end, at + 3)
+        + 0x1_0000_0000 * in_run(first, end, at + 4)
+        + 0x100_0000_0000 * in_run(first, end, at + 5)
+        + 0x1_0000_0000_0000 * in_run(first, end, at + 6)
+        + 0x100_0000_0000_0000 * in_run(first, end, at + 7)
+}
+
+fn fixed_by(number: u32, bytes: u64, code: u8, place: Place) -> Option<Shown>
+    requires small { bytes ≤ 0x101010101010101 }
+    requires code { code ≤ 6 }
+    ensures { result ≡ fixed_by number bytes code place }
+{
+    if bytes == 0 {
+        None
+    } else {
+        shown_bits(number, 255 * bytes, code as u64 * bytes, place)
+    }
+}
+
+fn fixed_shown(first: u32, end: u32, code: u8, place: Place, at: u32, number: u32) -> Option<Shown>
+    requires within { at ≤ 80 }
+    requires code { code ≤ 6 }
+    ensures { result ≡ fixed_shown first end code place at number }
+{
+    fixed_by(number, run_bytes(first, end, at), code, place)
+}
+
+// A run of ranges of one type.
+fn all_fixed_shown(first: u32, end: u32, code: u8, place: Place) -> Shows
+    requires { code ≤ 6 }
+    ensures { result ≡ all_fixed_shown first end code place }
+{
+    [
+        fixed_shown(first, end, code, place, 0, 0x250),
+        fixed_shown(first, end, code, place, 8, 0x258),
+        fixed_shown(first, end, code, place, 16, 0x259),
+        fixed_shown(first, end, code, place, 24, 0x268),
+        fixed_shown(first, end, code, place, 32, 0x269),
+        fixed_shown(first, end, code, place, 40, 0x26a),
+        fixed_shown(first, end, code, place, 48, 0x26b),
+        fixed_shown(first, end, code, place, 56, 0x26c),
+        fixed_shown(first, end, code, place, 64, 0x26d),
+        fixed_shown(first, end, code, place, 72, 0x26e),
+        fixed_shown(first, end, code, place, 80, 0x26f),
+    ]
+}
+
 fn types_said(first: Option<u32>, end: Option<u32>, code: Option<u8>, place: Place) -> Said
+    requires { IfSome code (λ code. code ≤ 6) }
     ensures { result ≡ types_said first end code place }
 {
-    match (first, end, code) {
-        (Some(first), Some(end), Some(memory_type)) if first < end => {
-            Said::InTable(TableLine::Types(TypeRun {
-                first,
-                end,
-                memory_type,
-                place,
-            }))
-        }
-        _ => Said::Nothing,
+    let Some(first) = first else {
+        return Said::Nothing;
+    };
+    let Some(end) = end else {
+        return Said::Nothing;
+    };
+    let Some(code) = code else {
+        return Said::Nothing;
+    };
+    if first < end {
+        Said::Shows(Some(0), all_fixed_shown(first, end, code, place))
+    } else {
+        Said::Nothing
     }
 }
 
 fn addresses_said(first: Option<u64>, last: Option<u64>, code: Option<u8>, place: Place) -> Said
+    requires { IfSome code (λ code. code ≤ 6) }
     ensures { result ≡ addresses_said first last code place }
 {
     match (first, last) {
@@ -173,13 +253,16 @@ fn pair_said(pair: Option<u64>, words: &LineWords<'_>) -> Said
     let Some(pair) = pair else {
         return Said::Nothing;
     };
-    Said::InTable(TableLine::Pair(PairLine {
-        pair: pair as u8,
-        base: base_value(number_in(hex64(words.text(2))), type_named(words.text(5))),
-        base_place: words.place(2),
-        mask: mask_value(number_in(hex64(words.text(4)))),
-        mask_place: words.place(4),
-    }))
+    let number = FIRST_PAIR + 2 * pair as u32;
+    let base = base_value(number_in(hex64(words.text(2))), type_named(words.text(5)));
+    let mask = mask_value(number_in(hex64(words.text(4))));
+    Said::Shows(
+        Some(0),
+        two_shown(
+            value_at(number, words.place(2), base),
+            value_at(number + 1, words.place(4), mask),
+        ),
+    )
 }
 
 fn disabled_said(pair: Option<u64>, place: Place) -> Said
@@ -187,7 +270,10 @@ fn disabled_said(pair: Option<u64>, place: Place) -> Said
     ensures { result ≡ disabled_said pair place }
 {
     match pair {
-        Some(pair) => Said::InTable(TableLine::PairDisabled(pair as u8, place)),
+        Some(pair) => {
+            let number = FIRST_PAIR + 1 + 2 * pair as u32;
+            Said::Shows(Some(0), one_shown(shown_bits(number, VALID, 0, place)))
+        }
         None => Said::Nothing,
     }
 }

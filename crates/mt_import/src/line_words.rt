@@ -1,9 +1,11 @@
-ghost use Rattle.std.specs.Prelude.{◌≡◌, ◌≤◌, length};
+ghost use Rattle.std.specs.Prelude.{◌≡◌, ◌≤◌, ◌-◌, drop, length, take};
+ghost use Rattle.mt_text.specs.Text.{words_of};
 ghost use Rattle.mt_text.specs.Words.{place_of, text_of};
-ghost use Rattle.mt_import.specs.LineWords.{behind_stamp, is_closed, is_opened, words_behind};
+ghost use Rattle.mt_import.specs.LineWords.{behind_facility, behind_log, behind_stamp, head_end, is_bracket, is_closed, is_iso, is_level, is_opened, words_behind};
 
-use crate::pieces::{word_place, word_text};
-use mt_text::{Line, Place, Words};
+use crate::pieces::{is_text, word_place, word_text};
+use mt_text::{Line, Place};
+use std::cmp::min;
 use std::marker::Model;
 
 /// The words of a line behind what a log puts in front of it. Each call looks for its word from the
@@ -24,10 +26,40 @@ impl<'a> Model for LineWords<'a> {
     ghost view = { λ w. record { number = w.line.number; words = behind_first w.first w.line.bytes.now } };
 }
 
+fn is_bracket(word: &[u8]) -> bool
+    ensures { result ≡ is_bracket word.now }
+{
+    matches!(word, [b'[', ..])
+}
+
+// The bytes between two offsets, where a word has them.
+fn between(first: usize, end: usize, word: &[u8]) -> &[u8]
+    requires order { first ≤ end }
+    requires small { end ≤ 64 }
+    ensures { result.now ≡ take (end - first) (drop first word.now) }
+{
+    let first = min(first, word.len());
+    let end = min(end, word.len());
+    &word[first..end]
+}
+
+// Behind the `<` of a level.
+fn is_level(rest: &[u8]) -> bool
+    ensures { result ≡ is_level rest.now }
+{
+    is_text(b">[", between(1, 3, rest)) || is_text(b">[", between(2, 4, rest))
+}
+
 fn is_opened(word: &[u8]) -> bool
     ensures { result ≡ is_opened word.now }
 {
-    matches!(word, [b'[', ..])
+    if is_bracket(word) {
+        return true;
+    }
+    match word.split_first() {
+        Some((first, rest)) => *first == b'<' && is_level(rest),
+        None => false,
+    }
 }
 
 fn is_closed(word: &[u8]) -> bool
@@ -40,26 +72,70 @@ fn is_closed(word: &[u8]) -> bool
 }
 
 /// The number of the first word behind a stamp that begins at the word of this number.
-pub(crate) fn behind_stamp(at: u8, words: &Words<'_>) -> u8
-    requires { at ≤ 1 }
-    ensures { result ≡ behind_stamp at words.now.words }
+pub(crate) fn behind_stamp(at: u8, line: &Line<'_>) -> u8
+    requires { at ≤ 5 }
+    ensures end { result ≡ behind_stamp at (words_of line.now.bytes.now) }
+    ensures few { result ≤ 10 }
 {
     let k = at as usize;
-    if !is_opened(words.text(k)) {
+    if !is_opened(word_text(line, k)) {
         at
-    } else if is_closed(words.text(k)) {
+    } else if is_closed(word_text(line, k)) {
         at + 1
-    } else if is_closed(words.text(k + 1)) {
+    } else if is_closed(word_text(line, k + 1)) {
         at + 2
-    } else if is_closed(words.text(k + 2)) {
+    } else if is_closed(word_text(line, k + 2)) {
         at + 3
-    } else if is_closed(words.text(k + 3)) {
+    } else if is_closed(word_text(line, k + 3)) {
         at + 4
-    } else if is_closed(words.text(k + 4)) {
+    } else if is_closed(word_text(line, k + 4)) {
         at + 5
     } else {
         at
     }
+}
+
+fn is_iso(word: &[u8]) -> bool
+    ensures { result ≡ is_iso word.now }
+{
+    is_text(b"-", between(4, 5, word)) && is_text(b"T", between(10, 11, word))
+}
+
+fn behind_facility(line: &Line<'_>) -> u8
+    ensures end { result ≡ behind_facility (words_of line.now.bytes.now) }
+    ensures few { result ≤ 5 }
+{
+    let is_facility = is_text(b"kern", word_text(line, 0))
+        && is_text(b":", between(0, 1, word_text(line, 1)));
+    if !is_facility {
+        0
+    } else if is_text(b":", word_text(line, 2)) {
+        3
+    } else {
+        2
+    }
+}
+
+fn behind_log(line: &Line<'_>) -> u8
+    ensures end { result ≡ behind_log (words_of line.now.bytes.now) }
+    ensures few { result ≤ 5 }
+{
+    if is_text(b"kernel:", word_text(line, 2)) {
+        3
+    } else if is_text(b"kernel:", word_text(line, 4)) {
+        5
+    } else if is_iso(word_text(line, 0)) {
+        1
+    } else {
+        behind_facility(line)
+    }
+}
+
+/// The number of the first word behind what a log puts in front of a kernel's line.
+pub(crate) fn head_end(line: &Line<'_>) -> u8
+    ensures { result ≡ head_end (words_of line.now.bytes.now) }
+{
+    behind_stamp(behind_log(line), line)
 }
 
 impl<'a> LineWords<'a> {

@@ -1,13 +1,21 @@
-ghost use Rattle.std.specs.Prelude.{◌≡◌, ◌<◌, IfSome};
-ghost use Rattle.mt_import.specs.Linux.{base_number, entries_named, entry_named, linux_said, linux_words_said, number_behind, pair_before, pair_numbered, pat_said, pat_told, region_said};
+ghost use Rattle.std.specs.Prelude.{◌≡◌, ◌≤◌, ◌<◌, ◌^◌, codes, length, IfSome};
+ghost use Rattle.mt_text.specs.Number.{decimal_number};
+ghost use Rattle.mt_text.specs.Words.{place_of, text_of};
+ghost use Rattle.mt_import.specs.Pieces.{before};
+ghost use Rattle.mt_import.specs.Linux.{amount_by, amount_in, amount_text, amount_word, bytes_value, cleanup_said, cut_before, entries_from, entry_named, is_cleanup, is_configuration, is_count, is_map, is_pat_change, is_pat_name, is_size, is_warning_line, linux_said, linux_words_said, map_shown, number_behind, pair_before, pair_by, pair_numbered, pair_shown, pat_changed, pat_from, pat_said, pat_told, pat_word, region_by, region_said, size_shown, size_word, type_in, unit_named};
 
-use crate::Said;
 use crate::kernel::{base_value, kernel_said, type_named};
-use crate::line_words::{LineWords, behind_stamp};
-use crate::pieces::{behind, is_text, number_in, shows_one};
-use crate::tabled::bytes_value;
-use mt_regs::{FIRST_PAIR, PAT, POWER_UP_PAT};
-use mt_text::{Line, decimal, hex64};
+use crate::line_words::{LineWords, head_end};
+use crate::pieces::{
+    before, behind, is_text, number_in, prefixed_number, shown_bits, shows_one, value_at,
+};
+use crate::reading::{one_shown, two_shown};
+use crate::{Said, Shown};
+use mt_regs::{CAPABILITIES, FIRST_PAIR, PAT, POWER_UP_PAT};
+use mt_text::{Line, Place, decimal, hex64};
+
+// V of PhysMask.
+const VALID: u64 = 0x800;
 
 fn entry_named(word: &[u8]) -> Option<u8>
     ensures { result ≡ entry_named word.now }
@@ -29,19 +37,36 @@ fn entry_named(word: &[u8]) -> Option<u8>
     }
 }
 
-fn entries_named(words: &LineWords<'_>) -> [Option<u8>; 8]
-    ensures { result ≡ entries_named words.now.words }
+// The eight words from this one on.
+fn entries_from(at: u8, words: &LineWords<'_>) -> [Option<u8>; 8]
+    requires { at ≤ 4 }
+    ensures { result ≡ entries_from at words.now.words }
 {
     [
-        entry_named(words.text(3)),
-        entry_named(words.text(4)),
-        entry_named(words.text(5)),
-        entry_named(words.text(6)),
-        entry_named(words.text(7)),
-        entry_named(words.text(8)),
-        entry_named(words.text(9)),
-        entry_named(words.text(10)),
+        entry_named(words.text(at)),
+        entry_named(words.text(at + 1)),
+        entry_named(words.text(at + 2)),
+        entry_named(words.text(at + 3)),
+        entry_named(words.text(at + 4)),
+        entry_named(words.text(at + 5)),
+        entry_named(words.text(at + 6)),
+        entry_named(words.text(at + 7)),
     ]
+}
+
+// The value of bytes, the lowest first, where each is known.
+fn bytes_value(bytes: &[Option<u8>]) -> Option<u64>
+    requires { length bytes.now ≤ 8 }
+    ensures value { result ≡ bytes_value bytes.now }
+    ensures fits { IfSome result (λ value. value < 256 ^ length bytes.now) }
+{
+    let Some((byte, bytes)) = bytes.split_first() else {
+        return Some(0);
+    };
+    match (byte, bytes_value(bytes)) {
+        (Some(byte), Some(high)) => Some(*byte as u64 + 256 * high),
+        _ => None,
+    }
 }
 
 fn pat_told(value: Option<u64>) -> Option<u64>
@@ -53,18 +78,164 @@ fn pat_told(value: Option<u64>) -> Option<u64>
     }
 }
 
-fn pat_said(words: &LineWords<'_>) -> Said
-    ensures { result ≡ pat_said words.now.number words.now.words }
+fn is_pat_name(word: &[u8]) -> bool
+    ensures { result ≡ is_pat_name word.now }
 {
-    if words.count() == 11
-        && is_text(b"Configuration", words.text(1))
-        && is_text(b"[0-7]:", words.text(2))
+    is_text(b"x86/PAT:", word) || is_text(b"x86:", word) || is_text(b"PAT", word)
+}
+
+fn is_configuration(word: &[u8]) -> bool
+    ensures { result ≡ is_configuration word.now }
+{
+    is_text(b"Configuration", word) || is_text(b"configuration", word)
+}
+
+// Behind `[0-7]:`, the word of this number.
+fn pat_from(at: u8, words: &LineWords<'_>) -> Said
+    requires some { 1 ≤ at }
+    requires few { at ≤ 3 }
+    ensures { result ≡ pat_from at words.now.number words.now.words }
+{
+    if words.count() == at as usize + 9
+        && is_text(b"[0-7]:", words.text(at))
+        && is_configuration(words.text(at - 1))
     {
-        let value = pat_told(bytes_value(&entries_named(words)));
-        shows_one(Some(0), Some(PAT), value, words.place(3))
+        let value = pat_told(bytes_value(&entries_from(at + 1, words)));
+        shows_one(Some(0), Some(PAT), value, words.place(at + 1))
     } else {
         Said::Nothing
     }
+}
+
+// The word `[0-7]:`, if the line has it.
+fn pat_word(words: &LineWords<'_>) -> u8
+    ensures word { result ≡ pat_word words.now.words }
+    ensures some { 1 ≤ result }
+    ensures few { result ≤ 3 }
+{
+    if is_text(b"[0-7]:", words.text(2)) {
+        2
+    } else {
+        3
+    }
+}
+
+fn pat_said(words: &LineWords<'_>) -> Said
+    ensures { result ≡ pat_said words.now.number words.now.words }
+{
+    pat_from(pat_word(words), words)
+}
+
+fn is_pat_change(words: &LineWords<'_>) -> bool
+    ensures { result ≡ is_pat_change words.now.words }
+{
+    words.count() == 9
+        && is_text(b"PAT", words.text(1))
+        && is_text(b"enabled:", words.text(2))
+        && is_text(b"cpu", words.text(3))
+        && is_text(b"old", words.text(5))
+        && is_text(b"new", words.text(7))
+}
+
+// `x86 PAT enabled: cpu 0, old 0x7040600070406, new 0x7010600070106`
+fn pat_changed(words: &LineWords<'_>) -> Said
+    ensures { result ≡ pat_changed words.now.number words.now.words }
+{
+    if !is_pat_change(words) {
+        return Said::Nothing;
+    }
+    let Some(digits) = before(b",", words.text(4)) else {
+        return Said::Nothing;
+    };
+    match decimal(digits, 65_535) {
+        Ok(processor) => shows_one(
+            Some(processor as u32),
+            Some(PAT),
+            prefixed_number(words.text(8)),
+            words.place(8),
+        ),
+        Err(_) => Said::Nothing,
+    }
+}
+
+fn unit_named(letters: &[u8]) -> Option<u64>
+    ensures unit { result ≡ unit_named letters.now }
+    ensures small { IfSome result (λ unit. unit ≤ 0x40000000) }
+{
+    if is_text(b"KB", letters) {
+        Some(0x400)
+    } else if is_text(b"MB", letters) {
+        Some(0x10_0000)
+    } else if is_text(b"GB", letters) {
+        Some(0x4000_0000)
+    } else {
+        None
+    }
+}
+
+// `2048MB`
+fn amount_in(word: &[u8]) -> Option<u64>
+    ensures { result ≡ amount_in word.now }
+{
+    if word.len() < 3 {
+        return None;
+    }
+    let (digits, letters) = word.split_at(word.len() - 2);
+    match (decimal(digits, 0xffff_ffff), unit_named(letters)) {
+        (Ok(count), Some(unit)) => Some(count * unit),
+        _ => None,
+    }
+}
+
+// `2048MB` before an ending.
+fn amount_before(end: &[u8], word: &[u8]) -> Option<u64>
+    ensures { result ≡ amount_by (before end.now word.now) }
+{
+    match before(end, word) {
+        Some(word) => amount_in(word),
+        None => None,
+    }
+}
+
+// A power of 2, of whole pages.
+fn is_size(size: u64) -> bool
+    ensures { result ≡ is_size size }
+{
+    0xfff < size && size < 0x10_0000_0000_0000 && size & (size - 1) == 0
+}
+
+// The bits of PhysMask that a size shows.
+fn size_shown(pair: u8, place: Place, size: Option<u64>) -> Option<Shown>
+    requires { pair < 32 }
+    ensures { result ≡ size_shown pair place size }
+{
+    match size {
+        Some(size) if is_size(size) => {
+            let number = FIRST_PAIR + 1 + 2 * pair as u32;
+            shown_bits(number, 2 * size - 1, size + VALID, place)
+        }
+        _ => None,
+    }
+}
+
+fn pair_shown(
+    pair: Option<u64>,
+    base_place: Place,
+    base: Option<u64>,
+    size_place: Place,
+    size: Option<u64>,
+) -> Said
+    requires { IfSome pair (λ pair. pair < 32) }
+    ensures { result ≡ pair_shown pair base_place base size_place size }
+{
+    let Some(pair) = pair else {
+        return Said::Nothing;
+    };
+    let base = value_at(FIRST_PAIR + 2 * pair as u32, base_place, base);
+    Said::Shows(
+        Some(0),
+        two_shown(base, size_shown(pair as u8, size_place, size)),
+    )
 }
 
 // The number of a pair by its two digits, where this text stands behind them.
@@ -103,42 +274,174 @@ fn number_behind(head: &[u8], word: &[u8]) -> Option<u64>
     }
 }
 
-fn base_number(pair: Option<u64>) -> Option<u32>
-    requires { IfSome pair (λ pair. pair < 32) }
-    ensures { result ≡ base_number pair }
+// The word that begins with `size=`.
+fn size_word(words: &LineWords<'_>) -> u8
+    ensures word { result ≡ size_word words.now.words }
+    ensures few { result ≤ 4 }
 {
-    match pair {
-        Some(pair) => Some(FIRST_PAIR + 2 * pair as u32),
+    if is_text(b"(", words.text(2)) { 4 } else { 3 }
+}
+
+// The word that has its amount.
+fn amount_word(words: &LineWords<'_>) -> u8
+    ensures word { result ≡ amount_word words.now.words }
+    ensures few { result ≤ 5 }
+{
+    let at = size_word(words);
+    if is_text(b"size=", words.text(at)) {
+        at + 1
+    } else {
+        at
+    }
+}
+
+// The amount of a region, before this ending.
+fn amount_of(end: &[u8], words: &LineWords<'_>) -> Option<u64>
+    ensures { result ≡ amount_by (cut_before end.now (amount_text words.now.words)) }
+{
+    let at = size_word(words);
+    if is_text(b"size=", words.text(at)) {
+        return amount_before(end, words.text(at + 1));
+    }
+    match behind(b"size=", words.text(at)) {
+        Some(word) => amount_before(end, word),
         None => None,
     }
+}
+
+fn is_count(word: &[u8]) -> bool
+    ensures { result ≡ is_count word.now }
+{
+    behind(b"count=", word).is_some()
+}
+
+// The type of a memory type's name before a comma.
+fn type_before_comma(word: &[u8]) -> Option<u8>
+    ensures code { result ≡ type_in (before (codes ",") word.now) }
+    ensures small { IfSome result (λ code. code ≤ 6) }
+{
+    match before(b",", word) {
+        Some(word) => type_named(word),
+        None => None,
+    }
+}
+
+fn region_by(size: Option<u64>, code: Option<u8>, words: &LineWords<'_>) -> Said
+    requires { IfSome code (λ code. code ≤ 6) }
+    ensures { result ≡ region_by size code words.now.number words.now.words }
+{
+    let base = number_behind(b"base=", words.text(1));
+    pair_shown(
+        pair_numbered(b"reg", b":", words.text(0)),
+        words.place(1),
+        base_value(base, code),
+        words.place(amount_word(words)),
+        size,
+    )
 }
 
 fn region_said(words: &LineWords<'_>) -> Said
     ensures { result ≡ region_said words.now.number words.now.words }
 {
-    let count = words.count();
-    if count < 6 || count > 8 {
+    let at = amount_word(words);
+    if words.count() != at as usize + 3 {
+        Said::Nothing
+    } else if is_count(words.text(at + 1)) {
+        let code = type_named(words.text(at + 2));
+        region_by(amount_of(b",", words), code, words)
+    } else if is_count(words.text(at + 2)) {
+        let code = type_before_comma(words.text(at + 1));
+        region_by(amount_of(b":", words), code, words)
+    } else {
+        Said::Nothing
+    }
+}
+
+fn is_cleanup(words: &LineWords<'_>) -> bool
+    ensures { result ≡ is_cleanup words.now.words }
+{
+    words.count() == 8
+        && is_text(b"base:", words.text(2))
+        && is_text(b"range:", words.text(4))
+        && is_text(b"type", words.text(6))
+}
+
+fn pair_before_comma(word: &[u8]) -> Option<u64>
+    ensures pair { result ≡ pair_by (before (codes ",") word.now) }
+    ensures few { IfSome result (λ pair. pair < 32) }
+{
+    match before(b",", word) {
+        Some(digits) => number_in(decimal(digits, 31)),
+        None => None,
+    }
+}
+
+// `reg 0, base: 2GB, range: 256MB, type uncachable`, of the cleanup.
+fn cleanup_said(words: &LineWords<'_>) -> Said
+    ensures { result ≡ cleanup_said words.now.number words.now.words }
+{
+    if !is_cleanup(words) {
         return Said::Nothing;
     }
-    if behind(b"count=", words.text(count as u8 - 2)).is_none() {
-        return Said::Nothing;
-    }
-    let base = number_behind(b"base=", words.text(1));
-    shows_one(
-        Some(0),
-        base_number(pair_numbered(b"reg", b":", words.text(0))),
-        base_value(base, type_named(words.text(count as u8 - 1))),
-        words.place(1),
+    let base = amount_before(b",", words.text(3));
+    pair_shown(
+        pair_before_comma(words.text(1)),
+        words.place(3),
+        base_value(base, type_named(words.text(7))),
+        words.place(5),
+        amount_before(b",", words.text(5)),
     )
+}
+
+fn is_map(words: &LineWords<'_>) -> bool
+    ensures { result ≡ is_map words.now.words }
+{
+    words.count() == 16
+        && is_text(b"map:", words.text(1))
+        && is_text(b"built", words.text(11))
+        && is_text(b"variable", words.text(14))
+        && is_text(b"MTRRs", words.text(15))
+}
+
+// The count of pairs, behind `built from`.
+fn map_shown(words: &LineWords<'_>) -> Said
+    ensures { result ≡ map_shown (decimal_number (text_of words.now.words 13) 255) (place_of words.now.number words.now.words 13) }
+{
+    match decimal(words.text(13), 255) {
+        Ok(count) => Said::Shows(
+            Some(0),
+            one_shown(shown_bits(CAPABILITIES, 0xff, count, words.place(13))),
+        ),
+        Err(_) => Said::Nothing,
+    }
+}
+
+fn is_warning_line(words: &LineWords<'_>) -> bool
+    ensures { result ≡ is_warning_line words.now.words }
+{
+    is_text(b"CPUs", words.text(2)) && is_text(b"inconsistent", words.text(4))
 }
 
 fn linux_words_said(words: &LineWords<'_>) -> Said
     ensures { result ≡ linux_words_said words.now.number words.now.words }
 {
-    if is_text(b"x86/PAT:", words.text(0)) {
+    let word = words.text(0);
+    if is_text(b"x86", word) {
+        pat_changed(words)
+    } else if is_pat_name(word) {
         pat_said(words)
-    } else if behind(b"reg", words.text(0)).is_some() {
+    } else if is_text(b"reg", word) {
+        cleanup_said(words)
+    } else if behind(b"reg", word).is_some() {
         region_said(words)
+    } else if is_text(b"mtrr:", word) {
+        if is_warning_line(words) {
+            Said::Warns
+        } else {
+            Said::Nothing
+        }
+    } else if is_map(words) {
+        map_shown(words)
     } else {
         kernel_said(false, words)
     }
@@ -148,6 +451,5 @@ fn linux_words_said(words: &LineWords<'_>) -> Said
 pub(crate) fn linux_said(line: &Line<'_>) -> Said
     ensures { result ≡ linux_said line.now.number line.now.bytes.now }
 {
-    let first = behind_stamp(0, &line.first_words());
-    linux_words_said(&LineWords::behind(first, line))
+    linux_words_said(&LineWords::behind(head_end(line), line))
 }

@@ -1,33 +1,26 @@
-ghost use Rattle.std.specs.Prelude.{◌≡◌, ◌≤◌, ◌+◌, ◌++◌, [], List, ℕ, Some, length, map, if◌then◌else◌};
+ghost use Rattle.std.specs.Prelude.{◌≡◌, ◌≤◌, ◌<◌, ◌+◌, ◌++◌, [], List, ℕ, Some, None, length, map, if◌then◌else◌, IfSome, is_none};
 ghost use Rattle.arrayvec.specs.ArrayVec.{array_vec_len};
 ghost use Rattle.mt_regs.specs.RegisterFile.{low_byte};
 ghost use Rattle.mt_regs.specs.Registers.{HasThreeDigits, number_of, writable};
-ghost use Rattle.mt_import.specs.Outcome.{is_missing, missing_line, missing_lines, missing_width, needed};
-ghost use Rattle.mt_import.specs.Reader.{values_of, width_of};
+ghost use Rattle.mt_import.specs.Outcome.{firm_of, hint_of, is_missing, missing_line, missing_lines, missing_of, needed, note_line, note_lines, noted, notes_of, values_of};
+ghost use Rattle.mt_import.specs.Reader.{IsFit, slots_of};
 
+use crate::text::{missing_line, note_line, width_hint, width_note};
+use crate::values::widest;
 use crate::{LogReader, Supplied};
 use arrayvec::ArrayVec;
-use mt_dump::{TextBuffer, append_text, number_text};
+use mt_dump::{TextBuffer, append_text};
 use mt_regs::{CAPABILITIES, RegFile};
 
 const USUAL_WIDTH: u8 = 36;
 
-fn append_line(text: &mut TextBuffer, number: u32)
-    requires room { array_vec_len text.old + 12 ≤ 0x8000 }
-    requires number { HasThreeDigits number }
-    ensures text { text.new.items ≡ text.old.items ++ missing_line number }
-    ensures size { array_vec_len text.new ≡ array_vec_len text.old + 12 }
-{
-    let mut line = *b"missing 000\n";
-    line[8..11].copy_from_slice(&number_text(number));
-    append_text(text, &line);
-}
-
 impl LogReader {
     // Whether one of the processors hasn't a register.
     fn is_missing(&self, supplied: &Supplied, number: u32) -> bool
-        requires { self.now.processors ≤ 16 }
-        ensures { result ≡ is_missing (values_of supplied.now self.now) self.now.processors number }
+        requires few { self.now.processors ≤ 16 }
+        requires number { number < 0x1000 }
+        requires fit { IfSome self.now.width IsFit }
+        ensures { result ≡ is_missing (values_of supplied.now (slots_of self.now) self.now.width) self.now.processors number }
     {
         'processors: for k in 0..self.count() {
             if self.value(supplied, k, number).is_none() {
@@ -37,24 +30,64 @@ impl LogReader {
         false
     }
 
+    // The value that one of the processors has by an assumption alone.
+    fn noted(&self, supplied: &Supplied, number: u32) -> Option<u64>
+        requires few { self.now.processors ≤ 16 }
+        requires number { number < 0x1000 }
+        requires fit { IfSome self.now.width IsFit }
+        ensures { result ≡ noted (firm_of supplied.now (slots_of self.now)) (values_of supplied.now (slots_of self.now) self.now.width) self.now.processors number }
+    {
+        'processors: for k in 0..self.count() {
+            if self.firm_value(supplied, k, number).is_none() {
+                if let Some(value) = self.value(supplied, k, number) {
+                    return Some(value);
+                }
+            }
+        }
+        None
+    }
+
     // Names a register that is missing.
     fn append_missing(&self, text: &mut TextBuffer, supplied: &Supplied, number: u32)
         requires few { self.now.processors ≤ 16 }
-        requires room { array_vec_len text.old + 12 ≤ 0x8000 }
+        requires room { array_vec_len text.old + 48 ≤ 0x8000 }
         requires number { HasThreeDigits number }
-        ensures text { text.new.items ≡ text.old.items ++ (if is_missing (values_of supplied.now self.now) self.now.processors number then missing_line number else []) }
-        ensures size { array_vec_len text.new ≤ array_vec_len text.old + 12 }
+        requires fit { IfSome self.now.width IsFit }
+        ensures text { text.new.items ≡ text.old.items
+            ++ (if is_missing (values_of supplied.now (slots_of self.now) self.now.width) self.now.processors number
+            then missing_line number (hint_of supplied.now (slots_of self.now) self.now.width number) else []) }
+        ensures size { array_vec_len text.new ≤ array_vec_len text.old + 48 }
     {
         if self.is_missing(supplied, number) {
-            append_line(text, number);
+            let line = missing_line(number, self.hint(supplied, number));
+            append_text(text, line.as_slice());
+        }
+    }
+
+    // Notes a register that was assumed.
+    fn append_note(&self, text: &mut TextBuffer, supplied: &Supplied, number: u32)
+        requires few { self.now.processors ≤ 16 }
+        requires room { array_vec_len text.old + 56 ≤ 0x8000 }
+        requires number { HasThreeDigits number }
+        requires fit { IfSome self.now.width IsFit }
+        ensures text { text.new.items ≡ text.old.items
+            ++ note_line number (noted (firm_of supplied.now (slots_of self.now)) (values_of supplied.now (slots_of self.now) self.now.width) self.now.processors number) }
+        ensures size { array_vec_len text.new ≤ array_vec_len text.old + 56 }
+    {
+        if let Some(value) = self.noted(supplied, number) {
+            append_text(text, note_line(number, value).as_slice());
         }
     }
 
     // Names the writable registers of a file that are missing.
     fn append_registers(&self, text: &mut TextBuffer, supplied: &Supplied, file: &RegFile)
         requires few { self.now.processors ≤ 16 }
-        requires room { array_vec_len text.old ≤ 64 }
-        ensures { text.new.items ≡ text.old.items ++ missing_lines (values_of supplied.now self.now) self.now.processors (map number_of (writable file.now)) }
+        requires room { array_vec_len text.old ≤ 256 }
+        requires fit { IfSome self.now.width IsFit }
+        ensures short { array_vec_len text.new ≤ 0x7000 }
+        ensures text { text.new.items ≡ text.old.items
+            ++ missing_lines (hint_of supplied.now (slots_of self.now) self.now.width) (values_of supplied.now (slots_of self.now) self.now.width)
+            self.now.processors (map number_of (writable file.now)) }
     {
         'registers: for i in 0..file.count() {
             let Some(register) = file.register_at(i) else {
@@ -64,21 +97,62 @@ impl LogReader {
         }
     }
 
-    /// A line for each thing that a dump needs and that is neither shown nor supplied.
+    // Notes the writable registers of a file that were assumed.
+    fn append_notes(&self, text: &mut TextBuffer, supplied: &Supplied, file: &RegFile)
+        requires few { self.now.processors ≤ 16 }
+        requires room { array_vec_len text.old ≤ 256 }
+        requires fit { IfSome self.now.width IsFit }
+        ensures { text.new.items ≡ text.old.items
+            ++ note_lines (firm_of supplied.now (slots_of self.now)) (values_of supplied.now (slots_of self.now) self.now.width)
+            self.now.processors (map number_of (writable file.now)) }
+    {
+        'registers: for i in 0..file.count() {
+            let Some(register) = file.register_at(i) else {
+                unreachable!()
+            };
+            self.append_note(text, supplied, register.number());
+        }
+    }
+
+    /// Adds a line for each thing that a dump needs and that is neither shown nor supplied nor assumed.
     pub(crate) fn missing(&self, supplied: &Supplied) -> TextBuffer
         requires few { self.now.processors ≤ 16 }
-        requires pairs { (value : ℕ) → values_of supplied.now self.now 0 0xfe ≡ Some value → low_byte value ≤ 32 }
-        ensures { result.items ≡ missing_width (width_of supplied.now self.now)
-            ++ missing_lines (values_of supplied.now self.now) self.now.processors (needed (values_of supplied.now self.now 0 0xfe)) }
+        requires pairs { (value : ℕ) → values_of supplied.now (slots_of self.now) self.now.width 0 0xfe ≡ Some value → low_byte value ≤ 32 }
+        requires fit { IfSome self.now.width IsFit }
+        ensures text { result.items ≡ missing_of supplied.now (slots_of self.now) self.now.processors self.now.width }
+        ensures short { array_vec_len result ≤ 0x7000 }
     {
         let mut text = ArrayVec::new();
         if self.width(supplied).is_none() {
-            append_text(&mut text, b"missing maxphyaddr\n");
+            append_text(&mut text, width_hint(widest(self.masks())));
         }
         self.append_missing(&mut text, supplied, CAPABILITIES);
         if let Some(capabilities) = self.value(supplied, 0, CAPABILITIES) {
             match RegFile::blank(USUAL_WIDTH, capabilities) {
                 Ok(file) => self.append_registers(&mut text, supplied, &file),
+                Err(_) => unreachable!(),
+            }
+        }
+        text
+    }
+
+    /// A comment for each value that was assumed.
+    pub(crate) fn notes(&self, supplied: &Supplied) -> TextBuffer
+        requires few { self.now.processors ≤ 16 }
+        requires pairs { (value : ℕ) → values_of supplied.now (slots_of self.now) self.now.width 0 0xfe ≡ Some value → low_byte value ≤ 32 }
+        requires fit { IfSome self.now.width IsFit }
+        ensures { result.items ≡ notes_of supplied.now (slots_of self.now) self.now.processors self.now.width }
+    {
+        let mut text = ArrayVec::new();
+        if self.firm_width(supplied).is_none() {
+            if let Some(width) = self.width(supplied) {
+                append_text(&mut text, width_note(width).as_slice());
+            }
+        }
+        self.append_note(&mut text, supplied, CAPABILITIES);
+        if let Some(capabilities) = self.value(supplied, 0, CAPABILITIES) {
+            match RegFile::blank(USUAL_WIDTH, capabilities) {
+                Ok(file) => self.append_notes(&mut text, supplied, &file),
                 Err(_) => unreachable!(),
             }
         }

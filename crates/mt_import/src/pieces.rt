@@ -1,7 +1,8 @@
 ghost use Rattle.std.specs.Prelude.{◌≡◌, ◌+◌, MatchOption, Some, None, IfSome, slice_get};
+ghost use Rattle.mt_ports.specs.Causes.{one_more};
 ghost use Rattle.mt_text.specs.Text.{words_of};
 ghost use Rattle.mt_text.specs.Words.{place_of, text_of};
-ghost use Rattle.mt_import.specs.Pieces.{before, behind, is_prefixed, is_text, number_in, prefixed_number, prefixed_register, register_in, shown_as, shows_one, shows_width, whole_number, sixteen_digits};
+ghost use Rattle.mt_import.specs.Pieces.{before, behind, is_prefixed, is_text, number_in, prefixed_number, prefixed_register, register_in, shown_as, shown_bits, shows_one, shows_width, whole_number, sixteen_digits, value_at};
 
 use crate::{Said, Shown};
 use mt_text::{Line, NumberFault, Place, Word, hex64};
@@ -101,14 +102,40 @@ pub(crate) fn prefixed_register(word: &[u8]) -> Option<u32>
     }
 }
 
-pub(crate) fn shown_as(number: u32, value: u64, place: Place) -> Option<Shown>
-    ensures { result ≡ shown_as number value place }
+/// Bits of a register, with this value.
+pub(crate) fn shown_bits(number: u32, bits: u64, value: u64, place: Place) -> Option<Shown>
+    ensures { result ≡ shown_bits number bits value place }
 {
     Some(Shown {
         number,
+        bits,
         value,
         place,
     })
+}
+
+/// A whole register.
+pub(crate) fn shown_as(number: u32, value: u64, place: Place) -> Option<Shown>
+    ensures { result ≡ shown_as number value place }
+{
+    shown_bits(number, u64::MAX, value, place)
+}
+
+/// A whole register, if its value is known.
+pub(crate) fn value_at(number: u32, place: Place, value: Option<u64>) -> Option<Shown>
+    ensures { result ≡ value_at number place value }
+{
+    match value {
+        Some(value) => shown_as(number, value, place),
+        None => None,
+    }
+}
+
+/// A count after one more. It stays at the last value of 64 bits.
+pub(crate) fn count_on(count: u64) -> u64
+    ensures { result ≡ one_more count }
+{
+    count.saturating_add(1)
 }
 
 /// A processor that no dump has. Lines behind one that turns to a processor whose number can't be

@@ -5,9 +5,9 @@ ghost use Rattle.mt_ports.specs.Causes.{StatusHasCause};
 ghost use Rattle.mt_ports.specs.Exit.{code};
 ghost use Rattle.mt_text.specs.Feed.{GaveTooMuch};
 ghost use Rattle.mt_output.specs.Program.{Exits, words_of};
-ghost use Rattle.mt_import.specs.Import.{Runs};
+ghost use Rattle.mt_import.specs.Import.{HaveCause, Runs};
 
-use crate::import;
+use crate::import_apart;
 use mt_output::{exit_code, words_behind_name};
 use mt_ports::{Sink, Source, Status};
 use std::env::Args;
@@ -16,45 +16,49 @@ use std::process::ExitCode;
 
 // Arguments that are no text are wrong usage, and arguments that find no memory end the program
 // before the run.
-fn run<R: AllocGlobal, S: Source, K: Sink>(
+fn run<R: AllocGlobal, S: Source, K: Sink, E: Sink>(
     rt: &R,
     args: io::Result<Args>,
     source: &mut S,
     sink: &mut K,
+    errors: &mut E,
 ) -> Status
     ensures runs { (bytes : List ℕ) → S.left source.old ≡ Some bytes →
-        Runs (words_of args) bytes (S.left source.new) (K.taken sink.old) (K.taken sink.new) result }
+        Runs (words_of args) bytes (S.left source.new)
+        (record { old = K.taken sink.old; new = K.taken sink.new }) (record { old = E.taken errors.old; new = E.taken errors.new }) result }
     ensures read_fault { StatusHasCause Status.ReadFault (S.faults source.old) (S.faults source.new) result }
-    ensures write_fault { StatusHasCause Status.WriteFault (K.faults sink.old) (K.faults sink.new) result }
+    ensures write_fault { HaveCause (K.faults sink.old, K.faults sink.new) (E.faults errors.old, E.faults errors.new) result }
     ensures too_long { (result ≡ Status.TooLong) ↔ GaveTooMuch (S.given source.old) (S.given source.new) }
     ensures no_memory { IfErr args (λ error. error_kind error ≡ ErrorKind.OutOfMemory → result ≡ Status.NoMemory) }
 {
     match args {
         Ok(args) => match words_behind_name(rt.alloc(), args) {
-            Ok(words) => import(&words, source, sink),
+            Ok(words) => import_apart(&words, source, sink, errors),
             Err(_) => Status::NoMemory,
         },
         Err(error) if error.kind() == ErrorKind::OutOfMemory => Status::NoMemory,
-        Err(_) => import(&[], source, sink),
+        Err(_) => import_apart(&[], source, sink, errors),
     }
 }
 
 /// Does all that the program does with its arguments, and answers what it ends with: the number of
 /// the status. The words of the command line are the arguments but the first.
-pub fn program_status<R: AllocGlobal, S: Source, K: Sink>(
+pub fn program_status<R: AllocGlobal, S: Source, K: Sink, E: Sink>(
     rt: &R,
     args: io::Result<Args>,
     source: &mut S,
     sink: &mut K,
+    errors: &mut E,
 ) -> ExitCode
     ensures runs { (bytes : List ℕ) → S.left source.old ≡ Some bytes →
-        Exits result (Runs (words_of args) bytes (S.left source.new) (K.taken sink.old) (K.taken sink.new)) }
+        Exits result (Runs (words_of args) bytes (S.left source.new)
+        (record { old = K.taken sink.old; new = K.taken sink.new }) (record { old = E.taken errors.old; new = E.taken errors.new })) }
     ensures read_fault { Exits result (StatusHasCause Status.ReadFault (S.faults source.old) (S.faults source.new)) }
-    ensures write_fault { Exits result (StatusHasCause Status.WriteFault (K.faults sink.old) (K.faults sink.new)) }
+    ensures write_fault { Exits result (HaveCause (K.faults sink.old, K.faults sink.new) (E.faults errors.old, E.faults errors.new)) }
     ensures too_long { Exits result (λ status. (status ≡ Status.TooLong) ↔ GaveTooMuch (S.given source.old) (S.given source.new)) }
 
     // Where the arguments find no memory nothing is run.
     ensures no_memory { IfErr args (λ error. error_kind error ≡ ErrorKind.OutOfMemory → exit_status result ≡ code Status.NoMemory) }
 {
-    exit_code(run(rt, args, source, sink))
+    exit_code(run(rt, args, source, sink, errors))
 }

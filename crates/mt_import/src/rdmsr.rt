@@ -1,10 +1,14 @@
-ghost use Rattle.std.specs.Prelude.{◌≡◌, ◌≤◌, codes};
+ghost use Rattle.std.specs.Prelude.{◌≡◌, ◌≤◌, ◌+◌, ◌*◌, codes, IfSome};
 ghost use Rattle.mt_text.specs.Number.{hex_number};
-ghost use Rattle.mt_import.specs.Rdmsr.{announced, announced_by, call_from, is_hex_option, is_padded, rdmsr_said, register_named, said_by_words, said_value};
+ghost use Rattle.mt_import.specs.Pieces.{before, behind};
+ghost use Rattle.mt_import.specs.Rdmsr.{announced, call_from, call_said, column_register, column_said, digits_in, is_all, is_hex_option, is_padded, is_traced, option_at, processor_named, rdmsr_said, register_named, said_by_words, said_value, with_processor};
 
 use crate::Said;
-use crate::pieces::{is_prefixed, is_text, register_in};
-use mt_text::{Line, Place, Words, decimal, hex64};
+use crate::line_words::LineWords;
+use crate::pieces::{
+    before, behind, is_prefixed, is_text, number_in, prefixed_register, register_in, shows_one,
+};
+use mt_text::{Line, Place, decimal, hex64};
 
 const DIGITS: usize = 3;
 
@@ -26,7 +30,7 @@ fn is_hex_option(word: &[u8]) -> bool
     is_text(b"-0", word) || is_text(b"-x", word) || is_text(b"-X", word) || is_text(b"-c", word)
 }
 
-fn announced(processor: u32, register: Option<u32>) -> Said
+fn announced(processor: Option<u32>, register: Option<u32>) -> Said
     ensures { result ≡ announced processor register }
 {
     match register {
@@ -41,29 +45,77 @@ fn is_padded(word: &[u8]) -> bool
     matches!(word, [b'0', _, ..])
 }
 
-fn announced_by(processor: &[u8], register: Option<u32>) -> Said
-    ensures { result ≡ announced_by processor.now register }
+fn processor_named(word: &[u8]) -> Option<u32>
+    ensures { result ≡ processor_named word.now }
 {
-    if is_padded(processor) {
-        return Said::Nothing;
+    if is_padded(word) {
+        return None;
     }
-    match decimal(processor, 65535) {
-        Ok(processor) => announced(processor as u32, register),
-        Err(_) => Said::Nothing,
+    match decimal(word, 65535) {
+        Ok(processor) => Some(processor as u32),
+        Err(_) => None,
     }
 }
 
-fn call_from(first: usize, words: &Words<'_>) -> Said
-    requires { first ≤ 3 }
-    ensures { result ≡ call_from first words.now.words }
+fn is_all(word: &[u8]) -> bool
+    ensures { result ≡ is_all word.now }
 {
-    let count = words.count();
-    if count == first + 1 {
-        announced(0, register_named(words.text(first)))
-    } else if count == first + 3 && is_text(b"-p", words.text(first)) {
-        announced_by(words.text(first + 1), register_named(words.text(first + 2)))
+    is_text(b"-a", word) || is_text(b"--all", word)
+}
+
+fn with_processor(size: u8, processor: Option<u32>) -> Option<(u8, Option<u32>)>
+    requires { size ≤ 2 }
+    ensures option { result ≡ with_processor size processor }
+    ensures small { IfSome result (λ found. found.0 ≤ 2) }
+{
+    match processor {
+        Some(processor) => Some((size, Some(processor))),
+        None => None,
+    }
+}
+
+// `-pK`
+fn attached(word: &[u8]) -> Option<u32>
+    ensures { result ≡ digits_in (behind (codes "-p") word.now) }
+{
+    match behind(b"-p", word) {
+        Some(digits) => processor_named(digits),
+        None => None,
+    }
+}
+
+// An option: how many words it has, and the processor that the call is of behind it, or none for all of them.
+fn option_at(at: u8, processor: Option<u32>, words: &LineWords<'_>) -> Option<(u8, Option<u32>)>
+    requires { at ≤ 12 }
+    ensures option { result ≡ option_at at processor words.now.words }
+    ensures small { IfSome result (λ found. found.0 ≤ 2) }
+{
+    let word = words.text(at);
+    if is_hex_option(word) {
+        Some((1, processor))
+    } else if is_all(word) {
+        Some((1, None))
+    } else if is_text(b"-p", word) {
+        with_processor(2, processor_named(words.text(at + 1)))
     } else {
-        Said::Nothing
+        with_processor(1, attached(word))
+    }
+}
+
+// The words of a call from this one on: options, so many at most, and the register.
+fn call_from(options: u8, at: u8, processor: Option<u32>, words: &LineWords<'_>) -> Said
+    requires { at + 2 * options ≤ 12 }
+    ensures { result ≡ call_from options at processor words.now.words }
+{
+    if words.count() == at as usize + 1 {
+        return announced(processor, register_named(words.text(at)));
+    }
+    if options == 0 {
+        return Said::Nothing;
+    }
+    match option_at(at, processor, words) {
+        Some((size, next)) => call_from(options - 1, at + size, next, words),
+        None => Said::Nothing,
     }
 }
 
@@ -76,17 +128,55 @@ fn said_value(place: Place, word: &[u8]) -> Said
     }
 }
 
-fn said_by_words(words: &Words<'_>) -> Said
-    ensures { result ≡ said_by_words words.now.number words.now.words }
+fn column_register(word: &[u8]) -> Option<u32>
+    ensures { result ≡ column_register (before (codes ":") word.now) word.now }
 {
-    if is_text(b"+", words.text(0)) && is_text(b"rdmsr", words.text(1)) {
-        let first = if is_hex_option(words.text(2)) { 3 } else { 2 };
-        return call_from(first, words);
+    match before(b":", word) {
+        Some(name) => prefixed_register(name),
+        None => prefixed_register(word),
     }
-    if words.count() == 1 {
-        said_value(words.place(0), words.text(0))
+}
+
+// `0x200 6` or `0x200: 6`
+fn column_said(words: &LineWords<'_>) -> Said
+    ensures { result ≡ column_said words.now.number words.now.words }
+{
+    shows_one(
+        Some(0),
+        column_register(words.text(0)),
+        number_in(hex64(words.text(1))),
+        words.place(1),
+    )
+}
+
+fn is_traced(word: &[u8]) -> bool
+    ensures { result ≡ is_traced word.now }
+{
+    is_text(b"+", word) || is_text(b"++", word)
+}
+
+fn call_said(words: &LineWords<'_>) -> Said
+    ensures { result ≡ call_said words.now.words }
+{
+    if is_text(b"rdmsr", words.text(1)) {
+        call_from(3, 2, Some(0), words)
+    } else if is_text(b"sudo", words.text(1)) && is_text(b"rdmsr", words.text(2)) {
+        call_from(3, 3, Some(0), words)
     } else {
         Said::Nothing
+    }
+}
+
+fn said_by_words(words: &LineWords<'_>) -> Said
+    ensures { result ≡ said_by_words words.now.number words.now.words }
+{
+    if is_traced(words.text(0)) {
+        return call_said(words);
+    }
+    match words.count() {
+        1 => said_value(words.place(0), words.text(0)),
+        2 => column_said(words),
+        _ => Said::Nothing,
     }
 }
 
@@ -94,5 +184,5 @@ fn said_by_words(words: &Words<'_>) -> Said
 pub(crate) fn rdmsr_said(line: &Line<'_>) -> Said
     ensures { result ≡ rdmsr_said line.now.number line.now.bytes.now }
 {
-    said_by_words(&line.first_words())
+    said_by_words(&LineWords::behind(0, line))
 }

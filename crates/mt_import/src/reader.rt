@@ -1,26 +1,27 @@
-ghost use Rattle.std.specs.Prelude.{◌≡◌, ◌≤◌, ◌<◌, ◌+◌, ◌-◌, ◌*◌, ℕ, List, [], ◌∷◌, length, max, slice_get, unwrap_or, true, Some, None, Ok, IfErr, IfOk, IfSome, IsErrOf, MatchOption, MatchResult, ◌↔◌};
+ghost use Rattle.std.specs.Prelude.{◌≡◌, ◌≤◌, ◌<◌, ◌+◌, ◌-◌, ◌*◌, ℕ, List, [], ◌∷◌, bit_or, length, max, slice_get, unwrap_or, true, false, Some, None, Ok, IfErr, IfOk, IfSome, IsErrOf, MatchOption, MatchResult, ◌↔◌};
 ghost use Rattle.std.specs.Io.KnownBytes.{Consumes, IsAtEnd};
 ghost use Rattle.mt_text.specs.Text.{longest_input};
 ghost use Rattle.mt_ports.specs.Causes.{Rose};
 ghost use Rattle.mt_text.specs.Feed.{GaveTooMuch, IsLong, at_start, taken};
 ghost use Rattle.mt_text.specs.declared.fault.FeedFault.{FeedFault};
-ghost use Rattle.mt_import.specs.declared.reading.Reading.{Reading as ReadingValue};
+ghost use Rattle.mt_import.specs.declared.shape.Reading.{Reading as ReadingValue};
 ghost use Rattle.mt_regs.specs.RegisterFile.{low_byte};
-ghost use Rattle.mt_import.specs.Readings.{Fact, at_start as start, context_after, facts_of, is_register, is_register_value, is_row, is_width, reading_facts, shown_facts, shows_facts};
-ghost use Rattle.mt_import.specs.Shown.{said_of};
-ghost use Rattle.mt_import.specs.Outcome.{Seen, capabilities_after, contradicts, fact_fault, facts_fault, is_fit_width, nothing_seen, reading_fault, seen_after, seen_with, width_fault};
-ghost use Rattle.mt_import.specs.Supplied.{differs};
-ghost use Rattle.mt_import.specs.declared.reading.Said.TheVariants.{InTable};
+ghost use Rattle.mt_import.specs.Readings.{Fact, fixed_facts, fixed_line, is_fixed_clash, is_line, is_register, is_register_value, is_warning, is_width, reading_facts, said_facts, shown_facts, shows_facts, starts, unlike, value_facts};
+ghost use Rattle.mt_import.specs.Shown.{context_behind, facts_of_line};
+ghost use Rattle.mt_import.specs.Slot.{slot_with};
+ghost use Rattle.mt_import.specs.Outcome.{Seen, capabilities_after, contradiction, facts_fault, is_fit_width, nothing_seen, one_if, reading_fault, rival, seen_after, seen_with, slot_shown, tally_warned, tally_with, width_fault};
+ghost use Rattle.mt_import.specs.Supplied.{bits_differ, differs};
 ghost use Rattle.mt_import.specs.Import.{IsWritten, log_told};
-ghost use Rattle.mt_import.specs.Reader.{HasTaken, IsFit, IsShort, held_at, slot_of, values_of, width_of};
+ghost use Rattle.mt_import.specs.Reader.{HasTaken, IsFit, IsShort, held_at, slot_of, slots_of};
 
-use crate::reading::{MOST_SHOWN, is_register};
-use crate::rows::row_fault;
-use crate::tabled::table_shows;
+use crate::format::{chosen, said_in};
+use crate::pieces::{count_on, shown_as};
+use crate::reading::{MOST_SHOWN, fixed_shows, is_register};
+use crate::shape::{FixedLine, Reading, Shown, Slot, Tally};
 use crate::text::{Imported, faulted};
-use crate::{Context, Format, ImportFault, Reading, Said, Shown, Shows, Supplied, TableLine};
+use crate::{Choice, Context, Format, ImportFault, Rival, Said, Shows, Supplied};
 use mt_ports::Source;
-use mt_regs::{CAPABILITIES, FIRST_PAIR, MAX_PAIRS};
+use mt_regs::{CAPABILITIES, DEFAULT_TYPE, FIRST_PAIR, MAX_PAIRS};
 use mt_text::{Feed, FeedFault, Line, Place};
 use std::marker::Model;
 
@@ -37,13 +38,14 @@ pub struct LogReader {
     // what the lines so far lead to
     context: Context,
     // each processor's registers
-    values: [Option<u64>; 4112],
-    // the capability register's value, where one of the processors shows it
-    capabilities: Option<u64>,
+    slots: [Slot; 4112],
+    // the capability register, as the lines of all processors show it
+    capabilities: Slot,
     // as many as are shown, and one at least
     processors: u32,
     // the address width, where a line shows it
     width: Option<u8>,
+    tally: Tally,
 }
 
 impl Model for LogReader {
@@ -51,7 +53,7 @@ impl Model for LogReader {
 
     ghost Value = { State };
 
-    ghost view = { λ r. record { context = r.context; values = r.values; capabilities = r.capabilities; processors = r.processors; width = r.width } };
+    ghost view = { λ r. record { context = r.context; slots = r.slots; capabilities = r.capabilities; processors = r.processors; width = r.width; tally = r.tally } };
 }
 
 fn slot_of(number: u32) -> Option<usize>
@@ -67,11 +69,12 @@ fn slot_of(number: u32) -> Option<usize>
     }
 }
 
-fn differs(other: Option<u64>, value: u64) -> bool
-    ensures { result ≡ differs other value }
+// Whether a word's value is another in these bits.
+fn bits_differ(word: Option<u64>, bits: u64, value: u64) -> bool
+    ensures { result ≡ bits_differ word bits value }
 {
-    match other {
-        Some(other) => other != value,
+    match word {
+        Some(word) => word & bits != value,
         None => false,
     }
 }
@@ -91,12 +94,12 @@ fn differs_in_width(other: Option<u8>, width: u64) -> bool
     }
 }
 
-// The capability register's value behind one more reading.
-fn capabilities_after(reading: Reading, before: Option<u64>) -> Option<u64>
-    ensures { result ≡ capabilities_after reading before }
+// The capability register's behind one more reading.
+fn capabilities_after(reading: &Reading, before: Slot) -> Slot
+    ensures { result ≡ capabilities_after reading.now before }
 {
     if reading.number == CAPABILITIES {
-        Some(reading.value)
+        before.with(reading)
     } else {
         before
     }
@@ -115,40 +118,84 @@ fn shown_at(shows: &Shows, i: usize) -> Option<Shown>
     shows[i]
 }
 
+fn one_if(matches: bool, count: u64) -> u64
+    ensures { result ≡ one_if matches count }
+{
+    if matches { count_on(count) } else { count }
+}
+
+fn contradiction(reading: &Reading, rival: Option<Rival>) -> Option<ImportFault>
+    ensures { result ≡ contradiction reading.now rival }
+{
+    match rival {
+        Some(rival) => Some(ImportFault::Contradiction(reading.place, reading.number, rival)),
+        None => None,
+    }
+}
+
+// Whether a line on fixed ranges says something else than one before it.
+fn is_fixed_clash(before: Option<FixedLine>, is_enabled: bool) -> bool
+    ensures { result ≡ is_fixed_clash before is_enabled }
+{
+    match before {
+        Some(line) => unlike(line.is_enabled, is_enabled),
+        None => false,
+    }
+}
+
+fn unlike(flag: bool, on: bool) -> bool
+    ensures { result ≡ unlike flag on }
+{
+    if flag { !on } else { on }
+}
+
+fn fixed_line(before: Option<FixedLine>) -> u64
+    ensures { result ≡ fixed_line before }
+{
+    match before {
+        Some(line) => line.line,
+        None => 0,
+    }
+}
+
 impl LogReader {
-    /// A reader that has taken no line.
-    pub fn new() -> LogReader
-        ensures taken { HasTaken result nothing_seen }
-        ensures context { result.context ≡ start }
+    /// A reader that has taken no line of a log, whose format may be known.
+    pub fn new(format: Option<Format>) -> LogReader
+        ensures taken { HasTaken result (nothing_seen format) }
+        ensures context { result.context ≡ starts format }
     {
+        let blank = Slot::blank();
         LogReader {
-            context: Context::at_start(),
-            values: [None; 4112],
-            capabilities: None,
+            context: Context::starts(format),
+            slots: [blank; 4112],
+            capabilities: blank,
             processors: 1,
             width: None,
+            tally: Tally {
+                format,
+                lines: 0,
+                matches: 0,
+                warned: false,
+            },
         }
     }
 
-    // The value that a reading shows.
-    fn shown(&self, processor: u32, number: u32) -> Option<u64>
+    fn held(&self, processor: u32, slot: usize) -> Slot
+        requires processor { processor < 16 }
+        requires slot { slot < 257 }
+        ensures { result ≡ held_at self.now.slots processor (Some slot) }
+    {
+        self.slots[SLOTS * processor as usize + slot]
+    }
+
+    /// What lines have shown of a processor's register.
+    pub(crate) fn slot(&self, processor: u32, number: u32) -> Slot
         requires { processor < 16 }
-        ensures { result ≡ held_at self.now.values processor (slot_of number) }
+        ensures { result ≡ slots_of self.now processor number }
     {
         match slot_of(number) {
-            Some(slot) => self.values[SLOTS * processor as usize + slot],
-            None => None,
-        }
-    }
-
-    /// The value of a processor's register, shown or else supplied.
-    pub fn value(&self, supplied: &Supplied, processor: u32, number: u32) -> Option<u64>
-        requires { processor < 16 }
-        ensures { result ≡ values_of supplied.now self.now processor number }
-    {
-        match self.shown(processor, number) {
-            Some(value) => Some(value),
-            None => supplied.value(number),
+            Some(slot) => self.held(processor, slot),
+            None => Slot::blank(),
         }
     }
 
@@ -159,65 +206,85 @@ impl LogReader {
         self.processors
     }
 
-    /// The address width, shown or else supplied.
-    pub fn width(&self, supplied: &Supplied) -> Option<u8>
-        ensures { result ≡ width_of supplied.now self.now }
+    /// The address width that lines show.
+    pub(crate) fn shown_width(&self) -> Option<u8>
+        ensures { result ≡ self.now.width }
     {
-        match self.width {
-            Some(width) => Some(width),
-            None => supplied.width,
+        self.width
+    }
+
+    pub(crate) fn tally(&self) -> Tally
+        ensures { result ≡ self.now.tally }
+    {
+        self.tally
+    }
+
+    // What else gives other bits than a reading.
+    fn rival(&self, supplied: &Supplied, reading: &Reading) -> Option<Rival>
+        requires { reading.now.processor < 16 }
+        ensures { (seen : Seen) → HasTaken self.now seen → result ≡ rival supplied.now seen.readings reading.now }
+    {
+        if bits_differ(supplied.value(reading.number), reading.bits, reading.value) {
+            return Some(Rival::Word);
         }
-    }
-
-    fn contradicts(&self, supplied: &Supplied, reading: Reading) -> bool
-        requires { reading.processor < 16 }
-        ensures { (seen : Seen) → HasTaken self.now seen → result ≡ contradicts supplied.now seen.readings reading }
-    {
-        let value = reading.value;
-        differs(supplied.value(reading.number), value)
-            || differs(self.shown(reading.processor, reading.number), value)
-            || (reading.number == CAPABILITIES && differs(self.capabilities, value))
-    }
-
-    fn reading_fault(&self, supplied: &Supplied, reading: Reading) -> Option<ImportFault>
-        requires { slot_of reading.number ≡ None → ⊥ }
-        ensures sound { result ≡ None → (reading.processor < 16) × (reading.number ≡ 0xfe → low_byte reading.value ≤ 32) }
-        ensures short { IfSome result IsShort }
-        ensures fault { (seen : Seen) → HasTaken self.now seen → result ≡ reading_fault supplied.now seen.readings reading }
-    {
-        if reading.processor >= MOST_PROCESSORS {
-            Some(ImportFault::BadProcessor(reading.place))
-        } else if reading.number == CAPABILITIES && reading.value % 256 > MAX_PAIRS as u64 {
-            Some(ImportFault::TooManyPairs(reading.place))
-        } else if self.contradicts(supplied, reading) {
-            Some(ImportFault::Contradiction(reading.place, reading.number))
+        let slot = self.slot(reading.processor, reading.number);
+        if slot.clashes(reading) {
+            Some(Rival::Line(slot.line))
+        } else if reading.number == CAPABILITIES && self.capabilities.clashes(reading) {
+            Some(Rival::Line(self.capabilities.line))
         } else {
             None
         }
     }
 
+    // The low byte of the capability register of a reading's processor behind the reading.
+    fn pairs_after(&self, reading: &Reading) -> u64
+        requires { reading.now.processor < 16 }
+        ensures { (seen : Seen) → HasTaken self.now seen → result ≡ low_byte (bit_or (slot_shown seen.readings reading.now.processor 0xfe).value reading.now.value) }
+    {
+        (self.slot(reading.processor, CAPABILITIES).value | reading.value) % 256
+    }
+
+    fn reading_fault(&self, supplied: &Supplied, reading: &Reading) -> Option<ImportFault>
+        requires { slot_of reading.now.number ≡ None → ⊥ }
+        ensures sound { result ≡ None → (reading.now.processor < 16) × ((seen : Seen) → HasTaken self.now seen → reading.now.number ≡ 0xfe
+            → low_byte (bit_or (slot_shown seen.readings reading.now.processor 0xfe).value reading.now.value) ≤ 32) }
+        ensures short { IfSome result IsShort }
+        ensures fault { (seen : Seen) → HasTaken self.now seen → result ≡ reading_fault supplied.now seen.readings reading.now }
+    {
+        if reading.processor >= MOST_PROCESSORS {
+            Some(ImportFault::BadProcessor(reading.place))
+        } else if reading.number == CAPABILITIES && self.pairs_after(reading) > MAX_PAIRS as u64 {
+            Some(ImportFault::TooManyPairs(reading.place))
+        } else {
+            contradiction(reading, self.rival(supplied, reading))
+        }
+    }
+
     // Keeps a reading that has no fault.
-    fn keep(&mut self, reading: Reading)
-        requires processor { reading.processor < 16 }
-        requires pairs { reading.number ≡ 0xfe → low_byte reading.value ≤ 32 }
-        requires register { slot_of reading.number ≡ None → ⊥ }
-        ensures taken { (seen : Seen) → HasTaken self.old seen → HasTaken self.new (seen_with seen (is_register_value reading)) }
+    fn keep(&mut self, reading: &Reading)
+        requires processor { reading.now.processor < 16 }
+        requires register { slot_of reading.now.number ≡ None → ⊥ }
+        ensures taken { (seen : Seen) → HasTaken self.old seen
+            → (reading.now.number ≡ 0xfe → low_byte (bit_or (slot_shown seen.readings reading.now.processor 0xfe).value reading.now.value) ≤ 32)
+            → HasTaken self.new (seen_with seen (is_register_value reading.now)) }
         ensures context { self.new.context ≡ self.old.context }
     {
         let Some(slot) = slot_of(reading.number) else {
             unreachable!()
         };
-        self.values[SLOTS * reading.processor as usize + slot] = Some(reading.value);
+        let next = self.held(reading.processor, slot).with(reading);
+        self.slots[SLOTS * reading.processor as usize + slot] = next;
         self.capabilities = capabilities_after(reading, self.capabilities);
         self.processors = greater(reading.processor + 1, self.processors);
     }
 
     // Takes a reading. At `Err` the reader is unchanged.
-    fn take_reading(&mut self, supplied: &Supplied, reading: Reading) -> Result<(), ImportFault>
-        requires register { slot_of reading.number ≡ None → ⊥ }
+    fn take_reading(&mut self, supplied: &Supplied, reading: &Reading) -> Result<(), ImportFault>
+        requires register { slot_of reading.now.number ≡ None → ⊥ }
         ensures taken { (seen : Seen) → HasTaken self.old seen → MatchResult result
-            (λ _. HasTaken self.new (seen_with seen (is_register_value reading)) × (reading_fault supplied.now seen.readings reading ≡ None))
-            (λ fault. reading_fault supplied.now seen.readings reading ≡ Some fault) }
+            (λ _. HasTaken self.new (seen_with seen (is_register_value reading.now)) × (reading_fault supplied.now seen.readings reading.now ≡ None))
+            (λ fault. reading_fault supplied.now seen.readings reading.now ≡ Some fault) }
         ensures context { self.new.context ≡ self.old.context }
         ensures short { IfErr result IsShort }
     {
@@ -230,47 +297,49 @@ impl LogReader {
         }
     }
 
-    // Takes a register's value, where some dump has the register.
+    // Takes bits of a register, where some dump has the register.
     fn take_shown(
         &mut self,
         supplied: &Supplied,
         processor: u32,
+        table: u64,
         shown: Shown,
     ) -> Result<(), ImportFault>
         ensures taken { (seen : Seen) → HasTaken self.old seen → MatchResult result
-            (λ _. HasTaken self.new (seen_after seen (reading_facts processor shown)) × (facts_fault supplied.now seen (reading_facts processor shown) ≡ None))
-            (λ fault. facts_fault supplied.now seen (reading_facts processor shown) ≡ Some fault) }
+            (λ _. HasTaken self.new (seen_after seen (reading_facts processor table shown)) × (facts_fault supplied.now seen (reading_facts processor table shown) ≡ None))
+            (λ fault. facts_fault supplied.now seen (reading_facts processor table shown) ≡ Some fault) }
         ensures context { self.new.context ≡ self.old.context }
         ensures short { IfErr result IsShort }
     {
         if !is_register(shown.number as u64) {
             return Ok(());
         }
-        self.take_reading(
-            supplied,
-            Reading {
-                processor,
-                number: shown.number,
-                value: shown.value,
-                place: shown.place,
-            },
-        )
+        let reading = Reading {
+            processor,
+            table,
+            number: shown.number,
+            bits: shown.bits,
+            value: shown.value,
+            place: shown.place,
+        };
+        self.take_reading(supplied, &reading)
     }
 
     fn take_one(
         &mut self,
         supplied: &Supplied,
         processor: u32,
+        table: u64,
         shown: Option<Shown>,
     ) -> Result<(), ImportFault>
         ensures taken { (seen : Seen) → HasTaken self.old seen → MatchResult result
-            (λ _. HasTaken self.new (seen_after seen (shown_facts processor shown)) × (facts_fault supplied.now seen (shown_facts processor shown) ≡ None))
-            (λ fault. facts_fault supplied.now seen (shown_facts processor shown) ≡ Some fault) }
+            (λ _. HasTaken self.new (seen_after seen (shown_facts processor table shown)) × (facts_fault supplied.now seen (shown_facts processor table shown) ≡ None))
+            (λ fault. facts_fault supplied.now seen (shown_facts processor table shown) ≡ Some fault) }
         ensures context { self.new.context ≡ self.old.context }
         ensures short { IfErr result IsShort }
     {
         match shown {
-            Some(shown) => self.take_shown(supplied, processor, shown),
+            Some(shown) => self.take_shown(supplied, processor, table, shown),
             None => Ok(()),
         }
     }
@@ -280,16 +349,17 @@ impl LogReader {
         &mut self,
         supplied: &Supplied,
         processor: u32,
+        table: u64,
         shows: &Shows,
     ) -> Result<(), ImportFault>
         ensures taken { (seen : Seen) → HasTaken self.old seen → MatchResult result
-            (λ _. HasTaken self.new (seen_after seen (shows_facts processor shows.now)) × (facts_fault supplied.now seen (shows_facts processor shows.now) ≡ None))
-            (λ fault. facts_fault supplied.now seen (shows_facts processor shows.now) ≡ Some fault) }
+            (λ _. HasTaken self.new (seen_after seen (shows_facts processor table shows.now)) × (facts_fault supplied.now seen (shows_facts processor table shows.now) ≡ None))
+            (λ fault. facts_fault supplied.now seen (shows_facts processor table shows.now) ≡ Some fault) }
         ensures context { self.new.context ≡ self.old.context }
         ensures short { IfErr result IsShort }
     {
         'shows: for i in 0..MOST_SHOWN {
-            if let Err(fault) = self.take_one(supplied, processor, shown_at(shows, i)) {
+            if let Err(fault) = self.take_one(supplied, processor, table, shown_at(shows, i)) {
                 return Err(fault);
             }
         }
@@ -319,86 +389,130 @@ impl LogReader {
         Ok(())
     }
 
-    // Takes a line of a kernel's table.
-    fn take_row(&mut self, supplied: &Supplied, line: &TableLine) -> Result<(), ImportFault>
-        ensures taken { (seen : Seen) → HasTaken self.old seen → MatchResult result
-            (λ _. HasTaken self.new (seen_after seen (facts_of self.old.context (InTable line.now))) × (facts_fault supplied.now seen (facts_of self.old.context (InTable line.now)) ≡ None))
-            (λ fault. facts_fault supplied.now seen (facts_of self.old.context (InTable line.now)) ≡ Some fault) }
+    // Takes a value alone, where a register was announced.
+    fn take_value(
+        &mut self,
+        supplied: &Supplied,
+        value: u64,
+        place: Place,
+    ) -> Result<(), ImportFault>
+        ensures taken { (seen : Seen) → HasTaken self.old seen → let facts = value_facts self.old.context.announced self.old.context.table value place in MatchResult result
+            (λ _. HasTaken self.new (seen_after seen facts) × (facts_fault supplied.now seen facts ≡ None))
+            (λ fault. facts_fault supplied.now seen facts ≡ Some fault) }
         ensures context { self.new.context ≡ self.old.context }
         ensures short { IfErr result IsShort }
     {
-        if let Some(fault) = row_fault(supplied, &self.context.table, line) {
-            return Err(fault);
+        match self.context.announced {
+            Some(announced) => {
+                let shown = shown_as(announced.number, value, place);
+                let table = self.context.table;
+                self.take_one(supplied, announced.processor, table, shown)
+            }
+            None => Ok(()),
         }
-        let shows = table_shows(&self.context.table, line);
-        self.take_shows(supplied, 0, &shows)
+    }
+
+    // Takes a line on fixed ranges.
+    fn take_fixed(
+        &mut self,
+        supplied: &Supplied,
+        is_enabled: bool,
+        is_alone: bool,
+        place: Place,
+    ) -> Result<(), ImportFault>
+        ensures taken { (seen : Seen) → HasTaken self.old seen → let facts = fixed_facts self.old.context is_enabled is_alone place in MatchResult result
+            (λ _. HasTaken self.new (seen_after seen facts) × (facts_fault supplied.now seen facts ≡ None))
+            (λ fault. facts_fault supplied.now seen facts ≡ Some fault) }
+        ensures context { self.new.context ≡ self.old.context }
+        ensures short { IfErr result IsShort }
+    {
+        if is_fixed_clash(self.context.fixed, is_enabled) {
+            let rival = Rival::Line(fixed_line(self.context.fixed));
+            return Err(ImportFault::Contradiction(place, DEFAULT_TYPE, rival));
+        }
+        let table = self.context.table;
+        self.take_shows(
+            supplied,
+            0,
+            table,
+            &fixed_shows(is_enabled, is_alone, place),
+        )
     }
 
     // Takes what a line says.
     fn take_said(&mut self, supplied: &Supplied, said: &Said) -> Result<(), ImportFault>
         ensures taken { (seen : Seen) → HasTaken self.old seen → MatchResult result
-            (λ _. HasTaken self.new (seen_after seen (facts_of self.old.context said.now)) × (facts_fault supplied.now seen (facts_of self.old.context said.now) ≡ None))
-            (λ fault. facts_fault supplied.now seen (facts_of self.old.context said.now) ≡ Some fault) }
+            (λ _. HasTaken self.new (seen_after seen (said_facts self.old.context said.now)) × (facts_fault supplied.now seen (said_facts self.old.context said.now) ≡ None))
+            (λ fault. facts_fault supplied.now seen (said_facts self.old.context said.now) ≡ Some fault) }
         ensures context { self.new.context ≡ self.old.context }
         ensures short { IfErr result IsShort }
     {
+        let table = self.context.table;
         match said {
-            Said::Value(value, place) => match self.context.announced {
-                Some((processor, number)) => self.take_shown(
-                    supplied,
-                    processor,
-                    Shown {
-                        number,
-                        value: *value,
-                        place: *place,
-                    },
-                ),
-                None => Ok(()),
-            },
+            Said::Value(value, place) => self.take_value(supplied, *value, *place),
             Said::Shows(processor, shows) => {
-                self.take_shows(supplied, processor.unwrap_or(self.context.processor), shows)
+                let processor = processor.unwrap_or(self.context.processor);
+                self.take_shows(supplied, processor, table, shows)
             }
-            Said::InTable(line) => self.take_row(supplied, line),
+            Said::Begins(shows) => self.take_shows(supplied, 0, count_on(table), shows),
+            Said::FixedRanges(is_enabled, is_alone, place) => {
+                self.take_fixed(supplied, *is_enabled, *is_alone, *place)
+            }
+            Said::VariableRanges(is_enabled, place) => {
+                let shows = self.context.variable_shows(*is_enabled, *place);
+                self.take_shows(supplied, 0, table, &shows)
+            }
             Said::Width(width, place) => self.take_width(supplied, *width, *place),
-            Said::Clash(place, number) if is_register(*number as u64) => {
-                Err(ImportFault::Contradiction(*place, *number))
+            Said::Warns => {
+                self.tally.warned = true;
+                Ok(())
             }
             Said::Long(place) => Err(ImportFault::LongLine(*place)),
-            _ => Ok(()),
+            Said::Nothing | Said::Announces(..) | Said::Turns(_) => Ok(()),
         }
     }
 
+    // Counts a line.
+    fn count_line(&mut self, number: u64, format: Option<Format>, matches: bool)
+        ensures taken { (seen : Seen) → HasTaken self.old seen → HasTaken self.new (seen_with seen (is_line number format matches)) }
+        ensures context { self.new.context ≡ self.old.context }
+    {
+        self.tally = Tally {
+            format,
+            lines: number,
+            matches: one_if(matches, self.tally.matches),
+            warned: self.tally.warned,
+        };
+    }
+
     /// Takes one line.
-    pub fn take(
-        &mut self,
-        format: Format,
-        supplied: &Supplied,
-        line: &Line<'_>,
-    ) -> Result<(), ImportFault>
+    pub fn take(&mut self, supplied: &Supplied, line: &Line<'_>) -> Result<(), ImportFault>
         ensures taken { (seen : Seen) → HasTaken self.old seen →
-            let facts = facts_of self.old.context (said_of format line.now.number line.now.bytes.now) in MatchResult result
+            let facts = facts_of_line self.old.context line.now.number line.now.bytes.now in MatchResult result
             (λ _. HasTaken self.new (seen_after seen facts) × (facts_fault supplied.now seen facts ≡ None))
             (λ fault. facts_fault supplied.now seen facts ≡ Some fault) }
         ensures short { IfErr result IsShort }
-        ensures context { IfOk result (λ _. self.new.context ≡ context_after self.old.context (said_of format line.now.number line.now.bytes.now)) }
+        ensures context { IfOk result (λ _. self.new.context ≡ context_behind self.old.context line.now.number line.now.bytes.now) }
     {
-        let said = format.said_of(line);
+        let format = chosen(self.context.format, line);
+        let said = said_in(format, line);
+        self.count_line(line.number, format, said.is_match());
         self.take_said(supplied, &said)?;
-        self.context = self.context.after(&said);
+        self.context = self.context.after(format, &said);
         Ok(())
     }
 }
 
 // Reads the log through a feed that has taken nothing. Behind a fault the rest is read too.
 fn read_lines<S: Source>(
-    format: Format,
+    choice: Choice,
     supplied: &Supplied,
     feed: &mut Feed,
     source: &mut S,
 ) -> Result<Imported, FeedFault>
     requires { feed.old ≡ at_start }
-    ensures answer { (bytes : List ℕ) → S.left source.old ≡ Some bytes → IfOk result (λ answer. answer ≡ log_told format supplied.now bytes) }
-    ensures written { IfOk result (λ answer. IsWritten answer.1) }
+    ensures answer { (bytes : List ℕ) → S.left source.old ≡ Some bytes → IfOk result (λ answer. answer ≡ log_told choice supplied.now bytes) }
+    ensures written { IfOk result (λ answer. IsWritten answer.status) }
     ensures end { IfOk result (λ _. IsAtEnd (S.left source.new)) }
     ensures fault { MatchResult result (λ _. feed.new.fault ≡ None) (λ fault. feed.new.fault ≡ Some fault) }
     ensures consumed { (taken_now : List ℕ) × Consumes (S.left source.old) (S.left source.new) taken_now × (taken feed.new ≡ length taken_now) }
@@ -408,30 +522,30 @@ fn read_lines<S: Source>(
     ensures stands { (IsErrOf result FeedFault.ReadFault → ⊥) → S.faults source.new ≡ S.faults source.old }
 {
     supplied.is_supplied(); // a fact for the proof
-    let mut reader = LogReader::new();
+    let mut reader = LogReader::new(choice.format());
     'lines: while let Some(line) = feed.line(source)? {
-        if let Err(fault) = reader.take(format, supplied, &line) {
+        if let Err(fault) = reader.take(supplied, &line) {
             feed.drain(source)?;
             return Ok(faulted(&fault));
         }
     }
-    Ok(reader.finish(supplied))
+    Ok(reader.finish(choice.is_auto(), supplied))
 }
 
 /// What a log comes to, line by line out of one buffer. Behind a fault the rest is read too, so that
 /// a failed read and too many bytes come before it.
 pub fn read_log<S: Source>(
-    format: Format,
+    choice: Choice,
     supplied: &Supplied,
     source: &mut S,
 ) -> Result<Imported, FeedFault>
-    ensures answer { (bytes : List ℕ) → S.left source.old ≡ Some bytes → IfOk result (λ answer. answer ≡ log_told format supplied.now bytes) }
-    ensures written { IfOk result (λ answer. IsWritten answer.1) }
+    ensures answer { (bytes : List ℕ) → S.left source.old ≡ Some bytes → IfOk result (λ answer. answer ≡ log_told choice supplied.now bytes) }
+    ensures written { IfOk result (λ answer. IsWritten answer.status) }
     ensures end { (bytes : List ℕ) → S.left source.old ≡ Some bytes → IfOk result (λ _. S.left source.new ≡ Some []) }
     ensures too_long { IsErrOf result FeedFault.TooLong ↔ GaveTooMuch (S.given source.old) (S.given source.new) }
     ensures long { (bytes : List ℕ) → S.left source.old ≡ Some bytes → IsErrOf result FeedFault.TooLong → longest_input < length bytes }
     ensures failed { IsErrOf result FeedFault.ReadFault → Rose (S.faults source.old) (S.faults source.new) }
     ensures stands { (IsErrOf result FeedFault.ReadFault → ⊥) → S.faults source.new ≡ S.faults source.old }
 {
-    read_lines(format, supplied, &mut Feed::new(), source)
+    read_lines(choice, supplied, &mut Feed::new(), source)
 }

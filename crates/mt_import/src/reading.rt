@@ -1,29 +1,21 @@
 ghost use Rattle.std.specs.Prelude.{◌≡◌, true, None};
-ghost use Rattle.mt_import.specs.Readings.{all_registers, announced_after, at_start, context_after, is_register, processor_after, table_behind};
+ghost use Rattle.mt_import.specs.Readings.{all_registers, announced_after, context_after, fixed_after, fixed_bits, fixed_shows, is_match, is_register, one_shown, processor_after, starts, table_behind, two_shown, variable_bits, variable_shows};
 ghost use Rattle.mt_import.specs.Reader.{slot_of};
 
-use crate::pieces::REGISTERS;
-use crate::tabled::table_after;
-use crate::{Table, TableLine};
-use mt_regs::RegFile;
+use crate::Format;
+use crate::pieces::{REGISTERS, count_on, shown_bits};
+use crate::shape::{Announced, FixedLine, Shown};
+use mt_regs::{CAPABILITIES, DEFAULT_TYPE, RegFile};
 use mt_text::Place;
 
-/// A register's value, as a log shows it.
-#[derive(Clone, Copy, Debug, PartialEq, Eq)]
-pub struct Reading {
-    pub processor: u32,
-    pub number: u32,
-    pub value: u64,
-    pub place: Place,
-}
+// FIX of IA32_MTRRCAP.
+const FIXED_RANGES: u64 = 0x100;
 
-/// A register's value, as a line shows it.
-#[derive(Clone, Copy)]
-pub struct Shown {
-    pub number: u32,
-    pub value: u64,
-    pub place: Place,
-}
+// FE of IA32_MTRR_DEF_TYPE.
+const FIXED_ENABLED: u64 = 0x400;
+
+// E of IA32_MTRR_DEF_TYPE.
+const ENABLED: u64 = 0x800;
 
 /// A line shows as many registers as this at most: all fixed-range registers.
 pub const MOST_SHOWN: usize = 11;
@@ -36,20 +28,24 @@ pub type Shows = [Option<Shown>; MOST_SHOWN];
 pub enum Said {
     /// It is of another kind.
     Nothing,
-    /// The next line is to have the value of this processor's register of this number.
-    Announces(u32, u32),
+    /// The next line has the value of this register of this processor, or the next lines have it of each processor in turn.
+    Announces(Option<u32>, u32),
     /// A value and nothing else.
     Value(u64, Place),
     /// The lines behind it are of this processor.
     Turns(u32),
     /// Registers of this processor, or else of the one that the lines are of.
     Shows(Option<u32>, Shows),
+    /// A kernel's table begins, and shows this.
+    Begins(Shows),
+    /// Whether fixed ranges are enabled, and whether the line shows FE whatever E is.
+    FixedRanges(bool, bool, Place),
+    /// Whether E is set.
+    VariableRanges(bool, Place),
     /// The address width, in bits.
     Width(u64, Place),
-    /// It contradicts itself on this register.
-    Clash(Place, u32),
-    /// It stands in a kernel's table of MTRRs.
-    InTable(TableLine),
+    /// The kernel found that the processors' MTRRs differ.
+    Warns,
     /// It has more than 4,096 bytes.
     Long(Place),
 }
@@ -57,20 +53,88 @@ pub enum Said {
 /// What the lines before a line lead to.
 #[derive(Clone, Copy)]
 pub struct Context {
-    /// The processor and the register whose value the line just before announces.
-    pub announced: Option<(u32, u32)>,
+    /// The format, if it is known.
+    pub format: Option<Format>,
+    /// The register whose value the line just before announces.
+    pub announced: Option<Announced>,
     /// The processor that the lines are of.
     pub processor: u32,
-    /// What the lines of a kernel's table of MTRRs show.
-    pub table: Table,
+    /// How many kernel's tables have begun.
+    pub table: u64,
+    /// The last line on fixed ranges.
+    pub fixed: Option<FixedLine>,
+}
+
+/// Two registers, where they are some.
+pub(crate) fn two_shown(a: Option<Shown>, b: Option<Shown>) -> Shows
+    ensures { result ≡ two_shown a b }
+{
+    [a, b, None, None, None, None, None, None, None, None, None]
+}
+
+pub(crate) fn one_shown(a: Option<Shown>) -> Shows
+    ensures { result ≡ one_shown a }
+{
+    two_shown(a, None)
+}
+
+// The bits of IA32_MTRR_DEF_TYPE that a line on fixed ranges shows.
+fn fixed_bits(is_enabled: bool, is_alone: bool) -> u64
+    ensures { result ≡ fixed_bits is_enabled is_alone }
+{
+    if is_enabled || is_alone {
+        FIXED_ENABLED
+    } else {
+        0
+    }
+}
+
+pub(crate) fn fixed_shows(is_enabled: bool, is_alone: bool, place: Place) -> Shows
+    ensures { result ≡ fixed_shows is_enabled is_alone place }
+{
+    let bits = fixed_bits(is_enabled, is_alone);
+    let value = if is_enabled { bits } else { 0 };
+    two_shown(
+        shown_bits(DEFAULT_TYPE, bits, value, place),
+        shown_bits(CAPABILITIES, FIXED_RANGES, FIXED_RANGES, place),
+    )
 }
 
 impl Said {
-    fn announced(&self) -> Option<(u32, u32)>
-        ensures { result ≡ announced_after self.now }
+    /// Whether the line is of the format.
+    pub(crate) fn is_match(&self) -> bool
+        ensures { result ≡ is_match self.now }
     {
         match self {
-            Said::Announces(processor, number) => Some((*processor, *number)),
+            Said::Nothing => false,
+            _ => true,
+        }
+    }
+
+    fn announced(&self, before: Option<Announced>) -> Option<Announced>
+        ensures { result ≡ announced_after self.now before }
+    {
+        match self {
+            Said::Announces(Some(processor), number) => Some(Announced {
+                processor: *processor,
+                number: *number,
+                goes_on: false,
+            }),
+            Said::Announces(None, number) => Some(Announced {
+                processor: 0,
+                number: *number,
+                goes_on: true,
+            }),
+            Said::Value(_, _) => match before {
+                Some(announced) if announced.goes_on && announced.processor < 65_535 => {
+                    Some(Announced {
+                        processor: announced.processor + 1,
+                        number: announced.number,
+                        goes_on: true,
+                    })
+                }
+                _ => None,
+            },
             _ => None,
         }
     }
@@ -84,37 +148,74 @@ impl Said {
         }
     }
 
-    fn table_behind(&self, before: &Table) -> Table
-        ensures { result ≡ table_behind self.now before.now }
+    fn table_behind(&self, before: u64) -> u64
+        ensures { result ≡ table_behind self.now before }
     {
         match self {
-            Said::InTable(line) => table_after(before, line),
-            _ => *before,
+            Said::Begins(_) => count_on(before),
+            _ => before,
+        }
+    }
+
+    fn fixed_behind(&self, table: u64, before: Option<FixedLine>) -> Option<FixedLine>
+        ensures { result ≡ fixed_after self.now table before }
+    {
+        match self {
+            Said::FixedRanges(is_enabled, _, place) => Some(FixedLine {
+                is_enabled: *is_enabled,
+                table,
+                line: place.line,
+            }),
+            _ => before,
         }
     }
 }
 
 impl Context {
-    /// Before all lines.
-    pub fn at_start() -> Context
-        ensures { result ≡ at_start }
+    /// Before all lines of a log, whose format may be known.
+    pub fn starts(format: Option<Format>) -> Context
+        ensures { result ≡ starts format }
     {
         Context {
+            format,
             announced: None,
             processor: 0,
-            table: Table::of(None),
+            table: 0,
+            fixed: None,
         }
     }
 
     /// What a line leads to, behind lines that lead to this.
-    pub fn after(&self, said: &Said) -> Context
-        ensures { result ≡ context_after self.now said.now }
+    pub fn after(&self, format: Option<Format>, said: &Said) -> Context
+        ensures { result ≡ context_after self.now format said.now }
     {
         Context {
-            announced: said.announced(),
+            format,
+            announced: said.announced(self.announced),
             processor: said.processor_or(self.processor),
-            table: said.table_behind(&self.table),
+            table: said.table_behind(self.table),
+            fixed: said.fixed_behind(self.table, self.fixed),
         }
+    }
+
+    // The bits of IA32_MTRR_DEF_TYPE that a line on variable ranges shows.
+    fn variable_bits(&self, is_enabled: bool) -> u64
+        ensures { result ≡ variable_bits self.now is_enabled }
+    {
+        match self.fixed {
+            Some(line) if is_enabled && !line.is_enabled && line.table == self.table => {
+                FIXED_ENABLED + ENABLED
+            }
+            _ => ENABLED,
+        }
+    }
+
+    /// What a line on variable ranges shows.
+    pub(crate) fn variable_shows(&self, is_enabled: bool, place: Place) -> Shows
+        ensures { result ≡ variable_shows self.now is_enabled place }
+    {
+        let value = if is_enabled { ENABLED } else { 0 };
+        one_shown(shown_bits(DEFAULT_TYPE, self.variable_bits(is_enabled), value, place))
     }
 }
 

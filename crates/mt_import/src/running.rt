@@ -1,19 +1,82 @@
-ghost use Rattle.std.specs.Prelude.{◌≡◌, ◌↔◌, ℕ, List, Some, None, IsSome, map, string_bytes};
-ghost use Rattle.mt_ports.specs.Causes.{StatusHasCause};
+ghost use Rattle.std.specs.Prelude.{◌≡◌, ◌≤◌, ◌↔◌, ℕ, ◌<◌, List, Some, None, IfOk, IsErrOf, IsSome, length, map, string_bytes};
+ghost use Rattle.mt_text.specs.Text.{longest_input};
+ghost use Rattle.mt_text.specs.declared.fault.FeedFault.{FeedFault};
+ghost use Rattle.mt_ports.specs.Causes.{Rose, StatusHasCause};
 ghost use Rattle.mt_text.specs.Feed.{GaveTooMuch};
 ghost use Rattle.mt_import.specs.Help.{own_text};
 ghost use Rattle.mt_import.specs.Supplied.{command_of};
-ghost use Rattle.mt_import.specs.Import.{Imports};
+ghost use Rattle.mt_import.specs.Import.{HaveCause, Imports, ImportsApart, IsWritten, left_of, own_told, told_of, usage_told};
 
 use crate::help::own_text;
+use crate::text::Imported;
+use crate::writing::{written_apart, written_in_one};
 use crate::{command_of, read_log};
-use mt_output::written;
+use arrayvec::ArrayVec;
+use mt_dump::append_text;
 use mt_ports::{Sink, Source, Status};
 use mt_text::FeedFault;
 
-/// Does all that the program does, and answers its status. The words are the command line without
-/// the program's name: a format, and what is supplied, or `--help` or `--version` alone. A log is read to its end, unless the source
-/// fails or gives more than 16,777,216 bytes; then nothing is written.
+fn own_told(text: &[u8]) -> Imported
+    requires { length text.now ≤ 0x8000 }
+    ensures { result ≡ own_told text.now }
+{
+    let mut dump = ArrayVec::new();
+    append_text(&mut dump, text);
+    Imported {
+        notes: ArrayVec::new(),
+        dump,
+        reasons: ArrayVec::new(),
+        status: Status::Done,
+    }
+}
+
+fn usage_told() -> Imported
+    ensures { result ≡ usage_told }
+{
+    let mut reasons = ArrayVec::new();
+    append_text(&mut reasons, b"usage\n");
+    Imported {
+        notes: ArrayVec::new(),
+        dump: ArrayVec::new(),
+        reasons,
+        status: Status::Usage,
+    }
+}
+
+// What the words and the source come to.
+fn imported<S: Source>(words: &[String], source: &mut S) -> Result<Imported, FeedFault>
+    ensures answer { (bytes : List ℕ) → S.left source.old ≡ Some bytes → IfOk result (λ answer. answer ≡ told_of (map string_bytes words.now) bytes) }
+    ensures end { (bytes : List ℕ) → S.left source.old ≡ Some bytes → IfOk result (λ _. S.left source.new ≡ Some (left_of (map string_bytes words.now) bytes)) }
+    ensures written { IfOk result (λ answer. IsWritten answer.status) }
+    ensures unread { command_of (map string_bytes words.now) ≡ None → source.new ≡ source.old }
+    ensures own { IsSome (own_text (map string_bytes words.now)) → source.new ≡ source.old }
+    ensures too_long { IsErrOf result FeedFault.TooLong ↔ GaveTooMuch (S.given source.old) (S.given source.new) }
+    ensures long { (bytes : List ℕ) → S.left source.old ≡ Some bytes → IsErrOf result FeedFault.TooLong → longest_input < length bytes }
+    ensures failed { IsErrOf result FeedFault.ReadFault → Rose (S.faults source.old) (S.faults source.new) }
+    ensures stands { (IsErrOf result FeedFault.ReadFault → ⊥) → S.faults source.new ≡ S.faults source.old }
+{
+    if let Some(text) = own_text(words) {
+        return Ok(own_told(text));
+    }
+    match command_of(words) {
+        Some((choice, supplied)) => read_log(choice, &supplied, source),
+        None => Ok(usage_told()),
+    }
+}
+
+fn status_of(fault: FeedFault) -> Status
+    ensures read { (result ≡ Status.ReadFault) ↔ (fault ≡ FeedFault.ReadFault) }
+    ensures long { (result ≡ Status.TooLong) ↔ (fault ≡ FeedFault.TooLong) }
+{
+    match fault {
+        FeedFault::ReadFault => Status::ReadFault,
+        FeedFault::TooLong => Status::TooLong,
+    }
+}
+
+/// Does all that the program does over one sink, which takes the dump, or else the reasons, and returns its status. The words are
+/// the command line without the program's name: a format, and what is supplied or may be assumed, or `--help` or `--version` alone.
+/// A log is read to its end, unless the source fails or gives more than 16,777,216 bytes; then nothing is written.
 pub fn import<S: Source, K: Sink>(words: &[String], source: &mut S, sink: &mut K) -> Status
     ensures imports { (bytes : List ℕ) → S.left source.old ≡ Some bytes →
         Imports (map string_bytes words.now) bytes (S.left source.new) (K.taken sink.old) (K.taken sink.new) result }
@@ -27,15 +90,31 @@ pub fn import<S: Source, K: Sink>(words: &[String], source: &mut S, sink: &mut K
     ensures write_fault { StatusHasCause Status.WriteFault (K.faults sink.old) (K.faults sink.new) result }
     ensures too_long { (result ≡ Status.TooLong) ↔ GaveTooMuch (S.given source.old) (S.given source.new) }
 {
-    if let Some(text) = own_text(words) {
-        return written(sink, text, Status::Done);
+    match imported(words, source) {
+        Ok(imported) => written_in_one(sink, &imported),
+        Err(fault) => status_of(fault),
     }
-    let Some((format, supplied)) = command_of(words) else {
-        return written(sink, b"usage\n", Status::Usage);
-    };
-    match read_log(format, &supplied, source) {
-        Ok(imported) => written(sink, imported.text.as_slice(), imported.status),
-        Err(FeedFault::ReadFault) => Status::ReadFault,
-        Err(FeedFault::TooLong) => Status::TooLong,
+}
+
+/// The same over two sinks: one takes the dump, the other, as standard error, takes the reasons. At the statuses 1, 2 and 3
+/// nothing is written to the first.
+pub fn import_apart<S: Source, K: Sink, E: Sink>(
+    words: &[String],
+    source: &mut S,
+    sink: &mut K,
+    errors: &mut E,
+) -> Status
+    ensures imports { (bytes : List ℕ) → S.left source.old ≡ Some bytes →
+        ImportsApart (map string_bytes words.now) bytes (S.left source.new)
+        (record { old = K.taken sink.old; new = K.taken sink.new }) (record { old = E.taken errors.old; new = E.taken errors.new }) result }
+    ensures unread { command_of (map string_bytes words.now) ≡ None → source.new ≡ source.old }
+    ensures own { IsSome (own_text (map string_bytes words.now)) → source.new ≡ source.old }
+    ensures read_fault { StatusHasCause Status.ReadFault (S.faults source.old) (S.faults source.new) result }
+    ensures write_fault { HaveCause (K.faults sink.old, K.faults sink.new) (E.faults errors.old, E.faults errors.new) result }
+    ensures too_long { (result ≡ Status.TooLong) ↔ GaveTooMuch (S.given source.old) (S.given source.new) }
+{
+    match imported(words, source) {
+        Ok(imported) => written_apart(sink, errors, &imported),
+        Err(fault) => status_of(fault),
     }
 }

@@ -1,11 +1,12 @@
-ghost use Rattle.std.specs.Prelude.{◌≡◌, ◌≤◌, ◌+◌, ◌<◌, length, map, string_bytes, position, IfSome, Some, None, true, false};
+ghost use Rattle.std.specs.Prelude.{◌≡◌, ◌≤◌, ◌+◌, ◌<◌, codes, length, map, string_bytes, position, IfSome, Some, None, true, false};
 ghost use Rattle.mt_regs.specs.RegisterFile.{low_byte};
 ghost use Rattle.mt_text.specs.Number.{decimal_number, hex_number};
-ghost use Rattle.mt_import.specs.Supplied.{AreGiven, IsSupplied, command_of, command_with, format_named, given_at, given_by, given_of, given_register, given_width, is_equals, nothing_supplied, supplied_value, value_among, with_given, with_word, with_words};
+ghost use Rattle.mt_import.specs.Pieces.{behind};
+ghost use Rattle.mt_import.specs.Supplied.{AreGiven, IsSupplied, all_assumed, are_both, assumed_too, assumption_named, command_of, command_with, format_named, given_assumption, given_at, given_by, given_of, given_register, given_unless, given_width, is_equals, nothing_assumed, nothing_supplied, supplied_value, value_among, with_given, with_word, with_words};
 
-use crate::Format;
 use crate::pieces::{behind, is_text};
 use crate::reading::is_register;
+use crate::{Choice, Format};
 use arrayvec::ArrayVec;
 use mt_regs::{CAPABILITIES, MAX_PAIRS};
 use mt_text::{decimal, hex64};
@@ -15,14 +16,30 @@ const LEAST_WIDTH: u64 = 32;
 
 const GREATEST_WIDTH: u64 = 52;
 
-// The width and 78 registers.
-const MOST_WORDS: usize = 79;
+// The width, 78 registers and five assumptions.
+const MOST_WORDS: usize = 84;
+
+/// What may be assumed where neither a line nor a word says it. docs/IMPORT.md has each in words.
+#[derive(Clone, Copy, Debug, PartialEq, Eq)]
+pub struct Assumed {
+    /// The PAT has its value of power-up.
+    pub pat: bool,
+    /// A pair that no line shows is 0.
+    pub pairs: bool,
+    /// A PhysMask of which a size is shown has ones up to the width.
+    pub masks: bool,
+    /// The width is that of the widest mask.
+    pub width: bool,
+    /// A kernel's table shows each pair, and its processor has write-combining.
+    pub capabilities: bool,
+}
 
 /// What one word supplies.
-#[derive(Clone, Copy, Debug, PartialEq, Eq)]
+#[derive(Clone, Copy)]
 pub enum Given {
     Width(u8),
     Register(u32, u64),
+    Assume(Assumed),
 }
 
 /// What the words of the command line supply.
@@ -30,7 +47,8 @@ pub enum Given {
 pub struct Supplied {
     pub width: Option<u8>,
     /// Each register's number and value.
-    pub registers: ArrayVec<(u32, u64), 79>,
+    pub registers: ArrayVec<(u32, u64), 84>,
+    pub assumed: Assumed,
 }
 
 impl Model for Supplied {
@@ -38,9 +56,9 @@ impl Model for Supplied {
 
     ghost Value = { Words };
 
-    ghost view = { λ s. record { width = s.width; registers = s.registers.items } };
+    ghost view = { λ s. record { width = s.width; registers = s.registers.items; assumed = s.assumed } };
 
-    ghost invariant = { λ s. IsSupplied (record { width = s.width; registers = s.registers.items }) };
+    ghost invariant = { λ s. IsSupplied (record { width = s.width; registers = s.registers.items; assumed = s.assumed }) };
 }
 
 fn value_among(number: u32, registers: &[(u32, u64)]) -> Option<u64>
@@ -97,35 +115,130 @@ fn given_at(word: &[u8]) -> Option<Given>
     }
 }
 
+fn assumption_named(name: &[u8]) -> Option<Assumed>
+    ensures { result ≡ assumption_named name.now }
+{
+    let mut assumed = Assumed::nothing();
+    if is_text(b"pat", name) {
+        assumed.pat = true;
+    } else if is_text(b"pairs", name) {
+        assumed.pairs = true;
+    } else if is_text(b"masks", name) {
+        assumed.masks = true;
+    } else if is_text(b"width", name) {
+        assumed.width = true;
+    } else if is_text(b"capabilities", name) {
+        assumed.capabilities = true;
+    } else if is_text(b"all", name) {
+        assumed = Assumed::all();
+    } else {
+        return None;
+    }
+    Some(assumed)
+}
+
+fn given_assumption(name: &[u8]) -> Option<Given>
+    ensures given { result ≡ given_assumption (assumption_named name.now) }
+    ensures sound { IfSome result AreGiven }
+{
+    match assumption_named(name) {
+        Some(assumed) => Some(Given::Assume(assumed)),
+        None => None,
+    }
+}
+
+fn given_unless(word: &[u8]) -> Option<Given>
+    ensures given { result ≡ given_unless word.now (behind (codes "assume=") word.now) }
+    ensures sound { IfSome result AreGiven }
+{
+    match behind(b"assume=", word) {
+        Some(name) => given_assumption(name),
+        None => given_at(word),
+    }
+}
+
 fn given_of(word: &[u8]) -> Option<Given>
     ensures given { result ≡ given_of word.now }
     ensures sound { IfSome result AreGiven }
 {
     match behind(b"maxphyaddr=", word) {
         Some(digits) => given_width(digits),
-        None => given_at(word),
+        None => given_unless(word),
     }
 }
 
-fn format_named(word: &[u8]) -> Option<Format>
+fn format_named(word: &[u8]) -> Option<Choice>
     ensures { result ≡ format_named word.now }
 {
-    if is_text(b"rdmsr", word) {
-        Some(Format::Rdmsr)
+    let format = if is_text(b"auto", word) {
+        return Some(Choice::Auto);
+    } else if is_text(b"rdmsr", word) {
+        Format::Rdmsr
     } else if is_text(b"x86info", word) {
-        Some(Format::X86info)
+        Format::X86info
     } else if is_text(b"inteltool", word) {
-        Some(Format::Inteltool)
+        Format::Inteltool
     } else if is_text(b"coreboot", word) {
-        Some(Format::Coreboot)
+        Format::Coreboot
     } else if is_text(b"edk2", word) {
-        Some(Format::Edk2)
+        Format::Edk2
     } else if is_text(b"linux", word) {
-        Some(Format::Linux)
+        Format::Linux
     } else if is_text(b"xen", word) {
-        Some(Format::Xen)
+        Format::Xen
     } else {
-        None
+        return None;
+    };
+    Some(Choice::Only(format))
+}
+
+impl Assumed {
+    fn nothing() -> Assumed
+        ensures { result ≡ nothing_assumed }
+    {
+        Assumed {
+            pat: false,
+            pairs: false,
+            masks: false,
+            width: false,
+            capabilities: false,
+        }
+    }
+
+    /// All of it.
+    pub(crate) fn all() -> Assumed
+        ensures { result ≡ all_assumed }
+    {
+        Assumed {
+            pat: true,
+            pairs: true,
+            masks: true,
+            width: true,
+            capabilities: true,
+        }
+    }
+
+    // Whether both have the same assumption.
+    fn meets(&self, other: &Assumed) -> bool
+        ensures { result ≡ are_both self.now other.now }
+    {
+        (self.pat && other.pat)
+            || (self.pairs && other.pairs)
+            || (self.masks && other.masks)
+            || (self.width && other.width)
+            || (self.capabilities && other.capabilities)
+    }
+
+    fn and(&self, other: &Assumed) -> Assumed
+        ensures { result ≡ assumed_too self.now other.now }
+    {
+        Assumed {
+            pat: self.pat || other.pat,
+            pairs: self.pairs || other.pairs,
+            masks: self.masks || other.masks,
+            width: self.width || other.width,
+            capabilities: self.capabilities || other.capabilities,
+        }
     }
 }
 
@@ -136,6 +249,7 @@ impl Supplied {
         Supplied {
             width: None,
             registers: ArrayVec::new(),
+            assumed: Assumed::nothing(),
         }
     }
 
@@ -144,6 +258,13 @@ impl Supplied {
         ensures { IsSupplied self.now }
     {
         let _ = &self.width;
+    }
+
+    /// What may be assumed.
+    pub fn assumed(&self) -> Assumed
+        ensures { result ≡ self.now.assumed }
+    {
+        self.assumed
     }
 
     /// A register's value, where it is supplied.
@@ -155,7 +276,7 @@ impl Supplied {
 
     // Adds what a word supplies, and says whether it wasn't supplied before.
     fn add(&mut self, given: Given) -> bool
-        requires room { length self.old.registers < 79 }
+        requires room { length self.old.registers < 84 }
         requires given { AreGiven given }
         ensures added { result ≡ true → with_given self.old given ≡ Some self.new }
         ensures twice { result ≡ false → with_given self.old given ≡ None }
@@ -176,13 +297,20 @@ impl Supplied {
                 self.registers.push((number, value));
                 true
             }
+            Given::Assume(assumed) => {
+                if self.assumed.meets(&assumed) {
+                    return false;
+                }
+                self.assumed = self.assumed.and(&assumed);
+                true
+            }
         }
     }
 }
 
 // What these words supply.
 fn with_words(words: &[String]) -> Option<Supplied>
-    requires { length words.now ≤ 79 }
+    requires { length words.now ≤ 84 }
     ensures { result ≡ with_words (Some nothing_supplied) (map string_bytes words.now) }
 {
     let mut supplied = Supplied::none();
@@ -200,7 +328,7 @@ fn with_words(words: &[String]) -> Option<Supplied>
 }
 
 /// The format and what is supplied, where the words are a command line.
-pub fn command_of(words: &[String]) -> Option<(Format, Supplied)>
+pub fn command_of(words: &[String]) -> Option<(Choice, Supplied)>
     ensures { result ≡ command_of (map string_bytes words.now) }
 {
     let (name, words) = words.split_first()?;
@@ -208,7 +336,7 @@ pub fn command_of(words: &[String]) -> Option<(Format, Supplied)>
         return None;
     }
     match (format_named(name.as_bytes()), with_words(words)) {
-        (Some(format), Some(supplied)) => Some((format, supplied)),
+        (Some(choice), Some(supplied)) => Some((choice, supplied)),
         _ => None,
     }
 }

@@ -1,21 +1,26 @@
-ghost use Rattle.std.specs.Prelude.{◌≡◌};
-ghost use Rattle.mt_ports.specs.declared.status.Status.TheVariants.{BadText};
-ghost use Rattle.mt_import.specs.Outcome.{contradiction_line, fault_line, width_line};
+ghost use Rattle.std.specs.Prelude.{◌≡◌, ◌≤◌, ◌+◌, ◌++◌, length, Some, None};
+ghost use Rattle.arrayvec.specs.ArrayVec.{array_vec_len};
+ghost use Rattle.mt_import.specs.Outcome.{Told, assumption_text, contradiction_line, count_line, fault_line, format_name, hint_text, missing_line, note_line, rival_text, unless, warning_text, width_hint, width_line, width_note};
+ghost use Rattle.mt_import.specs.Import.{IsWritten};
 ghost use Rattle.mt_import.specs.Reader.{IsShort};
 ghost use Rattle.mt_regs.specs.Registers.{HasThreeDigits};
 
-use crate::ImportFault;
+use crate::shape::Tally;
+use crate::{Format, ImportFault, Rival};
 use arrayvec::ArrayVec;
 use mt_dump::{TextBuffer, append_text};
-use mt_output::{LineBuffer, append, append_decimal, append_number, bad_text};
+use mt_output::{LineBuffer, append, append_decimal, append_number, append_value, bad_text};
 use mt_ports::Status;
+use mt_regs::{CAPABILITIES, PAT};
 use mt_text::Place;
 use std::marker::Model;
 
-/// What a log comes to: the text that is written, and the status.
+/// What a log comes to: the texts for standard output, of which comments come first, and for standard error, and the status.
 #[derive(Drop)]
 pub struct Imported {
-    pub text: TextBuffer,
+    pub notes: TextBuffer,
+    pub dump: TextBuffer,
+    pub reasons: TextBuffer,
     pub status: Status,
 }
 
@@ -24,12 +29,27 @@ impl Model for Imported {
 
     ghost Value = { Told };
 
-    ghost view = { λ i. (i.text.items, i.status) };
+    ghost view = { λ i. record { notes = i.notes.items; dump = i.dump.items; reasons = i.reasons.items; status = i.status } };
 }
 
-fn contradiction_line(place: Place, number: u32) -> LineBuffer
+fn append_rival(line: &mut LineBuffer, rival: Rival)
+    requires { array_vec_len line.old ≤ 80 }
+    ensures text { line.new.items ≡ line.old.items ++ rival_text rival }
+    ensures short { array_vec_len line.new ≤ array_vec_len line.old + 46 }
+{
+    match rival {
+        Rival::Line(number) => {
+            append(line, b": line ");
+            append_decimal(line, number);
+            append(line, b" shows it otherwise");
+        }
+        Rival::Word => append(line, b": a word supplies it otherwise"),
+    }
+}
+
+fn contradiction_line(place: Place, number: u32, rival: Rival) -> LineBuffer
     requires { HasThreeDigits number }
-    ensures { result.items ≡ contradiction_line place number }
+    ensures { result.items ≡ contradiction_line place number rival }
 {
     let mut line = ArrayVec::new();
     append(&mut line, b"contradiction ");
@@ -38,6 +58,7 @@ fn contradiction_line(place: Place, number: u32) -> LineBuffer
     append_decimal(&mut line, place.column);
     append(&mut line, b" ");
     append_number(&mut line, number);
+    append_rival(&mut line, rival);
     append(&mut line, b"\n");
     line
 }
@@ -54,7 +75,6 @@ fn width_line(place: Place) -> LineBuffer
     line
 }
 
-// The line about a fault.
 fn fault_line(fault: &ImportFault) -> LineBuffer
     requires { IsShort fault.now }
     ensures { result.items ≡ fault_line fault.now }
@@ -64,20 +84,152 @@ fn fault_line(fault: &ImportFault) -> LineBuffer
         ImportFault::BadProcessor(place) => bad_text(*place, b"bad processor"),
         ImportFault::TooManyPairs(place) => bad_text(*place, b"too many pairs"),
         ImportFault::BadWidth(place) => bad_text(*place, b"bad width"),
-        ImportFault::Contradiction(place, number) => contradiction_line(*place, *number),
+        ImportFault::Contradiction(place, number, rival) => {
+            contradiction_line(*place, *number, *rival)
+        }
         ImportFault::WidthContradiction(place) => width_line(*place),
     }
 }
 
-/// What a log with this fault comes to.
+/// What a fault comes to.
 pub(crate) fn faulted(fault: &ImportFault) -> Imported
     requires { IsShort fault.now }
-    ensures { result ≡ (fault_line fault.now, BadText) }
+    ensures told { (told : Told) → result ≡ unless (Some fault.now) told }
+    ensures written { IsWritten result.status }
 {
-    let mut text = ArrayVec::new();
-    append_text(&mut text, fault_line(fault).as_slice());
+    let mut reasons = ArrayVec::new();
+    append_text(&mut reasons, fault_line(fault).as_slice());
     Imported {
-        text,
+        notes: ArrayVec::new(),
+        dump: ArrayVec::new(),
+        reasons,
         status: Status::BadText,
+    }
+}
+
+fn assumption_text(number: u32, value: u64) -> &'static [u8]
+    ensures text { result.now ≡ assumption_text number value }
+    ensures short { length result.now ≤ 19 }
+{
+    if number == PAT {
+        b"assume=pat"
+    } else if number == CAPABILITIES {
+        b"assume=capabilities"
+    } else if value == 0 {
+        b"assume=pairs"
+    } else {
+        b"assume=masks"
+    }
+}
+
+fn append_hint(line: &mut LineBuffer, number: u32, hint: Option<u64>)
+    requires { array_vec_len line.old ≤ 24 }
+    ensures text { line.new.items ≡ line.old.items ++ hint_text number hint }
+    ensures short { array_vec_len line.new ≤ 47 }
+{
+    if let Some(value) = hint {
+        append(line, b" or ");
+        append(line, assumption_text(number, value));
+    }
+}
+
+/// The line on a register that is missing, with the words that would supply it.
+pub(crate) fn missing_line(number: u32, hint: Option<u64>) -> LineBuffer
+    requires { HasThreeDigits number }
+    ensures text { result.items ≡ missing_line number hint }
+    ensures short { array_vec_len result ≤ 48 }
+{
+    let mut line = ArrayVec::new();
+    append(&mut line, b"missing ");
+    append_number(&mut line, number);
+    append(&mut line, b": ");
+    append_number(&mut line, number);
+    append(&mut line, b"=VALUE");
+    append_hint(&mut line, number, hint);
+    append(&mut line, b"\n");
+    line
+}
+
+/// The line on the width that is missing, with the words that would supply it.
+pub(crate) fn width_hint(hint: Option<u8>) -> &'static [u8]
+    ensures text { result.now ≡ width_hint hint }
+    ensures short { length result.now ≤ 49 }
+{
+    match hint {
+        Some(_) => b"missing maxphyaddr: maxphyaddr=N or assume=width\n",
+        None => b"missing maxphyaddr: maxphyaddr=N\n",
+    }
+}
+
+/// The comment on a register's value that was assumed.
+pub(crate) fn note_line(number: u32, value: u64) -> LineBuffer
+    requires { HasThreeDigits number }
+    ensures text { result.items ≡ note_line number (Some value) }
+    ensures short { array_vec_len result ≤ 56 }
+{
+    let mut line = ArrayVec::new();
+    append(&mut line, b"# assumed ");
+    append_number(&mut line, number);
+    append(&mut line, b" ");
+    append_value(&mut line, value);
+    append(&mut line, b" by ");
+    append(&mut line, assumption_text(number, value));
+    append(&mut line, b"\n");
+    line
+}
+
+/// The comment on a width that was assumed.
+pub(crate) fn width_note(width: u8) -> LineBuffer
+    ensures text { result.items ≡ width_note None (Some width) }
+    ensures short { array_vec_len result ≤ 64 }
+{
+    let mut line = ArrayVec::new();
+    append(&mut line, b"# assumed maxphyaddr ");
+    append_decimal(&mut line, width as u64);
+    append(&mut line, b" by assume=width");
+    append(&mut line, b"\n");
+    line
+}
+
+fn format_name(format: Option<Format>) -> &'static [u8]
+    ensures text { result.now ≡ format_name format }
+    ensures short { length result.now ≤ 10 }
+{
+    match format {
+        None => b"any format",
+        Some(Format::Rdmsr) => b"rdmsr",
+        Some(Format::X86info) => b"x86info",
+        Some(Format::Inteltool) => b"inteltool",
+        Some(Format::Coreboot) => b"coreboot",
+        Some(Format::Edk2) => b"edk2",
+        Some(Format::Linux) => b"linux",
+        Some(Format::Xen) => b"xen",
+    }
+}
+
+/// How many lines are of the format.
+pub(crate) fn count_line(tally: &Tally) -> LineBuffer
+    ensures text { result.items ≡ count_line tally.now }
+    ensures short { array_vec_len result ≤ 71 }
+{
+    let mut line = ArrayVec::new();
+    append_decimal(&mut line, tally.matches);
+    append(&mut line, b" of ");
+    append_decimal(&mut line, tally.lines);
+    append(&mut line, b" lines are of ");
+    append(&mut line, format_name(tally.format));
+    append(&mut line, b"\n");
+    line
+}
+
+/// The line on a kernel's warning.
+pub(crate) fn warning_text(warned: bool) -> &'static [u8]
+    ensures text { result.now ≡ warning_text warned }
+    ensures short { length result.now ≤ 64 }
+{
+    if warned {
+        b"warning: the kernel found that the processors' MTRRs differ\n"
+    } else {
+        b""
     }
 }

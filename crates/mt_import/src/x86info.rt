@@ -1,6 +1,6 @@
 ghost use Rattle.std.specs.Prelude.{◌≡◌, ◌≤◌, codes};
 ghost use Rattle.mt_text.specs.Number.{decimal_number};
-ghost use Rattle.mt_import.specs.X86info.{first_read, is_name, is_size, is_sizes, named_register, register_from, said_by_words, turned_to, x86info_said};
+ghost use Rattle.mt_import.specs.X86info.{first_read, is_listed, is_name, is_size, is_sizes, named_register, register_from, said_by_words, sizes_by_words, sizes_said, turned_to, x86info_said};
 
 use crate::Said;
 use crate::pieces::{
@@ -70,7 +70,7 @@ fn first_read(words: &Words<'_>) -> usize
 fn is_sizes(words: &Words<'_>) -> bool
     ensures { result ≡ is_sizes words.now.words }
 {
-    is_text(b"Address", words.text(0))
+    (is_text(b"Address", words.text(0)) || is_text(b"address", words.text(0)))
         && is_text(b"sizes", words.text(1))
         && is_text(b"physical,", words.text(5))
 }
@@ -83,16 +83,39 @@ fn is_size(words: &Words<'_>) -> bool
         && is_text(b"virtual,", words.text(4))
 }
 
-fn said_by_words(words: &Words<'_>) -> Said
-    ensures { result ≡ said_by_words words.now.number words.now.words }
+fn is_listed(words: &Words<'_>) -> bool
+    ensures { result ≡ is_listed words.now.words }
+{
+    is_text(b"Address", words.text(0))
+        && is_text(b"sizes:", words.text(1))
+        && is_text(b"physical,", words.text(4))
+}
+
+/// The width that a line on the sizes of addresses shows.
+pub(crate) fn sizes_said(line: &Line<'_>) -> Said
+    ensures { result ≡ sizes_said line.now.number line.now.bytes.now }
+{
+    sizes_by_words(&line.first_words())
+}
+
+fn sizes_by_words(words: &Words<'_>) -> Said
+    ensures { result ≡ sizes_by_words words.now.number words.now.words }
 {
     if is_sizes(words) {
         shows_width(decimal(words.text(3), 255), words.place(3))
     } else if is_size(words) {
         shows_width(decimal(words.text(5), 255), words.place(5))
+    } else if is_listed(words) {
+        shows_width(decimal(words.text(2), 255), words.place(2))
     } else {
-        register_from(first_read(words), words)
+        Said::Nothing
     }
+}
+
+fn said_by_words(words: &Words<'_>) -> Said
+    ensures { result ≡ said_by_words words.now.number words.now.words }
+{
+    register_from(first_read(words), words)
 }
 
 /// What a line says.

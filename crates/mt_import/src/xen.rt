@@ -4,17 +4,15 @@ ghost use Rattle.mt_import.specs.Xen.{xen_said};
 use crate::Said;
 use crate::kernel::kernel_said;
 use crate::line_words::{LineWords, behind_stamp};
-use crate::pieces::is_text;
+use crate::pieces::{is_text, word_text};
 use mt_text::Line;
 
 /// What a line says.
 pub(crate) fn xen_said(line: &Line<'_>) -> Said
     ensures { result ≡ xen_said line.now.number line.now.bytes.now }
 {
-    let words = line.first_words();
-    if !is_text(b"(XEN)", words.text(0)) {
+    if !is_text(b"(XEN)", word_text(line, 0)) {
         return Said::Nothing;
     }
-    let first = behind_stamp(1, &words);
-    kernel_said(true, &LineWords::behind(first, line))
+    kernel_said(true, &LineWords::behind(behind_stamp(1, line), line))
 }

@@ -1,6 +1,9 @@
 //! Reads a log of another program, and writes the dump that it shows.
 #![tactic(auto)]
 
+mod errors;
+
+use errors::StdErrors;
 use mt_import::program_status;
 use mt_ports::{StdSink, StdSource};
 use std::env;
@@ -9,5 +12,12 @@ use std::process::ExitCode;
 fn main(rt: HostRuntime) -> ExitCode {
     let mut source = StdSource::new(rt.stdin());
     let mut sink = StdSink::new(rt.stdout());
-    program_status(&rt, env::args(&rt), &mut source, &mut sink)
+    let mut errors = StdErrors::new(rt.stderr());
+    program_status(
+        &rt,
+        env::args(&rt),
+        &mut source,
+        &mut sink,
+        &mut errors,
+    )
 }

@@ -2,6 +2,6 @@ use Rattle.std.proofs.Common.{refl}
 use Rattle.mt_import.specs.Help.{help_text}
 use Rattle.mt_import.proofs.help.help_text.Goals as goal
 
-pub returns : goal.returns
+pub returns-clause-text : goal.returns-clause-text
 unfolding help_text
-returns c = refl
+returns-clause-text c = refl

@@ -2,6 +2,6 @@ use Rattle.std.proofs.Common.{refl}
 use Rattle.mt_import.specs.Help.{version_text}
 use Rattle.mt_import.proofs.help.version_text.Goals as goal
 
-pub returns : goal.returns
+pub returns-clause-text : goal.returns-clause-text
 unfolding version_text
-returns c = refl
+returns-clause-text c = refl

@@ -4,4 +4,4 @@ use Rattle.mt_import.specs.Rdmsr.{said_by_words}
 use Rattle.mt_import.proofs.rdmsr.rdmsr_said.Goals as goal
 
 pub returns : goal.returns
-returns c = c.said_by_words.ensures ∙ ap (λ (w : FirstWords). said_by_words w.number w.words) c.first_words.ensures
+returns c = c.said_by_words.ensures ∙ ap (λ (w : FirstWords). said_by_words w.number w.words) c.behind.ensures

@@ -1,12 +1,15 @@
-use Rattle.std.proofs.Common.{Ok, refl, ◌∙◌, ap}
+use Rattle.std.proofs.Common.{Ok, refl, ◌∙◌, ap, subst}
 use Rattle.std.proofs.lemmas.Result.{err_from_is_err_and}
 use Rattle.mt_dump.proofs.Counted.{comes_nearer, counts_line, counts_more, failed_on, stands_after, stands_on, still_on}
+use Rattle.mt_import.specs.Outcome.{ended_with, nothing_seen}
+use Rattle.mt_import.specs.Reader.{HasTaken, slots_of}
+use Rattle.mt_import.specs.Readings.{starts}
 use Rattle.mt_import.proofs.Fed.{at_first, ends, goes_on, offends}
 use Rattle.mt_import.proofs.Same.{fit_end, sound_end}
 use Rattle.mt_import.proofs.reader.read_lines.Goals as goal
 
 pub lines-init : goal.lines-init
-lines-init g c = record { reading = at_first c.args.format c.args.supplied.now (g.S.Source.left c.args.source.now) (g.S.Source.given c.args.source.now) c.args.feed.now c.new-reader.result c.requires c.new-reader.ensures.taken c.new-reader.ensures.context; stood = refl }
+lines-init g c = record { reading = at_first c.args.choice c.args.supplied.now (g.S.Source.left c.args.source.now) (g.S.Source.given c.args.source.now) c.args.feed.now c.new-reader.result c.requires (subst (λ f. HasTaken c.new-reader.result (nothing_seen f)) c.format.ensures c.new-reader.ensures.taken) (c.new-reader.ensures.context ∙ ap starts c.format.ensures); stood = refl }
 
 pub returns-in_err-line-clause-consumed : goal.returns-in_err-line-clause-consumed
 returns-in_err-line-clause-consumed g c = (counts_line c.lines.invariant.reading.fed c.line.follows.lender-at-none (g.S.Source.left c.line.new.source) (g.S.Source.given c.line.new.source) c.line.result c.line.follows.holds-at-none).consumed
@@ -44,9 +47,9 @@ returns-in_err-drain-clause-stands g c =
 pub returns-in-Err-clause-answer : goal.returns-in-Err-clause-answer
 returns-in-Err-clause-answer g c =
     let lines = rw (c.in_ok-line.was ∙ ap Ok c.in-Some.is) at c.line.follows.holds-at-none in
-    λ bytes is. c.faulted.ensures ∙ offends (g.S.Source.left c.args.source.now) (g.S.Source.left c.lines.source) (g.S.Source.left c.line.new.source) (g.S.Source.given c.args.source.now) (g.S.Source.given c.lines.source) (g.S.Source.given c.line.new.source)
-    c.lines.feed c.line.follows.lender-at-none c.args.format c.args.supplied.now c.lines.reader c.lines.invariant.reading
-    c.in-Some.line lines bytes c.in-Err.fault is (c.in-Err.ensures.taken c.lines.invariant.reading.seen c.lines.invariant.reading.held)
+    λ bytes is. offends (g.S.Source.left c.args.source.now) (g.S.Source.left c.lines.source) (g.S.Source.left c.line.new.source) (g.S.Source.given c.args.source.now) (g.S.Source.given c.lines.source) (g.S.Source.given c.line.new.source)
+    c.lines.feed c.line.follows.lender-at-none c.args.choice c.args.supplied.now c.lines.reader c.lines.invariant.reading
+    c.in-Some.line lines bytes c.in-Err.fault c.faulted.result is (c.in-Err.ensures.taken c.lines.invariant.reading.seen c.lines.invariant.reading.held) (c.faulted.ensures.told c.faulted.result)
 
 pub returns-in-Err-clause-consumed : goal.returns-in-Err-clause-consumed
 returns-in-Err-clause-consumed g c = (counts_more (counts_line c.lines.invariant.reading.fed c.line.follows.lender-at-none (g.S.Source.left c.line.new.source) (g.S.Source.given c.line.new.source) c.line.result c.line.follows.holds-at-none) c.drain.ensures.bytes).consumed
@@ -66,7 +69,7 @@ lines-preserved g c =
     let lines = rw (c.in_ok-line.was ∙ ap Ok c.in-Some.is) at c.line.follows.holds-at-none in
     record {
       reading = goes_on (g.S.Source.left c.args.source.now) (g.S.Source.left c.lines.source) (g.S.Source.left c.line.new.source) (g.S.Source.given c.args.source.now) (g.S.Source.given c.lines.source) (g.S.Source.given c.line.new.source)
-          c.lines.feed c.line.follows.lender-at-none c.args.format c.args.supplied.now c.lines.reader c.lines.invariant.reading
+          c.lines.feed c.line.follows.lender-at-none c.args.choice c.args.supplied.now c.lines.reader c.lines.invariant.reading
           c.in-Some.line lines c.take.new.self (c.in_default-take.ensures.taken c.lines.invariant.reading.seen c.lines.invariant.reading.held).0 (c.in_default-take.ensures.taken c.lines.invariant.reading.seen c.lines.invariant.reading.held).1 c.in_default-take.ensures.context;
       stood = stands_after c.in_ok-line.was c.lines.invariant.stood c.line.ensures.stands;
     }
@@ -74,8 +77,8 @@ lines-preserved g c =
 pub returns-clause-answer : goal.returns-clause-answer
 returns-clause-answer g c =
     let lines = rw (c.in_ok-line.was ∙ ap Ok c.in_default.is) at c.line.follows.holds-at-none in
-    λ bytes is. c.finish.ensures.told ∙ ends (g.S.Source.left c.args.source.now) (g.S.Source.left c.lines.source) (g.S.Source.left c.line.new.source) (g.S.Source.given c.args.source.now) (g.S.Source.given c.lines.source) (g.S.Source.given c.line.new.source)
-    c.lines.feed c.line.follows.lender-at-none c.args.format c.args.supplied.now c.lines.reader c.lines.invariant.reading
+    λ bytes is. c.finish.ensures.told ∙ ap (λ a. ended_with a c.args.supplied.now (slots_of c.lines.reader) c.lines.reader.processors c.lines.reader.width c.lines.reader.tally) c.is_auto.ensures ∙ ends (g.S.Source.left c.args.source.now) (g.S.Source.left c.lines.source) (g.S.Source.left c.line.new.source) (g.S.Source.given c.args.source.now) (g.S.Source.given c.lines.source) (g.S.Source.given c.line.new.source)
+    c.lines.feed c.line.follows.lender-at-none c.args.choice c.args.supplied.now c.lines.reader c.lines.invariant.reading
     lines bytes is
 
 pub returns-clause-consumed : goal.returns-clause-consumed

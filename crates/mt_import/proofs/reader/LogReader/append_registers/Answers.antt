@@ -2,8 +2,8 @@ use Rattle.std.proofs.Common.{◌++◌, [], List, ℕ, ap, arith, sym, ◌∙◌
 use Rattle.std.specs.Prelude.{if◌then◌else◌}
 use Rattle.mt_regs.specs.Registers.{number_of, writable}
 use Rattle.mt_import.proofs.Parts.{missing_more, some_at}
-use Rattle.mt_import.specs.Outcome.{is_missing, missing_line, missing_lines}
-use Rattle.mt_import.specs.Reader.{values_of}
+use Rattle.mt_import.specs.Outcome.{hint_of, is_missing, missing_line, missing_lines, values_of}
+use Rattle.mt_import.specs.Reader.{slots_of}
 use Rattle.mt_import.proofs.reader.LogReader.append_registers.Goals as goal
 
 pub unreachable-requires : goal.unreachable-requires
@@ -11,15 +11,16 @@ unreachable-requires c = some_at (writable c.args.file.now) c.registers.i (omega
 
 pub registers-preserved : goal.registers-preserved
 registers-preserved c =
-    let values = values_of c.args.supplied.now c.args.self.now in
+    let hints = hint_of c.args.supplied.now (slots_of c.args.self.now) c.args.self.now.width in
+    let values = values_of c.args.supplied.now (slots_of c.args.self.now) c.args.self.now.width in
     let count = c.args.self.now.processors in
     let first = c.args.text.now.items in
-    let so_far = missing_lines values count (map number_of (take c.registers.i (writable c.args.file.now))) in
+    let so_far = missing_lines hints values count (map number_of (take c.registers.i (writable c.args.file.now))) in
     record {
       text = c.append_missing.ensures.text
-          ∙ ap (λ (l : List ℕ). l ++ (if is_missing values count c.number.result then missing_line c.number.result else [])) c.registers.invariant.text
-          ∙ append_assoc first so_far (if is_missing values count c.number.result then missing_line c.number.result else [])
-          ∙ ap (λ (n : ℕ). first ++ (so_far ++ (if is_missing values count n then missing_line n else []))) c.number.ensures
-          ∙ ap (λ (l : List ℕ). first ++ l) (sym (missing_more values count c.registers.i (writable c.args.file.now) c.in-Some.register c.in-Some.ensures.at));
+          ∙ ap (λ (l : List ℕ). l ++ (if is_missing values count c.number.result then missing_line c.number.result (hints c.number.result) else [])) c.registers.invariant.text
+          ∙ append_assoc first so_far (if is_missing values count c.number.result then missing_line c.number.result (hints c.number.result) else [])
+          ∙ ap (λ (n : ℕ). first ++ (so_far ++ (if is_missing values count n then missing_line n (hints n) else []))) c.number.ensures
+          ∙ ap (λ (l : List ℕ). first ++ l) (sym (missing_more hints values count c.registers.i (writable c.args.file.now) c.in-Some.register c.in-Some.ensures.at));
       short = omega (arith, c.append_missing.ensures.size, c.registers.invariant.short);
     }

@@ -1,5 +1,11 @@
+use Rattle.std.proofs.Common.{None, false, replicate, sym, subst}
+use Rattle.mt_import.specs.declared.shape.Slot.{Slot}
+use Rattle.mt_import.specs.Outcome.{nothing_seen}
+use Rattle.mt_import.specs.Reader.{HasTaken}
 use Rattle.mt_import.proofs.Held.{taken_new}
 use Rattle.mt_import.proofs.reader.LogReader.new.Goals as goal
 
 pub returns-clause-taken : goal.returns-clause-taken
-returns-clause-taken c = taken_new _
+returns-clause-taken c =
+    subst (λ (b : Slot). HasTaken (record { context = c.starts.result; slots = replicate 4112 b; capabilities = b; processors = 1; width = None; tally = record { format = c.args.format; lines = 0; matches = 0; warned = false } }) (nothing_seen c.args.format))
+    (sym c.blank-blank.ensures) (taken_new c.starts.result c.args.format)

@@ -7,5 +7,5 @@ use Rattle.mt_import.proofs.reader.LogReader.take_shows.Given as goal
 abbrev pub invariant-shows : goal.invariant-shows
 invariant-shows l = record {
   context : l.self.context ≡ l.initial.self.context;
-  taken : (seen : Seen) → HasTaken l.initial.self seen → HasTakenFirst l.self l.supplied seen l.processor l.i l.shows;
+  taken : (seen : Seen) → HasTaken l.initial.self seen → HasTakenFirst l.self l.supplied seen l.processor l.table l.i l.shows;
 }

@@ -1,0 +1,16 @@
+use Rattle.std.proofs.Common.{◌∙◌, ap}
+use Rattle.mt_import.specs.Outcome.{firm_of, values_of}
+use Rattle.mt_import.specs.Reader.{slots_of}
+use Rattle.mt_import.specs.Values.{assumed_value, firm_value, or_supplied}
+use Rattle.mt_import.proofs.reader.LogReader.value.Goals as goal
+
+pub returns : goal.returns
+unfolding values_of firm_of
+returns c =
+    let slots = slots_of c.args.self.now c.args.k in
+    c.or_supplied.ensures
+    ∙ ap (λ a. or_supplied a c.assumed_value.result) c.firm_value.ensures
+    ∙ ap (or_supplied (firm_value c.args.supplied.now slots c.args.number)) (
+    c.assumed_value.ensures ∙ ap (λ a. assumed_value a slots c.width-width.result c.args.number) c.assumed.ensures
+    ∙ ap (λ w. assumed_value c.args.supplied.now.assumed slots w c.args.number) c.width-width.ensures.width
+    )

@@ -1,5 +1,0 @@
-use Rattle.std.proofs.Common.{length}
-use Rattle.mt_import.proofs.rows.+bytes_differ.Given as goal
-
-abbrev pub decreases-bytes_differ : goal.decreases-bytes_differ
-decreases-bytes_differ l = length l.before.now

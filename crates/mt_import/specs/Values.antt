@@ -1,0 +1,121 @@
+-- The registers of a dump, by what lines have shown of them, what words supply, and what words allow to be assumed (own).
+--     value_by supplied slots width k number      the value of a register of processor k
+--     width_by supplied slots width      the address width, where lines show this one
+use Rattle.std.specs.Prelude.{ℕ, zero, suc, ◌+◌, ◌-◌, ◌*◌, ◌/◌, ◌%◌, ◌^◌, ◌==◌, ◌&&◌, ◌||◌, nat_lt, not, bit_or, Bool, true, false, List, [], ◌∷◌, position, if◌then◌else◌, Option, Some, None, is_none, unwrap_or}
+use Rattle.mt_kinds.specs.Bits.{is_bit_set}
+use Rattle.mt_regs.specs.RegisterFile.{low_byte}
+use Rattle.mt_import.specs.declared.shape.Slot.{Slot}
+use Rattle.mt_import.specs.declared.supplied.Assumed.{Assumed}
+use Rattle.mt_import.specs.Slot.{is_disabled, whole_value}
+use Rattle.mt_import.specs.Supplied.{Supplied, supplied_value}
+
+-- what stands first, or else the other
+abbrev pub or_supplied : Option ℕ → Option ℕ → Option ℕ
+or_supplied (Some value) other = Some value
+or_supplied None other = other
+
+-- ---- pairs
+
+abbrev pub is_pair_number : ℕ → Bool
+is_pair_number number = nat_lt 0x1ff number && nat_lt number 0x240
+
+abbrev pub base_of : ℕ → ℕ
+base_of number = number / 2 * 2
+
+abbrev pub mask_of : ℕ → ℕ
+mask_of number = number / 2 * 2 + 1
+
+-- Both registers of a pair whose V is shown clear are 0.
+abbrev pub disabled_value : (ℕ → Slot) → ℕ → Option ℕ
+disabled_value slots number = if is_pair_number number && is_disabled (slots (mask_of number)) then Some 0 else None
+
+-- ---- shown or supplied
+
+abbrev pub firm_value : Supplied → (ℕ → Slot) → ℕ → Option ℕ
+firm_value supplied slots number = or_supplied (whole_value (slots number)) (or_supplied (supplied_value supplied number) (disabled_value slots number))
+
+-- ---- assumed
+
+-- assume=pat: the value of power-up, Intel SDM, volume 3A, section IA32_PAT MSR
+abbrev pub power_up_pat : ℕ
+power_up_pat = 0x0007040600070406
+
+-- how many of the first pairs a log shows: V of the last is shown
+abbrev pub shown_pairs : (ℕ → Slot) → ℕ → ℕ
+shown_pairs slots zero = 0
+shown_pairs slots (suc n) = if is_bit_set (slots (0x201 + 2 * n)).bits 11 then suc n else shown_pairs slots n
+
+-- VCNT that is shown, or else the pairs of the table
+abbrev pub pair_count : (ℕ → Slot) → ℕ
+pair_count slots = if (slots 0xfe).bits % 256 == 255 then low_byte (slots 0xfe).value else shown_pairs slots 32
+
+-- assume=capabilities: behind a kernel's table with fixed ranges, the capability register with VCNT, FIX and WC
+abbrev pub assumed_capabilities : (ℕ → Slot) → Option ℕ
+assumed_capabilities slots = if is_bit_set (slots 0xfe).value 8 then Some (pair_count slots + 0x500) else None
+
+-- assume=masks: a mask with ones from the size that a line shows up to the width. Such a line shows the bits up to that of the size.
+abbrev pub size_in : Slot → ℕ
+size_in slot = slot.value - 0x800
+
+abbrev pub mask_of_size : Slot → ℕ → Option ℕ
+mask_of_size slot width =
+    if nat_lt 0xfff (size_in slot) && nat_lt (size_in slot) (2 ^ width) && slot.bits == 2 * size_in slot - 1 then Some (2 ^ width - size_in slot + 0x800) else None
+
+abbrev pub assumed_mask : Slot → Option ℕ → Option ℕ
+assumed_mask slot None = None
+assumed_mask slot (Some width) = mask_of_size slot width
+
+-- assume=pairs: 0 for a pair that no line shows
+abbrev pub assumed_zero : (ℕ → Slot) → ℕ → Option ℕ
+assumed_zero slots number = if (slots (base_of number)).bits == 0 && (slots (mask_of number)).bits == 0 then Some 0 else None
+
+abbrev pub only_if : Bool → Option ℕ → Option ℕ
+only_if true value = value
+only_if false value = None
+
+abbrev pub assumed_pair : Assumed → (ℕ → Slot) → Option ℕ → ℕ → Option ℕ
+assumed_pair assumed slots width number = or_supplied (only_if assumed.masks (assumed_mask (slots number) width)) (only_if assumed.pairs (assumed_zero slots number))
+
+abbrev pub assumed_value : Assumed → (ℕ → Slot) → Option ℕ → ℕ → Option ℕ
+assumed_value assumed slots width number =
+    if number == 0x277 then only_if assumed.pat (Some power_up_pat)
+    else if number == 0xfe then only_if assumed.capabilities (assumed_capabilities slots)
+    else if is_pair_number number then assumed_pair assumed slots width number
+    else None
+
+abbrev pub value_by : Supplied → (ℕ → ℕ → Slot) → Option ℕ → ℕ → ℕ → Option ℕ
+value_by supplied slots width k number = or_supplied (firm_value supplied (slots k) number) (assumed_value supplied.assumed (slots k) width number)
+
+-- ---- the width
+
+-- the bits of the first masks that are shown whole
+abbrev pub masks_in : (ℕ → Slot) → ℕ → ℕ
+masks_in slots zero = 0
+masks_in slots (suc n) = bit_or (masks_in slots n) (unwrap_or (whole_value (slots (0x201 + 2 * n))) 0)
+
+-- 2 to the power of each width from 32 to 52
+abbrev pub width_limits : List ℕ
+width_limits =
+    0x100000000 ∷ 0x200000000 ∷ 0x400000000 ∷ 0x800000000 ∷ 0x1000000000 ∷ 0x2000000000 ∷ 0x4000000000 ∷ 0x8000000000
+    ∷ 0x10000000000 ∷ 0x20000000000 ∷ 0x40000000000 ∷ 0x80000000000 ∷ 0x100000000000 ∷ 0x200000000000 ∷ 0x400000000000 ∷ 0x800000000000
+    ∷ 0x1000000000000 ∷ 0x2000000000000 ∷ 0x4000000000000 ∷ 0x8000000000000 ∷ 0x10000000000000 ∷ []
+
+abbrev pub is_past : ℕ → ℕ → Bool
+is_past masks limit = nat_lt masks limit
+
+abbrev pub width_at : Option ℕ → Option ℕ
+width_at None = None
+width_at (Some k) = if nat_lt k 21 then Some (32 + k) else None
+
+-- assume=width: the least width that has all bits of the masks, where one has bit 31 or more
+abbrev pub widest : ℕ → Option ℕ
+widest masks = if nat_lt masks 0x80000000 then None else width_at (position (is_past masks) width_limits)
+
+abbrev pub assumed_width : Assumed → (ℕ → Slot) → Option ℕ
+assumed_width assumed slots = only_if assumed.width (widest (masks_in slots 32))
+
+abbrev pub firm_width : Supplied → Option ℕ → Option ℕ
+firm_width supplied width = or_supplied width supplied.width
+
+abbrev pub width_by : Supplied → (ℕ → ℕ → Slot) → Option ℕ → Option ℕ
+width_by supplied slots width = or_supplied (firm_width supplied width) (assumed_width supplied.assumed (slots 0))

@@ -1,0 +1,67 @@
+use crate::Format;
+use mt_text::Place;
+
+/// Bits of a processor's register, as a log shows them. The value has no other bits.
+#[derive(Clone, Copy, Debug, PartialEq, Eq)]
+pub struct Reading {
+    pub processor: u32,
+    /// How many kernel's tables have begun before.
+    pub table: u64,
+    pub number: u32,
+    pub bits: u64,
+    pub value: u64,
+    pub place: Place,
+}
+
+/// Bits of a register, as a line shows them. The value has no other bits.
+#[derive(Clone, Copy)]
+pub struct Shown {
+    pub number: u32,
+    pub bits: u64,
+    pub value: u64,
+    pub place: Place,
+}
+
+/// What lines have shown of one register.
+#[derive(Clone, Copy)]
+pub struct Slot {
+    /// The bits that lines have shown.
+    pub bits: u64,
+    /// The bits that the lines of the last table have shown. All bits if one table or line has shown them.
+    pub fresh: u64,
+    /// That table.
+    pub table: u64,
+    /// The value of the bits that were shown.
+    pub value: u64,
+    /// The last line that showed some.
+    pub line: u64,
+}
+
+/// A register whose value the lines behind an announcement have.
+#[derive(Clone, Copy)]
+pub struct Announced {
+    pub processor: u32,
+    pub number: u32,
+    /// Whether the value of the next processor follows.
+    pub goes_on: bool,
+}
+
+/// What a kernel's line on fixed ranges says.
+#[derive(Clone, Copy)]
+pub struct FixedLine {
+    pub is_enabled: bool,
+    pub table: u64,
+    pub line: u64,
+}
+
+/// How many lines were read, and what else is told of them.
+#[derive(Clone, Copy)]
+pub struct Tally {
+    /// The format, if it is known.
+    pub format: Option<Format>,
+    pub lines: u64,
+    /// How many are of the format.
+    pub matches: u64,
+    /// Whether the kernel found that the processors' MTRRs differ.
+    pub warned: bool,
+}

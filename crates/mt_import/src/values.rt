@@ -1,0 +1,343 @@
+ghost use Rattle.std.specs.Prelude.{◌≡◌, ◌≤◌, ◌<◌, ◌^◌, IfSome, Some, position};
+ghost use Rattle.mt_import.specs.Reader.{IsFit, slots_of};
+ghost use Rattle.mt_import.specs.Outcome.{firm_of, hint_of, values_of};
+ghost use Rattle.mt_import.specs.Values.{assumed_capabilities, assumed_mask, assumed_pair, assumed_value, assumed_zero, base_of, disabled_value, firm_value, firm_width, is_pair_number, is_past, mask_of, mask_of_size, masks_in, only_if, or_supplied, pair_count, shown_pairs, size_in, widest, width_at, width_by, width_limits};
+
+use crate::shape::Slot;
+use crate::supplied::Assumed;
+use crate::{LogReader, Supplied};
+use mt_kinds::is_bit_set;
+use mt_regs::{CAPABILITIES, FIRST_PAIR, PAT, POWER_UP_PAT};
+
+const FIRST_MASK: u32 = FIRST_PAIR + 1;
+
+// V of PhysMask.
+const VALID: u8 = 11;
+
+const VALID_BIT: u64 = 0x800;
+
+// FIX of IA32_MTRRCAP.
+const FIXED_RANGES: u8 = 8;
+
+// FIX and WC of IA32_MTRRCAP.
+const FIXED_AND_COMBINING: u64 = 0x500;
+
+const PAIRS: u32 = 32;
+
+const MOST_BITS: u8 = 52;
+
+// 2 to the power of each width from 32 to 52.
+const WIDTH_LIMITS: [u64; 21] = [
+    0x1_0000_0000,
+    0x2_0000_0000,
+    0x4_0000_0000,
+    0x8_0000_0000,
+    0x10_0000_0000,
+    0x20_0000_0000,
+    0x40_0000_0000,
+    0x80_0000_0000,
+    0x100_0000_0000,
+    0x200_0000_0000,
+    0x400_0000_0000,
+    0x800_0000_0000,
+    0x1000_0000_0000,
+    0x2000_0000_0000,
+    0x4000_0000_0000,
+    0x8000_0000_0000,
+    0x1_0000_0000_0000,
+    0x2_0000_0000_0000,
+    0x4_0000_0000_0000,
+    0x8_0000_0000_0000,
+    0x10_0000_0000_0000,
+];
+
+fn or_supplied(value: Option<u64>, other: Option<u64>) -> Option<u64>
+    ensures { result ≡ or_supplied value other }
+{
+    match value {
+        Some(value) => Some(value),
+        None => other,
+    }
+}
+
+// A width, or else the greatest.
+fn or_widest(width: Option<u8>) -> Option<u8>
+    requires { IfSome width IsFit }
+    ensures width { result ≡ or_supplied width (Some 52) }
+    ensures fit { IfSome result (λ width. width ≤ 52) }
+{
+    match width {
+        Some(width) => Some(width),
+        None => Some(MOST_BITS),
+    }
+}
+
+fn only_if(is_assumed: bool, value: Option<u64>) -> Option<u64>
+    ensures { result ≡ only_if is_assumed value }
+{
+    if is_assumed { value } else { None }
+}
+
+fn is_pair_number(number: u32) -> bool
+    ensures { result ≡ is_pair_number number }
+{
+    0x1ff < number && number < 0x240
+}
+
+fn base_of(number: u32) -> u32
+    ensures { result ≡ base_of number }
+{
+    number / 2 * 2
+}
+
+fn mask_of(number: u32) -> u32
+    requires { number < 0x1000 }
+    ensures { result ≡ mask_of number }
+{
+    number / 2 * 2 + 1
+}
+
+fn power_of_two(exponent: u8) -> u64
+    requires { exponent ≤ 52 }
+    ensures { result ≡ 2 ^ exponent }
+{
+    1 << exponent
+}
+
+fn size_in(slot: &Slot) -> u64
+    ensures { result ≡ size_in slot.now }
+{
+    slot.value.saturating_sub(VALID_BIT)
+}
+
+// The mask of a size, with ones up to the width.
+fn mask_of_size(slot: &Slot, width: u8) -> Option<u64>
+    requires { width ≤ 52 }
+    ensures { result ≡ mask_of_size slot.now width }
+{
+    let size = size_in(slot);
+    let limit = power_of_two(width);
+    if 0xfff < size && size < limit && slot.bits == 2 * size - 1 {
+        Some(limit - size + VALID_BIT)
+    } else {
+        None
+    }
+}
+
+fn assumed_mask(slot: &Slot, width: Option<u8>) -> Option<u64>
+    requires { IfSome width (λ width. width ≤ 52) }
+    ensures { result ≡ assumed_mask slot.now width }
+{
+    match width {
+        Some(width) => mask_of_size(slot, width),
+        None => None,
+    }
+}
+
+fn is_past(masks: u64, limit: u64) -> bool
+    ensures { result ≡ is_past masks limit }
+{
+    masks < limit
+}
+
+fn limit_past(masks: u64) -> Option<usize>
+    ensures { result ≡ position (is_past masks) width_limits }
+{
+    WIDTH_LIMITS.iter().position(|limit| masks < *limit)
+}
+
+fn width_at(at: Option<usize>) -> Option<u8>
+    ensures width { result ≡ width_at at }
+    ensures fit { IfSome result IsFit }
+{
+    match at {
+        Some(k) if k < 21 => Some(32 + k as u8),
+        _ => None,
+    }
+}
+
+// The least width that has all bits of the masks.
+pub(crate) fn widest(masks: u64) -> Option<u8>
+    ensures width { result ≡ widest masks }
+    ensures fit { IfSome result IsFit }
+{
+    if masks < 0x8000_0000 {
+        None
+    } else {
+        width_at(limit_past(masks))
+    }
+}
+
+impl LogReader {
+    fn disabled_value(&self, k: u32, number: u32) -> Option<u64>
+        requires processor { k < 16 }
+        requires number { number < 0x1000 }
+        ensures { result ≡ disabled_value (slots_of self.now k) number }
+    {
+        if is_pair_number(number) && self.slot(k, mask_of(number)).is_disabled() {
+            Some(0)
+        } else {
+            None
+        }
+    }
+
+    /// The value of a processor's register, shown or else supplied.
+    pub(crate) fn firm_value(&self, supplied: &Supplied, k: u32, number: u32) -> Option<u64>
+        requires processor { k < 16 }
+        requires number { number < 0x1000 }
+        ensures { result ≡ firm_of supplied.now (slots_of self.now) k number }
+    {
+        let supplied = or_supplied(supplied.value(number), self.disabled_value(k, number));
+        or_supplied(self.slot(k, number).whole(), supplied)
+    }
+
+    // How many of the first 32 pairs a log shows: V of the last is shown.
+    fn shown_pairs(&self, k: u32) -> u32
+        requires { k < 16 }
+        ensures pairs { result ≡ shown_pairs (slots_of self.now k) 32 }
+        ensures few { result ≤ 32 }
+    {
+        let mut count = 0;
+        'pairs: for n in 0..PAIRS {
+            if is_bit_set(self.slot(k, FIRST_MASK + 2 * n).bits, VALID) {
+                count = n + 1;
+            }
+        }
+        count
+    }
+
+    fn pair_count(&self, k: u32) -> u64
+        requires { k < 16 }
+        ensures count { result ≡ pair_count (slots_of self.now k) }
+        ensures few { result < 256 }
+    {
+        let slot = self.slot(k, CAPABILITIES);
+        if slot.bits % 256 == 255 {
+            slot.value % 256
+        } else {
+            self.shown_pairs(k) as u64
+        }
+    }
+
+    fn assumed_capabilities(&self, k: u32) -> Option<u64>
+        requires { k < 16 }
+        ensures { result ≡ assumed_capabilities (slots_of self.now k) }
+    {
+        if is_bit_set(self.slot(k, CAPABILITIES).value, FIXED_RANGES) {
+            Some(self.pair_count(k) + FIXED_AND_COMBINING)
+        } else {
+            None
+        }
+    }
+
+    fn assumed_zero(&self, k: u32, number: u32) -> Option<u64>
+        requires processor { k < 16 }
+        requires number { number < 0x1000 }
+        ensures { result ≡ assumed_zero (slots_of self.now k) number }
+    {
+        let base = self.slot(k, base_of(number));
+        let mask = self.slot(k, mask_of(number));
+        if base.bits == 0 && mask.bits == 0 {
+            Some(0)
+        } else {
+            None
+        }
+    }
+
+    fn assumed_pair(&self, assumed: &Assumed, k: u32, width: Option<u8>, number: u32) -> Option<u64>
+        requires processor { k < 16 }
+        requires number { number < 0x1000 }
+        requires width { IfSome width (λ width. width ≤ 52) }
+        ensures { result ≡ assumed_pair assumed.now (slots_of self.now k) width number }
+    {
+        let mask = assumed_mask(&self.slot(k, number), width);
+        or_supplied(
+            only_if(assumed.masks, mask),
+            only_if(assumed.pairs, self.assumed_zero(k, number)),
+        )
+    }
+
+    fn assumed_value(
+        &self,
+        assumed: &Assumed,
+        k: u32,
+        width: Option<u8>,
+        number: u32,
+    ) -> Option<u64>
+        requires processor { k < 16 }
+        requires number { number < 0x1000 }
+        requires width { IfSome width (λ width. width ≤ 52) }
+        ensures { result ≡ assumed_value assumed.now (slots_of self.now k) width number }
+    {
+        if number == PAT {
+            only_if(assumed.pat, Some(POWER_UP_PAT))
+        } else if number == CAPABILITIES {
+            only_if(assumed.capabilities, self.assumed_capabilities(k))
+        } else if is_pair_number(number) {
+            self.assumed_pair(assumed, k, width, number)
+        } else {
+            None
+        }
+    }
+
+    /// The value of a processor's register, shown, or else supplied, or else assumed.
+    pub fn value(&self, supplied: &Supplied, k: u32, number: u32) -> Option<u64>
+        requires processor { k < 16 }
+        requires number { number < 0x1000 }
+        requires fit { IfSome self.now.width IsFit }
+        ensures { result ≡ values_of supplied.now (slots_of self.now) self.now.width k number }
+    {
+        let width = self.width(supplied);
+        or_supplied(
+            self.firm_value(supplied, k, number),
+            self.assumed_value(&supplied.assumed(), k, width, number),
+        )
+    }
+
+    /// What processor 0's register would be if all were assumed.
+    pub(crate) fn hint(&self, supplied: &Supplied, number: u32) -> Option<u64>
+        requires number { number < 0x1000 }
+        requires fit { IfSome self.now.width IsFit }
+        ensures { result ≡ hint_of supplied.now (slots_of self.now) self.now.width number }
+    {
+        let width = or_widest(self.width(supplied));
+        self.assumed_value(&Assumed::all(), 0, width, number)
+    }
+
+    /// The bits of processor 0's masks that are shown whole.
+    pub(crate) fn masks(&self) -> u64
+        ensures { result ≡ masks_in (slots_of self.now 0) 32 }
+    {
+        let mut masks = 0;
+        'pairs: for n in 0..PAIRS {
+            masks |= self.slot(0, FIRST_MASK + 2 * n).whole().unwrap_or(0);
+        }
+        masks
+    }
+
+    /// The address width, shown or else supplied.
+    pub(crate) fn firm_width(&self, supplied: &Supplied) -> Option<u8>
+        requires { IfSome self.now.width IsFit }
+        ensures width { result ≡ firm_width supplied.now self.now.width }
+        ensures fit { IfSome result IsFit }
+    {
+        supplied.is_supplied(); // a fact for the proof
+        match self.shown_width() {
+            Some(width) => Some(width),
+            None => supplied.width,
+        }
+    }
+
+    /// The address width, shown, or else supplied, or else assumed.
+    pub fn width(&self, supplied: &Supplied) -> Option<u8>
+        requires { IfSome self.now.width IsFit }
+        ensures width { result ≡ width_by supplied.now (slots_of self.now) self.now.width }
+        ensures fit { IfSome result IsFit }
+    {
+        match self.firm_width(supplied) {
+            Some(width) => Some(width),
+            None if supplied.assumed().width => widest(self.masks()),
+            None => None,
+        }
+    }
+}

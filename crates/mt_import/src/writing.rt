@@ -1,0 +1,69 @@
+ghost use Rattle.std.specs.Prelude.{◌≡◌, ◌++◌};
+ghost use Rattle.mt_ports.specs.Causes.{HasCause, StatusHasCause};
+ghost use Rattle.mt_ports.specs.Puts.{Puts};
+ghost use Rattle.mt_output.specs.Written.{Writes};
+ghost use Rattle.mt_import.specs.Import.{HaveCause, IsWritten, WritesApart, one_text};
+
+use crate::text::Imported;
+use mt_output::written;
+use mt_ports::{Failed, Sink, Status, put};
+
+// Writes two texts, one behind the other.
+fn put_both<K: Sink>(sink: &mut K, first: &[u8], second: &[u8]) -> Result<(), Failed>
+    ensures bytes { Puts (K.taken sink.old) (K.taken sink.new) result (first.now ++ second.now) }
+    ensures cause { HasCause (K.faults sink.old) (K.faults sink.new) result }
+{
+    match put(sink, first) {
+        Ok(()) => put(sink, second),
+        Err(failed) => Err(failed),
+    }
+}
+
+fn written_both<K: Sink>(sink: &mut K, first: &[u8], second: &[u8], status: Status) -> Status
+    requires { IsWritten status }
+    ensures bytes { Writes (first.now ++ second.now) status (K.taken sink.old) (K.taken sink.new) result }
+    ensures cause { StatusHasCause Status.WriteFault (K.faults sink.old) (K.faults sink.new) result }
+{
+    match put_both(sink, first, second) {
+        Ok(()) => status,
+        Err(_) => Status::WriteFault,
+    }
+}
+
+/// Writes the dump with its comments, or else the reasons, and returns the status unless the sink fails.
+pub(crate) fn written_in_one<K: Sink>(sink: &mut K, imported: &Imported) -> Status
+    requires { IsWritten imported.now.status }
+    ensures bytes { Writes (one_text imported.now) imported.now.status (K.taken sink.old) (K.taken sink.new) result }
+    ensures cause { StatusHasCause Status.WriteFault (K.faults sink.old) (K.faults sink.new) result }
+{
+    if imported.dump.is_empty() {
+        written(sink, imported.reasons.as_slice(), imported.status)
+    } else {
+        written_both(
+            sink,
+            imported.notes.as_slice(),
+            imported.dump.as_slice(),
+            imported.status,
+        )
+    }
+}
+
+/// Writes the reasons to one sink and the dump with its comments to the other, and returns the status unless a sink fails.
+pub(crate) fn written_apart<K: Sink, E: Sink>(
+    sink: &mut K,
+    errors: &mut E,
+    imported: &Imported,
+) -> Status
+    requires { IsWritten imported.now.status }
+    ensures bytes { WritesApart imported.now
+        (record { old = K.taken sink.old; new = K.taken sink.new }) (record { old = E.taken errors.old; new = E.taken errors.new }) result }
+    ensures cause { HaveCause (K.faults sink.old, K.faults sink.new) (E.faults errors.old, E.faults errors.new) result }
+{
+    if put(errors, imported.reasons.as_slice()).is_err() {
+        return Status::WriteFault;
+    }
+    match put_both(sink, imported.notes.as_slice(), imported.dump.as_slice()) {
+        Ok(()) => imported.status,
+        Err(_) => Status::WriteFault,
+    }
+}

@@ -1,0 +1,146 @@
+-- Where the values of a dump come from.
+use Rattle.std.proofs.Common.{◌≡◌, ◌<◌, ◌+◌, ℕ, zero, suc, Bool, true, false, ◌==◌, ◌&&◌, ◌||◌, nat_lt, List, [], ◌∷◌, ◌++◌, length, Option, Some, None, refl, sym, ◌∙◌, ap, subst, inl, inr, arith}
+use Rattle.std.specs.Prelude.{◌⊎◌, is_none, if◌then◌else◌}
+use Rattle.std.proofs.lemmas.Bool.{eqb-true, eqb-false}
+use Rattle.mt_ports.specs.declared.status.Status.TheVariants.{Done}
+use Rattle.mt_dump.specs.Canon.{canon}
+use Rattle.mt_import.specs.declared.fault.ImportFault.{ImportFault}
+use Rattle.mt_import.specs.declared.format.Choice.{Choice}
+use Rattle.mt_import.specs.declared.shape.Reading.{Reading}
+use Rattle.mt_import.specs.declared.shape.Tally.{Tally}
+use Rattle.mt_import.specs.Shown.{format_of, is_auto, shown}
+use Rattle.mt_import.specs.Slot.{is_disabled, whole_value}
+use Rattle.mt_import.specs.Supplied.{Supplied, supplied_value}
+use Rattle.mt_import.specs.Values.{assumed_value, disabled_value, firm_value, is_pair_number, mask_of, or_supplied, width_by}
+use Rattle.mt_import.specs.Outcome.{Seen, Told, dump_in, dump_told, ended, ended_by, ended_with, is_empty, is_missing, missing_line, missing_lines, missing_of, missing_width, needed, notes_of, processors, refusal, remarks, slot_shown, unless, values_of, hint_of}
+use Rattle.mt_import.specs.Import.{log_told}
+use Rattle.mt_import.proofs.Same.{value_is}
+use Rattle.mt_import_laws.specs.Origins.{HasOrigins, IsAmong, Origin, by_assumption, by_disabled, by_lines, by_word, readings_of, seen_of}
+use Rattle.mt_import_laws.proofs.Fine.{IsFine}
+use Rattle.mt_import_laws.proofs.Faults.{fault_of, fine_of}
+use Rattle.mt_import_laws.proofs.Shown.{is_shown, shown_clear}
+
+-- ---- one value
+
+module _ (supplied : Supplied) (readings : List Reading) (width : Option ℕ) (k number value : ℕ) (fine : IsFine supplied readings) where
+  from_assumption : or_supplied None (assumed_value supplied.assumed (slot_shown readings k) width number) ≡ Some value → Origin supplied readings width k number value
+  from_assumption is = by_assumption is
+
+  from_disabled : (pair clear : Bool) → is_pair_number number ≡ pair → is_disabled (slot_shown readings k (mask_of number)) ≡ clear
+      → or_supplied (if pair && clear then Some 0 else None) (assumed_value supplied.assumed (slot_shown readings k) width number) ≡ Some value → Origin supplied readings width k number value
+  from_disabled true true is_pair is_clear is =
+      let found = shown_clear supplied readings k (mask_of number) fine is_clear in
+      by_disabled (record { zero = zero_of is; pair = is_pair; valid = found.0; clear = found.1 })
+    where
+      zero_of : ◌≡◌ {A = Option ℕ} (Some 0) (Some value) → value ≡ 0
+      zero_of e = cc e
+  from_disabled true false is_pair not_clear is = by_assumption is
+  from_disabled false clear not_pair same is = by_assumption is
+
+  from_word : (given : Option ℕ) → supplied_value supplied number ≡ given
+      → or_supplied (or_supplied given (disabled_value (slot_shown readings k) number)) (assumed_value supplied.assumed (slot_shown readings k) width number) ≡ Some value → Origin supplied readings width k number value
+  from_word (Some other) is_given is = by_word (is_given ∙ is)
+  from_word None is_given is = from_disabled (is_pair_number number) (is_disabled (slot_shown readings k (mask_of number))) refl refl is
+
+  from_lines : (whole : Option ℕ) → whole_value (slot_shown readings k number) ≡ whole
+      → or_supplied (or_supplied whole (or_supplied (supplied_value supplied number) (disabled_value (slot_shown readings k) number))) (assumed_value supplied.assumed (slot_shown readings k) width number) ≡ Some value
+      → Origin supplied readings width k number value
+  from_lines (Some other) is_whole is = by_lines (is_shown supplied readings k number value fine (is_whole ∙ is))
+  from_lines None is_whole is = from_word (supplied_value supplied number) refl is
+
+  pub origin : or_supplied (firm_value supplied (slot_shown readings k) number) (assumed_value supplied.assumed (slot_shown readings k) width number) ≡ Some value → Origin supplied readings width k number value
+  origin is = from_lines (whole_value (slot_shown readings k number)) refl is
+
+-- ---- nothing is missing
+
+empty_text : (text : List ℕ) → is_empty text ≡ true → text ≡ []
+empty_text [] is = refl
+empty_text (byte ∷ bytes) is = cc is
+
+empty_both : (xs ys : List ℕ) → xs ++ ys ≡ [] → (xs ≡ []) × (ys ≡ [])
+empty_both [] ys is = (refl, is)
+empty_both (x ∷ xs) ys is = cc is
+
+not_missing : (values : ℕ → ℕ → Option ℕ) (count number k : ℕ) → k < count → is_missing values count number ≡ false → is_none (values k number) ≡ false
+not_missing values zero number k less none = absurd (omega (arith, less))
+not_missing values (suc count) number k less none = by (is_missing values count number) (is_none (values count number)) refl refl none
+  where
+    other : (a b : ℕ) → a < suc b → (a ≡ b → ⊥) → a < b
+    other a b less apart = omega (arith, less, apart)
+
+    last : (test : Bool) → (k == count) ≡ test → is_missing values count number ≡ false → is_none (values count number) ≡ false → is_none (values k number) ≡ false
+    last true same before here = ap (λ j. is_none (values j number)) (eqb-true k count same) ∙ here
+    last false apart before here = not_missing values count number k (other k count less (eqb-false k count apart)) before
+
+    by : (before here : Bool) → is_missing values count number ≡ before → is_none (values count number) ≡ here → (before || here) ≡ false → is_none (values k number) ≡ false
+    by true here is_before is_here none = cc none
+    by false true is_before is_here none = cc none
+    by false false is_before is_here none = last (k == count) refl is_before is_here
+
+module _ (hints : ℕ → Option ℕ) (values : ℕ → ℕ → Option ℕ) (count : ℕ) where
+  -- a line has bytes
+  no_line : (number : ℕ) (test : Bool) → (if test then missing_line number (hints number) else []) ≡ [] → test ≡ false
+  no_line number true is = cc is
+  no_line number false is = refl
+
+  none_missing : (numbers : List ℕ) (number : ℕ) → missing_lines hints values count numbers ≡ [] → IsAmong number numbers → is_missing values count number ≡ false
+  none_missing [] number empty among = absurd among
+  none_missing (n ∷ ns) number empty (inl same) =
+      let both = empty_both (if is_missing values count n then missing_line n (hints n) else []) (missing_lines hints values count ns) empty in
+      subst (λ m. is_missing values count m ≡ false) same (no_line n (is_missing values count n) both.0)
+  none_missing (n ∷ ns) number empty (inr later) =
+      none_missing ns number (empty_both (if is_missing values count n then missing_line n (hints n) else []) (missing_lines hints values count ns) empty).1 later
+
+some_value : (o : Option ℕ) → is_none o ≡ false → (value : ℕ) × (o ≡ Some value)
+some_value (Some value) is = (value, refl)
+some_value None is = cc is
+
+-- ---- the dump
+
+module _ (supplied : Supplied) (seen : Seen) (auto : Bool) (fine : IsFine supplied seen.readings) where
+  abbrev values : ℕ → ℕ → Option ℕ
+  values = values_of supplied (slot_shown seen.readings) seen.width
+
+  abbrev missing : List ℕ
+  missing = missing_of supplied (slot_shown seen.readings) (processors seen.readings) seen.width
+
+  abbrev notes : List ℕ
+  notes = notes_of supplied (slot_shown seen.readings) (processors seen.readings) seen.width
+
+  -- with this width and this capability register, where nothing is missing
+  dumped : (width capabilities : Option ℕ) → width_by supplied (slot_shown seen.readings) seen.width ≡ width → values 0 0xfe ≡ capabilities → missing ≡ []
+      → (dump_told (refusal seen.tally missing) values (processors seen.readings) notes (remarks auto seen.tally) width capabilities).status ≡ Done
+      → HasOrigins supplied seen (dump_told (refusal seen.tally missing) values (processors seen.readings) notes (remarks auto seen.tally) width capabilities)
+  dumped (Some width) (Some capabilities) is_width is_capabilities empty done =
+      let both = empty_both (missing_width (width_by supplied (slot_shown seen.readings) seen.width) _) (missing_lines (hint_of supplied (slot_shown seen.readings) seen.width) values (processors seen.readings) (needed (values 0 0xfe))) empty in
+      record {
+        width = width;
+        capabilities = capabilities;
+        width_is = is_width;
+        capabilities_is = is_capabilities;
+        dump_is = refl;
+        each = λ k number less among.
+            let none = none_missing (hint_of supplied (slot_shown seen.readings) seen.width) values (processors seen.readings) (needed (values 0 0xfe)) number both.1 (subst (λ c. IsAmong number (needed c)) (sym is_capabilities) among) in
+            let found = some_value (values k number) (not_missing values (processors seen.readings) number k less none) in
+            (found.0, found.1, subst (λ w. Origin supplied seen.readings w k number found.0) is_width (origin supplied seen.readings (width_by supplied (slot_shown seen.readings) seen.width) k number found.0 fine (sym (value_is supplied (slot_shown seen.readings) seen.width k number) ∙ found.1)));
+      }
+  dumped (Some width) None is_width is_capabilities empty done = cc done
+  dumped None capabilities is_width is_capabilities empty done = cc done
+
+  pub ended_dump : (test : Bool) → is_empty missing ≡ test
+      → (if test then dump_told (refusal seen.tally missing) values (processors seen.readings) notes (remarks auto seen.tally) (width_by supplied (slot_shown seen.readings) seen.width) (values 0 0xfe) else refusal seen.tally missing).status ≡ Done
+      → HasOrigins supplied seen (if test then dump_told (refusal seen.tally missing) values (processors seen.readings) notes (remarks auto seen.tally) (width_by supplied (slot_shown seen.readings) seen.width) (values 0 0xfe) else refusal seen.tally missing)
+  ended_dump true is done = dumped (width_by supplied (slot_shown seen.readings) seen.width) (values 0 0xfe) refl refl (empty_text missing is) done
+  ended_dump false is done = cc done
+
+pub origins : (choice : Choice) (supplied : Supplied) (text : List ℕ) → (log_told choice supplied text).status ≡ Done → HasOrigins supplied (seen_of choice text) (log_told choice supplied text)
+origins choice supplied text done = by (fault_of choice supplied text) refl done
+  where
+    told : Told
+    told = ended (is_auto choice) supplied (seen_of choice text)
+
+    by : (fault : Option ImportFault) → fault_of choice supplied text ≡ fault → (unless fault told).status ≡ Done → HasOrigins supplied (seen_of choice text) (unless fault told)
+    by (Some fault) is done = cc done
+    by None is done =
+        ended_dump supplied (seen_of choice text) (is_auto choice) (fine_of choice supplied text is)
+        (is_empty (missing_of supplied (slot_shown (readings_of choice text)) (processors (readings_of choice text)) (seen_of choice text).width)) refl done
