@@ -13,3 +13,4 @@ mod texts;
 pub use replayer::Replayer;
 pub use running::{replay, replay_with};
 pub use summing::{Totals, summary, summary_with};
+pub use task::{Act, Ask, Section, Task};

@@ -206,7 +206,7 @@ impl Replayer {
 
     /// Does a command that asks for this act, and adds its line to the bytes that wait. An update runs each
     /// processor on a thread of its own, where the gate and the allocator let it.
-    pub(crate) fn run<R: Threads + Wait + Sync, G: Gate>(
+    pub fn run<R: Threads + Wait + Sync, G: Gate>(
         &mut self,
         caller: &Caller<R, G>,
         alloc: Global,

@@ -2,7 +2,7 @@ use mt_machine::{Control, Op};
 
 /// What a command of a script asks for.
 #[derive(Clone, Copy)]
-pub(crate) enum Task {
+pub enum Task {
     /// Lines about all processors.
     Report,
     /// So many lines of memory from an address on. It has no line.
@@ -17,7 +17,7 @@ pub(crate) enum Task {
 
 /// What is done without asking for memory.
 #[derive(Clone, Copy)]
-pub(crate) enum Act {
+pub enum Act {
     /// Something of one processor, which may be absent.
     Ask(u32, Ask),
     Go,
@@ -32,7 +32,7 @@ pub(crate) enum Act {
 
 /// What is asked of one processor.
 #[derive(Clone, Copy)]
-pub(crate) enum Ask {
+pub enum Ask {
     Access(Op),
     Control(Control),
     Step,
@@ -42,7 +42,7 @@ pub(crate) enum Ask {
 
 /// A line of the section that an update takes its registers from.
 #[derive(Clone, Copy)]
-pub(crate) enum Section {
+pub enum Section {
     Begin,
     /// Its number and its value.
     Register(u32, u64),
