@@ -1,5 +1,5 @@
 -- Contradictions are faults.
-use Rattle.std.proofs.Common.{◌≡◌, ℕ, List, Option, Some, None, refl, sym, ◌∙◌, ap, subst, ⊤}
+use Rattle.std.proofs.Common.{◌≡◌, ℕ, List, Option, Some, None, refl, sym, ◌∙◌, ap, subst}
 use Rattle.std.specs.Int.{bit_at}
 use Rattle.mt_ports.specs.declared.status.Status.TheVariants.{BadText, Done}
 use Rattle.mt_import.specs.declared.fault.ImportFault.{ImportFault}
