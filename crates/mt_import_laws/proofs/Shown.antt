@@ -114,7 +114,7 @@ is_shown supplied readings k number value fine found =
           let b = found_bit.0 in
           let agrees = (agreed supplied readings b.reading i fine b.among b.shown_bit).value in
           let here : (slot_shown readings b.reading.processor b.reading.number).value ≡ value =
-              ap (λ j. (slot_shown readings j b.reading.number).value) b.processor_is ∙ ap (λ m. (slot_shown readings k m).value) b.number_is ∙ whole.1 in
+          ap (λ j. (slot_shown readings j b.reading.number).value) b.processor_is ∙ ap (λ m. (slot_shown readings k m).value) b.number_is ∙ whole.1 in
           (b, found_bit.1, sym agrees ∙ ap (λ v. bit_at v i) here);
     }
 
@@ -144,5 +144,5 @@ shown_clear supplied readings k number fine is =
     let b = bit_shown readings k number 11 (set_bit slot.bits tests.0) in
     let agrees = (agreed supplied readings b.reading 11 fine b.among b.shown_bit).value in
     let here : (slot_shown readings b.reading.processor b.reading.number).value ≡ slot.value =
-        ap (λ j. (slot_shown readings j b.reading.number).value) b.processor_is ∙ ap (λ m. (slot_shown readings k m).value) b.number_is in
+    ap (λ j. (slot_shown readings j b.reading.number).value) b.processor_is ∙ ap (λ m. (slot_shown readings k m).value) b.number_is in
     (b, sym agrees ∙ ap (λ v. bit_at v 11) here ∙ clear_bit slot.value tests.1)
