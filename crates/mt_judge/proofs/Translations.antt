@@ -1,6 +1,6 @@
 -- The entry by which a processor translates, and the processor once it has that entry.
 use Rattle.std.proofs.Common.{◌≡◌, ◌∙◌, ap, sym, refl, ℕ, zero, suc, ◌/◌, List, [], ◌∷◌, Option, Some, None, slice_get, slice_set, if◌then◌else◌}
-use Rattle.std.specs.Prelude.{is_some}
+use Rattle.std.specs.Prelude.{Bool, true, false, is_some, IfOk, OnOk, Result, Ok, Err}
 use Rattle.std.specs.Option.{option_map, option_map_or}
 use Rattle.mt_lists.proofs.Keys.{found_key}
 use Rattle.mt_tlb.specs.declared.entry.Entry.{Entry}
@@ -71,3 +71,18 @@ entered_in ps k va p q o at made =
     one : (x : Option Entry) → slice_set ps k (option_map_or (λ e. keep_entry e p) x p) ≡ option_map_or (λ e. with_changed (keep_entry e) k ps) x ps
     one None = set_same ps k p at
     one (Some e) = sym (changed_there (keep_entry e) k ps p at)
+
+pub changed_if : (b : Bool) (f : Processor → Processor) (ps : List Processor) (k : ℕ) (p q : Processor) → slice_get ps k ≡ Some p → q ≡ (if b then p else f p)
+    → slice_set ps k q ≡ (if b then ps else with_changed f k ps)
+changed_if true f ps k p q at is = ap (slice_set ps k) is ∙ set_same ps k p at
+changed_if false f ps k p q at is = ap (slice_set ps k) is ∙ sym (changed_there f k ps p at)
+
+-- ---- results
+
+pub if_ok : {T E : Type 0} (P Q : T → Type 0) → ((x : T) → P x → Q x) → (r : Result T E) → IfOk r P → IfOk r Q
+if_ok P Q f (Ok x) h = f x h
+if_ok P Q f (Err e) h = tt
+
+pub on_ok : {T E : Type 0} {A B : Type 0} → (A → B) → (r : Result T E) → OnOk r A → OnOk r B
+on_ok f (Ok x) h = f h
+on_ok f (Err e) h = tt

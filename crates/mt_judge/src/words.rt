@@ -1,9 +1,11 @@
-ghost use Rattle.std.specs.Prelude.{◌<◌, ◌≤◌, IfOk};
+ghost use Rattle.std.specs.Prelude.{◌<◌, ◌≤◌, IfOk, IsErr};
 
 use crate::case::{Reason, Trouble};
 use mt_text::{Line, NumberFault, Place, Words, decimal, hex64};
 
-pub(crate) fn bad<T>(place: Place, reason: Reason) -> Result<T, Trouble> {
+pub(crate) fn bad<T>(place: Place, reason: Reason) -> Result<T, Trouble>
+    ensures { IsErr result }
+{
     Err(Trouble::Bad { place, reason })
 }
 
