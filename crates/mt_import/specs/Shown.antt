@@ -61,7 +61,7 @@ is_telling (VariableRanges enabled place) = true
 is_telling Nothing = false
 is_telling (Value value place) = false
 is_telling (Turns processor) = false
-is_telling (Width width place) = false
+is_telling (Width width place) = true
 is_telling Warns = false
 is_telling (Long place) = false
 

@@ -108,7 +108,8 @@ fn is_telling(said: &Said) -> bool
         | Said::Shows(..)
         | Said::Begins(_)
         | Said::FixedRanges(..)
-        | Said::VariableRanges(..) => true,
+        | Said::VariableRanges(..)
+        | Said::Width(..) => true,
         _ => false,
     }
 }

@@ -24,7 +24,7 @@ module _ (slot : Slot) (reading : Reading) (i : ℕ) where
   same_bits : clashes slot reading ≡ false → min (bit_at slot.value i) (bit_at reading.bits i) ≡ min (bit_at reading.value i) (bit_at slot.bits i)
   same_bits fits =
       let e : bit_and slot.value reading.bits ≡ bit_and reading.value slot.bits =
-          eqb-true (bit_and slot.value reading.bits) (bit_and reading.value slot.bits) (not_false (bit_and slot.value reading.bits == bit_and reading.value slot.bits) fits) in
+      eqb-true (bit_and slot.value reading.bits) (bit_and reading.value slot.bits) (not_false (bit_and slot.value reading.bits == bit_and reading.value slot.bits) fits) in
       sym (bit_at_and slot.value reading.bits i) ∙ ap (λ x. bit_at x i) e ∙ bit_at_and reading.value slot.bits i
 
   pub value_kept : clashes slot reading ≡ false → bit_at slot.bits i ≡ 1 → bit_at (bit_or slot.value reading.value) i ≡ bit_at slot.value i

@@ -63,19 +63,20 @@ empty_both (x ∷ xs) ys is = cc is
 
 not_missing : (values : ℕ → ℕ → Option ℕ) (count number k : ℕ) → k < count → is_missing values count number ≡ false → is_none (values k number) ≡ false
 not_missing values zero number k less none = absurd (omega (arith, less))
-not_missing values (suc count) number k less none = by (is_missing values count number) (is_none (values count number)) refl refl none
+not_missing values (suc count) number k less none = by (λ below before. not_missing values count number k below before) (is_missing values count number) (is_none (values count number)) refl refl none
   where
     other : (a b : ℕ) → a < suc b → (a ≡ b → ⊥) → a < b
     other a b less apart = omega (arith, less, apart)
 
-    last : (test : Bool) → (k == count) ≡ test → is_missing values count number ≡ false → is_none (values count number) ≡ false → is_none (values k number) ≡ false
-    last true same before here = ap (λ j. is_none (values j number)) (eqb-true k count same) ∙ here
-    last false apart before here = not_missing values count number k (other k count less (eqb-false k count apart)) before
+    last : (k < count → is_missing values count number ≡ false → is_none (values k number) ≡ false) → (test : Bool) → (k == count) ≡ test → is_missing values count number ≡ false → is_none (values count number) ≡ false → is_none (values k number) ≡ false
+    last earlier true same before here = ap (λ j. is_none (values j number)) (eqb-true k count same) ∙ here
+    last earlier false apart before here = earlier (other k count less (eqb-false k count apart)) before
 
-    by : (before here : Bool) → is_missing values count number ≡ before → is_none (values count number) ≡ here → (before || here) ≡ false → is_none (values k number) ≡ false
-    by true here is_before is_here none = cc none
-    by false true is_before is_here none = cc none
-    by false false is_before is_here none = last (k == count) refl is_before is_here
+    by : (k < count → is_missing values count number ≡ false → is_none (values k number) ≡ false) → (before here : Bool) → is_missing values count number ≡ before → is_none (values count number) ≡ here
+        → (before || here) ≡ false → is_none (values k number) ≡ false
+    by earlier true here is_before is_here none = cc none
+    by earlier false true is_before is_here none = cc none
+    by earlier false false is_before is_here none = last earlier (k == count) refl is_before is_here
 
 module _ (hints : ℕ → Option ℕ) (values : ℕ → ℕ → Option ℕ) (count : ℕ) where
   -- a line has bytes

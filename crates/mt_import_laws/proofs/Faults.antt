@@ -1,5 +1,5 @@
 -- Contradictions are faults.
-use Rattle.std.proofs.Common.{◌≡◌, ℕ, List, Option, Some, None, refl, sym, ◌∙◌, ap, subst, ⊤}
+use Rattle.std.proofs.Common.{◌≡◌, ℕ, List, Option, Some, None, refl, sym, ◌∙◌, ap, subst}
 use Rattle.std.specs.Int.{bit_at}
 use Rattle.mt_ports.specs.declared.status.Status.TheVariants.{BadText, Done}
 use Rattle.mt_import.specs.declared.fault.ImportFault.{ImportFault}
@@ -26,13 +26,13 @@ pub contradictions : (choice : Choice) (supplied : Supplied) (text : List ℕ) (
     → (log_told choice supplied text).status ≡ BadText
 contradictions choice supplied text a b has_a has_b apart =
     faulty (fault_of choice supplied text) (ended (is_auto choice) supplied (seen_of choice text)) (λ none.
-      let fine = fine_of choice supplied text none in
-      let one = agreed supplied (readings_of choice text) a apart.bit fine has_a apart.first in
-      let two = agreed supplied (readings_of choice text) b apart.bit fine has_b apart.second in
-      let same = ap (λ k. bit_at (slot_shown (readings_of choice text) k a.number).value apart.bit) apart.processor ∙ ap (λ n. bit_at (slot_shown (readings_of choice text) b.processor n).value apart.bit) apart.number in
-      apart.differ (sym one.value ∙ same ∙ two.value))
+    let fine = fine_of choice supplied text none in
+    let one = agreed supplied (readings_of choice text) a apart.bit fine has_a apart.first in
+    let two = agreed supplied (readings_of choice text) b apart.bit fine has_b apart.second in
+    let same = ap (λ k. bit_at (slot_shown (readings_of choice text) k a.number).value apart.bit) apart.processor ∙ ap (λ n. bit_at (slot_shown (readings_of choice text) b.processor n).value apart.bit) apart.number in
+    apart.differ (sym one.value ∙ same ∙ two.value))
 
 pub word_contradictions : (choice : Choice) (supplied : Supplied) (text : List ℕ) (a : Reading) → IsAmong a (readings_of choice text) → ContradictsWord supplied a → (log_told choice supplied text).status ≡ BadText
 word_contradictions choice supplied text a has apart =
     faulty (fault_of choice supplied text) (ended (is_auto choice) supplied (seen_of choice text)) (λ none.
-      apart.differ (word_agrees supplied (readings_of choice text) a apart.value apart.bit (fine_of choice supplied text none) has apart.given apart.shown_bit))
+    apart.differ (word_agrees supplied (readings_of choice text) a apart.value apart.bit (fine_of choice supplied text none) has apart.given apart.shown_bit))

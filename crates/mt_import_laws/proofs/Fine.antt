@@ -2,7 +2,7 @@
 use Rattle.std.proofs.Common.{◌≡◌, ◌≢◌, ◌<◌, ℕ, Bool, true, false, ◌==◌, ◌&&◌, nat_lt, not, List, [], ◌∷◌, Option, Some, None, refl, sym, ◌∙◌, ap, subst, bit_and, bit_or, inl, inr, arith}
 use Rattle.std.specs.Prelude.{◌⊎◌, ⊤, min, if◌then◌else◌}
 use Rattle.std.specs.Int.{bit_at}
-use Rattle.std.proofs.lemmas.Bool.{eqb-true, eqb-refl}
+use Rattle.std.proofs.lemmas.Bool.{eqb-true}
 use Rattle.std.proofs.lemmas.Bool.Decides.{nat_tests}
 use Rattle.std.proofs.lemmas.Nat.Bits.{bit_at-lt, bit_at_and}
 use Rattle.mt_regs.specs.RegisterFile.{low_byte}
@@ -108,11 +108,14 @@ module _ (before : List Reading) (other reading : Reading) (i : ℕ) (fits : cla
   kept has true false same apart = rw (same, apart) has
   kept has false number_test apart same = rw apart has
 
+same_number : (a b : ℕ) → a ≡ b → (a == b) ≡ true
+same_number a b e = grind (arith, nat_tests, e)
+
 here : (before : List Reading) (reading : Reading) (i : ℕ) → clashes (slot_shown before reading.processor reading.number) reading ≡ false → bit_at reading.bits i ≡ 1
     → HasBit (slot_shown (reading ∷ before) reading.processor reading.number) reading i
 here before reading i fits one =
     let old = slot_shown before reading.processor reading.number in
-    rw (eqb-refl reading.processor, eqb-refl reading.number) (record { shown = bit_second old.bits reading.bits i one; value = value_new old reading i fits one })
+    rw (same_number reading.processor reading.processor refl, same_number reading.number reading.number refl) (record { shown = bit_second old.bits reading.bits i one; value = value_new old reading i fits one })
 
 pub agreed : (supplied : Supplied) (readings : List Reading) (reading : Reading) (i : ℕ) → IsFine supplied readings → IsAmong reading readings → bit_at reading.bits i ≡ 1
     → HasBit (slot_shown readings reading.processor reading.number) reading i

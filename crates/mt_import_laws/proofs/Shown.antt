@@ -15,10 +15,10 @@ use Rattle.mt_import_laws.proofs.Bits.{bit_of_either}
 use Rattle.mt_import_laws.proofs.Fine.{IsFine, agreed}
 
 -- what shows a bit shows it among more readings
-later : (other : Reading) (before : List Reading) (k number i : ℕ) → ShowsBit before k number i → ShowsBit (other ∷ before) k number i
+abbrev later : (other : Reading) (before : List Reading) (k number i : ℕ) → ShowsBit before k number i → ShowsBit (other ∷ before) k number i
 later other before k number i shows = record { reading = shows.reading; among = inr shows.among; processor_is = shows.processor_is; number_is = shows.number_is; shown_bit = shows.shown_bit }
 
-first : (reading : Reading) (before : List Reading) (k number i : ℕ) → reading.processor ≡ k → reading.number ≡ number → bit_at reading.bits i ≡ 1 → ShowsBit (reading ∷ before) k number i
+abbrev first : (reading : Reading) (before : List Reading) (k number i : ℕ) → reading.processor ≡ k → reading.number ≡ number → bit_at reading.bits i ≡ 1 → ShowsBit (reading ∷ before) k number i
 first reading before k number i p n one = record { reading = reading; among = inl refl; processor_is = p; number_is = n; shown_bit = one }
 
 no_bit : {A : Type 0} (i : ℕ) → bit_at 0 i ≡ 1 → A
@@ -28,16 +28,16 @@ no_bit i one = let e : 0 ≡ 1 = sym (bit_at-zero i) ∙ one in absurd (omega (a
 
 pub bit_shown : (readings : List Reading) (k number i : ℕ) → bit_at (slot_shown readings k number).bits i ≡ 1 → ShowsBit readings k number i
 bit_shown [] k number i one = no_bit i one
-bit_shown (reading ∷ before) k number i one = by (reading.processor == k) (reading.number == number) refl refl one
+bit_shown (reading ∷ before) k number i one = by (reading.processor == k) (reading.number == number) refl refl (bit_shown before k number i) one
   where
-    by : (p n : Bool) → (reading.processor == k) ≡ p → (reading.number == number) ≡ n
+    by : (p n : Bool) → (reading.processor == k) ≡ p → (reading.number == number) ≡ n → (bit_at (slot_shown before k number).bits i ≡ 1 → ShowsBit before k number i)
         → bit_at (if p && n then slot_with (slot_shown before k number) reading else slot_shown before k number).bits i ≡ 1 → ShowsBit (reading ∷ before) k number i
-    by true true same same_too one = elim (bit_of_either (slot_shown before k number).bits reading.bits i one) [
+    by true true same same_too known one = elim (bit_of_either (slot_shown before k number).bits reading.bits i one) [
       | inl new ↦ first reading before k number i (eqb-true reading.processor k same) (eqb-true reading.number number same_too) new
-      | inr old ↦ later reading before k number i (bit_shown before k number i old)
+      | inr old ↦ later reading before k number i (known old)
     ]
-    by true false same apart one = later reading before k number i (bit_shown before k number i one)
-    by false n apart same one = later reading before k number i (bit_shown before k number i one)
+    by true false same apart known one = later reading before k number i (known one)
+    by false n apart same known one = later reading before k number i (known one)
 
 -- ---- the bits that one table has shown
 
@@ -78,13 +78,9 @@ module _ (reading : Reading) (before : List Reading) (k number : ℕ) (p : readi
       }
   one_more slot has false false is apart = record { table = reading.table; bits = rw (is, apart) own; last = λ not_whole. refl }
 
-of_one_table : (readings : List Reading) (k number : ℕ) → OfOneTable readings k number (slot_shown readings k number)
-of_one_table [] k number = record { table = 0; bits = λ i one. no_bit i one; last = λ not_whole. refl }
-of_one_table (reading ∷ before) k number = by (reading.processor == k) (reading.number == number) refl refl
+next_table : (reading : Reading) (before : List Reading) (k number : ℕ) → OfOneTable before k number (slot_shown before k number) → OfOneTable (reading ∷ before) k number (slot_shown (reading ∷ before) k number)
+next_table reading before k number has = by (reading.processor == k) (reading.number == number) refl refl
   where
-    has : OfOneTable before k number (slot_shown before k number)
-    has = of_one_table before k number
-
     still : OfOneTable (reading ∷ before) k number (slot_shown before k number)
     still = record { table = has.table; bits = more reading before k number has.table (slot_shown before k number).fresh has.bits; last = has.last }
 
@@ -95,6 +91,10 @@ of_one_table (reading ∷ before) k number = by (reading.processor == k) (readin
         (is_whole (slot_shown before k number)) ((slot_shown before k number).table == reading.table) refl refl
     by true false same apart = still
     by false n apart same = still
+
+of_one_table : (readings : List Reading) (k number : ℕ) → OfOneTable readings k number (slot_shown readings k number)
+of_one_table [] k number = record { table = 0; bits = λ i one. no_bit i one; last = λ not_whole. refl }
+of_one_table (reading ∷ before) k number = next_table reading before k number (of_one_table before k number)
 
 -- ---- a whole register
 
@@ -114,7 +114,7 @@ is_shown supplied readings k number value fine found =
           let b = found_bit.0 in
           let agrees = (agreed supplied readings b.reading i fine b.among b.shown_bit).value in
           let here : (slot_shown readings b.reading.processor b.reading.number).value ≡ value =
-              ap (λ j. (slot_shown readings j b.reading.number).value) b.processor_is ∙ ap (λ m. (slot_shown readings k m).value) b.number_is ∙ whole.1 in
+          ap (λ j. (slot_shown readings j b.reading.number).value) b.processor_is ∙ ap (λ m. (slot_shown readings k m).value) b.number_is ∙ whole.1 in
           (b, found_bit.1, sym agrees ∙ ap (λ v. bit_at v i) here);
     }
 
@@ -144,5 +144,5 @@ shown_clear supplied readings k number fine is =
     let b = bit_shown readings k number 11 (set_bit slot.bits tests.0) in
     let agrees = (agreed supplied readings b.reading 11 fine b.among b.shown_bit).value in
     let here : (slot_shown readings b.reading.processor b.reading.number).value ≡ slot.value =
-        ap (λ j. (slot_shown readings j b.reading.number).value) b.processor_is ∙ ap (λ m. (slot_shown readings k m).value) b.number_is in
+    ap (λ j. (slot_shown readings j b.reading.number).value) b.processor_is ∙ ap (λ m. (slot_shown readings k m).value) b.number_is in
     (b, sym agrees ∙ ap (λ v. bit_at v 11) here ∙ clear_bit slot.value tests.1)

@@ -1,3 +1,4 @@
 mod Emptying
 mod Others
 mod Places
+mod Translations

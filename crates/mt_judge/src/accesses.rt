@@ -76,18 +76,36 @@ fn add_entry(entries: &mut Vec<Entry>, entry: Entry) -> Result<(), NoMemory>
     }
 }
 
+// Adds an entry to a processor's TLB.
+fn add_to(cpu: &mut Cpu, entry: Entry) -> Result<(), NoMemory>
+    ensures { OnOk result (cpu.new ≡ record cpu.old { entries = add_entry entry cpu.old.entries }) }
+{
+    add_entry(&mut cpu.entries, entry)
+}
+
+// Fills the entry that a page's mapping makes, if the page has a mapping.
+#[tactic(auto, using(crate::proofs::Translations::fills, crate::proofs::Translations::lacks))]
+fn fill(cpu: &mut Cpu, vpage: u64) -> Result<Option<Entry>, NoMemory>
+    requires { find_entry vpage cpu.old.entries ≡ None }
+    ensures { IfOk result (λ e. (e ≡ entry_of cpu.old vpage) × (cpu.new ≡ option_map_or (λ e. keep_entry e cpu.old) (entry_of cpu.old vpage) cpu.old)) }
+{
+    match cpu.made_entry(vpage) {
+        Some(entry) => match add_to(cpu, entry) {
+            Ok(()) => Ok(Some(entry)),
+            Err(NoMemory) => Err(NoMemory),
+        },
+        None => Ok(None),
+    }
+}
+
 // The entry of a page, which is filled from the page's mapping if there is none.
 fn translate(cpu: &mut Cpu, vpage: u64) -> Result<Option<Entry>, NoMemory>
     ensures { IfOk result (λ e. (e ≡ entry_of cpu.old vpage) × (cpu.new ≡ option_map_or (λ e. keep_entry e cpu.old) (entry_of cpu.old vpage) cpu.old)) }
 {
-    if let Some(entry) = find_entry(cpu.entries.as_slice(), vpage) {
-        return Ok(Some(entry));
+    match find_entry(cpu.entries(), vpage) {
+        Some(entry) => Ok(Some(entry)),
+        None => fill(cpu, vpage),
     }
-    let Some(entry) = cpu.made_entry(vpage) else {
-        return Ok(None);
-    };
-    add_entry(&mut cpu.entries, entry)?;
-    Ok(Some(entry))
 }
 
 fn is_cached(kind: MemType) -> bool
@@ -287,8 +305,7 @@ fn store(
 // The entry of an address's page in the TLB of a processor, which is filled if there is none.
 fn translate_in(cpus: &mut [Cpu], k: usize, va: u64) -> Result<Option<Entry>, NoMemory>
     requires { k < length cpus.old }
-    ensures value { IfOk result (λ e. e ≡ entry_in k va cpus.old) }
-    ensures after { OnOk result (cpus.new ≡ option_map_or (λ e. with_changed (keep_entry e) k cpus.old) (entry_in k va cpus.old) cpus.old) }
+    ensures { IfOk result (λ e. (e ≡ entry_in k va cpus.old) × (cpus.new ≡ option_map_or (λ e. with_changed (keep_entry e) k cpus.old) (entry_in k va cpus.old) cpus.old)) }
 {
     let cpu = &mut cpus[k];
     translate(cpu, va / PAGE_BYTES)

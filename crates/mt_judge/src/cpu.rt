@@ -118,6 +118,13 @@ impl Cpu {
         self.cd
     }
 
+    /// The entries of the TLB, oldest first.
+    pub fn entries(&self) -> &[Entry]
+        ensures { result.now ≡ self.now.entries }
+    {
+        self.entries.as_slice()
+    }
+
     /// Where the processor stands in the manual's procedure.
     pub fn phase(&self) -> Phase
         ensures { result ≡ self.now.phase }

@@ -24,7 +24,9 @@ use std::sync::Wait;
 use std::thread;
 use std::thread::{Promise, Scope, Threads};
 
-mod cancelled;
+mod endings;
+
+use endings::{Ending, end, finish, leave_all};
 
 /// So many processors, each with one dirty line.
 fn dirty_row(alloc: Global, count: u32) -> Option<Core> {
@@ -101,8 +103,8 @@ fn last(station: &Station, waiting: &mut Vec<Attendee>) -> Option<Attendee>
     waiting.pop()
 }
 
-// A thread for each of these, and then the go or the cancel. The answer is false where a thread isn't started:
-// the root cancels, so that the others end.
+// A thread for each of these but those that come late, and then the go or the cancel. The answer is false if a thread
+// isn't started: the root cancels, so that the others end.
 fn run_all<'s, E, R: Threads + Wait + Sync>(
     rt: &'s R,
     scope: &Scope<'s, E>,
@@ -111,7 +113,7 @@ fn run_all<'s, E, R: Threads + Wait + Sync>(
     root: &mut Root,
     goal: &'s RegFile,
     gate: &'s AllBut,
-    given: bool,
+    ending: Ending,
     waiting: &mut Vec<Attendee>,
     done: &mut Vec<Told>,
 ) -> bool
@@ -122,13 +124,13 @@ fn run_all<'s, E, R: Threads + Wait + Sync>(
     requires begins { Begins (start_of station.now.table.shared.key) }
     ensures { IsRoot station.now.table.shared.table_id root.new.seat.table_id root.new.seat.me }
 {
+    if waiting.len() <= ending.late() {
+        let is_so = end(station, root, gate, ending);
+        return leave_all(rt, station, ram, root, goal, gate, waiting, done) && is_so;
+    }
     let Some(a) = last(station, waiting) else {
-        if given {
-            root.go(station);
-        } else {
-            root.cancel(station);
-        }
-        return true;
+        root.cancel(station);
+        return false;
     };
     let k = waiting.len() as u64;
     let promise = Comes {
@@ -148,18 +150,10 @@ fn run_all<'s, E, R: Threads + Wait + Sync>(
         return false;
     };
     let went = run_all(
-        rt, scope, station, ram, root, goal, gate, given, waiting, done,
+        rt, scope, station, ram, root, goal, gate, ending, waiting, done,
     );
     let (a, outcome) = child.join(rt);
-    let shown = a.pass.shown();
-    let cpu = root.take_back(station, a);
-    done.push(Told {
-        cpu,
-        outcome,
-        shown,
-    })
-    .is_ok()
-        && went
+    finish(station, root, a, outcome, done) && went
 }
 
 // Where the threads have ended.
@@ -178,7 +172,7 @@ fn meet<R: Threads + Wait + Sync>(
     ram: &mut Ram,
     goal: &RegFile,
     gate: &AllBut,
-    given: bool,
+    ending: Ending,
 ) -> Option<Vec<Told>>
     requires some { 0 < vec_len cpus }
     requires few { vec_len cpus ≤ 16 }
@@ -207,7 +201,7 @@ fn meet<R: Threads + Wait + Sync>(
                 &mut root,
                 goal,
                 gate,
-                given,
+                ending,
                 &mut waiting,
                 &mut done,
             );
@@ -231,7 +225,7 @@ fn ends_of<R: Threads + Wait + Sync>(
     rt: &R,
     alloc: Global,
     count: u32,
-    given: bool,
+    ending: Ending,
 ) -> Option<Row> {
     let goal = file(0)?;
     let mut core = dirty_row(alloc, count)?;
@@ -240,7 +234,7 @@ fn ends_of<R: Threads + Wait + Sync>(
     }
     let SystemParts { cpus, mut ram, .. } = core.into_system().into_parts();
     let gate = AllBut::new(16);
-    let done = meet(rt, alloc, cpus, &mut ram, &goal, &gate, given)?;
+    let done = meet(rt, alloc, cpus, &mut ram, &goal, &gate, ending)?;
     let told = gate.told();
     Some(Row { done, ram, told })
 }
@@ -276,7 +270,7 @@ fn all_left(done: &[Told], count: usize) -> bool {
 
 #[test]
 fn two_complete(rt: HostRuntime) {
-    let row = some(&rt, ends_of(&rt, rt.alloc(), 2, true));
+    let row = some(&rt, ends_of(&rt, rt.alloc(), 2, Ending::Go));
     holds(&rt, row.done.len() == 2);
     for told in row.done.iter() {
         holds(&rt, has_completed(told, 2));
@@ -288,7 +282,7 @@ fn two_complete(rt: HostRuntime) {
 
 #[test]
 fn two_leave(rt: HostRuntime) {
-    let row = some(&rt, ends_of(&rt, rt.alloc(), 2, false));
+    let row = some(&rt, ends_of(&rt, rt.alloc(), 2, Ending::Cancel));
     holds(&rt, all_left(row.done.as_slice(), 2));
     holds(&rt, is_word(&row, 0x10_0000, 0));
     holds(&rt, is_word(&row, 0x10_0040, 0));
@@ -326,7 +320,7 @@ fn sixteen_end_as_by_turns(rt: HostRuntime) {
         core.round();
     }
     for round in 0..200u64 {
-        let row = some(&rt, ends_of(&rt, rt.alloc(), 16, true));
+        let row = some(&rt, ends_of(&rt, rt.alloc(), 16, Ending::Go));
         let alike = ends_as(&row, &core, Outcome::Complete, Some(16));
         holds_at(&rt, round, alike);
     }
@@ -343,7 +337,21 @@ fn sixteen_leave_as_by_steps(rt: HostRuntime) {
     }
     holds(&rt, core.order().is_none());
     for round in 0..200u64 {
-        let row = some(&rt, ends_of(&rt, rt.alloc(), 16, false));
+        let row = some(&rt, ends_of(&rt, rt.alloc(), 16, Ending::Cancel));
         holds_at(&rt, round, ends_as(&row, &core, Outcome::Cancelled, None));
+    }
+}
+
+// The last processors arrive first: how many come after the cancel, and what the gate was told before it.
+#[test]
+fn a_station_may_be_cancelled_at_each_arrival(rt: HostRuntime) {
+    for (late, told) in [(3, 0), (2, 0x100), (1, 0x110), (0, 0x111)] {
+        let ending = Ending::CancelAfter { told, late };
+        let row = some(&rt, ends_of(&rt, rt.alloc(), 3, ending));
+        holds_at(&rt, late as u64, all_left(row.done.as_slice(), 3));
+        holds_at(&rt, late as u64, is_word(&row, 0x10_0000, 0));
+        holds_at(&rt, late as u64, is_word(&row, 0x10_0040, 0));
+        holds_at(&rt, late as u64, is_word(&row, 0x10_0080, 0));
+        holds_at(&rt, late as u64, row.told == 0x111);
     }
 }

@@ -13,11 +13,5 @@ fn main(rt: HostRuntime) -> ExitCode {
     let mut source = StdSource::new(rt.stdin());
     let mut sink = StdSink::new(rt.stdout());
     let mut errors = StdErrors::new(rt.stderr());
-    program_status(
-        &rt,
-        env::args(&rt),
-        &mut source,
-        &mut sink,
-        &mut errors,
-    )
+    program_status(&rt, env::args(&rt), &mut source, &mut sink, &mut errors)
 }

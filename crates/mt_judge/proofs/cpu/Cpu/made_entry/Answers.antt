@@ -6,4 +6,7 @@ use Rattle.mt_laws.proofs.Words.StepLaws.{find_within}
 use Rattle.mt_judge.proofs.cpu.Cpu.made_entry.Goals as goal
 
 pub new_entry-requires : goal.new_entry-requires
-new_entry-requires c = ?
+new_entry-requires c =
+    ltb-true _ _
+    (find_within (maps_page c.args.vpage) (λ (m : Mapping). nat_lt m.index 8) c.self.inside.maps.items c.in-Some.mapping c.self.invariant
+    (ap (find_mapping c.args.vpage) (sym c.as_slice.ensures.value) ∙ sym c.find_mapping.ensures ∙ c.in-Some.is))

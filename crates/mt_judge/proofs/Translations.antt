@@ -1,0 +1,73 @@
+-- The entry by which a processor translates, and the processor once it has that entry.
+use Rattle.std.proofs.Common.{◌≡◌, ◌∙◌, ap, sym, refl, ℕ, zero, suc, ◌/◌, List, [], ◌∷◌, Option, Some, None, slice_get, slice_set, if◌then◌else◌}
+use Rattle.std.specs.Prelude.{is_some}
+use Rattle.std.specs.Option.{option_map, option_map_or}
+use Rattle.mt_lists.proofs.Keys.{found_key}
+use Rattle.mt_tlb.specs.declared.entry.Entry.{Entry}
+use Rattle.mt_tlb.specs.declared.mapping.Mapping.{Mapping}
+use Rattle.mt_tlb.specs.Entries.{add_entry, find_entry, find_mapping}
+use Rattle.mt_machine.specs.System.{Processor}
+use Rattle.mt_machine.specs.Access.{entry_of, keep_entry, new_entry}
+use Rattle.mt_bus.specs.Parts.{entry_in, with_changed}
+use Rattle.mt_bus.proofs.Changed.{changed_there}
+
+-- the processor with the entry of a page, where there is one
+abbrev pub entered : Processor → ℕ → Processor
+entered p page = option_map_or (λ e. keep_entry e p) (entry_of p page) p
+
+kept_if : (p : Processor) (e : Entry) (o : Option Entry) → find_entry e.vpage p.entries ≡ o → keep_entry e p ≡ (if is_some o then p else record p { entries = add_entry e p.entries })
+kept_if p e o is = ap (λ (x : Option Entry). if is_some x then p else record p { entries = add_entry e p.entries }) is
+
+of_found : (p : Processor) (page : ℕ) (e : Entry) → find_entry page p.entries ≡ Some e → entry_of p page ≡ Some e
+of_found p page e is = ap (λ (o : Option Entry). option_map_or Some o (option_map (new_entry p) (find_mapping page p.mappings))) is
+
+of_made : (p : Processor) (page : ℕ) → find_entry page p.entries ≡ None → entry_of p page ≡ option_map (new_entry p) (find_mapping page p.mappings)
+of_made p page none = ap (λ (o : Option Entry). option_map_or Some o (option_map (new_entry p) (find_mapping page p.mappings))) none
+
+-- an entry stands
+pub stands : (p : Processor) (page : ℕ) (e : Entry) → find_entry page p.entries ≡ Some e → (Some e ≡ entry_of p page) × (p ≡ entered p page)
+stands p page e is =
+    (sym (of_found p page e is),
+    sym
+    (ap (λ (o : Option Entry). option_map_or (λ x. keep_entry x p) o p) (of_found p page e is)
+    ∙ kept_if p e (Some e) (ap (λ n. find_entry n p.entries) (found_key (λ (x : Entry). x.vpage) page p.entries e is) ∙ is)))
+
+-- the page of the entry that a page's mapping makes is that page
+made_page : (p : Processor) (page : ℕ) (e : Entry) (o : Option Mapping) → find_mapping page p.mappings ≡ o → option_map (new_entry p) o ≡ Some e → e.vpage ≡ page
+made_page p page e None is made = absurd (cc)
+made_page p page e (Some m) is made =
+    sym (ap (λ (x : Option Entry). option_map_or (λ (y : Entry). y.vpage) x 0) made) ∙ found_key (λ (y : Mapping). y.vpage) page p.mappings m is
+
+-- none stands, and the mapping makes one
+pub fills : (p : Processor) (page : ℕ) (e : Entry) → find_entry page p.entries ≡ None → option_map (new_entry p) (find_mapping page p.mappings) ≡ Some e
+    → (Some e ≡ entry_of p page) × (record p { entries = add_entry e p.entries } ≡ entered p page)
+fills p page e none made =
+    let is = of_made p page none ∙ made in
+    (sym is,
+    sym
+    (ap (λ (o : Option Entry). option_map_or (λ x. keep_entry x p) o p) is
+    ∙ kept_if p e None (ap (λ n. find_entry n p.entries) (made_page p page e (find_mapping page p.mappings) refl made) ∙ none)))
+
+-- none stands, and there is no mapping
+pub lacks : (p : Processor) (page : ℕ) → find_entry page p.entries ≡ None → option_map (new_entry p) (find_mapping page p.mappings) ≡ None → (None ≡ entry_of p page) × (p ≡ entered p page)
+lacks p page none made =
+    let is = of_made p page none ∙ made in
+    (sym is, sym (ap (λ (o : Option Entry). option_map_or (λ x. keep_entry x p) o p) is))
+
+-- ---- a processor of a list
+
+set_same : (ps : List Processor) (k : ℕ) (p : Processor) → slice_get ps k ≡ Some p → slice_set ps k p ≡ ps
+set_same [] k p at = absurd (cc)
+set_same (x ∷ ps) zero p at = let e : p ≡ x = cc in ap (λ q. q ∷ ps) e
+set_same (x ∷ ps) (suc k) p at = ap (λ qs. x ∷ qs) (set_same ps k p at)
+
+pub entered_in : (ps : List Processor) (k va : ℕ) (p q : Processor) (o : Option Entry) → slice_get ps k ≡ Some p → (o ≡ entry_of p (va / 4096)) × (q ≡ entered p (va / 4096))
+    → (o ≡ entry_in k va ps) × (slice_set ps k q ≡ option_map_or (λ e. with_changed (keep_entry e) k ps) (entry_in k va ps) ps)
+entered_in ps k va p q o at made =
+    let own : entry_of p (va / 4096) ≡ entry_in k va ps = sym (ap (λ x. option_map_or (λ (y : Processor). entry_of y (va / 4096)) x None) at) in
+    (made.0 ∙ own,
+    ap (slice_set ps k) made.1 ∙ one (entry_of p (va / 4096)) ∙ ap (λ x. option_map_or (λ e. with_changed (keep_entry e) k ps) x ps) own)
+  where
+    one : (x : Option Entry) → slice_set ps k (option_map_or (λ e. keep_entry e p) x p) ≡ option_map_or (λ e. with_changed (keep_entry e) k ps) x ps
+    one None = set_same ps k p at
+    one (Some e) = sym (changed_there (keep_entry e) k ps p at)
