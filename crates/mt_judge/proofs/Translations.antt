@@ -26,11 +26,12 @@ of_made p page none = ap (λ (o : Option Entry). option_map_or Some o (option_ma
 
 -- an entry stands
 pub stands : (p : Processor) (page : ℕ) (e : Entry) → find_entry page p.entries ≡ Some e → (Some e ≡ entry_of p page) × (p ≡ entered p page)
-stands p page e is =
-    (sym (of_found p page e is),
-    sym
-    (ap (λ (o : Option Entry). option_map_or (λ x. keep_entry x p) o p) (of_found p page e is)
-    ∙ kept_if p e (Some e) (ap (λ n. find_entry n p.entries) (found_key (λ (x : Entry). x.vpage) page p.entries e is) ∙ is)))
+stands p page e is = (
+  sym (of_found p page e is),
+  sym
+      (ap (λ (o : Option Entry). option_map_or (λ x. keep_entry x p) o p) (of_found p page e is)
+      ∙ kept_if p e (Some e) (ap (λ n. find_entry n p.entries) (found_key (λ (x : Entry). x.vpage) page p.entries e is) ∙ is)),
+)
 
 -- the page of the entry that a page's mapping makes is that page
 made_page : (p : Processor) (page : ℕ) (e : Entry) (o : Option Mapping) → find_mapping page p.mappings ≡ o → option_map (new_entry p) o ≡ Some e → e.vpage ≡ page
@@ -42,11 +43,12 @@ made_page p page e (Some m) is made =
 pub fills : (p : Processor) (page : ℕ) (e : Entry) → find_entry page p.entries ≡ None → option_map (new_entry p) (find_mapping page p.mappings) ≡ Some e
     → (Some e ≡ entry_of p page) × (record p { entries = add_entry e p.entries } ≡ entered p page)
 fills p page e none made =
-    let is = of_made p page none ∙ made in
-    (sym is,
-    sym
-    (ap (λ (o : Option Entry). option_map_or (λ x. keep_entry x p) o p) is
-    ∙ kept_if p e None (ap (λ n. find_entry n p.entries) (made_page p page e (find_mapping page p.mappings) refl made) ∙ none)))
+    let is = of_made p page none ∙ made in (
+      sym is,
+      sym
+          (ap (λ (o : Option Entry). option_map_or (λ x. keep_entry x p) o p) is
+          ∙ kept_if p e None (ap (λ n. find_entry n p.entries) (made_page p page e (find_mapping page p.mappings) refl made) ∙ none)),
+    )
 
 -- none stands, and there is no mapping
 pub lacks : (p : Processor) (page : ℕ) → find_entry page p.entries ≡ None → option_map (new_entry p) (find_mapping page p.mappings) ≡ None → (None ≡ entry_of p page) × (p ≡ entered p page)
@@ -64,9 +66,10 @@ set_same (x ∷ ps) (suc k) p at = ap (λ qs. x ∷ qs) (set_same ps k p at)
 pub entered_in : (ps : List Processor) (k va : ℕ) (p q : Processor) (o : Option Entry) → slice_get ps k ≡ Some p → (o ≡ entry_of p (va / 4096)) × (q ≡ entered p (va / 4096))
     → (o ≡ entry_in k va ps) × (slice_set ps k q ≡ option_map_or (λ e. with_changed (keep_entry e) k ps) (entry_in k va ps) ps)
 entered_in ps k va p q o at made =
-    let own : entry_of p (va / 4096) ≡ entry_in k va ps = sym (ap (λ x. option_map_or (λ (y : Processor). entry_of y (va / 4096)) x None) at) in
-    (made.0 ∙ own,
-    ap (slice_set ps k) made.1 ∙ one (entry_of p (va / 4096)) ∙ ap (λ x. option_map_or (λ e. with_changed (keep_entry e) k ps) x ps) own)
+    let own : entry_of p (va / 4096) ≡ entry_in k va ps = sym (ap (λ x. option_map_or (λ (y : Processor). entry_of y (va / 4096)) x None) at) in (
+      made.0 ∙ own,
+      ap (slice_set ps k) made.1 ∙ one (entry_of p (va / 4096)) ∙ ap (λ x. option_map_or (λ e. with_changed (keep_entry e) k ps) x ps) own,
+    )
   where
     one : (x : Option Entry) → slice_set ps k (option_map_or (λ e. keep_entry e p) x p) ≡ option_map_or (λ e. with_changed (keep_entry e) k ps) x ps
     one None = set_same ps k p at

@@ -131,13 +131,22 @@ fn line_of(cpus: &[Cpu], k: usize, number: u64) -> Option<CacheLine>
     lines::find_line(cpus[k].lines(), number)
 }
 
-fn first_of_load(layout: &Ram, cpus: &mut [Cpu], words: &mut [u64], k: usize, kind: MemType, number: u64)
+fn first_of_load(
+    layout: &Ram,
+    cpus: &mut [Cpu],
+    words: &mut [u64],
+    k: usize,
+    kind: MemType,
+    number: u64,
+)
     requires { k < length cpus.old }
     ensures { system cpus.new (memory layout.now words.new) ≡ first_of_load kind k number (system cpus.old (memory layout.now words.old)) }
 {
     match kind {
         MemType::UC => drain(layout, cpus, words, k),
-        MemType::WC | MemType::WT | MemType::WP | MemType::WB => drain_line(layout, cpus, words, k, number),
+        MemType::WC | MemType::WT | MemType::WP | MemType::WB => drain_line(
+            layout, cpus, words, k, number,
+        ),
     }
 }
 
@@ -191,7 +200,14 @@ fn write_own(cpus: &mut [Cpu], k: usize, address: u64, v: u64, dirty: bool)
     write_in(cpu, address / LINE_BYTES, word_of(address), v, dirty);
 }
 
-fn first_of_store(layout: &Ram, cpus: &mut [Cpu], words: &mut [u64], k: usize, kind: MemType, number: u64)
+fn first_of_store(
+    layout: &Ram,
+    cpus: &mut [Cpu],
+    words: &mut [u64],
+    k: usize,
+    kind: MemType,
+    number: u64,
+)
     requires { k < length cpus.old }
     ensures { system cpus.new (memory layout.now words.new) ≡ first_of_store kind k number (system cpus.old (memory layout.now words.old)) }
 {
@@ -292,7 +308,15 @@ fn store(
             store_uncached(layout, cpus, words, address, v);
             Ok(())
         }
-        MemType::WC => combine(layout, cpus, words, k, address / LINE_BYTES, word_of(address), v),
+        MemType::WC => combine(
+            layout,
+            cpus,
+            words,
+            k,
+            address / LINE_BYTES,
+            word_of(address),
+            v,
+        ),
         MemType::WT => {
             store_past(layout, cpus, words, k, address, v);
             write_own(cpus, k, address, v, false);

@@ -150,7 +150,10 @@ impl Cpu {
         Entry {
             vpage: m.vpage,
             ppage: m.ppage,
-            kind: effective(self.regs.page_type(m.ppage).defined(), Pat(self.regs.pat).entry(m.index)),
+            kind: effective(
+                self.regs.page_type(m.ppage).defined(),
+                Pat(self.regs.pat).entry(m.index),
+            ),
             global: m.global && self.pge,
             era: self.era,
         }

@@ -7,13 +7,11 @@ use crate::steps::write_back_or_drop;
 use mt_machine::{Event, Phase};
 
 // Whether a processor has finished an update. Eras begin at 0.
-fn has_released(cpu: &Cpu) -> bool
-{
+fn has_released(cpu: &Cpu) -> bool {
     cpu.era > 0
 }
 
-fn has_passed(cpu: &Cpu) -> bool
-{
+fn has_passed(cpu: &Cpu) -> bool {
     let changing = !matches!(
         cpu.phase,
         Phase::Running | Phase::Taken | Phase::Arrived | Phase::Arrived2
@@ -22,14 +20,12 @@ fn has_passed(cpu: &Cpu) -> bool
 }
 
 /// Whether a processor counts at the first barrier.
-fn has_arrived(cpu: &Cpu) -> bool
-{
+fn has_arrived(cpu: &Cpu) -> bool {
     cpu.phase == Phase::Arrived || has_passed(cpu)
 }
 
 /// Whether a processor counts at the second barrier.
-fn has_arrived_again(cpu: &Cpu) -> bool
-{
+fn has_arrived_again(cpu: &Cpu) -> bool {
     cpu.phase == Phase::Arrived2 || has_released(cpu)
 }
 
@@ -55,13 +51,11 @@ pub(crate) fn arrived_again(cpus: &[Cpu]) -> usize {
     count
 }
 
-fn have_arrived(cpus: &[Cpu]) -> bool
-{
+fn have_arrived(cpus: &[Cpu]) -> bool {
     cpus.iter().all(|cpu| has_arrived(cpu))
 }
 
-fn have_arrived_again(cpus: &[Cpu]) -> bool
-{
+fn have_arrived_again(cpus: &[Cpu]) -> bool {
     cpus.iter().all(|cpu| has_arrived_again(cpu))
 }
 

@@ -29,7 +29,11 @@ pub(crate) fn oldest_of_full(lines: &[CacheLine], size: usize) -> Option<CacheLi
 {
     match lines {
         [] => None,
-        [oldest, rest @ ..] => if rest.len() + 1 == size { Some(*oldest) } else { None },
+        [oldest, rest @ ..] => if rest.len() + 1 == size {
+            Some(*oldest)
+        } else {
+            None
+        },
     }
 }
 

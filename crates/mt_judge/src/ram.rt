@@ -81,7 +81,12 @@ fn write_back_word(layout: &Ram, words: &mut [u64], line: &CacheLine, word: u8)
     ensures { memory layout.now words.new ≡ write_back_word line.now (memory layout.now words.old) word }
 {
     if is_bit_set(line.dirty as u64, word) {
-        write(layout, words, word_address(line.number, word), line.words[word as usize]);
+        write(
+            layout,
+            words,
+            word_address(line.number, word),
+            line.words[word as usize],
+        );
     }
 }
 

@@ -69,7 +69,13 @@ fn write_back_unless(layout: &Ram, words: &mut [u64], lines: &[CacheLine], numbe
 }
 
 /// Writes the dirty words of a line in the caches of all processors but one to memory.
-pub(crate) fn write_back_others(layout: &Ram, cpus: &[Cpu], words: &mut [u64], k: usize, number: u64)
+pub(crate) fn write_back_others(
+    layout: &Ram,
+    cpus: &[Cpu],
+    words: &mut [u64],
+    k: usize,
+    number: u64,
+)
     requires { k < length cpus.now }
     ensures { system cpus.now (memory layout.now words.new) ≡ write_back_others k number (system cpus.now (memory layout.now words.old)) }
 {

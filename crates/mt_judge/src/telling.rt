@@ -128,11 +128,17 @@ pub(crate) fn tell_undue(text: &mut String, before: &State, m: &Move) -> Result<
         }
         (None, Phase::Arrived) => {
             let count = arrived(cpus);
-            write!(text, "  not due: {count} of {of} have arrived at the first barrier\n")
+            write!(
+                text,
+                "  not due: {count} of {of} have arrived at the first barrier\n"
+            )
         }
         (None, Phase::Arrived2) => {
             let count = arrived_again(cpus);
-            write!(text, "  not due: {count} of {of} have arrived at the second barrier\n")
+            write!(
+                text,
+                "  not due: {count} of {of} have arrived at the second barrier\n"
+            )
         }
         (None, _) => text.push_str("  not due: the manual's procedure has ended\n"),
     }
@@ -143,15 +149,24 @@ pub(crate) fn tell_wrong(text: &mut String, wrong: &Wrong) -> Result<(), AllocEr
     match *wrong {
         Wrong::StaleLine { cpu, line } => {
             let address = line.wrapping_mul(LINE_BYTES);
-            write!(text, "  wrong: stale line {address:013x} of processor {cpu}\n")
+            write!(
+                text,
+                "  wrong: stale line {address:013x} of processor {cpu}\n"
+            )
         }
         Wrong::StaleBuffer { cpu, line } => {
             let address = line.wrapping_mul(LINE_BYTES);
-            write!(text, "  wrong: stale buffer {address:013x} of processor {cpu}\n")
+            write!(
+                text,
+                "  wrong: stale buffer {address:013x} of processor {cpu}\n"
+            )
         }
         Wrong::StaleEntry { cpu, vpage } => {
             let address = vpage.wrapping_mul(PAGE_BYTES);
-            write!(text, "  wrong: stale entry {address:013x} of processor {cpu}\n")
+            write!(
+                text,
+                "  wrong: stale entry {address:013x} of processor {cpu}\n"
+            )
         }
         Wrong::Disagree { cpu, other, page } => {
             let address = page.wrapping_mul(PAGE_BYTES);
@@ -180,7 +195,10 @@ pub(crate) fn tell_fault(text: &mut String, fault: &Fault) -> Result<(), AllocEr
             )
         }
         Fault::LostWord { cpu, address } => {
-            write!(text, "  wrong: lost word {address:013x} of processor {cpu}\n")
+            write!(
+                text,
+                "  wrong: lost word {address:013x} of processor {cpu}\n"
+            )
         }
     }
 }

@@ -17,7 +17,10 @@ pub(crate) fn is(word: &[u8], text: &str) -> bool {
 /// Whether a line has so many words. Fails at the last word if there are fewer, at the first one too many if there are more.
 pub(crate) fn shape(words: &Words<'_>, count: usize) -> Result<(), Trouble> {
     if words.count() < count {
-        bad(words.place(words.count().saturating_sub(1)), Reason::BadLine)
+        bad(
+            words.place(words.count().saturating_sub(1)),
+            Reason::BadLine,
+        )
     } else if words.count() > count {
         bad(words.place(count), Reason::BadLine)
     } else {

@@ -38,7 +38,13 @@ fn expect_none<R: AllocGlobal + Abort>(
         return Err(Fail::from("no memory"));
     };
     assert_eq!(rt;
-        map(alloc, Some(Asked::Picture), Labels::default(), &mut source, &mut sink),
+        map(
+            alloc,
+            Some(Asked::Picture),
+            Labels::default(),
+            &mut source,
+            &mut sink
+        ),
         status
     );
     assert!(rt; sink.bytes().is_empty());

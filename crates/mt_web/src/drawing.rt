@@ -14,7 +14,13 @@ fn drawn_by(alloc: Global, words: &[String], input: &[u8]) -> Told
 {
     let mut source = ByteSource::new(input);
     let mut sink = TextSink::new(alloc);
-    let status = map(alloc, asked_by(words), labels_of(words), &mut source, &mut sink);
+    let status = map(
+        alloc,
+        asked_by(words),
+        labels_of(words),
+        &mut source,
+        &mut sink,
+    );
     ended(alloc, status, sink)
 }
 

@@ -1,6 +1,5 @@
 use Rattle.std.proofs.Common.{◌≡◌, ◌++◌, drop, take}
 use Rattle.mt_cache.specs.Lines.{change_line, clean_line}
-
 use Rattle.mt_judge.proofs.lines.clean_line.Given as goal
 
 abbrev pub invariant-loop-i : goal.invariant-loop-i

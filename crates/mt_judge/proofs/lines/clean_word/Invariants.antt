@@ -1,6 +1,5 @@
 use Rattle.std.proofs.Common.{◌≡◌, ◌++◌, drop, take}
 use Rattle.mt_cache.specs.Lines.{change_line, clean_word}
-
 use Rattle.mt_judge.proofs.lines.clean_word.Given as goal
 
 abbrev pub invariant-loop-i : goal.invariant-loop-i
