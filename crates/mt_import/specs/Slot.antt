@@ -35,6 +35,6 @@ clashes slot reading = not (bit_and slot.value reading.bits == bit_and reading.v
 abbrev pub whole_value : Slot → Option ℕ
 whole_value slot = if is_whole slot then Some slot.value else None
 
--- V of PhysMask, bit 11, is shown, and clear: Intel SDM, volume 3A, section Variable Range MTRRs
+-- Of a PhysMask V alone is shown, bit 11, and clear, as by a kernel's `disabled`: Intel SDM, volume 3A, section Variable Range MTRRs
 abbrev pub is_disabled : Slot → Bool
-is_disabled slot = is_bit_set slot.bits 11 && not (is_bit_set slot.value 11)
+is_disabled slot = slot.bits == 0x800 && not (is_bit_set slot.value 11)

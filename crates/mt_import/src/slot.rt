@@ -10,6 +10,8 @@ const ALL_BITS: u64 = u64::MAX;
 // V of PhysMask.
 const VALID: u8 = 11;
 
+const VALID_BIT: u64 = 0x800;
+
 impl Slot {
     pub(crate) fn blank() -> Slot
         ensures { result ≡ blank_slot }
@@ -74,10 +76,10 @@ impl Slot {
         }
     }
 
-    /// Whether V of a PhysMask is shown, and clear.
+    /// Whether V alone of a PhysMask is shown, and clear.
     pub(crate) fn is_disabled(&self) -> bool
         ensures { result ≡ is_disabled self.now }
     {
-        is_bit_set(self.bits, VALID) && !is_bit_set(self.value, VALID)
+        self.bits == VALID_BIT && !is_bit_set(self.value, VALID)
     }
 }

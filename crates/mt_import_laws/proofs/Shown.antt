@@ -125,8 +125,8 @@ clear_by true true is = cc is
 clear_by true false is = (refl, refl)
 clear_by false value is = cc is
 
-set_bit : (n : ℕ) → is_bit_set n 11 ≡ true → bit_at n 11 ≡ 1
-set_bit n is = eqb-true (n / 2048 % 2) 1 is
+set_bit : (n : ℕ) → (n == 0x800) ≡ true → bit_at n 11 ≡ 1
+set_bit n is = ap (λ bits. bit_at bits 11) (eqb-true n 0x800 is)
 
 not_set : (n : ℕ) → n < 2 → (n == 1) ≡ false → n ≡ 0
 not_set zero small is = refl
@@ -140,7 +140,7 @@ pub shown_clear : (supplied : Supplied) (readings : List Reading) (k number : �
     → (b : ShowsBit readings k number 11) × (bit_at b.reading.value 11 ≡ 0)
 shown_clear supplied readings k number fine is =
     let slot = slot_shown readings k number in
-    let tests = clear_by (is_bit_set slot.bits 11) (is_bit_set slot.value 11) is in
+    let tests = clear_by (slot.bits == 0x800) (is_bit_set slot.value 11) is in
     let b = bit_shown readings k number 11 (set_bit slot.bits tests.0) in
     let agrees = (agreed supplied readings b.reading 11 fine b.among b.shown_bit).value in
     let here : (slot_shown readings b.reading.processor b.reading.number).value ≡ slot.value =
