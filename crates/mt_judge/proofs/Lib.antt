@@ -1,4 +1,5 @@
 mod Emptying
+mod Fits
 mod Others
 mod Places
 mod Translations

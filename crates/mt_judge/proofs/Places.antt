@@ -99,19 +99,22 @@ nowhere m address h high = one (address % 8 == 0)
 
 -- ---- a test of all items
 
+replaced_one : {X : Type 0} (within test : X → Bool) (x y : X) (ys : List X) → within x ≡ true
+    → (list_all within ys ≡ true → list_all within (map (λ z. if test z then x else z) ys) ≡ true)
+    → (b t : Bool) → within y ≡ b → (b && list_all within ys) ≡ true → (within (if t then x else y) && list_all within (map (λ z. if test z then x else z) ys)) ≡ true
+replaced_one within test x y ys own later true true is rest = ap (λ b. b && list_all within (map (λ z. if test z then x else z) ys)) own ∙ later rest
+replaced_one within test x y ys own later true false is rest = ap (λ b. b && list_all within (map (λ z. if test z then x else z) ys)) is ∙ later rest
+replaced_one within test x y ys own later false t is rest = absurd (cc)
+
 pub all_replaced : {X : Type 0} (within test : X → Bool) (x : X) (xs : List X) → within x ≡ true → list_all within xs ≡ true → list_all within (map (λ y. if test y then x else y) xs) ≡ true
 all_replaced within test x [] own all = refl
-all_replaced within test x (y ∷ ys) own all = one (within y) (test y) refl all
-  where
-    one : (b t : Bool) → within y ≡ b → (b && list_all within ys) ≡ true → (within (if t then x else y) && list_all within (map (λ z. if test z then x else z) ys)) ≡ true
-    one true true is rest = ap (λ b. b && list_all within (map (λ z. if test z then x else z) ys)) own ∙ all_replaced within test x ys own rest
-    one true false is rest = ap (λ b. b && list_all within (map (λ z. if test z then x else z) ys)) is ∙ all_replaced within test x ys own rest
-    one false t is rest = absurd (cc)
+all_replaced within test x (y ∷ ys) own all = replaced_one within test x y ys own (λ rest. all_replaced within test x ys own rest) (within y) (test y) refl all
+
+added_one : {X : Type 0} (within : X → Bool) (x y : X) (ys : List X) → (list_all within ys ≡ true → list_all within (ys ++ x ∷ []) ≡ true)
+    → (b : Bool) → within y ≡ b → (b && list_all within ys) ≡ true → (within y && list_all within (ys ++ x ∷ [])) ≡ true
+added_one within x y ys later true is rest = ap (λ b. b && list_all within (ys ++ x ∷ [])) is ∙ later rest
+added_one within x y ys later false is rest = absurd (cc)
 
 pub all_added : {X : Type 0} (within : X → Bool) (x : X) (xs : List X) → within x ≡ true → list_all within xs ≡ true → list_all within (xs ++ x ∷ []) ≡ true
 all_added within x [] own all = ap (λ b. b && true) own
-all_added within x (y ∷ ys) own all = one (within y) refl all
-  where
-    one : (b : Bool) → within y ≡ b → (b && list_all within ys) ≡ true → (within y && list_all within (ys ++ x ∷ [])) ≡ true
-    one true is rest = ap (λ b. b && list_all within (ys ++ x ∷ [])) is ∙ all_added within x ys own rest
-    one false is rest = absurd (cc)
+all_added within x (y ∷ ys) own all = added_one within x y ys (λ rest. all_added within x ys own rest) (within y) refl all

@@ -1,11 +1,11 @@
 -- The entry by which a processor translates, and the processor once it has that entry.
 use Rattle.std.proofs.Common.{◌≡◌, ◌∙◌, ap, sym, refl, ℕ, zero, suc, ◌/◌, List, [], ◌∷◌, Option, Some, None, slice_get, slice_set, if◌then◌else◌}
 use Rattle.std.specs.Prelude.{Bool, true, false, is_some, IfOk, OnOk, Result, Ok, Err}
-use Rattle.std.specs.Option.{option_map, option_map_or}
+use Rattle.std.specs.Option.{option_map, option_map_or, unwrap_or}
 use Rattle.mt_lists.proofs.Keys.{found_key}
 use Rattle.mt_tlb.specs.declared.entry.Entry.{Entry}
 use Rattle.mt_tlb.specs.declared.mapping.Mapping.{Mapping}
-use Rattle.mt_tlb.specs.Entries.{add_entry, find_entry, find_mapping}
+use Rattle.mt_tlb.specs.Entries.{add_entry, find_entry, find_mapping, is_full_for, set_mapping}
 use Rattle.mt_machine.specs.System.{Processor}
 use Rattle.mt_machine.specs.Access.{entry_of, keep_entry, new_entry}
 use Rattle.mt_bus.specs.Parts.{entry_in, with_changed}
@@ -79,6 +79,15 @@ pub changed_if : (b : Bool) (f : Processor → Processor) (ps : List Processor) 
     → slice_set ps k q ≡ (if b then ps else with_changed f k ps)
 changed_if true f ps k p q at is = ap (slice_set ps k) is ∙ set_same ps k p at
 changed_if false f ps k p q at is = ap (slice_set ps k) is ∙ sym (changed_there f k ps p at)
+
+pub mapped_in : (x : Mapping) (ps : List Processor) (k : ℕ) (q r : Processor) → slice_get ps k ≡ Some q
+    → r ≡ (if is_full_for x q.mappings then q else record q { mappings = set_mapping x q.mappings })
+    → (p : Processor) → slice_get ps k ≡ Some p
+    → slice_set ps k r ≡ (if is_full_for x p.mappings then ps else with_changed (λ (y : Processor). record y { mappings = set_mapping x y.mappings }) k ps)
+mapped_in x ps k q r here is p at =
+    let e : q ≡ p = ap (λ (o : Option Processor). unwrap_or o q) (sym here ∙ at) in
+    changed_if (is_full_for x p.mappings) (λ (y : Processor). record y { mappings = set_mapping x y.mappings }) ps k p r at
+    (is ∙ ap (λ (y : Processor). if is_full_for x y.mappings then y else record y { mappings = set_mapping x y.mappings }) e)
 
 -- ---- results
 

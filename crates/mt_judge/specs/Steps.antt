@@ -1,18 +1,16 @@
 -- What a step of a list does: what the machine's event does, whether or not it is due (own). A step that is no event is an access, a control
 -- instruction, a count at a barrier, or a flush of the TLB by the other of the two ways that the procedure has.
-use Rattle.std.specs.Prelude.{ℕ, ◌<◌, Bool, true, false, if◌then◌else◌, slice_get, Option, None, Some}
+use Rattle.std.specs.Prelude.{ℕ, ◌<◌, ◌+◌, ◌^◌, Bool, true, false, if◌then◌else◌, slice_get, Option, None, Some}
 use Rattle.std.specs.Option.{option_map_or}
-use Rattle.mt_regs.specs.RegisterFile.{RegisterFile}
 use Rattle.mt_machine.specs.declared.phase.Phase.{Phase}
 use Rattle.mt_machine.specs.declared.phase.Phase.TheVariants.{Taken, Arrived, NoFill, Flushed, TlbFlushed, Enabled, Flushed2, TlbFlushed2, Restored}
 use Rattle.mt_machine.specs.declared.event.Event.{Event}
 use Rattle.mt_machine.specs.declared.event.Event.TheVariants.{Take, Arrive, Pass, SetNoFill, DropLines, FlushTlb, Disable, Write, Enable, SetNormal, RestorePge, ArriveAgain, Release}
 use Rattle.mt_machine.specs.declared.control.Control.{Control}
-use Rattle.mt_machine.specs.declared.control.Control.TheVariants.{Cd, Cr3, Invlpg, Map, Pge}
-use Rattle.mt_machine.specs.System.{Processor, System, change}
-use Rattle.mt_machine.specs.Access.{access_at}
+use Rattle.mt_machine.specs.declared.control.Control.TheVariants.{Map}
+use Rattle.mt_machine.specs.System.{Processor, System}
 use Rattle.mt_machine.specs.Control.{control_at}
-use Rattle.mt_machine.specs.Machine.{flush_tlb, step, write_back_or_drop}
+use Rattle.mt_machine.specs.Machine.{write_back_or_drop}
 use Rattle.mt_judge.specs.declared.step.Step.{Step}
 use Rattle.mt_judge.specs.declared.step.Step.TheVariants as list
 
@@ -20,6 +18,11 @@ use Rattle.mt_judge.specs.declared.step.Step.TheVariants as list
 abbrev pub HasIndex : Control → Type 0
 HasIndex (Map m) = m.index < 8
 HasIndex other = Unit {0}
+
+-- the next register's place fits 32 bits
+abbrev pub HasPlace : Event → Type 0
+HasPlace (Write i) = i + 1 < 2 ^ 32
+HasPlace other = Unit {0}
 
 -- ---- the event that a step is
 
@@ -73,20 +76,3 @@ after_reload other = other
 
 abbrev pub controlled : Control → ℕ → System → System
 controlled c k s = option_map_or (λ p. (control_at s k p c).after) (slice_get s.processors k) s
-
-abbrev pub aside : Step → ℕ → System → System
-aside list.ClearPge k s = change (λ p. record (flush_tlb Flushed p) { phase = TlbFlushed }) k s
-aside list.ReloadCr3 k s = change (λ p. record p { phase = after_reload p.phase }) k (controlled Cr3 k s)
-aside (list.Access op) k s = option_map_or (λ p. (access_at s k p op).after) (slice_get s.processors k) s
-aside (list.Invlpg address) k s = controlled (Invlpg address) k s
-aside (list.Pge on) k s = controlled (Pge on) k s
-aside (list.Cd on) k s = controlled (Cd on) k s
-aside other k s = s
-
--- the system after a step of processor k
-abbrev pub stepped : RegisterFile → Step → ℕ → ℕ → System → System
-stepped goal todo part k s =
-    option_map_or
-    (λ p. option_map_or (λ e. step goal e k s) (event_of todo part p) (aside todo k s))
-    (slice_get s.processors k)
-    s

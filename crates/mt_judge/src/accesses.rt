@@ -290,7 +290,17 @@ fn store_back(
     }
 }
 
-fn store(
+// A store to write-through memory.
+fn store_through(layout: &Ram, cpus: &mut [Cpu], words: &mut [u64], k: usize, address: u64, v: u64)
+    requires { k < length cpus.old }
+    ensures { system cpus.new (memory layout.now words.new) ≡ store_after MemType.WT k address v (system cpus.old (memory layout.now words.old)) }
+{
+    store_past(layout, cpus, words, k, address, v);
+    write_own(cpus, k, address, v, false);
+}
+
+// A store once the buffers that it empties are empty.
+fn store_after(
     layout: &Ram,
     cpus: &mut [Cpu],
     words: &mut [u64],
@@ -300,9 +310,8 @@ fn store(
     v: u64,
 ) -> Result<(), NoMemory>
     requires { k < length cpus.old }
-    ensures { OnOk result (system cpus.new (memory layout.now words.new) ≡ store kind k address v (system cpus.old (memory layout.now words.old))) }
+    ensures { OnOk result (system cpus.new (memory layout.now words.new) ≡ store_after kind k address v (system cpus.old (memory layout.now words.old))) }
 {
-    first_of_store(layout, cpus, words, k, kind, address / LINE_BYTES);
     match kind {
         MemType::UC | MemType::WP => {
             store_uncached(layout, cpus, words, address, v);
@@ -318,12 +327,27 @@ fn store(
             v,
         ),
         MemType::WT => {
-            store_past(layout, cpus, words, k, address, v);
-            write_own(cpus, k, address, v, false);
+            store_through(layout, cpus, words, k, address, v);
             Ok(())
         }
         MemType::WB => store_back(layout, cpus, words, k, address, v),
     }
+}
+
+fn store(
+    layout: &Ram,
+    cpus: &mut [Cpu],
+    words: &mut [u64],
+    k: usize,
+    kind: MemType,
+    address: u64,
+    v: u64,
+) -> Result<(), NoMemory>
+    requires { k < length cpus.old }
+    ensures { OnOk result (system cpus.new (memory layout.now words.new) ≡ store kind k address v (system cpus.old (memory layout.now words.old))) }
+{
+    first_of_store(layout, cpus, words, k, kind, address / LINE_BYTES);
+    store_after(layout, cpus, words, k, kind, address, v)
 }
 
 // The entry of an address's page in the TLB of a processor, which is filled if there is none.

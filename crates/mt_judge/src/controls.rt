@@ -41,6 +41,12 @@ fn replace(maps: &mut [Mapping], x: Mapping)
     }
 }
 
+fn replace_in(maps: &mut Vec<Mapping>, x: Mapping)
+    ensures { maps.new.items ≡ map (λ m. if maps_page x.vpage m then x else m) maps.old.items }
+{
+    replace(maps.as_mut_slice(), x);
+}
+
 fn put_mapping(maps: &mut Vec<Mapping>, x: Mapping) -> Result<Ruled, NoMemory>
     requires { x.index < 8 }
     ensures answer { IfOk result (λ ruled. ruled ≡ (if is_full_for x maps.old.items then Ruled.Full else Ruled.Okay)) }
@@ -48,7 +54,7 @@ fn put_mapping(maps: &mut Vec<Mapping>, x: Mapping) -> Result<Ruled, NoMemory>
     ensures kept { list_all (λ m. nat_lt m.index 8) maps.old.items ≡ true → list_all (λ m. nat_lt m.index 8) maps.new.items ≡ true }
 {
     if is_mapped(maps.as_slice(), x.vpage) {
-        replace(maps.as_mut_slice(), x);
+        replace_in(maps, x);
         return Ok(Ruled::Okay);
     }
     if maps.len() == MOST_MAPPINGS {

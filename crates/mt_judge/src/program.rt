@@ -61,18 +61,18 @@ fn bad_line(alloc: Global, place: Place, reason: Reason) -> Result<String, Alloc
     format!(in alloc; "bad text {line}:{column} {why}\n")
 }
 
-// The verdict on a text, and its status.
-fn answer<R: Eprint + AllocGlobal>(rt: &R, text: &[u8]) -> Result<(String, Status), Status> {
+// Writes the verdict on a text.
+fn answer<R: Eprint + AllocGlobal, K: Sink>(rt: &R, text: &[u8], sink: &mut K) -> Status {
     match read_input(rt.alloc(), text) {
         Ok(input) => match judge(rt, input) {
-            Ok(Verdict { text, wrong: true }) => Ok((text, Status::Refused)),
-            Ok(Verdict { text, wrong: false }) => Ok((text, Status::Done)),
-            Err(_) => Err(Status::NoMemory),
+            Ok(Verdict { text, wrong: true }) => written(sink, text.as_bytes(), Status::Refused),
+            Ok(Verdict { text, wrong: false }) => written(sink, text.as_bytes(), Status::Done),
+            Err(_) => Status::NoMemory,
         },
-        Err(Trouble::NoMemory) => Err(Status::NoMemory),
+        Err(Trouble::NoMemory) => Status::NoMemory,
         Err(Trouble::Bad { place, reason }) => match bad_line(rt.alloc(), place, reason) {
-            Ok(line) => Ok((line, Status::BadText)),
-            Err(_) => Err(Status::NoMemory),
+            Ok(line) => written(sink, line.as_bytes(), Status::BadText),
+            Err(_) => Status::NoMemory,
         },
     }
 }
@@ -82,12 +82,8 @@ fn judge_input<R: Eprint + AllocGlobal, S: Source, K: Sink>(
     source: &mut S,
     sink: &mut K,
 ) -> Status {
-    let bytes = match read_all(rt.alloc(), source) {
-        Ok(bytes) => bytes,
-        Err(status) => return status,
-    };
-    match answer(rt, bytes.as_slice()) {
-        Ok((text, status)) => written(sink, text.as_bytes(), status),
+    match read_all(rt.alloc(), source) {
+        Ok(bytes) => answer(rt, bytes.as_slice(), sink),
         Err(status) => status,
     }
 }

@@ -1,4 +1,4 @@
-ghost use Rattle.std.specs.Prelude.{◌≤◌, length};
+ghost use Rattle.std.specs.Prelude.{◌≤◌, IfOk, length};
 
 use crate::case::{Ask, Input, Reason, Trouble};
 use crate::controls::map;
@@ -151,6 +151,9 @@ impl Reader {
     fn before(&mut self, words: &Words<'_>) -> Result<(), Trouble> {
         let step = instruction(words, 2)?;
         let k = self.cpu(words, 1)?;
+        if k >= self.start.cpus.len() {
+            return bad(words.place(1), Reason::OutOfRange);
+        }
         aside(
             &self.case.layout,
             self.start.cpus.as_mut_slice(),
@@ -333,6 +336,7 @@ fn later(place: Place, lines: u64) -> Place {
 // The next line with words from an offset on.
 fn next_worded<'a>(source: &'a [u8], from: usize, number: u64) -> Result<Line<'a>, Trouble>
     requires { from ≤ length source.now }
+    ensures { IfOk result (λ line. line.next ≤ length source.now) }
 {
     let mut at = from;
     let mut count = number;
@@ -352,6 +356,7 @@ fn next_worded<'a>(source: &'a [u8], from: usize, number: u64) -> Result<Line<'a
 // The line `end` of the dump that begins at an offset.
 fn dump_end<'a>(source: &'a [u8], from: usize, number: u64) -> Result<Line<'a>, Trouble>
     requires { from ≤ length source.now }
+    ensures { IfOk result (λ line. (from ≤ line.offset) × (line.offset ≤ length source.now) × (line.next ≤ length source.now)) }
 {
     let mut at = from;
     let mut count = number;

@@ -1,9 +1,9 @@
-ghost use Rattle.std.specs.Prelude.{◌≡◌, ◌<◌, ◌+◌, ◌-◌, ◌^◌, ℕ, nat_lt, true, slice_index_or, if◌then◌else◌};
+ghost use Rattle.std.specs.Prelude.{◌≡◌, ◌<◌, ◌+◌, ◌-◌, ◌^◌, IfSome, nat_lt, true, slice_index_or, if◌then◌else◌};
 ghost use Rattle.std.specs.List.{list_all};
 ghost use Rattle.mt_kinds.specs.Bits.{is_bit_set};
 ghost use Rattle.mt_regs.specs.Registers.{writable};
 ghost use Rattle.mt_machine.specs.Machine.{FitsGoal, after_drop, after_flush, flush_tlb, own_step, with_goal, without_enable, write_back_event, write_back_or_drop};
-ghost use Rattle.mt_judge.specs.Steps.{arrival, clearing, event_of, passage, reloading};
+ghost use Rattle.mt_judge.specs.Steps.{HasPlace, arrival, clearing, event_of, passage, reloading};
 
 use crate::controls::reload_cr3;
 use crate::cpu::Cpu;
@@ -20,7 +20,8 @@ const ENABLE: u8 = 11;
 
 fn write_back_event(line: &CacheLine) -> Event
     requires { line.now.number < 2 ^ 46 }
-    ensures { result ≡ write_back_event line.now }
+    ensures event { result ≡ write_back_event line.now }
+    ensures place { HasPlace result }
 {
     match lines::first_dirty_word(line) {
         Some(word) => Event::WriteBack {
@@ -34,7 +35,8 @@ fn write_back_event(line: &CacheLine) -> Event
 /// The write-back of the first dirty word, or the invalidation of all lines if no word is dirty.
 pub(crate) fn write_back_or_drop(cpu: &Cpu) -> Event
     requires { list_all (λ l. nat_lt l.number (2 ^ 46)) cpu.now.lines ≡ true }
-    ensures { result ≡ write_back_or_drop cpu.now }
+    ensures event { result ≡ write_back_or_drop cpu.now }
+    ensures place { HasPlace result }
 {
     match lines::first_dirty_line(cpu.lines()) {
         Some(line) => write_back_event(&line),
@@ -44,7 +46,8 @@ pub(crate) fn write_back_or_drop(cpu: &Cpu) -> Event
 
 // The event of an arrival at a barrier.
 fn arrival(phase: Phase) -> Option<Event>
-    ensures { result ≡ arrival phase }
+    ensures event { result ≡ arrival phase }
+    ensures place { IfSome result HasPlace }
 {
     match phase {
         Phase::Taken => Some(Event::Arrive),
@@ -55,7 +58,8 @@ fn arrival(phase: Phase) -> Option<Event>
 
 // The event of a passage of a barrier.
 fn passage(phase: Phase) -> Option<Event>
-    ensures { result ≡ passage phase }
+    ensures event { result ≡ passage phase }
+    ensures place { IfSome result HasPlace }
 {
     match phase {
         Phase::Arrived => Some(Event::Pass),
@@ -65,7 +69,8 @@ fn passage(phase: Phase) -> Option<Event>
 
 // PGE is cleared in the first flush of the TLB, and isn't set in the second.
 fn clearing(phase: Phase) -> Option<Event>
-    ensures { result ≡ clearing phase }
+    ensures event { result ≡ clearing phase }
+    ensures place { IfSome result HasPlace }
 {
     match phase {
         Phase::Flushed2 => None,
@@ -75,7 +80,8 @@ fn clearing(phase: Phase) -> Option<Event>
 
 // A reload of CR3 is the second flush of the TLB, and with PGE clear the first.
 fn reloading(cpu: &Cpu) -> Option<Event>
-    ensures { result ≡ reloading cpu.now.phase cpu.now.page_global }
+    ensures event { result ≡ reloading cpu.now.phase cpu.now.page_global }
+    ensures place { IfSome result HasPlace }
 {
     match cpu.phase {
         Phase::Flushed2 => Some(Event::FlushTlb),
@@ -86,8 +92,10 @@ fn reloading(cpu: &Cpu) -> Option<Event>
 
 /// The event of the machine that a step of a processor is, if it is one. `part` is the number of registers that are written.
 pub(crate) fn event_of(step: Step, part: u32, cpu: &Cpu) -> Option<Event>
-    requires { list_all (λ l. nat_lt l.number (2 ^ 46)) cpu.now.lines ≡ true }
-    ensures { result ≡ event_of step part cpu.now }
+    requires numbers { list_all (λ l. nat_lt l.number (2 ^ 46)) cpu.now.lines ≡ true }
+    requires place { part + 1 < 2 ^ 32 }
+    ensures event { result ≡ event_of step part cpu.now }
+    ensures place { IfSome result HasPlace }
 {
     match step {
         Step::Interrupt => Some(Event::Take),
@@ -178,8 +186,14 @@ fn put_goal(regs: &mut RegFile, goal: &RegFile, i: u32)
     regs.is_register_file(); // a fact for the proof
     match goal.register_at(i) {
         Some(register) => regs.put(register, goal.value_of(register)),
-        None => regs.put(Register::DefaultType, goal.deftype),
+        None => put_default(regs, goal),
     }
+}
+
+fn put_default(regs: &mut RegFile, goal: &RegFile)
+    ensures { regs.new ≡ with_goal goal.now Register.DefaultType regs.old }
+{
+    regs.put(Register::DefaultType, goal.deftype);
 }
 
 // The next register gets the goal's value.
@@ -202,7 +216,7 @@ fn enable(cpu: &mut Cpu, goal: &RegFile)
 /// The processor's own part of an event.
 pub(crate) fn own_step(cpu: &mut Cpu, goal: &RegFile, e: Event)
     requires fits { FitsGoal goal.now cpu.old }
-    requires small { (i : ℕ) → e ≡ Event.Write i → i + 1 < 2 ^ 32 }
+    requires place { HasPlace e }
     requires room { cpu.old.era < 2 ^ 64 - 1 }
     ensures { cpu.new ≡ own_step goal.now e cpu.old }
 {

@@ -4,5 +4,5 @@ use Rattle.mt_judge.proofs.reader.next_worded.Given as goal
 abbrev pub invariant-loop-line : goal.invariant-loop-line
 invariant-loop-line l = l.at ≤ length l.source
 
-abbrev pub measure-loop-line : goal.measure-loop-line
-measure-loop-line l = length l.source - l.at
+abbrev pub decreases-loop-line : goal.decreases-loop-line
+decreases-loop-line l = length l.source - l.at

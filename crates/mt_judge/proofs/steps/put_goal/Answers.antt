@@ -14,6 +14,6 @@ returns-in-Some c =
 
 pub returns-in-None : goal.returns-in-None
 returns-in-None c =
-    c.put.ensures
+    c.put_default.ensures
     ∙ ap (λ (r : Register). with_goal c.args.goal.now r c.args.regs.now)
     (ap (λ (o : Option Register). unwrap_or o DefaultType) (sym c.in-None.is ∙ sym c.register_at.ensures.at) ∙ unwrap_or-slice_get (writable c.args.goal.now) c.args.i DefaultType)
