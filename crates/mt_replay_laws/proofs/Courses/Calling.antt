@@ -89,16 +89,20 @@ none_joins step k joins =
     ap (λ (c : Command). (machine_after step.before c).order) joins.0
     ∙ ap (λ (b : Bool). (if b then admitted step.before.machine else step.before.machine).order) (newcomer_comes step (k, inr joins))
 
+some_is_not_none : (o : Option Order) → IsSome o → o ≡ None → ⊥
+some_is_not_none None some is = cc some
+some_is_not_none (Some order) some is = cc is
+
 one_more : (step : Step) (steps : List Step) → IsReplayState step.before → Fits step.before.now step.command → IsCall step ⊎ (IsCall step → ⊥) → StillOrCalled (left step) steps → StillOrCalled step.before (step ∷ steps)
 one_more step steps h fits decided (inr c) = inr (step ∷ c.0, c.1, c.2, ap (λ (rest : List Step). step ∷ rest) c.3, c.4, c.5)
 one_more step steps h fits (inl (inl (inl called))) (inl still) = inr ([], step, steps, refl, inl called, still.1)
 one_more step steps h fits (inl (inr (k, inl up))) (inl still) = inr ([], step, steps, refl, inr (k, up), still.1)
-one_more step steps h fits (inl (inr (k, inr joins))) (inl still) = absurd (let some = still.0 in let none = none_joins step k joins in cc (some, none))
-one_more step steps h fits (inl (inl (inr complete))) (inl still) = absurd (let some = still.0 in let none = none_after step complete.0 h complete.1 in cc (some, none))
+one_more step steps h fits (inl (inr (k, inr joins))) (inl still) = absurd (some_is_not_none (left step).machine.order still.0 (none_joins step k joins))
+one_more step steps h fits (inl (inl (inr complete))) (inl still) = absurd (some_is_not_none (left step).machine.order still.0 (none_after step complete.0 h complete.1))
 one_more step steps h fits (inr other) (inl still) = one step.before.machine.order refl
   where
     one : (o : Option Order) → step.before.machine.order ≡ o → StillOrCalled step.before (step ∷ steps)
-    one None is = absurd (let some = still.0 in let none = none_stays step.before step.command h fits (no_call step h other) is in cc (some, none))
+    one None is = absurd (some_is_not_none (left step).machine.order still.0 (none_stays step.before step.command h fits (no_call step h other) is))
     one (Some o) is = inl (subst (λ (v : Option Order). IsSome v) (sym is) refl, (other, still.1))
 
 called_before : (steps : List Step) (s : ReplayState) → IsReplayState s → GoesOn s steps → IsSome (last_of s steps).machine.order → StillOrCalled s steps
@@ -119,7 +123,7 @@ releases_follow_calls text front rest release same released =
     one c.first c.no_order (called_before front c.first c.is (in_front front (release ∷ rest) c.first c.goes_on) some)
   where
     one : (s : ReplayState) → s.machine.order ≡ None → StillOrCalled s front → CalledIn front
-    one s none (inl still) = absurd (let some = still.0 in cc (some, none))
+    one s none (inl still) = absurd (some_is_not_none s.machine.order still.0 none)
     one s none (inr called) = called
 
 -- ---- accepted
