@@ -6,9 +6,9 @@ use Rattle.mt_answers.specs.declared.command.SerialCommand.{SerialCommand}
 use Rattle.mt_answers.specs.declared.command.SerialCommand.TheVariants.{Dump, Make, Help, Version}
 use Rattle.mt_answers.specs.Generator.{make_text}
 
-abbrev pub help_lines : List (List ℕ)
-help_lines =
-    codes "usage: mtrr COMMAND < INPUT"
+unfoldable pub help_text : List ℕ
+help_text =
+    flat_map line (codes "usage: mtrr COMMAND < INPUT"
     ∷ codes ""
     ∷ codes "Checks and explains the memory type registers of x86 processors: MTRRs"
     ∷ codes "and the PAT. INPUT is a dump of registers. For replay it is a script,"
@@ -45,10 +45,7 @@ help_lines =
     ∷ codes "  7  the input has more than 16,777,216 bytes"
     ∷ codes "  8  tidy, gran: too few pairs"
     ∷ codes "  9  tidy, gran: the MTRRs are off"
-    ∷ []
-
-unfoldable pub help_text : List ℕ
-help_text = flat_map line help_lines
+    ∷ [])
 
 unfoldable pub version_text : List ℕ
 version_text = line (codes "mtrr 1.0.0")
