@@ -83,7 +83,9 @@ fn fit_command<'a>(alloc: Global) -> Result<Command<'a>, AllocError> {
         .action(ArgAction::Set)
         .help("Leave N pairs free, 0 to 32; by default 0");
     Command::new(alloc, "fit")
-        .about("Print how many pairs the types need, and the command of mtrr that finds them")
+        .about(
+            "Print how many pairs processor 0's types need, and the mtrr command that finds them",
+        )
         .arg(json_arg(alloc))?
         .arg(spare)?
         .arg(files_arg(alloc, DUMPS))
