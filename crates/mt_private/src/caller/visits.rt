@@ -1,12 +1,14 @@
-// The whole visit of a guest: its accesses, and the update between them.
-ghost use Rattle.std.specs.Prelude.{◌≡◌, [], None, false};
+// The whole visit of a guest: its accesses, and the update between them. Its calls wait, and only `caller.rt` and the
+// files below it can make them.
+ghost use Rattle.std.specs.Prelude.{◌≡◌, [], ◌∷◌, Bool, None, Some, false, true};
 ghost use Rattle.mt_machine.specs.declared.phase.Phase.TheVariants.{Running};
+ghost use Rattle.mt_machine.specs.Update.{updated};
 ghost use Rattle.mt_private.specs.declared.job.Part.{Part as JobPart};
 ghost use Rattle.mt_private.specs.declared.job.Part.TheVariants.{After};
 ghost use Rattle.mt_private.specs.InYard.{LodgesIn, VisitEndsIn, goal_at};
 ghost use Rattle.mt_private.specs.Jobs.{FitsJob, IsOpen};
 ghost use Rattle.mt_private.specs.OneByOne.{at_rest};
-ghost use Rattle.mt_private.specs.YardCalls.{AreIn, done_in};
+ghost use Rattle.mt_private.specs.YardCalls.{AreIn, IsLeft, done_in};
 
 use crate::caller::Caller;
 use crate::host::Yard;
@@ -18,6 +20,39 @@ use mt_ports::Gate;
 use mt_regs::RegFile;
 use std::sync::Wait;
 
+impl YardPass {
+    // Takes the processor through the update, once its accesses before it are done.
+    fn go_through<R: Wait, G: Gate>(
+        &mut self,
+        caller: &Caller<R, G>,
+        yard: &Yard,
+        core: &mut Core,
+        goal: &RegFile,
+    ) -> Visited
+        requires lodges { LodgesIn yard.now self.old core.old.system false false }
+        requires runs { AreIn Running core.old.system }
+        requires idle { core.old.order ≡ None }
+        requires goal { goal.now ≡ goal_at yard.now }
+        ensures number { self.new.number ≡ self.old.number }
+        ensures done { done_in self.new.seat.me ≡ done_in self.old.seat.me }
+        ensures complete { result ≡ Visited.Complete → LodgesIn yard.now self.new core.new.system true true × (self.new.seat.me.0.shown ≡ Some yard.now.count) }
+        ensures whole { result ≡ Visited.Complete → AreIn Running core.new.system × (core.new ≡ updated core.old.system (0 ∷ []) goal.now) }
+        ensures cancelled { result ≡ Visited.Cancelled → ((added : Bool) × LodgesIn yard.now self.new core.new.system added false)
+            × (self.new.seat.me.0.cancel ≡ true) × IsLeft core.old.system core.new.system }
+    {
+        if !self.take(yard, core, goal) {
+            return Visited::Cancelled;
+        }
+        let heard = self.arrive(yard, core).tell(caller);
+        if !self.wait_first(caller, heard, yard, core) {
+            return Visited::Cancelled;
+        }
+        self.change(yard, core);
+        self.wait_second(caller, yard, core);
+        Visited::Complete
+    }
+}
+
 // A core over the one processor, which runs.
 pub(crate) fn core_of(own: System) -> Core
     requires { AreIn Running own }
@@ -27,7 +62,7 @@ pub(crate) fn core_of(own: System) -> Core
 }
 
 // The accesses, the update, and where it is done the accesses after it.
-pub(crate) fn visit_with<R: Wait, G: Gate>(
+pub(super) fn visit_with<R: Wait, G: Gate>(
     caller: &Caller<R, G>,
     yard: &Yard,
     pass: &mut YardPass,

@@ -8,7 +8,7 @@ use Rattle.mt_private.specs.declared.job.Part.TheVariants.{After, Before}
 use Rattle.mt_private.specs.OneByOne.{ran}
 use Rattle.mt_private.specs.YardCalls.{IsLeft, Lodges, updated_own}
 use Rattle.mt_private.proofs.Alone.{left_runs}
-use Rattle.mt_private.proofs.visits.visit_with.Goals as goal
+use Rattle.mt_private.proofs.caller.visits.visit_with.Goals as goal
 
 pub access_all-requires-clause-lodges : goal.access_all-requires-clause-lodges
 access_all-requires-clause-lodges g c = (false, false, c.requires.lodges)

@@ -4,7 +4,7 @@ use Rattle.mt_machine.specs.System.{Processor}
 use Rattle.mt_machine.specs.Access.{is_running}
 use Rattle.mt_machine.specs.Machine.{FitsGoal, common_era}
 use Rattle.mt_private.proofs.Alone.{one_all, runner_of}
-use Rattle.mt_private.proofs.visits.core_of.Goals as goal
+use Rattle.mt_private.proofs.caller.visits.core_of.Goals as goal
 
 pub new-requires-clause-few : goal.new-requires-clause-few
 new-requires-clause-few c = let r = runner_of c.args.own c.requires in let n = ap (λ (ps : List Processor). length ps) r.alone in omega arith
