@@ -1,6 +1,6 @@
 -- What a step of a list does: what the machine's event does, whether or not it is due (own). A step that is no event is an access, a control
 -- instruction, a count at a barrier, or a flush of the TLB by the other of the two ways that the procedure has.
-use Rattle.std.specs.Prelude.{◌≡◌, ℕ, ◌<◌, ◌+◌, ◌^◌, Bool, true, false, if◌then◌else◌, slice_get, Option, None, Some}
+use Rattle.std.specs.Prelude.{◌≡◌, ℕ, ◌<◌, ◌+◌, ◌^◌, Bool, if◌then◌else◌, slice_get, Option, None, Some}
 use Rattle.std.specs.Option.{option_map_or}
 use Rattle.mt_regs.specs.RegisterFile.{RegisterFile}
 use Rattle.mt_tlb.specs.declared.mapping.Mapping.{Mapping}
