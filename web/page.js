@@ -224,7 +224,8 @@ const valueWithBits = (value, bits) => {
 const registerText = register => `${register.number} ${register.name}`;
 
 function pairList(pairs) {
-    return make('ul', {}, pairs.map(pair => make('li', {}, `pair ${pair.pair}, ${pair.type}, ${pair.first}-${pair.last}: `,
+    const range = pair => pair.first === null ? 'no range, since the mask has a gap' : `${pair.first}-${pair.last}`;
+    return make('ul', {}, pairs.map(pair => make('li', {}, `pair ${pair.pair}, ${pair.type}, ${range(pair)}: `,
         make('span', { class: 'code' }, `${registerText(pair.base)} ${pair.base.value}, ${registerText(pair.mask)} ${pair.mask.value}`))));
 }
 
@@ -335,7 +336,8 @@ function layMap(dump) {
 function layPage(report) {
     return report.cpus.flatMap(cpu => [
         make('p', {}, make('strong', {}, `${report.cpus.length > 1 ? `Processor ${cpu.cpu}: ` : ''}${cpu.type}`), `, since ${cpu.because}.`),
-        cpu.registers.length > 0 ? make('ul', {}, cpu.registers.map(register => make('li', { class: 'code' }, `${registerText(register)} ${register.value}`))) : null,
+        cpu.at_fault ? make('p', { class: 'note' }, "A register has a fault by itself, and what it does to pages isn't defined.") : null,
+        cpu.registers.length > 0 ? make('ul', {}, cpu.registers.map(register => make('li', { class: 'code' }, `${registerText(register)} ${register.value}${cpu.bits === null ? '' : `, bits ${cpu.bits}`}`))) : null,
         cpu.pairs.length > 0 ? pairList(cpu.pairs) : null,
         cpu.effective.length > 0 ? make('details', { open: report.cpus.length === 1 }, make('summary', {}, 'With each entry of the PAT'),
             table('', ['entry', 'PAT type', 'effective'], cpu.effective.map((entry, k) => row(String(k), entry.pat, entry.effective)))) : null,
@@ -419,7 +421,7 @@ function layTidy(dump) {
         const fit = explain(['fit', '--spare', String(spare.value || 0), 'input'], dump);
         result.replaceChildren();
         if (fit.trouble) return answer.replaceChildren(make('p', {}, fit.trouble));
-        answer.replaceChildren(make('p', {}, `The file has ${fit.has.pairs} pairs. Its types need ${fit.needs} of them at least.`),
+        answer.replaceChildren(make('p', {}, `The file has ${fit.has.pairs} pairs, of which ${fit.has.valid} are valid. Its types need ${fit.needs} of them at least.`),
             make('div', { class: 'look' }, make('div', {},
                 table('Pairs needed for the same types, by the chunk: the most bytes of the larger of two ranges that overlap', ['chunk from', 'needed', 'free', ''],
                     fit.chunks.map(chunk => row(chunk.size, String(chunk.needs), chunk.free === null ? '' : String(chunk.free), use(chunk.command)))),

@@ -48,7 +48,8 @@ pub fn faults_answer(
     })
 }
 
-/// What gives the page of an address its type. Something is found if it has no defined type. Fails with `NoPage` beyond the width.
+/// What gives the page of an address its type. Something is found if it has no defined type, or if a register has a fault by itself.
+/// Fails with `NoPage` beyond the width.
 pub fn page_answer(
     alloc: Global,
     file: &str,
@@ -67,7 +68,7 @@ pub fn page_answer(
     };
     Ok(Answer {
         text,
-        found: report.undefined,
+        found: report.found,
     })
 }
 

@@ -18,7 +18,7 @@ pub enum NoReport {
     },
     #[error("the address is beyond {0} bits")]
     NoPage(u8),
-    #[error("not accepted: {0} is at fault, as faults tells")]
+    #[error("not accepted: {0} is at fault; mtrr-explain faults says why")]
     Refused(String),
     #[error("E of IA32_MTRR_DEF_TYPE is clear: the MTRRs are off")]
     Disabled,

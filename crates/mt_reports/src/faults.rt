@@ -70,7 +70,7 @@ fn lawful_type(f: &RegFile, msr: u32) -> &'static str {
 
 fn lawful_text(alloc: Global, f: &RegFile, fault: &FieldFault) -> Result<String, AllocError> {
     match fault.defect {
-        Defect::ReservedBits if fault.low == f.maxphy => {
+        Defect::ReservedBits if fault.low == f.maxphy && fault.msr != PAT => {
             format!(in alloc; "0 where addresses have {} bits", f.maxphy)
         }
         Defect::ReservedBits if fault.low == 10 => {

@@ -3,6 +3,7 @@ ghost use Rattle.std.specs.Prelude.{◌<◌};
 use crate::fields::size_text;
 use crate::given::Given;
 use mt_explain::{Rounding, Span, Unfit, least_by_chunk, rounding_of, steps};
+use mt_ranges::is_valid;
 use mt_regs::RegFile;
 use serde::Serialize;
 use std::alloc::{AllocError, Global};
@@ -13,10 +14,11 @@ const PAGE_LOG: u8 = 12;
 // The largest granule has 2^28 pages.
 const PAST_GRANULES: u8 = 29;
 
-/// The pairs that a file has, and how many of them are to stay free.
+/// The pairs that a file has, how many of them are valid, and how many are to stay free.
 #[derive(Clone, Copy, Drop, Serialize)]
 pub struct Budget {
     pub pairs: u64,
+    pub valid: u64,
     pub spare: u64,
 }
 
@@ -58,6 +60,17 @@ pub struct FitReport<'a> {
 }
 
 // ---- facts
+
+// How many pairs of a file are valid.
+fn valid_pairs(f: &RegFile) -> u64 {
+    let mut count = 0u64;
+    for pair in f.pairs.as_slice() {
+        if is_valid(*pair) {
+            count = count.saturating_add(1);
+        }
+    }
+    count
+}
 
 // How many pairs stay free, if so many can be used.
 fn free_after(has: Budget, needs: u64) -> Option<u64> {
@@ -160,6 +173,7 @@ pub fn fit_report<'a>(
     let f = given.dump.first_file();
     let has = Budget {
         pairs: f.pairs.len() as u64,
+        valid: valid_pairs(f),
         spare,
     };
     let numbers = match least_by_chunk(f) {
@@ -233,8 +247,8 @@ pub fn fit_text(alloc: Global, report: &FitReport<'_>) -> Result<String, AllocEr
     let mut text = String::new(alloc);
     write!(
         text,
-        "{}: pairs: {}, needed: {}, to stay free: {}\n",
-        report.file, report.has.pairs, report.needs, report.has.spare
+        "{}: pairs: {}, valid: {}, needed: {}, to stay free: {}\n",
+        report.file, report.has.pairs, report.has.valid, report.needs, report.has.spare
     )?;
     for c in &report.chunks {
         append_chunk(&mut text, c, report.has)?;

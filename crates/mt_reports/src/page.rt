@@ -2,7 +2,7 @@ use crate::given::Given;
 use crate::texts::{
     PairText, RegisterText, append_pairs, append_register, pair_texts, register_text,
 };
-use mt_explain::{Decision, Rule, decide, effective_types};
+use mt_explain::{Decision, Rule, decide, effective_types, field_faults};
 use mt_kinds::Pat;
 use mt_regs::{DEFAULT_TYPE, PAT, PageType, RegFile};
 use serde::Serialize;
@@ -23,7 +23,11 @@ pub struct CpuPage {
     pub kind: &'static str,
     pub rule: &'static str,
     pub because: &'static str,
+    /// Whether a register has a fault by itself. What such a register does to pages isn't defined.
+    pub at_fault: bool,
     pub registers: Vec<RegisterText>,
+    /// The bits of the fixed-range register that has the page.
+    pub bits: Option<String>,
     pub pairs: Vec<PairText>,
     pub effective: Vec<EffectiveText>,
 }
@@ -35,6 +39,9 @@ pub struct PageReport<'a> {
     pub address: String,
     pub width: u8,
     pub width_assumed: bool,
+    /// Whether a processor gives the page no defined type, or has a register at fault by itself.
+    pub found: bool,
+    /// Whether a processor gives the page no defined type.
     pub undefined: bool,
     pub cpus: Vec<CpuPage>,
 }
@@ -105,6 +112,17 @@ fn register_texts(alloc: Global, f: &RegFile, rule: Rule) -> Result<Vec<Register
     Ok(texts)
 }
 
+// The bits of a fixed-range register that decide.
+fn bits_text(alloc: Global, rule: Rule) -> Result<Option<String>, AllocError> {
+    match rule {
+        Rule::FixedByte { byte, .. } => {
+            let low = 8 * (byte % 8);
+            Ok(Some(format!(in alloc; "{}:{low}", low + 7)?))
+        }
+        _ => Ok(None),
+    }
+}
+
 // The pairs that decide: those that have the page, unless another rule comes first.
 fn deciding_pairs(
     alloc: Global,
@@ -143,7 +161,9 @@ fn cpu_page(alloc: Global, cpu: u32, f: &RegFile, page: u64) -> Result<CpuPage, 
         kind: kind_name(decision.kind),
         rule: rule_name(decision.rule),
         because: because(decision.rule),
+        at_fault: !field_faults(alloc, f)?.is_empty(),
         registers: register_texts(alloc, f, decision.rule)?,
+        bits: bits_text(alloc, decision.rule)?,
         pairs: deciding_pairs(alloc, f, &decision)?,
         effective: effective_texts(alloc, f, decision.kind)?,
     })
@@ -158,9 +178,11 @@ pub fn page_report<'a>(
 ) -> Result<PageReport<'a>, AllocError> {
     let mut cpus = Vec::new(alloc);
     let mut undefined = false;
+    let mut found = false;
     for (k, f) in given.dump.files.as_slice().iter().enumerate() {
         let cpu = cpu_page(alloc, k as u32, f, address / 4096)?;
         undefined = undefined || cpu.effective.is_empty();
+        found = found || cpu.effective.is_empty() || cpu.at_fault;
         cpus.push(cpu)?;
     }
     Ok(PageReport {
@@ -168,6 +190,7 @@ pub fn page_report<'a>(
         address: format!(in alloc; "{address:x}")?,
         width: given.dump.first_file().maxphy,
         width_assumed: !given.has_width,
+        found,
         undefined,
         cpus,
     })
@@ -184,16 +207,33 @@ fn append_effective(text: &mut String, effective: &[EffectiveText]) -> Result<()
     Ok(())
 }
 
+// Adds the line about a register that decides, with its bits if not all of them do.
+fn append_decider(
+    text: &mut String,
+    register: &RegisterText,
+    bits: &Option<String>,
+) -> Result<(), AllocError> {
+    text.push_str("    ")?;
+    append_register(text, register)?;
+    if let Some(bits) = bits {
+        write!(text, ", bits {bits}")?;
+    }
+    text.push_str("\n")
+}
+
 fn append_cpu(text: &mut String, cpu: &CpuPage) -> Result<(), AllocError> {
     write!(
         text,
         "  cpu {}: {}, since {}\n",
         cpu.cpu, cpu.kind, cpu.because
     )?;
+    if cpu.at_fault {
+        text.push_str(
+            "    a register has a fault by itself, and what it does to pages isn't defined: see mtrr-explain faults\n",
+        )?;
+    }
     for register in &cpu.registers {
-        text.push_str("    ")?;
-        append_register(text, register)?;
-        text.push_str("\n")?;
+        append_decider(text, register, &cpu.bits)?;
     }
     append_pairs(text, cpu.pairs.as_slice())?;
     append_effective(text, cpu.effective.as_slice())

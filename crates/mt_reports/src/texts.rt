@@ -12,14 +12,14 @@ pub struct RegisterText {
     pub value: String,
 }
 
-/// A valid pair, its type, and the first and the last address of its range.
+/// A valid pair, its type, and the first and the last address of its range. A pair whose mask has a gap has no range.
 #[derive(Drop, Serialize)]
 pub struct PairText {
     pub pair: u8,
     #[serde(rename = "type")]
     pub kind: &'static str,
-    pub first: String,
-    pub last: String,
+    pub first: Option<String>,
+    pub last: Option<String>,
     pub base: RegisterText,
     pub mask: RegisterText,
 }
@@ -44,12 +44,19 @@ pub fn register_text(alloc: Global, msr: u32, value: u64) -> Result<RegisterText
     })
 }
 
-// The first page of a pair's range, and the page behind it. A pair whose mask has a gap has no such range.
-fn range_of(f: &RegFile, pair: (u64, u64)) -> (u64, u64) {
+// The first and the last address of a pair's range. A pair whose mask has a gap has no range.
+fn range_of(
+    alloc: Global,
+    f: &RegFile,
+    pair: (u64, u64),
+) -> Result<(Option<String>, Option<String>), AllocError> {
     f.is_register_file(); // a fact for the proof
     match block_of(pair.0, pair.1, f.maxphy) {
-        Some(block) => (block.first, block.end()),
-        None => (0, 0),
+        Some(block) => Ok((
+            Some(first_address(alloc, block.first)?),
+            Some(last_address(alloc, block.end())?),
+        )),
+        None => Ok((None, None)),
     }
 }
 
@@ -71,12 +78,12 @@ fn pair_text(
     pair: (u64, u64),
 ) -> Result<PairText, AllocError> {
     let msr = FIRST_PAIR + 2 * number as u32;
-    let (first, end) = range_of(f, pair);
+    let (first, last) = range_of(alloc, f, pair)?;
     Ok(PairText {
         pair: number,
         kind: pair_type(pair).name(),
-        first: first_address(alloc, first)?,
-        last: last_address(alloc, end)?,
+        first,
+        last,
         base: register_text(alloc, msr, pair.0)?,
         mask: register_text(alloc, msr + 1, pair.1)?,
     })
@@ -87,14 +94,18 @@ pub fn append_register(text: &mut String, r: &RegisterText) -> Result<(), AllocE
     write!(text, "{} {} {}", r.number, r.name, r.value)
 }
 
+fn append_range(text: &mut String, p: &PairText) -> Result<(), AllocError> {
+    match (&p.first, &p.last) {
+        (Some(first), Some(last)) => write!(text, " {first}-{last}: "),
+        _ => text.push_str(", no range, since the mask has a gap: "),
+    }
+}
+
 /// Adds the lines about pairs.
 pub fn append_pairs(text: &mut String, pairs: &[PairText]) -> Result<(), AllocError> {
     for p in pairs {
-        write!(
-            text,
-            "    pair {}, {} {}-{}: ",
-            p.pair, p.kind, p.first, p.last
-        )?;
+        write!(text, "    pair {}, {}", p.pair, p.kind)?;
+        append_range(text, p)?;
         append_register(text, &p.base)?;
         text.push_str(", ")?;
         append_register(text, &p.mask)?;
