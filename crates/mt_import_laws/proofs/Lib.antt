@@ -5,3 +5,7 @@ mod Shown
 mod Dumps
 mod Alike
 mod Lines
+mod PrintedDigits
+mod LineWords
+mod Keys
+mod Whole

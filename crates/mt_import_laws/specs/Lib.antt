@@ -1,2 +1,4 @@
 pub mod Origins
 pub mod Alike
+pub mod Printed
+pub mod PrintedByEdk2

@@ -1,0 +1,49 @@
+-- Logs that hold what a program prints of a register file, and what it means that they read back (own).
+--     HoldsTable format table text      the lines of a log are those of a table, among lines that say nothing
+--     Agrees supplied file      words supply no other value than the file's
+--     ReadsBack told file      the outcome is the file's dump
+use Rattle.std.specs.Prelude.{ℕ, ◌≡◌, ◌⊎◌, ◌+◌, ◌/◌, ◌%◌, List, [], ◌∷◌, Some}
+use Rattle.std.specs.Int.{to_be_bytes, w64}
+use Rattle.hex.specs.Hex.{encode_upper}
+use Rattle.mt_ports.specs.declared.status.Status.TheVariants.{Done}
+use Rattle.mt_text.specs.Text.{lines_of}
+use Rattle.mt_regs.specs.RegisterFile.{RegisterFile}
+use Rattle.mt_regs.specs.Registers.{value_at}
+use Rattle.mt_dump.specs.Canon.{canon}
+use Rattle.mt_dump.specs.Dumps.{dump_of}
+use Rattle.mt_import.specs.declared.format.Format.{Format}
+use Rattle.mt_import.specs.declared.reading.Said.TheVariants.{Nothing}
+use Rattle.mt_import.specs.Outcome.{Told}
+use Rattle.mt_import.specs.Shown.{said_of}
+use Rattle.mt_import.specs.Supplied.{Supplied, supplied_value}
+use Rattle.mt_import_laws.specs.Origins.{IsAmong}
+
+-- ---- numbers
+
+-- `%02d` of a number below 100
+abbrev pub two_digits : ℕ → List ℕ
+two_digits number = (48 + number / 10) ∷ (48 + number % 10) ∷ []
+
+-- sixteen hexadecimal digits in capitals
+abbrev pub capitals : ℕ → List ℕ
+capitals value = encode_upper (to_be_bytes w64 value)
+
+-- ---- a log
+
+-- a line that says nothing in this format, whatever its number
+abbrev pub SaysNothing : Format → List ℕ → Type 0
+SaysNothing format line = (number : ℕ) → said_of format number line ≡ Nothing
+
+-- A log has each line of a table, and any lines besides that say nothing.
+pub record HoldsTable (format : Format) (table : List (List ℕ)) (text : List ℕ) : Type 0 where
+  pub has : (line : List ℕ) → IsAmong line table → IsAmong line (lines_of text)
+  pub others : (line : List ℕ) → IsAmong line (lines_of text) → IsAmong line table ⊎ SaysNothing format line
+
+-- Words supply no width and no value but the file's.
+pub record Agrees (supplied : Supplied) (file : RegisterFile) : Type 0 where
+  pub width : (width : ℕ) → supplied.width ≡ Some width → width ≡ file.width
+  pub registers : (number value : ℕ) → supplied_value supplied number ≡ Some value → value_at file number ≡ Some value
+
+pub record ReadsBack (told : Told) (file : RegisterFile) : Type 0 where
+  pub status : told.status ≡ Done
+  pub dump : told.dump ≡ canon (dump_of file)
