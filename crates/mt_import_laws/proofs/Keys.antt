@@ -1,25 +1,15 @@
 -- The registers of a dump, each by its number.
 use Rattle.std.proofs.Common.{◌≡◌, ◌∙◌, ◌<◌, ◌≤◌, ◌+◌, ◌*◌, ◌==◌, ◌&&◌, ◌^◌, nat_lt, ℕ, Bool, true, false, List, [], ◌∷◌, Option, Some, None, refl, sym, ap, arith, lit≤, is_some}
+use Rattle.std.specs.List.{AllByRecursion}
 use Rattle.std.specs.Option.{option_map}
 use Rattle.std.proofs.lemmas.Bool.Decides.{nat_tests}
 use Rattle.mt_regs.specs.declared.registers.Register.{Register}
 use Rattle.mt_regs.specs.declared.registers.Register.TheVariants.{PhysBase, PhysMask, FixedRange, Pat, DefaultType}
 use Rattle.mt_regs.specs.RegisterFile.{IsRegisterFile, RegisterFile, blank_file, has_fixed}
-use Rattle.mt_regs.specs.Registers.{IsWithin, number_of, register_of, value_at, value_of}
-use Rattle.mt_regs.proofs.ByNumber.{register_of-number, register_of-number_of, register_of-range, register_of-within, value_at-number_of}
+use Rattle.mt_regs.specs.Registers.{IsWithin, number_of, register_of, value_at, value_of, writable}
+use Rattle.mt_regs.proofs.ByNumber.{register_of-number, register_of-number_of, register_of-range, register_of-within, writable_found}
 use Rattle.mt_import.specs.Readings.{all_registers, is_register}
-
--- the capability register, or a writable one
-abbrev pub Key : Type 0
-Key = Option Register
-
-abbrev pub number_at : Key → ℕ
-number_at None = 0xfe
-number_at (Some register) = number_of register
-
-abbrev pub value_in : RegisterFile → Key → ℕ
-value_in file None = file.capabilities
-value_in file (Some register) = value_of file register
+use Rattle.mt_import_laws.specs.Printed.{Key, number_at, value_in}
 
 -- a file that has each register
 abbrev pub whole_file : RegisterFile
@@ -39,6 +29,14 @@ within_whole file (PhysMask n) is within = let few = is.few_pairs in let all = i
 within_whole file (FixedRange place) is within = (within.0, refl)
 within_whole file Pat is within = tt
 within_whole file DefaultType is within = tt
+
+-- each writable register of a file is in it
+within_each : (file : RegisterFile) (registers : List Register) → IsRegisterFile file → AllByRecursion (λ register. register_of file (number_of register) ≡ Some register) registers → AllByRecursion (IsWithin file) registers
+within_each file [] is found = tt
+within_each file (register ∷ registers) is found = (register_of-within file (number_of register) register is found.0, within_each file registers is found.1)
+
+pub all_within : (file : RegisterFile) → IsRegisterFile file → AllByRecursion (IsWithin file) (writable file)
+all_within file is = within_each file (writable file) is (writable_found file is.few_pairs)
 
 pub found_whole : (register : Register) → IsWithin whole_file register → register_of whole_file (number_of register) ≡ Some register
 found_whole register within = register_of-number_of whole_file register is_whole_file within

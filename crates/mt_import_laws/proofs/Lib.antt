@@ -9,3 +9,10 @@ mod PrintedDigits
 mod LineWords
 mod Keys
 mod Whole
+mod InteltoolLines
+mod TableLines
+mod Back
+mod PrintedBack
+mod Among
+mod InteltoolTable
+mod WorkedFiles

@@ -57,13 +57,13 @@ module _ (t : List ℕ) (are : IsDigits t) (value : ℕ) where
   pub sixteen_long : length (encode_with t (to_be_bytes w64 value)) ≡ 16
   sixteen_long = length-encode_with t (to_be_bytes w64 value)
 
-  pub sixteen_digits : list_all is_hex_digit (encode_with t (to_be_bytes w64 value)) ≡ true
-  sixteen_digits = all_digits t are (to_be_bytes w64 value) (eight_fit value)
+  pub sixteen_all : list_all is_hex_digit (encode_with t (to_be_bytes w64 value)) ≡ true
+  sixteen_all = all_digits t are (to_be_bytes w64 value) (eight_fit value)
 
   pub sixteen_read : value < 2 ^ 64 → hex_number_of_digits (encode_with t (to_be_bytes w64 value)) ≡ Ok value
   sixteen_read small =
       let size = sixteen_long in
-      digits_read (encode_with t (to_be_bytes w64 value)) (omega arith) (omega arith) sixteen_digits
+      digits_read (encode_with t (to_be_bytes w64 value)) (omega arith) (omega arith) sixteen_all
       ∙ ap Ok (pairs_value (encode_with t (to_be_bytes w64 value)) (to_be_bytes w64 value) 0 0 (decode_pairs-encode_with t are 0 (to_be_bytes w64 value) (eight_fit value))
       ∙ sym (from_be_bytes-fold (to_be_bytes w64 value) refl) ∙ from_be_bytes-to_be_bytes_8 value small)
 
@@ -71,12 +71,12 @@ module _ (t : List ℕ) (are : IsDigits t) (value : ℕ) where
   pub eight_long : length (encode_with t (to_be_bytes w32 value)) ≡ 8
   eight_long = length-encode_with t (to_be_bytes w32 value)
 
-  pub eight_digits : list_all is_hex_digit (encode_with t (to_be_bytes w32 value)) ≡ true
-  eight_digits = all_digits t are (to_be_bytes w32 value) (four_fit value)
+  pub eight_all : list_all is_hex_digit (encode_with t (to_be_bytes w32 value)) ≡ true
+  eight_all = all_digits t are (to_be_bytes w32 value) (four_fit value)
 
   pub eight_read : value < 2 ^ 32 → hex_number_of_digits (encode_with t (to_be_bytes w32 value)) ≡ Ok value
   eight_read small =
       let size = eight_long in
-      digits_read (encode_with t (to_be_bytes w32 value)) (omega arith) (omega arith) eight_digits
+      digits_read (encode_with t (to_be_bytes w32 value)) (omega arith) (omega arith) eight_all
       ∙ ap Ok (pairs_value (encode_with t (to_be_bytes w32 value)) (to_be_bytes w32 value) 0 0 (decode_pairs-encode_with t are 0 (to_be_bytes w32 value) (four_fit value))
       ∙ sym (four_bytes (to_be_bytes w32 value) refl) ∙ from_be_bytes-to_be_bytes_4 value small)

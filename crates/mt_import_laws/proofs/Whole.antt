@@ -18,8 +18,8 @@ use Rattle.mt_import.specs.Slot.{all_bits, blank_slot, clashes, fresh_after, slo
 use Rattle.mt_import.specs.Supplied.{Supplied, bits_differ, differs, supplied_value}
 use Rattle.mt_import.specs.Outcome.{Seen, capabilities_shown, fact_fault, facts_fault, or_fault, processors, reading_fault, rival, seen_after, seen_with, slot_shown, width_fault}
 use Rattle.mt_import_laws.specs.Origins.{IsAmong}
-use Rattle.mt_import_laws.specs.Printed.{Agrees}
-use Rattle.mt_import_laws.proofs.Keys.{IsKey, Key, number_at, same_key, value_at_key, value_in}
+use Rattle.mt_import_laws.specs.Printed.{Agrees, Key, number_at, value_in}
+use Rattle.mt_import_laws.proofs.Keys.{IsKey, same_key, value_at_key}
 
 -- a reading of processor 0 shows all of a register that is printed
 pub record IsWhole (file : RegisterFile) (prints : Key → Bool) (reading : Reading) : Type 0 where

@@ -1,4 +1,5 @@
 pub mod Origins
 pub mod Alike
 pub mod Printed
-pub mod PrintedByEdk2
+pub mod PrintedByInteltool
+pub mod WorkedPrinted

@@ -2,13 +2,12 @@
 --     HoldsTable format table text      the lines of a log are those of a table, among lines that say nothing
 --     Agrees supplied file      words supply no other value than the file's
 --     ReadsBack told file      the outcome is the file's dump
-use Rattle.std.specs.Prelude.{ℕ, ◌≡◌, ◌⊎◌, ◌+◌, ◌/◌, ◌%◌, List, [], ◌∷◌, Some}
-use Rattle.std.specs.Int.{to_be_bytes, w64}
-use Rattle.hex.specs.Hex.{encode_upper}
+use Rattle.std.specs.Prelude.{ℕ, ◌≡◌, ◌⊎◌, List, Option, None, Some}
 use Rattle.mt_ports.specs.declared.status.Status.TheVariants.{Done}
 use Rattle.mt_text.specs.Text.{lines_of}
+use Rattle.mt_regs.specs.declared.registers.Register.{Register}
 use Rattle.mt_regs.specs.RegisterFile.{RegisterFile}
-use Rattle.mt_regs.specs.Registers.{value_at}
+use Rattle.mt_regs.specs.Registers.{number_of, value_at, value_of}
 use Rattle.mt_dump.specs.Canon.{canon}
 use Rattle.mt_dump.specs.Dumps.{dump_of}
 use Rattle.mt_import.specs.declared.format.Format.{Format}
@@ -18,15 +17,19 @@ use Rattle.mt_import.specs.Shown.{said_of}
 use Rattle.mt_import.specs.Supplied.{Supplied, supplied_value}
 use Rattle.mt_import_laws.specs.Origins.{IsAmong}
 
--- ---- numbers
+-- ---- registers
 
--- `%02d` of a number below 100
-abbrev pub two_digits : ℕ → List ℕ
-two_digits number = (48 + number / 10) ∷ (48 + number % 10) ∷ []
+-- the capability register, or a writable one
+abbrev pub Key : Type 0
+Key = Option Register
 
--- sixteen hexadecimal digits in capitals
-abbrev pub capitals : ℕ → List ℕ
-capitals value = encode_upper (to_be_bytes w64 value)
+abbrev pub number_at : Key → ℕ
+number_at None = 0xfe
+number_at (Some register) = number_of register
+
+abbrev pub value_in : RegisterFile → Key → ℕ
+value_in file None = file.capabilities
+value_in file (Some register) = value_of file register
 
 -- ---- a log
 

@@ -1,9 +1,12 @@
-//! Laws of logs: where the values of a dump come from, and what contradictions and lines that match nothing come to.
+//! Laws of logs: where the values of a dump come from, what contradictions and lines that match nothing come to,
+//! and that what a program prints reads back.
 #![tactic(auto)]
 
 mod laws;
+mod printers;
 
 pub use laws::{
     contradictions_are_faults, lines_that_match_nothing_change_nothing, readings_come_from_lines,
     values_have_origins, words_that_contradict_are_faults,
 };
+pub use printers::{what_inteltool_prints_reads_back, worked_inteltool};

@@ -1,0 +1,69 @@
+-- The premises of an instance.
+use Rattle.std.proofs.Common.{◌≡◌, ◌∙◌, ◌+◌, ◌%◌, ◌^◌, ◌<◌, ◌≤◌, ◌==◌, ◌&&◌, nat_lt, ℕ, zero, suc, Bool, true, false, List, [], ◌∷◌, ◌++◌, length, Option, Some, None, refl, sym, ap, subst, arith, lit≤, lit<, codes}
+use Rattle.std.specs.Prelude.{slice_get, slice_index_or}
+use Rattle.std.specs.List.{AllByRecursion, list_all}
+use Rattle.std.proofs.lemmas.Bool.{and_parts}
+use Rattle.std.proofs.lemmas.Bool.Decides.{nat_tests}
+use Rattle.mt_regs.specs.declared.registers.Register.{Register}
+use Rattle.mt_regs.specs.declared.registers.Register.TheVariants.{PhysBase, PhysMask, FixedRange, Pat, DefaultType}
+use Rattle.mt_regs.specs.RegisterFile.{IsRegisterFile, RegisterFile}
+use Rattle.mt_regs.specs.Registers.{value_of, writable}
+use Rattle.mt_regs.specs.Words.{HasWords}
+use Rattle.mt_regs.proofs.ByNumber.{HasWordsBelow, all_fit}
+use Rattle.mt_import_laws.specs.Printed.{Agrees, Key}
+use Rattle.mt_import_laws.specs.PrintedByInteltool.{AreNames, SuitsInteltool, is_name_byte}
+use Rattle.mt_import_laws.specs.WorkedPrinted.{fixed_names, model_names, ordinary_pc, width_36}
+
+abbrev fits : RegisterFile → Register → Bool
+fits file register = nat_lt (value_of file register) 0x10000000000000000
+
+tested : (value : ℕ) → nat_lt value 0x10000000000000000 ≡ true → value < 2 ^ 64
+tested value is = grind (arith, nat_tests, is)
+
+fit_at : (file : RegisterFile) (registers : List Register) (k : ℕ) (register : Register) → list_all (fits file) registers ≡ true → slice_get registers k ≡ Some register → value_of file register < 2 ^ 64
+fit_at file [] k register all at = cc at
+fit_at file (first ∷ registers) zero register all at =
+    let same : first ≡ register = cc at in
+    subst (λ r. value_of file r < 2 ^ 64) same (tested (value_of file first) (and_parts (fits file first) (list_all (fits file) registers) all).0)
+fit_at file (first ∷ registers) (suc k) register all at = fit_at file registers k register (and_parts (fits file first) (list_all (fits file) registers) all).1 at
+
+is_ordinary : IsRegisterFile ordinary_pc
+is_ordinary = record { wide = lit≤ tt; narrow = lit≤ tt; few_pairs = lit≤ tt; all_pairs = refl; all_fixed = refl; no_fixed = λ none. cc none }
+
+ordinary_words : HasWords ordinary_pc
+ordinary_words = all_fit ordinary_pc 27 is_ordinary refl (λ k register below at. fit_at ordinary_pc (writable ordinary_pc) k register refl at) (lit< tt)
+
+-- ---- names
+
+abbrev IsName : List ℕ → Type 0
+IsName name = (length name ≤ 64) × (list_all is_name_byte name ≡ true)
+
+digit : (n : ℕ) → is_name_byte (48 + n % 10) ≡ true
+digit n = let small : n % 10 < 10 = omega arith in low (n % 10) small
+  where
+    low : (d : ℕ) → d < 10 → is_name_byte (48 + d) ≡ true
+    low d small = grind (arith, nat_tests, small)
+
+pair_name : (n : ℕ) → IsName (codes "IA32_MTRR_PHYSBASE" ++ (48 + n % 10) ∷ [])
+pair_name n = (lit≤ tt, rw (digit n) refl)
+
+fixed_name : (names : List (List ℕ)) (place : ℕ) → AllByRecursion (λ name. IsName (codes "IA32_MTRR_" ++ name)) names → IsName (codes "IA32_MTRR_" ++ slice_index_or names place [])
+fixed_name [] place all = (lit≤ tt, refl)
+fixed_name (name ∷ names) zero all = all.0
+fixed_name (name ∷ names) (suc place) all = fixed_name names place all.1
+
+model_are_names : AreNames model_names
+model_are_names None = (lit≤ tt, refl)
+model_are_names (Some (PhysBase n)) = pair_name n
+model_are_names (Some (PhysMask n)) = pair_name n
+model_are_names (Some (FixedRange place)) =
+    fixed_name fixed_names place
+    ((lit≤ tt, refl), ((lit≤ tt, refl), ((lit≤ tt, refl), ((lit≤ tt, refl), ((lit≤ tt, refl), ((lit≤ tt, refl), ((lit≤ tt, refl), ((lit≤ tt, refl), ((lit≤ tt, refl), ((lit≤ tt, refl), ((lit≤ tt, refl), tt)))))))))))
+model_are_names (Some Pat) = (lit≤ tt, refl)
+model_are_names (Some DefaultType) = (lit≤ tt, refl)
+
+width_agrees : Agrees width_36 ordinary_pc
+width_agrees = record { width = λ width is. cc is; registers = λ number value is. cc is }
+
+pub ordinary_suits : SuitsInteltool model_names ordinary_pc width_36
+ordinary_suits = record { are_names = model_are_names; is_file = is_ordinary; has_words = ordinary_words; agrees = width_agrees; width = refl }

@@ -1,0 +1,39 @@
+-- An instance of the laws on what programs print: the registers of an ordinary PC with 8 GB (own).
+use Rattle.std.specs.Prelude.{ℕ, ◌+◌, ◌%◌, codes, List, [], ◌∷◌, ◌++◌, Some, None, slice_index_or}
+use Rattle.mt_regs.specs.declared.registers.Register.TheVariants.{PhysBase, PhysMask, FixedRange, Pat, DefaultType}
+use Rattle.mt_regs.specs.RegisterFile.{RegisterFile}
+use Rattle.mt_import.specs.Supplied.{Supplied, nothing_assumed}
+use Rattle.mt_import_laws.specs.PrintedByInteltool.{Names}
+
+-- examples/ordinary-pc.dump
+abbrev pub ordinary_pc : RegisterFile
+ordinary_pc = record {
+  width = 36;
+  capabilities = 0xd08;
+  pairs =
+      (0x6, 0xf00000800) ∷ (0x100000006, 0xf00000800) ∷ (0x200000006, 0xfe0000800) ∷ (0xe0000000, 0xfe0000800)
+      ∷ (0, 0) ∷ (0, 0) ∷ (0, 0) ∷ (0, 0) ∷ [];
+  fixed =
+      0x0606060606060606 ∷ 0x0606060606060606 ∷ 0 ∷ 0x0505050505050505 ∷ 0x0505050505050505 ∷ 0x0505050505050505
+      ∷ 0x0505050505050505 ∷ 0x0505050505050505 ∷ 0x0505050505050505 ∷ 0x0505050505050505 ∷ 0x0505050505050505 ∷ [];
+  pat = 0x0007040600070406;
+  default_type = 0xc00;
+}
+
+abbrev pub fixed_names : List (List ℕ)
+fixed_names =
+    codes "FIX64K_00000" ∷ codes "FIX16K_80000" ∷ codes "FIX16K_A0000" ∷ codes "FIX4K_C0000" ∷ codes "FIX4K_C8000" ∷ codes "FIX4K_D0000"
+    ∷ codes "FIX4K_D8000" ∷ codes "FIX4K_E0000" ∷ codes "FIX4K_E8000" ∷ codes "FIX4K_F0000" ∷ codes "FIX4K_F8000" ∷ []
+
+-- the names that inteltool has for family 6, model 55H, of ten pairs at most: PhysMask has PhysBase's
+abbrev pub model_names : Names
+model_names None = codes "IA32_MTRRCAP"
+model_names (Some (PhysBase n)) = codes "IA32_MTRR_PHYSBASE" ++ (48 + n % 10) ∷ []
+model_names (Some (PhysMask n)) = codes "IA32_MTRR_PHYSBASE" ++ (48 + n % 10) ∷ []
+model_names (Some (FixedRange place)) = codes "IA32_MTRR_" ++ slice_index_or fixed_names place []
+model_names (Some Pat) = codes "IA32_PAT"
+model_names (Some DefaultType) = codes "IA32_MTRR_DEF_TYPE"
+
+-- what the word `maxphyaddr=36` supplies
+abbrev pub width_36 : Supplied
+width_36 = record { width = Some 36; registers = []; assumed = nothing_assumed }
