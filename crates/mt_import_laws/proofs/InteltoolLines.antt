@@ -1,5 +1,5 @@
 -- What a line of inteltool is read as.
-use Rattle.std.proofs.Common.{◌≡◌, ◌∙◌, ◌+◌, ◌*◌, ◌/◌, ◌%◌, ◌^◌, ◌<◌, ◌≤◌, ◌==◌, ◌&&◌, not, nat_lt, ℕ, suc, Bool, true, false, List, [], ◌∷◌, ◌++◌, length, take, drop, position, Option, Some, None, Ok, refl, sym, ap, arith, lit≤, append-nil, length-append, codes, replicate}
+use Rattle.std.proofs.Common.{◌≡◌, ◌∙◌, ◌+◌, ◌*◌, ◌/◌, ◌%◌, ◌^◌, ◌<◌, ◌≤◌, ◌==◌, ◌&&◌, not, nat_lt, ℕ, suc, Bool, true, false, List, [], ◌∷◌, ◌++◌, length, take, drop, position, Option, Some, None, Ok, refl, sym, ap, arith, lit≤, length-append, codes, replicate}
 use Rattle.std.specs.Prelude.{if◌then◌else◌}
 use Rattle.std.specs.List.{list_all, position_or_len}
 use Rattle.std.proofs.lemmas.Bool.{and_parts}
@@ -7,8 +7,9 @@ use Rattle.std.proofs.lemmas.Bool.Decides.{nat_tests}
 use Rattle.std.proofs.Math.Seq.{take-append_seam}
 use Rattle.hex.specs.Hex.{is_hex_digit, upper_digits}
 use Rattle.hex.proofs.HexLemmas.{IsDigits-upper_digits}
-use Rattle.mt_text.specs.Text.{is_word_byte, words_of}
+use Rattle.mt_text.specs.Text.{words_of}
 use Rattle.mt_text.specs.Words.{place_of}
+use Rattle.mt_text.specs.declared.place.Place.{Place}
 use Rattle.mt_text.specs.Number.{hex_number}
 use Rattle.mt_text.proofs.Plain.{is_plain}
 use Rattle.mt_import.specs.declared.format.Format.TheVariants.{Inteltool}
@@ -17,7 +18,7 @@ use Rattle.mt_import.specs.Pieces.{prefixed_register, shows_one, whole_number}
 use Rattle.mt_import.specs.Shown.{said_of, said_or_sizes}
 use Rattle.mt_import_laws.specs.PrintedByInteltool.{eight_digits, halves_text, is_name_byte, register_line}
 use Rattle.mt_import_laws.proofs.PrintedDigits.{eight_all, eight_long, eight_read}
-use Rattle.mt_import_laws.proofs.LineWords.{AreWords, IsWord, digits_are_word, length_of_pieces, line_with, pieces_plain, placed, size_of, word_append, words_of_pieces}
+use Rattle.mt_import_laws.proofs.LineWords.{AreWords, IsWord, all_append, digits_are_word, length_of_pieces, pieces_plain, placed, word_append, words_of_pieces}
 
 long : (value : ℕ) → length (eight_digits value) ≡ 8
 long value = eight_long upper_digits IsDigits-upper_digits value
@@ -87,53 +88,50 @@ halves_read value fits =
 
 -- ---- the words of the line
 
-name_byte : (byte : ℕ) → is_name_byte byte ≡ true → (is_word_byte byte ≡ true) × (is_plain byte ≡ true)
-name_byte byte is = (grind (arith, nat_tests), grind (arith, nat_tests))
+name_byte : (byte : ℕ) → is_name_byte byte ≡ true → is_plain byte ≡ true
+name_byte byte is = grind (arith, nat_tests)
 
-names_are : (name : List ℕ) → list_all is_name_byte name ≡ true → (list_all is_word_byte name ≡ true) × (list_all is_plain name ≡ true)
-names_are [] all = (refl, refl)
-names_are (byte ∷ name) all =
+name_plain : (name : List ℕ) → list_all is_name_byte name ≡ true → list_all is_plain name ≡ true
+name_plain [] all = refl
+name_plain (byte ∷ name) all =
     let parts = and_parts (is_name_byte byte) (list_all is_name_byte name) all in
-    let here = name_byte byte parts.0 in
-    let later = names_are name parts.1 in
-    (rw here.0 later.0, rw here.1 later.1)
+    rw (name_byte byte parts.0) (name_plain name parts.1)
 
 module _ (register value : ℕ) (name : List ℕ) (few : length name ≤ 64) (named : list_all is_name_byte name ≡ true) where
-  abbrev pub pieces : List (ℕ × List ℕ)
-  pieces = (1, codes "MSR") ∷ (1, codes "0x" ++ eight_digits register) ∷ (1, codes "=") ∷ (1, halves_text value) ∷ (1, codes "(" ++ (name ++ codes ")")) ∷ []
+  abbrev others : List (ℕ × List ℕ)
+  others = (1, codes "0x" ++ eight_digits register) ∷ (1, codes "=") ∷ (1, halves_text value) ∷ []
 
-  is_line : register_line register value name ≡ line_with pieces
-  is_line = rw (append-nil (name ++ codes ")")) refl
+  -- the words in front of the name
+  abbrev pieces : List (ℕ × List ℕ)
+  pieces = (1, codes "MSR") ∷ others
 
-  one_byte : (byte : ℕ) → is_word_byte byte ≡ true → is_plain byte ≡ true → IsWord (byte ∷ [])
-  one_byte byte word plain = (lit≤ tt, rw word refl, rw plain refl)
+  abbrev rest : List ℕ
+  rest = codes " (" ++ (name ++ codes ")")
 
   are_words : AreWords pieces
   are_words =
-      let all = names_are name named in
       let number = digits_word register in
       let high = digits_word (value / 0x100000000) in
       let low = digits_word (value % 0x100000000) in
-      let last : IsWord (codes ":0x" ++ eight_digits (value % 0x100000000)) = word_append (codes ":0x") (eight_digits (value % 0x100000000)) (lit≤ tt, refl, refl) low.1 low.2 in
-      let both : IsWord (eight_digits (value / 0x100000000) ++ (codes ":0x" ++ eight_digits (value % 0x100000000))) =
-      word_append (eight_digits (value / 0x100000000)) (codes ":0x" ++ eight_digits (value % 0x100000000)) high last.1 last.2 in
-      let front : IsWord (codes "(" ++ name) = word_append (codes "(") name (lit≤ tt, refl, refl) all.0 all.1 in
-      let closed : IsWord ((codes "(" ++ name) ++ codes ")") = word_append (codes "(" ++ name) (codes ")") front refl refl in
+      let last = word_append (codes ":0x") (eight_digits (value % 0x100000000)) (lit≤ tt, refl, refl) low.1 low.2 in
+      let both = word_append (eight_digits (value / 0x100000000)) (codes ":0x" ++ eight_digits (value % 0x100000000)) high last.1 last.2 in
       ((lit≤ tt, refl, refl),
       (word_append (codes "0x") (eight_digits register) (lit≤ tt, refl, refl) number.1 number.2,
       ((lit≤ tt, refl, refl),
-      (word_append (codes "0x") (eight_digits (value / 0x100000000) ++ (codes ":0x" ++ eight_digits (value % 0x100000000))) (lit≤ tt, refl, refl) both.1 both.2,
-      (closed, tt)))))
+      (word_append (codes "0x") (eight_digits (value / 0x100000000) ++ (codes ":0x" ++ eight_digits (value % 0x100000000))) (lit≤ tt, refl, refl) both.1 both.2, tt))))
 
-  words : words_of (register_line register value name) ≡ placed 0 pieces
-  words = ap words_of is_line ∙ words_of_pieces (1, codes "MSR") ((1, codes "0x" ++ eight_digits register) ∷ (1, codes "=") ∷ (1, halves_text value) ∷ (1, codes "(" ++ (name ++ codes ")")) ∷ []) are_words refl
+  plain_rest : list_all is_plain rest ≡ true
+  plain_rest = all_append is_plain (codes " (") (name ++ codes ")") refl (all_append is_plain name (codes ")") (name_plain name named) refl)
 
   pub line_plain : list_all is_plain (register_line register value name) ≡ true
-  line_plain = ap (list_all is_plain) is_line ∙ pieces_plain pieces are_words
+  line_plain = pieces_plain pieces rest are_words plain_rest
+
+  words : words_of (register_line register value name) ≡ placed 0 pieces rest
+  words = words_of_pieces (1, codes "MSR") others rest are_words refl refl plain_rest
 
   short : nat_lt 4096 (length (register_line register value name)) ≡ false
   short =
-      let size = ap length is_line ∙ length_of_pieces pieces in
+      let size = length_of_pieces pieces rest in
       let one = long register in
       let two = long (value / 0x100000000) in
       let three = long (value % 0x100000000) in
@@ -144,10 +142,14 @@ module _ (register value : ℕ) (name : List ℕ) (few : length name ≤ 64) (na
       within : (n : ℕ) → n ≤ 200 → nat_lt 4096 n ≡ false
       within n le = grind (arith, nat_tests, le)
 
-  pub register_said : (number : ℕ) → register < 0x1000 → value < 2 ^ 64 → said_of Inteltool number (register_line register value name) ≡ shows_one None (Some register) (Some value) (place_of number (placed 0 pieces) 3)
+  pub place : ℕ → Place
+  place number = place_of number (placed 0 pieces rest) 3
+
+  pub register_said : (number : ℕ) → register < 0x1000 → value < 2 ^ 64 → said_of Inteltool number (register_line register value name) ≡ shows_one None (Some register) (Some value) (place number)
+  unfolding place
   register_said number small fits =
-      let said : inteltool_said number (register_line register value name) ≡ shows_one None (Some register) (Some value) (place_of number (placed 0 pieces) 3) =
+      let said : inteltool_said number (register_line register value name) ≡ shows_one None (Some register) (Some value) (place number) =
       ap (λ ws. said_by_words number (take 7 ws)) words
-      ∙ ap (λ r. shows_one None r (halves_value (halves_text value)) (place_of number (placed 0 pieces) 3)) (register_read register small)
-      ∙ ap (λ v. shows_one None (Some register) v (place_of number (placed 0 pieces) 3)) (halves_read value fits) in
+      ∙ ap (λ r. shows_one None r (halves_value (halves_text value)) (place number)) (register_read register small)
+      ∙ ap (λ v. shows_one None (Some register) v (place number)) (halves_read value fits) in
       rw short (ap (λ s. said_or_sizes s number (register_line register value name)) said)

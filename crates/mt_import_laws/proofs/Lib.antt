@@ -9,10 +9,11 @@ mod PrintedDigits
 mod LineWords
 mod Keys
 mod Whole
-mod InteltoolLines
+mod Among
 mod TableLines
 mod Back
 mod PrintedBack
-mod Among
+mod KeyLines
+mod InteltoolLines
 mod InteltoolTable
 mod WorkedFiles

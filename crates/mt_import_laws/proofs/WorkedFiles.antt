@@ -31,7 +31,7 @@ is_ordinary : IsRegisterFile ordinary_pc
 is_ordinary = record { wide = lit≤ tt; narrow = lit≤ tt; few_pairs = lit≤ tt; all_pairs = refl; all_fixed = refl; no_fixed = λ none. cc none }
 
 ordinary_words : HasWords ordinary_pc
-ordinary_words = all_fit ordinary_pc 27 is_ordinary refl (λ k register below at. fit_at ordinary_pc (writable ordinary_pc) k register refl at) (lit< tt)
+ordinary_words = all_fit ordinary_pc 29 is_ordinary refl (λ k register below at. fit_at ordinary_pc (writable ordinary_pc) k register refl at) (lit< tt)
 
 -- ---- names
 
