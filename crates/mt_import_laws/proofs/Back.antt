@@ -12,13 +12,13 @@ use Rattle.mt_regs.specs.Registers.{IsWithin, fixed_numbers, number_of, value_of
 use Rattle.mt_dump.specs.Canon.{canon}
 use Rattle.mt_dump.specs.Dumps.{dump_of}
 use Rattle.mt_import.specs.declared.shape.Tally.{Tally}
-use Rattle.mt_import.specs.Supplied.{Supplied}
-use Rattle.mt_import.specs.Values.{or_supplied, width_by}
-use Rattle.mt_import.specs.Outcome.{Seen, Told, dump_in, dump_told, ended, ended_by, file_of, first_pairs, fixed_of, hint_of, is_empty, is_missing, missing_line, missing_lines, missing_of, missing_width, needed, notes_of, processors, refusal, remarks, slot_shown, value_or_zero, values_of}
+use Rattle.mt_import.specs.Supplied.{Supplied, supplied_value}
+use Rattle.mt_import.specs.Values.{assumed_width, or_supplied, width_by}
+use Rattle.mt_import.specs.Outcome.{Seen, Slots, Told, dump_in, dump_told, ended, ended_by, file_of, first_pairs, fixed_of, hint_of, is_empty, is_missing, missing_line, missing_lines, missing_of, missing_width, needed, notes_of, processors, refusal, remarks, slot_shown, value_or_zero, values_of}
 use Rattle.mt_import.proofs.Same.{value_is}
 use Rattle.mt_import_laws.specs.Printed.{Key, ReadsBack, number_at, value_in}
 use Rattle.mt_import_laws.proofs.Keys.{all_within}
-use Rattle.mt_import_laws.proofs.Whole.{Holds}
+use Rattle.mt_import_laws.proofs.Whole.{Holds, IsKnown, IsWidth}
 
 -- ---- the file
 
@@ -105,3 +105,14 @@ module _ (supplied : Supplied) (seen : Seen) where
   -- lines show all of the register
   pub by_lines : (number value : ℕ) → Holds (slot_shown seen.readings 0 number) value → values_of supplied (slot_shown seen.readings) seen.width 0 number ≡ Some value
   by_lines number value holds = value_is supplied (slot_shown seen.readings) seen.width 0 number ∙ rw (holds.fresh, holds.shows) refl
+
+  -- a word gives the register, and lines show no other value
+  pub by_word : (number value : ℕ) → IsKnown (slot_shown seen.readings 0 number) value → supplied_value supplied number ≡ Some value → values_of supplied (slot_shown seen.readings) seen.width 0 number ≡ Some value
+  by_word number value (inr holds) given = by_lines number value holds
+  by_word number value (inl blank) given = value_is supplied (slot_shown seen.readings) seen.width 0 number ∙ rw (blank, given) refl
+
+-- ---- the width
+
+pub width_back : (file : RegisterFile) (prints : Key → Bool) (supplied : Supplied) (slots : Slots) (shown : Option ℕ) → supplied.width ≡ Some file.width → IsWidth file prints shown → width_by supplied slots shown ≡ Some file.width
+width_back file prints supplied slots None given same = ap (λ width. or_supplied width (assumed_width supplied.assumed (slots 0))) given
+width_back file prints supplied slots (Some width) given same = ap Some same

@@ -1,5 +1,5 @@
 -- What inteltool prints reads back.
-use Rattle.std.proofs.Common.{◌≡◌, ℕ, Bool, true, List, ◌∷◌, refl, subst, inl, inr}
+use Rattle.std.proofs.Common.{◌≡◌, ℕ, Bool, true, List, ◌∷◌, None, refl, subst, inl, inr}
 use Rattle.std.specs.Prelude.{◌⊎◌}
 use Rattle.std.specs.List.{AllByRecursion, list_all}
 use Rattle.mt_text.proofs.Plain.{is_plain}
@@ -15,6 +15,7 @@ use Rattle.mt_import_laws.specs.PrintedByInteltool.{Names, SuitsInteltool, intel
 use Rattle.mt_import_laws.proofs.Among.{all_map}
 use Rattle.mt_import_laws.proofs.InteltoolLines.{line_plain, place, register_said}
 use Rattle.mt_import_laws.proofs.KeyLines.{ShowsAlone, all_keys, among_all, fits, has_line, in_file, key_in_file, lines_true, low}
+use Rattle.mt_import_laws.proofs.Keys.{IsKey}
 use Rattle.mt_import_laws.proofs.PrintedBack.{HasLine, IsInFile, holds_itself, reads_back}
 use Rattle.mt_import_laws.proofs.TableLines.{IsTrueSaid}
 
@@ -26,23 +27,28 @@ module _ (names : Names) (file : RegisterFile) (supplied : Supplied) (suits : Su
   within : (key : Key) → IsAmong key (all_keys file) → IsInFile file key
   within key among = in_file file key suits.is_file among
 
+  are_keys : (key : Key) → IsAmong key (all_keys file) → IsKey key
+  are_keys key among = key_in_file file key suits.is_file (within key among)
+
   shows : (key : Key) → IsAmong key (all_keys file) → ShowsAlone file Inteltool key (line_of names file key)
   shows key among =
       let named = suits.are_names key in
       let inside = within key among in
       record {
+        processor = None;
+        own = refl;
         place = place (number_at key) (value_in file key) (names key) named.0 named.1;
-        said = λ number. register_said (number_at key) (value_in file key) (names key) named.0 named.1 number (low key (key_in_file file key suits.is_file inside)) (fits file key suits.is_file suits.has_words inside);
+        said = λ number. register_said (number_at key) (value_in file key) (names key) named.0 named.1 number (low key (are_keys key among)) (fits file key suits.is_file suits.has_words inside);
       }
 
   table_true : (line : List ℕ) → IsAmong line (inteltool_lines names file) → (number : ℕ) → IsTrueSaid file all_printed (said_of Inteltool number line)
   table_true line (inl same) number = subst (λ l. IsTrueSaid file all_printed (said_of Inteltool number l)) same refl
   table_true line (inr (inl same)) number = subst (λ l. IsTrueSaid file all_printed (said_of Inteltool number l)) same refl
-  table_true line (inr (inr later)) number = lines_true file suits.is_file Inteltool all_printed (line_of names file) (all_keys file) within (λ key among. refl) shows line later number
+  table_true line (inr (inr later)) number = lines_true file Inteltool all_printed (line_of names file) (all_keys file) are_keys (λ key among. refl) shows line later number
 
   table_has : (key : Key) → IsInFile file key → HasLine Inteltool (inteltool_lines names file) key
   table_has key inside =
-      let has = has_line file suits.is_file Inteltool all_printed (line_of names file) (all_keys file) within (λ key among. refl) shows key (among_all file key suits.is_file inside) in
+      let has = has_line file Inteltool all_printed (line_of names file) (all_keys file) are_keys (λ key among. refl) shows key (among_all file key suits.is_file inside) in
       record { line = has.line; among = inr (inr has.among); shows = has.shows }
 
   table_plain : AllByRecursion (λ line. list_all is_plain line ≡ true) (inteltool_lines names file)
@@ -50,7 +56,7 @@ module _ (names : Names) (file : RegisterFile) (supplied : Supplied) (suits : Su
       (refl, (refl, all_map (λ line. list_all is_plain line ≡ true) (line_of names file) (all_keys file) (λ key among.
       line_plain (number_at key) (value_in file key) (names key) (suits.are_names key).0 (suits.are_names key).1)))
 
-pub among_lines : (names : Names) (file : RegisterFile) (supplied : Supplied) (text : List ℕ) → SuitsInteltool names file supplied → HoldsTable Inteltool (inteltool_lines names file) text
+pub among_lines : (names : Names) (file : RegisterFile) (supplied : Supplied) (text : List ℕ) → SuitsInteltool names file supplied → HoldsTable Inteltool file (inteltool_lines names file) text
     → ReadsBack (log_told (Only Inteltool) supplied text) file
 among_lines names file supplied text suits holds =
     reads_back file all_printed Inteltool (inteltool_lines names file) supplied text suits.is_file suits.has_words suits.agrees suits.width
@@ -58,4 +64,4 @@ among_lines names file supplied text suits holds =
 
 pub own_text : (names : Names) (file : RegisterFile) (supplied : Supplied) → SuitsInteltool names file supplied → ReadsBack (log_told (Only Inteltool) supplied (inteltool_text names file)) file
 own_text names file supplied suits =
-    among_lines names file supplied (inteltool_text names file) suits (holds_itself Inteltool (inteltool_lines names file) (table_plain names file supplied suits))
+    among_lines names file supplied (inteltool_text names file) suits (holds_itself Inteltool file (inteltool_lines names file) (table_plain names file supplied suits))

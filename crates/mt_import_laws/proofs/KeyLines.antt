@@ -1,5 +1,5 @@
 -- Tables with a line for each of some registers.
-use Rattle.std.proofs.Common.{◌≡◌, ◌^◌, ◌<◌, ℕ, Bool, true, List, [], ◌∷◌, map, replicate, Option, Some, None, refl, sym, subst, inl, inr, arith, lit<}
+use Rattle.std.proofs.Common.{◌≡◌, ◌^◌, ◌<◌, ℕ, Bool, true, List, [], ◌∷◌, map, replicate, Option, Some, None, refl, sym, subst, inl, inr, arith, lit<, unwrap_or}
 use Rattle.std.specs.List.{AllByRecursion}
 use Rattle.mt_text.specs.declared.place.Place.{Place}
 use Rattle.mt_regs.specs.declared.registers.Register.{Register}
@@ -53,16 +53,18 @@ among_all file (Some register) is within =
 
 -- A line shows all of a register, and nothing else.
 pub record ShowsAlone (file : RegisterFile) (format : Format) (key : Key) (line : List ℕ) : Type 0 where
+  pub processor : Option ℕ
+  pub own : unwrap_or processor 0 ≡ 0
   pub place : ℕ → Place
-  pub said : (number : ℕ) → said_of format number line ≡ Shows None (Some (record { number = number_at key; bits = all_bits; value = value_in file key; place = place number }) ∷ replicate 10 None)
+  pub said : (number : ℕ) → said_of format number line ≡ Shows processor (Some (record { number = number_at key; bits = all_bits; value = value_in file key; place = place number }) ∷ replicate 10 None)
 
-module _ (file : RegisterFile) (is : IsRegisterFile file) (format : Format) (prints : Key → Bool) (line_of : Key → List ℕ) (keys : List Key)
-    (within : (key : Key) → IsAmong key keys → IsInFile file key) (printed : (key : Key) → IsAmong key keys → prints key ≡ true)
+module _ (file : RegisterFile) (format : Format) (prints : Key → Bool) (line_of : Key → List ℕ) (keys : List Key)
+    (are_keys : (key : Key) → IsAmong key keys → IsKey key) (printed : (key : Key) → IsAmong key keys → prints key ≡ true)
     (shows : (key : Key) → IsAmong key keys → ShowsAlone file format key (line_of key)) where
   line_true : (key : Key) → IsAmong key keys → (number : ℕ) → IsTrueSaid file prints (said_of format number (line_of key))
   line_true key among number =
       rw ((shows key among).said number)
-      (refl, (record { key = key; is_key = key_in_file file key is (within key among); is_printed = printed key among; number = refl; bits = refl; value = refl }, (tt, (tt, (tt, (tt, (tt, (tt, (tt, (tt, (tt, (tt, tt))))))))))))
+      ((shows key among).own, (record { key = key; is_key = are_keys key among; is_printed = printed key among; number = refl; bits = refl; value = refl }, (tt, (tt, (tt, (tt, (tt, (tt, (tt, (tt, (tt, (tt, tt))))))))))))
 
   pub lines_true : (line : List ℕ) → IsAmong line (map line_of keys) → (number : ℕ) → IsTrueSaid file prints (said_of format number line)
   lines_true line among number =
@@ -74,7 +76,7 @@ module _ (file : RegisterFile) (is : IsRegisterFile file) (format : Format) (pri
     line = line_of key;
     among = map_among line_of keys key among;
     shows = λ number. record {
-      processor = None;
+      processor = (shows key among).processor;
       shows = Some (record { number = number_at key; bits = all_bits; value = value_in file key; place = (shows key among).place number }) ∷ replicate 10 None;
       shown = record { number = number_at key; bits = all_bits; value = value_in file key; place = (shows key among).place number };
       said_is = (shows key among).said number;

@@ -16,4 +16,9 @@ mod PrintedBack
 mod KeyLines
 mod InteltoolLines
 mod InteltoolTable
+mod CorebootLines
+mod CorebootTable
+mod Edk2Lines
+mod Zeros
+mod Edk2Table
 mod WorkedFiles

@@ -9,6 +9,7 @@ use Rattle.mt_import.specs.Readings.{Fact, is_fault, is_line, is_register_value,
 use Rattle.mt_import.specs.Shown.{context_behind, facts_from, facts_of_line, format_of, shown}
 use Rattle.mt_import.specs.Outcome.{Seen, nothing_seen, seen_after, seen_with}
 use Rattle.mt_import_laws.specs.Origins.{IsAmong, IsOfLine, context_after_lines, readings_of}
+use Rattle.mt_import_laws.proofs.Among.{among_join}
 
 -- a reading that was gathered is a fact, or was there before
 gathered : (facts : List Fact) (seen : Seen) (reading : Reading) → IsAmong reading (seen_after seen facts).readings → IsAmong (is_register_value reading) facts ⊎ IsAmong reading seen.readings
@@ -25,14 +26,6 @@ gathered (fact ∷ facts) seen reading among = elim (gathered facts (seen_with s
     by (is_width width place) among = inr among
     by is_warning among = inr among
     by (is_fault fault) among = inr among
-
-among_append : {A : Type 0} (xs ys : List A) (x : A) → IsAmong x (xs ++ ys) → IsAmong x xs ⊎ IsAmong x ys
-among_append [] ys x among = inr among
-among_append (y ∷ xs) ys x (inl same) = inl (inl same)
-among_append (y ∷ xs) ys x (inr later) = elim (among_append xs ys x later) [
-  | inl first ↦ inl (inr first)
-  | inr second ↦ inr second
-]
 
 record AtLine (context : Context) (number : ℕ) (all : List (List ℕ)) (fact : Fact) : Type 0 where
   before : List (List ℕ)
@@ -52,7 +45,7 @@ one_later context number first all fact at = record {
 
 line_of : (lines : List (List ℕ)) (context : Context) (number : ℕ) (fact : Fact) → IsAmong fact (facts_from context number lines) → AtLine context number lines fact
 line_of [] context number fact among = absurd among
-line_of (line ∷ lines) context number fact among = elim (among_append (facts_of_line context number line) (facts_from (context_behind context number line) (number + 1) lines) fact among) [
+line_of (line ∷ lines) context number fact among = elim (among_join (facts_of_line context number line) (facts_from (context_behind context number line) (number + 1) lines) fact among) [
   | inl here ↦ record { before = []; line = line; others = lines; lines = refl; shows = subst (λ n. IsAmong fact (facts_of_line context n line)) (omega arith) here }
   | inr later ↦ one_later context number line lines fact (line_of lines (context_behind context number line) (number + 1) fact later)
 ]

@@ -3,6 +3,7 @@ use Rattle.std.proofs.Common.{◌≡◌, ◌∙◌, ℕ, Bool, true, false, List
 use Rattle.std.specs.Prelude.{◌⊎◌}
 use Rattle.std.specs.List.{AllByRecursion, list_all}
 use Rattle.mt_text.specs.Text.{lines_of}
+use Rattle.mt_text.specs.declared.place.Place.{Place}
 use Rattle.mt_text.proofs.Plain.{is_plain, lines_of-line}
 use Rattle.mt_regs.specs.declared.registers.Register.{Register}
 use Rattle.mt_regs.specs.RegisterFile.{IsRegisterFile, RegisterFile}
@@ -11,18 +12,19 @@ use Rattle.mt_regs.specs.Words.{HasWords}
 use Rattle.mt_dump.specs.Canon.{ended}
 use Rattle.mt_import.specs.declared.format.Choice.TheVariants.{Only}
 use Rattle.mt_import.specs.declared.format.Format.{Format}
+use Rattle.mt_import.specs.declared.reading.Said.{Said}
+use Rattle.mt_import.specs.declared.reading.Said.TheVariants.{Nothing, Width}
 use Rattle.mt_import.specs.Readings.{Fact, starts}
 use Rattle.mt_import.specs.Shown.{said_of, shown}
 use Rattle.mt_import.specs.Supplied.{Supplied}
-use Rattle.mt_import.specs.Values.{assumed_width, or_supplied, width_by}
 use Rattle.mt_import.specs.Outcome.{Seen, nothing_seen, seen_after, slot_shown, values_of}
 use Rattle.mt_import.specs.Import.{log_told}
 use Rattle.mt_import_laws.specs.Origins.{IsAmong}
 use Rattle.mt_import_laws.specs.Printed.{Agrees, HoldsTable, Key, ReadsBack, number_at, value_in}
 use Rattle.mt_import_laws.proofs.Keys.{IsKey, within_whole}
-use Rattle.mt_import_laws.proofs.Whole.{IsSeen, IsSound, IsWidth, held, no_fault, one_processor, seen_last}
+use Rattle.mt_import_laws.proofs.Whole.{IsSeen, IsSound, held, no_fault, one_processor, seen_last}
 use Rattle.mt_import_laws.proofs.TableLines.{IsTrueSaid, ShowsKey, gathers, lines_have, lines_true}
-use Rattle.mt_import_laws.proofs.Back.{by_lines, ended_back}
+use Rattle.mt_import_laws.proofs.Back.{by_lines, ended_back, width_back}
 
 -- a line of the table shows the register
 pub record HasLine (format : Format) (table : List (List ℕ)) (key : Key) : Type 0 where
@@ -46,15 +48,19 @@ pub record IsReadAs (file : RegisterFile) (prints : Key → Bool) (format : Form
 
 module _ (file : RegisterFile) (prints : Key → Bool) (format : Format) (table : List (List ℕ)) (supplied : Supplied) (text : List ℕ)
     (is : IsRegisterFile file) (words : HasWords file) (agrees : Agrees supplied file) (width : supplied.width ≡ Some file.width)
-    (read : IsReadAs file prints format table supplied) (holds : HoldsTable format table text) where
+    (read : IsReadAs file prints format table supplied) (holds : HoldsTable format file table text) where
   facts : List Fact
   facts = shown (Some format) text
 
   all_true : (line : List ℕ) → IsAmong line (lines_of text) → (number : ℕ) → IsTrueSaid file prints (said_of format number line)
   all_true line among number = elim (holds.others line among) [
     | inl own ↦ read.each line own number
-    | inr nothing ↦ rw (nothing number) tt
+    | inr more ↦ no_more (said_of format number line) (more number)
   ]
+    where
+      no_more : (said : Said) → (said ≡ Nothing) ⊎ ((place : Place) × (said ≡ Width file.width place)) → IsTrueSaid file prints said
+      no_more said (inl nothing) = rw nothing tt
+      no_more said (inr width) = rw width.1 refl
 
   sound : AllByRecursion (IsSound file prints) facts
   unfolding facts
@@ -81,16 +87,12 @@ module _ (file : RegisterFile) (prints : Key → Bool) (format : Format) (table 
     | inr given ↦ given seen is_seen
   ]
 
-  width_back : (shown : Option ℕ) → IsWidth file prints shown → width_by supplied (slot_shown seen.readings) shown ≡ Some file.width
-  width_back None same = ap (λ given. or_supplied given (assumed_width supplied.assumed (slot_shown seen.readings 0))) width
-  width_back (Some other) same = ap Some same
-
   pub reads_back : ReadsBack (log_told (Only format) supplied text) file
   unfolding seen facts
   reads_back =
       let none = no_fault file prints supplied agrees is words facts (nothing_seen (Some format)) (record { readings = tt; width = tt }) sound in
       rw none
-      (ended_back false supplied seen file is (one_processor file prints seen.readings is_seen.readings) (width_back seen.width is_seen.width) (value_back None tt) (λ register within. value_back (Some register) within))
+      (ended_back false supplied seen file is (one_processor file prints seen.readings is_seen.readings) (width_back file prints supplied (slot_shown seen.readings) seen.width width is_seen.width) (value_back None tt) (λ register within. value_back (Some register) within))
 
 -- ---- the table alone
 
@@ -98,7 +100,7 @@ lines_back : (lines : List (List ℕ)) → AllByRecursion (λ line. list_all is_
 lines_back [] plain = refl
 lines_back (line ∷ lines) plain = lines_of-line line (ended lines) plain.0 ∙ ap (λ ls. line ∷ ls) (lines_back lines plain.1)
 
-pub holds_itself : (format : Format) (table : List (List ℕ)) → AllByRecursion (λ line. list_all is_plain line ≡ true) table → HoldsTable format table (ended table)
-holds_itself format table plain =
+pub holds_itself : (format : Format) (file : RegisterFile) (table : List (List ℕ)) → AllByRecursion (λ line. list_all is_plain line ≡ true) table → HoldsTable format file table (ended table)
+holds_itself format file table plain =
     let same = lines_back table plain in
     record { has = λ line among. subst (IsAmong line) (sym same) among; others = λ line among. inl (subst (IsAmong line) same among) }

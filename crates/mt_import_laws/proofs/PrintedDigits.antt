@@ -6,8 +6,9 @@ use Rattle.std.proofs.lemmas.Bool.Decides.{nat_tests}
 use Rattle.std.proofs.lemmas.Nat.{from_be_bytes-to_be_bytes_4, from_be_bytes-to_be_bytes_8}
 use Rattle.hex.proofs.HexLemmas.{IsDigits, IsDigits-lower_digits, IsDigits-upper_digits, decode_pairs-encode_with, length-encode_with}
 use Rattle.hex.specs.Hex.{IsBytes, encode_with, hex_digit_value, is_hex_digit, lower_digits, upper_digits}
-use Rattle.mt_text.specs.Number.{hex_number_of_digits, hex_value}
+use Rattle.mt_text.specs.Number.{hex_number, hex_number_of_digits, hex_value}
 use Rattle.mt_text.proofs.Digits.{byte_step, from_be_bytes-fold, pairs_value}
+use Rattle.mt_text.proofs.Plain.{hex_number-digits}
 
 -- the digits of bytes, in a table of digits
 all_digits : (t : List ℕ) → IsDigits t → (bytes : List ℕ) → IsBytes bytes → list_all is_hex_digit (encode_with t bytes) ≡ true
@@ -66,6 +67,12 @@ module _ (t : List ℕ) (are : IsDigits t) (value : ℕ) where
       digits_read (encode_with t (to_be_bytes w64 value)) (omega arith) (omega arith) sixteen_all
       ∙ ap Ok (pairs_value (encode_with t (to_be_bytes w64 value)) (to_be_bytes w64 value) 0 0 (decode_pairs-encode_with t are 0 (to_be_bytes w64 value) (eight_fit value))
       ∙ sym (from_be_bytes-fold (to_be_bytes w64 value) refl) ∙ from_be_bytes-to_be_bytes_8 value small)
+
+  pub sixteen_number : value < 2 ^ 64 → hex_number (encode_with t (to_be_bytes w64 value)) ≡ Ok value
+  sixteen_number small =
+      let size = sixteen_long in
+      hex_number-digits (encode_with t (to_be_bytes w64 value)) (omega arith) (omega arith) sixteen_all
+      ∙ sym (digits_read (encode_with t (to_be_bytes w64 value)) (omega arith) (omega arith) sixteen_all) ∙ sixteen_read small
 
   -- ---- eight digits
   pub eight_long : length (encode_with t (to_be_bytes w32 value)) ≡ 8

@@ -16,6 +16,7 @@ use Rattle.mt_import.specs.Outcome.{Seen, seen_after, seen_with}
 use Rattle.mt_import.proofs.Facts.{seen_append}
 use Rattle.mt_import_laws.specs.Origins.{IsAmong}
 use Rattle.mt_import_laws.specs.Printed.{Key, number_at, value_in}
+use Rattle.mt_import_laws.proofs.Among.{join_among_first, join_among_second}
 use Rattle.mt_import_laws.proofs.Keys.{IsKey, is_register_key}
 use Rattle.mt_import_laws.proofs.Whole.{IsSound, IsWhole}
 
@@ -24,15 +25,6 @@ use Rattle.mt_import_laws.proofs.Whole.{IsSound, IsWhole}
 pub all_join : {A : Type 0} (P : A → Type 0) (xs ys : List A) → AllByRecursion P xs → AllByRecursion P ys → AllByRecursion P (xs ++ ys)
 all_join P [] ys all later = later
 all_join P (x ∷ xs) ys all later = (all.0, all_join P xs ys all.1 later)
-
-among_first : {A : Type 0} (xs ys : List A) (x : A) → IsAmong x xs → IsAmong x (xs ++ ys)
-among_first [] ys x among = absurd among
-among_first (y ∷ xs) ys x (inl same) = inl same
-among_first (y ∷ xs) ys x (inr later) = inr (among_first xs ys x later)
-
-among_second : {A : Type 0} (xs ys : List A) (x : A) → IsAmong x ys → IsAmong x (xs ++ ys)
-among_second [] ys x among = among
-among_second (y ∷ xs) ys x among = inr (among_second xs ys x among)
 
 -- a reading that is a fact, or was there before, is gathered
 pub gathers : (facts : List Fact) (seen : Seen) (reading : Reading) → IsAmong (is_register_value reading) facts ⊎ IsAmong reading seen.readings → IsAmong reading (seen_after seen facts).readings
@@ -151,10 +143,10 @@ module _ (file : RegisterFile) (prints : Key → Bool) where
       → IsAmong (is_register_value (record { processor = processor; table = table; number = shown.number; bits = shown.bits; value = shown.value; place = shown.place })) (shows_facts processor table shows)
   shown_among processor table [] shown register among = absurd among
   shown_among processor table (first ∷ shows) shown register (inl same) =
-      among_first (shown_facts processor table first) (shows_facts processor table shows) _
+      join_among_first (shown_facts processor table first) (shows_facts processor table shows) _
       (subst (λ (s : Option Shown). IsAmong (is_register_value (record { processor = processor; table = table; number = shown.number; bits = shown.bits; value = shown.value; place = shown.place })) (shown_facts processor table s)) (sym same) (rw register (inl refl)))
   shown_among processor table (first ∷ shows) shown register (inr later) =
-      among_second (shown_facts processor table first) (shows_facts processor table shows) _ (shown_among processor table shows shown register later)
+      join_among_second (shown_facts processor table first) (shows_facts processor table shows) _ (shown_among processor table shows shown register later)
 
   said_has : (context : Context) (said : Said) (key : Key) → IsKey key → ShowsKey key said → HasReading key (said_facts context said)
   said_has context said key is shows =
@@ -199,7 +191,7 @@ module _ (file : RegisterFile) (prints : Key → Bool) where
         let has = said_has context (said_of format number first) key is_key here in
         let facts : IsAmong (is_register_value has.reading) (facts_of_line context number first) =
         subst (IsAmong (is_register_value has.reading)) (sym (of_line context number first is)) (inr has.among) in
-        record { reading = has.reading; among = among_first (facts_of_line context number first) (facts_from (context_behind context number first) (number + 1) lines) _ facts; number = has.number }
+        record { reading = has.reading; among = join_among_first (facts_of_line context number first) (facts_from (context_behind context number first) (number + 1) lines) _ facts; number = has.number }
     lines_have (first ∷ lines) context number key line is is_key (inr later) shows =
         let has = lines_have lines (context_behind context number first) (number + 1) key line (next_format context number first is) is_key later shows in
-        record { reading = has.reading; among = among_second (facts_of_line context number first) (facts_from (context_behind context number first) (number + 1) lines) _ has.among; number = has.number }
+        record { reading = has.reading; among = join_among_second (facts_of_line context number first) (facts_from (context_behind context number first) (number + 1) lines) _ has.among; number = has.number }

@@ -2,4 +2,6 @@ pub mod Origins
 pub mod Alike
 pub mod Printed
 pub mod PrintedByInteltool
+pub mod PrintedByCoreboot
+pub mod PrintedByEdk2
 pub mod WorkedPrinted

@@ -1,17 +1,18 @@
 -- Logs that hold what a program prints of a register file, and what it means that they read back (own).
---     HoldsTable format table text      the lines of a log are those of a table, among lines that say nothing
+--     HoldsTable format file table text      the lines of a log are those of a table, among lines that tell no more than the width
 --     Agrees supplied file      words supply no other value than the file's
 --     ReadsBack told file      the outcome is the file's dump
 use Rattle.std.specs.Prelude.{ℕ, ◌≡◌, ◌⊎◌, List, Option, None, Some}
 use Rattle.mt_ports.specs.declared.status.Status.TheVariants.{Done}
 use Rattle.mt_text.specs.Text.{lines_of}
+use Rattle.mt_text.specs.declared.place.Place.{Place}
 use Rattle.mt_regs.specs.declared.registers.Register.{Register}
 use Rattle.mt_regs.specs.RegisterFile.{RegisterFile}
 use Rattle.mt_regs.specs.Registers.{number_of, value_at, value_of}
 use Rattle.mt_dump.specs.Canon.{canon}
 use Rattle.mt_dump.specs.Dumps.{dump_of}
 use Rattle.mt_import.specs.declared.format.Format.{Format}
-use Rattle.mt_import.specs.declared.reading.Said.TheVariants.{Nothing}
+use Rattle.mt_import.specs.declared.reading.Said.TheVariants.{Nothing, Width}
 use Rattle.mt_import.specs.Outcome.{Told}
 use Rattle.mt_import.specs.Shown.{said_of}
 use Rattle.mt_import.specs.Supplied.{Supplied, supplied_value}
@@ -33,14 +34,14 @@ value_in file (Some register) = value_of file register
 
 -- ---- a log
 
--- a line that says nothing in this format, whatever its number
-abbrev pub SaysNothing : Format → List ℕ → Type 0
-SaysNothing format line = (number : ℕ) → said_of format number line ≡ Nothing
+-- a line that tells no more than the width, whatever its number
+abbrev pub TellsNoMore : Format → RegisterFile → List ℕ → Type 0
+TellsNoMore format file line = (number : ℕ) → (said_of format number line ≡ Nothing) ⊎ ((place : Place) × (said_of format number line ≡ Width file.width place))
 
--- A log has each line of a table, and any lines besides that say nothing.
-pub record HoldsTable (format : Format) (table : List (List ℕ)) (text : List ℕ) : Type 0 where
+-- A log has each line of a table of a file, and any lines besides that tell no more than the width.
+pub record HoldsTable (format : Format) (file : RegisterFile) (table : List (List ℕ)) (text : List ℕ) : Type 0 where
   pub has : (line : List ℕ) → IsAmong line table → IsAmong line (lines_of text)
-  pub others : (line : List ℕ) → IsAmong line (lines_of text) → IsAmong line table ⊎ SaysNothing format line
+  pub others : (line : List ℕ) → IsAmong line (lines_of text) → IsAmong line table ⊎ TellsNoMore format file line
 
 -- Words supply no width and no value but the file's.
 pub record Agrees (supplied : Supplied) (file : RegisterFile) : Type 0 where
