@@ -1,18 +1,22 @@
 -- The premises of an instance.
 use Rattle.std.proofs.Common.{◌≡◌, ◌∙◌, ◌+◌, ◌%◌, ◌^◌, ◌<◌, ◌≤◌, ◌==◌, ◌&&◌, nat_lt, ℕ, zero, suc, Bool, true, false, List, [], ◌∷◌, ◌++◌, length, Option, Some, None, refl, sym, ap, subst, arith, lit≤, lit<, codes}
-use Rattle.std.specs.Prelude.{slice_get, slice_index_or}
-use Rattle.std.specs.List.{AllByRecursion, list_all}
-use Rattle.std.proofs.lemmas.Bool.{and_parts}
+use Rattle.std.specs.Prelude.{if◌then◌else◌, slice_get, slice_index_or}
+use Rattle.std.specs.List.{AllByRecursion, find, list_all}
+use Rattle.std.specs.Option.{option_map}
+use Rattle.std.proofs.lemmas.Bool.{and_parts, eqb-true}
 use Rattle.std.proofs.lemmas.Bool.Decides.{nat_tests}
 use Rattle.mt_regs.specs.declared.registers.Register.{Register}
 use Rattle.mt_regs.specs.declared.registers.Register.TheVariants.{PhysBase, PhysMask, FixedRange, Pat, DefaultType}
 use Rattle.mt_regs.specs.RegisterFile.{IsRegisterFile, RegisterFile}
-use Rattle.mt_regs.specs.Registers.{value_of, writable}
+use Rattle.mt_regs.specs.Registers.{value_at, value_of, writable}
 use Rattle.mt_regs.specs.Words.{HasWords}
 use Rattle.mt_regs.proofs.ByNumber.{HasWordsBelow, all_fit}
+use Rattle.mt_import.specs.Supplied.{value_among}
 use Rattle.mt_import_laws.specs.Printed.{Agrees, Key}
+use Rattle.mt_import_laws.specs.PrintedByCoreboot.{AreTails, SuitsCoreboot}
+use Rattle.mt_import_laws.specs.PrintedByEdk2.{HasNoHiddenPair, SuitsEdk2}
 use Rattle.mt_import_laws.specs.PrintedByInteltool.{AreNames, SuitsInteltool, is_name_byte}
-use Rattle.mt_import_laws.specs.WorkedPrinted.{fixed_names, model_names, ordinary_pc, width_36}
+use Rattle.mt_import_laws.specs.WorkedPrinted.{fixed_names, model_names, ordinary_pc, some_tails, width_36, width_and_pat, words_for_edk2}
 
 abbrev fits : RegisterFile → Register → Bool
 fits file register = nat_lt (value_of file register) 0x10000000000000000
@@ -65,5 +69,58 @@ model_are_names (Some DefaultType) = (lit≤ tt, refl)
 width_agrees : Agrees width_36 ordinary_pc
 width_agrees = record { width = λ width is. cc is; registers = λ number value is. cc is }
 
-pub ordinary_suits : SuitsInteltool model_names ordinary_pc width_36
-ordinary_suits = record { are_names = model_are_names; is_file = is_ordinary; has_words = ordinary_words; agrees = width_agrees; width = refl }
+pub inteltool_suits : SuitsInteltool model_names ordinary_pc width_36
+inteltool_suits = record { are_names = model_are_names; is_file = is_ordinary; has_words = ordinary_words; agrees = width_agrees; width = refl }
+
+-- ---- words that supply registers
+
+words_agree : (file : RegisterFile) (registers : List (ℕ × ℕ)) (number value : ℕ) → AllByRecursion (λ register. value_at file register.0 ≡ Some register.1) registers → value_among number registers ≡ Some value
+    → value_at file number ≡ Some value
+words_agree file [] number value all is = cc is
+words_agree file (register ∷ registers) number value all is = by (register.0 == number) refl (words_agree file registers number value all.1) is
+  where
+    by : (test : Bool) → (register.0 == number) ≡ test → (value_among number registers ≡ Some value → value_at file number ≡ Some value)
+        → option_map (λ r. r.1) (if test then Some register else find (λ r. r.0 == number) registers) ≡ Some value → value_at file number ≡ Some value
+    by true same later found = ap (value_at file) (sym (eqb-true register.0 number same)) ∙ all.0 ∙ found
+    by false apart later found = later found
+
+pat_agrees : Agrees width_and_pat ordinary_pc
+pat_agrees = record { width = λ width is. cc is; registers = λ number value. words_agree ordinary_pc ((0x277, 0x0007040600070406) ∷ []) number value (refl, tt) }
+
+edk2_agrees : Agrees words_for_edk2 ordinary_pc
+edk2_agrees = record { width = λ width is. cc is; registers = λ number value. words_agree ordinary_pc ((0xfe, 0xd08) ∷ (0x277, 0x0007040600070406) ∷ []) number value (refl, (refl, tt)) }
+
+tails_are : AreTails some_tails
+tails_are None = (lit≤ tt, refl, refl)
+tails_are (Some (PhysBase n)) = (lit≤ tt, refl, refl)
+tails_are (Some (PhysMask n)) = (lit≤ tt, refl, refl)
+tails_are (Some (FixedRange place)) = (lit≤ tt, refl, refl)
+tails_are (Some Pat) = (lit≤ tt, refl, refl)
+tails_are (Some DefaultType) = (lit≤ tt, refl, refl)
+
+pub coreboot_suits : SuitsCoreboot some_tails ordinary_pc width_and_pat
+coreboot_suits = record { are_tails = tails_are; is_file = is_ordinary; has_words = ordinary_words; agrees = pat_agrees; width = refl; pat = refl }
+
+-- the last four of the eight pairs are zeros
+hides_nothing : HasNoHiddenPair ordinary_pc
+hides_nothing zero within hidden = cc hidden
+hides_nothing (suc zero) within hidden = cc hidden
+hides_nothing (suc (suc zero)) within hidden = cc hidden
+hides_nothing (suc (suc (suc zero))) within hidden = cc hidden
+hides_nothing (suc (suc (suc (suc zero)))) within hidden = refl
+hides_nothing (suc (suc (suc (suc (suc zero))))) within hidden = refl
+hides_nothing (suc (suc (suc (suc (suc (suc zero)))))) within hidden = refl
+hides_nothing (suc (suc (suc (suc (suc (suc (suc zero))))))) within hidden = refl
+hides_nothing (suc (suc (suc (suc (suc (suc (suc (suc n)))))))) within hidden = absurd (omega (arith, within))
+
+pub edk2_suits : SuitsEdk2 ordinary_pc words_for_edk2
+edk2_suits = record {
+  is_file = is_ordinary;
+  has_words = ordinary_words;
+  hides_nothing = hides_nothing;
+  agrees = edk2_agrees;
+  width = refl;
+  capabilities = refl;
+  pat = refl;
+  pairs = refl;
+}

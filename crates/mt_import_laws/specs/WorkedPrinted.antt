@@ -1,8 +1,9 @@
 -- An instance of the laws on what programs print: the registers of an ordinary PC with 8 GB (own).
-use Rattle.std.specs.Prelude.{ℕ, ◌+◌, ◌%◌, codes, List, [], ◌∷◌, ◌++◌, Some, None, slice_index_or}
+use Rattle.std.specs.Prelude.{ℕ, ◌+◌, ◌%◌, true, codes, List, [], ◌∷◌, ◌++◌, Some, None, slice_index_or}
 use Rattle.mt_regs.specs.declared.registers.Register.TheVariants.{PhysBase, PhysMask, FixedRange, Pat, DefaultType}
 use Rattle.mt_regs.specs.RegisterFile.{RegisterFile}
 use Rattle.mt_import.specs.Supplied.{Supplied, nothing_assumed}
+use Rattle.mt_import_laws.specs.PrintedByCoreboot.{Tails}
 use Rattle.mt_import_laws.specs.PrintedByInteltool.{Names}
 
 -- examples/ordinary-pc.dump
@@ -37,3 +38,20 @@ model_names (Some DefaultType) = codes "IA32_MTRR_DEF_TYPE"
 -- what the word `maxphyaddr=36` supplies
 abbrev pub width_36 : Supplied
 width_36 = record { width = Some 36; registers = []; assumed = nothing_assumed }
+
+-- what coreboot prints behind the names of some registers
+abbrev pub some_tails : Tails
+some_tails None = codes " SMRR, WC, FIX, 8 variable MTRRs"
+some_tails (Some (PhysBase n)) = []
+some_tails (Some (PhysMask n)) = codes " Length  = 0x0000000020000000, Valid"
+some_tails (Some (FixedRange place)) = []
+some_tails (Some Pat) = []
+some_tails (Some DefaultType) = codes " E, FE, UC"
+
+-- `maxphyaddr=36 277=7040600070406`
+abbrev pub width_and_pat : Supplied
+width_and_pat = record { width = Some 36; registers = (0x277, 0x0007040600070406) ∷ []; assumed = nothing_assumed }
+
+-- `maxphyaddr=36 0fe=d08 277=7040600070406 assume=pairs`
+abbrev pub words_for_edk2 : Supplied
+words_for_edk2 = record { width = Some 36; registers = (0xfe, 0xd08) ∷ (0x277, 0x0007040600070406) ∷ []; assumed = record nothing_assumed { pairs = true } }
