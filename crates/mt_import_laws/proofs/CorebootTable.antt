@@ -18,9 +18,9 @@ use Rattle.mt_import_laws.specs.PrintedByCoreboot.{SuitsCoreboot, Tails, coreboo
 use Rattle.mt_import_laws.proofs.Among.{all_map, among_at, among_filter, among_join, among_map, each_among, filter_among, join_among_first, join_among_second, map_among}
 use Rattle.mt_import_laws.proofs.Back.{by_word}
 use Rattle.mt_import_laws.proofs.CorebootLines.{IsNamed, is_displayed, line_plain, named, place, register_said}
-use Rattle.mt_import_laws.proofs.KeyLines.{ShowsAlone, fits, has_line, key_in_file, lines_true}
+use Rattle.mt_import_laws.proofs.KeyLines.{ShowsAlone, fits, has_line, lines_true}
 use Rattle.mt_import_laws.proofs.Keys.{IsKey, all_within}
-use Rattle.mt_import_laws.proofs.PrintedBack.{HasLine, IsGiven, IsInFile, holds_itself, reads_back}
+use Rattle.mt_import_laws.proofs.PrintedBack.{HasLine, IsGiven, IsInFile, holds_itself, key_in_file, reads_back}
 use Rattle.mt_import_laws.proofs.Whole.{known}
 
 shown_fixed : (register : Register) → is_fixed register ≡ true → is_displayed (Some register) ≡ true

@@ -26,9 +26,9 @@ use Rattle.mt_import_laws.specs.PrintedByEdk2.{SuitsEdk2, edk2_lines, edk2_text,
 use Rattle.mt_import_laws.proofs.Among.{all_map, among_join, among_map, each_among, join_among_first, join_among_second, map_among}
 use Rattle.mt_import_laws.proofs.Back.{by_word, width_back}
 use Rattle.mt_import_laws.proofs.Edk2Lines.{base_place, default_place, default_plain, default_said, fixed_place, fixed_plain, fixed_said, mask_place, pair_plain, pair_said}
-use Rattle.mt_import_laws.proofs.KeyLines.{ShowsAlone, fits, has_line, key_in_file, lines_true}
+use Rattle.mt_import_laws.proofs.KeyLines.{ShowsAlone, fits, has_line, lines_true}
 use Rattle.mt_import_laws.proofs.Keys.{IsKey, value_at_key}
-use Rattle.mt_import_laws.proofs.PrintedBack.{HasLine, IsGiven, IsInFile, holds_itself, reads_back}
+use Rattle.mt_import_laws.proofs.PrintedBack.{HasLine, IsGiven, IsInFile, holds_itself, key_in_file, reads_back}
 use Rattle.mt_import_laws.proofs.TableLines.{IsTrueSaid, all_join}
 use Rattle.mt_import_laws.proofs.Whole.{IsSeen, IsWidth, blank, known}
 use Rattle.mt_import_laws.proofs.Zeros.{IsUnshown, zero_given}

@@ -14,9 +14,9 @@ use Rattle.mt_import_laws.specs.Printed.{HoldsTable, Key, ReadsBack, number_at, 
 use Rattle.mt_import_laws.specs.PrintedByInteltool.{Names, SuitsInteltool, inteltool_lines, inteltool_text, line_of}
 use Rattle.mt_import_laws.proofs.Among.{all_map}
 use Rattle.mt_import_laws.proofs.InteltoolLines.{line_plain, place, register_said}
-use Rattle.mt_import_laws.proofs.KeyLines.{ShowsAlone, all_keys, among_all, fits, has_line, in_file, key_in_file, lines_true, low}
+use Rattle.mt_import_laws.proofs.KeyLines.{ShowsAlone, all_keys, among_all, fits, has_line, in_file, lines_true, low}
 use Rattle.mt_import_laws.proofs.Keys.{IsKey}
-use Rattle.mt_import_laws.proofs.PrintedBack.{HasLine, IsInFile, holds_itself, reads_back}
+use Rattle.mt_import_laws.proofs.PrintedBack.{HasLine, IsInFile, holds_itself, key_in_file, reads_back}
 use Rattle.mt_import_laws.proofs.TableLines.{IsTrueSaid}
 
 -- each register that the file has is printed

@@ -15,15 +15,11 @@ use Rattle.mt_import.specs.Slot.{all_bits}
 use Rattle.mt_import_laws.specs.Origins.{IsAmong}
 use Rattle.mt_import_laws.specs.Printed.{Key, number_at, value_in}
 use Rattle.mt_import_laws.proofs.Among.{among_at, among_map, each_among, map_among}
-use Rattle.mt_import_laws.proofs.Keys.{IsKey, all_within, range_of, within_whole}
-use Rattle.mt_import_laws.proofs.PrintedBack.{HasLine, IsInFile}
+use Rattle.mt_import_laws.proofs.Keys.{IsKey, all_within, range_of}
+use Rattle.mt_import_laws.proofs.PrintedBack.{HasLine, IsInFile, key_in_file}
 use Rattle.mt_import_laws.proofs.TableLines.{IsTrueSaid}
 
 -- ---- the registers of a file
-
-pub key_in_file : (file : RegisterFile) (key : Key) → IsRegisterFile file → IsInFile file key → IsKey key
-key_in_file file None is within = tt
-key_in_file file (Some register) is within = within_whole file register is within
 
 pub fits : (file : RegisterFile) (key : Key) → IsRegisterFile file → HasWords file → IsInFile file key → value_in file key < 2 ^ 64
 fits file None is words within = words 0xfe file.capabilities refl

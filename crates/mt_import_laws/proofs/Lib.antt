@@ -21,4 +21,7 @@ mod CorebootTable
 mod Edk2Lines
 mod Zeros
 mod Edk2Table
+mod HexDigits
+mod RdmsrLines
+mod RdmsrTable
 mod WorkedFiles

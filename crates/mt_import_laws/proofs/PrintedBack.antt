@@ -17,13 +17,13 @@ use Rattle.mt_import.specs.declared.reading.Said.TheVariants.{Nothing, Width}
 use Rattle.mt_import.specs.Readings.{Fact, starts}
 use Rattle.mt_import.specs.Shown.{said_of, shown}
 use Rattle.mt_import.specs.Supplied.{Supplied}
-use Rattle.mt_import.specs.Outcome.{Seen, nothing_seen, seen_after, slot_shown, values_of}
+use Rattle.mt_import.specs.Outcome.{Seen, nothing_seen, outcome, seen_after, slot_shown, values_of}
 use Rattle.mt_import.specs.Import.{log_told}
 use Rattle.mt_import_laws.specs.Origins.{IsAmong}
 use Rattle.mt_import_laws.specs.Printed.{Agrees, HoldsTable, Key, ReadsBack, number_at, value_in}
 use Rattle.mt_import_laws.proofs.Keys.{IsKey, within_whole}
 use Rattle.mt_import_laws.proofs.Whole.{IsSeen, IsSound, held, no_fault, one_processor, seen_last}
-use Rattle.mt_import_laws.proofs.TableLines.{IsTrueSaid, ShowsKey, gathers, lines_have, lines_true}
+use Rattle.mt_import_laws.proofs.TableLines.{HasReading, IsTrueSaid, ShowsKey, gathers, lines_have, lines_true}
 use Rattle.mt_import_laws.proofs.Back.{by_lines, ended_back, width_back}
 
 -- a line of the table shows the register
@@ -37,6 +37,10 @@ abbrev pub IsInFile : RegisterFile → Key → Type 0
 IsInFile file None = Unit {0}
 IsInFile file (Some register) = IsWithin file register
 
+pub key_in_file : (file : RegisterFile) (key : Key) → IsRegisterFile file → IsInFile file key → IsKey key
+key_in_file file None is within = tt
+key_in_file file (Some register) is within = within_whole file register is within
+
 -- The value of the register comes without a line of its own.
 abbrev pub IsGiven : RegisterFile → (Key → Bool) → Supplied → Key → Type 0
 IsGiven file prints supplied key = (seen : Seen) → IsSeen file prints seen → values_of supplied (slot_shown seen.readings) seen.width 0 (number_at key) ≡ Some (value_in file key)
@@ -46,12 +50,39 @@ pub record IsReadAs (file : RegisterFile) (prints : Key → Bool) (format : Form
   pub each : (line : List ℕ) → IsAmong line table → (number : ℕ) → IsTrueSaid file prints (said_of format number line)
   pub all : (key : Key) → IsInFile file key → HasLine format table key ⊎ IsGiven file prints supplied key
 
+-- ---- facts that tell of a file
+
+module _ (file : RegisterFile) (prints : Key → Bool) (format : Format) (supplied : Supplied) (is : IsRegisterFile file) (words : HasWords file) (agrees : Agrees supplied file)
+    (width : supplied.width ≡ Some file.width) (facts : List Fact) (sound : AllByRecursion (IsSound file prints) facts)
+    (all : (key : Key) → IsInFile file key → HasReading key facts ⊎ IsGiven file prints supplied key) where
+  seen : Seen
+  seen = seen_after (nothing_seen (Some format)) facts
+
+  is_seen : IsSeen file prints seen
+  unfolding seen
+  is_seen = seen_last file prints facts (nothing_seen (Some format)) (record { readings = tt; width = tt }) sound
+
+  value_back : (key : Key) → IsInFile file key → values_of supplied (slot_shown seen.readings) seen.width 0 (number_at key) ≡ Some (value_in file key)
+  unfolding seen
+  value_back key within = elim (all key within) [
+    | inl has ↦
+        by_lines supplied seen (number_at key) (value_in file key)
+        (held file prints seen.readings has.reading key is_seen.readings (key_in_file file key is within) (gathers facts (nothing_seen (Some format)) has.reading (inl has.among)) has.number)
+    | inr given ↦ given seen is_seen
+  ]
+
+  pub facts_back : ReadsBack (outcome false supplied (nothing_seen (Some format)) facts) file
+  unfolding seen
+  facts_back =
+      let none = no_fault file prints supplied agrees is words facts (nothing_seen (Some format)) (record { readings = tt; width = tt }) sound in
+      rw none
+      (ended_back false supplied seen file is (one_processor file prints seen.readings is_seen.readings) (width_back file prints supplied (slot_shown seen.readings) seen.width width is_seen.width) (value_back None tt) (λ register within. value_back (Some register) within))
+
+-- ---- a log that holds a table
+
 module _ (file : RegisterFile) (prints : Key → Bool) (format : Format) (table : List (List ℕ)) (supplied : Supplied) (text : List ℕ)
     (is : IsRegisterFile file) (words : HasWords file) (agrees : Agrees supplied file) (width : supplied.width ≡ Some file.width)
     (read : IsReadAs file prints format table supplied) (holds : HoldsTable format file table text) where
-  facts : List Fact
-  facts = shown (Some format) text
-
   all_true : (line : List ℕ) → IsAmong line (lines_of text) → (number : ℕ) → IsTrueSaid file prints (said_of format number line)
   all_true line among number = elim (holds.others line among) [
     | inl own ↦ read.each line own number
@@ -62,41 +93,20 @@ module _ (file : RegisterFile) (prints : Key → Bool) (format : Format) (table 
       no_more said (inl nothing) = rw nothing tt
       no_more said (inr width) = rw width.1 refl
 
-  sound : AllByRecursion (IsSound file prints) facts
-  unfolding facts
-  sound = lines_true file prints format (lines_of text) (starts (Some format)) 1 refl refl all_true
-
-  seen : Seen
-  seen = seen_after (nothing_seen (Some format)) facts
-
-  is_seen : IsSeen file prints seen
-  unfolding seen
-  is_seen = seen_last file prints facts (nothing_seen (Some format)) (record { readings = tt; width = tt }) sound
-
-  key_of : (key : Key) → IsInFile file key → IsKey key
-  key_of None within = tt
-  key_of (Some register) within = within_whole file register is within
-
-  value_back : (key : Key) → IsInFile file key → values_of supplied (slot_shown seen.readings) seen.width 0 (number_at key) ≡ Some (value_in file key)
-  unfolding seen facts
-  value_back key within = elim (read.all key within) [
-    | inl line ↦
-        let has = lines_have file prints format (lines_of text) (starts (Some format)) 1 key line.line refl (key_of key within) (holds.has line.line line.among) line.shows in
-        by_lines supplied seen (number_at key) (value_in file key)
-        (held file prints seen.readings has.reading key is_seen.readings (key_of key within) (gathers facts (nothing_seen (Some format)) has.reading (inl has.among)) has.number)
-    | inr given ↦ given seen is_seen
+  all_shown : (key : Key) → IsInFile file key → HasReading key (shown (Some format) text) ⊎ IsGiven file prints supplied key
+  all_shown key within = elim (read.all key within) [
+    | inl line ↦ inl (lines_have file prints format (lines_of text) (starts (Some format)) 1 key line.line refl (key_in_file file key is within) (holds.has line.line line.among) line.shows)
+    | inr given ↦ inr given
   ]
 
   pub reads_back : ReadsBack (log_told (Only format) supplied text) file
-  unfolding seen facts
   reads_back =
-      let none = no_fault file prints supplied agrees is words facts (nothing_seen (Some format)) (record { readings = tt; width = tt }) sound in
-      rw none
-      (ended_back false supplied seen file is (one_processor file prints seen.readings is_seen.readings) (width_back file prints supplied (slot_shown seen.readings) seen.width width is_seen.width) (value_back None tt) (λ register within. value_back (Some register) within))
+      facts_back file prints format supplied is words agrees width (shown (Some format) text)
+      (lines_true file prints format (lines_of text) (starts (Some format)) 1 refl refl all_true) all_shown
 
 -- ---- the table alone
 
-lines_back : (lines : List (List ℕ)) → AllByRecursion (λ line. list_all is_plain line ≡ true) lines → lines_of (ended lines) ≡ lines
+pub lines_back : (lines : List (List ℕ)) → AllByRecursion (λ line. list_all is_plain line ≡ true) lines → lines_of (ended lines) ≡ lines
 lines_back [] plain = refl
 lines_back (line ∷ lines) plain = lines_of-line line (ended lines) plain.0 ∙ ap (λ ls. line ∷ ls) (lines_back lines plain.1)
 

@@ -98,7 +98,7 @@ module _ (file : RegisterFile) (prints : Key → Bool) where
       by true = (record { key = tells.key; is_key = tells.is_key; is_printed = tells.is_printed; number = tells.number; processor = zero; bits = tells.bits; value = tells.value }, tt)
       by false = tt
 
-  shown_true : (processor table : ℕ) (shown : Option Shown) → processor ≡ 0 → IsTrueShown shown → AllByRecursion (IsSound file prints) (shown_facts processor table shown)
+  pub shown_true : (processor table : ℕ) (shown : Option Shown) → processor ≡ 0 → IsTrueShown shown → AllByRecursion (IsSound file prints) (shown_facts processor table shown)
   shown_true processor table None zero tells = tt
   shown_true processor table (Some shown) zero tells = reading_true processor table shown zero tells
 

@@ -16,6 +16,7 @@ use Rattle.mt_import_laws.specs.Printed.{Agrees, Key}
 use Rattle.mt_import_laws.specs.PrintedByCoreboot.{AreTails, SuitsCoreboot}
 use Rattle.mt_import_laws.specs.PrintedByEdk2.{HasNoHiddenPair, SuitsEdk2}
 use Rattle.mt_import_laws.specs.PrintedByInteltool.{AreNames, SuitsInteltool, is_name_byte}
+use Rattle.mt_import_laws.specs.PrintedByRdmsr.{SuitsRdmsr}
 use Rattle.mt_import_laws.specs.WorkedPrinted.{fixed_names, model_names, ordinary_pc, some_tails, width_36, width_and_pat, words_for_edk2}
 
 abbrev fits : RegisterFile → Register → Bool
@@ -71,6 +72,9 @@ width_agrees = record { width = λ width is. cc is; registers = λ number value 
 
 pub inteltool_suits : SuitsInteltool model_names ordinary_pc width_36
 inteltool_suits = record { are_names = model_are_names; is_file = is_ordinary; has_words = ordinary_words; agrees = width_agrees; width = refl }
+
+pub rdmsr_suits : SuitsRdmsr ordinary_pc width_36
+rdmsr_suits = record { is_file = is_ordinary; has_words = ordinary_words; agrees = width_agrees; width = refl }
 
 -- ---- words that supply registers
 

@@ -4,4 +4,5 @@ pub mod Printed
 pub mod PrintedByInteltool
 pub mod PrintedByCoreboot
 pub mod PrintedByEdk2
+pub mod PrintedByRdmsr
 pub mod WorkedPrinted

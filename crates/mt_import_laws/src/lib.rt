@@ -11,5 +11,5 @@ pub use laws::{
 };
 pub use printers::{
     what_coreboot_displays_reads_back, what_edk2_prints_reads_back,
-    what_inteltool_prints_reads_back, worked_prints,
+    what_inteltool_prints_reads_back, what_rdmsr_prints_reads_back, worked_prints,
 };
