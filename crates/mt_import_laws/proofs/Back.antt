@@ -1,22 +1,20 @@
 -- A file that comes out of readings of its registers.
-use Rattle.std.proofs.Common.{◌≡◌, ◌∙◌, ◌+◌, ◌*◌, ◌<◌, ◌≤◌, ◌==◌, ◌&&◌, ◌||◌, ℕ, zero, suc, Bool, true, false, List, [], ◌∷◌, ◌++◌, length, map, take, get_or, Option, Some, None, refl, sym, ap, arith, slice_index, inl, inr}
-use Rattle.std.specs.Prelude.{◌⊎◌, if◌then◌else◌, is_none, unwrap_or}
+use Rattle.std.proofs.Common.{◌≡◌, ◌∙◌, ◌<◌, ◌≤◌, ℕ, zero, suc, Bool, true, false, List, [], ◌∷◌, ◌++◌, length, map, take, Option, Some, None, refl, sym, ap, arith, inl, inr}
+use Rattle.std.specs.Prelude.{if◌then◌else◌, unwrap_or}
 use Rattle.std.specs.List.{AllByRecursion}
-use Rattle.std.proofs.lemmas.List.{ext_get_or, get_or-map, take_all, length-map}
-use Rattle.mt_kinds.specs.Bits.{is_bit_set}
-use Rattle.mt_ports.specs.declared.status.Status.TheVariants.{Done}
+use Rattle.std.proofs.lemmas.List.{ext_get_or, get_or-map, take_all}
 use Rattle.mt_regs.specs.declared.registers.Register.{Register}
 use Rattle.mt_regs.specs.declared.registers.Register.TheVariants.{PhysBase, PhysMask, FixedRange, Pat, DefaultType}
-use Rattle.mt_regs.specs.RegisterFile.{IsRegisterFile, RegisterFile, has_fixed, low_byte, pair_at, pair_count}
+use Rattle.mt_regs.specs.RegisterFile.{IsRegisterFile, RegisterFile, has_fixed, low_byte, pair_at}
 use Rattle.mt_regs.specs.Registers.{IsWithin, fixed_numbers, number_of, value_of, writable}
 use Rattle.mt_dump.specs.Canon.{canon}
 use Rattle.mt_dump.specs.Dumps.{dump_of}
 use Rattle.mt_import.specs.declared.shape.Tally.{Tally}
 use Rattle.mt_import.specs.Supplied.{Supplied, supplied_value}
 use Rattle.mt_import.specs.Values.{assumed_width, or_supplied, width_by}
-use Rattle.mt_import.specs.Outcome.{Seen, Slots, Told, dump_in, dump_told, ended, ended_by, file_of, first_pairs, fixed_of, hint_of, is_empty, is_missing, missing_line, missing_lines, missing_of, missing_width, needed, notes_of, processors, refusal, remarks, slot_shown, value_or_zero, values_of}
+use Rattle.mt_import.specs.Outcome.{Seen, Slots, dump_told, ended, file_of, first_pairs, fixed_of, hint_of, is_empty, is_missing, missing_lines, missing_of, needed, notes_of, processors, refusal, remarks, slot_shown, value_or_zero, values_of}
 use Rattle.mt_import.proofs.Same.{value_is}
-use Rattle.mt_import_laws.specs.Printed.{Key, ReadsBack, number_at, value_in}
+use Rattle.mt_import_laws.specs.Printed.{Key, ReadsBack}
 use Rattle.mt_import_laws.proofs.Keys.{all_within}
 use Rattle.mt_import_laws.proofs.Whole.{Holds, IsKnown, IsWidth}
 

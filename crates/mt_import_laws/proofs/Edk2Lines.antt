@@ -1,20 +1,19 @@
 -- What a line of EDK2 is read as.
-use Rattle.std.proofs.Common.{◌≡◌, ◌∙◌, ◌+◌, ◌-◌, ◌*◌, ◌/◌, ◌%◌, ◌^◌, ◌<◌, ◌≤◌, ◌==◌, ◌&&◌, not, nat_le, nat_lt, ℕ, zero, suc, Bool, true, false, List, [], ◌∷◌, ◌++◌, length, take, Option, Some, None, Ok, refl, sym, ap, append-nil, arith, lit≤, codes, slice_get, slice_index}
-use Rattle.std.specs.Prelude.{if◌then◌else◌}
+use Rattle.std.proofs.Common.{◌≡◌, ◌∙◌, ◌+◌, ◌-◌, ◌*◌, ◌/◌, ◌%◌, ◌^◌, ◌<◌, ◌≤◌, nat_lt, ℕ, zero, suc, true, false, List, [], ◌∷◌, ◌++◌, length, take, Some, Ok, refl, ap, append-nil, arith, lit≤, codes, slice_get, slice_index}
 use Rattle.std.specs.List.{list_all}
 use Rattle.std.proofs.lemmas.Bool.Decides.{nat_tests}
-use Rattle.hex.specs.Hex.{is_hex_digit, upper_digits}
+use Rattle.hex.specs.Hex.{upper_digits}
 use Rattle.hex.proofs.HexLemmas.{IsDigits-upper_digits}
 use Rattle.mt_text.specs.Text.{is_word_byte, words_of}
 use Rattle.mt_text.specs.Words.{place_of}
-use Rattle.mt_text.specs.Number.{decimal_number, hex_number, hex_value, is_decimal_digit}
+use Rattle.mt_text.specs.Number.{decimal_number, is_decimal_digit}
 use Rattle.mt_text.specs.declared.place.Place.{Place}
-use Rattle.mt_text.proofs.Plain.{hex_number-digits, is_plain}
+use Rattle.mt_text.proofs.Plain.{is_plain}
 use Rattle.mt_regs.specs.Registers.{fixed_numbers}
 use Rattle.mt_import.specs.declared.format.Format.TheVariants.{Edk2}
 use Rattle.mt_import.specs.declared.reading.Said.{Said}
 use Rattle.mt_import.specs.declared.reading.Said.TheVariants.{Shows}
-use Rattle.mt_import.specs.Edk2.{edk2_said, fixed_number, said_by_words, shows_pair, value_behind}
+use Rattle.mt_import.specs.Edk2.{fixed_number, said_by_words, shows_pair}
 use Rattle.mt_import.specs.Linux.{pair_numbered}
 use Rattle.mt_import.specs.Pieces.{shown_as, shows_one, sixteen_digits as sixteen_read_of}
 use Rattle.mt_import.specs.Readings.{two_shown}
@@ -161,9 +160,13 @@ module _ (n : ℕ) (pair : ℕ × ℕ) (few : n < 32) where
   pair_words : AreWords ((0, codes "Variable") ∷ pair_others)
   pair_words =
       let base = value_word pair.0 in
-      let mask = value_word pair.1 in
-      ((lit≤ tt, refl, refl), (number_word n few (codes "]:") refl refl,
-      (word_append (codes "Base=") (sixteen_digits pair.0) (lit≤ tt, refl, refl) base.1 base.2, (word_append (codes "Mask=") (sixteen_digits pair.1) (lit≤ tt, refl, refl) mask.1 mask.2, tt))))
+      let mask = value_word pair.1 in (
+        (lit≤ tt, refl, refl),
+        (
+          number_word n few (codes "]:") refl refl,
+          (word_append (codes "Base=") (sixteen_digits pair.0) (lit≤ tt, refl, refl) base.1 base.2, (word_append (codes "Mask=") (sixteen_digits pair.1) (lit≤ tt, refl, refl) mask.1 mask.2, tt)),
+        ),
+      )
 
   pair_size : size_of ((0, codes "Variable") ∷ pair_others) ≤ 100
   pair_size = rw (long pair.0, long pair.1) (lit≤ tt)

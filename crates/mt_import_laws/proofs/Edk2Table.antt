@@ -1,13 +1,12 @@
 -- What EDK2 prints reads back.
-use Rattle.std.proofs.Common.{◌≡◌, ◌∙◌, ◌+◌, ◌-◌, ◌*◌, ◌/◌, ◌^◌, ◌<◌, ◌≤◌, ◌==◌, ◌&&◌, nat_lt, ℕ, zero, suc, Bool, true, false, List, [], ◌∷◌, ◌++◌, length, map, replicate, slice_index, Option, Some, None, refl, sym, ap, subst, arith, inl, inr, lit<, lit≤}
+use Rattle.std.proofs.Common.{◌≡◌, ◌∙◌, ◌+◌, ◌*◌, ◌^◌, ◌<◌, ◌≤◌, ◌==◌, ℕ, zero, suc, Bool, true, false, List, [], ◌∷◌, ◌++◌, length, map, replicate, slice_index, Some, None, refl, sym, ap, subst, arith, inl, inr, lit<}
 use Rattle.std.specs.Prelude.{◌⊎◌, if◌then◌else◌}
 use Rattle.std.specs.List.{AllByRecursion, list_all}
 use Rattle.std.proofs.lemmas.Bool.Decides.{nat_tests}
 use Rattle.mt_text.proofs.Plain.{is_plain}
-use Rattle.mt_regs.specs.declared.registers.Register.{Register}
 use Rattle.mt_regs.specs.declared.registers.Register.TheVariants.{PhysBase, PhysMask, FixedRange, Pat, DefaultType}
 use Rattle.mt_regs.specs.RegisterFile.{RegisterFile, has_fixed, pair_at}
-use Rattle.mt_regs.specs.Registers.{IsWithin, fixed_registers, value_at}
+use Rattle.mt_regs.specs.Registers.{fixed_registers}
 use Rattle.mt_import.specs.declared.format.Choice.TheVariants.{Only}
 use Rattle.mt_import.specs.declared.format.Format.TheVariants.{Edk2}
 use Rattle.mt_import.specs.declared.reading.Said.TheVariants.{Shows}
@@ -17,7 +16,7 @@ use Rattle.mt_import.specs.Shown.{said_of}
 use Rattle.mt_import.specs.declared.shape.Slot.{Slot}
 use Rattle.mt_import.specs.Slot.{blank_slot}
 use Rattle.mt_import.specs.Supplied.{Supplied, supplied_value}
-use Rattle.mt_import.specs.Values.{assumed_width, base_of, is_pair_number, or_supplied, width_by}
+use Rattle.mt_import.specs.Values.{base_of, is_pair_number}
 use Rattle.mt_import.specs.Outcome.{Seen, slot_shown, values_of}
 use Rattle.mt_import.specs.Import.{log_told}
 use Rattle.mt_import_laws.specs.Origins.{IsAmong}
@@ -30,7 +29,7 @@ use Rattle.mt_import_laws.proofs.KeyLines.{ShowsAlone, fits, has_line, lines_tru
 use Rattle.mt_import_laws.proofs.Keys.{IsKey, value_at_key}
 use Rattle.mt_import_laws.proofs.PrintedBack.{HasLine, IsGiven, IsInFile, holds_itself, key_in_file, reads_back}
 use Rattle.mt_import_laws.proofs.TableLines.{IsTrueSaid, all_join}
-use Rattle.mt_import_laws.proofs.Whole.{IsSeen, IsWidth, blank, known}
+use Rattle.mt_import_laws.proofs.Whole.{IsSeen, blank, known}
 use Rattle.mt_import_laws.proofs.Zeros.{IsUnshown, zero_given}
 
 -- ---- which registers are printed
@@ -87,9 +86,31 @@ or_none_has (first ∷ lines) line among = among
 -- ---- the fixed-range registers
 
 all_eleven : AllByRecursion (λ register. (place : ℕ) × (place < 11) × (register ≡ FixedRange place)) fixed_registers
-all_eleven =
-    ((0, lit< tt, refl), ((1, lit< tt, refl), ((2, lit< tt, refl), ((3, lit< tt, refl), ((4, lit< tt, refl), ((5, lit< tt, refl), ((6, lit< tt, refl), ((7, lit< tt, refl),
-    ((8, lit< tt, refl), ((9, lit< tt, refl), ((10, lit< tt, refl), tt)))))))))))
+all_eleven = (
+  (0, lit< tt, refl),
+  (
+    (1, lit< tt, refl),
+    (
+      (2, lit< tt, refl),
+      (
+        (3, lit< tt, refl),
+        (
+          (4, lit< tt, refl),
+          (
+            (5, lit< tt, refl),
+            (
+              (6, lit< tt, refl),
+              (
+                (7, lit< tt, refl),
+                ((8, lit< tt, refl), ((9, lit< tt, refl), ((10, lit< tt, refl), tt))),
+              ),
+            ),
+          ),
+        ),
+      ),
+    ),
+  ),
+)
 
 eleven : (place : ℕ) → place < 11 → IsAmong (FixedRange place) fixed_registers
 eleven zero few = inl refl
@@ -198,11 +219,16 @@ module _ (file : RegisterFile) (supplied : Supplied) (suits : SuitsEdk2 file sup
   pair_true : (n : ℕ) → IsPrintedPair n → (number : ℕ) → IsTrueSaid file prints (said_of Edk2 number (pair_of n))
   pair_true n is number =
       let within = is.within in
-      rw (said_pair n within number)
-      (refl,
-      (record { key = Some (PhysBase n); is_key = key_in_file file (Some (PhysBase n)) suits.is_file within; is_printed = is.valid; number = refl; bits = refl; value = refl },
-      (record { key = Some (PhysMask n); is_key = key_in_file file (Some (PhysMask n)) suits.is_file within; is_printed = is.valid; number = refl; bits = refl; value = refl },
-      (tt, (tt, (tt, (tt, (tt, (tt, (tt, (tt, (tt, tt))))))))))))
+      rw (said_pair n within number) (
+        refl,
+        (
+          record { key = Some (PhysBase n); is_key = key_in_file file (Some (PhysBase n)) suits.is_file within; is_printed = is.valid; number = refl; bits = refl; value = refl },
+          (
+            record { key = Some (PhysMask n); is_key = key_in_file file (Some (PhysMask n)) suits.is_file within; is_printed = is.valid; number = refl; bits = refl; value = refl },
+            (tt, (tt, (tt, (tt, (tt, (tt, (tt, (tt, (tt, tt))))))))),
+          ),
+        ),
+      )
 
   pair_among : (n : ℕ) → IsPrintedPair n → IsAmong (pair_of n) (edk2_lines file)
   pair_among n is =
@@ -313,9 +339,14 @@ module _ (file : RegisterFile) (supplied : Supplied) (suits : SuitsEdk2 file sup
   pairs_plain = all_map IsPlainLine pair_of (valid_from 0 file.pairs) (λ n among. pair_plain n (pair_at file.pairs n) (few_pairs n (printed_pair n among).within))
 
   table_plain : AllByRecursion IsPlainLine (edk2_lines file)
-  table_plain =
-      (refl, (refl, all_join IsPlainLine (map (own_line file) keys) (or_none (pair_lines file))
-      (all_map IsPlainLine (own_line file) keys (λ key among. (own key among).plain)) (or_none_all IsPlainLine (pair_lines file) pairs_plain refl)))
+  table_plain = (
+    refl,
+    (
+      refl,
+      all_join IsPlainLine (map (own_line file) keys) (or_none (pair_lines file))
+          (all_map IsPlainLine (own_line file) keys (λ key among. (own key among).plain)) (or_none_all IsPlainLine (pair_lines file) pairs_plain refl),
+    ),
+  )
 
   pub among_lines : (text : List ℕ) → HoldsTable Edk2 file (edk2_lines file) text → ReadsBack (log_told (Only Edk2) supplied text) file
   among_lines text holds =

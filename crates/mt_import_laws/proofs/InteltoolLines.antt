@@ -1,6 +1,5 @@
 -- What a line of inteltool is read as.
-use Rattle.std.proofs.Common.{◌≡◌, ◌∙◌, ◌+◌, ◌*◌, ◌/◌, ◌%◌, ◌^◌, ◌<◌, ◌≤◌, ◌==◌, ◌&&◌, not, nat_lt, ℕ, suc, Bool, true, false, List, [], ◌∷◌, ◌++◌, length, take, drop, position, Option, Some, None, Ok, refl, sym, ap, arith, lit≤, length-append, codes, replicate}
-use Rattle.std.specs.Prelude.{if◌then◌else◌}
+use Rattle.std.proofs.Common.{◌≡◌, ◌∙◌, ◌+◌, ◌*◌, ◌/◌, ◌%◌, ◌^◌, ◌<◌, ◌≤◌, nat_lt, ℕ, suc, true, false, List, [], ◌∷◌, ◌++◌, length, take, drop, position, Some, None, refl, ap, arith, lit≤, length-append, codes}
 use Rattle.std.specs.List.{list_all, position_or_len}
 use Rattle.std.proofs.lemmas.Bool.{and_parts}
 use Rattle.std.proofs.lemmas.Bool.Decides.{nat_tests}
@@ -10,7 +9,6 @@ use Rattle.hex.proofs.HexLemmas.{IsDigits-upper_digits}
 use Rattle.mt_text.specs.Text.{words_of}
 use Rattle.mt_text.specs.Words.{place_of}
 use Rattle.mt_text.specs.declared.place.Place.{Place}
-use Rattle.mt_text.specs.Number.{hex_number}
 use Rattle.mt_text.proofs.Plain.{is_plain}
 use Rattle.mt_import.specs.declared.format.Format.TheVariants.{Inteltool}
 use Rattle.mt_import.specs.Inteltool.{halves_at, halves_value, inteltool_said, is_colon, of_halves, said_by_words}
@@ -114,11 +112,16 @@ module _ (register value : ℕ) (name : List ℕ) (few : length name ≤ 64) (na
       let high = digits_word (value / 0x100000000) in
       let low = digits_word (value % 0x100000000) in
       let last = word_append (codes ":0x") (eight_digits (value % 0x100000000)) (lit≤ tt, refl, refl) low.1 low.2 in
-      let both = word_append (eight_digits (value / 0x100000000)) (codes ":0x" ++ eight_digits (value % 0x100000000)) high last.1 last.2 in
-      ((lit≤ tt, refl, refl),
-      (word_append (codes "0x") (eight_digits register) (lit≤ tt, refl, refl) number.1 number.2,
-      ((lit≤ tt, refl, refl),
-      (word_append (codes "0x") (eight_digits (value / 0x100000000) ++ (codes ":0x" ++ eight_digits (value % 0x100000000))) (lit≤ tt, refl, refl) both.1 both.2, tt))))
+      let both = word_append (eight_digits (value / 0x100000000)) (codes ":0x" ++ eight_digits (value % 0x100000000)) high last.1 last.2 in (
+        (lit≤ tt, refl, refl),
+        (
+          word_append (codes "0x") (eight_digits register) (lit≤ tt, refl, refl) number.1 number.2,
+          (
+            (lit≤ tt, refl, refl),
+            (word_append (codes "0x") (eight_digits (value / 0x100000000) ++ (codes ":0x" ++ eight_digits (value % 0x100000000))) (lit≤ tt, refl, refl) both.1 both.2, tt),
+          ),
+        ),
+      )
 
   plain_rest : list_all is_plain rest ≡ true
   plain_rest = all_append is_plain (codes " (") (name ++ codes ")") refl (all_append is_plain name (codes ")") (name_plain name named) refl)

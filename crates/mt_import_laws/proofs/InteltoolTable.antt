@@ -1,6 +1,5 @@
 -- What inteltool prints reads back.
-use Rattle.std.proofs.Common.{◌≡◌, ℕ, Bool, true, List, ◌∷◌, None, refl, subst, inl, inr}
-use Rattle.std.specs.Prelude.{◌⊎◌}
+use Rattle.std.proofs.Common.{◌≡◌, ℕ, Bool, true, List, None, refl, subst, inl, inr}
 use Rattle.std.specs.List.{AllByRecursion, list_all}
 use Rattle.mt_text.proofs.Plain.{is_plain}
 use Rattle.mt_regs.specs.RegisterFile.{RegisterFile}
@@ -52,9 +51,14 @@ module _ (names : Names) (file : RegisterFile) (supplied : Supplied) (suits : Su
       record { line = has.line; among = inr (inr has.among); shows = has.shows }
 
   table_plain : AllByRecursion (λ line. list_all is_plain line ≡ true) (inteltool_lines names file)
-  table_plain =
-      (refl, (refl, all_map (λ line. list_all is_plain line ≡ true) (line_of names file) (all_keys file) (λ key among.
-      line_plain (number_at key) (value_in file key) (names key) (suits.are_names key).0 (suits.are_names key).1)))
+  table_plain = (
+    refl,
+    (
+      refl,
+      all_map (λ line. list_all is_plain line ≡ true) (line_of names file) (all_keys file) (λ key among.
+          line_plain (number_at key) (value_in file key) (names key) (suits.are_names key).0 (suits.are_names key).1),
+    ),
+  )
 
 pub among_lines : (names : Names) (file : RegisterFile) (supplied : Supplied) (text : List ℕ) → SuitsInteltool names file supplied → HoldsTable Inteltool file (inteltool_lines names file) text
     → ReadsBack (log_told (Only Inteltool) supplied text) file

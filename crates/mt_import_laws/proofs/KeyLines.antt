@@ -1,22 +1,19 @@
 -- Tables with a line for each of some registers.
-use Rattle.std.proofs.Common.{◌≡◌, ◌^◌, ◌<◌, ℕ, Bool, true, List, [], ◌∷◌, map, replicate, Option, Some, None, refl, sym, subst, inl, inr, arith, lit<, unwrap_or}
-use Rattle.std.specs.List.{AllByRecursion}
+use Rattle.std.proofs.Common.{◌≡◌, ◌^◌, ◌<◌, ℕ, Bool, true, List, ◌∷◌, map, replicate, Option, Some, None, refl, sym, subst, inl, inr, arith, lit<, unwrap_or}
 use Rattle.mt_text.specs.declared.place.Place.{Place}
-use Rattle.mt_regs.specs.declared.registers.Register.{Register}
 use Rattle.mt_regs.specs.RegisterFile.{IsRegisterFile, RegisterFile}
 use Rattle.mt_regs.specs.Registers.{IsWithin, number_of, value_of, writable}
 use Rattle.mt_regs.specs.Words.{HasWords}
 use Rattle.mt_regs.proofs.ByNumber.{place_in_writable, value_at-number_of}
 use Rattle.mt_import.specs.declared.format.Format.{Format}
 use Rattle.mt_import.specs.declared.reading.Said.TheVariants.{Shows}
-use Rattle.mt_import.specs.declared.shape.Shown.{Shown}
 use Rattle.mt_import.specs.Shown.{said_of}
 use Rattle.mt_import.specs.Slot.{all_bits}
 use Rattle.mt_import_laws.specs.Origins.{IsAmong}
 use Rattle.mt_import_laws.specs.Printed.{Key, number_at, value_in}
 use Rattle.mt_import_laws.proofs.Among.{among_at, among_map, each_among, map_among}
 use Rattle.mt_import_laws.proofs.Keys.{IsKey, all_within, range_of}
-use Rattle.mt_import_laws.proofs.PrintedBack.{HasLine, IsInFile, key_in_file}
+use Rattle.mt_import_laws.proofs.PrintedBack.{HasLine, IsInFile}
 use Rattle.mt_import_laws.proofs.TableLines.{IsTrueSaid}
 
 -- ---- the registers of a file

@@ -1,11 +1,11 @@
 -- The registers of a dump, each by its number.
-use Rattle.std.proofs.Common.{◌≡◌, ◌∙◌, ◌<◌, ◌≤◌, ◌+◌, ◌*◌, ◌==◌, ◌&&◌, ◌^◌, nat_lt, ℕ, Bool, true, false, List, [], ◌∷◌, Option, Some, None, refl, sym, ap, arith, lit≤, is_some}
+use Rattle.std.proofs.Common.{◌≡◌, ◌∙◌, ◌<◌, ◌≤◌, ◌==◌, nat_lt, ℕ, true, false, List, [], ◌∷◌, Option, Some, None, refl, sym, ap, arith, lit≤}
 use Rattle.std.specs.List.{AllByRecursion}
 use Rattle.std.specs.Option.{option_map}
 use Rattle.std.proofs.lemmas.Bool.Decides.{nat_tests}
 use Rattle.mt_regs.specs.declared.registers.Register.{Register}
 use Rattle.mt_regs.specs.declared.registers.Register.TheVariants.{PhysBase, PhysMask, FixedRange, Pat, DefaultType}
-use Rattle.mt_regs.specs.RegisterFile.{IsRegisterFile, RegisterFile, blank_file, has_fixed}
+use Rattle.mt_regs.specs.RegisterFile.{IsRegisterFile, RegisterFile, blank_file}
 use Rattle.mt_regs.specs.Registers.{IsWithin, number_of, register_of, value_at, value_of, writable}
 use Rattle.mt_regs.proofs.ByNumber.{register_of-number, register_of-number_of, register_of-range, register_of-within, writable_found}
 use Rattle.mt_import.specs.Readings.{all_registers, is_register}

@@ -1,13 +1,12 @@
 -- A table whose lines are read as registers of a file gives the file back.
-use Rattle.std.proofs.Common.{◌≡◌, ◌∙◌, ℕ, Bool, true, false, List, [], ◌∷◌, ◌++◌, Option, Some, None, refl, sym, ap, subst, inl, inr}
+use Rattle.std.proofs.Common.{◌≡◌, ◌∙◌, ℕ, Bool, true, false, List, [], ◌∷◌, Some, None, refl, sym, ap, subst, inl, inr}
 use Rattle.std.specs.Prelude.{◌⊎◌}
 use Rattle.std.specs.List.{AllByRecursion, list_all}
 use Rattle.mt_text.specs.Text.{lines_of}
 use Rattle.mt_text.specs.declared.place.Place.{Place}
 use Rattle.mt_text.proofs.Plain.{is_plain, lines_of-line}
-use Rattle.mt_regs.specs.declared.registers.Register.{Register}
 use Rattle.mt_regs.specs.RegisterFile.{IsRegisterFile, RegisterFile}
-use Rattle.mt_regs.specs.Registers.{IsWithin, number_of, value_of}
+use Rattle.mt_regs.specs.Registers.{IsWithin}
 use Rattle.mt_regs.specs.Words.{HasWords}
 use Rattle.mt_dump.specs.Canon.{ended}
 use Rattle.mt_import.specs.declared.format.Choice.TheVariants.{Only}

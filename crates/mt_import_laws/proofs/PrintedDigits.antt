@@ -1,11 +1,11 @@
 -- Numbers as programs print them, and what they are read as.
-use Rattle.std.proofs.Common.{◌≡◌, ◌∙◌, ◌+◌, ◌*◌, ◌/◌, ◌%◌, ◌^◌, ◌<◌, ◌≤◌, ◌==◌, ◌&&◌, not, nat_lt, ℕ, zero, suc, Bool, true, false, List, [], ◌∷◌, length, slice_index, Some, Ok, refl, sym, ap, arith, fold}
+use Rattle.std.proofs.Common.{◌≡◌, ◌∙◌, ◌/◌, ◌%◌, ◌^◌, ◌<◌, ◌≤◌, ◌==◌, nat_lt, ℕ, zero, suc, true, false, List, [], ◌∷◌, length, Ok, refl, sym, ap, arith, fold}
 use Rattle.std.specs.List.{list_all}
 use Rattle.std.specs.Int.{from_be_bytes, to_be_bytes, w32, w64}
 use Rattle.std.proofs.lemmas.Bool.Decides.{nat_tests}
 use Rattle.std.proofs.lemmas.Nat.{from_be_bytes-to_be_bytes_4, from_be_bytes-to_be_bytes_8}
-use Rattle.hex.proofs.HexLemmas.{IsDigits, IsDigits-lower_digits, IsDigits-upper_digits, decode_pairs-encode_with, length-encode_with}
-use Rattle.hex.specs.Hex.{IsBytes, encode_with, hex_digit_value, is_hex_digit, lower_digits, upper_digits}
+use Rattle.hex.proofs.HexLemmas.{IsDigits, decode_pairs-encode_with, length-encode_with}
+use Rattle.hex.specs.Hex.{IsBytes, encode_with, is_hex_digit}
 use Rattle.mt_text.specs.Number.{hex_number, hex_number_of_digits, hex_value}
 use Rattle.mt_text.proofs.Digits.{byte_step, from_be_bytes-fold, pairs_value}
 use Rattle.mt_text.proofs.Plain.{hex_number-digits}

@@ -1,23 +1,20 @@
 -- What a call of rdmsr and its value are read as.
-use Rattle.std.proofs.Common.{◌≡◌, ◌∙◌, ◌+◌, ◌^◌, ◌<◌, ◌≤◌, ◌==◌, ◌&&◌, ◌||◌, nat_eq, nat_lt, ℕ, Bool, true, false, List, [], ◌∷◌, ◌++◌, length, Option, Some, None, refl, sym, ap, arith, lit≤, append-nil, codes}
-use Rattle.std.specs.Prelude.{if◌then◌else◌}
+use Rattle.std.proofs.Common.{◌≡◌, ◌∙◌, ◌^◌, ◌<◌, ◌≤◌, nat_eq, nat_lt, ℕ, true, false, List, [], ◌∷◌, ◌++◌, length, Some, refl, sym, ap, arith, lit≤, append-nil, codes}
 use Rattle.std.specs.List.{list_all}
 use Rattle.std.proofs.lemmas.Bool.{and_parts}
 use Rattle.std.proofs.lemmas.Bool.Decides.{nat_tests}
 use Rattle.hex.specs.Hex.{is_hex_digit}
 use Rattle.mt_text.specs.Text.{words_of}
 use Rattle.mt_text.specs.Words.{place_of}
-use Rattle.mt_text.specs.Number.{hex_number}
 use Rattle.mt_text.specs.declared.place.Place.{Place}
 use Rattle.mt_text.proofs.Plain.{digits_plain, is_plain}
 use Rattle.mt_import.specs.declared.format.Format.TheVariants.{Rdmsr}
 use Rattle.mt_import.specs.declared.reading.Said.TheVariants.{Announces, Value}
-use Rattle.mt_import.specs.Pieces.{is_text}
 use Rattle.mt_import.specs.Rdmsr.{announced, is_traced, rdmsr_said, register_named, said_by_words, said_value}
 use Rattle.mt_import.specs.Shown.{said_of, said_or_sizes}
 use Rattle.mt_import_laws.specs.PrintedByRdmsr.{call_line, hex_text}
 use Rattle.mt_import_laws.proofs.HexDigits.{hex_alone, hex_digits, hex_prefixed, hex_short, hex_some}
-use Rattle.mt_import_laws.proofs.LineWords.{AreWords, IsWord, digits_are_word, length_of_pieces, line_with, pieces_plain, placed, size_of, word_append, words_of_pieces}
+use Rattle.mt_import_laws.proofs.LineWords.{AreWords, IsWord, digits_are_word, length_of_pieces, line_with, pieces_plain, placed, word_append, words_of_pieces}
 
 hex_word : (value : ℕ) → IsWord (hex_text value)
 hex_word value = digits_are_word (hex_text value) (hex_some value) (hex_digits value)

@@ -1,8 +1,6 @@
 -- What a shell prints that calls rdmsr for each register reads back.
-use Rattle.std.proofs.Common.{◌≡◌, ◌∙◌, ◌+◌, ◌^◌, ◌<◌, ℕ, Bool, true, false, List, [], ◌∷◌, ◌++◌, Option, Some, None, refl, sym, ap, subst, inl, inr}
-use Rattle.std.specs.Prelude.{◌⊎◌}
+use Rattle.std.proofs.Common.{◌≡◌, ◌+◌, ◌^◌, ◌<◌, ℕ, Bool, true, false, List, [], ◌∷◌, ◌++◌, Some, refl, sym, ap, subst, inl, inr}
 use Rattle.std.specs.List.{AllByRecursion, list_all}
-use Rattle.mt_text.specs.Text.{lines_of}
 use Rattle.mt_text.specs.declared.place.Place.{Place}
 use Rattle.mt_text.proofs.Plain.{is_plain}
 use Rattle.mt_regs.specs.RegisterFile.{IsRegisterFile, RegisterFile}
@@ -12,7 +10,7 @@ use Rattle.mt_import.specs.declared.format.Format.TheVariants.{Rdmsr}
 use Rattle.mt_import.specs.declared.reading.Context.{Context}
 use Rattle.mt_import.specs.declared.shape.Announced.{Announced}
 use Rattle.mt_import.specs.Pieces.{shown_as}
-use Rattle.mt_import.specs.Readings.{Fact, is_line, is_register_value, shown_facts, starts}
+use Rattle.mt_import.specs.Readings.{Fact, is_line, shown_facts, starts}
 use Rattle.mt_import.specs.Shown.{context_behind, facts_from, facts_of_line, shown}
 use Rattle.mt_import.specs.Slot.{all_bits}
 use Rattle.mt_import.specs.Supplied.{Supplied}
@@ -23,7 +21,7 @@ use Rattle.mt_import_laws.specs.PrintedByRdmsr.{SuitsRdmsr, call_line, calls, he
 use Rattle.mt_import_laws.proofs.Among.{join_among_first, join_among_second}
 use Rattle.mt_import_laws.proofs.KeyLines.{all_keys, among_all, fits, in_file, low}
 use Rattle.mt_import_laws.proofs.Keys.{IsKey, is_register_key}
-use Rattle.mt_import_laws.proofs.PrintedBack.{IsGiven, IsInFile, facts_back, key_in_file, lines_back}
+use Rattle.mt_import_laws.proofs.PrintedBack.{IsInFile, facts_back, key_in_file, lines_back}
 use Rattle.mt_import_laws.proofs.RdmsrLines.{call_plain, call_said, value_place, value_plain, value_said}
 use Rattle.mt_import_laws.proofs.TableLines.{HasReading, all_join, shown_true}
 use Rattle.mt_import_laws.proofs.Whole.{IsSound}
@@ -79,11 +77,14 @@ module _ (file : RegisterFile) (is_file : IsRegisterFile file) (words : HasWords
       × AllByRecursion (IsSound file all_read) (facts_of_line (context_behind context number (call_line (number_at key))) (number + 1) (hex_text (value_in file key)))
   block_sound key within context number is =
       let small = small_key key within in
-      let whole = fits file key is_file words within in
-      (subst (AllByRecursion (IsSound file all_read)) (sym (call_facts (number_at key) (value_in file key) small whole context number is)) (tt, tt),
-      subst (AllByRecursion (IsSound file all_read)) (sym (value_facts (number_at key) (value_in file key) small whole context number is))
-      (tt, shown_true file all_read 0 _ (shown_as (number_at key) (value_in file key) (value_place (value_in file key) whole (number + 1))) refl
-      (record { key = key; is_key = key_in_file file key is_file within; is_printed = refl; number = refl; bits = refl; value = refl })))
+      let whole = fits file key is_file words within in (
+        subst (AllByRecursion (IsSound file all_read)) (sym (call_facts (number_at key) (value_in file key) small whole context number is)) (tt, tt),
+        subst (AllByRecursion (IsSound file all_read)) (sym (value_facts (number_at key) (value_in file key) small whole context number is)) (
+          tt,
+          shown_true file all_read 0 _ (shown_as (number_at key) (value_in file key) (value_place (value_in file key) whole (number + 1))) refl
+              (record { key = key; is_key = key_in_file file key is_file within; is_printed = refl; number = refl; bits = refl; value = refl }),
+        ),
+      )
 
   calls_sound : (keys : List Key) → ((key : Key) → IsAmong key keys → IsInFile file key) → (context : Context) (number : ℕ) → context.format ≡ Some Rdmsr
       → AllByRecursion (IsSound file all_read) (facts_from context number (calls file keys))
@@ -94,7 +95,7 @@ module _ (file : RegisterFile) (is_file : IsRegisterFile file) (words : HasWords
       let next : Context = context_behind context number (call_line (number_at key)) in
       let last : Context = behind key within context number in
       let later = calls_sound keys (λ k among. inside k (inr among)) last (number + 1 + 1)
-          (last_format (number_at key) (value_in file key) (small_key key within) (fits file key is_file words within) context number is) in
+      (last_format (number_at key) (value_in file key) (small_key key within) (fits file key is_file words within) context number is) in
       all_join (IsSound file all_read) (facts_of_line context number (call_line (number_at key)))
       (facts_of_line next (number + 1) (hex_text (value_in file key)) ++ facts_from last (number + 1 + 1) (calls file keys)) block.0
       (all_join (IsSound file all_read) (facts_of_line next (number + 1) (hex_text (value_in file key))) (facts_from last (number + 1 + 1) (calls file keys)) block.1 later)
@@ -120,8 +121,8 @@ module _ (file : RegisterFile) (is_file : IsRegisterFile file) (words : HasWords
       elim among [
         | inl same ↦
             let facts : HasReading first (facts_of_line next (number + 1) (hex_text (value_in file first))) =
-                subst (HasReading first) (sym (value_facts (number_at first) (value_in file first) small whole context number is))
-                (widen _ _ first (shown_here first (key_in_file file first is_file within) next.table (value_place (value_in file first) whole (number + 1)))) in
+            subst (HasReading first) (sym (value_facts (number_at first) (value_in file first) small whole context number is))
+            (widen _ _ first (shown_here first (key_in_file file first is_file within) next.table (value_place (value_in file first) whole (number + 1)))) in
             subst (λ k. HasReading k (facts_from context number (calls file (first ∷ keys)))) same
             (record {
               reading = facts.reading;
@@ -138,6 +139,7 @@ module _ (file : RegisterFile) (is_file : IsRegisterFile file) (words : HasWords
               number = has.number;
             }
       ]
+
   calls_plain : (keys : List Key) → ((key : Key) → IsAmong key keys → IsInFile file key) → AllByRecursion (λ line. list_all is_plain line ≡ true) (calls file keys)
   calls_plain [] inside = tt
   calls_plain (key ∷ keys) inside =

@@ -1,5 +1,5 @@
 -- Logs each of whose lines tells of one file, or says nothing: the readings that they come to.
-use Rattle.std.proofs.Common.{◌≡◌, ◌∙◌, ◌+◌, ◌==◌, ℕ, Bool, true, false, List, [], ◌∷◌, ◌++◌, Option, Some, None, refl, sym, ap, subst, inl, inr, unwrap_or}
+use Rattle.std.proofs.Common.{◌≡◌, ◌+◌, ℕ, Bool, true, false, List, [], ◌∷◌, ◌++◌, Option, Some, None, refl, sym, subst, inl, inr, unwrap_or}
 use Rattle.std.specs.Prelude.{◌⊎◌, ⊤, if◌then◌else◌}
 use Rattle.std.specs.List.{AllByRecursion}
 use Rattle.mt_regs.specs.RegisterFile.{RegisterFile}
@@ -9,16 +9,15 @@ use Rattle.mt_import.specs.declared.reading.Said.{Said}
 use Rattle.mt_import.specs.declared.reading.Said.TheVariants.{Nothing, Announces, Value, Turns, Shows, Begins, FixedRanges, VariableRanges, Width, Warns, Long}
 use Rattle.mt_import.specs.declared.shape.Reading.{Reading}
 use Rattle.mt_import.specs.declared.shape.Shown.{Shown}
-use Rattle.mt_import.specs.Readings.{Fact, context_after, is_fault, is_line, is_match, is_register, is_register_value, is_warning, is_width, line_facts, processor_after, reading_facts, said_facts, shown_facts, shows_facts}
+use Rattle.mt_import.specs.Readings.{Fact, is_fault, is_line, is_match, is_register, is_register_value, is_warning, is_width, processor_after, reading_facts, said_facts, shown_facts, shows_facts}
 use Rattle.mt_import.specs.Shown.{context_behind, facts_from, facts_of_line, said_of}
 use Rattle.mt_import.specs.Slot.{all_bits}
 use Rattle.mt_import.specs.Outcome.{Seen, seen_after, seen_with}
-use Rattle.mt_import.proofs.Facts.{seen_append}
 use Rattle.mt_import_laws.specs.Origins.{IsAmong}
 use Rattle.mt_import_laws.specs.Printed.{Key, number_at, value_in}
 use Rattle.mt_import_laws.proofs.Among.{join_among_first, join_among_second}
 use Rattle.mt_import_laws.proofs.Keys.{IsKey, is_register_key}
-use Rattle.mt_import_laws.proofs.Whole.{IsSound, IsWhole}
+use Rattle.mt_import_laws.proofs.Whole.{IsSound}
 
 -- ---- facts and readings
 

@@ -1,22 +1,19 @@
 -- Readings that show whole registers of a file: what is known of each register, and that none contradicts another.
-use Rattle.std.proofs.Common.{◌≡◌, ◌∙◌, ◌<◌, ◌≤◌, ◌+◌, ◌==◌, ◌&&◌, ◌^◌, ◌%◌, nat_lt, not, ℕ, Bool, true, false, List, [], ◌∷◌, Option, Some, None, refl, sym, ap, subst, arith, inl, inr, bit_and, bit_or, mod-eq_of_lt}
-use Rattle.std.specs.Prelude.{◌⊎◌, max, if◌then◌else◌, ⊤}
+use Rattle.std.proofs.Common.{◌≡◌, ◌∙◌, ◌<◌, ◌≤◌, ◌==◌, ◌&&◌, ◌^◌, nat_lt, ℕ, Bool, true, false, List, [], ◌∷◌, Option, Some, None, refl, sym, ap, subst, arith, inl, inr, bit_and, bit_or, mod-eq_of_lt}
+use Rattle.std.specs.Prelude.{◌⊎◌, if◌then◌else◌, ⊤}
 use Rattle.std.specs.List.{AllByRecursion}
 use Rattle.std.proofs.lemmas.Bool.{eqb-true}
 use Rattle.std.proofs.lemmas.Bool.Decides.{nat_tests}
 use lib.Bits.{and_mask, and_zero_r, or_self}
 use Rattle.mt_regs.specs.RegisterFile.{IsRegisterFile, RegisterFile, low_byte}
-use Rattle.mt_regs.specs.Registers.{number_of, value_at}
 use Rattle.mt_regs.specs.Words.{HasWords}
 use Rattle.mt_text.specs.declared.place.Place.{Place}
-use Rattle.mt_import.specs.declared.fault.ImportFault.{ImportFault}
-use Rattle.mt_import.specs.declared.fault.Rival.{Rival}
 use Rattle.mt_import.specs.declared.shape.Reading.{Reading}
 use Rattle.mt_import.specs.declared.shape.Slot.{Slot}
 use Rattle.mt_import.specs.Readings.{Fact, is_fault, is_line, is_register_value, is_warning, is_width}
-use Rattle.mt_import.specs.Slot.{all_bits, blank_slot, clashes, fresh_after, slot_with}
+use Rattle.mt_import.specs.Slot.{all_bits, blank_slot, clashes, slot_with}
 use Rattle.mt_import.specs.Supplied.{Supplied, bits_differ, differs, supplied_value}
-use Rattle.mt_import.specs.Outcome.{Seen, capabilities_shown, fact_fault, facts_fault, or_fault, processors, reading_fault, rival, seen_after, seen_with, slot_shown, width_fault}
+use Rattle.mt_import.specs.Outcome.{Seen, capabilities_shown, fact_fault, facts_fault, processors, reading_fault, rival, seen_after, seen_with, slot_shown, width_fault}
 use Rattle.mt_import_laws.specs.Origins.{IsAmong}
 use Rattle.mt_import_laws.specs.Printed.{Agrees, Key, number_at, value_in}
 use Rattle.mt_import_laws.proofs.Keys.{IsKey, same_key, value_at_key}

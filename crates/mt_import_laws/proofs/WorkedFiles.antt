@@ -1,5 +1,5 @@
 -- The premises of an instance.
-use Rattle.std.proofs.Common.{◌≡◌, ◌∙◌, ◌+◌, ◌%◌, ◌^◌, ◌<◌, ◌≤◌, ◌==◌, ◌&&◌, nat_lt, ℕ, zero, suc, Bool, true, false, List, [], ◌∷◌, ◌++◌, length, Option, Some, None, refl, sym, ap, subst, arith, lit≤, lit<, codes}
+use Rattle.std.proofs.Common.{◌≡◌, ◌∙◌, ◌+◌, ◌%◌, ◌^◌, ◌<◌, ◌≤◌, ◌==◌, nat_lt, ℕ, zero, suc, Bool, true, false, List, [], ◌∷◌, ◌++◌, length, Some, None, refl, sym, ap, subst, arith, lit≤, lit<, codes}
 use Rattle.std.specs.Prelude.{if◌then◌else◌, slice_get, slice_index_or}
 use Rattle.std.specs.List.{AllByRecursion, find, list_all}
 use Rattle.std.specs.Option.{option_map}
@@ -10,9 +10,9 @@ use Rattle.mt_regs.specs.declared.registers.Register.TheVariants.{PhysBase, Phys
 use Rattle.mt_regs.specs.RegisterFile.{IsRegisterFile, RegisterFile}
 use Rattle.mt_regs.specs.Registers.{value_at, value_of, writable}
 use Rattle.mt_regs.specs.Words.{HasWords}
-use Rattle.mt_regs.proofs.ByNumber.{HasWordsBelow, all_fit}
+use Rattle.mt_regs.proofs.ByNumber.{all_fit}
 use Rattle.mt_import.specs.Supplied.{value_among}
-use Rattle.mt_import_laws.specs.Printed.{Agrees, Key}
+use Rattle.mt_import_laws.specs.Printed.{Agrees}
 use Rattle.mt_import_laws.specs.PrintedByCoreboot.{AreTails, SuitsCoreboot}
 use Rattle.mt_import_laws.specs.PrintedByEdk2.{HasNoHiddenPair, SuitsEdk2}
 use Rattle.mt_import_laws.specs.PrintedByInteltool.{AreNames, SuitsInteltool, is_name_byte}

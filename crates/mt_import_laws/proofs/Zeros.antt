@@ -1,12 +1,10 @@
 -- Pairs without a line, which words allow to be assumed as 0.
-use Rattle.std.proofs.Common.{◌≡◌, ◌∙◌, ◌+◌, ◌*◌, ◌/◌, ◌<◌, ◌≤◌, ◌==◌, ◌&&◌, nat_lt, ℕ, Bool, true, false, Option, Some, None, refl, sym, ap, subst, arith, lit≤}
-use Rattle.std.specs.Prelude.{if◌then◌else◌}
-use Rattle.std.proofs.lemmas.Bool.Decides.{nat_tests}
+use Rattle.std.proofs.Common.{◌≡◌, ◌∙◌, ◌+◌, ◌==◌, ℕ, Bool, true, false, Option, Some, None, refl, ap}
 use Rattle.mt_import.specs.declared.shape.Slot.{Slot}
 use Rattle.mt_import.specs.declared.supplied.Assumed.{Assumed}
 use Rattle.mt_import.specs.Slot.{blank_slot}
 use Rattle.mt_import.specs.Supplied.{Supplied, supplied_value}
-use Rattle.mt_import.specs.Values.{assumed_value, base_of, disabled_value, firm_value, is_pair_number, mask_of, only_if, or_supplied, width_by}
+use Rattle.mt_import.specs.Values.{assumed_value, base_of, firm_value, is_pair_number, only_if, or_supplied, width_by}
 use Rattle.mt_import.specs.Outcome.{Seen, slot_shown, values_of}
 use Rattle.mt_import.proofs.Same.{value_is}
 

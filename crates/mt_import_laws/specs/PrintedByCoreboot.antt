@@ -1,7 +1,7 @@
 -- What coreboot displays of a processor's MTRRs (coreboot 25.09 and 4.15, src/cpu/x86/mtrr/debug.c, `_display_mtrrs` and what it calls).
 --     coreboot_lines leveled tails file      the lines of the registers of a file
 --     coreboot_text leveled tails file      the text
-use Rattle.std.specs.Prelude.{ℕ, ◌≡◌, ◌≤◌, ◌==◌, ◌&&◌, not, nat_lt, decimal, Bool, true, false, codes, filter, List, [], ◌∷◌, ◌++◌, length, map, slice_index_or, if◌then◌else◌, None, Some}
+use Rattle.std.specs.Prelude.{ℕ, ◌≡◌, ◌≤◌, ◌==◌, ◌&&◌, not, nat_lt, decimal, Bool, true, false, codes, filter, List, [], ◌∷◌, ◌++◌, length, map, slice_index_or, None, Some}
 use Rattle.std.specs.List.{list_all}
 use Rattle.mt_kinds.specs.Bits.{is_bit_set}
 use Rattle.mt_text.specs.Text.{goes_on}

@@ -1,7 +1,7 @@
 -- What inteltool prints of a processor's MTRRs with -M (coreboot 25.09 and 4.15, util/inteltool/cpu.c, `print_intel_msrs`).
 --     inteltool_lines names file      the lines of the registers of a file, behind those of the sections
 --     inteltool_text names file      the text
-use Rattle.std.specs.Prelude.{ℕ, ◌≡◌, ◌≤◌, ◌/◌, ◌%◌, ◌&&◌, nat_lt, Bool, true, codes, List, [], ◌∷◌, ◌++◌, length, map, None, Some}
+use Rattle.std.specs.Prelude.{ℕ, ◌≡◌, ◌≤◌, ◌/◌, ◌%◌, ◌&&◌, nat_lt, Bool, true, codes, List, ◌∷◌, ◌++◌, length, map, None, Some}
 use Rattle.std.specs.List.{list_all}
 use Rattle.std.specs.Int.{to_be_bytes, w32}
 use Rattle.hex.specs.Hex.{encode_upper}
