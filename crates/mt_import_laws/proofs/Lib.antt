@@ -1,7 +1,12 @@
 mod Bits
 mod Fine
 mod Faults
+mod Capabilities
+mod Counts
 mod Shown
-mod Dumps
-mod Alike
 mod Lines
+mod Widths
+mod Dumps
+mod Notes
+mod Alike
+mod Reasons

@@ -1,2 +1,4 @@
 pub mod Origins
+pub mod Notes
+pub mod Worked
 pub mod Alike
