@@ -12,7 +12,7 @@ use Rattle.mt_dump.specs.Dumps.{dump_of}
 use Rattle.mt_import.specs.declared.shape.Tally.{Tally}
 use Rattle.mt_import.specs.Supplied.{Supplied, supplied_value}
 use Rattle.mt_import.specs.Values.{assumed_width, or_supplied, width_by}
-use Rattle.mt_import.specs.Outcome.{Seen, Slots, dump_told, ended, file_of, first_pairs, fixed_of, hint_of, is_empty, is_missing, missing_lines, missing_of, needed, notes_of, processors, refusal, remarks, slot_shown, value_or_zero, values_of}
+use Rattle.mt_import.specs.Outcome.{Seen, Slots, dump_told, ended, file_of, first_pairs, fixed_of, hint_of, is_empty, is_missing, known_of, missing_lines, missing_of, needed, notes_of, processors, refusal, remarks, slot_shown, value_or_zero, values_of}
 use Rattle.mt_import.proofs.Same.{value_is}
 use Rattle.mt_import_laws.specs.Printed.{Key, ReadsBack}
 use Rattle.mt_import_laws.proofs.Keys.{all_within}
@@ -84,30 +84,30 @@ module _ (auto : Bool) (tally : Tally) (values : ℕ → ℕ → Option ℕ) (fi
 
 -- What a file's registers were read as comes out as the file.
 pub ended_back : (auto : Bool) (supplied : Supplied) (seen : Seen) (file : RegisterFile) → IsRegisterFile file → processors seen.readings ≡ 1 → width_by supplied (slot_shown seen.readings) seen.width ≡ Some file.width
-    → values_of supplied (slot_shown seen.readings) seen.width 0 0xfe ≡ Some file.capabilities
-    → ((register : Register) → IsWithin file register → values_of supplied (slot_shown seen.readings) seen.width 0 (number_of register) ≡ Some (value_of file register))
+    → values_of supplied (slot_shown seen.readings) (known_of seen) 0 0xfe ≡ Some file.capabilities
+    → ((register : Register) → IsWithin file register → values_of supplied (slot_shown seen.readings) (known_of seen) 0 (number_of register) ≡ Some (value_of file register))
     → ReadsBack (ended auto supplied seen) file
 ended_back auto supplied seen file is one width capabilities all =
-    let values : ℕ → ℕ → Option ℕ = values_of supplied (slot_shown seen.readings) seen.width in
-    let hints : ℕ → Option ℕ = hint_of supplied (slot_shown seen.readings) seen.width in
+    let values : ℕ → ℕ → Option ℕ = values_of supplied (slot_shown seen.readings) (known_of seen) in
+    let hints : ℕ → Option ℕ = hint_of supplied (slot_shown seen.readings) (known_of seen) in
     let lines : missing_lines hints values (processors seen.readings) (needed (values 0 0xfe)) ≡ [] =
     ap (λ count. missing_lines hints values count (needed (values 0 0xfe))) one ∙ nothing_missing hints values file is capabilities all in
-    let none : missing_of supplied (slot_shown seen.readings) (processors seen.readings) seen.width ≡ [] = rw width lines in
+    let none : missing_of supplied (slot_shown seen.readings) (processors seen.readings) (known_of seen) ≡ [] = rw width lines in
     by_parts auto seen.tally values file (file_back (values 0) file is all)
-    (missing_of supplied (slot_shown seen.readings) (processors seen.readings) seen.width) (notes_of supplied (slot_shown seen.readings) (processors seen.readings) seen.width)
+    (missing_of supplied (slot_shown seen.readings) (processors seen.readings) (known_of seen)) (notes_of supplied (slot_shown seen.readings) (processors seen.readings) (known_of seen))
     (processors seen.readings) (width_by supplied (slot_shown seen.readings) seen.width) (values 0 0xfe) none one width capabilities
 
 -- ---- one value
 
 module _ (supplied : Supplied) (seen : Seen) where
   -- lines show all of the register
-  pub by_lines : (number value : ℕ) → Holds (slot_shown seen.readings 0 number) value → values_of supplied (slot_shown seen.readings) seen.width 0 number ≡ Some value
-  by_lines number value holds = value_is supplied (slot_shown seen.readings) seen.width 0 number ∙ rw (holds.fresh, holds.shows) refl
+  pub by_lines : (number value : ℕ) → Holds (slot_shown seen.readings 0 number) value → values_of supplied (slot_shown seen.readings) (known_of seen) 0 number ≡ Some value
+  by_lines number value holds = value_is supplied (slot_shown seen.readings) (known_of seen) 0 number ∙ rw (holds.fresh, holds.shows) refl
 
   -- a word gives the register, and lines show no other value
-  pub by_word : (number value : ℕ) → IsKnown (slot_shown seen.readings 0 number) value → supplied_value supplied number ≡ Some value → values_of supplied (slot_shown seen.readings) seen.width 0 number ≡ Some value
+  pub by_word : (number value : ℕ) → IsKnown (slot_shown seen.readings 0 number) value → supplied_value supplied number ≡ Some value → values_of supplied (slot_shown seen.readings) (known_of seen) 0 number ≡ Some value
   by_word number value (inr holds) given = by_lines number value holds
-  by_word number value (inl blank) given = value_is supplied (slot_shown seen.readings) seen.width 0 number ∙ rw (blank, given) refl
+  by_word number value (inl blank) given = value_is supplied (slot_shown seen.readings) (known_of seen) 0 number ∙ rw (blank, given) refl
 
 -- ---- the width
 

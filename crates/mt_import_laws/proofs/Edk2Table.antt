@@ -30,7 +30,6 @@ use Rattle.mt_import_laws.proofs.Keys.{IsKey, value_at_key}
 use Rattle.mt_import_laws.proofs.PrintedBack.{HasLine, IsGiven, IsInFile, holds_itself, key_in_file, reads_back}
 use Rattle.mt_import_laws.proofs.TableLines.{IsTrueSaid, all_join}
 use Rattle.mt_import_laws.proofs.Whole.{IsSeen, blank, known}
-use Rattle.mt_import_laws.proofs.Zeros.{IsUnshown, zero_given}
 
 -- ---- which registers are printed
 
@@ -134,9 +133,6 @@ small_zero : (count place : ℕ) → slice_index (replicate count 0) place < 2 ^
 small_zero zero place = lit< tt
 small_zero (suc count) zero = lit< tt
 small_zero (suc count) (suc place) = small_zero count place
-
-pair_number : (number : ℕ) → 0x200 ≤ number → number < 0x240 → (is_pair_number number ≡ true) × ((number == 0x277) ≡ false) × ((number == 0xfe) ≡ false)
-pair_number number low high = (grind (arith, nat_tests, low, high), grind (arith, nat_tests, low, high), grind (arith, nat_tests, low, high))
 
 module _ (file : RegisterFile) (supplied : Supplied) (suits : SuitsEdk2 file supplied) where
   abbrev prints : Key → Bool
@@ -250,50 +246,6 @@ module _ (file : RegisterFile) (supplied : Supplied) (suits : SuitsEdk2 file sup
     shows = λ number. record { processor = Some 0; shows = _; shown = _; said_is = said_pair n is.within number; among = inr (inl refl); number = refl };
   }
 
-  -- ---- what has no line
-
-  module _ (n : ℕ) (within : n < length file.pairs) (hidden : is_valid (pair_at file.pairs n) ≡ false) (seen : Seen) (is_seen : IsSeen file prints seen) where
-    abbrev slots : ℕ → Slot
-    slots = slot_shown seen.readings 0
-
-    base_blank : slots (0x200 + 2 * n) ≡ blank_slot
-    base_blank = blank file prints seen.readings (Some (PhysBase n)) is_seen.readings (key_in_file file (Some (PhysBase n)) suits.is_file within) hidden
-
-    mask_blank : slots (0x201 + 2 * n) ≡ blank_slot
-    mask_blank = blank file prints seen.readings (Some (PhysMask n)) is_seen.readings (key_in_file file (Some (PhysMask n)) suits.is_file within) hidden
-
-    next_blank : slots (0x200 + 2 * n + 1) ≡ blank_slot
-    next_blank = let next : 0x201 + 2 * n ≡ 0x200 + 2 * n + 1 = omega arith in subst (λ m. slots m ≡ blank_slot) next mask_blank
-
-    unshown : (number : ℕ) → 0x200 ≤ number → number < 0x240 → base_of number ≡ 0x200 + 2 * n → slots number ≡ blank_slot → IsUnshown slots number (0x200 + 2 * n)
-    unshown number low high base own_blank =
-        let tests = pair_number number low high in
-        record { is_pair = tests.0; base_is = base; base_blank = base_blank; mask_blank = next_blank; blank = own_blank; not_pat = tests.1; not_first = tests.2 }
-
-    zero_of : (key : Key) → IsKey key → value_in file key ≡ 0 → (value : ℕ) → supplied_value supplied (number_at key) ≡ Some value → value ≡ 0
-    zero_of key is_key is value given = value_at_key file key value suits.is_file is_key (suits.agrees.registers (number_at key) value given) ∙ is
-
-    zeros : pair_at file.pairs n ≡ (0, 0)
-    zeros = suits.hides_nothing n within hidden
-
-    base_zero : values_of supplied (slot_shown seen.readings) seen.width 0 (0x200 + 2 * n) ≡ Some (pair_at file.pairs n).0
-    base_zero =
-        let few = few_pairs n within in
-        let is : (pair_at file.pairs n).0 ≡ 0 = ap (λ p. p.0) zeros in
-        zero_given supplied seen (0x200 + 2 * n) (0x200 + 2 * n) file.width (unshown (0x200 + 2 * n) (omega arith) (omega (arith, few)) (omega arith) base_blank) suits.pairs
-        (width_back file prints supplied (slot_shown seen.readings) seen.width suits.width is_seen.width)
-        (zero_of (Some (PhysBase n)) (key_in_file file (Some (PhysBase n)) suits.is_file within) is)
-        ∙ ap Some (sym is)
-
-    mask_zero : values_of supplied (slot_shown seen.readings) seen.width 0 (0x201 + 2 * n) ≡ Some (pair_at file.pairs n).1
-    mask_zero =
-        let few = few_pairs n within in
-        let is : (pair_at file.pairs n).1 ≡ 0 = ap (λ p. p.1) zeros in
-        zero_given supplied seen (0x201 + 2 * n) (0x200 + 2 * n) file.width (unshown (0x201 + 2 * n) (omega arith) (omega (arith, few)) (omega arith) mask_blank) suits.pairs
-        (width_back file prints supplied (slot_shown seen.readings) seen.width suits.width is_seen.width)
-        (zero_of (Some (PhysMask n)) (key_in_file file (Some (PhysMask n)) suits.is_file within) is)
-        ∙ ap Some (sym is)
-
   -- ---- the table
 
   own_has : (key : Key) → IsAmong key keys → HasLine Edk2 (edk2_lines file) key
@@ -303,11 +255,13 @@ module _ (file : RegisterFile) (supplied : Supplied) (suits : SuitsEdk2 file sup
 
   base_by : (n : ℕ) → n < length file.pairs → (test : Bool) → is_valid (pair_at file.pairs n) ≡ test → HasLine Edk2 (edk2_lines file) (Some (PhysBase n)) ⊎ IsGiven file prints supplied (Some (PhysBase n))
   base_by n within true valid = inl (base_line n (record { within = within; valid = valid }))
-  base_by n within false hidden = inr (λ seen is_seen. base_zero n within hidden seen is_seen)
+  base_by n within false hidden = inr (λ seen is_seen.
+      by_word supplied seen (0x200 + 2 * n) (pair_at file.pairs n).0 (known file prints seen.readings (Some (PhysBase n)) is_seen.readings (key_in_file file (Some (PhysBase n)) suits.is_file within)) (suits.bases n within hidden))
 
   mask_by : (n : ℕ) → n < length file.pairs → (test : Bool) → is_valid (pair_at file.pairs n) ≡ test → HasLine Edk2 (edk2_lines file) (Some (PhysMask n)) ⊎ IsGiven file prints supplied (Some (PhysMask n))
   mask_by n within true valid = inl (mask_line n (record { within = within; valid = valid }))
-  mask_by n within false hidden = inr (λ seen is_seen. mask_zero n within hidden seen is_seen)
+  mask_by n within false hidden = inr (λ seen is_seen.
+      by_word supplied seen (0x201 + 2 * n) (pair_at file.pairs n).1 (known file prints seen.readings (Some (PhysMask n)) is_seen.readings (key_in_file file (Some (PhysMask n)) suits.is_file within)) (suits.masks n within hidden))
 
   each_key : (key : Key) → IsInFile file key → HasLine Edk2 (edk2_lines file) key ⊎ IsGiven file prints supplied key
   each_key None within = inr (λ seen is_seen. by_word supplied seen 0xfe file.capabilities (known file prints seen.readings None is_seen.readings tt) suits.capabilities)

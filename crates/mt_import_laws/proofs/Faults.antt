@@ -18,7 +18,7 @@ fault_of choice supplied text = facts_fault supplied (nothing_seen (format_of ch
 pub fine_of : (choice : Choice) (supplied : Supplied) (text : List ℕ) → fault_of choice supplied text ≡ None → IsFine supplied (readings_of choice text)
 fine_of choice supplied text none = fine_after supplied (shown (format_of choice) text) (nothing_seen (format_of choice)) none tt
 
-faulty : (fault : Option ImportFault) (told : Told) → (fault ≡ None → ⊥) → (unless fault told).status ≡ BadText
+pub faulty : (fault : Option ImportFault) (told : Told) → (fault ≡ None → ⊥) → (unless fault told).status ≡ BadText
 faulty None told not_none = absurd (not_none refl)
 faulty (Some fault) told not_none = refl
 

@@ -16,7 +16,7 @@ use Rattle.mt_import.specs.declared.reading.Said.TheVariants.{Nothing, Width}
 use Rattle.mt_import.specs.Readings.{Fact, starts}
 use Rattle.mt_import.specs.Shown.{said_of, shown}
 use Rattle.mt_import.specs.Supplied.{Supplied}
-use Rattle.mt_import.specs.Outcome.{Seen, nothing_seen, outcome, seen_after, slot_shown, values_of}
+use Rattle.mt_import.specs.Outcome.{Seen, known_of, nothing_seen, outcome, seen_after, slot_shown, values_of}
 use Rattle.mt_import.specs.Import.{log_told}
 use Rattle.mt_import_laws.specs.Origins.{IsAmong}
 use Rattle.mt_import_laws.specs.Printed.{Agrees, HoldsTable, Key, ReadsBack, number_at, value_in}
@@ -42,7 +42,7 @@ key_in_file file (Some register) is within = within_whole file register is withi
 
 -- The value of the register comes without a line of its own.
 abbrev pub IsGiven : RegisterFile → (Key → Bool) → Supplied → Key → Type 0
-IsGiven file prints supplied key = (seen : Seen) → IsSeen file prints seen → values_of supplied (slot_shown seen.readings) seen.width 0 (number_at key) ≡ Some (value_in file key)
+IsGiven file prints supplied key = (seen : Seen) → IsSeen file prints seen → values_of supplied (slot_shown seen.readings) (known_of seen) 0 (number_at key) ≡ Some (value_in file key)
 
 -- The lines of a table tell of a file alone, and show each register that words don't give.
 pub record IsReadAs (file : RegisterFile) (prints : Key → Bool) (format : Format) (table : List (List ℕ)) (supplied : Supplied) : Type 0 where
@@ -61,7 +61,7 @@ module _ (file : RegisterFile) (prints : Key → Bool) (format : Format) (suppli
   unfolding seen
   is_seen = seen_last file prints facts (nothing_seen (Some format)) (record { readings = tt; width = tt }) sound
 
-  value_back : (key : Key) → IsInFile file key → values_of supplied (slot_shown seen.readings) seen.width 0 (number_at key) ≡ Some (value_in file key)
+  value_back : (key : Key) → IsInFile file key → values_of supplied (slot_shown seen.readings) (known_of seen) 0 (number_at key) ≡ Some (value_in file key)
   unfolding seen
   value_back key within = elim (all key within) [
     | inl has ↦

@@ -1,19 +1,25 @@
 -- Readings that show whole registers of a file: what is known of each register, and that none contradicts another.
-use Rattle.std.proofs.Common.{◌≡◌, ◌∙◌, ◌<◌, ◌≤◌, ◌==◌, ◌&&◌, ◌^◌, nat_lt, ℕ, Bool, true, false, List, [], ◌∷◌, Option, Some, None, refl, sym, ap, subst, arith, inl, inr, bit_and, bit_or, mod-eq_of_lt}
+use Rattle.std.proofs.Common.{◌≡◌, ◌∙◌, ◌<◌, ◌≤◌, ◌+◌, ◌-◌, ◌*◌, ◌/◌, ◌%◌, ◌==◌, ◌&&◌, ◌||◌, ◌^◌, nat_lt, length, slice_index, ℕ, zero, suc, Bool, true, false, List, [], ◌∷◌, Option, Some, None, refl, sym, ap, subst, arith, inl, inr, bit_and, bit_or, mod-eq_of_lt}
 use Rattle.std.specs.Prelude.{◌⊎◌, if◌then◌else◌, ⊤}
 use Rattle.std.specs.List.{AllByRecursion}
 use Rattle.std.proofs.lemmas.Bool.{eqb-true}
 use Rattle.std.proofs.lemmas.Bool.Decides.{nat_tests}
 use lib.Bits.{and_mask, and_zero_r, or_self}
-use Rattle.mt_regs.specs.RegisterFile.{IsRegisterFile, RegisterFile, low_byte}
+use Rattle.mt_kinds.specs.Bits.{is_bit_set}
+use Rattle.mt_regs.specs.declared.registers.Register.TheVariants.{PhysBase, PhysMask, FixedRange, Pat, DefaultType}
+use Rattle.mt_regs.specs.RegisterFile.{IsRegisterFile, RegisterFile, low_byte, pair_at}
+use Rattle.mt_regs.specs.Registers.{fixed_numbers}
 use Rattle.mt_regs.specs.Words.{HasWords}
 use Rattle.mt_text.specs.declared.place.Place.{Place}
+use Rattle.mt_import.specs.declared.fault.Rival.{Rival}
+use Rattle.mt_import.specs.declared.fault.Rival.TheVariants.{Line, Word}
 use Rattle.mt_import.specs.declared.shape.Reading.{Reading}
 use Rattle.mt_import.specs.declared.shape.Slot.{Slot}
 use Rattle.mt_import.specs.Readings.{Fact, is_fault, is_line, is_register_value, is_warning, is_width}
 use Rattle.mt_import.specs.Slot.{all_bits, blank_slot, clashes, slot_with}
 use Rattle.mt_import.specs.Supplied.{Supplied, bits_differ, differs, supplied_value}
-use Rattle.mt_import.specs.Outcome.{Seen, capabilities_shown, fact_fault, facts_fault, processors, reading_fault, rival, seen_after, seen_with, slot_shown, width_fault}
+use Rattle.mt_import.specs.Values.{is_pair_number}
+use Rattle.mt_import.specs.Outcome.{Seen, capability_rival, count_rival, counted, counts_fewer, enabled_pair, last_shown, capabilities_shown, fact_fault, facts_fault, processors, reading_fault, rival, seen_after, seen_with, slot_shown, width_fault}
 use Rattle.mt_import_laws.specs.Origins.{IsAmong}
 use Rattle.mt_import_laws.specs.Printed.{Agrees, Key, number_at, value_in}
 use Rattle.mt_import_laws.proofs.Keys.{IsKey, same_key, value_at_key}
@@ -125,6 +131,81 @@ module _ (file : RegisterFile) (prints : Key → Bool) where
   one_processor [] all = refl
   one_processor (reading ∷ before) all = rw (all.0.processor, one_processor before all.1) refl
 
+  -- ---- VCNT counts each pair that a reading shows as enabled
+
+  and_false : (test : Bool) → (test && false) ≡ false
+  and_false true = refl
+  and_false false = refl
+
+  abbrev enabled : ℕ → ℕ → ℕ
+  enabled number value = if is_pair_number number && number % 2 == 1 && is_bit_set value 11 then (number - 0x1ff) / 2 else 0
+
+  fixed_high : (place : ℕ) → place < 11 → nat_lt (slice_index fixed_numbers place) 0x240 ≡ false
+  fixed_high zero few = refl
+  fixed_high (suc zero) few = refl
+  fixed_high (suc (suc zero)) few = refl
+  fixed_high (suc (suc (suc zero))) few = refl
+  fixed_high (suc (suc (suc (suc zero)))) few = refl
+  fixed_high (suc (suc (suc (suc (suc zero))))) few = refl
+  fixed_high (suc (suc (suc (suc (suc (suc zero)))))) few = refl
+  fixed_high (suc (suc (suc (suc (suc (suc (suc zero))))))) few = refl
+  fixed_high (suc (suc (suc (suc (suc (suc (suc (suc zero)))))))) few = refl
+  fixed_high (suc (suc (suc (suc (suc (suc (suc (suc (suc zero))))))))) few = refl
+  fixed_high (suc (suc (suc (suc (suc (suc (suc (suc (suc (suc zero)))))))))) few = refl
+  fixed_high (suc (suc (suc (suc (suc (suc (suc (suc (suc (suc (suc n))))))))))) few = absurd (omega (arith, few))
+
+  even : (n : ℕ) → ((0x200 + 2 * n) % 2 == 1) ≡ false
+  even n = let e : (0x200 + 2 * n) % 2 ≡ 0 = omega arith in rw e refl
+
+  beyond : (pairs : List (ℕ × ℕ)) (n : ℕ) → length pairs ≤ n → pair_at pairs n ≡ (0, 0)
+  beyond [] n past = refl
+  beyond (pair ∷ pairs) zero past = absurd (omega (arith, past))
+  beyond (pair ∷ pairs) (suc n) past = beyond pairs n (omega (arith, past))
+
+  enabled_at : (key : Key) → IsRegisterFile file → IsKey key → enabled (number_at key) (value_in file key) ≤ low_byte file.capabilities
+  enabled_at None is_file is = omega arith
+  enabled_at (Some (PhysBase n)) is_file is = rw (even n, and_false (is_pair_number (0x200 + 2 * n))) (omega arith)
+  enabled_at (Some (PhysMask n)) is_file is = by_length (nat_lt n (length file.pairs)) refl
+    where
+      counted_or_none : (test : Bool) → n < length file.pairs → (if test then (0x201 + 2 * n - 0x1ff) / 2 else 0) ≤ low_byte file.capabilities
+      counted_or_none true within = let all = is_file.all_pairs in omega (arith, within, all)
+      counted_or_none false within = omega arith
+
+      inside : nat_lt n (length file.pairs) ≡ true → n < length file.pairs
+      inside test = grind (arith, nat_tests, test)
+
+      outside : nat_lt n (length file.pairs) ≡ false → length file.pairs ≤ n
+      outside test = grind (arith, nat_tests, test)
+
+      by_length : (test : Bool) → nat_lt n (length file.pairs) ≡ test → enabled (0x201 + 2 * n) (pair_at file.pairs n).1 ≤ low_byte file.capabilities
+      by_length true within = counted_or_none (is_pair_number (0x201 + 2 * n) && (0x201 + 2 * n) % 2 == 1 && is_bit_set (pair_at file.pairs n).1 11) (inside within)
+      by_length false past = rw (beyond file.pairs n (outside past), and_false (is_pair_number (0x201 + 2 * n) && (0x201 + 2 * n) % 2 == 1)) (omega arith)
+  enabled_at (Some (FixedRange place)) is_file is = rw (fixed_high place is.0, and_false (nat_lt 0x1ff (slice_index fixed_numbers place))) (omega arith)
+  enabled_at (Some Pat) is_file is = omega arith
+  enabled_at (Some DefaultType) is_file is = omega arith
+
+  enabled_few : (reading : Reading) → IsRegisterFile file → IsWhole file prints reading → enabled_pair reading ≤ low_byte file.capabilities
+  enabled_few reading is_file whole = rw (whole.number, whole.value) (enabled_at whole.key is_file whole.is_key)
+
+  last_few : (readings : List Reading) → IsRegisterFile file → AllByRecursion (IsWhole file prints) readings → (last_shown readings).count ≤ low_byte file.capabilities
+  last_few [] is_file all = omega arith
+  last_few (reading ∷ before) is_file all = by (nat_lt (last_shown before).count (enabled_pair reading)) (enabled_few reading is_file all.0) (last_few before is_file all.1)
+    where
+      by : (test : Bool) → enabled_pair reading ≤ low_byte file.capabilities → (last_shown before).count ≤ low_byte file.capabilities
+          → (if test then record { count = enabled_pair reading; line = reading.place.line } else last_shown before).count ≤ low_byte file.capabilities
+      by true new old = new
+      by false new old = old
+
+  not_fewer : (count : ℕ) → count ≤ low_byte file.capabilities → counts_fewer (Some file.capabilities) count ≡ false
+  not_fewer count few = within (low_byte file.capabilities) count few
+    where
+      within : (low count : ℕ) → count ≤ low → nat_lt low count ≡ false
+      within low count few = grind (arith, nat_tests, few)
+
+  slot_counts : (slot : Slot) (count : ℕ) → IsKnown slot file.capabilities → count ≤ low_byte file.capabilities → counts_fewer (counted slot) count ≡ false
+  slot_counts slot count (inl is_blank) few = rw is_blank refl
+  slot_counts slot count (inr holds) few = rw (holds.bits, holds.shows) (not_fewer count few)
+
   -- ---- no fault
 
   -- a fact that tells of the file
@@ -166,19 +247,42 @@ module _ (file : RegisterFile) (prints : Key → Bool) where
         let same : word ≡ value_in file key = value_at_key file key word is_file is at in
         rw (whole_word word (words (number_at key) word at), same_number word (value_in file key) same) refl
 
+    word_counts : (given : Option ℕ) (count : ℕ) → supplied_value supplied 0xfe ≡ given → count ≤ low_byte file.capabilities → counts_fewer given count ≡ false
+    word_counts None count is_given few = refl
+    word_counts (Some word) count is_given few =
+        let same : word ≡ file.capabilities = value_at_key file None word is_file tt (agrees.registers 0xfe word is_given) in
+        rw same (not_fewer count few)
+
     no_rival : (before : List Reading) (reading : Reading) → AllByRecursion (IsWhole file prints) before → IsWhole file prints reading → rival supplied before reading ≡ None
     no_rival before reading all whole =
         let key = whole.key in
+        let few = enabled_few reading is_file whole in
         let word : bits_differ (supplied_value supplied reading.number) reading.bits reading.value ≡ false =
         rw (whole.number, whole.bits, whole.value) (same_word key (supplied_value supplied (number_at key)) whole.is_key refl) in
+        let word_too : counts_fewer (supplied_value supplied 0xfe) (enabled_pair reading) ≡ false = word_counts (supplied_value supplied 0xfe) (enabled_pair reading) refl few in
         let line : clashes (slot_shown before reading.processor reading.number) reading ≡ false =
         rw (whole.processor, whole.number) (no_clash (slot_shown before 0 (number_at key)) reading (value_in file key) (known before key all whole.is_key) whole.bits whole.value) in
-        let first : (reading.number == 0xfe && clashes (capabilities_shown before) reading) ≡ false = by (reading.number == 0xfe) refl in
-        rw (word, line, first) refl
+        by_tests (bits_differ (supplied_value supplied reading.number) reading.bits reading.value) (counts_fewer (supplied_value supplied 0xfe) (enabled_pair reading))
+        (clashes (slot_shown before reading.processor reading.number) reading) (slot_shown before reading.processor reading.number).line (count_rival (capabilities_shown before) (last_shown before) reading) word word_too line
+        (by_counts (counts_fewer (counted (capabilities_shown before)) (enabled_pair reading)) (capabilities_shown before).line (reading.number == 0xfe) (slot_counts (capabilities_shown before) (enabled_pair reading) (capabilities_known before all) few) refl)
       where
-        by : (n : Bool) → (reading.number == 0xfe) ≡ n → (n && clashes (capabilities_shown before) reading) ≡ false
-        by true same = no_clash (capabilities_shown before) reading file.capabilities (capabilities_known before all) whole.bits (value_by reading None whole tt (eqb-true reading.number 0xfe same))
-        by false apart = refl
+        by_tests : (word count clash : Bool) (at : ℕ) (others : Option Rival) → word ≡ false → count ≡ false → clash ≡ false → others ≡ None → (if word || count then Some Word else if clash then Some (Line at) else others) ≡ None
+        by_tests word count clash at others one two three none = rw (one, two, three) none
+
+        capability : (reading.number == 0xfe) ≡ true → capability_rival (capabilities_shown before) (last_shown before) reading ≡ None
+        capability same =
+            let value = value_by reading None whole tt (eqb-true reading.number 0xfe same) in
+            let next = one_more (capabilities_shown before) reading file.capabilities (capabilities_known before all) whole.bits value in
+            by_two (clashes (capabilities_shown before) reading) (counts_fewer (counted (slot_with (capabilities_shown before) reading)) (last_shown before).count) (capabilities_shown before).line (last_shown before).line
+            (no_clash (capabilities_shown before) reading file.capabilities (capabilities_known before all) whole.bits value)
+            (slot_counts (slot_with (capabilities_shown before) reading) (last_shown before).count (inr next) (last_few before is_file all))
+          where
+            by_two : (clash count : Bool) (a b : ℕ) → clash ≡ false → count ≡ false → (if clash then Some (Line a) else if count then Some (Line b) else None) ≡ None
+            by_two clash count a b one two = rw (one, two) refl
+
+        by_counts : (fewer : Bool) (at : ℕ) (n : Bool) → fewer ≡ false → (reading.number == 0xfe) ≡ n → (if fewer then Some (Line at) else if n then capability_rival (capabilities_shown before) (last_shown before) reading else None) ≡ None
+        by_counts fewer at true none same = rw none (capability same)
+        by_counts fewer at false none apart = rw none refl
 
     few : (value : ℕ) → value ≡ file.capabilities → nat_lt 32 (low_byte value) ≡ false
     few value is = rw is (small (low_byte file.capabilities) is_file.few_pairs)

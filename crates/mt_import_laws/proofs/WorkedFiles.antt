@@ -1,5 +1,5 @@
 -- The premises of an instance.
-use Rattle.std.proofs.Common.{◌≡◌, ◌∙◌, ◌+◌, ◌%◌, ◌^◌, ◌<◌, ◌≤◌, ◌==◌, nat_lt, ℕ, zero, suc, Bool, true, false, List, [], ◌∷◌, ◌++◌, length, Some, None, refl, sym, ap, subst, arith, lit≤, lit<, codes}
+use Rattle.std.proofs.Common.{◌*◌, ◌≡◌, ◌∙◌, ◌+◌, ◌%◌, ◌^◌, ◌<◌, ◌≤◌, ◌==◌, nat_lt, ℕ, zero, suc, Bool, true, false, List, [], ◌∷◌, ◌++◌, length, Some, None, refl, sym, ap, subst, arith, lit≤, lit<, codes}
 use Rattle.std.specs.Prelude.{if◌then◌else◌, slice_get, slice_index_or}
 use Rattle.std.specs.List.{AllByRecursion, find, list_all}
 use Rattle.std.specs.Option.{option_map}
@@ -7,14 +7,14 @@ use Rattle.std.proofs.lemmas.Bool.{and_parts, eqb-true}
 use Rattle.std.proofs.lemmas.Bool.Decides.{nat_tests}
 use Rattle.mt_regs.specs.declared.registers.Register.{Register}
 use Rattle.mt_regs.specs.declared.registers.Register.TheVariants.{PhysBase, PhysMask, FixedRange, Pat, DefaultType}
-use Rattle.mt_regs.specs.RegisterFile.{IsRegisterFile, RegisterFile}
+use Rattle.mt_regs.specs.RegisterFile.{IsRegisterFile, RegisterFile, pair_at}
 use Rattle.mt_regs.specs.Registers.{value_at, value_of, writable}
 use Rattle.mt_regs.specs.Words.{HasWords}
 use Rattle.mt_regs.proofs.ByNumber.{all_fit}
-use Rattle.mt_import.specs.Supplied.{value_among}
+use Rattle.mt_import.specs.Supplied.{supplied_value, value_among}
 use Rattle.mt_import_laws.specs.Printed.{Agrees}
 use Rattle.mt_import_laws.specs.PrintedByCoreboot.{AreTails, SuitsCoreboot}
-use Rattle.mt_import_laws.specs.PrintedByEdk2.{HasNoHiddenPair, SuitsEdk2}
+use Rattle.mt_import_laws.specs.PrintedByEdk2.{SuitsEdk2, is_valid}
 use Rattle.mt_import_laws.specs.PrintedByInteltool.{AreNames, SuitsInteltool, is_name_byte}
 use Rattle.mt_import_laws.specs.PrintedByRdmsr.{SuitsRdmsr}
 use Rattle.mt_import_laws.specs.WorkedPrinted.{fixed_names, model_names, ordinary_pc, some_tails, width_36, width_and_pat, words_for_edk2}
@@ -92,7 +92,7 @@ pat_agrees : Agrees width_and_pat ordinary_pc
 pat_agrees = record { width = λ width is. cc is; registers = λ number value. words_agree ordinary_pc ((0x277, 0x0007040600070406) ∷ []) number value (refl, tt) }
 
 edk2_agrees : Agrees words_for_edk2 ordinary_pc
-edk2_agrees = record { width = λ width is. cc is; registers = λ number value. words_agree ordinary_pc ((0xfe, 0xd08) ∷ (0x277, 0x0007040600070406) ∷ []) number value (refl, (refl, tt)) }
+edk2_agrees = record { width = λ width is. cc is; registers = λ number value. words_agree ordinary_pc words_for_edk2.registers number value (refl, (refl, (refl, (refl, (refl, (refl, (refl, (refl, (refl, (refl, tt)))))))))) }
 
 tails_are : AreTails some_tails
 tails_are None = (lit≤ tt, refl, refl)
@@ -105,26 +105,37 @@ tails_are (Some DefaultType) = (lit≤ tt, refl, refl)
 pub coreboot_suits : SuitsCoreboot some_tails ordinary_pc width_and_pat
 coreboot_suits = record { are_tails = tails_are; is_file = is_ordinary; has_words = ordinary_words; agrees = pat_agrees; width = refl; pat = refl }
 
--- the last four of the eight pairs are zeros
-hides_nothing : HasNoHiddenPair ordinary_pc
-hides_nothing zero within hidden = cc hidden
-hides_nothing (suc zero) within hidden = cc hidden
-hides_nothing (suc (suc zero)) within hidden = cc hidden
-hides_nothing (suc (suc (suc zero))) within hidden = cc hidden
-hides_nothing (suc (suc (suc (suc zero)))) within hidden = refl
-hides_nothing (suc (suc (suc (suc (suc zero))))) within hidden = refl
-hides_nothing (suc (suc (suc (suc (suc (suc zero)))))) within hidden = refl
-hides_nothing (suc (suc (suc (suc (suc (suc (suc zero))))))) within hidden = refl
-hides_nothing (suc (suc (suc (suc (suc (suc (suc (suc n)))))))) within hidden = absurd (omega (arith, within))
+-- the last four of the eight pairs have no line
+bases : (n : ℕ) → n < 8 → is_valid (pair_at ordinary_pc.pairs n) ≡ false → supplied_value words_for_edk2 (0x200 + 2 * n) ≡ Some (pair_at ordinary_pc.pairs n).0
+bases zero within hidden = cc hidden
+bases (suc zero) within hidden = cc hidden
+bases (suc (suc zero)) within hidden = cc hidden
+bases (suc (suc (suc zero))) within hidden = cc hidden
+bases (suc (suc (suc (suc zero)))) within hidden = refl
+bases (suc (suc (suc (suc (suc zero))))) within hidden = refl
+bases (suc (suc (suc (suc (suc (suc zero)))))) within hidden = refl
+bases (suc (suc (suc (suc (suc (suc (suc zero))))))) within hidden = refl
+bases (suc (suc (suc (suc (suc (suc (suc (suc n)))))))) within hidden = absurd (omega (arith, within))
+
+masks : (n : ℕ) → n < 8 → is_valid (pair_at ordinary_pc.pairs n) ≡ false → supplied_value words_for_edk2 (0x201 + 2 * n) ≡ Some (pair_at ordinary_pc.pairs n).1
+masks zero within hidden = cc hidden
+masks (suc zero) within hidden = cc hidden
+masks (suc (suc zero)) within hidden = cc hidden
+masks (suc (suc (suc zero))) within hidden = cc hidden
+masks (suc (suc (suc (suc zero)))) within hidden = refl
+masks (suc (suc (suc (suc (suc zero))))) within hidden = refl
+masks (suc (suc (suc (suc (suc (suc zero)))))) within hidden = refl
+masks (suc (suc (suc (suc (suc (suc (suc zero))))))) within hidden = refl
+masks (suc (suc (suc (suc (suc (suc (suc (suc n)))))))) within hidden = absurd (omega (arith, within))
 
 pub edk2_suits : SuitsEdk2 ordinary_pc words_for_edk2
 edk2_suits = record {
   is_file = is_ordinary;
   has_words = ordinary_words;
-  hides_nothing = hides_nothing;
   agrees = edk2_agrees;
   width = refl;
   capabilities = refl;
   pat = refl;
-  pairs = refl;
+  bases = bases;
+  masks = masks;
 }

@@ -1,4 +1,6 @@
 pub mod Origins
+pub mod Notes
+pub mod Worked
 pub mod Alike
 pub mod Printed
 pub mod PrintedByInteltool

@@ -1,8 +1,7 @@
 -- What EDK2 prints of a processor's MTRRs, up to `Memory Ranges:` (EDK2 2022.11, UefiCpuPkg/Library/MtrrLib/MtrrLib.c, MtrrDebugPrintAllMtrrsWorker).
 --     edk2_lines file      the lines
 --     edk2_text file       the text
---     HasNoHiddenPair file      what they leave out is 0
-use Rattle.std.specs.Prelude.{ℕ, ◌≡◌, ◌+◌, ◌/◌, ◌%◌, ◌<◌, true, false, Bool, codes, List, [], ◌∷◌, ◌++◌, length, map, if◌then◌else◌, Some, None}
+use Rattle.std.specs.Prelude.{ℕ, ◌≡◌, ◌+◌, ◌*◌, ◌/◌, ◌%◌, ◌<◌, true, false, Bool, codes, List, [], ◌∷◌, ◌++◌, length, map, if◌then◌else◌, Some, None}
 use Rattle.std.specs.Int.{to_be_bytes, w64}
 use Rattle.hex.specs.Hex.{encode_upper}
 use Rattle.mt_kinds.specs.Bits.{is_bit_set}
@@ -69,17 +68,13 @@ edk2_lines file = codes "MTRR Settings:" ∷ codes "=============" ∷ (map (own
 abbrev pub edk2_text : RegisterFile → List ℕ
 edk2_text file = ended (edk2_lines file)
 
--- Both registers of each pair whose V is clear are 0.
-abbrev pub HasNoHiddenPair : RegisterFile → Type 0
-HasNoHiddenPair file = (n : ℕ) → n < length file.pairs → is_valid (pair_at file.pairs n) ≡ false → pair_at file.pairs n ≡ (0, 0)
-
--- Words have to supply the width, 0FEH and the PAT, and no value but the file's. They allow a pair without a line to be assumed as 0.
+-- Words have to supply the width, 0FEH, the PAT and each pair without a line, and no value but the file's.
 pub record SuitsEdk2 (file : RegisterFile) (supplied : Supplied) : Type 0 where
   pub is_file : IsRegisterFile file
   pub has_words : HasWords file
-  pub hides_nothing : HasNoHiddenPair file
   pub agrees : Agrees supplied file
   pub width : supplied.width ≡ Some file.width
   pub capabilities : supplied_value supplied 0xfe ≡ Some file.capabilities
   pub pat : supplied_value supplied 0x277 ≡ Some file.pat
-  pub pairs : supplied.assumed.pairs ≡ true
+  pub bases : (n : ℕ) → n < length file.pairs → is_valid (pair_at file.pairs n) ≡ false → supplied_value supplied (0x200 + 2 * n) ≡ Some (pair_at file.pairs n).0
+  pub masks : (n : ℕ) → n < length file.pairs → is_valid (pair_at file.pairs n) ≡ false → supplied_value supplied (0x201 + 2 * n) ≡ Some (pair_at file.pairs n).1

@@ -1,5 +1,5 @@
 -- An instance of the laws on what programs print: the registers of an ordinary PC with 8 GB (own).
-use Rattle.std.specs.Prelude.{ℕ, ◌+◌, ◌%◌, true, codes, List, [], ◌∷◌, ◌++◌, Some, None, slice_index_or}
+use Rattle.std.specs.Prelude.{ℕ, ◌+◌, ◌%◌, codes, List, [], ◌∷◌, ◌++◌, Some, None, slice_index_or}
 use Rattle.mt_regs.specs.declared.registers.Register.TheVariants.{PhysBase, PhysMask, FixedRange, Pat, DefaultType}
 use Rattle.mt_regs.specs.RegisterFile.{RegisterFile}
 use Rattle.mt_import.specs.Supplied.{Supplied, nothing_assumed}
@@ -52,6 +52,11 @@ some_tails (Some DefaultType) = codes " E, FE, UC"
 abbrev pub width_and_pat : Supplied
 width_and_pat = record { width = Some 36; registers = (0x277, 0x0007040600070406) ∷ []; assumed = nothing_assumed }
 
--- `maxphyaddr=36 0fe=d08 277=7040600070406 assume=pairs`
+-- `maxphyaddr=36 0fe=d08 277=7040600070406 208=0 .. 20f=0`
 abbrev pub words_for_edk2 : Supplied
-words_for_edk2 = record { width = Some 36; registers = (0xfe, 0xd08) ∷ (0x277, 0x0007040600070406) ∷ []; assumed = record nothing_assumed { pairs = true } }
+words_for_edk2 = record {
+  width = Some 36;
+  registers =
+      (0xfe, 0xd08) ∷ (0x277, 0x0007040600070406) ∷ (0x208, 0) ∷ (0x209, 0) ∷ (0x20a, 0) ∷ (0x20b, 0) ∷ (0x20c, 0) ∷ (0x20d, 0) ∷ (0x20e, 0) ∷ (0x20f, 0) ∷ [];
+  assumed = nothing_assumed;
+}

@@ -35,8 +35,8 @@ pub fn what_coreboot_displays_reads_back()
         → HoldsTable Coreboot file (coreboot_lines leveled tails file) text → ReadsBack (log_told (Only Coreboot) supplied text) file }
 {}
 
-/// What EDK2 prints of a register file reads back as the file, if words supply the width, 0FEH and the PAT, and pairs without a line
-/// are assumed to be 0. So does any log that has each of these lines, and besides them only lines that tell no more than the width.
+/// What EDK2 prints of a register file reads back as the file, if words supply the width, 0FEH, the PAT and the pairs without a line.
+/// So does any log that has each of these lines, and besides them only lines that tell no more than the width.
 pub fn what_edk2_prints_reads_back()
     ensures alone { (file : RegisterFile) (supplied : Supplied) → SuitsEdk2 file supplied → ReadsBack (log_told (Only Edk2) supplied (edk2_text file)) file }
     ensures among { (file : RegisterFile) (supplied : Supplied) (text : List ℕ) → SuitsEdk2 file supplied → HoldsTable Edk2 file (edk2_lines file) text
@@ -52,8 +52,6 @@ pub fn worked_prints()
     ensures edk2 { SuitsEdk2 ordinary_pc words_for_edk2 }
     ensures words { command_of (codes "inteltool" ∷ codes "maxphyaddr=36" ∷ []) ≡ Some (Only Inteltool, width_36) }
     ensures more_words { command_of (codes "coreboot" ∷ codes "maxphyaddr=36" ∷ codes "277=7040600070406" ∷ []) ≡ Some (Only Coreboot, width_and_pat) }
-    ensures most_words { command_of (codes "edk2" ∷ codes "maxphyaddr=36" ∷ codes "0fe=d08" ∷ codes "277=7040600070406" ∷ codes "assume=pairs" ∷ [])
-        ≡ Some (Only Edk2, words_for_edk2) }
     ensures by_rdmsr { (call_line 0x201 ≡ codes "+ rdmsr -p 0 0x201") × (hex_text 0xf00000800 ≡ codes "f00000800") }
     ensures by_inteltool { inteltool_line model_names ordinary_pc (Some (PhysBase 1)) ≡ codes " MSR 0x00000202 = 0x00000001:0x00000006 (IA32_MTRR_PHYSBASE1)" }
     ensures by_coreboot { coreboot_line true some_tails ordinary_pc (Some (PhysMask 2))

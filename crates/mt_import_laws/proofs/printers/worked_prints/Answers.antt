@@ -14,7 +14,6 @@ returns c = record {
   edk2 = edk2_suits;
   words = refl;
   more_words = refl;
-  most_words = refl;
   by_rdmsr = (refl, refl);
   by_inteltool = refl;
   by_coreboot = refl;
