@@ -1,6 +1,5 @@
 -- What EDK2 prints of a processor's MTRRs, up to `Memory Ranges:` (EDK2 2022.11, UefiCpuPkg/Library/MtrrLib/MtrrLib.c, MtrrDebugPrintAllMtrrsWorker).
 --     edk2_lines file      the lines
---     edk2_text file       the text
 --     HasNoHiddenPair file      what they leave out is 0
 use Rattle.std.specs.Prelude.{ℕ, ◌≡◌, ◌+◌, ◌/◌, ◌%◌, ◌<◌, true, false, Bool, codes, List, [], ◌∷◌, ◌++◌, length, map, if◌then◌else◌, Some, None}
 use Rattle.std.specs.Int.{to_be_bytes, w64}
@@ -10,7 +9,6 @@ use Rattle.mt_regs.specs.declared.registers.Register.TheVariants.{PhysBase, Phys
 use Rattle.mt_regs.specs.RegisterFile.{IsRegisterFile, RegisterFile, pair_at}
 use Rattle.mt_regs.specs.Registers.{fixed_registers}
 use Rattle.mt_regs.specs.Words.{HasWords}
-use Rattle.mt_dump.specs.Canon.{ended}
 use Rattle.mt_import.specs.Supplied.{Supplied, supplied_value}
 use Rattle.mt_import_laws.specs.Printed.{Agrees, Key, value_in}
 
@@ -65,9 +63,6 @@ or_none (line ∷ lines) = line ∷ lines
 -- Without fixed ranges EDK2 prints zeros for them.
 abbrev pub edk2_lines : RegisterFile → List (List ℕ)
 edk2_lines file = codes "MTRR Settings:" ∷ codes "=============" ∷ (map (own_line file) (Some DefaultType ∷ map Some fixed_registers) ++ or_none (pair_lines file))
-
-abbrev pub edk2_text : RegisterFile → List ℕ
-edk2_text file = ended (edk2_lines file)
 
 -- Both registers of each pair whose V is clear are 0.
 abbrev pub HasNoHiddenPair : RegisterFile → Type 0
