@@ -1,5 +1,5 @@
 -- What coreboot displays reads back.
-use Rattle.std.proofs.Common.{◌≡◌, ℕ, Bool, true, List, ◌++◌, filter, Some, None, refl, sym, subst, inl, inr}
+use Rattle.std.proofs.Common.{◌≡◌, Bool, true, List, ◌++◌, filter, Some, None, refl, sym, subst, inl, inr}
 use Rattle.std.specs.Prelude.{◌⊎◌}
 use Rattle.std.specs.List.{AllByRecursion, list_all}
 use Rattle.mt_text.proofs.Plain.{is_plain}
