@@ -1,5 +1,5 @@
 -- What coreboot displays reads back.
-use Rattle.std.proofs.Common.{◌≡◌, ℕ, Bool, true, List, ◌++◌, filter, Some, None, refl, sym, subst, inl, inr}
+use Rattle.std.proofs.Common.{◌≡◌, Bool, true, List, ◌++◌, filter, Some, None, refl, sym, subst, inl, inr}
 use Rattle.std.specs.Prelude.{◌⊎◌}
 use Rattle.std.specs.List.{AllByRecursion, list_all}
 use Rattle.mt_text.proofs.Plain.{is_plain}
@@ -8,19 +8,17 @@ use Rattle.mt_regs.specs.declared.registers.Register.TheVariants.{PhysBase, Phys
 use Rattle.mt_regs.specs.RegisterFile.{RegisterFile}
 use Rattle.mt_regs.specs.Registers.{IsWithin, writable}
 use Rattle.mt_regs.proofs.ByNumber.{place_in_writable}
-use Rattle.mt_import.specs.declared.format.Choice.TheVariants.{Only}
 use Rattle.mt_import.specs.declared.format.Format.TheVariants.{Coreboot}
 use Rattle.mt_import.specs.Supplied.{Supplied}
-use Rattle.mt_import.specs.Import.{log_told}
 use Rattle.mt_import_laws.specs.Origins.{IsAmong}
-use Rattle.mt_import_laws.specs.Printed.{HoldsTable, Key, ReadsBack, value_in}
-use Rattle.mt_import_laws.specs.PrintedByCoreboot.{SuitsCoreboot, Tails, coreboot_lines, coreboot_text, displayed, is_fixed, is_of_pair, line_of, name_of}
+use Rattle.mt_import_laws.specs.Printed.{Key, TableReadsBack, value_in}
+use Rattle.mt_import_laws.specs.PrintedByCoreboot.{SuitsCoreboot, Tails, coreboot_lines, displayed, is_fixed, is_of_pair, line_of, name_of}
 use Rattle.mt_import_laws.proofs.Among.{all_map, among_at, among_filter, among_join, among_map, each_among, filter_among, join_among_first, join_among_second, map_among}
 use Rattle.mt_import_laws.proofs.Back.{by_word}
 use Rattle.mt_import_laws.proofs.CorebootLines.{IsNamed, is_displayed, line_plain, named, place, register_said}
 use Rattle.mt_import_laws.proofs.KeyLines.{ShowsAlone, fits, has_line, lines_true}
 use Rattle.mt_import_laws.proofs.Keys.{IsKey, all_within}
-use Rattle.mt_import_laws.proofs.PrintedBack.{HasLine, IsGiven, IsInFile, holds_itself, key_in_file, reads_back}
+use Rattle.mt_import_laws.proofs.PrintedBack.{HasLine, IsGiven, IsInFile, key_in_file, table_back}
 use Rattle.mt_import_laws.proofs.Whole.{known}
 
 shown_fixed : (register : Register) → is_fixed register ≡ true → is_displayed (Some register) ≡ true
@@ -111,13 +109,10 @@ module _ (leveled : Bool) (tails : Tails) (file : RegisterFile) (supplied : Supp
       let tail = suits.are_tails key in
       line_plain key (value_in file key) (name_of file key) (tails key) name tail.0 tail.1 tail.2 leveled)
 
-  pub among_lines : (text : List ℕ) → HoldsTable Coreboot file (coreboot_lines leveled tails file) text → ReadsBack (log_told (Only Coreboot) supplied text) file
-  among_lines text holds =
-      reads_back file is_displayed Coreboot (coreboot_lines leveled tails file) supplied text suits.is_file suits.has_words suits.agrees suits.width
+  pub reads : TableReadsBack Coreboot (coreboot_lines leveled tails file) supplied file
+  reads =
+      table_back file is_displayed Coreboot (coreboot_lines leveled tails file) supplied suits.is_file suits.has_words suits.agrees suits.width
       (record {
         each = lines_true file Coreboot is_displayed (line_of leveled tails file) (displayed file) are_keys (λ key among. (of_key key among).1) shows;
         all = each_key;
-      }) holds
-
-  pub own_text : ReadsBack (log_told (Only Coreboot) supplied (coreboot_text leveled tails file)) file
-  own_text = among_lines (coreboot_text leveled tails file) (holds_itself Coreboot file (coreboot_lines leveled tails file) table_plain)
+      }) table_plain

@@ -7,7 +7,6 @@ use Rattle.mt_text.proofs.Plain.{is_plain}
 use Rattle.mt_regs.specs.declared.registers.Register.TheVariants.{PhysBase, PhysMask, FixedRange, Pat, DefaultType}
 use Rattle.mt_regs.specs.RegisterFile.{RegisterFile, has_fixed, pair_at}
 use Rattle.mt_regs.specs.Registers.{fixed_registers}
-use Rattle.mt_import.specs.declared.format.Choice.TheVariants.{Only}
 use Rattle.mt_import.specs.declared.format.Format.TheVariants.{Edk2}
 use Rattle.mt_import.specs.declared.reading.Said.TheVariants.{Shows}
 use Rattle.mt_import.specs.Pieces.{shown_as}
@@ -18,16 +17,15 @@ use Rattle.mt_import.specs.Slot.{blank_slot}
 use Rattle.mt_import.specs.Supplied.{Supplied, supplied_value}
 use Rattle.mt_import.specs.Values.{base_of, is_pair_number}
 use Rattle.mt_import.specs.Outcome.{Seen, slot_shown, values_of}
-use Rattle.mt_import.specs.Import.{log_told}
 use Rattle.mt_import_laws.specs.Origins.{IsAmong}
-use Rattle.mt_import_laws.specs.Printed.{HoldsTable, Key, ReadsBack, number_at, value_in}
-use Rattle.mt_import_laws.specs.PrintedByEdk2.{SuitsEdk2, edk2_lines, edk2_text, is_valid, no_pair_line, or_none, own_line, pair_line, pair_lines, valid_from}
+use Rattle.mt_import_laws.specs.Printed.{Key, TableReadsBack, number_at, value_in}
+use Rattle.mt_import_laws.specs.PrintedByEdk2.{SuitsEdk2, edk2_lines, is_valid, no_pair_line, or_none, own_line, pair_line, pair_lines, valid_from}
 use Rattle.mt_import_laws.proofs.Among.{all_map, among_join, among_map, each_among, join_among_first, join_among_second, map_among}
 use Rattle.mt_import_laws.proofs.Back.{by_word, width_back}
 use Rattle.mt_import_laws.proofs.Edk2Lines.{base_place, default_place, default_plain, default_said, fixed_place, fixed_plain, fixed_said, mask_place, pair_plain, pair_said}
 use Rattle.mt_import_laws.proofs.KeyLines.{ShowsAlone, fits, has_line, lines_true}
 use Rattle.mt_import_laws.proofs.Keys.{IsKey, value_at_key}
-use Rattle.mt_import_laws.proofs.PrintedBack.{HasLine, IsGiven, IsInFile, holds_itself, key_in_file, reads_back}
+use Rattle.mt_import_laws.proofs.PrintedBack.{HasLine, IsGiven, IsInFile, key_in_file, table_back}
 use Rattle.mt_import_laws.proofs.TableLines.{IsTrueSaid, all_join}
 use Rattle.mt_import_laws.proofs.Whole.{IsSeen, blank, known}
 
@@ -302,10 +300,7 @@ module _ (file : RegisterFile) (supplied : Supplied) (suits : SuitsEdk2 file sup
     ),
   )
 
-  pub among_lines : (text : List ℕ) → HoldsTable Edk2 file (edk2_lines file) text → ReadsBack (log_told (Only Edk2) supplied text) file
-  among_lines text holds =
-      reads_back file prints Edk2 (edk2_lines file) supplied text suits.is_file suits.has_words suits.agrees suits.width
-      (record { each = table_true; all = each_key }) holds
-
-  pub own_text : ReadsBack (log_told (Only Edk2) supplied (edk2_text file)) file
-  own_text = among_lines (edk2_text file) (holds_itself Edk2 file (edk2_lines file) table_plain)
+  pub reads : TableReadsBack Edk2 (edk2_lines file) supplied file
+  reads =
+      table_back file prints Edk2 (edk2_lines file) supplied suits.is_file suits.has_words suits.agrees suits.width
+      (record { each = table_true; all = each_key }) table_plain

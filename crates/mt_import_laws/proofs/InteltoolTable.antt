@@ -3,19 +3,17 @@ use Rattle.std.proofs.Common.{◌≡◌, ℕ, Bool, true, List, None, refl, subs
 use Rattle.std.specs.List.{AllByRecursion, list_all}
 use Rattle.mt_text.proofs.Plain.{is_plain}
 use Rattle.mt_regs.specs.RegisterFile.{RegisterFile}
-use Rattle.mt_import.specs.declared.format.Choice.TheVariants.{Only}
 use Rattle.mt_import.specs.declared.format.Format.TheVariants.{Inteltool}
 use Rattle.mt_import.specs.Shown.{said_of}
 use Rattle.mt_import.specs.Supplied.{Supplied}
-use Rattle.mt_import.specs.Import.{log_told}
 use Rattle.mt_import_laws.specs.Origins.{IsAmong}
-use Rattle.mt_import_laws.specs.Printed.{HoldsTable, Key, ReadsBack, number_at, value_in}
-use Rattle.mt_import_laws.specs.PrintedByInteltool.{Names, SuitsInteltool, inteltool_lines, inteltool_text, line_of}
+use Rattle.mt_import_laws.specs.Printed.{Key, TableReadsBack, number_at, value_in}
+use Rattle.mt_import_laws.specs.PrintedByInteltool.{Names, SuitsInteltool, inteltool_lines, line_of}
 use Rattle.mt_import_laws.proofs.Among.{all_map}
 use Rattle.mt_import_laws.proofs.InteltoolLines.{line_plain, place, register_said}
 use Rattle.mt_import_laws.proofs.KeyLines.{ShowsAlone, all_keys, among_all, fits, has_line, in_file, lines_true, low}
 use Rattle.mt_import_laws.proofs.Keys.{IsKey}
-use Rattle.mt_import_laws.proofs.PrintedBack.{HasLine, IsInFile, holds_itself, key_in_file, reads_back}
+use Rattle.mt_import_laws.proofs.PrintedBack.{HasLine, IsInFile, key_in_file, table_back}
 use Rattle.mt_import_laws.proofs.TableLines.{IsTrueSaid}
 
 -- each register that the file has is printed
@@ -60,12 +58,7 @@ module _ (names : Names) (file : RegisterFile) (supplied : Supplied) (suits : Su
     ),
   )
 
-pub among_lines : (names : Names) (file : RegisterFile) (supplied : Supplied) (text : List ℕ) → SuitsInteltool names file supplied → HoldsTable Inteltool file (inteltool_lines names file) text
-    → ReadsBack (log_told (Only Inteltool) supplied text) file
-among_lines names file supplied text suits holds =
-    reads_back file all_printed Inteltool (inteltool_lines names file) supplied text suits.is_file suits.has_words suits.agrees suits.width
-    (record { each = table_true names file supplied suits; all = λ key inside. inl (table_has names file supplied suits key inside) }) holds
-
-pub own_text : (names : Names) (file : RegisterFile) (supplied : Supplied) → SuitsInteltool names file supplied → ReadsBack (log_told (Only Inteltool) supplied (inteltool_text names file)) file
-own_text names file supplied suits =
-    among_lines names file supplied (inteltool_text names file) suits (holds_itself Inteltool file (inteltool_lines names file) (table_plain names file supplied suits))
+pub reads : (names : Names) (file : RegisterFile) (supplied : Supplied) → SuitsInteltool names file supplied → TableReadsBack Inteltool (inteltool_lines names file) supplied file
+reads names file supplied suits =
+    table_back file all_printed Inteltool (inteltool_lines names file) supplied suits.is_file suits.has_words suits.agrees suits.width
+    (record { each = table_true names file supplied suits; all = λ key inside. inl (table_has names file supplied suits key inside) }) (table_plain names file supplied suits)

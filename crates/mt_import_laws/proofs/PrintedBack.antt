@@ -19,7 +19,7 @@ use Rattle.mt_import.specs.Supplied.{Supplied}
 use Rattle.mt_import.specs.Outcome.{Seen, known_of, nothing_seen, outcome, seen_after, slot_shown, values_of}
 use Rattle.mt_import.specs.Import.{log_told}
 use Rattle.mt_import_laws.specs.Origins.{IsAmong}
-use Rattle.mt_import_laws.specs.Printed.{Agrees, HoldsTable, Key, ReadsBack, number_at, value_in}
+use Rattle.mt_import_laws.specs.Printed.{Agrees, HoldsTable, Key, ReadsBack, TableReadsBack, number_at, value_in}
 use Rattle.mt_import_laws.proofs.Keys.{IsKey, within_whole}
 use Rattle.mt_import_laws.proofs.Whole.{IsSeen, IsSound, held, no_fault, one_processor, seen_last}
 use Rattle.mt_import_laws.proofs.TableLines.{HasReading, IsTrueSaid, ShowsKey, gathers, lines_have, lines_true}
@@ -98,7 +98,7 @@ module _ (file : RegisterFile) (prints : Key → Bool) (format : Format) (table 
     | inr given ↦ inr given
   ]
 
-  pub reads_back : ReadsBack (log_told (Only format) supplied text) file
+  reads_back : ReadsBack (log_told (Only format) supplied text) file
   reads_back =
       facts_back file prints format supplied is words agrees width (shown (Some format) text)
       (lines_true file prints format (lines_of text) (starts (Some format)) 1 refl refl all_true) all_shown
@@ -109,7 +109,18 @@ pub lines_back : (lines : List (List ℕ)) → AllByRecursion (λ line. list_all
 lines_back [] plain = refl
 lines_back (line ∷ lines) plain = lines_of-line line (ended lines) plain.0 ∙ ap (λ ls. line ∷ ls) (lines_back lines plain.1)
 
-pub holds_itself : (format : Format) (file : RegisterFile) (table : List (List ℕ)) → AllByRecursion (λ line. list_all is_plain line ≡ true) table → HoldsTable format file table (ended table)
+holds_itself : (format : Format) (file : RegisterFile) (table : List (List ℕ)) → AllByRecursion (λ line. list_all is_plain line ≡ true) table → HoldsTable format file table (ended table)
 holds_itself format file table plain =
     let same = lines_back table plain in
     record { has = λ line among. subst (IsAmong line) (sym same) among; others = λ line among. inl (subst (IsAmong line) same among) }
+
+-- ---- both
+
+module _ (file : RegisterFile) (prints : Key → Bool) (format : Format) (table : List (List ℕ)) (supplied : Supplied)
+    (is : IsRegisterFile file) (words : HasWords file) (agrees : Agrees supplied file) (width : supplied.width ≡ Some file.width)
+    (read : IsReadAs file prints format table supplied) (plain : AllByRecursion (λ line. list_all is_plain line ≡ true) table) where
+  pub table_back : TableReadsBack format table supplied file
+  table_back = record {
+    alone = reads_back file prints format table supplied (ended table) is words agrees width read (holds_itself format file table plain);
+    among = λ text holds. reads_back file prints format table supplied text is words agrees width read holds;
+  }

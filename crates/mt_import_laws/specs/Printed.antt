@@ -2,6 +2,7 @@
 --     HoldsTable format file table text      the lines of a log are those of a table, among lines that tell no more than the width
 --     Agrees supplied file      words supply no other value than the file's
 --     ReadsBack told file      the outcome is the file's dump
+--     TableReadsBack format table supplied file      so it is of a table's lines, and of each log that holds them
 use Rattle.std.specs.Prelude.{ℕ, ◌≡◌, ◌⊎◌, List, Option, None, Some}
 use Rattle.mt_ports.specs.declared.status.Status.TheVariants.{Done}
 use Rattle.mt_text.specs.Text.{lines_of}
@@ -9,10 +10,12 @@ use Rattle.mt_text.specs.declared.place.Place.{Place}
 use Rattle.mt_regs.specs.declared.registers.Register.{Register}
 use Rattle.mt_regs.specs.RegisterFile.{RegisterFile}
 use Rattle.mt_regs.specs.Registers.{number_of, value_at, value_of}
-use Rattle.mt_dump.specs.Canon.{canon}
+use Rattle.mt_dump.specs.Canon.{canon, ended}
 use Rattle.mt_dump.specs.Dumps.{dump_of}
+use Rattle.mt_import.specs.declared.format.Choice.TheVariants.{Only}
 use Rattle.mt_import.specs.declared.format.Format.{Format}
 use Rattle.mt_import.specs.declared.reading.Said.TheVariants.{Nothing, Width}
+use Rattle.mt_import.specs.Import.{log_told}
 use Rattle.mt_import.specs.Outcome.{Told}
 use Rattle.mt_import.specs.Shown.{said_of}
 use Rattle.mt_import.specs.Supplied.{Supplied, supplied_value}
@@ -51,3 +54,8 @@ pub record Agrees (supplied : Supplied) (file : RegisterFile) : Type 0 where
 pub record ReadsBack (told : Told) (file : RegisterFile) : Type 0 where
   pub status : told.status ≡ Done
   pub dump : told.dump ≡ canon (dump_of file)
+
+-- A table of lines gives the file: alone, and in any log that holds it.
+pub record TableReadsBack (format : Format) (table : List (List ℕ)) (supplied : Supplied) (file : RegisterFile) : Type 0 where
+  pub alone : ReadsBack (log_told (Only format) supplied (ended table)) file
+  pub among : (text : List ℕ) → HoldsTable format file table text → ReadsBack (log_told (Only format) supplied text) file

@@ -1,6 +1,5 @@
 -- What coreboot displays of a processor's MTRRs (coreboot 25.09 and 4.15, src/cpu/x86/mtrr/debug.c, `_display_mtrrs` and what it calls).
 --     coreboot_lines leveled tails file      the lines of the registers of a file
---     coreboot_text leveled tails file      the text
 use Rattle.std.specs.Prelude.{ℕ, ◌≡◌, ◌≤◌, ◌==◌, ◌&&◌, not, nat_lt, decimal, Bool, true, false, codes, filter, List, [], ◌∷◌, ◌++◌, length, map, slice_index_or, None, Some}
 use Rattle.std.specs.List.{list_all}
 use Rattle.mt_kinds.specs.Bits.{is_bit_set}
@@ -10,7 +9,7 @@ use Rattle.mt_regs.specs.declared.registers.Register.TheVariants.{PhysBase, Phys
 use Rattle.mt_regs.specs.RegisterFile.{IsRegisterFile, RegisterFile, pair_at}
 use Rattle.mt_regs.specs.Registers.{writable}
 use Rattle.mt_regs.specs.Words.{HasWords}
-use Rattle.mt_dump.specs.Canon.{ended, value_text}
+use Rattle.mt_dump.specs.Canon.{value_text}
 use Rattle.mt_import.specs.Supplied.{Supplied, supplied_value}
 use Rattle.mt_import_laws.specs.Printed.{Agrees, Key, value_in}
 
@@ -71,9 +70,6 @@ displayed file = None ∷ Some DefaultType ∷ map Some (filter is_fixed (writab
 
 abbrev pub coreboot_lines : Bool → Tails → RegisterFile → List (List ℕ)
 coreboot_lines leveled tails file = map (line_of leveled tails file) (displayed file)
-
-abbrev pub coreboot_text : Bool → Tails → RegisterFile → List ℕ
-coreboot_text leveled tails file = ended (coreboot_lines leveled tails file)
 
 -- a printed byte that begins no comment
 abbrev pub is_tail_byte : ℕ → Bool

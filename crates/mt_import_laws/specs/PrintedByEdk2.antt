@@ -1,6 +1,5 @@
 -- What EDK2 prints of a processor's MTRRs, up to `Memory Ranges:` (EDK2 2022.11, UefiCpuPkg/Library/MtrrLib/MtrrLib.c, MtrrDebugPrintAllMtrrsWorker).
 --     edk2_lines file      the lines
---     edk2_text file       the text
 use Rattle.std.specs.Prelude.{ℕ, ◌≡◌, ◌+◌, ◌*◌, ◌/◌, ◌%◌, ◌<◌, true, false, Bool, codes, List, [], ◌∷◌, ◌++◌, length, map, if◌then◌else◌, Some, None}
 use Rattle.std.specs.Int.{to_be_bytes, w64}
 use Rattle.hex.specs.Hex.{encode_upper}
@@ -9,7 +8,6 @@ use Rattle.mt_regs.specs.declared.registers.Register.TheVariants.{PhysBase, Phys
 use Rattle.mt_regs.specs.RegisterFile.{IsRegisterFile, RegisterFile, pair_at}
 use Rattle.mt_regs.specs.Registers.{fixed_registers}
 use Rattle.mt_regs.specs.Words.{HasWords}
-use Rattle.mt_dump.specs.Canon.{ended}
 use Rattle.mt_import.specs.Supplied.{Supplied, supplied_value}
 use Rattle.mt_import_laws.specs.Printed.{Agrees, Key, value_in}
 
@@ -64,9 +62,6 @@ or_none (line ∷ lines) = line ∷ lines
 -- Without fixed ranges EDK2 prints zeros for them.
 abbrev pub edk2_lines : RegisterFile → List (List ℕ)
 edk2_lines file = codes "MTRR Settings:" ∷ codes "=============" ∷ (map (own_line file) (Some DefaultType ∷ map Some fixed_registers) ++ or_none (pair_lines file))
-
-abbrev pub edk2_text : RegisterFile → List ℕ
-edk2_text file = ended (edk2_lines file)
 
 -- Words have to supply the width, 0FEH, the PAT and each pair without a line, and no value but the file's.
 pub record SuitsEdk2 (file : RegisterFile) (supplied : Supplied) : Type 0 where

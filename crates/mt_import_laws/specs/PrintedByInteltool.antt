@@ -1,6 +1,5 @@
 -- What inteltool prints of a processor's MTRRs with -M (coreboot 25.09 and 4.15, util/inteltool/cpu.c, `print_intel_msrs`).
 --     inteltool_lines names file      the lines of the registers of a file, behind those of the sections
---     inteltool_text names file      the text
 use Rattle.std.specs.Prelude.{ℕ, ◌≡◌, ◌≤◌, ◌/◌, ◌%◌, ◌&&◌, nat_lt, Bool, true, codes, List, ◌∷◌, ◌++◌, length, map, None, Some}
 use Rattle.std.specs.List.{list_all}
 use Rattle.std.specs.Int.{to_be_bytes, w32}
@@ -8,7 +7,6 @@ use Rattle.hex.specs.Hex.{encode_upper}
 use Rattle.mt_regs.specs.RegisterFile.{IsRegisterFile, RegisterFile}
 use Rattle.mt_regs.specs.Registers.{writable}
 use Rattle.mt_regs.specs.Words.{HasWords}
-use Rattle.mt_dump.specs.Canon.{ended}
 use Rattle.mt_import.specs.Supplied.{Supplied}
 use Rattle.mt_import_laws.specs.Printed.{Agrees, Key, number_at, value_in}
 
@@ -40,9 +38,6 @@ unique_header = codes "====================== UNIQUE MSRs  (core 0) ============
 
 abbrev pub inteltool_lines : Names → RegisterFile → List (List ℕ)
 inteltool_lines names file = shared_header ∷ unique_header ∷ map (line_of names file) (None ∷ map Some (writable file))
-
-abbrev pub inteltool_text : Names → RegisterFile → List ℕ
-inteltool_text names file = ended (inteltool_lines names file)
 
 -- a visible byte behind `#`
 abbrev pub is_name_byte : ℕ → Bool

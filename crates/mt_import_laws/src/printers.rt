@@ -1,14 +1,14 @@
-ghost use Rattle.std.specs.Prelude.{◌≡◌, ◌∷◌, [], ℕ, Bool, true, List, Some, codes};
+ghost use Rattle.std.specs.Prelude.{◌≡◌, ◌∷◌, [], Bool, true, Some, codes};
 ghost use Rattle.mt_regs.specs.declared.registers.Register.TheVariants.{PhysBase, PhysMask};
 ghost use Rattle.mt_regs.specs.RegisterFile.{RegisterFile, pair_at};
 ghost use Rattle.mt_import.specs.declared.format.Choice.TheVariants.{Only};
 ghost use Rattle.mt_import.specs.declared.format.Format.TheVariants.{Coreboot, Edk2, Inteltool, Rdmsr};
 ghost use Rattle.mt_import.specs.Import.{log_told};
 ghost use Rattle.mt_import.specs.Supplied.{Supplied, command_of};
-ghost use Rattle.mt_import_laws.specs.Printed.{HoldsTable, ReadsBack};
-ghost use Rattle.mt_import_laws.specs.PrintedByCoreboot.{SuitsCoreboot, Tails, coreboot_lines, coreboot_text, line_of as coreboot_line};
-ghost use Rattle.mt_import_laws.specs.PrintedByEdk2.{SuitsEdk2, edk2_lines, edk2_text, pair_line};
-ghost use Rattle.mt_import_laws.specs.PrintedByInteltool.{Names, SuitsInteltool, inteltool_lines, inteltool_text, line_of as inteltool_line};
+ghost use Rattle.mt_import_laws.specs.Printed.{ReadsBack, TableReadsBack};
+ghost use Rattle.mt_import_laws.specs.PrintedByCoreboot.{SuitsCoreboot, Tails, coreboot_lines, line_of as coreboot_line};
+ghost use Rattle.mt_import_laws.specs.PrintedByEdk2.{SuitsEdk2, edk2_lines, pair_line};
+ghost use Rattle.mt_import_laws.specs.PrintedByInteltool.{Names, SuitsInteltool, inteltool_lines, line_of as inteltool_line};
 ghost use Rattle.mt_import_laws.specs.PrintedByRdmsr.{SuitsRdmsr, call_line, hex_text, rdmsr_text};
 ghost use Rattle.mt_import_laws.specs.WorkedPrinted.{model_names, ordinary_pc, some_tails, width_36, width_and_pat, words_for_edk2};
 
@@ -20,27 +20,21 @@ pub fn what_rdmsr_prints_reads_back()
 /// What inteltool prints of a register file reads back as the file, if words supply its width. So does any log that has each of
 /// these lines, and besides them only lines that tell no more than the width.
 pub fn what_inteltool_prints_reads_back()
-    ensures alone { (names : Names) (file : RegisterFile) (supplied : Supplied) → SuitsInteltool names file supplied
-        → ReadsBack (log_told (Only Inteltool) supplied (inteltool_text names file)) file }
-    ensures among { (names : Names) (file : RegisterFile) (supplied : Supplied) (text : List ℕ) → SuitsInteltool names file supplied
-        → HoldsTable Inteltool file (inteltool_lines names file) text → ReadsBack (log_told (Only Inteltool) supplied text) file }
+    ensures { (names : Names) (file : RegisterFile) (supplied : Supplied) → SuitsInteltool names file supplied
+        → TableReadsBack Inteltool (inteltool_lines names file) supplied file }
 {}
 
 /// What coreboot displays of a register file reads back as the file, if words supply its width and its PAT. So does any log that has
 /// each of these lines, and besides them only lines that tell no more than the width.
 pub fn what_coreboot_displays_reads_back()
-    ensures alone { (leveled : Bool) (tails : Tails) (file : RegisterFile) (supplied : Supplied) → SuitsCoreboot tails file supplied
-        → ReadsBack (log_told (Only Coreboot) supplied (coreboot_text leveled tails file)) file }
-    ensures among { (leveled : Bool) (tails : Tails) (file : RegisterFile) (supplied : Supplied) (text : List ℕ) → SuitsCoreboot tails file supplied
-        → HoldsTable Coreboot file (coreboot_lines leveled tails file) text → ReadsBack (log_told (Only Coreboot) supplied text) file }
+    ensures { (leveled : Bool) (tails : Tails) (file : RegisterFile) (supplied : Supplied) → SuitsCoreboot tails file supplied
+        → TableReadsBack Coreboot (coreboot_lines leveled tails file) supplied file }
 {}
 
 /// What EDK2 prints of a register file reads back as the file, if words supply the width, 0FEH, the PAT and the pairs without a line.
 /// So does any log that has each of these lines, and besides them only lines that tell no more than the width.
 pub fn what_edk2_prints_reads_back()
-    ensures alone { (file : RegisterFile) (supplied : Supplied) → SuitsEdk2 file supplied → ReadsBack (log_told (Only Edk2) supplied (edk2_text file)) file }
-    ensures among { (file : RegisterFile) (supplied : Supplied) (text : List ℕ) → SuitsEdk2 file supplied → HoldsTable Edk2 file (edk2_lines file) text
-        → ReadsBack (log_told (Only Edk2) supplied text) file }
+    ensures { (file : RegisterFile) (supplied : Supplied) → SuitsEdk2 file supplied → TableReadsBack Edk2 (edk2_lines file) supplied file }
 {}
 
 /// The registers of an ordinary PC are an instance for each program. Its words are a command line, and a line of it is as the program
