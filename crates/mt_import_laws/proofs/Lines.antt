@@ -18,6 +18,7 @@ use Rattle.mt_import.specs.Readings.{Fact, fixed_facts, fixed_line, fixed_shows,
 use Rattle.mt_import.specs.Shown.{chosen, context_behind, facts_from, facts_of_line, format_of, said_in, shown}
 use Rattle.mt_import.specs.Outcome.{Seen, nothing_seen, seen_after, seen_with}
 use Rattle.mt_import_laws.specs.Origins.{IsAmong, IsOfLine, IsRead, context_after_lines, heads, is_heading, readings_of, tables_behind}
+use Rattle.mt_import_laws.proofs.Among.{among_join}
 
 -- a reading that was gathered is a fact, or was there before
 gathered : (facts : List Fact) (seen : Seen) (reading : Reading) → IsAmong reading (seen_after seen facts).readings → IsAmong (is_register_value reading) facts ⊎ IsAmong reading seen.readings
@@ -34,14 +35,6 @@ gathered (fact ∷ facts) seen reading among = elim (gathered facts (seen_with s
     by (is_width width place) among = inr among
     by is_warning among = inr among
     by (is_fault fault) among = inr among
-
-among_append : {A : Type 0} (xs ys : List A) (x : A) → IsAmong x (xs ++ ys) → IsAmong x xs ⊎ IsAmong x ys
-among_append [] ys x among = inr among
-among_append (y ∷ xs) ys x (inl same) = inl (inl same)
-among_append (y ∷ xs) ys x (inr later) = elim (among_append xs ys x later) [
-  | inl first ↦ inl (inr first)
-  | inr second ↦ inr second
-]
 
 record AtLine (context : Context) (number : ℕ) (all : List (List ℕ)) (fact : Fact) : Type 0 where
   before : List (List ℕ)
@@ -61,7 +54,7 @@ one_later context number first all fact at = record {
 
 line_of : (lines : List (List ℕ)) (context : Context) (number : ℕ) (fact : Fact) → IsAmong fact (facts_from context number lines) → AtLine context number lines fact
 line_of [] context number fact among = absurd among
-line_of (line ∷ lines) context number fact among = elim (among_append (facts_of_line context number line) (facts_from (context_behind context number line) (number + 1) lines) fact among) [
+line_of (line ∷ lines) context number fact among = elim (among_join (facts_of_line context number line) (facts_from (context_behind context number line) (number + 1) lines) fact among) [
   | inl here ↦ record { before = []; line = line; others = lines; lines = refl; shows = subst (λ n. IsAmong fact (facts_of_line context n line)) (omega arith) here }
   | inr later ↦ one_later context number line lines fact (line_of lines (context_behind context number line) (number + 1) fact later)
 ]
@@ -118,7 +111,7 @@ of_shown processor table (Some shown) reading among = of_reading processor table
 
 of_shows : (processor table : ℕ) (shows : List (Option Shown)) → AreOf table (shows_facts processor table shows)
 of_shows processor table [] reading among = absurd among
-of_shows processor table (shown ∷ shows) reading among = elim (among_append (shown_facts processor table shown) (shows_facts processor table shows) (is_register_value reading) among) [
+of_shows processor table (shown ∷ shows) reading among = elim (among_join (shown_facts processor table shown) (shows_facts processor table shows) (is_register_value reading) among) [
   | inl here ↦ of_shown processor table shown reading here
   | inr later ↦ of_shows processor table shows reading later
 ]
