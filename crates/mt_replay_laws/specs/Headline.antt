@@ -28,7 +28,7 @@ use Rattle.mt_script.specs.declared.fault.Offence.{Offence}
 use Rattle.mt_output.specs.Lines.{accepted_line, dump_refused_line, line, refused_line}
 use Rattle.mt_replay.specs.Kept.{start_of}
 use Rattle.mt_replay_laws.specs.Through.{HoldsThrough}
-use Rattle.mt_replay.specs.Parts.{IsComing}
+use Rattle.mt_replay_laws.specs.Coming.{BringsUp}
 use Rattle.mt_replay.specs.ReplayState.{ReplayState, first_file, with_register}
 use Rattle.mt_replay.specs.Running.{Replays, ReplaysAs}
 use Rattle.mt_replay_laws.specs.Settling.{emptied_now, stored_by}
@@ -122,7 +122,7 @@ AcceptedWhereIdleAndWhole =
 -- that of a newcomer exactly where none is under way and fewer than sixteen processors stand; its number is the next
 abbrev pub NewcomersWhereIdle : Type 0
 NewcomersWhereIdle =
-    (text : List ℕ) (front rest : List Step) (step : Step) → course text ≡ front ++ step ∷ rest → IsComing step.command
+    (text : List ℕ) (front rest : List Step) (step : Step) → course text ≡ front ++ step ∷ rest → BringsUp step.command
     → IsCall step ↔ ((step.before.machine.order ≡ None) × (length step.before.machine.system.processors < 16))
 
 -- ---- "until the next is called"

@@ -1,3 +1,4 @@
+pub mod Coming
 pub mod Flat
 pub mod Headline
 pub mod Movers

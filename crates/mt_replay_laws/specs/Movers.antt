@@ -6,7 +6,7 @@ use Rattle.std.specs.Prelude.{ℕ, ◌≡◌, ◌<◌, ◌≤◌, ◌⊎◌, ◌
 use Rattle.mt_machine.specs.ComingAndGoing.{last_number, without_last}
 use Rattle.mt_script.specs.declared.command.Command.TheVariants as command
 use Rattle.mt_replay.specs.Steps.{Step, left, wrote}
-use Rattle.mt_replay.specs.Parts.{IsComing}
+use Rattle.mt_replay_laws.specs.Coming.{BringsUp}
 use Rattle.mt_replay.specs.Texts.{full_line, no_line, retired_line, under_way_line}
 
 abbrev pub count_before : Step → ℕ
@@ -24,11 +24,11 @@ RetiresWhereIdle =
 
 -- none comes or goes while an update is under way
 abbrev pub StaysUnderWay : Type 0
-StaysUnderWay = (step : Step) → IsComing step.command ⊎ (step.command ≡ command.Retire) → IsSome step.before.machine.order → Stays step under_way_line
+StaysUnderWay = (step : Step) → BringsUp step.command ⊎ (step.command ≡ command.Retire) → IsSome step.before.machine.order → Stays step under_way_line
 
 -- none comes beside sixteen
 abbrev pub StaysFull : Type 0
-StaysFull = (step : Step) → IsComing step.command → step.before.machine.order ≡ None → 16 ≤ count_before step → Stays step full_line
+StaysFull = (step : Step) → BringsUp step.command → step.before.machine.order ≡ None → 16 ≤ count_before step → Stays step full_line
 
 -- the only one doesn't go
 abbrev pub StaysAlone : Type 0

@@ -23,7 +23,7 @@ use Rattle.mt_script.specs.declared.command.Command.{Command}
 use Rattle.mt_script.specs.declared.command.Command.TheVariants as command
 use Rattle.mt_output.specs.Lines.{refused_line}
 use Rattle.mt_replay.specs.Kept.{IsReplayState, start_like}
-use Rattle.mt_replay.specs.Parts.{IsComing}
+use Rattle.mt_replay_laws.specs.Coming.{BringsUp}
 use Rattle.mt_replay.specs.ReplayState.{ReplayState, call_fault, command_text, each_processor, first_file, is_update, machine_after, may_come, named, state_after}
 use Rattle.mt_replay.specs.Texts.{absent_line, called_line, complete_line, joined_line, under_way_line}
 
@@ -43,7 +43,7 @@ CallsUnderWayChangeNothing = (s : ReplayState) → IsSome s.machine.order → En
 
 -- it calls for no update: neither as the end of a section, nor for a newcomer
 abbrev pub IsWithoutCall : ReplayState → Command → Type 0
-IsWithoutCall s c = (c ≡ command.End → IsSome (call_fault s.machine s.goal)) × (IsComing c → may_come s.machine ≡ false)
+IsWithoutCall s c = (c ≡ command.End → IsSome (call_fault s.machine s.goal)) × (BringsUp c → may_come s.machine ≡ false)
 
 -- each of these commands fits in its turn, and none calls for an update; a processor may be retired
 abbrev pub AreWithoutCall : ReplayState → List Command → Type 0

@@ -14,7 +14,7 @@ use Rattle.mt_script.specs.declared.command.Stage.TheVariants.{InBegin, InDump, 
 use Rattle.mt_script.specs.declared.command.Command.{Command}
 use Rattle.mt_script.specs.declared.command.Command.TheVariants as command
 use Rattle.mt_replay_laws.specs.Settling.{IsWithoutCall}
-use Rattle.mt_replay.specs.Parts.{IsComing}
+use Rattle.mt_replay_laws.specs.Coming.{BringsUp}
 use Rattle.mt_admit.specs.Admission.{admitted}
 use Rattle.mt_replay_laws.proofs.Courses.Newcomers.{call_of_end, comes_as_newcomer, coming_or_not, newcomer_comes, newcomer_is_coming}
 use Rattle.mt_replay_laws.specs.Headline.{AcceptedWhereIdleAndWhole, GoalsAreOfTheirSections, IsCall, NoneOf, SectionOf, given, goal_of, release_line, IsCalled, IsNewcomer, IsSectionCall, Joins}
@@ -56,11 +56,11 @@ call_or_not step h = by (end_or_not step.before step.command)
     other called complete newcomer (inl (inr is)) = complete is.0 is.1
     other called complete newcomer (inr is) = newcomer is
 
-    came : IsComing step.command → (b : Bool) → may_come step.before.machine ≡ b → IsNewcomer step ⊎ (IsNewcomer step → ⊥)
+    came : BringsUp step.command → (b : Bool) → may_come step.before.machine ≡ b → IsNewcomer step ⊎ (IsNewcomer step → ⊥)
     came coming true may = inl (comes_as_newcomer step coming may)
     came coming false may = inr (λ newcomer. let on = newcomer_comes step newcomer in cc (on, may))
 
-    comes : IsComing step.command ⊎ (IsComing step.command → ⊥) → IsNewcomer step ⊎ (IsNewcomer step → ⊥)
+    comes : BringsUp step.command ⊎ (BringsUp step.command → ⊥) → IsNewcomer step ⊎ (IsNewcomer step → ⊥)
     comes (inl coming) = came coming (may_come step.before.machine) refl
     comes (inr not) = inr (λ newcomer. not (newcomer_is_coming step newcomer))
 

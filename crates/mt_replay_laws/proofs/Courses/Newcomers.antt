@@ -7,7 +7,7 @@ use Rattle.mt_script.specs.declared.command.Command.{Command}
 use Rattle.mt_script.specs.declared.command.Command.TheVariants as command
 use Rattle.mt_replay_laws.specs.Headline.{IsCall, IsNewcomer, IsSectionCall, NewcomersWhereIdle}
 use Rattle.mt_replay.specs.Steps.{Step}
-use Rattle.mt_replay.specs.Parts.{IsComing}
+use Rattle.mt_replay_laws.specs.Coming.{BringsUp}
 use Rattle.mt_replay.specs.ReplayState.{ReplayState, command_text, may_come, stays_line}
 use Rattle.mt_replay.specs.Texts.{full_line, joined_line, under_way_line, up_line}
 use Rattle.mt_replay_laws.proofs.Courses.Tells.{has_third, is_still, not_coming, writes_called, writes_complete}
@@ -36,11 +36,11 @@ pub newcomer_comes : (step : Step) → IsNewcomer step → may_come step.before.
 newcomer_comes step (k, inl up) = up_comes step.before k (subst (λ (c : Command). command_text step.before c ≡ up_line k) up.0 up.1)
 newcomer_comes step (k, inr joins) = join_comes step.before k (subst (λ (c : Command). command_text step.before c ≡ joined_line k) joins.0 joins.1)
 
-pub newcomer_is_coming : (step : Step) → IsNewcomer step → IsComing step.command
+pub newcomer_is_coming : (step : Step) → IsNewcomer step → BringsUp step.command
 newcomer_is_coming step (k, inl up) = inl up.0
 newcomer_is_coming step (k, inr joins) = inr joins.0
 
-pub comes_as_newcomer : (step : Step) → IsComing step.command → may_come step.before.machine ≡ true → IsNewcomer step
+pub comes_as_newcomer : (step : Step) → BringsUp step.command → may_come step.before.machine ≡ true → IsNewcomer step
 comes_as_newcomer step (inl up) may =
     let n : ℕ = length step.before.machine.system.processors in
     (n, inl (up, ap (command_text step.before) up ∙ ap (λ (b : Bool). if b then up_line n else stays_line step.before.machine full_line) may))
@@ -48,7 +48,7 @@ comes_as_newcomer step (inr join) may =
     let n : ℕ = length step.before.machine.system.processors in
     (n, inr (join, ap (command_text step.before) join ∙ ap (λ (b : Bool). if b then joined_line n else stays_line step.before.machine full_line) may))
 
-pub coming_or_not : (c : Command) → IsComing c ⊎ (IsComing c → ⊥)
+pub coming_or_not : (c : Command) → BringsUp c ⊎ (BringsUp c → ⊥)
 coming_or_not command.Up = inl (inl refl)
 coming_or_not command.Join = inl (inr refl)
 coming_or_not other = inr (not_coming other refl)
@@ -75,7 +75,7 @@ pub call_of_end : (step : Step) → step.command ≡ command.End → IsCall step
 call_of_end step ends (inl section) = section
 call_of_end step ends (inr newcomer) = absurd (end_comes_not step ends newcomer)
 
-pub call_of_newcomer : (step : Step) → IsComing step.command → IsCall step → IsNewcomer step
+pub call_of_newcomer : (step : Step) → BringsUp step.command → IsCall step → IsNewcomer step
 call_of_newcomer step coming (inr newcomer) = newcomer
 call_of_newcomer step coming (inl section) =
     absurd (⊎_elim

@@ -18,7 +18,7 @@ use Rattle.mt_replay_laws.specs.Headline.{CompleteUpdatesAreKept, IsCall, Keeps,
 use Rattle.mt_replay.specs.Steps.{Step, last_of, left, wrote}
 use Rattle.mt_replay.specs.Kept.{IsReplayState, windows_of}
 use Rattle.mt_replay.specs.ReplayState.{ReplayState, call_fault, command_text, each_processor, is_update, machine_after, state_after, first_file, may_come}
-use Rattle.mt_replay.specs.Parts.{IsComing}
+use Rattle.mt_replay_laws.specs.Coming.{BringsUp}
 use Rattle.mt_machine.specs.ComingAndGoing.{with_newcomer}
 use Rattle.mt_admit.specs.Admission.{admitted}
 use Rattle.mt_replay_laws.proofs.Courses.Newcomers.{comes_as_newcomer, newcomer_comes}
@@ -61,7 +61,7 @@ accepted_end s h none = one (is_update s.now.stage) refl
 pub no_call : (step : Step) → IsReplayState step.before → (IsCall step → ⊥) → IsWithoutCall step.before step.command
 no_call step h calls = (λ ends. one ends (call_fault step.before.machine step.before.goal) refl, λ coming. stays coming (may_come step.before.machine) refl)
   where
-    stays : IsComing step.command → (b : Bool) → may_come step.before.machine ≡ b → may_come step.before.machine ≡ false
+    stays : BringsUp step.command → (b : Bool) → may_come step.before.machine ≡ b → may_come step.before.machine ≡ false
     stays coming true is = absurd (calls (inr (comes_as_newcomer step coming is)))
     stays coming false is = is
 
