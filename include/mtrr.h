@@ -13,7 +13,7 @@
  *                     Don't call it in a kernel, firmware or interrupt.
  *
  * Stack, at most, of libmtrr-kernel.a: mtrr_is_file, mtrr_due and mtrr_did
- * take 256 bytes, mtrr_tidy 8 KB, mtrr_gran 9 KB, the others 4 KB.
+ * take 256 bytes, mtrr_tidy and mtrr_gran 8 KB, the others 4 KB.
  *
  * No call allocates, keeps state, prints, waits or calls back. A call reads
  * the structs that it is given and writes only what it says. Several may run

@@ -215,7 +215,10 @@ static uint64_t number_at(int count, char **words, int place, uint64_t usual)
 
 int main(int count, char **words)
 {
-    struct mtrr_registers registers = {.width = 36, .pat = 0x0007040600070406};
+    struct mtrr_registers registers;
+    memset(&registers, 0, sizeof registers);
+    registers.width = 36;
+    registers.pat = 0x0007040600070406;
     if (!read_dump(stdin, &registers)) {
         fputs("bad dump\n", stderr);
         return 2;

@@ -20,12 +20,9 @@ use Rattle.mt_answers.specs.Lines.{check_text, disabled_line, lost_line, page_te
 
 -- the commands that may answer with any of several least lists of ranges
 abbrev pub MayChoose : DumpCommand → Type 0
-MayChoose Check = ⊥
-MayChoose Show = ⊥
-MayChoose Types = ⊥
-MayChoose (Page address index) = ⊥
 MayChoose (Tidy spare chunk) = ⊤
 MayChoose (Gran log spare chunk) = ⊤
+MayChoose other = ⊥
 
 -- What a command answers about processor 0's file. Where several lists of ranges have the least length, `tidy` and `gran` may answer with any of them;
 -- every other answer is one text. They print a dump of version 1.

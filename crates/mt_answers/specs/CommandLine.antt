@@ -74,10 +74,7 @@ tidy_with None = None
 abbrev pub tidy_with_both : Option TidyOption → Option TidyOption → Option DumpCommand
 tidy_with_both (Some (Spare spare)) (Some (Chunk chunk)) = Some (Tidy spare chunk)
 tidy_with_both (Some (Chunk chunk)) (Some (Spare spare)) = Some (Tidy spare chunk)
-tidy_with_both (Some (Spare spare)) (Some (Spare other)) = None
-tidy_with_both (Some (Chunk chunk)) (Some (Chunk other)) = None
-tidy_with_both (Some option) None = None
-tidy_with_both None second = None
+tidy_with_both first second = None
 
 -- a power of two from 1000H to 10000000000H
 abbrev pub log_of : Result ℕ NumberFault → Option ℕ
@@ -111,9 +108,7 @@ big_with (Err fault) = None
 -- of 1 to 16 processors, and at most 4,096 accesses before the update and as many after it
 abbrev pub private_with : Result ℕ NumberFault → Result ℕ NumberFault → Result ℕ NumberFault → Option Command
 private_with (Ok cpus) (Ok n) (Ok accesses) = if nat_le 1 cpus && nat_le cpus 16 then Some (Threaded (Private cpus n accesses)) else None
-private_with (Ok cpus) (Ok n) (Err fault) = None
-private_with (Ok cpus) (Err fault) accesses = None
-private_with (Err fault) n accesses = None
+private_with cpus n accesses = None
 
 -- one processor to 16
 abbrev pub proc_with : Result ℕ NumberFault → Option Command
@@ -131,15 +126,13 @@ command_of_two name option =
 
 -- one decimal digit from 0 to 7
 abbrev pub index_of : List ℕ → Option ℕ
-index_of [] = None
 index_of (digit ∷ []) = if nat_le 48 digit && nat_lt digit 56 then Some (digit - 48) else None
-index_of (digit ∷ more ∷ word) = None
+index_of word = None
 
 -- a hexadecimal address below 2 ^ 52 and an index
 abbrev pub page_at : Result ℕ NumberFault → Option ℕ → Option DumpCommand
 page_at (Ok address) (Some index) = if nat_lt address (2 ^ 52) then Some (Page address index) else None
-page_at (Ok address) None = None
-page_at (Err fault) index = None
+page_at address index = None
 
 abbrev pub command_of_three : List ℕ → List ℕ → List ℕ → Option Command
 command_of_three name first second =
@@ -192,28 +185,18 @@ threaded_of (Some (Threaded command)) = Some command
 
 -- the commands that may take memory
 abbrev pub MayTakeMemory : Command → Type 0
-MayTakeMemory (Serial (Dump Check)) = ⊥
-MayTakeMemory (Serial (Dump Show)) = ⊥
 MayTakeMemory (Serial (Dump Types)) = ⊤
-MayTakeMemory (Serial (Dump (Page address index))) = ⊥
-MayTakeMemory (Serial (Dump (Tidy spare chunk))) = ⊥
 MayTakeMemory (Serial (Dump (Gran log spare chunk))) = ⊤
 MayTakeMemory (Serial (Make n)) = ⊤
-MayTakeMemory (Serial Help) = ⊥
-MayTakeMemory (Serial Version) = ⊥
+MayTakeMemory (Serial other) = ⊥
 MayTakeMemory (Threaded command) = ⊤
 
 -- whether a command reads the input
 abbrev pub reads_input : Option Command → Bool
-reads_input None = false
 reads_input (Some (Serial (Dump command))) = true
-reads_input (Some (Serial (Make n))) = false
-reads_input (Some (Serial Help)) = false
-reads_input (Some (Serial Version)) = false
 reads_input (Some (Threaded Replay)) = true
 reads_input (Some (Threaded (Proc cpus))) = true
-reads_input (Some (Threaded (Big n))) = false
-reads_input (Some (Threaded (Private cpus n accesses))) = false
+reads_input other = false
 
 -- what a run to its end leaves of the input
 abbrev pub left_of : Option Command → List ℕ → List ℕ

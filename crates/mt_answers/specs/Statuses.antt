@@ -16,13 +16,10 @@ FitsRanges command = (asked : DumpCommand) × (command ≡ Some (Serial (Dump as
 
 -- The statuses that tell of an input are of commands that read it, and two of them of those that fit ranges into pairs.
 abbrev pub MayEnd : Option Command → Status → Type 0
-MayEnd command Done = ⊤
 MayEnd command Refused = reads_input command ≡ true
-MayEnd command Usage = ⊤
 MayEnd command BadText = reads_input command ≡ true
 MayEnd command ReadFault = reads_input command ≡ true
-MayEnd command WriteFault = ⊤
-MayEnd command NoMemory = ⊤
 MayEnd command TooLong = reads_input command ≡ true
 MayEnd command TooFew = FitsRanges command
 MayEnd command Disabled = FitsRanges command
+MayEnd command other = ⊤

@@ -1,13 +1,16 @@
 ghost use Rattle.std.specs.Prelude.{◌≡◌, ◌≤◌, IfErr, IfOk, length};
 ghost use Rattle.mt_regs.specs.Faults.{IsAccepted};
-ghost use Rattle.mt_gran.specs.Granules.{AreRounded, pages_of};
+ghost use Rattle.mt_regs.specs.RegisterFile.{page_count};
+ghost use Rattle.mt_types.specs.Runs.{IsRunsOf};
+ghost use Rattle.mt_gran.specs.Granules.{AreRounded, lost_pages, pages_of};
 ghost use Rattle.mt_gran.specs.Grained.{IsGrained, IsWhy};
 ghost use Rattle.mt_gran.specs.Listed.{runs_in};
+ghost use Rattle.mt_gran.specs.Marks.{AreRunsOf, lost_mark};
 
 use crate::lists::{lost_of, lost_parts, rounded_runs};
 use crate::{GranFault, RunList};
 use mt_regs::RegFile;
-use mt_tidy::{NO_RUN, PackedRuns, Tidied, TooFew, WorkArea, fit, own_runs_in};
+use mt_tidy::{NO_RUN, PackedRun, PackedRuns, Tidied, TooFew, WorkArea, fit, own_runs_in};
 
 /// A file of the rounded types with as few valid pairs as may be, and what was lost.
 #[derive(Drop)]
@@ -47,10 +50,32 @@ pub fn rounded(f: &RegFile, g: u8) -> RunList<612>
     })
 }
 
+// What a rounding loses. Its parts are written to the first places of an array.
+fn lost_in(f: &RegFile, own: &PackedRuns, g: u8, list: &mut [PackedRun]) -> Lost
+    requires size { g ≤ 28 }
+    requires accepted { IsAccepted f.now }
+    requires own { IsRunsOf f.now own.now }
+    requires few { length own.now ≤ 153 }
+    requires room { 306 ≤ length list.old }
+    ensures pages { result.pages ≡ lost_pages (pages_of f.now) g }
+    ensures runs { AreRunsOf (lost_mark (pages_of f.now) g) 0 (page_count f.now) (runs_in result.parts list.new) }
+    ensures few { result.parts ≤ 306 }
+    ensures places { length list.new ≡ length list.old }
+{
+    let parts = lost_parts(f, own, g, list);
+    let runs = PackedRuns {
+        packed: &list[..parts],
+    };
+    Lost {
+        pages: lost_of(f, &runs, g),
+        parts,
+    }
+}
+
 /// The file that differs from `f` in its pairs alone and gives each page its type rounded to granules of `2^g` pages,
 /// with the fewest pairs, as `fit` does, and what is lost. Each refusal comes exactly where `GranFault` says. No memory is
-/// taken: what is large is in `area`, whose contents may be any. The parts that are lost are left there, and `lost` is
-/// written where the file is rounded.
+/// taken: what is large is in `area`, whose contents may be any. The parts that are lost are left there. `lost` is written
+/// where the file is accepted and enabled.
 pub fn gran_in(
     f: &RegFile,
     g: u8,
@@ -76,19 +101,11 @@ pub fn gran_in(
         packed: &area.own[..count],
     };
     let count = rounded_runs(f, &own, g, &mut area.wanted);
-    match fit(f, &area.wanted[..count], spare, chunk, &mut area.costs) {
-        Ok(tidied) => {
-            let parts = lost_parts(f, &own, g, &mut area.wanted);
-            let pages = lost_of(
-                f,
-                &PackedRuns {
-                    packed: &area.wanted[..parts],
-                },
-                g,
-            );
-            *lost = Lost { pages, parts };
-            Ok(tidied)
-        }
+    // moved once, when all else is done: a second copy would take a file's room on the stack
+    let fitted = fit(f, &area.wanted[..count], spare, chunk, &mut area.costs);
+    *lost = lost_in(f, &own, g, &mut area.wanted);
+    match fitted {
+        Ok(tidied) => Ok(tidied),
         Err(TooFew { needs, has }) => Err(GranFault::TooFew { needs, has }),
     }
 }

@@ -1,5 +1,5 @@
 -- What a reader comes to at the end.
-use Rattle.std.proofs.Common.{◌≡◌, ℕ, Bool, true, false, List, Option, Some, None, refl}
+use Rattle.std.proofs.Common.{◌≡◌, ℕ, Bool, true, false, List, Option, Some, refl}
 use Rattle.mt_ports.specs.declared.status.Status.TheVariants.{Done}
 use Rattle.mt_dump.specs.Canon.{canon}
 use Rattle.mt_import.specs.declared.shape.Tally.{Tally}

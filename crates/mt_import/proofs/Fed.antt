@@ -1,10 +1,9 @@
 -- Reading a log through a feed: what holds between two lines, and how each line keeps it.
-use Rattle.std.proofs.Common.{◌≡◌, ◌+◌, ◌≤◌, ◌<◌, ℕ, Bool, true, false, nat_lt, List, ◌∷◌, ◌++◌, length, take, Option, Some, None, refl, sym, ◌∙◌, ap, arith, inl, inr}
+use Rattle.std.proofs.Common.{◌≡◌, ◌+◌, ◌≤◌, ◌<◌, ℕ, Bool, true, false, nat_lt, List, ◌++◌, length, take, Option, Some, None, refl, sym, ◌∙◌, ap, arith, inl, inr}
 use Rattle.std.specs.Prelude.{Ok}
 use Rattle.std.proofs.lemmas.Bool.{cases_lt}
 use Rattle.std.proofs.lemmas.Bool.Decides.{nat_tests}
 use Rattle.std.proofs.lemmas.List.{length-take-le, take_all}
-use Rattle.mt_ports.specs.declared.status.Status.TheVariants.{BadText}
 use Rattle.mt_text.specs.Text.{lines_of, past_limit}
 use Rattle.mt_text.specs.Feed.{Feeding, LendsFirst, Lines, at_start}
 use Rattle.mt_text.specs.declared.line.Line.{Line}
@@ -19,9 +18,9 @@ use Rattle.mt_import.specs.declared.reading.Said.TheVariants.{Long}
 use Rattle.mt_import.specs.Readings.{Fact, context_after, line_facts, starts}
 use Rattle.mt_import.specs.Shown.{chosen, context_behind, facts_from, facts_of_line, format_of, is_auto, said_in}
 use Rattle.mt_import.specs.Supplied.{Supplied}
-use Rattle.mt_import.specs.Outcome.{Seen, Told, ended, ended_with, facts_fault, nothing_seen, outcome, seen_after, unless}
+use Rattle.mt_import.specs.Outcome.{Seen, Told, ended_with, facts_fault, nothing_seen, outcome, seen_after, unless}
 use Rattle.mt_import.specs.Import.{log_told}
-use Rattle.mt_import.specs.Reader.{HasTaken, State, slots_of}
+use Rattle.mt_import.specs.Reader.{HasTaken, State, known_in, slots_of}
 use Rattle.mt_import.proofs.Facts.{fault_append, seen_append}
 use Rattle.mt_import.proofs.Same.{same_end}
 
@@ -162,7 +161,7 @@ module _ (left_first left after : Option (List ℕ)) (given_first given given_af
 -- at the end of all lines
 module _ (left_first left after : Option (List ℕ)) (given_first given given_after : ℕ) (feed new : Feeding) (choice : Choice) (supplied : Supplied) (reader : State) (reading : IsReading choice supplied left_first left given_first given feed reader)
     (lines : Lines feed new left after given given_after (Ok None)) where
-  pub ends : (bytes : List ℕ) → left_first ≡ Some bytes → ended_with (is_auto choice) supplied (slots_of reader) reader.processors reader.width reader.tally ≡ log_told choice supplied bytes
+  pub ends : (bytes : List ℕ) → left_first ≡ Some bytes → ended_with (is_auto choice) supplied (slots_of reader) reader.processors (known_in reader) reader.tally ≡ log_told choice supplied bytes
   ends bytes is =
       let told = reading.told bytes is in
       let next = lends_lines feed new told.after after given given_after (Ok None) (rw told.left_is at lines) in

@@ -9,7 +9,7 @@ use Rattle.mt_regs.specs.RegisterFile.{RegisterFile, IsRegisterFile, low_byte}
 use Rattle.mt_regs.specs.Registers.{number_of}
 use Rattle.mt_regs.specs.declared.registers.Register.{Register}
 use Rattle.mt_dump.specs.Dumps.{IsDump, first_of, first_file}
-use Rattle.mt_import.specs.Outcome.{dump_in, file_of, files_of, first_pairs, fixed_of, is_missing, missing_line, missing_lines, note_line, note_lines, noted, value_or_zero}
+use Rattle.mt_import.specs.Outcome.{dump_in, file_of, files_of, first_pairs, fixed_of, is_missing, missing_line, missing_lines, note_line, note_lines, noted, noted_of, value_or_zero}
 use Rattle.mt_import.specs.Values.{or_supplied}
 
 pub length_pairs : (values : ℕ → Option ℕ) (n : ℕ) → length (first_pairs values n) ≡ n
@@ -143,5 +143,5 @@ missing_more hints values count = texts_more (λ n. if is_missing values count n
 
 -- the comments on the registers that were assumed
 pub notes_more : (firm values : ℕ → ℕ → Option ℕ) (count i : ℕ) (rs : List Register) (r : Register) → slice_get rs i ≡ Some r
-    → note_lines firm values count (map number_of (take (i + 1) rs)) ≡ note_lines firm values count (map number_of (take i rs)) ++ note_line (number_of r) (noted firm values count (number_of r))
-notes_more firm values count = texts_more (λ n. note_line n (noted firm values count n)) (note_lines firm values count) refl (λ n ns. refl)
+    → note_lines firm values count (map number_of (take (i + 1) rs)) ≡ note_lines firm values count (map number_of (take i rs)) ++ note_line (number_of r) (noted firm values count (number_of r)) (noted_of firm values count (number_of r))
+notes_more firm values count = texts_more (λ n. note_line n (noted firm values count n) (noted_of firm values count n)) (note_lines firm values count) refl (λ n ns. refl)

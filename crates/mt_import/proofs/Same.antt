@@ -1,17 +1,16 @@
 -- Two ways to tell the same slots come to the same texts and status.
-use Rattle.std.proofs.Common.{◌≡◌, ◌≤◌, ◌<◌, ◌+◌, ◌*◌, ◌%◌, ℕ, zero, suc, Bool, true, false, List, [], ◌∷◌, ◌++◌, map, Option, Some, None, refl, sym, subst, ap, ◌∙◌, arith}
-use Rattle.std.specs.Prelude.{IfSome, bit_or, if◌then◌else◌, ◌==◌, unwrap_or}
+use Rattle.std.proofs.Common.{◌≡◌, ◌≤◌, ◌+◌, ◌*◌, ◌%◌, ℕ, zero, suc, Bool, true, false, List, [], ◌∷◌, ◌++◌, map, Option, Some, None, refl, sym, subst, ap, ◌∙◌, arith}
+use Rattle.std.specs.Prelude.{IfSome, if◌then◌else◌, ◌==◌}
 use Rattle.mt_kinds.specs.Bits.{is_bit_set}
 use Rattle.mt_regs.specs.RegisterFile.{low_byte}
 use Rattle.mt_regs.specs.Registers.{fixed_numbers}
 use Rattle.mt_import.specs.declared.shape.Slot.{Slot}
 use Rattle.mt_import.specs.declared.shape.Tally.{Tally}
 use Rattle.mt_import.specs.declared.supplied.Assumed.{Assumed}
-use Rattle.mt_import.specs.Slot.{is_disabled, whole_value}
 use Rattle.mt_import.specs.Supplied.{IsSupplied, Supplied, all_assumed, supplied_value}
-use Rattle.mt_import.specs.Values.{assumed_capabilities, assumed_pair, assumed_value, assumed_width, assumed_zero, base_of, disabled_value, firm_value, firm_width, mask_of, masks_in, only_if, or_supplied, pair_count, shown_pairs, value_by, widest, width_by}
-use Rattle.mt_import.specs.Outcome.{Seen, Slots, Told, dump_told, ended, ended_by, ended_with, file_of, files_of, first_pairs, firm_of, fixed_of, hint_of, is_missing, missing_lines, missing_of, missing_width, needed, note_line, note_lines, noted, notes_of, processors, refusal, remarks, slot_shown, value_or_zero, values_of, width_note}
-use Rattle.mt_import.specs.Reader.{HasTaken, IsFit, State, slots_of}
+use Rattle.mt_import.specs.Values.{Known, assumed_capabilities, assumed_of, assumed_pair, assumed_value, assumed_zero, base_of, disabled_value, firm_value, firm_width, has_pairs, is_unshown, mask_of, masks_in, only_if, or_supplied, pair_count, shown_pairs, shows_pairs, widest, width_by}
+use Rattle.mt_import.specs.Outcome.{Seen, Slots, Told, dump_told, ended, ended_by, ended_with, file_of, files_of, first_pairs, firm_of, fixed_of, hint_of, is_missing, known_by, known_of, missing_lines, missing_of, missing_width, needed, note_line, note_lines, noted, noted_of, notes_of, processors, refusal, remarks, slot_shown, value_or_zero, values_of, width_note}
+use Rattle.mt_import.specs.Reader.{HasTaken, IsFit, State, known_in, slots_of, values_in}
 
 -- ---- the same slots of one processor
 
@@ -29,14 +28,24 @@ module _ (v w : ℕ → Slot) (same : (n : ℕ) → v n ≡ w n) where
   same_capabilities : assumed_capabilities v ≡ assumed_capabilities w
   same_capabilities = rw (same 0xfe, same_pairs 32) refl
 
+  same_unshown : (number : ℕ) → is_unshown v number ≡ is_unshown w number
+  same_unshown number = rw (same (base_of number), same (mask_of number)) refl
+
+  same_shows : (n : ℕ) → shows_pairs v n ≡ shows_pairs w n
+  same_shows zero = refl
+  same_shows (suc n) = rw (same_unshown (0x200 + 2 * n), same_shows n) refl
+
+  same_has : has_pairs v ≡ has_pairs w
+  same_has = rw (same 0x2ff, same_shows 32) refl
+
   same_zero : (number : ℕ) → assumed_zero v number ≡ assumed_zero w number
-  same_zero number = rw (same (base_of number), same (mask_of number)) refl
+  same_zero number = rw (same_unshown number, same_has) refl
 
   same_assumed_pair : (assumed : Assumed) (width : Option ℕ) (number : ℕ) → assumed_pair assumed v width number ≡ assumed_pair assumed w width number
   same_assumed_pair assumed width number = rw (same number, same_zero number) refl
 
-  same_assumed : (assumed : Assumed) (width : Option ℕ) (number : ℕ) → assumed_value assumed v width number ≡ assumed_value assumed w width number
-  same_assumed assumed width number = rw (same_capabilities, same_assumed_pair assumed width number) refl
+  same_assumed : (assumed : Assumed) (known : Known) (number : ℕ) → assumed_value assumed v known number ≡ assumed_value assumed w known number
+  same_assumed assumed known number = rw (same_capabilities, same_assumed_pair assumed known.width number) refl
 
   same_masks : (n : ℕ) → masks_in v n ≡ masks_in w n
   same_masks zero = refl
@@ -86,23 +95,31 @@ module _ (v w : ℕ → ℕ → Option ℕ) (same : (k n : ℕ) → v k n ≡ w 
   same_noted zero number = refl
   same_noted (suc k) number = rw (same_noted k number, same k number, same_firm_too k number) refl
 
+  same_noted_of : (count number value : ℕ) → noted_of a v count number value ≡ noted_of b w count number value
+  same_noted_of zero number value = refl
+  same_noted_of (suc k) number value = rw (same_noted_of k number value, same k number, same_firm_too k number) refl
+
+  same_line : (count number : ℕ) (value : Option ℕ) → note_line number value (noted_of a v count number) ≡ note_line number value (noted_of b w count number)
+  same_line count number None = refl
+  same_line count number (Some value) = rw (same_noted_of count number value, same_noted_of count number 0) refl
+
   same_notes : (count : ℕ) (numbers : List ℕ) → note_lines a v count numbers ≡ note_lines b w count numbers
   same_notes count [] = refl
-  same_notes count (number ∷ numbers) = rw (same_noted count number, same_notes count numbers) refl
+  same_notes count (number ∷ numbers) = rw (same_noted count number, same_line count number (noted b w count number), same_notes count numbers) refl
 
 -- ---- the same slots of all processors
 
-module _ (supplied : Supplied) (v w : Slots) (same : (k n : ℕ) → v k n ≡ w k n) (shown : Option ℕ) where
-  same_width : width_by supplied v shown ≡ width_by supplied w shown
+module _ (supplied : Supplied) (v w : Slots) (same : (k n : ℕ) → v k n ≡ w k n) (shown : Known) where
+  same_width : width_by supplied v shown.width ≡ width_by supplied w shown.width
   same_width = rw (same_masks (v 0) (w 0) (same 0) 32) refl
 
   same_value : (k n : ℕ) → values_of supplied v shown k n ≡ values_of supplied w shown k n
   unfolding values_of
-  same_value k n = rw (same_width, same_firm (v k) (w k) (same k) supplied n, same_assumed (v k) (w k) (same k) supplied.assumed (width_by supplied w shown) n) refl
+  same_value k n = rw (same_width, same_firm (v k) (w k) (same k) supplied n, same_assumed (v k) (w k) (same k) (assumed_of k supplied.assumed) (known_by supplied w shown) n) refl
 
   same_hints : (n : ℕ) → hint_of supplied v shown n ≡ hint_of supplied w shown n
   unfolding hint_of
-  same_hints n = rw (same_width, same_assumed (v 0) (w 0) (same 0) all_assumed (or_supplied (width_by supplied w shown) (Some 52)) n) refl
+  same_hints n = rw (same_width, same_assumed (v 0) (w 0) (same 0) all_assumed (record { width = or_supplied (width_by supplied w shown.width) (Some 52); format = shown.format }) n) refl
 
   same_firm_of : (k n : ℕ) → firm_of supplied v k n ≡ firm_of supplied w k n
   unfolding firm_of
@@ -111,28 +128,28 @@ module _ (supplied : Supplied) (v w : Slots) (same : (k n : ℕ) → v k n ≡ w
   same_missing_of : (count : ℕ) → missing_of supplied v count shown ≡ missing_of supplied w count shown
   same_missing_of count =
       rw (same_width, same_masks (v 0) (w 0) (same 0) 32, same_value 0 0xfe)
-      (ap (λ l. missing_width (width_by supplied w shown) (widest (masks_in (w 0) 32)) ++ l)
+      (ap (λ l. missing_width (width_by supplied w shown.width) (widest (masks_in (w 0) 32)) ++ l)
       (same_lines (values_of supplied v shown) (values_of supplied w shown) same_value (hint_of supplied v shown) (hint_of supplied w shown) same_hints count (needed (values_of supplied w shown 0 0xfe))))
 
   same_notes_of : (count : ℕ) → notes_of supplied v count shown ≡ notes_of supplied w count shown
   same_notes_of count =
       rw (same_width, same_value 0 0xfe)
-      (ap (λ l. width_note (firm_width supplied shown) (width_by supplied w shown) ++ l)
+      (ap (λ l. width_note (firm_width supplied shown.width) (width_by supplied w shown.width) ++ l)
       (same_notes (values_of supplied v shown) (values_of supplied w shown) same_value (firm_of supplied v) (firm_of supplied w) same_firm_of count (needed (values_of supplied w shown 0 0xfe))))
 
   pub same_ended : (auto : Bool) (count : ℕ) (tally : Tally) → ended_with auto supplied v count shown tally ≡ ended_with auto supplied w count shown tally
   same_ended auto count tally =
-      ap (λ m. ended_by m (notes_of supplied v count shown) tally auto (values_of supplied v shown) count (width_by supplied v shown)) (same_missing_of count)
-      ∙ ap (λ m. ended_by (missing_of supplied w count shown) m tally auto (values_of supplied v shown) count (width_by supplied v shown)) (same_notes_of count)
-      ∙ same_by (values_of supplied v shown) (values_of supplied w shown) same_value (missing_of supplied w count shown) (notes_of supplied w count shown) tally auto count (width_by supplied v shown)
+      ap (λ m. ended_by m (notes_of supplied v count shown) tally auto (values_of supplied v shown) count (width_by supplied v shown.width)) (same_missing_of count)
+      ∙ ap (λ m. ended_by (missing_of supplied w count shown) m tally auto (values_of supplied v shown) count (width_by supplied v shown.width)) (same_notes_of count)
+      ∙ same_by (values_of supplied v shown) (values_of supplied w shown) same_value (missing_of supplied w count shown) (notes_of supplied w count shown) tally auto count (width_by supplied v shown.width)
       ∙ ap (λ m. ended_by (missing_of supplied w count shown) (notes_of supplied w count shown) tally auto (values_of supplied w shown) count m) same_width
 
 -- what the reader and the words tell is what the facts show
 pub same_end : (auto : Bool) (supplied : Supplied) (state : State) (seen : Seen) → HasTaken state seen
-    → ended_with auto supplied (slots_of state) state.processors state.width state.tally ≡ ended auto supplied seen
+    → ended_with auto supplied (slots_of state) state.processors (known_in state) state.tally ≡ ended auto supplied seen
 same_end auto supplied state seen held =
     rw (held.processors_is, held.width_is, held.tally_is)
-    (same_ended supplied (slots_of state) (slot_shown seen.readings) held.slots_are seen.width auto (processors seen.readings) seen.tally)
+    (same_ended supplied (slots_of state) (slot_shown seen.readings) held.slots_are (known_of seen) auto (processors seen.readings) seen.tally)
 
 -- ---- the capability register of processor 0 has at most 32 pairs
 
@@ -154,30 +171,30 @@ few_pairs slots few = by ((slots 0xfe).bits % 256 == 255)
 low_of : (count : ℕ) → count ≤ 32 → low_byte (count + 0x500) ≤ 32
 low_of count few = omega (arith, few)
 
-module _ (supplied : Supplied) (slots : ℕ → Slot) (width : Option ℕ) (few : low_byte (slots 0xfe).value ≤ 32) (sound : IsSupplied supplied) where
+module _ (supplied : Supplied) (slots : ℕ → Slot) (known : Known) (few : low_byte (slots 0xfe).value ≤ 32) (sound : IsSupplied supplied) where
   from_assumed : (test assumed : Bool) (value : ℕ) → only_if assumed (if test then Some (pair_count slots + 0x500) else None) ≡ Some value → low_byte value ≤ 32
   from_assumed true true value is = let e : pair_count slots + 0x500 ≡ value = cc is in rw (← e) (low_of (pair_count slots) (few_pairs slots few))
   from_assumed false true value is = cc is
   from_assumed test false value is = cc is
 
-  from_supplied : (given : Option ℕ) → supplied_value supplied 0xfe ≡ given → (value : ℕ) → or_supplied (or_supplied given None) (assumed_value supplied.assumed slots width 0xfe) ≡ Some value → low_byte value ≤ 32
+  from_supplied : (given : Option ℕ) → supplied_value supplied 0xfe ≡ given → (value : ℕ) → or_supplied (or_supplied given None) (assumed_value supplied.assumed slots known 0xfe) ≡ Some value → low_byte value ≤ 32
   from_supplied (Some other) given value is = sound.pairs value (given ∙ is)
   from_supplied None given value is = from_assumed (is_bit_set (slots 0xfe).value 8) supplied.assumed.capabilities value is
 
-  from_shown : (whole : Bool) (value : ℕ) → or_supplied (or_supplied (if whole then Some (slots 0xfe).value else None) (or_supplied (supplied_value supplied 0xfe) None)) (assumed_value supplied.assumed slots width 0xfe) ≡ Some value → low_byte value ≤ 32
+  from_shown : (whole : Bool) (value : ℕ) → or_supplied (or_supplied (if whole then Some (slots 0xfe).value else None) (or_supplied (supplied_value supplied 0xfe) None)) (assumed_value supplied.assumed slots known 0xfe) ≡ Some value → low_byte value ≤ 32
   from_shown true value is = let e : (slots 0xfe).value ≡ value = cc is in rw (← e) few
   from_shown false value is = from_supplied (supplied_value supplied 0xfe) refl value is
 
-pub sound_end : (supplied : Supplied) (state : State) (seen : Seen) → HasTaken state seen → IsSupplied supplied → (value : ℕ) → values_of supplied (slots_of state) state.width 0 0xfe ≡ Some value → low_byte value ≤ 32
+pub sound_end : (supplied : Supplied) (state : State) (seen : Seen) → HasTaken state seen → IsSupplied supplied → (value : ℕ) → values_in supplied state 0 0xfe ≡ Some value → low_byte value ≤ 32
 unfolding values_of
 sound_end supplied state seen held sound value is =
     let few : low_byte (slots_of state 0 0xfe).value ≤ 32 = rw (held.slots_are 0 0xfe) (held.pairs 0) in
-    from_shown supplied (slots_of state 0) (width_by supplied (slots_of state) state.width) few sound ((slots_of state 0 0xfe).fresh == 0xffffffffffffffff) value is
+    from_shown supplied (slots_of state 0) (known_by supplied (slots_of state) (known_in state)) few sound ((slots_of state 0 0xfe).fresh == 0xffffffffffffffff) value is
 
 -- ---- what a value is made of
 
-pub value_is : (supplied : Supplied) (slots : Slots) (shown : Option ℕ) (k n : ℕ)
-    → values_of supplied slots shown k n ≡ or_supplied (firm_value supplied (slots k) n) (assumed_value supplied.assumed (slots k) (width_by supplied slots shown) n)
+pub value_is : (supplied : Supplied) (slots : Slots) (shown : Known) (k n : ℕ)
+    → values_of supplied slots shown k n ≡ or_supplied (firm_value supplied (slots k) n) (assumed_value (assumed_of k supplied.assumed) (slots k) (known_by supplied slots shown) n)
 unfolding values_of
 value_is supplied slots shown k n = refl
 

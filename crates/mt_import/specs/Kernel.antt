@@ -7,7 +7,7 @@ use Rattle.mt_text.specs.Words.{text_of, place_of}
 use Rattle.mt_text.specs.Number.{hex_number, decimal_number}
 use Rattle.mt_text.specs.declared.place.Place.{Place}
 use Rattle.mt_import.specs.declared.reading.Said.{Said}
-use Rattle.mt_import.specs.declared.reading.Said.TheVariants.{Nothing, Shows, Begins, FixedRanges, VariableRanges}
+use Rattle.mt_import.specs.declared.reading.Said.TheVariants.{Nothing, Shows, Begins, FixedRanges, VariableRanges, Warns}
 use Rattle.mt_import.specs.declared.shape.Shown.{Shown}
 use Rattle.mt_import.specs.Pieces.{is_text, number_in, shown_bits, value_at}
 use Rattle.mt_import.specs.Readings.{one_shown, two_shown}
@@ -131,11 +131,17 @@ abbrev pub disabled_said : Option ℕ → Place → Said
 disabled_said None place = Nothing
 disabled_said (Some pair) place = Shows (Some 0) (one_shown (shown_bits (0x201 + 2 * pair) 0x800 0 place))
 
+-- ---- `mtrr: your CPUs had inconsistent variable MTRR settings`
+
+abbrev pub is_warning_line : List (ℕ × List ℕ) → Bool
+is_warning_line words = is_text (codes "mtrr:") (text_of words 0) && is_text (codes "CPUs") (text_of words 2) && is_text (codes "inconsistent") (text_of words 4)
+
 -- ---- all lines
 
 abbrev pub kernel_said : Bool → ℕ → List (ℕ × List ℕ) → Said
 kernel_said alone number words =
-    if length words == 4 && is_text (codes "MTRR") (text_of words 0) then head_said alone number words
+    if is_warning_line words then Warns
+    else if length words == 4 && is_text (codes "MTRR") (text_of words 0) then head_said alone number words
     else if length words == 2 && is_text (codes "disabled") (text_of words 1) then disabled_said (number_in (decimal_number (text_of words 0) 31)) (place_of number words 1)
     else if length words == 2 then run_said number words
     else if length words == 6 && is_text (codes "base") (text_of words 1) && is_text (codes "mask") (text_of words 3) then pair_said (number_in (decimal_number (text_of words 0) 31)) number words

@@ -1,5 +1,5 @@
--- Lines of Linux on MTRRs and the PAT, from 2.6 to 6.12: print_mtrr_state (arch/x86/kernel/cpu/mtrr/generic.c), mtrr_seq_show (arch/x86/kernel/cpu/mtrr/if.c),
--- print_out_mtrr_range_state (arch/x86/kernel/cpu/mtrr/cleanup.c), and those on the PAT (arch/x86/mm/pat/memtype.c).
+-- Lines of Linux on MTRRs and the PAT. Source: Linux 6.1: arch/x86/kernel/cpu/mtrr/generic.c, `print_mtrr_state`; arch/x86/kernel/cpu/mtrr/if.c, `mtrr_seq_show`; arch/x86/mm/pat/memtype.c,
+-- `__init_cache_modes`. Without a source: the lines of other versions and of the cleanup, as docs/IMPORT.md says.
 --     linux_said number line      what a line says
 use Rattle.std.specs.Prelude.{ℕ, ◌+◌, ◌-◌, ◌*◌, ◌==◌, ◌&&◌, ◌||◌, not, nat_lt, bit_and, is_some, codes, Bool, false, List, [], ◌∷◌, length, take, drop, if◌then◌else◌, Option, Some, None, Result, Ok, Err}
 use Rattle.mt_text.specs.Text.{words_of}
@@ -8,7 +8,7 @@ use Rattle.mt_text.specs.Number.{hex_number, decimal_number}
 use Rattle.mt_text.specs.declared.fault.NumberFault.{NumberFault}
 use Rattle.mt_text.specs.declared.place.Place.{Place}
 use Rattle.mt_import.specs.declared.reading.Said.{Said}
-use Rattle.mt_import.specs.declared.reading.Said.TheVariants.{Nothing, Shows, Warns}
+use Rattle.mt_import.specs.declared.reading.Said.TheVariants.{Nothing, Shows}
 use Rattle.mt_import.specs.declared.shape.Shown.{Shown}
 use Rattle.mt_import.specs.Pieces.{before, behind, is_text, number_in, prefixed_number, shown_bits, shows_one, value_at}
 use Rattle.mt_import.specs.Readings.{one_shown, two_shown}
@@ -71,22 +71,15 @@ pat_said number words = pat_from (pat_word words) number words
 
 -- ---- `x86 PAT enabled: cpu 0, old 0x7040600070406, new 0x7010600070106`
 
-abbrev pub processor_in : Result ℕ NumberFault → Option ℕ → Place → Said
-processor_in (Ok processor) value place = shows_one (Some processor) (Some 0x277) value place
-processor_in (Err fault) value place = Nothing
-
-abbrev pub processor_by : Option (List ℕ) → Option ℕ → Place → Said
-processor_by (Some digits) value place = processor_in (decimal_number digits 65535) value place
-processor_by None value place = Nothing
-
+-- The registers of a kernel's log are processor 0's, so that the lines of other processors are passed over.
 abbrev pub is_pat_change : List (ℕ × List ℕ) → Bool
 is_pat_change words =
     length words == 9 && is_text (codes "PAT") (text_of words 1) && is_text (codes "enabled:") (text_of words 2) && is_text (codes "cpu") (text_of words 3)
-    && is_text (codes "old") (text_of words 5) && is_text (codes "new") (text_of words 7)
+    && is_text (codes "0,") (text_of words 4) && is_text (codes "old") (text_of words 5) && is_text (codes "new") (text_of words 7)
 
 abbrev pub pat_changed : ℕ → List (ℕ × List ℕ) → Said
 pat_changed number words =
-    if is_pat_change words then processor_by (before (codes ",") (text_of words 4)) (prefixed_number (text_of words 8)) (place_of number words 8) else Nothing
+    if is_pat_change words then shows_one (Some 0) (Some 0x277) (prefixed_number (text_of words 8)) (place_of number words 8) else Nothing
 
 -- ---- sizes: `2048MB`
 
@@ -181,7 +174,11 @@ region_said number words =
     then region_by (amount_by (cut_before (codes ":") (amount_text words))) (type_in (before (codes ",") (text_of words (amount_word words + 1)))) number words
     else Nothing
 
--- ---- `reg 0, base: 2GB, range: 256MB, type uncachable`, of the cleanup
+-- ---- `reg 0, base: 2GB, range: 256MB, type UC`, of the cleanup
+
+-- `Other` is more than one type.
+abbrev pub cleanup_type : List ℕ → Option ℕ
+cleanup_type word = if is_text (codes "UC") word then Some 0 else if is_text (codes "WP") word then Some 5 else if is_text (codes "WB") word then Some 6 else type_named word
 
 abbrev pub is_cleanup : List (ℕ × List ℕ) → Bool
 is_cleanup words =
@@ -195,7 +192,7 @@ abbrev pub cleanup_said : ℕ → List (ℕ × List ℕ) → Said
 cleanup_said number words =
     if is_cleanup words
     then pair_shown (pair_by (before (codes ",") (text_of words 1))) (place_of number words 3)
-    (base_value (amount_by (before (codes ",") (text_of words 3))) (type_named (text_of words 7))) (place_of number words 5) (amount_by (before (codes ",") (text_of words 5)))
+    (base_value (amount_by (before (codes ",") (text_of words 3))) (cleanup_type (text_of words 7))) (place_of number words 5) (amount_by (before (codes ",") (text_of words 5)))
     else Nothing
 
 -- ---- `MTRR map: 5 entries (3 fixed + 2 variable; max 23), built from 10 variable MTRRs`
@@ -210,11 +207,6 @@ is_map words =
     length words == 16 && is_text (codes "map:") (text_of words 1) && is_text (codes "built") (text_of words 11) && is_text (codes "variable") (text_of words 14)
     && is_text (codes "MTRRs") (text_of words 15)
 
--- ---- `mtrr: your CPUs had inconsistent variable MTRR settings`
-
-abbrev pub is_warning_line : List (ℕ × List ℕ) → Bool
-is_warning_line words = is_text (codes "CPUs") (text_of words 2) && is_text (codes "inconsistent") (text_of words 4)
-
 -- ---- all lines
 
 abbrev pub linux_words_said : ℕ → List (ℕ × List ℕ) → Said
@@ -223,7 +215,6 @@ linux_words_said number words =
     else if is_pat_name (text_of words 0) then pat_said number words
     else if is_text (codes "reg") (text_of words 0) then cleanup_said number words
     else if is_some (behind (codes "reg") (text_of words 0)) then region_said number words
-    else if is_text (codes "mtrr:") (text_of words 0) then (if is_warning_line words then Warns else Nothing)
     else if is_map words then map_shown (decimal_number (text_of words 13) 255) (place_of number words 13)
     else kernel_said false number words
 

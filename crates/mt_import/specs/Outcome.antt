@@ -1,6 +1,6 @@
 -- What facts and supplied words come to: the texts and the status (own).
 --     outcome auto supplied seen facts      what facts come to that stand behind others
-use Rattle.std.specs.Prelude.{ℕ, zero, suc, ◌+◌, ◌*◌, ◌==◌, ◌&&◌, ◌||◌, nat_lt, not, max, bit_or, codes, decimal, Bool, true, false, List, [], ◌∷◌, ◌++◌, map, replicate, if◌then◌else◌, Option, Some, None, is_none, is_some, unwrap_or}
+use Rattle.std.specs.Prelude.{ℕ, zero, suc, ◌+◌, ◌-◌, ◌*◌, ◌/◌, ◌%◌, ◌==◌, ◌&&◌, ◌||◌, nat_lt, not, max, bit_or, codes, decimal, Bool, true, false, List, [], ◌∷◌, ◌++◌, map, replicate, if◌then◌else◌, Option, Some, None, is_none, unwrap_or}
 use Rattle.mt_ports.specs.Causes.{one_more}
 use Rattle.mt_ports.specs.declared.status.Status.{Status}
 use Rattle.mt_ports.specs.declared.status.Status.TheVariants.{Done, Refused, BadText}
@@ -17,13 +17,14 @@ use Rattle.mt_import.specs.declared.fault.Rival.{Rival}
 use Rattle.mt_import.specs.declared.fault.Rival.TheVariants.{Line, Word}
 use Rattle.mt_import.specs.declared.format.Format.{Format}
 use Rattle.mt_import.specs.declared.format.Format.TheVariants.{Rdmsr, X86info, Inteltool, Coreboot, Edk2, Linux, Xen}
+use Rattle.mt_import.specs.declared.shape.LastPair.{LastPair}
 use Rattle.mt_import.specs.declared.shape.Reading.{Reading}
 use Rattle.mt_import.specs.declared.shape.Slot.{Slot}
 use Rattle.mt_import.specs.declared.shape.Tally.{Tally}
 use Rattle.mt_import.specs.Readings.{Fact, is_line, is_register_value, is_width, is_warning, is_fault}
 use Rattle.mt_import.specs.Slot.{blank_slot, clashes, slot_with}
 use Rattle.mt_import.specs.Supplied.{Supplied, all_assumed, bits_differ, differs, supplied_value}
-use Rattle.mt_import.specs.Values.{assumed_value, firm_value, firm_width, masks_in, or_supplied, value_by, widest, width_by}
+use Rattle.mt_import.specs.Values.{Known, assumed_value, firm_value, firm_width, is_pair_number, masks_in, or_supplied, value_by, widest, width_by}
 
 -- ---- what facts show
 
@@ -73,6 +74,18 @@ abbrev pub capabilities_shown : List Reading → Slot
 capabilities_shown [] = blank_slot
 capabilities_shown (reading ∷ before) = capabilities_after reading (capabilities_shown before)
 
+-- The pair of a reading that shows V, bit 11 of PhysMask, as set. It is counted from 1, and is 0 where the reading shows something else.
+abbrev pub enabled_pair : Reading → ℕ
+enabled_pair reading = if is_pair_number reading.number && reading.number % 2 == 1 && is_bit_set reading.value 11 then (reading.number - 0x1ff) / 2 else 0
+
+-- the last pair whose V is shown as set, behind one more reading
+abbrev pub last_after : Reading → LastPair → LastPair
+last_after reading before = if nat_lt before.count (enabled_pair reading) then record { count = enabled_pair reading; line = reading.place.line } else before
+
+abbrev pub last_shown : List Reading → LastPair
+last_shown [] = record { count = 0; line = 0 }
+last_shown (reading ∷ before) = last_after reading (last_shown before)
+
 -- how many processors there are: as many as are shown, and one at least
 abbrev pub processors : List Reading → ℕ
 processors [] = 1
@@ -84,13 +97,34 @@ abbrev pub or_fault : Option ImportFault → Option ImportFault → Option Impor
 or_fault (Some fault) other = Some fault
 or_fault None other = other
 
--- A word or a line before it gives other bits. All processors have one capability register's value.
+-- VCNT, bits 7:0 of the capability register, is less than this
+abbrev pub counts_fewer : Option ℕ → ℕ → Bool
+counts_fewer None pairs = false
+counts_fewer (Some capabilities) pairs = nat_lt (low_byte capabilities) pairs
+
+-- the capability register, where all bits of VCNT are shown
+abbrev pub counted : Slot → Option ℕ
+counted capabilities = if capabilities.bits % 256 == 255 then Some capabilities.value else None
+
+-- A capability register that lines show before has other bits, or VCNT doesn't count a pair that they show as enabled.
+abbrev pub capability_rival : Slot → LastPair → Reading → Option Rival
+capability_rival capabilities last reading =
+    if clashes capabilities reading then Some (Line capabilities.line)
+    else if counts_fewer (counted (slot_with capabilities reading)) last.count then Some (Line last.line)
+    else None
+
+abbrev pub count_rival : Slot → LastPair → Reading → Option Rival
+count_rival capabilities last reading =
+    if counts_fewer (counted capabilities) (enabled_pair reading) then Some (Line capabilities.line)
+    else if reading.number == 0xfe then capability_rival capabilities last reading
+    else None
+
+-- A word or a line before it gives other bits, or a VCNT without an enabled pair. All processors have one capability register's value.
 abbrev pub rival : Supplied → List Reading → Reading → Option Rival
 rival supplied before reading =
-    if bits_differ (supplied_value supplied reading.number) reading.bits reading.value then Some Word
+    if bits_differ (supplied_value supplied reading.number) reading.bits reading.value || counts_fewer (supplied_value supplied 0xfe) (enabled_pair reading) then Some Word
     else if clashes (slot_shown before reading.processor reading.number) reading then Some (Line (slot_shown before reading.processor reading.number).line)
-    else if reading.number == 0xfe && clashes (capabilities_shown before) reading then Some (Line (capabilities_shown before).line)
-    else None
+    else count_rival (capabilities_shown before) (last_shown before) reading
 
 abbrev pub contradiction : Reading → Option Rival → Option ImportFault
 contradiction reading None = None
@@ -223,18 +257,46 @@ dump_in values count width capabilities = record { version = version_of count; f
 
 -- ---- notes on what was assumed
 
+abbrev pub is_empty : List ℕ → Bool
+is_empty [] = true
+is_empty (byte ∷ bytes) = false
+
 -- the value that one of so many processors has by an assumption alone
 abbrev pub noted : (ℕ → ℕ → Option ℕ) → (ℕ → ℕ → Option ℕ) → ℕ → ℕ → Option ℕ
 noted firm values zero number = None
 noted firm values (suc k) number = or_supplied (noted firm values k number) (if is_none (firm k number) then values k number else None)
 
-abbrev pub note_line : ℕ → Option ℕ → List ℕ
-note_line number None = []
-note_line number (Some value) = line (codes "# assumed " ++ number_text number ++ codes " " ++ value_text value ++ codes " by " ++ assumption_text number value)
+abbrev pub is_value : Option ℕ → ℕ → Bool
+is_value None value = false
+is_value (Some other) value = other == value
+
+-- processor k has this value by an assumption alone
+abbrev pub is_noted : (ℕ → ℕ → Option ℕ) → (ℕ → ℕ → Option ℕ) → ℕ → ℕ → ℕ → Bool
+is_noted firm values k number value = is_none (firm k number) && is_value (values k number) value
+
+abbrev pub number_if : Bool → ℕ → List ℕ
+number_if true k = codes " " ++ decimal k
+number_if false k = []
+
+-- the numbers of those of so many processors that have this value by an assumption alone
+abbrev pub noted_of : (ℕ → ℕ → Option ℕ) → (ℕ → ℕ → Option ℕ) → ℕ → ℕ → ℕ → List ℕ
+noted_of firm values zero number value = []
+noted_of firm values (suc k) number value = noted_of firm values k number value ++ number_if (is_noted firm values k number value) k
+
+-- `# assumed 20e 0000000000000000 of cpu 0 1 by assume=pairs`
+abbrev pub note_by : ℕ → ℕ → List ℕ → List ℕ
+note_by number value processors =
+    if is_empty processors then []
+    else line (codes "# assumed " ++ number_text number ++ codes " " ++ value_text value ++ codes " of cpu" ++ processors ++ codes " by " ++ assumption_text number value)
+
+-- a register has two values by assumptions at most, of which 0 is one
+abbrev pub note_line : ℕ → Option ℕ → (ℕ → List ℕ) → List ℕ
+note_line number None processors = []
+note_line number (Some value) processors = note_by number value (processors value) ++ (if value == 0 then [] else note_by number 0 (processors 0))
 
 abbrev pub note_lines : (ℕ → ℕ → Option ℕ) → (ℕ → ℕ → Option ℕ) → ℕ → List ℕ → List ℕ
 note_lines firm values count [] = []
-note_lines firm values count (number ∷ numbers) = note_line number (noted firm values count number) ++ note_lines firm values count numbers
+note_lines firm values count (number ∷ numbers) = note_line number (noted firm values count number) (noted_of firm values count number) ++ note_lines firm values count numbers
 
 abbrev pub width_note : Option ℕ → Option ℕ → List ℕ
 width_note (Some width) assumed = []
@@ -249,10 +311,6 @@ pub record Told : Type 0 where
   pub dump : List ℕ
   pub reasons : List ℕ
   pub status : Status
-
-abbrev pub is_empty : List ℕ → Bool
-is_empty [] = true
-is_empty (byte ∷ bytes) = false
 
 abbrev pub format_name : Option Format → List ℕ
 format_name None = codes "any format"
@@ -282,27 +340,31 @@ refusal tally missing = record { notes = []; dump = []; reasons = count_line tal
 abbrev pub Slots : Type 0
 Slots = ℕ → ℕ → Slot
 
+-- what is known of a log, of which lines may show the width
+abbrev pub known_by : Supplied → Slots → Known → Known
+known_by supplied slots shown = record { width = width_by supplied slots shown.width; format = shown.format }
+
 -- the values of each processor's registers
-unfoldable pub values_of : Supplied → Slots → Option ℕ → ℕ → ℕ → Option ℕ
-values_of supplied slots shown_width k number = value_by supplied slots (width_by supplied slots shown_width) k number
+unfoldable pub values_of : Supplied → Slots → Known → ℕ → ℕ → Option ℕ
+values_of supplied slots shown k number = value_by supplied slots (known_by supplied slots shown) k number
 
 -- those that aren't assumed
 unfoldable pub firm_of : Supplied → Slots → ℕ → ℕ → Option ℕ
 firm_of supplied slots k number = firm_value supplied (slots k) number
 
 -- what processor 0's register would be if all were assumed
-unfoldable pub hint_of : Supplied → Slots → Option ℕ → ℕ → Option ℕ
-hint_of supplied slots shown_width number = assumed_value all_assumed (slots 0) (or_supplied (width_by supplied slots shown_width) (Some 52)) number
+unfoldable pub hint_of : Supplied → Slots → Known → ℕ → Option ℕ
+hint_of supplied slots shown number = assumed_value all_assumed (slots 0) (record { width = or_supplied (width_by supplied slots shown.width) (Some 52); format = shown.format }) number
 
-abbrev pub missing_of : Supplied → Slots → ℕ → Option ℕ → List ℕ
-missing_of supplied slots count shown_width =
-    missing_width (width_by supplied slots shown_width) (widest (masks_in (slots 0) 32))
-    ++ missing_lines (hint_of supplied slots shown_width) (values_of supplied slots shown_width) count (needed (values_of supplied slots shown_width 0 0xfe))
+abbrev pub missing_of : Supplied → Slots → ℕ → Known → List ℕ
+missing_of supplied slots count shown =
+    missing_width (width_by supplied slots shown.width) (widest (masks_in (slots 0) 32))
+    ++ missing_lines (hint_of supplied slots shown) (values_of supplied slots shown) count (needed (values_of supplied slots shown 0 0xfe))
 
-abbrev pub notes_of : Supplied → Slots → ℕ → Option ℕ → List ℕ
-notes_of supplied slots count shown_width =
-    width_note (firm_width supplied shown_width) (width_by supplied slots shown_width)
-    ++ note_lines (firm_of supplied slots) (values_of supplied slots shown_width) count (needed (values_of supplied slots shown_width 0 0xfe))
+abbrev pub notes_of : Supplied → Slots → ℕ → Known → List ℕ
+notes_of supplied slots count shown =
+    width_note (firm_width supplied shown.width) (width_by supplied slots shown.width)
+    ++ note_lines (firm_of supplied slots) (values_of supplied slots shown) count (needed (values_of supplied slots shown 0 0xfe))
 
 -- the dump, where its width and its capability register are known
 abbrev pub dump_told : Told → (ℕ → ℕ → Option ℕ) → ℕ → List ℕ → List ℕ → Option ℕ → Option ℕ → Told
@@ -315,12 +377,16 @@ abbrev pub ended_by : List ℕ → List ℕ → Tally → Bool → (ℕ → ℕ 
 ended_by missing notes tally auto values count width =
     if is_empty missing then dump_told (refusal tally missing) values count notes (remarks auto tally) width (values 0 0xfe) else refusal tally missing
 
-abbrev pub ended_with : Bool → Supplied → Slots → ℕ → Option ℕ → Tally → Told
-ended_with auto supplied slots count shown_width tally =
-    ended_by (missing_of supplied slots count shown_width) (notes_of supplied slots count shown_width) tally auto (values_of supplied slots shown_width) count (width_by supplied slots shown_width)
+abbrev pub ended_with : Bool → Supplied → Slots → ℕ → Known → Tally → Told
+ended_with auto supplied slots count shown tally =
+    ended_by (missing_of supplied slots count shown) (notes_of supplied slots count shown) tally auto (values_of supplied slots shown) count (width_by supplied slots shown.width)
+
+-- the width that lines show, and the format of the log
+abbrev pub known_of : Seen → Known
+known_of seen = record { width = seen.width; format = seen.tally.format }
 
 abbrev pub ended : Bool → Supplied → Seen → Told
-ended auto supplied seen = ended_with auto supplied (slot_shown seen.readings) (processors seen.readings) seen.width seen.tally
+ended auto supplied seen = ended_with auto supplied (slot_shown seen.readings) (processors seen.readings) (known_of seen) seen.tally
 
 abbrev pub unless : Option ImportFault → Told → Told
 unless (Some fault) told = record { notes = []; dump = []; reasons = fault_line fault; status = BadText }

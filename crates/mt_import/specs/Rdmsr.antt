@@ -74,14 +74,14 @@ abbrev pub said_value : Place → Result ℕ NumberFault → Said
 said_value place (Ok value) = Value value place
 said_value place (Err fault) = Nothing
 
--- `0x200 6` or `0x200: 6`, of a loop that prints register and value side by side
+-- `0x200 6` or `0x200: 6`, of a loop that prints register and value side by side, of the processor of the last call
 abbrev pub column_register : Option (List ℕ) → List ℕ → Option ℕ
 column_register (Some name) word = prefixed_register name
 column_register None word = prefixed_register word
 
 abbrev pub column_said : ℕ → List (ℕ × List ℕ) → Said
 column_said number words =
-    shows_one (Some 0) (column_register (before (codes ":") (text_of words 0)) (text_of words 0)) (number_in (hex_number (text_of words 1))) (place_of number words 1)
+    shows_one None (column_register (before (codes ":") (text_of words 0)) (text_of words 0)) (number_in (hex_number (text_of words 1))) (place_of number words 1)
 
 -- `+`, or `++` in a subshell
 abbrev pub is_traced : List ℕ → Bool

@@ -6,15 +6,19 @@ use Rattle.mt_regs.specs.Registers.{HasThreeDigits}
 use Rattle.mt_import.specs.declared.fault.ImportFault.{ImportFault}
 use Rattle.mt_import.specs.declared.fault.ImportFault.TheVariants.{LongLine, BadProcessor, TooManyPairs, BadWidth, Contradiction, WidthContradiction}
 use Rattle.mt_import.specs.declared.reading.Context.{Context}
+use Rattle.mt_import.specs.declared.shape.LastPair.{LastPair}
 use Rattle.mt_import.specs.declared.shape.Slot.{Slot}
 use Rattle.mt_import.specs.declared.shape.Tally.{Tally}
 use Rattle.mt_import.specs.Slot.{blank_slot}
-use Rattle.mt_import.specs.Outcome.{Seen, capabilities_shown, processors, slot_shown}
+use Rattle.mt_import.specs.Supplied.{Supplied}
+use Rattle.mt_import.specs.Values.{Known}
+use Rattle.mt_import.specs.Outcome.{Seen, capabilities_shown, last_shown, processors, slot_shown, values_of}
 
 pub record State : Type 0 where
   pub context : Context
   pub slots : List Slot  -- 257 for each processor
   pub capabilities : Slot
+  pub last : LastPair
   pub processors : ℕ
   pub width : Option ℕ
   pub tally : Tally
@@ -31,6 +35,14 @@ held_at slots processor (Some slot) = slice_index_or slots (257 * processor + sl
 abbrev pub slots_of : State → ℕ → ℕ → Slot
 slots_of state processor number = held_at state.slots processor (slot_of number)
 
+-- the width that lines show, and the format of the log
+abbrev pub known_in : State → Known
+known_in state = record { width = state.width; format = state.tally.format }
+
+-- the values of each processor's registers
+abbrev pub values_in : Supplied → State → ℕ → ℕ → Option ℕ
+values_in supplied state = values_of supplied (slots_of state) (known_in state)
+
 -- a width that a dump may have
 abbrev pub IsFit : ℕ → Type 0
 IsFit width = (32 ≤ width) × (width ≤ 52)
@@ -40,6 +52,7 @@ pub record HasTaken (state : State) (seen : Seen) : Type 0 where
   pub size : length state.slots ≡ 4112
   pub slots_are : (processor number : ℕ) → slots_of state processor number ≡ slot_shown seen.readings processor number
   pub capabilities_is : state.capabilities ≡ capabilities_shown seen.readings
+  pub last_is : state.last ≡ last_shown seen.readings
   pub processors_is : state.processors ≡ processors seen.readings
   pub width_is : state.width ≡ seen.width
   pub tally_is : state.tally ≡ seen.tally

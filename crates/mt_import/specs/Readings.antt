@@ -17,7 +17,7 @@ use Rattle.mt_import.specs.declared.shape.Announced.{Announced}
 use Rattle.mt_import.specs.declared.shape.FixedLine.{FixedLine}
 use Rattle.mt_import.specs.declared.shape.Reading.{Reading}
 use Rattle.mt_import.specs.declared.shape.Shown.{Shown}
-use Rattle.mt_import.specs.Pieces.{shown_as, shown_bits}
+use Rattle.mt_import.specs.Pieces.{shown_as, shown_bits, unread_processor}
 
 -- a file that has each register that some file has: 32 pairs, and FIX
 unfoldable pub all_registers : RegisterFile
@@ -164,11 +164,16 @@ announced_after (Width width place) before = None
 announced_after Warns before = None
 announced_after (Long place) before = None
 
+-- Lines behind a call of all processors tell none.
+abbrev pub processor_called : Option ℕ → ℕ
+processor_called (Some processor) = processor
+processor_called None = unread_processor
+
 -- the processor that lines behind this line are of
 abbrev pub processor_after : Said → ℕ → ℕ
 processor_after (Turns processor) before = processor
+processor_after (Announces processor number) before = processor_called processor
 processor_after Nothing before = before
-processor_after (Announces processor number) before = before
 processor_after (Value value place) before = before
 processor_after (Shows processor shows) before = before
 processor_after (Begins shows) before = before

@@ -1,13 +1,20 @@
 -- The registers of a dump, by what lines have shown of them, what words supply, and what words allow to be assumed (own).
---     value_by supplied slots width k number      the value of a register of processor k
+--     value_by supplied slots known k number      the value of a register of processor k
 --     width_by supplied slots width      the address width, where lines show this one
-use Rattle.std.specs.Prelude.{ℕ, zero, suc, ◌+◌, ◌-◌, ◌*◌, ◌/◌, ◌%◌, ◌^◌, ◌==◌, ◌&&◌, ◌||◌, nat_lt, not, bit_or, Bool, true, false, List, [], ◌∷◌, position, if◌then◌else◌, Option, Some, None, is_none, unwrap_or}
+use Rattle.std.specs.Prelude.{ℕ, zero, suc, ◌+◌, ◌-◌, ◌*◌, ◌/◌, ◌%◌, ◌^◌, ◌==◌, ◌&&◌, ◌||◌, nat_lt, bit_or, Bool, true, false, List, [], ◌∷◌, position, if◌then◌else◌, Option, Some, None, unwrap_or}
 use Rattle.mt_kinds.specs.Bits.{is_bit_set}
 use Rattle.mt_regs.specs.RegisterFile.{low_byte}
+use Rattle.mt_import.specs.declared.format.Format.{Format}
+use Rattle.mt_import.specs.declared.format.Format.TheVariants.{Rdmsr, X86info, Inteltool, Coreboot, Edk2, Linux, Xen}
 use Rattle.mt_import.specs.declared.shape.Slot.{Slot}
 use Rattle.mt_import.specs.declared.supplied.Assumed.{Assumed}
-use Rattle.mt_import.specs.Slot.{is_disabled, whole_value}
+use Rattle.mt_import.specs.Slot.{is_disabled, is_whole, whole_value}
 use Rattle.mt_import.specs.Supplied.{Supplied, supplied_value}
+
+-- the address width, and the format of the log, where they are known
+pub record Known : Type 0 where
+  pub width : Option ℕ
+  pub format : Option Format
 
 -- what stands first, or else the other
 abbrev pub or_supplied : Option ℕ → Option ℕ → Option ℕ
@@ -36,9 +43,24 @@ firm_value supplied slots number = or_supplied (whole_value (slots number)) (or_
 
 -- ---- assumed
 
--- assume=pat: the value of power-up, Intel SDM, volume 3A, section IA32_PAT MSR
+-- the value of power-up: Intel SDM, volume 3A, section IA32_PAT MSR
 abbrev pub power_up_pat : ℕ
 power_up_pat = 0x0007040600070406
+
+-- the value that Xen sets: WB, WT, UC-, UC, WC, WP, UC and UC
+abbrev pub xen_pat : ℕ
+xen_pat = 0x0000050100070406
+
+-- assume=pat: the value that Xen sets in its log, or else that of power-up
+abbrev pub assumed_pat : Option Format → ℕ
+assumed_pat None = power_up_pat
+assumed_pat (Some Rdmsr) = power_up_pat
+assumed_pat (Some X86info) = power_up_pat
+assumed_pat (Some Inteltool) = power_up_pat
+assumed_pat (Some Coreboot) = power_up_pat
+assumed_pat (Some Edk2) = power_up_pat
+assumed_pat (Some Linux) = power_up_pat
+assumed_pat (Some Xen) = xen_pat
 
 -- how many of the first pairs a log shows: V of the last is shown
 abbrev pub shown_pairs : (ℕ → Slot) → ℕ → ℕ
@@ -65,9 +87,26 @@ abbrev pub assumed_mask : Slot → Option ℕ → Option ℕ
 assumed_mask slot None = None
 assumed_mask slot (Some width) = mask_of_size slot width
 
--- assume=pairs: 0 for a pair that no line shows
+-- no line shows a bit of the register's pair
+abbrev pub is_unshown : (ℕ → Slot) → ℕ → Bool
+is_unshown slots number = (slots (base_of number)).bits == 0 && (slots (mask_of number)).bits == 0
+
+-- lines show a bit of one of the first pairs
+abbrev pub shows_pairs : (ℕ → Slot) → ℕ → Bool
+shows_pairs slots zero = false
+shows_pairs slots (suc n) = if is_unshown slots (0x200 + 2 * n) then shows_pairs slots n else true
+
+-- the lines of a table show all of a register
+abbrev pub is_of_table : Slot → Bool
+is_of_table slot = is_whole slot && nat_lt 0 slot.table
+
+-- The log has this processor's pairs: one of them, or a table with its default type.
+abbrev pub has_pairs : (ℕ → Slot) → Bool
+has_pairs slots = is_of_table (slots 0x2ff) || shows_pairs slots 32
+
+-- assume=pairs: 0 for a pair that no line shows, of a processor whose pairs the log has
 abbrev pub assumed_zero : (ℕ → Slot) → ℕ → Option ℕ
-assumed_zero slots number = if (slots (base_of number)).bits == 0 && (slots (mask_of number)).bits == 0 then Some 0 else None
+assumed_zero slots number = if is_unshown slots number && has_pairs slots then Some 0 else None
 
 abbrev pub only_if : Bool → Option ℕ → Option ℕ
 only_if true value = value
@@ -76,15 +115,20 @@ only_if false value = None
 abbrev pub assumed_pair : Assumed → (ℕ → Slot) → Option ℕ → ℕ → Option ℕ
 assumed_pair assumed slots width number = or_supplied (only_if assumed.masks (assumed_mask (slots number) width)) (only_if assumed.pairs (assumed_zero slots number))
 
-abbrev pub assumed_value : Assumed → (ℕ → Slot) → Option ℕ → ℕ → Option ℕ
-assumed_value assumed slots width number =
-    if number == 0x277 then only_if assumed.pat (Some power_up_pat)
+abbrev pub assumed_value : Assumed → (ℕ → Slot) → Known → ℕ → Option ℕ
+assumed_value assumed slots known number =
+    if number == 0x277 then only_if assumed.pat (Some (assumed_pat known.format))
     else if number == 0xfe then only_if assumed.capabilities (assumed_capabilities slots)
-    else if is_pair_number number then assumed_pair assumed slots width number
+    else if is_pair_number number then assumed_pair assumed slots known.width number
     else None
 
-abbrev pub value_by : Supplied → (ℕ → ℕ → Slot) → Option ℕ → ℕ → ℕ → Option ℕ
-value_by supplied slots width k number = or_supplied (firm_value supplied (slots k) number) (assumed_value supplied.assumed (slots k) width number)
+-- Sizes and kernels' tables are of processor 0, so that masks and the capability register are assumed of it alone.
+abbrev pub assumed_of : ℕ → Assumed → Assumed
+assumed_of zero assumed = assumed
+assumed_of (suc k) assumed = record { pat = assumed.pat; pairs = assumed.pairs; masks = false; width = assumed.width; capabilities = false }
+
+abbrev pub value_by : Supplied → (ℕ → ℕ → Slot) → Known → ℕ → ℕ → Option ℕ
+value_by supplied slots known k number = or_supplied (firm_value supplied (slots k) number) (assumed_value (assumed_of k supplied.assumed) (slots k) known number)
 
 -- ---- the width
 

@@ -1,4 +1,4 @@
--- Lines of Xen's console on MTRRs: print_mtrr_state (Xen 4.11 to 4.19, xen/arch/x86/cpu/mtrr/generic.c), behind `(XEN) ` and a time stamp (printk_start_of_line, xen/drivers/char/console.c).
+-- Lines of Xen's console on MTRRs. Source: Xen 4.17: xen/arch/x86/cpu/mtrr/generic.c, `print_mtrr_state`, behind `(XEN) ` and a time stamp: xen/drivers/char/console.c, `printk_start_of_line`.
 --     xen_said number line      what a line says
 use Rattle.std.specs.Prelude.{ℕ, codes, true, List, if◌then◌else◌}
 use Rattle.mt_text.specs.Text.{words_of}

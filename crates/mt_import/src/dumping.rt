@@ -2,13 +2,13 @@ ghost use Rattle.std.specs.Prelude.{◌≡◌, ◌≤◌, ◌<◌, ◌+◌, ℕ,
 ghost use Rattle.mt_regs.specs.Registers.{fixed_numbers};
 ghost use Rattle.mt_kinds.specs.Bits.{is_bit_set};
 ghost use Rattle.mt_regs.specs.RegisterFile.{low_byte};
-ghost use Rattle.mt_import.specs.Outcome.{dump_in, dump_told, ended_with, file_of, files_of, first_pairs, fixed_of, is_empty, notes_of, refusal, remarks, value_or_zero, values_of, version_of};
-ghost use Rattle.mt_import.specs.Reader.{IsFit, slots_of};
+ghost use Rattle.mt_import.specs.Outcome.{dump_in, dump_told, ended_with, file_of, files_of, first_pairs, fixed_of, is_empty, notes_of, refusal, remarks, value_or_zero, version_of};
+ghost use Rattle.mt_import.specs.Reader.{IsFit, known_in, slots_of, values_in};
 ghost use Rattle.mt_import.specs.Values.{width_by};
 ghost use Rattle.mt_import.specs.Import.{IsWritten};
 
 use crate::shape::Tally;
-use crate::text::{Imported, count_line, warning_text};
+use crate::text::{Imported, count_line, is_empty, warning_text};
 use crate::{LogReader, Supplied};
 use arrayvec::ArrayVec;
 use mt_dump::{Dump, TextBuffer, append_text, canonical_text};
@@ -34,7 +34,7 @@ impl LogReader {
         requires processor { k < 16 }
         requires number { number < 0x1000 }
         requires fit { IfSome self.now.width IsFit }
-        ensures { result ≡ value_or_zero (values_of supplied.now (slots_of self.now) self.now.width k) number }
+        ensures { result ≡ value_or_zero (values_in supplied.now self.now k) number }
     {
         match self.value(supplied, k, number) {
             Some(value) => value,
@@ -47,7 +47,7 @@ impl LogReader {
         requires processor { k < 16 }
         requires few { count ≤ 32 }
         requires fit { IfSome self.now.width IsFit }
-        ensures { result.items ≡ first_pairs (values_of supplied.now (slots_of self.now) self.now.width k) count }
+        ensures { result.items ≡ first_pairs (values_in supplied.now self.now k) count }
     {
         let mut pairs = ArrayVec::new();
         'pairs: for n in 0..count {
@@ -64,7 +64,7 @@ impl LogReader {
     fn fixed(&self, supplied: &Supplied, k: u32) -> [u64; 11]
         requires processor { k < 16 }
         requires fit { IfSome self.now.width IsFit }
-        ensures { result ≡ map (value_or_zero (values_of supplied.now (slots_of self.now) self.now.width k)) fixed_numbers }
+        ensures { result ≡ map (value_or_zero (values_in supplied.now self.now k)) fixed_numbers }
     {
         [
             self.value_or_zero(supplied, k, 0x250),
@@ -85,7 +85,7 @@ impl LogReader {
     fn fixed_part(&self, supplied: &Supplied, k: u32, capabilities: u64) -> [u64; 11]
         requires processor { k < 16 }
         requires fit { IfSome self.now.width IsFit }
-        ensures { result ≡ fixed_of (values_of supplied.now (slots_of self.now) self.now.width k) (is_bit_set capabilities 8) }
+        ensures { result ≡ fixed_of (values_in supplied.now self.now k) (is_bit_set capabilities 8) }
     {
         if is_bit_set(capabilities, 8) {
             self.fixed(supplied, k)
@@ -101,7 +101,7 @@ impl LogReader {
         requires narrow { width ≤ 52 }
         requires pairs { low_byte capabilities ≤ 32 }
         requires fit { IfSome self.now.width IsFit }
-        ensures { result ≡ file_of (values_of supplied.now (slots_of self.now) self.now.width k) width capabilities }
+        ensures { result ≡ file_of (values_in supplied.now self.now k) width capabilities }
     {
         let count = pair_count(capabilities);
         let fixed = self.fixed_part(supplied, k, capabilities);
@@ -122,7 +122,7 @@ impl LogReader {
         requires narrow { width ≤ 52 }
         requires pairs { low_byte capabilities ≤ 32 }
         requires fit { IfSome self.now.width IsFit }
-        ensures { result.items ≡ files_of (values_of supplied.now (slots_of self.now) self.now.width) width capabilities self.now.processors }
+        ensures { result.items ≡ files_of (values_in supplied.now self.now) width capabilities self.now.processors }
     {
         let mut files = ArrayVec::new();
         'files: for k in 0..self.count() {
@@ -138,7 +138,7 @@ impl LogReader {
         requires narrow { width ≤ 52 }
         requires pairs { low_byte capabilities ≤ 32 }
         requires fit { IfSome self.now.width IsFit }
-        ensures { result ≡ dump_in (values_of supplied.now (slots_of self.now) self.now.width) self.now.processors width capabilities }
+        ensures { result ≡ dump_in (values_in supplied.now self.now) self.now.processors width capabilities }
     {
         let version = version_of(self.count());
         let files = self.files(supplied, width, capabilities);
@@ -149,12 +149,12 @@ impl LogReader {
     fn dump_told(&self, is_auto: bool, supplied: &Supplied, missing: &[u8]) -> Imported
         requires some { 1 ≤ self.now.processors }
         requires few { self.now.processors ≤ 16 }
-        requires pairs { (value : ℕ) → values_of supplied.now (slots_of self.now) self.now.width 0 0xfe ≡ Some value → low_byte value ≤ 32 }
+        requires pairs { (value : ℕ) → values_in supplied.now self.now 0 0xfe ≡ Some value → low_byte value ≤ 32 }
         requires fit { IfSome self.now.width IsFit }
         requires room { length missing.now ≤ 0x7000 }
-        ensures told { result ≡ dump_told (refusal self.now.tally missing.now) (values_of supplied.now (slots_of self.now) self.now.width) self.now.processors
-            (notes_of supplied.now (slots_of self.now) self.now.processors self.now.width) (remarks is_auto self.now.tally)
-            (width_by supplied.now (slots_of self.now) self.now.width) (values_of supplied.now (slots_of self.now) self.now.width 0 0xfe) }
+        ensures told { result ≡ dump_told (refusal self.now.tally missing.now) (values_in supplied.now self.now) self.now.processors
+            (notes_of supplied.now (slots_of self.now) self.now.processors (known_in self.now)) (remarks is_auto self.now.tally)
+            (width_by supplied.now (slots_of self.now) self.now.width) (values_in supplied.now self.now 0 0xfe) }
         ensures written { IsWritten result.status }
     {
         let tally = self.tally();
@@ -176,9 +176,9 @@ impl LogReader {
     pub fn finish(&self, is_auto: bool, supplied: &Supplied) -> Imported
         requires some { 1 ≤ self.now.processors }
         requires few { self.now.processors ≤ 16 }
-        requires pairs { (value : ℕ) → values_of supplied.now (slots_of self.now) self.now.width 0 0xfe ≡ Some value → low_byte value ≤ 32 }
+        requires pairs { (value : ℕ) → values_in supplied.now self.now 0 0xfe ≡ Some value → low_byte value ≤ 32 }
         requires fit { IfSome self.now.width IsFit }
-        ensures told { result ≡ ended_with is_auto supplied.now (slots_of self.now) self.now.processors self.now.width self.now.tally }
+        ensures told { result ≡ ended_with is_auto supplied.now (slots_of self.now) self.now.processors (known_in self.now) self.now.tally }
         ensures written { IsWritten result.status }
     {
         let missing = self.missing(supplied);
@@ -188,15 +188,6 @@ impl LogReader {
         } else {
             refusal(&self.tally(), text)
         }
-    }
-}
-
-fn is_empty(text: &[u8]) -> bool
-    ensures { result ≡ is_empty text.now }
-{
-    match text {
-        [] => true,
-        _ => false,
     }
 }
 

@@ -8,29 +8,30 @@ fn help_text() -> &'static [u8]
     ensures text { result.now ≡ help_text }
     ensures short { length result.now ≤ 0x8000 }
 {
-    b"usage: mtrr-import FORMAT [WORD ..] < LOG
+    b"usage: mtrr-import FORMAT [WORD ..] < LOG > DUMP
 
-Writes the dump for mtrr that another program's log shows. What is missing
-from it, or at fault, is told on standard error.
+Makes a dump for mtrr of another program's log. Writes what is missing or
+wrong to standard error.
 
   FORMAT          auto, coreboot, edk2, inteltool, linux, rdmsr, x86info, xen
-  REGISTER=VALUE  a register of the processors, both hexadecimal
-  maxphyaddr=N    the bits of a physical address, 32 to 52
-  assume=NAME     what may be assumed where nothing says it: capabilities,
-                  masks, pairs, pat, width or all; a comment names each
-                  value that was assumed
-  --help          this text; nothing is read
-  --version       the version; nothing is read
+  REGISTER=VALUE  supplies a register's value, both hexadecimal
+  maxphyaddr=N    supplies the bits of a physical address, 32 to 52
+  assume=NAME     assumes what no line and no word says: capabilities, masks,
+                  pairs, pat, width or all; a comment names what was assumed
+  --help          this text
+  --version       the version
+
+--help and --version read nothing.
 
 Exit status:
   0  done
   1  something is missing
   2  wrong usage
-  3  the log has a fault
+  3  a line of the log has a fault
   4  reading failed
   5  writing failed
-  6  no memory
-  7  the log has more than 16,777,216 bytes
+  6  out of memory
+  7  the input has more than 16,777,216 bytes
 "
 }
 

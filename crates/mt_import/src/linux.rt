@@ -2,7 +2,7 @@ ghost use Rattle.std.specs.Prelude.{◌≡◌, ◌≤◌, ◌<◌, ◌^◌, code
 ghost use Rattle.mt_text.specs.Number.{decimal_number};
 ghost use Rattle.mt_text.specs.Words.{place_of, text_of};
 ghost use Rattle.mt_import.specs.Pieces.{before};
-ghost use Rattle.mt_import.specs.Linux.{amount_by, amount_in, amount_text, amount_word, bytes_value, cleanup_said, cut_before, entries_from, entry_named, is_cleanup, is_configuration, is_count, is_map, is_pat_change, is_pat_name, is_size, is_warning_line, linux_said, linux_words_said, map_shown, number_behind, pair_before, pair_by, pair_numbered, pair_shown, pat_changed, pat_from, pat_said, pat_told, pat_word, region_by, region_said, size_shown, size_word, type_in, unit_named};
+ghost use Rattle.mt_import.specs.Linux.{amount_by, amount_in, amount_text, amount_word, bytes_value, cleanup_said, cleanup_type, cut_before, entries_from, entry_named, is_cleanup, is_configuration, is_count, is_map, is_pat_change, is_pat_name, is_size, linux_said, linux_words_said, map_shown, number_behind, pair_before, pair_by, pair_numbered, pair_shown, pat_changed, pat_from, pat_said, pat_told, pat_word, region_by, region_said, size_shown, size_word, type_in, unit_named};
 
 use crate::kernel::{base_value, kernel_said, type_named};
 use crate::line_words::{LineWords, head_end};
@@ -133,6 +133,7 @@ fn is_pat_change(words: &LineWords<'_>) -> bool
         && is_text(b"PAT", words.text(1))
         && is_text(b"enabled:", words.text(2))
         && is_text(b"cpu", words.text(3))
+        && is_text(b"0,", words.text(4))
         && is_text(b"old", words.text(5))
         && is_text(b"new", words.text(7))
 }
@@ -141,20 +142,11 @@ fn is_pat_change(words: &LineWords<'_>) -> bool
 fn pat_changed(words: &LineWords<'_>) -> Said
     ensures { result ≡ pat_changed words.now.number words.now.words }
 {
-    if !is_pat_change(words) {
-        return Said::Nothing;
-    }
-    let Some(digits) = before(b",", words.text(4)) else {
-        return Said::Nothing;
-    };
-    match decimal(digits, 65_535) {
-        Ok(processor) => shows_one(
-            Some(processor as u32),
-            Some(PAT),
-            prefixed_number(words.text(8)),
-            words.place(8),
-        ),
-        Err(_) => Said::Nothing,
+    if is_pat_change(words) {
+        let value = prefixed_number(words.text(8));
+        shows_one(Some(0), Some(PAT), value, words.place(8))
+    } else {
+        Said::Nothing
     }
 }
 
@@ -376,7 +368,22 @@ fn pair_before_comma(word: &[u8]) -> Option<u64>
     }
 }
 
-// `reg 0, base: 2GB, range: 256MB, type uncachable`, of the cleanup.
+fn cleanup_type(word: &[u8]) -> Option<u8>
+    ensures code { result ≡ cleanup_type word.now }
+    ensures small { IfSome result (λ code. code ≤ 6) }
+{
+    if is_text(b"UC", word) {
+        Some(0)
+    } else if is_text(b"WP", word) {
+        Some(5)
+    } else if is_text(b"WB", word) {
+        Some(6)
+    } else {
+        type_named(word)
+    }
+}
+
+// `reg 0, base: 2GB, range: 256MB, type UC`, of the cleanup.
 fn cleanup_said(words: &LineWords<'_>) -> Said
     ensures { result ≡ cleanup_said words.now.number words.now.words }
 {
@@ -387,7 +394,7 @@ fn cleanup_said(words: &LineWords<'_>) -> Said
     pair_shown(
         pair_before_comma(words.text(1)),
         words.place(3),
-        base_value(base, type_named(words.text(7))),
+        base_value(base, cleanup_type(words.text(7))),
         words.place(5),
         amount_before(b",", words.text(5)),
     )
@@ -416,12 +423,6 @@ fn map_shown(words: &LineWords<'_>) -> Said
     }
 }
 
-fn is_warning_line(words: &LineWords<'_>) -> bool
-    ensures { result ≡ is_warning_line words.now.words }
-{
-    is_text(b"CPUs", words.text(2)) && is_text(b"inconsistent", words.text(4))
-}
-
 fn linux_words_said(words: &LineWords<'_>) -> Said
     ensures { result ≡ linux_words_said words.now.number words.now.words }
 {
@@ -434,12 +435,6 @@ fn linux_words_said(words: &LineWords<'_>) -> Said
         cleanup_said(words)
     } else if behind(b"reg", word).is_some() {
         region_said(words)
-    } else if is_text(b"mtrr:", word) {
-        if is_warning_line(words) {
-            Said::Warns
-        } else {
-            Said::Nothing
-        }
     } else if is_map(words) {
         map_shown(words)
     } else {

@@ -2,17 +2,27 @@ ghost use Rattle.std.specs.Prelude.{◌≡◌, ◌≤◌, ◌<◌, ◌+◌, ◌+
 ghost use Rattle.arrayvec.specs.ArrayVec.{array_vec_len};
 ghost use Rattle.mt_regs.specs.RegisterFile.{low_byte};
 ghost use Rattle.mt_regs.specs.Registers.{HasThreeDigits, number_of, writable};
-ghost use Rattle.mt_import.specs.Outcome.{firm_of, hint_of, is_missing, missing_line, missing_lines, missing_of, needed, note_line, note_lines, noted, notes_of, values_of};
-ghost use Rattle.mt_import.specs.Reader.{IsFit, slots_of};
+ghost use Rattle.mt_import.specs.Outcome.{firm_of, hint_of, is_missing, is_value, missing_line, missing_lines, missing_of, needed, note_by, note_line, note_lines, noted, noted_of, is_noted, notes_of};
+ghost use Rattle.mt_import.specs.Reader.{IsFit, known_in, slots_of, values_in};
 
-use crate::text::{missing_line, note_line, width_hint, width_note};
+use crate::text::{append_noted, missing_line, note_by, width_hint, width_note};
 use crate::values::widest;
 use crate::{LogReader, Supplied};
 use arrayvec::ArrayVec;
 use mt_dump::{TextBuffer, append_text};
+use mt_output::LineBuffer;
 use mt_regs::{CAPABILITIES, RegFile};
 
 const USUAL_WIDTH: u8 = 36;
+
+fn is_value(value: Option<u64>, other: u64) -> bool
+    ensures { result ≡ is_value value other }
+{
+    match value {
+        Some(value) => value == other,
+        None => false,
+    }
+}
 
 impl LogReader {
     // Whether one of the processors hasn't a register.
@@ -20,7 +30,7 @@ impl LogReader {
         requires few { self.now.processors ≤ 16 }
         requires number { number < 0x1000 }
         requires fit { IfSome self.now.width IsFit }
-        ensures { result ≡ is_missing (values_of supplied.now (slots_of self.now) self.now.width) self.now.processors number }
+        ensures { result ≡ is_missing (values_in supplied.now self.now) self.now.processors number }
     {
         'processors: for k in 0..self.count() {
             if self.value(supplied, k, number).is_none() {
@@ -35,7 +45,7 @@ impl LogReader {
         requires few { self.now.processors ≤ 16 }
         requires number { number < 0x1000 }
         requires fit { IfSome self.now.width IsFit }
-        ensures { result ≡ noted (firm_of supplied.now (slots_of self.now)) (values_of supplied.now (slots_of self.now) self.now.width) self.now.processors number }
+        ensures { result ≡ noted (firm_of supplied.now (slots_of self.now)) (values_in supplied.now self.now) self.now.processors number }
     {
         'processors: for k in 0..self.count() {
             if self.firm_value(supplied, k, number).is_none() {
@@ -54,8 +64,8 @@ impl LogReader {
         requires number { HasThreeDigits number }
         requires fit { IfSome self.now.width IsFit }
         ensures text { text.new.items ≡ text.old.items
-            ++ (if is_missing (values_of supplied.now (slots_of self.now) self.now.width) self.now.processors number
-            then missing_line number (hint_of supplied.now (slots_of self.now) self.now.width number) else []) }
+            ++ (if is_missing (values_in supplied.now self.now) self.now.processors number
+            then missing_line number (hint_of supplied.now (slots_of self.now) (known_in self.now) number) else []) }
         ensures size { array_vec_len text.new ≤ array_vec_len text.old + 48 }
     {
         if self.is_missing(supplied, number) {
@@ -64,18 +74,64 @@ impl LogReader {
         }
     }
 
-    // Notes a register that was assumed.
-    fn append_note(&self, text: &mut TextBuffer, supplied: &Supplied, number: u32)
+    // Whether a processor has this value by an assumption alone.
+    fn is_noted(&self, supplied: &Supplied, k: u32, number: u32, value: u64) -> bool
+        requires processor { k < 16 }
+        requires number { number < 0x1000 }
+        requires fit { IfSome self.now.width IsFit }
+        ensures { result ≡ is_noted (firm_of supplied.now (slots_of self.now)) (values_in supplied.now self.now) k number value }
+    {
+        self.firm_value(supplied, k, number).is_none()
+            && is_value(self.value(supplied, k, number), value)
+    }
+
+    // The numbers of the processors that have this value by an assumption alone.
+    fn noted_of(&self, supplied: &Supplied, number: u32, value: u64) -> LineBuffer
         requires few { self.now.processors ≤ 16 }
-        requires room { array_vec_len text.old + 56 ≤ 0x8000 }
+        requires number { number < 0x1000 }
+        requires fit { IfSome self.now.width IsFit }
+        ensures text { result.items ≡ noted_of (firm_of supplied.now (slots_of self.now)) (values_in supplied.now self.now) self.now.processors number value }
+        ensures short { array_vec_len result ≤ 48 }
+    {
+        let mut processors = ArrayVec::new();
+        'processors: for k in 0..self.count() {
+            let is_noted = self.is_noted(supplied, k, number, value);
+            append_noted(&mut processors, is_noted, k);
+        }
+        processors
+    }
+
+    // Notes a register's value that was assumed, if it is some processor's.
+    fn append_note_by(&self, text: &mut TextBuffer, supplied: &Supplied, number: u32, value: u64)
+        requires few { self.now.processors ≤ 16 }
+        requires room { array_vec_len text.old + 112 ≤ 0x8000 }
         requires number { HasThreeDigits number }
         requires fit { IfSome self.now.width IsFit }
         ensures text { text.new.items ≡ text.old.items
-            ++ note_line number (noted (firm_of supplied.now (slots_of self.now)) (values_of supplied.now (slots_of self.now) self.now.width) self.now.processors number) }
-        ensures size { array_vec_len text.new ≤ array_vec_len text.old + 56 }
+            ++ note_by number value (noted_of (firm_of supplied.now (slots_of self.now)) (values_in supplied.now self.now) self.now.processors number value) }
+        ensures size { array_vec_len text.new ≤ array_vec_len text.old + 112 }
+    {
+        let processors = self.noted_of(supplied, number, value);
+        let line = note_by(number, value, processors.as_slice());
+        append_text(text, line.as_slice());
+    }
+
+    // Notes a register that was assumed.
+    fn append_note(&self, text: &mut TextBuffer, supplied: &Supplied, number: u32)
+        requires few { self.now.processors ≤ 16 }
+        requires room { array_vec_len text.old + 224 ≤ 0x8000 }
+        requires number { HasThreeDigits number }
+        requires fit { IfSome self.now.width IsFit }
+        ensures text { text.new.items ≡ text.old.items
+            ++ note_line number (noted (firm_of supplied.now (slots_of self.now)) (values_in supplied.now self.now) self.now.processors number)
+            (noted_of (firm_of supplied.now (slots_of self.now)) (values_in supplied.now self.now) self.now.processors number) }
+        ensures size { array_vec_len text.new ≤ array_vec_len text.old + 224 }
     {
         if let Some(value) = self.noted(supplied, number) {
-            append_text(text, note_line(number, value).as_slice());
+            self.append_note_by(text, supplied, number, value);
+            if value != 0 {
+                self.append_note_by(text, supplied, number, 0);
+            }
         }
     }
 
@@ -86,7 +142,7 @@ impl LogReader {
         requires fit { IfSome self.now.width IsFit }
         ensures short { array_vec_len text.new ≤ 0x7000 }
         ensures text { text.new.items ≡ text.old.items
-            ++ missing_lines (hint_of supplied.now (slots_of self.now) self.now.width) (values_of supplied.now (slots_of self.now) self.now.width)
+            ++ missing_lines (hint_of supplied.now (slots_of self.now) (known_in self.now)) (values_in supplied.now self.now)
             self.now.processors (map number_of (writable file.now)) }
     {
         'registers: for i in 0..file.count() {
@@ -100,10 +156,10 @@ impl LogReader {
     // Notes the writable registers of a file that were assumed.
     fn append_notes(&self, text: &mut TextBuffer, supplied: &Supplied, file: &RegFile)
         requires few { self.now.processors ≤ 16 }
-        requires room { array_vec_len text.old ≤ 256 }
+        requires room { array_vec_len text.old ≤ 512 }
         requires fit { IfSome self.now.width IsFit }
         ensures { text.new.items ≡ text.old.items
-            ++ note_lines (firm_of supplied.now (slots_of self.now)) (values_of supplied.now (slots_of self.now) self.now.width)
+            ++ note_lines (firm_of supplied.now (slots_of self.now)) (values_in supplied.now self.now)
             self.now.processors (map number_of (writable file.now)) }
     {
         'registers: for i in 0..file.count() {
@@ -117,9 +173,9 @@ impl LogReader {
     /// Adds a line for each thing that a dump needs and that is neither shown nor supplied nor assumed.
     pub(crate) fn missing(&self, supplied: &Supplied) -> TextBuffer
         requires few { self.now.processors ≤ 16 }
-        requires pairs { (value : ℕ) → values_of supplied.now (slots_of self.now) self.now.width 0 0xfe ≡ Some value → low_byte value ≤ 32 }
+        requires pairs { (value : ℕ) → values_in supplied.now self.now 0 0xfe ≡ Some value → low_byte value ≤ 32 }
         requires fit { IfSome self.now.width IsFit }
-        ensures text { result.items ≡ missing_of supplied.now (slots_of self.now) self.now.processors self.now.width }
+        ensures text { result.items ≡ missing_of supplied.now (slots_of self.now) self.now.processors (known_in self.now) }
         ensures short { array_vec_len result ≤ 0x7000 }
     {
         let mut text = ArrayVec::new();
@@ -139,9 +195,9 @@ impl LogReader {
     /// A comment for each value that was assumed.
     pub(crate) fn notes(&self, supplied: &Supplied) -> TextBuffer
         requires few { self.now.processors ≤ 16 }
-        requires pairs { (value : ℕ) → values_of supplied.now (slots_of self.now) self.now.width 0 0xfe ≡ Some value → low_byte value ≤ 32 }
+        requires pairs { (value : ℕ) → values_in supplied.now self.now 0 0xfe ≡ Some value → low_byte value ≤ 32 }
         requires fit { IfSome self.now.width IsFit }
-        ensures { result.items ≡ notes_of supplied.now (slots_of self.now) self.now.processors self.now.width }
+        ensures { result.items ≡ notes_of supplied.now (slots_of self.now) self.now.processors (known_in self.now) }
     {
         let mut text = ArrayVec::new();
         if self.firm_width(supplied).is_none() {

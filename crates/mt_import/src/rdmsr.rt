@@ -137,12 +137,12 @@ fn column_register(word: &[u8]) -> Option<u32>
     }
 }
 
-// `0x200 6` or `0x200: 6`
+// `0x200 6` or `0x200: 6`, of the processor of the last call.
 fn column_said(words: &LineWords<'_>) -> Said
     ensures { result ≡ column_said words.now.number words.now.words }
 {
     shows_one(
-        Some(0),
+        None,
         column_register(words.text(0)),
         number_in(hex64(words.text(1))),
         words.place(1),

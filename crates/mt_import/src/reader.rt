@@ -9,7 +9,7 @@ ghost use Rattle.mt_regs.specs.RegisterFile.{low_byte};
 ghost use Rattle.mt_import.specs.Readings.{Fact, fixed_facts, fixed_line, is_fixed_clash, is_line, is_register, is_register_value, is_warning, is_width, reading_facts, said_facts, shown_facts, shows_facts, starts, unlike, value_facts};
 ghost use Rattle.mt_import.specs.Shown.{context_behind, facts_of_line};
 ghost use Rattle.mt_import.specs.Slot.{slot_with};
-ghost use Rattle.mt_import.specs.Outcome.{Seen, capabilities_after, contradiction, facts_fault, is_fit_width, nothing_seen, one_if, reading_fault, rival, seen_after, seen_with, slot_shown, tally_warned, tally_with, width_fault};
+ghost use Rattle.mt_import.specs.Outcome.{Seen, capabilities_after, capability_rival, contradiction, count_rival, counted, counts_fewer, enabled_pair, facts_fault, is_fit_width, last_after, nothing_seen, one_if, reading_fault, rival, seen_after, seen_with, slot_shown, tally_warned, tally_with, width_fault};
 ghost use Rattle.mt_import.specs.Supplied.{bits_differ, differs};
 ghost use Rattle.mt_import.specs.Import.{IsWritten, log_told};
 ghost use Rattle.mt_import.specs.Reader.{HasTaken, IsFit, IsShort, held_at, slot_of, slots_of};
@@ -17,9 +17,11 @@ ghost use Rattle.mt_import.specs.Reader.{HasTaken, IsFit, IsShort, held_at, slot
 use crate::format::{chosen, said_in};
 use crate::pieces::{count_on, shown_as};
 use crate::reading::{MOST_SHOWN, fixed_shows, is_register};
-use crate::shape::{FixedLine, Reading, Shown, Slot, Tally};
+use crate::shape::{FixedLine, LastPair, Reading, Shown, Slot, Tally};
 use crate::text::{Imported, faulted};
+use crate::values::is_pair_number;
 use crate::{Choice, Context, Format, ImportFault, Rival, Said, Shows, Supplied};
+use mt_kinds::is_bit_set;
 use mt_ports::Source;
 use mt_regs::{CAPABILITIES, DEFAULT_TYPE, FIRST_PAIR, MAX_PAIRS};
 use mt_text::{Feed, FeedFault, Line, Place};
@@ -32,6 +34,9 @@ const SLOTS: usize = 257;
 
 const LAST_REGISTER: u32 = 0x2ff;
 
+// V of PhysMask.
+const VALID: u8 = 11;
+
 /// Gathers the registers that the lines of a log show.
 #[derive(Drop)]
 pub struct LogReader {
@@ -41,6 +46,8 @@ pub struct LogReader {
     slots: [Slot; 4112],
     // the capability register, as the lines of all processors show it
     capabilities: Slot,
+    // the last pair of which a line shows that it is enabled
+    last: LastPair,
     // as many as are shown, and one at least
     processors: u32,
     // the address width, where a line shows it
@@ -53,7 +60,7 @@ impl Model for LogReader {
 
     ghost Value = { State };
 
-    ghost view = { λ r. record { context = r.context; slots = r.slots; capabilities = r.capabilities; processors = r.processors; width = r.width; tally = r.tally } };
+    ghost view = { λ r. record { context = r.context; slots = r.slots; capabilities = r.capabilities; last = r.last; processors = r.processors; width = r.width; tally = r.tally } };
 }
 
 fn slot_of(number: u32) -> Option<usize>
@@ -102,6 +109,83 @@ fn capabilities_after(reading: &Reading, before: Slot) -> Slot
         before.with(reading)
     } else {
         before
+    }
+}
+
+// The pair that a reading shows as enabled, counted from 1, or else 0.
+fn enabled_pair(reading: &Reading) -> u64
+    ensures { result ≡ enabled_pair reading.now }
+{
+    if is_pair_number(reading.number)
+        && reading.number % 2 == 1
+        && is_bit_set(reading.value, VALID)
+    {
+        ((reading.number - 0x1ff) / 2) as u64
+    } else {
+        0
+    }
+}
+
+// The last enabled pair behind one more reading.
+fn last_after(reading: &Reading, before: LastPair) -> LastPair
+    ensures { result ≡ last_after reading.now before }
+{
+    let pair = enabled_pair(reading);
+    if before.count < pair {
+        LastPair {
+            count: pair,
+            line: reading.place.line,
+        }
+    } else {
+        before
+    }
+}
+
+// Whether VCNT is less than this.
+fn counts_fewer(capabilities: Option<u64>, pairs: u64) -> bool
+    ensures { result ≡ counts_fewer capabilities pairs }
+{
+    match capabilities {
+        Some(capabilities) => capabilities % 256 < pairs,
+        None => false,
+    }
+}
+
+// The capability register, if all bits of VCNT are shown.
+fn counted(capabilities: &Slot) -> Option<u64>
+    ensures { result ≡ counted capabilities.now }
+{
+    if capabilities.bits % 256 == 255 {
+        Some(capabilities.value)
+    } else {
+        None
+    }
+}
+
+// What gives the capability register other bits than this reading of it, or shows a pair that its VCNT doesn't count.
+fn capability_rival(capabilities: &Slot, last: &LastPair, reading: &Reading) -> Option<Rival>
+    ensures { result ≡ capability_rival capabilities.now last.now reading.now }
+{
+    if capabilities.clashes(reading) {
+        return Some(Rival::Line(capabilities.line));
+    }
+    let capabilities = capabilities.with(reading);
+    if counts_fewer(counted(&capabilities), last.count) {
+        Some(Rival::Line(last.line))
+    } else {
+        None
+    }
+}
+
+fn count_rival(capabilities: &Slot, last: &LastPair, reading: &Reading) -> Option<Rival>
+    ensures { result ≡ count_rival capabilities.now last.now reading.now }
+{
+    if counts_fewer(counted(capabilities), enabled_pair(reading)) {
+        Some(Rival::Line(capabilities.line))
+    } else if reading.number == CAPABILITIES {
+        capability_rival(capabilities, last, reading)
+    } else {
+        None
     }
 }
 
@@ -169,6 +253,7 @@ impl LogReader {
             context: Context::starts(format),
             slots: [blank; 4112],
             capabilities: blank,
+            last: LastPair { count: 0, line: 0 },
             processors: 1,
             width: None,
             tally: Tally {
@@ -219,21 +304,21 @@ impl LogReader {
         self.tally
     }
 
-    // What else gives other bits than a reading.
+    // What else gives other bits than a reading, or doesn't agree with it on VCNT.
     fn rival(&self, supplied: &Supplied, reading: &Reading) -> Option<Rival>
         requires { reading.now.processor < 16 }
         ensures { (seen : Seen) → HasTaken self.now seen → result ≡ rival supplied.now seen.readings reading.now }
     {
-        if bits_differ(supplied.value(reading.number), reading.bits, reading.value) {
+        if bits_differ(supplied.value(reading.number), reading.bits, reading.value)
+            || counts_fewer(supplied.value(CAPABILITIES), enabled_pair(reading))
+        {
             return Some(Rival::Word);
         }
         let slot = self.slot(reading.processor, reading.number);
         if slot.clashes(reading) {
             Some(Rival::Line(slot.line))
-        } else if reading.number == CAPABILITIES && self.capabilities.clashes(reading) {
-            Some(Rival::Line(self.capabilities.line))
         } else {
-            None
+            count_rival(&self.capabilities, &self.last, reading)
         }
     }
 
@@ -276,6 +361,7 @@ impl LogReader {
         let next = self.held(reading.processor, slot).with(reading);
         self.slots[SLOTS * reading.processor as usize + slot] = next;
         self.capabilities = capabilities_after(reading, self.capabilities);
+        self.last = last_after(reading, self.last);
         self.processors = greater(reading.processor + 1, self.processors);
     }
 

@@ -1,9 +1,9 @@
 ghost use Rattle.std.specs.Prelude.{◌≡◌, true, None};
-ghost use Rattle.mt_import.specs.Readings.{all_registers, announced_after, context_after, fixed_after, fixed_bits, fixed_shows, is_match, is_register, one_shown, processor_after, starts, table_behind, two_shown, variable_bits, variable_shows};
+ghost use Rattle.mt_import.specs.Readings.{all_registers, announced_after, context_after, fixed_after, fixed_bits, fixed_shows, is_match, is_register, one_shown, processor_after, processor_called, starts, table_behind, two_shown, variable_bits, variable_shows};
 ghost use Rattle.mt_import.specs.Reader.{slot_of};
 
 use crate::Format;
-use crate::pieces::{REGISTERS, count_on, shown_bits};
+use crate::pieces::{REGISTERS, UNREAD_PROCESSOR, count_on, shown_bits};
 use crate::shape::{Announced, FixedLine, Shown};
 use mt_regs::{CAPABILITIES, DEFAULT_TYPE, RegFile};
 use mt_text::Place;
@@ -100,6 +100,16 @@ pub(crate) fn fixed_shows(is_enabled: bool, is_alone: bool, place: Place) -> Sho
     )
 }
 
+// The processor that lines behind a call of this processor are of, or behind a call of all.
+fn processor_called(processor: Option<u32>) -> u32
+    ensures { result ≡ processor_called processor }
+{
+    match processor {
+        Some(processor) => processor,
+        None => UNREAD_PROCESSOR,
+    }
+}
+
 impl Said {
     /// Whether the line is of the format.
     pub(crate) fn is_match(&self) -> bool
@@ -144,6 +154,7 @@ impl Said {
     {
         match self {
             Said::Turns(processor) => *processor,
+            Said::Announces(processor, _) => processor_called(*processor),
             _ => before,
         }
     }

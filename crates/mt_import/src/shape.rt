@@ -37,6 +37,14 @@ pub struct Slot {
     pub line: u64,
 }
 
+/// The last pair of which a line has shown that V is set.
+#[derive(Clone, Copy)]
+pub struct LastPair {
+    /// Its number counted from 1, or 0 if no line has shown such a pair.
+    pub count: u64,
+    pub line: u64,
+}
+
 /// A register whose value the lines behind an announcement have.
 #[derive(Clone, Copy)]
 pub struct Announced {

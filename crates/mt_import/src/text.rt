@@ -1,6 +1,6 @@
-ghost use Rattle.std.specs.Prelude.{◌≡◌, ◌≤◌, ◌+◌, ◌++◌, length, Some, None};
+ghost use Rattle.std.specs.Prelude.{◌≡◌, ◌≤◌, ◌<◌, ◌+◌, ◌++◌, length, Some, None};
 ghost use Rattle.arrayvec.specs.ArrayVec.{array_vec_len};
-ghost use Rattle.mt_import.specs.Outcome.{Told, assumption_text, contradiction_line, count_line, fault_line, format_name, hint_text, missing_line, note_line, rival_text, unless, warning_text, width_hint, width_line, width_note};
+ghost use Rattle.mt_import.specs.Outcome.{Told, assumption_text, contradiction_line, count_line, fault_line, format_name, hint_text, is_empty, missing_line, note_by, number_if, rival_text, unless, warning_text, width_hint, width_line, width_note};
 ghost use Rattle.mt_import.specs.Import.{IsWritten};
 ghost use Rattle.mt_import.specs.Reader.{IsShort};
 ghost use Rattle.mt_regs.specs.Registers.{HasThreeDigits};
@@ -161,21 +161,49 @@ pub(crate) fn width_hint(hint: Option<u8>) -> &'static [u8]
     }
 }
 
-/// The comment on a register's value that was assumed.
-pub(crate) fn note_line(number: u32, value: u64) -> LineBuffer
-    requires { HasThreeDigits number }
-    ensures text { result.items ≡ note_line number (Some value) }
-    ensures short { array_vec_len result ≤ 56 }
+/// Adds the number of a processor to those that a comment names.
+pub(crate) fn append_noted(processors: &mut LineBuffer, is_noted: bool, k: u32)
+    requires few { k < 16 }
+    requires room { array_vec_len processors.old ≤ 48 }
+    ensures text { processors.new.items ≡ processors.old.items ++ number_if is_noted k }
+    ensures short { array_vec_len processors.new ≤ array_vec_len processors.old + 3 }
+{
+    if is_noted {
+        append(processors, b" ");
+        append_decimal(processors, k as u64);
+    }
+}
+
+/// The comment on a register's value that was assumed of these processors, if there are any.
+pub(crate) fn note_by(number: u32, value: u64, processors: &[u8]) -> LineBuffer
+    requires number { HasThreeDigits number }
+    requires few { length processors.now ≤ 48 }
+    ensures text { result.items ≡ note_by number value processors.now }
+    ensures short { array_vec_len result ≤ 112 }
 {
     let mut line = ArrayVec::new();
+    if is_empty(processors) {
+        return line;
+    }
     append(&mut line, b"# assumed ");
     append_number(&mut line, number);
     append(&mut line, b" ");
     append_value(&mut line, value);
+    append(&mut line, b" of cpu");
+    append(&mut line, processors);
     append(&mut line, b" by ");
     append(&mut line, assumption_text(number, value));
     append(&mut line, b"\n");
     line
+}
+
+pub(crate) fn is_empty(text: &[u8]) -> bool
+    ensures { result ≡ is_empty text.now }
+{
+    match text {
+        [] => true,
+        _ => false,
+    }
 }
 
 /// The comment on a width that was assumed.

@@ -1,13 +1,13 @@
 ghost use Rattle.std.specs.Prelude.{◌≡◌, ◌≤◌, ◌<◌, ◌^◌, IfSome, Some, position};
-ghost use Rattle.mt_import.specs.Reader.{IsFit, slots_of};
-ghost use Rattle.mt_import.specs.Outcome.{firm_of, hint_of, values_of};
-ghost use Rattle.mt_import.specs.Values.{assumed_capabilities, assumed_mask, assumed_pair, assumed_value, assumed_zero, base_of, disabled_value, firm_value, firm_width, is_pair_number, is_past, mask_of, mask_of_size, masks_in, only_if, or_supplied, pair_count, shown_pairs, size_in, widest, width_at, width_by, width_limits};
+ghost use Rattle.mt_import.specs.Reader.{IsFit, known_in, slots_of, values_in};
+ghost use Rattle.mt_import.specs.Outcome.{firm_of, hint_of};
+ghost use Rattle.mt_import.specs.Values.{assumed_capabilities, assumed_mask, assumed_of, assumed_pair, assumed_pat, assumed_value, assumed_zero, base_of, disabled_value, firm_value, firm_width, has_pairs, is_of_table, is_pair_number, is_past, is_unshown, mask_of, mask_of_size, masks_in, only_if, or_supplied, pair_count, shown_pairs, shows_pairs, size_in, widest, width_at, width_by, width_limits};
 
 use crate::shape::Slot;
 use crate::supplied::Assumed;
-use crate::{LogReader, Supplied};
+use crate::{Format, LogReader, Supplied};
 use mt_kinds::is_bit_set;
-use mt_regs::{CAPABILITIES, FIRST_PAIR, PAT, POWER_UP_PAT};
+use mt_regs::{CAPABILITIES, DEFAULT_TYPE, FIRST_PAIR, PAT, POWER_UP_PAT};
 
 const FIRST_MASK: u32 = FIRST_PAIR + 1;
 
@@ -21,6 +21,9 @@ const FIXED_RANGES: u8 = 8;
 
 // FIX and WC of IA32_MTRRCAP.
 const FIXED_AND_COMBINING: u64 = 0x500;
+
+// The value of IA32_PAT that Xen sets.
+const XEN_PAT: u64 = 0x0000_0501_0007_0406;
 
 const PAIRS: u32 = 32;
 
@@ -78,7 +81,8 @@ fn only_if(is_assumed: bool, value: Option<u64>) -> Option<u64>
     if is_assumed { value } else { None }
 }
 
-fn is_pair_number(number: u32) -> bool
+/// Whether the register is of a pair.
+pub(crate) fn is_pair_number(number: u32) -> bool
     ensures { result ≡ is_pair_number number }
 {
     0x1ff < number && number < 0x240
@@ -168,6 +172,37 @@ pub(crate) fn widest(masks: u64) -> Option<u8>
     }
 }
 
+// The value of IA32_PAT that is assumed in a log of this format.
+fn assumed_pat(format: Option<Format>) -> u64
+    ensures { result ≡ assumed_pat format }
+{
+    match format {
+        Some(Format::Xen) => XEN_PAT,
+        _ => POWER_UP_PAT,
+    }
+}
+
+// What may be assumed of a processor.
+fn assumed_of(k: u32, assumed: Assumed) -> Assumed
+    ensures { result ≡ assumed_of k assumed }
+{
+    if k == 0 {
+        assumed
+    } else {
+        Assumed {
+            masks: false,
+            capabilities: false,
+            ..assumed
+        }
+    }
+}
+
+fn is_of_table(slot: &Slot) -> bool
+    ensures { result ≡ is_of_table slot.now }
+{
+    slot.is_whole() && 0 < slot.table
+}
+
 impl LogReader {
     fn disabled_value(&self, k: u32, number: u32) -> Option<u64>
         requires processor { k < 16 }
@@ -230,14 +265,45 @@ impl LogReader {
         }
     }
 
+    // Whether no line shows a bit of the register's pair.
+    fn is_unshown(&self, k: u32, number: u32) -> bool
+        requires processor { k < 16 }
+        requires number { number < 0x1000 }
+        ensures { result ≡ is_unshown (slots_of self.now k) number }
+    {
+        let base = self.slot(k, base_of(number));
+        let mask = self.slot(k, mask_of(number));
+        base.bits == 0 && mask.bits == 0
+    }
+
+    // Whether lines show a bit of one of the pairs.
+    fn shows_pairs(&self, k: u32) -> bool
+        requires { k < 16 }
+        ensures { result ≡ shows_pairs (slots_of self.now k) 32 }
+    {
+        let mut shows = false;
+        'pairs: for n in 0..PAIRS {
+            if !self.is_unshown(k, FIRST_PAIR + 2 * n) {
+                shows = true;
+            }
+        }
+        shows
+    }
+
+    // Whether the log has a processor's pairs: one of them, or a table with its default type.
+    fn has_pairs(&self, k: u32) -> bool
+        requires { k < 16 }
+        ensures { result ≡ has_pairs (slots_of self.now k) }
+    {
+        is_of_table(&self.slot(k, DEFAULT_TYPE)) || self.shows_pairs(k)
+    }
+
     fn assumed_zero(&self, k: u32, number: u32) -> Option<u64>
         requires processor { k < 16 }
         requires number { number < 0x1000 }
         ensures { result ≡ assumed_zero (slots_of self.now k) number }
     {
-        let base = self.slot(k, base_of(number));
-        let mask = self.slot(k, mask_of(number));
-        if base.bits == 0 && mask.bits == 0 {
+        if self.is_unshown(k, number) && self.has_pairs(k) {
             Some(0)
         } else {
             None
@@ -267,10 +333,10 @@ impl LogReader {
         requires processor { k < 16 }
         requires number { number < 0x1000 }
         requires width { IfSome width (λ width. width ≤ 52) }
-        ensures { result ≡ assumed_value assumed.now (slots_of self.now k) width number }
+        ensures { result ≡ assumed_value assumed.now (slots_of self.now k) (record { width = width; format = self.now.tally.format }) number }
     {
         if number == PAT {
-            only_if(assumed.pat, Some(POWER_UP_PAT))
+            only_if(assumed.pat, Some(assumed_pat(self.tally().format)))
         } else if number == CAPABILITIES {
             only_if(assumed.capabilities, self.assumed_capabilities(k))
         } else if is_pair_number(number) {
@@ -285,12 +351,13 @@ impl LogReader {
         requires processor { k < 16 }
         requires number { number < 0x1000 }
         requires fit { IfSome self.now.width IsFit }
-        ensures { result ≡ values_of supplied.now (slots_of self.now) self.now.width k number }
+        ensures { result ≡ values_in supplied.now self.now k number }
     {
         let width = self.width(supplied);
+        let assumed = assumed_of(k, supplied.assumed());
         or_supplied(
             self.firm_value(supplied, k, number),
-            self.assumed_value(&supplied.assumed(), k, width, number),
+            self.assumed_value(&assumed, k, width, number),
         )
     }
 
@@ -298,7 +365,7 @@ impl LogReader {
     pub(crate) fn hint(&self, supplied: &Supplied, number: u32) -> Option<u64>
         requires number { number < 0x1000 }
         requires fit { IfSome self.now.width IsFit }
-        ensures { result ≡ hint_of supplied.now (slots_of self.now) self.now.width number }
+        ensures { result ≡ hint_of supplied.now (slots_of self.now) (known_in self.now) number }
     {
         let width = or_widest(self.width(supplied));
         self.assumed_value(&Assumed::all(), 0, width, number)

@@ -1,54 +1,52 @@
 -- Where the values of a dump come from.
-use Rattle.std.proofs.Common.{◌≡◌, ◌<◌, ◌+◌, ℕ, zero, suc, Bool, true, false, ◌==◌, ◌&&◌, ◌||◌, nat_lt, List, [], ◌∷◌, ◌++◌, length, Option, Some, None, refl, sym, ◌∙◌, ap, subst, inl, inr, arith}
-use Rattle.std.specs.Prelude.{◌⊎◌, is_none, if◌then◌else◌}
+use Rattle.std.proofs.Common.{◌≡◌, ◌<◌, ℕ, zero, suc, Bool, true, false, ◌==◌, ◌&&◌, ◌||◌, List, [], ◌∷◌, ◌++◌, Option, Some, None, refl, sym, ◌∙◌, ap, subst, inl, inr, arith}
+use Rattle.std.specs.Prelude.{is_none, if◌then◌else◌}
 use Rattle.std.proofs.lemmas.Bool.{eqb-true, eqb-false}
 use Rattle.mt_ports.specs.declared.status.Status.TheVariants.{Done}
-use Rattle.mt_dump.specs.Canon.{canon}
 use Rattle.mt_import.specs.declared.fault.ImportFault.{ImportFault}
 use Rattle.mt_import.specs.declared.format.Choice.{Choice}
 use Rattle.mt_import.specs.declared.shape.Reading.{Reading}
-use Rattle.mt_import.specs.declared.shape.Tally.{Tally}
-use Rattle.mt_import.specs.Shown.{format_of, is_auto, shown}
+use Rattle.mt_import.specs.Shown.{is_auto}
 use Rattle.mt_import.specs.Slot.{is_disabled, whole_value}
 use Rattle.mt_import.specs.Supplied.{Supplied, supplied_value}
-use Rattle.mt_import.specs.Values.{assumed_value, disabled_value, firm_value, is_pair_number, mask_of, or_supplied, width_by}
-use Rattle.mt_import.specs.Outcome.{Seen, Told, dump_in, dump_told, ended, ended_by, ended_with, is_empty, is_missing, missing_line, missing_lines, missing_of, missing_width, needed, notes_of, processors, refusal, remarks, slot_shown, unless, values_of, hint_of}
+use Rattle.mt_import.specs.Values.{Known, assumed_of, assumed_value, disabled_value, firm_value, is_pair_number, mask_of, or_supplied, width_by}
+use Rattle.mt_import.specs.Outcome.{Seen, Told, dump_told, ended, is_empty, is_missing, known_by, known_of, missing_line, missing_lines, missing_of, missing_width, needed, notes_of, processors, refusal, remarks, slot_shown, unless, values_of, hint_of}
 use Rattle.mt_import.specs.Import.{log_told}
 use Rattle.mt_import.proofs.Same.{value_is}
-use Rattle.mt_import_laws.specs.Origins.{HasOrigins, IsAmong, Origin, by_assumption, by_disabled, by_lines, by_word, readings_of, seen_of}
+use Rattle.mt_import_laws.specs.Origins.{HasOrigins, IsAmong, IsUnshown, IsUntold, Origin, by_assumption, by_disabled, by_lines, by_word, readings_of, seen_of}
 use Rattle.mt_import_laws.proofs.Fine.{IsFine}
 use Rattle.mt_import_laws.proofs.Faults.{fault_of, fine_of}
 use Rattle.mt_import_laws.proofs.Shown.{is_shown, shown_clear}
 
 -- ---- one value
 
-module _ (supplied : Supplied) (readings : List Reading) (width : Option ℕ) (k number value : ℕ) (fine : IsFine supplied readings) where
-  from_assumption : or_supplied None (assumed_value supplied.assumed (slot_shown readings k) width number) ≡ Some value → Origin supplied readings width k number value
-  from_assumption is = by_assumption is
+module _ (supplied : Supplied) (readings : List Reading) (known : Known) (k number value : ℕ) (fine : IsFine supplied readings) where
+  abbrev assumed : Option ℕ
+  assumed = assumed_value (assumed_of k supplied.assumed) (slot_shown readings k) known number
 
-  from_disabled : (pair clear : Bool) → is_pair_number number ≡ pair → is_disabled (slot_shown readings k (mask_of number)) ≡ clear
-      → or_supplied (if pair && clear then Some 0 else None) (assumed_value supplied.assumed (slot_shown readings k) width number) ≡ Some value → Origin supplied readings width k number value
-  from_disabled true true is_pair is_clear is =
+  from_disabled : IsUntold supplied readings k number → (pair clear : Bool) → is_pair_number number ≡ pair → is_disabled (slot_shown readings k (mask_of number)) ≡ clear
+      → or_supplied (if pair && clear then Some 0 else None) assumed ≡ Some value → Origin supplied readings known k number value
+  from_disabled untold true true is_pair is_clear is =
       let found = shown_clear supplied readings k (mask_of number) fine is_clear in
-      by_disabled (record { zero = zero_of is; pair = is_pair; valid = found.0; clear = found.1 })
+      by_disabled untold (record { zero = zero_of is; pair = is_pair; valid = found.0; clear = found.1 })
     where
       zero_of : ◌≡◌ {A = Option ℕ} (Some 0) (Some value) → value ≡ 0
       zero_of e = cc e
-  from_disabled true false is_pair not_clear is = by_assumption is
-  from_disabled false clear not_pair same is = by_assumption is
+  from_disabled untold true false is_pair not_clear is = by_assumption untold is
+  from_disabled untold false clear not_pair same is = by_assumption untold is
 
-  from_word : (given : Option ℕ) → supplied_value supplied number ≡ given
-      → or_supplied (or_supplied given (disabled_value (slot_shown readings k) number)) (assumed_value supplied.assumed (slot_shown readings k) width number) ≡ Some value → Origin supplied readings width k number value
-  from_word (Some other) is_given is = by_word (is_given ∙ is)
-  from_word None is_given is = from_disabled (is_pair_number number) (is_disabled (slot_shown readings k (mask_of number))) refl refl is
+  from_word : IsUnshown readings k number → (given : Option ℕ) → supplied_value supplied number ≡ given
+      → or_supplied (or_supplied given (disabled_value (slot_shown readings k) number)) assumed ≡ Some value → Origin supplied readings known k number value
+  from_word unshown (Some other) is_given is = by_word unshown (is_given ∙ is)
+  from_word unshown None is_given is = from_disabled (unshown, is_given) (is_pair_number number) (is_disabled (slot_shown readings k (mask_of number))) refl refl is
 
   from_lines : (whole : Option ℕ) → whole_value (slot_shown readings k number) ≡ whole
-      → or_supplied (or_supplied whole (or_supplied (supplied_value supplied number) (disabled_value (slot_shown readings k) number))) (assumed_value supplied.assumed (slot_shown readings k) width number) ≡ Some value
-      → Origin supplied readings width k number value
+      → or_supplied (or_supplied whole (or_supplied (supplied_value supplied number) (disabled_value (slot_shown readings k) number))) assumed ≡ Some value
+      → Origin supplied readings known k number value
   from_lines (Some other) is_whole is = by_lines (is_shown supplied readings k number value fine (is_whole ∙ is))
-  from_lines None is_whole is = from_word (supplied_value supplied number) refl is
+  from_lines None is_whole is = from_word is_whole (supplied_value supplied number) refl is
 
-  pub origin : or_supplied (firm_value supplied (slot_shown readings k) number) (assumed_value supplied.assumed (slot_shown readings k) width number) ≡ Some value → Origin supplied readings width k number value
+  pub origin : or_supplied (firm_value supplied (slot_shown readings k) number) assumed ≡ Some value → Origin supplied readings known k number value
   origin is = from_lines (whole_value (slot_shown readings k number)) refl is
 
 -- ---- nothing is missing
@@ -100,30 +98,31 @@ some_value None is = cc is
 
 module _ (supplied : Supplied) (seen : Seen) (auto : Bool) (fine : IsFine supplied seen.readings) where
   abbrev values : ℕ → ℕ → Option ℕ
-  values = values_of supplied (slot_shown seen.readings) seen.width
+  values = values_of supplied (slot_shown seen.readings) (known_of seen)
 
   abbrev missing : List ℕ
-  missing = missing_of supplied (slot_shown seen.readings) (processors seen.readings) seen.width
+  missing = missing_of supplied (slot_shown seen.readings) (processors seen.readings) (known_of seen)
 
   abbrev notes : List ℕ
-  notes = notes_of supplied (slot_shown seen.readings) (processors seen.readings) seen.width
+  notes = notes_of supplied (slot_shown seen.readings) (processors seen.readings) (known_of seen)
 
   -- with this width and this capability register, where nothing is missing
   dumped : (width capabilities : Option ℕ) → width_by supplied (slot_shown seen.readings) seen.width ≡ width → values 0 0xfe ≡ capabilities → missing ≡ []
       → (dump_told (refusal seen.tally missing) values (processors seen.readings) notes (remarks auto seen.tally) width capabilities).status ≡ Done
       → HasOrigins supplied seen (dump_told (refusal seen.tally missing) values (processors seen.readings) notes (remarks auto seen.tally) width capabilities)
   dumped (Some width) (Some capabilities) is_width is_capabilities empty done =
-      let both = empty_both (missing_width (width_by supplied (slot_shown seen.readings) seen.width) _) (missing_lines (hint_of supplied (slot_shown seen.readings) seen.width) values (processors seen.readings) (needed (values 0 0xfe))) empty in
+      let both = empty_both (missing_width (width_by supplied (slot_shown seen.readings) seen.width) _) (missing_lines (hint_of supplied (slot_shown seen.readings) (known_of seen)) values (processors seen.readings) (needed (values 0 0xfe))) empty in
       record {
         width = width;
         capabilities = capabilities;
         width_is = is_width;
         capabilities_is = is_capabilities;
+        notes_are = refl;
         dump_is = refl;
         each = λ k number less among.
-            let none = none_missing (hint_of supplied (slot_shown seen.readings) seen.width) values (processors seen.readings) (needed (values 0 0xfe)) number both.1 (subst (λ c. IsAmong number (needed c)) (sym is_capabilities) among) in
+            let none = none_missing (hint_of supplied (slot_shown seen.readings) (known_of seen)) values (processors seen.readings) (needed (values 0 0xfe)) number both.1 (subst (λ c. IsAmong number (needed c)) (sym is_capabilities) among) in
             let found = some_value (values k number) (not_missing values (processors seen.readings) number k less none) in
-            (found.0, found.1, subst (λ w. Origin supplied seen.readings w k number found.0) is_width (origin supplied seen.readings (width_by supplied (slot_shown seen.readings) seen.width) k number found.0 fine (sym (value_is supplied (slot_shown seen.readings) seen.width k number) ∙ found.1)));
+            (found.0, found.1, origin supplied seen.readings (known_by supplied (slot_shown seen.readings) (known_of seen)) k number found.0 fine (sym (value_is supplied (slot_shown seen.readings) (known_of seen) k number) ∙ found.1));
       }
   dumped (Some width) None is_width is_capabilities empty done = cc done
   dumped None capabilities is_width is_capabilities empty done = cc done
@@ -144,4 +143,4 @@ origins choice supplied text done = by (fault_of choice supplied text) refl done
     by (Some fault) is done = cc done
     by None is done =
         ended_dump supplied (seen_of choice text) (is_auto choice) (fine_of choice supplied text is)
-        (is_empty (missing_of supplied (slot_shown (readings_of choice text)) (processors (readings_of choice text)) (seen_of choice text).width)) refl done
+        (is_empty (missing_of supplied (slot_shown (readings_of choice text)) (processors (readings_of choice text)) (known_of (seen_of choice text)))) refl done

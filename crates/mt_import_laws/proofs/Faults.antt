@@ -1,13 +1,13 @@
 -- Contradictions are faults.
-use Rattle.std.proofs.Common.{◌≡◌, ℕ, List, Option, Some, None, refl, sym, ◌∙◌, ap, subst}
+use Rattle.std.proofs.Common.{◌≡◌, ℕ, List, Option, Some, None, refl, sym, ◌∙◌, ap}
 use Rattle.std.specs.Int.{bit_at}
-use Rattle.mt_ports.specs.declared.status.Status.TheVariants.{BadText, Done}
+use Rattle.mt_ports.specs.declared.status.Status.TheVariants.{BadText}
 use Rattle.mt_import.specs.declared.fault.ImportFault.{ImportFault}
 use Rattle.mt_import.specs.declared.format.Choice.{Choice}
 use Rattle.mt_import.specs.declared.shape.Reading.{Reading}
 use Rattle.mt_import.specs.Shown.{format_of, is_auto, shown}
 use Rattle.mt_import.specs.Supplied.{Supplied}
-use Rattle.mt_import.specs.Outcome.{Seen, Told, ended, facts_fault, nothing_seen, slot_shown, unless}
+use Rattle.mt_import.specs.Outcome.{Told, ended, facts_fault, nothing_seen, slot_shown, unless}
 use Rattle.mt_import.specs.Import.{log_told}
 use Rattle.mt_import_laws.specs.Origins.{Contradict, ContradictsWord, IsAmong, readings_of, seen_of}
 use Rattle.mt_import_laws.proofs.Fine.{IsFine, agreed, fine_after, word_agrees}
@@ -18,7 +18,7 @@ fault_of choice supplied text = facts_fault supplied (nothing_seen (format_of ch
 pub fine_of : (choice : Choice) (supplied : Supplied) (text : List ℕ) → fault_of choice supplied text ≡ None → IsFine supplied (readings_of choice text)
 fine_of choice supplied text none = fine_after supplied (shown (format_of choice) text) (nothing_seen (format_of choice)) none tt
 
-faulty : (fault : Option ImportFault) (told : Told) → (fault ≡ None → ⊥) → (unless fault told).status ≡ BadText
+pub faulty : (fault : Option ImportFault) (told : Told) → (fault ≡ None → ⊥) → (unless fault told).status ≡ BadText
 faulty None told not_none = absurd (not_none refl)
 faulty (Some fault) told not_none = refl
 

@@ -1,6 +1,6 @@
 -- Readings none of which has a rival.
-use Rattle.std.proofs.Common.{◌≡◌, ◌≢◌, ◌<◌, ℕ, Bool, true, false, ◌==◌, ◌&&◌, nat_lt, not, List, [], ◌∷◌, Option, Some, None, refl, sym, ◌∙◌, ap, subst, bit_and, bit_or, inl, inr, arith}
-use Rattle.std.specs.Prelude.{◌⊎◌, ⊤, min, if◌then◌else◌}
+use Rattle.std.proofs.Common.{◌≡◌, ◌<◌, ℕ, Bool, true, false, ◌==◌, ◌&&◌, ◌||◌, nat_lt, List, [], ◌∷◌, Option, Some, None, refl, sym, ◌∙◌, ap, subst, bit_and, bit_or, inl, inr, arith}
+use Rattle.std.specs.Prelude.{⊤, min, if◌then◌else◌}
 use Rattle.std.specs.Int.{bit_at}
 use Rattle.std.proofs.lemmas.Bool.{eqb-true}
 use Rattle.std.proofs.lemmas.Bool.Decides.{nat_tests}
@@ -13,9 +13,9 @@ use Rattle.mt_import.specs.declared.fault.Rival.TheVariants.{Line, Word}
 use Rattle.mt_import.specs.declared.shape.Reading.{Reading}
 use Rattle.mt_import.specs.declared.shape.Slot.{Slot}
 use Rattle.mt_import.specs.Readings.{Fact, is_fault, is_line, is_register_value, is_warning, is_width}
-use Rattle.mt_import.specs.Slot.{clashes, slot_with}
+use Rattle.mt_import.specs.Slot.{clashes}
 use Rattle.mt_import.specs.Supplied.{Supplied, bits_differ, supplied_value}
-use Rattle.mt_import.specs.Outcome.{Seen, capabilities_shown, contradiction, fact_fault, facts_fault, or_fault, reading_fault, rival, seen_after, seen_with, slot_shown}
+use Rattle.mt_import.specs.Outcome.{Seen, capabilities_shown, contradiction, count_rival, counts_fewer, enabled_pair, fact_fault, last_shown, facts_fault, or_fault, reading_fault, rival, seen_after, seen_with, slot_shown}
 use Rattle.mt_import_laws.specs.Origins.{IsAmong}
 use Rattle.mt_import_laws.proofs.Bits.{bit_first, bit_second, not_false, value_kept, value_new}
 
@@ -25,7 +25,7 @@ IsFine supplied (reading ∷ before) = (rival supplied before reading ≡ None) 
 
 -- ---- facts without a fault
 
-both_none : (a b : Option ImportFault) → or_fault a b ≡ None → (a ≡ None) × (b ≡ None)
+pub both_none : (a b : Option ImportFault) → or_fault a b ≡ None → (a ≡ None) × (b ≡ None)
 both_none None b is = (refl, is)
 both_none (Some fault) b is = cc is
 
@@ -57,16 +57,18 @@ fine_after supplied (fact ∷ facts) seen none fine =
 
 -- ---- a reading among others
 
-rival_by : (word clash capability : Bool) (line other : ℕ) → (if word then Some Word else if clash then Some (Line line) else if capability then Some (Line other) else None) ≡ None → (word ≡ false) × (clash ≡ false)
-rival_by true clash capability line other is = cc is
-rival_by false true capability line other is = cc is
-rival_by false false capability line other is = (refl, refl)
+rival_by : (word count clash : Bool) (line : ℕ) (others : Option Rival) → (if word || count then Some Word else if clash then Some (Line line) else others) ≡ None → (word ≡ false) × (clash ≡ false) × (others ≡ None) × (count ≡ false)
+rival_by true count clash line others is = cc is
+rival_by false true clash line others is = cc is
+rival_by false false true line others is = cc is
+rival_by false false false line others is = (refl, refl, is, refl)
 
 pub tests_of_rival : (supplied : Supplied) (before : List Reading) (reading : Reading) → rival supplied before reading ≡ None
     → (bits_differ (supplied_value supplied reading.number) reading.bits reading.value ≡ false) × (clashes (slot_shown before reading.processor reading.number) reading ≡ false)
+    × (count_rival (capabilities_shown before) (last_shown before) reading ≡ None) × (counts_fewer (supplied_value supplied 0xfe) (enabled_pair reading) ≡ false)
 tests_of_rival supplied before reading is =
-    rival_by (bits_differ (supplied_value supplied reading.number) reading.bits reading.value) (clashes (slot_shown before reading.processor reading.number) reading)
-    (reading.number == 0xfe && clashes (capabilities_shown before) reading) (slot_shown before reading.processor reading.number).line (capabilities_shown before).line is
+    rival_by (bits_differ (supplied_value supplied reading.number) reading.bits reading.value) (counts_fewer (supplied_value supplied 0xfe) (enabled_pair reading))
+    (clashes (slot_shown before reading.processor reading.number) reading) (slot_shown before reading.processor reading.number).line (count_rival (capabilities_shown before) (last_shown before) reading) is
 
 -- no word gives another bit
 word_differs : (given : Option ℕ) (word bits value i : ℕ) → given ≡ Some word → bits_differ given bits value ≡ false → bit_at bits i ≡ 1 → bit_at word i ≡ bit_at value i
@@ -108,7 +110,7 @@ module _ (before : List Reading) (other reading : Reading) (i : ℕ) (fits : cla
   kept has true false same apart = rw (same, apart) has
   kept has false number_test apart same = rw apart has
 
-same_number : (a b : ℕ) → a ≡ b → (a == b) ≡ true
+pub same_number : (a b : ℕ) → a ≡ b → (a == b) ≡ true
 same_number a b e = grind (arith, nat_tests, e)
 
 here : (before : List Reading) (reading : Reading) (i : ℕ) → clashes (slot_shown before reading.processor reading.number) reading ≡ false → bit_at reading.bits i ≡ 1

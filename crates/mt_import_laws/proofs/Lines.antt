@@ -1,14 +1,24 @@
--- Each reading is of one line.
-use Rattle.std.proofs.Common.{◌≡◌, ◌+◌, ℕ, List, [], ◌∷◌, ◌++◌, length, refl, sym, ◌∙◌, ap, subst, inl, inr, arith}
-use Rattle.std.specs.Prelude.{◌⊎◌}
+-- Each reading is of one line, and of the table that the last heading begins.
+use Rattle.std.proofs.Common.{◌≡◌, ◌+◌, ℕ, Bool, true, false, List, [], ◌∷◌, ◌++◌, length, Option, Some, None, refl, sym, ◌∙◌, ap, subst, inl, inr, arith}
+use Rattle.std.specs.Prelude.{◌⊎◌, if◌then◌else◌, unwrap_or}
+use Rattle.mt_ports.specs.Causes.{one_more}
 use Rattle.mt_text.specs.Text.{lines_of}
+use Rattle.mt_text.specs.declared.place.Place.{Place}
+use Rattle.mt_import.specs.declared.fault.ImportFault.TheVariants.{Contradiction}
+use Rattle.mt_import.specs.declared.fault.Rival.TheVariants.{Line}
 use Rattle.mt_import.specs.declared.format.Choice.{Choice}
 use Rattle.mt_import.specs.declared.reading.Context.{Context}
+use Rattle.mt_import.specs.declared.reading.Said.{Said}
+use Rattle.mt_import.specs.declared.reading.Said.TheVariants.{Nothing, Announces, Value, Turns, Shows, Begins, FixedRanges, VariableRanges, Width, Warns, Long}
+use Rattle.mt_import.specs.declared.shape.Announced.{Announced}
 use Rattle.mt_import.specs.declared.shape.Reading.{Reading}
-use Rattle.mt_import.specs.Readings.{Fact, is_fault, is_line, is_register_value, is_warning, is_width, starts}
-use Rattle.mt_import.specs.Shown.{context_behind, facts_from, facts_of_line, format_of, shown}
+use Rattle.mt_import.specs.declared.shape.Shown.{Shown}
+use Rattle.mt_import.specs.Pieces.{shown_as}
+use Rattle.mt_import.specs.Readings.{Fact, fixed_facts, fixed_line, fixed_shows, is_fault, is_fixed_clash, is_line, is_register, is_register_value, is_warning, is_width, reading_facts, said_facts, shown_facts, shows_facts, starts, table_behind, value_facts, variable_shows}
+use Rattle.mt_import.specs.Shown.{chosen, context_behind, facts_from, facts_of_line, format_of, said_in, shown}
 use Rattle.mt_import.specs.Outcome.{Seen, nothing_seen, seen_after, seen_with}
-use Rattle.mt_import_laws.specs.Origins.{IsAmong, IsOfLine, context_after_lines, readings_of}
+use Rattle.mt_import_laws.specs.Origins.{IsAmong, IsOfLine, IsRead, context_after_lines, heads, is_heading, readings_of, tables_behind}
+use Rattle.mt_import_laws.proofs.Among.{among_join}
 
 -- a reading that was gathered is a fact, or was there before
 gathered : (facts : List Fact) (seen : Seen) (reading : Reading) → IsAmong reading (seen_after seen facts).readings → IsAmong (is_register_value reading) facts ⊎ IsAmong reading seen.readings
@@ -25,14 +35,6 @@ gathered (fact ∷ facts) seen reading among = elim (gathered facts (seen_with s
     by (is_width width place) among = inr among
     by is_warning among = inr among
     by (is_fault fault) among = inr among
-
-among_append : {A : Type 0} (xs ys : List A) (x : A) → IsAmong x (xs ++ ys) → IsAmong x xs ⊎ IsAmong x ys
-among_append [] ys x among = inr among
-among_append (y ∷ xs) ys x (inl same) = inl (inl same)
-among_append (y ∷ xs) ys x (inr later) = elim (among_append xs ys x later) [
-  | inl first ↦ inl (inr first)
-  | inr second ↦ inr second
-]
 
 record AtLine (context : Context) (number : ℕ) (all : List (List ℕ)) (fact : Fact) : Type 0 where
   before : List (List ℕ)
@@ -52,16 +54,106 @@ one_later context number first all fact at = record {
 
 line_of : (lines : List (List ℕ)) (context : Context) (number : ℕ) (fact : Fact) → IsAmong fact (facts_from context number lines) → AtLine context number lines fact
 line_of [] context number fact among = absurd among
-line_of (line ∷ lines) context number fact among = elim (among_append (facts_of_line context number line) (facts_from (context_behind context number line) (number + 1) lines) fact among) [
+line_of (line ∷ lines) context number fact among = elim (among_join (facts_of_line context number line) (facts_from (context_behind context number line) (number + 1) lines) fact among) [
   | inl here ↦ record { before = []; line = line; others = lines; lines = refl; shows = subst (λ n. IsAmong fact (facts_of_line context n line)) (omega arith) here }
   | inr later ↦ one_later context number line lines fact (line_of lines (context_behind context number line) (number + 1) fact later)
 ]
 
-pub readings_of_lines : (choice : Choice) (text : List ℕ) (reading : Reading) → IsAmong reading (readings_of choice text) → IsOfLine choice text reading
+pub fact_of_line : (choice : Choice) (text : List ℕ) (fact : Fact) → IsAmong fact (shown (format_of choice) text) → IsOfLine choice text fact
+fact_of_line choice text fact among =
+    let at = line_of (lines_of text) (starts (format_of choice)) 1 fact among in
+    record { before = at.before; line = at.line; others = at.others; lines = at.lines; shows = at.shows }
+
+-- ---- the table of a reading
+
+-- behind a line there is one table more, where the line is a heading
+heading_by : (said : Said) (tables : ℕ) → table_behind said tables ≡ (if is_heading said then one_more tables else tables)
+heading_by Nothing tables = refl
+heading_by (Announces processor number) tables = refl
+heading_by (Value value place) tables = refl
+heading_by (Turns processor) tables = refl
+heading_by (Shows processor shows) tables = refl
+heading_by (Begins shows) tables = refl
+heading_by (FixedRanges enabled alone place) tables = refl
+heading_by (VariableRanges enabled place) tables = refl
+heading_by (Width width place) tables = refl
+heading_by Warns tables = refl
+heading_by (Long place) tables = refl
+
+heading_behind : (context : Context) (number : ℕ) (line : List ℕ) → (context_behind context number line).table ≡ (if heads context number line then one_more context.table else context.table)
+heading_behind context number line = heading_by (said_in (chosen context.format number line) number line) context.table
+
+tables_are : (lines : List (List ℕ)) (context : Context) (number : ℕ) (line : List ℕ)
+    → tables_behind context number (lines ++ line ∷ []) context.table ≡ (context_behind (context_after_lines context number lines) (number + length lines) line).table
+tables_are [] context number line = sym (heading_behind context number line) ∙ ap (λ n. (context_behind context n line).table) (omega arith)
+tables_are (first ∷ lines) context number line =
+    ap (tables_behind (context_behind context number first) (number + 1) (lines ++ line ∷ [])) (sym (heading_behind context number first))
+    ∙ tables_are lines (context_behind context number first) (number + 1) line
+    ∙ ap (λ n. (context_behind (context_after_lines (context_behind context number first) (number + 1) lines) n line).table) (omega arith)
+
+abbrev AreOf : ℕ → List Fact → Type 0
+AreOf table facts = (reading : Reading) → IsAmong (is_register_value reading) facts → reading.table ≡ table
+
+abbrev read_as : ℕ → ℕ → Shown → Reading
+read_as processor table shown = record { processor = processor; table = table; number = shown.number; bits = shown.bits; value = shown.value; place = shown.place }
+
+of_reading : (processor table : ℕ) (shown : Shown) → AreOf table (reading_facts processor table shown)
+of_reading processor table shown = by (is_register shown.number)
+  where
+    by : (test : Bool) → AreOf table (if test then is_register_value (read_as processor table shown) ∷ [] else [])
+    by true reading (inl same) = let e : read_as processor table shown ≡ reading = cc same in sym (ap (λ (r : Reading). r.table) e)
+    by true reading (inr none) = absurd none
+    by false reading among = absurd among
+
+of_shown : (processor table : ℕ) (shown : Option Shown) → AreOf table (shown_facts processor table shown)
+of_shown processor table None reading among = absurd among
+of_shown processor table (Some shown) reading among = of_reading processor table shown reading among
+
+of_shows : (processor table : ℕ) (shows : List (Option Shown)) → AreOf table (shows_facts processor table shows)
+of_shows processor table [] reading among = absurd among
+of_shows processor table (shown ∷ shows) reading among = elim (among_join (shown_facts processor table shown) (shows_facts processor table shows) (is_register_value reading) among) [
+  | inl here ↦ of_shown processor table shown reading here
+  | inr later ↦ of_shows processor table shows reading later
+]
+
+of_value : (announced : Option Announced) (table value : ℕ) (place : Place) → AreOf table (value_facts announced table value place)
+of_value None table value place reading among = absurd among
+of_value (Some announced) table value place reading among = of_shown announced.processor table (shown_as announced.number value place) reading among
+
+of_fixed : (context : Context) (enabled alone : Bool) (place : Place) → AreOf context.table (fixed_facts context enabled alone place)
+of_fixed context enabled alone place = by (is_fixed_clash context.fixed enabled)
+  where
+    by : (test : Bool) → AreOf context.table (if test then is_fault (Contradiction place 0x2ff (Line (fixed_line context.fixed))) ∷ [] else shows_facts 0 context.table (fixed_shows enabled alone place))
+    by true reading (inl same) = cc same
+    by true reading (inr none) = absurd none
+    by false reading among = of_shows 0 context.table (fixed_shows enabled alone place) reading among
+
+of_said : (context : Context) (said : Said) → AreOf (table_behind said context.table) (said_facts context said)
+of_said context Nothing reading among = absurd among
+of_said context (Announces processor number) reading among = absurd among
+of_said context (Value value place) reading among = of_value context.announced context.table value place reading among
+of_said context (Turns processor) reading among = absurd among
+of_said context (Shows processor shows) reading among = of_shows (unwrap_or processor context.processor) context.table shows reading among
+of_said context (Begins shows) reading among = of_shows 0 (one_more context.table) shows reading among
+of_said context (FixedRanges enabled alone place) reading among = of_fixed context enabled alone place reading among
+of_said context (VariableRanges enabled place) reading among = of_shows 0 context.table (variable_shows context enabled place) reading among
+of_said context (Width width place) reading (inl same) = cc same
+of_said context (Width width place) reading (inr none) = absurd none
+of_said context Warns reading (inl same) = cc same
+of_said context Warns reading (inr none) = absurd none
+of_said context (Long place) reading (inl same) = cc same
+of_said context (Long place) reading (inr none) = absurd none
+
+of_line : (context : Context) (number : ℕ) (line : List ℕ) → AreOf (context_behind context number line).table (facts_of_line context number line)
+of_line context number line reading (inl same) = cc same
+of_line context number line reading (inr later) = of_said context (said_in (chosen context.format number line) number line) reading later
+
+pub readings_of_lines : (choice : Choice) (text : List ℕ) (reading : Reading) → IsAmong reading (readings_of choice text) → IsRead choice text reading
 readings_of_lines choice text reading among = by (gathered (shown (format_of choice) text) (nothing_seen (format_of choice)) reading among)
   where
-    by : IsAmong (is_register_value reading) (shown (format_of choice) text) ⊎ ⊥ → IsOfLine choice text reading
+    by : IsAmong (is_register_value reading) (shown (format_of choice) text) ⊎ ⊥ → IsRead choice text reading
     by (inl fact) =
-        let at = line_of (lines_of text) (starts (format_of choice)) 1 (is_register_value reading) fact in
-        record { before = at.before; line = at.line; others = at.others; lines = at.lines; shows = at.shows }
+        let at = fact_of_line choice text (is_register_value reading) fact in
+        let context = starts (format_of choice) in
+        record { of_line = at; table = of_line (context_after_lines context 1 at.before) (1 + length at.before) at.line reading at.shows ∙ sym (tables_are at.before context 1 at.line) }
     by (inr none) = absurd none

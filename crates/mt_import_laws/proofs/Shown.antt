@@ -1,16 +1,16 @@
 -- The bits of a slot are shown by readings, and the bits that make it whole by readings of one table.
-use Rattle.std.proofs.Common.{◌≡◌, ◌<◌, ◌/◌, ◌%◌, ℕ, zero, suc, Bool, true, false, ◌==◌, ◌&&◌, not, List, [], ◌∷◌, Option, Some, None, refl, sym, ◌∙◌, ap, subst, bit_or, inl, inr, arith}
-use Rattle.std.specs.Prelude.{◌⊎◌, if◌then◌else◌}
+use Rattle.std.proofs.Common.{◌≡◌, ◌<◌, ◌/◌, ◌%◌, ℕ, zero, suc, Bool, true, false, ◌==◌, ◌&&◌, not, List, [], ◌∷◌, Some, None, refl, sym, ◌∙◌, ap, subst, bit_or, inl, inr, arith}
+use Rattle.std.specs.Prelude.{if◌then◌else◌}
 use Rattle.std.specs.Int.{bit_at}
 use Rattle.std.proofs.lemmas.Bool.{eqb-true}
 use Rattle.std.proofs.lemmas.Nat.Bits.{bit_at-lt, bit_at-zero, bit_at_ones}
 use Rattle.mt_kinds.specs.Bits.{is_bit_set}
 use Rattle.mt_import.specs.declared.shape.Reading.{Reading}
 use Rattle.mt_import.specs.declared.shape.Slot.{Slot}
-use Rattle.mt_import.specs.Slot.{all_bits, fresh_after, is_disabled, is_whole, slot_with, whole_value}
+use Rattle.mt_import.specs.Slot.{all_bits, is_disabled, is_whole, slot_with, whole_value}
 use Rattle.mt_import.specs.Supplied.{Supplied}
 use Rattle.mt_import.specs.Outcome.{slot_shown}
-use Rattle.mt_import_laws.specs.Origins.{IsAmong, IsShown, ShowsBit}
+use Rattle.mt_import_laws.specs.Origins.{IsShown, ShowsBit}
 use Rattle.mt_import_laws.proofs.Bits.{bit_of_either}
 use Rattle.mt_import_laws.proofs.Fine.{IsFine, agreed}
 

@@ -1,2 +1,10 @@
 pub mod Origins
+pub mod Notes
+pub mod Worked
 pub mod Alike
+pub mod Printed
+pub mod PrintedByInteltool
+pub mod PrintedByCoreboot
+pub mod PrintedByEdk2
+pub mod PrintedByRdmsr
+pub mod WorkedPrinted

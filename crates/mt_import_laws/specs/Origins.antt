@@ -1,18 +1,23 @@
 -- Where the values of a dump come from, and lines that contradict each other, in terms of what the lines of a log show (own).
 --     readings_of choice text      what the lines of a log show of registers
---     Origin supplied readings width k number value      the lines, the word or the assumption that gives a register of processor k this value
-use Rattle.std.specs.Prelude.{ℕ, ◌≡◌, ◌≢◌, ◌<◌, ◌⊎◌, ◌+◌, true, List, [], ◌∷◌, ◌++◌, length, Option, Some, None}
+--     Origin supplied readings known k number value      the lines, the word or the assumption that gives a register of processor k this value
+use Rattle.std.specs.Prelude.{ℕ, ◌≡◌, ◌≢◌, ◌<◌, ◌⊎◌, ◌+◌, Bool, true, false, List, [], ◌∷◌, ◌++◌, length, if◌then◌else◌, Some, None}
 use Rattle.std.specs.Int.{bit_at}
+use Rattle.mt_ports.specs.Causes.{one_more}
 use Rattle.mt_text.specs.Text.{lines_of}
+use Rattle.mt_text.specs.declared.place.Place.{Place}
 use Rattle.mt_dump.specs.Canon.{canon}
 use Rattle.mt_import.specs.declared.format.Choice.{Choice}
 use Rattle.mt_import.specs.declared.reading.Context.{Context}
+use Rattle.mt_import.specs.declared.reading.Said.{Said}
+use Rattle.mt_import.specs.declared.reading.Said.TheVariants.{Nothing, Announces, Value, Turns, Shows, Begins, FixedRanges, VariableRanges, Width, Warns, Long}
 use Rattle.mt_import.specs.declared.shape.Reading.{Reading}
-use Rattle.mt_import.specs.Readings.{Fact, is_register_value, starts}
-use Rattle.mt_import.specs.Shown.{context_behind, facts_of_line, format_of, shown}
+use Rattle.mt_import.specs.Readings.{Fact, is_register_value, is_width, starts}
+use Rattle.mt_import.specs.Shown.{chosen, context_behind, facts_of_line, format_of, said_in, shown}
 use Rattle.mt_import.specs.Supplied.{Supplied, supplied_value}
-use Rattle.mt_import.specs.Values.{assumed_value, is_pair_number, mask_of, width_by}
-use Rattle.mt_import.specs.Outcome.{Seen, Told, dump_in, needed, nothing_seen, processors, seen_after, slot_shown, values_of}
+use Rattle.mt_import.specs.Slot.{whole_value}
+use Rattle.mt_import.specs.Values.{Known, assumed_of, assumed_value, is_pair_number, assumed_width, mask_of, width_by}
+use Rattle.mt_import.specs.Outcome.{Seen, Told, capabilities_shown, counted, counts_fewer, dump_in, enabled_pair, known_by, known_of, needed, notes_of, nothing_seen, processors, seen_after, slot_shown, values_of}
 
 abbrev pub IsAmong : {A : Type 0} → A → List A → Type 0
 IsAmong x [] = ⊥
@@ -31,13 +36,42 @@ abbrev pub context_after_lines : Context → ℕ → List (List ℕ) → Context
 context_after_lines context number [] = context
 context_after_lines context number (line ∷ lines) = context_after_lines (context_behind context number line) (number + 1) lines
 
--- A line of the log shows this, behind the lines before it.
-pub record IsOfLine (choice : Choice) (text : List ℕ) (reading : Reading) : Type 0 where
+-- A line of the log says this, behind the lines before it.
+pub record IsOfLine (choice : Choice) (text : List ℕ) (fact : Fact) : Type 0 where
   pub before : List (List ℕ)
   pub line : List ℕ
   pub others : List (List ℕ)
   pub lines : lines_of text ≡ before ++ line ∷ others
-  pub shows : IsAmong (is_register_value reading) (facts_of_line (context_after_lines (starts (format_of choice)) 1 before) (1 + length before) line)
+  pub shows : IsAmong fact (facts_of_line (context_after_lines (starts (format_of choice)) 1 before) (1 + length before) line)
+
+-- ---- tables
+
+-- the heading of a table
+abbrev pub is_heading : Said → Bool
+is_heading (Begins shows) = true
+is_heading Nothing = false
+is_heading (Announces processor number) = false
+is_heading (Value value place) = false
+is_heading (Turns processor) = false
+is_heading (Shows processor shows) = false
+is_heading (FixedRanges enabled alone place) = false
+is_heading (VariableRanges enabled place) = false
+is_heading (Width width place) = false
+is_heading Warns = false
+is_heading (Long place) = false
+
+abbrev pub heads : Context → ℕ → List ℕ → Bool
+heads context number line = is_heading (said_in (chosen context.format number line) number line)
+
+-- how many tables have begun behind lines, of which the first has this number
+abbrev pub tables_behind : Context → ℕ → List (List ℕ) → ℕ → ℕ
+tables_behind context number [] tables = tables
+tables_behind context number (line ∷ lines) tables = tables_behind (context_behind context number line) (number + 1) lines (if heads context number line then one_more tables else tables)
+
+-- A line shows this. It is of the table that the last heading begins, up to the line itself.
+pub record IsRead (choice : Choice) (text : List ℕ) (reading : Reading) : Type 0 where
+  pub of_line : IsOfLine choice text (is_register_value reading)
+  pub table : reading.table ≡ tables_behind (starts (format_of choice)) 1 (of_line.before ++ of_line.line ∷ []) 0
 
 -- ---- one register
 
@@ -45,6 +79,15 @@ pub record IsOfLine (choice : Choice) (text : List ℕ) (reading : Reading) : Ty
 pub record Contradict (a b : Reading) : Type 0 where
   pub processor : a.processor ≡ b.processor
   pub number : a.number ≡ b.number
+  pub bit : ℕ
+  pub first : bit_at a.bits bit ≡ 1
+  pub second : bit_at b.bits bit ≡ 1
+  pub differ : bit_at a.value bit ≢ bit_at b.value bit
+
+-- Two readings of the capability register, of whatever processors, show another bit.
+pub record ContradictInCapabilities (a b : Reading) : Type 0 where
+  pub number : a.number ≡ 0xfe
+  pub number_too : b.number ≡ 0xfe
   pub bit : ℕ
   pub first : bit_at a.bits bit ≡ 1
   pub second : bit_at b.bits bit ≡ 1
@@ -78,11 +121,38 @@ pub record IsDisabled (readings : List Reading) (processor number value : ℕ) :
   pub valid : ShowsBit readings processor (mask_of number) 11
   pub clear : bit_at valid.reading.value 11 ≡ 0
 
-pub data Origin (supplied : Supplied) (readings : List Reading) (width : Option ℕ) (processor number value : ℕ) : Type 0 where
-  by_lines : IsShown readings processor number value → Origin supplied readings width processor number value
-  by_word : supplied_value supplied number ≡ Some value → Origin supplied readings width processor number value
-  by_disabled : IsDisabled readings processor number value → Origin supplied readings width processor number value
-  by_assumption : assumed_value supplied.assumed (slot_shown readings processor) width number ≡ Some value → Origin supplied readings width processor number value
+-- no table and no line shows all of a register
+abbrev pub IsUnshown : List Reading → ℕ → ℕ → Type 0
+IsUnshown readings processor number = whole_value (slot_shown readings processor number) ≡ None
+
+-- The register is neither shown nor supplied.
+abbrev pub IsUntold : Supplied → List Reading → ℕ → ℕ → Type 0
+IsUntold supplied readings processor number = IsUnshown readings processor number × (supplied_value supplied number ≡ None)
+
+-- its value is that of an assumption that a word allows
+abbrev pub IsAssumed : Supplied → List Reading → Known → ℕ → ℕ → ℕ → Type 0
+IsAssumed supplied readings known processor number value = assumed_value (assumed_of processor supplied.assumed) (slot_shown readings processor) known number ≡ Some value
+
+-- Lines come before a word, and a word before a pair that is off and an assumption.
+pub data Origin (supplied : Supplied) (readings : List Reading) (known : Known) (processor number value : ℕ) : Type 0 where
+  by_lines : IsShown readings processor number value → Origin supplied readings known processor number value
+  by_word : IsUnshown readings processor number → supplied_value supplied number ≡ Some value → Origin supplied readings known processor number value
+  by_disabled : IsUntold supplied readings processor number → IsDisabled readings processor number value → Origin supplied readings known processor number value
+  by_assumption : IsUntold supplied readings processor number → IsAssumed supplied readings known processor number value → Origin supplied readings known processor number value
+
+-- VCNT, as lines show it and as a word supplies it, counts the pair that a reading shows as enabled.
+pub record CountsPair (supplied : Supplied) (readings : List Reading) (a : Reading) : Type 0 where
+  pub shown : counts_fewer (counted (capabilities_shown readings)) (enabled_pair a) ≡ false
+  pub given : counts_fewer (supplied_value supplied 0xfe) (enabled_pair a) ≡ false
+
+-- ---- the width
+
+-- a line, a word or an assumption that gives the width, one behind the other
+pub data WidthOrigin (choice : Choice) (supplied : Supplied) (text : List ℕ) (width : ℕ) : Type 0 where
+  width_by_line : (place : Place) → IsOfLine choice text (is_width width place) → WidthOrigin choice supplied text width
+  width_by_word : (seen_of choice text).width ≡ None → supplied.width ≡ Some width → WidthOrigin choice supplied text width
+  width_by_masks : (seen_of choice text).width ≡ None → supplied.width ≡ None
+      → assumed_width supplied.assumed (slot_shown (readings_of choice text) 0) ≡ Some width → WidthOrigin choice supplied text width
 
 -- ---- a dump
 
@@ -91,7 +161,9 @@ pub record HasOrigins (supplied : Supplied) (seen : Seen) (told : Told) : Type 0
   pub width : ℕ
   pub capabilities : ℕ
   pub width_is : width_by supplied (slot_shown seen.readings) seen.width ≡ Some width
-  pub capabilities_is : values_of supplied (slot_shown seen.readings) seen.width 0 0xfe ≡ Some capabilities
-  pub dump_is : told.dump ≡ canon (dump_in (values_of supplied (slot_shown seen.readings) seen.width) (processors seen.readings) width capabilities)
+  pub capabilities_is : values_of supplied (slot_shown seen.readings) (known_of seen) 0 0xfe ≡ Some capabilities
+  pub notes_are : told.notes ≡ notes_of supplied (slot_shown seen.readings) (processors seen.readings) (known_of seen)
+  pub dump_is : told.dump ≡ canon (dump_in (values_of supplied (slot_shown seen.readings) (known_of seen)) (processors seen.readings) width capabilities)
   pub each : (k number : ℕ) → k < processors seen.readings → IsAmong number (needed (Some capabilities))
-      → (value : ℕ) × (values_of supplied (slot_shown seen.readings) seen.width k number ≡ Some value) × Origin supplied seen.readings (Some width) k number value
+      → (value : ℕ) × (values_of supplied (slot_shown seen.readings) (known_of seen) k number ≡ Some value)
+      × Origin supplied seen.readings (known_by supplied (slot_shown seen.readings) (known_of seen)) k number value

@@ -1,22 +1,38 @@
-ghost use Rattle.std.specs.Prelude.{◌≡◌, ℕ, List};
+ghost use Rattle.std.specs.Prelude.{◌≡◌, ◌≢◌, ◌++◌, ℕ, List, [], Some};
 ghost use Rattle.mt_ports.specs.declared.status.Status.TheVariants.{BadText, Done};
+ghost use Rattle.mt_text.specs.declared.place.Place.{Place};
 ghost use Rattle.mt_import.specs.declared.format.Choice.{Choice};
 ghost use Rattle.mt_import.specs.declared.shape.Reading.{Reading};
-ghost use Rattle.mt_import.specs.Import.{log_told};
+ghost use Rattle.mt_import.specs.Import.{log_told, told_of};
+ghost use Rattle.mt_import.specs.Outcome.{Seen, Told};
+ghost use Rattle.mt_import.specs.Readings.{is_width};
+ghost use Rattle.mt_import.specs.Shown.{format_of, shown};
 ghost use Rattle.mt_import.specs.Supplied.{Supplied};
 ghost use Rattle.mt_import_laws.specs.Alike.{AreAlikeLogs};
-ghost use Rattle.mt_import_laws.specs.Origins.{Contradict, ContradictsWord, HasOrigins, IsAmong, IsOfLine, readings_of, seen_of};
+ghost use Rattle.mt_import_laws.specs.Notes.{AreNoted};
+ghost use Rattle.mt_import_laws.specs.Origins.{Contradict, ContradictInCapabilities, ContradictsWord, CountsPair, HasOrigins, IsAmong, IsRead, WidthOrigin, readings_of, seen_of};
 
-/// For all logs and words: if a dump comes of them, each of its values is shown by lines of one table, or supplied by a word, or a
-/// named assumption's. A pair that lines show as disabled is 0 and 0.
+/// For all logs and words: if a dump comes of them, each of its values is shown by lines of one table. Or else a word supplies it.
+/// Or else lines show its pair as disabled, and it is 0. Or else it is a named assumption's.
 pub fn values_have_origins()
     ensures { (choice : Choice) (supplied : Supplied) (text : List ℕ) → (log_told choice supplied text).status ≡ Done
         → HasOrigins supplied (seen_of choice text) (log_told choice supplied text) }
 {}
 
-/// What is shown of a register is shown by a line of the log.
+/// The width of a dump is shown by a line. Or else a word supplies it. Or else it is that of the widest mask.
+pub fn widths_have_origins()
+    ensures { (choice : Choice) (supplied : Supplied) (text : List ℕ) (origins : HasOrigins supplied (seen_of choice text) (log_told choice supplied text))
+        → WidthOrigin choice supplied text origins.width }
+{}
+
+/// A comment names each value that an assumption alone gives, with its register and its processor.
+pub fn assumed_values_are_noted()
+    ensures { (supplied : Supplied) (seen : Seen) (told : Told) (origins : HasOrigins supplied seen told) → AreNoted supplied seen origins.capabilities told.notes }
+{}
+
+/// What is shown of a register is shown by a line of the log, and is of the table that the last heading begins.
 pub fn readings_come_from_lines()
-    ensures { (choice : Choice) (text : List ℕ) (reading : Reading) → IsAmong reading (readings_of choice text) → IsOfLine choice text reading }
+    ensures { (choice : Choice) (text : List ℕ) (reading : Reading) → IsAmong reading (readings_of choice text) → IsRead choice text reading }
 {}
 
 /// Two lines that show a bit of one register of one processor differently are a fault.
@@ -25,13 +41,42 @@ pub fn contradictions_are_faults()
         → Contradict a b → (log_told choice supplied text).status ≡ BadText }
 {}
 
+/// Two lines that show a bit of the capability register differently are a fault, of whatever processors they are.
+pub fn capabilities_that_contradict_are_faults()
+    ensures { (choice : Choice) (supplied : Supplied) (text : List ℕ) (a b : Reading) → IsAmong a (readings_of choice text) → IsAmong b (readings_of choice text)
+        → ContradictInCapabilities a b → (log_told choice supplied text).status ≡ BadText }
+{}
+
 /// A line that shows a bit of a register otherwise than a word is a fault.
 pub fn words_that_contradict_are_faults()
     ensures { (choice : Choice) (supplied : Supplied) (text : List ℕ) (a : Reading) → IsAmong a (readings_of choice text)
         → ContradictsWord supplied a → (log_told choice supplied text).status ≡ BadText }
 {}
 
+/// Two lines that show different widths are a fault.
+pub fn widths_that_differ_are_faults()
+    ensures { (choice : Choice) (supplied : Supplied) (text : List ℕ) (a b : ℕ) (p q : Place) → IsAmong (is_width a p) (shown (format_of choice) text)
+        → IsAmong (is_width b q) (shown (format_of choice) text) → a ≢ b → (log_told choice supplied text).status ≡ BadText }
+{}
+
+/// A line that shows another width than a word is a fault.
+pub fn a_width_that_contradicts_a_word_is_a_fault()
+    ensures { (choice : Choice) (supplied : Supplied) (text : List ℕ) (a word : ℕ) (p : Place) → IsAmong (is_width a p) (shown (format_of choice) text)
+        → supplied.width ≡ Some word → word ≢ a → (log_told choice supplied text).status ≡ BadText }
+{}
+
+/// Of a dump, VCNT counts each pair that lines show as enabled: VCNT as lines show it, and as a word supplies it.
+pub fn enabled_pairs_are_counted()
+    ensures { (choice : Choice) (supplied : Supplied) (text : List ℕ) → (log_told choice supplied text).status ≡ Done → (a : Reading) → IsAmong a (readings_of choice text)
+        → CountsPair supplied (readings_of choice text) a }
+{}
+
 /// Lines that match nothing may be replaced by others that match nothing: the texts and the status stay.
 pub fn lines_that_match_nothing_change_nothing()
     ensures { (choice : Choice) (supplied : Supplied) (a b : List ℕ) → AreAlikeLogs choice a b → log_told choice supplied a ≡ log_told choice supplied b }
+{}
+
+/// Where the status isn't 0, nothing goes to standard output.
+pub fn reasons_come_alone()
+    ensures { (words : List (List ℕ)) (bytes : List ℕ) → (told_of words bytes).status ≢ Done → (told_of words bytes).notes ++ (told_of words bytes).dump ≡ [] }
 {}

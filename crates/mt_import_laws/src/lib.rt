@@ -1,9 +1,20 @@
-//! Laws of logs: where the values of a dump come from, and what contradictions and lines that match nothing come to.
+//! Laws of logs: where the values of a dump come from, what contradictions and lines that match nothing come to,
+//! and that what a program prints reads back.
 #![tactic(auto)]
 
 mod laws;
+mod printers;
+mod worked;
 
 pub use laws::{
-    contradictions_are_faults, lines_that_match_nothing_change_nothing, readings_come_from_lines,
-    values_have_origins, words_that_contradict_are_faults,
+    a_width_that_contradicts_a_word_is_a_fault, assumed_values_are_noted,
+    capabilities_that_contradict_are_faults, contradictions_are_faults, enabled_pairs_are_counted,
+    lines_that_match_nothing_change_nothing, readings_come_from_lines, reasons_come_alone,
+    values_have_origins, widths_have_origins, widths_that_differ_are_faults,
+    words_that_contradict_are_faults,
 };
+pub use printers::{
+    what_coreboot_displays_reads_back, what_edk2_prints_reads_back,
+    what_inteltool_prints_reads_back, what_rdmsr_prints_reads_back, worked_prints,
+};
+pub use worked::worked_contradiction;

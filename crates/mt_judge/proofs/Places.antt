@@ -8,7 +8,7 @@ use Rattle.std.proofs.lemmas.List.Elements.{All-head, All-tail}
 use Rattle.mt_lists.proofs.Keys.{at_position}
 use Rattle.mt_cache.specs.declared.line.CacheLine.{CacheLine}
 use Rattle.mt_cache.specs.Lines.{eight, has_number, is_dirty}
-use Rattle.mt_machine.specs.Memory.{IsMemory, Memory, Window, line_words, place, place_in, put_word, window_end, word_address, word_at, write_back, write_back_word}
+use Rattle.mt_machine.specs.Memory.{IsMemory, Memory, Window, place, place_in, put_word, window_end, word_address, word_at, write_back, write_back_word}
 
 none_above : (ws : List Window) (before a : ℕ) → All (λ w. window_end w ≤ 2 ^ 52) ws → 2 ^ 52 ≤ a → place_in ws before a ≡ None
 none_above [] before a bounded high = refl

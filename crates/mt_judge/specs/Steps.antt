@@ -1,16 +1,29 @@
 -- What a step of a list does: what the machine's event does, whether or not it is due (own). A step that is no event is an access, a control
 -- instruction, a count at a barrier, or a flush of the TLB by the other of the two ways that the procedure has.
-use Rattle.std.specs.Prelude.{ℕ, ◌<◌, ◌+◌, ◌^◌, Bool, true, false, if◌then◌else◌, slice_get, Option, None, Some}
+use Rattle.std.specs.Prelude.{◌≡◌, ℕ, ◌<◌, ◌+◌, ◌^◌, Bool, if◌then◌else◌, slice_get, Option, None, Some}
 use Rattle.std.specs.Option.{option_map_or}
+use Rattle.mt_regs.specs.RegisterFile.{RegisterFile}
+use Rattle.mt_tlb.specs.declared.mapping.Mapping.{Mapping}
+use Rattle.mt_tlb.specs.Entries.{is_full_for, set_mapping}
 use Rattle.mt_machine.specs.declared.phase.Phase.{Phase}
 use Rattle.mt_machine.specs.declared.phase.Phase.TheVariants.{Taken, Arrived, NoFill, Flushed, TlbFlushed, Enabled, Flushed2, TlbFlushed2, Restored}
 use Rattle.mt_machine.specs.declared.event.Event.{Event}
-use Rattle.mt_machine.specs.declared.event.Event.TheVariants.{Take, Arrive, Pass, SetNoFill, DropLines, FlushTlb, Disable, Write, Enable, SetNormal, RestorePge, ArriveAgain, Release}
+use Rattle.mt_machine.specs.declared.event.Event.TheVariants.{Take, Arrive, Pass, SetNoFill, DropLines, FlushTlb, Disable, Write, WriteBack, Enable, SetNormal, RestorePge, ArriveAgain, Release}
 use Rattle.mt_machine.specs.declared.control.Control.{Control}
-use Rattle.mt_machine.specs.declared.control.Control.TheVariants.{Map}
-use Rattle.mt_machine.specs.System.{Processor, System}
+use Rattle.mt_machine.specs.declared.control.Control.TheVariants.{Cd, Cr3, Invlpg, Map, Pge}
+use Rattle.mt_machine.specs.declared.done.Done.{Done}
+use Rattle.mt_machine.specs.declared.done.Done.TheVariants.{Busy}
+use Rattle.mt_machine.specs.declared.op.Op.{Op}
+use Rattle.mt_machine.specs.declared.ruled.Ruled.{Ruled}
+use Rattle.mt_machine.specs.declared.ruled.Ruled.TheVariants.{Full, Okay}
+use Rattle.mt_machine.specs.Memory.{Memory, put_word}
+use Rattle.mt_machine.specs.System.{Processor, System, change}
+use Rattle.mt_machine.specs.Access.{Answered, access_at}
 use Rattle.mt_machine.specs.Control.{control_at}
-use Rattle.mt_machine.specs.Machine.{write_back_or_drop}
+use Rattle.mt_machine.specs.Machine.{flush_tlb, step, write_back_or_drop}
+use Rattle.mt_bus.specs.Parts.{answered, ruled}
+use Rattle.mt_judge.specs.declared.moves.Outcome.{Outcome}
+use Rattle.mt_judge.specs.declared.moves.Outcome.TheVariants.{Accessed, Nothing}
 use Rattle.mt_judge.specs.declared.step.Step.{Step}
 use Rattle.mt_judge.specs.declared.step.Step.TheVariants as list
 
@@ -74,5 +87,57 @@ after_reload Enabled = TlbFlushed2
 after_reload Flushed2 = TlbFlushed2
 after_reload other = other
 
+-- what is done is the access of the processor that the first system has at that place, and the second system is the one after it
+abbrev pub IsAccess : System → ℕ → Op → Done → System → Type 0
+IsAccess s k op done t = (p : Processor) → slice_get s.processors k ≡ Some p → answered done t ≡ access_at s k p op
+
+-- the same of a control instruction
+abbrev pub IsControl : System → ℕ → Control → Ruled → System → Type 0
+IsControl s k c r t = (p : Processor) → slice_get s.processors k ≡ Some p → ruled r t ≡ control_at s k p c
+
+-- what a mapping that is set returns, and the processor that has it
+abbrev pub answer_to_map : Mapping → Processor → Ruled
+answer_to_map m p = if is_full_for m p.mappings then Full else Okay
+
+abbrev pub with_mapping : Mapping → Processor → Processor
+with_mapping m p = record p { mappings = set_mapping m p.mappings }
+
+-- what an access of processor k returns, and the system after it, whatever the phase
+abbrev pub accessed : Op → ℕ → System → Answered
+accessed op k s = option_map_or (λ p. access_at s k p op) (slice_get s.processors k) (answered Busy s)
+
 abbrev pub controlled : Control → ℕ → System → System
 controlled c k s = option_map_or (λ p. (control_at s k p c).after) (slice_get s.processors k) s
+
+-- PGE is remembered, and cleared if it is set, after the second flush of the caches
+abbrev pub flush_aside : Processor → Processor
+flush_aside p = record (flush_tlb Flushed p) { phase = TlbFlushed }
+
+abbrev pub reload_aside : Processor → Processor
+reload_aside p = record p { phase = after_reload p.phase }
+
+abbrev pub aside : Step → ℕ → System → System
+aside list.ClearPge k s = change flush_aside k s
+aside list.ReloadCr3 k s = change reload_aside k (controlled Cr3 k s)
+aside (list.Access op) k s = (accessed op k s).after
+aside (list.Invlpg address) k s = controlled (Invlpg address) k s
+aside (list.Pge on) k s = controlled (Pge on) k s
+aside (list.Cd on) k s = controlled (Cd on) k s
+aside other k s = s
+
+abbrev pub answer_aside : Step → ℕ → System → Outcome
+answer_aside (list.Access op) k s = Accessed (accessed op k s).answer
+answer_aside other k s = Nothing
+
+-- the word that an event writes to memory
+abbrev pub memory_after : Event → Memory → Memory
+memory_after (WriteBack address value) m = put_word m address value
+memory_after other m = m
+
+-- ---- a step of processor k, which is this event or none
+
+abbrev pub after_step : RegisterFile → Option Event → Step → ℕ → System → System
+after_step goal event todo k s = option_map_or (λ e. step goal e k s) event (aside todo k s)
+
+abbrev pub answer_of_step : Option Event → Step → ℕ → System → Outcome
+answer_of_step event todo k s = option_map_or (λ _. Nothing) event (answer_aside todo k s)

@@ -11,7 +11,8 @@ ghost use Rattle.mt_machine.specs.System.{Processor};
 ghost use Rattle.mt_machine.specs.Bus.{with_lines};
 ghost use Rattle.mt_machine.specs.Access.{Answered, access_at, entry_of, first_of_load, first_of_store, is_cached, keep_entry, load, physical, store, store_filling, store_hit, store_past, store_uncached, store_after};
 ghost use Rattle.mt_bus.specs.Parts.{answered, entry_in, hit_in, lines_in, system, with_changed};
-ghost use Rattle.mt_judge.specs.Parts.{memory};
+ghost use Rattle.mt_judge.specs.Parts.{bus, memory};
+ghost use Rattle.mt_judge.specs.Steps.{IsAccess};
 
 use crate::buffers::{combine, drain, drain_line};
 use crate::cpu::Cpu;
@@ -108,7 +109,7 @@ fn translate(cpu: &mut Cpu, vpage: u64) -> Result<Option<Entry>, NoMemory>
     }
 }
 
-fn is_cached(kind: MemType) -> bool
+pub(crate) fn is_cached(kind: MemType) -> bool
     ensures { result ≡ is_cached kind }
 {
     match kind {
@@ -140,7 +141,7 @@ fn first_of_load(
     number: u64,
 )
     requires { k < length cpus.old }
-    ensures { system cpus.new (memory layout.now words.new) ≡ first_of_load kind k number (system cpus.old (memory layout.now words.old)) }
+    ensures { bus layout.now cpus.new words.new ≡ first_of_load kind k number (bus layout.now cpus.old words.old) }
 {
     match kind {
         MemType::UC => drain(layout, cpus, words, k),
@@ -170,7 +171,7 @@ fn load(
     address: u64,
 ) -> Result<u64, NoMemory>
     requires { k < length cpus.old }
-    ensures { IfOk result (λ v. (v, system cpus.new (memory layout.now words.new)) ≡ load kind k address (system cpus.old (memory layout.now words.old))) }
+    ensures { IfOk result (λ v. (v, bus layout.now cpus.new words.new) ≡ load kind k address (bus layout.now cpus.old words.old)) }
 {
     let number = address / LINE_BYTES;
     first_of_load(layout, cpus, words, k, kind, number);
@@ -209,7 +210,7 @@ fn first_of_store(
     number: u64,
 )
     requires { k < length cpus.old }
-    ensures { system cpus.new (memory layout.now words.new) ≡ first_of_store kind k number (system cpus.old (memory layout.now words.old)) }
+    ensures { bus layout.now cpus.new words.new ≡ first_of_store kind k number (bus layout.now cpus.old words.old) }
 {
     match kind {
         MemType::UC => drain(layout, cpus, words, k),
@@ -220,7 +221,7 @@ fn first_of_store(
 
 // A store that goes to memory past the own cache. No other cache keeps the line.
 fn store_past(layout: &Ram, cpus: &mut [Cpu], words: &mut [u64], k: usize, address: u64, v: u64)
-    ensures { system cpus.new (memory layout.now words.new) ≡ store_past k address v (system cpus.old (memory layout.now words.old)) }
+    ensures { bus layout.now cpus.new words.new ≡ store_past k address v (bus layout.now cpus.old words.old) }
 {
     let number = address / LINE_BYTES;
     bus_read(layout, cpus, words, number);
@@ -230,7 +231,7 @@ fn store_past(layout: &Ram, cpus: &mut [Cpu], words: &mut [u64], k: usize, addre
 
 // A store after which no cache keeps the line.
 fn store_uncached(layout: &Ram, cpus: &mut [Cpu], words: &mut [u64], address: u64, v: u64)
-    ensures { system cpus.new (memory layout.now words.new) ≡ store_uncached address v (system cpus.old (memory layout.now words.old)) }
+    ensures { bus layout.now cpus.new words.new ≡ store_uncached address v (bus layout.now cpus.old words.old) }
 {
     let number = address / LINE_BYTES;
     bus_read(layout, cpus, words, number);
@@ -241,7 +242,7 @@ fn store_uncached(layout: &Ram, cpus: &mut [Cpu], words: &mut [u64], address: u6
 // A store to write-back memory that hits a line.
 fn store_hit(layout: &Ram, cpus: &mut [Cpu], words: &mut [u64], k: usize, address: u64, v: u64)
     requires { k < length cpus.old }
-    ensures { system cpus.new (memory layout.now words.new) ≡ store_hit k address v (system cpus.old (memory layout.now words.old)) }
+    ensures { bus layout.now cpus.new words.new ≡ store_hit k address v (bus layout.now cpus.old words.old) }
 {
     let number = address / LINE_BYTES;
     write_back_others(layout, cpus, words, k, number);
@@ -258,7 +259,7 @@ fn store_filling(
     v: u64,
 ) -> Result<(), NoMemory>
     requires { k < length cpus.old }
-    ensures { OnOk result (system cpus.new (memory layout.now words.new) ≡ store_filling k address v (system cpus.old (memory layout.now words.old))) }
+    ensures { OnOk result (bus layout.now cpus.new words.new ≡ store_filling k address v (bus layout.now cpus.old words.old)) }
 {
     let number = address / LINE_BYTES;
     bus_read(layout, cpus, words, number);
@@ -277,7 +278,7 @@ fn store_back(
     v: u64,
 ) -> Result<(), NoMemory>
     requires { k < length cpus.old }
-    ensures { OnOk result (system cpus.new (memory layout.now words.new) ≡ store_after MemType.WB k address v (system cpus.old (memory layout.now words.old))) }
+    ensures { OnOk result (bus layout.now cpus.new words.new ≡ store_after MemType.WB k address v (bus layout.now cpus.old words.old)) }
 {
     if line_of(cpus, k, address / LINE_BYTES).is_some() {
         store_hit(layout, cpus, words, k, address, v);
@@ -293,7 +294,7 @@ fn store_back(
 // A store to write-through memory.
 fn store_through(layout: &Ram, cpus: &mut [Cpu], words: &mut [u64], k: usize, address: u64, v: u64)
     requires { k < length cpus.old }
-    ensures { system cpus.new (memory layout.now words.new) ≡ store_after MemType.WT k address v (system cpus.old (memory layout.now words.old)) }
+    ensures { bus layout.now cpus.new words.new ≡ store_after MemType.WT k address v (bus layout.now cpus.old words.old) }
 {
     store_past(layout, cpus, words, k, address, v);
     write_own(cpus, k, address, v, false);
@@ -310,7 +311,7 @@ fn store_after(
     v: u64,
 ) -> Result<(), NoMemory>
     requires { k < length cpus.old }
-    ensures { OnOk result (system cpus.new (memory layout.now words.new) ≡ store_after kind k address v (system cpus.old (memory layout.now words.old))) }
+    ensures { OnOk result (bus layout.now cpus.new words.new ≡ store_after kind k address v (bus layout.now cpus.old words.old)) }
 {
     match kind {
         MemType::UC | MemType::WP => {
@@ -344,7 +345,7 @@ fn store(
     v: u64,
 ) -> Result<(), NoMemory>
     requires { k < length cpus.old }
-    ensures { OnOk result (system cpus.new (memory layout.now words.new) ≡ store kind k address v (system cpus.old (memory layout.now words.old))) }
+    ensures { OnOk result (bus layout.now cpus.new words.new ≡ store kind k address v (bus layout.now cpus.old words.old)) }
 {
     first_of_store(layout, cpus, words, k, kind, address / LINE_BYTES);
     store_after(layout, cpus, words, k, kind, address, v)
@@ -383,7 +384,7 @@ fn load_at(
     va: u64,
 ) -> Result<Done, NoMemory>
     requires { k < length cpus.old }
-    ensures { IfOk result (λ done. (p : Processor) → slice_get cpus.old k ≡ Some p → answered done (system cpus.new (memory layout.now words.new)) ≡ access_at (system cpus.old (memory layout.now words.old)) k p (Op.Load va)) }
+    ensures { IfOk result (λ done. IsAccess (bus layout.now cpus.old words.old) k (Op.Load va) done (bus layout.now cpus.new words.new)) }
 {
     let Some(entry) = translate_in(cpus, k, va)? else {
         return Ok(Done::Unmapped);
@@ -404,7 +405,7 @@ fn store_at(
     v: u64,
 ) -> Result<Done, NoMemory>
     requires { k < length cpus.old }
-    ensures { IfOk result (λ done. (p : Processor) → slice_get cpus.old k ≡ Some p → answered done (system cpus.new (memory layout.now words.new)) ≡ access_at (system cpus.old (memory layout.now words.old)) k p (Op.Store va v)) }
+    ensures { IfOk result (λ done. IsAccess (bus layout.now cpus.old words.old) k (Op.Store va v) done (bus layout.now cpus.new words.new)) }
 {
     let Some(entry) = translate_in(cpus, k, va)? else {
         return Ok(Done::Unmapped);
@@ -425,7 +426,7 @@ pub(crate) fn access(
     op: Op,
 ) -> Result<Done, NoMemory>
     requires { k < length cpus.old }
-    ensures { IfOk result (λ done. (p : Processor) → slice_get cpus.old k ≡ Some p → answered done (system cpus.new (memory layout.now words.new)) ≡ access_at (system cpus.old (memory layout.now words.old)) k p op) }
+    ensures { IfOk result (λ done. IsAccess (bus layout.now cpus.old words.old) k op done (bus layout.now cpus.new words.new)) }
 {
     match op {
         Op::Load(va) => load_at(layout, cpus, words, k, va),

@@ -3,7 +3,7 @@ ghost use Rattle.mt_cache.specs.Lines.{combined_with, find_line, oldest_of_full,
 ghost use Rattle.mt_machine.specs.System.{change};
 ghost use Rattle.mt_machine.specs.Bus.{combine, drain, drain_line, empty_buffer, empty_if_whole, make_buffer_room, with_buffers};
 ghost use Rattle.mt_bus.specs.Parts.{buffers_in, system, with_changed};
-ghost use Rattle.mt_judge.specs.Parts.{memory};
+ghost use Rattle.mt_judge.specs.Parts.{bus, memory};
 
 use crate::cpu::Cpu;
 use crate::lines;
@@ -55,7 +55,7 @@ fn drop_buffer(cpus: &mut [Cpu], k: usize, number: u64)
 /// Empties all buffers of a processor, the oldest first.
 pub(crate) fn drain(layout: &Ram, cpus: &mut [Cpu], words: &mut [u64], k: usize)
     requires { k < length cpus.old }
-    ensures { system cpus.new (memory layout.now words.new) ≡ drain k (system cpus.old (memory layout.now words.old)) }
+    ensures { bus layout.now cpus.new words.new ≡ drain k (bus layout.now cpus.old words.old) }
 {
     for i in 0..buffer_count(cpus, k) {
         let buffer = buffer_at(cpus, k, i);
@@ -74,7 +74,7 @@ fn empty_and_drop(
     buffer: &CacheLine,
 )
     requires { k < length cpus.old }
-    ensures { system cpus.new (memory layout.now words.new) ≡ change (with_buffers (without_line number)) k (empty_buffer (system cpus.old (memory layout.now words.old)) buffer.now) }
+    ensures { bus layout.now cpus.new words.new ≡ change (with_buffers (without_line number)) k (empty_buffer (bus layout.now cpus.old words.old) buffer.now) }
 {
     empty_buffer(layout, cpus, words, buffer);
     drop_buffer(cpus, k, number);
@@ -83,7 +83,7 @@ fn empty_and_drop(
 /// Empties a processor's buffer of a line.
 pub(crate) fn drain_line(layout: &Ram, cpus: &mut [Cpu], words: &mut [u64], k: usize, number: u64)
     requires { k < length cpus.old }
-    ensures { system cpus.new (memory layout.now words.new) ≡ drain_line k number (system cpus.old (memory layout.now words.old)) }
+    ensures { bus layout.now cpus.new words.new ≡ drain_line k number (bus layout.now cpus.old words.old) }
 {
     if let Some(buffer) = buffer_of(cpus, k, number) {
         empty_and_drop(layout, cpus, words, k, number, &buffer);
@@ -101,7 +101,7 @@ fn oldest_buffer(cpus: &[Cpu], k: usize) -> Option<CacheLine>
 // Where a new buffer is wanted and four stand, the oldest is emptied first.
 fn make_room(layout: &Ram, cpus: &mut [Cpu], words: &mut [u64], k: usize, number: u64)
     requires { k < length cpus.old }
-    ensures { system cpus.new (memory layout.now words.new) ≡ make_buffer_room k number (system cpus.old (memory layout.now words.old)) }
+    ensures { bus layout.now cpus.new words.new ≡ make_buffer_room k number (bus layout.now cpus.old words.old) }
 {
     if buffer_of(cpus, k, number).is_some() {
         return;
@@ -123,7 +123,7 @@ fn join(cpus: &mut [Cpu], k: usize, number: u64, word: u8, v: u64) -> Result<(),
 // The buffer of a line is emptied once its eight words are written.
 fn empty_if_whole(layout: &Ram, cpus: &mut [Cpu], words: &mut [u64], k: usize, number: u64)
     requires { k < length cpus.old }
-    ensures { system cpus.new (memory layout.now words.new) ≡ empty_if_whole k number (system cpus.old (memory layout.now words.old)) }
+    ensures { bus layout.now cpus.new words.new ≡ empty_if_whole k number (bus layout.now cpus.old words.old) }
 {
     if let Some(buffer) = buffer_of(cpus, k, number)
         && buffer.dirty == 0xff
@@ -144,7 +144,7 @@ pub(crate) fn combine(
 ) -> Result<(), NoMemory>
     requires processor { k < length cpus.old }
     requires word { word < 8 }
-    ensures { OnOk result (system cpus.new (memory layout.now words.new) ≡ combine k number word v (system cpus.old (memory layout.now words.old))) }
+    ensures { OnOk result (bus layout.now cpus.new words.new ≡ combine k number word v (bus layout.now cpus.old words.old)) }
 {
     make_room(layout, cpus, words, k, number);
     join(cpus, k, number, word, v)?;

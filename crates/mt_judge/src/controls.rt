@@ -5,8 +5,8 @@ ghost use Rattle.mt_tlb.specs.Entries.{global_entries, is_full_for, is_mapped, m
 ghost use Rattle.mt_machine.specs.System.{Processor};
 ghost use Rattle.mt_machine.specs.Control.{control_at, drop_page, reload_cr3, set_page_global};
 ghost use Rattle.mt_bus.specs.Parts.{ruled, system, with_changed};
-ghost use Rattle.mt_judge.specs.Parts.{memory};
-ghost use Rattle.mt_judge.specs.Steps.{HasIndex};
+ghost use Rattle.mt_judge.specs.Parts.{bus, memory};
+ghost use Rattle.mt_judge.specs.Steps.{HasIndex, IsControl, answer_to_map, with_mapping};
 
 use crate::buffers::drain;
 use crate::cpu::Cpu;
@@ -119,7 +119,7 @@ pub(crate) fn control(
 ) -> Result<Ruled, NoMemory>
     requires processor { k < length cpus.old }
     requires index { HasIndex c }
-    ensures { IfOk result (λ r. (p : Processor) → slice_get cpus.old k ≡ Some p → ruled r (system cpus.new (memory layout.now words.new)) ≡ control_at (system cpus.old (memory layout.now words.old)) k p c) }
+    ensures { IfOk result (λ r. IsControl (bus layout.now cpus.old words.old) k c r (bus layout.now cpus.new words.new)) }
 {
     match c {
         Control::Map(x) => return map_in(cpus, k, x),
@@ -152,8 +152,8 @@ fn set_cd(cpu: &mut Cpu, on: bool)
 fn map_in(cpus: &mut [Cpu], k: usize, x: Mapping) -> Result<Ruled, NoMemory>
     requires processor { k < length cpus.old }
     requires index { x.index < 8 }
-    ensures answer { IfOk result (λ ruled. (p : Processor) → slice_get cpus.old k ≡ Some p → ruled ≡ (if is_full_for x p.mappings then Ruled.Full else Ruled.Okay)) }
-    ensures after { OnOk result ((p : Processor) → slice_get cpus.old k ≡ Some p → cpus.new ≡ (if is_full_for x p.mappings then cpus.old else with_changed (λ q. record q { mappings = set_mapping x q.mappings }) k cpus.old)) }
+    ensures answer { IfOk result (λ ruled. (p : Processor) → slice_get cpus.old k ≡ Some p → ruled ≡ answer_to_map x p) }
+    ensures after { OnOk result ((p : Processor) → slice_get cpus.old k ≡ Some p → cpus.new ≡ (if is_full_for x p.mappings then cpus.old else with_changed (with_mapping x) k cpus.old)) }
 {
     let cpu = &mut cpus[k];
     map(cpu, x)

@@ -1,33 +1,59 @@
 ghost use Rattle.std.specs.Prelude.{◌≡◌, ◌<◌, ◌^◌, length, nat_lt, true, if◌then◌else◌, None, Some, slice_get};
 ghost use Rattle.std.specs.List.{list_all};
 ghost use Rattle.mt_machine.specs.System.{Processor};
-ghost use Rattle.mt_machine.specs.Machine.{first_flush, write_or_enable};
+ghost use Rattle.mt_machine.specs.Machine.{first_flush, has_arrived, has_arrived_again, has_passed, has_released, is_arrived, is_arrived_again, is_changing, write_or_enable};
+ghost use Rattle.mt_judge.specs.Runs.{due_in, due_of, procedure_order};
 
 use crate::cpu::Cpu;
 use crate::steps::write_back_or_drop;
 use mt_machine::{Event, Phase};
 
 // Whether a processor has finished an update. Eras begin at 0.
-fn has_released(cpu: &Cpu) -> bool {
-    cpu.era > 0
+fn has_released(cpu: &Cpu) -> bool
+    ensures { result ≡ has_released (procedure_order cpu.now.file) cpu.now }
+{
+    0 < cpu.era
 }
 
-fn has_passed(cpu: &Cpu) -> bool {
-    let changing = !matches!(
-        cpu.phase,
+fn is_changing(phase: Phase) -> bool
+    ensures { result ≡ is_changing phase }
+{
+    !matches!(
+        phase,
         Phase::Running | Phase::Taken | Phase::Arrived | Phase::Arrived2
-    );
-    changing || cpu.phase == Phase::Arrived2 || has_released(cpu)
+    )
 }
 
-/// Whether a processor counts at the first barrier.
-fn has_arrived(cpu: &Cpu) -> bool {
-    cpu.phase == Phase::Arrived || has_passed(cpu)
+fn is_arrived(phase: Phase) -> bool
+    ensures { result ≡ is_arrived phase }
+{
+    matches!(phase, Phase::Arrived)
 }
 
-/// Whether a processor counts at the second barrier.
-fn has_arrived_again(cpu: &Cpu) -> bool {
-    cpu.phase == Phase::Arrived2 || has_released(cpu)
+fn is_arrived_again(phase: Phase) -> bool
+    ensures { result ≡ is_arrived_again phase }
+{
+    matches!(phase, Phase::Arrived2)
+}
+
+fn has_passed(cpu: &Cpu) -> bool
+    ensures { result ≡ has_passed (procedure_order cpu.now.file) cpu.now }
+{
+    is_changing(cpu.phase) || is_arrived_again(cpu.phase) || has_released(cpu)
+}
+
+// Whether a processor counts at the first barrier.
+fn has_arrived(cpu: &Cpu) -> bool
+    ensures { result ≡ has_arrived (procedure_order cpu.now.file) cpu.now }
+{
+    is_arrived(cpu.phase) || has_passed(cpu)
+}
+
+// Whether a processor counts at the second barrier.
+fn has_arrived_again(cpu: &Cpu) -> bool
+    ensures { result ≡ has_arrived_again (procedure_order cpu.now.file) cpu.now }
+{
+    is_arrived_again(cpu.phase) || has_released(cpu)
 }
 
 /// How many have arrived at the first barrier.
@@ -52,11 +78,15 @@ pub(crate) fn arrived_again(cpus: &[Cpu]) -> usize {
     count
 }
 
-fn have_arrived(cpus: &[Cpu]) -> bool {
+fn have_arrived(cpus: &[Cpu]) -> bool
+    ensures { result ≡ list_all (λ p. has_arrived (procedure_order p.file) p) cpus.now }
+{
     cpus.iter().all(|cpu| has_arrived(cpu))
 }
 
-fn have_arrived_again(cpus: &[Cpu]) -> bool {
+fn have_arrived_again(cpus: &[Cpu]) -> bool
+    ensures { result ≡ list_all (λ p. has_arrived_again (procedure_order p.file) p) cpus.now }
+{
     cpus.iter().all(|cpu| has_arrived_again(cpu))
 }
 
@@ -91,15 +121,17 @@ fn when(test: bool, e: Event) -> Option<Event>
 pub(crate) fn due(cpus: &[Cpu], k: usize) -> Option<Event>
     requires processor { k < length cpus.now }
     requires numbers { (p : Processor) → slice_get cpus.now k ≡ Some p → list_all (λ l. nat_lt l.number (2 ^ 46)) p.lines ≡ true }
+    ensures { result ≡ due_in cpus.now k }
 {
     due_of(cpus, &cpus[k])
 }
 
 fn due_of(cpus: &[Cpu], cpu: &Cpu) -> Option<Event>
     requires { list_all (λ l. nat_lt l.number (2 ^ 46)) cpu.now.lines ≡ true }
+    ensures { result ≡ due_of cpus.now cpu.now }
 {
     match cpu.phase {
-        Phase::Running => when(!has_released(cpu), Event::Take),
+        Phase::Running => when(cpu.era == 0, Event::Take),
         Phase::Taken => Some(Event::Arrive),
         Phase::Arrived => when(have_arrived(cpus), Event::Pass),
         Phase::Passed => Some(Event::SetNoFill),

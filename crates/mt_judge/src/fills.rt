@@ -3,7 +3,7 @@ ghost use Rattle.mt_cache.specs.Calls.{clean_line_of};
 ghost use Rattle.mt_cache.specs.Lines.{oldest_of_full, without_line};
 ghost use Rattle.mt_machine.specs.Bus.{fill_line, make_room, with_lines};
 ghost use Rattle.mt_bus.specs.Parts.{lines_in, system, with_changed};
-ghost use Rattle.mt_judge.specs.Parts.{memory};
+ghost use Rattle.mt_judge.specs.Parts.{bus, memory};
 
 use crate::cpu::Cpu;
 use crate::lines;
@@ -33,7 +33,7 @@ fn oldest_line(cpus: &[Cpu], k: usize) -> Option<CacheLine>
 // A full cache pushes out the oldest line, and its dirty words go to memory.
 fn make_room(layout: &Ram, cpus: &mut [Cpu], words: &mut [u64], k: usize)
     requires { k < length cpus.old }
-    ensures { system cpus.new (memory layout.now words.new) ≡ make_room k (system cpus.old (memory layout.now words.old)) }
+    ensures { bus layout.now cpus.new words.new ≡ make_room k (bus layout.now cpus.old words.old) }
 {
     if let Some(oldest) = oldest_line(cpus, k) {
         write_back(layout, words, &oldest);
@@ -64,7 +64,7 @@ pub(crate) fn fill_line(
     number: u64,
 ) -> Result<(), NoMemory>
     requires { k < length cpus.old }
-    ensures { OnOk result (system cpus.new (memory layout.now words.new) ≡ fill_line k number (system cpus.old (memory layout.now words.old))) }
+    ensures { OnOk result (bus layout.now cpus.new words.new ≡ fill_line k number (bus layout.now cpus.old words.old)) }
 {
     make_room(layout, cpus, words, k);
     let line = line_words(layout, words, number);

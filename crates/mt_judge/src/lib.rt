@@ -25,14 +25,19 @@ mod step;
 mod steps;
 mod telling;
 mod words;
+mod worked;
 mod wrong;
 
 pub use case::{Ask, Input, Reason, Trouble};
 pub use cpu::Cpu;
-pub use judging::{Verdict, judge, judge_all, judge_run};
+pub use judging::{Explored, Verdict, explore, judge, judge_all, judge_run};
 pub use moves::{Case, Move, Outcome, Procedure, State, advance};
 pub use program::program_status;
 pub use reader::read_input;
-pub use search::{Found, Node, Origin, Search};
+pub use search::{Found, Node, Origin, Search, has_wrong_if_a_sense_holds};
 pub use step::{Place, Step};
-pub use wrong::{Fault, Wrong, fault_of, wrongs_of};
+pub use worked::{
+    worked_lost_words, worked_old_types, worked_stale_buffers, worked_stale_entries,
+    worked_stale_lines, worked_two_types,
+};
+pub use wrong::{Fault, Kept, Wrong, fault_of, wrongs_of};

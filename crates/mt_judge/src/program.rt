@@ -14,21 +14,23 @@ const LONGEST: usize = 1 << 24;
 
 const HELP: &[u8] = b"usage: mtrr-judge < CASE > VERDICT
 
-Judges a procedure that changes memory type registers: runs lists of
-steps on the machine of mtrr, and tells what they leave wrong.
+Judges a procedure that changes memory type registers. Runs the steps of
+each processor on the machine of mtrr, and writes what they leave wrong.
 
-  --help     this text; nothing is read
-  --version  the version; nothing is read
+  --help     this text
+  --version  the version
+
+--help and --version read nothing.
 
 Exit status:
   0  nothing is wrong
   1  something is wrong, or a step isn't due
   2  wrong usage
-  3  the case has a fault
+  3  the input is no case
   4  reading failed
   5  writing failed
-  6  no memory
-  7  the case has more than 16,777,216 bytes
+  6  out of memory
+  7  the input has more than 16,777,216 bytes
 ";
 
 const VERSION: &[u8] = b"mtrr-judge 1.0.0\n";

@@ -3,7 +3,7 @@ ghost use Rattle.mt_cache.specs.Lines.{change_line, clean_line, without_line};
 ghost use Rattle.mt_machine.specs.Memory.{write_back_of};
 ghost use Rattle.mt_machine.specs.Bus.{bus_read, empty_buffer, others_from, with_lines, write_back_others};
 ghost use Rattle.mt_bus.specs.Parts.{system};
-ghost use Rattle.mt_judge.specs.Parts.{memory};
+ghost use Rattle.mt_judge.specs.Parts.{bus, memory};
 
 use crate::cpu::Cpu;
 use crate::lines::{clean_line, drop_line};
@@ -13,7 +13,7 @@ use mt_ram::Ram;
 
 /// Reads a line on the bus: each cache's dirty words of it go to memory, and the copies stay.
 pub(crate) fn bus_read(layout: &Ram, cpus: &mut [Cpu], words: &mut [u64], number: u64)
-    ensures { system cpus.new (memory layout.now words.new) ≡ bus_read number (system cpus.old (memory layout.now words.old)) }
+    ensures { bus layout.now cpus.new words.new ≡ bus_read number (bus layout.now cpus.old words.old) }
 {
     for i in 0..cpus.len() {
         write_back_of(layout, words, cpus[i].lines(), number);
@@ -86,7 +86,7 @@ pub(crate) fn write_back_others(
 
 /// Empties a buffer: its line is read on the bus and dropped by all caches, and its written words are stored in memory.
 pub(crate) fn empty_buffer(layout: &Ram, cpus: &mut [Cpu], words: &mut [u64], buffer: &CacheLine)
-    ensures { system cpus.new (memory layout.now words.new) ≡ empty_buffer (system cpus.old (memory layout.now words.old)) buffer.now }
+    ensures { bus layout.now cpus.new words.new ≡ empty_buffer (bus layout.now cpus.old words.old) buffer.now }
 {
     bus_read(layout, cpus, words, buffer.number);
     invalidate(cpus, buffer.number);

@@ -2,7 +2,7 @@ use crate::due::{arrived, arrived_again};
 use crate::moves::{Case, Move, Outcome, State};
 use crate::step::Step;
 use crate::wrong::{Fault, Wrong};
-use mt_kinds::{LINE_BYTES, PAGE_BYTES};
+use mt_kinds::{LINE_BYTES, PAGE_BYTES, WORD_BYTES};
 use mt_machine::{Done, Event, Op, Phase};
 use mt_regs::RegFile;
 use std::alloc::AllocError;
@@ -194,7 +194,10 @@ pub(crate) fn tell_fault(text: &mut String, fault: &Fault) -> Result<(), AllocEr
                 "  wrong: access {address:013x} of processor {cpu} as {used}, its registers give {given}\n"
             )
         }
-        Fault::LostWord { cpu, address } => {
+        Fault::LostWord { cpu, line, word } => {
+            let address = line
+                .wrapping_mul(LINE_BYTES)
+                .wrapping_add(WORD_BYTES * word as u64);
             write!(
                 text,
                 "  wrong: lost word {address:013x} of processor {cpu}\n"

@@ -2,8 +2,9 @@ ghost use Rattle.std.specs.Prelude.{◌<◌, ◌≤◌, length};
 ghost use Rattle.mt_regs.specs.StartFiles.{AreStartFiles};
 
 use crate::checks::{holds, holds_at, some};
-use crate::common::file;
+use crate::common::{core_of, file, is_called, stores};
 use mt_bus::System;
+use mt_core::Core;
 use mt_kinds::MemType;
 use mt_machine::{Control, Done, Op, Ruled};
 use mt_regs::RegFile;
@@ -227,4 +228,32 @@ fn each_processor_has_the_types_of_its_own_file(rt: HostRuntime) {
             Done::Value(0x2a, MemType::WB),
         ),
     );
+}
+
+/// Whether no cache may have this line, by the masks that the system has, also once it was taken apart and put together.
+fn has_masks(system: System, number: u64) -> bool {
+    let parts = system.into_parts();
+    let known = parts.holders.none(number);
+    let parts = System::from_parts(parts).into_parts();
+    known && parts.holders.none(number)
+}
+
+/// A core whose two processors stored a word each, after a whole update.
+fn updated(alloc: Global) -> Option<Core> {
+    let mut core = core_of(alloc, &file(6)?, 2)?;
+    let stored = stores(&mut core, 0, 0, 0x2a) && stores(&mut core, 1, 0x40, 0x2b);
+    if !stored || !is_called(&mut core, file(4)?) || core.order().is_none() {
+        return None;
+    }
+    core.round();
+    Some(core)
+}
+
+// The line at 1 MB, which both caches have dropped, has the number 4000H.
+#[test]
+fn masks_of_holders_are_kept(rt: HostRuntime) {
+    let system = some(&rt, system(rt.alloc(), 2, 6));
+    holds(&rt, has_masks(system, 0));
+    let core = some(&rt, updated(rt.alloc()));
+    holds(&rt, has_masks(core.into_system(), 0x4000));
 }

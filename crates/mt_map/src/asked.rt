@@ -59,22 +59,24 @@ pub(crate) fn help_text() -> &'static [u8]
 {
     b"usage: mtrr-map [title=TEXT] [files] < DUMP > PICTURE
 
-Draws the memory types of a dump of memory type range registers as SVG.
+Draws the memory types that a dump of registers gives, as an SVG picture.
 
   title=TEXT  a caption of 1 to 80 bytes, without control characters
   files       the two sections are files, named before and after
-  --help      this text; nothing is read
-  --version   the version; nothing is read
+  --help      this text
+  --version   the version
+
+--help and --version read nothing.
 
 Exit status:
   0  done
   1  the registers have a fault
   2  wrong usage
-  3  the dump has a fault
+  3  the input is no dump
   4  reading failed
   5  writing failed
-  6  no memory
-  7  the dump has more than 16,777,216 bytes
+  6  out of memory
+  7  the input has more than 16,777,216 bytes
 "
 }
 

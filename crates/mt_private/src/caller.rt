@@ -7,10 +7,12 @@ use std::thread::{Scope, Threads};
 
 mod arrival;
 mod refusal;
+mod visits;
 mod waits;
 
-pub(crate) use arrival::Heard;
-pub(crate) use refusal::{Permit, Refusal, Visits, boxed};
+pub(crate) use refusal::{Refusal, start};
+pub(crate) use visits::core_of;
+pub use visits::visit;
 
 /// The runtime and the gate of a call. Only this module takes them out, to wait at the two barriers and for threads that
 /// end, to ask the gate and to tell it. So a function that has a caller, and no runtime, can make no other caller: it asks

@@ -268,8 +268,11 @@ fn open(
 
 impl Yard {
     /// Makes the yard of this system and this goal. Guest k has processor k alone, with the words of the pages that it
-    /// names. The host keeps the emptied lists, and the words of the pages that none names. Where there is no memory the
-    /// system comes back.
+    /// names. The host keeps the emptied lists, and the words of the pages that none names.
+    ///
+    /// # Errors
+    ///
+    /// There is no memory for it; the system comes back. No clause says that the error comes of nothing else.
     pub fn gather(
         alloc: Global,
         system: System,

@@ -14,9 +14,8 @@ mod threads;
 mod view;
 mod visiting;
 mod visitor;
-mod visits;
 
-pub use caller::Caller;
+pub use caller::{Caller, visit};
 pub use fault::PrivateFault;
 pub use host::{Host, Yard};
 pub use job::{Job, Part, Told};
@@ -25,4 +24,3 @@ pub use pages::shared_page;
 pub use runs::{run_private, run_private_with};
 pub use view::{Resident, YardView};
 pub use visiting::{Guest, Visited, YardPass};
-pub use visits::visit;

@@ -1,124 +1,22 @@
 // The guests of a yard on threads: one for each, in a scope.
 ghost use Rattle.std.specs.Prelude.{◌≡◌, ℕ, ◌+◌, ◌<◌, ◌≤◌, [], length, slice_get, vec_capacity, vec_len};
-ghost use Rattle.std.specs.Prelude.{Some, IfOk, IfErr, IfSome, IfNone, is_ok};
-ghost use Rattle.std.specs.Thread.{IsSync};
+ghost use Rattle.std.specs.Prelude.{Some, IfSome, IfNone, is_ok};
 ghost use Rattle.mt_machine.specs.declared.go.Go.TheVariants.{Cancelled, Pending};
 ghost use Rattle.mt_rendezvous.specs.Update.{decided};
 ghost use Rattle.mt_private.specs.declared.job.Job.{Job as ItsJob};
 ghost use Rattle.mt_private.specs.InYard.{AreWaitingIn, HasComeIn, IsNewIn, IsRootIn, LeadsIn, OneLessIn, ReturnedIn, goal_at, start_at};
 ghost use Rattle.mt_private.specs.Visitors.{IsFresh};
 
-use crate::caller::{Caller, Permit, Refusal, Visits, boxed};
+use crate::caller::{Caller, Refusal, core_of, start};
 use crate::host::{Host, Yard};
 use crate::job::{Job, Told};
 use crate::visiting::{Guest, Visited};
 use crate::visitor::Visitor;
-use crate::visits::{core_of, visit_with};
 use mt_ports::Gate;
 use mt_regs::RegFile;
 use std::alloc::Global;
 use std::sync::Wait;
-use std::thread::{PromisedHandle, Scope, Threads};
-
-// The whole visit, on the thread that calls it.
-fn come<R: Wait, G: Gate>(
-    caller: &Caller<R, G>,
-    yard: &Yard,
-    visitor: &mut Visitor,
-    goal: &RegFile,
-    job: &Job,
-)
-    requires waits { IsNewIn yard.now job.now visitor.old.pass.number visitor.old }
-    requires goal { goal.now ≡ goal_at yard.now }
-    ensures { HasComeIn yard.now job.now visitor.old.pass.number visitor.new }
-{
-    visitor.visited = visit_with(
-        caller,
-        yard,
-        &mut visitor.pass,
-        &mut visitor.core,
-        goal,
-        job,
-        &mut visitor.told,
-    );
-}
-
-// Cancels, and so the visitor does its accesses before the update on this thread, and leaves.
-fn give_up<R: Wait, G: Gate>(
-    caller: &Caller<R, G>,
-    yard: &Yard,
-    host: &mut Host,
-    mut visitor: Visitor,
-    goal: &RegFile,
-    job: &Job,
-) -> Visitor
-    requires hosts { LeadsIn yard.now host.old.seat Pending }
-    requires waits { IsNewIn yard.now job.now visitor.pass.number visitor }
-    requires goal { goal.now ≡ goal_at yard.now }
-    ensures same { (host.new.seat.me.0.held ≡ host.old.seat.me.0.held) × (host.new.owns ≡ host.old.owns) × (host.new.rest ≡ host.old.rest) }
-    ensures cancelled { LeadsIn yard.now host.new.seat Cancelled }
-    ensures come { HasComeIn yard.now job.now visitor.pass.number result }
-{
-    host.cancel(yard);
-    come(caller, yard, &mut visitor, goal, job);
-    visitor
-}
-
-// Starts a thread for the visitor, where there is memory and the gate lets it. Where none is started the host
-// cancels, and the visitor leaves, and comes back with the refusal.
-fn start<'s, E, R: Threads + Wait + Sync, G: Gate>(
-    caller: &'s Caller<R, G>,
-    alloc: Global,
-    scope: &Scope<'s, E>,
-    yard: &'s Yard,
-    host: &mut Host,
-    visitor: Visitor,
-    goal: &'s RegFile,
-    job: &'s Job,
-) -> Result<PromisedHandle<Box<Visitor>, Visits>, (Visitor, Refusal)>
-    requires hosts { LeadsIn yard.now host.old.seat Pending }
-    requires waits { IsNewIn yard.now job.now visitor.pass.number visitor }
-    requires goal { goal.now ≡ goal_at yard.now }
-    ensures same { (host.new.seat.me.0.held ≡ host.old.seat.me.0.held) × (host.new.owns ≡ host.old.owns) × (host.new.rest ≡ host.old.rest) }
-    ensures pending { IfOk result (λ h. LeadsIn yard.now host.new.seat Pending) }
-    ensures child { IfOk result (λ h. (h.promise.yard.value ≡ yard.now) × (h.promise.job.value ≡ job.now) × (h.promise.number ≡ visitor.pass.number)) }
-    ensures cancelled { IfErr result (λ e. LeadsIn yard.now host.new.seat Cancelled) }
-    ensures come { IfErr result (λ e. HasComeIn yard.now job.now visitor.pass.number e.0) }
-{
-    let boxed = match boxed(alloc, visitor) {
-        Ok(boxed) => boxed,
-        Err((visitor, refusal)) => {
-            return Err((give_up(caller, yard, host, visitor, goal, job), refusal));
-        }
-    };
-    let permit = match Permit::ask(caller, &boxed.pass) {
-        Ok(permit) => permit,
-        Err(refusal) => {
-            let visitor = Box::into_inner(boxed);
-            return Err((give_up(caller, yard, host, visitor, goal, job), refusal));
-        }
-    };
-    match scope.spawn_with(
-        permit.visits(yard, job),
-        move || -> Box<Visitor>
-            requires shared { IsSync R.row }
-            requires waits { IsNewIn yard.now job.now boxed.value.pass.number boxed.value }
-            requires same { goal.now ≡ goal_at yard.now }
-            ensures { HasComeIn yard.entry.now job.entry.now boxed.value.pass.number result.value }
-        {
-            let mut boxed = boxed;
-            come(caller, yard, &mut boxed, goal, job);
-            boxed
-        },
-    ) {
-        Ok(child) => Ok(child),
-        Err(failed) => {
-            let refusal = Refusal::of_thread(&failed);
-            host.cancel(yard);
-            Err((Box::into_inner((failed.value)()), refusal))
-        }
-    }
-}
+use std::thread::{Scope, Threads};
 
 // The visitor's guest comes back, and its answers go behind those of the ones before it.
 fn finish(yard: &Yard, jobs: &[Job], visitor: Visitor, host: &mut Host, told: &mut Vec<Told>)
@@ -179,10 +77,11 @@ fn job_at(jobs: &[Job], k: usize) -> &Job
     &jobs[k]
 }
 
-// With the cancel given, all of these do their accesses before the update, and leave. None of them would where it isn't: it
-// would wait for the go.
+// With the cancel given, all of these do their accesses before the update on this thread, and leave. A refusal alone allows
+// it.
 fn leave_all<R: Wait, G: Gate>(
     caller: &Caller<R, G>,
+    refusal: &Refusal,
     yard: &Yard,
     host: &mut Host,
     goal: &RegFile,
@@ -207,8 +106,8 @@ fn leave_all<R: Wait, G: Gate>(
         return;
     };
     let job = job_at(jobs, waiting.len());
-    leave_all(caller, yard, host, goal, jobs, waiting, told);
-    come(caller, yard, &mut visitor, goal, job);
+    leave_all(caller, refusal, yard, host, goal, jobs, waiting, told);
+    refusal.leave(caller, yard, host, &mut visitor, goal, job);
     finish(yard, jobs, visitor, host, told);
 }
 
@@ -248,7 +147,7 @@ fn run_all<'s, E, R: Threads + Wait + Sync, G: Gate>(
             outcome
         }
         Err((visitor, refusal)) => {
-            leave_all(caller, yard, host, goal, jobs, waiting, told);
+            leave_all(caller, &refusal, yard, host, goal, jobs, waiting, told);
             finish(yard, jobs, visitor, host, told);
             Err(refusal)
         }

@@ -8,13 +8,11 @@ ghost use Rattle.mt_machine.specs.Access.{access};
 ghost use Rattle.mt_machine.specs.System.{System as MachineSystem};
 ghost use Rattle.mt_machine.specs.Machine.{Calls, FitsOp, IsEnabled, is_changing};
 ghost use Rattle.mt_machine.specs.Start.{IsQuiet};
-ghost use Rattle.mt_machine.specs.Update.{updated};
 ghost use Rattle.mt_cpu.specs.Steps.{is_local};
 ghost use Rattle.mt_core.specs.Steps.{step_after};
 ghost use Rattle.mt_private.specs.OneByOne.{at_rest, ran};
-ghost use Rattle.mt_private.specs.YardCalls.{AreIn, HasTaken, IsLeft, done_in, stored_in};
+ghost use Rattle.mt_private.specs.YardCalls.{AreIn, HasTaken, done_in, stored_in};
 
-use crate::caller::Caller;
 use crate::host::{CANCEL, Yard};
 use crate::view::{YardTurn, YardView};
 use atomic_table::Seat;
@@ -22,9 +20,7 @@ use mt_bus::System;
 use mt_core::{Core, a_core_arises};
 use mt_cpu::is_local;
 use mt_machine::{Done, Op, Phase};
-use mt_ports::Gate;
 use mt_regs::RegFile;
-use std::sync::Wait;
 
 /// What a thread carries its processor in.
 #[derive(Drop)]
@@ -122,7 +118,7 @@ impl YardPass {
     }
 
     // Loads the first count. Where it shows no cancel that is Take, and the answer is true; else it is no event.
-    fn take(&mut self, yard: &Yard, core: &mut Core, goal: &RegFile) -> bool
+    pub(crate) fn take(&mut self, yard: &Yard, core: &mut Core, goal: &RegFile) -> bool
         requires lodges { LodgesIn yard.now self.old core.old.system false false }
         requires runs { AreIn Running core.old.system }
         requires idle { core.old.order ≡ None }
@@ -196,7 +192,7 @@ impl YardPass {
     }
 
     // Does all that lies between the two waits: the events between the barriers, and then ArriveAgain.
-    fn change(&mut self, yard: &Yard, core: &mut Core)
+    pub(crate) fn change(&mut self, yard: &Yard, core: &mut Core)
         requires visits { (first : MachineSystem) × VisitsIn yard.now self.old core.old true false Given first }
         requires passed { AreIn Passed core.old.system }
         ensures number { self.new.number ≡ self.old.number }
@@ -206,36 +202,5 @@ impl YardPass {
     {
         self.work_all(yard, core);
         self.arrive_again(yard, core);
-    }
-
-    // Takes the processor through the update, once its accesses before it are done.
-    pub(crate) fn go_through<R: Wait, G: Gate>(
-        &mut self,
-        caller: &Caller<R, G>,
-        yard: &Yard,
-        core: &mut Core,
-        goal: &RegFile,
-    ) -> Visited
-        requires lodges { LodgesIn yard.now self.old core.old.system false false }
-        requires runs { AreIn Running core.old.system }
-        requires idle { core.old.order ≡ None }
-        requires goal { goal.now ≡ goal_at yard.now }
-        ensures number { self.new.number ≡ self.old.number }
-        ensures done { done_in self.new.seat.me ≡ done_in self.old.seat.me }
-        ensures complete { result ≡ Visited.Complete → LodgesIn yard.now self.new core.new.system true true × (self.new.seat.me.0.shown ≡ Some yard.now.count) }
-        ensures whole { result ≡ Visited.Complete → AreIn Running core.new.system × (core.new ≡ updated core.old.system (0 ∷ []) goal.now) }
-        ensures cancelled { result ≡ Visited.Cancelled → ((added : Bool) × LodgesIn yard.now self.new core.new.system added false)
-            × (self.new.seat.me.0.cancel ≡ true) × IsLeft core.old.system core.new.system }
-    {
-        if !self.take(yard, core, goal) {
-            return Visited::Cancelled;
-        }
-        let heard = self.arrive(yard, core).tell(caller);
-        if !self.wait_first(caller, heard, yard, core) {
-            return Visited::Cancelled;
-        }
-        self.change(yard, core);
-        self.wait_second(caller, yard, core);
-        Visited::Complete
     }
 }

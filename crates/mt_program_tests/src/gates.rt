@@ -1,6 +1,6 @@
 //! Updates on threads under gates that refuse a start, count what they are asked and told, or see that threads meet.
 use crate::runs::{Ports, repeated, run_under};
-use crate::texts::{FOUR_GIGABYTES, PAIR, UPDATE, UPDATED};
+use crate::texts::{FOUR_GIGABYTES, PAIR, TRIO, UPDATE, UPDATED};
 use mt_gates::{AllBut, Meets, ones};
 use mt_ports::{Gate, Status};
 use std::process::Abort;
@@ -68,6 +68,23 @@ fn two_processors_meet(rt: HostRuntime) -> Result<(), Fail> {
     expect_meeting(&rt, &["private", "2", "7", "0"], b"", text)
 }
 
+// The gate is asked and told so often of each of so many processors.
+fn expect_each<R: AllocGlobal + Threads + Wait + Abort + Sync>(
+    rt: &R,
+    words: &[&str],
+    input: &[u8],
+    cpus: u32,
+    times: u64,
+) -> Result<(), Fail> {
+    let gate = AllBut::new(16);
+    let ran = run_under(rt, words, &Ports::new(input, 4096), &gate)?;
+    assert_eq!(rt; ran.status, Status::Done);
+    let each = ones(0, cpus).wrapping_mul(times);
+    assert_eq!(rt; gate.asked(), each, "{cpus} processors");
+    assert_eq!(rt; gate.told(), each, "{cpus} processors");
+    Ok(())
+}
+
 // A request that is carried out asks once before each start, and tells of each arrival once. One that
 // isn't does neither.
 #[test]
@@ -88,16 +105,20 @@ fn each_processor_starts_and_arrives_once(rt: HostRuntime) -> Result<(), Fail> {
                 1,
             ),
         ] {
-            let gate = AllBut::new(16);
             let text = repeated(rt.alloc(), FOUR_GIGABYTES, requests, 1)?;
-            let ran = run_under(&rt, words, &Ports::new(&text, 4096), &gate)?;
-            assert_eq!(rt; ran.status, Status::Done);
-            let each = ones(0, cpus).wrapping_mul(times);
-            assert_eq!(rt; gate.asked(), each, "{cpus} processors");
-            assert_eq!(rt; gate.told(), each, "{cpus} processors");
+            expect_each(&rt, words, &text, cpus, times)?;
         }
     }
     Ok(())
+}
+
+// So does each update of a script, and the one of jobs with accesses.
+#[test]
+fn each_update_starts_and_arrives_once(rt: HostRuntime) -> Result<(), Fail> {
+    let round = b"store 0 1000 2a\nupdate\n200 4\nend\nstore 1 1040 2b\nupdate\n200 6\nend\n";
+    let script = repeated(rt.alloc(), TRIO, round, 3)?;
+    expect_each(&rt, &["replay"], &script, 3, 6)?;
+    expect_each(&rt, &["private", "3", "7", "4"], b"", 3, 1)
 }
 
 #[test]

@@ -1,4 +1,5 @@
 //! Numbers of the transcripts of scripts.
+use mt_gates::{AllBut, ones};
 use mt_ports::{Gate, OpenGate};
 use mt_replay::{Totals, summary};
 use std::test::Fail;
@@ -27,9 +28,12 @@ impl Gate for Shut {
     fn arrived(&self, _k: u32) {}
 }
 
+// The one whole update asks and tells the gate that is handed in.
 #[test]
 fn each_kind_of_line(rt: HostRuntime) -> Result<(), Fail> {
-    assert_eq!(rt; summary(&rt, EACH_KIND, &OpenGate)?, EACH_TOTALS);
+    let gate = AllBut::new(16);
+    assert_eq!(rt; summary(&rt, EACH_KIND, &gate)?, EACH_TOTALS);
+    assert!(rt; gate.asked() == ones(0, 2) && gate.told() == ones(0, 2));
     assert_eq!(rt; summary(&rt, EACH_KIND, &Shut)?, EACH_TOTALS);
     Ok(())
 }

@@ -4,7 +4,11 @@
 pub(crate) const PAIR: &[u8] =
     b"cpus 2\ndump\n0fe 508\n200 6\n201 f00000800\n2ff 800\nend\nram 100000 64\nmap 0 1000 100000 0\nmap 1 1000 100000 0\n";
 
-// The same, a dirty line and an update: 182 bytes.
+// Three such processors, of which two map the page.
+pub(crate) const TRIO: &[u8] =
+    b"cpus 3\ndump\n0fe 508\n200 6\n201 f00000800\n2ff 800\nend\nram 100000 64\nmap 0 1000 100000 0\nmap 1 1000 100000 0\n";
+
+// The pair, a dirty line and an update: 182 bytes.
 pub(crate) const UPDATE: &[u8] =
     b"cpus 2\ndump\n0fe 508\n200 6\n201 f00000800\n2ff 800\nend\nram 100000 64\nmap 0 1000 100000 0\nmap 1 1000 100000 0\nstore 0 1000 2a\nword 100000\nupdate\n200 0\nend\nreport\nword 100000\nload 1 1000\n";
 

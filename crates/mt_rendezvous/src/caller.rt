@@ -5,11 +5,12 @@ use std::thread;
 use std::thread::{Scope, Threads};
 
 mod arrival;
+mod attending;
 mod refusal;
 mod waits;
 
-pub(crate) use arrival::Heard;
-pub(crate) use refusal::{Attends, Permit, Refusal, boxed, gather_station, room};
+pub use attending::attend;
+pub(crate) use refusal::{Refusal, boxed, open, room, start};
 
 /// The runtime and the gate of a call. Only this module takes them out, to wait at the two barriers and for threads that
 /// end, to ask the gate and to tell it. So a function that has a caller, and no runtime, can make no other caller: it asks

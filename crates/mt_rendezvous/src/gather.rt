@@ -1,63 +1,17 @@
 // A station is made, and closed.
-ghost use Rattle.std.specs.Prelude.{◌≡◌, ℕ, ◌+◌, ◌<◌, ◌≤◌, [], length, slice_get, None, Some, IfOk, IfErr, IfSome, vec_len, vec_capacity};
+ghost use Rattle.std.specs.Prelude.{◌≡◌, ℕ, ◌+◌, ◌<◌, ◌≤◌, [], length, slice_get, None, Some, IfOk, IfErr, vec_len, vec_capacity};
 ghost use Rattle.mt_machine.specs.declared.go.Go.TheVariants.{Pending};
 ghost use Rattle.mt_rendezvous.specs.Station.{Begins, both};
-ghost use Rattle.mt_rendezvous.specs.Calls.{Ends, gathered, opening_words};
-ghost use Rattle.mt_rendezvous.specs.InStation.{AllNewIn, HoldsOneIn, IsNewIn, IsRootIn, LeadsIn, OffersIn, start_at, windows_at};
+ghost use Rattle.mt_rendezvous.specs.Calls.{Ends, gathered};
+ghost use Rattle.mt_rendezvous.specs.InStation.{AllNewIn, HoldsOneIn, IsGatheredIn, IsNewIn, IsRootIn, LeadsIn, OffersIn, start_at, windows_at};
 
+use crate::caller::{Refusal, open, room};
 use crate::station::{Attendee, Pass, Root, Station};
-use crate::view::{HandsOver, Key};
-use atomic_table::Table;
+use crate::view::HandsOver;
 use mt_cpu::Cpu;
 use mt_ram::Ram;
 use mt_regs::RegFile;
 use std::alloc::Global;
-use std::snapshot::Snapshot;
-
-// The words at the start: the counts and the phases, which are 0, and those of memory.
-fn opening_words(alloc: Global, count: usize, ram: &Ram) -> Option<Vec<u64>>
-    requires { count < 65536 }
-    ensures { IfSome result (λ v. v.items ≡ opening_words count ram.now.words) }
-{
-    let Ok(mut words) = vec![in alloc; 0u64; count + 2] else {
-        return None;
-    };
-    if words.reserve(ram.words()).is_err() {
-        return None;
-    }
-    for i in 0..ram.words() {
-        if words.push(ram.word(i)).is_err() {
-            return None;
-        }
-    }
-    Some(words)
-}
-
-// A table for these processors, all of which the root has.
-fn open(alloc: Global, cpus: &Vec<Cpu>, ram: &Ram, goal: &RegFile) -> Option<(Station, Root)>
-    requires some { 0 < vec_len cpus.now }
-    requires few { vec_len cpus.now ≤ 16 }
-    requires begins { Begins (gathered cpus.now.items ram.now goal.now) }
-    ensures root { IfSome result (λ t. LeadsIn t.0 t.1 Pending × OffersIn t.0 0 t.1) }
-    ensures key { IfSome result (λ t. start_at t.0 ≡ gathered cpus.now.items ram.now goal.now) }
-{
-    let count = cpus.len();
-    let words = opening_words(alloc, count, ram)?;
-    let key = Key {
-        cpus: Snapshot::of(cpus),
-        ram: Snapshot::of(ram),
-        goal: Snapshot::of(goal),
-    };
-    let _all = words.len();
-    let Ok((table, seat)) = Table::of_words(alloc, words.as_slice(), &key) else {
-        return None;
-    };
-    let station = Station {
-        table,
-        count: count as u64,
-    };
-    Some((station, Root { seat }))
-}
 
 // The root's next processor goes to a new pass.
 fn give_away(station: &Station, root: &mut Root, cpu: Cpu, i: usize) -> Attendee
@@ -102,9 +56,39 @@ fn give_all(station: &Station, root: &mut Root, cpus: &mut Vec<Cpu>, attendees: 
     attendees.push_reserved(attendee);
 }
 
+// Does what `Station::gather` does, and says that memory was refused if it was.
+pub(crate) fn gather_station(
+    alloc: Global,
+    cpus: Vec<Cpu>,
+    ram: &Ram,
+    goal: &RegFile,
+) -> Result<(Station, Root, Vec<Attendee>), (Vec<Cpu>, Refusal)>
+    requires some { 0 < vec_len cpus }
+    requires few { vec_len cpus ≤ 16 }
+    requires begins { Begins (gathered cpus.items ram.now goal.now) }
+    ensures gathered { IfOk result (λ t. IsGatheredIn (gathered cpus.items ram.now goal.now) t.0 t.1 t.2.items) }
+    ensures empty { IfOk result (λ t. t.1.seat.me.0.held ≡ []) }
+    ensures refused { IfErr result (λ e. e.0.items ≡ cpus.items) }
+{
+    let mut attendees = match room(alloc, &cpus) {
+        Ok(room) => room,
+        Err(refusal) => return Err((cpus, refusal)),
+    };
+    let (station, mut root) = match open(alloc, &cpus, ram, goal) {
+        Ok(opened) => opened,
+        Err(refusal) => return Err((cpus, refusal)),
+    };
+    let mut cpus = cpus;
+    give_all(&station, &mut root, &mut cpus, &mut attendees);
+    Ok((station, root, attendees))
+}
+
 impl Station {
     /// Makes the station of these processors, this memory and this goal. Attendee k has processor k.
-    /// Where there is no memory the processors come back.
+    ///
+    /// # Errors
+    ///
+    /// There is no memory for it; the processors come back. No clause says that the error comes of nothing else.
     pub fn gather(
         alloc: Global,
         cpus: Vec<Cpu>,
@@ -121,15 +105,13 @@ impl Station {
         ensures attendees { IfOk result (λ t. AllNewIn t.0 t.2.items) }
         ensures refused { IfErr result (λ v. v.items ≡ cpus.items) }
     {
-        let Ok(mut attendees) = Vec::with_capacity(alloc, cpus.len()) else {
-            return Err(cpus);
-        };
-        let Some((station, mut root)) = open(alloc, &cpus, ram, goal) else {
-            return Err(cpus);
-        };
-        let mut cpus = cpus;
-        give_all(&station, &mut root, &mut cpus, &mut attendees);
-        Ok((station, root, attendees))
+        match gather_station(alloc, cpus, ram, goal) {
+            Ok(made) => Ok(made),
+            Err((cpus, refusal)) => {
+                refusal.spend();
+                Err(cpus)
+            }
+        }
     }
 }
 

@@ -1,7 +1,6 @@
 //! The update of the range registers on threads: processors that meet at two barriers, over atomic words.
 #![tactic(auto)]
 
-mod attending;
 mod broadcast;
 mod caller;
 mod gather;
@@ -9,9 +8,8 @@ mod station;
 mod threads;
 mod view;
 
-pub use attending::attend;
 pub use broadcast::call_and_take;
-pub use caller::{Caller, Lent};
+pub use caller::{Caller, Lent, attend};
 pub use gather::disband;
 pub use station::{Attendee, Outcome, Pass, Root, Station};
 pub use threads::{update, update_with};

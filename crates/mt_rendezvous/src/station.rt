@@ -1,22 +1,19 @@
 // The station, its root and its passes.
 ghost use Rattle.std.specs.Prelude.{◌≡◌, ◌+◌, ◌<◌, true, false, length, slice_get, Some, IsTrue};
-ghost use Rattle.mt_machine.specs.declared.phase.Phase.TheVariants.{Taken, Restored, Arrived2};
+ghost use Rattle.mt_machine.specs.declared.phase.Phase.TheVariants.{Restored, Arrived2};
 ghost use Rattle.mt_machine.specs.declared.go.Go.TheVariants.{Pending, Given, Cancelled};
 ghost use Rattle.mt_machine.specs.Machine.{own_step, is_changing};
 ghost use Rattle.mt_cpu.specs.Steps.{is_local};
 ghost use Rattle.mt_rendezvous.specs.Station.{Begins, code};
 ghost use Rattle.mt_rendezvous.specs.Plays.{IsWaiting, Made, Stands, own_event, written};
 
-use crate::caller::Caller;
 use crate::view::{Key, Meeting, Turn, View};
 use atomic_table::{Seat, Table};
 use mt_cpu::{Cpu, is_local};
 use mt_machine::{Event, Phase};
-use mt_ports::Gate;
 use mt_ram::Ram;
 use mt_regs::RegFile;
 use std::alloc::Global;
-use std::sync::Wait;
 
 // What the root adds to the first word, to give the go or to cancel.
 const GO: u64 = 1;
@@ -125,7 +122,7 @@ impl Root {
 }
 
 impl Pass {
-    ghost use Rattle.mt_rendezvous.specs.InStation.{AttendedIn, CarriesIn, goal_at, start_at, windows_at};
+    ghost use Rattle.mt_rendezvous.specs.InStation.{CarriesIn, goal_at, start_at, windows_at};
 
     /// The number of its processor.
     pub fn processor(&self) -> u32
@@ -143,7 +140,7 @@ impl Pass {
 
     // Does the processor's next event between the barriers. Its one store, of the word of memory that is written
     // back or else of the own phase word, is that event.
-    pub(crate) fn work(&mut self, station: &Station, ram: &Ram, goal: &RegFile, cpu: &mut Cpu)
+    fn work(&mut self, station: &Station, ram: &Ram, goal: &RegFile, cpu: &mut Cpu)
         requires carries { CarriesIn station.now self.old cpu.old true false }
         requires stands { Stands (start_at station.now) Given self.old.number cpu.old }
         requires between { IsTrue (is_local cpu.old.phase) }
@@ -179,7 +176,7 @@ impl Pass {
     }
 
     // Does all events between the barriers, which are so many as are left to do.
-    pub(crate) fn work_all(&mut self, station: &Station, ram: &Ram, goal: &RegFile, cpu: &mut Cpu)
+    fn work_all(&mut self, station: &Station, ram: &Ram, goal: &RegFile, cpu: &mut Cpu)
         requires carries { CarriesIn station.now self.old cpu.old true false }
         requires stands { Stands (start_at station.now) Given self.old.number cpu.old }
         requires between { is_changing cpu.old.phase ≡ true }
@@ -196,7 +193,7 @@ impl Pass {
     }
 
     // Adds to word 1: the event ArriveAgain.
-    pub(crate) fn arrive_again(&mut self, station: &Station, cpu: &mut Cpu)
+    fn arrive_again(&mut self, station: &Station, cpu: &mut Cpu)
         requires carries { CarriesIn station.now self.old cpu.old true false }
         requires restored { cpu.old.phase ≡ Restored }
         ensures number { self.new.number ≡ self.old.number }
@@ -208,7 +205,7 @@ impl Pass {
     }
 
     // Does all that lies between the barriers. It waits for nobody, so it is proved to end.
-    fn change(&mut self, station: &Station, ram: &Ram, goal: &RegFile, cpu: &mut Cpu)
+    pub(crate) fn change(&mut self, station: &Station, ram: &Ram, goal: &RegFile, cpu: &mut Cpu)
         requires carries { CarriesIn station.now self.old cpu.old true false }
         requires stands { Stands (start_at station.now) Given self.old.number cpu.old }
         requires between { is_changing cpu.old.phase ≡ true }
@@ -221,32 +218,5 @@ impl Pass {
     {
         self.work_all(station, ram, goal, cpu);
         self.arrive_again(station, cpu);
-    }
-
-    // Takes the processor through the update where it stands, since it is large.
-    pub(crate) fn go_through<R: Wait, G: Gate>(
-        &mut self,
-        caller: &Caller<R, G>,
-        station: &Station,
-        ram: &Ram,
-        goal: &RegFile,
-        cpu: &mut Cpu,
-    ) -> Outcome
-        requires carries { CarriesIn station.now self.old cpu.old false false }
-        requires taken { cpu.old.phase ≡ Taken }
-        requires goal { goal.now ≡ goal_at station.now }
-        requires windows { ram.now.windows ≡ windows_at station.now }
-        ensures attended { AttendedIn result station.now self.old cpu.old self.new cpu.new }
-        ensures number { self.new.number ≡ self.old.number }
-        ensures unshown { result ≡ Outcome.Cancelled → self.new.shown ≡ self.old.shown }
-        ensures shown { result ≡ Outcome.Complete → self.new.shown ≡ Some (length (start_at station.now).cpus) }
-    {
-        let heard = self.arrive(station, cpu).tell(caller);
-        if !self.wait_first(caller, heard, station, cpu) {
-            return Outcome::Cancelled;
-        }
-        self.change(station, ram, goal, cpu);
-        self.wait_second(caller, station, cpu);
-        Outcome::Complete
     }
 }

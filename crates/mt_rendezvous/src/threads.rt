@@ -2,7 +2,6 @@
 ghost use Rattle.std.specs.Prelude.{◌≡◌, ℕ, ◌+◌, ◌++◌, ◌∷◌, ◌<◌, ◌≤◌, ◌↔◌, [], Bool, true, false, length, map};
 ghost use Rattle.std.specs.Prelude.{Err, None, Some, IsSome, OnOk, OnErr, IfOk, IfErr, IfSome, IfNone, is_ok, vec_len, vec_capacity};
 ghost use Rattle.std.specs.List.{All};
-ghost use Rattle.std.specs.Thread.{IsSync};
 ghost use Rattle.mt_regs.specs.declared.fault.Fault.{Fault};
 ghost use Rattle.mt_regs.specs.Faults.{IsAccepted, IsFirstFault};
 ghost use Rattle.mt_machine.specs.declared.phase.Phase.TheVariants.{Running, Taken};
@@ -19,11 +18,11 @@ ghost use Rattle.mt_bus.specs.Parts.{system};
 ghost use Rattle.mt_bus.specs.Holders.{AreHeldBy};
 ghost use Rattle.mt_bus.specs.Tables.{AreTablesOf};
 ghost use Rattle.mt_rendezvous.specs.Update.{AreOf, CanUpdate, Tied, decided, left_by, running, tables_left};
-ghost use Rattle.mt_rendezvous.specs.InStation.{CameAsIn, CameIn, IsQueueIn, IsReadyAsIn, IsReadyIn, IsRootIn, LeadsIn, OneLessIn, ReturnedIn, goal_at, start_at, windows_at};
+ghost use Rattle.mt_rendezvous.specs.InStation.{CameIn, IsQueueIn, IsReadyAsIn, IsRootIn, LeadsIn, OneLessIn, ReturnedIn, goal_at, start_at, windows_at};
 
 use crate::broadcast::call_and_take;
-use crate::caller::{Attends, Caller, Permit, Refusal, boxed, gather_station, room};
-use crate::gather::disband;
+use crate::caller::{Caller, Refusal, boxed, room, start};
+use crate::gather::{disband, gather_station};
 use crate::station::{Attendee, Root, Station};
 use mt_bus::{Holders, System, SystemParts};
 use mt_core::{CallFault, Core, a_core_arises};
@@ -35,75 +34,7 @@ use mt_regs::RegFile;
 use mt_types::KindTable;
 use std::alloc::Global;
 use std::sync::Wait;
-use std::thread::{PromisedHandle, Scope, Threads};
-
-// Takes the attendee through the update, or out of it.
-fn attend_whole<R: Wait, G: Gate>(
-    caller: &Caller<R, G>,
-    station: &Station,
-    ram: &Ram,
-    a: &mut Attendee,
-    goal: &RegFile,
-)
-    requires ready { IsReadyIn station.now a.old }
-    requires goal { goal.now ≡ goal_at station.now }
-    requires windows { ram.now.windows ≡ windows_at station.now }
-    ensures came { CameIn station.now a.new }
-    ensures number { a.new.pass.number ≡ a.old.pass.number }
-{
-    a.pass.go_through(caller, station, ram, goal, &mut a.cpu);
-}
-
-// Starts a thread for the attendee, where the gate lets it. Where it isn't started the root cancels, and the
-// attendee leaves, and comes back with the refusal.
-fn start<'s, E, R: Threads + Wait + Sync, G: Gate>(
-    caller: &'s Caller<R, G>,
-    scope: &Scope<'s, E>,
-    station: &'s Station,
-    ram: &'s Ram,
-    root: &mut Root,
-    mut a: Box<Attendee>,
-    goal: &'s RegFile,
-) -> Result<PromisedHandle<Box<Attendee>, Attends>, (Box<Attendee>, Refusal)>
-    requires root { LeadsIn station.now root.old Pending }
-    requires ready { IsReadyIn station.now a.value }
-    requires goal { goal.now ≡ goal_at station.now }
-    requires windows { ram.now.windows ≡ windows_at station.now }
-    ensures held { root.new.seat.me.0.held ≡ root.old.seat.me.0.held }
-    ensures pending { IfOk result (λ h. LeadsIn station.now root.new Pending) }
-    ensures child { IfOk result (λ h. (h.promise.station.value ≡ station.now) × (h.promise.number ≡ a.value.pass.number)) }
-    ensures cancelled { IfErr result (λ e. LeadsIn station.now root.new Cancelled) }
-    ensures came { IfErr result (λ e. CameAsIn station.now a.value.pass.number e.0.value) }
-{
-    let permit = match Permit::ask(caller, &a.pass) {
-        Ok(permit) => permit,
-        Err(refusal) => {
-            root.cancel(station);
-            attend_whole(caller, station, ram, &mut a, goal);
-            return Err((a, refusal));
-        }
-    };
-    match scope.spawn_with(
-        permit.attends(station),
-        move || -> Box<Attendee>
-            requires shared { IsSync R.row }
-            requires ready { IsReadyIn station.now a.value }
-            requires same { AreOf (start_at station.now) goal.now ram.now.windows }
-            ensures { CameAsIn station.entry.now a.value.pass.number result.value }
-        {
-            let mut a = a;
-            attend_whole(caller, station, ram, &mut a, goal);
-            a
-        },
-    ) {
-        Ok(child) => Ok(child),
-        Err(failed) => {
-            let refusal = Refusal::of_thread(&failed);
-            root.cancel(station);
-            Err(((failed.value)(), refusal))
-        }
-    }
-}
+use std::thread::{Scope, Threads};
 
 // The attendee's processor comes back.
 fn finish(station: &Station, a: Attendee, root: &mut Root, done: &mut Vec<Cpu>)
@@ -175,9 +106,10 @@ fn last_boxed(
     }
 }
 
-// With the cancel given, all of these leave. None of them would where it isn't: it would wait for the go.
+// With the cancel given, all of these leave on this thread, which a refusal alone allows.
 fn leave_all<R: Wait, G: Gate>(
     caller: &Caller<R, G>,
+    refusal: &Refusal,
     station: &Station,
     ram: &Ram,
     root: &mut Root,
@@ -198,8 +130,8 @@ fn leave_all<R: Wait, G: Gate>(
     let Some(mut a) = last(station, waiting) else {
         return;
     };
-    leave_all(caller, station, ram, root, goal, waiting, done);
-    attend_whole(caller, station, ram, &mut a, goal);
+    leave_all(caller, refusal, station, ram, root, goal, waiting, done);
+    refusal.leave(caller, station, ram, root, &mut a, goal);
     finish(station, a, root, done);
 }
 
@@ -232,7 +164,7 @@ fn run_all<'s, E, R: Threads + Wait + Sync, G: Gate>(
         Ok(a) => a,
         Err(refusal) => {
             root.cancel(station);
-            leave_all(caller, station, ram, root, goal, waiting, done);
+            leave_all(caller, &refusal, station, ram, root, goal, waiting, done);
             return Err(refusal);
         }
     };
@@ -245,7 +177,7 @@ fn run_all<'s, E, R: Threads + Wait + Sync, G: Gate>(
             outcome
         }
         Err((a, refusal)) => {
-            leave_all(caller, station, ram, root, goal, waiting, done);
+            leave_all(caller, &refusal, station, ram, root, goal, waiting, done);
             finish_boxed(station, a, root, done);
             Err(refusal)
         }

@@ -1,5 +1,5 @@
 -- What a run makes of one line.
-use Rattle.std.proofs.Common.{◌≡◌, ◌∙◌, ap, sym, refl, subst, inr, ℕ, ◌+◌, true, List, [], ◌++◌, Option, None, Some, Result, Ok, Err, append-nil, inl, ◌∷◌, ◌||◌, Bool, false}
+use Rattle.std.proofs.Common.{◌≡◌, ◌∙◌, ap, sym, refl, subst, inr, ℕ, ◌+◌, true, List, [], ◌++◌, Option, None, Some, Result, Ok, Err, append-nil, inl, ◌∷◌, ◌||◌, Bool, false, ⊎_elim}
 use Rattle.std.specs.Prelude.{MatchOption, MatchResult}
 use Rattle.mt_ports.specs.Puts.{AppendsFront}
 use Rattle.mt_ports.specs.declared.status.Failed.{Failed}
@@ -97,7 +97,7 @@ pub leads : (s : ReplayState) (c : Command) (number : ℕ) (line : List ℕ) →
 leads s c number line asked end lines = from_body s number line end lines ∙ ap (told_command s (body_lines end (number + 1) lines)) asked
 
 module _ (s new : ReplayState) (c : Command) (number : ℕ) (line : List ℕ) (is : IsReplayState s) (fits : Fits s.now c) (asked : command_of s.now number line ≡ Ok c) where
-  pub command_takes : (waiting left : List ℕ) (a b : Option (List ℕ)) (result : Result (Option Status) Failed) → CarriesOut s new c waiting left a b result → ((status : Status) → result ≡ Ok (Some status) → AsksForMemory c)
+  pub command_takes : (waiting left : List ℕ) (a b : Option (List ℕ)) (result : Result (Option Status) Failed) → CarriesOut s new c waiting left a b result → ((status : Status) → result ≡ Ok (Some status) → AsksForMemory s.machine c)
       → (came : Bool) (so_far : List ℕ) → IsQuiet (run.Body s) came so_far → Takes replay_running (leading came so_far number line (in_body s)) (number + 1) so_far (run.Body new) waiting left a b result
   command_takes waiting left a b (Ok None) does asks came so_far quiet = record {
     next = path_from (came || is_newcomer c) (so_far ++ command_text s c) (in_body (state_after s c));
@@ -131,10 +131,9 @@ module _ (s new : ReplayState) (c : Command) (number : ℕ) (line : List ℕ) (i
       none : (lines : List (List ℕ)) → is_newcomer c ≡ true → (came || newcomers_from number (line ∷ lines) (in_body s)) ≡ false → so_far ≡ accepted_line
       none lines on off = absurd (let e : true ≡ false = sym (comes lines on) ∙ off in cc e)
 
-      asked_early : (lines : List (List ℕ)) → AsksForMemory c → (came || newcomers_from number (line ∷ lines) (in_body s)) ≡ false → so_far ≡ accepted_line
+      asked_early : (lines : List (List ℕ)) → AsksForMemory s.machine c → (came || newcomers_from number (line ∷ lines) (in_body s)) ≡ false → so_far ≡ accepted_line
       asked_early lines (inl w) off = quiet (subst (Fits s.now) w.2 fits).0
-      asked_early lines (inr (inl up)) off = none lines (ap is_newcomer up) off
-      asked_early lines (inr (inr join)) off = none lines (ap is_newcomer join) off
+      asked_early lines (inr w) off = ⊎_elim (λ up. none lines (ap is_newcomer up) off) (λ join. none lines (ap is_newcomer join) off) w.1
   command_takes waiting left a b (Err failed) does asks came so_far quiet = record {
     text = command_text s c;
     front = λ end lines. ((body_lines end (number + 1) lines (state_after s c)).text, ap (λ (t : Told). t.text) (leads s c number line asked end lines));

@@ -39,10 +39,10 @@ ReplaysAs t bytes left before after status = RunsAs t replay_told (early_text by
 abbrev pub Replays : List ℕ → Option (List ℕ) → Option (List ℕ) → Option (List ℕ) → Status → Type 0
 Replays bytes left before after status = ReplaysAs (transcript bytes) bytes left before after status
 
--- A line asks for memory where it ends a dump whose files are accepted, or is a command `ram`, `up` or `join`. No other does.
+-- A line asks for memory where it ends a dump whose files are accepted, or is a command `ram`, or `up` or `join` where a processor may come. No other does.
 abbrev pub AsksAt : Point → ℕ → List ℕ → Type 0
 AsksAt (in_head now before) number line = (dump : Dump) × (head_step now before number line ≡ shows dump) × (first_refusal dump.files ≡ None)
-AsksAt (in_body s) number line = (c : Command) × (command_of s.now number line ≡ Ok c) × AsksForMemory c
+AsksAt (in_body s) number line = (c : Command) × (command_of s.now number line ≡ Ok c) × AsksForMemory s.machine c
 
 -- Memory was refused at such a line.
 abbrev pub OutOfMemoryAtLine : List ℕ → Option (List ℕ) → Option (List ℕ) → Option (List ℕ) → Type 0

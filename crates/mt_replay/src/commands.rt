@@ -1,4 +1,4 @@
-ghost use Rattle.std.specs.Prelude.{◌≡◌, IfOk, ◌<◌, ◌≤◌, ◌+◌, ◌*◌, ◌^◌, ◌++◌, length, slice_get, MatchOption, OnOk, OnErr, None, Some};
+ghost use Rattle.std.specs.Prelude.{◌≡◌, IfOk, ◌<◌, ◌≤◌, ◌+◌, ◌*◌, ◌^◌, ◌++◌, length, slice_get, MatchOption, OnOk, OnErr, None, Some, true};
 ghost use Rattle.std.specs.List.{All};
 ghost use Rattle.mt_machine.specs.Machine.{Accesses, Calls, Cancels, Controls, IsEnabled, FitsControl, FitsGoal, FitsOp, Goes, common_era, go_of, next};
 ghost use Rattle.mt_machine.specs.System.{Processor};
@@ -10,7 +10,7 @@ ghost use Rattle.mt_core.specs.Arises.{grown};
 ghost use Rattle.mt_core.specs.Rounds.{in_order};
 ghost use Rattle.mt_core.specs.Steps.{step_after, step_answer};
 ghost use Rattle.mt_machine.specs.Update.{updated};
-ghost use Rattle.mt_replay.specs.ReplayState.{accessed_line, after_call, after_join, after_retire, after_up, after_update, after_word, call_fault, call_line, controlled_line, asked_of, done_after, done_text, file_at, is_undecided, join_text, mapping, memory_word, retire_text, task_of, up_text, update_line};
+ghost use Rattle.mt_replay.specs.ReplayState.{accessed_line, after_call, after_join, after_retire, after_up, after_update, after_word, call_fault, call_line, controlled_line, asked_of, done_after, done_text, file_at, is_undecided, join_text, mapping, may_come, memory_word, retire_text, task_of, up_text, update_line};
 ghost use Rattle.mt_script.specs.Situation.{Situation};
 ghost use Rattle.mt_replay.specs.Doing.{CanAsk};
 ghost use Rattle.mt_replay.specs.Parts.{state};
@@ -318,12 +318,13 @@ pub(crate) fn ask_one(writer: &mut Writer, core: &mut Core, k: u32, ask: Ask)
 }
 
 /// Brings a processor up, where one may come. The line says so, or why none does. The error comes only
-/// where the allocator has no room; nothing then changes.
+/// where one may come and the allocator has no room; nothing then changes.
 pub(crate) fn bring_up(core: &mut Core) -> Result<LineBuffer, NoMemory>
     requires some { 0 < length core.old.system.processors }
     requires room { HasEraRoom core.old }
     ensures text { IfOk result (λ line. line.items ≡ up_text core.old) }
     ensures after { OnOk result (core.new ≡ after_up core.old) }
+    ensures asks { OnErr result (may_come core.old ≡ true) }
     ensures kept { OnErr result (core.new ≡ core.old) }
 {
     a_core_arises(core); // a fact for the proof
@@ -341,6 +342,7 @@ pub(crate) fn admit(core: &mut Core) -> Result<LineBuffer, NoMemory>
     requires room { HasEraRoom core.old }
     ensures text { IfOk result (λ line. line.items ≡ join_text core.old) }
     ensures after { OnOk result (core.new ≡ after_join core.old) }
+    ensures asks { OnErr result (may_come core.old ≡ true) }
     ensures kept { OnErr result (core.new ≡ core.old) }
 {
     a_core_arises(core); // a fact for the proof

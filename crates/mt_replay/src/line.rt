@@ -9,7 +9,7 @@ ghost use Rattle.mt_script.specs.Stages.{is_in_dump};
 ghost use Rattle.mt_dump.specs.ForProcessors.{has_each};
 ghost use Rattle.mt_replay.specs.Kept.{HasEras};
 ghost use Rattle.mt_replay.specs.Parts.{AsksForMemory};
-ghost use Rattle.mt_replay.specs.ReplayState.{ReplayState, command_text, state_after, task_of};
+ghost use Rattle.mt_replay.specs.ReplayState.{ReplayState, command_text, may_come, state_after, task_of};
 ghost use Rattle.mt_replay.specs.Running.{AsksAt, CarriesOut, HasEraRoomAt, HasErasAt, IsAt, IsQuiet, Writes, leading, leading_dump, replay_running, setup_of};
 ghost use Rattle.mt_stream.specs.Lines.{IsEnding, Takes};
 ghost use Rattle.mt_replay.specs.Summing.{Begins, Lasts, state_in};
@@ -162,6 +162,7 @@ fn bring_up<K: Sink>(
     requires fits { Fits replayer.old.now Command.Up }
     requires room { HasEraRoom replayer.old.machine }
     ensures bytes { CarriesOut replayer.old replayer.new Command.Up writer.old writer.new (K.taken sink.old) (K.taken sink.new) result }
+    ensures asks { (status : Status) → result ≡ Ok (Some status) → may_come replayer.old.machine ≡ true }
     ensures refused { (status : Status) → result ≡ Ok (Some status) → status ≡ Status.NoMemory }
     ensures cause { HasCause (K.faults sink.old) (K.faults sink.new) result }
 {
@@ -178,6 +179,7 @@ fn admit<K: Sink>(
     requires fits { Fits replayer.old.now Command.Join }
     requires room { HasEraRoom replayer.old.machine }
     ensures bytes { CarriesOut replayer.old replayer.new Command.Join writer.old writer.new (K.taken sink.old) (K.taken sink.new) result }
+    ensures asks { (status : Status) → result ≡ Ok (Some status) → may_come replayer.old.machine ≡ true }
     ensures refused { (status : Status) → result ≡ Ok (Some status) → status ≡ Status.NoMemory }
     ensures cause { HasCause (K.faults sink.old) (K.faults sink.new) result }
 {
@@ -196,7 +198,7 @@ fn do_command<R: Threads + Wait + Sync, K: Sink, G: Gate>(
     requires fits { Fits replayer.old.now c.now }
     requires room { HasEraRoom replayer.old.machine }
     ensures bytes { CarriesOut replayer.old replayer.new c.now writer.old writer.new (K.taken sink.old) (K.taken sink.new) result }
-    ensures asks { (status : Status) → result ≡ Ok (Some status) → AsksForMemory c.now }
+    ensures asks { (status : Status) → result ≡ Ok (Some status) → AsksForMemory replayer.old.machine c.now }
     ensures refused { (status : Status) → result ≡ Ok (Some status) → status ≡ Status.NoMemory }
     ensures cause { HasCause (K.faults sink.old) (K.faults sink.new) result }
 {

@@ -14,7 +14,7 @@ ghost use Rattle.mt_replay.specs.Kept.{IsReplayState};
 ghost use Rattle.mt_replay.specs.Doing.{CanAct};
 ghost use Rattle.mt_replay.specs.declared.task.Task.{Task};
 ghost use Rattle.mt_replay.specs.Parts.{state};
-ghost use Rattle.mt_replay.specs.ReplayState.{acted, after_call, after_update, call_line, command_text, done_after, done_text, file_at, first_state, is_update, laid, state_after, task_of, update_line, with_register};
+ghost use Rattle.mt_replay.specs.ReplayState.{acted, after_call, after_update, call_line, command_text, done_after, done_text, file_at, first_state, is_update, laid, may_come, state_after, task_of, update_line, with_register};
 
 use crate::commands::{
     add_window, admit, ask_one, bring_up, call, cancel, go, retire, update, word,
@@ -247,13 +247,14 @@ impl Replayer {
     }
 
     /// Brings a processor up, where one may come, and answers the line that says so, or why none does. The
-    /// error comes only where the allocator has no room; nothing then changes.
+    /// error comes only where one may come and the allocator has no room; nothing then changes.
     #[inline(never)]
     pub fn bring_up(&mut self) -> Result<LineBuffer, NoMemory>
         requires fits { Fits self.old.now Command.Up }
         requires room { HasEraRoom self.old.machine }
         ensures text { IfOk result (λ line. line.items ≡ command_text self.old Command.Up) }
         ensures after { OnOk result (self.new ≡ state_after self.old Command.Up) }
+        ensures asks { OnErr result (may_come self.old.machine ≡ true) }
         ensures kept { OnErr result (self.new ≡ self.old) }
     {
         let line = bring_up(&mut self.core)?;
@@ -268,6 +269,7 @@ impl Replayer {
         requires room { HasEraRoom self.old.machine }
         ensures text { IfOk result (λ line. line.items ≡ command_text self.old Command.Join) }
         ensures after { OnOk result (self.new ≡ state_after self.old Command.Join) }
+        ensures asks { OnErr result (may_come self.old.machine ≡ true) }
         ensures kept { OnErr result (self.new ≡ self.old) }
     {
         let line = admit(&mut self.core)?;

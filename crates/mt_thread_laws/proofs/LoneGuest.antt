@@ -1,5 +1,5 @@
 -- The worked resident that is alone in its yard, and where its update leads it.
-use Rattle.std.proofs.Common.{◌≡◌, ◌∙◌, refl, rules, arith, ℕ, ◌+◌, ◌≤◌, Bool, true, false, List, [], ◌∷◌, cond, Some, Option}
+use Rattle.std.proofs.Common.{◌≡◌, ◌∙◌, inl, refl, rules, arith, ℕ, ◌+◌, ◌≤◌, Bool, true, false, List, [], ◌∷◌, cond, Some, Option}
 use Rattle.mt_machine.specs.declared.event.Event.{Event}
 use Rattle.mt_machine.specs.declared.event.Event.TheVariants.{Arrive, Disable, DropLines, Enable, FlushTlb, Pass, RestorePge, SetNoFill, SetNormal, Take, Write}
 use Rattle.mt_machine.specs.declared.go.Go.{Go}
@@ -17,7 +17,7 @@ use Rattle.mt_private.specs.Residents.{Follows, Opens, Yard, stepped_by, system_
 use Rattle.mt_thread_laws.specs.WorkedWay.{changed, guest, released}
 use Rattle.mt_thread_laws.specs.WorkedYard.{alone, lodger}
 use Rattle.mt_thread_laws.proofs.JobOnWorked.{is_memory}
-use Rattle.mt_private.proofs.Residents.Barriers.{arrives, arrives_again, passes, releases}
+use Rattle.mt_private.proofs.Residents.Barriers.{arrives, arrives_again, leaves, passes, releases}
 use Rattle.mt_private.proofs.Residents.Decisions.{cancels, gives}
 use Rattle.mt_private.proofs.Residents.Opened.{resides}
 use Rattle.mt_private.proofs.Residents.Work.{takes, works}
@@ -146,3 +146,8 @@ late_yard =
     let y = cancelled_yard in
     followed Cancelled y.0 (guest Taken false) (guest Taken true) _ 0x100000001 0
     ((arrives alone (guest Taken false ∷ []) Cancelled 0x100000000 0 y.0 y.1 0 (guest Taken false) refl refl refl refl).1 (omega arith))
+
+pub left_yard : IsYard Cancelled 0x100000001 0 (guest Running true)
+left_yard =
+    let y = late_yard in
+    followed Cancelled y.0 (guest Taken true) (guest Running true) _ 0x100000001 0 (leaves alone (guest Taken true ∷ []) Cancelled 0x100000001 0 y.0 y.1 0 (guest Taken true) refl refl refl (inl refl) (omega arith))

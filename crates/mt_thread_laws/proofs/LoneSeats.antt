@@ -1,7 +1,9 @@
--- The yard of one whose resident is released meets the rule.
-use Rattle.std.proofs.Common.{◌≡◌, ◌∙◌, ◌<◌, ℕ, zero, suc, true, true≢false, [], ◌∷◌, ap, refl, subst, sym, inr, arith}
+-- The yard of one meets the rule where its counts, its go and its resident make a yard.
+use Rattle.std.proofs.Common.{◌≡◌, ◌∙◌, ◌<◌, ℕ, zero, suc, Bool, true, true≢false, false, [], ◌∷◌, ap, refl, subst, sym, inr, arith, None, Option, Some}
 use mathlib.Core.Option.{some, some-injective, some-ne-none}
 use lib.ListN.{get_elem?}
+use Rattle.mt_machine.specs.declared.phase.Phase.TheVariants.{Running}
+use Rattle.mt_machine.specs.declared.go.Go.{Go}
 use Rattle.mt_machine.specs.declared.go.Go.TheVariants.{Cancelled, Given}
 use Rattle.mt_rendezvous.specs.declared.view.Held.{Held}
 use Rattle.mt_rendezvous.specs.declared.view.Key.{Key}
@@ -11,72 +13,86 @@ use Rattle.mt_rendezvous.specs.Station.{IsHeld, Sits, start_of}
 use Rattle.mt_private.specs.declared.view.Resident.{Resident}
 use Rattle.mt_private.specs.declared.view.YardView.{YardView}
 use Rattle.mt_private.specs.Residents.{Yard}
-use Rattle.mt_thread_laws.specs.WorkedWay.{last_pass, last_root, released, settled}
+use Rattle.mt_thread_laws.specs.WorkedWay.{guest, left, lone_pass, lone_root, lone_yard, released, settled}
 use Rattle.mt_thread_laws.specs.WorkedYard.{alone}
 use Rattle.mt_private.specs.YardRule.{AreAt, HoldsStored, MeetsYard, as_view}
-use Rattle.mt_thread_laws.proofs.LoneGuest.{released_yard}
+use Rattle.mt_thread_laws.proofs.LoneGuest.{IsYard, left_yard, released_yard}
 
 abbrev owner : ℕ → ℕ
 owner n = 1
 
-pub same_place : AreAt (released ∷ []) (released ∷ [])
-same_place zero y at = subst (λ (x : Resident). get_elem? (released ∷ []) x.held.number ≡ some x) (some-injective released y at) refl
-same_place (suc i) y at = absurd (some-ne-none y (sym at))
+-- resident 0, which has stored nothing
+module _ (y : Resident) (number : y.held.number ≡ 0) (unstored : y.stored ≡ 0) where
+  there : get_elem? (y ∷ []) y.held.number ≡ some y
+  there = subst (λ (n : ℕ). get_elem? (y ∷ []) n ≡ some y) (sym number) refl
 
-stores : HoldsStored (2 ∷ 1 ∷ 0 ∷ []) (released ∷ [])
-stores zero y at = ap (λ (x : Resident). x.stored) (some-injective released y at)
-stores (suc k) y at = absurd (some-ne-none y (sym at))
+  held_there : get_elem? (y.held ∷ []) y.held.number ≡ some y.held
+  held_there = subst (λ (n : ℕ). get_elem? (y.held ∷ []) n ≡ some y.held) (sym number) refl
 
-module _ (key : Key) (is : start_of key ≡ alone) where
-  abbrev its_root : YardView
-  its_root = last_root (start_of key)
+  same_place : AreAt (y ∷ []) (y ∷ [])
+  same_place zero z at = subst (λ (x : Resident). get_elem? (y ∷ []) x.held.number ≡ some x) (some-injective y z at) there
+  same_place (suc i) z at = absurd (some-ne-none z (sym at))
 
-  abbrev its_pass : YardView
-  its_pass = last_pass (start_of key)
+  nobody_there : AreAt (y ∷ []) []
+  nobody_there i z at = absurd (some-ne-none z (sym at))
 
-  present : (k : ℕ) → k < 1 → IsHeld (as_view its_root ∷ as_view its_pass ∷ []) k
-  present zero below = (1, as_view its_pass, 0, released.held, refl, refl, refl)
-  present (suc k) below = absurd (omega arith)
+  stores : (first second : ℕ) → HoldsStored (first ∷ second ∷ 0 ∷ []) (y ∷ [])
+  stores first second zero z at = sym unstored ∙ ap (λ (x : Resident). x.stored) (some-injective y z at)
+  stores first second (suc k) z at = absurd (some-ne-none z (sym at))
 
-  is_first : (i : ℕ) (h : Held) → get_elem? (released.held ∷ []) i ≡ some h → (get_elem? (released.held ∷ []) h.number ≡ some h) × (owner h.number ≡ 1)
-  is_first zero h at = subst (λ (x : Held). (get_elem? (released.held ∷ []) x.number ≡ some x) × (owner x.number ≡ 1)) (some-injective released.held h at) (refl, refl)
-  is_first (suc i) h at = absurd (some-ne-none h (sym at))
+  module _ (key : Key) (is : start_of key ≡ alone) (go : Go) (shown : Option ℕ) (cancel : Bool) (says : cancel ≡ true → go ≡ Cancelled) where
+    abbrev its_root : YardView
+    its_root = lone_root (start_of key) go
 
-  root_sits : Sits (start_of key) (released.held ∷ []) Given owner 0 (as_view its_root)
-  root_sits = record { root = λ e. (refl, refl); told = inr refl; holds = λ i h at. absurd (some-ne-none h (sym at)); apart = tt }
+    abbrev its_pass : YardView
+    its_pass = lone_pass (start_of key) shown cancel y
 
-  pass_sits : Sits (start_of key) (released.held ∷ []) Given owner 1 (as_view its_pass)
-  pass_sits = record { root = λ e. absurd (cc e); told = inr refl; holds = is_first; apart = ((λ i h at. absurd (some-ne-none h (sym at))), tt) }
+    present : (k : ℕ) → k < 1 → IsHeld (as_view its_root ∷ as_view its_pass ∷ []) k
+    present zero below = (1, as_view its_pass, 0, y.held, refl, refl, number)
+    present (suc k) below = absurd (omega arith)
 
-  sits : (j : ℕ) (v : View) → get_elem? (as_view its_root ∷ as_view its_pass ∷ []) j ≡ some v → Sits (start_of key) (released.held ∷ []) Given owner j v
-  sits zero v at = subst (Sits (start_of key) (released.held ∷ []) Given owner 0) (some-injective (as_view its_root) v at) root_sits
-  sits (suc zero) v at = subst (Sits (start_of key) (released.held ∷ []) Given owner 1) (some-injective (as_view its_pass) v at) pass_sits
-  sits (suc (suc j)) v at = absurd (some-ne-none v (sym at))
+    is_first : (i : ℕ) (h : Held) → get_elem? (y.held ∷ []) i ≡ some h → (get_elem? (y.held ∷ []) h.number ≡ some h) × (owner h.number ≡ 1)
+    is_first zero h at = subst (λ (x : Held). (get_elem? (y.held ∷ []) x.number ≡ some x) × (owner x.number ≡ 1)) (some-injective y.held h at) (held_there, refl)
+    is_first (suc i) h at = absurd (some-ne-none h (sym at))
 
-  nobody_there : AreAt (released ∷ []) []
-  nobody_there i y at = absurd (some-ne-none y (sym at))
+    root_sits : Sits (start_of key) (y.held ∷ []) go owner 0 (as_view its_root)
+    root_sits = record { root = λ e. (refl, refl); told = inr refl; holds = λ i h at. absurd (some-ne-none h (sym at)); apart = tt }
 
-  same : (j : ℕ) (v : YardView) → get_elem? (its_root ∷ its_pass ∷ []) j ≡ some v → AreAt (released ∷ []) v.held
-  same zero v at = subst (λ (x : YardView). AreAt (released ∷ []) x.held) (some-injective its_root v at) nobody_there
-  same (suc zero) v at = subst (λ (x : YardView). AreAt (released ∷ []) x.held) (some-injective its_pass v at) same_place
-  same (suc (suc j)) v at = absurd (some-ne-none v (sym at))
+    pass_sits : Sits (start_of key) (y.held ∷ []) go owner 1 (as_view its_pass)
+    pass_sits = record { root = λ e. absurd (cc e); told = inr refl; holds = is_first; apart = ((λ i h at. absurd (some-ne-none h (sym at))), tt) }
 
-  none_cancelled : (j : ℕ) (v : YardView) → get_elem? (its_root ∷ its_pass ∷ []) j ≡ some v → v.cancel ≡ true → Given ≡ Cancelled
-  none_cancelled zero v at told = absurd (true≢false (sym told ∙ ap (λ (x : YardView). x.cancel) (sym (some-injective its_root v at))))
-  none_cancelled (suc zero) v at told = absurd (true≢false (sym told ∙ ap (λ (x : YardView). x.cancel) (sym (some-injective its_pass v at))))
-  none_cancelled (suc (suc j)) v at told = absurd (some-ne-none v (sym at))
+    sits : (j : ℕ) (v : View) → get_elem? (as_view its_root ∷ as_view its_pass ∷ []) j ≡ some v → Sits (start_of key) (y.held ∷ []) go owner j v
+    sits zero v at = subst (Sits (start_of key) (y.held ∷ []) go owner 0) (some-injective (as_view its_root) v at) root_sits
+    sits (suc zero) v at = subst (Sits (start_of key) (y.held ∷ []) go owner 1) (some-injective (as_view its_pass) v at) pass_sits
+    sits (suc (suc j)) v at = absurd (some-ne-none v (sym at))
 
-  pub settled_meets : MeetsYard key (settled key)
-  settled_meets = record {
-    all = released ∷ [];
-    go = Given;
-    owner = owner;
-    system = released_yard.0;
-    yard = subst (λ (t : Start). Yard t (released ∷ []) Given 2 1 released_yard.0) (sym is) released_yard.1;
-    wide = refl;
-    stored = stores;
-    present = present;
-    sits = sits;
-    same = same;
-    cancels = none_cancelled;
-  }
+    same : (j : ℕ) (v : YardView) → get_elem? (its_root ∷ its_pass ∷ []) j ≡ some v → AreAt (y ∷ []) v.held
+    same zero v at = subst (λ (x : YardView). AreAt (y ∷ []) x.held) (some-injective its_root v at) nobody_there
+    same (suc zero) v at = subst (λ (x : YardView). AreAt (y ∷ []) x.held) (some-injective its_pass v at) same_place
+    same (suc (suc j)) v at = absurd (some-ne-none v (sym at))
+
+    cancels : (j : ℕ) (v : YardView) → get_elem? (its_root ∷ its_pass ∷ []) j ≡ some v → v.cancel ≡ true → go ≡ Cancelled
+    cancels zero v at said = absurd (true≢false (sym said ∙ ap (λ (x : YardView). x.cancel) (sym (some-injective its_root v at))))
+    cancels (suc zero) v at said = says (ap (λ (x : YardView). x.cancel) (some-injective its_pass v at) ∙ said)
+    cancels (suc (suc j)) v at said = absurd (some-ne-none v (sym at))
+
+    meets : (first second : ℕ) → IsYard go first second y → MeetsYard key (lone_yard key go shown cancel y first second)
+    meets first second made = record {
+      all = y ∷ [];
+      go = go;
+      owner = owner;
+      system = made.0;
+      yard = subst (λ (t : Start). Yard t (y ∷ []) go first second made.0) (sym is) made.1;
+      wide = refl;
+      stored = stores first second;
+      present = present;
+      sits = sits;
+      same = same;
+      cancels = cancels;
+    }
+
+pub settled_meets : (key : Key) → start_of key ≡ alone → MeetsYard key (settled key)
+settled_meets key is = meets released refl refl key is Given (Some 1) false (λ e. absurd (true≢false (sym e))) 2 1 released_yard
+
+pub left_meets : (key : Key) → start_of key ≡ alone → MeetsYard key (left key)
+left_meets key is = meets (guest Running true) refl refl key is Cancelled None true (λ e. refl) 0x100000001 0 left_yard

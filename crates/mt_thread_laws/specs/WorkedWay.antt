@@ -3,9 +3,9 @@ use Rattle.std.specs.Prelude.{◌≡◌, ℕ, Bool, true, false, List, [], ◌�
 use mathlib.Core.Option.{none}
 use Rattle.atomic_table.specs.Table.{step}
 use Rattle.mt_machine.specs.declared.phase.Phase.{Phase}
-use Rattle.mt_machine.specs.declared.phase.Phase.TheVariants.{NoFill}
+use Rattle.mt_machine.specs.declared.phase.Phase.TheVariants.{NoFill, Running}
 use Rattle.mt_machine.specs.declared.go.Go.{Go}
-use Rattle.mt_machine.specs.declared.go.Go.TheVariants.{Given, Pending}
+use Rattle.mt_machine.specs.declared.go.Go.TheVariants.{Cancelled, Given, Pending}
 use Rattle.mt_machine.specs.declared.op.Op.{Op}
 use Rattle.mt_machine.specs.Memory.{Memory}
 use Rattle.mt_machine.specs.System.{Processor, System}
@@ -65,15 +65,23 @@ split_taken key = record { words = no_counts; homes = []; views = yard_left (fir
 abbrev pub joined : Key → YardState
 joined key = record { words = no_counts; homes = []; views = yard_both (yard_left (first_yard_view key)) (yard_right (first_yard_view key)) ∷ yard_spent ∷ [] }
 
--- and one whose only resident is released
-abbrev pub last_root : Start → YardView
-last_root t = record { root = true; held = []; go = Given; shown = None; cancel = false; start = t }
+-- the yard of one with these words, whose root has said so, and whose pass has this resident, and was shown so
+abbrev pub lone_root : Start → Go → YardView
+lone_root t go = record { root = true; held = []; go = go; shown = None; cancel = false; start = t }
 
-abbrev pub last_pass : Start → YardView
-last_pass t = record { root = false; held = released ∷ []; go = Pending; shown = Some 1; cancel = false; start = t }
+abbrev pub lone_pass : Start → Option ℕ → Bool → Resident → YardView
+lone_pass t shown cancel y = record { root = false; held = y ∷ []; go = Pending; shown = shown; cancel = cancel; start = t }
 
+abbrev pub lone_yard : Key → Go → Option ℕ → Bool → Resident → ℕ → ℕ → YardState
+lone_yard key go shown cancel y first second =
+    record { words = first ∷ second ∷ 0 ∷ []; homes = []; views = lone_root (start_of key) go ∷ lone_pass (start_of key) shown cancel y ∷ [] }
+
+-- where the resident is released, and where it has left
 abbrev pub settled : Key → YardState
-settled key = record { words = 2 ∷ 1 ∷ 0 ∷ []; homes = []; views = last_root (start_of key) ∷ last_pass (start_of key) ∷ [] }
+settled key = lone_yard key Given (Some 1) false released 2 1
+
+abbrev pub left : Key → YardState
+left key = lone_yard key Cancelled None true (guest Running true) 0x100000001 0
 
 -- one state meets the rule, and the next follows on it by this event
 abbrev pub Becomes : Key → YardState → YardState → Option MachineEvent → Type 0

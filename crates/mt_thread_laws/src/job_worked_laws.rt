@@ -1,6 +1,6 @@
 // Each law on the steps of a yard, at one step of a worked resident that is alone; the laws on a yard's table, at its start
 // and once a resident was given away; its end; and the laws on own systems.
-ghost use Rattle.std.specs.Prelude.{◌≡◌, ◌∷◌, [], None, Some, false, true};
+ghost use Rattle.std.specs.Prelude.{◌≡◌, ◌≤◌, ◌∷◌, [], None, Some, false, slice_index, true};
 ghost use Rattle.atomic_table.specs.Seated.{TableId};
 ghost use Rattle.mt_kinds.specs.declared.mem_type.MemType.TheVariants.{WB};
 ghost use Rattle.mt_machine.specs.declared.done.Done.TheVariants.{Stored};
@@ -20,10 +20,10 @@ ghost use Rattle.mt_private.specs.Left.{Leaves};
 ghost use Rattle.mt_private.specs.OneByOne.{jobs_one_by_one};
 ghost use Rattle.mt_private.specs.Residents.{Decides, Follows, Yard, accessed_by, own_of, system_of, with_stored};
 ghost use Rattle.mt_private.specs.Visitors.{EndsOneByOne, Returned};
-ghost use Rattle.mt_thread_laws.specs.WorkedWay.{Becomes, GoesOn, HasNoAnswers, IsEmptyJob, LoadsFirst, TakesUnshown, changed, fills_not, given, guest, joined, last_seat, released, settled, split_taken};
+ghost use Rattle.mt_thread_laws.specs.WorkedWay.{Becomes, GoesOn, HasNoAnswers, IsEmptyJob, LoadsFirst, TakesUnshown, changed, fills_not, given, guest, joined, last_seat, left, released, settled, split_taken};
 ghost use Rattle.mt_thread_laws.specs.WorkedYard.{alone, first_state, lodged, lodging, split_state};
 ghost use Rattle.mt_private.specs.YardLaws.{AdditionArrives, AdditionArrivesAgain, AdditionDecides, LoadLeaves, LoadPasses, LoadReleases, LoadStays, LoadTakes, StoreAccesses, StoreWorks};
-ghost use Rattle.mt_private.specs.YardLaws.{EachStepFollows, IsOneMachine, IsReached, JoinIsNone, MoveIsOneEvent, ReleasedWhereFull, SayingIsOneEvent, Settles, ShownIsFound, SplitIsNone, StartMeetsRule, YardsSettle};
+ghost use Rattle.mt_private.specs.YardLaws.{EachStepFollows, IsOneMachine, IsReached, JoinIsNone, LeftWhereCancelled, MoveIsOneEvent, ReleasedWhereFull, SayingIsOneEvent, Settles, ShownIsFound, SplitIsNone, StartMeetsRule, YardsSettle};
 ghost use Rattle.mt_private.specs.YardRule.{MeetsYard, its_machine};
 
 /// Loads of the counts.
@@ -51,7 +51,7 @@ pub fn worked_laws_of_own_words()
     ensures works { StoreWorks → GoesOn Given 2 0 (guest Passed true) (with_stored fills_not 1) (Some (Steps 0 SetNoFill)) 2 0 }
 {}
 
-/// A yard of two at its start, and steps of its seats; and a yard of one whose resident is released.
+/// A yard of two at its start, and steps of its seats; and a yard of one, whose resident left or is released.
 pub fn worked_laws_of_tables()
     ensures start { StartMeetsRule → (key : Key) → start_of key ≡ lodging → MeetsYard key (first_state key) }
     ensures reached { IsReached → (key : Key) → start_of key ≡ lodging → (m : MeetsYard key (first_state key)) × Reached (broadcast (start_of key)) (its_machine key (first_state key) m) }
@@ -61,6 +61,7 @@ pub fn worked_laws_of_tables()
     ensures moves { MoveIsOneEvent → (key : Key) → start_of key ≡ lodging → Becomes key (split_state key) (split_taken key) (Some (Steps 0 Take)) }
     ensures steps { EachStepFollows → (key : Key) → start_of key ≡ lodging → LoadsFirst key (split_state key) }
     ensures shown { ShownIsFound → (key : Key) → start_of key ≡ lodging → TakesUnshown key }
+    ensures left { LeftWhereCancelled → (key : Key) → start_of key ≡ alone → (m : MeetsYard key (left key)) × (m.go ≡ Cancelled) × (0x100000000 ≤ slice_index (left key).words 0) }
     ensures released { ReleasedWhereFull → (key : Key) → start_of key ≡ alone → (m : MeetsYard key (settled key)) × (m.go ≡ Given) }
     ensures settles { YardsSettle → (key : Key) → start_of key ≡ alone → (m : MeetsYard key (settled key)) × Settles (start_of key) (its_machine key (settled key) m) }
     ensures join { JoinIsNone → (key : Key) → start_of key ≡ lodging → Becomes key (split_state key) (joined key) None }

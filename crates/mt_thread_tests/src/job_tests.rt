@@ -452,6 +452,34 @@ fn each_processor_starts_and_arrives_once(rt: HostRuntime) {
     }
 }
 
+/// Whether one more run of a core's jobs is done, after so many of which each asked and told the gate once of each processor.
+fn runs_again<R: Threads + Wait + Sync>(
+    rt: &R,
+    alloc: Global,
+    core: &mut Core,
+    count: u32,
+    times: u64,
+    gate: &AllBut,
+) -> Option<bool> {
+    let kind = if times % 2 == 0 { 6 } else { 4 };
+    let jobs = jobs_of(alloc, count)?;
+    let Ok(told) = on_threads(rt, alloc, core, file(kind)?, jobs, gate)? else {
+        return None;
+    };
+    let each = ones(0, count).wrapping_mul(times);
+    Some(told.len() == count as usize && gate.asked() == each && gate.told() == each)
+}
+
+#[test]
+fn each_run_of_a_core_asks_and_tells_once(rt: HostRuntime) {
+    let gate = AllBut::new(16);
+    let mut core = some(&rt, core_of(rt.alloc(), 3));
+    for times in 1..=4 {
+        let again = runs_again(&rt, rt.alloc(), &mut core, 3, times, &gate);
+        succeeds_at(&rt, times, again);
+    }
+}
+
 /// Why two empty jobs aren't run, where they aren't.
 fn refusal<R: Threads + Wait + Sync>(
     rt: &R,

@@ -1,6 +1,7 @@
 //! A yard gathered from a core's system, and the visits of its guests.
 ghost use Rattle.std.specs.Prelude.{◌≡◌, ℕ, ◌+◌, ◌<◌, Bool, IsTrue, IfSome, IfNone, length};
 ghost use Rattle.std.specs.List.{All};
+ghost use Rattle.std.specs.Thread.{IsSync};
 ghost use Rattle.mt_machine.specs.declared.go.Go.TheVariants.{Pending};
 ghost use Rattle.mt_machine.specs.declared.phase.Phase.TheVariants.{Running};
 ghost use Rattle.mt_machine.specs.Machine.{FitsGoal};
@@ -21,7 +22,10 @@ use mt_machine::{Done, Phase};
 use mt_private::{Guest, Host, Job, Told, Visited, Yard, shared_page, visit};
 use mt_regs::RegFile;
 use std::alloc::Global;
+use std::snapshot::Snapshot;
 use std::sync::Wait;
+use std::thread;
+use std::thread::{Promise, PromisedHandle, Scope, Threads};
 
 /// The yard of a core's system, where no update is under way, the goal has no fault and no page is named by two.
 fn gather_of(alloc: Global, core: Core, goal: &RegFile) -> Option<(Yard, Host, Vec<Guest>)>
@@ -102,6 +106,57 @@ fn visit_whole<R: Wait>(
         visited,
         told,
     }
+}
+
+// What the thread of a guest promises: its pass still lodges its processor.
+#[derive(Drop)]
+struct Comes {
+    yard: Snapshot<Yard>,
+}
+
+impl Promise<Visit> for Comes {
+    ghost use Rattle.mt_private.specs.InYard.{LodgesIn};
+
+    ghost kept_by = { λ p v. (added : Bool) × (again : Bool) × LodgesIn p.yard.value v.guest.pass v.guest.own added again };
+}
+
+/// Starts a thread for the visit of a guest as it was gathered.
+fn start<'s, E, R: Threads + Wait + Sync>(
+    rt: &'s R,
+    scope: &Scope<'s, E>,
+    yard: &'s Yard,
+    k: u64,
+    guest: Guest,
+    goal: &'s RegFile,
+    job: &'s Job,
+    told: Told,
+    gate: &'s AllBut,
+) -> Option<PromisedHandle<Visit, Comes>>
+    requires gathered { IsGatheredIn yard.now k guest }
+    requires runs { AreIn Running guest.own }
+    requires goal { goal.now ≡ goal_at yard.now }
+    requires addresses { FitsJob job.now }
+    requires open { (part : JobPart) → IsOpen part job.now told }
+    ensures { IfSome result (λ h. h.promise.yard.value ≡ yard.now) }
+{
+    let promise = Comes {
+        yard: Snapshot::of(yard),
+    };
+    let Ok(child) = scope.spawn_with(
+        promise,
+        move || -> Visit
+            requires shared { IsSync R.row }
+            requires gathered { IsGatheredIn yard.now k guest }
+            requires runs { AreIn Running guest.own }
+            requires goal { goal.now ≡ goal_at yard.now }
+            requires addresses { FitsJob job.now }
+            requires open { (part : JobPart) → IsOpen part job.now told }
+            ensures { (added : Bool) × (again : Bool) × LodgesIn yard.entry.now result.guest.pass result.guest.own added again }
+        { visit_whole(rt, yard, k, guest, goal, job, told, gate) },
+    ) else {
+        return None;
+    };
+    Some(child)
 }
 
 /// Gives the go, or cancels.
@@ -202,13 +257,115 @@ fn alone<R: Wait>(rt: &R, alloc: Global, given: bool) -> Option<(Came, u64)> {
     Some((came, told))
 }
 
-/// Whether the own system has one processor, of this era and with so many lines, and this word at 1 MB.
-fn is_left(own: &System, era: u64, lines: usize, value: u64) -> bool {
+/// The last guest as it was gathered, with its number, where it can visit with this job.
+fn next(yard: &Yard, waiting: &mut Vec<Guest>, job: &Job) -> Option<(u64, Guest)>
+    requires { AreGatheredIn yard.now waiting.old.items }
+    ensures rest { AreGatheredIn yard.now waiting.new.items }
+    ensures gathered { IfSome result (λ g. IsGatheredIn yard.now g.0 g.1) }
+    ensures runs { IfSome result (λ g. AreIn Running g.1.own) }
+    ensures addresses { IfSome result (λ g. FitsJob job.now) }
+{
+    let guest = last(yard, waiting)?;
+    let k = waiting.len() as u64;
+    if !runs(&guest.own) || !fits_job(job) {
+        return None;
+    }
+    Some((k, guest))
+}
+
+/// What comes of two guests, and what the gate was told.
+#[derive(Drop)]
+struct Pair {
+    first: Came,
+    other: Came,
+    told: u64,
+}
+
+/// The visits of two guests, of which the last one's is on a thread of its own.
+fn come_both<'s, E, R: Threads + Wait + Sync>(
+    rt: &'s R,
+    alloc: Global,
+    scope: &Scope<'s, E>,
+    yard: &'s Yard,
+    host: &mut Host,
+    waiting: &mut Vec<Guest>,
+    goal: &'s RegFile,
+    jobs: &'s [Job],
+    given: bool,
+    gate: &'s AllBut,
+) -> Option<Pair>
+    requires hosts { LeadsIn yard.now host.old.seat Pending }
+    requires guests { AreGatheredIn yard.now waiting.old.items }
+    requires goal { goal.now ≡ goal_at yard.now }
+{
+    let first_job = jobs.get(0)?;
+    let other_job = jobs.get(1)?;
+    let Ok(told) = Told::new(alloc, first_job) else {
+        return None;
+    };
+    let Ok(answers) = Told::new(alloc, other_job) else {
+        return None;
+    };
+    let (k, guest) = next(yard, waiting, other_job)?;
+    let (j, own) = next(yard, waiting, first_job)?;
+    let child = start(rt, scope, yard, k, guest, goal, other_job, answers, gate)?;
+    say(yard, host, given);
+    let done = visit_whole(rt, yard, j, own, goal, first_job, told, gate);
+    let came = child.join(rt);
+    let first = take_from(yard, host, 0, done)?;
+    let other = take_from(yard, host, 1, came)?;
+    Some(Pair {
+        first,
+        other,
+        told: gate.told(),
+    })
+}
+
+/// What comes of a core's two processors.
+fn both<R: Threads + Wait + Sync>(rt: &R, alloc: Global, given: bool) -> Option<Pair> {
+    let core = core_of(alloc, 2)?;
+    let wanted = file(0)?;
+    let all_jobs = jobs_of(alloc, 2)?;
+    if !may_call(&core, &wanted) {
+        return None;
+    }
+    let (yard, mut host, mut waiting) = gather_of(alloc, core, &wanted)?;
+    let counts = AllBut::new(16);
+    let all = &yard;
+    let goal = &wanted;
+    let jobs = all_jobs.as_slice();
+    let gate = &counts;
+    thread::scope(
+        thread::scope_env(),
+        rt,
+        move |scope| -> Option<Pair>
+            requires hosts { LeadsIn all.now host.seat Pending }
+            requires guests { AreGatheredIn all.now waiting.items }
+            requires goal { goal.now ≡ goal_at all.now }
+        {
+            come_both(
+                rt,
+                alloc,
+                scope,
+                all,
+                &mut host,
+                &mut waiting,
+                goal,
+                jobs,
+                given,
+                gate,
+            )
+        },
+    )
+}
+
+/// Whether the own system has one processor, of this era and with so many lines, and this word at an address.
+fn is_left(own: &System, era: u64, lines: usize, address: u64, value: u64) -> bool {
     let cpus = own.cpus();
     cpus.len() == 1
         && cpus[0].era() == era
         && cpus[0].cache().len() == lines
-        && word(own.ram(), 0x10_0000) == Some(value)
+        && word(own.ram(), address) == Some(value)
 }
 
 /// Whether the answers before the update are that one word was stored as WB.
@@ -216,27 +373,54 @@ fn has_stored(told: &Told) -> bool {
     told.before.as_slice() == [Done::Stored(MemType::WB)].as_slice()
 }
 
-/// Whether those after it are the one word, loaded as UC.
-fn has_loaded(told: &Told) -> bool {
-    told.after.as_slice() == [Done::Value(0x2a, MemType::UC)].as_slice()
+/// Whether those after it are one word, loaded as UC.
+fn has_loaded(told: &Told, value: u64) -> bool {
+    told.after.as_slice() == [Done::Value(value, MemType::UC)].as_slice()
+}
+
+/// Whether the guest stored its word at this address, and loaded it after the update.
+fn has_completed(came: &Came, address: u64, value: u64) -> bool {
+    came.visited == Visited::Complete
+        && has_stored(&came.told)
+        && has_loaded(&came.told, value)
+        && is_left(&came.own, 1, 0, address, value)
+}
+
+/// Whether the guest stored its word at this address in its cache, and left.
+fn has_left(came: &Came, address: u64) -> bool {
+    came.visited == Visited::Cancelled
+        && has_stored(&came.told)
+        && came.told.after.is_empty()
+        && is_left(&came.own, 0, 1, address, 0)
 }
 
 #[test]
 fn one_completes(rt: HostRuntime) {
     let (came, arrived) = some(&rt, alone(&rt, rt.alloc(), true));
-    holds(&rt, came.visited == Visited::Complete);
-    holds(&rt, has_stored(&came.told));
-    holds(&rt, has_loaded(&came.told));
+    holds(&rt, has_completed(&came, 0x10_0000, 0x2a));
     holds(&rt, arrived == 1);
-    holds(&rt, is_left(&came.own, 1, 0, 0x2a));
 }
 
 #[test]
 fn one_leaves(rt: HostRuntime) {
     let (came, arrived) = some(&rt, alone(&rt, rt.alloc(), false));
-    holds(&rt, came.visited == Visited::Cancelled);
-    holds(&rt, has_stored(&came.told));
-    holds(&rt, came.told.after.is_empty());
+    holds(&rt, has_left(&came, 0x10_0000));
     holds(&rt, arrived == 0);
-    holds(&rt, is_left(&came.own, 0, 1, 0));
+}
+
+#[test]
+fn two_complete(rt: HostRuntime) {
+    let ended = some(&rt, both(&rt, rt.alloc(), true));
+    holds(&rt, has_completed(&ended.first, 0x10_0000, 0x2a));
+    holds(&rt, has_completed(&ended.other, 0x20_0000, 0x2b));
+    holds(&rt, ended.told == 0x11);
+}
+
+// The one on the calling thread comes after the cancel, and so doesn't arrive.
+#[test]
+fn two_leave(rt: HostRuntime) {
+    let ended = some(&rt, both(&rt, rt.alloc(), false));
+    holds(&rt, has_left(&ended.first, 0x10_0000));
+    holds(&rt, has_left(&ended.other, 0x20_0000));
+    holds(&rt, ended.told | 0x10 == 0x10);
 }

@@ -9,6 +9,10 @@ const GREATEST_CPU: u64 = 15;
 // No file has more pairs.
 const MOST_PAIRS: u64 = 32;
 
+const DUMPS: &str = "Dumps, as mtrr reads them; - is standard input";
+
+const OLD_AND_NEW: &str = "The old and the new dump, or one with --cpus; - is standard input";
+
 /// What the words of a command line ask for.
 #[derive(Clone, Copy, Debug, PartialEq, Eq)]
 pub enum Question {
@@ -24,42 +28,38 @@ pub enum Question {
     DiffCpus { old: u32, new: u32 },
 }
 
-fn files_arg<'a>(alloc: Global) -> Arg<'a> {
+fn files_arg<'a>(alloc: Global, help: &'static str) -> Arg<'a> {
     Arg::new(alloc, "FILE")
         .required(true)
         .num_args(1..)
         .action(ArgAction::Append)
-        .help("Dumps as mtrr reads them; - is standard input")
+        .help(help)
 }
 
 fn json_arg<'a>(alloc: Global) -> Arg<'a> {
     Arg::new(alloc, "json")
         .long("json")
         .action(ArgAction::SetTrue)
-        .help("Writes one JSON object for each answer")
+        .help("Print one JSON object for each answer")
 }
 
 fn faults_command<'a>(alloc: Global) -> Result<Command<'a>, AllocError> {
     Command::new(alloc, "faults")
-        .about(
-            "Every fault of the registers, what would be lawful, and where pairs meet with no defined type",
-        )
+        .about("Print every fault of the registers, and the pages with no defined type")
         .arg(json_arg(alloc))?
-        .arg(files_arg(alloc))
+        .arg(files_arg(alloc, DUMPS))
 }
 
 fn page_command<'a>(alloc: Global) -> Result<Command<'a>, AllocError> {
     let address = Arg::new(alloc, "ADDR")
         .required(true)
         .action(ArgAction::Set)
-        .help("An address in hexadecimal digits");
+        .help("A physical address, in hexadecimal");
     Command::new(alloc, "page")
-        .about(
-            "The type of the page of an address, the rule and the registers that give it, and the types in effect",
-        )
+        .about("Print the types of one page, and the rule and registers that give them")
         .arg(json_arg(alloc))?
         .arg(address)?
-        .arg(files_arg(alloc))
+        .arg(files_arg(alloc, DUMPS))
 }
 
 fn diff_command<'a>(alloc: Global) -> Result<Command<'a>, AllocError> {
@@ -68,14 +68,12 @@ fn diff_command<'a>(alloc: Global) -> Result<Command<'a>, AllocError> {
         .num_args(2)
         .value_name("CPU")
         .action(ArgAction::Append)
-        .help("Compares these two processors of one dump");
+        .help("Compare two processors of one dump");
     Command::new(alloc, "diff")
-        .about(
-            "The registers and the types of pages that differ between two dumps, or between two processors of one",
-        )
+        .about("Print what differs between two dumps, or between two processors of one")
         .arg(json_arg(alloc))?
         .arg(cpus)?
-        .arg(files_arg(alloc))
+        .arg(files_arg(alloc, OLD_AND_NEW))
 }
 
 fn fit_command<'a>(alloc: Global) -> Result<Command<'a>, AllocError> {
@@ -83,14 +81,14 @@ fn fit_command<'a>(alloc: Global) -> Result<Command<'a>, AllocError> {
         .long("spare")
         .value_name("N")
         .action(ArgAction::Set)
-        .help("So many pairs are to stay free, 0 to 32");
+        .help("Leave N pairs free, 0 to 32; by default 0");
     Command::new(alloc, "fit")
         .about(
-            "How many pairs the types of processor 0 need by chunk size, and the command of mtrr that finds the registers",
+            "Print how many pairs processor 0's types need, and the mtrr command that finds them",
         )
         .arg(json_arg(alloc))?
         .arg(spare)?
-        .arg(files_arg(alloc))
+        .arg(files_arg(alloc, DUMPS))
 }
 
 /// The command line.
@@ -98,9 +96,12 @@ pub fn command<'a>(alloc: Global) -> Result<Command<'a>, AllocError> {
     Command::new(alloc, "mtrr-explain")
         .bin_name("mtrr-explain")?
         .version("1.0.0")
-        .about("Explains the memory types that dumps of range registers give")
+        .about("Explains dumps of the memory type registers of x86 processors")
         .after_help(
-            "Exit status: 0 if nothing was found, 1 if there are faults or differences or too few pairs, 2 if there is trouble.",
+            "Exit status:
+  0  no fault, no difference, and enough pairs
+  1  a fault, a difference, a page with no defined type, or too few pairs
+  2  wrong usage, or a file without an answer: standard error says why",
         )
         .subcommand_required(true)
         .arg_required_else_help(true)
@@ -114,14 +115,14 @@ fn page_question(matches: &ArgMatches<'_>) -> Result<Question> {
     let word = matches.get_str("ADDR").unwrap_or("");
     match hex64(word.as_bytes()) {
         Ok(address) => Ok(Question::Page { address }),
-        Err(_) => bail!("no address of at most 16 hexadecimal digits: {word}"),
+        Err(_) => bail!("no hexadecimal address of 1 to 16 digits: {word}"),
     }
 }
 
 fn cpu_number(word: &str) -> Result<u32> {
     match decimal(word.as_bytes(), GREATEST_CPU) {
         Ok(number) => Ok(number as u32),
-        Err(_) => bail!("no processor's number from 0 to 15: {word}"),
+        Err(_) => bail!("no processor from 0 to 15: {word}"),
     }
 }
 
@@ -132,7 +133,7 @@ fn diff_question(matches: &ArgMatches<'_>) -> Result<Question> {
             old: cpu_number(*old)?,
             new: cpu_number(*new)?,
         }),
-        Some(_) => bail!("--cpus stands once"),
+        Some(_) => bail!("--cpus is given twice"),
     }
 }
 

@@ -1,5 +1,5 @@
 /** @file
-  Asks libmtrr-kernel.a for the first fault of the range registers that MtrrLib reads.
+  Asks libmtrr-kernel.a for the first fault of the range registers that MtrrLib reads, and for their fewest pairs.
 **/
 #include <Uefi.h>
 #include <Library/BaseLib.h>
@@ -10,8 +10,11 @@
 #include "mtrr.h"
 
 #define CPUID_ADDRESS_SIZES  0x80000008
+#define ANY_CHUNK            (1ull << 52)
 
 STATIC struct mtrr_registers  mRegisters;
+STATIC struct mtrr_registers  mTidied;
+STATIC struct mtrr_work       mWork;
 
 /** Fills in the library's struct by MtrrLib, CPUID and the PAT. **/
 STATIC
@@ -41,6 +44,20 @@ ReadRegisters (
   }
 }
 
+/** Says how many pairs are enough for registers without a fault. **/
+STATIC
+VOID
+SayPairs (
+  IN CONST struct mtrr_registers  *Registers
+  )
+{
+  struct mtrr_need  Need;
+
+  if (mtrr_tidy (Registers, 0, ANY_CHUNK, &mWork, &mTidied, &Need) == MTRR_DONE) {
+    DEBUG ((DEBUG_INFO, "MTRRs: %lu of %lu pairs are enough\n", Need.needs, Need.has));
+  }
+}
+
 EFI_STATUS
 EFIAPI
 MtrrCheckEntryPoint (
@@ -54,6 +71,7 @@ MtrrCheckEntryPoint (
   switch (mtrr_first_fault (&mRegisters, &Fault)) {
     case MTRR_DONE:
       DEBUG ((DEBUG_INFO, "MTRRs: no fault\n"));
+      SayPairs (&mRegisters);
       break;
     case MTRR_FAULT:
       DEBUG ((DEBUG_ERROR, "MTRRs: register %x is at fault: %u\n", Fault.number, Fault.reason));

@@ -14,14 +14,14 @@ use mt_ports::Gate;
 
 // That the gate is to be told of an arrival. `YardPass::arrive` alone makes one, by the number of a pass that has added to
 // the first count, and no pass adds twice. It can't be copied, and only `tell` takes it apart.
-pub(crate) struct Arrival {
+pub(super) struct Arrival {
     number: u32,
 }
 
 // That the caller's gate was told of an arrival: `Arrival::tell` alone makes one. No pass that has added leaves the first
 // barrier without one of its number (`YardPass::wait_first`).
 #[derive(Drop)]
-pub(crate) struct Heard {
+pub(super) struct Heard {
     number: u32,
 }
 
@@ -39,7 +39,7 @@ impl Arrival {
     }
 
     // Tells the caller's gate, once.
-    pub(crate) fn tell<R, G: Gate>(self, caller: &Caller<R, G>) -> Heard
+    pub(super) fn tell<R, G: Gate>(self, caller: &Caller<R, G>) -> Heard
         ensures { result.number ≡ self.number }
     {
         let Arrival { number } = self;
@@ -52,7 +52,7 @@ impl YardPass {
     ghost use Rattle.mt_private.specs.InYard.{KeepsVisit, VisitsIn};
 
     // Adds to the first count: the event Arrive, or none where it held the cancel before.
-    pub(crate) fn arrive(&mut self, yard: &Yard, core: &mut Core) -> Arrival
+    pub(super) fn arrive(&mut self, yard: &Yard, core: &mut Core) -> Arrival
         requires visits { (first : MachineSystem) × VisitsIn yard.now self.old core.old false false Pending first }
         requires taken { AreIn Taken core.old.system }
         ensures number { self.new.number ≡ self.old.number }

@@ -7,7 +7,8 @@ ghost use Rattle.mt_machine.specs.Bus.{drain};
 ghost use Rattle.mt_machine.specs.System.{System as MachineSystem};
 ghost use Rattle.mt_private.specs.YardCalls.{AreIn, HasTaken, done_in, in_phase};
 
-use crate::caller::{Caller, Heard};
+use super::arrival::Heard;
+use crate::caller::Caller;
 use crate::host::{CANCEL, Yard};
 use crate::view::YardTurn;
 use crate::visiting::YardPass;
@@ -20,7 +21,7 @@ impl YardPass {
 
     // Waits for the others, once the gate was told of the arrival. The load of the first count that ends it is the event
     // Pass, and the answer is true, or Leave. Each load before it is none.
-    pub(crate) fn wait_first<R: Wait, G>(
+    pub(super) fn wait_first<R: Wait, G>(
         &mut self,
         caller: &Caller<R, G>,
         _heard: Heard,
@@ -57,7 +58,7 @@ impl YardPass {
 
     // Waits for the others again. The load of the second count that ends it is the event Release. Each load before it
     // is none.
-    pub(crate) fn wait_second<R: Wait, G>(
+    pub(super) fn wait_second<R: Wait, G>(
         &mut self,
         caller: &Caller<R, G>,
         yard: &Yard,

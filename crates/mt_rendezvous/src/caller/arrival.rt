@@ -14,14 +14,14 @@ use mt_ports::Gate;
 
 // That the gate is to be told of an arrival. `Pass::arrive` alone makes one, by the number of a pass that has added to the
 // first count, and no pass adds twice. It can't be copied, and only `tell` takes it apart.
-pub(crate) struct Arrival {
+pub(super) struct Arrival {
     number: u32,
 }
 
 // That the caller's gate was told of an arrival: `Arrival::tell` alone makes one. No pass leaves the first barrier without
 // one of its number (`Pass::wait_first`).
 #[derive(Drop)]
-pub(crate) struct Heard {
+pub(super) struct Heard {
     number: u32,
 }
 
@@ -37,7 +37,7 @@ impl Arrival {
     }
 
     // Tells the caller's gate, once.
-    pub(crate) fn tell<R, G: Gate>(self, caller: &Caller<R, G>) -> Heard
+    pub(super) fn tell<R, G: Gate>(self, caller: &Caller<R, G>) -> Heard
         ensures { result.number ≡ self.number }
     {
         let Arrival { number } = self;
@@ -50,7 +50,7 @@ impl Pass {
     ghost use Rattle.mt_rendezvous.specs.InStation.{CarriesIn, start_at};
 
     // Adds to word 0: the event Arrive, or none where the word held the cancel before.
-    pub(crate) fn arrive(&mut self, station: &Station, cpu: &mut Cpu) -> Arrival
+    pub(super) fn arrive(&mut self, station: &Station, cpu: &mut Cpu) -> Arrival
         requires carries { CarriesIn station.now self.old cpu.old false false }
         requires taken { cpu.old.phase ≡ Taken }
         ensures carries { CarriesIn station.now self.new cpu.new true false }

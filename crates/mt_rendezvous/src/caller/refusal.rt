@@ -1,25 +1,31 @@
-// Whether a thread may be started, and why an update isn't done on threads.
-ghost use Rattle.std.specs.Prelude.{◌≡◌, ◌<◌, ◌≤◌, [], IfErr, IfOk, vec_capacity, vec_len};
-ghost use Rattle.mt_rendezvous.specs.Station.{Begins};
-ghost use Rattle.mt_rendezvous.specs.Calls.{gathered};
-ghost use Rattle.mt_rendezvous.specs.InStation.{IsGatheredIn};
+// Whether a thread is started, and why an update isn't done on threads.
+ghost use Rattle.std.specs.Prelude.{◌≡◌, IfErr, IfOk};
+ghost use Rattle.std.specs.Thread.{IsSync};
+ghost use Rattle.mt_machine.specs.declared.go.Go.TheVariants.{Cancelled, Pending};
+ghost use Rattle.mt_rendezvous.specs.Update.{AreOf};
+ghost use Rattle.mt_rendezvous.specs.InStation.{CameAsIn, CameIn, IsReadyIn, IsRootIn, LeadsIn, goal_at, start_at, windows_at};
 
 use crate::caller::Caller;
-use crate::station::{Attendee, Pass, Root, Station};
-use mt_cpu::Cpu;
+use crate::station::{Attendee, Root, Station};
 use mt_ports::Gate;
 use mt_ram::Ram;
 use mt_regs::RegFile;
-use std::alloc::Global;
 use std::snapshot::Snapshot;
-use std::thread::{Promise, SpawnError};
+use std::sync::Wait;
+use std::thread::{Promise, PromisedHandle, Scope, Threads};
 
-// That the caller's gate lets the thread of a pass's processor start. It can't be copied, so one answer starts one thread.
-pub(crate) struct Permit {
-    number: u64,
+mod memory;
+
+pub(crate) use memory::{boxed, open, room};
+
+// That a start, a thread or memory was refused. Only this module and `memory` make one: they ask the caller's gate, start
+// the threads and ask the allocator themselves. It has no bytes, and can't be copied or let go. Whoever has one hands it
+// on, and `spend` takes it.
+pub(crate) struct Refusal {
+    made: (),
 }
 
-// What the thread of a processor promises: the processor comes back, and runs. A permit alone makes one.
+// What the thread of a processor promises: the processor comes back, and runs. `start` alone makes one.
 #[derive(Drop)]
 pub(crate) struct Attends {
     station: Snapshot<Station>,
@@ -32,44 +38,26 @@ impl Promise<Box<Attendee>> for Attends {
     ghost kept_by = { λ p a. CameAsIn p.station.value p.number a.value };
 }
 
-impl Permit {
-    // Asks the caller's gate whether the thread of the pass's processor may be started.
-    pub(crate) fn ask<R, G: Gate>(caller: &Caller<R, G>, pass: &Pass) -> Result<Permit, Refusal>
-        ensures { IfOk result (λ permit. permit.number ≡ pass.now.number) }
-    {
-        if caller.gate.may_start(pass.processor()) {
-            Ok(Permit {
-                number: pass.number,
-            })
-        } else {
-            Err(Refusal { made: () })
-        }
-    }
-
-    // Spends it for the promise of the thread that is started.
-    pub(crate) fn attends(self, station: &Station) -> Attends
-        ensures station { result.station.value ≡ station.now }
-        ensures number { result.number ≡ self.number }
-    {
-        let Permit { number } = self;
-        Attends {
-            station: Snapshot::of(station),
-            number,
-        }
-    }
-}
-
-// That a start, a thread or memory was refused. This module alone makes one: it asks the caller's gate and the allocator
-// itself, and takes the error of a thread that wasn't started. It has no bytes, and can't be copied or let go. Whoever has
-// one hands it on, and `lead_alone` spends it.
-pub(crate) struct Refusal {
-    made: (),
-}
-
 impl Refusal {
-    // A thread wasn't started.
-    pub(crate) fn of_thread<F>(_failed: &SpawnError<F>) -> Refusal {
-        Refusal { made: () }
+    // Takes the attendee out of the update on this thread, where the root has cancelled.
+    pub(crate) fn leave<R: Wait, G: Gate>(
+        &self,
+        caller: &Caller<R, G>,
+        station: &Station,
+        ram: &Ram,
+        _root: &Root,
+        a: &mut Attendee,
+        goal: &RegFile,
+    )
+        requires root { IsRootIn station.now _root.now }
+        requires cancelled { _root.now.seat.me.0.go ≡ Cancelled }
+        requires ready { IsReadyIn station.now a.old }
+        requires goal { goal.now ≡ goal_at station.now }
+        requires windows { ram.now.windows ≡ windows_at station.now }
+        ensures came { CameIn station.now a.new }
+        ensures number { a.new.pass.number ≡ a.old.pass.number }
+    {
+        attend_whole(caller, station, ram, a, goal);
     }
 
     // The update is done without threads.
@@ -78,44 +66,71 @@ impl Refusal {
     }
 }
 
-// Asks for a block for the attendee, which comes back where there is none.
-#[inline(always)]
-pub(crate) fn boxed(alloc: Global, a: Attendee) -> Result<Box<Attendee>, (Attendee, Refusal)>
-    ensures ok { IfOk result (λ b. b.value ≡ a) }
-    ensures refused { IfErr result (λ e. e.0 ≡ a) }
-{
-    match Box::new(alloc, a) {
-        Ok(block) => Ok(block),
-        Err(failed) => Err((failed.value, Refusal { made: () })),
-    }
-}
-
-// Asks for room for as many processors as these.
-pub(crate) fn room(alloc: Global, cpus: &Vec<Cpu>) -> Result<Vec<Cpu>, Refusal>
-    ensures empty { IfOk result (λ v. v.items ≡ []) }
-    ensures room { IfOk result (λ v. vec_len cpus.now ≤ vec_capacity v) }
-{
-    match Vec::with_capacity(alloc, cpus.len()) {
-        Ok(room) => Ok(room),
-        Err(_) => Err(Refusal { made: () }),
-    }
-}
-
-// Asks for a station of these processors, which come back where there is no memory for it.
-pub(crate) fn gather_station(
-    alloc: Global,
-    cpus: Vec<Cpu>,
+// Takes the attendee through the update, or out of it.
+fn attend_whole<R: Wait, G: Gate>(
+    caller: &Caller<R, G>,
+    station: &Station,
     ram: &Ram,
+    a: &mut Attendee,
     goal: &RegFile,
-) -> Result<(Station, Root, Vec<Attendee>), (Vec<Cpu>, Refusal)>
-    requires some { 0 < vec_len cpus }
-    requires few { vec_len cpus ≤ 16 }
-    requires begins { Begins (gathered cpus.items ram.now goal.now) }
-    ensures gathered { IfOk result (λ t. IsGatheredIn (gathered cpus.items ram.now goal.now) t.0 t.1 t.2.items) }
-    ensures refused { IfErr result (λ e. e.0.items ≡ cpus.items) }
+)
+    requires ready { IsReadyIn station.now a.old }
+    requires goal { goal.now ≡ goal_at station.now }
+    requires windows { ram.now.windows ≡ windows_at station.now }
+    ensures came { CameIn station.now a.new }
+    ensures number { a.new.pass.number ≡ a.old.pass.number }
 {
-    match Station::gather(alloc, cpus, ram, goal) {
-        Ok(made) => Ok(made),
-        Err(cpus) => Err((cpus, Refusal { made: () })),
+    a.pass.go_through(caller, station, ram, goal, &mut a.cpu);
+}
+
+// Asks the caller's gate about the attendee, once, and starts its thread if the gate lets it. If none is started, the
+// root cancels. The attendee then leaves, and comes back with the refusal.
+pub(crate) fn start<'s, E, R: Threads + Wait + Sync, G: Gate>(
+    caller: &'s Caller<R, G>,
+    scope: &Scope<'s, E>,
+    station: &'s Station,
+    ram: &'s Ram,
+    root: &mut Root,
+    mut a: Box<Attendee>,
+    goal: &'s RegFile,
+) -> Result<PromisedHandle<Box<Attendee>, Attends>, (Box<Attendee>, Refusal)>
+    requires root { LeadsIn station.now root.old Pending }
+    requires ready { IsReadyIn station.now a.value }
+    requires goal { goal.now ≡ goal_at station.now }
+    requires windows { ram.now.windows ≡ windows_at station.now }
+    ensures held { root.new.seat.me.0.held ≡ root.old.seat.me.0.held }
+    ensures pending { IfOk result (λ h. LeadsIn station.now root.new Pending) }
+    ensures child { IfOk result (λ h. (h.promise.station.value ≡ station.now) × (h.promise.number ≡ a.value.pass.number)) }
+    ensures cancelled { IfErr result (λ e. LeadsIn station.now root.new Cancelled) }
+    ensures came { IfErr result (λ e. CameAsIn station.now a.value.pass.number e.0.value) }
+{
+    if !caller.gate.may_start(a.pass.processor()) {
+        let refusal = Refusal { made: () };
+        root.cancel(station);
+        refusal.leave(caller, station, ram, root, &mut a, goal);
+        return Err((a, refusal));
+    }
+    let promise = Attends {
+        station: Snapshot::of(station),
+        number: a.pass.number,
+    };
+    match scope.spawn_with(
+        promise,
+        move || -> Box<Attendee>
+            requires shared { IsSync R.row }
+            requires ready { IsReadyIn station.now a.value }
+            requires same { AreOf (start_at station.now) goal.now ram.now.windows }
+            ensures { CameAsIn station.entry.now a.value.pass.number result.value }
+        {
+            let mut a = a;
+            attend_whole(caller, station, ram, &mut a, goal);
+            a
+        },
+    ) {
+        Ok(child) => Ok(child),
+        Err(failed) => {
+            root.cancel(station);
+            Err(((failed.value)(), Refusal { made: () }))
+        }
     }
 }

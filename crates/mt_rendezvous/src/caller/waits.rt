@@ -8,7 +8,8 @@ ghost use Rattle.mt_rendezvous.specs.Station.{Begins};
 ghost use Rattle.mt_rendezvous.specs.Plays.{IsWaiting, Took};
 ghost use Rattle.mt_rendezvous.specs.Calls.{Waited};
 
-use crate::caller::{Caller, Heard};
+use super::arrival::Heard;
+use crate::caller::Caller;
 use crate::station::{CANCEL, Pass, Station};
 use crate::view::Turn;
 use mt_cpu::Cpu;
@@ -21,7 +22,7 @@ impl Pass {
 
     // Waits for the others, once the gate was told of the arrival. The load of word 0 that ends it is the event Pass, and
     // the answer is true, or Leave. Each load before it is none.
-    pub(crate) fn wait_first<R: Wait, G>(
+    pub(super) fn wait_first<R: Wait, G>(
         &mut self,
         caller: &Caller<R, G>,
         _heard: Heard,
@@ -52,7 +53,7 @@ impl Pass {
     }
 
     // Waits for the others again. The load of word 1 that ends it is the event Release. Each load before it is none.
-    pub(crate) fn wait_second<R: Wait, G>(
+    pub(super) fn wait_second<R: Wait, G>(
         &mut self,
         caller: &Caller<R, G>,
         station: &Station,

@@ -1,8 +1,8 @@
 -- What is left where a processor comes up, joins or goes.
-use Rattle.std.proofs.Common.{◌≡◌, ◌∙◌, ap, sym, refl, arith, ℕ, ◌+◌, ◌<◌, ◌≤◌, Bool, true, false, if◌then◌else◌, nat_lt, length, Option, None, Some, inl}
-use Rattle.std.specs.Prelude.{◌&&◌, is_some, not}
+use Rattle.std.proofs.Common.{◌≡◌, ◌∙◌, ap, sym, subst, refl, arith, ℕ, ◌+◌, ◌<◌, ◌≤◌, Bool, true, false, if◌then◌else◌, nat_lt, length, Option, None, Some, inl}
+use Rattle.std.specs.Prelude.{◌&&◌, IsSome, is_some, not}
 use Rattle.std.specs.List.{All}
-use Rattle.std.proofs.lemmas.Bool.{and_parts, ltb-true}
+use Rattle.std.proofs.lemmas.Bool.{and_parts, ltb-false, ltb-true}
 use Rattle.mt_regs.specs.RegisterFile.{RegisterFile}
 use Rattle.mt_machine.specs.Memory.{Memory}
 use Rattle.mt_machine.specs.Machine.{Calls, FitsGoal, Machine, Order, at_start}
@@ -34,6 +34,17 @@ idle_to_come m h = idle m.order (nat_lt (length m.system.processors) 16) h
 
 pub idle_to_go : (m : Machine) → may_go m ≡ true → m.order ≡ None
 idle_to_go m h = idle m.order (nat_lt 1 (length m.system.processors)) h
+
+pub may_come_by : (m : Machine) → (IsSome m.order → ⊥) → ((m.order ≡ None) × (length m.system.processors ≡ 16) → ⊥) → length m.system.processors ≤ 16 → may_come m ≡ true
+may_come_by m still few most = by m.order refl
+  where
+    room : m.order ≡ None → (b : Bool) → nat_lt (length m.system.processors) 16 ≡ b → b ≡ true
+    room none true is = refl
+    room none false is = let full = ltb-false (length m.system.processors) 16 is in absurd (few (none, omega arith))
+
+    by : (o : Option Order) → m.order ≡ o → may_come m ≡ true
+    by None is = ap (λ (o : Option Order). not (is_some o) && nat_lt (length m.system.processors) 16) is ∙ room is (nat_lt (length m.system.processors) 16) refl
+    by (Some o) is = absurd (still (subst IsSome (sym is) refl))
 
 pub few_to_come : (m : Machine) → may_come m ≡ true → length m.system.processors < 16
 few_to_come m h = ltb-true (length m.system.processors) 16 (and_parts (not (is_some m.order)) (nat_lt (length m.system.processors) 16) h).1

@@ -1,4 +1,4 @@
-use Rattle.std.proofs.Common.{◌+◌, ◌*◌, ◌%◌, ap, arith, sym, ℕ, if◌then◌else◌, Option, None, Some}
+use Rattle.std.proofs.Common.{ap, arith, sym, ℕ, if◌then◌else◌, Option, None, Some}
 use Rattle.std.specs.Prelude.{is_some}
 use Rattle.mt_machine.specs.Access.{physical}
 use Rattle.mt_judge.proofs.Places.{nowhere}

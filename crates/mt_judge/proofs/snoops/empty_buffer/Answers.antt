@@ -1,5 +1,4 @@
 use Rattle.std.proofs.Common.{◌∙◌, ap}
-use Rattle.mt_cache.specs.Lines.{without_line}
 use Rattle.mt_machine.specs.Memory.{Memory, write_back}
 use Rattle.mt_machine.specs.System.{System}
 use Rattle.mt_machine.specs.Bus.{invalidate}

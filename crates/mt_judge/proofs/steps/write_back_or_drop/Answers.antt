@@ -1,6 +1,5 @@
 use Rattle.std.proofs.Common.{◌∙◌, ◌^◌, ap, nat_lt, sym}
 use Rattle.std.specs.Prelude.{is_some}
-use Rattle.std.specs.List.{find}
 use Rattle.std.proofs.lemmas.Bool.{ltb-true}
 use Rattle.mt_cache.specs.declared.line.CacheLine.{CacheLine}
 use Rattle.mt_cache.specs.Lines.{first_dirty_line, first_dirty_word}

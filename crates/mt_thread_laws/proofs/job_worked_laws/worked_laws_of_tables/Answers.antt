@@ -1,8 +1,9 @@
-use Rattle.std.proofs.Common.{◌≡◌, ◌+◌, List, ◌∷◌, [], None, Some, ap, arith, false, inl, length, refl, subst, sym, ⊎_elim}
+use Rattle.std.proofs.Common.{◌≡◌, ◌+◌, List, ◌∷◌, [], None, Some, ap, arith, false, inl, length, refl, subst, sym, true, ⊎_elim}
 use mathlib.Core.Option.{none, some}
 use lib.ListN.{get_elem?}
 use Rattle.atomic_table.specs.Table.{carried_after, step}
 use Rattle.mt_machine.specs.declared.event.Event.TheVariants.{Take}
+use Rattle.mt_machine.specs.declared.phase.Phase.TheVariants.{Running}
 use Rattle.mt_machine.specs.declared.go.Go.{Go}
 use Rattle.mt_machine.specs.declared.go.Go.TheVariants.{Given, Pending}
 use Rattle.mt_machine.specs.Machine.{Goes, Steps, common_era}
@@ -11,13 +12,13 @@ use Rattle.mt_rendezvous.specs.declared.view.Start.{Start}
 use Rattle.mt_rendezvous.specs.Station.{start_of}
 use Rattle.mt_private.specs.declared.view.Resident.{Resident}
 use Rattle.mt_private.specs.Residents.{Follows, Opens, Yard}
-use Rattle.mt_thread_laws.specs.WorkedWay.{last_pass, released, settled}
+use Rattle.mt_thread_laws.specs.WorkedWay.{guest, left, lone_pass, released, settled}
 use Rattle.mt_thread_laws.specs.WorkedYard.{first_lodged, first_state, first_taken, lodging, no_counts, split_state}
 use Rattle.mt_private.specs.YardLaws.{IsLoad}
 use Rattle.mt_private.specs.YardPlays.{YardSat}
 use Rattle.mt_private.specs.YardRule.{MeetsYard, as_view, first_yard_view, one_of, residents, yard_left, yard_right}
 use Rattle.mt_thread_laws.proofs.Lodged.{opened_lodging, opens_lodging, second_lodged, zeros}
-use Rattle.mt_thread_laws.proofs.LoneSeats.{settled_meets}
+use Rattle.mt_thread_laws.proofs.LoneSeats.{left_meets, settled_meets}
 use Rattle.mt_private.proofs.Residents.Decisions.{gives}
 use Rattle.mt_private.proofs.Residents.Plays.{takes_yard}
 use Rattle.mt_private.proofs.Residents.Seats.{splits}
@@ -101,11 +102,17 @@ returns-clause-shown c = λ law key is.
 pub returns-clause-released : goal.returns-clause-released
 returns-clause-released c = λ law key is.
     let m = settled_meets key is in
-    (m, (law key (settled key) m 1 (last_pass (start_of key)) released refl refl refl refl).0)
+    (m, (law key (settled key) m 1 (lone_pass (start_of key) (Some 1) false released) released refl refl refl refl).0)
+
+pub returns-clause-left : goal.returns-clause-left
+returns-clause-left c = λ law key is.
+    let m = left_meets key is in
+    let told = law key (left key) m 1 (lone_pass (start_of key) None true (guest Running true)) (guest Running true) refl refl refl refl refl in
+    (m, told.0, told.1)
 
 pub returns-clause-settles : goal.returns-clause-settles
 returns-clause-settles c = λ law key is.
     let m = settled_meets key is in (
       m,
-      law key (settled key) m 0 released (m.same 1 (last_pass (start_of key)) refl 0 released refl) (ap (λ (t : Start). common_era t.cpus + 1) (sym is)),
+      law key (settled key) m 0 released (m.same 1 (lone_pass (start_of key) (Some 1) false released) refl 0 released refl) (ap (λ (t : Start). common_era t.cpus + 1) (sym is)),
     )

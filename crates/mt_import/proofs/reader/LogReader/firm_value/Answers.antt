@@ -3,7 +3,7 @@ use Rattle.mt_import.specs.Outcome.{firm_of}
 use Rattle.mt_import.specs.Reader.{slots_of}
 use Rattle.mt_import.specs.Slot.{whole_value}
 use Rattle.mt_import.specs.Supplied.{supplied_value}
-use Rattle.mt_import.specs.Values.{disabled_value, or_supplied}
+use Rattle.mt_import.specs.Values.{or_supplied}
 use Rattle.mt_import.proofs.reader.LogReader.firm_value.Goals as goal
 
 pub returns : goal.returns

@@ -1,7 +1,7 @@
 use Rattle.std.proofs.Common.{◌∙◌, ap}
 use Rattle.mt_import.specs.Outcome.{firm_of, values_of}
 use Rattle.mt_import.specs.Reader.{slots_of}
-use Rattle.mt_import.specs.Values.{assumed_value, firm_value, or_supplied}
+use Rattle.mt_import.specs.Values.{assumed_of, assumed_value, firm_value, or_supplied}
 use Rattle.mt_import.proofs.reader.LogReader.value.Goals as goal
 
 pub returns : goal.returns
@@ -11,6 +11,7 @@ returns c =
     c.or_supplied.ensures
     ∙ ap (λ a. or_supplied a c.assumed_value.result) c.firm_value.ensures
     ∙ ap (or_supplied (firm_value c.args.supplied.now slots c.args.number)) (
-    c.assumed_value.ensures ∙ ap (λ a. assumed_value a slots c.width-width.result c.args.number) c.assumed.ensures
-    ∙ ap (λ w. assumed_value c.args.supplied.now.assumed slots w c.args.number) c.width-width.ensures.width
+    c.assumed_value.ensures
+    ∙ ap (λ a. assumed_value a slots (record { width = c.width-width.result; format = c.args.self.now.tally.format }) c.args.number) (c.assumed_of-assumed.ensures ∙ ap (assumed_of c.args.k) c.assumed.ensures)
+    ∙ ap (λ w. assumed_value (assumed_of c.args.k c.args.supplied.now.assumed) slots (record { width = w; format = c.args.self.now.tally.format }) c.args.number) c.width-width.ensures.width
     )

@@ -1,0 +1,231 @@
+-- What a line of coreboot's display is read as.
+use Rattle.std.proofs.Common.{◌≡◌, ◌∙◌, ◌+◌, ◌-◌, ◌*◌, ◌^◌, ◌<◌, ◌≤◌, ◌==◌, ◌&&◌, not, nat_lt, ℕ, zero, suc, Bool, true, false, List, [], ◌∷◌, ◌++◌, length, Option, Some, None, refl, ap, subst, arith, lit≤, length-append, codes, decimal, inl, inr}
+use Rattle.std.specs.Fmt.{digits}
+use Rattle.std.specs.List.{list_all}
+use Rattle.std.proofs.lemmas.Bool.{and_parts, cases_lt, eqb-true}
+use Rattle.std.proofs.lemmas.Bool.Decides.{nat_tests}
+use Rattle.std.proofs.Math.Seq.{drop-append_seam, take-append_seam}
+use Rattle.hex.specs.Hex.{lower_digits}
+use Rattle.hex.proofs.HexLemmas.{IsDigits-lower_digits}
+use Rattle.mt_kinds.specs.Bits.{is_bit_set}
+use Rattle.mt_text.specs.Text.{goes_on, is_word_byte, words_of}
+use Rattle.mt_text.specs.Words.{place_of}
+use Rattle.mt_text.specs.declared.place.Place.{Place}
+use Rattle.mt_text.proofs.Plain.{is_plain}
+use Rattle.mt_regs.specs.declared.registers.Register.TheVariants.{PhysBase, PhysMask, FixedRange, Pat, DefaultType}
+use Rattle.mt_regs.specs.RegisterFile.{RegisterFile, pair_at}
+use Rattle.mt_dump.specs.Canon.{value_text}
+use Rattle.mt_import.specs.declared.format.Format.TheVariants.{Coreboot}
+use Rattle.mt_import.specs.Coreboot.{colon_number, coreboot_said, level_words, of_pair, pair_digits, register_named, said_from}
+use Rattle.mt_import.specs.Pieces.{before, shows_one}
+use Rattle.mt_import.specs.Shown.{said_of, said_or_sizes}
+use Rattle.mt_import_laws.specs.Printed.{Key, number_at}
+use Rattle.mt_import_laws.specs.PrintedByCoreboot.{colon_if, display_line, is_tail_byte, name_of, number_word}
+use Rattle.mt_import_laws.proofs.PrintedDigits.{sixteen_all, sixteen_long, sixteen_read}
+use Rattle.mt_import_laws.proofs.LineWords.{AreWords, IsWord, all_append, digits_are_word, length_of_pieces, pieces_plain, placed, word_append, words_of_pieces}
+use Rattle.mt_import_laws.proofs.Keys.{IsKey}
+
+-- ---- the value
+
+long : (value : ℕ) → length (value_text value) ≡ 16
+long value = sixteen_long lower_digits IsDigits-lower_digits value
+
+value_word : (value : ℕ) → IsWord (value_text value)
+value_word value = let size = long value in digits_are_word (value_text value) (omega (arith, size)) (sixteen_all lower_digits IsDigits-lower_digits value)
+
+before_colon : (xs : List ℕ) → before (codes ":") (xs ++ 58 ∷ []) ≡ Some xs
+before_colon xs =
+    let size = length-append xs (58 ∷ []) in
+    let count : length (xs ++ 58 ∷ []) - 1 ≡ length xs = omega (arith, size) in
+    rw (count, drop-append_seam xs (58 ∷ []), take-append_seam xs (58 ∷ [])) refl
+
+number_read : (value : ℕ) → value < 2 ^ 64 → colon_number (number_word value) ≡ Some value
+number_read value fits = rw (before_colon (48 ∷ 120 ∷ value_text value), sixteen_read lower_digits IsDigits-lower_digits value fits) refl
+
+-- ---- the name
+
+-- each number below one passes a test
+abbrev all_below : (ℕ → Bool) → ℕ → Bool
+all_below test zero = true
+all_below test (suc n) = test n && all_below test n
+
+passes : (test : ℕ → Bool) (n k : ℕ) → all_below test n ≡ true → k < n → test k ≡ true
+passes test zero k all less = absurd (omega (arith, less))
+passes test (suc n) k all less =
+    let parts = and_parts (test n) (all_below test n) all in
+    elim (cases_lt k n) [
+      | inl below ↦ passes test n k parts.1 below
+      | inr top ↦ let e : n ≡ k = omega (arith, less, top) in subst (λ j. test j ≡ true) e parts.0
+    ]
+
+abbrev is_value : Option ℕ → ℕ → Bool
+is_value None value = false
+is_value (Some other) value = other == value
+
+some_value : (o : Option ℕ) (value : ℕ) → is_value o value ≡ true → o ≡ Some value
+some_value None value is = cc is
+some_value (Some other) value is = ap Some (eqb-true other value is)
+
+-- a pair's number, with and without a `:` behind it
+abbrev is_read : ℕ → ℕ → List ℕ → Bool
+is_read first n end = is_value (of_pair first (pair_digits (decimal n ++ end))) (first + 2 * n)
+
+abbrev are_bytes : ℕ → Bool
+are_bytes n = not (length (decimal n) == 0) && nat_lt (length (decimal n)) 3 && list_all is_word_byte (decimal n) && list_all is_plain (decimal n)
+
+abbrev pair_test : ℕ → Bool
+pair_test n = is_read 0x200 n (codes ":") && is_read 0x200 n [] && is_read 0x201 n (codes ":") && are_bytes n
+
+pub record IsPairName (n : ℕ) : Type 0 where
+  pub base : (valid : Bool) → of_pair 0x200 (pair_digits (decimal n ++ colon_if valid)) ≡ Some (0x200 + 2 * n)
+  pub mask : of_pair 0x201 (pair_digits (decimal n ++ codes ":")) ≡ Some (0x201 + 2 * n)
+  pub short : length (decimal n) < 3
+  pub words : list_all is_word_byte (decimal n) ≡ true
+  pub plain : list_all is_plain (decimal n) ≡ true
+
+pair_name : (n : ℕ) → n < 32 → IsPairName n
+unfolding digits
+pair_name n few =
+    let all = passes pair_test 32 n refl few in
+    let one = and_parts (is_read 0x200 n (codes ":") && is_read 0x200 n [] && is_read 0x201 n (codes ":")) (are_bytes n) all in
+    let two = and_parts (is_read 0x200 n (codes ":") && is_read 0x200 n []) (is_read 0x201 n (codes ":")) one.0 in
+    let three = and_parts (is_read 0x200 n (codes ":")) (is_read 0x200 n []) two.0 in
+    let four = and_parts (not (length (decimal n) == 0) && nat_lt (length (decimal n)) 3 && list_all is_word_byte (decimal n)) (list_all is_plain (decimal n)) one.1 in
+    let five = and_parts (not (length (decimal n) == 0) && nat_lt (length (decimal n)) 3) (list_all is_word_byte (decimal n)) four.0 in
+    let six = and_parts (not (length (decimal n) == 0)) (nat_lt (length (decimal n)) 3) five.0 in
+    record {
+      base = by three.0 three.1;
+      mask = some_value (of_pair 0x201 (pair_digits (decimal n ++ codes ":"))) (0x201 + 2 * n) two.1;
+      short = less (length (decimal n)) six.1;
+      words = five.1;
+      plain = four.1;
+    }
+  where
+    by : is_read 0x200 n (codes ":") ≡ true → is_read 0x200 n [] ≡ true → (valid : Bool) → of_pair 0x200 (pair_digits (decimal n ++ colon_if valid)) ≡ Some (0x200 + 2 * n)
+    by with_colon without true = some_value (of_pair 0x200 (pair_digits (decimal n ++ codes ":"))) (0x200 + 2 * n) with_colon
+    by with_colon without false = some_value (of_pair 0x200 (pair_digits (decimal n ++ []))) (0x200 + 2 * n) without
+
+    less : (size : ℕ) → nat_lt size 3 ≡ true → size < 3
+    less size is = grind (arith, nat_tests, is)
+
+pub record IsNamed (key : Key) (name : List ℕ) : Type 0 where
+  pub read : register_named name ≡ Some (number_at key)
+  pub word : IsWord name
+  pub short : length name ≤ 22
+
+fixed_named : (file : RegisterFile) (place : ℕ) → place < 11 → IsNamed (Some (FixedRange place)) (name_of file (Some (FixedRange place)))
+fixed_named file zero few = record { read = refl; word = (lit≤ tt, refl, refl); short = lit≤ tt }
+fixed_named file (suc zero) few = record { read = refl; word = (lit≤ tt, refl, refl); short = lit≤ tt }
+fixed_named file (suc (suc zero)) few = record { read = refl; word = (lit≤ tt, refl, refl); short = lit≤ tt }
+fixed_named file (suc (suc (suc zero))) few = record { read = refl; word = (lit≤ tt, refl, refl); short = lit≤ tt }
+fixed_named file (suc (suc (suc (suc zero)))) few = record { read = refl; word = (lit≤ tt, refl, refl); short = lit≤ tt }
+fixed_named file (suc (suc (suc (suc (suc zero))))) few = record { read = refl; word = (lit≤ tt, refl, refl); short = lit≤ tt }
+fixed_named file (suc (suc (suc (suc (suc (suc zero)))))) few = record { read = refl; word = (lit≤ tt, refl, refl); short = lit≤ tt }
+fixed_named file (suc (suc (suc (suc (suc (suc (suc zero))))))) few = record { read = refl; word = (lit≤ tt, refl, refl); short = lit≤ tt }
+fixed_named file (suc (suc (suc (suc (suc (suc (suc (suc zero)))))))) few = record { read = refl; word = (lit≤ tt, refl, refl); short = lit≤ tt }
+fixed_named file (suc (suc (suc (suc (suc (suc (suc (suc (suc zero))))))))) few = record { read = refl; word = (lit≤ tt, refl, refl); short = lit≤ tt }
+fixed_named file (suc (suc (suc (suc (suc (suc (suc (suc (suc (suc zero)))))))))) few = record { read = refl; word = (lit≤ tt, refl, refl); short = lit≤ tt }
+fixed_named file (suc (suc (suc (suc (suc (suc (suc (suc (suc (suc (suc n))))))))))) few = absurd (omega (arith, few))
+
+-- all registers but the PAT
+abbrev pub is_displayed : Key → Bool
+is_displayed None = true
+is_displayed (Some (PhysBase n)) = true
+is_displayed (Some (PhysMask n)) = true
+is_displayed (Some (FixedRange place)) = true
+is_displayed (Some Pat) = false
+is_displayed (Some DefaultType) = true
+
+end_word : (valid : Bool) → (list_all is_word_byte (colon_if valid) ≡ true) × (list_all is_plain (colon_if valid) ≡ true) × (length (colon_if valid) ≤ 1)
+end_word true = (refl, refl, lit≤ tt)
+end_word false = (refl, refl, lit≤ tt)
+
+pair_word : (head : List ℕ) (n : ℕ) (valid : Bool) → IsWord head → length head ≡ 7 → IsPairName n → IsWord (head ++ (decimal n ++ colon_if valid)) × (length (head ++ (decimal n ++ colon_if valid)) ≤ 22)
+pair_word head n valid is seven named =
+    let end = end_word valid in
+    let one = length-append head (decimal n ++ colon_if valid) in
+    let two = length-append (decimal n) (colon_if valid) in
+    let bytes = word_append head (decimal n ++ colon_if valid) is (all_append is_word_byte (decimal n) (colon_if valid) named.words end.0) (all_append is_plain (decimal n) (colon_if valid) named.plain end.1) in
+    (bytes, omega (arith, one, two, seven, named.short, end.2))
+
+pub named : (file : RegisterFile) (key : Key) → IsKey key → is_displayed key ≡ true → IsNamed key (name_of file key)
+named file None is shown = record { read = refl; word = (lit≤ tt, refl, refl); short = lit≤ tt }
+named file (Some (PhysBase n)) is shown =
+    let pair = pair_name n is in
+    let valid : Bool = is_bit_set (pair_at file.pairs n).1 11 in
+    let word = pair_word (codes "PHYBASE") n valid (lit≤ tt, refl, refl) refl pair in
+    record { read = pair.base valid; word = word.0; short = word.1 }
+named file (Some (PhysMask n)) is shown =
+    let pair = pair_name n is in
+    let word = pair_word (codes "PHYMASK") n true (lit≤ tt, refl, refl) refl pair in
+    record { read = pair.mask; word = word.0; short = word.1 }
+named file (Some (FixedRange place)) is shown = fixed_named file place is.0
+named file (Some Pat) is shown = cc shown
+named file (Some DefaultType) is shown = record { read = refl; word = (lit≤ tt, refl, refl); short = lit≤ tt }
+
+-- ---- the line
+
+tail_byte : (byte : ℕ) → is_tail_byte byte ≡ true → is_plain byte ≡ true
+tail_byte byte is = grind (arith, nat_tests)
+
+tail_plain : (tail : List ℕ) → list_all is_tail_byte tail ≡ true → list_all is_plain tail ≡ true
+tail_plain [] all = refl
+tail_plain (byte ∷ tail) all =
+    let parts = and_parts (is_tail_byte byte) (list_all is_tail_byte tail) all in
+    rw (tail_byte byte parts.0) (tail_plain tail parts.1)
+
+module _ (key : Key) (value : ℕ) (name tail : List ℕ) (named : IsNamed key name) (few : length tail ≤ 200) (ends : goes_on tail ≡ false) (all : list_all is_tail_byte tail ≡ true) where
+  abbrev pieces : Bool → List (ℕ × List ℕ)
+  pieces true = (0, codes "[DEBUG]") ∷ (2, number_word value) ∷ (1, name) ∷ []
+  pieces false = (0, number_word value) ∷ (1, name) ∷ []
+
+  number_is_word : IsWord (number_word value)
+  number_is_word =
+      let digits = value_word value in
+      let closed = word_append (value_text value) (codes ":") digits refl refl in
+      word_append (codes "0x") (value_text value ++ codes ":") (lit≤ tt, refl, refl) closed.1 closed.2
+
+  are_words : (leveled : Bool) → AreWords (pieces leveled)
+  are_words true = ((lit≤ tt, refl, refl), (number_is_word, (named.word, tt)))
+  are_words false = (number_is_word, (named.word, tt))
+
+  pub line_plain : (leveled : Bool) → list_all is_plain (display_line leveled value name tail) ≡ true
+  line_plain true = pieces_plain (pieces true) tail (are_words true) (tail_plain tail all)
+  line_plain false = pieces_plain (pieces false) tail (are_words false) (tail_plain tail all)
+
+  words : (leveled : Bool) → words_of (display_line leveled value name tail) ≡ placed 0 (pieces leveled) tail
+  words true = words_of_pieces (0, codes "[DEBUG]") ((2, number_word value) ∷ (1, name) ∷ []) tail (are_words true) refl ends (tail_plain tail all)
+  words false = words_of_pieces (0, number_word value) ((1, name) ∷ []) tail (are_words false) refl ends (tail_plain tail all)
+
+  within : (n : ℕ) → n ≤ 300 → nat_lt 4096 n ≡ false
+  within n le = grind (arith, nat_tests, le)
+
+  short : (leveled : Bool) → nat_lt 4096 (length (display_line leveled value name tail)) ≡ false
+  short true =
+      let size = length_of_pieces (pieces true) tail in
+      let one = long value in
+      let two = length-append (value_text value) (codes ":") in
+      within (length (display_line true value name tail)) (omega (arith, size, one, two, named.short, few))
+  short false =
+      let size = length_of_pieces (pieces false) tail in
+      let one = long value in
+      let two = length-append (value_text value) (codes ":") in
+      within (length (display_line false value name tail)) (omega (arith, size, one, two, named.short, few))
+
+  pub place : Bool → ℕ → Place
+  place true number = place_of number (placed 0 (pieces true) tail) 1
+  place false number = place_of number (placed 0 (pieces false) tail) 0
+
+  said : (leveled : Bool) (number : ℕ) → value < 2 ^ 64 → coreboot_said number (display_line leveled value name tail) ≡ shows_one None (Some (number_at key)) (Some value) (place leveled number)
+  unfolding place
+  said true number fits =
+      ap (λ ws. said_from (level_words ws) number ws) (words true)
+      ∙ ap (λ r. shows_one None r (colon_number (number_word value)) (place true number)) named.read
+      ∙ ap (λ v. shows_one None (Some (number_at key)) v (place true number)) (number_read value fits)
+  said false number fits =
+      ap (λ ws. said_from (level_words ws) number ws) (words false)
+      ∙ ap (λ r. shows_one None r (colon_number (number_word value)) (place false number)) named.read
+      ∙ ap (λ v. shows_one None (Some (number_at key)) v (place false number)) (number_read value fits)
+
+  pub register_said : (leveled : Bool) (number : ℕ) → value < 2 ^ 64 → said_of Coreboot number (display_line leveled value name tail) ≡ shows_one None (Some (number_at key)) (Some value) (place leveled number)
+  register_said leveled number fits = rw (short leveled) (ap (λ s. said_or_sizes s number (display_line leveled value name tail)) (said leveled number fits))

@@ -1,0 +1,21 @@
+use Rattle.std.proofs.Common.{refl}
+use Rattle.hex.specs.Hex.{encode_with}
+use Rattle.std.specs.Fmt.{digits}
+use Rattle.mt_import.specs.Readings.{all_registers}
+use Rattle.mt_import_laws.proofs.WorkedFiles.{coreboot_suits, edk2_suits, inteltool_suits, rdmsr_suits}
+use Rattle.mt_import_laws.proofs.printers.worked_prints.Goals as goal
+
+pub returns : goal.returns
+unfolding encode_with digits all_registers
+returns c = record {
+  rdmsr = rdmsr_suits;
+  inteltool = inteltool_suits;
+  coreboot = coreboot_suits;
+  edk2 = edk2_suits;
+  words = refl;
+  more_words = refl;
+  by_rdmsr = (refl, refl);
+  by_inteltool = refl;
+  by_coreboot = refl;
+  by_edk2 = refl;
+}

@@ -1,0 +1,61 @@
+-- Logs that hold what a program prints of a register file, and what it means that they read back (own).
+--     HoldsTable format file table text      the lines of a log are those of a table, among lines that tell no more than the width
+--     Agrees supplied file      words supply no other value than the file's
+--     ReadsBack told file      the outcome is the file's dump
+--     TableReadsBack format table supplied file      so it is of a table's lines, and of each log that holds them
+use Rattle.std.specs.Prelude.{ℕ, ◌≡◌, ◌⊎◌, List, Option, None, Some}
+use Rattle.mt_ports.specs.declared.status.Status.TheVariants.{Done}
+use Rattle.mt_text.specs.Text.{lines_of}
+use Rattle.mt_text.specs.declared.place.Place.{Place}
+use Rattle.mt_regs.specs.declared.registers.Register.{Register}
+use Rattle.mt_regs.specs.RegisterFile.{RegisterFile}
+use Rattle.mt_regs.specs.Registers.{number_of, value_at, value_of}
+use Rattle.mt_dump.specs.Canon.{canon, ended}
+use Rattle.mt_dump.specs.Dumps.{dump_of}
+use Rattle.mt_import.specs.declared.format.Choice.TheVariants.{Only}
+use Rattle.mt_import.specs.declared.format.Format.{Format}
+use Rattle.mt_import.specs.declared.reading.Said.TheVariants.{Nothing, Width}
+use Rattle.mt_import.specs.Import.{log_told}
+use Rattle.mt_import.specs.Outcome.{Told}
+use Rattle.mt_import.specs.Shown.{said_of}
+use Rattle.mt_import.specs.Supplied.{Supplied, supplied_value}
+use Rattle.mt_import_laws.specs.Origins.{IsAmong}
+
+-- ---- registers
+
+-- the capability register, or a writable one
+abbrev pub Key : Type 0
+Key = Option Register
+
+abbrev pub number_at : Key → ℕ
+number_at None = 0xfe
+number_at (Some register) = number_of register
+
+abbrev pub value_in : RegisterFile → Key → ℕ
+value_in file None = file.capabilities
+value_in file (Some register) = value_of file register
+
+-- ---- a log
+
+-- a line that tells no more than the width, whatever its number
+abbrev pub TellsNoMore : Format → RegisterFile → List ℕ → Type 0
+TellsNoMore format file line = (number : ℕ) → (said_of format number line ≡ Nothing) ⊎ ((place : Place) × (said_of format number line ≡ Width file.width place))
+
+-- A log has each line of a table of a file, and any lines besides that tell no more than the width.
+pub record HoldsTable (format : Format) (file : RegisterFile) (table : List (List ℕ)) (text : List ℕ) : Type 0 where
+  pub has : (line : List ℕ) → IsAmong line table → IsAmong line (lines_of text)
+  pub others : (line : List ℕ) → IsAmong line (lines_of text) → IsAmong line table ⊎ TellsNoMore format file line
+
+-- Words supply no width and no value but the file's.
+pub record Agrees (supplied : Supplied) (file : RegisterFile) : Type 0 where
+  pub width : (width : ℕ) → supplied.width ≡ Some width → width ≡ file.width
+  pub registers : (number value : ℕ) → supplied_value supplied number ≡ Some value → value_at file number ≡ Some value
+
+pub record ReadsBack (told : Told) (file : RegisterFile) : Type 0 where
+  pub status : told.status ≡ Done
+  pub dump : told.dump ≡ canon (dump_of file)
+
+-- A table of lines gives the file: alone, and in any log that holds it.
+pub record TableReadsBack (format : Format) (table : List (List ℕ)) (supplied : Supplied) (file : RegisterFile) : Type 0 where
+  pub alone : ReadsBack (log_told (Only format) supplied (ended table)) file
+  pub among : (text : List ℕ) → HoldsTable format file table text → ReadsBack (log_told (Only format) supplied text) file

@@ -1,0 +1,26 @@
+-- A log of two lines that contradict each other, for which the premises of the laws hold (own).
+use Rattle.std.specs.Prelude.{ℕ, codes, List}
+use Rattle.mt_import.specs.declared.format.Choice.{Choice}
+use Rattle.mt_import.specs.declared.format.Choice.TheVariants.{Only}
+use Rattle.mt_import.specs.declared.format.Format.TheVariants.{Rdmsr}
+use Rattle.mt_import.specs.declared.shape.Reading.{Reading}
+use Rattle.mt_import.specs.Slot.{all_bits}
+use Rattle.mt_import_laws.specs.Origins.{Contradict, IsAmong, readings_of}
+
+abbrev pub worked_choice : Choice
+worked_choice = Only Rdmsr
+
+-- columns of register and value
+abbrev pub worked_log : List ℕ
+worked_log = codes "0x277 6\n0x277 7\n"
+
+abbrev pub first_reading : Reading
+first_reading = record { processor = 0; table = 0; number = 0x277; bits = all_bits; value = 6; place = record { line = 1; column = 7 } }
+
+abbrev pub second_reading : Reading
+second_reading = record { processor = 0; table = 0; number = 0x277; bits = all_bits; value = 7; place = record { line = 2; column = 7 } }
+
+pub record IsWorked : Type 0 where
+  pub first : IsAmong first_reading (readings_of worked_choice worked_log)
+  pub second : IsAmong second_reading (readings_of worked_choice worked_log)
+  pub apart : Contradict first_reading second_reading

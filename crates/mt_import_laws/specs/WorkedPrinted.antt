@@ -1,0 +1,62 @@
+-- An instance of the laws on what programs print: the registers of an ordinary PC with 8 GB (own).
+use Rattle.std.specs.Prelude.{ℕ, ◌+◌, ◌%◌, codes, List, [], ◌∷◌, ◌++◌, Some, None, slice_index_or}
+use Rattle.mt_regs.specs.declared.registers.Register.TheVariants.{PhysBase, PhysMask, FixedRange, Pat, DefaultType}
+use Rattle.mt_regs.specs.RegisterFile.{RegisterFile}
+use Rattle.mt_import.specs.Supplied.{Supplied, nothing_assumed}
+use Rattle.mt_import_laws.specs.PrintedByCoreboot.{Tails}
+use Rattle.mt_import_laws.specs.PrintedByInteltool.{Names}
+
+-- examples/ordinary-pc.dump
+abbrev pub ordinary_pc : RegisterFile
+ordinary_pc = record {
+  width = 36;
+  capabilities = 0xd08;
+  pairs =
+      (0x6, 0xf00000800) ∷ (0x100000006, 0xf00000800) ∷ (0x200000006, 0xfe0000800) ∷ (0xe0000000, 0xfe0000800)
+      ∷ (0, 0) ∷ (0, 0) ∷ (0, 0) ∷ (0, 0) ∷ [];
+  fixed =
+      0x0606060606060606 ∷ 0x0606060606060606 ∷ 0 ∷ 0x0505050505050505 ∷ 0x0505050505050505 ∷ 0x0505050505050505
+      ∷ 0x0505050505050505 ∷ 0x0505050505050505 ∷ 0x0505050505050505 ∷ 0x0505050505050505 ∷ 0x0505050505050505 ∷ [];
+  pat = 0x0007040600070406;
+  default_type = 0xc00;
+}
+
+abbrev pub fixed_names : List (List ℕ)
+fixed_names =
+    codes "FIX64K_00000" ∷ codes "FIX16K_80000" ∷ codes "FIX16K_A0000" ∷ codes "FIX4K_C0000" ∷ codes "FIX4K_C8000" ∷ codes "FIX4K_D0000"
+    ∷ codes "FIX4K_D8000" ∷ codes "FIX4K_E0000" ∷ codes "FIX4K_E8000" ∷ codes "FIX4K_F0000" ∷ codes "FIX4K_F8000" ∷ []
+
+-- the names that inteltool has for family 6, model 55H, of ten pairs at most: PhysMask has PhysBase's
+abbrev pub model_names : Names
+model_names None = codes "IA32_MTRRCAP"
+model_names (Some (PhysBase n)) = codes "IA32_MTRR_PHYSBASE" ++ (48 + n % 10) ∷ []
+model_names (Some (PhysMask n)) = codes "IA32_MTRR_PHYSBASE" ++ (48 + n % 10) ∷ []
+model_names (Some (FixedRange place)) = codes "IA32_MTRR_" ++ slice_index_or fixed_names place []
+model_names (Some Pat) = codes "IA32_PAT"
+model_names (Some DefaultType) = codes "IA32_MTRR_DEF_TYPE"
+
+-- what the word `maxphyaddr=36` supplies
+abbrev pub width_36 : Supplied
+width_36 = record { width = Some 36; registers = []; assumed = nothing_assumed }
+
+-- what coreboot prints behind the names of some registers
+abbrev pub some_tails : Tails
+some_tails None = codes " SMRR, WC, FIX, 8 variable MTRRs"
+some_tails (Some (PhysBase n)) = []
+some_tails (Some (PhysMask n)) = codes " Length  = 0x0000000020000000, Valid"
+some_tails (Some (FixedRange place)) = []
+some_tails (Some Pat) = []
+some_tails (Some DefaultType) = codes " E, FE, UC"
+
+-- `maxphyaddr=36 277=7040600070406`
+abbrev pub width_and_pat : Supplied
+width_and_pat = record { width = Some 36; registers = (0x277, 0x0007040600070406) ∷ []; assumed = nothing_assumed }
+
+-- `maxphyaddr=36 0fe=d08 277=7040600070406 208=0 .. 20f=0`
+abbrev pub words_for_edk2 : Supplied
+words_for_edk2 = record {
+  width = Some 36;
+  registers =
+      (0xfe, 0xd08) ∷ (0x277, 0x0007040600070406) ∷ (0x208, 0) ∷ (0x209, 0) ∷ (0x20a, 0) ∷ (0x20b, 0) ∷ (0x20c, 0) ∷ (0x20d, 0) ∷ (0x20e, 0) ∷ (0x20f, 0) ∷ [];
+  assumed = nothing_assumed;
+}

@@ -1,0 +1,98 @@
+// What an update on threads asks of the allocator, which may refuse it. No clause says that a refusal comes of the allocator
+// alone: these lines say it. Each asks for what the station needs, and for no more.
+ghost use Rattle.std.specs.Prelude.{◌≡◌, ◌+◌, ◌<◌, ◌≤◌, [], IfErr, IfOk, length, replicate, vec_capacity, vec_len};
+ghost use Rattle.mt_machine.specs.declared.go.Go.TheVariants.{Pending};
+ghost use Rattle.mt_rendezvous.specs.Station.{Begins};
+ghost use Rattle.mt_rendezvous.specs.Calls.{gathered, opening_words};
+ghost use Rattle.mt_rendezvous.specs.InStation.{LeadsIn, OffersIn, start_at};
+
+use super::Refusal;
+use crate::station::{Attendee, Root, Station};
+use crate::view::Key;
+use atomic_table::Table;
+use mt_cpu::Cpu;
+use mt_ram::Ram;
+use mt_regs::RegFile;
+use std::alloc::Global;
+use std::snapshot::Snapshot;
+
+// Asks for a block for the attendee, which comes back if there is none.
+#[inline(always)]
+pub(crate) fn boxed(alloc: Global, a: Attendee) -> Result<Box<Attendee>, (Attendee, Refusal)>
+    ensures ok { IfOk result (λ b. b.value ≡ a) }
+    ensures refused { IfErr result (λ e. e.0 ≡ a) }
+{
+    match Box::new(alloc, a) {
+        Ok(block) => Ok(block),
+        Err(failed) => Err((failed.value, Refusal { made: () })),
+    }
+}
+
+// Asks for room for one of each of these processors.
+pub(crate) fn room<T>(alloc: Global, cpus: &Vec<Cpu>) -> Result<Vec<T>, Refusal>
+    ensures empty { IfOk result (λ v. v.items ≡ []) }
+    ensures room { IfOk result (λ v. vec_len cpus.now ≤ vec_capacity v) }
+{
+    match Vec::with_capacity(alloc, cpus.len()) {
+        Ok(room) => Ok(room),
+        Err(_) => Err(Refusal { made: () }),
+    }
+}
+
+// Asks for the counts and the phases, which are 0, with room for the words of memory.
+fn zeros(alloc: Global, count: usize, ram: &Ram) -> Result<Vec<u64>, Refusal>
+    requires { count < 65536 }
+    ensures zeros { IfOk result (λ v. v.items ≡ replicate (count + 2) 0) }
+    ensures room { IfOk result (λ v. count + 2 + length ram.now.words ≤ vec_capacity v) }
+{
+    let Ok(mut words) = vec![in alloc; 0u64; count + 2] else {
+        return Err(Refusal { made: () });
+    };
+    match words.reserve(ram.words()) {
+        Ok(()) => Ok(words),
+        Err(_) => Err(Refusal { made: () }),
+    }
+}
+
+// The words at the start: the counts and the phases, and the words of memory.
+fn opening_words(alloc: Global, count: usize, ram: &Ram) -> Result<Vec<u64>, Refusal>
+    requires { count < 65536 }
+    ensures { IfOk result (λ v. v.items ≡ opening_words count ram.now.words) }
+{
+    let mut words = zeros(alloc, count, ram)?;
+    for i in 0..ram.words() {
+        words.push_reserved(ram.word(i));
+    }
+    Ok(words)
+}
+
+// Asks for a table for these processors, all of which the root has.
+pub(crate) fn open(
+    alloc: Global,
+    cpus: &Vec<Cpu>,
+    ram: &Ram,
+    goal: &RegFile,
+) -> Result<(Station, Root), Refusal>
+    requires some { 0 < vec_len cpus.now }
+    requires few { vec_len cpus.now ≤ 16 }
+    requires begins { Begins (gathered cpus.now.items ram.now goal.now) }
+    ensures root { IfOk result (λ t. LeadsIn t.0 t.1 Pending × OffersIn t.0 0 t.1) }
+    ensures key { IfOk result (λ t. start_at t.0 ≡ gathered cpus.now.items ram.now goal.now) }
+{
+    let count = cpus.len();
+    let words = opening_words(alloc, count, ram)?;
+    let key = Key {
+        cpus: Snapshot::of(cpus),
+        ram: Snapshot::of(ram),
+        goal: Snapshot::of(goal),
+    };
+    let _all = words.len();
+    let Ok((table, seat)) = Table::of_words(alloc, words.as_slice(), &key) else {
+        return Err(Refusal { made: () });
+    };
+    let station = Station {
+        table,
+        count: count as u64,
+    };
+    Ok((station, Root { seat }))
+}
