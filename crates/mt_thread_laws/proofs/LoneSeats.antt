@@ -29,7 +29,7 @@ module _ (y : Resident) (number : y.held.number ≡ 0) (unstored : y.stored ≡ 
   held_there : get_elem? (y.held ∷ []) y.held.number ≡ some y.held
   held_there = subst (λ (n : ℕ). get_elem? (y.held ∷ []) n ≡ some y.held) (sym number) refl
 
-  same_place : AreAt (y ∷ []) (y ∷ [])
+  pub same_place : AreAt (y ∷ []) (y ∷ [])
   same_place zero z at = subst (λ (x : Resident). get_elem? (y ∷ []) x.held.number ≡ some x) (some-injective y z at) there
   same_place (suc i) z at = absurd (some-ne-none z (sym at))
 

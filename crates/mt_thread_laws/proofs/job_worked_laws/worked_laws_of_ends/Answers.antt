@@ -67,7 +67,7 @@ returned : (table : TableId) (job : Job) (told : Told) → IsEmptyJob job → Ha
 returned table job told is none = record { root = (refl, refl, refl); size = refl; keeps = keeps; each = each table job told is none }
 
 leaves : Leaves alone last_seat.0 released_yard.0
-leaves = record { all = released ∷ []; first = 2; second = 1; yard = released_yard.1; same = same_place; shown = λ e. absurd (cc e) }
+leaves = record { all = released ∷ []; first = 2; second = 1; yard = released_yard.1; same = same_place released refl refl; shown = λ e. absurd (cc e) }
 
 owns : AreOwnsOf alone kept released_yard.0
 owns zero o at = released_yard.1.resides.stands.own 0 released refl ∙ (let same : own_of released ≡ o = cc at in same)
