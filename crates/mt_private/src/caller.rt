@@ -2,8 +2,8 @@
 use mt_ports::Gate;
 use mt_rendezvous::Lent;
 use std::sync::Wait;
-use std::thread;
-use std::thread::{Scope, Threads};
+use std::thread::Threads;
+use waits::Waiter;
 
 mod arrival;
 mod refusal;
@@ -14,12 +14,12 @@ pub(crate) use refusal::{Refusal, start};
 pub(crate) use visits::core_of;
 pub use visits::visit;
 
-/// The runtime and the gate of a call. Only this module takes them out, to wait at the two barriers and for threads that
-/// end, to ask the gate and to tell it. So a function that has a caller, and no runtime, can make no other caller: it asks
-/// and tells this one's gate, and each loop of its own terminates.
+/// The runtime and the gate of a call. Only `caller/waits.rt` takes the runtime out, to wait at the two barriers and for
+/// threads that end. Only this module takes the gate out, to ask it and to tell it. So a function that has a caller, and no
+/// runtime, can make no other caller: it asks and tells this one's gate, and each loop of its own terminates.
 #[derive(Drop)]
 pub struct Caller<R, G> {
-    rt: R,
+    waiter: Waiter<R>,
     gate: G,
 }
 
@@ -30,18 +30,8 @@ impl<'a, R: Wait, G: Gate> Caller<&'a R, Lent<'a, G>> {
     /// The caller with this runtime and this gate.
     pub fn of(rt: &'a R, gate: &'a G) -> Caller<&'a R, Lent<'a, G>> {
         Caller {
-            rt,
+            waiter: Waiter::of(rt),
             gate: Lent::of(gate),
         }
-    }
-}
-
-impl<R: Threads + Wait, G> Caller<R, G> {
-    // Calls f with a scope, and waits for the threads that f starts there.
-    pub(crate) fn scope<'e, F: for<'s> FnOnce(&'s Scope<'s, &'e ()>) -> T, T>(&self, f: F) -> T
-        requires { F.IsAlwaysCallable f }
-        ensures { (s : _) × F.post f s result }
-    {
-        thread::scope(thread::scope_env(), &self.rt, f)
     }
 }

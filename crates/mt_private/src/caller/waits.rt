@@ -1,5 +1,5 @@
-// The two waits of a pass. What it does before, between and behind them is done by functions that can't wait, so it is
-// proved to end.
+// All that waits: the two waits of a pass, and a scope for its threads. Only this module has the runtime, and nothing takes
+// it out. So every other function that has a caller is proved to end, except where it calls these or joins a thread.
 ghost use Rattle.std.specs.Prelude.{◌≡◌, ◌⊎◌, true, false, Some, IsTrue};
 ghost use Rattle.mt_machine.specs.declared.phase.Phase.TheVariants.{Arrived, Arrived2, Passed, Running, Taken};
 ghost use Rattle.mt_machine.specs.declared.go.Go.TheVariants.{Given, Pending};
@@ -15,6 +15,30 @@ use crate::visiting::YardPass;
 use mt_core::Core;
 use std::sync::Wait;
 use std::thread;
+use std::thread::{Scope, Threads};
+
+// The runtime of a call. Without it no loop can go on for ever.
+#[derive(Drop)]
+pub(super) struct Waiter<R> {
+    rt: R,
+}
+
+impl<R> Waiter<R> {
+    // The one with this runtime.
+    pub(super) fn of(rt: R) -> Waiter<R> {
+        Waiter { rt }
+    }
+}
+
+impl<R: Threads + Wait, G> Caller<R, G> {
+    // Calls f with a scope, and waits for the threads that f starts there.
+    pub(crate) fn scope<'e, F: for<'s> FnOnce(&'s Scope<'s, &'e ()>) -> T, T>(&self, f: F) -> T
+        requires { F.IsAlwaysCallable f }
+        ensures { (s : _) × F.post f s result }
+    {
+        thread::scope(thread::scope_env(), &self.waiter.rt, f)
+    }
+}
 
 impl YardPass {
     ghost use Rattle.mt_private.specs.InYard.{IsWholeUpdate, KeepsVisit, LodgesIn, VisitsIn};
@@ -39,7 +63,7 @@ impl YardPass {
         ensures cancel { result ≡ false → self.new.seat.me.0.cancel ≡ true }
         ensures left { result ≡ false → (first : MachineSystem) → HasTaken first core.old.system → core.new.system ≡ in_phase Running (drain 0 first) }
     {
-        for _ in caller.rt.forever() {
+        for _ in caller.waiter.rt.forever() {
             let found = yard.table.shared.load::<YardTurn>(&mut self.seat, 0);
             if found >= CANCEL {
                 core.cancel();
@@ -73,7 +97,7 @@ impl YardPass {
         ensures runs { AreIn Running core.new.system }
         ensures whole { IsWholeUpdate yard.now self.old core.old core.new }
     {
-        for _ in caller.rt.forever() {
+        for _ in caller.waiter.rt.forever() {
             let found = yard.table.shared.load::<YardTurn>(&mut self.seat, 1);
             if found == yard.count {
                 core.step(0);

@@ -1,5 +1,5 @@
-// The two waits of a pass. What it does before, between and behind them is done by functions that can't wait, so it is
-// proved to end.
+// All that waits: the two waits of a pass, and a scope for its threads. Only this module has the runtime, and nothing takes
+// it out. So every other function that has a caller is proved to end, except where it calls these or joins a thread.
 ghost use Rattle.std.specs.Prelude.{◌≡◌, ◌+◌, true, false, Some};
 ghost use Rattle.mt_machine.specs.declared.phase.Phase.TheVariants.{Arrived2};
 ghost use Rattle.mt_machine.specs.declared.event.Event.TheVariants.{Release};
@@ -16,6 +16,30 @@ use mt_cpu::Cpu;
 use mt_machine::Event;
 use std::sync::Wait;
 use std::thread;
+use std::thread::{Scope, Threads};
+
+// The runtime of a call. Without it no loop can go on for ever.
+#[derive(Drop)]
+pub(super) struct Waiter<R> {
+    rt: R,
+}
+
+impl<R> Waiter<R> {
+    // The one with this runtime.
+    pub(super) fn of(rt: R) -> Waiter<R> {
+        Waiter { rt }
+    }
+}
+
+impl<R: Threads + Wait, G> Caller<R, G> {
+    // Calls f with a scope, and waits for the threads that f starts there.
+    pub(crate) fn scope<'e, F: for<'s> FnOnce(&'s Scope<'s, &'e ()>) -> T, T>(&self, f: F) -> T
+        requires { F.IsAlwaysCallable f }
+        ensures { (s : _) × F.post f s result }
+    {
+        thread::scope(thread::scope_env(), &self.waiter.rt, f)
+    }
+}
 
 impl Pass {
     ghost use Rattle.mt_rendezvous.specs.InStation.{CarriesIn, start_at};
@@ -37,7 +61,7 @@ impl Pass {
         ensures shown { self.new.shown ≡ self.old.shown }
         ensures waited { Waited result (start_at station.now) self.new.number cpu.old cpu.new }
     {
-        for _ in caller.rt.forever() {
+        for _ in caller.waiter.rt.forever() {
             let found = station.table.shared.load::<Turn>(&mut self.seat, 0);
             if found >= CANCEL {
                 cpu.shift(Event::Leave);
@@ -68,7 +92,7 @@ impl Pass {
         ensures took { Took (start_at station.now) self.new.number Release cpu.old cpu.new }
         ensures risen { cpu.new.era ≡ common_era (start_at station.now).cpus + 1 }
     {
-        for _ in caller.rt.forever() {
+        for _ in caller.waiter.rt.forever() {
             let found = station.table.shared.load::<Turn>(&mut self.seat, 1);
             self.shown = Some(found as u32);
             if found == station.count {
