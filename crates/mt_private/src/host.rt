@@ -11,7 +11,7 @@ use crate::visiting::{Guest, YardPass};
 use atomic_table::{Seat, Table};
 use mt_bus::System;
 use mt_machine::Op;
-use mt_rendezvous::Key;
+use mt_rendezvous::{Coordinator, Key};
 use std::alloc::Global;
 
 // What the host adds to the first count to cancel.
@@ -37,6 +37,12 @@ pub struct Host {
     pub owns: Vec<Option<System>>,
     /// The emptied lists of the gathered system, and the words of the pages that no processor named.
     pub rest: Room,
+}
+
+impl Coordinator<Yard> for Host {
+    ghost use Rattle.mt_private.specs.InYard.{LeadsIn};
+
+    ghost has_cancelled = { λ y h. LeadsIn y h.seat Cancelled };
 }
 
 impl Host {

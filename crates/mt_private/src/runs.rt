@@ -18,7 +18,7 @@ ghost use Rattle.mt_private.specs.Pages.{IsLeastShared, IsPrivate};
 ghost use Rattle.mt_private.specs.declared.job.Part.{Part as JobPart};
 ghost use Rattle.mt_private.specs.declared.job.Part.TheVariants.{Before, After};
 
-use crate::caller::{Caller, Refusal};
+use crate::caller::Caller;
 use crate::fault::PrivateFault;
 use crate::host::{Host, Yard};
 use crate::job::{Job, Part, Told};
@@ -31,6 +31,7 @@ use mt_core::{Core, a_core_arises};
 use mt_machine::{Done, Op};
 use mt_ports::{Gate, NoMemory};
 use mt_regs::RegFile;
+use mt_rendezvous::Refusal;
 use std::alloc::Global;
 use std::sync::Wait;
 use std::thread::Threads;

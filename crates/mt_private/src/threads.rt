@@ -7,13 +7,14 @@ ghost use Rattle.mt_private.specs.declared.job.Job.{Job as ItsJob};
 ghost use Rattle.mt_private.specs.InYard.{AreWaitingIn, HasComeIn, IsNewIn, IsRootIn, LeadsIn, OneLessIn, ReturnedIn, goal_at, start_at};
 ghost use Rattle.mt_private.specs.Visitors.{IsFresh};
 
-use crate::caller::{Caller, Refusal, core_of, start};
+use crate::caller::{Caller, come_here, core_of, start};
 use crate::host::{Host, Yard};
 use crate::job::{Job, Told};
 use crate::visiting::{Guest, Visited};
 use crate::visitor::Visitor;
 use mt_ports::Gate;
 use mt_regs::RegFile;
+use mt_rendezvous::Refusal;
 use std::alloc::Global;
 use std::sync::Wait;
 use std::thread::{Scope, Threads};
@@ -107,7 +108,7 @@ fn leave_all<R: Wait, G: Gate>(
     };
     let job = job_at(jobs, waiting.len());
     leave_all(caller, refusal, yard, host, goal, jobs, waiting, told);
-    refusal.leave(caller, yard, host, &mut visitor, goal, job);
+    come_here(refusal, caller, yard, host, &mut visitor, goal, job);
     finish(yard, jobs, visitor, host, told);
 }
 

@@ -5,7 +5,7 @@ ghost use Rattle.mt_rendezvous.specs.Station.{Begins, both};
 ghost use Rattle.mt_rendezvous.specs.Calls.{Ends, gathered};
 ghost use Rattle.mt_rendezvous.specs.InStation.{AllNewIn, HoldsOneIn, IsGatheredIn, IsNewIn, IsRootIn, LeadsIn, OffersIn, start_at, windows_at};
 
-use crate::caller::{Refusal, open, room};
+use crate::crew::{Refusal, open, room};
 use crate::station::{Attendee, Pass, Root, Station};
 use crate::view::HandsOver;
 use mt_cpu::Cpu;

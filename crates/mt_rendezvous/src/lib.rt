@@ -3,13 +3,15 @@
 
 mod broadcast;
 mod caller;
+mod crew;
 mod gather;
 mod station;
 mod threads;
 mod view;
 
 pub use broadcast::call_and_take;
-pub use caller::{Caller, Lent, attend};
+pub use caller::{Caller, attend};
+pub use crew::{Coordinator, Crew, Lent, Refusal, Unstarted, boxed};
 pub use gather::disband;
 pub use station::{Attendee, Outcome, Pass, Root, Station};
 pub use threads::{update, update_with};

@@ -7,6 +7,7 @@ ghost use Rattle.mt_cpu.specs.Steps.{is_local};
 ghost use Rattle.mt_rendezvous.specs.Station.{Begins, code};
 ghost use Rattle.mt_rendezvous.specs.Plays.{IsWaiting, Made, Stands, own_event, written};
 
+use crate::crew::Coordinator;
 use crate::view::{Key, Meeting, Turn, View};
 use atomic_table::{Seat, Table};
 use mt_cpu::{Cpu, is_local};
@@ -89,6 +90,12 @@ fn written(e: Event) -> Option<(u64, u64)>
         Event::WriteBack { address, value } => Some((address, value)),
         _ => None,
     }
+}
+
+impl Coordinator<Station> for Root {
+    ghost use Rattle.mt_rendezvous.specs.InStation.{LeadsIn};
+
+    ghost has_cancelled = { λ s r. LeadsIn s r Cancelled };
 }
 
 impl Root {

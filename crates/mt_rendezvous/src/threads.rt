@@ -21,7 +21,8 @@ ghost use Rattle.mt_rendezvous.specs.Update.{AreOf, CanUpdate, Tied, decided, le
 ghost use Rattle.mt_rendezvous.specs.InStation.{CameIn, IsQueueIn, IsReadyAsIn, IsRootIn, LeadsIn, OneLessIn, ReturnedIn, goal_at, start_at, windows_at};
 
 use crate::broadcast::call_and_take;
-use crate::caller::{Caller, Refusal, boxed, room, start};
+use crate::caller::{Caller, start};
+use crate::crew::{Refusal, boxed, room};
 use crate::gather::{disband, gather_station};
 use crate::station::{Attendee, Root, Station};
 use mt_bus::{Holders, System, SystemParts};

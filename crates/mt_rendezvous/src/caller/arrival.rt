@@ -41,7 +41,7 @@ impl Arrival {
         ensures { result.number ≡ self.number }
     {
         let Arrival { number } = self;
-        caller.gate.arrived(number);
+        caller.crew.tell(number);
         Heard { number }
     }
 }

@@ -1,4 +1,4 @@
-// Whether a thread is started, and why an update isn't done on threads.
+// The thread of a processor, or its place on this thread.
 ghost use Rattle.std.specs.Prelude.{◌≡◌, IfErr, IfOk};
 ghost use Rattle.std.specs.Thread.{IsSync};
 ghost use Rattle.mt_machine.specs.declared.go.Go.TheVariants.{Cancelled, Pending};
@@ -6,6 +6,7 @@ ghost use Rattle.mt_rendezvous.specs.Update.{AreOf};
 ghost use Rattle.mt_rendezvous.specs.InStation.{CameAsIn, CameIn, IsReadyIn, IsRootIn, LeadsIn, goal_at, start_at, windows_at};
 
 use crate::caller::Caller;
+use crate::crew::Refusal;
 use crate::station::{Attendee, Root, Station};
 use mt_ports::Gate;
 use mt_ram::Ram;
@@ -13,17 +14,6 @@ use mt_regs::RegFile;
 use std::snapshot::Snapshot;
 use std::sync::Wait;
 use std::thread::{Promise, PromisedHandle, Scope, Threads};
-
-mod memory;
-
-pub(crate) use memory::{boxed, open, room};
-
-// That a start, a thread or memory was refused. Only this module and `memory` make one: they ask the caller's gate, start
-// the threads and ask the allocator themselves. It has no bytes, and can't be copied or let go. Whoever has one hands it
-// on, and `spend` takes it.
-pub(crate) struct Refusal {
-    made: (),
-}
 
 // What the thread of a processor promises: the processor comes back, and runs. `start` alone makes one.
 #[derive(Drop)]
@@ -59,11 +49,6 @@ impl Refusal {
     {
         attend_whole(caller, station, ram, a, goal);
     }
-
-    // The update is done without threads.
-    pub(crate) fn spend(self) {
-        let Refusal { made: _ } = self;
-    }
 }
 
 // Takes the attendee through the update, or out of it.
@@ -83,15 +68,15 @@ fn attend_whole<R: Wait, G: Gate>(
     a.pass.go_through(caller, station, ram, goal, &mut a.cpu);
 }
 
-// Asks the caller's gate about the attendee, once, and starts its thread if the gate lets it. If none is started, the
-// root cancels. The attendee then leaves, and comes back with the refusal.
+// Starts the attendee's thread, if the caller's gate lets it. If none is started, the root cancels. The attendee then
+// leaves, and comes back with the refusal.
 pub(crate) fn start<'s, E, R: Threads + Wait + Sync, G: Gate>(
     caller: &'s Caller<R, G>,
     scope: &Scope<'s, E>,
     station: &'s Station,
     ram: &'s Ram,
     root: &mut Root,
-    mut a: Box<Attendee>,
+    a: Box<Attendee>,
     goal: &'s RegFile,
 ) -> Result<PromisedHandle<Box<Attendee>, Attends>, (Box<Attendee>, Refusal)>
     requires root { LeadsIn station.now root.old Pending }
@@ -104,17 +89,13 @@ pub(crate) fn start<'s, E, R: Threads + Wait + Sync, G: Gate>(
     ensures cancelled { IfErr result (λ e. LeadsIn station.now root.new Cancelled) }
     ensures came { IfErr result (λ e. CameAsIn station.now a.value.pass.number e.0.value) }
 {
-    if !caller.gate.may_start(a.pass.processor()) {
-        let refusal = Refusal { made: () };
-        root.cancel(station);
-        refusal.leave(caller, station, ram, root, &mut a, goal);
-        return Err((a, refusal));
-    }
     let promise = Attends {
         station: Snapshot::of(station),
         number: a.pass.number,
     };
-    match scope.spawn_with(
+    match caller.crew.start(
+        scope,
+        a.pass.processor(),
         promise,
         move || -> Box<Attendee>
             requires shared { IsSync R.row }
@@ -128,9 +109,9 @@ pub(crate) fn start<'s, E, R: Threads + Wait + Sync, G: Gate>(
         },
     ) {
         Ok(child) => Ok(child),
-        Err(failed) => {
+        Err(unstarted) => {
             root.cancel(station);
-            Err(((failed.value)(), Refusal { made: () }))
+            Err(unstarted.done_here(station, root))
         }
     }
 }

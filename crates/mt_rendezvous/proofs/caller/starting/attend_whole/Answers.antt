@@ -2,7 +2,7 @@ use Rattle.std.proofs.Common.{sym, subst}
 use Rattle.mt_rendezvous.specs.Station.{start_of}
 use Rattle.mt_rendezvous.specs.Update.{Came}
 use Rattle.mt_rendezvous.proofs.Ended.{came}
-use Rattle.mt_rendezvous.proofs.caller.refusal.attend_whole.Goals as goal
+use Rattle.mt_rendezvous.proofs.caller.starting.attend_whole.Goals as goal
 
 pub returns-clause-came : goal.returns-clause-came
 returns-clause-came g c =

@@ -7,7 +7,7 @@ ghost use Rattle.mt_rendezvous.specs.Calls.{gathered, opening_words};
 ghost use Rattle.mt_rendezvous.specs.InStation.{LeadsIn, OffersIn, start_at};
 
 use super::Refusal;
-use crate::station::{Attendee, Root, Station};
+use crate::station::{Root, Station};
 use crate::view::Key;
 use atomic_table::Table;
 use mt_cpu::Cpu;
@@ -16,13 +16,17 @@ use mt_regs::RegFile;
 use std::alloc::Global;
 use std::snapshot::Snapshot;
 
-// Asks for a block for the attendee, which comes back if there is none.
+/// Asks for a block for x, which a thread then takes without a copy.
+///
+/// # Errors
+///
+/// There is no memory for it; x comes back.
 #[inline(always)]
-pub(crate) fn boxed(alloc: Global, a: Attendee) -> Result<Box<Attendee>, (Attendee, Refusal)>
-    ensures ok { IfOk result (λ b. b.value ≡ a) }
-    ensures refused { IfErr result (λ e. e.0 ≡ a) }
+pub fn boxed<T>(alloc: Global, x: T) -> Result<Box<T>, (T, Refusal)>
+    ensures ok { IfOk result (λ b. b.value ≡ x) }
+    ensures refused { IfErr result (λ e. e.0 ≡ x) }
 {
-    match Box::new(alloc, a) {
+    match Box::new(alloc, x) {
         Ok(block) => Ok(block),
         Err(failed) => Err((failed.value, Refusal { made: () })),
     }

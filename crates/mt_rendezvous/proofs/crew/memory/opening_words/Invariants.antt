@@ -1,5 +1,5 @@
 use Rattle.std.proofs.Common.{◌≡◌, ◌+◌, ◌++◌, ◌≤◌, length, take, replicate, vec_capacity}
-use Rattle.mt_rendezvous.proofs.caller.refusal.memory.opening_words.Given as goal
+use Rattle.mt_rendezvous.proofs.crew.memory.opening_words.Given as goal
 
 abbrev pub invariant-loop-i : goal.invariant-loop-i
 invariant-loop-i l = record {

@@ -3,7 +3,7 @@ use Rattle.mt_rendezvous.specs.declared.view.Key.{Key}
 use Rattle.mt_rendezvous.specs.Station.{Begins, start_of}
 use Rattle.mt_rendezvous.specs.Calls.{gathered, opening_words}
 use Rattle.mt_rendezvous.proofs.RootSteps.{begins, opens_of}
-use Rattle.mt_rendezvous.proofs.caller.refusal.memory.open.Goals as goal
+use Rattle.mt_rendezvous.proofs.crew.memory.open.Goals as goal
 
 pub of_words-requires : goal.of_words-requires
 of_words-requires c =

@@ -4,7 +4,7 @@ use Rattle.mt_machine.specs.System.{System}
 use Rattle.mt_rendezvous.specs.declared.view.Start.{Start}
 use Rattle.mt_rendezvous.specs.Station.{start_of}
 use Rattle.mt_private.specs.YardCalls.{VisitEnds}
-use Rattle.mt_private.proofs.caller.refusal.come.Goals as goal
+use Rattle.mt_private.proofs.caller.starting.come.Goals as goal
 
 pub returns : goal.returns
 returns g c =
