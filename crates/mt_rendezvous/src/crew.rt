@@ -1,5 +1,5 @@
 // Threads that a gate lets start, and what stands in their place if one isn't started.
-ghost use Rattle.std.specs.Prelude.{◌≡◌, IfErr, IfOk};
+ghost use Rattle.std.specs.Prelude.{◌≡◌, ℕ, IfErr, IfOk};
 
 use mt_ports::Gate;
 use std::snapshot::Snapshot;
@@ -52,28 +52,20 @@ pub trait Coordinator<S> {
     ghost has_cancelled: { S → Self → Type 0 };
 }
 
-/// The work of a thread that wasn't started, and the refusal.
+/// A promise of what one processor's thread returns.
+pub trait OfProcessor {
+    ghost number: { Self → ℕ };
+}
+
+/// The work of a thread that wasn't started. Only `Crew::start` makes one, and it can't be let go.
 pub struct Unstarted<F> {
     work: F,
-    refusal: Refusal,
     /// The work, as `Crew::start` got it.
     pub was: Snapshot<F>,
     pub ghost same: { work ≡ was.value },
 }
 
 impl<F> Unstarted<F> {
-    // The gate said no to this work, or the system did.
-    fn of(work: F) -> Unstarted<F>
-        ensures { result.was.value ≡ work }
-    {
-        let was = Snapshot::of(&work);
-        Unstarted {
-            work,
-            refusal: Refusal { made: () },
-            was,
-        }
-    }
-
     /// Does the work on this thread, once the coordinator has cancelled.
     pub fn done_here<S, C: Coordinator<S>, T>(self, _station: &S, _coordinator: &C) -> (T, Refusal)
     where
@@ -82,12 +74,8 @@ impl<F> Unstarted<F> {
         requires cancelled { C.has_cancelled _station.now _coordinator.now }
         ensures { F.post self.was.value result.0 }
     {
-        let Unstarted {
-            work,
-            refusal,
-            was: _,
-        } = self;
-        (work(), refusal)
+        let Unstarted { work, was: _ } = self;
+        (work(), Refusal { made: () })
     }
 }
 
@@ -113,7 +101,13 @@ impl<G: Gate> Crew<G> {
     /// # Errors
     ///
     /// The gate says no, or the system starts no thread. The work comes back.
-    pub fn start<'s, E, P: Promise<T> + Drop, F: FnOnce() -> T + Send + 's, T: Send + Drop + 's>(
+    pub fn start<
+        's,
+        E,
+        P: Promise<T> + OfProcessor + Drop,
+        F: FnOnce() -> T + Send + 's,
+        T: Send + Drop + 's,
+    >(
         &self,
         scope: &Scope<'s, E>,
         k: u32,
@@ -122,15 +116,19 @@ impl<G: Gate> Crew<G> {
     ) -> Result<PromisedHandle<T, P>, Unstarted<F>>
         requires runs { F.pre work }
         requires keeps { (r : T) → F.post work r → P.kept_by promise r }
+        requires number { k ≡ P.number promise }
         ensures promised { IfOk result (λ h. h.promise ≡ promise) }
         ensures refused { IfErr result (λ e. e.was.value ≡ work) }
     {
-        if !self.gate.may_start(k) {
-            return Err(Unstarted::of(work));
-        }
-        match scope.spawn_with(promise, work) {
-            Ok(child) => Ok(child),
-            Err(failed) => Err(Unstarted::of(failed.value)),
-        }
+        let was = Snapshot::of(&work);
+        let work = if self.gate.may_start(k) {
+            match scope.spawn_with(promise, work) {
+                Ok(child) => return Ok(child),
+                Err(failed) => failed.value,
+            }
+        } else {
+            work
+        };
+        Err(Unstarted { work, was })
     }
 }

@@ -11,7 +11,7 @@ use crate::job::Job;
 use crate::visitor::Visitor;
 use mt_ports::Gate;
 use mt_regs::RegFile;
-use mt_rendezvous::{Refusal, boxed};
+use mt_rendezvous::{OfProcessor, Refusal, boxed};
 use std::alloc::Global;
 use std::snapshot::Snapshot;
 use std::sync::Wait;
@@ -29,6 +29,10 @@ impl Promise<Box<Visitor>> for Visits {
     ghost use Rattle.mt_private.specs.InYard.{HasComeIn};
 
     ghost kept_by = { λ p v. HasComeIn p.yard.value p.job.value p.number v.value };
+}
+
+impl OfProcessor for Visits {
+    ghost number = { λ p. p.number };
 }
 
 // Once the host has cancelled, the visitor does its accesses before the update on this thread, and leaves. A refusal alone

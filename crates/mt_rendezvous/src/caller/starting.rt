@@ -6,7 +6,7 @@ ghost use Rattle.mt_rendezvous.specs.Update.{AreOf};
 ghost use Rattle.mt_rendezvous.specs.InStation.{CameAsIn, CameIn, IsReadyIn, IsRootIn, LeadsIn, goal_at, start_at, windows_at};
 
 use crate::caller::Caller;
-use crate::crew::Refusal;
+use crate::crew::{OfProcessor, Refusal};
 use crate::station::{Attendee, Root, Station};
 use mt_ports::Gate;
 use mt_ram::Ram;
@@ -26,6 +26,10 @@ impl Promise<Box<Attendee>> for Attends {
     ghost use Rattle.mt_rendezvous.specs.InStation.{CameAsIn};
 
     ghost kept_by = { λ p a. CameAsIn p.station.value p.number a.value };
+}
+
+impl OfProcessor for Attends {
+    ghost number = { λ p. p.number };
 }
 
 impl Refusal {
