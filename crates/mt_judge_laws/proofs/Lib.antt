@@ -1,0 +1,8 @@
+mod Emptied
+mod Since
+mod Right
+mod Counting
+mod Placing
+mod Standing
+mod Progress
+mod Starting

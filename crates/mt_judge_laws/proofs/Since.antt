@@ -1,0 +1,330 @@
+-- What a processor has kept since the start, in each phase, and that its events keep this.
+use Rattle.std.proofs.Common.{◌≡◌, ◌≢◌, ◌⊎◌, ◌∙◌, ap, refl, sym, subst, ⊎_elim, arith, ℕ, ◌+◌, Bool, true, false, List, [], ◌∷◌, Some}
+use Rattle.std.specs.Prelude.{◌==◌, not, ◌&&◌, ◌||◌, if◌then◌else◌, nat_lt, slice_get}
+use Rattle.std.specs.List.{list_all, list_any}
+use Rattle.std.specs.Option.{option_map_or}
+use Rattle.std.proofs.lemmas.Bool.{lt-ltb}
+use Rattle.mt_cache.specs.declared.line.CacheLine.{CacheLine}
+use Rattle.mt_kinds.specs.declared.mem_type.MemType.{MemType}
+use Rattle.mt_kinds.specs.declared.mem_type.MemType.TheVariants.{UC, WC, WB}
+use Rattle.mt_regs.specs.RegisterFile.{RegisterFile}
+use Rattle.mt_regs.specs.PageTypes.{is_type}
+use Rattle.mt_tlb.specs.declared.entry.Entry.{Entry}
+use Rattle.mt_tlb.specs.declared.mapping.Mapping.{Mapping}
+use Rattle.mt_machine.specs.declared.event.Event.{Event}
+use Rattle.mt_machine.specs.declared.event.Event.TheVariants.{Take, Arrive, Leave, Pass, SetNoFill, WriteBack, DropLines, FlushTlb, Disable, Write, Enable, SetNormal, RestorePge, ArriveAgain, Release}
+use Rattle.mt_machine.specs.declared.phase.Phase.{Phase}
+use Rattle.mt_machine.specs.declared.phase.Phase.TheVariants.{Running, Taken, Arrived, Passed, NoFill, Flushed, TlbFlushed, Writing, Enabled, Flushed2, TlbFlushed2, Normal, Restored, Arrived2}
+use Rattle.mt_machine.specs.Access.{is_cached, is_running, new_entry}
+use Rattle.mt_machine.specs.Control.{reload_cr3}
+use Rattle.mt_machine.specs.Machine.{Order, after_drop, after_flush, before_own, due, flush_tlb, has_released, own_step, step}
+use Rattle.mt_machine.specs.System.{Processor, System}
+use Rattle.mt_machine.proofs.Rows.{due_row, is_row}
+use Rattle.mt_laws.proofs.Barrier.Barriers.{flush_era}
+use Rattle.mt_laws.proofs.Barrier.Ranks.{Guarded, and_left, and_right, stage_at}
+use Rattle.mt_laws.proofs.Barrier.Stages.{Stage, stage_of, stages}
+use Rattle.mt_laws.proofs.Clearing.Cleared.{buffers_gone, entries_gone, lines_gone, none_of, none_passes}
+use Rattle.mt_laws.proofs.Clearing.Renewed.{AllClear, at_change}
+use Rattle.mt_judge.specs.Wrongs.{allows_by, is_allowed, is_same_entry, kept_as, made_entry, page_of}
+use Rattle.mt_judge.specs.declared.wrong.Kept.TheVariants.{Buffer, CleanLine, DirtyLine}
+use Rattle.mt_judge_laws.proofs.Emptied.{Fewer, IsOfClean, before_in, both}
+
+-- ---- what is right by a processor's registers and mappings
+
+abbrev pub right_line : Processor → CacheLine → Bool
+right_line p l = is_allowed p (kept_as l) (page_of l)
+
+abbrev pub right_buffer : Processor → CacheLine → Bool
+right_buffer p b = is_allowed p Buffer (page_of b)
+
+abbrev pub right_entry : Processor → Entry → Bool
+right_entry p e = option_map_or (is_same_entry e) (made_entry p e.vpage) false
+
+pub record AreRight (p q : Processor) : Type 0 where
+  pub lines : list_all (right_line p) q.lines ≡ true
+  pub buffers : list_all (right_buffer p) q.buffers ≡ true
+  pub entries : list_all (right_entry p) q.entries ≡ true
+
+written_is_cached : (t : MemType) → is_type WB t ≡ true → is_cached t ≡ true
+written_is_cached UC h = absurd (cc)
+written_is_cached WC h = absurd (cc)
+written_is_cached other h = refl
+
+any_more : {X : Type 0} → (f g : X → Bool) → ((x : X) → f x ≡ true → g x ≡ true) → (xs : List X) → list_any f xs ≡ true → list_any g xs ≡ true
+any_more f g more [] h = h
+any_more f g more (x ∷ xs) h = one (f x) (g x) (more x) (any_more f g more xs) h
+  where
+    one : (a b : Bool) → (a ≡ true → b ≡ true) → (list_any f xs ≡ true → list_any g xs ≡ true) → (a || list_any f xs) ≡ true → (b || list_any g xs) ≡ true
+    one true true to rest h = refl
+    one true false to rest h = absurd (let e : false ≡ true = to refl in cc)
+    one false true to rest h = refl
+    one false false to rest h = rest h
+
+-- where a dirty line may be, a clean one may
+clean_allowed : (p : Processor) (n : ℕ) → is_allowed p DirtyLine n ≡ true → is_allowed p CleanLine n ≡ true
+clean_allowed p n h =
+    any_more (allows_by p DirtyLine n) (allows_by p CleanLine n)
+    (λ m g. both (m.ppage == n) _ (and_left _ _ g) (written_is_cached (new_entry p m).kind (and_right (m.ppage == n) _ g)))
+    p.mappings h
+
+cleaned_is_right : (p : Processor) → IsOfClean (right_line p)
+cleaned_is_right p l h = one (l.dirty == 0) h
+  where
+    one : (b : Bool) → is_allowed p (if b then CleanLine else DirtyLine) (page_of l) ≡ true → is_allowed p CleanLine (page_of l) ≡ true
+    one true g = g
+    one false g = clean_allowed p (page_of l) g
+
+-- ---- what is kept
+
+-- before CD is set, and while it is set
+abbrev pub is_before : Phase → Bool
+is_before Running = true
+is_before Taken = true
+is_before Arrived = true
+is_before Passed = true
+is_before other = false
+
+abbrev pub is_no_fill : Phase → Bool
+is_no_fill NoFill = true
+is_no_fill Flushed = true
+is_no_fill TlbFlushed = true
+is_no_fill (Writing i) = true
+is_no_fill Enabled = true
+is_no_fill Flushed2 = true
+is_no_fill TlbFlushed2 = true
+is_no_fill other = false
+
+abbrev pub is_early : Order → Processor → Bool
+is_early o p = is_before p.phase && not (has_released o p)
+
+abbrev pub HoldsNone : Processor → Type 0
+HoldsNone p = (p.lines ≡ []) × (p.buffers ≡ []) × (p.entries ≡ [])
+
+pub record IsEarly (first p : Processor) : Type 0 where
+  pub file : p.file ≡ first.file
+  pub right : AreRight first p
+
+-- of a processor that was this one at the start
+pub record Since (o : Order) (first p : Processor) : Type 0 where
+  pub mappings : p.mappings ≡ first.mappings
+  pub self_snoop : p.self_snoop ≡ first.self_snoop
+  pub early : is_early o p ≡ true → IsEarly first p
+  pub disabled : is_no_fill p.phase ≡ true → p.cache_disabled ≡ true
+  pub released : has_released o p ≡ true → HoldsNone p
+
+right_of : (first p q : Processor) → q.lines ≡ p.lines → q.buffers ≡ p.buffers → q.entries ≡ p.entries → AreRight first p → AreRight first q
+right_of first p q lines buffers entries r = record {
+  lines = ap (list_all (right_line first)) lines ∙ r.lines;
+  buffers = ap (list_all (right_buffer first)) buffers ∙ r.buffers;
+  entries = ap (list_all (right_entry first)) entries ∙ r.entries;
+}
+
+-- emptied buffers keep it
+since_fewer : (o : Order) (first p q : Processor) → Fewer p q → Since o first p → Since o first q
+since_fewer o first p q f s = record {
+  mappings = ap (λ (x : Processor). x.mappings) f.bare ∙ s.mappings;
+  self_snoop = ap (λ (x : Processor). x.self_snoop) f.bare ∙ s.self_snoop;
+  early = λ h.
+      let e = s.early (ap (is_early o) (sym f.bare) ∙ h) in
+      record {
+        file = ap (λ (x : Processor). x.file) f.bare ∙ e.file;
+        right = record {
+          lines = f.lines (right_line first) (cleaned_is_right first) e.right.lines;
+          buffers = f.buffers (right_buffer first) e.right.buffers;
+          entries = ap (λ (x : Processor). list_all (right_entry first) x.entries) f.bare ∙ e.right.entries;
+        };
+      };
+  disabled = λ h. ap (λ (x : Processor). x.cache_disabled) f.bare ∙ s.disabled (ap (λ (x : Processor). is_no_fill x.phase) (sym f.bare) ∙ h);
+  released = λ h.
+      let none = s.released (ap (has_released o) (sym f.bare) ∙ h) in (
+        none_of q.lines (f.lines (λ (l : CacheLine). false) (λ l e. e) (none_passes (λ (l : CacheLine). false) p.lines none.0)),
+        none_of q.buffers (f.buffers (λ (l : CacheLine). false) (none_passes (λ (l : CacheLine). false) p.buffers none.1)),
+        ap (λ (x : Processor). x.entries) f.bare ∙ none.2,
+      );
+}
+
+-- ---- a processor's own part
+
+abbrev Bare : Type 0
+Bare = RegisterFile × List Mapping × Bool × Bool
+
+abbrev bare : Processor → Bare
+bare p = (p.file, p.mappings, p.cache_disabled, p.self_snoop)
+
+flush_bare : (ph : Phase) (p : Processor) → bare (flush_tlb ph p) ≡ bare p
+flush_bare Flushed2 p = refl
+flush_bare other p = in_case p.page_global
+  where
+    in_case : (b : Bool) → bare (if b then record p { remembered_global = true; page_global = false; entries = [] } else record (reload_cr3 p) { remembered_global = false }) ≡ bare p
+    in_case true = refl
+    in_case false = refl
+
+module _ (o : Order) (first p : Processor) (s : Since o first p) (in_step : is_running p.phase ≡ false → has_released o p ≡ false) where
+  abbrev Kept' : Event → Type 0
+  Kept' e = Since o first (own_step o.goal e p)
+
+  -- a step that leaves all but the phase
+  phased : (to : Phase) → is_before p.phase ≡ true → is_no_fill to ≡ false → Since o first (record p { phase = to })
+  phased to before on = record {
+    mappings = s.mappings;
+    self_snoop = s.self_snoop;
+    early = λ h.
+        let e = s.early (both (is_before p.phase) _ before (and_right (is_before to) _ h)) in
+        record { file = e.file; right = right_of first p (record p { phase = to }) refl refl refl e.right };
+    disabled = λ h. absurd (cc);
+    released = s.released;
+  }
+
+  -- a step of a processor that has set CD, and hasn't released
+  later : (q : Processor) → bare q ≡ bare p → is_before q.phase ≡ false → (is_no_fill q.phase ≡ true → is_no_fill p.phase ≡ true) → q.era ≡ p.era → has_released o p ≡ false → Since o first q
+  later q same off on era behind = record {
+    mappings = ap (λ (x : Bare). x.1) same ∙ s.mappings;
+    self_snoop = ap (λ (x : Bare). x.3) same ∙ s.self_snoop;
+    early = λ h. absurd (let a : is_before q.phase ≡ true = and_left _ _ h in cc);
+    disabled = λ h. ap (λ (x : Bare). x.2) same ∙ s.disabled (on h);
+    released = λ h. absurd (let a : has_released o q ≡ false = ap (nat_lt o.from_era) era ∙ behind in cc);
+  }
+
+  -- the same where the file changes, or CD
+  written : (q : Processor) → q.mappings ≡ p.mappings → q.self_snoop ≡ p.self_snoop → is_before q.phase ≡ false → (is_no_fill q.phase ≡ true → q.cache_disabled ≡ true) → has_released o q ≡ false → Since o first q
+  written q mappings snoop off on behind = record {
+    mappings = mappings ∙ s.mappings;
+    self_snoop = snoop ∙ s.self_snoop;
+    early = λ h. absurd (let a : is_before q.phase ≡ true = and_left _ _ h in cc);
+    disabled = on;
+    released = λ h. absurd (cc);
+  }
+
+  flushes : (ph : Phase) → p.phase ≡ ph → is_running ph ≡ false → is_no_fill ph ≡ true → is_before (after_flush ph) ≡ false → Kept' FlushTlb
+  flushes ph same quiet on off =
+      later (own_step o.goal FlushTlb p) (flush_bare p.phase p) (ap (λ v. is_before (after_flush v)) same ∙ off) (λ h. ap is_no_fill same ∙ on)
+      (flush_era p.phase p) (in_step (ap is_running same ∙ quiet))
+
+  drops : (ph : Phase) → p.phase ≡ ph → is_running ph ≡ false → is_no_fill ph ≡ true → is_before (after_drop ph) ≡ false → Kept' DropLines
+  drops ph same quiet on off =
+      later (own_step o.goal DropLines p) refl (ap (λ v. is_before (after_drop v)) same ∙ off) (λ h. ap is_no_fill same ∙ on) refl (in_step (ap is_running same ∙ quiet))
+
+  backs : (ph : Phase) (a v : ℕ) → p.phase ≡ ph → is_running ph ≡ false → is_before ph ≡ false → Kept' (WriteBack a v)
+  backs ph a v same quiet off =
+      later (own_step o.goal (WriteBack a v) p) refl (ap is_before same ∙ off) (λ h. h) refl (in_step (ap is_running same ∙ quiet))
+
+  writes : (e : Event) (ph : Phase) → p.phase ≡ ph → is_running ph ≡ false → is_no_fill ph ≡ true → (own_step o.goal e p).mappings ≡ p.mappings → (own_step o.goal e p).self_snoop ≡ p.self_snoop
+      → is_before (own_step o.goal e p).phase ≡ false → (own_step o.goal e p).cache_disabled ≡ p.cache_disabled → (own_step o.goal e p).era ≡ p.era → Kept' e
+  writes e ph same quiet on mappings snoop off disabled era =
+      written (own_step o.goal e p) mappings snoop off (λ h. disabled ∙ s.disabled (ap is_no_fill same ∙ on))
+      (ap (nat_lt o.from_era) era ∙ in_step (ap is_running same ∙ quiet))
+
+  -- the event is due in the phase; what is released holds nothing, and its era is a later one
+  pub own_since : (e : Event) (ph : Phase) → p.phase ≡ ph → is_row e ph ≡ true → (e ≡ Release → HoldsNone p) → nat_lt o.from_era (p.era + 1) ≡ true → Kept' e
+  own_since Take Running same row gone above = phased Taken (ap is_before same) refl
+  own_since Take other same row gone above = absurd (cc)
+  own_since Arrive Taken same row gone above = phased Arrived (ap is_before same) refl
+  own_since Arrive other same row gone above = absurd (cc)
+  own_since Leave Taken same row gone above = phased Running (ap is_before same) refl
+  own_since Leave Arrived same row gone above = phased Running (ap is_before same) refl
+  own_since Leave other same row gone above = absurd (cc)
+  own_since Pass Arrived same row gone above = phased Passed (ap is_before same) refl
+  own_since Pass other same row gone above = absurd (cc)
+  own_since SetNoFill Passed same row gone above =
+      written (own_step o.goal SetNoFill p) refl refl refl (λ h. refl) (in_step (ap is_running same))
+  own_since SetNoFill other same row gone above = absurd (cc)
+  own_since (WriteBack a v) NoFill same row gone above = backs NoFill a v same refl refl
+  own_since (WriteBack a v) Enabled same row gone above = backs Enabled a v same refl refl
+  own_since (WriteBack a v) other same row gone above = absurd (cc)
+  own_since DropLines NoFill same row gone above = drops NoFill same refl refl refl
+  own_since DropLines Enabled same row gone above = drops Enabled same refl refl refl
+  own_since DropLines other same row gone above = absurd (cc)
+  own_since FlushTlb NoFill same row gone above = flushes NoFill same refl refl refl
+  own_since FlushTlb Flushed same row gone above = flushes Flushed same refl refl refl
+  own_since FlushTlb Flushed2 same row gone above = flushes Flushed2 same refl refl refl
+  own_since FlushTlb other same row gone above = absurd (cc)
+  own_since Disable TlbFlushed same row gone above = writes Disable TlbFlushed same refl refl refl refl refl refl refl
+  own_since Disable other same row gone above = absurd (cc)
+  own_since (Write n) (Writing j) same row gone above = writes (Write n) (Writing j) same refl refl refl refl refl refl refl
+  own_since (Write n) other same row gone above = absurd (cc)
+  own_since Enable (Writing j) same row gone above = writes Enable (Writing j) same refl refl refl refl refl refl refl
+  own_since Enable other same row gone above = absurd (cc)
+  own_since SetNormal TlbFlushed2 same row gone above =
+      written (own_step o.goal SetNormal p) refl refl refl (λ h. absurd (cc)) (in_step (ap is_running same))
+  own_since SetNormal other same row gone above = absurd (cc)
+  own_since RestorePge Normal same row gone above =
+      written (own_step o.goal RestorePge p) refl refl refl (λ h. absurd (cc)) (in_step (ap is_running same))
+  own_since RestorePge other same row gone above = absurd (cc)
+  own_since ArriveAgain Restored same row gone above =
+      written (own_step o.goal ArriveAgain p) refl refl refl (λ h. absurd (cc)) (in_step (ap is_running same))
+  own_since ArriveAgain other same row gone above = absurd (cc)
+  own_since Release Arrived2 same row gone above = record {
+    mappings = s.mappings;
+    self_snoop = s.self_snoop;
+    early = λ h. absurd (let a : not (nat_lt o.from_era (p.era + 1)) ≡ true = h in cc);
+    disabled = λ h. absurd (cc);
+    released = λ h. gone refl;
+  }
+  own_since Release other same row gone above = absurd (cc)
+
+-- ---- all processors
+
+abbrev pub AllSince : Order → List Processor → List Processor → Type 0
+AllSince o firsts ps = (i : ℕ) (p : Processor) → slice_get ps i ≡ Some p → (first : Processor) × (slice_get firsts i ≡ Some first) × Since o first p
+
+since_in : (o : Order) (firsts : List Processor) (e : Event) (k : ℕ) (s : System) → AllSince o firsts s.processors → AllSince o firsts (before_own e k s).processors
+since_in o firsts e k s all i q at =
+    let from = before_in e k s i q at in
+    let f = all i from.0 from.1 in
+    (f.0, f.1, since_fewer o f.0 from.0 q from.2 f.2)
+
+-- all of a processor is gone that is released
+gone_at_release : (o : Order) (ps : List Processor) (p : Processor) (ph : Phase) → due o ps p ph ≡ Some Release → (lines_gone ph ≡ true) × (buffers_gone ph ≡ true) × (entries_gone ph ≡ true)
+gone_at_release o ps p ph h = row ph (due_row o ps p ph Release h)
+  where
+    row : (ph : Phase) → is_row Release ph ≡ true → (lines_gone ph ≡ true) × (buffers_gone ph ≡ true) × (entries_gone ph ≡ true)
+    row Arrived2 on = (refl, refl, refl)
+    row other on = absurd (cc)
+
+pub steps_since : (o : Order) (firsts : List Processor) (e : Event) (k : ℕ) (s : System) (p : Processor) → slice_get s.processors k ≡ Some p → due o s.processors p p.phase ≡ Some e
+    → Guarded o (stages s) → AllClear (Some o) s.processors → AllSince o firsts s.processors → AllSince o firsts (step o.goal e k s).processors
+steps_since o firsts e k s p at h g clear all j q at_q =
+    ⊎_elim
+    (λ (m : (j ≡ k) × (x : Processor) × (slice_get (before_own e k s).processors k ≡ Some x) × (own_step o.goal e x ≡ q)).
+    let f = since_in o firsts e k s all k m.1 m.2 in
+    let r : (first : Processor) × (slice_get firsts j ≡ Some first) × Since o first q =
+    (f.0, ap (slice_get firsts) m.0 ∙ f.1, subst (Since o f.0) m.3 (own m.1 m.2 f.0 f.2)) in r)
+    (λ (m : (j ≢ k) × (slice_get (before_own e k s).processors j ≡ Some q)). since_in o firsts e k s all j q m.1)
+    (at_change (own_step o.goal e) k (before_own e k s) j q at_q)
+  where
+    row : is_row e p.phase ≡ true
+    row = due_row o s.processors p p.phase e h
+
+    stage_is : (x : Processor) → slice_get (before_own e k s).processors k ≡ Some x → stage_of p ≡ stage_of x
+    stage_is x at_x =
+        let from = before_in e k s k x at_x in
+        let same : from.0 ≡ p = let i : Some (from.0) ≡ Some p = sym from.1 ∙ at in cc in
+        ap stage_of (sym same) ∙ ap stage_of (sym from.2.bare)
+
+    in_step_of : (x : Stage) → stage_of p ≡ x → is_running x.0 ≡ false → nat_lt o.from_era x.1 ≡ false
+    in_step_of x same = subst (λ (y : Stage). is_running y.0 ≡ false → nat_lt o.from_era y.1 ≡ false) same (g.in_step k (stage_of p) (stage_at s.processors k p at))
+
+    era_known : (p.era ≡ o.from_era) ⊎ (p.era ≡ o.from_era + 1)
+    era_known = g.eras k (stage_of p) (stage_at s.processors k p at)
+
+    above : nat_lt o.from_era (p.era + 1) ≡ true
+    above = ⊎_elim
+        (λ (i : p.era ≡ o.from_era). lt-ltb o.from_era (p.era + 1) (omega (arith, i)))
+        (λ (i : p.era ≡ o.from_era + 1). lt-ltb o.from_era (p.era + 1) (omega (arith, i)))
+        era_known
+
+    empties : (x : Processor) → slice_get (before_own e k s).processors k ≡ Some x → e ≡ Release → HoldsNone x
+    empties x at_x is =
+        let there : slice_get s.processors k ≡ Some x = subst (λ (v : Event). slice_get (before_own v k s).processors k ≡ Some x) is at_x in
+        let gone = gone_at_release o s.processors p p.phase (h ∙ ap Some is) in
+        let same : p ≡ x = let i : Some p ≡ Some x = sym at ∙ there in cc in
+        let c = clear k p at in
+        subst HoldsNone same (c.no_lines gone.0, c.no_buffers gone.1, c.no_entries gone.2)
+
+    own : (x : Processor) → slice_get (before_own e k s).processors k ≡ Some x → (first : Processor) → Since o first x → Since o first (own_step o.goal e x)
+    own x at_x first since =
+        let same = stage_is x at_x in
+        own_since o first x since (in_step_of (stage_of x) same) e x.phase refl
+        (ap (λ (y : Stage). is_row e y.0) (sym same) ∙ row)
+        (empties x at_x)
+        (ap (λ (y : Stage). nat_lt o.from_era (y.1 + 1)) (sym same) ∙ above)
