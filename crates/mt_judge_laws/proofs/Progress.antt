@@ -1,9 +1,9 @@
 -- Unless all lists have ended, some processor may go.
-use Rattle.std.proofs.Common.{◌≡◌, ◌⊎◌, ◌∙◌, ap, refl, sym, subst, inl, inr, ⊎_elim, arith, ℕ, zero, suc, ◌+◌, ◌-◌, ◌^◌, ◌<◌, ◌≤◌, Bool, true, false, List, [], ◌∷◌, ◌++◌, drop, get_or, length, Option, Some}
+use Rattle.std.proofs.Common.{◌≡◌, ◌⊎◌, ◌∙◌, ap, refl, sym, subst, inl, inr, ⊎_elim, arith, ℕ, zero, suc, ◌+◌, ◌-◌, ◌^◌, ◌<◌, ◌≤◌, Bool, true, false, List, [], ◌∷◌, ◌++◌, drop, get_or, length, Option, Some, None}
 use Rattle.std.specs.Prelude.{cond, ◌&&◌, nat_lt, slice_get}
 use Rattle.std.specs.List.{All, count_by, list_all}
 use Rattle.std.specs.Option.{option_map_or}
-use Rattle.std.proofs.lemmas.Bool.{eq-eqb, le-leb, lt-ltb}
+use Rattle.std.proofs.lemmas.Bool.{eq-eqb, le-leb, lt-ltb, ltb-false, ltb-true}
 use Rattle.std.proofs.lemmas.List.Sums.{list_all-from_AllPass}
 use Rattle.std.proofs.lemmas.Option.{get_or_from_slice_get, slice_get-get_or}
 use Rattle.mt_cache.specs.declared.line.CacheLine.{CacheLine}
@@ -14,6 +14,7 @@ use Rattle.mt_machine.specs.Access.{is_running}
 use Rattle.mt_machine.specs.Machine.{is_arrived, is_arrived_again, is_changing}
 use Rattle.mt_machine.specs.Start.{IsStart}
 use Rattle.mt_machine.specs.System.{Processor, start_processor}
+use Rattle.mt_machine.specs.declared.op.Op.{Op}
 use Rattle.mt_laws.proofs.Barrier.Claims.{all_get}
 use Rattle.mt_laws.proofs.Barrier.Ranks.{At, is_ahead, processor_at, stage_at}
 use Rattle.mt_laws.proofs.Barrier.Stages.{Stage, stage_of, stages_of}
@@ -24,7 +25,7 @@ use Rattle.mt_judge.specs.Runs.{Case, GoesOn, IsEnded, State, arrived_at, is_fit
 use Rattle.mt_judge.specs.declared.step.Place.{Place}
 use Rattle.mt_judge.specs.declared.step.Step.{Step}
 use Rattle.mt_judge.specs.declared.step.Step.TheVariants as list
-use Rattle.mt_judge_laws.specs.Manual.{at_rest, first_flush, machine_of, since_flush}
+use Rattle.mt_judge_laws.specs.Manual.{accesses, manual_list, at_rest, first_flush, machine_of, since_flush}
 use Rattle.mt_judge_laws.proofs.Counting.{again, arrived}
 use Rattle.mt_judge_laws.proofs.Emptied.{both}
 use Rattle.mt_judge_laws.proofs.Placing.{IsPlace, none_left, some_left}
@@ -74,42 +75,52 @@ pub record Open (arrivals : List ℕ) (left : List Step) : Type 0 where
   pub is : left ≡ todo ∷ more
   pub opened : is_open arrivals todo ≡ true
 
-flush_first : (n : ℕ) (snoops : Bool) → (todo : Step) × (more : List Step) × ((first_flush snoops ++ since_flush n) ≡ todo ∷ more) × ((arrivals : List ℕ) → is_open arrivals todo ≡ true)
-flush_first n true = (list.ClearPge, _, refl, λ arrivals. refl)
-flush_first n false = (list.Wbinvd, _, refl, λ arrivals. refl)
+flush_first : (n : ℕ) (snoops : Bool) (behind : List Step)
+    → (todo : Step) × (more : List Step) × (((first_flush snoops ++ since_flush n) ++ behind) ≡ todo ∷ more) × ((arrivals : List ℕ) → is_open arrivals todo ≡ true)
+flush_first n true behind = (list.ClearPge, _, refl, λ arrivals. refl)
+flush_first n false behind = (list.Wbinvd, _, refl, λ arrivals. refl)
+
+open_before : (arrivals : List ℕ) (left : List Step) (n : ℕ) (snoops : Bool) (behind ops : List Op) → left ≡ accesses ops ++ (manual_list n snoops ++ accesses behind) → Open arrivals left
+open_before arrivals left n snoops behind [] is = record { todo = list.Interrupt; more = _; is = is; opened = refl }
+open_before arrivals left n snoops behind (op ∷ ops) is = record { todo = list.Access op; more = _; is = is; opened = refl }
 
 -- a processor that hasn't released has a next step, which is open if its barrier is
-open_left : (n r : ℕ) (snoops : Bool) (arrivals : List ℕ) (left : List Step) (part : ℕ) (ph : Phase) (ahead : Bool) → IsPlace n r snoops (arrived_at arrivals 1) ph ahead left part
+open_left : (n r : ℕ) (behind : List Op) (snoops : Bool) (arrivals : List ℕ) (left : List Step) (part : ℕ) (ph : Phase) (ahead : Bool) → IsPlace n r behind snoops (arrived_at arrivals 1) ph ahead left part
     → (ph ≡ Running → ahead ≡ false) → (ph ≡ Arrived → n ≤ arrived_at arrivals 0) → (ph ≡ Arrived2 → n ≤ arrived_at arrivals 1) → Open arrivals left
-open_left n r snoops arrivals left part Running true place behind first second = absurd (let e : true ≡ false = behind refl in cc)
-open_left n r snoops arrivals left part Running false place behind first second = record { todo = list.Interrupt; more = _; is = place; opened = refl }
-open_left n r snoops arrivals left part Taken ahead place behind first second = record { todo = list.ArriveAt 0; more = _; is = place; opened = refl }
-open_left n r snoops arrivals left part Arrived ahead place behind first second =
+open_left n r behind snoops arrivals left part Running true place late first second = absurd (let e : true ≡ false = late refl in cc)
+open_left n r behind snoops arrivals left part Running false place late first second = open_before arrivals left n snoops behind place.0 place.2
+open_left n r behind snoops arrivals left part Taken ahead place late first second = record { todo = list.ArriveAt 0; more = _; is = place; opened = refl }
+open_left n r behind snoops arrivals left part Arrived ahead place late first second =
     record { todo = list.WaitAt 0 n; more = _; is = place; opened = le-leb n (arrived_at arrivals 0) (first refl) }
-open_left n r snoops arrivals left part Passed ahead place behind first second = record { todo = list.SetCd; more = _; is = place; opened = refl }
-open_left n r snoops arrivals left part NoFill ahead place behind first second =
-    let f = flush_first n snoops in record { todo = f.0; more = f.1; is = place ∙ f.2; opened = f.3 arrivals }
-open_left n r snoops arrivals left part (Writing i) ahead place behind first second = ⊎_elim
+open_left n r behind snoops arrivals left part Passed ahead place late first second = record { todo = list.SetCd; more = _; is = place; opened = refl }
+open_left n r behind snoops arrivals left part NoFill ahead place late first second =
+    let f = flush_first n snoops (accesses behind) in record { todo = f.0; more = f.1; is = place ∙ f.2; opened = f.3 arrivals }
+open_left n r behind snoops arrivals left part (Writing i) ahead place late first second = ⊎_elim
     (λ (h : (left ≡ list.WriteRegisters ∷ _) × (part ≡ i) × (i + 1 < r)). record { todo = list.WriteRegisters; more = _; is = h.0; opened = refl })
     (λ (h : (left ≡ list.WriteDefault ∷ _) × (r ≤ i + 1)). record { todo = list.WriteDefault; more = _; is = h.0; opened = refl })
     place
-open_left n r snoops arrivals left part Arrived2 ahead place behind first second = ⊎_elim
-    (λ (h : left ≡ list.WaitAt 1 n ∷ list.GoOn ∷ []). record { todo = list.WaitAt 1 n; more = _; is = h; opened = le-leb n (arrived_at arrivals 1) (second refl) })
-    (λ (h : (left ≡ list.GoOn ∷ []) × (n ≤ arrived_at arrivals 1)). record { todo = list.GoOn; more = _; is = h.0; opened = refl })
+open_left n r behind snoops arrivals left part Arrived2 ahead place late first second = ⊎_elim
+    (λ (h : left ≡ list.WaitAt 1 n ∷ list.GoOn ∷ accesses behind). record { todo = list.WaitAt 1 n; more = _; is = h; opened = le-leb n (arrived_at arrivals 1) (second refl) })
+    (λ (h : (left ≡ list.GoOn ∷ accesses behind) × (n ≤ arrived_at arrivals 1)). record { todo = list.GoOn; more = _; is = h.0; opened = refl })
     place
-open_left n r snoops arrivals left part Flushed ahead place behind first second = record { todo = list.ClearPge; more = _; is = place; opened = refl }
-open_left n r snoops arrivals left part TlbFlushed ahead place behind first second = record { todo = list.ClearEnable; more = _; is = place; opened = refl }
-open_left n r snoops arrivals left part Enabled ahead place behind first second = record { todo = list.Wbinvd; more = _; is = place; opened = refl }
-open_left n r snoops arrivals left part Flushed2 ahead place behind first second = record { todo = list.ReloadCr3; more = _; is = place; opened = refl }
-open_left n r snoops arrivals left part TlbFlushed2 ahead place behind first second = record { todo = list.ClearCd; more = _; is = place; opened = refl }
-open_left n r snoops arrivals left part Normal ahead place behind first second = record { todo = list.ReturnPge; more = _; is = place; opened = refl }
-open_left n r snoops arrivals left part Restored ahead place behind first second = record { todo = list.ArriveAt 1; more = _; is = place; opened = refl }
+open_left n r behind snoops arrivals left part Flushed ahead place late first second = record { todo = list.ClearPge; more = _; is = place; opened = refl }
+open_left n r behind snoops arrivals left part TlbFlushed ahead place late first second = record { todo = list.ClearEnable; more = _; is = place; opened = refl }
+open_left n r behind snoops arrivals left part Enabled ahead place late first second = record { todo = list.Wbinvd; more = _; is = place; opened = refl }
+open_left n r behind snoops arrivals left part Flushed2 ahead place late first second = record { todo = list.ReloadCr3; more = _; is = place; opened = refl }
+open_left n r behind snoops arrivals left part TlbFlushed2 ahead place late first second = record { todo = list.ClearCd; more = _; is = place; opened = refl }
+open_left n r behind snoops arrivals left part Normal ahead place late first second = record { todo = list.ReturnPge; more = _; is = place; opened = refl }
+open_left n r behind snoops arrivals left part Restored ahead place late first second = record { todo = list.ArriveAt 1; more = _; is = place; opened = refl }
 
--- a processor that has released has no step left
-released_left : (n r : ℕ) (snoops : Bool) (count : ℕ) (left : List Step) (part : ℕ) (ph : Phase) (ahead : Bool) → ahead ≡ true → (is_running ph ≡ false → ahead ≡ false) → IsPlace n r snoops count ph ahead left part → left ≡ []
-released_left n r snoops count left part Running true is in_step place = place
-released_left n r snoops count left part Running false is in_step place = absurd (cc)
-released_left n r snoops count left part other ahead is in_step place = absurd (let no : ahead ≡ false = in_step refl in cc)
+-- a processor that has released has accesses left, or none
+released_left : (n r : ℕ) (behind : List Op) (snoops : Bool) (arrivals : List ℕ) (left : List Step) (part : ℕ) (ph : Phase) (ahead : Bool) → ahead ≡ true → (is_running ph ≡ false → ahead ≡ false)
+    → IsPlace n r behind snoops (arrived_at arrivals 1) ph ahead left part → (left ≡ []) ⊎ Open arrivals left
+released_left n r behind snoops arrivals left part Running true is in_step place = accesses_left place.0 place.2
+  where
+    accesses_left : (ops : List Op) → left ≡ accesses ops → (left ≡ []) ⊎ Open arrivals left
+    accesses_left [] e = inl e
+    accesses_left (op ∷ ops) e = inr (record { todo = list.Access op; more = accesses ops; is = e; opened = refl })
+released_left n r behind snoops arrivals left part Running false is in_step place = absurd (cc)
+released_left n r behind snoops arrivals left part other ahead is in_step place = absurd (let no : ahead ≡ false = in_step refl in cc)
 
 module _ (c : Case) (first : State) (start : IsStart (at_rest c first)) (few : length first.processors ≤ 64) (s : State) (st : Stands c first s) where
   lines_low : (k : ℕ) (p : Processor) → slice_get s.processors k ≡ Some p → list_all (λ (l : CacheLine). nat_lt l.number (2 ^ 46)) p.lines ≡ true
@@ -144,16 +155,16 @@ module _ (c : Case) (first : State) (start : IsStart (at_rest c first)) (few : l
   -- so a processor goes on that hasn't released, if the barriers at which it may stand are open
   on : (k : ℕ) (x : Stage) → At (stages_of s.processors) k x → (x.0 ≡ Running → nat_lt 0 x.1 ≡ false) → (x.0 ≡ Arrived → length first.processors ≤ arrived_at s.arrived 0) → (x.0 ≡ Arrived2 → length first.processors ≤ arrived_at s.arrived 1)
       → GoesOn c s
-  on k x at behind one two =
+  on k x at late one two =
       let found = processor_at s.processors k x at in
       let p = found.0 in
       let q = placed_at c first start few s st k p found.1 in
       let opens =
-      open_left (length first.processors) (length (writable c.goal)) p.self_snoop s.arrived (drop q.0.step (list_of c k)) q.0.part p.phase (nat_lt 0 p.era) q.2
-      (subst (λ (y : Stage). y.0 ≡ Running → nat_lt 0 y.1 ≡ false) (sym found.2) behind)
+      open_left (length first.processors) (length (writable c.goal)) q.0.behind p.self_snoop s.arrived (drop q.0.place.step (list_of c k)) q.0.place.part p.phase (nat_lt 0 p.era) q.1
+      (subst (λ (y : Stage). y.0 ≡ Running → nat_lt 0 y.1 ≡ false) (sym found.2) late)
       (subst (λ (y : Stage). y.0 ≡ Arrived → length first.processors ≤ arrived_at s.arrived 0) (sym found.2) one)
       (subst (λ (y : Stage). y.0 ≡ Arrived2 → length first.processors ≤ arrived_at s.arrived 1) (sym found.2) two) in
-      (k, may k p q.0 found.1 q.1 opens)
+      (k, may k p q.0.place found.1 q.0.here opens)
 
   all_at_first : list_all (arrived (order_of c)) (stages_of s.processors) ≡ true → length first.processors ≤ arrived_at s.arrived 0
   all_at_first all =
@@ -169,17 +180,39 @@ module _ (c : Case) (first : State) (start : IsStart (at_rest c first)) (few : l
       let long = st.long in
       omega (arith, is, full, long)
 
-  -- all lists have ended once each processor has released
-  ended : list_all (is_ahead (order_of c)) (stages_of s.processors) ≡ true → IsEnded c s
-  ended all k within =
+  -- once each processor has released, each has ended or goes on
+  one_ended : list_all (is_ahead (order_of c)) (stages_of s.processors) ≡ true → (k : ℕ) → k < length s.processors → (step_at c s k ≡ None) ⊎ GoesOn c s
+  one_ended all k within =
       let p = get_or s.processors k (start_processor c.goal) in
       let at : slice_get s.processors k ≡ Some p = slice_get-get_or s.processors k (start_processor c.goal) within in
       let here = stage_at s.processors k p at in
       let q = placed_at c first start few s st k p at in
-      let left = released_left (length first.processors) (length (writable c.goal)) p.self_snoop (arrived_at s.arrived 1) (drop q.0.step (list_of c k)) q.0.part p.phase (nat_lt 0 p.era)
-      (passes_at (is_ahead (order_of c)) (stages_of s.processors) k (stage_of p) all here) (st.guarded.in_step k (stage_of p) here) q.2 in
-      let place_is : place_of s k ≡ q.0 = get_or_from_slice_get s.places k q.0 (record { step = 0; part = 0 }) q.1 in
-      ap (λ (x : Place). slice_get (list_of c k) x.step) place_is ∙ none_left (list_of c k) q.0.step left
+      let place_is : place_of s k ≡ q.0.place = get_or_from_slice_get s.places k q.0.place (record { step = 0; part = 0 }) q.0.here in
+      ⊎_elim
+      (λ (left : drop q.0.place.step (list_of c k) ≡ []). inl (ap (λ (x : Place). slice_get (list_of c k) x.step) place_is ∙ none_left (list_of c k) q.0.place.step left))
+      (λ (opens : Open s.arrived (drop q.0.place.step (list_of c k))). let g : GoesOn c s = (k, may k p q.0.place at q.0.here opens) in inr g)
+      (released_left (length first.processors) (length (writable c.goal)) q.0.behind p.self_snoop s.arrived (drop q.0.place.step (list_of c k)) q.0.place.part p.phase (nat_lt 0 p.era)
+      (passes_at (is_ahead (order_of c)) (stages_of s.processors) k (stage_of p) all here) (st.guarded.in_step k (stage_of p) here) q.1)
+
+  abbrev AreEnded : ℕ → Type 0
+  AreEnded n = (k : ℕ) → k < n → step_at c s k ≡ None
+
+  up_to : (n : ℕ) → AreEnded n → step_at c s n ≡ None → AreEnded (suc n)
+  up_to n ended last k within = one (nat_lt k n) refl
+    where
+      one : (b : Bool) → nat_lt k n ≡ b → step_at c s k ≡ None
+      one true is = ended k (ltb-true k n is)
+      one false is = let above = ltb-false k n is in let same : k ≡ n = omega (arith, above, within) in ap (step_at c s) same ∙ last
+
+  all_ended : list_all (is_ahead (order_of c)) (stages_of s.processors) ≡ true → (n : ℕ) → n ≤ length s.processors → AreEnded n ⊎ GoesOn c s
+  all_ended all zero within = inl (λ k none. absurd (omega (arith, none)))
+  all_ended all (suc n) within = ⊎_elim
+      (λ (ended : AreEnded n). ⊎_elim
+      (λ (last : step_at c s n ≡ None). inl (up_to n ended last))
+      (λ (g : GoesOn c s). inr g)
+      (one_ended all n (omega (arith, within))))
+      (λ (g : GoesOn c s). inr g)
+      (all_ended all n (omega (arith, within)))
 
   abbrev Missing : (Stage → Bool) → Type 0
   Missing q = (i : ℕ) × (x : Stage) × At (stages_of s.processors) i x × (q x ≡ false)
@@ -204,7 +237,7 @@ module _ (c : Case) (first : State) (start : IsStart (at_rest c first)) (few : l
 
       none_missing : list_all (arrived (order_of c)) (stages_of s.processors) ≡ true → list_all (again (order_of c)) (stages_of s.processors) ≡ true → IsEnded c s ⊎ GoesOn c s
       none_missing all all' = ⊎_elim
-          (λ (released : list_all (is_ahead (order_of c)) (stages_of s.processors) ≡ true). inl (ended released))
+          (λ (released : list_all (is_ahead (order_of c)) (stages_of s.processors) ≡ true). all_ended released (length s.processors) (omega arith))
           (λ (m : Missing (is_ahead (order_of c))). inr (on m.0 m.1 m.2 (λ e. m.3) (λ e. all_at_first all) (λ e. all_at_second all')))
           (all_or_one (is_ahead (order_of c)) (stages_of s.processors))
 

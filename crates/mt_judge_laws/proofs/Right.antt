@@ -1,34 +1,36 @@
 -- Where the barriers are kept and each processor has kept what it has since a right start, nothing is wrong.
-use Rattle.std.proofs.Common.{◌≡◌, ◌⊎◌, ◌∙◌, ◌↔◌, ap, refl, sym, inl, inr, ⊎_elim, arith, ℕ, ◌≤◌, Bool, true, false, List, [], ◌∷◌, Option, None, Some, lit≤}
+use Rattle.std.proofs.Common.{◌≡◌, ◌⊎◌, ◌∙◌, ◌↔◌, ap, refl, sym, inl, inr, ⊎_elim, arith, ℕ, ◌≤◌, Bool, true, false, List, [], ◌∷◌, Option, None, Some, lit≤, nat_lt, subst}
 use Rattle.std.specs.Prelude.{◌==◌, not, ◌&&◌, ◌||◌, slice_get}
 use Rattle.std.specs.List.{list_all, list_any}
-use Rattle.std.specs.Option.{option_map, option_map_or}
+use Rattle.std.specs.Option.{option_map_or}
 use Rattle.std.proofs.lemmas.Bool.{eq-eqb, not-false}
 use Rattle.mt_cache.specs.declared.line.CacheLine.{CacheLine}
 use Rattle.mt_kinds.specs.declared.mem_type.MemType.{MemType}
 use Rattle.mt_regs.specs.RegisterFile.{RegisterFile}
 use Rattle.mt_kinds.specs.Types.{byte_of_type}
 use Rattle.mt_regs.specs.PageTypes.{is_type}
-use Rattle.mt_tlb.specs.Entries.{find_mapping}
 use Rattle.mt_tlb.specs.declared.entry.Entry.{Entry}
 use Rattle.mt_tlb.specs.declared.mapping.Mapping.{Mapping}
 use Rattle.mt_machine.specs.declared.phase.Phase.{Phase}
 use Rattle.mt_machine.specs.declared.phase.Phase.TheVariants.{Running, Taken, Arrived, Passed, Normal, Restored, Arrived2}
-use Rattle.mt_machine.specs.Access.{is_running, new_entry}
+use Rattle.mt_machine.specs.Access.{access_at, is_running, new_entry}
 use Rattle.mt_machine.specs.Machine.{Order, has_released}
+use Rattle.mt_machine.specs.declared.op.Op.{Op}
+use Rattle.mt_machine.specs.Memory.{Memory}
 use Rattle.mt_machine.specs.System.{Processor}
-use Rattle.mt_laws.proofs.Barrier.Ranks.{Guarded, and_left, and_right, rank, rank_of, stage_at}
-use Rattle.mt_laws.proofs.Barrier.Stages.{stage_of, stages_of}
+use Rattle.mt_laws.proofs.Barrier.Ranks.{At, Guarded, and_left, and_right, rank, rank_of, stage_at}
+use Rattle.mt_laws.proofs.Barrier.Stages.{Stage, stage_of, stages_of}
 use Rattle.mt_laws.proofs.Clearing.Cleared.{buffers_gone, entries_gone, lines_gone}
 use Rattle.mt_laws.proofs.Clearing.Renewed.{AllClear}
 use Rattle.mt_laws.proofs.Registers.Filed.{AllFiled, is_done}
 use Rattle.mt_judge.specs.Runs.{State}
 use Rattle.mt_judge.specs.Searches.{has_wrong}
-use Rattle.mt_judge.specs.Wrongs.{disagree, holds_at, is_awake, is_same_entry, is_stale_buffer, is_stale_entry, is_stale_line, is_wrong}
+use Rattle.mt_judge.specs.Wrongs.{disagree, holds_at, is_awake, is_stale_buffer, is_stale_entry, is_stale_line, is_wrong}
 use Rattle.mt_judge.specs.declared.wrong.Wrong.{Wrong}
 use Rattle.mt_judge.specs.declared.wrong.Wrong.TheVariants.{Disagree, StaleBuffer, StaleEntry, StaleLine}
 use Rattle.mt_judge_laws.proofs.Emptied.{both}
-use Rattle.mt_judge_laws.proofs.Since.{AllSince, AreRight, HoldsNone, is_before, is_early, is_no_fill, right_buffer, right_entry, right_line}
+use Rattle.mt_judge_laws.proofs.Accessing.{AllKeep, Keeps, access_keeps}
+use Rattle.mt_judge_laws.proofs.Since.{AllSince, AreRight, Bare, Since, is_before, is_early, is_no_fill, none_right, re_right, right_buffer, right_entry, right_line, with_view}
 
 -- ---- tests over lists
 
@@ -118,36 +120,7 @@ module _ (ps : List Processor) (runs : AllRun ps) (none : NoneWrong ps) where
       ∙ none (Disagree k j n)) in
       at_own j q (λ r. list_any (λ m. (m.ppage == n) && disagree p r m) p.mappings) at_q inner
 
--- ---- what is right by the start is right by the same registers and mappings
-
--- whether an entry is right, by registers and mappings alone
-abbrev right_by : RegisterFile × List Mapping → Processor → Entry → Bool
-right_by x p e = option_map_or (λ m. (e.ppage == m.ppage) && is_type e.kind (new_entry (record p { file = x.0 }) m).kind) (find_mapping e.vpage x.1) false
-
-right_by_view : (p : Processor) (e : Entry) → right_entry p e ≡ right_by (p.file, p.mappings) p e
-right_by_view p e = one (find_mapping e.vpage p.mappings)
-  where
-    one : (x : Option Mapping) → option_map_or (is_same_entry e) (option_map (new_entry p) x) false ≡ option_map_or (λ m. (e.ppage == m.ppage) && is_type e.kind (new_entry p m).kind) x false
-    one None = refl
-    one (Some m) = refl
-
-all_alike : {X : Type 0} → (f g : X → Bool) → ((x : X) → f x ≡ g x) → (xs : List X) → list_all f xs ≡ list_all g xs
-all_alike f g same [] = refl
-all_alike f g same (x ∷ xs) = λ i. same x i && all_alike f g same xs i
-
-abbrev with_view : Processor → RegisterFile × List Mapping → Processor
-with_view p x = record p { file = x.0; mappings = x.1 }
-
-same_right : (first p : Processor) → p.file ≡ first.file → p.mappings ≡ first.mappings → AreRight first p → AreRight p p
-same_right first p file mappings r =
-    let view : (first.file, first.mappings) ≡ (p.file, p.mappings) = λ i. (sym file i, sym mappings i) in
-    record {
-      lines = ap (λ (x : RegisterFile × List Mapping). list_all (right_line (with_view first x)) p.lines) (sym view) ∙ r.lines;
-      buffers = ap (λ (x : RegisterFile × List Mapping). list_all (right_buffer (with_view first x)) p.buffers) (sym view) ∙ r.buffers;
-      entries =
-          all_alike (right_entry p) (right_entry first) (λ e. right_by_view p e ∙ ap (λ (x : RegisterFile × List Mapping). right_by x first e) (sym view) ∙ sym (right_by_view first e)) p.entries
-          ∙ r.entries;
-    }
+-- ---- two processors that agree
 
 same_types : (p q first second : Processor) → p.file ≡ first.file → p.mappings ≡ first.mappings → q.file ≡ second.file → q.mappings ≡ second.mappings → Agree first second → Agree p q
 unfolding disagree
@@ -191,37 +164,99 @@ where_is Restored ahead in_step = inr (inr (inr (refl, refl, refl)))
 where_is Arrived2 ahead in_step = inr (inr (inr (refl, refl, refl)))
 where_is other ahead in_step = inr (inr (inl (refl, refl)))
 
-none_right : (p : Processor) → HoldsNone p → AreRight p p
-none_right p none = record {
-  lines = ap (list_all (right_line p)) none.0;
-  buffers = ap (list_all (right_buffer p)) none.1;
-  entries = ap (list_all (right_entry p)) none.2;
-}
-
 asleep : (p : Processor) → is_running p.phase ≡ false → p.cache_disabled ≡ true → is_awake p ≡ false
 asleep p still disabled = λ i. still i || not (disabled i)
 
-module _ (o : Order) (firsts ps : List Processor) (agree : (k j : ℕ) (p q : Processor) → slice_get firsts k ≡ Some p → slice_get firsts j ≡ Some q → Agree p q)
-    (g : Guarded o (stages_of ps)) (clear : AllClear (Some o) ps) (filed : AllFiled (Some o) ps) (since : AllSince o firsts ps) where
+rank_of_running : (ph : Phase) (ahead : Bool) → is_running ph ≡ true → ((rank_of ph ahead ≡ 0) × ((is_before ph && not ahead) ≡ true)) ⊎ (rank_of ph ahead ≡ 5)
+rank_of_running Running true runs = inr refl
+rank_of_running Running false runs = inl (refl, refl)
+rank_of_running other ahead runs = absurd (cc)
+
+still_rank : (ph : Phase) (ahead : Bool) → is_no_fill ph ≡ true → rank_of ph ahead ≡ 3
+still_rank Running ahead h = absurd (cc)
+still_rank Taken ahead h = absurd (cc)
+still_rank Arrived ahead h = absurd (cc)
+still_rank Arrived2 ahead h = absurd (cc)
+still_rank other ahead h = refl
+
+-- an access keeps it
+since_kept : (o : Order) (first p q : Processor) → Keeps p q → stage_of p ≡ stage_of q → Since o first p → Since o first q
+since_kept o first p q k same s =
+    let file : q.file ≡ p.file = ap (λ (x : Bare). x.0) k.same in
+    let mappings : q.mappings ≡ p.mappings = ap (λ (x : Bare). x.1) k.same in
+    record {
+      mappings = mappings ∙ s.mappings;
+      self_snoop = ap (λ (x : Bare). x.3) k.same ∙ s.self_snoop;
+      early = λ h.
+          let e = s.early (ap (λ (x : Stage). is_before x.0 && not (nat_lt o.from_era x.1)) same ∙ h) in
+          record { file = file ∙ e.file; right = re_right p first q e.file s.mappings k.right };
+      disabled = λ h. ap (λ (x : Bare). x.2) k.same ∙ s.disabled (ap (λ (x : Stage). is_no_fill x.0) same ∙ h);
+      released = λ h. re_right p q q (sym file) (sym mappings) k.right;
+    }
+
+module _ (o : Order) (firsts ps : List Processor) (g : Guarded o (stages_of ps)) (clear : AllClear (Some o) ps) (since : AllSince o firsts ps) where
   in_step : (k : ℕ) (p : Processor) → slice_get ps k ≡ Some p → is_running p.phase ≡ false → has_released o p ≡ false
   in_step k p at = g.in_step k (stage_of p) (stage_at ps k p at)
 
-  own_right : (k : ℕ) (p : Processor) → slice_get ps k ≡ Some p → is_awake p ≡ true → AreRight p p
-  own_right k p at awake =
+  -- all is right of a processor that isn't on its way with CD set
+  placed_right : (k : ℕ) (p : Processor) → slice_get ps k ≡ Some p → (IsStill p.phase → ⊥) → AreRight p p
+  placed_right k p at moves =
       let f = since k p at in
       let s = f.2 in
       ⊎_elim
-      (λ (early : is_early o p ≡ true). let e = s.early early in same_right f.0 p e.file s.mappings e.right)
+      (λ (early : is_early o p ≡ true). let e = s.early early in re_right f.0 p p (sym e.file) (sym s.mappings) e.right)
       (λ (rest : (has_released o p ≡ true) ⊎ (IsStill p.phase ⊎ IsGone p.phase)). ⊎_elim
-      (λ (released : has_released o p ≡ true). none_right p (s.released released))
+      (λ (released : has_released o p ≡ true). s.released released)
       (λ (rest' : IsStill p.phase ⊎ IsGone p.phase). ⊎_elim
-      (λ (still : IsStill p.phase). absurd (let no : is_awake p ≡ false = asleep p still.1 (s.disabled still.0) in cc))
+      (λ (still : IsStill p.phase). absurd (moves still))
       (λ (gone : IsGone p.phase). let c = clear k p at in none_right p (c.no_lines gone.0, c.no_buffers gone.1, c.no_entries gone.2))
       rest')
       rest)
       (where_is p.phase (has_released o p) (in_step k p at))
 
-  -- ---- two processors
+  own_right : (k : ℕ) (p : Processor) → slice_get ps k ≡ Some p → is_awake p ≡ true → AreRight p p
+  own_right k p at awake =
+      placed_right k p at (λ still. let no : is_awake p ≡ false = asleep p still.1 ((since k p at).2.disabled still.0) in cc)
+
+  -- while a processor runs, none is on its way with CD set
+  running_keep : (k : ℕ) (p : Processor) → slice_get ps k ≡ Some p → is_running p.phase ≡ true → AllKeep ps ps
+  running_keep k p at_p runs j q at_q = (
+    q,
+    at_q,
+    record {
+      same = refl;
+      right = placed_right j q at_q (λ still.
+          let sp = stage_at ps k p at_p in
+          let sq = stage_at ps j q at_q in
+          let third = still_rank q.phase (has_released o q) still.0 in
+          let two = g.first j k (stage_of q) (stage_of p) sq sp (omega (arith, third)) in
+          ⊎_elim
+          (λ (old : (rank o (stage_of p) ≡ 0) × (is_early o p ≡ true)). let none = old.0 in omega (arith, two, none))
+          (λ (new : rank o (stage_of p) ≡ 5). let four = g.second k j (stage_of p) (stage_of q) sp sq (omega (arith, new)) in omega (arith, third, four))
+          (rank_of_running p.phase (has_released o p) runs));
+    },
+  )
+
+  -- so an access of one that runs keeps what is kept since the start
+  pub access_since : (m : Memory) (k : ℕ) (p : Processor) (op : Op) → slice_get ps k ≡ Some p → is_running p.phase ≡ true
+      → stages_of (access_at (record { processors = ps; memory = m }) k p op).after.processors ≡ stages_of ps
+      → AllSince o firsts (access_at (record { processors = ps; memory = m }) k p op).after.processors
+  access_since m k p op at runs stages_same j q at_q =
+      let kept = access_keeps (record { processors = ps; memory = m }) k p op at (running_keep k p at runs) j q at_q in
+      let f = since j kept.0 kept.1 in
+      let there : At (stages_of ps) j (stage_of q) = subst (λ (vs : List Stage). At vs j (stage_of q)) stages_same (stage_at _ j q at_q) in
+      let same : stage_of kept.0 ≡ stage_of q = let e : Some (stage_of kept.0) ≡ Some (stage_of q) = sym (stage_at ps j kept.0 kept.1) ∙ there in cc in
+      (f.0, f.1, since_kept o f.0 kept.0 q kept.2 same f.2)
+
+  pub running_right : (k : ℕ) (p : Processor) → slice_get ps k ≡ Some p → is_running p.phase ≡ true → AreRight p p
+  running_right k p at runs = own_right k p at (ap (λ b. b || not p.cache_disabled) runs)
+
+-- ---- two processors
+
+module _ (o : Order) (firsts ps : List Processor) (agree : (k j : ℕ) (p q : Processor) → slice_get firsts k ≡ Some p → slice_get firsts j ≡ Some q → Agree p q)
+    (g : Guarded o (stages_of ps)) (clear : AllClear (Some o) ps) (filed : AllFiled (Some o) ps) (since : AllSince o firsts ps) where
+  still_at : (k : ℕ) (p : Processor) → slice_get ps k ≡ Some p → is_running p.phase ≡ false → has_released o p ≡ false
+  still_at k p at = g.in_step k (stage_of p) (stage_at ps k p at)
 
   new_file : (k : ℕ) (p : Processor) → slice_get ps k ≡ Some p → 4 ≤ rank o (stage_of p) → p.file ≡ o.goal
   new_file k p at high = one p.phase (has_released o p) (filed.1 k p at).done (filed.1 k p at).released high
@@ -242,11 +277,6 @@ module _ (o : Order) (firsts ps : List Processor) (agree : (k j : ℕ) (p q : Pr
   low_is_early Arrived2 ahead still low = absurd (low (lit≤ tt))
   low_is_early other ahead still low = absurd (low (lit≤ tt))
 
-  rank_of_running : (ph : Phase) (ahead : Bool) → is_running ph ≡ true → ((rank_of ph ahead ≡ 0) × ((is_before ph && not ahead) ≡ true)) ⊎ (rank_of ph ahead ≡ 5)
-  rank_of_running Running true runs = inr refl
-  rank_of_running Running false runs = inl (refl, refl)
-  rank_of_running other ahead runs = absurd (cc)
-
   pair_agrees : (k j : ℕ) (p q : Processor) → slice_get ps k ≡ Some p → slice_get ps j ≡ Some q → is_running p.phase ≡ true → Agree p q
   pair_agrees k j p q at_p at_q runs =
       let sp = stage_at ps k p at_p in
@@ -257,7 +287,7 @@ module _ (o : Order) (firsts ps : List Processor) (agree : (k j : ℕ) (p q : Pr
       let h = since j q at_q in
       let low : 3 ≤ rank o (stage_of q) → ⊥ = λ high. let two = g.first j k (stage_of q) (stage_of p) sq sp high in omega (arith, two, old.0) in
       let e = f.2.early old.1 in
-      let d = h.2.early (low_is_early q.phase (has_released o q) (in_step j q at_q) low) in
+      let d = h.2.early (low_is_early q.phase (has_released o q) (still_at j q at_q) low) in
       same_types p q f.0 h.0 e.file f.2.mappings d.file h.2.mappings (agree k j f.0 h.0 f.1 h.1))
       (λ (new : rank o (stage_of p) ≡ 5).
       let high = g.second k j (stage_of p) (stage_of q) sp sq (omega (arith, new)) in
@@ -280,13 +310,13 @@ module _ (o : Order) (firsts ps : List Processor) (agree : (k j : ℕ) (p q : Pr
   pub stays_right : NoneWrong ps
   stays_right (StaleLine k n) =
       awake_off k (λ q. list_any (λ l. (l.number == n) && is_stale_line q l) q.lines)
-      (λ p at awake. none_fails (λ (l : CacheLine). l.number == n) (right_line p) p.lines (own_right k p at awake).lines)
+      (λ p at awake. none_fails (λ (l : CacheLine). l.number == n) (right_line p) p.lines (own_right o firsts ps g clear since k p at awake).lines)
   stays_right (StaleBuffer k n) =
       awake_off k (λ q. list_any (λ b. (b.number == n) && is_stale_buffer q b) q.buffers)
-      (λ p at awake. none_fails (λ (b : CacheLine). b.number == n) (right_buffer p) p.buffers (own_right k p at awake).buffers)
+      (λ p at awake. none_fails (λ (b : CacheLine). b.number == n) (right_buffer p) p.buffers (own_right o firsts ps g clear since k p at awake).buffers)
   stays_right (StaleEntry k n) =
       awake_off k (λ q. list_any (λ e. (e.vpage == n) && is_stale_entry q e) q.entries)
-      (λ p at awake. none_fails (λ (e : Entry). e.vpage == n) (right_entry p) p.entries (own_right k p at awake).entries)
+      (λ p at awake. none_fails (λ (e : Entry). e.vpage == n) (right_entry p) p.entries (own_right o firsts ps g clear since k p at awake).entries)
   stays_right (Disagree k j n) = at_processor (slice_get ps k) refl
     where
       one : (p : Processor) (b : Bool) → is_running p.phase ≡ b → slice_get ps k ≡ Some p → (b && holds_at ps j (λ q. is_awake q && list_any (λ m. (m.ppage == n) && disagree p q m) p.mappings)) ≡ false

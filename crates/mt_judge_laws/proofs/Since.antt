@@ -1,8 +1,9 @@
 -- What a processor has kept since the start, in each phase, and that its events keep this.
-use Rattle.std.proofs.Common.{◌≡◌, ◌≢◌, ◌⊎◌, ◌∙◌, ap, refl, sym, subst, ⊎_elim, arith, ℕ, ◌+◌, Bool, true, false, List, [], ◌∷◌, Some}
+use Rattle.mt_tlb.specs.Entries.{find_mapping}
+use Rattle.std.proofs.Common.{◌≡◌, ◌≢◌, ◌⊎◌, ◌∙◌, ap, refl, sym, subst, ⊎_elim, arith, ℕ, ◌+◌, Bool, true, false, List, [], ◌∷◌, Some, Option, None}
 use Rattle.std.specs.Prelude.{◌==◌, not, ◌&&◌, ◌||◌, if◌then◌else◌, nat_lt, slice_get}
 use Rattle.std.specs.List.{list_all, list_any}
-use Rattle.std.specs.Option.{option_map_or}
+use Rattle.std.specs.Option.{option_map_or, option_map}
 use Rattle.std.proofs.lemmas.Bool.{lt-ltb}
 use Rattle.mt_cache.specs.declared.line.CacheLine.{CacheLine}
 use Rattle.mt_kinds.specs.declared.mem_type.MemType.{MemType}
@@ -23,7 +24,7 @@ use Rattle.mt_machine.proofs.Rows.{due_row, is_row}
 use Rattle.mt_laws.proofs.Barrier.Barriers.{flush_era}
 use Rattle.mt_laws.proofs.Barrier.Ranks.{Guarded, and_left, and_right, stage_at}
 use Rattle.mt_laws.proofs.Barrier.Stages.{Stage, stage_of, stages}
-use Rattle.mt_laws.proofs.Clearing.Cleared.{buffers_gone, entries_gone, lines_gone, none_of, none_passes}
+use Rattle.mt_laws.proofs.Clearing.Cleared.{buffers_gone, entries_gone, lines_gone}
 use Rattle.mt_laws.proofs.Clearing.Renewed.{AllClear, at_change}
 use Rattle.mt_judge.specs.Wrongs.{allows_by, is_allowed, is_same_entry, kept_as, made_entry, page_of}
 use Rattle.mt_judge.specs.declared.wrong.Kept.TheVariants.{Buffer, CleanLine, DirtyLine}
@@ -61,20 +62,20 @@ any_more f g more (x ∷ xs) h = one (f x) (g x) (more x) (any_more f g more xs)
     one false false to rest h = rest h
 
 -- where a dirty line may be, a clean one may
-clean_allowed : (p : Processor) (n : ℕ) → is_allowed p DirtyLine n ≡ true → is_allowed p CleanLine n ≡ true
+pub clean_allowed : (p : Processor) (n : ℕ) → is_allowed p DirtyLine n ≡ true → is_allowed p CleanLine n ≡ true
 clean_allowed p n h =
     any_more (allows_by p DirtyLine n) (allows_by p CleanLine n)
     (λ m g. both (m.ppage == n) _ (and_left _ _ g) (written_is_cached (new_entry p m).kind (and_right (m.ppage == n) _ g)))
     p.mappings h
 
-cleaned_is_right : (p : Processor) → IsOfClean (right_line p)
+pub cleaned_is_right : (p : Processor) → IsOfClean (right_line p)
 cleaned_is_right p l h = one (l.dirty == 0) h
   where
     one : (b : Bool) → is_allowed p (if b then CleanLine else DirtyLine) (page_of l) ≡ true → is_allowed p CleanLine (page_of l) ≡ true
     one true g = g
     one false g = clean_allowed p (page_of l) g
 
--- ---- what is kept
+-- ---- phases
 
 -- before CD is set, and while it is set
 abbrev pub is_before : Phase → Bool
@@ -100,6 +101,46 @@ is_early o p = is_before p.phase && not (has_released o p)
 abbrev pub HoldsNone : Processor → Type 0
 HoldsNone p = (p.lines ≡ []) × (p.buffers ≡ []) × (p.entries ≡ [])
 
+-- ---- what is right by registers and mappings is right by equal ones
+
+-- whether an entry is right, by registers and mappings alone
+abbrev right_by : RegisterFile × List Mapping → Processor → Entry → Bool
+right_by x p e = option_map_or (λ m. (e.ppage == m.ppage) && is_type e.kind (new_entry (record p { file = x.0 }) m).kind) (find_mapping e.vpage x.1) false
+
+right_by_view : (p : Processor) (e : Entry) → right_entry p e ≡ right_by (p.file, p.mappings) p e
+right_by_view p e = one (find_mapping e.vpage p.mappings)
+  where
+    one : (x : Option Mapping) → option_map_or (is_same_entry e) (option_map (new_entry p) x) false ≡ option_map_or (λ m. (e.ppage == m.ppage) && is_type e.kind (new_entry p m).kind) x false
+    one None = refl
+    one (Some m) = refl
+
+all_alike : {X : Type 0} → (f g : X → Bool) → ((x : X) → f x ≡ g x) → (xs : List X) → list_all f xs ≡ list_all g xs
+all_alike f g same [] = refl
+all_alike f g same (x ∷ xs) = λ i. same x i && all_alike f g same xs i
+
+abbrev pub with_view : Processor → RegisterFile × List Mapping → Processor
+with_view p x = record p { file = x.0; mappings = x.1 }
+
+pub re_right : (v w p : Processor) → v.file ≡ w.file → v.mappings ≡ w.mappings → AreRight v p → AreRight w p
+re_right v w p file mappings r =
+    let view : (w.file, w.mappings) ≡ (v.file, v.mappings) = λ i. (sym file i, sym mappings i) in
+    record {
+      lines = ap (λ (x : RegisterFile × List Mapping). list_all (right_line (with_view v x)) p.lines) view ∙ r.lines;
+      buffers = ap (λ (x : RegisterFile × List Mapping). list_all (right_buffer (with_view v x)) p.buffers) view ∙ r.buffers;
+      entries =
+          all_alike (right_entry w) (right_entry v) (λ e. right_by_view w e ∙ ap (λ (x : RegisterFile × List Mapping). right_by x v e) view ∙ sym (right_by_view v e)) p.entries
+          ∙ r.entries;
+    }
+
+pub none_right : (p : Processor) → HoldsNone p → AreRight p p
+none_right p none = record {
+  lines = ap (list_all (right_line p)) none.0;
+  buffers = ap (list_all (right_buffer p)) none.1;
+  entries = ap (list_all (right_entry p)) none.2;
+}
+
+-- ---- what is kept since the start
+
 pub record IsEarly (first p : Processor) : Type 0 where
   pub file : p.file ≡ first.file
   pub right : AreRight first p
@@ -110,7 +151,7 @@ pub record Since (o : Order) (first p : Processor) : Type 0 where
   pub self_snoop : p.self_snoop ≡ first.self_snoop
   pub early : is_early o p ≡ true → IsEarly first p
   pub disabled : is_no_fill p.phase ≡ true → p.cache_disabled ≡ true
-  pub released : has_released o p ≡ true → HoldsNone p
+  pub released : has_released o p ≡ true → AreRight p p
 
 right_of : (first p q : Processor) → q.lines ≡ p.lines → q.buffers ≡ p.buffers → q.entries ≡ p.entries → AreRight first p → AreRight first q
 right_of first p q lines buffers entries r = record {
@@ -136,19 +177,21 @@ since_fewer o first p q f s = record {
       };
   disabled = λ h. ap (λ (x : Processor). x.cache_disabled) f.bare ∙ s.disabled (ap (λ (x : Processor). is_no_fill x.phase) (sym f.bare) ∙ h);
   released = λ h.
-      let none = s.released (ap (has_released o) (sym f.bare) ∙ h) in (
-        none_of q.lines (f.lines (λ (l : CacheLine). false) (λ l e. e) (none_passes (λ (l : CacheLine). false) p.lines none.0)),
-        none_of q.buffers (f.buffers (λ (l : CacheLine). false) (none_passes (λ (l : CacheLine). false) p.buffers none.1)),
-        ap (λ (x : Processor). x.entries) f.bare ∙ none.2,
-      );
+      let r = s.released (ap (has_released o) (sym f.bare) ∙ h) in
+      re_right p q q (ap (λ (x : Processor). x.file) (sym f.bare)) (ap (λ (x : Processor). x.mappings) (sym f.bare))
+      (record {
+        lines = f.lines (right_line p) (cleaned_is_right p) r.lines;
+        buffers = f.buffers (right_buffer p) r.buffers;
+        entries = ap (λ (x : Processor). list_all (right_entry p) x.entries) f.bare ∙ r.entries;
+      });
 }
 
 -- ---- a processor's own part
 
-abbrev Bare : Type 0
+abbrev pub Bare : Type 0
 Bare = RegisterFile × List Mapping × Bool × Bool
 
-abbrev bare : Processor → Bare
+abbrev pub bare : Processor → Bare
 bare p = (p.file, p.mappings, p.cache_disabled, p.self_snoop)
 
 flush_bare : (ph : Phase) (p : Processor) → bare (flush_tlb ph p) ≡ bare p
@@ -172,7 +215,7 @@ module _ (o : Order) (first p : Processor) (s : Since o first p) (in_step : is_r
         let e = s.early (both (is_before p.phase) _ before (and_right (is_before to) _ h)) in
         record { file = e.file; right = right_of first p (record p { phase = to }) refl refl refl e.right };
     disabled = λ h. absurd (cc);
-    released = s.released;
+    released = λ h. re_right p (record p { phase = to }) (record p { phase = to }) refl refl (right_of p p (record p { phase = to }) refl refl refl (s.released h));
   }
 
   -- a step of a processor that has set CD, and hasn't released
@@ -258,7 +301,7 @@ module _ (o : Order) (first p : Processor) (s : Since o first p) (in_step : is_r
     self_snoop = s.self_snoop;
     early = λ h. absurd (let a : not (nat_lt o.from_era (p.era + 1)) ≡ true = h in cc);
     disabled = λ h. absurd (cc);
-    released = λ h. gone refl;
+    released = λ h. none_right (own_step o.goal Release p) (gone refl);
   }
   own_since Release other same row gone above = absurd (cc)
 

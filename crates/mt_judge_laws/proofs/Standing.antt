@@ -1,40 +1,47 @@
 -- What holds in each state of the manual's lists, and that each step keeps it.
 use Rattle.std.proofs.Common.{◌≡◌, ◌≢◌, ◌⊎◌, ◌∙◌, ap, refl, sym, subst, inl, inr, ⊎_elim, arith, ℕ, zero, suc, ◌+◌, ◌≤◌, Bool, true, false, List, [], ◌∷◌, drop, length, set, Option, None, Some}
-use Rattle.std.specs.Prelude.{◌||◌, if◌then◌else◌, MatchOption, nat_lt, slice_get, slice_set}
-use Rattle.std.specs.List.{count_by, list_all}
+use Rattle.std.specs.Prelude.{◌||◌, if◌then◌else◌, MatchOption, nat_lt, slice_get, slice_set, ◌==◌, ◌&&◌, not}
+use Rattle.std.specs.List.{count_by, list_all, All}
 use Rattle.std.specs.Option.{option_map_or}
-use Rattle.std.proofs.lemmas.Bool.{and_parts, lt-ltb}
+use Rattle.std.proofs.lemmas.Bool.{and_parts, lt-ltb, eqb-true, le-ltb}
 use Rattle.std.proofs.lemmas.List.{length-set}
 use Rattle.std.proofs.lemmas.Option.{get_or_from_slice_get}
 use Rattle.mt_regs.specs.RegisterFile.{RegisterFile}
 use Rattle.mt_regs.specs.Registers.{writable}
 use Rattle.mt_machine.specs.declared.event.Event.{Event}
-use Rattle.mt_machine.specs.declared.event.Event.TheVariants.{FlushTlb, Leave}
+use Rattle.mt_machine.specs.declared.event.Event.TheVariants.{FlushTlb, Leave, Take}
 use Rattle.mt_machine.specs.declared.phase.Phase.{Phase}
 use Rattle.mt_machine.specs.declared.phase.Phase.TheVariants.{Running, Arrived2}
-use Rattle.mt_machine.specs.Access.{is_running}
-use Rattle.mt_machine.specs.Machine.{IsEnabled, Order, Reached, Steps, after, after_flush, due, has_arrived, has_arrived_again, has_released, is_over, next, own_step, remaining_order, step}
+use Rattle.mt_machine.specs.Access.{is_running, Answered, access, access_at}
+use Rattle.mt_machine.specs.Machine.{IsEnabled, Order, Reached, Steps, after, after_flush, due, has_arrived, has_arrived_again, has_released, is_over, own_step, remaining_order, step, Accesses, FitsOp, is_cancelled}
 use Rattle.mt_machine.specs.Start.{IsStart}
 use Rattle.mt_machine.specs.System.{Processor, System}
 use Rattle.mt_machine.proofs.Rows.{due_row}
 use Rattle.mt_laws.proofs.Barrier.Barriers.{flush_era, step_guarded, step_stages}
-use Rattle.mt_laws.proofs.Barrier.Ranks.{At, Guarded, all_at, at_set, stage_at}
-use Rattle.mt_laws.proofs.Barrier.Stages.{Stage, stage_of, stages_of}
-use Rattle.mt_laws.proofs.Clearing.Renewed.{AllClear, steps_clear}
+use Rattle.mt_laws.proofs.Barrier.Ranks.{At, Guarded, all_at, at_set, stage_at, is_ahead}
+use Rattle.mt_laws.proofs.Barrier.Stages.{Stage, stage_of, stages_of, access_stages, stages}
+use Rattle.mt_laws.proofs.Clearing.Renewed.{AllClear, steps_clear, clear_next}
 use Rattle.mt_laws.proofs.Invariant.Kept.{start_aligned}
 use Rattle.mt_laws.proofs.Invariant.Standing.{reached_standing, start_standing}
-use Rattle.mt_laws.proofs.Registers.Filed.{AllFiled, filed_steps}
+use Rattle.mt_laws.proofs.Registers.Filed.{AllFiled, filed_steps, filed_next}
 use Rattle.mt_judge.specs.Parts.{bus}
 use Rattle.mt_judge.specs.Runs.{Case, State, after as state_after, arrived_at, counted, due_in, due_of, event_in, is_fit, is_open, list_of, may_go, move_of, moved, next_step, place_after, place_of, procedure_order, step_at, step_behind, system_of}
-use Rattle.mt_judge.specs.Steps.{after_step, event_of, passage}
+use Rattle.mt_judge.specs.Steps.{after_step, event_of, passage, accessed, answer_of_step}
 use Rattle.mt_judge.specs.Wrongs.{fault_of, fault_with}
 use Rattle.mt_judge.specs.declared.step.Place.{Place}
 use Rattle.mt_judge.specs.declared.step.Step.{Step}
 use Rattle.mt_judge.specs.declared.step.Step.TheVariants as list
-use Rattle.mt_judge_laws.specs.Manual.{IsDue, at_rest, is_tlb_flush, machine_of}
+use Rattle.mt_judge_laws.specs.Manual.{IsDue, at_rest, is_tlb_flush, machine_of, accesses}
 use Rattle.mt_judge_laws.proofs.Counting.{Counts, again, all_pass, all_staged, arrived, counts, era_after, first_after, phase_after, second_after, stage_after}
-use Rattle.mt_judge_laws.proofs.Placing.{IsPlace, Turn, Waits, none_left, place_up, turn, two_at_least}
+use Rattle.mt_judge_laws.proofs.Placing.{IsPlace, Turn, Waits, place_up, turn, two_at_least, DoesAccess}
 use Rattle.mt_judge_laws.proofs.Since.{AllSince, steps_since}
+use Rattle.mt_machine.specs.declared.op.Op.{Op}
+use Rattle.mt_machine.specs.declared.done.Done.TheVariants.{Busy}
+use Rattle.mt_bus.specs.Parts.{answered}
+use Rattle.mt_judge.specs.declared.moves.Outcome.{Outcome}
+use Rattle.mt_judge.specs.declared.moves.Outcome.TheVariants.{Accessed}
+use Rattle.mt_judge_laws.proofs.Accessing.{access_right}
+use Rattle.mt_judge_laws.proofs.Right.{access_since, running_right}
 
 -- ---- lists
 
@@ -76,9 +83,11 @@ snoops_at first k = option_map_or (λ p. p.self_snoop) (slice_get first.processo
 
 -- where a processor in this stage is in its list
 pub record PlaceOf (c : Case) (first s : State) (k : ℕ) (x : Stage) : Type 0 where
+  pub behind : List Op
+  pub fit : All FitsOp behind
   pub place : Place
   pub here : slice_get s.places k ≡ Some place
-  pub is : IsPlace (length first.processors) (length (writable c.goal)) (snoops_at first k) (arrived_at s.arrived 1) x.0 (nat_lt 0 x.1) (drop place.step (list_of c k)) place.part
+  pub is : IsPlace (length first.processors) (length (writable c.goal)) behind (snoops_at first k) (arrived_at s.arrived 1) x.0 (nat_lt 0 x.1) (drop place.step (list_of c k)) place.part
 
 abbrev pub AllPlaced : Case → State → State → Type 0
 AllPlaced c first s = (k : ℕ) (x : Stage) → At (stages_of s.processors) k x → PlaceOf c first s k x
@@ -117,11 +126,18 @@ pub record Goes (c : Case) (first s : State) (k : ℕ) : Type 0 where
   pub right : fault_of s.processors (move_of c s k todo) ≡ None
   pub stands : Stands c first (moved c s k)
 
-still_behind : (n r : ℕ) (snoops : Bool) (count : ℕ) (steps : List Step) (i part : ℕ) (todo : Step) (ph : Phase) (ahead : Bool) → (is_running ph ≡ false → ahead ≡ false)
-    → IsPlace n r snoops count ph ahead (drop i steps) part → slice_get steps i ≡ Some todo → ahead ≡ false
-still_behind n r snoops count steps i part todo Running true in_step place next = absurd (let none = none_left steps i place in cc)
-still_behind n r snoops count steps i part todo Running false in_step place next = refl
-still_behind n r snoops count steps i part todo other ahead in_step place next = in_step refl
+-- a processor with an event that is due hasn't released
+due_behind : (o : Order) (ps : List Processor) (p : Processor) (e : Event) → (is_running p.phase ≡ false → has_released o p ≡ false) → due o ps p p.phase ≡ Some e → has_released o p ≡ false
+due_behind o ps p e in_step h = by_phase p.phase in_step h
+  where
+    takes : (a b : Bool) → (p.era == o.from_era) ≡ a → (if a && not b then Some Take else None) ≡ Some e → has_released o p ≡ false
+    takes false b is g = absurd (cc)
+    takes true true is g = absurd (cc)
+    takes true false is g = let same = eqb-true p.era o.from_era is in le-ltb o.from_era p.era (omega (arith, same))
+
+    by_phase : (ph : Phase) → (is_running ph ≡ false → has_released o p ≡ false) → due o ps p ph ≡ Some e → has_released o p ≡ false
+    by_phase Running still g = takes (p.era == o.from_era) (is_cancelled o.go) refl g
+    by_phase other still g = still refl
 
 -- an update isn't over where a processor hasn't released
 not_over : (c : Case) (ps : List Processor) (k : ℕ) (p : Processor) → slice_get ps k ≡ Some p → has_released (order_of c) p ≡ false → is_over (order_of c) ps ≡ false
@@ -134,17 +150,14 @@ not_over c ps k p at behind = one (list_all (has_released (order_of c)) ps) refl
 module _ (c : Case) (first : State) (start : IsStart (at_rest c first)) (few : length first.processors ≤ 64) (s : State) (st : Stands c first s) (k : ℕ) (p : Processor)
     (at : slice_get s.processors k ≡ Some p) (todo : Step) (place : Place) (here : slice_get s.places k ≡ Some place) (next_is : slice_get (list_of c k) place.step ≡ Some todo)
     (opened : is_open s.arrived todo ≡ true) (is : next_step c s k ≡ Some todo)
-    (placed : IsPlace (length first.processors) (length (writable c.goal)) p.self_snoop (arrived_at s.arrived 1) p.phase (nat_lt 0 p.era) (drop place.step (list_of c k)) place.part)
+    (rest : List Op) (fit : All FitsOp rest)
+    (placed : IsPlace (length first.processors) (length (writable c.goal)) rest p.self_snoop (arrived_at s.arrived 1) p.phase (nat_lt 0 p.era) (drop place.step (list_of c k)) place.part)
     (snoops : snoops_at first k ≡ p.self_snoop) where
   place_is : place_of s k ≡ place
   place_is = get_or_from_slice_get s.places k place (record { step = 0; part = 0 }) here
 
   here_stage : At (stages_of s.processors) k (stage_of p)
   here_stage = stage_at s.processors k p at
-
-  behind : nat_lt 0 p.era ≡ false
-  behind = still_behind (length first.processors) (length (writable c.goal)) p.self_snoop (arrived_at s.arrived 1) (list_of c k) place.step place.part todo p.phase (nat_lt 0 p.era)
-      (st.guarded.in_step k (stage_of p) here_stage) placed next_is
 
   later : nat_lt 0 (p.era + 1) ≡ true
   later = lt-ltb 0 (p.era + 1) (omega arith)
@@ -165,22 +178,28 @@ module _ (c : Case) (first : State) (start : IsStart (at_rest c first)) (few : l
       ap (λ (x : Option Processor). option_map_or (due_of s.processors) x None) at
       ∙ due_alike p.file c.goal s.processors p p.phase
 
-  fault_is : ((q : Processor) → fault_with k todo (move_of c s k todo).outcome q ≡ None) → fault_of s.processors (move_of c s k todo) ≡ None
+  fault_is : fault_with k todo (move_of c s k todo).outcome p ≡ None → fault_of s.processors (move_of c s k todo) ≡ None
   fault_is none =
-      ap (λ (x : Option Processor). option_map_or (fault_with k todo (move_of c s k todo).outcome) x None) at ∙ none p
+      ap (λ (x : Option Processor). option_map_or (fault_with k todo (move_of c s k todo).outcome) x None) at ∙ none
 
   abbrev TurnHere : Type 0
-  TurnHere = Turn c.goal s.processors (length first.processors) (length (writable c.goal)) (list_of c k) place p s.arrived todo
+  TurnHere = Turn c.goal s.processors (length first.processors) (length (writable c.goal)) rest (list_of c k) place p s.arrived todo
 
   abbrev WaitsHere : Type 0
-  WaitsHere = Waits c.goal s.processors (length first.processors) (length (writable c.goal)) (list_of c k) place p s.arrived todo
+  WaitsHere = Waits c.goal s.processors (length first.processors) (length (writable c.goal)) rest (list_of c k) place p s.arrived todo
+
+  abbrev AccessHere : Type 0
+  AccessHere = DoesAccess c.goal s.processors (length first.processors) (length (writable c.goal)) rest (list_of c k) place p s.arrived todo
 
   -- ---- an event
 
   module _ (e : Event) (event : event_of todo place.part p ≡ Some e) (now_due : due (order_of c) s.processors p p.phase ≡ Some e) (stays : e ≡ Leave → ⊥)
       (counted_is : (a b : ℕ) (xs : List ℕ) → counted todo (a ∷ b ∷ xs) ≡ first_after e a ∷ second_after e b ∷ xs)
-      (after_is : IsPlace (length first.processors) (length (writable c.goal)) p.self_snoop (arrived_at s.arrived 1) (phase_after e p.phase) (nat_lt 0 (era_after e p.era))
+      (after_is : IsPlace (length first.processors) (length (writable c.goal)) rest p.self_snoop (arrived_at s.arrived 1) (phase_after e p.phase) (nat_lt 0 (era_after e p.era))
       (drop (place_after place todo (Some e) (length (writable c.goal))).step (list_of c k)) (place_after place todo (Some e) (length (writable c.goal))).part) where
+    behind : nat_lt 0 p.era ≡ false
+    behind = due_behind (order_of c) s.processors p e (st.guarded.in_step k (stage_of p) here_stage) now_due
+
     abbrev to : System
     to = step c.goal e k (system_of c s)
 
@@ -237,11 +256,13 @@ module _ (c : Case) (first : State) (start : IsStart (at_rest c first)) (few : l
 
     moved_place : PlaceOf c first (built c s k todo place (Some e)) k (stage_after e (stage_of p))
     moved_place = record {
+      behind = rest;
+      fit = fit;
       place = place';
       here = set_same s.places k place place' here;
-      is = subst (λ (b : Bool). IsPlace (length first.processors) (length (writable c.goal)) b (arrived_at (counted todo s.arrived) 1) (phase_after e p.phase) (nat_lt 0 (era_after e p.era)) (drop place'.step (list_of c k)) place'.part)
+      is = subst (λ (b : Bool). IsPlace (length first.processors) (length (writable c.goal)) rest b (arrived_at (counted todo s.arrived) 1) (phase_after e p.phase) (nat_lt 0 (era_after e p.era)) (drop place'.step (list_of c k)) place'.part)
           (sym snoops)
-          (place_up (length first.processors) (length (writable c.goal)) p.self_snoop (arrived_at s.arrived 1) (arrived_at (counted todo s.arrived) 1) up
+          (place_up (length first.processors) (length (writable c.goal)) rest p.self_snoop (arrived_at s.arrived 1) (arrived_at (counted todo s.arrived) 1) up
           (phase_after e p.phase) (nat_lt 0 (era_after e p.era)) (drop place'.step (list_of c k)) place'.part after_is);
     }
 
@@ -260,9 +281,11 @@ module _ (c : Case) (first : State) (start : IsStart (at_rest c first)) (few : l
         let q = st.places j x was in
         let r : PlaceOf c first (built c s k todo place (Some e)) j x =
         record {
+          behind = q.behind;
+          fit = q.fit;
           place = q.place;
           here = h.1 ∙ q.here;
-          is = place_up (length first.processors) (length (writable c.goal)) (snoops_at first j) (arrived_at s.arrived 1) (arrived_at (counted todo s.arrived) 1) up
+          is = place_up (length first.processors) (length (writable c.goal)) q.behind (snoops_at first j) (arrived_at s.arrived 1) (arrived_at (counted todo s.arrived) 1) up
               x.0 (nat_lt 0 x.1) (drop q.place.step (list_of c j)) q.place.part q.is;
         } in r)
         (at_set (stages_of s.processors) k j (stage_after e (stage_of p)) x there))
@@ -285,7 +308,7 @@ module _ (c : Case) (first : State) (start : IsStart (at_rest c first)) (few : l
     todo = todo;
     is = is;
     due_is = subst (λ (x : Option Event). MatchOption x (is_tlb_flush todo ≡ false) (λ e. due_in s.processors k ≡ Some e)) (sym (event_is (Some t.event) t.is)) (due_is ∙ t.due_is);
-    right = fault_is (λ q. t.right k (move_of c s k todo).outcome q);
+    right = fault_is (t.right k (move_of c s k todo).outcome p);
     stands = subst (Stands c first) (sym (moved_is (Some t.event) t.is)) (stands_to t.event t.is t.due_is t.stays t.counts t.place);
   }
 
@@ -294,7 +317,7 @@ module _ (c : Case) (first : State) (start : IsStart (at_rest c first)) (few : l
   abbrev behind_wait : State
   behind_wait = record s { places = slice_set s.places k (step_behind place) }
 
-  waited_places : drop (place.step + 1) (list_of c k) ≡ list.GoOn ∷ [] → length first.processors ≤ arrived_at s.arrived 1 → p.phase ≡ Arrived2 → AllPlaced c first behind_wait
+  waited_places : drop (place.step + 1) (list_of c k) ≡ list.GoOn ∷ accesses rest → length first.processors ≤ arrived_at s.arrived 1 → p.phase ≡ Arrived2 → AllPlaced c first behind_wait
   waited_places left full phase j x at_x = ⊎_elim
       (λ (h : (j ≡ k) × (slice_get (set s.places k (step_behind place)) j ≡ Some (step_behind place))).
       let own : At (stages_of s.processors) k x = subst (λ (i : ℕ). At (stages_of s.processors) i x) h.0 at_x in
@@ -302,14 +325,16 @@ module _ (c : Case) (first : State) (start : IsStart (at_rest c first)) (few : l
       let arrived2 : Arrived2 ≡ x.0 = sym phase ∙ ap (λ (y : Stage). y.0) same in
       let there : PlaceOf c first behind_wait k x =
       record {
+        behind = rest;
+        fit = fit;
         place = step_behind place;
         here = set_same s.places k place (step_behind place) here;
-        is = subst (λ (ph : Phase). IsPlace (length first.processors) (length (writable c.goal)) (snoops_at first k) (arrived_at s.arrived 1) ph (nat_lt 0 x.1) (drop (place.step + 1) (list_of c k)) 0) arrived2 (inr (left, full));
+        is = subst (λ (ph : Phase). IsPlace (length first.processors) (length (writable c.goal)) rest (snoops_at first k) (arrived_at s.arrived 1) ph (nat_lt 0 x.1) (drop (place.step + 1) (list_of c k)) 0) arrived2 (inr (left, full));
       } in
       subst (λ (i : ℕ). PlaceOf c first behind_wait i x) (sym h.0) there)
       (λ (h : (j ≢ k) × (slice_get (set s.places k (step_behind place)) j ≡ slice_get s.places j)).
       let q = st.places j x at_x in
-      let r : PlaceOf c first behind_wait j x = record { place = q.place; here = h.1 ∙ q.here; is = q.is } in r)
+      let r : PlaceOf c first behind_wait j x = record { behind = q.behind; fit = q.fit; place = q.place; here = h.1 ∙ q.here; is = q.is } in r)
       (set_get s.places k place (step_behind place) j here)
 
   waited : WaitsHere → Goes c first s k
@@ -331,14 +356,124 @@ module _ (c : Case) (first : State) (start : IsStart (at_rest c first)) (few : l
         todo = todo;
         is = is;
         due_is = subst (λ (x : Option Event). MatchOption x (is_tlb_flush todo ≡ false) (λ e. due_in s.processors k ≡ Some e)) (sym (event_is None none)) (ap is_tlb_flush w.is);
-        right = fault_is (λ q. ap (λ (t : Step). fault_with k t (move_of c s k todo).outcome q) w.is);
+        right = fault_is (ap (λ (t : Step). fault_with k t (move_of c s k todo).outcome p) w.is);
         stands = subst (Stands c first) (sym (moved_is None none ∙ ap (λ (t : Step). built c s k t place None) w.is)) stands;
       }
 
+  -- ---- an access
+
+  module _ (op : Op) (fits : FitsOp op) (todo_is : todo ≡ list.Access op) (runs : p.phase ≡ Running)
+      (after_is : IsPlace (length first.processors) (length (writable c.goal)) rest p.self_snoop (arrived_at s.arrived 1) Running (nat_lt 0 p.era) (drop (place.step + 1) (list_of c k)) 0) where
+    running : is_running p.phase ≡ true
+    running = ap is_running runs
+
+    no_event : event_of todo place.part p ≡ None
+    no_event = ap (λ (t : Step). event_of t place.part p) todo_is
+
+    abbrev done : Answered
+    done = access_at (system_of c s) k p op
+
+    abbrev touched : System
+    touched = done.after
+
+    access_is : access (system_of c s) k op ≡ done
+    access_is =
+        ap (λ (x : Option Processor). option_map_or (λ q. if is_running q.phase then access_at (system_of c s) k q op else record { answer = Busy; after = system_of c s }) x (record { answer = Busy; after = system_of c s })) at
+        ∙ ap (λ (b : Bool). if b then done else record { answer = Busy; after = system_of c s }) running
+
+    accessed_is : accessed op k (system_of c s) ≡ done
+    accessed_is = ap (λ (x : Option Processor). option_map_or (λ q. access_at (system_of c s) k q op) x (answered Busy (system_of c s))) at
+
+    after_access : (access (system_of c s) k op).after ≡ touched
+    after_access = ap (λ (x : Answered). x.after) access_is
+
+    same_stages : stages_of touched.processors ≡ stages_of s.processors
+    same_stages = ap stages (sym after_access) ∙ access_stages (system_of c s) k op
+
+    enabled : IsEnabled (record { system = system_of c s; order = Some (order_of c) }) (Accesses k op)
+    enabled = (ap (λ (x : Option Processor). option_map_or (λ q. is_running q.phase) x false) at ∙ running, fits)
+
+    same_order : remaining_order (order_of c) s.processors ≡ remaining_order (order_of c) touched.processors
+    same_order =
+        let all_same : list_all (has_released (order_of c)) s.processors ≡ list_all (has_released (order_of c)) touched.processors =
+        all_staged (is_ahead (order_of c)) s.processors ∙ ap (list_all (is_ahead (order_of c))) (sym same_stages) ∙ sym (all_staged (is_ahead (order_of c)) touched.processors) in
+        ap (λ (b : Bool). if b || false then None else Some (order_of c)) all_same
+
+    reaches_access : Reached (at_rest c first) (record { system = touched; order = remaining_order (order_of c) touched.processors })
+    reaches_access =
+        subst (λ (o : Option Order). Reached (at_rest c first) (record { system = touched; order = o })) same_order
+        (subst (λ (t : System). Reached (at_rest c first) (record { system = t; order = remaining_order (order_of c) s.processors })) after_access
+        (after (Accesses k op) st.reached enabled))
+
+    same_windows : touched.memory.windows ≡ c.layout.windows
+    same_windows = (reached_standing c.layout.windows (start_aligned (at_rest c first) start) reaches_access (start_standing (at_rest c first) start)).agrees.stands.memory.windows
+
+    same_system : touched ≡ bus c.layout touched.processors touched.memory.words
+    same_system = λ i. record { processors = touched.processors; memory = record { windows = same_windows i; words = touched.memory.words } }
+
+    abbrev behind_access : State
+    behind_access = record { processors = touched.processors; words = touched.memory.words; places = slice_set s.places k (step_behind place); arrived = s.arrived }
+
+    built_is : built c s k todo place None ≡ behind_access
+    built_is =
+        ap (λ (t : Step). built c s k t place None) todo_is
+        ∙ (λ i. record { processors = (accessed_is i).after.processors; words = (accessed_is i).after.memory.words; places = slice_set s.places k (step_behind place); arrived = s.arrived })
+
+    access_places : AllPlaced c first behind_access
+    access_places j x at_x =
+        let there : At (stages_of s.processors) j x = subst (λ (vs : List Stage). At vs j x) same_stages at_x in
+        ⊎_elim
+        (λ (h : (j ≡ k) × (slice_get (set s.places k (step_behind place)) j ≡ Some (step_behind place))).
+        let own : At (stages_of s.processors) k x = subst (λ (i : ℕ). At (stages_of s.processors) i x) h.0 there in
+        let same : (Running, p.era) ≡ x = let i : Some (stage_of p) ≡ Some x = sym here_stage ∙ own in (λ i. (sym runs i, p.era)) ∙ (let e : stage_of p ≡ x = cc in e) in
+        let to : PlaceOf c first behind_access k (Running, p.era) =
+        record {
+          behind = rest;
+          fit = fit;
+          place = step_behind place;
+          here = set_same s.places k place (step_behind place) here;
+          is = subst (λ (b : Bool). IsPlace (length first.processors) (length (writable c.goal)) rest b (arrived_at s.arrived 1) Running (nat_lt 0 p.era) (drop (place.step + 1) (list_of c k)) 0) (sym snoops) after_is;
+        } in
+        subst (λ (i : ℕ). PlaceOf c first behind_access i x) (sym h.0) (subst (λ (y : Stage). PlaceOf c first behind_access k y) same to))
+        (λ (h : (j ≢ k) × (slice_get (set s.places k (step_behind place)) j ≡ slice_get s.places j)).
+        let q = st.places j x there in
+        let r : PlaceOf c first behind_access j x = record { behind = q.behind; fit = q.fit; place = q.place; here = h.1 ∙ q.here; is = q.is } in r)
+        (set_get s.places k place (step_behind place) j here)
+
+    stands_access : Stands c first behind_access
+    stands_access = record {
+      reached = subst (λ (t : System). Reached (at_rest c first) (record { system = t; order = remaining_order (order_of c) touched.processors })) same_system reaches_access;
+      guarded = subst (Guarded (order_of c)) (sym same_stages) st.guarded;
+      clear = subst (λ (t : System). AllClear (Some (order_of c)) t.processors) after_access (clear_next (Accesses k op) (system_of c s) (Some (order_of c)) enabled st.guarded st.clear);
+      filed = subst (λ (t : System). AllFiled (Some (order_of c)) t.processors) after_access (filed_next (Accesses k op) (system_of c s) (Some (order_of c)) enabled st.guarded st.filed);
+      since = access_since (order_of c) first.processors s.processors st.guarded st.clear st.since (system_of c s).memory k p op at running same_stages;
+      counts = subst (λ (vs : List Stage). AreCounted (order_of c) vs s.arrived) (sym same_stages) st.counts;
+      places = access_places;
+      long = ap length same_stages ∙ st.long;
+    }
+
+    outcome_is : (move_of c s k todo).outcome ≡ Accessed done.answer
+    outcome_is =
+        ap (λ (e : Option Event). answer_of_step e todo k (system_of c s)) (event_is None no_event)
+        ∙ ap (λ (t : Step). answer_of_step None t k (system_of c s)) todo_is
+        ∙ ap (λ (x : Answered). Accessed x.answer) accessed_is
+
+    pub goes_access : Goes c first s k
+    goes_access = record {
+      todo = todo;
+      is = is;
+      due_is = subst (λ (x : Option Event). MatchOption x (is_tlb_flush todo ≡ false) (λ e. due_in s.processors k ≡ Some e)) (sym (event_is None no_event)) (ap is_tlb_flush todo_is);
+      right = fault_is
+          (ap (λ (x : Outcome). fault_with k todo x p) outcome_is
+          ∙ ap (λ (t : Step). fault_with k t (Accessed done.answer) p) todo_is
+          ∙ access_right k k p (running_right (order_of c) first.processors s.processors st.guarded st.clear st.since k p at running) (system_of c s) op);
+      stands = subst (Stands c first) (sym (moved_is None no_event ∙ built_is)) stands_access;
+    }
+
   pub goes_here : length (writable p.file) ≡ length (writable c.goal) → Goes c first s k
   goes_here registers =
-      ⊎_elim turned waited
-      (turn c.goal s.processors (length first.processors) (length (writable c.goal)) (list_of c k) place p todo s.arrived next_is registers (two_at_least c.goal) opened first_open second_open later
+      ⊎_elim turned (λ (other : WaitsHere ⊎ AccessHere). ⊎_elim waited (λ (a : AccessHere). goes_access a.op a.fit a.is a.phase a.place) other)
+      (turn c.goal s.processors (length first.processors) (length (writable c.goal)) rest fit (list_of c k) place p todo s.arrived next_is registers (two_at_least c.goal) opened first_open second_open later
       p.phase (nat_lt 0 p.era) refl refl placed)
     where
       first_open : length first.processors ≤ arrived_at s.arrived 0 → list_all (has_arrived (order_of c)) s.processors ≡ true
@@ -366,13 +501,12 @@ module _ (c : Case) (first : State) (start : IsStart (at_rest c first)) (few : l
 
   -- where the processor is in its list
   pub placed_at : (p : Processor) → slice_get s.processors k ≡ Some p
-      → (place : Place) × (slice_get s.places k ≡ Some place)
-      × IsPlace (length first.processors) (length (writable c.goal)) p.self_snoop (arrived_at s.arrived 1) p.phase (nat_lt 0 p.era) (drop place.step (list_of c k)) place.part
+      → (q : PlaceOf c first s k (stage_of p))
+      × IsPlace (length first.processors) (length (writable c.goal)) q.behind p.self_snoop (arrived_at s.arrived 1) p.phase (nat_lt 0 p.era) (drop q.place.step (list_of c k)) q.place.part
   placed_at p at =
       let q = st.places k (stage_of p) (stage_at s.processors k p at) in (
-        q.place,
-        q.here,
-        subst (λ (b : Bool). IsPlace (length first.processors) (length (writable c.goal)) b (arrived_at s.arrived 1) p.phase (nat_lt 0 p.era) (drop q.place.step (list_of c k)) q.place.part) (snoops_are p at) q.is,
+        q,
+        subst (λ (b : Bool). IsPlace (length first.processors) (length (writable c.goal)) q.behind b (arrived_at s.arrived 1) p.phase (nat_lt 0 p.era) (drop q.place.step (list_of c k)) q.place.part) (snoops_are p at) q.is,
       )
 
   pub goes : may_go c s k ≡ true → Goes c first s k
@@ -388,9 +522,9 @@ module _ (c : Case) (first : State) (start : IsStart (at_rest c first)) (few : l
       at_step p at None known opened = absurd (cc)
       at_step p at (Some todo) known opened =
           let q = placed_at p at in
-          let place_is : place_of s k ≡ q.0 = get_or_from_slice_get s.places k q.0 (record { step = 0; part = 0 }) q.1 in
-          let next_is : slice_get (list_of c k) q.0.step ≡ Some todo = ap (λ (x : Place). slice_get (list_of c k) x.step) (sym place_is) ∙ known in
-          goes_here c first start few s st k p at todo q.0 q.1 next_is opened (next_known todo known) q.2 (snoops_are p at) (registers_are p at)
+          let place_is : place_of s k ≡ q.0.place = get_or_from_slice_get s.places k q.0.place (record { step = 0; part = 0 }) q.0.here in
+          let next_is : slice_get (list_of c k) q.0.place.step ≡ Some todo = ap (λ (x : Place). slice_get (list_of c k) x.step) (sym place_is) ∙ known in
+          goes_here c first start few s st k p at todo q.0.place q.0.here next_is opened (next_known todo known) q.0.behind q.0.fit q.1 (snoops_are p at) (registers_are p at)
 
       at_processor : (x : Option Processor) → slice_get s.processors k ≡ x → option_map_or (is_fit c.goal) x false ≡ true → Goes c first s k
       at_processor None at fit = absurd (cc)

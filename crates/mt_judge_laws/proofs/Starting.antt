@@ -1,13 +1,13 @@
 -- A right start of the manual's lists has what is kept, and the laws.
 use Rattle.std.proofs.Common.{◌≡◌, ◌⊎◌, ◌∙◌, ap, refl, sym, subst, inl, inr, ⊎_elim, arith, ℕ, zero, suc, ◌<◌, ◌≤◌, Bool, true, false, List, [], ◌∷◌, drop, length, replicate, Option, None, Some}
-use Rattle.std.specs.Prelude.{cond, ◌||◌, if◌then◌else◌, is_some, map, nat_lt, not, slice_get}
+use Rattle.std.specs.Prelude.{cond, ◌||◌, if◌then◌else◌, is_some, nat_lt, not, slice_get}
 use Rattle.std.specs.List.{All, count_by, list_all}
 use Rattle.std.specs.Option.{option_map, option_map_or}
 use Rattle.std.proofs.lemmas.Bool.{ltb-false, ltb-true}
 use Rattle.std.proofs.lemmas.List.{get_or_past, length-map}
 use Rattle.std.proofs.lemmas.List.Elements.{All-head}
 use Rattle.std.proofs.lemmas.List.Sums.{list_all-from_AllPass}
-use Rattle.std.proofs.lemmas.Option.{get_or_from_slice_get, slice_get-map, slice_get_within}
+use Rattle.std.proofs.lemmas.Option.{slice_get_within}
 use Rattle.mt_tlb.specs.declared.entry.Entry.{Entry}
 use Rattle.mt_regs.specs.Registers.{writable}
 use Rattle.mt_machine.specs.declared.go.Go.TheVariants.{Given}
@@ -32,7 +32,7 @@ use Rattle.mt_judge.specs.declared.search.Found.{Found}
 use Rattle.mt_judge.specs.declared.search.Found.TheVariants as ends
 use Rattle.mt_judge.specs.declared.step.Place.{Place}
 use Rattle.mt_judge.specs.declared.step.Step.{Step}
-use Rattle.mt_judge_laws.specs.Manual.{IsDue, IsManual, IsRightStart, NothingGoesWrong, RunsAreTheMachines, SearchesFindNothing, StepsAreDue, at_rest, first_place, machine_of, manual_list}
+use Rattle.mt_judge_laws.specs.Manual.{IsDue, IsManual, IsRightStart, NothingGoesWrong, RunsAreTheMachines, SearchesFindNothing, StepsAreDue, at_rest, first_place, machine_of}
 use Rattle.mt_judge_laws.proofs.Counting.{again, arrived}
 use Rattle.mt_judge_laws.proofs.Placing.{IsPlace}
 use Rattle.mt_judge_laws.proofs.Progress.{progress}
@@ -163,12 +163,6 @@ module _ (senses : Senses) (c : Case) (s : State) (right : IsRightStart c s) (ma
       let second = none_counted (again (order_of c)) (stages_of s.processors) (λ i x at. ap (again (order_of c)) (stage_is i x at)) in
       (replicate 6 0, right.arrived ∙ (λ i. first i ∷ second i ∷ replicate 6 0))
 
-  list_is : (k : ℕ) (p : Processor) → slice_get s.processors k ≡ Some p → list_of c k ≡ manual_list (length s.processors) p.self_snoop
-  list_is k p at =
-      ap (λ (ls : List (List Step)). list_of (record c { lists = ls }) k) manual.lists
-      ∙ get_or_from_slice_get (map (λ (q : Processor). manual_list (length s.processors) q.self_snoop) s.processors) k (manual_list (length s.processors) p.self_snoop) []
-      (slice_get-map (λ (q : Processor). manual_list (length s.processors) q.self_snoop) s.processors k ∙ ap (option_map (λ (q : Processor). manual_list (length s.processors) q.self_snoop)) at)
-
   places : AllPlaced c s s
   places k x at_x =
       let found = processor_at s.processors k x at_x in
@@ -176,12 +170,16 @@ module _ (senses : Senses) (c : Case) (s : State) (right : IsRightStart c s) (ma
       let at : slice_get s.processors k ≡ Some p = found.1 in
       let snoops : p.self_snoop ≡ snoops_at s k = sym (ap (λ (y : Option Processor). option_map_or (λ (q : Processor). q.self_snoop) y false) at) in
       let within = slice_get_within s.processors k p at in
+      let l = manual.lists k p at in
+      let placed : IsPlace (length s.processors) (length (writable c.goal)) l.behind p.self_snoop (arrived_at s.arrived 1) Running false (drop 0 (list_of c k)) 0 = (l.before, l.fit_before, l.is) in
       record {
+        behind = l.behind;
+        fit = l.fit_behind;
         place = first_place;
         here = ap (λ (ps : List Place). slice_get ps k) right.places ∙ repeated_at (length s.processors) k first_place within;
-        is = subst (λ (y : Stage). IsPlace (length s.processors) (length (writable c.goal)) (snoops_at s k) (arrived_at s.arrived 1) y.0 (nat_lt 0 y.1) (drop 0 (list_of c k)) 0)
+        is = subst (λ (y : Stage). IsPlace (length s.processors) (length (writable c.goal)) l.behind (snoops_at s k) (arrived_at s.arrived 1) y.0 (nat_lt 0 y.1) (drop 0 (list_of c k)) 0)
             (sym (stage_is k x at_x))
-            (list_is k p at ∙ ap (manual_list (length s.processors)) snoops);
+            (subst (λ (b : Bool). IsPlace (length s.processors) (length (writable c.goal)) l.behind b (arrived_at s.arrived 1) Running false (drop 0 (list_of c k)) 0) snoops placed);
       }
 
   stands_first : Stands c s s
@@ -245,10 +243,7 @@ module _ (senses : Senses) (c : Case) (s : State) (right : IsRightStart c s) (ma
   none_unended t long k ended = one (nat_lt k (length t.processors)) refl
     where
       beyond : length s.processors ≤ k → list_of c k ≡ []
-      beyond past =
-          ap (λ (ls : List (List Step)). list_of (record c { lists = ls }) k) manual.lists
-          ∙ get_or_past (map (λ (q : Processor). manual_list (length s.processors) q.self_snoop) s.processors) k []
-          (let l = length-map s.processors (λ (q : Processor). manual_list (length s.processors) q.self_snoop) in omega (arith, l, past))
+      beyond past = let l = manual.one_each in get_or_past c.lists k [] (omega (arith, l, past))
 
       one : (b : Bool) → nat_lt k (length t.processors) ≡ b → step_at c t k ≡ None
       one true within = ended (ltb-true k (length t.processors) within)

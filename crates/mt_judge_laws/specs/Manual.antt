@@ -1,10 +1,12 @@
 -- The manual's own procedure as a list of steps, the starts of it, and what is proved of each of its runs (own).
 -- Intel SDM volume 3A, chapter Memory Cache Control, section "MTRR Considerations in MP Systems".
-use Rattle.std.specs.Prelude.{◌≡◌, ◌⊎◌, ℕ, ◌≤◌, Bool, true, false, List, [], ◌∷◌, ◌++◌, length, map, replicate, None, Some, MatchOption}
+use Rattle.std.specs.Prelude.{◌≡◌, ◌⊎◌, ℕ, ◌≤◌, Bool, true, false, List, [], ◌∷◌, ◌++◌, length, map, replicate, slice_get, None, Some, MatchOption}
 use Rattle.std.specs.List.{All}
-use Rattle.mt_machine.specs.Machine.{Calls, IsEnabled, Machine, Reached, remaining_order}
+use Rattle.mt_machine.specs.Machine.{Calls, FitsOp, IsEnabled, Machine, Reached, remaining_order}
 use Rattle.mt_machine.specs.Start.{IsQuiet}
-use Rattle.mt_judge.specs.Runs.{Case, IsRun, State, next_move, procedure_order, run, system_of}
+use Rattle.mt_machine.specs.System.{Processor}
+use Rattle.mt_machine.specs.declared.op.Op.{Op}
+use Rattle.mt_judge.specs.Runs.{Case, IsRun, State, list_of, next_move, procedure_order, run, system_of}
 use Rattle.mt_judge.specs.Searches.{AreAllFine, IsFound, has_wrong}
 use Rattle.mt_judge.specs.declared.moves.Move.{Move}
 use Rattle.mt_judge.specs.declared.search.Found.{Found}
@@ -30,6 +32,17 @@ since_flush count =
 abbrev pub manual_list : ℕ → Bool → List Step
 manual_list count self_snoop = list.Interrupt ∷ list.ArriveAt 0 ∷ list.WaitAt 0 count ∷ list.SetCd ∷ (first_flush self_snoop ++ since_flush count)
 
+abbrev pub accesses : List Op → List Step
+accesses ops = map (λ op. list.Access op) ops
+
+-- the same with accesses before the interrupt and behind the release
+pub record IsManualList (count : ℕ) (self_snoop : Bool) (steps : List Step) : Type 0 where
+  pub before : List Op
+  pub behind : List Op
+  pub fit_before : All FitsOp before
+  pub fit_behind : All FitsOp behind
+  pub is : steps ≡ accesses before ++ (manual_list count self_snoop ++ accesses behind)
+
 -- ---- its starts
 
 abbrev pub at_rest : Case → State → Machine
@@ -50,7 +63,8 @@ pub record IsRightStart (c : Case) (s : State) : Type 0 where
 pub record IsManual (c : Case) (s : State) : Type 0 where
   pub few : length s.processors ≤ 64
   pub goal : IsEnabled (at_rest c s) (Calls c.goal)
-  pub lists : c.lists ≡ map (λ p. manual_list (length s.processors) p.self_snoop) s.processors
+  pub one_each : length c.lists ≡ length s.processors
+  pub lists : (k : ℕ) (p : Processor) → slice_get s.processors k ≡ Some p → IsManualList (length s.processors) p.self_snoop (list_of c k)
 
 -- ---- the laws
 

@@ -6,7 +6,7 @@ mod worked;
 ghost use Rattle.mt_judge_laws.specs.Manual.{NothingGoesWrong, RunsAreTheMachines, SearchesFindNothing, StepsAreDue};
 
 use mt_judge::has_wrong_if_a_sense_holds;
-pub use worked::{worked_due_moves, worked_manual_lists, worked_right_starts};
+pub use worked::{worked_due_moves, worked_manual_list, worked_manual_lists, worked_right_starts};
 
 /// Each run of the lists is a run of the machine: its call, its go and events that are enabled lead to the run's state.
 pub fn runs_are_the_machines()
