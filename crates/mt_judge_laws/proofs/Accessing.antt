@@ -5,13 +5,13 @@ use Rattle.std.specs.List.{find, fold, list_all, list_any}
 use Rattle.std.specs.Option.{option_map, option_map_or}
 use Rattle.std.specs.Int.Bits.{and_zero_l}
 use Rattle.std.proofs.lemmas.Bool.{eq-eqb, eqb-true}
-use Rattle.mt_cache.specs.declared.line.CacheLine.{CacheLine}
-use Rattle.mt_cache.specs.Lines.{change_line, clean_line, clear_bit, combined_with, find_line, has_number, oldest_of_full, set_bit, without_line, write_clean, write_dirty}
 use Rattle.mt_kinds.specs.Sizes.{page_bytes}
 use Rattle.mt_kinds.specs.declared.mem_type.MemType.{MemType}
 use Rattle.mt_kinds.specs.declared.mem_type.MemType.TheVariants.{UC, WC, WT, WP, WB}
 use Rattle.mt_kinds.specs.Types.{byte_of_type}
 use Rattle.mt_regs.specs.PageTypes.{is_type}
+use Rattle.mt_cache.specs.declared.line.CacheLine.{CacheLine}
+use Rattle.mt_cache.specs.Lines.{change_line, clean_line, clear_bit, combined_with, find_line, has_number, oldest_of_full, set_bit, without_line, write_clean, write_dirty}
 use Rattle.mt_tlb.specs.Entries.{add_entry, find_entry, find_mapping, maps_page}
 use Rattle.mt_tlb.specs.declared.entry.Entry.{Entry}
 use Rattle.mt_tlb.specs.declared.mapping.Mapping.{Mapping}
@@ -25,12 +25,12 @@ use Rattle.mt_machine.specs.System.{Processor, System, buffers_of, change, lines
 use Rattle.mt_laws.proofs.Barrier.Ranks.{and_left, and_right}
 use Rattle.mt_laws.proofs.Clearing.Follows.{all_append, all_drop, all_filter}
 use Rattle.mt_laws.proofs.Clearing.Renewed.{at_change}
-use Rattle.mt_judge.specs.Wrongs.{allows, allows_by, fault_with, is_allowed, is_same_entry, made_entry, old_type, page_of}
 use Rattle.mt_judge.specs.declared.moves.Outcome.TheVariants.{Accessed}
 use Rattle.mt_judge.specs.declared.step.Step.TheVariants.{Access}
 use Rattle.mt_judge.specs.declared.wrong.Fault.TheVariants.{OldType}
 use Rattle.mt_judge.specs.declared.wrong.Kept.{Kept}
 use Rattle.mt_judge.specs.declared.wrong.Kept.TheVariants.{Buffer, CleanLine, DirtyLine}
+use Rattle.mt_judge.specs.Wrongs.{allows, allows_by, fault_with, is_allowed, is_same_entry, made_entry, old_type, page_of}
 use Rattle.mt_judge_laws.proofs.Emptied.{both}
 use Rattle.mt_judge_laws.proofs.Since.{AreRight, bare, cleaned_is_right, clean_allowed, right_buffer, right_entry, right_line}
 

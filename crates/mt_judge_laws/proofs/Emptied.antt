@@ -4,9 +4,9 @@ use Rattle.std.specs.Prelude.{map, not, ◌&&◌, if◌then◌else◌, slice_get
 use Rattle.std.specs.List.{fold, list_all}
 use Rattle.mt_cache.specs.declared.line.CacheLine.{CacheLine}
 use Rattle.mt_cache.specs.Lines.{change_line, clean_line, has_number, without_line}
-use Rattle.mt_machine.specs.Bus.{bus_read, drain, empty_buffer, invalidate, with_buffers, with_lines}
 use Rattle.mt_machine.specs.declared.event.Event.{Event}
 use Rattle.mt_machine.specs.declared.event.Event.TheVariants.{Take}
+use Rattle.mt_machine.specs.Bus.{bus_read, drain, empty_buffer, invalidate, with_buffers, with_lines}
 use Rattle.mt_machine.specs.Machine.{before_own}
 use Rattle.mt_machine.specs.System.{Processor, System, buffers_of, change}
 use Rattle.mt_laws.specs.ComingAndGoing.{uncached}

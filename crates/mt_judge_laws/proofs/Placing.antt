@@ -13,18 +13,17 @@ use Rattle.mt_machine.specs.declared.event.Event.{Event}
 use Rattle.mt_machine.specs.declared.event.Event.TheVariants.{Take, Arrive, Leave, Pass, SetNoFill, FlushTlb, Disable, Write, Enable, SetNormal, RestorePge, ArriveAgain, Release}
 use Rattle.mt_machine.specs.declared.phase.Phase.{Phase}
 use Rattle.mt_machine.specs.declared.phase.Phase.TheVariants.{Running, Taken, Arrived, Passed, NoFill, Flushed, TlbFlushed, Writing, Enabled, Flushed2, TlbFlushed2, Normal, Restored, Arrived2}
-use Rattle.mt_machine.specs.declared.op.Op.{Op}
-use Rattle.mt_machine.specs.Machine.{FitsOp, after_drop, after_flush, due, has_arrived, has_arrived_again, write_back_or_drop}
+use Rattle.mt_machine.specs.Machine.{after_drop, after_flush, due, has_arrived, has_arrived_again, write_back_or_drop}
 use Rattle.mt_machine.specs.System.{Processor}
 use Rattle.mt_machine.proofs.Rows.{back_case}
-use Rattle.mt_judge.specs.Runs.{arrived_at, counted, is_open, place_after, procedure_order, step_behind}
-use Rattle.mt_judge.specs.Steps.{arrival, clearing, event_of, passage, reloading}
-use Rattle.mt_judge.specs.Wrongs.{fault_with}
 use Rattle.mt_judge.specs.declared.moves.Outcome.{Outcome}
 use Rattle.mt_judge.specs.declared.step.Place.{Place}
 use Rattle.mt_judge.specs.declared.step.Step.{Step}
 use Rattle.mt_judge.specs.declared.step.Step.TheVariants as list
-use Rattle.mt_judge_laws.specs.Manual.{accesses, first_flush, manual_list, since_flush}
+use Rattle.mt_judge.specs.Runs.{arrived_at, counted, is_open, place_after, procedure_order, step_behind}
+use Rattle.mt_judge.specs.Steps.{arrival, clearing, event_of, passage, reloading}
+use Rattle.mt_judge.specs.Wrongs.{fault_with}
+use Rattle.mt_judge_laws.specs.Manual.{IsInstruction, first_flush, manual_list, since_flush}
 use Rattle.mt_judge_laws.proofs.Counting.{era_after, first_after, phase_after, second_after}
 
 -- ---- what is left of a list
@@ -71,37 +70,37 @@ since_write n =
     list.WriteDefault ∷ list.Wbinvd ∷ list.ReloadCr3 ∷ list.ClearCd ∷ list.ReturnPge ∷ list.ArriveAt 1 ∷ list.WaitAt 1 n ∷ list.GoOn ∷ []
 
 -- so many processors wait for each other, and so many registers are written
-module _ (n r : ℕ) (behind : List Op) (snoops : Bool) where
+module _ (n r : ℕ) (behind : List Step) (snoops : Bool) where
   -- so many have arrived at the second barrier
   abbrev pub IsPlace : ℕ → Phase → Bool → List Step → ℕ → Type 0
-  IsPlace count Running true left part = (ops : List Op) × All FitsOp ops × (left ≡ accesses ops)
-  IsPlace count Running false left part = (ops : List Op) × All FitsOp ops × (left ≡ accesses ops ++ (manual_list n snoops ++ accesses behind))
-  IsPlace count Taken ahead left part = left ≡ list.ArriveAt 0 ∷ list.WaitAt 0 n ∷ list.SetCd ∷ ((first_flush snoops ++ since_flush n) ++ accesses behind)
-  IsPlace count Arrived ahead left part = left ≡ list.WaitAt 0 n ∷ list.SetCd ∷ ((first_flush snoops ++ since_flush n) ++ accesses behind)
-  IsPlace count Passed ahead left part = left ≡ list.SetCd ∷ ((first_flush snoops ++ since_flush n) ++ accesses behind)
-  IsPlace count NoFill ahead left part = left ≡ (first_flush snoops ++ since_flush n) ++ accesses behind
-  IsPlace count Flushed ahead left part = left ≡ since_flush n ++ accesses behind
-  IsPlace count TlbFlushed ahead left part = left ≡ list.ClearEnable ∷ list.WriteRegisters ∷ (since_write n ++ accesses behind)
-  IsPlace count (Writing i) ahead left part = ((left ≡ list.WriteRegisters ∷ (since_write n ++ accesses behind)) × (part ≡ i) × (i + 1 < r)) ⊎ ((left ≡ since_write n ++ accesses behind) × (r ≤ i + 1))
-  IsPlace count Enabled ahead left part = left ≡ list.Wbinvd ∷ list.ReloadCr3 ∷ list.ClearCd ∷ list.ReturnPge ∷ list.ArriveAt 1 ∷ list.WaitAt 1 n ∷ list.GoOn ∷ accesses behind
-  IsPlace count Flushed2 ahead left part = left ≡ list.ReloadCr3 ∷ list.ClearCd ∷ list.ReturnPge ∷ list.ArriveAt 1 ∷ list.WaitAt 1 n ∷ list.GoOn ∷ accesses behind
-  IsPlace count TlbFlushed2 ahead left part = left ≡ list.ClearCd ∷ list.ReturnPge ∷ list.ArriveAt 1 ∷ list.WaitAt 1 n ∷ list.GoOn ∷ accesses behind
-  IsPlace count Normal ahead left part = left ≡ list.ReturnPge ∷ list.ArriveAt 1 ∷ list.WaitAt 1 n ∷ list.GoOn ∷ accesses behind
-  IsPlace count Restored ahead left part = left ≡ list.ArriveAt 1 ∷ list.WaitAt 1 n ∷ list.GoOn ∷ accesses behind
-  IsPlace count Arrived2 ahead left part = (left ≡ list.WaitAt 1 n ∷ list.GoOn ∷ accesses behind) ⊎ ((left ≡ list.GoOn ∷ accesses behind) × (n ≤ count))
+  IsPlace count Running true left part = (ops : List Step) × All IsInstruction ops × (left ≡ ops)
+  IsPlace count Running false left part = (ops : List Step) × All IsInstruction ops × (left ≡ ops ++ (manual_list n snoops ++ behind))
+  IsPlace count Taken ahead left part = left ≡ list.ArriveAt 0 ∷ list.WaitAt 0 n ∷ list.SetCd ∷ ((first_flush snoops ++ since_flush n) ++ behind)
+  IsPlace count Arrived ahead left part = left ≡ list.WaitAt 0 n ∷ list.SetCd ∷ ((first_flush snoops ++ since_flush n) ++ behind)
+  IsPlace count Passed ahead left part = left ≡ list.SetCd ∷ ((first_flush snoops ++ since_flush n) ++ behind)
+  IsPlace count NoFill ahead left part = left ≡ (first_flush snoops ++ since_flush n) ++ behind
+  IsPlace count Flushed ahead left part = left ≡ since_flush n ++ behind
+  IsPlace count TlbFlushed ahead left part = left ≡ list.ClearEnable ∷ list.WriteRegisters ∷ (since_write n ++ behind)
+  IsPlace count (Writing i) ahead left part = ((left ≡ list.WriteRegisters ∷ (since_write n ++ behind)) × (part ≡ i) × (i + 1 < r)) ⊎ ((left ≡ since_write n ++ behind) × (r ≤ i + 1))
+  IsPlace count Enabled ahead left part = left ≡ list.Wbinvd ∷ list.ReloadCr3 ∷ list.ClearCd ∷ list.ReturnPge ∷ list.ArriveAt 1 ∷ list.WaitAt 1 n ∷ list.GoOn ∷ behind
+  IsPlace count Flushed2 ahead left part = left ≡ list.ReloadCr3 ∷ list.ClearCd ∷ list.ReturnPge ∷ list.ArriveAt 1 ∷ list.WaitAt 1 n ∷ list.GoOn ∷ behind
+  IsPlace count TlbFlushed2 ahead left part = left ≡ list.ClearCd ∷ list.ReturnPge ∷ list.ArriveAt 1 ∷ list.WaitAt 1 n ∷ list.GoOn ∷ behind
+  IsPlace count Normal ahead left part = left ≡ list.ReturnPge ∷ list.ArriveAt 1 ∷ list.WaitAt 1 n ∷ list.GoOn ∷ behind
+  IsPlace count Restored ahead left part = left ≡ list.ArriveAt 1 ∷ list.WaitAt 1 n ∷ list.GoOn ∷ behind
+  IsPlace count Arrived2 ahead left part = (left ≡ list.WaitAt 1 n ∷ list.GoOn ∷ behind) ⊎ ((left ≡ list.GoOn ∷ behind) × (n ≤ count))
 
   pub place_up : (a b : ℕ) → a ≤ b → (ph : Phase) (ahead : Bool) (left : List Step) (part : ℕ) → IsPlace a ph ahead left part → IsPlace b ph ahead left part
   place_up a b up Running true left part h = h
   place_up a b up Running false left part h = h
   place_up a b up Arrived2 ahead left part h = ⊎_elim
-      (λ (e : left ≡ list.WaitAt 1 n ∷ list.GoOn ∷ accesses behind). inl e)
-      (λ (e : (left ≡ list.GoOn ∷ accesses behind) × (n ≤ a)). inr (e.0, let low = e.1 in omega (arith, low, up)))
+      (λ (e : left ≡ list.WaitAt 1 n ∷ list.GoOn ∷ behind). inl e)
+      (λ (e : (left ≡ list.GoOn ∷ behind) × (n ≤ a)). inr (e.0, let low = e.1 in omega (arith, low, up)))
       h
   place_up a b up other ahead left part h = h
 
 -- ---- the next step
 
-module _ (goal : RegisterFile) (ps : List Processor) (n r : ℕ) (behind : List Op) (steps : List Step) (at : Place) (p : Processor) (arrivals : List ℕ) where
+module _ (goal : RegisterFile) (ps : List Processor) (n r : ℕ) (behind : List Step) (steps : List Step) (at : Place) (p : Processor) (arrivals : List ℕ) where
   abbrev pub IsPlaceAt : Phase → Bool → Place → Type 0
   IsPlaceAt ph ahead place = IsPlace n r behind p.self_snoop (arrived_at arrivals 1) ph ahead (drop place.step steps) place.part
 
@@ -119,18 +118,16 @@ module _ (goal : RegisterFile) (ps : List Processor) (n r : ℕ) (behind : List 
   pub record Waits (t : Step) : Type 0 where
     pub is : t ≡ list.WaitAt 1 n
     pub phase : p.phase ≡ Arrived2
-    pub left : drop (at.step + 1) steps ≡ list.GoOn ∷ accesses behind
+    pub left : drop (at.step + 1) steps ≡ list.GoOn ∷ behind
     pub full : n ≤ arrived_at arrivals 1
 
-  -- the step is an access of a processor that runs
-  pub record DoesAccess (t : Step) : Type 0 where
-    pub op : Op
-    pub fit : FitsOp op
-    pub is : t ≡ list.Access op
+  -- the step is an instruction of a processor that runs
+  pub record Instructs (t : Step) : Type 0 where
+    pub fit : IsInstruction t
     pub phase : p.phase ≡ Running
     pub place : IsPlaceAt Running (nat_lt 0 p.era) (step_behind at)
 
-module _ (goal : RegisterFile) (ps : List Processor) (n r : ℕ) (behind : List Op) (fit_behind : All FitsOp behind) (steps : List Step) (at : Place) (p : Processor) (todo : Step) (arrivals : List ℕ)
+module _ (goal : RegisterFile) (ps : List Processor) (n r : ℕ) (behind : List Step) (fit_behind : All IsInstruction behind) (steps : List Step) (at : Place) (p : Processor) (todo : Step) (arrivals : List ℕ)
     (next : slice_get steps at.step ≡ Some todo) (registers : length (writable p.file) ≡ r) (some : 1 < r) (opened : is_open arrivals todo ≡ true)
     (first_open : n ≤ arrived_at arrivals 0 → list_all (has_arrived (procedure_order goal)) ps ≡ true)
     (second_open : n ≤ arrived_at arrivals 1 → list_all (has_arrived_again (procedure_order goal)) ps ≡ true)
@@ -147,8 +144,8 @@ module _ (goal : RegisterFile) (ps : List Processor) (n r : ℕ) (behind : List 
   abbrev WaitsFor : Type 0
   WaitsFor = Waits goal ps n r behind steps at p arrivals todo
 
-  abbrev AccessesFor : Type 0
-  AccessesFor = DoesAccess goal ps n r behind steps at p arrivals todo
+  abbrev InstructsFor : Type 0
+  InstructsFor = Instructs goal ps n r behind steps at p arrivals todo
 
   abbrev IsLeft : List Step → Type 0
   IsLeft left = drop at.step steps ≡ left
@@ -189,7 +186,7 @@ module _ (goal : RegisterFile) (ps : List Processor) (n r : ℕ) (behind : List 
       (λ tail. subst (PlaceAt (after_flush p.phase) (nat_lt 0 p.era)) (sym place)
       (subst (λ (u : Phase). PlaceAt (after_flush u) (nat_lt 0 p.era) (step_behind at)) (sym same) (behind tail)))
 
-  no_fill : (b : Bool) → p.self_snoop ≡ b → p.phase ≡ NoFill → IsLeft ((first_flush b ++ since_flush n) ++ accesses behind) → PlaceAt NoFill (nat_lt 0 p.era) at → TurnFor todo
+  no_fill : (b : Bool) → p.self_snoop ≡ b → p.phase ≡ NoFill → IsLeft ((first_flush b ++ since_flush n) ++ behind) → PlaceAt NoFill (nat_lt 0 p.era) at → TurnFor todo
   no_fill true is same left here =
       flushes list.ClearPge NoFill _ same left (ap clearing same)
       (ap (due (procedure_order goal) ps p) same ∙ ap (λ (b : Bool). Some (if b then FlushTlb else write_back_or_drop p)) is)
@@ -199,7 +196,7 @@ module _ (goal : RegisterFile) (ps : List Processor) (n r : ℕ) (behind : List 
       (ap (due (procedure_order goal) ps p) same ∙ ap (λ (b : Bool). Some (if b then FlushTlb else write_back_or_drop p)) is)
       here (λ tail. tail)
 
-  starts : p.phase ≡ Running → nat_lt 0 p.era ≡ false → IsLeft (manual_list n p.self_snoop ++ accesses behind) → TurnFor todo
+  starts : p.phase ≡ Running → nat_lt 0 p.era ≡ false → IsLeft (manual_list n p.self_snoop ++ behind) → TurnFor todo
   starts same behind left =
       let low = ltb-false 0 p.era behind in
       let zeroth : (p.era == 0) ≡ true = eq-eqb p.era 0 (omega (arith, low)) in
@@ -207,7 +204,7 @@ module _ (goal : RegisterFile) (ps : List Processor) (n r : ℕ) (behind : List 
       (ap (due (procedure_order goal) ps p) same ∙ ap (λ (b : Bool). if b && true then Some Take else None) zeroth)
       (λ h. absurd (cc)) (λ a b xs. refl) (λ k outcome q. refl) (λ tail. tail)
 
-  passes : p.phase ≡ Arrived → IsLeft (list.WaitAt 0 n ∷ list.SetCd ∷ ((first_flush p.self_snoop ++ since_flush n) ++ accesses behind)) → TurnFor todo
+  passes : p.phase ≡ Arrived → IsLeft (list.WaitAt 0 n ∷ list.SetCd ∷ ((first_flush p.self_snoop ++ since_flush n) ++ behind)) → TurnFor todo
   passes same left =
       let is = head_left steps at.step (list.WaitAt 0 n) todo _ left next in
       let full : n ≤ arrived_at arrivals 0 = leb-true n (arrived_at arrivals 0) (ap (is_open arrivals) is ∙ opened) in
@@ -215,33 +212,33 @@ module _ (goal : RegisterFile) (ps : List Processor) (n r : ℕ) (behind : List 
       (ap (due (procedure_order goal) ps p) same ∙ ap (λ (b : Bool). if b && true then Some Pass else None) (first_open full))
       (λ h. absurd (cc)) (λ a b xs. refl) (λ k outcome q. refl) (λ tail. tail)
 
-  writes : (i : ℕ) → p.phase ≡ Writing i → IsLeft (list.WriteRegisters ∷ (since_write n ++ accesses behind)) → at.part ≡ i → i + 1 < r → TurnFor todo
+  writes : (i : ℕ) → p.phase ≡ Writing i → IsLeft (list.WriteRegisters ∷ (since_write n ++ behind)) → at.part ≡ i → i + 1 < r → TurnFor todo
   writes i same left part more =
       let within : nat_lt (i + 1) (length (writable p.file)) ≡ true = lt-ltb (i + 1) (length (writable p.file)) (omega (arith, more, registers)) in
       plain list.WriteRegisters (Write at.part) _ left refl
       (ap (due (procedure_order goal) ps p) same ∙ ap (λ (b : Bool). Some (if b then Write i else Enable)) within ∙ ap (λ (j : ℕ). Some (Write j)) (sym part))
       (λ h. absurd (cc)) (λ a b xs. refl) (λ k outcome q. refl) (λ tail. one tail (nat_lt (at.part + 2) r) refl)
     where
-      one : drop (at.step + 1) steps ≡ since_write n ++ accesses behind → (b : Bool) → nat_lt (at.part + 2) r ≡ b
+      one : drop (at.step + 1) steps ≡ since_write n ++ behind → (b : Bool) → nat_lt (at.part + 2) r ≡ b
           → PlaceAt (Writing (at.part + 1)) (nat_lt 0 p.era) (if b then record at { part = at.part + 1 } else step_behind at)
       one tail true is = let below = ltb-true (at.part + 2) r is in inl (left, refl, omega (arith, below))
       one tail false is = let above = ltb-false (at.part + 2) r is in inr (tail, omega (arith, above))
 
-  enables : (i : ℕ) → p.phase ≡ Writing i → IsLeft (since_write n ++ accesses behind) → r ≤ i + 1 → TurnFor todo
+  enables : (i : ℕ) → p.phase ≡ Writing i → IsLeft (since_write n ++ behind) → r ≤ i + 1 → TurnFor todo
   enables i same left last =
       let past : nat_lt (i + 1) (length (writable p.file)) ≡ false = le-ltb (i + 1) (length (writable p.file)) (omega (arith, last, registers)) in
       plain list.WriteDefault Enable _ left refl
       (ap (due (procedure_order goal) ps p) same ∙ ap (λ (b : Bool). Some (if b then Write i else Enable)) past)
       (λ h. absurd (cc)) (λ a b xs. refl) (λ k outcome q. refl) (λ tail. tail)
 
-  releases : p.phase ≡ Arrived2 → IsLeft (list.GoOn ∷ accesses behind) → n ≤ arrived_at arrivals 1 → TurnFor todo
+  releases : p.phase ≡ Arrived2 → IsLeft (list.GoOn ∷ behind) → n ≤ arrived_at arrivals 1 → TurnFor todo
   releases same left full =
       plain list.GoOn Release _ left refl
       (ap (due (procedure_order goal) ps p) same ∙ ap (λ (b : Bool). if b then Some Release else None) (second_open full))
       (λ h. absurd (cc)) (λ a b xs. refl) (λ k outcome q. refl)
       (λ tail. subst (λ (b : Bool). PlaceAt Running b (step_behind at)) (sym later) (behind, fit_behind, tail))
 
-  waits : p.phase ≡ Arrived2 → IsLeft (list.WaitAt 1 n ∷ list.GoOn ∷ accesses behind) → WaitsFor
+  waits : p.phase ≡ Arrived2 → IsLeft (list.WaitAt 1 n ∷ list.GoOn ∷ behind) → WaitsFor
   waits same left =
       let is = head_left steps at.step (list.WaitAt 1 n) todo _ left next in
       record {
@@ -251,25 +248,23 @@ module _ (goal : RegisterFile) (ps : List Processor) (n r : ℕ) (behind : List 
         full = leb-true n (arrived_at arrivals 1) (ap (is_open arrivals) is ∙ opened);
       }
 
-  accessed : (op : Op) (ops : List Op) (more : List Step) (ahead : Bool) → All FitsOp (op ∷ ops) → IsLeft (list.Access op ∷ more) → p.phase ≡ Running → nat_lt 0 p.era ≡ ahead
-      → (drop (at.step + 1) steps ≡ more → All FitsOp ops → PlaceAt Running ahead (step_behind at)) → AccessesFor
-  accessed op ops more ahead fit left same is place = record {
-    op = op;
-    fit = All-head FitsOp op ops fit;
-    is = sym (head_left steps at.step (list.Access op) todo more left next);
+  instructs : (t : Step) (ts more : List Step) (ahead : Bool) → All IsInstruction (t ∷ ts) → IsLeft (t ∷ more) → p.phase ≡ Running → nat_lt 0 p.era ≡ ahead
+      → (drop (at.step + 1) steps ≡ more → All IsInstruction ts → PlaceAt Running ahead (step_behind at)) → InstructsFor
+  instructs t ts more ahead fit left same is place = record {
+    fit = subst IsInstruction (head_left steps at.step t todo more left next) (All-head IsInstruction t ts fit);
     phase = same;
-    place = subst (λ (b : Bool). PlaceAt Running b (step_behind at)) (sym is) (place (tail_left steps at.step (list.Access op) more left) (All-tail FitsOp op ops fit));
+    place = subst (λ (b : Bool). PlaceAt Running b (step_behind at)) (sym is) (place (tail_left steps at.step t more left) (All-tail IsInstruction t ts fit));
   }
 
-  before : (ops : List Op) → All FitsOp ops → IsLeft (accesses ops ++ (manual_list n p.self_snoop ++ accesses behind)) → p.phase ≡ Running → nat_lt 0 p.era ≡ false → TurnFor todo ⊎ (WaitsFor ⊎ AccessesFor)
+  before : (ts : List Step) → All IsInstruction ts → IsLeft (ts ++ (manual_list n p.self_snoop ++ behind)) → p.phase ≡ Running → nat_lt 0 p.era ≡ false → TurnFor todo ⊎ (WaitsFor ⊎ InstructsFor)
   before [] fit left same is = inl (starts same is left)
-  before (op ∷ ops) fit left same is = inr (inr (accessed op ops _ false fit left same is (λ tail fits. (ops, fits, tail))))
+  before (t ∷ ts) fit left same is = inr (inr (instructs t ts _ false fit left same is (λ tail fits. (ts, fits, tail))))
 
-  after_release : (ops : List Op) → All FitsOp ops → IsLeft (accesses ops) → p.phase ≡ Running → nat_lt 0 p.era ≡ true → TurnFor todo ⊎ (WaitsFor ⊎ AccessesFor)
+  after_release : (ts : List Step) → All IsInstruction ts → IsLeft ts → p.phase ≡ Running → nat_lt 0 p.era ≡ true → TurnFor todo ⊎ (WaitsFor ⊎ InstructsFor)
   after_release [] fit left same is = absurd (let none = none_left steps at.step left in cc)
-  after_release (op ∷ ops) fit left same is = inr (inr (accessed op ops _ true fit left same is (λ tail fits. (ops, fits, tail))))
+  after_release (t ∷ ts) fit left same is = inr (inr (instructs t ts ts true fit left same is (λ tail fits. (ts, fits, tail))))
 
-  pub turn : (ph : Phase) (ahead : Bool) → p.phase ≡ ph → nat_lt 0 p.era ≡ ahead → PlaceAt ph ahead at → TurnFor todo ⊎ (WaitsFor ⊎ AccessesFor)
+  pub turn : (ph : Phase) (ahead : Bool) → p.phase ≡ ph → nat_lt 0 p.era ≡ ahead → PlaceAt ph ahead at → TurnFor todo ⊎ (WaitsFor ⊎ InstructsFor)
   turn Running true same is place = after_release place.0 place.1 place.2 same is
   turn Running false same is place = before place.0 place.1 place.2 same is
   turn Taken ahead same is place =
@@ -284,8 +279,8 @@ module _ (goal : RegisterFile) (ps : List Processor) (n r : ℕ) (behind : List 
       inl (plain list.ClearEnable Disable _ place refl (ap (due (procedure_order goal) ps p) same) (λ h. absurd (cc)) (λ a b xs. refl) (λ k outcome q. refl)
       (λ tail. inl (tail, refl, omega (arith, some))))
   turn (Writing i) ahead same is place = inl (⊎_elim
-      (λ (h : (drop at.step steps ≡ list.WriteRegisters ∷ (since_write n ++ accesses behind)) × (at.part ≡ i) × (i + 1 < r)). writes i same h.0 h.1 h.2)
-      (λ (h : (drop at.step steps ≡ since_write n ++ accesses behind) × (r ≤ i + 1)). enables i same h.0 h.1)
+      (λ (h : (drop at.step steps ≡ list.WriteRegisters ∷ (since_write n ++ behind)) × (at.part ≡ i) × (i + 1 < r)). writes i same h.0 h.1 h.2)
+      (λ (h : (drop at.step steps ≡ since_write n ++ behind) × (r ≤ i + 1)). enables i same h.0 h.1)
       place)
   turn Enabled ahead same is place = inl (drains Enabled _ same place (ap (due (procedure_order goal) ps p) same) place (λ tail. tail))
   turn Flushed2 ahead same is place =
@@ -299,6 +294,6 @@ module _ (goal : RegisterFile) (ps : List Processor) (n r : ℕ) (behind : List 
       inl (plain (list.ArriveAt 1) ArriveAgain _ place (ap arrival same) (ap (due (procedure_order goal) ps p) same) (λ h. absurd (cc)) (λ a b xs. refl) (λ k outcome q. refl)
       (λ tail. inl tail))
   turn Arrived2 ahead same is place = ⊎_elim
-      (λ (left : drop at.step steps ≡ list.WaitAt 1 n ∷ list.GoOn ∷ accesses behind). inr (inl (waits same left)))
-      (λ (h : (drop at.step steps ≡ list.GoOn ∷ accesses behind) × (n ≤ arrived_at arrivals 1)). inl (releases same h.0 h.1))
+      (λ (left : drop at.step steps ≡ list.WaitAt 1 n ∷ list.GoOn ∷ behind). inr (inl (waits same left)))
+      (λ (h : (drop at.step steps ≡ list.GoOn ∷ behind) × (n ≤ arrived_at arrivals 1)). inl (releases same h.0 h.1))
       place

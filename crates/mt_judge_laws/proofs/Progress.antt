@@ -3,29 +3,29 @@ use Rattle.std.proofs.Common.{◌≡◌, ◌⊎◌, ◌∙◌, ap, refl, sym, su
 use Rattle.std.specs.Prelude.{cond, ◌&&◌, nat_lt, slice_get}
 use Rattle.std.specs.List.{All, count_by, list_all}
 use Rattle.std.specs.Option.{option_map_or}
+use Rattle.std.proofs.lemmas.List.Elements.{All-head}
 use Rattle.std.proofs.lemmas.Bool.{eq-eqb, le-leb, lt-ltb, ltb-false, ltb-true}
 use Rattle.std.proofs.lemmas.List.Sums.{list_all-from_AllPass}
 use Rattle.std.proofs.lemmas.Option.{get_or_from_slice_get, slice_get-get_or}
-use Rattle.mt_cache.specs.declared.line.CacheLine.{CacheLine}
 use Rattle.mt_regs.specs.Registers.{writable}
+use Rattle.mt_cache.specs.declared.line.CacheLine.{CacheLine}
 use Rattle.mt_machine.specs.declared.phase.Phase.{Phase}
 use Rattle.mt_machine.specs.declared.phase.Phase.TheVariants.{Running, Taken, Arrived, Passed, NoFill, Flushed, TlbFlushed, Writing, Enabled, Flushed2, TlbFlushed2, Normal, Restored, Arrived2}
 use Rattle.mt_machine.specs.Access.{is_running}
 use Rattle.mt_machine.specs.Machine.{is_arrived, is_arrived_again, is_changing}
 use Rattle.mt_machine.specs.Start.{IsStart}
 use Rattle.mt_machine.specs.System.{Processor, start_processor}
-use Rattle.mt_machine.specs.declared.op.Op.{Op}
 use Rattle.mt_laws.proofs.Barrier.Claims.{all_get}
 use Rattle.mt_laws.proofs.Barrier.Ranks.{At, is_ahead, processor_at, stage_at}
 use Rattle.mt_laws.proofs.Barrier.Stages.{Stage, stage_of, stages_of}
 use Rattle.mt_laws.proofs.Invariant.Standing.{stays_sound}
 use Rattle.mt_laws.proofs.Registers.UnderWay.{lines_are_low}
 use Rattle.mt_laws.proofs.Steps.StepCounts.{count_more}
-use Rattle.mt_judge.specs.Runs.{Case, GoesOn, IsEnded, State, arrived_at, is_fit, is_open, list_of, may_go, place_of, step_at, system_of}
 use Rattle.mt_judge.specs.declared.step.Place.{Place}
 use Rattle.mt_judge.specs.declared.step.Step.{Step}
 use Rattle.mt_judge.specs.declared.step.Step.TheVariants as list
-use Rattle.mt_judge_laws.specs.Manual.{accesses, manual_list, at_rest, first_flush, machine_of, since_flush}
+use Rattle.mt_judge.specs.Runs.{Case, GoesOn, IsEnded, State, arrived_at, is_fit, is_open, list_of, may_go, place_of, step_at, system_of}
+use Rattle.mt_judge_laws.specs.Manual.{IsInstruction, at_rest, first_flush, machine_of, manual_list, since_flush}
 use Rattle.mt_judge_laws.proofs.Counting.{again, arrived}
 use Rattle.mt_judge_laws.proofs.Emptied.{both}
 use Rattle.mt_judge_laws.proofs.Placing.{IsPlace, none_left, some_left}
@@ -80,28 +80,35 @@ flush_first : (n : ℕ) (snoops : Bool) (behind : List Step)
 flush_first n true behind = (list.ClearPge, _, refl, λ arrivals. refl)
 flush_first n false behind = (list.Wbinvd, _, refl, λ arrivals. refl)
 
-open_before : (arrivals : List ℕ) (left : List Step) (n : ℕ) (snoops : Bool) (behind ops : List Op) → left ≡ accesses ops ++ (manual_list n snoops ++ accesses behind) → Open arrivals left
-open_before arrivals left n snoops behind [] is = record { todo = list.Interrupt; more = _; is = is; opened = refl }
-open_before arrivals left n snoops behind (op ∷ ops) is = record { todo = list.Access op; more = _; is = is; opened = refl }
+instruction_open : (arrivals : List ℕ) (t : Step) → IsInstruction t → is_open arrivals t ≡ true
+instruction_open arrivals (list.Access op) fit = refl
+instruction_open arrivals (list.Invlpg address) fit = refl
+instruction_open arrivals (list.Pge on) fit = refl
+instruction_open arrivals (list.Cd on) fit = refl
+instruction_open arrivals other fit = absurd fit
+
+open_before : (arrivals : List ℕ) (left : List Step) (n : ℕ) (snoops : Bool) (behind ts : List Step) → All IsInstruction ts → left ≡ ts ++ (manual_list n snoops ++ behind) → Open arrivals left
+open_before arrivals left n snoops behind [] fit is = record { todo = list.Interrupt; more = _; is = is; opened = refl }
+open_before arrivals left n snoops behind (t ∷ ts) fit is = record { todo = t; more = _; is = is; opened = instruction_open arrivals t (All-head IsInstruction t ts fit) }
 
 -- a processor that hasn't released has a next step, which is open if its barrier is
-open_left : (n r : ℕ) (behind : List Op) (snoops : Bool) (arrivals : List ℕ) (left : List Step) (part : ℕ) (ph : Phase) (ahead : Bool) → IsPlace n r behind snoops (arrived_at arrivals 1) ph ahead left part
+open_left : (n r : ℕ) (behind : List Step) (snoops : Bool) (arrivals : List ℕ) (left : List Step) (part : ℕ) (ph : Phase) (ahead : Bool) → IsPlace n r behind snoops (arrived_at arrivals 1) ph ahead left part
     → (ph ≡ Running → ahead ≡ false) → (ph ≡ Arrived → n ≤ arrived_at arrivals 0) → (ph ≡ Arrived2 → n ≤ arrived_at arrivals 1) → Open arrivals left
 open_left n r behind snoops arrivals left part Running true place late first second = absurd (let e : true ≡ false = late refl in cc)
-open_left n r behind snoops arrivals left part Running false place late first second = open_before arrivals left n snoops behind place.0 place.2
+open_left n r behind snoops arrivals left part Running false place late first second = open_before arrivals left n snoops behind place.0 place.1 place.2
 open_left n r behind snoops arrivals left part Taken ahead place late first second = record { todo = list.ArriveAt 0; more = _; is = place; opened = refl }
 open_left n r behind snoops arrivals left part Arrived ahead place late first second =
     record { todo = list.WaitAt 0 n; more = _; is = place; opened = le-leb n (arrived_at arrivals 0) (first refl) }
 open_left n r behind snoops arrivals left part Passed ahead place late first second = record { todo = list.SetCd; more = _; is = place; opened = refl }
 open_left n r behind snoops arrivals left part NoFill ahead place late first second =
-    let f = flush_first n snoops (accesses behind) in record { todo = f.0; more = f.1; is = place ∙ f.2; opened = f.3 arrivals }
+    let f = flush_first n snoops (behind) in record { todo = f.0; more = f.1; is = place ∙ f.2; opened = f.3 arrivals }
 open_left n r behind snoops arrivals left part (Writing i) ahead place late first second = ⊎_elim
     (λ (h : (left ≡ list.WriteRegisters ∷ _) × (part ≡ i) × (i + 1 < r)). record { todo = list.WriteRegisters; more = _; is = h.0; opened = refl })
     (λ (h : (left ≡ list.WriteDefault ∷ _) × (r ≤ i + 1)). record { todo = list.WriteDefault; more = _; is = h.0; opened = refl })
     place
 open_left n r behind snoops arrivals left part Arrived2 ahead place late first second = ⊎_elim
-    (λ (h : left ≡ list.WaitAt 1 n ∷ list.GoOn ∷ accesses behind). record { todo = list.WaitAt 1 n; more = _; is = h; opened = le-leb n (arrived_at arrivals 1) (second refl) })
-    (λ (h : (left ≡ list.GoOn ∷ accesses behind) × (n ≤ arrived_at arrivals 1)). record { todo = list.GoOn; more = _; is = h.0; opened = refl })
+    (λ (h : left ≡ list.WaitAt 1 n ∷ list.GoOn ∷ behind). record { todo = list.WaitAt 1 n; more = _; is = h; opened = le-leb n (arrived_at arrivals 1) (second refl) })
+    (λ (h : (left ≡ list.GoOn ∷ behind) × (n ≤ arrived_at arrivals 1)). record { todo = list.GoOn; more = _; is = h.0; opened = refl })
     place
 open_left n r behind snoops arrivals left part Flushed ahead place late first second = record { todo = list.ClearPge; more = _; is = place; opened = refl }
 open_left n r behind snoops arrivals left part TlbFlushed ahead place late first second = record { todo = list.ClearEnable; more = _; is = place; opened = refl }
@@ -111,14 +118,14 @@ open_left n r behind snoops arrivals left part TlbFlushed2 ahead place late firs
 open_left n r behind snoops arrivals left part Normal ahead place late first second = record { todo = list.ReturnPge; more = _; is = place; opened = refl }
 open_left n r behind snoops arrivals left part Restored ahead place late first second = record { todo = list.ArriveAt 1; more = _; is = place; opened = refl }
 
--- a processor that has released has accesses left, or none
-released_left : (n r : ℕ) (behind : List Op) (snoops : Bool) (arrivals : List ℕ) (left : List Step) (part : ℕ) (ph : Phase) (ahead : Bool) → ahead ≡ true → (is_running ph ≡ false → ahead ≡ false)
+-- a processor that has released has instructions left, or none
+released_left : (n r : ℕ) (behind : List Step) (snoops : Bool) (arrivals : List ℕ) (left : List Step) (part : ℕ) (ph : Phase) (ahead : Bool) → ahead ≡ true → (is_running ph ≡ false → ahead ≡ false)
     → IsPlace n r behind snoops (arrived_at arrivals 1) ph ahead left part → (left ≡ []) ⊎ Open arrivals left
-released_left n r behind snoops arrivals left part Running true is in_step place = accesses_left place.0 place.2
+released_left n r behind snoops arrivals left part Running true is in_step place = instructions_left place.0 place.1 place.2
   where
-    accesses_left : (ops : List Op) → left ≡ accesses ops → (left ≡ []) ⊎ Open arrivals left
-    accesses_left [] e = inl e
-    accesses_left (op ∷ ops) e = inr (record { todo = list.Access op; more = accesses ops; is = e; opened = refl })
+    instructions_left : (ts : List Step) → All IsInstruction ts → left ≡ ts → (left ≡ []) ⊎ Open arrivals left
+    instructions_left [] fit e = inl e
+    instructions_left (t ∷ ts) fit e = inr (record { todo = t; more = ts; is = e; opened = instruction_open arrivals t (All-head IsInstruction t ts fit) })
 released_left n r behind snoops arrivals left part Running false is in_step place = absurd (cc)
 released_left n r behind snoops arrivals left part other ahead is in_step place = absurd (let no : ahead ≡ false = in_step refl in cc)
 

@@ -4,18 +4,18 @@ use Rattle.std.specs.Prelude.{◌==◌, not, ◌&&◌, ◌||◌, slice_get}
 use Rattle.std.specs.List.{list_all, list_any}
 use Rattle.std.specs.Option.{option_map_or}
 use Rattle.std.proofs.lemmas.Bool.{eq-eqb, not-false}
-use Rattle.mt_cache.specs.declared.line.CacheLine.{CacheLine}
 use Rattle.mt_kinds.specs.declared.mem_type.MemType.{MemType}
-use Rattle.mt_regs.specs.RegisterFile.{RegisterFile}
 use Rattle.mt_kinds.specs.Types.{byte_of_type}
+use Rattle.mt_regs.specs.RegisterFile.{RegisterFile}
 use Rattle.mt_regs.specs.PageTypes.{is_type}
+use Rattle.mt_cache.specs.declared.line.CacheLine.{CacheLine}
 use Rattle.mt_tlb.specs.declared.entry.Entry.{Entry}
 use Rattle.mt_tlb.specs.declared.mapping.Mapping.{Mapping}
 use Rattle.mt_machine.specs.declared.phase.Phase.{Phase}
 use Rattle.mt_machine.specs.declared.phase.Phase.TheVariants.{Running, Taken, Arrived, Passed, Normal, Restored, Arrived2}
+use Rattle.mt_machine.specs.declared.op.Op.{Op}
 use Rattle.mt_machine.specs.Access.{access_at, is_running, new_entry}
 use Rattle.mt_machine.specs.Machine.{Order, has_released}
-use Rattle.mt_machine.specs.declared.op.Op.{Op}
 use Rattle.mt_machine.specs.Memory.{Memory}
 use Rattle.mt_machine.specs.System.{Processor}
 use Rattle.mt_laws.proofs.Barrier.Ranks.{At, Guarded, and_left, and_right, rank, rank_of, stage_at}
@@ -23,11 +23,11 @@ use Rattle.mt_laws.proofs.Barrier.Stages.{Stage, stage_of, stages_of}
 use Rattle.mt_laws.proofs.Clearing.Cleared.{buffers_gone, entries_gone, lines_gone}
 use Rattle.mt_laws.proofs.Clearing.Renewed.{AllClear}
 use Rattle.mt_laws.proofs.Registers.Filed.{AllFiled, is_done}
+use Rattle.mt_judge.specs.declared.wrong.Wrong.{Wrong}
+use Rattle.mt_judge.specs.declared.wrong.Wrong.TheVariants.{Disagree, StaleBuffer, StaleEntry, StaleLine}
 use Rattle.mt_judge.specs.Runs.{State}
 use Rattle.mt_judge.specs.Searches.{has_wrong}
 use Rattle.mt_judge.specs.Wrongs.{disagree, holds_at, is_awake, is_stale_buffer, is_stale_entry, is_stale_line, is_wrong}
-use Rattle.mt_judge.specs.declared.wrong.Wrong.{Wrong}
-use Rattle.mt_judge.specs.declared.wrong.Wrong.TheVariants.{Disagree, StaleBuffer, StaleEntry, StaleLine}
 use Rattle.mt_judge_laws.proofs.Emptied.{both}
 use Rattle.mt_judge_laws.proofs.Accessing.{AllKeep, Keeps, access_keeps}
 use Rattle.mt_judge_laws.proofs.Since.{AllSince, AreRight, Bare, Since, is_before, is_early, is_no_fill, none_right, re_right, right_buffer, right_entry, right_line, with_view}

@@ -1,33 +1,39 @@
 -- What a processor has kept since the start, in each phase, and that its events keep this.
-use Rattle.mt_tlb.specs.Entries.{find_mapping}
-use Rattle.std.proofs.Common.{◌≡◌, ◌≢◌, ◌⊎◌, ◌∙◌, ap, refl, sym, subst, ⊎_elim, arith, ℕ, ◌+◌, Bool, true, false, List, [], ◌∷◌, Some, Option, None}
+use Rattle.std.proofs.Common.{◌≡◌, ◌≢◌, ◌⊎◌, ◌∙◌, ap, refl, sym, subst, ⊎_elim, arith, ℕ, ◌+◌, Bool, true, false, List, [], ◌∷◌, Some, Option, None, ◌/◌}
 use Rattle.std.specs.Prelude.{◌==◌, not, ◌&&◌, ◌||◌, if◌then◌else◌, nat_lt, slice_get}
 use Rattle.std.specs.List.{list_all, list_any}
 use Rattle.std.specs.Option.{option_map_or, option_map}
 use Rattle.std.proofs.lemmas.Bool.{lt-ltb}
-use Rattle.mt_cache.specs.declared.line.CacheLine.{CacheLine}
+use Rattle.mt_kinds.specs.Sizes.{page_bytes}
 use Rattle.mt_kinds.specs.declared.mem_type.MemType.{MemType}
 use Rattle.mt_kinds.specs.declared.mem_type.MemType.TheVariants.{UC, WC, WB}
 use Rattle.mt_regs.specs.RegisterFile.{RegisterFile}
 use Rattle.mt_regs.specs.PageTypes.{is_type}
+use Rattle.mt_cache.specs.declared.line.CacheLine.{CacheLine}
+use Rattle.mt_tlb.specs.Entries.{find_mapping, has_page}
 use Rattle.mt_tlb.specs.declared.entry.Entry.{Entry}
 use Rattle.mt_tlb.specs.declared.mapping.Mapping.{Mapping}
+use Rattle.mt_machine.specs.declared.control.Control.TheVariants.{Cd, Cr3, Invlpg, Map, Pge}
+use Rattle.mt_machine.specs.declared.control.Control.{Control}
 use Rattle.mt_machine.specs.declared.event.Event.{Event}
 use Rattle.mt_machine.specs.declared.event.Event.TheVariants.{Take, Arrive, Leave, Pass, SetNoFill, WriteBack, DropLines, FlushTlb, Disable, Write, Enable, SetNormal, RestorePge, ArriveAgain, Release}
 use Rattle.mt_machine.specs.declared.phase.Phase.{Phase}
 use Rattle.mt_machine.specs.declared.phase.Phase.TheVariants.{Running, Taken, Arrived, Passed, NoFill, Flushed, TlbFlushed, Writing, Enabled, Flushed2, TlbFlushed2, Normal, Restored, Arrived2}
+use Rattle.mt_machine.specs.Bus.{drain}
 use Rattle.mt_machine.specs.Access.{is_cached, is_running, new_entry}
-use Rattle.mt_machine.specs.Control.{reload_cr3}
+use Rattle.mt_machine.specs.Control.{reload_cr3, control_at, drop_page, same_bool, set_page_global}
 use Rattle.mt_machine.specs.Machine.{Order, after_drop, after_flush, before_own, due, flush_tlb, has_released, own_step, step}
-use Rattle.mt_machine.specs.System.{Processor, System}
+use Rattle.mt_machine.specs.System.{Processor, System, change}
 use Rattle.mt_machine.proofs.Rows.{due_row, is_row}
+use Rattle.mt_laws.specs.ComingAndGoing.{uncached}
+use Rattle.mt_laws.proofs.Clearing.Follows.{all_filter}
 use Rattle.mt_laws.proofs.Barrier.Barriers.{flush_era}
 use Rattle.mt_laws.proofs.Barrier.Ranks.{Guarded, and_left, and_right, stage_at}
 use Rattle.mt_laws.proofs.Barrier.Stages.{Stage, stage_of, stages}
 use Rattle.mt_laws.proofs.Clearing.Cleared.{buffers_gone, entries_gone, lines_gone}
 use Rattle.mt_laws.proofs.Clearing.Renewed.{AllClear, at_change}
-use Rattle.mt_judge.specs.Wrongs.{allows_by, is_allowed, is_same_entry, kept_as, made_entry, page_of}
 use Rattle.mt_judge.specs.declared.wrong.Kept.TheVariants.{Buffer, CleanLine, DirtyLine}
+use Rattle.mt_judge.specs.Wrongs.{allows_by, is_allowed, is_same_entry, kept_as, made_entry, page_of}
 use Rattle.mt_judge_laws.proofs.Emptied.{Fewer, IsOfClean, before_in, both}
 
 -- ---- what is right by a processor's registers and mappings
@@ -371,3 +377,83 @@ steps_since o firsts e k s p at h g clear all j q at_q =
         (ap (λ (y : Stage). is_row e y.0) (sym same) ∙ row)
         (empties x at_x)
         (ap (λ (y : Stage). nat_lt o.from_era (y.1 + 1)) (sym same) ∙ above)
+
+-- ---- control instructions
+
+abbrev OwnPart : Type 0
+OwnPart = RegisterFile × List Mapping × Bool × Phase × ℕ
+
+abbrev own_part : Processor → OwnPart
+own_part p = (p.file, p.mappings, p.self_snoop, p.phase, p.era)
+
+-- a change of a processor that runs: of its entries, its PGE or its CD
+since_changed : (o : Order) (first p q : Processor) → own_part q ≡ own_part p → is_running p.phase ≡ true
+    → q.lines ≡ p.lines → q.buffers ≡ p.buffers → ((test : Entry → Bool) → list_all test p.entries ≡ true → list_all test q.entries ≡ true) → Since o first p → Since o first q
+since_changed o first p q same runs lines buffers fewer s =
+    let file : q.file ≡ p.file = ap (λ (x : OwnPart). x.0) same in
+    let mappings : q.mappings ≡ p.mappings = ap (λ (x : OwnPart). x.1) same in
+    let stage : (p.phase, p.era) ≡ (q.phase, q.era) = ap (λ (x : OwnPart). (x.3, x.4)) (sym same) in
+    record {
+      mappings = mappings ∙ s.mappings;
+      self_snoop = ap (λ (x : OwnPart). x.2) same ∙ s.self_snoop;
+      early = λ h.
+          let e = s.early (ap (λ (x : Stage). is_before x.0 && not (nat_lt o.from_era x.1)) stage ∙ h) in
+          record { file = file ∙ e.file; right = fewer_right first e.right };
+      disabled = λ h.
+          absurd (let on : is_no_fill p.phase ≡ true = ap (λ (x : Stage). is_no_fill x.0) stage ∙ h in
+          let off : is_no_fill p.phase ≡ false = running_fills p.phase runs in
+          cc);
+      released = λ h. re_right p q q (sym file) (sym mappings) (fewer_right p (s.released (ap (λ (x : Stage). nat_lt o.from_era x.1) stage ∙ h)));
+    }
+  where
+    running_fills : (ph : Phase) → is_running ph ≡ true → is_no_fill ph ≡ false
+    running_fills Running h = refl
+    running_fills other h = absurd (cc)
+
+    fewer_right : (v : Processor) → AreRight v p → AreRight v q
+    fewer_right v r = record {
+      lines = ap (list_all (right_line v)) lines ∙ r.lines;
+      buffers = ap (list_all (right_buffer v)) buffers ∙ r.buffers;
+      entries = fewer (right_entry v) r.entries;
+    }
+
+page_global_since : (o : Order) (first p : Processor) (on : Bool) → is_running p.phase ≡ true → Since o first p → Since o first (set_page_global on p)
+page_global_since o first p on runs s = one (same_bool on p.page_global)
+  where
+    one : (b : Bool) → Since o first (if b then p else record p { page_global = on; entries = [] })
+    one true = s
+    one false = since_changed o first p (record p { page_global = on; entries = [] }) refl runs refl refl (λ test h. refl) s
+
+-- after the buffers are emptied, the processor is changed
+drained_since : (o : Order) (firsts : List Processor) (s : System) (k : ℕ) (p : Processor) → slice_get s.processors k ≡ Some p → is_running p.phase ≡ true → AllSince o firsts s.processors
+    → (f : Processor → Processor) → ((first x : Processor) → is_running x.phase ≡ true → Since o first x → Since o first (f x)) → AllSince o firsts (change f k (drain k s)).processors
+drained_since o firsts s k p at runs all f kept j q at_q =
+    ⊎_elim
+    (λ (m : (j ≡ k) × (x : Processor) × (slice_get (drain k s).processors k ≡ Some x) × (f x ≡ q)).
+    let from = before_in Take k s k m.1 m.2 in
+    let h = since_in o firsts Take k s all k m.1 m.2 in
+    let same : from.0 ≡ p = let i : Some (from.0) ≡ Some p = sym from.1 ∙ at in cc in
+    let running : is_running m.1.phase ≡ true = ap (λ (x : Processor). is_running x.phase) (from.2.bare ∙ ap uncached same) ∙ runs in
+    let r : (first : Processor) × (slice_get firsts j ≡ Some first) × Since o first q =
+    (h.0, ap (slice_get firsts) m.0 ∙ h.1, subst (Since o h.0) m.3 (kept h.0 m.1 running h.2)) in r)
+    (λ (m : (j ≢ k) × (slice_get (drain k s).processors j ≡ Some q)). since_in o firsts Take k s all j q m.1)
+    (at_change f k (drain k s) j q at_q)
+
+-- neither a mapping nor a reload of CR3
+abbrev pub IsPlain : Control → Type 0
+IsPlain (Map m) = ⊥
+IsPlain Cr3 = ⊥
+IsPlain other = Unit {0}
+
+pub control_since : (o : Order) (firsts : List Processor) (s : System) (k : ℕ) (p : Processor) (c : Control) → IsPlain c → slice_get s.processors k ≡ Some p → is_running p.phase ≡ true
+    → AllSince o firsts s.processors → AllSince o firsts (control_at s k p c).after.processors
+control_since o firsts s k p (Invlpg address) plain at runs all =
+    drained_since o firsts s k p at runs all (drop_page (address / page_bytes))
+    (λ first x running since. since_changed o first x (drop_page (address / page_bytes) x) refl running refl refl (λ test h. all_filter test (λ e. not (has_page (address / page_bytes) e)) x.entries h) since)
+control_since o firsts s k p (Pge on) plain at runs all =
+    drained_since o firsts s k p at runs all (set_page_global on) (λ first x running since. page_global_since o first x on running since)
+control_since o firsts s k p (Cd on) plain at runs all =
+    drained_since o firsts s k p at runs all (λ q. record q { cache_disabled = on })
+    (λ first x running since. since_changed o first x (record x { cache_disabled = on }) refl running refl refl (λ test h. h) since)
+control_since o firsts s k p (Map m) plain at runs all = absurd plain
+control_since o firsts s k p Cr3 plain at runs all = absurd plain

@@ -8,38 +8,41 @@ use Rattle.std.proofs.lemmas.List.{length-set}
 use Rattle.std.proofs.lemmas.Option.{get_or_from_slice_get}
 use Rattle.mt_regs.specs.RegisterFile.{RegisterFile}
 use Rattle.mt_regs.specs.Registers.{writable}
+use Rattle.mt_machine.specs.declared.ruled.Ruled.TheVariants.{Busy as RuledBusy}
+use Rattle.mt_machine.specs.declared.control.Control.TheVariants.{Cd, Invlpg, Pge}
+use Rattle.mt_machine.specs.declared.control.Control.{Control}
 use Rattle.mt_machine.specs.declared.event.Event.{Event}
 use Rattle.mt_machine.specs.declared.event.Event.TheVariants.{FlushTlb, Leave, Take}
 use Rattle.mt_machine.specs.declared.phase.Phase.{Phase}
 use Rattle.mt_machine.specs.declared.phase.Phase.TheVariants.{Running, Arrived2}
+use Rattle.mt_machine.specs.declared.op.Op.{Op}
+use Rattle.mt_machine.specs.declared.done.Done.TheVariants.{Busy}
+use Rattle.mt_machine.specs.Control.{RuledAfter, control, control_at}
 use Rattle.mt_machine.specs.Access.{is_running, Answered, access, access_at}
-use Rattle.mt_machine.specs.Machine.{IsEnabled, Order, Reached, Steps, after, after_flush, due, has_arrived, has_arrived_again, has_released, is_over, own_step, remaining_order, step, Accesses, FitsOp, is_cancelled}
+use Rattle.mt_machine.specs.Machine.{IsEnabled, Order, Reached, Steps, after, after_flush, due, has_arrived, has_arrived_again, has_released, is_over, own_step, remaining_order, step, Accesses, FitsOp, is_cancelled, Controls, FitsControl, MachineEvent, next}
 use Rattle.mt_machine.specs.Start.{IsStart}
 use Rattle.mt_machine.specs.System.{Processor, System}
 use Rattle.mt_machine.proofs.Rows.{due_row}
 use Rattle.mt_laws.proofs.Barrier.Barriers.{flush_era, step_guarded, step_stages}
 use Rattle.mt_laws.proofs.Barrier.Ranks.{At, Guarded, all_at, at_set, stage_at, is_ahead}
-use Rattle.mt_laws.proofs.Barrier.Stages.{Stage, stage_of, stages_of, access_stages, stages}
+use Rattle.mt_laws.proofs.Barrier.Stages.{Stage, stage_of, stages_of, access_stages, stages, control_stages}
 use Rattle.mt_laws.proofs.Clearing.Renewed.{AllClear, steps_clear, clear_next}
 use Rattle.mt_laws.proofs.Invariant.Kept.{start_aligned}
 use Rattle.mt_laws.proofs.Invariant.Standing.{reached_standing, start_standing}
 use Rattle.mt_laws.proofs.Registers.Filed.{AllFiled, filed_steps, filed_next}
-use Rattle.mt_judge.specs.Parts.{bus}
-use Rattle.mt_judge.specs.Runs.{Case, State, after as state_after, arrived_at, counted, due_in, due_of, event_in, is_fit, is_open, list_of, may_go, move_of, moved, next_step, place_after, place_of, procedure_order, step_at, step_behind, system_of}
-use Rattle.mt_judge.specs.Steps.{after_step, event_of, passage, accessed, answer_of_step}
-use Rattle.mt_judge.specs.Wrongs.{fault_of, fault_with}
+use Rattle.mt_bus.specs.Parts.{answered}
 use Rattle.mt_judge.specs.declared.step.Place.{Place}
 use Rattle.mt_judge.specs.declared.step.Step.{Step}
 use Rattle.mt_judge.specs.declared.step.Step.TheVariants as list
-use Rattle.mt_judge_laws.specs.Manual.{IsDue, at_rest, is_tlb_flush, machine_of, accesses}
-use Rattle.mt_judge_laws.proofs.Counting.{Counts, again, all_pass, all_staged, arrived, counts, era_after, first_after, phase_after, second_after, stage_after}
-use Rattle.mt_judge_laws.proofs.Placing.{IsPlace, Turn, Waits, place_up, turn, two_at_least, DoesAccess}
-use Rattle.mt_judge_laws.proofs.Since.{AllSince, steps_since}
-use Rattle.mt_machine.specs.declared.op.Op.{Op}
-use Rattle.mt_machine.specs.declared.done.Done.TheVariants.{Busy}
-use Rattle.mt_bus.specs.Parts.{answered}
-use Rattle.mt_judge.specs.declared.moves.Outcome.{Outcome}
 use Rattle.mt_judge.specs.declared.moves.Outcome.TheVariants.{Accessed}
+use Rattle.mt_judge.specs.Parts.{bus}
+use Rattle.mt_judge.specs.Runs.{Case, State, after as state_after, arrived_at, counted, due_in, due_of, event_in, is_fit, is_open, list_of, may_go, move_of, moved, next_step, place_after, place_of, procedure_order, step_at, step_behind, system_of}
+use Rattle.mt_judge.specs.Steps.{after_step, event_of, passage, accessed, answer_of_step, answer_aside, aside, controlled}
+use Rattle.mt_judge.specs.Wrongs.{fault_of, fault_with}
+use Rattle.mt_judge_laws.specs.Manual.{IsDue, at_rest, is_tlb_flush, machine_of, IsInstruction}
+use Rattle.mt_judge_laws.proofs.Counting.{Counts, again, all_pass, all_staged, arrived, counts, era_after, first_after, phase_after, second_after, stage_after}
+use Rattle.mt_judge_laws.proofs.Placing.{IsPlace, Turn, Waits, place_up, turn, two_at_least, Instructs}
+use Rattle.mt_judge_laws.proofs.Since.{AllSince, steps_since, IsPlain, control_since}
 use Rattle.mt_judge_laws.proofs.Accessing.{access_right}
 use Rattle.mt_judge_laws.proofs.Right.{access_since, running_right}
 
@@ -62,6 +65,12 @@ set_same [] k x y at = absurd (cc)
 set_same (z ∷ xs) zero x y at = refl
 set_same (z ∷ xs) (suc k) x y at = set_same xs k x y at
 
+abbrev pick_answer : Bool → Answered → Answered → Answered
+pick_answer b x y = if b then x else y
+
+abbrev pick_ruled : Bool → RuledAfter → RuledAfter → RuledAfter
+pick_ruled b x y = if b then x else y
+
 -- ---- the stage after an event
 
 own_stage : (goal : RegisterFile) (e : Event) (p : Processor) → stage_of (own_step goal e p) ≡ stage_after e (stage_of p)
@@ -83,8 +92,8 @@ snoops_at first k = option_map_or (λ p. p.self_snoop) (slice_get first.processo
 
 -- where a processor in this stage is in its list
 pub record PlaceOf (c : Case) (first s : State) (k : ℕ) (x : Stage) : Type 0 where
-  pub behind : List Op
-  pub fit : All FitsOp behind
+  pub behind : List Step
+  pub fit : All IsInstruction behind
   pub place : Place
   pub here : slice_get s.places k ≡ Some place
   pub is : IsPlace (length first.processors) (length (writable c.goal)) behind (snoops_at first k) (arrived_at s.arrived 1) x.0 (nat_lt 0 x.1) (drop place.step (list_of c k)) place.part
@@ -150,7 +159,7 @@ not_over c ps k p at behind = one (list_all (has_released (order_of c)) ps) refl
 module _ (c : Case) (first : State) (start : IsStart (at_rest c first)) (few : length first.processors ≤ 64) (s : State) (st : Stands c first s) (k : ℕ) (p : Processor)
     (at : slice_get s.processors k ≡ Some p) (todo : Step) (place : Place) (here : slice_get s.places k ≡ Some place) (next_is : slice_get (list_of c k) place.step ≡ Some todo)
     (opened : is_open s.arrived todo ≡ true) (is : next_step c s k ≡ Some todo)
-    (rest : List Op) (fit : All FitsOp rest)
+    (rest : List Step) (fit : All IsInstruction rest)
     (placed : IsPlace (length first.processors) (length (writable c.goal)) rest p.self_snoop (arrived_at s.arrived 1) p.phase (nat_lt 0 p.era) (drop place.step (list_of c k)) place.part)
     (snoops : snoops_at first k ≡ p.self_snoop) where
   place_is : place_of s k ≡ place
@@ -188,8 +197,8 @@ module _ (c : Case) (first : State) (start : IsStart (at_rest c first)) (few : l
   abbrev WaitsHere : Type 0
   WaitsHere = Waits c.goal s.processors (length first.processors) (length (writable c.goal)) rest (list_of c k) place p s.arrived todo
 
-  abbrev AccessHere : Type 0
-  AccessHere = DoesAccess c.goal s.processors (length first.processors) (length (writable c.goal)) rest (list_of c k) place p s.arrived todo
+  abbrev InstructsHere : Type 0
+  InstructsHere = Instructs c.goal s.processors (length first.processors) (length (writable c.goal)) rest (list_of c k) place p s.arrived todo
 
   -- ---- an event
 
@@ -317,7 +326,7 @@ module _ (c : Case) (first : State) (start : IsStart (at_rest c first)) (few : l
   abbrev behind_wait : State
   behind_wait = record s { places = slice_set s.places k (step_behind place) }
 
-  waited_places : drop (place.step + 1) (list_of c k) ≡ list.GoOn ∷ accesses rest → length first.processors ≤ arrived_at s.arrived 1 → p.phase ≡ Arrived2 → AllPlaced c first behind_wait
+  waited_places : drop (place.step + 1) (list_of c k) ≡ list.GoOn ∷ rest → length first.processors ≤ arrived_at s.arrived 1 → p.phase ≡ Arrived2 → AllPlaced c first behind_wait
   waited_places left full phase j x at_x = ⊎_elim
       (λ (h : (j ≡ k) × (slice_get (set s.places k (step_behind place)) j ≡ Some (step_behind place))).
       let own : At (stages_of s.processors) k x = subst (λ (i : ℕ). At (stages_of s.processors) i x) h.0 at_x in
@@ -360,119 +369,146 @@ module _ (c : Case) (first : State) (start : IsStart (at_rest c first)) (few : l
         stands = subst (Stands c first) (sym (moved_is None none ∙ ap (λ (t : Step). built c s k t place None) w.is)) stands;
       }
 
-  -- ---- an access
+  -- ---- an instruction of a processor that runs, which is no event of an update
 
-  module _ (op : Op) (fits : FitsOp op) (todo_is : todo ≡ list.Access op) (runs : p.phase ≡ Running)
+  module _ (runs : p.phase ≡ Running)
       (after_is : IsPlace (length first.processors) (length (writable c.goal)) rest p.self_snoop (arrived_at s.arrived 1) Running (nat_lt 0 p.era) (drop (place.step + 1) (list_of c k)) 0) where
     running : is_running p.phase ≡ true
     running = ap is_running runs
 
-    no_event : event_of todo place.part p ≡ None
-    no_event = ap (λ (t : Step). event_of t place.part p) todo_is
+    abbrev before : System
+    before = system_of c s
 
-    abbrev done : Answered
-    done = access_at (system_of c s) k p op
+    -- an event that leaves this system, stages and the rest that is kept
+    module _ (to : System) (e : MachineEvent) (enabled : IsEnabled (machine_of c s) e) (next_to : next (machine_of c s) e ≡ record (machine_of c s) { system = to }) (same_stages : stages_of to.processors ≡ stages_of s.processors)
+        (clear : AllClear (Some (order_of c)) to.processors) (filed : AllFiled (Some (order_of c)) to.processors) (since : AllSince (order_of c) first.processors to.processors)
+        (no_event : event_of todo place.part p ≡ None) (no_flush : is_tlb_flush todo ≡ false) (aside_is : aside todo k before ≡ to) (goes_on : place_after place todo None (length (writable c.goal)) ≡ step_behind place)
+        (counts_none : counted todo s.arrived ≡ s.arrived) (right : fault_with k todo (answer_aside todo k before) p ≡ None) where
+      same_order : remaining_order (order_of c) s.processors ≡ remaining_order (order_of c) to.processors
+      same_order =
+          let all_same : list_all (has_released (order_of c)) s.processors ≡ list_all (has_released (order_of c)) to.processors =
+          all_staged (is_ahead (order_of c)) s.processors ∙ ap (list_all (is_ahead (order_of c))) (sym same_stages) ∙ sym (all_staged (is_ahead (order_of c)) to.processors) in
+          ap (λ (b : Bool). if b || false then None else Some (order_of c)) all_same
 
-    abbrev touched : System
-    touched = done.after
+      reaches_to : Reached (at_rest c first) (record { system = to; order = remaining_order (order_of c) to.processors })
+      reaches_to =
+          subst (λ (o : Option Order). Reached (at_rest c first) (record { system = to; order = o })) same_order
+          (subst (Reached (at_rest c first)) next_to (after e st.reached enabled))
 
-    access_is : access (system_of c s) k op ≡ done
-    access_is =
-        ap (λ (x : Option Processor). option_map_or (λ q. if is_running q.phase then access_at (system_of c s) k q op else record { answer = Busy; after = system_of c s }) x (record { answer = Busy; after = system_of c s })) at
-        ∙ ap (λ (b : Bool). if b then done else record { answer = Busy; after = system_of c s }) running
+      same_windows : to.memory.windows ≡ c.layout.windows
+      same_windows = (reached_standing c.layout.windows (start_aligned (at_rest c first) start) reaches_to (start_standing (at_rest c first) start)).agrees.stands.memory.windows
 
-    accessed_is : accessed op k (system_of c s) ≡ done
-    accessed_is = ap (λ (x : Option Processor). option_map_or (λ q. access_at (system_of c s) k q op) x (answered Busy (system_of c s))) at
+      same_system : to ≡ bus c.layout to.processors to.memory.words
+      same_system = λ i. record { processors = to.processors; memory = record { windows = same_windows i; words = to.memory.words } }
 
-    after_access : (access (system_of c s) k op).after ≡ touched
-    after_access = ap (λ (x : Answered). x.after) access_is
+      abbrev behind_it : State
+      behind_it = record { processors = to.processors; words = to.memory.words; places = slice_set s.places k (step_behind place); arrived = s.arrived }
 
-    same_stages : stages_of touched.processors ≡ stages_of s.processors
-    same_stages = ap stages (sym after_access) ∙ access_stages (system_of c s) k op
+      built_is : built c s k todo place None ≡ behind_it
+      built_is = λ i. record { processors = (aside_is i).processors; words = (aside_is i).memory.words; places = slice_set s.places k (goes_on i); arrived = counts_none i }
 
-    enabled : IsEnabled (record { system = system_of c s; order = Some (order_of c) }) (Accesses k op)
-    enabled = (ap (λ (x : Option Processor). option_map_or (λ q. is_running q.phase) x false) at ∙ running, fits)
+      places_behind : AllPlaced c first behind_it
+      places_behind j x at_x =
+          let there : At (stages_of s.processors) j x = subst (λ (vs : List Stage). At vs j x) same_stages at_x in
+          ⊎_elim
+          (λ (h : (j ≡ k) × (slice_get (set s.places k (step_behind place)) j ≡ Some (step_behind place))).
+          let own : At (stages_of s.processors) k x = subst (λ (i : ℕ). At (stages_of s.processors) i x) h.0 there in
+          let same : (Running, p.era) ≡ x = let i : Some (stage_of p) ≡ Some x = sym here_stage ∙ own in (λ i. (sym runs i, p.era)) ∙ (let e : stage_of p ≡ x = cc in e) in
+          let here_now : PlaceOf c first behind_it k (Running, p.era) =
+          record {
+            behind = rest;
+            fit = fit;
+            place = step_behind place;
+            here = set_same s.places k place (step_behind place) here;
+            is = subst (λ (b : Bool). IsPlace (length first.processors) (length (writable c.goal)) rest b (arrived_at s.arrived 1) Running (nat_lt 0 p.era) (drop (place.step + 1) (list_of c k)) 0) (sym snoops) after_is;
+          } in
+          subst (λ (i : ℕ). PlaceOf c first behind_it i x) (sym h.0) (subst (λ (y : Stage). PlaceOf c first behind_it k y) same here_now))
+          (λ (h : (j ≢ k) × (slice_get (set s.places k (step_behind place)) j ≡ slice_get s.places j)).
+          let q = st.places j x there in
+          let r : PlaceOf c first behind_it j x = record { behind = q.behind; fit = q.fit; place = q.place; here = h.1 ∙ q.here; is = q.is } in r)
+          (set_get s.places k place (step_behind place) j here)
 
-    same_order : remaining_order (order_of c) s.processors ≡ remaining_order (order_of c) touched.processors
-    same_order =
-        let all_same : list_all (has_released (order_of c)) s.processors ≡ list_all (has_released (order_of c)) touched.processors =
-        all_staged (is_ahead (order_of c)) s.processors ∙ ap (list_all (is_ahead (order_of c))) (sym same_stages) ∙ sym (all_staged (is_ahead (order_of c)) touched.processors) in
-        ap (λ (b : Bool). if b || false then None else Some (order_of c)) all_same
+      stands_behind : Stands c first behind_it
+      stands_behind = record {
+        reached = subst (λ (t : System). Reached (at_rest c first) (record { system = t; order = remaining_order (order_of c) to.processors })) same_system reaches_to;
+        guarded = subst (Guarded (order_of c)) (sym same_stages) st.guarded;
+        clear = clear;
+        filed = filed;
+        since = since;
+        counts = subst (λ (vs : List Stage). AreCounted (order_of c) vs s.arrived) (sym same_stages) st.counts;
+        places = places_behind;
+        long = ap length same_stages ∙ st.long;
+      }
 
-    reaches_access : Reached (at_rest c first) (record { system = touched; order = remaining_order (order_of c) touched.processors })
-    reaches_access =
-        subst (λ (o : Option Order). Reached (at_rest c first) (record { system = touched; order = o })) same_order
-        (subst (λ (t : System). Reached (at_rest c first) (record { system = t; order = remaining_order (order_of c) s.processors })) after_access
-        (after (Accesses k op) st.reached enabled))
+      instructed : Goes c first s k
+      instructed = record {
+        todo = todo;
+        is = is;
+        due_is = subst (λ (x : Option Event). MatchOption x (is_tlb_flush todo ≡ false) (λ e. due_in s.processors k ≡ Some e)) (sym (event_is None no_event)) no_flush;
+        right = fault_is (ap (λ (x : Option Event). fault_with k todo (answer_of_step x todo k before) p) (event_is None no_event) ∙ right);
+        stands = subst (Stands c first) (sym (moved_is None no_event ∙ built_is)) stands_behind;
+      }
 
-    same_windows : touched.memory.windows ≡ c.layout.windows
-    same_windows = (reached_standing c.layout.windows (start_aligned (at_rest c first) start) reaches_access (start_standing (at_rest c first) start)).agrees.stands.memory.windows
+    runs_at : option_map_or (λ (q : Processor). is_running q.phase) (slice_get s.processors k) false ≡ true
+    runs_at = ap (λ (x : Option Processor). option_map_or (λ q. is_running q.phase) x false) at ∙ running
 
-    same_system : touched ≡ bus c.layout touched.processors touched.memory.words
-    same_system = λ i. record { processors = touched.processors; memory = record { windows = same_windows i; words = touched.memory.words } }
+    accesses : (op : Op) → todo ≡ list.Access op → FitsOp op → Goes c first s k
+    accesses op todo_is fits =
+        let done : Answered = access_at before k p op in
+        let access_is : (access before k op).after ≡ done.after =
+        ap (λ (x : Option Processor). (option_map_or (λ q. if is_running q.phase then access_at before k q op else record { answer = Busy; after = before }) x (record { answer = Busy; after = before })).after) at
+        ∙ ap (λ (b : Bool). (pick_answer b done (record { answer = Busy; after = before })).after) running in
+        let accessed_is : accessed op k before ≡ done = ap (λ (x : Option Processor). option_map_or (λ q. access_at before k q op) x (answered Busy before)) at in
+        let same_stages : stages_of done.after.processors ≡ stages_of s.processors = ap stages (sym access_is) ∙ access_stages before k op in
+        instructed done.after (Accesses k op) (runs_at, fits) (ap (λ (t : System). record (machine_of c s) { system = t }) access_is) same_stages
+        (subst (λ (t : System). AllClear (Some (order_of c)) t.processors) access_is (clear_next (Accesses k op) before (Some (order_of c)) (runs_at, fits) st.guarded st.clear))
+        (subst (λ (t : System). AllFiled (Some (order_of c)) t.processors) access_is (filed_next (Accesses k op) before (Some (order_of c)) (runs_at, fits) st.guarded st.filed))
+        (access_since (order_of c) first.processors s.processors st.guarded st.clear st.since before.memory k p op at running same_stages)
+        (ap (λ (t : Step). event_of t place.part p) todo_is)
+        (ap is_tlb_flush todo_is)
+        (ap (λ (t : Step). aside t k before) todo_is ∙ ap (λ (x : Answered). x.after) accessed_is)
+        (ap (λ (t : Step). place_after place t None (length (writable c.goal))) todo_is)
+        (ap (λ (t : Step). counted t s.arrived) todo_is)
+        (ap (λ (t : Step). fault_with k t (answer_aside t k before) p) todo_is
+        ∙ ap (λ (x : Answered). fault_with k (list.Access op) (Accessed x.answer) p) accessed_is
+        ∙ access_right k k p (running_right (order_of c) first.processors s.processors st.guarded st.clear st.since k p at running) before op)
 
-    abbrev behind_access : State
-    behind_access = record { processors = touched.processors; words = touched.memory.words; places = slice_set s.places k (step_behind place); arrived = s.arrived }
+    controls : (ctl : Control) → IsPlain ctl → ((q : Processor) → FitsControl q ctl) → event_of todo place.part p ≡ None → is_tlb_flush todo ≡ false → aside todo k before ≡ controlled ctl k before
+        → place_after place todo None (length (writable c.goal)) ≡ step_behind place → counted todo s.arrived ≡ s.arrived → fault_with k todo (answer_aside todo k before) p ≡ None → Goes c first s k
+    controls ctl plain fits no_event no_flush aside_is goes_on counts_none right =
+        let done : RuledAfter = control_at before k p ctl in
+        let control_is : (control before k ctl).after ≡ done.after =
+        ap (λ (x : Option Processor). (option_map_or (λ q. if is_running q.phase then control_at before k q ctl else record { answer = RuledBusy; after = before }) x (record { answer = RuledBusy; after = before })).after) at
+        ∙ ap (λ (b : Bool). (pick_ruled b done (record { answer = RuledBusy; after = before })).after) running in
+        let controlled_is : controlled ctl k before ≡ done.after = ap (λ (x : Option Processor). option_map_or (λ q. (control_at before k q ctl).after) x before) at in
+        let same_stages : stages_of done.after.processors ≡ stages_of s.processors = ap stages (sym control_is) ∙ control_stages before k ctl in
+        instructed done.after (Controls k ctl) (runs_at, λ q at_q. fits q) (ap (λ (t : System). record (machine_of c s) { system = t }) control_is) same_stages
+        (subst (λ (t : System). AllClear (Some (order_of c)) t.processors) control_is (clear_next (Controls k ctl) before (Some (order_of c)) (runs_at, λ q at_q. fits q) st.guarded st.clear))
+        (subst (λ (t : System). AllFiled (Some (order_of c)) t.processors) control_is (filed_next (Controls k ctl) before (Some (order_of c)) (runs_at, λ q at_q. fits q) st.guarded st.filed))
+        (control_since (order_of c) first.processors before k p ctl plain at running st.since)
+        no_event no_flush (aside_is ∙ controlled_is) goes_on counts_none right
 
-    built_is : built c s k todo place None ≡ behind_access
-    built_is =
-        ap (λ (t : Step). built c s k t place None) todo_is
-        ∙ (λ i. record { processors = (accessed_is i).after.processors; words = (accessed_is i).after.memory.words; places = slice_set s.places k (step_behind place); arrived = s.arrived })
+    plain_control : (ctl : Control) → IsPlain ctl → ((q : Processor) → FitsControl q ctl) → (t : Step) → todo ≡ t → event_of t place.part p ≡ None → is_tlb_flush t ≡ false → aside t k before ≡ controlled ctl k before
+        → place_after place t None (length (writable c.goal)) ≡ step_behind place → counted t s.arrived ≡ s.arrived → fault_with k t (answer_aside t k before) p ≡ None → Goes c first s k
+    plain_control ctl plain fits t todo_is no_event no_flush aside_is goes_on counts_none right =
+        controls ctl plain fits
+        (ap (λ (u : Step). event_of u place.part p) todo_is ∙ no_event)
+        (ap is_tlb_flush todo_is ∙ no_flush)
+        (ap (λ (u : Step). aside u k before) todo_is ∙ aside_is)
+        (ap (λ (u : Step). place_after place u None (length (writable c.goal))) todo_is ∙ goes_on)
+        (ap (λ (u : Step). counted u s.arrived) todo_is ∙ counts_none)
+        (ap (λ (u : Step). fault_with k u (answer_aside u k before) p) todo_is ∙ right)
 
-    access_places : AllPlaced c first behind_access
-    access_places j x at_x =
-        let there : At (stages_of s.processors) j x = subst (λ (vs : List Stage). At vs j x) same_stages at_x in
-        ⊎_elim
-        (λ (h : (j ≡ k) × (slice_get (set s.places k (step_behind place)) j ≡ Some (step_behind place))).
-        let own : At (stages_of s.processors) k x = subst (λ (i : ℕ). At (stages_of s.processors) i x) h.0 there in
-        let same : (Running, p.era) ≡ x = let i : Some (stage_of p) ≡ Some x = sym here_stage ∙ own in (λ i. (sym runs i, p.era)) ∙ (let e : stage_of p ≡ x = cc in e) in
-        let to : PlaceOf c first behind_access k (Running, p.era) =
-        record {
-          behind = rest;
-          fit = fit;
-          place = step_behind place;
-          here = set_same s.places k place (step_behind place) here;
-          is = subst (λ (b : Bool). IsPlace (length first.processors) (length (writable c.goal)) rest b (arrived_at s.arrived 1) Running (nat_lt 0 p.era) (drop (place.step + 1) (list_of c k)) 0) (sym snoops) after_is;
-        } in
-        subst (λ (i : ℕ). PlaceOf c first behind_access i x) (sym h.0) (subst (λ (y : Stage). PlaceOf c first behind_access k y) same to))
-        (λ (h : (j ≢ k) × (slice_get (set s.places k (step_behind place)) j ≡ slice_get s.places j)).
-        let q = st.places j x there in
-        let r : PlaceOf c first behind_access j x = record { behind = q.behind; fit = q.fit; place = q.place; here = h.1 ∙ q.here; is = q.is } in r)
-        (set_get s.places k place (step_behind place) j here)
-
-    stands_access : Stands c first behind_access
-    stands_access = record {
-      reached = subst (λ (t : System). Reached (at_rest c first) (record { system = t; order = remaining_order (order_of c) touched.processors })) same_system reaches_access;
-      guarded = subst (Guarded (order_of c)) (sym same_stages) st.guarded;
-      clear = subst (λ (t : System). AllClear (Some (order_of c)) t.processors) after_access (clear_next (Accesses k op) (system_of c s) (Some (order_of c)) enabled st.guarded st.clear);
-      filed = subst (λ (t : System). AllFiled (Some (order_of c)) t.processors) after_access (filed_next (Accesses k op) (system_of c s) (Some (order_of c)) enabled st.guarded st.filed);
-      since = access_since (order_of c) first.processors s.processors st.guarded st.clear st.since (system_of c s).memory k p op at running same_stages;
-      counts = subst (λ (vs : List Stage). AreCounted (order_of c) vs s.arrived) (sym same_stages) st.counts;
-      places = access_places;
-      long = ap length same_stages ∙ st.long;
-    }
-
-    outcome_is : (move_of c s k todo).outcome ≡ Accessed done.answer
-    outcome_is =
-        ap (λ (e : Option Event). answer_of_step e todo k (system_of c s)) (event_is None no_event)
-        ∙ ap (λ (t : Step). answer_of_step None t k (system_of c s)) todo_is
-        ∙ ap (λ (x : Answered). Accessed x.answer) accessed_is
-
-    pub goes_access : Goes c first s k
-    goes_access = record {
-      todo = todo;
-      is = is;
-      due_is = subst (λ (x : Option Event). MatchOption x (is_tlb_flush todo ≡ false) (λ e. due_in s.processors k ≡ Some e)) (sym (event_is None no_event)) (ap is_tlb_flush todo_is);
-      right = fault_is
-          (ap (λ (x : Outcome). fault_with k todo x p) outcome_is
-          ∙ ap (λ (t : Step). fault_with k t (Accessed done.answer) p) todo_is
-          ∙ access_right k k p (running_right (order_of c) first.processors s.processors st.guarded st.clear st.since k p at running) (system_of c s) op);
-      stands = subst (Stands c first) (sym (moved_is None no_event ∙ built_is)) stands_access;
-    }
+    by_step : (t : Step) → todo ≡ t → IsInstruction t → Goes c first s k
+    by_step (list.Access op) todo_is fits = accesses op todo_is fits
+    by_step (list.Invlpg address) todo_is fits = plain_control (Invlpg address) tt (λ q. tt) (list.Invlpg address) todo_is refl refl refl refl refl refl
+    by_step (list.Pge on) todo_is fits = plain_control (Pge on) tt (λ q. tt) (list.Pge on) todo_is refl refl refl refl refl refl
+    by_step (list.Cd on) todo_is fits = plain_control (Cd on) tt (λ q. tt) (list.Cd on) todo_is refl refl refl refl refl refl
+    by_step other todo_is fits = absurd fits
 
   pub goes_here : length (writable p.file) ≡ length (writable c.goal) → Goes c first s k
   goes_here registers =
-      ⊎_elim turned (λ (other : WaitsHere ⊎ AccessHere). ⊎_elim waited (λ (a : AccessHere). goes_access a.op a.fit a.is a.phase a.place) other)
+      ⊎_elim turned (λ (other : WaitsHere ⊎ InstructsHere). ⊎_elim waited (λ (a : InstructsHere). by_step a.phase a.place todo refl a.fit) other)
       (turn c.goal s.processors (length first.processors) (length (writable c.goal)) rest fit (list_of c k) place p todo s.arrived next_is registers (two_at_least c.goal) opened first_open second_open later
       p.phase (nat_lt 0 p.era) refl refl placed)
     where

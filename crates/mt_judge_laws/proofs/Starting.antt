@@ -8,8 +8,8 @@ use Rattle.std.proofs.lemmas.List.{get_or_past, length-map}
 use Rattle.std.proofs.lemmas.List.Elements.{All-head}
 use Rattle.std.proofs.lemmas.List.Sums.{list_all-from_AllPass}
 use Rattle.std.proofs.lemmas.Option.{slice_get_within}
-use Rattle.mt_tlb.specs.declared.entry.Entry.{Entry}
 use Rattle.mt_regs.specs.Registers.{writable}
+use Rattle.mt_tlb.specs.declared.entry.Entry.{Entry}
 use Rattle.mt_machine.specs.declared.go.Go.TheVariants.{Given}
 use Rattle.mt_machine.specs.declared.phase.Phase.{Phase}
 use Rattle.mt_machine.specs.declared.phase.Phase.TheVariants.{Running}
@@ -24,14 +24,14 @@ use Rattle.mt_laws.proofs.Barrier.Stages.{Stage, stage_of, stages_of}
 use Rattle.mt_laws.proofs.Clearing.Cleared.{Clear, gone_runs}
 use Rattle.mt_laws.proofs.Registers.Filed.{AllFiled, is_done}
 use Rattle.mt_laws.proofs.Steps.StepCounts.{count_more}
-use Rattle.mt_judge.specs.Runs.{Case, GoesOn, IsEnded, IsRun, State, arrived_at, list_of, may_go, move_of, moved, next_move, place_of, run, step_at, system_of}
-use Rattle.mt_judge.specs.Searches.{AreAllFine, IsFound, fault_at, has_wrong, is_bad}
-use Rattle.mt_judge.specs.Wrongs.{fault_of}
 use Rattle.mt_judge.specs.declared.moves.Move.{Move}
 use Rattle.mt_judge.specs.declared.search.Found.{Found}
 use Rattle.mt_judge.specs.declared.search.Found.TheVariants as ends
 use Rattle.mt_judge.specs.declared.step.Place.{Place}
 use Rattle.mt_judge.specs.declared.step.Step.{Step}
+use Rattle.mt_judge.specs.Runs.{Case, GoesOn, IsEnded, IsRun, State, arrived_at, list_of, may_go, move_of, moved, next_move, place_of, run, step_at, system_of}
+use Rattle.mt_judge.specs.Searches.{AreAllFine, IsFound, fault_at, has_wrong, is_bad}
+use Rattle.mt_judge.specs.Wrongs.{fault_of}
 use Rattle.mt_judge_laws.specs.Manual.{IsDue, IsManual, IsRightStart, NothingGoesWrong, RunsAreTheMachines, SearchesFindNothing, StepsAreDue, at_rest, first_place, machine_of}
 use Rattle.mt_judge_laws.proofs.Counting.{again, arrived}
 use Rattle.mt_judge_laws.proofs.Placing.{IsPlace}
@@ -171,10 +171,10 @@ module _ (senses : Senses) (c : Case) (s : State) (right : IsRightStart c s) (ma
       let snoops : p.self_snoop ≡ snoops_at s k = sym (ap (λ (y : Option Processor). option_map_or (λ (q : Processor). q.self_snoop) y false) at) in
       let within = slice_get_within s.processors k p at in
       let l = manual.lists k p at in
-      let placed : IsPlace (length s.processors) (length (writable c.goal)) l.behind p.self_snoop (arrived_at s.arrived 1) Running false (drop 0 (list_of c k)) 0 = (l.before, l.fit_before, l.is) in
+      let placed : IsPlace (length s.processors) (length (writable c.goal)) l.behind p.self_snoop (arrived_at s.arrived 1) Running false (drop 0 (list_of c k)) 0 = (l.before, l.before_fit, l.is) in
       record {
         behind = l.behind;
-        fit = l.fit_behind;
+        fit = l.behind_fit;
         place = first_place;
         here = ap (λ (ps : List Place). slice_get ps k) right.places ∙ repeated_at (length s.processors) k first_place within;
         is = subst (λ (y : Stage). IsPlace (length s.processors) (length (writable c.goal)) l.behind (snoops_at s k) (arrived_at s.arrived 1) y.0 (nat_lt 0 y.1) (drop 0 (list_of c k)) 0)

@@ -1,19 +1,18 @@
 -- The manual's own procedure as a list of steps, the starts of it, and what is proved of each of its runs (own).
 -- Intel SDM volume 3A, chapter Memory Cache Control, section "MTRR Considerations in MP Systems".
-use Rattle.std.specs.Prelude.{◌≡◌, ◌⊎◌, ℕ, ◌≤◌, Bool, true, false, List, [], ◌∷◌, ◌++◌, length, map, replicate, slice_get, None, Some, MatchOption}
+use Rattle.std.specs.Prelude.{◌≡◌, ◌⊎◌, ℕ, ◌≤◌, Bool, true, false, List, [], ◌∷◌, ◌++◌, length, replicate, slice_get, None, Some, MatchOption}
 use Rattle.std.specs.List.{All}
 use Rattle.mt_machine.specs.Machine.{Calls, FitsOp, IsEnabled, Machine, Reached, remaining_order}
 use Rattle.mt_machine.specs.Start.{IsQuiet}
 use Rattle.mt_machine.specs.System.{Processor}
-use Rattle.mt_machine.specs.declared.op.Op.{Op}
-use Rattle.mt_judge.specs.Runs.{Case, IsRun, State, list_of, next_move, procedure_order, run, system_of}
-use Rattle.mt_judge.specs.Searches.{AreAllFine, IsFound, has_wrong}
 use Rattle.mt_judge.specs.declared.moves.Move.{Move}
 use Rattle.mt_judge.specs.declared.search.Found.{Found}
 use Rattle.mt_judge.specs.declared.search.Found.TheVariants as found
 use Rattle.mt_judge.specs.declared.step.Place.{Place}
 use Rattle.mt_judge.specs.declared.step.Step.{Step}
 use Rattle.mt_judge.specs.declared.step.Step.TheVariants as list
+use Rattle.mt_judge.specs.Runs.{Case, IsRun, State, list_of, next_move, procedure_order, run, system_of}
+use Rattle.mt_judge.specs.Searches.{AreAllFine, IsFound, has_wrong}
 
 -- ---- the list
 
@@ -32,16 +31,21 @@ since_flush count =
 abbrev pub manual_list : ℕ → Bool → List Step
 manual_list count self_snoop = list.Interrupt ∷ list.ArriveAt 0 ∷ list.WaitAt 0 count ∷ list.SetCd ∷ (first_flush self_snoop ++ since_flush count)
 
-abbrev pub accesses : List Op → List Step
-accesses ops = map (λ op. list.Access op) ops
+-- an access or a control instruction of a processor that runs
+abbrev pub IsInstruction : Step → Type 0
+IsInstruction (list.Access op) = FitsOp op
+IsInstruction (list.Invlpg address) = Unit {0}
+IsInstruction (list.Pge on) = Unit {0}
+IsInstruction (list.Cd on) = Unit {0}
+IsInstruction other = ⊥
 
--- the same with accesses before the interrupt and behind the release
+-- the manual's list, with instructions before the interrupt and behind the release
 pub record IsManualList (count : ℕ) (self_snoop : Bool) (steps : List Step) : Type 0 where
-  pub before : List Op
-  pub behind : List Op
-  pub fit_before : All FitsOp before
-  pub fit_behind : All FitsOp behind
-  pub is : steps ≡ accesses before ++ (manual_list count self_snoop ++ accesses behind)
+  pub before : List Step
+  pub behind : List Step
+  pub before_fit : All IsInstruction before
+  pub behind_fit : All IsInstruction behind
+  pub is : steps ≡ before ++ (manual_list count self_snoop ++ behind)
 
 -- ---- its starts
 

@@ -1,7 +1,7 @@
 // Instances of what the laws require, and of what fails in one part.
 ghost use Rattle.std.specs.Prelude.{◌≡◌, [], ◌∷◌, false, true, None, Some, replicate};
 ghost use Rattle.mt_judge.specs.WorkedWrongs.{dirty_line, mapped, registers, with_line};
-ghost use Rattle.mt_judge.specs.declared.step.Step.TheVariants.{ArriveAt, ReloadCr3, WaitAt};
+ghost use Rattle.mt_judge.specs.declared.step.Step.TheVariants.{Access, ArriveAt, ReloadCr3, WaitAt};
 ghost use Rattle.mt_machine.specs.declared.op.Op.TheVariants.{Load};
 ghost use Rattle.mt_machine.specs.declared.event.Event.TheVariants.{ArriveAgain, RestorePge};
 ghost use Rattle.mt_machine.specs.declared.phase.Phase.TheVariants.{Taken};
@@ -18,13 +18,13 @@ pub fn worked_right_starts()
     ensures arrived { IsRightStart two_lists (record two_started { arrived = replicate 8 1 }) → ⊥ }
 {}
 
-/// The manual's list of a processor with accesses around it, and what isn't one for one thing.
+/// The manual's list of a processor with instructions around it, and what isn't one for one thing.
 pub fn worked_manual_list()
     ensures first { IsManualList 2 false first_list }
     ensures second { IsManualList 2 true second_list }
     ensures other_steps { IsManualList 2 false [] → ⊥ }
-    ensures odd_before { (h : IsManualList 2 false odd_before) → h.before ≡ Load 0x1001 ∷ [] → ⊥ }
-    ensures odd_behind { (h : IsManualList 2 false odd_behind) → h.behind ≡ Load 0x1001 ∷ [] → ⊥ }
+    ensures odd_before { (h : IsManualList 2 false odd_before) → h.before ≡ Access (Load 0x1001) ∷ [] → ⊥ }
+    ensures odd_behind { (h : IsManualList 2 false odd_behind) → h.behind ≡ Access (Load 0x1001) ∷ [] → ⊥ }
 {}
 
 /// The lists of two processors, and what they aren't for one thing.

@@ -11,7 +11,7 @@ pub returns-clause-other_steps : goal.returns-clause-other_steps
 returns-clause-other_steps c = not_empty
 
 pub returns-clause-odd_before : goal.returns-clause-odd_before
-returns-clause-odd_before c h is = odd h.before is h.fit_before
+returns-clause-odd_before c h is = odd h.before is h.before_fit
 
 pub returns-clause-odd_behind : goal.returns-clause-odd_behind
-returns-clause-odd_behind c h is = odd h.behind is h.fit_behind
+returns-clause-odd_behind c h is = odd h.behind is h.behind_fit
