@@ -1,0 +1,10 @@
+mod Emptied
+mod Since
+mod Accessing
+mod Right
+mod Counting
+mod Placing
+mod Standing
+mod Progress
+mod Starting
+mod OnWorked

@@ -1,0 +1,252 @@
+-- Unless all lists have ended, some processor may go.
+use Rattle.std.proofs.Common.{◌≡◌, ◌⊎◌, ◌∙◌, ap, refl, sym, subst, inl, inr, ⊎_elim, arith, ℕ, zero, suc, ◌+◌, ◌-◌, ◌^◌, ◌<◌, ◌≤◌, Bool, true, false, List, [], ◌∷◌, ◌++◌, drop, get_or, length, Option, Some, None}
+use Rattle.std.specs.Prelude.{cond, ◌&&◌, nat_lt, slice_get}
+use Rattle.std.specs.List.{All, count_by, list_all}
+use Rattle.std.specs.Option.{option_map_or}
+use Rattle.std.proofs.lemmas.List.Elements.{All-head}
+use Rattle.std.proofs.lemmas.Bool.{eq-eqb, le-leb, lt-ltb, ltb-false, ltb-true}
+use Rattle.std.proofs.lemmas.List.Sums.{list_all-from_AllPass}
+use Rattle.std.proofs.lemmas.Option.{get_or_from_slice_get, slice_get-get_or}
+use Rattle.mt_regs.specs.Registers.{writable}
+use Rattle.mt_cache.specs.declared.line.CacheLine.{CacheLine}
+use Rattle.mt_machine.specs.declared.phase.Phase.{Phase}
+use Rattle.mt_machine.specs.declared.phase.Phase.TheVariants.{Running, Taken, Arrived, Passed, NoFill, Flushed, TlbFlushed, Writing, Enabled, Flushed2, TlbFlushed2, Normal, Restored, Arrived2}
+use Rattle.mt_machine.specs.Access.{is_running}
+use Rattle.mt_machine.specs.Machine.{is_arrived, is_arrived_again, is_changing}
+use Rattle.mt_machine.specs.Start.{IsStart}
+use Rattle.mt_machine.specs.System.{Processor, start_processor}
+use Rattle.mt_laws.proofs.Barrier.Claims.{all_get}
+use Rattle.mt_laws.proofs.Barrier.Ranks.{At, is_ahead, processor_at, stage_at}
+use Rattle.mt_laws.proofs.Barrier.Stages.{Stage, stage_of, stages_of}
+use Rattle.mt_laws.proofs.Invariant.Standing.{stays_sound}
+use Rattle.mt_laws.proofs.Registers.UnderWay.{lines_are_low}
+use Rattle.mt_laws.proofs.Steps.StepCounts.{count_more}
+use Rattle.mt_judge.specs.declared.step.Place.{Place}
+use Rattle.mt_judge.specs.declared.step.Step.{Step}
+use Rattle.mt_judge.specs.declared.step.Step.TheVariants as list
+use Rattle.mt_judge.specs.Runs.{Case, GoesOn, IsEnded, State, arrived_at, is_fit, is_open, list_of, may_go, place_of, step_at, system_of}
+use Rattle.mt_judge_laws.specs.Manual.{IsInstruction, at_rest, first_flush, machine_of, manual_list, since_flush}
+use Rattle.mt_judge_laws.proofs.Counting.{again, arrived}
+use Rattle.mt_judge_laws.proofs.Emptied.{both}
+use Rattle.mt_judge_laws.proofs.Placing.{IsPlace, none_left, some_left}
+use Rattle.mt_judge_laws.proofs.Right.{or_left, or_right}
+use Rattle.mt_judge_laws.proofs.Standing.{Stands, order_of, placed_at}
+
+-- ---- lists
+
+-- all pass, or one doesn't
+all_or_one : (q : Stage → Bool) (xs : List Stage) → (list_all q xs ≡ true) ⊎ ((i : ℕ) × (x : Stage) × At xs i x × (q x ≡ false))
+all_or_one q [] = inl refl
+all_or_one q (x ∷ xs) = one (q x) refl (all_or_one q xs)
+  where
+    one : (b : Bool) → q x ≡ b → (list_all q xs ≡ true) ⊎ ((i : ℕ) × (y : Stage) × At xs i y × (q y ≡ false)) → ((b && list_all q xs) ≡ true) ⊎ ((i : ℕ) × (y : Stage) × At (x ∷ xs) i y × (q y ≡ false))
+    one false is rest = inr (0, x, refl, is)
+    one true is rest = ⊎_elim
+        (λ (all : list_all q xs ≡ true). inl all)
+        (λ (found : (i : ℕ) × (y : Stage) × At xs i y × (q y ≡ false)). inr (suc found.0, found.1, found.2, found.3))
+        rest
+
+all_count : (q : Stage → Bool) (xs : List Stage) → list_all q xs ≡ true → count_by q xs ≡ length xs
+all_count q [] h = refl
+all_count q (x ∷ xs) h = count_more q x xs ∙ one (q x) (all_count q xs) h
+  where
+    one : (b : Bool) → (list_all q xs ≡ true → count_by q xs ≡ length xs) → (b && list_all q xs) ≡ true → cond b 1 0 + count_by q xs ≡ suc (length xs)
+    one true rest g = let r = rest g in omega (arith, r)
+    one false rest g = absurd (cc)
+
+passes_at : (q : Stage → Bool) (xs : List Stage) (i : ℕ) (x : Stage) → list_all q xs ≡ true → At xs i x → q x ≡ true
+passes_at q [] i x all at = absurd (cc)
+passes_at q (y ∷ ys) zero x all at = let e : y ≡ x = cc in ap q (sym e) ∙ left (q y) (list_all q ys) all
+  where
+    left : (a b : Bool) → (a && b) ≡ true → a ≡ true
+    left true b h = refl
+    left false b h = h
+passes_at q (y ∷ ys) (suc i) x all at = passes_at q ys i x (right (q y) (list_all q ys) all) at
+  where
+    right : (a b : Bool) → (a && b) ≡ true → b ≡ true
+    right true b h = h
+    right false b h = absurd (cc)
+
+-- ---- the next step, and that it may be done
+
+pub record Open (arrivals : List ℕ) (left : List Step) : Type 0 where
+  pub todo : Step
+  pub more : List Step
+  pub is : left ≡ todo ∷ more
+  pub opened : is_open arrivals todo ≡ true
+
+flush_first : (n : ℕ) (snoops : Bool) (behind : List Step)
+    → (todo : Step) × (more : List Step) × (((first_flush snoops ++ since_flush n) ++ behind) ≡ todo ∷ more) × ((arrivals : List ℕ) → is_open arrivals todo ≡ true)
+flush_first n true behind = (list.ClearPge, _, refl, λ arrivals. refl)
+flush_first n false behind = (list.Wbinvd, _, refl, λ arrivals. refl)
+
+instruction_open : (arrivals : List ℕ) (t : Step) → IsInstruction t → is_open arrivals t ≡ true
+instruction_open arrivals (list.Access op) fit = refl
+instruction_open arrivals (list.Invlpg address) fit = refl
+instruction_open arrivals (list.Pge on) fit = refl
+instruction_open arrivals (list.Cd on) fit = refl
+instruction_open arrivals other fit = absurd fit
+
+open_before : (arrivals : List ℕ) (left : List Step) (n : ℕ) (snoops : Bool) (behind ts : List Step) → All IsInstruction ts → left ≡ ts ++ (manual_list n snoops ++ behind) → Open arrivals left
+open_before arrivals left n snoops behind [] fit is = record { todo = list.Interrupt; more = _; is = is; opened = refl }
+open_before arrivals left n snoops behind (t ∷ ts) fit is = record { todo = t; more = _; is = is; opened = instruction_open arrivals t (All-head IsInstruction t ts fit) }
+
+-- a processor that hasn't released has a next step, which is open if its barrier is
+open_left : (n r : ℕ) (behind : List Step) (snoops : Bool) (arrivals : List ℕ) (left : List Step) (part : ℕ) (ph : Phase) (ahead : Bool) → IsPlace n r behind snoops (arrived_at arrivals 1) ph ahead left part
+    → (ph ≡ Running → ahead ≡ false) → (ph ≡ Arrived → n ≤ arrived_at arrivals 0) → (ph ≡ Arrived2 → n ≤ arrived_at arrivals 1) → Open arrivals left
+open_left n r behind snoops arrivals left part Running true place late first second = absurd (let e : true ≡ false = late refl in cc)
+open_left n r behind snoops arrivals left part Running false place late first second = open_before arrivals left n snoops behind place.0 place.1 place.2
+open_left n r behind snoops arrivals left part Taken ahead place late first second = record { todo = list.ArriveAt 0; more = _; is = place; opened = refl }
+open_left n r behind snoops arrivals left part Arrived ahead place late first second =
+    record { todo = list.WaitAt 0 n; more = _; is = place; opened = le-leb n (arrived_at arrivals 0) (first refl) }
+open_left n r behind snoops arrivals left part Passed ahead place late first second = record { todo = list.SetCd; more = _; is = place; opened = refl }
+open_left n r behind snoops arrivals left part NoFill ahead place late first second =
+    let f = flush_first n snoops (behind) in record { todo = f.0; more = f.1; is = place ∙ f.2; opened = f.3 arrivals }
+open_left n r behind snoops arrivals left part (Writing i) ahead place late first second = ⊎_elim
+    (λ (h : (left ≡ list.WriteRegisters ∷ _) × (part ≡ i) × (i + 1 < r)). record { todo = list.WriteRegisters; more = _; is = h.0; opened = refl })
+    (λ (h : (left ≡ list.WriteDefault ∷ _) × (r ≤ i + 1)). record { todo = list.WriteDefault; more = _; is = h.0; opened = refl })
+    place
+open_left n r behind snoops arrivals left part Arrived2 ahead place late first second = ⊎_elim
+    (λ (h : left ≡ list.WaitAt 1 n ∷ list.GoOn ∷ behind). record { todo = list.WaitAt 1 n; more = _; is = h; opened = le-leb n (arrived_at arrivals 1) (second refl) })
+    (λ (h : (left ≡ list.GoOn ∷ behind) × (n ≤ arrived_at arrivals 1)). record { todo = list.GoOn; more = _; is = h.0; opened = refl })
+    place
+open_left n r behind snoops arrivals left part Flushed ahead place late first second = record { todo = list.ClearPge; more = _; is = place; opened = refl }
+open_left n r behind snoops arrivals left part TlbFlushed ahead place late first second = record { todo = list.ClearEnable; more = _; is = place; opened = refl }
+open_left n r behind snoops arrivals left part Enabled ahead place late first second = record { todo = list.Wbinvd; more = _; is = place; opened = refl }
+open_left n r behind snoops arrivals left part Flushed2 ahead place late first second = record { todo = list.ReloadCr3; more = _; is = place; opened = refl }
+open_left n r behind snoops arrivals left part TlbFlushed2 ahead place late first second = record { todo = list.ClearCd; more = _; is = place; opened = refl }
+open_left n r behind snoops arrivals left part Normal ahead place late first second = record { todo = list.ReturnPge; more = _; is = place; opened = refl }
+open_left n r behind snoops arrivals left part Restored ahead place late first second = record { todo = list.ArriveAt 1; more = _; is = place; opened = refl }
+
+-- a processor that has released has instructions left, or none
+released_left : (n r : ℕ) (behind : List Step) (snoops : Bool) (arrivals : List ℕ) (left : List Step) (part : ℕ) (ph : Phase) (ahead : Bool) → ahead ≡ true → (is_running ph ≡ false → ahead ≡ false)
+    → IsPlace n r behind snoops (arrived_at arrivals 1) ph ahead left part → (left ≡ []) ⊎ Open arrivals left
+released_left n r behind snoops arrivals left part Running true is in_step place = instructions_left place.0 place.1 place.2
+  where
+    instructions_left : (ts : List Step) → All IsInstruction ts → left ≡ ts → (left ≡ []) ⊎ Open arrivals left
+    instructions_left [] fit e = inl e
+    instructions_left (t ∷ ts) fit e = inr (record { todo = t; more = ts; is = e; opened = instruction_open arrivals t (All-head IsInstruction t ts fit) })
+released_left n r behind snoops arrivals left part Running false is in_step place = absurd (cc)
+released_left n r behind snoops arrivals left part other ahead is in_step place = absurd (let no : ahead ≡ false = in_step refl in cc)
+
+module _ (c : Case) (first : State) (start : IsStart (at_rest c first)) (few : length first.processors ≤ 64) (s : State) (st : Stands c first s) where
+  lines_low : (k : ℕ) (p : Processor) → slice_get s.processors k ≡ Some p → list_all (λ (l : CacheLine). nat_lt l.number (2 ^ 46)) p.lines ≡ true
+  lines_low k p at =
+      let sound = stays_sound (at_rest c first) (machine_of c s) start st.reached in
+      let low = all_get (λ (q : Processor). All (λ (l : CacheLine). l.number < 2 ^ 46) q.lines × All (λ (l : CacheLine). l.number < 2 ^ 46) q.buffers) s.processors (lines_are_low (system_of c s) sound) k p at in
+      list_all-from_AllPass (λ (l : CacheLine). nat_lt l.number (2 ^ 46)) p.lines (λ i d within. lt-ltb (get_or p.lines i d).number (2 ^ 46) (low.0 i d within))
+
+  era_low : (k : ℕ) (p : Processor) → slice_get s.processors k ≡ Some p → nat_lt p.era (2 ^ 64 - 1) ≡ true
+  era_low k p at =
+      lt-ltb p.era (2 ^ 64 - 1)
+      (⊎_elim (λ (e : p.era ≡ 0). omega (arith, e)) (λ (e : p.era ≡ 0 + 1). omega (arith, e)) (st.guarded.eras k (stage_of p) (stage_at s.processors k p at)))
+
+  fits : (k : ℕ) (p : Processor) → slice_get s.processors k ≡ Some p → is_fit c.goal p ≡ true
+  fits k p at =
+      let alike = (st.filed.1 k p at).alike in
+      both _ _
+      (both _ _
+      (both _ _ (eq-eqb c.goal.width p.file.width (sym alike.width)) (eq-eqb c.goal.capabilities p.file.capabilities (sym alike.capabilities)))
+      (era_low k p at))
+      (lines_low k p at)
+
+  -- a processor with a next step that is open may go
+  may : (k : ℕ) (p : Processor) (place : Place) → slice_get s.processors k ≡ Some p → slice_get s.places k ≡ Some place → Open s.arrived (drop place.step (list_of c k)) → may_go c s k ≡ true
+  may k p place at here o =
+      let place_is : place_of s k ≡ place = get_or_from_slice_get s.places k place (record { step = 0; part = 0 }) here in
+      let next : step_at c s k ≡ Some o.todo = ap (λ (x : Place). slice_get (list_of c k) x.step) place_is ∙ some_left (list_of c k) place.step o.todo o.more o.is in
+      both (option_map_or (is_fit c.goal) (slice_get s.processors k) false) _
+      (ap (λ (x : Option Processor). option_map_or (is_fit c.goal) x false) at ∙ fits k p at)
+      (ap (λ (x : Option Step). option_map_or (is_open s.arrived) x false) next ∙ o.opened)
+
+  -- so a processor goes on that hasn't released, if the barriers at which it may stand are open
+  on : (k : ℕ) (x : Stage) → At (stages_of s.processors) k x → (x.0 ≡ Running → nat_lt 0 x.1 ≡ false) → (x.0 ≡ Arrived → length first.processors ≤ arrived_at s.arrived 0) → (x.0 ≡ Arrived2 → length first.processors ≤ arrived_at s.arrived 1)
+      → GoesOn c s
+  on k x at late one two =
+      let found = processor_at s.processors k x at in
+      let p = found.0 in
+      let q = placed_at c first start few s st k p found.1 in
+      let opens =
+      open_left (length first.processors) (length (writable c.goal)) q.0.behind p.self_snoop s.arrived (drop q.0.place.step (list_of c k)) q.0.place.part p.phase (nat_lt 0 p.era) q.1
+      (subst (λ (y : Stage). y.0 ≡ Running → nat_lt 0 y.1 ≡ false) (sym found.2) late)
+      (subst (λ (y : Stage). y.0 ≡ Arrived → length first.processors ≤ arrived_at s.arrived 0) (sym found.2) one)
+      (subst (λ (y : Stage). y.0 ≡ Arrived2 → length first.processors ≤ arrived_at s.arrived 1) (sym found.2) two) in
+      (k, may k p q.0.place found.1 q.0.here opens)
+
+  all_at_first : list_all (arrived (order_of c)) (stages_of s.processors) ≡ true → length first.processors ≤ arrived_at s.arrived 0
+  all_at_first all =
+      let is : arrived_at s.arrived 0 ≡ count_by (arrived (order_of c)) (stages_of s.processors) = ap (λ (xs : List ℕ). arrived_at xs 0) st.counts.1 in
+      let full = all_count (arrived (order_of c)) (stages_of s.processors) all in
+      let long = st.long in
+      omega (arith, is, full, long)
+
+  all_at_second : list_all (again (order_of c)) (stages_of s.processors) ≡ true → length first.processors ≤ arrived_at s.arrived 1
+  all_at_second all =
+      let is : arrived_at s.arrived 1 ≡ count_by (again (order_of c)) (stages_of s.processors) = ap (λ (xs : List ℕ). arrived_at xs 1) st.counts.1 in
+      let full = all_count (again (order_of c)) (stages_of s.processors) all in
+      let long = st.long in
+      omega (arith, is, full, long)
+
+  -- once each processor has released, each has ended or goes on
+  one_ended : list_all (is_ahead (order_of c)) (stages_of s.processors) ≡ true → (k : ℕ) → k < length s.processors → (step_at c s k ≡ None) ⊎ GoesOn c s
+  one_ended all k within =
+      let p = get_or s.processors k (start_processor c.goal) in
+      let at : slice_get s.processors k ≡ Some p = slice_get-get_or s.processors k (start_processor c.goal) within in
+      let here = stage_at s.processors k p at in
+      let q = placed_at c first start few s st k p at in
+      let place_is : place_of s k ≡ q.0.place = get_or_from_slice_get s.places k q.0.place (record { step = 0; part = 0 }) q.0.here in
+      ⊎_elim
+      (λ (left : drop q.0.place.step (list_of c k) ≡ []). inl (ap (λ (x : Place). slice_get (list_of c k) x.step) place_is ∙ none_left (list_of c k) q.0.place.step left))
+      (λ (opens : Open s.arrived (drop q.0.place.step (list_of c k))). let g : GoesOn c s = (k, may k p q.0.place at q.0.here opens) in inr g)
+      (released_left (length first.processors) (length (writable c.goal)) q.0.behind p.self_snoop s.arrived (drop q.0.place.step (list_of c k)) q.0.place.part p.phase (nat_lt 0 p.era)
+      (passes_at (is_ahead (order_of c)) (stages_of s.processors) k (stage_of p) all here) (st.guarded.in_step k (stage_of p) here) q.1)
+
+  abbrev AreEnded : ℕ → Type 0
+  AreEnded n = (k : ℕ) → k < n → step_at c s k ≡ None
+
+  up_to : (n : ℕ) → AreEnded n → step_at c s n ≡ None → AreEnded (suc n)
+  up_to n ended last k within = one (nat_lt k n) refl
+    where
+      one : (b : Bool) → nat_lt k n ≡ b → step_at c s k ≡ None
+      one true is = ended k (ltb-true k n is)
+      one false is = let above = ltb-false k n is in let same : k ≡ n = omega (arith, above, within) in ap (step_at c s) same ∙ last
+
+  all_ended : list_all (is_ahead (order_of c)) (stages_of s.processors) ≡ true → (n : ℕ) → n ≤ length s.processors → AreEnded n ⊎ GoesOn c s
+  all_ended all zero within = inl (λ k none. absurd (omega (arith, none)))
+  all_ended all (suc n) within = ⊎_elim
+      (λ (ended : AreEnded n). ⊎_elim
+      (λ (last : step_at c s n ≡ None). inl (up_to n ended last))
+      (λ (g : GoesOn c s). inr g)
+      (one_ended all n (omega (arith, within))))
+      (λ (g : GoesOn c s). inr g)
+      (all_ended all n (omega (arith, within)))
+
+  abbrev Missing : (Stage → Bool) → Type 0
+  Missing q = (i : ℕ) × (x : Stage) × At (stages_of s.processors) i x × (q x ≡ false)
+
+  pub progress : IsEnded c s ⊎ GoesOn c s
+  progress = ⊎_elim one_missing (λ (m : Missing (arrived (order_of c))). inr (on_first m)) (all_or_one (arrived (order_of c)) (stages_of s.processors))
+    where
+      on_first : Missing (arrived (order_of c)) → GoesOn c s
+      on_first m =
+          let rest = or_right (is_arrived m.1.0) _ m.3 in
+          let no_second : is_arrived_again m.1.0 ≡ false = or_right (is_changing m.1.0) _ (or_left _ (nat_lt 0 m.1.1) rest) in
+          let no_first : is_arrived m.1.0 ≡ false = or_left (is_arrived m.1.0) _ m.3 in
+          on m.0 m.1 m.2 (λ e. or_right _ (nat_lt 0 m.1.1) rest)
+          (λ e. absurd (let yes_first : is_arrived m.1.0 ≡ true = ap is_arrived e in cc))
+          (λ e. absurd (let yes_second : is_arrived_again m.1.0 ≡ true = ap is_arrived_again e in cc))
+
+      on_second : list_all (arrived (order_of c)) (stages_of s.processors) ≡ true → Missing (again (order_of c)) → GoesOn c s
+      on_second all m =
+          let no_second : is_arrived_again m.1.0 ≡ false = or_left (is_arrived_again m.1.0) _ m.3 in
+          on m.0 m.1 m.2 (λ e. or_right (is_arrived_again m.1.0) _ m.3) (λ e. all_at_first all)
+          (λ e. absurd (let yes_second : is_arrived_again m.1.0 ≡ true = ap is_arrived_again e in cc))
+
+      none_missing : list_all (arrived (order_of c)) (stages_of s.processors) ≡ true → list_all (again (order_of c)) (stages_of s.processors) ≡ true → IsEnded c s ⊎ GoesOn c s
+      none_missing all all' = ⊎_elim
+          (λ (released : list_all (is_ahead (order_of c)) (stages_of s.processors) ≡ true). all_ended released (length s.processors) (omega arith))
+          (λ (m : Missing (is_ahead (order_of c))). inr (on m.0 m.1 m.2 (λ e. m.3) (λ e. all_at_first all) (λ e. all_at_second all')))
+          (all_or_one (is_ahead (order_of c)) (stages_of s.processors))
+
+      one_missing : list_all (arrived (order_of c)) (stages_of s.processors) ≡ true → IsEnded c s ⊎ GoesOn c s
+      one_missing all = ⊎_elim (none_missing all) (λ (m : Missing (again (order_of c))). inr (on_second all m)) (all_or_one (again (order_of c)) (stages_of s.processors))

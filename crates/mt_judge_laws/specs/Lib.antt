@@ -1,0 +1,2 @@
+pub mod Manual
+pub mod WorkedManual

@@ -1,0 +1,104 @@
+-- The manual's own procedure as a list of steps, the starts of it, and what is proved of each of its runs (own).
+-- Intel SDM volume 3A, chapter Memory Cache Control, section "MTRR Considerations in MP Systems".
+use Rattle.std.specs.Prelude.{◌≡◌, ◌⊎◌, ℕ, ◌≤◌, Bool, true, false, List, [], ◌∷◌, ◌++◌, length, replicate, slice_get, None, Some, MatchOption}
+use Rattle.std.specs.List.{All}
+use Rattle.mt_machine.specs.Machine.{Calls, FitsOp, IsEnabled, Machine, Reached, remaining_order}
+use Rattle.mt_machine.specs.Start.{IsQuiet}
+use Rattle.mt_machine.specs.System.{Processor}
+use Rattle.mt_judge.specs.declared.moves.Move.{Move}
+use Rattle.mt_judge.specs.declared.search.Found.{Found}
+use Rattle.mt_judge.specs.declared.search.Found.TheVariants as found
+use Rattle.mt_judge.specs.declared.step.Place.{Place}
+use Rattle.mt_judge.specs.declared.step.Step.{Step}
+use Rattle.mt_judge.specs.declared.step.Step.TheVariants as list
+use Rattle.mt_judge.specs.Runs.{Case, IsRun, State, list_of, next_move, procedure_order, run, system_of}
+use Rattle.mt_judge.specs.Searches.{AreAllFine, IsFound, has_wrong}
+
+-- ---- the list
+
+-- a self-snooping processor leaves out the first flush of the caches
+abbrev pub first_flush : Bool → List Step
+first_flush true = []
+first_flush false = list.Wbinvd ∷ []
+
+-- the steps behind that flush
+abbrev pub since_flush : ℕ → List Step
+since_flush count =
+    list.ClearPge ∷ list.ClearEnable ∷ list.WriteRegisters ∷ list.WriteDefault ∷ list.Wbinvd ∷ list.ReloadCr3 ∷ list.ClearCd ∷ list.ReturnPge
+    ∷ list.ArriveAt 1 ∷ list.WaitAt 1 count ∷ list.GoOn ∷ []
+
+-- of each of so many processors
+abbrev pub manual_list : ℕ → Bool → List Step
+manual_list count self_snoop = list.Interrupt ∷ list.ArriveAt 0 ∷ list.WaitAt 0 count ∷ list.SetCd ∷ (first_flush self_snoop ++ since_flush count)
+
+-- an access or a control instruction of a processor that runs
+abbrev pub IsInstruction : Step → Type 0
+IsInstruction (list.Access op) = FitsOp op
+IsInstruction (list.Invlpg address) = Unit {0}
+IsInstruction (list.Pge on) = Unit {0}
+IsInstruction (list.Cd on) = Unit {0}
+IsInstruction other = ⊥
+
+-- the manual's list, with instructions before the interrupt and behind the release
+pub record IsManualList (count : ℕ) (self_snoop : Bool) (steps : List Step) : Type 0 where
+  pub before : List Step
+  pub behind : List Step
+  pub before_fit : All IsInstruction before
+  pub behind_fit : All IsInstruction behind
+  pub is : steps ≡ before ++ (manual_list count self_snoop ++ behind)
+
+-- ---- its starts
+
+abbrev pub at_rest : Case → State → Machine
+at_rest c s = record { system = system_of c s; order = None }
+
+abbrev pub first_place : Place
+first_place = record { step = 0; part = 0 }
+
+-- a sound state with nothing wrong, in which all processors run and none has finished an update
+pub record IsRightStart (c : Case) (s : State) : Type 0 where
+  pub quiet : IsQuiet (at_rest c s)
+  pub first : All (λ p. p.era ≡ 0) s.processors
+  pub right : has_wrong s ≡ false
+  pub places : s.places ≡ replicate (length s.processors) first_place
+  pub arrived : s.arrived ≡ replicate 8 0
+
+-- each of at most 64 processors has the manual's list, for a goal for which an update may be called
+pub record IsManual (c : Case) (s : State) : Type 0 where
+  pub few : length s.processors ≤ 64
+  pub goal : IsEnabled (at_rest c s) (Calls c.goal)
+  pub one_each : length c.lists ≡ length s.processors
+  pub lists : (k : ℕ) (p : Processor) → slice_get s.processors k ≡ Some p → IsManualList (length s.processors) p.self_snoop (list_of c k)
+
+-- ---- the laws
+
+-- the machine of a state: its update is called and its go given, and it is under way unless each processor has released
+abbrev pub machine_of : Case → State → Machine
+machine_of c s = record { system = system_of c s; order = remaining_order (procedure_order c.goal) s.processors }
+
+-- each run of the lists is a run of the machine
+abbrev pub RunsAreTheMachines : Type 0
+RunsAreTheMachines = (c : Case) (s : State) (ks : List ℕ) → IsRightStart c s → IsManual c s → IsRun c s ks → Reached (at_rest c s) (machine_of c (run c s ks))
+
+abbrev pub is_tlb_flush : Step → Bool
+is_tlb_flush list.ClearPge = true
+is_tlb_flush list.ReloadCr3 = true
+is_tlb_flush other = false
+
+-- a step that is an event is the one that is due, and one that is none is no flush of the TLB
+abbrev pub IsDue : Move → Type 0
+IsDue m = MatchOption m.event (is_tlb_flush m.step ≡ false) (λ e. m.due ≡ Some e)
+
+abbrev pub StepsAreDue : Type 0
+StepsAreDue =
+    (c : Case) (s : State) (ks : List ℕ) (k : ℕ) (m : Move) → IsRightStart c s → IsManual c s → IsRun c s ks → next_move c (run c s ks) k ≡ Some m
+    → IsDue m
+
+-- nothing is wrong in the state after a run, nor with a step from it, and some processor may go unless all lists have ended
+abbrev pub NothingGoesWrong : Type 0
+NothingGoesWrong = (c : Case) (s : State) → IsRightStart c s → IsManual c s → AreAllFine c s
+
+-- so a search finds nothing, unless it stops
+abbrev pub SearchesFindNothing : Type 0
+SearchesFindNothing =
+    (c : Case) (s : State) (f : Found) → IsRightStart c s → IsManual c s → IsFound c s f → (f ≡ found.Nothing) ⊎ (f ≡ found.Stopped)

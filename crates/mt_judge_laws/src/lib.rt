@@ -1,0 +1,37 @@
+//! Laws on the manual's own procedure as lists of steps: in every interleaving each step is due, and nothing is wrong.
+#![tactic(auto)]
+
+mod worked;
+
+ghost use Rattle.mt_judge_laws.specs.Manual.{NothingGoesWrong, RunsAreTheMachines, SearchesFindNothing, StepsAreDue};
+
+use mt_judge::has_wrong_if_a_sense_holds;
+pub use worked::{worked_due_moves, worked_manual_list, worked_manual_lists, worked_right_starts};
+
+/// Each run of the lists is a run of the machine: its call, its go and events that are enabled lead to the run's state.
+pub fn runs_are_the_machines()
+    ensures { RunsAreTheMachines }
+{
+    has_wrong_if_a_sense_holds(); // a fact for the proof
+}
+
+/// In every interleaving each step is the one that the manual's procedure has due.
+pub fn each_step_is_due()
+    ensures { StepsAreDue }
+{
+    has_wrong_if_a_sense_holds(); // a fact for the proof
+}
+
+/// In every interleaving nothing is wrong, and some processor may go unless all lists have ended.
+pub fn nothing_goes_wrong()
+    ensures { NothingGoesWrong }
+{
+    has_wrong_if_a_sense_holds(); // a fact for the proof
+}
+
+/// A search from a right start finds nothing, unless it stops.
+pub fn searches_find_nothing()
+    ensures { SearchesFindNothing }
+{
+    has_wrong_if_a_sense_holds(); // a fact for the proof
+}
