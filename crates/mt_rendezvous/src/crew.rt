@@ -40,7 +40,7 @@ pub struct Refusal {
 }
 
 impl Refusal {
-    /// What was refused is done without threads, or without memory for them.
+    /// Spends the refusal, before the update is done without threads.
     pub fn spend(self) {
         let Refusal { made: _ } = self;
     }
@@ -79,7 +79,7 @@ impl<F> Unstarted<F> {
     }
 }
 
-/// Starts threads that its gate lets start, and tells the gate of arrivals.
+/// Starts the threads that its gate lets start, and tells the gate of arrivals.
 #[derive(Drop)]
 pub struct Crew<G> {
     gate: G,
