@@ -3,6 +3,7 @@ mod Fine
 mod Faults
 mod Capabilities
 mod Counts
+mod FixedRanges
 mod Shown
 mod Among
 mod Lines

@@ -1,25 +1,25 @@
 -- Readings that show whole registers of a file: what is known of each register, and that none contradicts another.
-use Rattle.std.proofs.Common.{◌≡◌, ◌∙◌, ◌<◌, ◌≤◌, ◌+◌, ◌-◌, ◌*◌, ◌/◌, ◌%◌, ◌==◌, ◌&&◌, ◌||◌, ◌^◌, nat_lt, length, slice_index, ℕ, zero, suc, Bool, true, false, List, [], ◌∷◌, Option, Some, None, refl, sym, ap, subst, arith, inl, inr, bit_and, bit_or, mod-eq_of_lt}
-use Rattle.std.specs.Prelude.{◌⊎◌, if◌then◌else◌, ⊤}
+use Rattle.std.proofs.Common.{◌≡◌, ◌∙◌, ◌<◌, ◌≤◌, ◌+◌, ◌-◌, ◌*◌, ◌/◌, ◌%◌, ◌==◌, ◌&&◌, ◌^◌, nat_lt, length, slice_index, ℕ, zero, suc, Bool, true, false, List, [], ◌∷◌, Option, Some, None, refl, sym, ap, subst, arith, inl, inr, bit_and, bit_or, mod-eq_of_lt}
+use Rattle.std.specs.Prelude.{◌⊎◌, if◌then◌else◌, not, replicate, ⊤}
 use Rattle.std.specs.List.{AllByRecursion}
 use Rattle.std.proofs.lemmas.Bool.{eqb-true}
 use Rattle.std.proofs.lemmas.Bool.Decides.{nat_tests}
 use lib.Bits.{and_mask, and_zero_r, or_self}
 use Rattle.mt_kinds.specs.Bits.{is_bit_set}
 use Rattle.mt_regs.specs.declared.registers.Register.TheVariants.{PhysBase, PhysMask, FixedRange, Pat, DefaultType}
-use Rattle.mt_regs.specs.RegisterFile.{IsRegisterFile, RegisterFile, low_byte, pair_at}
+use Rattle.mt_regs.specs.RegisterFile.{IsRegisterFile, RegisterFile, has_fixed, low_byte, pair_at}
 use Rattle.mt_regs.specs.Registers.{fixed_numbers}
 use Rattle.mt_regs.specs.Words.{HasWords}
 use Rattle.mt_text.specs.declared.place.Place.{Place}
 use Rattle.mt_import.specs.declared.fault.Rival.{Rival}
-use Rattle.mt_import.specs.declared.fault.Rival.TheVariants.{Line, Word}
+use Rattle.mt_import.specs.declared.fault.Rival.TheVariants.{Line, Word, CapabilityLine, CapabilityWord, RegisterLine}
 use Rattle.mt_import.specs.declared.shape.Reading.{Reading}
 use Rattle.mt_import.specs.declared.shape.Slot.{Slot}
 use Rattle.mt_import.specs.Readings.{Fact, is_fault, is_line, is_register_value, is_warning, is_width}
 use Rattle.mt_import.specs.Slot.{all_bits, blank_slot, clashes, slot_with}
 use Rattle.mt_import.specs.Supplied.{Supplied, bits_differ, differs, supplied_value}
 use Rattle.mt_import.specs.Values.{is_pair_number}
-use Rattle.mt_import.specs.Outcome.{Seen, capability_rival, count_rival, counted, counts_fewer, enabled_pair, last_shown, capabilities_shown, fact_fault, facts_fault, processors, reading_fault, rival, seen_after, seen_with, slot_shown, width_fault}
+use Rattle.mt_import.specs.Outcome.{Seen, capability_rival, count_rival, counted, counts_fewer, enabled_pair, last_shown, capabilities_shown, fact_fault, facts_fault, fix_shown, fixed_rival, lacks_fix, last_fixed_line, processors, ranged_rival, reading_fault, rival, seen_after, seen_with, shows_fixed, shows_no_fix, slot_shown, width_fault}
 use Rattle.mt_import_laws.specs.Origins.{IsAmong}
 use Rattle.mt_import_laws.specs.Printed.{Agrees, Key, number_at, value_in}
 use Rattle.mt_import_laws.proofs.Keys.{IsKey, same_key, value_at_key}
@@ -206,6 +206,47 @@ module _ (file : RegisterFile) (prints : Key → Bool) where
   slot_counts slot count (inl is_blank) few = rw is_blank refl
   slot_counts slot count (inr holds) few = rw (holds.bits, holds.shows) (not_fewer count few)
 
+  -- ---- FIX allows each fixed-range register that a reading shows as not 0
+
+  zero_at : (count place : ℕ) → slice_index (replicate count 0) place ≡ 0
+  zero_at zero place = refl
+  zero_at (suc count) zero = refl
+  zero_at (suc count) (suc place) = zero_at count place
+
+  abbrev ranged : ℕ → ℕ → Bool
+  ranged number value = nat_lt 0x24f number && nat_lt number 0x270 && nat_lt 0 value
+
+  no_range : (number value : ℕ) → number < 0x240 → ranged number value ≡ false
+  no_range number value low = let test : nat_lt 0x24f number ≡ false = grind (arith, nat_tests, low) in rw test refl
+
+  unranged : (key : Key) → IsRegisterFile file → IsKey key → has_fixed file ≡ false → ranged (number_at key) (value_in file key) ≡ false
+  unranged None is_file is none = refl
+  unranged (Some (PhysBase n)) is_file is none = let few : n < 32 = is in no_range (0x200 + 2 * n) (pair_at file.pairs n).0 (omega (arith, few))
+  unranged (Some (PhysMask n)) is_file is none = let few : n < 32 = is in no_range (0x201 + 2 * n) (pair_at file.pairs n).1 (omega (arith, few))
+  unranged (Some (FixedRange place)) is_file is none =
+      let value : slice_index file.fixed place ≡ 0 = ap (λ (l : List ℕ). slice_index l place) (is_file.no_fixed none) ∙ zero_at 11 place in
+      rw value (and_false (nat_lt 0x24f (slice_index fixed_numbers place) && nat_lt (slice_index fixed_numbers place) 0x270))
+  unranged (Some Pat) is_file is none = refl
+  unranged (Some DefaultType) is_file is none = refl
+
+  shows_none : (reading : Reading) → IsRegisterFile file → IsWhole file prints reading → has_fixed file ≡ false → shows_fixed reading ≡ false
+  shows_none reading is_file whole none = rw (whole.number, whole.value) (unranged whole.key is_file whole.is_key none)
+
+  last_none : (readings : List Reading) → IsRegisterFile file → AllByRecursion (IsWhole file prints) readings → has_fixed file ≡ false → last_fixed_line readings ≡ None
+  last_none [] is_file all none = refl
+  last_none (reading ∷ before) is_file all none = rw (shows_none reading is_file all.0 none) (last_none before is_file all.1 none)
+
+  slot_fix : (slot : Slot) → IsKnown slot file.capabilities → has_fixed file ≡ true → lacks_fix (fix_shown slot) ≡ false
+  slot_fix slot (inl is_blank) has = rw is_blank refl
+  slot_fix slot (inr holds) has = rw (holds.bits, holds.shows, has) refl
+
+  reading_fix : (reading : Reading) → IsWhole file prints reading → has_fixed file ≡ true → shows_no_fix reading ≡ false
+  reading_fix reading whole has = by (reading.number == 0xfe) refl
+    where
+      by : (n : Bool) → (reading.number == 0xfe) ≡ n → (n && is_bit_set reading.bits 8 && not (is_bit_set reading.value 8)) ≡ false
+      by true same = rw (value_by reading None whole tt (eqb-true reading.number 0xfe same), has) (and_false (is_bit_set reading.bits 8))
+      by false apart = refl
+
   -- ---- no fault
 
   -- a fact that tells of the file
@@ -253,6 +294,29 @@ module _ (file : RegisterFile) (prints : Key → Bool) where
         let same : word ≡ file.capabilities = value_at_key file None word is_file tt (agrees.registers 0xfe word is_given) in
         rw same (not_fewer count few)
 
+    word_fix : (given : Option ℕ) → supplied_value supplied 0xfe ≡ given → has_fixed file ≡ true → lacks_fix given ≡ false
+    word_fix None is_given has = refl
+    word_fix (Some word) is_given has = rw (value_at_key file None word is_file tt (agrees.registers 0xfe word is_given), has) refl
+
+    no_fixed_rival : (before : List Reading) (reading : Reading) → AllByRecursion (IsWhole file prints) before → IsWhole file prints reading → fixed_rival (supplied_value supplied 0xfe) before reading ≡ None
+    no_fixed_rival before reading all whole = by (has_fixed file) refl
+      where
+        with_fix : (range unfixed word line : Bool) (at : ℕ) (last : Option Rival) → unfixed ≡ false → word ≡ false → line ≡ false
+            → (if range then (if word then Some CapabilityWord else if line then Some (CapabilityLine at) else None) else if unfixed then last else None) ≡ None
+        with_fix true unfixed word line at last one two three = rw (two, three) refl
+        with_fix false unfixed word line at last one two three = rw one refl
+
+        without : (range unfixed : Bool) (found : Option Rival) (last : Option ℕ) → range ≡ false → last ≡ None → (if range then found else if unfixed then ranged_rival last else None) ≡ None
+        without range true found last one two = rw (one, two) refl
+        without range false found last one two = rw one refl
+
+        by : (test : Bool) → has_fixed file ≡ test → fixed_rival (supplied_value supplied 0xfe) before reading ≡ None
+        by true has =
+            with_fix (shows_fixed reading) (shows_no_fix reading) (lacks_fix (supplied_value supplied 0xfe)) (lacks_fix (fix_shown (capabilities_shown before))) (capabilities_shown before).line
+            (ranged_rival (last_fixed_line before)) (reading_fix reading whole has) (word_fix (supplied_value supplied 0xfe) refl has) (slot_fix (capabilities_shown before) (capabilities_known before all) has)
+        by false none =
+            without (shows_fixed reading) (shows_no_fix reading) _ (last_fixed_line before) (shows_none reading is_file whole none) (last_none before is_file all none)
+
     no_rival : (before : List Reading) (reading : Reading) → AllByRecursion (IsWhole file prints) before → IsWhole file prints reading → rival supplied before reading ≡ None
     no_rival before reading all whole =
         let key = whole.key in
@@ -266,7 +330,7 @@ module _ (file : RegisterFile) (prints : Key → Bool) where
         (clashes (slot_shown before reading.processor reading.number) reading) (slot_shown before reading.processor reading.number).line (count_rival (capabilities_shown before) (last_shown before) reading) word word_too line
         (by_counts (counts_fewer (counted (capabilities_shown before)) (enabled_pair reading)) (capabilities_shown before).line (reading.number == 0xfe) (slot_counts (capabilities_shown before) (enabled_pair reading) (capabilities_known before all) few) refl)
       where
-        by_tests : (word count clash : Bool) (at : ℕ) (others : Option Rival) → word ≡ false → count ≡ false → clash ≡ false → others ≡ None → (if word || count then Some Word else if clash then Some (Line at) else others) ≡ None
+        by_tests : (word count clash : Bool) (at : ℕ) (others : Option Rival) → word ≡ false → count ≡ false → clash ≡ false → others ≡ None → (if word then Some Word else if count then Some CapabilityWord else if clash then Some (Line at) else others) ≡ None
         by_tests word count clash at others one two three none = rw (one, two, three) none
 
         capability : (reading.number == 0xfe) ≡ true → capability_rival (capabilities_shown before) (last_shown before) reading ≡ None
@@ -277,10 +341,10 @@ module _ (file : RegisterFile) (prints : Key → Bool) where
             (no_clash (capabilities_shown before) reading file.capabilities (capabilities_known before all) whole.bits value)
             (slot_counts (slot_with (capabilities_shown before) reading) (last_shown before).count (inr next) (last_few before is_file all))
           where
-            by_two : (clash count : Bool) (a b : ℕ) → clash ≡ false → count ≡ false → (if clash then Some (Line a) else if count then Some (Line b) else None) ≡ None
+            by_two : (clash count : Bool) (a b : ℕ) → clash ≡ false → count ≡ false → (if clash then Some (Line a) else if count then Some (RegisterLine b) else None) ≡ None
             by_two clash count a b one two = rw (one, two) refl
 
-        by_counts : (fewer : Bool) (at : ℕ) (n : Bool) → fewer ≡ false → (reading.number == 0xfe) ≡ n → (if fewer then Some (Line at) else if n then capability_rival (capabilities_shown before) (last_shown before) reading else None) ≡ None
+        by_counts : (fewer : Bool) (at : ℕ) (n : Bool) → fewer ≡ false → (reading.number == 0xfe) ≡ n → (if fewer then Some (CapabilityLine at) else if n then capability_rival (capabilities_shown before) (last_shown before) reading else None) ≡ None
         by_counts fewer at true none same = rw none (capability same)
         by_counts fewer at false none apart = rw none refl
 
@@ -295,7 +359,8 @@ module _ (file : RegisterFile) (prints : Key → Bool) where
         let far : nat_lt 15 reading.processor ≡ false = rw whole.processor refl in
         let many : (reading.number == 0xfe && nat_lt 32 (low_byte (bit_or (slot_shown before reading.processor 0xfe).value reading.value))) ≡ false = rw whole.processor (by (reading.number == 0xfe) refl) in
         let none = no_rival before reading all whole in
-        rw (far, many, none) refl
+        let none_too = no_fixed_rival before reading all whole in
+        rw (far, many, none, none_too) refl
       where
         by : (n : Bool) → (reading.number == 0xfe) ≡ n → (n && nat_lt 32 (low_byte (bit_or (slot_shown before 0 0xfe).value reading.value))) ≡ false
         by true same =
