@@ -14,6 +14,8 @@ mod Alike
 mod Reasons
 mod PrintedDigits
 mod LineWords
+mod Below
+mod PartBits
 mod Keys
 mod Whole
 mod TableLines

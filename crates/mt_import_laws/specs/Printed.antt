@@ -1,9 +1,10 @@
 -- Logs that hold what a program prints of a register file, and what it means that they read back (own).
---     HoldsTable format file table text      the lines of a log are those of a table, among lines that tell no more than the width
+--     HoldsTable format file table text      the lines of a log are those of a table, among lines that say no more of a dump than its width
 --     Agrees supplied file      words supply no other value than the file's
 --     ReadsBack told file      the outcome is the file's dump
 --     TableReadsBack format table supplied file      so it is of a table's lines, and of each log that holds them
-use Rattle.std.specs.Prelude.{ℕ, ◌≡◌, ◌⊎◌, List, Option, None, Some}
+use Rattle.std.specs.Prelude.{ℕ, ◌≡◌, ◌⊎◌, ⊤, false, List, Option, None, Some, unwrap_or}
+use Rattle.std.specs.List.{AllByRecursion}
 use Rattle.mt_ports.specs.declared.status.Status.TheVariants.{Done}
 use Rattle.mt_text.specs.Text.{lines_of}
 use Rattle.mt_text.specs.declared.place.Place.{Place}
@@ -14,8 +15,11 @@ use Rattle.mt_dump.specs.Canon.{canon, ended}
 use Rattle.mt_dump.specs.Dumps.{dump_of}
 use Rattle.mt_import.specs.declared.format.Choice.TheVariants.{Only}
 use Rattle.mt_import.specs.declared.format.Format.{Format}
-use Rattle.mt_import.specs.declared.reading.Said.TheVariants.{Nothing, Width}
+use Rattle.mt_import.specs.declared.reading.Said.TheVariants.{Nothing, Shows, Warns, Width}
+use Rattle.mt_import.specs.declared.reading.Said.{Said}
+use Rattle.mt_import.specs.declared.shape.Shown.{Shown}
 use Rattle.mt_import.specs.Import.{log_told}
+use Rattle.mt_import.specs.Readings.{is_register}
 use Rattle.mt_import.specs.Outcome.{Told}
 use Rattle.mt_import.specs.Shown.{said_of}
 use Rattle.mt_import.specs.Supplied.{Supplied, supplied_value}
@@ -37,11 +41,23 @@ value_in file (Some register) = value_of file register
 
 -- ---- a log
 
--- a line that tells no more than the width, whatever its number
-abbrev pub TellsNoMore : Format → RegisterFile → List ℕ → Type 0
-TellsNoMore format file line = (number : ℕ) → (said_of format number line ≡ Nothing) ⊎ ((place : Place) × (said_of format number line ≡ Width file.width place))
+-- a register that no dump has, or none
+abbrev pub IsOther : Option Shown → Type 0
+IsOther None = ⊤
+IsOther (Some shown) = is_register shown.number ≡ false
 
--- A log has each line of a table of a file, and any lines besides that tell no more than the width.
+-- What says no more of the registers of a dump: nothing, the width, a warning, or registers that no dump has.
+pub data SaysNoMore (file : RegisterFile) (said : Said) : Type 0 where
+  no_match : said ≡ Nothing → SaysNoMore file said
+  only_width : (place : Place) → said ≡ Width file.width place → SaysNoMore file said
+  only_warns : said ≡ Warns → SaysNoMore file said
+  only_others : (processor : Option ℕ) (shows : List (Option Shown)) → said ≡ Shows processor shows → unwrap_or processor 0 ≡ 0 → AllByRecursion IsOther shows → SaysNoMore file said
+
+-- a line that says no more, whatever its number
+abbrev pub TellsNoMore : Format → RegisterFile → List ℕ → Type 0
+TellsNoMore format file line = (number : ℕ) → SaysNoMore file (said_of format number line)
+
+-- A log has each line of a table of a file, and any lines besides that say no more of a dump than its width.
 pub record HoldsTable (format : Format) (file : RegisterFile) (table : List (List ℕ)) (text : List ℕ) : Type 0 where
   pub has : (line : List ℕ) → IsAmong line table → IsAmong line (lines_of text)
   pub others : (line : List ℕ) → IsAmong line (lines_of text) → IsAmong line table ⊎ TellsNoMore format file line

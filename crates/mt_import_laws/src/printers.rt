@@ -18,21 +18,21 @@ pub fn what_rdmsr_prints_reads_back()
 {}
 
 /// What inteltool prints of a register file reads back as the file, if words supply its width. So does any log that has each of
-/// these lines, and besides them only lines that tell no more than the width.
+/// these lines, and besides them only lines that say no more of a dump than its width.
 pub fn what_inteltool_prints_reads_back()
     ensures { (names : Names) (file : RegisterFile) (supplied : Supplied) → SuitsInteltool names file supplied
         → TableReadsBack Inteltool (inteltool_lines names file) supplied file }
 {}
 
 /// What coreboot displays of a register file reads back as the file, if words supply its width and its PAT. So does any log that has
-/// each of these lines, and besides them only lines that tell no more than the width.
+/// each of these lines, and besides them only lines that say no more of a dump than its width.
 pub fn what_coreboot_displays_reads_back()
     ensures { (leveled : Bool) (tails : Tails) (file : RegisterFile) (supplied : Supplied) → SuitsCoreboot tails file supplied
         → TableReadsBack Coreboot (coreboot_lines leveled tails file) supplied file }
 {}
 
 /// What EDK2 prints of a register file reads back as the file, if words supply the width, 0FEH, the PAT and the pairs without a line.
-/// So does any log that has each of these lines, and besides them only lines that tell no more than the width.
+/// So does any log that has each of these lines, and besides them only lines that say no more of a dump than its width.
 pub fn what_edk2_prints_reads_back()
     ensures { (file : RegisterFile) (supplied : Supplied) → SuitsEdk2 file supplied → TableReadsBack Edk2 (edk2_lines file) supplied file }
 {}
