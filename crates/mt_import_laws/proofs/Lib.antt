@@ -15,6 +15,7 @@ mod Reasons
 mod PrintedDigits
 mod LineWords
 mod Below
+mod Decimals
 mod PartBits
 mod Keys
 mod Whole
@@ -29,6 +30,8 @@ mod CorebootTable
 mod Edk2Lines
 mod Edk2Table
 mod HexDigits
+mod X86infoLines
+mod X86infoTable
 mod RdmsrLines
 mod RdmsrTable
 mod WorkedFiles

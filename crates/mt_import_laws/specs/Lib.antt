@@ -7,4 +7,5 @@ pub mod PrintedByInteltool
 pub mod PrintedByCoreboot
 pub mod PrintedByEdk2
 pub mod PrintedByRdmsr
+pub mod PrintedByX86info
 pub mod WorkedPrinted

@@ -4,7 +4,9 @@ use Rattle.mt_regs.specs.declared.registers.Register.TheVariants.{PhysBase, Phys
 use Rattle.mt_regs.specs.RegisterFile.{RegisterFile}
 use Rattle.mt_import.specs.Supplied.{Supplied, nothing_assumed}
 use Rattle.mt_import_laws.specs.PrintedByCoreboot.{Tails}
+use Rattle.mt_import_laws.specs.Printed.{Key}
 use Rattle.mt_import_laws.specs.PrintedByInteltool.{Names}
+use Rattle.mt_import_laws.specs.PrintedByX86info.{Print}
 
 -- examples/ordinary-pc.dump
 abbrev pub ordinary_pc : RegisterFile
@@ -34,6 +36,38 @@ model_names (Some (PhysMask n)) = codes "IA32_MTRR_PHYSBASE" ++ (48 + n % 10) �
 model_names (Some (FixedRange place)) = codes "IA32_MTRR_" ++ slice_index_or fixed_names place []
 model_names (Some Pat) = codes "IA32_PAT"
 model_names (Some DefaultType) = codes "IA32_MTRR_DEF_TYPE"
+
+-- what x86info calls fixed-range registers
+abbrev pub x86info_fixed : List (List ℕ)
+x86info_fixed =
+    codes "64K_00000" ∷ codes "16K_80000" ∷ codes "16K_A0000" ∷ codes "4K_C0000" ∷ codes "4K_C8000" ∷ codes "4K_D0000" ∷ codes "4K_D8000" ∷ codes "4K_E0000" ∷ codes "4K_E8000"
+    ∷ codes "4K_F0000" ∷ codes "4K_F8000" ∷ []
+
+-- of the eight pairs that it asks for
+abbrev pub x86info_names : Names
+x86info_names None = codes "cap"
+x86info_names (Some (PhysBase n)) = codes "physBase" ++ (48 + n % 10) ∷ []
+x86info_names (Some (PhysMask n)) = codes "physMask" ++ (48 + n % 10) ∷ []
+x86info_names (Some (FixedRange place)) = codes "fix" ++ slice_index_or x86info_fixed place []
+x86info_names (Some Pat) = []
+x86info_names (Some DefaultType) = codes "defType"
+
+-- what it prints behind the values of some registers
+abbrev pub some_fields : Key → List ℕ
+some_fields None = codes " (smrr flag: 0x1, wc flag: 0x1, fix flag: 0x1, vcnt field: 0x08 (8))"
+some_fields (Some (PhysBase n)) = []
+some_fields (Some (PhysMask n)) = codes " (physmask field:0xfe0000 valid flag: 1)"
+some_fields (Some (FixedRange place)) = []
+some_fields (Some Pat) = []
+some_fields (Some DefaultType) = []
+
+-- with --addr
+abbrev pub x86info_print : Print
+x86info_print = record { names = x86info_names; fields = some_fields; virtual = Some 48 }
+
+-- `268=505050505050505 277=7040600070406`
+abbrev pub words_for_x86info : Supplied
+words_for_x86info = record { width = None; registers = (0x268, 0x0505050505050505) ∷ (0x277, 0x0007040600070406) ∷ []; assumed = nothing_assumed }
 
 -- what the word `maxphyaddr=36` supplies
 abbrev pub width_36 : Supplied
