@@ -32,6 +32,13 @@ mod Edk2Table
 mod HexDigits
 mod X86infoLines
 mod X86infoTable
+mod PartsBack
+mod KernelRanges
+mod KernelWords
+mod KernelLines
+mod KernelParts
+mod KernelWeave
+mod KernelTable
 mod RdmsrLines
 mod RdmsrTable
 mod WorkedFiles

@@ -18,8 +18,12 @@ use Rattle.mt_import_laws.specs.PrintedByEdk2.{SuitsEdk2, is_valid}
 use Rattle.mt_import_laws.specs.PrintedByInteltool.{AreNames, SuitsInteltool, is_name_byte}
 use Rattle.mt_import_laws.specs.PrintedByRdmsr.{SuitsRdmsr}
 use Rattle.mt_import_laws.specs.PrintedByX86info.{AreFields, SuitsX86info}
+use Rattle.mt_import_laws.specs.PrintedByKernel.{IsOffPair, IsShownPair, SuitsKernel, has_name, range_type}
+use Rattle.mt_import_laws.specs.PrintedByLinux.{SuitsLinux}
+use Rattle.mt_import_laws.specs.PrintedByXen.{SuitsXen}
+use Rattle.mt_import_laws.proofs.Below.{passes}
 use Rattle.mt_import_laws.proofs.LineWords.{all_append}
-use Rattle.mt_import_laws.specs.WorkedPrinted.{fixed_names, model_names, ordinary_pc, some_fields, some_tails, width_36, width_and_pat, words_for_edk2, words_for_x86info, x86info_fixed, x86info_names, x86info_print}
+use Rattle.mt_import_laws.specs.WorkedPrinted.{fixed_names, model_names, no_time, ordinary_pc, some_fields, some_tails, width_36, width_and_pat, words_for_edk2, words_for_kernels, words_for_x86info, x86info_fixed, x86info_names, x86info_print}
 
 abbrev fits : RegisterFile → Register → Bool
 fits file register = nat_lt (value_of file register) 0x10000000000000000
@@ -154,6 +158,55 @@ x86info_suits = record {
   bases = λ n low high. absurd (omega (arith, low, high));
   masks = λ n low high. absurd (omega (arith, low, high));
 }
+
+-- ---- kernels
+
+kernel_agrees : Agrees words_for_kernels ordinary_pc
+kernel_agrees = record { width = λ width is. cc is; registers = λ number value. words_agree ordinary_pc words_for_kernels.registers number value (refl, (refl, tt)) }
+
+shown_pairs : (n : ℕ) → n < 8 → is_valid (pair_at ordinary_pc.pairs n) ≡ true → IsShownPair (pair_at ordinary_pc.pairs n)
+shown_pairs zero within valid = record { named = refl; base = refl; mask = refl }
+shown_pairs (suc zero) within valid = record { named = refl; base = refl; mask = refl }
+shown_pairs (suc (suc zero)) within valid = record { named = refl; base = refl; mask = refl }
+shown_pairs (suc (suc (suc zero))) within valid = record { named = refl; base = refl; mask = refl }
+shown_pairs (suc (suc (suc (suc zero)))) within valid = cc valid
+shown_pairs (suc (suc (suc (suc (suc zero))))) within valid = cc valid
+shown_pairs (suc (suc (suc (suc (suc (suc zero)))))) within valid = cc valid
+shown_pairs (suc (suc (suc (suc (suc (suc (suc zero))))))) within valid = cc valid
+shown_pairs (suc (suc (suc (suc (suc (suc (suc (suc n)))))))) within valid = absurd (omega (arith, within))
+
+off_pairs : (n : ℕ) → n < 8 → is_valid (pair_at ordinary_pc.pairs n) ≡ false → IsOffPair words_for_kernels n (pair_at ordinary_pc.pairs n)
+off_pairs zero within hidden = cc hidden
+off_pairs (suc zero) within hidden = cc hidden
+off_pairs (suc (suc zero)) within hidden = cc hidden
+off_pairs (suc (suc (suc zero))) within hidden = cc hidden
+off_pairs (suc (suc (suc (suc zero)))) within hidden = record { base = inl refl; mask = inl refl }
+off_pairs (suc (suc (suc (suc (suc zero))))) within hidden = record { base = inl refl; mask = inl refl }
+off_pairs (suc (suc (suc (suc (suc (suc zero)))))) within hidden = record { base = inl refl; mask = inl refl }
+off_pairs (suc (suc (suc (suc (suc (suc (suc zero))))))) within hidden = record { base = inl refl; mask = inl refl }
+off_pairs (suc (suc (suc (suc (suc (suc (suc (suc n)))))))) within hidden = absurd (omega (arith, within))
+
+kernel_suits : SuitsKernel true ordinary_pc words_for_kernels
+kernel_suits = record {
+  is_file = is_ordinary;
+  has_words = ordinary_words;
+  agrees = kernel_agrees;
+  width = refl;
+  capabilities = refl;
+  pat = refl;
+  default_named = refl;
+  default_reserved = (refl, refl);
+  default_given = λ none. cc none;
+  ranges_named = λ has range low. passes (λ k. has_name (range_type ordinary_pc k)) 88 range refl low;
+  shown_pairs = shown_pairs;
+  off_pairs = off_pairs;
+}
+
+pub xen_suits : SuitsXen ordinary_pc words_for_kernels
+xen_suits = kernel_suits
+
+pub linux_suits : SuitsLinux no_time true ordinary_pc words_for_kernels
+linux_suits = record { short = lit≤ tt; visible = refl; kernel = kernel_suits }
 
 -- the last four of the eight pairs have no line
 bases : (n : ℕ) → n < 8 → is_valid (pair_at ordinary_pc.pairs n) ≡ false → supplied_value words_for_edk2 (0x200 + 2 * n) ≡ Some (pair_at ordinary_pc.pairs n).0

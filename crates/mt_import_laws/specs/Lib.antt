@@ -8,4 +8,7 @@ pub mod PrintedByCoreboot
 pub mod PrintedByEdk2
 pub mod PrintedByRdmsr
 pub mod PrintedByX86info
+pub mod PrintedByKernel
+pub mod PrintedByXen
+pub mod PrintedByLinux
 pub mod WorkedPrinted

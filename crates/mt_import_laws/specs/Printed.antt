@@ -3,7 +3,8 @@
 --     Agrees supplied file      words supply no other value than the file's
 --     ReadsBack told file      the outcome is the file's dump
 --     TableReadsBack format table supplied file      so it is of a table's lines, and of each log that holds them
-use Rattle.std.specs.Prelude.{ℕ, ◌≡◌, ◌⊎◌, ⊤, false, List, Option, None, Some, unwrap_or}
+--     TableReadsInOrder format table supplied file      the same of each log that holds them in their order
+use Rattle.std.specs.Prelude.{ℕ, ◌≡◌, ◌⊎◌, ⊤, false, List, [], ◌∷◌, Option, None, Some, unwrap_or}
 use Rattle.std.specs.List.{AllByRecursion}
 use Rattle.mt_ports.specs.declared.status.Status.TheVariants.{Done}
 use Rattle.mt_text.specs.Text.{lines_of}
@@ -62,6 +63,13 @@ pub record HoldsTable (format : Format) (file : RegisterFile) (table : List (Lis
   pub has : (line : List ℕ) → IsAmong line table → IsAmong line (lines_of text)
   pub others : (line : List ℕ) → IsAmong line (lines_of text) → IsAmong line table ⊎ TellsNoMore format file line
 
+-- A log has the lines of a table in their order, and between them any lines that say no more of a dump than its width.
+abbrev pub Weaves : Format → RegisterFile → List (List ℕ) → List (List ℕ) → Type 0
+Weaves format file [] [] = ⊤
+Weaves format file (line ∷ table) [] = ⊥
+Weaves format file [] (other ∷ log) = TellsNoMore format file other × Weaves format file [] log
+Weaves format file (line ∷ table) (other ∷ log) = ((other ≡ line) × Weaves format file table log) ⊎ (TellsNoMore format file other × Weaves format file (line ∷ table) log)
+
 -- Words supply no width and no value but the file's.
 pub record Agrees (supplied : Supplied) (file : RegisterFile) : Type 0 where
   pub width : (width : ℕ) → supplied.width ≡ Some width → width ≡ file.width
@@ -75,3 +83,8 @@ pub record ReadsBack (told : Told) (file : RegisterFile) : Type 0 where
 pub record TableReadsBack (format : Format) (table : List (List ℕ)) (supplied : Supplied) (file : RegisterFile) : Type 0 where
   pub alone : ReadsBack (log_told (Only format) supplied (ended table)) file
   pub among : (text : List ℕ) → HoldsTable format file table text → ReadsBack (log_told (Only format) supplied text) file
+
+-- The same of a table whose lines stand in their order.
+pub record TableReadsInOrder (format : Format) (table : List (List ℕ)) (supplied : Supplied) (file : RegisterFile) : Type 0 where
+  pub alone : ReadsBack (log_told (Only format) supplied (ended table)) file
+  pub among : (text : List ℕ) → Weaves format file table (lines_of text) → ReadsBack (log_told (Only format) supplied text) file

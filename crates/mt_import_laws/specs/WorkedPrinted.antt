@@ -86,6 +86,14 @@ some_tails (Some DefaultType) = codes " E, FE, UC"
 abbrev pub width_and_pat : Supplied
 width_and_pat = record { width = Some 36; registers = (0x277, 0x0007040600070406) ∷ []; assumed = nothing_assumed }
 
+-- `maxphyaddr=36 0fe=d08 277=7040600070406`
+abbrev pub words_for_kernels : Supplied
+words_for_kernels = record { width = Some 36; registers = (0xfe, 0xd08) ∷ (0x277, 0x0007040600070406) ∷ []; assumed = nothing_assumed }
+
+-- the time of a line of Linux's log
+abbrev pub no_time : List ℕ
+no_time = codes "0.000000"
+
 -- `maxphyaddr=36 0fe=d08 277=7040600070406 208=0 .. 20f=0`
 abbrev pub words_for_edk2 : Supplied
 words_for_edk2 = record {

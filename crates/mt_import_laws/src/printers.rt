@@ -1,17 +1,20 @@
-ghost use Rattle.std.specs.Prelude.{◌≡◌, ◌∷◌, [], Bool, true, Some, codes};
+ghost use Rattle.std.specs.Prelude.{◌≡◌, ◌∷◌, [], ℕ, List, Bool, true, Some, codes};
 ghost use Rattle.mt_regs.specs.declared.registers.Register.TheVariants.{PhysBase, PhysMask};
 ghost use Rattle.mt_regs.specs.RegisterFile.{RegisterFile, pair_at};
 ghost use Rattle.mt_import.specs.declared.format.Choice.TheVariants.{Only};
-ghost use Rattle.mt_import.specs.declared.format.Format.TheVariants.{Coreboot, Edk2, Inteltool, Rdmsr, X86info};
+ghost use Rattle.mt_import.specs.declared.format.Format.TheVariants.{Coreboot, Edk2, Inteltool, Linux, Rdmsr, X86info, Xen};
 ghost use Rattle.mt_import.specs.Import.{log_told};
 ghost use Rattle.mt_import.specs.Supplied.{Supplied, command_of};
-ghost use Rattle.mt_import_laws.specs.Printed.{ReadsBack, TableReadsBack};
+ghost use Rattle.mt_import_laws.specs.Printed.{ReadsBack, TableReadsBack, TableReadsInOrder};
 ghost use Rattle.mt_import_laws.specs.PrintedByCoreboot.{SuitsCoreboot, Tails, coreboot_lines, line_of as coreboot_line};
 ghost use Rattle.mt_import_laws.specs.PrintedByEdk2.{SuitsEdk2, edk2_lines, pair_line};
 ghost use Rattle.mt_import_laws.specs.PrintedByInteltool.{Names, SuitsInteltool, inteltool_lines, line_of as inteltool_line};
 ghost use Rattle.mt_import_laws.specs.PrintedByRdmsr.{SuitsRdmsr, call_line, hex_text, rdmsr_text};
 ghost use Rattle.mt_import_laws.specs.PrintedByX86info.{Print, SuitsX86info, line_of as x86info_line, size_line, x86info_lines};
-ghost use Rattle.mt_import_laws.specs.WorkedPrinted.{model_names, ordinary_pc, some_tails, width_36, width_and_pat, words_for_edk2, words_for_x86info, x86info_print};
+ghost use Rattle.mt_import_laws.specs.PrintedByKernel.{pair_line as kernel_pair_line, run_line};
+ghost use Rattle.mt_import_laws.specs.PrintedByLinux.{SuitsLinux, linux_lines, linux_style};
+ghost use Rattle.mt_import_laws.specs.PrintedByXen.{SuitsXen, xen_lines, xen_style};
+ghost use Rattle.mt_import_laws.specs.WorkedPrinted.{model_names, no_time, ordinary_pc, some_tails, width_36, width_and_pat, words_for_edk2, words_for_kernels, words_for_x86info, x86info_print};
 
 /// What a shell prints under `set -x` that calls rdmsr for each register of a file reads back as the file, if words supply its width.
 pub fn what_rdmsr_prints_reads_back()
@@ -46,7 +49,20 @@ pub fn what_edk2_prints_reads_back()
     ensures { (file : RegisterFile) (supplied : Supplied) → SuitsEdk2 file supplied → TableReadsBack Edk2 (edk2_lines file) supplied file }
 {}
 
-/// The registers of an ordinary PC are an instance for each program. The words of three are command lines, and a line of each is as the
+/// What Xen prints of a register file reads back as the file, if words supply the width, 0FEH, the PAT and what the table doesn't show:
+/// the registers of pairs that are off and not 0, and IA32_MTRR_DEF_TYPE without FIX. Types without a name and reserved bits aren't shown.
+pub fn what_xen_prints_reads_back()
+    ensures { (file : RegisterFile) (supplied : Supplied) → SuitsXen file supplied → TableReadsInOrder Xen (xen_lines file) supplied file }
+{}
+
+/// What Linux prints of a register file reads back as the file, if words supply the same, and IA32_MTRR_DEF_TYPE also if neither E is set
+/// nor fixed ranges are called enabled.
+pub fn what_linux_prints_reads_back()
+    ensures { (time : List ℕ) (since_4_3 : Bool) (file : RegisterFile) (supplied : Supplied) → SuitsLinux time since_4_3 file supplied
+        → TableReadsInOrder Linux (linux_lines time since_4_3 file) supplied file }
+{}
+
+/// The registers of an ordinary PC are an instance for each program. The words of four are command lines, and a line of each is as the
 /// program printed it.
 pub fn worked_prints()
     ensures rdmsr { SuitsRdmsr ordinary_pc width_36 }
@@ -54,14 +70,20 @@ pub fn worked_prints()
     ensures coreboot { SuitsCoreboot some_tails ordinary_pc width_and_pat }
     ensures edk2 { SuitsEdk2 ordinary_pc words_for_edk2 }
     ensures x86info { SuitsX86info x86info_print ordinary_pc words_for_x86info }
+    ensures xen { SuitsXen ordinary_pc words_for_kernels }
+    ensures linux { SuitsLinux no_time true ordinary_pc words_for_kernels }
     ensures words { command_of (codes "inteltool" ∷ codes "maxphyaddr=36" ∷ []) ≡ Some (Only Inteltool, width_36) }
     ensures more_words { command_of (codes "coreboot" ∷ codes "maxphyaddr=36" ∷ codes "277=7040600070406" ∷ []) ≡ Some (Only Coreboot, width_and_pat) }
     ensures words_too { command_of (codes "x86info" ∷ codes "268=505050505050505" ∷ codes "277=7040600070406" ∷ []) ≡ Some (Only X86info, words_for_x86info) }
+    ensures words_for_xen { command_of (codes "xen" ∷ codes "maxphyaddr=36" ∷ codes "0fe=d08" ∷ codes "277=7040600070406" ∷ []) ≡ Some (Only Xen, words_for_kernels) }
     ensures by_rdmsr { (call_line 0x201 ≡ codes "+ rdmsr -p 0 0x201") × (hex_text 0xf00000800 ≡ codes "f00000800") }
     ensures by_inteltool { inteltool_line model_names ordinary_pc (Some (PhysBase 1)) ≡ codes " MSR 0x00000202 = 0x00000001:0x00000006 (IA32_MTRR_PHYSBASE1)" }
     ensures by_x86info { x86info_line x86info_print ordinary_pc (Some (PhysMask 3))
         ≡ codes "MTRRphysMask3 (0x207): 0x0000000fe0000800 (physmask field:0xfe0000 valid flag: 1)" }
     ensures sizes_by_x86info { size_line 36 48 ≡ codes "Address sizes : 36 bits physical, 48 bits virtual" }
+    ensures by_xen { run_line (xen_style ordinary_pc) ordinary_pc (24, 88) ≡ codes "(XEN)   c0000-fffff write-protect" }
+    ensures by_linux { kernel_pair_line (linux_style no_time true ordinary_pc) 3 (pair_at ordinary_pc.pairs 3) true
+        ≡ codes "[    0.000000]   3 base 0E0000000 mask FE0000000 uncachable" }
     ensures by_coreboot { coreboot_line true some_tails ordinary_pc (Some (PhysMask 2))
         ≡ codes "[DEBUG]  0x0000000fe0000800: PHYMASK2: Length  = 0x0000000020000000, Valid" }
     ensures by_edk2 { pair_line 3 (pair_at ordinary_pc.pairs 3) ≡ codes "Variable MTRR[03]: Base=00000000E0000000 Mask=0000000FE0000800" }
