@@ -11,6 +11,7 @@ mod Widths
 mod Dumps
 mod Notes
 mod Alike
+mod Returns
 mod Reasons
 mod PrintedDigits
 mod LineWords

@@ -2,6 +2,7 @@ pub mod Origins
 pub mod Notes
 pub mod Worked
 pub mod Alike
+pub mod Returns
 pub mod Printed
 pub mod PrintedByInteltool
 pub mod PrintedByCoreboot

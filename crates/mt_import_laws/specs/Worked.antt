@@ -1,5 +1,5 @@
 -- Logs of two lines that contradict each other, for which the premises of the laws hold (own).
-use Rattle.std.specs.Prelude.{ℕ, ◌≡◌, true, codes, List}
+use Rattle.std.specs.Prelude.{ℕ, ◌≡◌, true, codes, List, ◌∷◌, ◌++◌}
 use Rattle.mt_import.specs.declared.format.Choice.{Choice}
 use Rattle.mt_import.specs.declared.format.Choice.TheVariants.{Only}
 use Rattle.mt_import.specs.declared.format.Format.TheVariants.{Rdmsr}
@@ -14,6 +14,10 @@ worked_choice = Only Rdmsr
 -- columns of register and value
 abbrev pub worked_log : List ℕ
 worked_log = codes "0x277 6\n0x277 7\n"
+
+-- the same with a CR at the end of the first line
+abbrev pub returned_log : List ℕ
+returned_log = codes "0x277 6" ++ 13 ∷ codes "\n0x277 7\n"
 
 abbrev pub first_reading : Reading
 first_reading = record { processor = 0; table = 0; number = 0x277; bits = all_bits; value = 6; place = record { line = 1; column = 7 } }

@@ -12,6 +12,7 @@ ghost use Rattle.mt_import.specs.Supplied.{Supplied, supplied_value};
 ghost use Rattle.mt_import_laws.specs.Alike.{AreAlikeLogs};
 ghost use Rattle.mt_import_laws.specs.Notes.{AreNoted};
 ghost use Rattle.mt_import_laws.specs.Origins.{Contradict, ContradictInCapabilities, ContradictsWord, CountsPair, HasOrigins, IsAmong, IsRead, WidthOrigin, readings_of, seen_of};
+ghost use Rattle.mt_import_laws.specs.Returns.{DifferInReturns};
 
 /// For all logs and words: if a dump comes of them, each of its values is shown by lines of one table. Or else a word supplies it.
 /// Or else lines show its pair as disabled, and it is 0. Or else it is a named assumption's.
@@ -87,6 +88,11 @@ pub fn enabled_pairs_are_counted()
 /// Lines that match nothing may be replaced by others that match nothing: the texts and the status stay.
 pub fn lines_that_match_nothing_change_nothing()
     ensures { (choice : Choice) (supplied : Supplied) (a b : List ℕ) → AreAlikeLogs choice a b → log_told choice supplied a ≡ log_told choice supplied b }
+{}
+
+/// A CR at the end of lines changes nothing, in any format: the texts and the status stay.
+pub fn returns_change_nothing()
+    ensures { (choice : Choice) (supplied : Supplied) (a b : List ℕ) → DifferInReturns a b → log_told choice supplied a ≡ log_told choice supplied b }
 {}
 
 /// Where the status isn't 0, nothing goes to standard output.
